@@ -1,0 +1,5 @@
+pub mod Counts
+pub mod Leaves
+pub mod Writes
+pub mod Names
+pub mod Asks

@@ -1,0 +1,63 @@
+//! What is read and written in place.
+
+ghost use Rattle.std.specs.Prelude.{◌≡◌, ℕ, ◌+◌, ◌≤◌, ◌∷◌, [], List, length, OnOk, OnErr};
+ghost use Rattle.elf_outside.specs.Counts.{HasCause, RaisedBy};
+ghost use Rattle.elf_outside.specs.Writes.{WritesOver, TearsOver, Resizes, ResizesOrNot, Lengthens, LengthensByFront};
+
+use crate::sources::{Failed, Source};
+
+/// A source that can be written.
+///
+/// - `write_faults` counts the writes that failed, and `given` the bytes handed to writes so far, as
+///   `faults` and `taken` of [`Source`] do for reads.
+/// - `kept` is what the device's `rest` holds besides these two numbers.
+///
+/// The writes leave `faults`, `taken` and `kept`; a read leaves `given` and `write_faults`, since
+/// they stand in `rest`.
+pub trait Device: Source {
+    ghost write_faults: { Self → ℕ };
+
+    ghost given: { Self → ℕ };
+
+    ghost kept: { Self → List (List ℕ) };
+
+    /// Puts `buf` over the bytes from the place `at` on. The range lies in the device.
+    /// `Failed` comes only where the count of failed writes rose; then each byte of the range is the
+    /// old one or the new one, and all else is as before.
+    fn write_at(&mut self, at: u64, buf: &[u8]) -> Result<(), Failed>
+        requires { at + length buf.now ≤ Self.size self.old }
+        ensures len { Self.size self.new ≡ Self.size self.old }
+        ensures ok { OnOk result (WritesOver (Self.holds self.old) (Self.holds self.new) at buf.now) }
+        ensures err { OnErr result (TearsOver (Self.holds self.old) (Self.holds self.new) at buf.now) }
+        ensures cause { HasCause (write_faults self.old) (write_faults self.new) result }
+        ensures given { RaisedBy (given self.old) (given self.new) (length buf.now) }
+        ensures faults { Self.faults self.new ≡ Self.faults self.old }
+        ensures taken { Self.taken self.new ≡ Self.taken self.old }
+        ensures kept { kept self.new ≡ kept self.old };
+
+    /// Cuts the device to `n` bytes, or lengthens it to `n` by zero bytes.
+    /// `Failed` comes only where the count of failed writes rose; then the length is the old one or
+    /// the new one, and the bytes are those that belong to it.
+    fn set_len(&mut self, n: u64) -> Result<(), Failed>
+        ensures ok { OnOk result (Resizes (Self.size self.old) (Self.size self.new) (Self.holds self.old) (Self.holds self.new) n) }
+        ensures err { OnErr result (ResizesOrNot (Self.size self.old) (Self.size self.new) (Self.holds self.old) (Self.holds self.new) n) }
+        ensures cause { HasCause (write_faults self.old) (write_faults self.new) result }
+        ensures given { given self.new ≡ given self.old }
+        ensures faults { Self.faults self.new ≡ Self.faults self.old }
+        ensures taken { Self.taken self.new ≡ Self.taken self.old }
+        ensures kept { kept self.new ≡ kept self.old };
+
+    /// Puts `buf` after the last byte.
+    /// `Failed` comes only where the count of failed writes rose; then a front of `buf` stands there,
+    /// and all else is as before.
+    fn append(&mut self, buf: &[u8]) -> Result<(), Failed>
+        ensures ok { OnOk result (Lengthens (Self.size self.old) (Self.size self.new) (Self.holds self.old) (Self.holds self.new) buf.now) }
+        ensures err { OnErr result (LengthensByFront (Self.size self.old) (Self.size self.new) (Self.holds self.old) (Self.holds self.new) buf.now) }
+        ensures cause { HasCause (write_faults self.old) (write_faults self.new) result }
+        ensures given { RaisedBy (given self.old) (given self.new) (length buf.now) }
+        ensures faults { Self.faults self.new ≡ Self.faults self.old }
+        ensures taken { Self.taken self.new ≡ Self.taken self.old }
+        ensures kept { kept self.new ≡ kept self.old };
+
+    ghost rest_begins: { (d : Self) → Self.rest d ≡ (given d ∷ write_faults d ∷ []) ∷ kept d };
+}

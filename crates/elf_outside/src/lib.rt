@@ -1,0 +1,13 @@
+//! The outside of elfkit: sources, devices, sinks and sets of files, as traits whose contracts say
+//! what each call leaves, takes and may have done when it fails.
+#![tactic(auto)]
+
+pub mod devices;
+pub mod file_sets;
+pub mod sinks;
+pub mod sources;
+
+pub use devices::Device;
+pub use file_sets::{Files, OpenFault};
+pub use sinks::Sink;
+pub use sources::{Failed, Source};
