@@ -1,2 +1,5 @@
+pub mod Answers
+pub mod Kinds
 pub mod Lists
 pub mod Names
+pub mod Text

@@ -1,0 +1,183 @@
+//! The texts of kinds, parts and errors, appended to a list of bytes.
+//!
+//! Each call refuses `Memory` alone; the list has then gained a front of the text.
+
+ghost use Rattle.std.specs.Prelude.{◌≡◌, ◌++◌, [], OnOk, IfOk, IfErr};
+ghost use Rattle.elf_types.specs.Text.{numbered, numbered_twice, kind_text, part_text, unfit_text, overlap_text, held_text, error_text};
+
+use crate::errors::ElfError;
+use crate::lists::Octets;
+use crate::records::{Kind, Part};
+use crate::texts::{put_decimal, put_text};
+use std::alloc::Global;
+
+/// Appends a number between two texts.
+#[tactic(auto, unfolding(crate::specs::Text::numbered))]
+pub fn put_numbered(out: &mut Octets, before: &str, n: u64, after: &str) -> Result<(), ElfError>
+    ensures ok { OnOk result (out.new ≡ out.old ++ numbered before.now n after.now) }
+    ensures err { IfErr result (λ e. e ≡ ElfError.Memory) }
+{
+    put_text(out, before)?;
+    put_decimal(out, n)?;
+    put_text(out, after)
+}
+
+/// Appends two numbers, each after a text.
+#[tactic(auto, unfolding(crate::specs::Text::numbered_twice))]
+pub fn put_numbered_twice(
+    out: &mut Octets,
+    before: &str,
+    a: u64,
+    between: &str,
+    b: u64,
+) -> Result<(), ElfError>
+    ensures ok { OnOk result (out.new ≡ out.old ++ numbered_twice before.now a between.now b) }
+    ensures err { IfErr result (λ e. e ≡ ElfError.Memory) }
+{
+    put_text(out, before)?;
+    put_decimal(out, a)?;
+    put_text(out, between)?;
+    put_decimal(out, b)
+}
+
+/// The name of a kind. It takes no memory.
+#[tactic(auto, unfolding(crate::specs::Text::kind_text))]
+pub fn kind_name(kind: Kind) -> &'static str
+    ensures { result.now ≡ kind_text kind }
+{
+    match kind {
+        Kind::Empty => "empty",
+        Kind::Bytes => "bytes",
+        Kind::Half => "half",
+        Kind::Word => "word",
+        Kind::Addr => "addr",
+        Kind::Sym => "sym",
+        Kind::Rel => "rel",
+        Kind::Rela => "rela",
+        Kind::Dyn => "dyn",
+    }
+}
+
+/// Appends a part: `object`, `header`, `segments`, `section S`, `piece S P` or `table`.
+#[tactic(auto, unfolding(crate::specs::Text::part_text))]
+pub fn put_part(out: &mut Octets, part: Part) -> Result<(), ElfError>
+    ensures ok { OnOk result (out.new ≡ out.old ++ part_text part) }
+    ensures err { IfErr result (λ e. e ≡ ElfError.Memory) }
+{
+    match part {
+        Part::Object => put_text(out, "object"),
+        Part::Header => put_text(out, "header"),
+        Part::Segments => put_text(out, "segments"),
+        Part::Section(s) => put_numbered(out, "section ", u64::from(s), ""),
+        Part::Piece(s, p) => put_numbered_twice(out, "piece ", u64::from(s), " ", u64::from(p)),
+        Part::Table => put_text(out, "table"),
+    }
+}
+
+#[tactic(auto, unfolding(crate::specs::Text::unfit_text))]
+fn put_unfit(out: &mut Octets, part: Part, index: u64) -> Result<(), ElfError>
+    ensures ok { OnOk result (out.new ≡ out.old ++ unfit_text part index) }
+    ensures err { IfErr result (λ e. e ≡ ElfError.Memory) }
+{
+    put_text(out, "unfit ")?;
+    put_part(out, part)?;
+    put_numbered(out, " index ", index, "")
+}
+
+#[tactic(auto, unfolding(crate::specs::Text::overlap_text))]
+fn put_overlap(out: &mut Octets, a: Part, b: Part) -> Result<(), ElfError>
+    ensures ok { OnOk result (out.new ≡ out.old ++ overlap_text a b) }
+    ensures err { IfErr result (λ e. e ≡ ElfError.Memory) }
+{
+    put_text(out, "overlap ")?;
+    put_part(out, a)?;
+    put_text(out, " ")?;
+    put_part(out, b)
+}
+
+#[tactic(auto, unfolding(crate::specs::Text::held_text))]
+fn put_held(out: &mut Octets, kind: Kind) -> Result<(), ElfError>
+    ensures ok { OnOk result (out.new ≡ out.old ++ held_text kind) }
+    ensures err { IfErr result (λ e. e ≡ ElfError.Memory) }
+{
+    put_text(out, "held kind ")?;
+    put_text(out, kind_name(kind))
+}
+
+/// Appends the text of an error.
+#[tactic(auto, unfolding(crate::specs::Text::error_text))]
+pub fn put_error(out: &mut Octets, e: &ElfError) -> Result<(), ElfError>
+    ensures ok { OnOk result (out.new ≡ out.old ++ error_text e.now) }
+    ensures err { IfErr result (λ e. e ≡ ElfError.Memory) }
+{
+    match *e {
+        ElfError::Memory => put_text(out, "out of memory"),
+        ElfError::Read => put_text(out, "read failed"),
+        ElfError::Write => put_text(out, "write failed"),
+        ElfError::Short => put_text(out, "too short"),
+        ElfError::Magic => put_text(out, "not an ELF image"),
+        ElfError::Class => put_text(out, "bad class"),
+        ElfError::Order => put_text(out, "bad byte order"),
+        ElfError::Version => put_text(out, "bad version"),
+        ElfError::PhTable => put_text(out, "bad program header table"),
+        ElfError::ShTable => put_text(out, "bad section header table"),
+        ElfError::TooLarge => put_text(out, "too large"),
+        ElfError::TooMany => put_text(out, "too many"),
+        ElfError::FlagKept => put_text(out, "flag kept"),
+        ElfError::Reserved => put_text(out, "section 0 reserved"),
+        ElfError::NoSection { index, count } => {
+            put_numbered_twice(
+                out,
+                "no section ",
+                u64::from(index),
+                " of ",
+                u64::from(count),
+            )
+        }
+        ElfError::NoData { index, count } => {
+            put_numbered_twice(out, "no piece ", u64::from(index), " of ", u64::from(count))
+        }
+        ElfError::NoEntry { index, count } => {
+            put_numbered_twice(out, "no entry ", index, " of ", count)
+        }
+        ElfError::NoString { offset, size } => {
+            put_numbered_twice(out, "no string at ", offset, " of ", size)
+        }
+        ElfError::OutOfFile { section } => put_numbered(
+            out,
+            "section ",
+            u64::from(section),
+            " out of file",
+        ),
+        ElfError::Ragged { section } => put_numbered(
+            out,
+            "section ",
+            u64::from(section),
+            " ragged",
+        ),
+        ElfError::NotStrings { section } => put_numbered(
+            out,
+            "section ",
+            u64::from(section),
+            " not strings",
+        ),
+        ElfError::Unended { offset } => put_numbered(out, "string at ", offset, " has no end"),
+        ElfError::BadMember { at } => put_numbered(out, "bad member at ", at, ""),
+        ElfError::BadChain { at } => put_numbered(out, "bad chain at ", at, ""),
+        ElfError::BadAlign { align } => put_numbered(out, "bad alignment ", align, ""),
+        ElfError::Unsorted { at } => put_numbered(out, "symbols not in order at ", at, ""),
+        ElfError::WrongKind { held } => put_held(out, held),
+        ElfError::Unfit { part, index } => put_unfit(out, part, index),
+        ElfError::Overlap { a, b } => put_overlap(out, a, b),
+    }
+}
+
+/// The text of an error. It refuses `Memory` alone.
+pub fn text(alloc: Global, e: &ElfError) -> Result<Octets, ElfError>
+    ensures ok { IfOk result (λ text. text ≡ error_text e.now) }
+    ensures err { IfErr result (λ e. e ≡ ElfError.Memory) }
+{
+    let mut out = Octets::new(alloc);
+    put_error(&mut out, e)?;
+    Ok(out)
+}

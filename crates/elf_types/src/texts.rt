@@ -1,0 +1,87 @@
+//! Texts of numbers, parts and errors, appended to a list of bytes.
+//!
+//! Each call refuses `Memory` alone; the list has then gained a front of the text.
+
+ghost use Rattle.std.specs.Prelude.{◌≡◌, ◌++◌, ◌≤◌, ◌^◌, ◌<◌, ◌+◌, [], false, length, drop, codes, decimal, OnOk, IfOk, IfErr};
+ghost use Rattle.std.specs.Fmt.{digits, digit_glyph, signed_decimal};
+ghost use Rattle.elf_types.specs.Text.{hex, numbered, numbered_twice, kind_text, part_text, unfit_text, overlap_text, held_text, error_text};
+
+use crate::errors::ElfError;
+use crate::lists::Octets;
+use crate::records::{Kind, Part};
+use itoa::Buffer;
+use std::alloc::Global;
+
+/// Appends a text.
+pub fn put_text(out: &mut Octets, text: &str) -> Result<(), ElfError>
+    ensures ok { OnOk result (out.new ≡ out.old ++ text.now) }
+    ensures err { IfErr result (λ e. e ≡ ElfError.Memory) }
+{
+    out.extend(text.as_bytes())
+}
+
+/// Appends the decimal digits of a number.
+pub fn put_decimal(out: &mut Octets, n: u64) -> Result<(), ElfError>
+    ensures ok { OnOk result (out.new ≡ out.old ++ decimal n) }
+    ensures err { IfErr result (λ e. e ≡ ElfError.Memory) }
+{
+    let mut buffer = Buffer::new();
+    out.extend(buffer.format(n).as_bytes())
+}
+
+/// Appends the decimal digits of a signed number, after a `-` where it is below 0.
+pub fn put_signed(out: &mut Octets, n: i64) -> Result<(), ElfError>
+    ensures ok { OnOk result (out.new ≡ out.old ++ signed_decimal n) }
+    ensures err { IfErr result (λ e. e ≡ ElfError.Memory) }
+{
+    let mut buffer = Buffer::new();
+    out.extend(buffer.format(n).as_bytes())
+}
+
+/// Appends the hexadecimal digits of a number, in small letters and without leading zeros.
+#[tactic(auto, unfolding(crate::specs::Text::hex))]
+pub fn put_hex(out: &mut Octets, n: u64) -> Result<(), ElfError>
+    ensures ok { OnOk result (out.new ≡ out.old ++ hex n) }
+    ensures err { IfErr result (λ e. e ≡ ElfError.Memory) }
+{
+    let mut buffer = [0u8; 16];
+    put_hex_by(out, n, &mut buffer)
+}
+
+/// Writes the digits into `buffer` from its end, and appends them.
+fn put_hex_by(out: &mut Octets, n: u64, buffer: &mut [u8]) -> Result<(), ElfError>
+    requires { length buffer.old ≡ 16 }
+    ensures ok { OnOk result (out.new ≡ out.old ++ digits 16 false n) }
+    ensures err { IfErr result (λ e. e ≡ ElfError.Memory) }
+{
+    let start = fill_hex(n, buffer);
+    out.extend(&buffer[start..])
+}
+
+/// Writes the digits so that they end with the buffer, and tells where they start.
+fn fill_hex(n: u64, buffer: &mut [u8]) -> usize
+    requires { length buffer.old ≡ 16 }
+    ensures digits { drop result buffer.new ≡ digits 16 false n }
+    ensures start { result ≤ 16 }
+{
+    let mut left = n;
+    let mut at = 15;
+    buffer[at] = glyph((left % 16) as u8);
+    while left >= 16 {
+        left /= 16;
+        at -= 1;
+        buffer[at] = glyph((left % 16) as u8);
+    }
+    at
+}
+
+fn glyph(digit: u8) -> u8
+    requires { digit < 16 }
+    ensures { result ≡ digit_glyph false digit }
+{
+    if digit < 10 {
+        b'0' + digit
+    } else {
+        b'a' + (digit - 10)
+    }
+}
