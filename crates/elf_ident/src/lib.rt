@@ -1,0 +1,8 @@
+//! The front of an ELF image: what a file is, its header, and its two tables.
+#![tactic(auto)]
+
+pub mod file_kinds;
+pub mod fronts;
+
+pub use file_kinds::FileKind;
+pub use fronts::Front;
