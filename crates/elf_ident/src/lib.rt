@@ -3,6 +3,7 @@
 
 pub mod file_kinds;
 pub mod fronts;
+mod reads;
 
-pub use file_kinds::FileKind;
+pub use file_kinds::{FileKind, kind_of_source};
 pub use fronts::Front;
