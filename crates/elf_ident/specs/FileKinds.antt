@@ -14,5 +14,5 @@ archive_magic = codes "!<arch>\n"
 
 unfoldable pub file_kind : List ℕ → FileKind
 file_kind bytes =
-  if starts_with nat_eq bytes archive_magic then Archive
-  else (if starts_with nat_eq bytes elf_magic then Elf else Other)
+    if starts_with nat_eq bytes archive_magic then Archive
+    else (if starts_with nat_eq bytes elf_magic then Elf else Other)
