@@ -4,10 +4,12 @@
 
 pub mod devices;
 pub mod file_sets;
+pub mod memory;
 pub mod sinks;
 pub mod sources;
 
 pub use devices::Device;
 pub use file_sets::{Files, OpenFault};
+pub use memory::{MemDevice, MemSink, MemSource};
 pub use sinks::Sink;
 pub use sources::{Failed, Source};
