@@ -10,6 +10,6 @@ pub mod sources;
 
 pub use devices::Device;
 pub use file_sets::{Files, OpenFault};
-pub use memory::{MemDevice, MemSink, MemSource};
+pub use memory::{MemDevice, MemFiles, MemSink, MemSource};
 pub use sinks::Sink;
 pub use sources::{Failed, Source};

@@ -2,9 +2,11 @@
 
 pub mod calls;
 pub mod device;
+pub mod files;
 pub mod sink;
 pub mod source;
 
 pub use device::MemDevice;
+pub use files::MemFiles;
 pub use sink::MemSink;
 pub use source::MemSource;
