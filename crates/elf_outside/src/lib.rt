@@ -5,11 +5,13 @@
 pub mod devices;
 pub mod file_sets;
 pub mod memory;
+pub mod real;
 pub mod sinks;
 pub mod sources;
 
 pub use devices::Device;
 pub use file_sets::{Files, OpenFault};
 pub use memory::{MemDevice, MemFiles, MemSink, MemSource};
+pub use real::{RealFile, RealFiles, RealSink};
 pub use sinks::Sink;
 pub use sources::{Failed, Source};
