@@ -8,3 +8,6 @@ pub mod transfers;
 pub use file::RealFile;
 pub use files::RealFiles;
 pub use sink::RealSink;
+
+#[cfg(test)]
+mod tests;
