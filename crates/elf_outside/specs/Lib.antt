@@ -6,3 +6,4 @@ pub mod Asks
 pub mod Kept
 pub mod MemFiles
 pub mod RealFile
+pub mod Windows
