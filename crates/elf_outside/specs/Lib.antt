@@ -5,5 +5,4 @@ pub mod Names
 pub mod Asks
 pub mod Kept
 pub mod MemFiles
-pub mod RealFile
 pub mod Windows

@@ -2,10 +2,10 @@
 
 ghost use Rattle.std.specs.Prelude.{◌≡◌, ◌≤◌, false, None, IsErrOf, IfOk, OnOk, OnErr};
 ghost use Rattle.elf_outside.specs.Counts.{Rose, one_more};
-ghost use Rattle.elf_outside.specs.RealFile.{IsUntouched};
 
 use crate::file_sets::{Files, OpenFault};
-use crate::real::file::RealFile;
+use crate::real::RealFile;
+use crate::real::system_file::SystemFile;
 use std::alloc::Global;
 use std::fs::{File, OpenOptions};
 use std::io::{Error, ErrorKind};
@@ -41,8 +41,14 @@ impl<R: rt::Files<File = File>> RealFiles<R> {
     }
 
     /// Opens a file for reading, and for writing too where that is asked.
-    fn hand_out(&mut self, name: &str, writes: bool) -> Result<RealFile, OpenFault>
-        ensures untouched { IfOk result IsUntouched }
+    fn hand_out(
+        &mut self,
+        alloc: Global,
+        name: &str,
+        writes: bool,
+    ) -> Result<RealFile, OpenFault>
+        ensures own_faults { IfOk result (λ f. (f.faults ≡ 0) × (f.inner.write_faults ≡ 0)) }
+        ensures own_numbers { IfOk result (λ f. (f.taken ≡ 0) × (f.inner.given ≡ 0)) }
         ensures failed { IsErrOf result OpenFault.Failed → Rose self.old.read_faults self.new.read_faults }
         ensures read_faults { self.old.read_faults ≤ self.new.read_faults }
         ensures write_faults { self.new.write_faults ≡ self.old.write_faults }
@@ -52,7 +58,7 @@ impl<R: rt::Files<File = File>> RealFiles<R> {
     {
         let mut how = OpenOptions::new();
         how.read(true).write(writes);
-        match open_file(&self.system, &how, name) {
+        match open_file(alloc, &self.system, &how, name) {
             Ok(file) => {
                 self.live = self.live.saturating_add(1);
                 Ok(file)
@@ -83,15 +89,15 @@ impl<R: rt::Files<File = File>> Files for RealFiles<R> {
 
     ghost live = { λ f. f.live };
 
-    fn open(&mut self, _alloc: Global, name: &str) -> Result<RealFile, OpenFault> {
-        self.hand_out(name, false)
+    fn open(&mut self, alloc: Global, name: &str) -> Result<RealFile, OpenFault> {
+        self.hand_out(alloc, name, false)
     }
 
-    fn edit(&mut self, _alloc: Global, name: &str) -> Result<RealFile, OpenFault> {
-        self.hand_out(name, true)
+    fn edit(&mut self, alloc: Global, name: &str) -> Result<RealFile, OpenFault> {
+        self.hand_out(alloc, name, true)
     }
 
-    fn create(&mut self, _alloc: Global, name: &str) -> Result<RealFile, OpenFault> {
+    fn create(&mut self, alloc: Global, name: &str) -> Result<RealFile, OpenFault> {
         let mut how = OpenOptions::new();
         how.read(true).write(true).create(true).truncate(true);
         let Ok(file) = how.open(&self.system, name) else {
@@ -99,30 +105,32 @@ impl<R: rt::Files<File = File>> Files for RealFiles<R> {
             return Err(OpenFault::Failed);
         };
         self.live = self.live.saturating_add(1);
-        Ok(RealFile::new(file, 0))
+        Ok(RealFile::new(alloc, SystemFile::new(file, 0)))
     }
 
     fn close(&mut self, _name: &str, file: RealFile) {
         self.read_faults = self.read_faults.saturating_add(file.faults);
-        self.write_faults = self.write_faults.saturating_add(file.write_faults);
+        self.write_faults = self.write_faults.saturating_add(file.inner.write_faults);
         self.taken = self.taken.saturating_add(file.taken);
-        self.given = self.given.saturating_add(file.given);
+        self.given = self.given.saturating_add(file.inner.given);
         self.live = self.live.saturating_sub(1);
     }
 }
 
 /// Opens a file, and asks for its length.
 fn open_file<R: rt::Files<File = File>>(
+    alloc: Global,
     system: &R,
     how: &OpenOptions,
     name: &str,
 ) -> io::Result<RealFile>
-    ensures { IfOk result IsUntouched }
+    ensures faults { IfOk result (λ f. (f.faults ≡ 0) × (f.inner.write_faults ≡ 0)) }
+    ensures numbers { IfOk result (λ f. (f.taken ≡ 0) × (f.inner.given ≡ 0)) }
 {
     let file = how.open(system, name)?;
     let about = file.metadata()?;
     if about.is_dir() {
         return Err(Error::from(ErrorKind::IsADirectory));
     }
-    Ok(RealFile::new(file, about.len()))
+    Ok(RealFile::new(alloc, SystemFile::new(file, about.len())))
 }

@@ -1,4 +1,4 @@
-//! A file of the system.
+//! A file of the system, read and written without a buffer.
 
 ghost use Rattle.std.specs.Prelude.{refl, ◌≡◌, ◌<◌, ◌^◌, ◌∷◌, [], None};
 
@@ -11,25 +11,24 @@ use std::fs::File;
 /// writes through it changed it since, and no bytes. A call fails where the file fails, or gives or
 /// takes nothing before the whole range is done.
 #[derive(Drop)]
-pub struct RealFile {
+pub struct SystemFile {
     file: File,
     len: u64,
-    pub(super) faults: u64,
+    faults: u64,
     pub(super) write_faults: u64,
-    pub(super) taken: u64,
+    taken: u64,
     pub(super) given: u64,
     ghost addressable: { len < 2 ^ 64 },
 }
 
-impl RealFile {
-    ghost use Rattle.elf_outside.specs.RealFile.{IsUntouched};
-
+impl SystemFile {
     /// An open file of that length, whose counts are 0.
-    pub(super) fn new(file: File, len: u64) -> RealFile
+    pub(super) fn new(file: File, len: u64) -> SystemFile
         ensures len { result.len ≡ len }
-        ensures untouched { IsUntouched result }
+        ensures faults { (result.faults ≡ 0) × (result.write_faults ≡ 0) }
+        ensures numbers { (result.taken ≡ 0) × (result.given ≡ 0) }
     {
-        RealFile {
+        SystemFile {
             file,
             len,
             faults: 0,
@@ -40,7 +39,7 @@ impl RealFile {
     }
 }
 
-impl Source for RealFile {
+impl Source for SystemFile {
     ghost size = { λ f. f.len };
 
     ghost holds = { λ _. None };
@@ -65,7 +64,7 @@ impl Source for RealFile {
     }
 }
 
-impl Device for RealFile {
+impl Device for SystemFile {
     ghost write_faults = { λ f. f.write_faults };
 
     ghost given = { λ f. f.given };
