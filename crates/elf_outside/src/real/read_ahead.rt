@@ -8,12 +8,14 @@ use crate::devices::Device;
 use crate::sources::{Failed, Source};
 use std::alloc::Global;
 
-/// The most bytes that a window holds. A read of as many bytes or more goes straight to the inner
-/// source.
-const WINDOW: usize = 65536;
+/// The bytes that the first window holds.
+const FIRST: u64 = 4096;
+/// The most bytes that a window holds.
+const WINDOW: u64 = 65536;
 
-/// An inner source with a window of its bytes, from which small reads are served. A small read
-/// outside the window moves it there, by one read of the inner source. A write drops the window.
+/// An inner source with a window of its bytes, from which small reads are served. A read outside the
+/// window moves it there, by one read of the inner source; one of as many bytes as the window would
+/// hold goes straight to the inner source. A write drops the window.
 ///
 /// It counts the bytes that its callers asked for and the reads of theirs that failed, and not the
 /// reads of the window: where the window can't be filled, for want of memory or since the inner
@@ -61,6 +63,17 @@ impl<S: Source> ReadAhead<S> {
         self.start <= at && at - self.start <= self.held.len() as u64 && n <= self.held.len() - (at - self.start) as usize
     }
 
+    /// The size of a window from a place on: small at first, and twice that of the last window where
+    /// it begins near that one's end, as in a walk over the source.
+    fn next_size(&self, at: u64) -> u64 {
+        let doubled = (self.held.len() as u64).saturating_mul(2);
+        if at >= self.start && at - self.start <= doubled {
+            doubled.max(FIRST).min(WINDOW)
+        } else {
+            FIRST
+        }
+    }
+
     /// Moves the window to a place, and says whether it holds the range from there on.
     fn refill(&mut self, at: u64, n: usize) -> bool
         requires { at + n ≤ S.size self.old.inner }
@@ -68,9 +81,8 @@ impl<S: Source> ReadAhead<S> {
         ensures counts { (self.new.faults ≡ self.old.faults) × (self.new.taken ≡ self.old.taken) }
         ensures here { IsTrue result → (self.new.start ≤ at) × (at + n ≤ self.new.start + vec_len self.new.held) }
     {
-        self.forget();
-        let size = (self.inner.len() - at).min(WINDOW as u64) as usize;
-        if size < n || self.held.resize(size, 0).is_err() {
+        let size = self.next_size(at).min(self.inner.len() - at) as usize;
+        if size <= n || self.held.resize(size, 0).is_err() {
             return false;
         }
         if self.inner.read_at(at, self.held.as_mut_slice()).is_err() {
@@ -80,6 +92,7 @@ impl<S: Source> ReadAhead<S> {
         self.start = at;
         true
     }
+
     /// Whether the window holds the range, once it was moved there where it has to be.
     fn reach(&mut self, at: u64, n: usize) -> bool
         requires { at + n ≤ S.size self.old.inner }
@@ -119,7 +132,7 @@ impl<S: Source> Source for ReadAhead<S> {
 
     fn read_at(&mut self, at: u64, buf: &mut [u8]) -> Result<(), Failed> {
         self.taken = self.taken.saturating_add(buf.len() as u64);
-        if buf.len() < WINDOW && self.reach(at, buf.len()) {
+        if self.reach(at, buf.len()) {
             self.serve(at, buf);
             return Ok(());
         }
