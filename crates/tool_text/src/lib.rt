@@ -1,0 +1,17 @@
+//! The words and messages of elfkit's tools: how a command line is read, the options that it gives
+//! each tool, and the lines by which a tool refuses a file.
+#![tactic(auto)]
+
+pub mod arguments;
+pub mod messages;
+pub mod numbers;
+pub mod options;
+pub mod texts;
+pub mod usages;
+
+pub use arguments::Args;
+pub use messages::put_message;
+pub use numbers::{number, script_number};
+pub use options::{NmOptions, Radix, ReadelfParts, Stop, StringsOptions};
+pub use texts::Text;
+pub use usages::Usage;
