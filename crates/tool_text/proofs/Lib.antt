@@ -1,2 +1,5 @@
 pub mod Fronts
+pub mod Letters
 pub mod Numerals
+pub mod Rows
+pub mod Splits

@@ -1,3 +1,4 @@
 pub mod Messages
 pub mod Numbers
+pub mod Splitting
 pub mod Usages

@@ -35,6 +35,18 @@ impl Args {
         }
     }
 
+    /// A copy of texts. Only memory can be missing for it.
+    pub(crate) fn copy_of(alloc: Global, words: &[Text]) -> Result<Args, ElfError>
+        ensures ok { IfOk result (λ a. a ≡ words.now) }
+        ensures err { IfErr result (λ e. e ≡ Memory) }
+    {
+        let mut copy = Args::new(alloc);
+        for word in words {
+            copy.add(word.as_str())?;
+        }
+        Ok(copy)
+    }
+
     /// Appends a copy of a text. It refuses `Memory` alone, and then the list is as before.
     pub fn add(&mut self, word: &str) -> Result<(), ElfError>
         ensures ok { OnOk result (self.new ≡ self.old ++ word.now ∷ []) }

@@ -3,9 +3,11 @@
 #![tactic(auto)]
 
 pub mod arguments;
+mod faults;
 pub mod messages;
 pub mod numbers;
 pub mod options;
+mod splitting;
 pub mod texts;
 pub mod usages;
 

@@ -1,7 +1,8 @@
 //! The commands of elfkit by their names, their option letters and their usage lines.
 
-ghost use Rattle.std.specs.Prelude.{◌≡◌, ◌==◌};
-ghost use Rattle.std.specs.List.{list_any};
+ghost use Rattle.std.specs.Prelude.{◌≡◌, ◌<◌};
+ghost use Rattle.std.specs.Bool.{OnTrue};
+ghost use Rattle.tool_text.specs.Splitting.{is_flag, takes_argument};
 ghost use Rattle.tool_text.specs.Usages.{command_named, usage_line, flag_letters, argument_letters};
 
 /// Which usage line is due: that of a command, or the general one.
@@ -116,14 +117,15 @@ impl Usage {
 
     /// Whether a letter stands for itself.
     pub(crate) fn is_flag(self, letter: u8) -> bool
-        ensures { result ≡ list_any (λ c. c == letter) (flag_letters self) }
+        ensures { result ≡ is_flag self letter }
     {
         self.flag_letters().contains(&letter)
     }
 
     /// Whether a letter takes an argument.
     pub(crate) fn takes_argument(self, letter: u8) -> bool
-        ensures { result ≡ list_any (λ c. c == letter) (argument_letters self) }
+        ensures value { result ≡ takes_argument self letter }
+        ensures ascii { OnTrue result (letter < 128) }
     {
         self.argument_letters().contains(&letter)
     }
