@@ -1,3 +1,4 @@
+pub mod Folds
 pub mod Fronts
 pub mod Letters
 pub mod Numerals

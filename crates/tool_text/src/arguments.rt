@@ -2,6 +2,7 @@
 
 ghost use Rattle.std.specs.Prelude.{◌≡◌, ◌++◌, ◌∷◌, ◌==◌, [], length, slice_get, OnOk, OnErr, IfOk, IfErr};
 ghost use Rattle.std.specs.Option.{option_copied};
+ghost use Rattle.tool_text.specs.Reading.{last, only_one, only_two};
 ghost use Rattle.elf_types.specs.declared.errors.ElfError.TheVariants.{Memory};
 
 use crate::texts::Text;
@@ -86,5 +87,38 @@ impl Args {
         ensures { result.now ≡ self.now }
     {
         self.words.as_slice()
+    }
+
+    /// The last text, if there is one.
+    #[tactic(auto, unfolding(crate::specs::Reading::last))]
+    pub(crate) fn into_last(self) -> Option<Text>
+        ensures { result ≡ last self }
+    {
+        let Args { alloc: _, words } = self;
+        words.into_vec().pop()
+    }
+
+    /// The one text, if there is exactly one.
+    #[tactic(auto, unfolding(crate::specs::Reading::only_one))]
+    pub(crate) fn into_one(self) -> Option<Text>
+        ensures { result ≡ only_one self }
+    {
+        if self.len() == 1 { self.into_last() } else { None }
+    }
+
+    /// The two texts, if there are exactly two.
+    #[tactic(auto, unfolding(crate::specs::Reading::only_two))]
+    pub(crate) fn into_two(self) -> Option<(Text, Text)>
+        ensures { result ≡ only_two self }
+    {
+        if self.len() != 2 {
+            return None;
+        }
+        let Args { alloc: _, words } = self;
+        let mut words = words.into_vec();
+        match (words.pop(), words.pop()) {
+            (Some(second), Some(first)) => Some((first, second)),
+            _ => None,
+        }
     }
 }

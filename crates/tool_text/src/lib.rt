@@ -3,15 +3,19 @@
 #![tactic(auto)]
 
 pub mod arguments;
+pub mod commands;
 mod faults;
+mod givens;
 pub mod messages;
 pub mod numbers;
 pub mod options;
 mod splitting;
 pub mod texts;
 pub mod usages;
+mod values;
 
 pub use arguments::Args;
+pub use commands::{CallsOutput, Command, CopyChanges, NamedBits, NamedFile, Refusal, Renaming, StripOptions};
 pub use messages::put_message;
 pub use numbers::{number, script_number};
 pub use options::{NmOptions, Radix, ReadelfParts, Stop, StringsOptions};
