@@ -1,5 +1,5 @@
 -- What the folds over options say, step by step.
-use Rattle.std.proofs.Common.{◌≡◌, ◌++◌, ◌+◌, ◌<◌, ◌≤◌, ◌==◌, List, [], ◌∷◌, ℕ, length, take, drop, get_or, Bool, cond, Option, Some, None, option_map, option_and_then, option_to_list, MatchOption, refl, sym, ap, subst, ◌∙◌, append_assoc, arith}
+use Rattle.std.proofs.Common.{◌-◌, slice_get, ◌≡◌, ◌++◌, ◌+◌, ◌<◌, ◌≤◌, ◌==◌, List, [], ◌∷◌, ℕ, length, take, drop, get_or, Bool, cond, Option, Some, None, option_map, option_and_then, option_to_list, MatchOption, refl, sym, ap, subst, ◌∙◌, append_assoc, arith}
 use Rattle.std.specs.List.{last_or, filter_map, cons_option}
 use Rattle.std.proofs.lemmas.List.{append-nil, drop_more, drop_all, nil_from_length, take_more}
 use Rattle.std.proofs.lemmas.List.Elements.{filter_map-append}
@@ -36,45 +36,12 @@ arguments_more letter options i o words new argument within here so_far is added
     ∙ ap (λ ws. filter_map (argument_of letter) (take i options) ++ ws) (sym (one_argument argument) ∙ ap (λ a. cons_option a []) (sym is))
     ∙ sym (ap (filter_map (argument_of letter)) more ∙ filter_map-append (argument_of letter) (take i options) (o ∷ []))
 
-after-append : {X : Type 0} (xs ys : List X) (o : Option (List X)) → option_map (λ zs. (xs ++ ys) ++ zs) o ≡ option_map (λ zs. xs ++ zs) (option_map (λ zs. ys ++ zs) o)
-after-append xs ys None = refl
-after-append xs ys (Some zs) = ap Some (append_assoc xs ys zs)
-
-all_values-value : {X : Type 0} (value : List ℕ → Option X) (w : List ℕ) (ws : List (List ℕ)) (x : X) → value w ≡ Some x → all_values value (w ∷ ws) ≡ option_map (λ xs. (x ∷ []) ++ xs) (all_values value ws)
-unfolding all_values
-all_values-value {X} value w ws x is = ap (option_and_then (λ y. option_and_then (λ ys. Some (y ∷ ys)) (all_values value ws))) is ∙ cons_map (all_values value ws)
+-- the last item by its index
+pub last_read : {X : Type 0} (xs : List X) → slice_get xs (length xs - 1) ≡ last xs
+unfolding last
+last_read [] = refl
+last_read (x ∷ xs) = ap (slice_get (x ∷ xs)) (omega arith) ∙ by_length None x xs
   where
-    cons_map : (o : Option (List X)) → option_and_then (λ ys. Some (x ∷ ys)) o ≡ option_map (λ xs. (x ∷ []) ++ xs) o
-    cons_map None = refl
-    cons_map (Some xs) = refl
-
-all_values-none : {X : Type 0} (value : List ℕ → Option X) (w : List ℕ) (ws : List (List ℕ)) → value w ≡ None → all_values value (w ∷ ws) ≡ None
-unfolding all_values
-all_values-none value w ws is = ap (option_and_then (λ y. option_and_then (λ ys. Some (y ∷ ys)) (all_values value ws))) is
-
-pub all_values_begin : {X : Type 0} (o : Option (List X)) → option_map (λ xs. [] ++ xs) o ≡ o
-all_values_begin None = refl
-all_values_begin (Some xs) = refl
-
--- at the argument i, where the arguments from i on give `whole` after the values so far
-module _ {X : Type 0} (value : List ℕ → Option X) (words : List (List ℕ)) (i : ℕ) (w : List ℕ) (values : List X) (whole : Option (List X)) (within : i < length words) (here : w ≡ get_or words i w) (so_far : option_map (λ xs. values ++ xs) (all_values value (drop i words)) ≡ whole) where
-
-  from_here : whole ≡ option_map (λ xs. values ++ xs) (all_values value (w ∷ drop (i + 1) words))
-  from_here = sym so_far ∙ ap (λ ws. option_map (λ xs. values ++ xs) (all_values value ws)) (drop_more words i w within ∙ ap (λ v. v ∷ drop (i + 1) words) (sym here))
-
-  pub value_taken : (x : X) (new : List X) → value w ≡ Some x → new ≡ values ++ x ∷ [] → option_map (λ xs. new ++ xs) (all_values value (drop (i + 1) words)) ≡ whole
-  value_taken x new is added =
-      ap (λ vs. option_map (λ xs. vs ++ xs) (all_values value (drop (i + 1) words))) added
-      ∙ after-append values (x ∷ []) (all_values value (drop (i + 1) words))
-      ∙ ap (option_map (λ xs. values ++ xs)) (sym (all_values-value value w (drop (i + 1) words) x is))
-      ∙ sym from_here
-
-  pub value_refused : value w ≡ None → whole ≡ None
-  value_refused is = from_here ∙ ap (option_map (λ xs. values ++ xs)) (all_values-none value w (drop (i + 1) words) is)
-
-pub values_ended : {X : Type 0} (value : List ℕ → Option X) (words : List (List ℕ)) (i : ℕ) (values : List X) (whole : Option (List X)) → length words ≤ i → option_map (λ xs. values ++ xs) (all_values value (drop i words)) ≡ whole → whole ≡ Some values
-unfolding all_values
-values_ended value words i values whole past so_far =
-    sym so_far
-    ∙ ap (λ ws. option_map (λ xs. values ++ xs) (all_values value ws)) (drop_all i words past)
-    ∙ ap Some (append-nil values)
+    by_length : {X : Type 0} (o : Option X) (x : X) (xs : List X) → slice_get (x ∷ xs) (length xs) ≡ last_or o (x ∷ xs)
+    by_length o x [] = refl
+    by_length o x (y ∷ ys) = by_length (Some x) y ys

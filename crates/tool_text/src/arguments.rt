@@ -48,6 +48,13 @@ impl Args {
         Ok(copy)
     }
 
+    /// The list of these texts. It takes no memory.
+    pub(crate) fn from_texts(alloc: Global, words: List<Text>) -> Args
+        ensures { result ≡ words }
+    {
+        Args { alloc, words }
+    }
+
     /// Appends a copy of a text. It refuses `Memory` alone, and then the list is as before.
     pub fn add(&mut self, word: &str) -> Result<(), ElfError>
         ensures ok { OnOk result (self.new ≡ self.old ++ word.now ∷ []) }

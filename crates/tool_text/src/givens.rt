@@ -1,6 +1,6 @@
 //! What the options of the words say, letter by letter.
 
-ghost use Rattle.std.specs.Prelude.{◌≡◌, IfOk, IfErr};
+ghost use Rattle.std.specs.Prelude.{◌≡◌, IfOk, IfErr, option_map};
 ghost use Rattle.tool_text.specs.Splitting.{Reads};
 ghost use Rattle.tool_text.specs.Reading.{is_given, arguments, all_values, last};
 ghost use Rattle.tool_text.specs.declared.faults.Fault.TheVariants.{Memory};
@@ -66,4 +66,16 @@ pub(crate) fn all_values<T: Argument>(
         values.push(T::from_word(alloc, word.as_str())?)?;
     }
     Ok(values)
+}
+
+/// The value of the last argument of a letter. Each argument must have one.
+pub(crate) fn last_value<T: Argument + Copy>(
+    alloc: Global,
+    options: &[Given],
+    letter: u8,
+) -> Result<Option<T>, Fault>
+    ensures { Reads result (option_map last (all_values T.of_word (arguments letter options.now))) }
+{
+    let values = all_values::<T>(alloc, options, letter)?;
+    Ok(values.as_slice().last().copied())
 }

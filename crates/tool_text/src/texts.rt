@@ -1,6 +1,6 @@
 //! A text that owns its bytes.
 
-ghost use Rattle.std.specs.Prelude.{◌≡◌, IfOk};
+ghost use Rattle.std.specs.Prelude.{◌≡◌, IfOk, bytes_eq};
 
 use std::alloc::{AllocError, Global};
 use std::marker::Model;
@@ -40,5 +40,12 @@ impl Text {
         ensures { result.now ≡ self.now }
     {
         self.string.as_bytes()
+    }
+
+    /// Whether another text has the same bytes.
+    pub fn is_same(&self, other: &Text) -> bool
+        ensures { result ≡ bytes_eq self.now other.now }
+    {
+        self.as_str() == other.as_str()
     }
 }

@@ -2,7 +2,7 @@
 
 ghost use Rattle.std.specs.Prelude.{◌≡◌, List, ℕ, Option, option_map};
 ghost use Rattle.tool_text.specs.Splitting.{Reads};
-ghost use Rattle.tool_text.specs.Reading.{radix_of, number_within, least_of, is_name, named_file_of, renaming_of, named_bits_of, split_at_equals};
+ghost use Rattle.tool_text.specs.Reading.{radix_of, number_within, least_of, is_name, name_of, named_file_of, renaming_of, named_bits_of, split_at_equals};
 
 use crate::commands::{NamedBits, NamedFile, Renaming};
 use crate::faults::Fault;
@@ -53,6 +53,19 @@ pub(crate) fn number_within(word: &str, low: u32, high: u32) -> Result<u32, Faul
     match number(word) {
         Some(n) if u64::from(low) <= n && n <= u64::from(high) => Ok(n as u32),
         _ => Err(Fault::Words),
+    }
+}
+
+/// `-R` of copy: the name of a section.
+impl Argument for Text {
+    ghost of_word = { name_of };
+
+    #[tactic(auto, unfolding(crate::specs::Reading::name_of))]
+    fn from_word(alloc: Global, word: &str) -> Result<Text, Fault> {
+        if !is_name(word) {
+            return Err(Fault::Words);
+        }
+        Ok(Text::copy_of(alloc, word)?)
     }
 }
 
@@ -128,7 +141,7 @@ fn split_at_equals(word: &str) -> Option<(&str, &str)>
 
 /// Whether a word can be the name of a section: it holds no NUL byte.
 #[tactic(auto, unfolding(crate::specs::Reading::is_name))]
-pub(crate) fn is_name(word: &str) -> bool
+fn is_name(word: &str) -> bool
     ensures { result ≡ is_name word.now }
 {
     !word.as_bytes().contains(&0)
