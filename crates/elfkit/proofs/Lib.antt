@@ -1,3 +1,4 @@
+pub mod EndLemmas
 pub mod FileLemmas
 pub mod ReportLemmas
 pub mod RunLemmas

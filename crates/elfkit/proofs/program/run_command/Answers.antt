@@ -1,0 +1,24 @@
+use Rattle.std.proofs.Common.{◌≡◌, ◌≢◌, ◌≤◌, ◌⊎◌, ℕ, inl, inr, refl, arith}
+use Rattle.elfkit.proofs.RunLemmas.{names_same}
+use Rattle.elfkit.proofs.EndLemmas.{is_readelf, is_not_readelf, says_not_built}
+use Rattle.elfkit.proofs.program.run_command.Goals as goal
+
+pub returns-in-Readelf-clause-delivers : goal.returns-in-Readelf-clause-delivers
+returns-in-Readelf-clause-delivers g c =
+  λ told. rw (c.in-Readelf.is, is_readelf) (c.readelf.ensures.delivers told)
+
+not_two : (n : ℕ) → (n ≡ 1) ⊎ (3 ≤ n) → n ≢ 2
+not_two n (inl h) e = omega arith
+not_two n (inr h) e = omega arith
+
+pub returns : goal.returns
+returns g c = record {
+  delivers = λ told. rw (is_not_readelf c.args.command (g.F.Files.named c.args.files.now) c.in_default.not-Readelf) (says_not_built _ _ _ _ _ (c.say.ensures.delivers _));
+  known = c.say.ensures.known;
+  words = not_two _ c.say.ensures.answers;
+  causes = c.say.ensures.causes _ _;
+  names = λ told. names_same _ _;
+  live = λ small. refl;
+  out_rest = refl;
+  err_rest = c.say.ensures.rest;
+}
