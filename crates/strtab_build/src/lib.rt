@@ -1,0 +1,8 @@
+//! String tables in the making: the bytes of an ELF string table from its names, each name once and
+//! in order of first use.
+#![tactic(auto)]
+
+mod entries;
+pub mod strings;
+
+pub use strings::Strings;
