@@ -2,7 +2,7 @@
 use Rattle.std.proofs.Common.{◌≡◌, ◌+◌, ◌<◌, ℕ, suc, Bool, true, false, cond, List, [], ◌∷◌, ◌++◌, ◌||◌, ◌&&◌, not, filter, fold, length, get_or, take, refl, sym, ap, ◌∙◌, arith, append_assoc, append-nil, subst, take_while}
 use Rattle.std.specs.List.{list_any}
 use Rattle.std.specs.Str.{bytes_eq}
-use Rattle.std.proofs.lemmas.Bool.{true≢false, false≢true, false_from_ne_true, or_parts}
+use Rattle.std.proofs.lemmas.Bool.{true≢false, false≢true, false_from_ne_true, or_from, or_parts}
 use Rattle.std.proofs.lemmas.Slice.Eq.{bytes_eq-Decides}
 use Rattle.std.proofs.lemmas.List.Elements.{filter-append}
 use Rattle.std.proofs.lemmas.List.Sums.{take_while-cons}
@@ -113,3 +113,96 @@ before-push n [] h = before-here n n [] (same_refl n)
 before-push n (m ∷ names) h =
     let parts = or_parts (bytes_eq n m) (list_any (bytes_eq n) names) h in
     before-cons n m (names ++ n ∷ []) parts.0 ∙ ap (λ d. m ∷ d) (before-push n names parts.1)
+
+-- a name that is there stands behind those before it
+pub before-split : (n : List ℕ) (names : List (List ℕ)) → list_any (bytes_eq n) names ≡ true → (more : List (List ℕ)) × (names ≡ before n names ++ n ∷ more)
+before-split n [] h = absurd (false≢true h)
+before-split n (m ∷ names) h = by (bytes_eq n m) refl (before-split n names)
+  where
+    by : (same : Bool) → bytes_eq n m ≡ same → (list_any (bytes_eq n) names ≡ true → (more : List (List ℕ)) × (names ≡ before n names ++ n ∷ more)) → (more : List (List ℕ)) × (m ∷ names ≡ before n (m ∷ names) ++ n ∷ more)
+    by true e rest = (names, ap (λ d. d ∷ names) (sym (same_true n m e)) ∙ ap (λ d. d ++ n ∷ names) (sym (before-here n m names e)))
+    by false e rest =
+        let there = rest (sym (ap (λ b. b || list_any (bytes_eq n) names) e) ∙ h) in
+        (there.0, ap (λ d. m ∷ d) there.1 ∙ ap (λ d. d ++ n ∷ there.0) (sym (before-cons n m names e)))
+
+-- those before a name do not have it
+pub list_any-before : (n : List ℕ) (names : List (List ℕ)) → list_any (bytes_eq n) (before n names) ≡ false
+list_any-before n [] = refl
+list_any-before n (m ∷ names) = by (bytes_eq n m) refl (list_any-before n names)
+  where
+    by : (same : Bool) → bytes_eq n m ≡ same → list_any (bytes_eq n) (before n names) ≡ false → list_any (bytes_eq n) (before n (m ∷ names)) ≡ false
+    by true e rest = ap (list_any (bytes_eq n)) (before-here n m names e)
+    by false e rest = ap (list_any (bytes_eq n)) (before-cons n m names e) ∙ or_from _ _ e rest
+
+-- the names without one, by whether the first is it
+others-here : (m d : List ℕ) (names : List (List ℕ)) → bytes_eq m d ≡ true → others m (d ∷ names) ≡ others m names
+others-here m d names e = ap (λ b. cond (not b) (d ∷ others m names) (others m names)) e
+
+others-cons : (m d : List ℕ) (names : List (List ℕ)) → bytes_eq m d ≡ false → others m (d ∷ names) ≡ d ∷ others m names
+others-cons m d names e = ap (λ b. cond (not b) (d ∷ others m names) (others m names)) e
+
+-- taking another name out of those before one
+before-others : (n m : List ℕ) (names : List (List ℕ)) → bytes_eq n m ≡ false → before n (others m names) ≡ others m (before n names)
+before-others n m [] apart = refl
+before-others n m (d ∷ names) apart = by (bytes_eq m d) refl (bytes_eq n d) refl (before-others n m names apart)
+  where
+    by : (out : Bool) → bytes_eq m d ≡ out → (same : Bool) → bytes_eq n d ≡ same → before n (others m names) ≡ others m (before n names) → before n (others m (d ∷ names)) ≡ others m (before n (d ∷ names))
+    by true o same e rest =
+        let apart' = subst (λ x. bytes_eq n x ≡ false) (same_true m d o) apart in
+        ap (before n) (others-here m d names o) ∙ rest ∙ sym (ap (others m) (before-cons n d names apart') ∙ others-here m d (before n names) o)
+    by false o true e rest = ap (before n) (others-cons m d names o) ∙ before-here n d (others m names) e ∙ sym (ap (others m) (before-here n d names e))
+    by false o false e rest =
+        ap (before n) (others-cons m d names o) ∙ before-cons n d (others m names) e ∙ ap (λ x. d ∷ x) rest
+        ∙ sym (ap (others m) (before-cons n d names e) ∙ others-cons m d (before n names) o)
+
+-- the distinct names before one
+pub before-distinct : (b : ℕ) (bs : List ℕ) (names : List (List ℕ)) → before (b ∷ bs) (distinct names) ≡ distinct (before (b ∷ bs) names)
+unfolding distinct
+before-distinct b bs [] = refl
+before-distinct b bs ([] ∷ names) = before-distinct b bs names ∙ sym (ap distinct (before-cons (b ∷ bs) [] names refl))
+before-distinct b bs ((c ∷ cs) ∷ names) = by (bytes_eq (b ∷ bs) (c ∷ cs)) refl (before-distinct b bs names)
+  where
+    by : (same : Bool) → bytes_eq (b ∷ bs) (c ∷ cs) ≡ same → before (b ∷ bs) (distinct names) ≡ distinct (before (b ∷ bs) names)
+        → before (b ∷ bs) ((c ∷ cs) ∷ others (c ∷ cs) (distinct names)) ≡ distinct (before (b ∷ bs) ((c ∷ cs) ∷ names))
+    by true e rest = before-here (b ∷ bs) (c ∷ cs) (others (c ∷ cs) (distinct names)) e ∙ sym (ap distinct (before-here (b ∷ bs) (c ∷ cs) names e))
+    by false e rest =
+        before-cons (b ∷ bs) (c ∷ cs) (others (c ∷ cs) (distinct names)) e ∙ ap (λ x. (c ∷ cs) ∷ x) (before-others (b ∷ bs) (c ∷ cs) (distinct names) e ∙ ap (others (c ∷ cs)) rest)
+        ∙ sym (ap distinct (before-cons (b ∷ bs) (c ∷ cs) names e))
+
+-- a name is among the distinct ones where it is among all
+pub list_any-distinct : (b : ℕ) (bs : List ℕ) (names : List (List ℕ)) → list_any (bytes_eq (b ∷ bs)) (distinct names) ≡ list_any (bytes_eq (b ∷ bs)) names
+unfolding distinct
+list_any-distinct b bs [] = refl
+list_any-distinct b bs ([] ∷ names) = list_any-distinct b bs names
+list_any-distinct b bs ((c ∷ cs) ∷ names) = by (bytes_eq (b ∷ bs) (c ∷ cs)) refl (list_any-distinct b bs names)
+  where
+    by : (same : Bool) → bytes_eq (b ∷ bs) (c ∷ cs) ≡ same → list_any (bytes_eq (b ∷ bs)) (distinct names) ≡ list_any (bytes_eq (b ∷ bs)) names
+        → (bytes_eq (b ∷ bs) (c ∷ cs) || list_any (bytes_eq (b ∷ bs)) (others (c ∷ cs) (distinct names))) ≡ (bytes_eq (b ∷ bs) (c ∷ cs) || list_any (bytes_eq (b ∷ bs)) names)
+    by true e rest = ap (λ s. s || list_any (bytes_eq (b ∷ bs)) (others (c ∷ cs) (distinct names))) e ∙ sym (ap (λ s. s || list_any (bytes_eq (b ∷ bs)) names) e)
+    by false e rest = ap (λ x. bytes_eq (b ∷ bs) (c ∷ cs) || x) (list_any-others (c ∷ cs) (b ∷ bs) (distinct names) e ∙ rest)
+
+-- more names go behind those that are there
+pub fold-behind : (names more : List (List ℕ)) → (added : List (List ℕ)) × (fold with_name names more ≡ names ++ added)
+fold-behind names [] = ([], sym (append-nil names))
+fold-behind names ([] ∷ more) = fold-behind names more
+fold-behind names ((b ∷ bs) ∷ more) = by (list_any (bytes_eq (b ∷ bs)) names) refl (fold-behind names more) (fold-behind (names ++ (b ∷ bs) ∷ []) more)
+  where
+    by : (used : Bool) → list_any (bytes_eq (b ∷ bs)) names ≡ used → ((added : List (List ℕ)) × (fold with_name names more ≡ names ++ added))
+        → ((added : List (List ℕ)) × (fold with_name (names ++ (b ∷ bs) ∷ []) more ≡ names ++ (b ∷ bs) ∷ [] ++ added))
+        → (added : List (List ℕ)) × (fold with_name (with_used names (b ∷ bs)) more ≡ names ++ added)
+    by true u old new = (old.0, ap (λ d. fold with_name (cond d names (names ++ (b ∷ bs) ∷ [])) more) u ∙ old.1)
+    by false u old new =
+        ((b ∷ bs) ∷ new.0, ap (λ d. fold with_name (cond d names (names ++ (b ∷ bs) ∷ [])) more) u ∙ new.1 ∙ append_assoc names ((b ∷ bs) ∷ []) new.0)
+
+-- a name that is there, among the distinct ones: behind those used before it
+pub distinct-at : (b : ℕ) (bs : List ℕ) (names : List (List ℕ)) → list_any (bytes_eq (b ∷ bs)) names ≡ true
+    → (added : List (List ℕ)) × (distinct names ≡ distinct (before (b ∷ bs) names) ++ (b ∷ bs) ∷ added)
+distinct-at b bs names h =
+    let n = b ∷ bs in
+    let front = distinct (before n names) in
+    let split = before-split n names h in
+    let unused = list_any-distinct b bs (before n names) ∙ list_any-before n names in
+    let behind = fold-behind (front ++ n ∷ []) split.0 in
+    (behind.0,
+      ap distinct split.1 ∙ distinct-append (before n names) (n ∷ split.0) ∙ ap (λ u. fold with_name (cond u front (front ++ n ∷ [])) split.0) unused
+      ∙ behind.1 ∙ append_assoc front (n ∷ []) behind.0)

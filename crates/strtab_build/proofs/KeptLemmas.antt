@@ -153,7 +153,7 @@ IsHeld-found names n i offset t h same place =
     let used = list_any_at (bytes_eq n) names i [] h same in
     let kept : distinct (names ++ n ∷ []) ≡ names = distinct-used names n t.once used in
     record {
-      place = place ∙ ap (λ d. place_of d names) (sym (same_true n (get_or names i []) same)) ∙ sym (place_of-append n names (n ∷ []) used);
+      place = place ∙ ap (λ d. place_of d names) (sym (same_true n (get_or names i []) same));
       kept = kept;
       small = small-kept names n t kept;
     }
@@ -172,8 +172,7 @@ pub entry_after_is : (names : List (List ℕ)) (n : List ℕ) (start : ℕ) (old
 entry_after_is names n start older s o = λ j. record { start = s j; len = length n; older = o j }
 
 -- the names that are kept with a new name
-pub names_in-push : (bytes bytes' : List ℕ) (entries entries' : List Entry) (newest : ℕ → Option ℕ) (names : List (List ℕ)) (n : List ℕ) → IsKept bytes entries newest names → IsNew n names
-    → bytes' ≡ bytes ++ 0 ∷ n → entries' ≡ entries ++ entry_after names n ∷ [] → names_in bytes' entries' ≡ distinct (names ++ n ∷ [])
-names_in-push bytes bytes' entries entries' newest names n k new b e =
+pub names_in-push : (bytes bytes' : List ℕ) (entries entries' : List Entry) (newest : ℕ → Option ℕ) (names : List (List ℕ)) (n : List ℕ) → IsKept bytes entries newest names
+    → bytes' ≡ bytes ++ 0 ∷ n → entries' ≡ entries ++ entry_after names n ∷ [] → names_in bytes' entries' ≡ names ++ n ∷ []
+names_in-push bytes bytes' entries entries' newest names n k b e =
     names_in_kept bytes' entries' (names ++ n ∷ []) (b ∙ ap (λ d. d ++ 0 ∷ n) k.bytes_are ∙ sym (opened-push names n)) (e ∙ ap (λ d. d ++ entry_after names n ∷ []) k.entries_are ∙ sym (entries_after-push [] names n))
-    ∙ sym (distinct-new names n k.names_are.once new)

@@ -52,7 +52,7 @@ pub record IsNew (name : List ℕ) (names : List (List ℕ)) : Type 0 where
 
 -- an offset is the place of a name that the table holds, or of the empty one
 pub record IsHeld (name : List ℕ) (names : List (List ℕ)) (offset : ℕ) : Type 0 where
-  pub place : offset ≡ place_of name (names ++ name ∷ [])
+  pub place : offset ≡ place_of name names
   pub kept : distinct (names ++ name ∷ []) ≡ names
   pub small : length (table (names ++ name ∷ [])) < 2 ^ 32
 

@@ -3,6 +3,7 @@
 #![tactic(auto)]
 
 mod entries;
+pub mod laws;
 pub mod strings;
 
 pub use strings::Strings;

@@ -1,6 +1,6 @@
 //! A string table that is built name by name.
 
-ghost use Rattle.std.specs.Prelude.{◌≡◌, ◌≢◌, ℕ, ◌+◌, ◌-◌, ◌^◌, ◌<◌, ◌≤◌, ◌↔◌, List, [], ◌∷◌, ◌++◌, length, All, OnOk, OnErr, IfOk, IfErr, IsErrOf, IsTrue, MatchOption};
+ghost use Rattle.std.specs.Prelude.{◌≡◌, ◌≢◌, ℕ, ◌+◌, ◌-◌, ◌^◌, ◌<◌, ◌≤◌, ◌↔◌, ◌⊎◌, List, [], ◌∷◌, ◌++◌, length, All, OnOk, OnErr, IfOk, IfErr, IsErrOf, IsTrue, MatchOption};
 ghost use Rattle.strtab_build.specs.Names.{hash_of, IsHeld, IsNew};
 ghost use Rattle.strtab_build.specs.Table.{distinct, table, place_of, string_at};
 
@@ -69,9 +69,10 @@ impl Strings {
     pub fn add(&mut self, bytes: &[u8]) -> Result<u32, ElfError>
         requires { All (λ b. b ≢ 0) bytes.now }
         ensures names { OnOk result (self.new ≡ distinct (self.old ++ bytes.now ∷ [])) }
-        ensures place { IfOk result (λ offset. offset ≡ place_of bytes.now (self.old ++ bytes.now ∷ [])) }
+        ensures place { IfOk result (λ offset. offset ≡ place_of bytes.now self.new) }
+        ensures reads { IfOk result (λ offset. string_at (table self.new) offset ≡ bytes.now) }
         ensures too_large { IsErrOf result ElfError.TooLarge ↔ (2 ^ 32 - 1 < length (table (self.old ++ bytes.now ∷ []))) }
-        ensures refusals { IfErr result (λ e. (e ≢ ElfError.TooLarge) → e ≡ ElfError.Memory) }
+        ensures refusals { IfErr result (λ e. (e ≡ ElfError.TooLarge) ⊎ (e ≡ ElfError.Memory)) }
         ensures unchanged { OnErr result (self.new ≡ self.old) }
     {
         let hash = hash_of(bytes);
@@ -135,7 +136,7 @@ impl Strings {
         requires new { IsNew name.now self.old }
         requires fits { length (table (self.old ++ name.now ∷ [])) < 2 ^ 32 }
         ensures names { OnOk result (self.new ≡ distinct (self.old ++ name.now ∷ [])) }
-        ensures place { IfOk result (λ offset. offset ≡ place_of name.now (self.old ++ name.now ∷ [])) }
+        ensures place { IfOk result (λ offset. offset ≡ place_of name.now self.new) }
         ensures unchanged { OnErr result (self.new ≡ self.old) }
     {
         let start = self.bytes.len() as u32 + 1;

@@ -1,7 +1,8 @@
 use Rattle.std.proofs.Common.{ℕ, ◌≡◌, ◌+◌, ◌<◌, ◌^◌, ◌++◌, ◌∷◌, [], length, Some, cond, eqb, nat_eq, sym, subst, ap, ◌∙◌, arith}
-use Rattle.strtab_build.specs.Names.{IsKept, entry_after, hash_of, newest_of, opened}
-use Rattle.strtab_build.proofs.KeptLemmas.{IsKept-as, IsKept-push, entry_after_is, length-entries, length-table-new, names_in-push, place_of-new}
+use Rattle.strtab_build.specs.Names.{IsKept, entry_after, hash_of, names_in, newest_of, opened}
+use Rattle.strtab_build.proofs.KeptLemmas.{IsKept-as, IsKept-push, distinct-new, entry_after_is, length-entries, length-table-new, names_in-push, place_of-new}
 use Rattle.strtab_build.proofs.strings.Strings.append.Goals as goal
+use Rattle.strtab_build.specs.Table.{place_of}
 use Rattle.strtab_build.proofs.TableLemmas.{length_le-opened}
 use Rattle.std.specs.HashMap.{get}
 use Rattle.std.proofs.lemmas.Grind.{common_steps}
@@ -46,13 +47,20 @@ invariant_of-self-2 c =
         λ hash. c.in_ok-older.ensures.updates.0 hash ∙ (λ j. cond (eqb (c.requires.hash j) hash) (Some (count j)) (get nat_eq c.self.inside.newest hash)) in
     IsKept-as _ _ _ _ _ _ (bytes_after c) (entries_after c) (IsKept-push _ _ _ (get nat_eq c.insert.new.self) c.args.self.now c.args.name.now kept c.requires.new fits heads)
 
+names_after : (c : goal.After-unwrap-3) → names_in c.extend_from_slice.new.self.items c.push-2.new.self.items ≡ c.args.self.now ++ c.args.name.now ∷ []
+names_after c =
+    let kept = subst (IsKept _ _ _) c.self.view_is c.self.invariant in
+    names_in-push _ _ _ _ _ c.args.self.now c.args.name.now kept (bytes_after c) (entries_after c)
+
 pub returns-clause-names : goal.returns-clause-names
 returns-clause-names c =
     let kept = subst (IsKept _ _ _) c.self.view_is c.self.invariant in
-    names_in-push _ _ _ _ _ c.args.self.now c.args.name.now kept c.requires.new (bytes_after c) (entries_after c)
+    names_after c ∙ sym (distinct-new c.args.self.now c.args.name.now kept.names_are.once c.requires.new)
 
 pub returns-clause-place : goal.returns-clause-place
 returns-clause-place c =
     let kept = subst (IsKept _ _ _) c.self.view_is c.self.invariant in
     let len = c.self.inside.bytes.ok.0 in
-    omega (arith, place_of-new c.args.self.now c.args.name.now kept.names_are.once c.requires.new, ap length kept.bytes_are)
+    let start : c.len.result + 1 ≡ place_of c.args.name.now (c.args.self.now ++ c.args.name.now ∷ []) =
+        omega (arith, place_of-new c.args.self.now c.args.name.now kept.names_are.once c.requires.new, ap length kept.bytes_are) in
+    start ∙ ap (place_of c.args.name.now) (sym (names_after c))
