@@ -1,5 +1,5 @@
 -- What `distinct` and `before` give after one more name.
-use Rattle.std.proofs.Common.{◌≡◌, ◌+◌, ◌<◌, ℕ, suc, Bool, true, false, cond, List, [], ◌∷◌, ◌++◌, ◌||◌, ◌&&◌, not, filter, fold, length, get_or, take, refl, sym, ap, ◌∙◌, arith, append_assoc, append-nil, subst, take_while}
+use Rattle.std.proofs.Common.{◌≡◌, ℕ, Bool, true, false, cond, List, [], ◌∷◌, ◌++◌, ◌||◌, not, fold, refl, sym, ap, ◌∙◌, append_assoc, append-nil, subst}
 use Rattle.std.specs.List.{list_any}
 use Rattle.std.specs.Str.{bytes_eq}
 use Rattle.std.proofs.lemmas.Bool.{true≢false, false≢true, false_from_ne_true, or_from, or_parts}
@@ -202,7 +202,8 @@ distinct-at b bs names h =
     let front = distinct (before n names) in
     let split = before-split n names h in
     let unused = list_any-distinct b bs (before n names) ∙ list_any-before n names in
-    let behind = fold-behind (front ++ n ∷ []) split.0 in
-    (behind.0,
+    let behind = fold-behind (front ++ n ∷ []) split.0 in (
+      behind.0,
       ap distinct split.1 ∙ distinct-append (before n names) (n ∷ split.0) ∙ ap (λ u. fold with_name (cond u front (front ++ n ∷ [])) split.0) unused
-      ∙ behind.1 ∙ append_assoc front (n ∷ []) behind.0)
+          ∙ behind.1 ∙ append_assoc front (n ∷ []) behind.0,
+    )

@@ -1,5 +1,5 @@
 -- How what is kept of the names grows by one, and what is found in it.
-use Rattle.std.proofs.Common.{◌≡◌, ◌+◌, ◌-◌, ◌==◌, ◌<◌, ◌≤◌, ◌^◌, ℕ, suc, Bool, true, false, cond, eqb, List, [], ◌∷◌, ◌++◌, ◌||◌, length, get_or, take, drop, map, Option, Some, None, refl, sym, ap, subst, ◌∙◌, arith, append_assoc, append-nil, length-append, ⊎_elim}
+use Rattle.std.proofs.Common.{◌≡◌, ◌+◌, ◌-◌, ◌==◌, ◌<◌, ◌≤◌, ◌^◌, ℕ, true, cond, eqb, List, [], ◌∷◌, ◌++◌, length, get_or, take, drop, Option, Some, None, refl, sym, ap, subst, ◌∙◌, arith, ⊎_elim}
 use Rattle.std.specs.List.{list_any}
 use Rattle.std.specs.Str.{bytes_eq}
 use Rattle.std.proofs.lemmas.Bool.{cases_lt, eqb-true, true≢false}
@@ -34,6 +34,7 @@ places-push names n t new i h = ⊎_elim (by_old) by_new (cases_lt i (length nam
         let name = get_or names i [] in
         ap (λ d. place_of d (names ++ n ∷ [])) (get_or_append_left names (n ∷ []) [] i lt) ∙ place_of-append name names (n ∷ []) (list_any_at (bytes_eq name) names i [] lt (same_refl name))
         ∙ t.places i lt ∙ ap (λ d. length (opened d) + 1) (sym (take-append-le i names (n ∷ []) (omega arith)))
+
     by_new : length names ≤ i → place_of (get_or (names ++ n ∷ []) i []) (names ++ n ∷ []) ≡ length (opened (take i (names ++ n ∷ []))) + 1
     by_new ge =
         let last : length names ≡ i = omega (arith, length_push names n) in

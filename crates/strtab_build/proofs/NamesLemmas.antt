@@ -1,9 +1,9 @@
 -- How the entries and the chains grow with the names, and what a chain finds.
-use Rattle.std.proofs.Common.{◌≡◌, ◌+◌, ◌<◌, ◌≤◌, ℕ, zero, suc, Bool, true, false, cond, eqb, List, [], ◌∷◌, ◌++◌, ◌||◌, length, get_or, take, drop, map, Option, Some, None, refl, sym, ap, subst, ◌∙◌, arith, append_assoc, append-nil, length-append, drop-cons}
+use Rattle.std.proofs.Common.{◌≡◌, ◌+◌, ◌<◌, ◌≤◌, ℕ, zero, suc, Bool, true, false, cond, eqb, List, [], ◌∷◌, ◌++◌, length, get_or, take, drop, map, Option, Some, None, refl, sym, ap, subst, ◌∙◌, arith, append_assoc, append-nil, drop-cons}
 use Rattle.std.specs.List.{list_any}
 use Rattle.std.specs.Option.{option_map_or}
 use Rattle.std.specs.Str.{bytes_eq}
-use Rattle.std.proofs.lemmas.Bool.{eqb-true, eqb-false, eq-eqb, false≢true, true≢false, false_from_ne_true, or_from}
+use Rattle.std.proofs.lemmas.Bool.{eqb-true, eqb-false, false_from_ne_true, or_from}
 use Rattle.std.proofs.lemmas.List.{drop-drop, drop_at, take_at, take_all, drop_all, drop-append-le, take-append-drop, get_or-take, length-take}
 use Rattle.std.proofs.lemmas.List.Folds.{list_any-append}
 use Rattle.strtab_build.specs.Names.{opened, entry_after, entries_after, hash_of, later, name_in, names_in, newest_of}
@@ -43,7 +43,7 @@ names_in-after earlier (n ∷ names) more =
     let rest = opened names ++ more in
     let whole : opened earlier ++ (0 ∷ (n ++ opened names) ++ more) ≡ opened earlier ++ (0 ∷ (n ++ rest)) = ap (λ d. opened earlier ++ 0 ∷ d) (append_assoc n (opened names) more) in
     let moved : opened earlier ++ (0 ∷ (n ++ opened names) ++ more) ≡ opened (earlier ++ n ∷ []) ++ rest =
-        whole ∙ sym (append_assoc (opened earlier) (0 ∷ n) rest) ∙ ap (λ d. d ++ rest) (sym (opened-push earlier n)) in
+    whole ∙ sym (append_assoc (opened earlier) (0 ∷ n) rest) ∙ ap (λ d. d ++ rest) (sym (opened-push earlier n)) in
     let first = ap (λ b. name_in b (entry_after earlier n)) whole ∙ name_behind (opened earlier) n rest in
     let others = ap (λ b. map (name_in b) (entries_after (earlier ++ n ∷ []) names)) moved ∙ names_in-after (earlier ++ n ∷ []) names more in
     λ j. first j ∷ others j
@@ -60,6 +60,7 @@ newest_of-push hash (m ∷ names) n = ap (λ o. later o (first)) (newest_of-push
   where
     first : Option ℕ
     first = cond (eqb (hash_of m) hash) (Some 0) None
+
     by : (b : Bool) → later (cond b (Some (length names)) (newest_of hash names)) first ≡ cond b (Some (suc (length names))) (later (newest_of hash names) first)
     by true = refl
     by false = refl
@@ -142,10 +143,10 @@ Seeks-next n names i older s other h =
     let hashed : hash_of (get_or names i []) ≡ hash_of n = ap hash_of (sym (get_or-take s.bound names i [] within.1)) ∙ found.hashed in
     let between = found.after n refl in
     let parts : drop (suc i) names ≡ drop (suc i) (take s.bound names) ++ drop s.bound names =
-        ap (drop (suc i)) (sym (take-append-drop s.bound names)) ∙ drop-append-le (suc i) (take s.bound names) (drop s.bound names) (omega (arith, found.within)) in
+    ap (drop (suc i)) (sym (take-append-drop s.bound names)) ∙ drop-append-le (suc i) (take s.bound names) (drop s.bound names) (omega (arith, found.within)) in
     record {
       bound = i;
       here = h ∙ ap (λ d. newest_of d (take i names)) hashed;
       passed = ap (list_any (bytes_eq n)) (drop-cons names i [] within.0)
-        ∙ or_from _ _ other (ap (list_any (bytes_eq n)) parts ∙ list_any-append (bytes_eq n) (drop (suc i) (take s.bound names)) (drop s.bound names) ∙ or_from _ _ between s.passed);
+          ∙ or_from _ _ other (ap (list_any (bytes_eq n)) parts ∙ list_any-append (bytes_eq n) (drop (suc i) (take s.bound names)) (drop s.bound names) ∙ or_from _ _ between s.passed);
     }

@@ -1,5 +1,5 @@
 -- What the table of names is as names are added, and where a name stands in it.
-use Rattle.std.proofs.Common.{◌≡◌, ◌≢◌, ◌+◌, ◌==◌, ◌<◌, ◌≤◌, ℕ, zero, suc, Bool, true, false, List, [], ◌∷◌, ◌++◌, length, get_or, take, drop, take_while, not, cond, All, Contains, refl, sym, ap, ◌∙◌, arith, append_assoc, append-nil, length-append}
+use Rattle.std.proofs.Common.{◌≡◌, ◌≢◌, ◌+◌, ◌==◌, ◌<◌, ◌≤◌, ℕ, zero, suc, true, false, List, [], ◌∷◌, ◌++◌, length, get_or, take, drop, take_while, not, cond, All, Contains, refl, sym, ap, ◌∙◌, arith, append_assoc, append-nil, length-append}
 use Rattle.std.specs.List.{list_any}
 use Rattle.std.specs.Str.{bytes_eq}
 use Rattle.std.proofs.lemmas.List.Concat.{flat_map-append}
@@ -11,7 +11,7 @@ use Rattle.std.proofs.lemmas.List.Sums.{take_while-cons}
 use Rattle.std.proofs.lemmas.Map.Views.{list_any-from_Contains}
 use Rattle.strtab_build.specs.Table.{before, distinct, strings, table, place_of, string_at}
 use Rattle.strtab_build.specs.Names.{opened}
-use Rattle.strtab_build.proofs.DistinctLemmas.{before-append, before-distinct, before-push, distinct-at, distinct-distinct, same_from}
+use Rattle.strtab_build.proofs.DistinctLemmas.{before-append, before-distinct, before-push, distinct-at, distinct-distinct}
 
 pub opened-push : (names : List (List ℕ)) (n : List ℕ) → opened (names ++ n ∷ []) ≡ opened names ++ 0 ∷ n
 unfolding opened
@@ -91,9 +91,10 @@ table-split : (b : ℕ) (bs : List ℕ) (names : List (List ℕ)) → list_any (
 unfolding table strings
 table-split b bs names h =
     let at = distinct-at b bs names h in
-    let front = distinct (before (b ∷ bs) names) in
-    (strings at.0,
-      ap (λ d. 0 ∷ strings d) at.1 ∙ ap (λ d. 0 ∷ d) (flat_map-append (λ d. d ++ 0 ∷ []) front ((b ∷ bs) ∷ at.0) ∙ ap (λ d. strings front ++ d) (append_assoc (b ∷ bs) (0 ∷ []) (strings at.0))))
+    let front = distinct (before (b ∷ bs) names) in (
+      strings at.0,
+      ap (λ d. 0 ∷ strings d) at.1 ∙ ap (λ d. 0 ∷ d) (flat_map-append (λ d. d ++ 0 ∷ []) front ((b ∷ bs) ∷ at.0) ∙ ap (λ d. strings front ++ d) (append_assoc (b ∷ bs) (0 ∷ []) (strings at.0))),
+    )
 
 -- the string at a name's place is the name
 pub string_at-place_of : (n : List ℕ) (names : List (List ℕ)) → Contains names n → All (λ b. b ≢ 0) n → string_at (table names) (place_of n names) ≡ n

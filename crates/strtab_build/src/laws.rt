@@ -15,5 +15,4 @@ pub fn uses_have_places()
     ensures places { (used : List (List ℕ)) (name : List ℕ) → place_of name (distinct used) ≡ place_of name used }
     ensures stays { (used more : List (List ℕ)) (name : List ℕ) → Contains used name → place_of name (used ++ more) ≡ place_of name used }
     ensures reads { (used : List (List ℕ)) (name : List ℕ) → Contains used name → All (λ b. b ≢ 0) name → string_at (table used) (place_of name used) ≡ name }
-{
-}
+{}

@@ -1,4 +1,4 @@
-use Rattle.std.proofs.Common.{refl, sym}
+use Rattle.std.proofs.Common.{sym}
 use Rattle.strtab_build.proofs.TableLemmas.{string_at-added}
 use Rattle.strtab_build.proofs.strings.Strings.add.Goals as goal
 

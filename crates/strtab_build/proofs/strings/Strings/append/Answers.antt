@@ -44,7 +44,7 @@ invariant_of-self-2 c =
     let len = c.self.inside.entries.ok.0 in
     let count : c.len-2.result ≡ length c.args.self.now = omega (arith, c.in_ok-reserve-2.ensures.len) in
     let heads : (hash : ℕ) → get nat_eq c.insert.new.self hash ≡ cond (eqb (hash_of c.args.name.now) hash) (Some (length c.args.self.now)) (get nat_eq c.self.inside.newest hash) =
-        λ hash. c.in_ok-older.ensures.updates.0 hash ∙ (λ j. cond (eqb (c.requires.hash j) hash) (Some (count j)) (get nat_eq c.self.inside.newest hash)) in
+    λ hash. c.in_ok-older.ensures.updates.0 hash ∙ (λ j. cond (eqb (c.requires.hash j) hash) (Some (count j)) (get nat_eq c.self.inside.newest hash)) in
     IsKept-as _ _ _ _ _ _ (bytes_after c) (entries_after c) (IsKept-push _ _ _ (get nat_eq c.insert.new.self) c.args.self.now c.args.name.now kept c.requires.new fits heads)
 
 names_after : (c : goal.After-unwrap-3) → names_in c.extend_from_slice.new.self.items c.push-2.new.self.items ≡ c.args.self.now ++ c.args.name.now ∷ []
@@ -62,5 +62,5 @@ returns-clause-place c =
     let kept = subst (IsKept _ _ _) c.self.view_is c.self.invariant in
     let len = c.self.inside.bytes.ok.0 in
     let start : c.len.result + 1 ≡ place_of c.args.name.now (c.args.self.now ++ c.args.name.now ∷ []) =
-        omega (arith, place_of-new c.args.self.now c.args.name.now kept.names_are.once c.requires.new, ap length kept.bytes_are) in
+    omega (arith, place_of-new c.args.self.now c.args.name.now kept.names_are.once c.requires.new, ap length kept.bytes_are) in
     start ∙ ap (place_of c.args.name.now) (sym (names_after c))

@@ -1,4 +1,4 @@
-use Rattle.std.proofs.Common.{◌+◌, arith, sym, subst, ap, ◌∙◌, ◌≡◌, Some, true, false, length, nat_eq}
+use Rattle.std.proofs.Common.{◌+◌, arith, sym, subst, ap, ◌∙◌}
 use Rattle.std.specs.Option.{option_map_or}
 use Rattle.strtab_build.specs.Names.{IsKept, newest_of}
 use Rattle.strtab_build.proofs.KeptLemmas.{IsHeld-empty, IsHeld-found, length-entries, sought}

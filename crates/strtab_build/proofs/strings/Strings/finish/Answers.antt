@@ -1,8 +1,7 @@
-use Rattle.std.proofs.Common.{ap, sym, ◌∙◌, ◌++◌, ◌∷◌, [], ◌≡◌, subst, cond}
+use Rattle.std.proofs.Common.{◌∙◌, subst}
 use Rattle.strtab_build.specs.Names.{IsKept}
 use Rattle.strtab_build.proofs.KeptLemmas.{table_kept}
 use Rattle.strtab_build.proofs.strings.Strings.finish.Goals as goal
-use Rattle.std.specs.Result.{is_ok}
 
 pub returns-clause-ok : goal.returns-clause-ok
 returns-clause-ok c =

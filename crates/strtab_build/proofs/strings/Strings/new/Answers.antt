@@ -1,4 +1,4 @@
-use Rattle.std.proofs.Common.{map, [], ap, sym, ◌∙◌, nat_eq}
+use Rattle.std.proofs.Common.{map, [], ap, nat_eq}
 use Rattle.strtab_build.specs.Names.{name_in, names_in}
 use Rattle.strtab_build.proofs.KeptLemmas.{IsKept-as, IsKept-nil}
 use Rattle.strtab_build.proofs.strings.Strings.new.Goals as goal
