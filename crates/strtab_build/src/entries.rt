@@ -1,8 +1,6 @@
 //! What a table in the making keeps of each of its names.
 
-/// Where a name stands in the table.
-///
-/// Names with one hash form a chain, the newest first.
+/// Where a name stands in the table. Names with one hash form a chain, the newest first.
 #[derive(Clone, Copy)]
 pub struct Entry {
     /// The offset of the name's first byte in the table.
