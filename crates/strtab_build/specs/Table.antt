@@ -26,7 +26,8 @@ table names = 0 ∷ strings (distinct names)
 abbrev pub before : List ℕ → List (List ℕ) → List (List ℕ)
 before name names = take_while (λ other. not (bytes_eq name other)) names
 
--- the place of a name in the table: that of the first NUL for the empty name, and else the end of the strings first used before it
+-- the place of a name in the table: that of the first NUL for the empty name, and else the end of the strings that are
+-- first used before it
 unfoldable pub place_of : List ℕ → List (List ℕ) → ℕ
 place_of [] names = 0
 place_of (b ∷ bs) names = length (table (before (b ∷ bs) names))

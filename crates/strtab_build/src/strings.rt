@@ -40,7 +40,8 @@ impl Model for Strings {
 
     ghost view = { λ s. names_in s.bytes.items s.entries.items };
 
-    ghost invariant = { λ s. IsKept s.bytes.items s.entries.items (get nat_eq s.newest) (names_in s.bytes.items s.entries.items) };
+    ghost invariant = { λ s. IsKept s.bytes.items s.entries.items (get nat_eq s.newest)
+        (names_in s.bytes.items s.entries.items) };
 }
 
 /// The hash by which a name is found again.
@@ -75,7 +76,8 @@ impl Strings {
         ensures names { OnOk result (self.new ≡ distinct (self.old ++ bytes.now ∷ [])) }
         ensures place { IfOk result (λ offset. offset ≡ place_of bytes.now self.new) }
         ensures reads { IfOk result (λ offset. string_at (table self.new) offset ≡ bytes.now) }
-        ensures too_large { IsErrOf result ElfError.TooLarge ↔ (2 ^ 32 - 1 < length (table (self.old ++ bytes.now ∷ []))) }
+        ensures too_large { IsErrOf result ElfError.TooLarge
+            ↔ (2 ^ 32 - 1 < length (table (self.old ++ bytes.now ∷ []))) }
         ensures refusals { IfErr result (λ e. (e ≡ ElfError.TooLarge) ⊎ (e ≡ ElfError.Memory)) }
         ensures unchanged { OnErr result (self.new ≡ self.old) }
     {
