@@ -1,0 +1,4 @@
+pub mod DistinctLemmas
+pub mod KeptLemmas
+pub mod NamesLemmas
+pub mod TableLemmas
