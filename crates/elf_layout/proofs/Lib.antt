@@ -1,2 +1,7 @@
+pub mod FirstMet
 pub mod Lengths
+pub mod Neighbours
+pub mod Ranks
+pub mod Sorting
 pub mod Successive
+pub mod Unique
