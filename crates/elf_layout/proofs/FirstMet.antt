@@ -124,3 +124,14 @@ overlap_is ps es moved sorted =
     let found = first_met_is ps (ranked_listed ps) ranked (climbs-sorted_by (λ (x : ℕ × PartAt). x.1.at) (ranked_from 0 ps)) in
     subst (λ (l : List Extent). IsPairOf ps (first_close l) (overlap_of ps)) (sym (sorted_extents ps es moved sorted))
     (subst (λ (l : List PartAt). IsPairOf ps (first_close (map extent_of (ranked_listed ps))) (first_met l)) (sym (listed_is ps)) found)
+
+-- the same as the code calls it
+pub overlap_named : (ps : List PartAt) (given es : List Extent) (a b : ℕ) → given ≡ extents_of ps → IsPermutation given es → IsSorted extent_cmp es → ◌≡◌ {A = Option (ℕ × ℕ)} (Some (a, b)) (first_close es) → Names ps (a, b) (overlap_of ps)
+overlap_named ps given es a b given_is moved sorted found =
+    let moved' = subst (λ (l : List Extent). IsPermutation l es) given_is moved in
+    subst (λ (ranks : Option (ℕ × ℕ)). IsPairOf ps ranks (overlap_of ps)) (sym found) (overlap_is ps es moved' sorted)
+
+pub overlap_none : (ps : List PartAt) (given es : List Extent) → given ≡ extents_of ps → IsPermutation given es → IsSorted extent_cmp es → ◌≡◌ {A = Option (ℕ × ℕ)} None (first_close es) → ◌≡◌ {A = Option (Part × Part)} None (overlap_of ps)
+overlap_none ps given es given_is moved sorted found =
+    let moved' = subst (λ (l : List Extent). IsPermutation l es) given_is moved in
+    sym (subst (λ (ranks : Option (ℕ × ℕ)). IsPairOf ps ranks (overlap_of ps)) (sym found) (overlap_is ps es moved' sorted))
