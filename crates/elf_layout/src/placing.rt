@@ -11,6 +11,7 @@ use elf_types::{Class, ElfError};
 use std::alloc::Global;
 
 /// Where the parts of an image stand, and the image's length.
+#[tactic(auto, using(crate::proofs::Successive::placing_anew), unfolding(crate::specs::Layout::placing, crate::specs::Layout::placing_within, crate::specs::Layout::refusal_of))]
 pub fn place(
     alloc: Global,
     parts: &Parts,
