@@ -1,6 +1,8 @@
+pub mod Apart
 pub mod FirstMet
 pub mod Lengths
 pub mod Neighbours
+pub mod Placed
 pub mod Ranks
 pub mod Sorting
 pub mod Successive

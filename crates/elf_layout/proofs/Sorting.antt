@@ -40,6 +40,21 @@ all-inserted_by key P x (y ∷ ys) here all =
     ]
 
 -- so does what holds of each
+pub all-inserted_by_back : {X : Type 0} (key : X → ℕ) (P : X → Type 0) (x : X) (xs : List X) → AllByRecursion P (inserted_by key x xs) → P x × AllByRecursion P xs
+all-inserted_by_back key P x [] all = (all.0, tt)
+all-inserted_by_back key P x (y ∷ ys) all =
+    all_either key P x y ys (nat_le (key x) (key y)) all (λ rest. all-inserted_by_back key P x ys rest)
+  where
+    all_either : {X : Type 0} (key : X → ℕ) (P : X → Type 0) (x y : X) (ys : List X) (b : Bool) → AllByRecursion P (cond b (x ∷ y ∷ ys) (y ∷ inserted_by key x ys)) → (AllByRecursion P (inserted_by key x ys) → P x × AllByRecursion P ys) → P x × (P y × AllByRecursion P ys)
+    all_either key P x y ys true all rest = (all.0, all.1)
+    all_either key P x y ys false all rest = ((rest all.1).0, (all.0, (rest all.1).1))
+
+pub all-sorted_by_back : {X : Type 0} (key : X → ℕ) (P : X → Type 0) (xs : List X) → AllByRecursion P (sorted_by key xs) → AllByRecursion P xs
+all-sorted_by_back key P [] all = tt
+all-sorted_by_back key P (x ∷ xs) all =
+    let parts = all-inserted_by_back key P x (sorted_by key xs) all in
+    (parts.0, all-sorted_by_back key P xs parts.1)
+
 pub all-sorted_by : {X : Type 0} (key : X → ℕ) (P : X → Type 0) (xs : List X) → AllByRecursion P xs → AllByRecursion P (sorted_by key xs)
 all-sorted_by key P [] all = tt
 all-sorted_by key P (x ∷ xs) all = all-inserted_by key P x (sorted_by key xs) all.0 (all-sorted_by key P xs all.1)

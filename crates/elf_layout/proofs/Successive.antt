@@ -28,7 +28,7 @@ placed_none limit parts = record {
   same_above = refl;
 }
 
-place_of-ge : (end : ℕ) (p : PartAt) → end ≤ place_of end p
+pub place_of-ge : (end : ℕ) (p : PartAt) → end ≤ place_of end p
 unfolding place_of rounded_up
 place_of-ge end p = omega arith
 
@@ -43,7 +43,7 @@ unfolding length_with has_bytes end_of end_after
 length_with_next end length p below =
     length_with_same (place_of end p) p.len end length p.filled (omega (arith, place_of-ge end p))
 
-end_after-ge : (end : ℕ) (p : PartAt) → end ≤ end_after end p
+pub end_after-ge : (end : ℕ) (p : PartAt) → end ≤ end_after end p
 unfolding end_after
 end_after-ge end p =
     elim (p.filled) as (λ b. end ≤ cond b (place_of end p + p.len) end) [ true ↦ omega (arith, place_of-ge end p) | false ↦ omega arith ]

@@ -74,9 +74,6 @@ unfoldable pub refusal_within : List PartAt → Bool → ℕ → ℕ → Option 
 refusal_within parts layout base limit =
     option_or (overlap_refusal parts layout) (if is_too_large parts layout base limit then Some TooLarge else None)
 
-unfoldable pub refusal_of : List PartAt → Bool → ℕ → Class → Option ElfError
-refusal_of parts layout base class = refusal_within parts layout base (limit_of class)
-
 -- the places, where nothing is refused
 unfoldable pub placed : Option ElfError → Places → Result Places ElfError
 placed None places = Ok places
@@ -85,5 +82,9 @@ placed (Some e) places = Err e
 unfoldable pub placing_within : List PartAt → Bool → ℕ → ℕ → Result Places ElfError
 placing_within parts layout base limit = placed (refusal_within parts layout base limit) (places_of parts layout base)
 
+-- the same under the limit of a class
+unfoldable pub refusal_of : List PartAt → Bool → ℕ → Class → Option ElfError
+refusal_of parts layout base class = refusal_within parts layout base (limit_of class)
+
 unfoldable pub placing : List PartAt → Bool → ℕ → Class → Result Places ElfError
-placing parts layout base class = placed (refusal_of parts layout base class) (places_of parts layout base)
+placing parts layout base class = placing_within parts layout base (limit_of class)

@@ -1,6 +1,6 @@
 -- Which parts of an image share a byte.
-use Rattle.std.specs.Prelude.{ℕ, ◌+◌, nat_lt, nat_le, List, [], ◌∷◌, Bool, ◌&&◌, if◌then◌else◌, Option, None, slice_get}
-use Rattle.std.specs.List.{list_any, filter}
+use Rattle.std.specs.Prelude.{ℕ, ◌+◌, ◌<◌, nat_lt, nat_le, List, [], ◌∷◌, Bool, IsTrue, ◌&&◌, if◌then◌else◌, Option, None, slice_get, All}
+use Rattle.std.specs.List.{list_any, filter, AllPairs}
 use Rattle.std.specs.Option.{option_map}
 use Rattle.elf_types.specs.declared.records.Part.{Part}
 use Rattle.elf_layout.specs.declared.parts.PartAt.{PartAt}
@@ -16,6 +16,18 @@ end_of p = p.at + p.len
 -- two parts share a byte
 unfoldable pub meets : PartAt → PartAt → Bool
 meets a b = has_bytes a && has_bytes b && nat_lt a.at (end_of b) && nat_lt b.at (end_of a)
+
+-- the byte of the image at a place is one of the part's
+unfoldable pub covers : PartAt → ℕ → Bool
+covers p n = p.filled && nat_le p.at n && nat_lt n (end_of p)
+
+-- no byte of the image is one of two parts
+abbrev pub IsApart : List PartAt → Type 0
+IsApart ps = AllPairs (λ p q. (n : ℕ) → IsTrue (covers p n) → IsTrue (covers q n) → ⊥) ps
+
+-- the parts have no byte at a length or behind it
+abbrev pub LiesWithin : ℕ → List PartAt → Type 0
+LiesWithin length ps = All (λ p. (n : ℕ) → IsTrue (covers p n) → n < length) ps
 
 -- an item put among items by a key, before those with its own
 abbrev pub inserted_by : {X : Type 0} → (X → ℕ) → X → List X → List X
