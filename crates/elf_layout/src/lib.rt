@@ -12,3 +12,6 @@ pub mod rounding;
 pub use parts::{PartAt, Parts, Places};
 pub use placing::place;
 pub use rounding::rounded_within;
+
+#[cfg(test)]
+mod tests;
