@@ -161,9 +161,10 @@ disjoint_behind end p q after n first second =
 pairs_in_order : (end : ℕ) (ps : List PartAt) → Pairs IsDisjoint (in_order_from end ps)
 unfolding in_order_from
 pairs_in_order end [] = tt
-pairs_in_order end (p ∷ ps) =
-    (all_weaker (λ q. end_after end p ≤ q.at) (IsDisjoint (record p { at = place_of end p })) (λ q after. disjoint_behind end p q after) (in_order_from (end_after end p) ps) (behind (end_after end p) ps),
-     pairs_in_order (end_after end p) ps)
+pairs_in_order end (p ∷ ps) = (
+  all_weaker (λ q. end_after end p ≤ q.at) (IsDisjoint (record p { at = place_of end p })) (λ q after. disjoint_behind end p q after) (in_order_from (end_after end p) ps) (behind (end_after end p) ps),
+  pairs_in_order (end_after end p) ps,
+)
 
 pub apart_in_order : (ps : List PartAt) → IsApart (in_order_from 0 ps)
 apart_in_order ps = all_pairs_from IsDisjoint (in_order_from 0 ps) (pairs_in_order 0 ps)
@@ -178,9 +179,10 @@ length_with_covers length n p covered =
 within : (length : ℕ) (ps : List PartAt) → AllByRecursion (λ p. (n : ℕ) → IsTrue (covers p n) → n < length_from length ps) ps
 unfolding length_from
 within length [] = tt
-within length (p ∷ ps) =
-    ((λ n covered. omega (arith, length_with_covers length n p (covered_from p n covered), length_from_ge (length_with length p) ps)),
-     within (length_with length p) ps)
+within length (p ∷ ps) = (
+  (λ n covered. omega (arith, length_with_covers length n p (covered_from p n covered), length_from_ge (length_with length p) ps)),
+  within (length_with length p) ps,
+)
 
 pub lies_within : (length : ℕ) (ps : List PartAt) → LiesWithin (length_from length ps) ps
 lies_within length ps = All-from_recursion _ ps (within length ps)

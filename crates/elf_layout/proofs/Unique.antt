@@ -24,10 +24,11 @@ IsSorted-tail R x xs sorted k d low inside =
 -- the same from what a sort ensures
 pub Rises-from_sorted : {X : Type 0} (R : X → X → Ordering) → IsTotalOrder R → (xs : List X) → IsSorted R xs → Rises R xs
 Rises-from_sorted R o [] sorted = tt
-Rises-from_sorted {X} R o (x ∷ xs) sorted =
-    (recursion_from_All (λ y. is_lt (R y x) ≡ false) xs
+Rises-from_sorted {X} R o (x ∷ xs) sorted = (
+  recursion_from_All (λ y. is_lt (R y x) ≡ false) xs
       (λ k d h. sorted_far (λ y z. is_lt (R y z)) (ranks_by o (λ (y : X). y)) (x ∷ xs) sorted 0 (suc k) d (omega arith) (omega arith)),
-     Rises-from_sorted R o xs (IsSorted-tail R x xs sorted))
+  Rises-from_sorted R o xs (IsSorted-tail R x xs sorted),
+)
 
 sum_by-none : {X : Type 0} (f : X → ℕ) (xs : List X) → AllByRecursion (λ x. f x ≡ 0) xs → sum_by f xs ≡ 0
 sum_by-none f [] none = refl

@@ -2,7 +2,7 @@
 use Rattle.std.specs.Prelude.{ℕ, ◌-◌, nat_lt, List, [], ◌∷◌, map, if◌then◌else◌, Option, Some, None, slice_get}
 use Rattle.std.specs.List.{filter, enumerate_from}
 use Rattle.elf_layout.specs.declared.parts.PartAt.{PartAt}
-use Rattle.elf_layout.specs.declared.overlap.Extent.{Extent}
+use Rattle.elf_layout.specs.declared.meeting.Extent.{Extent}
 use Rattle.elf_layout.specs.Meeting.{has_bytes}
 
 -- the parts that are not empty, with their ranks from one on

@@ -59,9 +59,9 @@ limit_of C64 = 2 ^ 40
 unfoldable pub some_above : ℕ → List PartAt → Bool
 some_above limit ps = list_any (λ p. nat_lt limit p.at) ps
 
--- The length is above the limit, or a position that is not the caller's. Every part counts, though
--- no header stores that of SHT_NULL: it is the end so far, so above the limit only behind a part
--- that is there already or ends there.
+-- The length is above the limit, or a position that is not the caller's. Every part's position counts.
+-- A header stores only those of sections other than SHT_NULL, and the others change nothing: a part
+-- of alignment 1 stands at the end so far, which is the position or the end of a part before it.
 unfoldable pub is_too_large : List PartAt → Bool → ℕ → ℕ → Bool
 is_too_large parts layout base limit =
     nat_lt limit (length_of parts layout base) || not layout && some_above limit (standing parts layout)
