@@ -15,7 +15,6 @@ use std::alloc::Global;
 ///
 /// It refuses, in this order, `Overlap` where two parts share a byte, `TooLarge` where the image's
 /// length is above `limit`, and `Memory`.
-#[tactic(auto, unfolding(crate::specs::Layout::placing_within, crate::specs::Layout::placed, crate::specs::Layout::refusal_within, crate::specs::Layout::overlap_refusal, crate::specs::Layout::is_too_large, crate::specs::Layout::places_of, crate::specs::Layout::length_of, crate::specs::Layout::standing))]
 pub fn place_by_caller(
     alloc: Global,
     parts: &[PartAt],
