@@ -1,17 +1,14 @@
 -- Where nothing is refused no byte of the image is one of two parts, and each lies within its length.
-use Rattle.std.proofs.Common.{◌≡◌, ℕ, ◌+◌, ◌<◌, ◌≤◌, max, List, [], ◌∷◌, length, get_or, zero, suc, map, Bool, true, false, not, cond, ◌&&◌, ◌||◌, nat_lt, nat_le, IsTrue, Option, Some, None, Result, Ok, Err, slice_get, All, sym, ◌∙◌, ap, refl, subst, ⊎_elim, arith}
+use Rattle.std.proofs.Common.{◌≡◌, ℕ, ◌+◌, ◌<◌, ◌≤◌, max, List, [], ◌∷◌, length, zero, suc, Bool, true, false, cond, ◌&&◌, nat_lt, nat_le, IsTrue, Option, None, slice_get, ◌∙◌, refl, arith}
 use Rattle.std.specs.Bool.{⊤}
-use Rattle.std.specs.Option.{option_map, option_or}
+use Rattle.std.specs.Option.{option_map}
 use Rattle.std.specs.List.{AllByRecursion, AllPairs, filter, list_any}
-use Rattle.std.proofs.lemmas.Bool.{lt-ltb, le-ltb, ltb-true, ltb-false, leb-true, both_ways, and_parts, and_from, and_left, and_right, or_parts, cond-true}
-use Rattle.std.proofs.lemmas.List.Elements.{All-from_recursion, All-map, All-get_or}
+use Rattle.std.proofs.lemmas.Bool.{lt-ltb, ltb-true, leb-true, both_ways, and_parts, and_from, and_left, and_right, or_parts, cond-true}
+use Rattle.std.proofs.lemmas.List.Elements.{All-from_recursion}
 use Rattle.elf_types.specs.declared.records.Part.{Part}
-use Rattle.elf_types.specs.declared.records.Class.{Class}
-use Rattle.elf_types.specs.declared.errors.ElfError.{ElfError}
 use Rattle.elf_layout.specs.declared.parts.PartAt.{PartAt}
-use Rattle.elf_layout.specs.declared.parts.Places.{Places}
 use Rattle.elf_layout.specs.Meeting.{has_bytes, end_of, meets, covers, IsApart, LiesWithin, inserted_by, sorted_by, listed, first_met, overlap_of}
-use Rattle.elf_layout.specs.Layout.{rounded_up, place_of, end_after, in_order_from, standing, length_with, length_from, length_of, places_of, positions, limit_of, some_above, is_too_large, overlap_refusal, refusal_within, refusal_of, placed, placing}
+use Rattle.elf_layout.specs.Layout.{place_of, end_after, in_order_from, length_with, length_from}
 use Rattle.elf_layout.proofs.Sorting.{all_weaker, all-inserted_by_back, all-sorted_by_back}
 use Rattle.elf_layout.proofs.Lengths.{length_from_ge}
 use Rattle.elf_layout.proofs.Successive.{place_of-ge, end_after-ge}

@@ -1,9 +1,8 @@
 -- Parts that share a byte, as neighbours in the order by position and rank.
-use Rattle.std.proofs.Common.{◌≡◌, ℕ, ◌+◌, ◌-◌, ◌<◌, ◌≤◌, List, [], ◌∷◌, length, get_or, drop, map, Bool, true, false, cond, ◌&&◌, ◌||◌, nat_lt, Option, Some, None, MatchOption, slice_get, sym, ◌∙◌, ap, refl, subst, ⊎_elim, arith}
-use Rattle.std.specs.Bool.{⊤}
-use Rattle.std.specs.List.{AllByRecursion, filter, enumerate_from, list_any}
+use Rattle.std.proofs.Common.{◌≡◌, ℕ, ◌+◌, ◌-◌, ◌<◌, ◌≤◌, List, [], ◌∷◌, length, get_or, drop, map, Bool, true, false, cond, ◌||◌, nat_lt, Option, Some, None, MatchOption, sym, ◌∙◌, ap, refl, subst, ⊎_elim, arith}
+use Rattle.std.specs.List.{AllByRecursion, filter, list_any}
 use Rattle.std.specs.List.Sorted.{IsSorted, IsPermutation}
-use Rattle.std.proofs.lemmas.Bool.{cases_lt, lt-ltb, le-ltb, ltb-true, and_parts, and_from, and_right, cond-true, cond-false}
+use Rattle.std.proofs.lemmas.Bool.{cases_lt, lt-ltb, le-ltb, ltb-true, and_parts, and_from, and_right}
 use Rattle.std.proofs.lemmas.List.{get_or-drop, drop-drop, length-drop}
 use Rattle.elf_types.specs.declared.records.Part.{Part}
 use Rattle.elf_layout.specs.declared.parts.PartAt.{PartAt}

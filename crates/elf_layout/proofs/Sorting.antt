@@ -1,5 +1,5 @@
 -- What a stable sort by a key keeps and gives.
-use Rattle.std.proofs.Common.{◌≡◌, ℕ, ◌+◌, ◌<◌, ◌≤◌, List, [], ◌∷◌, map, Bool, true, false, cond, nat_le, sym, ◌∙◌, ap, refl, arith}
+use Rattle.std.proofs.Common.{◌≡◌, ℕ, ◌+◌, ◌<◌, ◌≤◌, List, [], ◌∷◌, map, Bool, true, false, cond, nat_le, ◌∙◌, ap, refl, arith}
 use Rattle.std.specs.Bool.{⊤}
 use Rattle.std.specs.List.{AllByRecursion, sum_by}
 use Rattle.std.proofs.lemmas.List.Sums.{sum_by-cons}

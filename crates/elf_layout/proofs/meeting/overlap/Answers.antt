@@ -1,4 +1,4 @@
-use Rattle.std.proofs.Common.{◌≡◌, ◌∙◌, ap, ◌<◌, length, rules, sym}
+use Rattle.std.proofs.Common.{◌∙◌, ap, ◌<◌, length, rules, sym}
 use Rattle.elf_layout.specs.Extents.{first_close}
 use Rattle.elf_layout.proofs.FirstMet.{overlap_named, overlap_none}
 use Rattle.elf_layout.proofs.meeting.overlap.Goals as goal
