@@ -1,0 +1,9 @@
+mod Apart
+mod FirstMet
+mod Lengths
+mod Neighbours
+pub mod Placed
+mod Ranks
+mod Sorting
+mod Successive
+mod Unique
