@@ -203,3 +203,6 @@ fn put_over(bytes: &mut [u8], at: usize, piece: &[u8])
 {
     bytes[at..at + piece.len()].copy_from_slice(piece);
 }
+
+#[cfg(test)]
+mod tests;

@@ -231,11 +231,7 @@ fn new_file(alloc: Global, room: u64, bad_writes: &Addrs) -> Result<MemDevice, O
 
 /// Sets a name to the empty text, and leaves the failing calls of a name that is there. It refuses
 /// `Memory` alone, and then every name is as before.
-fn set_empty(
-    names: &mut BTreeMap<String, Kept>,
-    alloc: Global,
-    name: &str,
-) -> Result<(), OpenFault>
+fn set_empty(names: &mut BTreeMap<String, Kept>, alloc: Global, name: &str) -> Result<(), OpenFault>
     ensures ok { OnOk result (SetsKept names.old names.new name.now (Some (emptied (kept names.old name.now)))) }
     ensures unchanged { OnErr result (SameKept names.old names.new) }
     ensures err { IfErr result (λ e. e ≡ OpenFault.Memory) }
@@ -257,3 +253,6 @@ fn set_empty(
         Err(_) => Err(OpenFault::Memory),
     }
 }
+
+#[cfg(test)]
+mod tests;

@@ -88,3 +88,6 @@ impl Source for MemSource {
         Ok(())
     }
 }
+
+#[cfg(test)]
+mod tests;

@@ -33,7 +33,10 @@ fn a_file_is_made_changed_and_read_back(rt: HostRuntime) -> Result<(), Fail> {
     file.write_at(2, b"XY")?;
     file.set_len(8)?;
     file.set_len(7)?;
-    assert_eq!(rt; content(alloc, &mut file)?.as_slice(), b"abXYef\0".as_slice());
+    assert_eq!(rt;
+        content(alloc, &mut file)?.as_slice(),
+        b"abXYef\0".as_slice()
+    );
     files.close(path.as_str(), file);
 
     let mut file = files.edit(alloc, path.as_str())?;
@@ -42,13 +45,47 @@ fn a_file_is_made_changed_and_read_back(rt: HostRuntime) -> Result<(), Fail> {
 
     let mut file = files.open(alloc, path.as_str())?;
     assert_eq!(rt; file.len(), 8);
-    assert_eq!(rt; content(alloc, &mut file)?.as_slice(), b"abXYef\0!".as_slice());
+    assert_eq!(rt;
+        content(alloc, &mut file)?.as_slice(),
+        b"abXYef\0!".as_slice()
+    );
     assert!(rt; file.append(b"?").is_err());
     files.close(path.as_str(), file);
 
     let file = files.create(alloc, path.as_str())?;
     assert_eq!(rt; file.len(), 0);
     files.close(path.as_str(), file);
+    fs::remove_file(&rt, path.as_str())?;
+    Ok(())
+}
+
+#[test]
+fn what_is_no_file_is_refused(rt: HostRuntime) -> Result<(), Fail> {
+    let alloc = rt.alloc();
+    let missing = path_of(&rt, "none")?;
+    let folder = path_of(&rt, "folder")?;
+    let within = path_of(&rt, "none/file")?;
+    fs::create_dir(&rt, folder.as_str())?;
+    let mut files = RealFiles::new(rt.clone()?);
+
+    assert!(rt; files.open(alloc, missing.as_str()).err() == Some(OpenFault::NotThere));
+    assert!(rt; files.edit(alloc, missing.as_str()).err() == Some(OpenFault::NotThere));
+    assert!(rt; files.open(alloc, folder.as_str()).err() == Some(OpenFault::Failed));
+    assert!(rt; files.edit(alloc, folder.as_str()).err() == Some(OpenFault::Failed));
+    assert!(rt; files.create(alloc, folder.as_str()).err() == Some(OpenFault::Failed));
+    assert!(rt; files.create(alloc, within.as_str()).err() == Some(OpenFault::Failed));
+    fs::remove_dir(&rt, folder.as_str())?;
+    Ok(())
+}
+
+#[test]
+fn a_put_reaches_the_stream(rt: HostRuntime) -> Result<(), Fail> {
+    let path = path_of(&rt, "stream")?;
+    let mut sink = RealSink::new(fs::File::create(&rt, path.as_str())?);
+    sink.put(b"abc")?;
+    sink.put(b"")?;
+    sink.put(b"d")?;
+    assert!(rt; fs::read(&rt, path.as_str())?.as_slice() == b"abcd".as_slice());
     fs::remove_file(&rt, path.as_str())?;
     Ok(())
 }

@@ -70,3 +70,6 @@ pub(crate) fn write_to<W: Write>(stream: &mut W, piece: &[u8]) -> usize
     }
     done
 }
+
+#[cfg(test)]
+mod tests;
