@@ -1,6 +1,6 @@
-//! Steps over a source or a device, for the tests: what each call answers, row by row.
+//! Steps over sources, devices and sets of files, for the tests: what each call answers, row by row.
 
-use crate::{Device, Source};
+use crate::{Device, Files, OpenFault, Source};
 use elf_types::{Addrs, Octets};
 use std::alloc::Global;
 use std::process::Abort;
@@ -80,5 +80,62 @@ pub fn check_steps<D: Device>(
             Step::Append(piece, done) => assert!(rt; device.append(piece).is_ok() == done),
         }
     }
+    Ok(())
+}
+
+/// A call that hands out a file.
+#[derive(Clone, Copy, Debug)]
+pub enum Way {
+    Open,
+    Edit,
+    Create,
+}
+
+pub fn hand_out<F: Files>(
+    alloc: Global,
+    files: &mut F,
+    way: Way,
+    name: &str,
+) -> Result<F::File, OpenFault> {
+    match way {
+        Way::Open => files.open(alloc, name),
+        Way::Edit => files.edit(alloc, name),
+        Way::Create => files.create(alloc, name),
+    }
+}
+
+/// Checks that a file is not handed out, and why.
+pub fn check_refused<F: Files>(
+    rt: &impl Abort,
+    alloc: Global,
+    files: &mut F,
+    way: Way,
+    name: &str,
+    why: OpenFault,
+)
+where
+    F::File: Drop,
+{
+    match hand_out(alloc, files, way, name) {
+        Ok(_) => assert!(rt; false, "{name} is handed out"),
+        Err(fault) => assert!(rt; fault == why),
+    }
+}
+
+/// Hands out a file, does the steps, and closes it.
+pub fn check_file<F: Files>(
+    rt: &impl Abort,
+    alloc: Global,
+    files: &mut F,
+    way: Way,
+    name: &str,
+    steps: &[Step],
+) -> Result<(), Fail>
+where
+    F::File: Drop,
+{
+    let mut file = hand_out(alloc, files, way, name)?;
+    check_steps(rt, alloc, &mut file, steps)?;
+    files.close(name, file);
     Ok(())
 }

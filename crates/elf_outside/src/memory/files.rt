@@ -15,7 +15,7 @@ use std::collections::BTreeMap;
 
 /// The bytes of a name, and the calls that are to fail of each file that is opened under it.
 #[derive(Drop)]
-pub struct Kept {
+struct Kept {
     bytes: Octets,
     bad_reads: Addrs,
     bad_writes: Addrs,
