@@ -1,8 +1,8 @@
 //! A set of files in memory.
 
-ghost use Rattle.std.specs.Prelude.{◌≡◌, ◌↔◌, ℕ, ◌+◌, ◌-◌, ◌≤◌, ◌∷◌, [], true, List, Option, Some, None, Contains, is_err, if◌then◌else◌, max, length, vec_len, IsErrOf, IsSome, IfOk, IfErr, IfSome, OnOk, OnErr};
+ghost use Rattle.std.specs.Prelude.{◌≡◌, ℕ, ◌-◌, [], true, List, Some, None, IfOk, IfErr, OnOk, OnErr};
 ghost use Rattle.std.specs.Option.{option_copied};
-ghost use Rattle.elf_outside.specs.Counts.{HasCause, RaisedBy, Passes, one_more};
+ghost use Rattle.elf_outside.specs.Counts.{RaisedBy, Passes};
 ghost use Rattle.elf_outside.specs.Kept.{kept, bytes_named, closed, SameKept, SetsKept};
 ghost use Rattle.elf_outside.specs.MemFiles.{SameSettings, IsFileOf, IsUntouched, HandsOut, Creates, emptied};
 
@@ -10,7 +10,7 @@ use crate::file_sets::{Files, OpenFault};
 use crate::memory::calls::Calls;
 use crate::memory::device::MemDevice;
 use elf_types::{Addrs, ElfError, Octets};
-use std::alloc::{AllocError, Global};
+use std::alloc::Global;
 use std::collections::BTreeMap;
 
 /// The bytes of a name, and the calls that are to fail of each file that is opened under it.

@@ -1,6 +1,6 @@
 //! A source that serves small reads from a window.
 
-ghost use Rattle.std.specs.Prelude.{◌≡◌, ◌+◌, ◌≤◌, ◌<◌, IsTrue, vec_len, take, drop, length};
+ghost use Rattle.std.specs.Prelude.{◌≡◌, ◌+◌, ◌≤◌, IsTrue, vec_len, take, drop, length};
 ghost use Rattle.std.specs.Option.{ForSome, IfSome};
 ghost use Rattle.elf_outside.specs.Leaves.{LeavesBy};
 
