@@ -209,3 +209,41 @@ pub fn get_shdr(class: Class, order: Order, bytes: &[u8]) -> Shdr
 {
     in_form!(class, order, decode_shdr(bytes))
 }
+
+/// Writes an ELF header in the class and the order that it names; `pad` is the bytes 9 to 15 of its
+/// identification. `out` has just the header's size, the header fits its class, and its two counts and
+/// its string index are below 2^16. It refuses nothing and takes no memory.
+///
+/// Source: gABI chapter 4, "ELF Header"; gelf_update_ehdr of gelf(3E).
+pub fn put_ehdr(h: &Ehdr, pad: [u8; 7], out: &mut [u8])
+    requires size { length out.old ≡ ehdr_size h.now.class }
+    requires fits { IsTrue (ehdr_fits h.now) }
+    requires counts { HasNarrowCounts h.now }
+    ensures { out.new ≡ ehdr_bytes h.now pad }
+{
+    in_form!(h.class, h.order, encode_ehdr(h, pad, out))
+}
+
+/// Writes a program header. `out` has just the header's size, and the header fits the class. It refuses
+/// nothing and takes no memory.
+///
+/// Source: gABI chapter 5, "Program Header"; gelf_update_phdr of gelf(3E).
+pub fn put_phdr(class: Class, order: Order, p: &Phdr, out: &mut [u8])
+    requires size { length out.old ≡ phdr_size class }
+    requires fits { IsTrue (phdr_fits class p.now) }
+    ensures { out.new ≡ phdr_bytes class order p.now }
+{
+    in_form!(class, order, encode_phdr(p, out))
+}
+
+/// Writes a section header. `out` has just the header's size, and the header fits the class. It refuses
+/// nothing and takes no memory.
+///
+/// Source: gABI chapter 4, "Sections"; gelf_update_shdr of gelf(3E).
+pub fn put_shdr(class: Class, order: Order, h: &Shdr, out: &mut [u8])
+    requires size { length out.old ≡ shdr_size class }
+    requires fits { IsTrue (shdr_fits class h.now) }
+    ensures { out.new ≡ shdr_bytes class order h.now }
+{
+    in_form!(class, order, encode_shdr(h, out))
+}
