@@ -12,9 +12,12 @@ pub mod fitting;
 pub mod headers;
 pub mod numbers;
 mod records;
+mod sizes;
 
 pub use content::Items;
+pub use decode::to_memory;
 pub use failure::XlateError;
 pub use fitting::{ehdr_fits, phdr_fits, shdr_fits};
 pub use headers::{get_ehdr, get_phdr, get_shdr, put_ehdr, put_phdr, put_shdr};
 pub use numbers::number;
+pub use sizes::fsize;
