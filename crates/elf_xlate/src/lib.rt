@@ -5,6 +5,7 @@
 mod byte_order;
 pub mod content;
 mod decode;
+mod encode;
 mod entries;
 pub mod failure;
 mod fields;
@@ -16,8 +17,9 @@ mod sizes;
 
 pub use content::Items;
 pub use decode::to_memory;
+pub use encode::to_file;
 pub use failure::XlateError;
-pub use fitting::{ehdr_fits, phdr_fits, shdr_fits};
+pub use fitting::{ehdr_fits, phdr_fits, shdr_fits, unfit};
 pub use headers::{get_ehdr, get_phdr, get_shdr, put_ehdr, put_phdr, put_shdr};
 pub use numbers::number;
 pub use sizes::fsize;
