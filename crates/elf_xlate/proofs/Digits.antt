@@ -1,6 +1,6 @@
 -- A number and its bytes.
 use Rattle.std.proofs.Common.{◌≡◌, ℕ, zero, suc, ◌+◌, ◌-◌, ◌*◌, ◌/◌, ◌%◌, ◌^◌, ◌<◌, ◌≤◌, List, [], ◌∷◌, length, take, drop, get_or, refl, sym, ap, inl, inr, ◌∙◌, arith}
-use Rattle.std.proofs.lemmas.List.{reverse-reverse, length-reverse, get_or-reverse, get_or_past}
+use Rattle.std.proofs.lemmas.List.{reverse-reverse, length-reverse, get_or-reverse, get_or-take, get_or-drop, get_or_past, length-take}
 use Rattle.std.proofs.lemmas.Bool.{cases_lt}
 use Rattle.std.proofs.Math.Nat.{pow-suc, pow-succ', mod-lt, div-add-mod, div-lt_iff_lt-mul, mul-add-mod_self_left, mod-eq_of_lt, add_comm, mul_comm}
 use Rattle.std.proofs.lemmas.Nat.{div-mul-add}
@@ -13,6 +13,15 @@ use Rattle.elf_xlate.specs.Orders.{weighed-suc}
 -- each is below 256
 unfoldable pub AreBytes : List ℕ → Type 0
 AreBytes bytes = (k : ℕ) → get_or bytes k 0 < 256
+
+-- a part of bytes
+pub part_bytes : (place width : ℕ) (bytes : List ℕ) → AreBytes bytes → AreBytes (take width (drop place bytes))
+unfolding AreBytes
+part_bytes place width bytes h =
+    λ k. elim (cases_lt k width) [
+      inl low ↦ rw (get_or-take width (drop place bytes) k 0 low, get_or-drop place bytes k 0) (h (place + k))
+      | inr high ↦ rw (get_or_past (take width (drop place bytes)) k 0 (omega (arith, length-take width (drop place bytes)))) (omega arith)
+    ]
 
 length_lowest : (width n : ℕ) → length (lowest_bytes width n) ≡ width
 unfolding lowest_bytes

@@ -1,14 +1,14 @@
 -- Records laid by their tables, and read by them.
 use Rattle.std.proofs.Common.{◌≡◌, ℕ, zero, suc, ◌+◌, ◌-◌, ◌^◌, ◌<◌, ◌≤◌, List, [], ◌∷◌, ◌++◌, length, take, drop, map, get_or, Bool, true, false, refl, sym, ap, ◌∙◌, arith, inl, inr}
 use Rattle.std.specs.Prelude.{◌⊎◌, ◌&&◌, ◌||◌, nat_lt, nat_le}
-use Rattle.std.proofs.lemmas.List.{same_lists, length-replicate, length-take-le, length-drop, get_or-take, get_or-drop, get_or_past, ext_get_or}
+use Rattle.std.proofs.lemmas.List.{same_lists, length-replicate, length-take-le, length-drop, ext_get_or}
 use Rattle.std.proofs.Math.ListN.{replicate}
 use Rattle.std.proofs.lemmas.Bool.{cases_lt, cases_Bool, and_parts, or_cases, ltb-true, leb-true, lt-ltb, le-leb, or_parts, or_left, or_right}
 use Rattle.elf_types.specs.declared.records.Class.{Class}
 use Rattle.elf_types.specs.declared.records.Order.{Order}
 use Rattle.elf_xlate.specs.Numbers.{number_of, number_at, octets}
 use Rattle.elf_xlate.specs.Fields.{Field, place_in, number_in, numbers_in, written, written_in, laid, record_bytes}
-use Rattle.elf_xlate.proofs.Digits.{AreBytes, length_octets, number_of_octets, octets_number_of, number_below}
+use Rattle.elf_xlate.proofs.Digits.{AreBytes, part_bytes, length_octets, number_of_octets, octets_number_of, number_below}
 use Rattle.elf_xlate.proofs.Written.{length_written, written_same, written_before, written_after, written_again, written_inside, written_outside_low, written_outside_high}
 
 -- a field lies in that many bytes
@@ -48,7 +48,7 @@ pub record IsTable (class : Class) (size : ℕ) (fields : List Field) : Type 0 w
   pub apart : each_apart class fields ≡ true
 
 -- the numbers fit the widths of the fields
-pub Suit : Class → List Field → List ℕ → Type 0
+unfoldable pub Suit : Class → List Field → List ℕ → Type 0
 Suit class [] [] = Unit {0}
 Suit class [] (n ∷ ns) = ⊥
 Suit class (f ∷ fields) [] = ⊥
@@ -141,19 +141,14 @@ read_laid class order size (f ∷ fields) (n ∷ ns) bytes len table suit =
 -- what stands in a field, written there, changes nothing
 written_back : (class : Class) (order : Order) (f : Field) (bytes : List ℕ) → AreBytes bytes → lies_in class (length bytes) f ≡ true
     → written_in class order f (number_in class order bytes f) bytes ≡ bytes
-unfolding number_in number_at written_in AreBytes
+unfolding number_in number_at written_in
 written_back class order f bytes bs h =
     let place : ℕ = (place_in class f).0 in
     let width : ℕ = (place_in class f).1 in
     let fits : place + width ≤ length bytes = leb-true _ _ h in
     let piece : List ℕ = take width (drop place bytes) in
     let len : length (take width (drop place bytes)) ≡ width = length-take-le width (drop place bytes) (omega (arith, length-drop place bytes)) in
-    let piece_bytes : (k : ℕ) → get_or (take width (drop place bytes)) k 0 < 256 =
-    λ k. elim (cases_lt k width) [
-      inl low ↦ rw (get_or-take width (drop place bytes) k 0 low, get_or-drop place bytes k 0) (bs (place + k))
-      | inr high ↦ rw (get_or_past (take width (drop place bytes)) k 0 (omega (arith, len))) (omega arith)
-    ] in
-    ap (λ (new : List ℕ). written place new bytes) (octets_number_of order width piece len piece_bytes)
+    ap (λ (new : List ℕ). written place new bytes) (octets_number_of order width piece len (part_bytes place width bytes bs))
     ∙ written_again place width bytes fits
 
 -- what stands in the fields of a table, laid there, changes nothing
