@@ -49,12 +49,12 @@ record_written class order size fields bytes bs len table covers =
 -- ---- Numbers in their widths
 
 -- in a field of one width
-fixed : (class : Class) (p q w n : ℕ) → n < 256 ^ w → n < 256 ^ (place_in class (field (p, w) (q, w))).1
+pub fixed : (class : Class) (p q w n : ℕ) → n < 256 ^ w → n < 256 ^ (place_in class (field (p, w) (q, w))).1
 fixed C32 p q w n h = h
 fixed C64 p q w n h = h
 
 -- in a field of four bytes or of eight
-native : (class : Class) (p q n : ℕ) → n < 2 ^ 64 → fits class n ≡ true → n < 256 ^ (place_in class (field (p, 4) (q, 8))).1
+pub native : (class : Class) (p q n : ℕ) → n < 2 ^ 64 → fits class n ≡ true → n < 256 ^ (place_in class (field (p, 4) (q, 8))).1
 native C32 p q n h small = ltb-true n (2 ^ 32) small
 native C64 p q n h small = h
 

@@ -24,7 +24,7 @@ ehdr_table C32 = record { within = refl; apart = refl }
 ehdr_table C64 = record { within = refl; apart = refl }
 
 -- the fields after the identification cover all that follows it
-ehdr_covers : (class : Class) → cover class ehdr_fields 16 (ehdr_size class - 16) ≡ true
+pub ehdr_covers : (class : Class) → cover class ehdr_fields 16 (ehdr_size class - 16) ≡ true
 unfolding ehdr_fields
 ehdr_covers C32 = refl
 ehdr_covers C64 = refl

@@ -3,9 +3,8 @@ use Rattle.std.proofs.Common.{◌≡◌, ℕ, ◌+◌, ◌*◌, ◌<◌, ◌^◌
 use Rattle.std.specs.Prelude.{Option, Some, None, IfSome, Bool, true, false, ◌≢◌}
 use Rattle.std.specs.Option.{option_map}
 use Rattle.std.specs.List.{All, AllByRecursion, flat_map}
-use Rattle.std.proofs.lemmas.List.{get_or_default, get_or_past}
+use Rattle.std.proofs.lemmas.List.{get_or_default}
 use Rattle.std.proofs.lemmas.List.Elements.{recursion_from_All}
-use Rattle.std.proofs.lemmas.Bool.{cases_lt}
 use Rattle.elf_types.specs.declared.records.Class.{Class}
 use Rattle.elf_types.specs.declared.records.Class.TheVariants.{C32, C64}
 use Rattle.elf_types.specs.declared.records.Order.{Order}
@@ -20,15 +19,11 @@ use Rattle.elf_xlate.specs.declared.content.Items.TheVariants.{Empty, Bytes, Hal
 use Rattle.elf_xlate.specs.Fields.{fits}
 use Rattle.elf_xlate.specs.Items.{item_size, half_fields, half_of, half_bytes, word_fields, word_of, word_bytes, addr_fields, addr_of, addr_bytes, sym_fields, sym_numbers, sym_of, sym_bytes, sym_fits, IsSym, rel_fields, rel_numbers, rel_of, rel_bytes, rel_fits, IsRel, rela_fields, rela_numbers, rela_of, rela_bytes, rela_fits, IsRela, dyn_fields, dyn_numbers, dyn_of, dyn_bytes, dyn_fits, IsDyn}
 use Rattle.elf_xlate.specs.Translation.{decoded, encoded, listed, first_not, first_unfit, items_kind, AreItems, EncodesAsDecoded, DecodesAsEncoded}
-use Rattle.elf_xlate.proofs.Digits.{AreBytes}
+use Rattle.elf_xlate.proofs.Digits.{are_bytes}
 use Rattle.elf_xlate.proofs.Pieces.{each_passes}
 use Rattle.elf_xlate.proofs.BothWays.{written_all, listed_again}
 use Rattle.elf_xlate.proofs.Tables.{half_table, word_table, addr_table, sym_table, rel_table, rela_table, dyn_table}
 use Rattle.elf_xlate.proofs.EachItem.{length_record, half_read, half_written, word_read, word_written, addr_read, addr_written, sym_read, sym_written, rel_read, rel_written, rela_read, rela_written, dyn_read, dyn_written}
-
-are_bytes : (bytes : List ℕ) → All (λ b. b < 2 ^ 8) bytes → AreBytes bytes
-unfolding AreBytes
-are_bytes bytes h = λ k. elim (cases_lt k (length bytes)) [ inl low ↦ h k 0 low | inr high ↦ rw (get_or_past bytes k 0 high) (omega arith) ]
 
 -- what is said of a list that was read is said of the items
 of_listed : {X : Type 0} (variant : List X → Items) (o : Option (List X)) (P : Items → Type 0) → ((l : List X) → o ≡ Some l → P (variant l)) → IfSome (option_map variant o) P
