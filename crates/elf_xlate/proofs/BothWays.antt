@@ -45,11 +45,11 @@ unfolding listed
 written_all item bytes_of size bytes l back bs given =
     let n : ℕ = length bytes / size in
     elim (cases_Bool (nat_eq (length bytes % size) 0)) [
-      inl whole ↦
-      let none_left : length bytes % size ≡ 0 = eqb-true (length bytes % size) 0 whole in
-      let all : length bytes / size * size ≡ length bytes = omega (arith, div-add-mod (length bytes) size, mul_comm size (length bytes / size)) in
-      let is : items_of item size n bytes ≡ l = some_same (items_of item size n bytes) l (sym (ap (λ (b : Bool). cond b (Some (items_of item size n bytes)) None) whole) ∙ given) in
-      ap (flat_map bytes_of) (sym is) ∙ written_front item bytes_of size n bytes back bs (omega arith) ∙ take_all (length bytes / size * size) bytes (omega arith)
+      | inl whole ↦
+          let none_left : length bytes % size ≡ 0 = eqb-true (length bytes % size) 0 whole in
+          let all : length bytes / size * size ≡ length bytes = omega (arith, div-add-mod (length bytes) size, mul_comm size (length bytes / size)) in
+          let is : items_of item size n bytes ≡ l = some_same (items_of item size n bytes) l (sym (ap (λ (b : Bool). cond b (Some (items_of item size n bytes)) None) whole) ∙ given) in
+          ap (flat_map bytes_of) (sym is) ∙ written_front item bytes_of size n bytes back bs (omega arith) ∙ take_all (length bytes / size * size) bytes (omega arith)
       | inr ragged ↦ absurd (none_is_not_some l (sym (ap (λ (b : Bool). cond b (Some (items_of item size n bytes)) None) ragged) ∙ given))
     ]
 

@@ -24,7 +24,7 @@ pub part_bytes : (place width : ℕ) (bytes : List ℕ) → AreBytes bytes → A
 unfolding AreBytes
 part_bytes place width bytes h =
     λ k. elim (cases_lt k width) [
-      inl low ↦ rw (get_or-take width (drop place bytes) k 0 low, get_or-drop place bytes k 0) (h (place + k))
+      | inl low ↦ rw (get_or-take width (drop place bytes) k 0 low, get_or-drop place bytes k 0) (h (place + k))
       | inr high ↦ rw (get_or_past (take width (drop place bytes)) k 0 (omega (arith, length-take width (drop place bytes)))) (omega arith)
     ]
 

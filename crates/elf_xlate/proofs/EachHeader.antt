@@ -31,9 +31,19 @@ phdr_read class order p is fit =
     let c = and_parts (fits class p.offset && fits class p.vaddr && fits class p.paddr) (fits class p.filesz) b.0 in
     let d = and_parts (fits class p.offset && fits class p.vaddr) (fits class p.paddr) c.0 in
     let e = and_parts (fits class p.offset) (fits class p.vaddr) d.0 in
-    let suit : Suit class phdr_fields (phdr_numbers p) = unfold Suit in
-    (fixed class 0 0 4 p.ptype is.ptype, (fixed class 24 4 4 p.flags is.flags, (native class 4 8 p.offset is.offset e.0, (native class 8 16 p.vaddr is.vaddr e.1,
-    (native class 12 24 p.paddr is.paddr d.1, (native class 16 32 p.filesz is.filesz c.1, (native class 20 40 p.memsz is.memsz b.1, (native class 28 48 p.align is.align a.1, tt)))))))) in
+    let suit : Suit class phdr_fields (phdr_numbers p) = unfold Suit in (
+      fixed class 0 0 4 p.ptype is.ptype,
+      (
+        fixed class 24 4 4 p.flags is.flags,
+        (
+          native class 4 8 p.offset is.offset e.0,
+          (
+            native class 8 16 p.vaddr is.vaddr e.1,
+            (native class 12 24 p.paddr is.paddr d.1, (native class 16 32 p.filesz is.filesz c.1, (native class 20 40 p.memsz is.memsz b.1, (native class 28 48 p.align is.align a.1, tt)))),
+          ),
+        ),
+      ),
+    ) in
     ap phdr_from (record_read class order (phdr_size class) phdr_fields (phdr_numbers p) (phdr_table class) suit)
 
 pub phdr_written : (class : Class) (order : Order) (bytes : List ℕ) → AreBytes bytes → length bytes ≡ phdr_size class
@@ -55,10 +65,31 @@ shdr_read class order h is fit =
     let c = and_parts (fits class h.flags && fits class h.addr && fits class h.offset) (fits class h.size) b.0 in
     let d = and_parts (fits class h.flags && fits class h.addr) (fits class h.offset) c.0 in
     let e = and_parts (fits class h.flags) (fits class h.addr) d.0 in
-    let suit : Suit class shdr_fields (shdr_numbers h) = unfold Suit in
-    (fixed class 0 0 4 h.name is.name, (fixed class 4 4 4 h.stype is.stype, (native class 8 8 h.flags is.flags e.0, (native class 12 16 h.addr is.addr e.1,
-    (native class 16 24 h.offset is.offset d.1, (native class 20 32 h.size is.size c.1, (fixed class 24 40 4 h.link is.link, (fixed class 28 44 4 h.info is.info,
-    (native class 32 48 h.addralign is.addralign b.1, (native class 36 56 h.entsize is.entsize a.1, tt)))))))))) in
+    let suit : Suit class shdr_fields (shdr_numbers h) = unfold Suit in (
+      fixed class 0 0 4 h.name is.name,
+      (
+        fixed class 4 4 4 h.stype is.stype,
+        (
+          native class 8 8 h.flags is.flags e.0,
+          (
+            native class 12 16 h.addr is.addr e.1,
+            (
+              native class 16 24 h.offset is.offset d.1,
+              (
+                native class 20 32 h.size is.size c.1,
+                (
+                  fixed class 24 40 4 h.link is.link,
+                  (
+                    fixed class 28 44 4 h.info is.info,
+                    (native class 32 48 h.addralign is.addralign b.1, (native class 36 56 h.entsize is.entsize a.1, tt)),
+                  ),
+                ),
+              ),
+            ),
+          ),
+        ),
+      ),
+    ) in
     ap shdr_from (record_read class order (shdr_size class) shdr_fields (shdr_numbers h) (shdr_table class) suit)
 
 pub shdr_written : (class : Class) (order : Order) (bytes : List ℕ) → AreBytes bytes → length bytes ≡ shdr_size class
@@ -72,11 +103,43 @@ ehdr_suits : (h : Ehdr) → IsEhdr h → HasNarrowCounts h → ehdr_fits h ≡ t
 unfolding ehdr_fits ehdr_fields Suit
 ehdr_suits h is counts fit =
     let a = and_parts (fits h.class h.entry && fits h.class h.phoff) (fits h.class h.shoff) fit in
-    let b = and_parts (fits h.class h.entry) (fits h.class h.phoff) a.0 in
-    (fixed h.class 7 7 1 h.osabi is.osabi, (fixed h.class 8 8 1 h.abiversion is.abiversion, (fixed h.class 16 16 2 h.etype is.etype, (fixed h.class 18 18 2 h.machine is.machine,
-    (fixed h.class 20 20 4 h.version is.version, (native h.class 24 24 h.entry is.entry b.0, (native h.class 28 32 h.phoff is.phoff b.1, (native h.class 32 40 h.shoff is.shoff a.1,
-    (fixed h.class 36 48 4 h.flags is.flags, (fixed h.class 40 52 2 h.ehsize is.ehsize, (fixed h.class 42 54 2 h.phentsize is.phentsize, (fixed h.class 44 56 2 h.phnum counts.phnum,
-    (fixed h.class 46 58 2 h.shentsize is.shentsize, (fixed h.class 48 60 2 h.shnum counts.shnum, (fixed h.class 50 62 2 h.shstrndx counts.shstrndx, tt)))))))))))))))
+    let b = and_parts (fits h.class h.entry) (fits h.class h.phoff) a.0 in (
+      fixed h.class 7 7 1 h.osabi is.osabi,
+      (
+        fixed h.class 8 8 1 h.abiversion is.abiversion,
+        (
+          fixed h.class 16 16 2 h.etype is.etype,
+          (
+            fixed h.class 18 18 2 h.machine is.machine,
+            (
+              fixed h.class 20 20 4 h.version is.version,
+              (
+                native h.class 24 24 h.entry is.entry b.0,
+                (
+                  native h.class 28 32 h.phoff is.phoff b.1,
+                  (
+                    native h.class 32 40 h.shoff is.shoff a.1,
+                    (
+                      fixed h.class 36 48 4 h.flags is.flags,
+                      (
+                        fixed h.class 40 52 2 h.ehsize is.ehsize,
+                        (
+                          fixed h.class 42 54 2 h.phentsize is.phentsize,
+                          (
+                            fixed h.class 44 56 2 h.phnum counts.phnum,
+                            (fixed h.class 46 58 2 h.shentsize is.shentsize, (fixed h.class 48 60 2 h.shnum counts.shnum, (fixed h.class 50 62 2 h.shstrndx counts.shstrndx, tt))),
+                          ),
+                        ),
+                      ),
+                    ),
+                  ),
+                ),
+              ),
+            ),
+          ),
+        ),
+      ),
+    )
 
 length_ident : (class : Class) (order : Order) (pad : List ℕ) → length pad ≡ 7 → length (ident class order pad) ≡ 16
 unfolding ident
@@ -120,12 +183,12 @@ ehdr_holds h pad is counts fit len =
     record {
       size = length_laid h.class h.order (ehdr_size h.class) ehdr_fields (ehdr_numbers h) blank len_blank inside;
       start =
-      laid_spares h.class h.order (ehdr_size h.class) 0 7 ehdr_fields (ehdr_numbers h) blank len_blank (omega (arith, fits_in)) inside (spare_start h.class)
-      ∙ take-append-le 7 first zeros (omega (arith, len_first));
+          laid_spares h.class h.order (ehdr_size h.class) 0 7 ehdr_fields (ehdr_numbers h) blank len_blank (omega (arith, fits_in)) inside (spare_start h.class)
+          ∙ take-append-le 7 first zeros (omega (arith, len_first));
       pad_is =
-      laid_spares h.class h.order (ehdr_size h.class) 9 7 ehdr_fields (ehdr_numbers h) blank len_blank (omega (arith, fits_in)) inside (spare_pad h.class)
-      ∙ ap (take 7) (drop-append-le 9 first zeros (omega (arith, len_first)) ∙ ap (λ (l : List ℕ). l ++ zeros) (ident_pad h.class h.order pad))
-      ∙ take_at pad zeros 7 len;
+          laid_spares h.class h.order (ehdr_size h.class) 9 7 ehdr_fields (ehdr_numbers h) blank len_blank (omega (arith, fits_in)) inside (spare_pad h.class)
+          ∙ ap (take 7) (drop-append-le 9 first zeros (omega (arith, len_first)) ∙ ap (λ (l : List ℕ). l ++ zeros) (ident_pad h.class h.order pad))
+          ∙ take_at pad zeros 7 len;
       value = ap (ehdr_from h.class h.order) (read_laid h.class h.order (ehdr_size h.class) ehdr_fields (ehdr_numbers h) blank len_blank (ehdr_table h.class) (ehdr_suits h is counts fit));
     }
 
@@ -170,13 +233,13 @@ ehdr_held h pad bytes bs len holds =
     ∙ ext_get_or 0 _ _ (whole ∙ sym whole_blank)
     (λ k below.
     laid_alike h.class h.order size k ehdr_fields (ehdr_numbers h) bytes blank holds.size len_blank count inside
-        (elim (cases_lt k 7) [
-          inl first_seven ↦ inr (same_front 7 k bytes blank start first_seven)
-          | inr past_seven ↦ elim (cases_lt k 9) [
-            inl two ↦ inl (covered_below h.class ehdr_fields 7 2 k (covers_seven h.class) past_seven two)
-            | inr past_nine ↦ elim (cases_lt k 16) [
-              inl in_pad ↦ inr (same_part 9 7 k bytes pad holds.pad_is past_nine in_pad ∙ sym (same_part 9 7 k blank pad pad_blank past_nine in_pad))
-              | inr past ↦ inl (covered_below h.class ehdr_fields 16 (ehdr_size h.class - 16) k (ehdr_covers h.class) past (omega (arith, below, whole)))
-            ]
-          ]
-        ]))
+    (elim (cases_lt k 7) [
+      | inl first_seven ↦ inr (same_front 7 k bytes blank start first_seven)
+      | inr past_seven ↦ elim (cases_lt k 9) [
+        | inl two ↦ inl (covered_below h.class ehdr_fields 7 2 k (covers_seven h.class) past_seven two)
+        | inr past_nine ↦ elim (cases_lt k 16) [
+          | inl in_pad ↦ inr (same_part 9 7 k bytes pad holds.pad_is past_nine in_pad ∙ sym (same_part 9 7 k blank pad pad_blank past_nine in_pad))
+          | inr past ↦ inl (covered_below h.class ehdr_fields 16 (ehdr_size h.class - 16) k (ehdr_covers h.class) past (omega (arith, below, whole)))
+        ]
+      ]
+    ]))

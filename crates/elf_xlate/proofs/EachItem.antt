@@ -118,9 +118,19 @@ pub sym_read : (class : Class) (order : Order) (s : Sym) → IsSym s → sym_fit
 unfolding sym_of sym_bytes sym_fields sym_fits
 sym_read class order s is fit =
     let parts = and_parts (fits class s.value) (fits class s.size) fit in
-    let suit : Suit class sym_fields (sym_numbers s) = unfold Suit in
-    (fixed class 0 0 4 s.name is.name, (fixed class 12 4 1 s.info is.info, (fixed class 13 5 1 s.other is.other, (fixed class 14 6 2 s.shndx is.shndx,
-    (native class 4 8 s.value is.value parts.0, (native class 8 16 s.size is.size parts.1, tt)))))) in
+    let suit : Suit class sym_fields (sym_numbers s) = unfold Suit in (
+      fixed class 0 0 4 s.name is.name,
+      (
+        fixed class 12 4 1 s.info is.info,
+        (
+          fixed class 13 5 1 s.other is.other,
+          (
+            fixed class 14 6 2 s.shndx is.shndx,
+            (native class 4 8 s.value is.value parts.0, (native class 8 16 s.size is.size parts.1, tt)),
+          ),
+        ),
+      ),
+    ) in
     ap sym_from (record_read class order (item_size kinds.Sym class) sym_fields (sym_numbers s) (sym_table class) suit)
 
 pub sym_written : (class : Class) (order : Order) (bytes : List ℕ) → AreBytes bytes → length bytes ≡ item_size kinds.Sym class

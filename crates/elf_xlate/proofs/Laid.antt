@@ -89,7 +89,7 @@ read_other class order f g n bytes h apart =
     let len : length (octets order width n) ≡ width = length_octets order width n in
     let fits : place + width ≤ length bytes = leb-true _ _ h in
     elim (or_cases _ _ apart) [
-      inl after ↦ ap (number_of order) (written_after place new bytes _ _ (rw len fits) (rw len (leb-true _ _ after)))
+      | inl after ↦ ap (number_of order) (written_after place new bytes _ _ (rw len fits) (rw len (leb-true _ _ after)))
       | inr before ↦ ap (number_of order) (written_before place new bytes _ _ (rw len fits) (leb-true _ _ before))
     ]
 
@@ -172,14 +172,14 @@ written_alike class order f n k xs ys hx hy which =
     let fits_x : place + length (octets order width n) ≤ length xs = rw len (leb-true _ _ hx) in
     let fits_y : place + length (octets order width n) ≤ length ys = rw len (leb-true _ _ hy) in
     elim (cases_lt k place) [
-      inl low ↦ elim which [
-        inl has ↦ absurd (omega (arith, low, leb-true place k (and_parts (nat_le place k) (nat_lt k (place + width)) has).0))
+      | inl low ↦ elim which [
+        | inl has ↦ absurd (omega (arith, low, leb-true place k (and_parts (nat_le place k) (nat_lt k (place + width)) has).0))
         | inr same ↦ written_outside_low place new xs k fits_x low ∙ same ∙ sym (written_outside_low place new ys k fits_y low)
       ]
       | inr past ↦ elim (cases_lt k (place + width)) [
-        inl inside ↦ written_inside place new xs k fits_x past (rw len inside) ∙ sym (written_inside place new ys k fits_y past (rw len inside))
+        | inl inside ↦ written_inside place new xs k fits_x past (rw len inside) ∙ sym (written_inside place new ys k fits_y past (rw len inside))
         | inr high ↦ elim which [
-          inl has ↦ absurd (omega (arith, high, ltb-true k (place + width) (and_parts (nat_le place k) (nat_lt k (place + width)) has).1))
+          | inl has ↦ absurd (omega (arith, high, ltb-true k (place + width) (and_parts (nat_le place k) (nat_lt k (place + width)) has).1))
           | inr same ↦ written_outside_high place new xs k fits_x (rw len high) ∙ same ∙ sym (written_outside_high place new ys k fits_y (rw len high))
         ]
       ]
@@ -199,14 +199,14 @@ laid_alike class order size k (f ∷ fields) (n ∷ ns) xs ys lx ly ln h which =
     let in_xs : lies_in class (length xs) f ≡ true = rw lx parts.0 in
     let in_ys : lies_in class (length ys) f ≡ true = rw ly parts.0 in
     laid_alike class order size k fields ns (written_in class order f n xs) (written_in class order f n ys)
-        (length_written_in class order f n xs in_xs ∙ lx) (length_written_in class order f n ys in_ys ∙ ly) (omega arith) parts.1
-        (elim which [
-          inl covered ↦ elim (or_cases (has_byte class k f) (any_field (has_byte class k) fields) covered) [
-            inl here ↦ inr (written_alike class order f n k xs ys in_xs in_ys (inl here))
-            | inr later ↦ inl later
-          ]
-          | inr same ↦ inr (written_alike class order f n k xs ys in_xs in_ys (inr same))
-        ])
+    (length_written_in class order f n xs in_xs ∙ lx) (length_written_in class order f n ys in_ys ∙ ly) (omega arith) parts.1
+    (elim which [
+      | inl covered ↦ elim (or_cases (has_byte class k f) (any_field (has_byte class k) fields) covered) [
+        | inl here ↦ inr (written_alike class order f n k xs ys in_xs in_ys (inl here))
+        | inr later ↦ inl later
+      ]
+      | inr same ↦ inr (written_alike class order f n k xs ys in_xs in_ys (inr same))
+    ])
 
 pub covered_below : (class : Class) (fields : List Field) (low count k : ℕ) → cover class fields low count ≡ true → low ≤ k → k < low + count
     → any_field (has_byte class k) fields ≡ true
@@ -214,7 +214,7 @@ covered_below class fields low zero k h at below = absurd (omega arith)
 covered_below class fields low (suc count) k h at below =
     let parts = and_parts (any_field (has_byte class (low + count)) fields) (cover class fields low count) h in
     elim (cases_lt k (low + count)) [
-      inl less ↦ covered_below class fields low count k parts.1 at less
+      | inl less ↦ covered_below class fields low count k parts.1 at less
       | inr last ↦ let e : low + count ≡ k = omega arith in ap (λ (p : ℕ). any_field (has_byte class p) fields) (sym e) ∙ parts.0
     ]
 
@@ -227,10 +227,10 @@ laid_from class order size low fields ns xs ys lx ly small ln h covers front =
     let len_y = length_laid class order size fields ns ys ly h in
     ext_get_or 0 _ _ (len_x ∙ sym len_y)
     (λ k below. laid_alike class order size k fields ns xs ys lx ly ln h
-        (elim (cases_lt k low) [
-          inl before ↦ inr (front k before)
-          | inr past ↦ inl (covered_below class fields low (size - low) k covers past (omega (arith, below, len_x)))
-        ]))
+    (elim (cases_lt k low) [
+      | inl before ↦ inr (front k before)
+      | inr past ↦ inl (covered_below class fields low (size - low) k covers past (omega (arith, below, len_x)))
+    ]))
 
 -- the bytes of a record, laid over any others
 pub laid_is_record : (class : Class) (order : Order) (size : ℕ) (fields : List Field) (ns bytes : List ℕ) → length bytes ≡ size
@@ -251,7 +251,7 @@ spared_below class fields low zero k h at below = absurd (omega arith)
 spared_below class fields low (suc count) k h at below =
     let parts = and_parts (not (any_field (has_byte class (low + count)) fields)) (spare class fields low count) h in
     elim (cases_lt k (low + count)) [
-      inl less ↦ spared_below class fields low count k parts.1 at less
+      | inl less ↦ spared_below class fields low count k parts.1 at less
       | inr last ↦ let e : low + count ≡ k = omega arith in ap (λ (p : ℕ). any_field (has_byte class p) fields) (sym e) ∙ not-true _ parts.0
     ]
 
@@ -266,7 +266,7 @@ written_beside class order f n k bytes h beside =
     let len : length (octets order width n) ≡ width = length_octets order width n in
     let fits : place + length (octets order width n) ≤ length bytes = rw len (leb-true _ _ h) in
     elim (and_cases (nat_le place k) (nat_lt k (place + width)) beside) [
-      inl low ↦ written_outside_low place new bytes k fits (leb-false place k low)
+      | inl low ↦ written_outside_low place new bytes k fits (leb-false place k low)
       | inr high ↦ written_outside_high place new bytes k fits (rw len (ltb-false k (place + width) high))
     ]
 

@@ -25,7 +25,7 @@ some_is_not_none n e = cc
 no_place : {X : Type 0} (n : ℕ) (l : List X) → cond (nat_lt n (length l)) (Some n) None ≡ None → length l ≤ n
 no_place n l none =
     elim (cases_lt n (length l)) [
-      inl low ↦ absurd (some_is_not_none n (sym (ap (λ (b : Bool). cond b (Some n) None) (lt-ltb n (length l) low)) ∙ none))
+      | inl low ↦ absurd (some_is_not_none n (sym (ap (λ (b : Bool). cond b (Some n) None) (lt-ltb n (length l) low)) ∙ none))
       | inr high ↦ high
     ]
 

@@ -19,17 +19,17 @@ pub unsigned_signed : (class : Class) (n : ℕ) → n < 256 ^ signed_width class
 unfolding unsigned_of signed_of
 unsigned_signed C32 n h =
     elim (cases_lt n (2 ^ 31)) [
-      inl low ↦ rw (lt-ltb n (2 ^ 31) low) refl
+      | inl low ↦ rw (lt-ltb n (2 ^ 31) low) refl
       | inr high ↦
-      let less : pos n -ℤ pos (2 ^ 32) ≡ negsuc (2 ^ 32 - suc n) = omega (arith, ints) in
-      rw (le-ltb n (2 ^ 31) high, less) (omega arith)
+          let less : pos n -ℤ pos (2 ^ 32) ≡ negsuc (2 ^ 32 - suc n) = omega (arith, ints) in
+          rw (le-ltb n (2 ^ 31) high, less) (omega arith)
     ]
 unsigned_signed C64 n h =
     elim (cases_lt n (2 ^ 63)) [
-      inl low ↦ rw (lt-ltb n (2 ^ 63) low) refl
+      | inl low ↦ rw (lt-ltb n (2 ^ 63) low) refl
       | inr high ↦
-      let less : pos n -ℤ pos (2 ^ 64) ≡ negsuc (2 ^ 64 - suc n) = omega (arith, ints) in
-      rw (le-ltb n (2 ^ 63) high, less) (omega arith)
+          let less : pos n -ℤ pos (2 ^ 64) ≡ negsuc (2 ^ 64 - suc n) = omega (arith, ints) in
+          rw (le-ltb n (2 ^ 63) high, less) (omega arith)
     ]
 
 -- a signed number that fits is read of the number that stands for it

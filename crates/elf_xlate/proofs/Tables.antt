@@ -46,8 +46,8 @@ ehdr_laid h pad rest len len_rest =
     let whole : length (ident h.class h.order pad ++ rest) ≡ ehdr_size h.class = omega (arith, length-append front rest) in
     let blank : length (ident h.class h.order pad ++ replicate {A = ℕ} (ehdr_size h.class - 16) 0) ≡ ehdr_size h.class = omega (arith, length-append front zeros) in
     laid_from h.class h.order (ehdr_size h.class) 16 ehdr_fields (ehdr_numbers h) (front ++ rest) (front ++ zeros) whole blank room
-        (unfold ehdr_fields in refl) (ehdr_table h.class).within (ehdr_covers h.class)
-        (λ k low. get_or_append_left front rest 0 k (omega (arith, low)) ∙ sym (get_or_append_left front zeros 0 k (omega (arith, low))))
+    (unfold ehdr_fields in refl) (ehdr_table h.class).within (ehdr_covers h.class)
+    (λ k low. get_or_append_left front rest 0 k (omega (arith, low)) ∙ sym (get_or_append_left front zeros 0 k (omega (arith, low))))
 
 pub phdr_table : (class : Class) → IsTable class (phdr_size class) phdr_fields
 unfolding phdr_fields

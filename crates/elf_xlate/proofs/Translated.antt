@@ -120,22 +120,22 @@ decodes_as_encoded class order Empty is none = refl
 decodes_as_encoded class order (Bytes l) is none = refl
 decodes_as_encoded class order (Half l) is none =
     ap (option_map Half) (listed_again (half_of class order) (half_bytes class order) (λ n. n < 2 ^ 16) (item_size kinds.Half class) l (size_is_some kinds.Half class (λ e. cc))
-        (λ x good. length_half class order x) (λ x good. half_read class order x good) (recursion_from_All (λ n. n < 2 ^ 16) l is))
+    (λ x good. length_half class order x) (λ x good. half_read class order x good) (recursion_from_All (λ n. n < 2 ^ 16) l is))
 decodes_as_encoded class order (Word l) is none =
     ap (option_map Word) (listed_again (word_of class order) (word_bytes class order) (λ n. n < 2 ^ 32) (item_size kinds.Word class) l (size_is_some kinds.Word class (λ e. cc))
-        (λ x good. length_word class order x) (λ x good. word_read class order x good) (recursion_from_All (λ n. n < 2 ^ 32) l is))
+    (λ x good. length_word class order x) (λ x good. word_read class order x good) (recursion_from_All (λ n. n < 2 ^ 32) l is))
 decodes_as_encoded class order (Addr l) is none =
     ap (option_map Addr) (listed_again (addr_of class order) (addr_bytes class order) (IsGood (λ n. n < 2 ^ 64) (fits class)) (item_size kinds.Addr class) l (size_is_some kinds.Addr class (λ e. cc))
-        (λ x good. length_addr class order x) (λ x good. addr_read class order x good.in_range good.passing) (all_good (λ n. n < 2 ^ 64) (fits class) l is none))
+    (λ x good. length_addr class order x) (λ x good. addr_read class order x good.in_range good.passing) (all_good (λ n. n < 2 ^ 64) (fits class) l is none))
 decodes_as_encoded class order (Sym l) is none =
     ap (option_map Sym) (listed_again (sym_of class order) (sym_bytes class order) (IsGood IsSym (sym_fits class)) (item_size kinds.Sym class) l (size_is_some kinds.Sym class (λ e. cc))
-        (λ x good. length_sym class order x) (λ x good. sym_read class order x good.in_range good.passing) (all_good IsSym (sym_fits class) l is none))
+    (λ x good. length_sym class order x) (λ x good. sym_read class order x good.in_range good.passing) (all_good IsSym (sym_fits class) l is none))
 decodes_as_encoded class order (Rel l) is none =
     ap (option_map Rel) (listed_again (rel_of class order) (rel_bytes class order) (IsGood IsRel (rel_fits class)) (item_size kinds.Rel class) l (size_is_some kinds.Rel class (λ e. cc))
-        (λ x good. length_rel class order x) (λ x good. rel_read class order x good.in_range good.passing) (all_good IsRel (rel_fits class) l is none))
+    (λ x good. length_rel class order x) (λ x good. rel_read class order x good.in_range good.passing) (all_good IsRel (rel_fits class) l is none))
 decodes_as_encoded class order (Rela l) is none =
     ap (option_map Rela) (listed_again (rela_of class order) (rela_bytes class order) (IsGood IsRela (rela_fits class)) (item_size kinds.Rela class) l (size_is_some kinds.Rela class (λ e. cc))
-        (λ x good. length_rela class order x) (λ x good. rela_read class order x good.in_range good.passing) (all_good IsRela (rela_fits class) l is none))
+    (λ x good. length_rela class order x) (λ x good. rela_read class order x good.in_range good.passing) (all_good IsRela (rela_fits class) l is none))
 decodes_as_encoded class order (Dyn l) is none =
     ap (option_map Dyn) (listed_again (dyn_of class order) (dyn_bytes class order) (IsGood IsDyn (dyn_fits class)) (item_size kinds.Dyn class) l (size_is_some kinds.Dyn class (λ e. cc))
-        (λ x good. length_dyn class order x) (λ x good. dyn_read class order x good.in_range good.passing) (all_good IsDyn (dyn_fits class) l is none))
+    (λ x good. length_dyn class order x) (λ x good. dyn_read class order x good.in_range good.passing) (all_good IsDyn (dyn_fits class) l is none))

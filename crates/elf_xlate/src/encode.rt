@@ -44,7 +44,10 @@ pub fn to_file(
 
 // Appends the bytes of items that fit. After a refusal there may be some of them.
 #[tactic(auto, using(crate::proofs::Broad::all_pass), unfolding(crate::specs::Translation::encoded, crate::specs::Translation::first_unfit))]
-fn encode_items<T: Endian, const WIDE: bool>(items: &Items, out: &mut Octets) -> Result<(), ElfError>
+fn encode_items<T: Endian, const WIDE: bool>(
+    items: &Items,
+    out: &mut Octets,
+) -> Result<(), ElfError>
     requires { first_unfit (class_of WIDE) items.now ≡ None }
     ensures ok { OnOk result (out.new ≡ out.old ++ encoded (class_of WIDE) T.order items.now) }
     ensures front { OnErr result (take (length out.old) out.new ≡ out.old) }
@@ -76,7 +79,11 @@ fn encode_list<C: Codec<R>, R>(items: &[R], out: &mut Octets) -> Result<(), ElfE
 
 // Appends the bytes of a list, each item through a buffer of its size.
 #[tactic(auto, using(crate::proofs::Pieces::each_passes))]
-fn encode_through<C: Codec<R>, R>(items: &[R], buffer: &mut [u8], out: &mut Octets) -> Result<(), ElfError>
+fn encode_through<C: Codec<R>, R>(
+    items: &[R],
+    buffer: &mut [u8],
+    out: &mut Octets,
+) -> Result<(), ElfError>
     requires size { length buffer.old ≡ C.size }
     requires fits { first_not C.fitting items.now ≡ None }
     ensures ok { OnOk result (out.new ≡ out.old ++ flat_map C.bytes_of items.now) }

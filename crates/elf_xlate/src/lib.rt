@@ -22,6 +22,11 @@ pub use encode::to_file;
 pub use failure::XlateError;
 pub use fitting::{ehdr_fits, phdr_fits, shdr_fits, unfit};
 pub use headers::{get_ehdr, get_phdr, get_shdr, put_ehdr, put_phdr, put_shdr};
-pub use laws::{decodes_as_encoded, ehdr_both_ways, encodes_as_decoded, phdr_both_ways, shdr_both_ways};
+pub use laws::{
+    decodes_as_encoded, ehdr_both_ways, encodes_as_decoded, phdr_both_ways, shdr_both_ways,
+};
 pub use numbers::number;
 pub use sizes::fsize;
+
+#[cfg(test)]
+mod tests;
