@@ -23,3 +23,6 @@ pub use options::{NmOptions, Radix, ReadelfParts, Stop, StringsOptions};
 pub use reading::read_words;
 pub use texts::Text;
 pub use usages::Usage;
+
+#[cfg(test)]
+mod tests;
