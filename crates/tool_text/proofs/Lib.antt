@@ -2,5 +2,7 @@ pub mod Folds
 pub mod Fronts
 pub mod Letters
 pub mod Numerals
+pub mod OneSplit
+pub mod OptionRules
 pub mod Rows
 pub mod Splits

@@ -10,6 +10,7 @@ pub mod messages;
 pub mod numbers;
 pub mod options;
 pub mod reading;
+pub mod rules;
 mod splitting;
 pub mod texts;
 pub mod usages;
