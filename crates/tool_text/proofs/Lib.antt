@@ -1,4 +1,5 @@
 pub mod Folds
+pub mod FormsHold
 pub mod Fronts
 pub mod Letters
 pub mod Numerals

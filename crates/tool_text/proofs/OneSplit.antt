@@ -1,5 +1,5 @@
 -- The rules of option words leave no choice: two splits that follow them are one.
-use Rattle.std.proofs.Common.{◌≡◌, ◌≢◌, ◌==◌, ◌+◌, ◌≤◌, ◌⊎◌, List, [], ◌∷◌, ℕ, zero, suc, Bool, true, false, length, Option, option_map, refl, sym, ap, subst, ◌∙◌, ⊎_elim, arith}
+use Rattle.std.proofs.Common.{◌≡◌, ◌≢◌, ◌+◌, ◌≤◌, List, [], ◌∷◌, ℕ, zero, suc, true, false, length, Option, option_map, refl, sym, ap, subst, ◌∙◌, ⊎_elim, arith}
 use Rattle.std.specs.Str.{byte}
 use Rattle.std.proofs.lemmas.Bool.{and_right, ne_eqb, cases_eq, cases_Bool}
 use Rattle.tool_text.specs.declared.usages.Usage.{Usage}

@@ -1,7 +1,7 @@
 -- The split of the words follows the rules of option words.
-use Rattle.std.proofs.Common.{◌≡◌, ◌≢◌, ◌==◌, ◌&&◌, ◌≤◌, List, [], ◌∷◌, ◌++◌, ℕ, Bool, true, false, length, drop, bytes_eq, nat_le, codes, Option, Some, None, option_map, option_and_then, refl, sym, ap, subst, ◌∙◌, arith}
+use Rattle.std.proofs.Common.{◌≡◌, ◌≢◌, List, [], ◌∷◌, ℕ, Bool, true, false, length, bytes_eq, codes, Option, Some, None, option_map, option_and_then, refl, sym, ap, ◌∙◌, arith}
 use Rattle.std.specs.Str.{byte}
-use Rattle.std.proofs.lemmas.Bool.{true≢false, le-leb, ne_eqb, and_from, and_left, and_right, cond-true, cond-false}
+use Rattle.std.proofs.lemmas.Bool.{true≢false, le-leb, ne_eqb, and_from, and_left, cond-true, cond-false}
 use Rattle.tool_text.specs.declared.usages.Usage.{Usage}
 use Rattle.tool_text.specs.declared.usages.Usage.TheVariants.{Readelf, Nm, Size, Strings, Strip, Elflint, Calls, Selftest, Rehash, Copy, Unstrip, Lines, General}
 use Rattle.tool_text.specs.declared.splitting.Given.{Given}

@@ -1,5 +1,5 @@
 -- The steps through the words after a command, word by word.
-use Rattle.std.proofs.Common.{◌≡◌, ◌++◌, List, [], ◌∷◌, ℕ, Bool, true, false, cond, drop, bytes_eq, codes, Option, Some, None, Err, option_map, option_and_then, refl, sym, ap, ◌∙◌, append_assoc}
+use Rattle.std.proofs.Common.{◌≡◌, ◌++◌, List, [], ◌∷◌, ℕ, true, false, drop, bytes_eq, codes, Option, Some, None, Err, option_map, option_and_then, refl, sym, ap, ◌∙◌, append_assoc}
 use Rattle.std.proofs.lemmas.Bool.{cond-true, cond-false}
 use Rattle.std.proofs.lemmas.List.{append-nil}
 use Rattle.tool_text.specs.declared.usages.Usage.{Usage}

@@ -1,5 +1,5 @@
 -- The rules of option words, one sentence each (POSIX, base definitions 12.2, guidelines 4 to 10).
-use Rattle.std.specs.Prelude.{◌≡◌, ◌≢◌, List, [], ◌∷◌, ℕ, Bool, true, false, Option, Some, None, option_map, codes}
+use Rattle.std.specs.Prelude.{◌≡◌, ◌≢◌, List, [], ◌∷◌, ℕ, true, false, Option, Some, None, option_map, codes}
 use Rattle.std.specs.Str.{byte}
 use Rattle.tool_text.specs.declared.usages.Usage.{Usage}
 use Rattle.tool_text.specs.declared.splitting.Given.{Given}
