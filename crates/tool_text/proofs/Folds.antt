@@ -1,10 +1,10 @@
 -- What the folds over options say, step by step.
-use Rattle.std.proofs.Common.{◌-◌, slice_get, ◌≡◌, ◌++◌, ◌+◌, ◌<◌, ◌≤◌, ◌==◌, List, [], ◌∷◌, ℕ, length, take, drop, get_or, Bool, cond, Option, Some, None, option_map, option_and_then, option_to_list, MatchOption, refl, sym, ap, subst, ◌∙◌, append_assoc, arith}
+use Rattle.std.proofs.Common.{◌-◌, slice_get, ◌≡◌, ◌++◌, ◌+◌, ◌<◌, List, [], ◌∷◌, ℕ, length, take, get_or, Option, Some, None, option_to_list, MatchOption, refl, sym, ap, ◌∙◌, arith}
 use Rattle.std.specs.List.{last_or, filter_map, cons_option}
-use Rattle.std.proofs.lemmas.List.{append-nil, drop_more, drop_all, nil_from_length, take_more}
+use Rattle.std.proofs.lemmas.List.{nil_from_length, take_more}
 use Rattle.std.proofs.lemmas.List.Elements.{filter_map-append}
 use Rattle.tool_text.specs.declared.splitting.Given.{Given}
-use Rattle.tool_text.specs.Reading.{last, only_one, all_values, arguments, argument_of}
+use Rattle.tool_text.specs.Reading.{last, only_one, arguments, argument_of}
 
 last_or-push : {X : Type 0} (o : Option X) (xs : List X) (x : X) → last_or o (xs ++ x ∷ []) ≡ Some x
 last_or-push o [] x = refl

@@ -1,12 +1,10 @@
 -- What `from_str_radix` gives of a word of digits.
-use Rattle.std.proofs.Common.{subst, ◌≡◌, ◌≢◌, ◌^◌, ◌<◌, ◌≤◌, ◌&&◌, List, [], ◌∷◌, ℕ, Bool, true, false, cond, length, nat_lt, nat_le, Result, Ok, Err, Option, Some, None, Decides, refl, sym, ap, ◌∙◌, arith, rules}
+use Rattle.std.proofs.Common.{subst, ◌≡◌, ◌^◌, ◌<◌, ◌≤◌, List, [], ◌∷◌, ℕ, Bool, true, cond, length, Result, Ok, Err, Some, None, Decides, refl, sym, ap, ◌∙◌, arith}
 use Rattle.std.specs.Result.{OkIff, result_ok}
 use Rattle.std.specs.Str.Parse.{ParsesUnsigned, IsNumeral, AllDigits, digits_value, without_leading_plus}
 use Rattle.std.specs.Char.{digit_value}
 use Rattle.std.proofs.lemmas.Bool.{and_parts, ltb-true, false_from_ne_true, cond-true, cond-false, le-leb, leb-true, lt-ltb, and_from}
-use Rattle.std.proofs.lemmas.Bool.Decides.{Decides-and, Decides-ltb}
 use Rattle.std.proofs.lemmas.Str.Parse.{without_leading_plus_none}
-use Rattle.std.proofs.lemmas.List.{get_or_past}
 use Rattle.tool_text.specs.Numbers.{are_digits, numeral}
 
 all_digits : (radix : ℕ) (word : List ℕ) → are_digits radix word ≡ true → AllDigits radix word

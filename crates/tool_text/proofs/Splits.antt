@@ -1,5 +1,5 @@
 -- The steps through the words after a command, word by word.
-use Rattle.std.proofs.Common.{◌≡◌, ◌++◌, List, [], ◌∷◌, ℕ, Bool, true, false, cond, drop, bytes_eq, codes, Option, Some, None, Err, option_map, option_and_then, refl, sym, ap, ◌∙◌, append_assoc}
+use Rattle.std.proofs.Common.{◌≡◌, ◌++◌, List, [], ◌∷◌, ℕ, true, false, drop, bytes_eq, codes, Option, Some, None, Err, option_map, option_and_then, refl, sym, ap, ◌∙◌, append_assoc}
 use Rattle.std.proofs.lemmas.Bool.{cond-true, cond-false}
 use Rattle.std.proofs.lemmas.List.{append-nil}
 use Rattle.tool_text.specs.declared.usages.Usage.{Usage}
@@ -13,7 +13,7 @@ pub split_after-nil : (o : Option Split) → option_map (split_after []) o ≡ o
 split_after-nil None = refl
 split_after-nil (Some split) = refl
 
-split_after-append : (xs ys : List Given) (o : Option Split) → option_map (split_after (xs ++ ys)) o ≡ option_map (split_after xs) (option_map (split_after ys) o)
+pub split_after-append : (xs ys : List Given) (o : Option Split) → option_map (split_after (xs ++ ys)) o ≡ option_map (split_after xs) (option_map (split_after ys) o)
 split_after-append xs ys None = refl
 split_after-append xs ys (Some split) = ap (λ os. Some (record { options = os; operands = split.operands })) (append_assoc xs ys split.options)
 

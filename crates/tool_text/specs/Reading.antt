@@ -1,6 +1,6 @@
 -- The reading of the words: the command with its options and operands, or the usage line that is due.
-use Rattle.std.specs.Prelude.{◌≡◌, ◌++◌, ◌&&◌, ◌||◌, ◌==◌, List, [], ◌∷◌, ℕ, Bool, true, false, not, length, nat_le, nat_lt, bytes_eq, Option, Some, None, is_some, is_none, option_map, option_and_then, option_to_list, unwrap_or, ok_or, map, Result, Ok, Err, codes, if◌then◌else◌}
-use Rattle.std.specs.List.{list_any, list_all, filter_map, last_or, position_or_len, before_first, after_first}
+use Rattle.std.specs.Prelude.{◌≡◌, ◌&&◌, ◌||◌, ◌==◌, List, [], ◌∷◌, ℕ, Bool, true, false, not, length, nat_le, nat_lt, bytes_eq, Option, Some, None, option_and_then, option_to_list, unwrap_or, ok_or, Result, Ok, Err, codes, if◌then◌else◌}
+use Rattle.std.specs.List.{list_any, filter_map, last_or, position_or_len, before_first, after_first}
 use Rattle.std.specs.Str.{byte}
 use Rattle.tool_text.specs.declared.usages.Usage.{Usage}
 use Rattle.tool_text.specs.declared.usages.Usage.TheVariants as usage
@@ -94,14 +94,14 @@ parts_of options = record {
   versions = is_given (byte "V") options
 }
 
-unfoldable pub readelf_of : Split → Option Command
-readelf_of split = do
+unfoldable pub readelf_command : Split → Option Command
+readelf_command split = do
   files ← one_or_more split.operands
   if length split.options == 0 then None else Some (command.Readelf (parts_of split.options) files)
 
 -- the radix is hexadecimal where none is given
-unfoldable pub nm_of : Split → Option Command
-nm_of split = do
+unfoldable pub nm_command : Split → Option Command
+nm_command split = do
   files ← one_or_more split.operands
   radixes ← all_values radix_of (arguments (byte "t") split.options)
   Some (command.Nm (record {
@@ -113,22 +113,22 @@ nm_of split = do
     radix = unwrap_or (last radixes) Hex
   }) files)
 
-unfoldable pub size_of : Split → Option Command
-size_of split = do
+unfoldable pub size_command : Split → Option Command
+size_command split = do
   files ← one_or_more split.operands
   Some (command.Size files)
 
 -- a run has at least four bytes where nothing else is given
-unfoldable pub strings_of : Split → Option Command
-strings_of split = do
+unfoldable pub strings_command : Split → Option Command
+strings_command split = do
   files ← one_or_more split.operands
   lengths ← all_values least_of (arguments (byte "n") split.options)
   radixes ← all_values radix_of (arguments (byte "t") split.options)
   Some (command.Strings (record { all = is_given (byte "a") split.options; least = unwrap_or (last lengths) 4; place = last radixes }) files)
 
 -- OUT, FILE and DEBUG differ
-unfoldable pub strip_of : Split → Option Command
-strip_of split = do
+unfoldable pub strip_command : Split → Option Command
+strip_command split = do
   file ← only_one split.operands
   out ← last (arguments (byte "o") split.options)
   let debug = last (arguments (byte "f") split.options)
@@ -141,8 +141,8 @@ strip_of split = do
     }) file)
     else None
 
-unfoldable pub elflint_of : Split → Option Command
-elflint_of split = do
+unfoldable pub elflint_command : Split → Option Command
+elflint_command split = do
   files ← one_or_more split.operands
   Some (command.Elflint files)
 
@@ -153,22 +153,22 @@ output_of true None file script = Some (Some InPlace)
 output_of false (Some out) file script = if bytes_eq out file || bytes_eq out script then None else Some (Some (To out))
 output_of true (Some out) file script = None
 
-unfoldable pub calls_of : Split → Option Command
-calls_of split = do
+unfoldable pub calls_command : Split → Option Command
+calls_command split = do
   files ← only_two split.operands
   output ← output_of (is_given (byte "i") split.options) (last (arguments (byte "o") split.options)) files.0 files.1
   Some (command.Calls output files.0 files.1)
 
-unfoldable pub selftest_of : Split → Option Command
-selftest_of split = do
+unfoldable pub selftest_command : Split → Option Command
+selftest_command split = do
   word ← only_one split.operands
   out ← last (arguments (byte "o") split.options)
   count ← number_within 1 60000 word
   Some (command.Selftest out count)
 
 -- OUT is not FILE
-unfoldable pub rehash_of : Split → Option Command
-rehash_of split = do
+unfoldable pub rehash_command : Split → Option Command
+rehash_command split = do
   file ← only_one split.operands
   out ← last (arguments (byte "o") split.options)
   if all_differ (out ∷ file ∷ []) then Some (command.Rehash out file) else None
@@ -220,8 +220,8 @@ changes_of options = do
 unfoldable pub is_file_of : List ℕ → List NamedFile → Bool
 is_file_of word named = list_any (λ n. bytes_eq n.file word) named
 
-unfoldable pub copy_of : Split → Option Command
-copy_of split = do
+unfoldable pub copy_command : Split → Option Command
+copy_command split = do
   file ← only_one split.operands
   out ← last (arguments (byte "o") split.options)
   changes ← changes_of split.options
@@ -230,31 +230,31 @@ copy_of split = do
     else Some (command.Copy changes out file)
 
 -- OUT, STRIPPED and DEBUG differ
-unfoldable pub unstrip_of : Split → Option Command
-unstrip_of split = do
+unfoldable pub unstrip_command : Split → Option Command
+unstrip_command split = do
   files ← only_two split.operands
   out ← last (arguments (byte "o") split.options)
   if all_differ (out ∷ files.0 ∷ files.1 ∷ []) then Some (command.Unstrip out files.0 files.1) else None
 
-unfoldable pub lines_of : Split → Option Command
-lines_of split = do
+unfoldable pub lines_command : Split → Option Command
+lines_command split = do
   files ← one_or_more split.operands
   Some (command.Lines files)
 
 -- each command's own rule
 unfoldable pub of_split : Usage → Split → Option Command
-of_split usage.Readelf split = readelf_of split
-of_split usage.Nm split = nm_of split
-of_split usage.Size split = size_of split
-of_split usage.Strings split = strings_of split
-of_split usage.Strip split = strip_of split
-of_split usage.Elflint split = elflint_of split
-of_split usage.Calls split = calls_of split
-of_split usage.Selftest split = selftest_of split
-of_split usage.Rehash split = rehash_of split
-of_split usage.Copy split = copy_of split
-of_split usage.Unstrip split = unstrip_of split
-of_split usage.Lines split = lines_of split
+of_split usage.Readelf split = readelf_command split
+of_split usage.Nm split = nm_command split
+of_split usage.Size split = size_command split
+of_split usage.Strings split = strings_command split
+of_split usage.Strip split = strip_command split
+of_split usage.Elflint split = elflint_command split
+of_split usage.Calls split = calls_command split
+of_split usage.Selftest split = selftest_command split
+of_split usage.Rehash split = rehash_command split
+of_split usage.Copy split = copy_command split
+of_split usage.Unstrip split = unstrip_command split
+of_split usage.Lines split = lines_command split
 of_split usage.General split = None
 
 unfoldable pub command_of : Usage → List (List ℕ) → Option Command

@@ -1,5 +1,5 @@
 -- The commands by their names, and the line that says how each is called.
-use Rattle.std.specs.Prelude.{List, [], ◌∷◌, ◌++◌, ℕ, Option, Some, None, codes, bytes_eq, if◌then◌else◌}
+use Rattle.std.specs.Prelude.{List, [], ◌∷◌, ℕ, Option, Some, None, codes, bytes_eq, if◌then◌else◌}
 use Rattle.tool_text.specs.declared.usages.Usage.{Usage}
 use Rattle.tool_text.specs.declared.usages.Usage.TheVariants.{Readelf, Nm, Size, Strings, Strip, Elflint, Calls, Selftest, Rehash, Copy, Unstrip, Lines, General}
 

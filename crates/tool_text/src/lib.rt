@@ -11,6 +11,7 @@ pub mod numbers;
 pub mod options;
 pub mod pages;
 pub mod reading;
+pub mod rules;
 mod splitting;
 pub mod texts;
 pub mod usages;
@@ -25,3 +26,6 @@ pub use pages::{PAGE_SIZE, finish, turn, turn_after};
 pub use reading::read_words;
 pub use texts::Text;
 pub use usages::Usage;
+
+#[cfg(test)]
+mod tests;

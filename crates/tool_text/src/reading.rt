@@ -1,8 +1,9 @@
 //! The reading of the words: the command with its options and operands.
 
-ghost use Rattle.std.specs.Prelude.{◌≡◌, ◌∷◌, [], option_to_list};
+ghost use Rattle.std.specs.Prelude.{◌≡◌, ◌∷◌, [], option_to_list, IfOk};
+ghost use Rattle.tool_text.specs.Forms.{IsWellFormed};
 ghost use Rattle.tool_text.specs.Splitting.{Reads};
-ghost use Rattle.tool_text.specs.Reading.{reading, Follows, command_of, of_split, readelf_of, parts_of, nm_of, size_of, strings_of, strip_of, elflint_of, calls_of, selftest_of, rehash_of, copy_of, changes_of, unstrip_of, lines_of, all_differ, is_file_of};
+ghost use Rattle.tool_text.specs.Reading.{reading, Follows, command_of, of_split, readelf_command, parts_of, nm_command, size_command, strings_command, strip_command, elflint_command, calls_command, selftest_command, rehash_command, copy_command, changes_of, unstrip_command, lines_command, all_differ, is_file_of};
 
 use crate::arguments::Args;
 use crate::commands::{CallsOutput, Command, CopyChanges, NamedFile, Refusal, StripOptions};
@@ -15,11 +16,12 @@ use crate::usages::Usage;
 use crate::values::number_within;
 use std::alloc::Global;
 
+/// Reads the words after the program's name, of which the first is the command. It refuses with the
+/// usage line that is due exactly where the words are not of that form, and for want of memory.
 #[tactic(auto, unfolding(crate::specs::Reading::reading))]
-/// The command that the words after the program's name give, or the usage line that refuses them.
-/// The first word is the command. It refuses besides only for want of memory.
 pub fn read_words(alloc: Global, words: &Args) -> Result<Command, Refusal>
-    ensures { Follows result (reading words.now) }
+    ensures value { Follows result (reading words.now) }
+    ensures form { IfOk result IsWellFormed }
 {
     let Some((name, words)) = words.as_slice().split_first() else {
         return Err(Refusal::Usage(Usage::General));
@@ -34,8 +36,8 @@ pub fn read_words(alloc: Global, words: &Args) -> Result<Command, Refusal>
     }
 }
 
-#[tactic(auto, unfolding(crate::specs::Reading::command_of))]
 /// The command whose name stands before these words.
+#[tactic(auto, unfolding(crate::specs::Reading::command_of))]
 fn read_command(alloc: Global, usage: Usage, words: &[Text]) -> Result<Command, Fault>
     ensures { Reads result (command_of usage words.now) }
 {
@@ -43,8 +45,8 @@ fn read_command(alloc: Global, usage: Usage, words: &[Text]) -> Result<Command, 
     read_split(alloc, usage, split)
 }
 
-#[tactic(auto, unfolding(crate::specs::Reading::of_split))]
 /// The command with these options and operands.
+#[tactic(auto, unfolding(crate::specs::Reading::of_split))]
 fn read_split(alloc: Global, usage: Usage, split: Split) -> Result<Command, Fault>
     ensures { Reads result (of_split usage split) }
 {
@@ -66,9 +68,9 @@ fn read_split(alloc: Global, usage: Usage, split: Split) -> Result<Command, Faul
 }
 
 /// At least one letter and one file.
-#[tactic(auto, unfolding(crate::specs::Reading::readelf_of, crate::specs::Reading::one_or_more))]
+#[tactic(auto, unfolding(crate::specs::Reading::readelf_command, crate::specs::Reading::one_or_more))]
 fn readelf(split: Split) -> Result<Command, Fault>
-    ensures { Reads result (readelf_of split) }
+    ensures { Reads result (readelf_command split) }
 {
     let Split { options, operands } = split;
     if options.is_empty() || operands.is_empty() {
@@ -98,9 +100,9 @@ fn parts(options: &[Given]) -> ReadelfParts
 }
 
 /// At least one file. The radix is hexadecimal where none is given.
-#[tactic(auto, unfolding(crate::specs::Reading::nm_of, crate::specs::Reading::one_or_more))]
+#[tactic(auto, unfolding(crate::specs::Reading::nm_command, crate::specs::Reading::one_or_more))]
 fn nm(alloc: Global, split: Split) -> Result<Command, Fault>
-    ensures { Reads result (nm_of split) }
+    ensures { Reads result (nm_command split) }
 {
     let Split { options, operands } = split;
     if operands.is_empty() {
@@ -122,9 +124,9 @@ fn nm(alloc: Global, split: Split) -> Result<Command, Fault>
 }
 
 /// At least one file.
-#[tactic(auto, unfolding(crate::specs::Reading::size_of, crate::specs::Reading::one_or_more))]
+#[tactic(auto, unfolding(crate::specs::Reading::size_command, crate::specs::Reading::one_or_more))]
 fn size(split: Split) -> Result<Command, Fault>
-    ensures { Reads result (size_of split) }
+    ensures { Reads result (size_command split) }
 {
     let Split { options: _, operands } = split;
     if operands.is_empty() {
@@ -134,9 +136,9 @@ fn size(split: Split) -> Result<Command, Fault>
 }
 
 /// At least one file. A run has at least four bytes where nothing else is given.
-#[tactic(auto, unfolding(crate::specs::Reading::strings_of, crate::specs::Reading::one_or_more))]
+#[tactic(auto, unfolding(crate::specs::Reading::strings_command, crate::specs::Reading::one_or_more))]
 fn strings(alloc: Global, split: Split) -> Result<Command, Fault>
-    ensures { Reads result (strings_of split) }
+    ensures { Reads result (strings_command split) }
 {
     let Split { options, operands } = split;
     if operands.is_empty() {
@@ -156,9 +158,9 @@ fn strings(alloc: Global, split: Split) -> Result<Command, Fault>
 }
 
 /// One file and an output. No two of them and the file for debugging are the same word.
-#[tactic(auto, unfolding(crate::specs::Reading::strip_of, crate::specs::Reading::all_differ))]
+#[tactic(auto, unfolding(crate::specs::Reading::strip_command, crate::specs::Reading::all_differ))]
 fn strip(alloc: Global, split: Split) -> Result<Command, Fault>
-    ensures { Reads result (strip_of split) }
+    ensures { Reads result (strip_command split) }
 {
     let Split { options, operands } = split;
     let options = options.as_slice();
@@ -203,9 +205,9 @@ fn all_three_differ(first: &Text, second: &Text, third: &Text) -> bool
 }
 
 /// At least one file.
-#[tactic(auto, unfolding(crate::specs::Reading::elflint_of, crate::specs::Reading::one_or_more))]
+#[tactic(auto, unfolding(crate::specs::Reading::elflint_command, crate::specs::Reading::one_or_more))]
 fn elflint(split: Split) -> Result<Command, Fault>
-    ensures { Reads result (elflint_of split) }
+    ensures { Reads result (elflint_command split) }
 {
     let Split { options: _, operands } = split;
     if operands.is_empty() {
@@ -215,9 +217,9 @@ fn elflint(split: Split) -> Result<Command, Fault>
 }
 
 /// A file and a script, and not both of `-o` and `-i`. The output is another word than either.
-#[tactic(auto, unfolding(crate::specs::Reading::calls_of, crate::specs::Reading::output_of))]
+#[tactic(auto, unfolding(crate::specs::Reading::calls_command, crate::specs::Reading::output_of))]
 fn calls(alloc: Global, split: Split) -> Result<Command, Fault>
-    ensures { Reads result (calls_of split) }
+    ensures { Reads result (calls_command split) }
 {
     let Split { options, operands } = split;
     let options = options.as_slice();
@@ -240,9 +242,9 @@ fn calls(alloc: Global, split: Split) -> Result<Command, Fault>
 }
 
 /// An output, and one number from 1 to 60000.
-#[tactic(auto, unfolding(crate::specs::Reading::selftest_of))]
+#[tactic(auto, unfolding(crate::specs::Reading::selftest_command))]
 fn selftest(alloc: Global, split: Split) -> Result<Command, Fault>
-    ensures { Reads result (selftest_of split) }
+    ensures { Reads result (selftest_command split) }
 {
     let Split { options, operands } = split;
     let Some(word) = operands.into_one() else {
@@ -256,9 +258,9 @@ fn selftest(alloc: Global, split: Split) -> Result<Command, Fault>
 }
 
 /// An output and one file, which are different words.
-#[tactic(auto, unfolding(crate::specs::Reading::rehash_of, crate::specs::Reading::all_differ))]
+#[tactic(auto, unfolding(crate::specs::Reading::rehash_command, crate::specs::Reading::all_differ))]
 fn rehash(alloc: Global, split: Split) -> Result<Command, Fault>
-    ensures { Reads result (rehash_of split) }
+    ensures { Reads result (rehash_command split) }
 {
     let Split { options, operands } = split;
     let Some(file) = operands.into_one() else {
@@ -274,9 +276,9 @@ fn rehash(alloc: Global, split: Split) -> Result<Command, Fault>
 }
 
 /// An output and one file. The output is another word than the file and the files of the changes.
-#[tactic(auto, unfolding(crate::specs::Reading::copy_of))]
+#[tactic(auto, unfolding(crate::specs::Reading::copy_command))]
 fn copy(alloc: Global, split: Split) -> Result<Command, Fault>
-    ensures { Reads result (copy_of split) }
+    ensures { Reads result (copy_command split) }
 {
     let Split { options, operands } = split;
     let options = options.as_slice();
@@ -324,9 +326,9 @@ fn is_file_of(word: &Text, named: &[NamedFile]) -> bool
 }
 
 /// An output and two files, no two of which are the same word.
-#[tactic(auto, unfolding(crate::specs::Reading::unstrip_of, crate::specs::Reading::all_differ))]
+#[tactic(auto, unfolding(crate::specs::Reading::unstrip_command, crate::specs::Reading::all_differ))]
 fn unstrip(alloc: Global, split: Split) -> Result<Command, Fault>
-    ensures { Reads result (unstrip_of split) }
+    ensures { Reads result (unstrip_command split) }
 {
     let Split { options, operands } = split;
     let Some((stripped, debug)) = operands.into_two() else {
@@ -346,9 +348,9 @@ fn unstrip(alloc: Global, split: Split) -> Result<Command, Fault>
 }
 
 /// At least one file.
-#[tactic(auto, unfolding(crate::specs::Reading::lines_of, crate::specs::Reading::one_or_more))]
+#[tactic(auto, unfolding(crate::specs::Reading::lines_command, crate::specs::Reading::one_or_more))]
 fn lines(split: Split) -> Result<Command, Fault>
-    ensures { Reads result (lines_of split) }
+    ensures { Reads result (lines_command split) }
 {
     let Split { options: _, operands } = split;
     if operands.is_empty() {

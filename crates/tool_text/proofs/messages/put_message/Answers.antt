@@ -1,4 +1,4 @@
-use Rattle.std.proofs.Common.{◌≡◌, ◌++◌, codes, append_assoc, refl, ◌∙◌, rules}
+use Rattle.std.proofs.Common.{◌++◌, codes, append_assoc, refl, ◌∙◌, rules}
 use Rattle.std.proofs.lemmas.Result.{on_err_weaker}
 use Rattle.tool_text.specs.Messages.{message}
 use Rattle.tool_text.proofs.Fronts.{front_of, front_on_err}

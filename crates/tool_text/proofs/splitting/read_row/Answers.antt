@@ -1,4 +1,4 @@
-use Rattle.std.proofs.Common.{◌≡◌, ◌<◌, get_or, ap, arith, rules}
+use Rattle.std.proofs.Common.{◌<◌, get_or, ap, arith, rules}
 use Rattle.std.proofs.lemmas.Str.{IsCharBoundary-after_ascii}
 use Rattle.tool_text.proofs.Rows.{argument_apart, argument_joined, flag_taken, letter_refused, row_ended, none_from_map}
 use Rattle.tool_text.proofs.splitting.read_row.Goals as goal

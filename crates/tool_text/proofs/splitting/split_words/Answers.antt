@@ -1,7 +1,7 @@
-use Rattle.std.proofs.Common.{◌≡◌, [], ◌∷◌, ℕ, List, Bool, true, false, drop, codes, bytes_eq, Option, Some, None, option_map, subst, ap, sym, ◌∙◌, arith, rules}
+use Rattle.std.proofs.Common.{◌≡◌, [], ◌∷◌, true, false, drop, codes, bytes_eq, Some, None, option_map, ap, sym, ◌∙◌, rules}
 use Rattle.std.proofs.lemmas.List.{nil_from_length}
 use Rattle.std.proofs.lemmas.Result.{err_from_is_err_and}
-use Rattle.tool_text.specs.Splitting.{split_of, split_after, row_of, row_after, is_option_word}
+use Rattle.tool_text.specs.Splitting.{split_of, split_after, is_option_word}
 use Rattle.tool_text.proofs.Splits.{words_ended, operand_met, end_met, row_refused, row_taken, row_fault, argument_missing, argument_taken}
 use Rattle.tool_text.proofs.splitting.split_words.Goals as goal
 use Rattle.tool_text.proofs.splitting.split_words.Goals.{After-read_row, In_ok-letter, in-Some+then-not-is_option_word, in-Some+else-not-is_option_word+then-eq, in_default}
