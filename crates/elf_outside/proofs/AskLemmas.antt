@@ -16,7 +16,7 @@ read_rose_before (Err e) a b c h k = tt
 
 -- two calls in a row, of which the second answers
 pub asks_both : {S T U : Type 0} (g : Ghosts S) (r : Result T ElfError) (q : Result U ElfError) (s t u : S) (n m : ℕ)
-  → Asks g r s t n → Asks g q t u m → Asks g q s u (n + m)
+    → Asks g r s t n → Asks g q t u m → Asks g q s u (n + m)
 asks_both g r q s t u n m first second = record {
   leaves = record {
     same_len = second.leaves.same_len ∙ first.leaves.same_len;
@@ -45,7 +45,7 @@ asks_fewer g r s t n m h a = record {
 
 -- an answer that is no Read after a call that was Ok
 pub asks_then : {S T U : Type 0} (g : Ghosts S) (r : Result T ElfError) (q : Result U ElfError) (s t : S) (n : ℕ)
-  → Asks g r s t n → ReadRose q (g.faults s) (g.faults t) → Asks g q s t n
+    → Asks g r s t n → ReadRose q (g.faults s) (g.faults t) → Asks g q s t n
 asks_then g r q s t n a read = record {
   leaves = a.leaves;
   later = a.later;

@@ -29,7 +29,7 @@ at_start : {O : Type 0} (o : Ghosts O) (s : O) (p : List ℕ) → p ≡ [] → H
 at_start o s p e = subst (λ (q : List ℕ). HasPending (o.wrote s) (o.wrote s) q []) (sym e) (pending_none (o.wrote s))
 
 pub ended_stop : {O E : Type 0} (o : Ghosts O) (e : Ghosts E) (stop : Stop) (s t : O) (p q : List ℕ) (u v : E) (report : Report) → p ≡ []
-  → Reports o e (Err stop) s t p q u v report → Ended (Err stop) (o.wrote s) (o.wrote t) (e.wrote u) (e.wrote v) report
+    → Reports o e (Err stop) s t p q u v report → Ended (Err stop) (o.wrote s) (o.wrote t) (e.wrote u) (e.wrote v) report
 ended_stop o e stop s t p q u v report empty w = record {
   out = tt;
   err = tt;
@@ -39,7 +39,7 @@ ended_stop o e stop s t p q u v report empty w = record {
 }
 
 pub ended_unfinished : {O E : Type 0} (o : Ghosts O) (e : Ghosts E) (b : Bool) (stop : Stop) (s t r : O) (p q m : List ℕ) (u v : E) (report : Report) → p ≡ []
-  → Reports o e (Ok b) s t p q u v report → Writes {T = Unit {0}} {E = Stop} o (Err stop) t r q m [] → Ended (Err stop) (o.wrote s) (o.wrote r) (e.wrote u) (e.wrote v) report
+    → Reports o e (Ok b) s t p q u v report → Writes {T = Unit {0}} {E = Stop} o (Err stop) t r q m [] → Ended (Err stop) (o.wrote s) (o.wrote r) (e.wrote u) (e.wrote v) report
 ended_unfinished o e b stop s t r p q m u v report empty w last = record {
   out = tt;
   err = tt;
@@ -49,10 +49,10 @@ ended_unfinished o e b stop s t r p q m u v report empty w last = record {
 }
 
 pub ended_done : {O E : Type 0} (o : Ghosts O) (e : Ghosts E) (b : Bool) (s t r : O) (p q m : List ℕ) (u v : E) (report : Report) → p ≡ [] → m ≡ []
-  → Reports o e (Ok b) s t p q u v report → Writes {T = Unit {0}} {E = Stop} o (Ok tt) t r q m [] → Ended (Ok b) (o.wrote s) (o.wrote r) (e.wrote u) (e.wrote v) report
+    → Reports o e (Ok b) s t p q u v report → Writes {T = Unit {0}} {E = Stop} o (Ok tt) t r q m [] → Ended (Ok b) (o.wrote s) (o.wrote r) (e.wrote u) (e.wrote v) report
 ended_done o e b s t r p q m u v report empty left w last = record {
   out = subst (λ (x : List ℕ). Appends (o.wrote s) (o.wrote r) x) (append-nil report.out)
-    (pending_done (o.wrote s) (o.wrote r) (report.out ++ [])
+      (pending_done (o.wrote s) (o.wrote r) (report.out ++ [])
       (subst (λ (x : List ℕ). HasPending (o.wrote s) (o.wrote r) x (report.out ++ [])) left (last.ok (o.wrote s) report.out (w.out.ok (o.wrote s) [] (at_start o s p empty)))));
   err = w.err;
   out_front = tt;
@@ -93,18 +93,18 @@ ended_delivers (Err stop) a b c d report h = record {
 }
 
 pub readelf_delivers : (parts : ReadelfParts) (names : List (List ℕ)) (named : Map) (r : Result Bool Stop) (status : ℕ) (a b c d : Option (List ℕ))
-  → are_built parts ≡ true → status ≡ ended_status r → Ended r a b c d (readelf_files parts (nat_lt 1 (length names)) named names)
-  → Delivers (readelf_outcome parts names named) status a b c d
+    → are_built parts ≡ true → status ≡ ended_status r → Ended r a b c d (readelf_files parts (nat_lt 1 (length names)) named names)
+    → Delivers (readelf_outcome parts names named) status a b c d
 unfolding readelf_outcome
 readelf_delivers parts names named r status a b c d built is h = rw (built, is) (ended_delivers r a b c d _ h)
 
 pub readelf_not_built : (parts : ReadelfParts) (names : List (List ℕ)) (named : Map) (status : ℕ) (a b c d : Option (List ℕ))
-  → are_built parts ≡ false → Delivers not_built status a b c d → Delivers (readelf_outcome parts names named) status a b c d
+    → are_built parts ≡ false → Delivers not_built status a b c d → Delivers (readelf_outcome parts names named) status a b c d
 unfolding readelf_outcome
 readelf_not_built parts names named status a b c d built h = rw built h
 
 pub says_not_built : (status : ℕ) (a b c d : Option (List ℕ))
-  → Delivers (record { out = []; err = codes "elfkit: form not built" ++ codes "\n"; status = 1 }) status a b c d → Delivers not_built status a b c d
+    → Delivers (record { out = []; err = codes "elfkit: form not built" ++ codes "\n"; status = 1 }) status a b c d → Delivers not_built status a b c d
 unfolding not_built
 says_not_built status a b c d h = h
 
@@ -126,6 +126,6 @@ unfolding program outcome_by
 program_of_usage words named usage h = rw h refl
 
 pub says_usage : (usage : Usage) (text : List ℕ) (status : ℕ) (a b c d : Option (List ℕ)) → text ≡ usage_line usage
-  → Delivers (record { out = []; err = text ++ codes "\n"; status = 2 }) status a b c d → Delivers (usage_outcome usage) status a b c d
+    → Delivers (record { out = []; err = text ++ codes "\n"; status = 2 }) status a b c d → Delivers (usage_outcome usage) status a b c d
 unfolding usage_outcome
 says_usage usage text status a b c d e h = rw (← e) h

@@ -21,7 +21,7 @@ kind_is a b h = ap (λ (r : Result FileKind ElfError). elim r as (λ _. FileKind
 
 -- an archive is no image
 pub front_of_archive : (holds : Option (List ℕ)) → IfSome holds (λ image. Follows (Ok Archive) (Ok (file_kind image)))
-  → IfSome holds (λ image. file_front image ≡ Err error.Magic)
+    → IfSome holds (λ image. file_front image ≡ Err error.Magic)
 unfolding file_front front_by
 front_of_archive None h = tt
 front_of_archive (Some image) h = rw (kind_is (file_kind image) Archive h) refl
@@ -34,12 +34,12 @@ by_kind Elf image h = refl
 by_kind Other image h = refl
 
 pub front_of_image : (holds left : Option (List ℕ)) (k : FileKind) (r : Result Front ElfError) → left ≡ holds
-  → IfSome holds (λ image. Follows (Ok k) (Ok (file_kind image))) → k ≢ Archive → IfSome left (λ image. Follows r (front image))
-  → IfSome holds (λ image. Follows r (file_front image))
+    → IfSome holds (λ image. Follows (Ok k) (Ok (file_kind image))) → k ≢ Archive → IfSome left (λ image. Follows r (front image))
+    → IfSome holds (λ image. Follows r (file_front image))
 unfolding file_front
 front_of_image None left k r same kind other h = tt
 front_of_image (Some image) left k r same kind other h =
-  subst (λ (f : Result Front ElfError). Follows r f)
+    subst (λ (f : Result Front ElfError). Follows r f)
     (sym (ap (λ (q : FileKind). front_by q image) (kind_is (file_kind image) k kind) ∙ by_kind k image other))
     (subst (λ (o : Option (List ℕ)). IfSome o (λ i. Follows r (front i))) same h)
 
@@ -56,7 +56,7 @@ at_name held None (Some bytes) set absent same = cc (absent refl)
 at_name held (Some bytes) now set absent same = set refl ∙ same
 
 name_cases : (test : Bool) (m0 m2 : Map) (name other : List ℕ) → (test ≡ true → other ≡ name) → (test ≡ false → other ≢ name)
-  → m2 name ≡ m0 name → ((n : List ℕ) → n ≢ name → m2 n ≡ m0 n) → m2 other ≡ m0 other
+    → m2 name ≡ m0 name → ((n : List ℕ) → n ≢ name → m2 n ≡ m0 n) → m2 other ≡ m0 other
 name_cases true m0 m2 name other equal differs here there = ap m2 (equal refl) ∙ here ∙ sym (ap m0 (equal refl))
 name_cases false m0 m2 name other equal differs here there = there other (differs refl)
 
@@ -65,11 +65,11 @@ false_not true P h e p = cc
 false_not false P h e p = let t : false ≡ true = h p in cc
 
 pub closed_same : (t0 t1 t2 : Bool) (m0 m1 m2 : Map) (name : List ℕ) (held : Option (List ℕ)) → IsTrue t0 → SameNames t0 m0 t1 m1
-  → Closes t1 m1 t2 m2 name held → held ≡ m0 name → SameNames t0 m0 t2 m2
+    → Closes t1 m1 t2 m2 name held → held ≡ m0 name → SameNames t0 m0 t2 m2
 closed_same t0 t1 t2 m0 m1 m2 name held told opened closed same = record {
   same_tells = closed.others.same_tells ∙ opened.same_tells;
   same = λ other.
-    name_cases (bytes_eq other name) m0 m2 name other
+      name_cases (bytes_eq other name) m0 m2 name other
       (λ e. (bytes_eq-Decides other name).0 e)
       (false_not (bytes_eq other name) (other ≡ name) (bytes_eq-Decides other name).1)
       (at_name held (m1 name) (m2 name) (closed.set (subst (λ (t : Bool). IsTrue t) (sym opened.same_tells) told)) closed.absent (same ∙ sym (opened.same name)) ∙ opened.same name)
@@ -78,14 +78,14 @@ closed_same t0 t1 t2 m0 m1 m2 name held told opened closed same = record {
 
 -- why a front was not read
 pub unread_front : (e : ElfError) (holds held : Option (List ℕ)) → holds ≡ held → held ≢ None
-  → IfSome holds (λ image. Follows {T = Front} (Err e) (file_front image)) → ReadsFront (Err (unread_of e)) held
+    → IfSome holds (λ image. Follows {T = Front} (Err e) (file_front image)) → ReadsFront (Err (unread_of e)) held
 unread_front error.Memory holds held same there h = tt
 unread_front error.Read holds held same there h = tt
 unread_front e None held same there h = absurd (there (sym same))
 unread_front e (Some image) held same there h = (image, sym same, h)
 
 pub unread_stops : (e : ElfError) (a b c d : ℕ) → ReadRose {T = Front} (Err e) a b → (ReadRose {T = Front} (Err error.Read) a b → Rose c d)
-  → FrontStops (Err (unread_of e)) c d
+    → FrontStops (Err (unread_of e)) c d
 unread_stops error.Memory a b c d h rose = tt
 unread_stops error.Read a b c d h rose = rose h
 unread_stops e a b c d h rose = tt

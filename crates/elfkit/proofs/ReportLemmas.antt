@@ -36,7 +36,7 @@ front_none o text = (0, appends_none o)
 
 -- a message on standard error, after what waits for standard output
 pub refused_early : {O E : Type 0} (o : Ghosts O) (e : Ghosts E) (stop : Stop) (s t : O) (p q : List ℕ) (u : E) (command file text : List ℕ)
-  → Writes {T = Unit {0}} {E = Stop} o (Err stop) s t p q [] → Reports o e (Err stop) s t p q u u (refusal command file text)
+    → Writes {T = Unit {0}} {E = Stop} o (Err stop) s t p q [] → Reports o e (Err stop) s t p q u u (refusal command file text)
 unfolding refusal
 refused_early o e stop s t p q u command file text w = record {
   out = writes_err o stop stop s t p q q [] w;
@@ -46,8 +46,8 @@ refused_early o e stop s t p q u command file text w = record {
 }
 
 pub refused_stop : {O E : Type 0} (o : Ghosts O) (e : Ghosts E) (stop : Stop) (s t : O) (p q : List ℕ) (u v : E) (command file text : List ℕ)
-  → Writes {T = Unit {0}} {E = Stop} o (Ok tt) s t p q [] → AppendsFront (e.wrote u) (e.wrote v) (message command file text)
-  → Reports o e (Err stop) s t p q u v (refusal command file text)
+    → Writes {T = Unit {0}} {E = Stop} o (Ok tt) s t p q [] → AppendsFront (e.wrote u) (e.wrote v) (message command file text)
+    → Reports o e (Err stop) s t p q u v (refusal command file text)
 unfolding refusal
 refused_stop o e stop s t p q u v command file text w m = record {
   out = writes_given_up o tt stop s t p q q [] w;
@@ -57,8 +57,8 @@ refused_stop o e stop s t p q u v command file text w m = record {
 }
 
 pub refused_done : {O E : Type 0} (o : Ghosts O) (e : Ghosts E) (s t : O) (p q : List ℕ) (u v : E) (command file text : List ℕ)
-  → Writes {T = Unit {0}} {E = Stop} o (Ok tt) s t p q [] → Appends (e.wrote u) (e.wrote v) (message command file text)
-  → Reports o e (Ok true) s t p q u v (refusal command file text)
+    → Writes {T = Unit {0}} {E = Stop} o (Ok tt) s t p q [] → Appends (e.wrote u) (e.wrote v) (message command file text)
+    → Reports o e (Ok true) s t p q u v (refusal command file text)
 unfolding refusal
 refused_done o e s t p q u v command file text w m = record {
   out = writes_ok o tt true s t p q [] w;
@@ -69,7 +69,7 @@ refused_done o e s t p q u v command file text w m = record {
 
 -- text on standard output
 pub shown_done : {O E : Type 0} (o : Ghosts O) (e : Ghosts E) (s t : O) (p q : List ℕ) (u : E) (text : List ℕ)
-  → Writes {T = Unit {0}} {E = Stop} o (Ok tt) s t p q text → Reports o e (Ok false) s t p q u u (shown text)
+    → Writes {T = Unit {0}} {E = Stop} o (Ok tt) s t p q text → Reports o e (Ok false) s t p q u u (shown text)
 unfolding shown
 shown_done o e s t p q u text w = record {
   out = writes_ok o tt false s t p q text w;
@@ -79,7 +79,7 @@ shown_done o e s t p q u text w = record {
 }
 
 pub shown_stop : {O E : Type 0} (o : Ghosts O) (e : Ghosts E) (stop : Stop) (s t : O) (p q : List ℕ) (u : E) (text : List ℕ)
-  → Writes {T = Unit {0}} {E = Stop} o (Err stop) s t p q text → Reports o e (Err stop) s t p q u u (shown text)
+    → Writes {T = Unit {0}} {E = Stop} o (Err stop) s t p q text → Reports o e (Err stop) s t p q u u (shown text)
 unfolding shown
 shown_stop o e stop s t p q u text w = record {
   out = writes_err o stop stop s t p q q text w;

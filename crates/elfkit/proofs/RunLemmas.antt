@@ -25,22 +25,22 @@ use Rattle.elfkit.proofs.ReportLemmas.{appends_none, front_none, shown_done, sho
 -- ---- One file
 
 file_is_shown : (parts : ReadelfParts) (many : Bool) (name : List ℕ) (f : Front) (held : Option (List ℕ)) → ReadsFront (Ok f) held
-  → readelf_file parts many name held ≡ shown (file_title many name ++ front_text parts f)
+    → readelf_file parts many name held ≡ shown (file_title many name ++ front_text parts f)
 unfolding readelf_file front_report
 file_is_shown parts many name f held h = rw h.1 (rw h.2 refl)
 
 file_is_refused : (parts : ReadelfParts) (many : Bool) (name : List ℕ) (e : ElfError) (held : Option (List ℕ)) → ReadsFront (Err (Refused e)) held
-  → readelf_file parts many name held ≡ refusal (codes "readelf") name (error_text e)
+    → readelf_file parts many name held ≡ refusal (codes "readelf") name (error_text e)
 unfolding readelf_file front_report
 file_is_refused parts many name e held h = rw h.1 (rw h.2 refl)
 
 file_is_absent : (parts : ReadelfParts) (many : Bool) (name : List ℕ) (held : Option (List ℕ)) → held ≡ None
-  → readelf_file parts many name held ≡ refusal (codes "readelf") name (codes "not found")
+    → readelf_file parts many name held ≡ refusal (codes "readelf") name (codes "not found")
 unfolding readelf_file
 file_is_absent parts many name held h = rw h refl
 
 shown_by : {O E : Type 0} (o : Ghosts O) (e : Ghosts E) (r : Result Bool Stop) (s t : O) (p q : List ℕ) (u : E) (text : List ℕ)
-  → Writes o r s t p q text → IfOk r (λ b. b ≡ false) → Reports o e r s t p q u u (shown text)
+    → Writes o r s t p q text → IfOk r (λ b. b ≡ false) → Reports o e r s t p q u u (shown text)
 unfolding shown
 shown_by o e (Ok b) s t p q u text w is = record {
   out = w;
@@ -56,23 +56,23 @@ shown_by o e (Err stop) s t p q u text w is = record {
 }
 
 pub file_shown : {O E : Type 0} (o : Ghosts O) (e : Ghosts E) (r : Result Bool Stop) (s t : O) (p q : List ℕ) (u : E)
-  (parts : ReadelfParts) (many : Bool) (name : List ℕ) (f : Front) (held : Option (List ℕ)) → ReadsFront (Ok f) held
-  → Writes o r s t p q (file_title many name ++ front_text parts f) → IfOk r (λ b. b ≡ false)
-  → Reports o e r s t p q u u (readelf_file parts many name held)
+    (parts : ReadelfParts) (many : Bool) (name : List ℕ) (f : Front) (held : Option (List ℕ)) → ReadsFront (Ok f) held
+    → Writes o r s t p q (file_title many name ++ front_text parts f) → IfOk r (λ b. b ≡ false)
+    → Reports o e r s t p q u u (readelf_file parts many name held)
 file_shown o e r s t p q u parts many name f held h w is =
-  subst (λ (x : Report). Reports o e r s t p q u u x) (sym (file_is_shown parts many name f held h)) (shown_by o e r s t p q u (file_title many name ++ front_text parts f) w is)
+    subst (λ (x : Report). Reports o e r s t p q u u x) (sym (file_is_shown parts many name f held h)) (shown_by o e r s t p q u (file_title many name ++ front_text parts f) w is)
 
 pub file_refused : {O E : Type 0} (o : Ghosts O) (e : Ghosts E) (r : Result Bool Stop) (s t : O) (p q : List ℕ) (u v : E)
-  (parts : ReadelfParts) (many : Bool) (name : List ℕ) (d : ElfError) (held : Option (List ℕ)) → ReadsFront (Err (Refused d)) held
-  → Reports o e r s t p q u v (refusal (codes "readelf") name (error_text d)) → Reports o e r s t p q u v (readelf_file parts many name held)
+    (parts : ReadelfParts) (many : Bool) (name : List ℕ) (d : ElfError) (held : Option (List ℕ)) → ReadsFront (Err (Refused d)) held
+    → Reports o e r s t p q u v (refusal (codes "readelf") name (error_text d)) → Reports o e r s t p q u v (readelf_file parts many name held)
 file_refused o e r s t p q u v parts many name d held h w =
-  subst (λ (x : Report). Reports o e r s t p q u v x) (sym (file_is_refused parts many name d held h)) w
+    subst (λ (x : Report). Reports o e r s t p q u v x) (sym (file_is_refused parts many name d held h)) w
 
 pub file_absent : {O E : Type 0} (o : Ghosts O) (e : Ghosts E) (r : Result Bool Stop) (s t : O) (p q : List ℕ) (u v : E)
-  (parts : ReadelfParts) (many : Bool) (name : List ℕ) (held : Option (List ℕ)) → held ≡ None
-  → Reports o e r s t p q u v (refusal (codes "readelf") name (codes "not found")) → Reports o e r s t p q u v (readelf_file parts many name held)
+    (parts : ReadelfParts) (many : Bool) (name : List ℕ) (held : Option (List ℕ)) → held ≡ None
+    → Reports o e r s t p q u v (refusal (codes "readelf") name (codes "not found")) → Reports o e r s t p q u v (readelf_file parts many name held)
 file_absent o e r s t p q u v parts many name held h w =
-  subst (λ (x : Report). Reports o e r s t p q u v x) (sym (file_is_absent parts many name held h)) w
+    subst (λ (x : Report). Reports o e r s t p q u v x) (sym (file_is_absent parts many name held h)) w
 
 -- a run that stops before it wrote anything
 pub file_stopped : {O E : Type 0} (o : Ghosts O) (e : Ghosts E) (stop : Stop) (s : O) (p : List ℕ) (u : E) (report : Report) → Reports o e (Err stop) s s p p u u report
@@ -167,19 +167,21 @@ take_more_than (w ∷ x) y k = let e : length (w ∷ x) + k ≡ suc (length x + 
 
 front_of_two : (x y z : List ℕ) (k : ℕ) → k ≤ length y → take (length x + k) ((x ++ y) ++ z) ≡ x ++ take k y
 front_of_two x y z k h =
-  take-append-le (length x + k) (x ++ y) z (omega (arith, length-append x y))
-  ∙ take_more_than x y k
+    take-append-le (length x + k) (x ++ y) z (omega (arith, length-append x y))
+    ∙ take_more_than x y k
 
 front_after : (a b c : Option (List ℕ)) (x y z : List ℕ) → Appends a b x → AppendsFront b c y → AppendsFront a c ((x ++ y) ++ z)
 front_after None b c x y z first front = (0, front.1 ∙ ap (λ (o : Option (List ℕ)). option_map (λ t. t ++ take front.0 y) o) first)
 front_after (Some w) b c x y z first front =
-  let n : ℕ = length x + min front.0 (length y) in
-  (n, front.1 ∙ ap (λ (o : Option (List ℕ)). option_map (λ t. t ++ take front.0 y) o) first
-    ∙ ap Some (append_assoc w x (take front.0 y)
-        ∙ ap (λ (t : List ℕ). w ++ t) (ap (λ (t : List ℕ). x ++ t) (sym (take_min front.0 y)) ∙ sym (front_of_two x y z (min front.0 (length y)) (omega arith)))))
+    let n : ℕ = length x + min front.0 (length y) in (
+      n,
+      front.1 ∙ ap (λ (o : Option (List ℕ)). option_map (λ t. t ++ take front.0 y) o) first
+          ∙ ap Some (append_assoc w x (take front.0 y)
+          ∙ ap (λ (t : List ℕ). w ++ t) (ap (λ (t : List ℕ). x ++ t) (sym (take_min front.0 y)) ∙ sym (front_of_two x y z (min front.0 (length y)) (omega arith)))),
+    )
 
 pub run_more : {O E : Type 0} (o : Ghosts O) (e : Ghosts E) (s t r : O) (p q m : List ℕ) (u v w : E) (refused b : Bool) (report rest whole : Report)
-  → HasRun o e s t p q u v refused (joined report rest) whole → Reports o e (Ok b) t r q m v w report → HasRun o e s r p m u w (refused || b) rest whole
+    → HasRun o e s t p q u v refused (joined report rest) whole → Reports o e (Ok b) t r q m v w report → HasRun o e s r p m u w (refused || b) rest whole
 unfolding joined
 run_more o e s t r p q m u v w refused b report rest whole h step = record {
   done = joined h.done report;
@@ -195,36 +197,36 @@ run_more o e s t r p q m u v w refused b report rest whole h step = record {
 }
 
 pub run_stop : {O E : Type 0} (o : Ghosts O) (e : Ghosts E) (stop : Stop) (s t r : O) (p q m : List ℕ) (u v w : E) (refused : Bool) (report rest whole : Report)
-  → HasRun o e s t p q u v refused (joined report rest) whole → Reports o e (Err stop) t r q m v w report → Reports o e (Err stop) s r p m u w whole
+    → HasRun o e s t p q u v refused (joined report rest) whole → Reports o e (Err stop) t r q m v w report → Reports o e (Err stop) s r p m u w whole
 unfolding joined
 run_stop o e stop s t r p q m u v w refused report rest whole h step =
-  subst (λ (x : Report). Reports o e (Err stop) s r p m u w x) (joined_assoc h.done report rest ∙ h.whole_is) (record {
-    out = writes_stop o stop stop s r p m m (h.done.out ++ report.out) rest.out (writes_then o refused (Err stop) s t r p q m h.done.out report.out h.out step.out);
-    err = tt;
-    err_front = front_after (e.wrote u) (e.wrote v) (e.wrote w) h.done.err report.err rest.err h.err step.err_front;
-    refused = tt;
-  })
+    subst (λ (x : Report). Reports o e (Err stop) s r p m u w x) (joined_assoc h.done report rest ∙ h.whole_is) (record {
+      out = writes_stop o stop stop s r p m m (h.done.out ++ report.out) rest.out (writes_then o refused (Err stop) s t r p q m h.done.out report.out h.out step.out);
+      err = tt;
+      err_front = front_after (e.wrote u) (e.wrote v) (e.wrote w) h.done.err report.err rest.err h.err step.err_front;
+      refused = tt;
+    })
 
 pub run_done : {O E : Type 0} (o : Ghosts O) (e : Ghosts E) (s t : O) (p q : List ℕ) (u v : E) (refused : Bool) (whole : Report)
-  → HasRun o e s t p q u v refused no_report whole → Reports o e (Ok refused) s t p q u v whole
+    → HasRun o e s t p q u v refused no_report whole → Reports o e (Ok refused) s t p q u v whole
 unfolding joined no_report
 run_done o e s t p q u v refused whole h =
-  subst (λ (x : Report). Reports o e (Ok refused) s t p q u v x) h.whole_is (record {
-    out = subst (λ (x : List ℕ). Writes o (Ok refused) s t p q x) (sym (append-nil h.done.out)) h.out;
-    err = subst (λ (x : List ℕ). Appends (e.wrote u) (e.wrote v) x) (sym (append-nil h.done.err)) h.err;
-    err_front = tt;
-    refused = h.refused_is ∙ sym (or_false h.done.refused);
-  })
+    subst (λ (x : Report). Reports o e (Ok refused) s t p q u v x) h.whole_is (record {
+      out = subst (λ (x : List ℕ). Writes o (Ok refused) s t p q x) (sym (append-nil h.done.out)) h.out;
+      err = subst (λ (x : List ℕ). Appends (e.wrote u) (e.wrote v) x) (sym (append-nil h.done.err)) h.err;
+      err_front = tt;
+      refused = h.refused_is ∙ sym (or_false h.done.refused);
+    })
 
 pub files_more : (parts : ReadelfParts) (many : Bool) (named : List ℕ → Option (List ℕ)) (names : List (List ℕ)) (i : ℕ) (name : List ℕ) → i < length names → name ≡ get_or names i name
-  → readelf_files parts many named (drop i names) ≡ joined (readelf_file parts many name (named name)) (readelf_files parts many named (drop (i + 1) names))
+    → readelf_files parts many named (drop i names) ≡ joined (readelf_file parts many name (named name)) (readelf_files parts many named (drop (i + 1) names))
 unfolding readelf_files all_joined
 files_more parts many named names i name lt is =
-  at_drop_more (λ ns. all_joined (map (λ n. readelf_file parts many n (named n)) ns)) names i name lt
-  ∙ ap (λ (n : List ℕ). joined (readelf_file parts many n (named n)) (all_joined (map (λ n. readelf_file parts many n (named n)) (drop (i + 1) names)))) (sym is)
+    at_drop_more (λ ns. all_joined (map (λ n. readelf_file parts many n (named n)) ns)) names i name lt
+    ∙ ap (λ (n : List ℕ). joined (readelf_file parts many n (named n)) (all_joined (map (λ n. readelf_file parts many n (named n)) (drop (i + 1) names)))) (sym is)
 
 pub files_end : (parts : ReadelfParts) (many : Bool) (named : List ℕ → Option (List ℕ)) (names : List (List ℕ)) (i : ℕ) → length names ≤ i
-  → readelf_files parts many named (drop i names) ≡ no_report
+    → readelf_files parts many named (drop i names) ≡ no_report
 unfolding readelf_files all_joined
 files_end parts many named names i le = at_drop_all (λ ns. all_joined (map (λ n. readelf_file parts many n (named n)) ns)) names i le
 
@@ -242,35 +244,35 @@ pub told_after : (t0 t1 : Bool) (m0 m1 : Map) → SameNames t0 m0 t1 m1 → IsTr
 told_after t0 t1 m0 m1 same told = subst (λ (t : Bool). IsTrue t) (sym same.same_tells) told
 
 pub report_same : {O E : Type 0} (o : Ghosts O) (e : Ghosts E) (r : Result Bool Stop) (s t : O) (p q : List ℕ) (u v : E)
-  (parts : ReadelfParts) (many : Bool) (t0 t1 : Bool) (m0 m1 : Map) (name shown_name : List ℕ) → SameNames t0 m0 t1 m1 → shown_name ≡ name
-  → Reports o e r s t p q u v (readelf_file parts many shown_name (m1 shown_name)) → Reports o e r s t p q u v (readelf_file parts many name (m0 name))
+    (parts : ReadelfParts) (many : Bool) (t0 t1 : Bool) (m0 m1 : Map) (name shown_name : List ℕ) → SameNames t0 m0 t1 m1 → shown_name ≡ name
+    → Reports o e r s t p q u v (readelf_file parts many shown_name (m1 shown_name)) → Reports o e r s t p q u v (readelf_file parts many name (m0 name))
 report_same o e r s t p q u v parts many t0 t1 m0 m1 name shown_name same is w =
-  subst (λ (h : Option (List ℕ)). Reports o e r s t p q u v (readelf_file parts many name h)) (same.same name)
+    subst (λ (h : Option (List ℕ)). Reports o e r s t p q u v (readelf_file parts many name h)) (same.same name)
     (subst (λ (n : List ℕ). Reports o e r s t p q u v (readelf_file parts many n (m1 n))) is w)
 
 -- one more file
 pub file_more : {O E : Type 0} (o : Ghosts O) (e : Ghosts E) (s t r : O) (p q m : List ℕ) (u v w : E) (refused b : Bool)
-  (parts : ReadelfParts) (many : Bool) (named : Map) (names : List (List ℕ)) (i : ℕ) (name : List ℕ) (whole : Report)
-  → i < length names → name ≡ get_or names i name
-  → HasRun o e s t p q u v refused (readelf_files parts many named (drop i names)) whole
-  → Reports o e (Ok b) t r q m v w (readelf_file parts many name (named name))
-  → HasRun o e s r p m u w (refused || b) (readelf_files parts many named (drop (i + 1) names)) whole
+    (parts : ReadelfParts) (many : Bool) (named : Map) (names : List (List ℕ)) (i : ℕ) (name : List ℕ) (whole : Report)
+    → i < length names → name ≡ get_or names i name
+    → HasRun o e s t p q u v refused (readelf_files parts many named (drop i names)) whole
+    → Reports o e (Ok b) t r q m v w (readelf_file parts many name (named name))
+    → HasRun o e s r p m u w (refused || b) (readelf_files parts many named (drop (i + 1) names)) whole
 file_more o e s t r p q m u v w refused b parts many named names i name whole lt is h step =
-  run_more o e s t r p q m u v w refused b (readelf_file parts many name (named name)) (readelf_files parts many named (drop (i + 1) names)) whole
+    run_more o e s t r p q m u v w refused b (readelf_file parts many name (named name)) (readelf_files parts many named (drop (i + 1) names)) whole
     (subst (λ (x : Report). HasRun o e s t p q u v refused x whole) (files_more parts many named names i name lt is) h) step
 
 pub file_stop : {O E : Type 0} (o : Ghosts O) (e : Ghosts E) (stop : Stop) (s t r : O) (p q m : List ℕ) (u v w : E) (refused : Bool)
-  (parts : ReadelfParts) (many : Bool) (named : Map) (names : List (List ℕ)) (i : ℕ) (name : List ℕ) (whole : Report)
-  → i < length names → name ≡ get_or names i name
-  → HasRun o e s t p q u v refused (readelf_files parts many named (drop i names)) whole
-  → Reports o e (Err stop) t r q m v w (readelf_file parts many name (named name))
-  → Reports o e (Err stop) s r p m u w whole
+    (parts : ReadelfParts) (many : Bool) (named : Map) (names : List (List ℕ)) (i : ℕ) (name : List ℕ) (whole : Report)
+    → i < length names → name ≡ get_or names i name
+    → HasRun o e s t p q u v refused (readelf_files parts many named (drop i names)) whole
+    → Reports o e (Err stop) t r q m v w (readelf_file parts many name (named name))
+    → Reports o e (Err stop) s r p m u w whole
 file_stop o e stop s t r p q m u v w refused parts many named names i name whole lt is h step =
-  run_stop o e stop s t r p q m u v w refused (readelf_file parts many name (named name)) (readelf_files parts many named (drop (i + 1) names)) whole
+    run_stop o e stop s t r p q m u v w refused (readelf_file parts many name (named name)) (readelf_files parts many named (drop (i + 1) names)) whole
     (subst (λ (x : Report). HasRun o e s t p q u v refused x whole) (files_more parts many named names i name lt is) h) step
 
 pub files_done : {O E : Type 0} (o : Ghosts O) (e : Ghosts E) (s t : O) (p q : List ℕ) (u v : E) (refused : Bool)
-  (parts : ReadelfParts) (many : Bool) (named : Map) (names : List (List ℕ)) (i : ℕ) (whole : Report) → length names ≤ i
-  → HasRun o e s t p q u v refused (readelf_files parts many named (drop i names)) whole → Reports o e (Ok refused) s t p q u v whole
+    (parts : ReadelfParts) (many : Bool) (named : Map) (names : List (List ℕ)) (i : ℕ) (whole : Report) → length names ≤ i
+    → HasRun o e s t p q u v refused (readelf_files parts many named (drop i names)) whole → Reports o e (Ok refused) s t p q u v whole
 files_done o e s t p q u v refused parts many named names i whole le h =
-  run_done o e s t p q u v refused whole (subst (λ (x : Report). HasRun o e s t p q u v refused x whole) (files_end parts many named names i le) h)
+    run_done o e s t p q u v refused whole (subst (λ (x : Report). HasRun o e s t p q u v refused x whole) (files_end parts many named names i le) h)

@@ -61,7 +61,7 @@ usage_outcome usage = record { out = []; err = usage_line usage ++ codes "\n"; s
 
 unfoldable pub readelf_outcome : ReadelfParts → List (List ℕ) → (List ℕ → Option (List ℕ)) → Outcome
 readelf_outcome parts files named =
-  if are_built parts then outcome_of (readelf_files parts (nat_lt 1 (length files)) named files) else not_built
+    if are_built parts then outcome_of (readelf_files parts (nat_lt 1 (length files)) named files) else not_built
 
 unfoldable pub command_outcome : Command → (List ℕ → Option (List ℕ)) → Outcome
 command_outcome (Readelf parts files) named = readelf_outcome parts files named

@@ -5,6 +5,8 @@ mod fronts;
 mod messages;
 mod program;
 mod readelf;
+#[cfg(test)]
+mod tests;
 
 use elf_outside::{RealFiles, RealSink};
 use program::run;

@@ -45,7 +45,14 @@ fn put_refusal<E: Sink>(alloc: Global, err: &mut E, name: &str, text: &[u8]) -> 
 }
 
 /// Puts what waits for standard output, and then the message of a file that is refused.
-pub fn refuse<O: Sink, E: Sink>(alloc: Global, name: &str, text: &[u8], out: &mut O, page: &mut Octets, err: &mut E) -> Result<bool, Stop>
+pub fn refuse<O: Sink, E: Sink>(
+    alloc: Global,
+    name: &str,
+    text: &[u8],
+    out: &mut O,
+    page: &mut Octets,
+    err: &mut E,
+) -> Result<bool, Stop>
     ensures report { Reports O.Sink E.Sink result out.old out.new page.old page.new err.old err.new (refusal (codes "readelf") name.now text.now) }
     ensures steps { Steps result 0 0 (O.faults out.old) (O.faults out.new) (E.faults err.old) (E.faults err.new) }
     ensures out_rest { O.rest out.new ≡ O.rest out.old }
@@ -57,7 +64,14 @@ pub fn refuse<O: Sink, E: Sink>(alloc: Global, name: &str, text: &[u8], out: &mu
 }
 
 /// The same for an error of the library.
-pub fn refuse_by<O: Sink, E: Sink>(alloc: Global, name: &str, e: &ElfError, out: &mut O, page: &mut Octets, err: &mut E) -> Result<bool, Stop>
+pub fn refuse_by<O: Sink, E: Sink>(
+    alloc: Global,
+    name: &str,
+    e: &ElfError,
+    out: &mut O,
+    page: &mut Octets,
+    err: &mut E,
+) -> Result<bool, Stop>
     ensures report { Reports O.Sink E.Sink result out.old out.new page.old page.new err.old err.new (refusal (codes "readelf") name.now (error_text e.now)) }
     ensures steps { Steps result 0 0 (O.faults out.old) (O.faults out.new) (E.faults err.old) (E.faults err.new) }
     ensures out_rest { O.rest out.new ≡ O.rest out.old }

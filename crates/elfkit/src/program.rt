@@ -64,11 +64,23 @@ fn say<E: Sink>(alloc: Global, err: &mut E, text: &str, status: u8) -> u8
 fn are_built(parts: &ReadelfParts) -> bool
     ensures { result ≡ are_built parts.now }
 {
-    !(parts.sections || parts.symbols || parts.relocations || parts.dynamic || parts.notes || parts.versions)
+    !(parts.sections
+        || parts.symbols
+        || parts.relocations
+        || parts.dynamic
+        || parts.notes
+        || parts.versions)
 }
 
 /// readelf over all files, and what waits for standard output.
-fn show_files<F: Files, O: Sink, E: Sink>(alloc: Global, parts: &ReadelfParts, names: &Args, files: &mut F, out: &mut O, err: &mut E) -> Result<bool, Stop>
+fn show_files<F: Files, O: Sink, E: Sink>(
+    alloc: Global,
+    parts: &ReadelfParts,
+    names: &Args,
+    files: &mut F,
+    out: &mut O,
+    err: &mut E,
+) -> Result<bool, Stop>
     ensures ended { IsTrue (F.tells files.old) → Ended result (O.wrote out.old) (O.wrote out.new) (E.wrote err.old) (E.wrote err.new)
         (readelf_files parts.now (nat_lt 1 (length names.now)) (F.named files.old) names.now) }
     ensures steps { Steps result (F.read_faults files.old) (F.read_faults files.new) (O.faults out.old) (O.faults out.new) (E.faults err.old) (E.faults err.new) }
@@ -94,7 +106,14 @@ fn ended_status(ended: Result<bool, Stop>) -> u8
 }
 
 /// The command readelf.
-fn readelf<F: Files, O: Sink, E: Sink>(alloc: Global, parts: &ReadelfParts, names: &Args, files: &mut F, out: &mut O, err: &mut E) -> u8
+fn readelf<F: Files, O: Sink, E: Sink>(
+    alloc: Global,
+    parts: &ReadelfParts,
+    names: &Args,
+    files: &mut F,
+    out: &mut O,
+    err: &mut E,
+) -> u8
     ensures delivers { IsTrue (F.tells files.old) → Delivers (readelf_outcome parts.now names.now (F.named files.old)) result (O.wrote out.old) (O.wrote out.new) (E.wrote err.old) (E.wrote err.new) }
     ensures known { result ≤ 5 }
     ensures words { result ≢ 2 }
@@ -111,7 +130,13 @@ fn readelf<F: Files, O: Sink, E: Sink>(alloc: Global, parts: &ReadelfParts, name
 }
 
 /// A command that was read.
-fn run_command<F: Files, O: Sink, E: Sink>(alloc: Global, command: Command, files: &mut F, out: &mut O, err: &mut E) -> u8
+fn run_command<F: Files, O: Sink, E: Sink>(
+    alloc: Global,
+    command: Command,
+    files: &mut F,
+    out: &mut O,
+    err: &mut E,
+) -> u8
     ensures delivers { IsTrue (F.tells files.old) → Delivers (command_outcome command (F.named files.old)) result (O.wrote out.old) (O.wrote out.new) (E.wrote err.old) (E.wrote err.new) }
     ensures known { result ≤ 5 }
     ensures words { result ≢ 2 }
@@ -140,7 +165,13 @@ fn run_command<F: Files, O: Sink, E: Sink>(alloc: Global, command: Command, file
 ///   there, and both outputs have gained fronts of their texts.
 ///
 /// Each file that was opened is closed again.
-pub fn run<F: Files, O: Sink, E: Sink>(alloc: Global, words: &Args, files: &mut F, out: &mut O, err: &mut E) -> u8
+pub fn run<F: Files, O: Sink, E: Sink>(
+    alloc: Global,
+    words: &Args,
+    files: &mut F,
+    out: &mut O,
+    err: &mut E,
+) -> u8
     ensures delivers { IsTrue (F.tells files.old) → Delivers (program words.now (F.named files.old)) result (O.wrote out.old) (O.wrote out.new) (E.wrote err.old) (E.wrote err.new) }
     ensures usage { IfErr (reading words.now) (λ usage. Delivers (usage_outcome usage) result (O.wrote out.old) (O.wrote out.new) (E.wrote err.old) (E.wrote err.new)) }
     ensures used { result ≡ 2 → IsErr (reading words.now) }

@@ -29,7 +29,12 @@ fn put_title(page: &mut Octets, many: bool, name: &str) -> Result<(), ElfError>
     put_text(page, "\n")
 }
 
-fn put_title_row<O: Sink>(out: &mut O, page: &mut Octets, many: bool, name: &str) -> Result<(), Stop>
+fn put_title_row<O: Sink>(
+    out: &mut O,
+    page: &mut Octets,
+    many: bool,
+    name: &str,
+) -> Result<(), Stop>
     ensures writes { Writes O.Sink result out.old out.new page.old page.new (file_title many name.now) }
     ensures stops { WriteStops result (O.faults out.old) (O.faults out.new) }
 {
@@ -38,7 +43,14 @@ fn put_title_row<O: Sink>(out: &mut O, page: &mut Octets, many: bool, name: &str
 }
 
 /// Writes the parts of one image. Nothing is refused.
-fn show<O: Sink>(parts: &ReadelfParts, many: bool, name: &str, front: &Front, out: &mut O, page: &mut Octets) -> Result<bool, Stop>
+fn show<O: Sink>(
+    parts: &ReadelfParts,
+    many: bool,
+    name: &str,
+    front: &Front,
+    out: &mut O,
+    page: &mut Octets,
+) -> Result<bool, Stop>
     ensures writes { Writes O.Sink result out.old out.new page.old page.new (file_title many name.now ++ front_text parts.now front.now) }
     ensures refused { IfOk result (λ b. b ≡ false) }
     ensures stops { WriteStops result (O.faults out.old) (O.faults out.new) }
@@ -49,7 +61,16 @@ fn show<O: Sink>(parts: &ReadelfParts, many: bool, name: &str, front: &Front, ou
 }
 
 /// One file: its parts, or a message.
-fn one_file<F: Files, O: Sink, E: Sink>(alloc: Global, parts: &ReadelfParts, many: bool, name: &str, files: &mut F, out: &mut O, page: &mut Octets, err: &mut E) -> Result<bool, Stop>
+fn one_file<F: Files, O: Sink, E: Sink>(
+    alloc: Global,
+    parts: &ReadelfParts,
+    many: bool,
+    name: &str,
+    files: &mut F,
+    out: &mut O,
+    page: &mut Octets,
+    err: &mut E,
+) -> Result<bool, Stop>
     ensures reports { IsTrue (F.tells files.old) → Reports O.Sink E.Sink result out.old out.new page.old page.new err.old err.new
         (readelf_file parts.now many name.now (F.named files.old name.now)) }
     ensures steps { Steps result (F.read_faults files.old) (F.read_faults files.new) (O.faults out.old) (O.faults out.new) (E.faults err.old) (E.faults err.new) }
@@ -73,7 +94,15 @@ fn either(a: bool, b: bool) -> bool
 }
 
 /// The files in their order. Whether one of them was refused is the answer.
-pub fn all_files<F: Files, O: Sink, E: Sink>(alloc: Global, parts: &ReadelfParts, names: &[Text], files: &mut F, out: &mut O, page: &mut Octets, err: &mut E) -> Result<bool, Stop>
+pub fn all_files<F: Files, O: Sink, E: Sink>(
+    alloc: Global,
+    parts: &ReadelfParts,
+    names: &[Text],
+    files: &mut F,
+    out: &mut O,
+    page: &mut Octets,
+    err: &mut E,
+) -> Result<bool, Stop>
     ensures reports { IsTrue (F.tells files.old) → Reports O.Sink E.Sink result out.old out.new page.old page.new err.old err.new
         (readelf_files parts.now (nat_lt 1 (length names.now)) (F.named files.old) names.now) }
     ensures steps { Steps result (F.read_faults files.old) (F.read_faults files.new) (O.faults out.old) (O.faults out.new) (E.faults err.old) (E.faults err.new) }

@@ -20,32 +20,32 @@ order_text Greatest = codes "greatest"
 
 unfoldable pub ident_lines : Ehdr → List ℕ
 ident_lines h =
-  ((decimal_line (codes "class") (class_bits h.class)
-  ++ field_line (codes "order") (order_text h.order))
-  ++ decimal_line (codes "osabi") h.osabi)
-  ++ decimal_line (codes "abiversion") h.abiversion
+    ((decimal_line (codes "class") (class_bits h.class)
+    ++ field_line (codes "order") (order_text h.order))
+    ++ decimal_line (codes "osabi") h.osabi)
+    ++ decimal_line (codes "abiversion") h.abiversion
 
 unfoldable pub type_lines : Ehdr → List ℕ
 type_lines h =
-  (name_line (codes "type") (object_type_name_of h.etype) h.etype
-  ++ name_line (codes "machine") (machine_name_of h.machine) h.machine)
-  ++ decimal_line (codes "version") h.version
+    (name_line (codes "type") (object_type_name_of h.etype) h.etype
+    ++ name_line (codes "machine") (machine_name_of h.machine) h.machine)
+    ++ decimal_line (codes "version") h.version
 
 unfoldable pub place_lines : Ehdr → List ℕ
 place_lines h =
-  ((hex_line (codes "entry") h.entry
-  ++ decimal_line (codes "phoff") h.phoff)
-  ++ decimal_line (codes "shoff") h.shoff)
-  ++ hex_line (codes "flags") h.flags
+    ((hex_line (codes "entry") h.entry
+    ++ decimal_line (codes "phoff") h.phoff)
+    ++ decimal_line (codes "shoff") h.shoff)
+    ++ hex_line (codes "flags") h.flags
 
 unfoldable pub table_lines : Ehdr → List ℕ
 table_lines h =
-  ((((decimal_line (codes "ehsize") h.ehsize
-  ++ decimal_line (codes "phentsize") h.phentsize)
-  ++ decimal_line (codes "phnum") h.phnum)
-  ++ decimal_line (codes "shentsize") h.shentsize)
-  ++ decimal_line (codes "shnum") h.shnum)
-  ++ decimal_line (codes "shstrndx") h.shstrndx
+    ((((decimal_line (codes "ehsize") h.ehsize
+    ++ decimal_line (codes "phentsize") h.phentsize)
+    ++ decimal_line (codes "phnum") h.phnum)
+    ++ decimal_line (codes "shentsize") h.shentsize)
+    ++ decimal_line (codes "shnum") h.shnum)
+    ++ decimal_line (codes "shstrndx") h.shstrndx
 
 unfoldable pub header_title : List ℕ
 header_title = codes "ELF header\n"

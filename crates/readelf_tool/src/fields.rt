@@ -9,7 +9,11 @@ use elf_types::{ElfError, Octets, put_decimal, put_hex, put_text};
 
 /// Appends a name, or in hexadecimal a number that has none.
 #[tactic(auto, unfolding(crate::specs::Fields::name_or_hex))]
-pub fn put_name_or_hex(page: &mut Octets, name: Option<&'static str>, n: u64) -> Result<(), ElfError>
+pub fn put_name_or_hex(
+    page: &mut Octets,
+    name: Option<&'static str>,
+    n: u64,
+) -> Result<(), ElfError>
     ensures { OnOk result (page.new ≡ page.old ++ name_or_hex (option_copied name.entry) n) }
 {
     match name {
@@ -63,7 +67,12 @@ pub fn put_hex_field(page: &mut Octets, name: &str, n: u64) -> Result<(), ElfErr
 
 /// Appends the line `  TITLE: NAME`, the name of a number or the number in hexadecimal.
 #[tactic(auto, unfolding(crate::specs::Fields::field_line, crate::specs::Fields::name_line))]
-pub fn put_name_field(page: &mut Octets, title: &str, name: Option<&'static str>, n: u64) -> Result<(), ElfError>
+pub fn put_name_field(
+    page: &mut Octets,
+    title: &str,
+    name: Option<&'static str>,
+    n: u64,
+) -> Result<(), ElfError>
     ensures { OnOk result (page.new ≡ page.old ++ name_line title.now (option_copied name.entry) n) }
 {
     put_title(page, title)?;

@@ -11,7 +11,12 @@ use elf_outside::Sink;
 use elf_types::Octets;
 use tool_text::{ReadelfParts, Stop, turn_after};
 
-fn put_header_part<K: Sink>(out: &mut K, page: &mut Octets, shown: bool, front: &Front) -> Result<(), Stop>
+fn put_header_part<K: Sink>(
+    out: &mut K,
+    page: &mut Octets,
+    shown: bool,
+    front: &Front,
+) -> Result<(), Stop>
     ensures writes { Writes K.Sink result out.old out.new page.old page.new (header_part shown front.now) }
     ensures stops { WriteStops result (K.faults out.old) (K.faults out.new) }
 {
@@ -22,7 +27,12 @@ fn put_header_part<K: Sink>(out: &mut K, page: &mut Octets, shown: bool, front: 
     turn_after(out, page, appended)
 }
 
-fn put_segments_part<K: Sink>(out: &mut K, page: &mut Octets, shown: bool, front: &Front) -> Result<(), Stop>
+fn put_segments_part<K: Sink>(
+    out: &mut K,
+    page: &mut Octets,
+    shown: bool,
+    front: &Front,
+) -> Result<(), Stop>
     ensures writes { Writes K.Sink result out.old out.new page.old page.new (segments_part shown front.now) }
     ensures stops { WriteStops result (K.faults out.old) (K.faults out.new) }
 {
@@ -35,7 +45,12 @@ fn put_segments_part<K: Sink>(out: &mut K, page: &mut Octets, shown: bool, front
 /// Writes the parts of a front that are asked for, through the page: the header (`h`), then the
 /// program headers (`l`). It stops by `Write`, where the sink's count of faults rose, and by `Memory`.
 #[tactic(auto, unfolding(crate::specs::Front::front_text))]
-pub fn put_front<K: Sink>(out: &mut K, page: &mut Octets, parts: &ReadelfParts, front: &Front) -> Result<(), Stop>
+pub fn put_front<K: Sink>(
+    out: &mut K,
+    page: &mut Octets,
+    parts: &ReadelfParts,
+    front: &Front,
+) -> Result<(), Stop>
     ensures writes { Writes K.Sink result out.old out.new page.old page.new (front_text parts.now front.now) }
     ensures stops { WriteStops result (K.faults out.old) (K.faults out.new) }
 {

@@ -48,7 +48,12 @@ fn put_type(page: &mut Octets, h: &Ehdr) -> Result<(), ElfError>
     ensures { OnOk result (page.new ≡ page.old ++ type_lines h.now) }
 {
     put_name_field(page, "type", etype_name(h.etype), u64::from(h.etype))?;
-    put_name_field(page, "machine", machine_name(h.machine), u64::from(h.machine))?;
+    put_name_field(
+        page,
+        "machine",
+        machine_name(h.machine),
+        u64::from(h.machine),
+    )?;
     put_decimal_field(page, "version", u64::from(h.version))
 }
 

@@ -14,7 +14,11 @@ fn flag_letter(flags: u32, weight: u32, letter: u8) -> u8
     requires { 0 < weight }
     ensures { result ≡ flag_letter flags weight letter }
 {
-    if flags / weight % 2 == 1 { letter } else { b'-' }
+    if flags / weight % 2 == 1 {
+        letter
+    } else {
+        b'-'
+    }
 }
 
 #[tactic(auto, unfolding(crate::specs::Segments::other_flags))]
@@ -143,7 +147,11 @@ fn put_title_row<K: Sink>(out: &mut K, page: &mut Octets, count: u64) -> Result<
 
 /// Writes the program headers: their number, and a line for each. It stops by `Write` and `Memory`.
 #[tactic(auto, unfolding(crate::specs::Segments::segments_text))]
-pub fn put_segment_table<K: Sink>(out: &mut K, page: &mut Octets, phdrs: &[Phdr]) -> Result<(), Stop>
+pub fn put_segment_table<K: Sink>(
+    out: &mut K,
+    page: &mut Octets,
+    phdrs: &[Phdr],
+) -> Result<(), Stop>
     ensures writes { Writes K.Sink result out.old out.new page.old page.new (segments_text phdrs.now) }
     ensures stops { WriteStops result (K.faults out.old) (K.faults out.new) }
 {

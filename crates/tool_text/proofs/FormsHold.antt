@@ -44,7 +44,7 @@ unfolding all_values
 values_all value test each [] = some_all refl
 values_all value test each (w ∷ ws) =
     bind_all (value w) (λ x x_is. bind_all (all_values value ws) (λ xs xs_is.
-      some_all (and_from _ _ (at_some x_is (each w)) (at_some xs_is (values_all value test each ws)))))
+    some_all (and_from _ _ (at_some x_is (each w)) (at_some xs_is (values_all value test each ws)))))
 
 -- the last value, or another one
 last_all : {X : Type 0} (test : X → Bool) (o : Option X) (d : X) (xs : List X) → test (unwrap_or o d) ≡ true → list_all test xs ≡ true → test (unwrap_or (last_or o xs) d) ≡ true
@@ -74,7 +74,7 @@ strings_form : (split : Split) → Yields IsWellFormed (strings_command split)
 unfolding strings_command last within
 strings_form split =
     bind_all (one_or_more split.operands) (λ files _. bind_all (all_values least_of (arguments (byte "n") split.options)) (λ lengths lengths_are. bind_all (all_values radix_of (arguments (byte "t") split.options)) (λ radixes _.
-      some_all (within_parts 1 4096 _ (last_all (within 1 4096) None 4 lengths refl (at_some lengths_are (values_all least_of (within 1 4096) least_all _)))))))
+    some_all (within_parts 1 4096 _ (last_all (within 1 4096) None 4 lengths refl (at_some lengths_are (values_all least_of (within 1 4096) least_all _)))))))
 
 -- two and three words that differ
 two_differ : (v w : List ℕ) → all_differ (v ∷ w ∷ []) ≡ true → v ≢ w
@@ -89,7 +89,7 @@ three_differ u v w t =
     record {
       second_differs = differ u v first.0;
       third_differs = differ u w (or_parts _ _ first.1).0;
-      last_two_differ = two_differ v w p.1
+      last_two_differ = two_differ v w p.1;
     }
 
 strip_differ : (out file : List ℕ) (debug : Option (List ℕ)) → all_differ (out ∷ file ∷ option_to_list debug) ≡ true → (out ≢ file) × IfSome debug (λ d. AreApart out file d)
@@ -100,7 +100,7 @@ strip_form : (split : Split) → Yields IsWellFormed (strip_command split)
 unfolding strip_command
 strip_form split =
     bind_all (only_one split.operands) (λ file _. bind_all (last (arguments (byte "o") split.options)) (λ out _.
-      if_all (all_differ (out ∷ file ∷ option_to_list (last (arguments (byte "f") split.options)))) _ (λ t. strip_differ out file (last (arguments (byte "f") split.options)) t)))
+    if_all (all_differ (out ∷ file ∷ option_to_list (last (arguments (byte "f") split.options)))) _ (λ t. strip_differ out file (last (arguments (byte "f") split.options)) t)))
 
 output_form : (in_place : Bool) (to : Option (List ℕ)) (file script : List ℕ) → Yields (λ output. IsOutputApart output file script) (output_of in_place to file script)
 unfolding output_of
@@ -119,7 +119,7 @@ selftest_form : (split : Split) → Yields IsWellFormed (selftest_command split)
 unfolding selftest_command
 selftest_form split =
     bind_all (only_one split.operands) (λ word _. bind_all (last (arguments (byte "o") split.options)) (λ out _. bind_all (number_within 1 60000 word) (λ count count_is.
-      some_all (within_parts 1 60000 count (at_some count_is (number_all 1 60000 word))))))
+    some_all (within_parts 1 60000 count (at_some count_is (number_all 1 60000 word))))))
 
 rehash_form : (split : Split) → Yields IsWellFormed (rehash_command split)
 unfolding rehash_command
@@ -149,24 +149,25 @@ changes_form : (options : List Given) → Yields HasNames (changes_of options)
 unfolding changes_of
 changes_form options =
     bind_all (all_values name_of (arguments (byte "R") options)) (λ remove r. bind_all (all_values named_file_of (arguments (byte "u") options)) (λ update u. bind_all (all_values renaming_of (arguments (byte "n") options)) (λ rename n. bind_all (all_values named_bits_of (arguments (byte "f") options)) (λ flags f. bind_all (all_values named_file_of (arguments (byte "a") options)) (λ add a.
-      some_all (record {
-        remove = at_some r (values_all name_of is_name name_all _);
-        update = at_some u (values_all named_file_of (λ n. is_name n.name) named_file_all _);
-        rename_old = at_some n (values_all renaming_of (λ n. is_name n.old) renaming_old_all _);
-        rename_new = at_some n (values_all renaming_of (λ n. is_name n.new) renaming_new_all _);
-        flags = at_some f (values_all named_bits_of (λ n. is_name n.name) named_bits_all _);
-        add = at_some a (values_all named_file_of (λ n. is_name n.name) named_file_all _)
-      }))))))
+    some_all (record {
+      remove = at_some r (values_all name_of is_name name_all _);
+      update = at_some u (values_all named_file_of (λ n. is_name n.name) named_file_all _);
+      rename_old = at_some n (values_all renaming_of (λ n. is_name n.old) renaming_old_all _);
+      rename_new = at_some n (values_all renaming_of (λ n. is_name n.new) renaming_new_all _);
+      flags = at_some f (values_all named_bits_of (λ n. is_name n.name) named_bits_all _);
+      add = at_some a (values_all named_file_of (λ n. is_name n.name) named_file_all _);
+    }))))))
 
 copy_form : (split : Split) → Yields IsWellFormed (copy_command split)
 unfolding copy_command
 copy_form split =
     bind_all (only_one split.operands) (λ file _. bind_all (last (arguments (byte "o") split.options)) (λ out _. bind_all (changes_of split.options) (λ changes changes_are.
-      unless_all (bytes_eq out file || is_file_of out changes.update || is_file_of out changes.add) _ (λ t.
-        let p = or_parts _ _ t in
-        let q = or_parts _ _ p.0 in
-        (at_some changes_are (changes_form split.options),
-         record { file_differs = differ out file q.0; update_differs = q.1; add_differs = p.1 })))))
+    unless_all (bytes_eq out file || is_file_of out changes.update || is_file_of out changes.add) _ (λ t.
+    let p = or_parts _ _ t in
+    let q = or_parts _ _ p.0 in (
+      at_some changes_are (changes_form split.options),
+      record { file_differs = differ out file q.0; update_differs = q.1; add_differs = p.1 },
+    )))))
 
 unstrip_form : (split : Split) → Yields IsWellFormed (unstrip_command split)
 unfolding unstrip_command

@@ -28,7 +28,8 @@ numeral_read {E} radix most word r high short d h =
     let v = digits_value radix word in
     let P : Type 0 = IsNumeral radix word × (v < 2 ^ 64) in
     let plain : OkIff r P v = subst (λ w. OkIff r (IsNumeral radix w × (digits_value radix w < 2 ^ 64)) (digits_value radix w)) (no_plus radix word high all) h in
-    value_of r _ P v
-    ((λ t. ((leb-true 1 _ (and_parts _ _ (and_parts _ _ (and_parts _ _ t).0).0).1, all), ltb-true _ _ (and_parts _ _ t).1)),
-     (λ p. and_from _ _ (and_from _ _ (and_from _ _ d (le-leb _ _ p.0.0)) (le-leb _ _ short)) (lt-ltb _ _ p.1)))
+    value_of r _ P v (
+      (λ t. ((leb-true 1 _ (and_parts _ _ (and_parts _ _ (and_parts _ _ t).0).0).1, all), ltb-true _ _ (and_parts _ _ t).1)),
+      (λ p. and_from _ _ (and_from _ _ (and_from _ _ d (le-leb _ _ p.0.0)) (le-leb _ _ short)) (lt-ltb _ _ p.1)),
+    )
     plain

@@ -13,7 +13,6 @@ size [] = 0
 size (word ∷ words) = length word + 1 + size words
 
 module _ (usage : Usage) (s t : List (List ℕ) → Option Split) (F : FollowsRules usage s) (G : FollowsRules usage t) where
-
   Same : List (List ℕ) → Type 0
   Same words = s words ≡ t words
 
@@ -29,7 +28,6 @@ module _ (usage : Usage) (s t : List (List ℕ) → Option Split) (F : FollowsRu
 
   -- where what is shorter is split alike
   module _ (n : ℕ) (shorter : (words : List (List ℕ)) → size words ≤ n → Same words) where
-
     at_argument : (letter : ℕ) (letters : List ℕ) (words : List (List ℕ)) → takes_argument usage letter ≡ true → size (dash (letter ∷ letters) ∷ words) ≤ suc n → Same (dash (letter ∷ letters) ∷ words)
     unfolding Same size
     at_argument letter (next ∷ rest) words here small =
@@ -52,9 +50,9 @@ module _ (usage : Usage) (s t : List (List ℕ) → Option Split) (F : FollowsRu
         ⊎_elim
         (λ e. subst (λ c. Same (dash (letter ∷ c ∷ letters) ∷ words)) (sym e) (F.dash_joined letter letters words none here ∙ sym (G.dash_joined letter letters words none here)))
         (λ other.
-          F.flag_joined letter next letters words none here other
-          ∙ ap (option_map (split_after (flag letter))) (shorter (dash (next ∷ letters) ∷ words) (omega arith))
-          ∙ sym (G.flag_joined letter next letters words none here other))
+        F.flag_joined letter next letters words none here other
+        ∙ ap (option_map (split_after (flag letter))) (shorter (dash (next ∷ letters) ∷ words) (omega arith))
+        ∙ sym (G.flag_joined letter next letters words none here other))
         (cases_eq next 45)
 
     at_letter : (letter : ℕ) (letters : List ℕ) (words : List (List ℕ)) → letter ≢ byte "-" → size (dash (letter ∷ letters) ∷ words) ≤ suc n → Same (dash (letter ∷ letters) ∷ words)
@@ -63,9 +61,9 @@ module _ (usage : Usage) (s t : List (List ℕ) → Option Split) (F : FollowsRu
         ⊎_elim
         (λ here. at_argument letter letters words here small)
         (λ none. ⊎_elim
-          (λ here. at_flag letter letters words none here small)
-          (λ neither. F.other_letter letter letters words none neither other ∙ sym (G.other_letter letter letters words none neither other))
-          (cases_Bool (is_flag usage letter)))
+        (λ here. at_flag letter letters words none here small)
+        (λ neither. F.other_letter letter letters words none neither other ∙ sym (G.other_letter letter letters words none neither other))
+        (cases_Bool (is_flag usage letter)))
         (cases_Bool (takes_argument usage letter))
 
     at_word : (word : List ℕ) (words : List (List ℕ)) → size (word ∷ words) ≤ suc n → Same (word ∷ words)
@@ -75,10 +73,10 @@ module _ (usage : Usage) (s t : List (List ℕ) → Option Split) (F : FollowsRu
     at_word (c ∷ letter ∷ letters) words small =
         ⊎_elim
         (λ e. subst (λ d. Same ((d ∷ letter ∷ letters) ∷ words)) (sym e)
-          (⊎_elim
-            (λ k. subst (λ d. Same (dash (d ∷ letters) ∷ words)) (sym k) (at_dash letters words))
-            (λ other. at_letter letter letters words other small)
-            (cases_eq letter 45)))
+        (⊎_elim
+        (λ k. subst (λ d. Same (dash (d ∷ letters) ∷ words)) (sym k) (at_dash letters words))
+        (λ other. at_letter letter letters words other small)
+        (cases_eq letter 45)))
         (λ other. at_operand (c ∷ letter ∷ letters) words (and_right _ _ (ne_eqb c 45 other)))
         (cases_eq c 45)
 

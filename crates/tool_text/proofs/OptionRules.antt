@@ -56,7 +56,6 @@ is_no_end : (letter : ℕ) (letters : List ℕ) → letter ≢ byte "-" → byte
 is_no_end letter letters other = and_left _ _ (ne_eqb letter 45 other)
 
 module _ (usage : Usage) where
-
   -- what a row gives before the words after it
   and_then_words : List (List ℕ) → Option Row → Option Split
   and_then_words words row = option_and_then (λ r. option_map (split_after r.options) (split_of usage r.waiting words)) row
@@ -142,12 +141,12 @@ module _ (usage : Usage) where
     end = end_rule;
     flag_alone = flag_alone_rule;
     flag_joined = λ letter next letters words t f other.
-      flag_here letter (next ∷ letters) words t f
-      ∙ ap (option_map (split_after (flag letter))) (sym (at_row next letters words (is_no_end next letters other)));
+        flag_here letter (next ∷ letters) words t f
+        ∙ ap (option_map (split_after (flag letter))) (sym (at_row next letters words (is_no_end next letters other)));
     argument_joined = argument_joined_rule;
     argument_apart = argument_apart_rule;
     argument_missing = argument_missing_rule;
     other_letter = other_letter_rule;
     other_dash = other_dash_rule;
-    dash_joined = dash_joined_rule
+    dash_joined = dash_joined_rule;
   }

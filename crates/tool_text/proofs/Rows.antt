@@ -42,7 +42,6 @@ argument_row-rest options letter (c ∷ cs) some = refl
 
 -- at the letter i of a word, where the letters from i on give `whole` after the options so far
 module _ (usage : Usage) (word : List ℕ) (options : List Given) (i letter : ℕ) (whole : Option Row) (within : i < length word) (here : letter ≡ get_or word i 0) (so_far : option_map (row_after options) (row_of usage (drop i word)) ≡ whole) where
-
   from_here : whole ≡ option_map (row_after options) (row_of usage (letter ∷ drop (i + 1) word))
   from_here = sym so_far ∙ ap (λ row. option_map (row_after options) (row_of usage row)) (drop_more word i 0 within ∙ ap (λ c. c ∷ drop (i + 1) word) (sym here))
 

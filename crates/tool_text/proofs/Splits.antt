@@ -35,7 +35,6 @@ after_row usage options new waiting words (Some r) e =
 
 -- at a word, where it and the words after it give `whole` after the options so far
 module _ (usage : Usage) (options : List Given) (word : List ℕ) (words : List (List ℕ)) (whole : Option Split) (so_far : option_map (split_after options) (split_of usage None (word ∷ words)) ≡ whole) where
-
   -- it is an operand
   pub operand_met : is_option_word word ≡ false → whole ≡ Some (record { options = options; operands = word ∷ words })
   unfolding split_of

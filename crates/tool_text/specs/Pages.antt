@@ -10,14 +10,14 @@ use Rattle.tool_text.specs.declared.options.Stop.TheVariants.{Read, Write, Memor
 -- since `old` the text was written, but for its end, which stands in the page
 abbrev pub HasPending : Option (List ℕ) → Option (List ℕ) → List ℕ → List ℕ → Type 0
 HasPending old now page text =
-  (n : ℕ) × (n ≤ length text) × (now ≡ option_map (λ w. w ++ take n text) old) × (page ≡ drop n text)
+    (n : ℕ) × (n ≤ length text) × (now ≡ option_map (λ w. w ++ take n text) old) × (page ≡ drop n text)
 
 -- a call writes a text: where it is Ok, all of it; else a front of it, and the page is lost
 pub record Writes {K T E : Type 0} (g : Ghosts K) (result : Result T E) (old new : K) (page_old page_new : List ℕ) (text : List ℕ) : Type 0 where
   pub ok : OnOk result ((begin : Option (List ℕ)) (before : List ℕ)
-    → HasPending begin (g.wrote old) page_old before → HasPending begin (g.wrote new) page_new (before ++ text))
+      → HasPending begin (g.wrote old) page_old before → HasPending begin (g.wrote new) page_new (before ++ text))
   pub err : OnErr result ((begin : Option (List ℕ)) (before : List ℕ)
-    → HasPending begin (g.wrote old) page_old before → AppendsFront begin (g.wrote new) (before ++ text))
+      → HasPending begin (g.wrote old) page_old before → AppendsFront begin (g.wrote new) (before ++ text))
   pub rest : g.rest new ≡ g.rest old
   pub later : g.faults old ≤ g.faults new
 

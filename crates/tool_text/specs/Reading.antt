@@ -91,7 +91,7 @@ parts_of options = record {
   relocations = is_given (byte "r") options;
   dynamic = is_given (byte "d") options;
   notes = is_given (byte "n") options;
-  versions = is_given (byte "V") options
+  versions = is_given (byte "V") options;
 }
 
 unfoldable pub readelf_command : Split → Option Command
@@ -110,7 +110,7 @@ nm_command split = do
     undefined = is_given (byte "u") split.options;
     by_value = is_given (byte "v") split.options;
     portable = is_given (byte "P") split.options;
-    radix = unwrap_or (last radixes) Hex
+    radix = unwrap_or (last radixes) Hex;
   }) files)
 
 unfoldable pub size_command : Split → Option Command
@@ -133,13 +133,13 @@ strip_command split = do
   out ← last (arguments (byte "o") split.options)
   let debug = last (arguments (byte "f") split.options)
   if all_differ (out ∷ file ∷ option_to_list debug)
-    then Some (command.Strip (record {
-      debug_only = is_given (byte "g") split.options;
-      names = arguments (byte "R") split.options;
-      debug = debug;
-      out = out
-    }) file)
-    else None
+      then Some (command.Strip (record {
+        debug_only = is_given (byte "g") split.options;
+        names = arguments (byte "R") split.options;
+        debug = debug;
+        out = out;
+      }) file)
+      else None
 
 unfoldable pub elflint_command : Split → Option Command
 elflint_command split = do
@@ -226,8 +226,8 @@ copy_command split = do
   out ← last (arguments (byte "o") split.options)
   changes ← changes_of split.options
   if bytes_eq out file || is_file_of out changes.update || is_file_of out changes.add
-    then None
-    else Some (command.Copy changes out file)
+      then None
+      else Some (command.Copy changes out file)
 
 -- OUT, STRIPPED and DEBUG differ
 unfoldable pub unstrip_command : Split → Option Command

@@ -48,8 +48,8 @@ row_of usage (letter ∷ rest) =
     if takes_argument usage letter
     then Some (argument_row letter rest)
     else (if is_flag usage letter
-        then option_map (row_after (record { letter = letter; argument = None } ∷ [])) (row_of usage rest)
-        else None)
+    then option_map (row_after (record { letter = letter; argument = None } ∷ [])) (row_of usage rest)
+    else None)
 
 -- the options before, and then those and the operands of the words after them
 abbrev pub split_after : List Given → Split → Split
@@ -65,8 +65,8 @@ split_of usage None [] = Some (record { options = []; operands = [] })
 split_of usage None (word ∷ words) =
     if is_option_word word
     then (if bytes_eq word (codes "--")
-        then Some (record { options = []; operands = words })
-        else option_and_then (λ row. option_map (split_after row.options) (split_of usage row.waiting words)) (row_of usage (drop 1 word)))
+    then Some (record { options = []; operands = words })
+    else option_and_then (λ row. option_map (split_after row.options) (split_of usage row.waiting words)) (row_of usage (drop 1 word)))
     else Some (record { options = []; operands = word ∷ words })
 
 -- new is old with the options of an option word at its end

@@ -110,7 +110,11 @@ impl Args {
     pub(crate) fn into_one(self) -> Option<Text>
         ensures { result ≡ only_one self }
     {
-        if self.len() == 1 { self.into_last() } else { None }
+        if self.len() == 1 {
+            self.into_last()
+        } else {
+            None
+        }
     }
 
     /// The two texts, if there are exactly two.

@@ -1,6 +1,5 @@
 //! The commands of elfkit, with their options and operands as the words give them.
 
-
 use crate::arguments::Args;
 use crate::options::{NmOptions, ReadelfParts, StringsOptions};
 use crate::texts::Text;

@@ -18,7 +18,9 @@ pub mod usages;
 mod values;
 
 pub use arguments::Args;
-pub use commands::{CallsOutput, Command, CopyChanges, NamedBits, NamedFile, Refusal, Renaming, StripOptions};
+pub use commands::{
+    CallsOutput, Command, CopyChanges, NamedBits, NamedFile, Refusal, Renaming, StripOptions,
+};
 pub use messages::put_message;
 pub use numbers::{number, script_number};
 pub use options::{NmOptions, Radix, ReadelfParts, Stop, StringsOptions};

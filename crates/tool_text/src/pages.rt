@@ -51,7 +51,11 @@ pub fn turn<K: Sink>(out: &mut K, page: &mut Octets) -> Result<(), Stop>
 }
 
 /// Puts the page where it is full, once a text was appended to it or found no memory.
-pub fn turn_after<K: Sink>(out: &mut K, page: &mut Octets, appended: Result<(), ElfError>) -> Result<(), Stop>
+pub fn turn_after<K: Sink>(
+    out: &mut K,
+    page: &mut Octets,
+    appended: Result<(), ElfError>,
+) -> Result<(), Stop>
     ensures ok { OnOk appended (Writes K.Sink result out.old out.new page.old page.new []) }
     ensures err { OnErr appended (result ≡ Err Stop.Memory) }
     ensures same { OnErr appended (out.new ≡ out.old) }

@@ -128,7 +128,10 @@ fn nm(alloc: Global, split: Split) -> Result<Command, Fault>
 fn size(split: Split) -> Result<Command, Fault>
     ensures { Reads result (size_command split) }
 {
-    let Split { options: _, operands } = split;
+    let Split {
+        options: _,
+        operands,
+    } = split;
     if operands.is_empty() {
         return Err(Fault::Words);
     }
@@ -209,7 +212,10 @@ fn all_three_differ(first: &Text, second: &Text, third: &Text) -> bool
 fn elflint(split: Split) -> Result<Command, Fault>
     ensures { Reads result (elflint_command split) }
 {
-    let Split { options: _, operands } = split;
+    let Split {
+        options: _,
+        operands,
+    } = split;
     if operands.is_empty() {
         return Err(Fault::Words);
     }
@@ -226,7 +232,10 @@ fn calls(alloc: Global, split: Split) -> Result<Command, Fault>
     let Some((file, script)) = operands.into_two() else {
         return Err(Fault::Words);
     };
-    let output = match (last_argument(alloc, options, b'o')?, is_given(options, b'i')) {
+    let output = match (
+        last_argument(alloc, options, b'o')?,
+        is_given(options, b'i'),
+    ) {
         (None, false) => None,
         (None, true) => Some(CallsOutput::InPlace),
         (Some(out), false) if !out.is_same(&file) && !out.is_same(&script) => {
@@ -352,7 +361,10 @@ fn unstrip(alloc: Global, split: Split) -> Result<Command, Fault>
 fn lines(split: Split) -> Result<Command, Fault>
     ensures { Reads result (lines_command split) }
 {
-    let Split { options: _, operands } = split;
+    let Split {
+        options: _,
+        operands,
+    } = split;
     if operands.is_empty() {
         return Err(Fault::Words);
     }

@@ -13,5 +13,4 @@ pub fn split_follows_rules()
     ensures follows { (usage : Usage) → FollowsRules usage (split_of usage None) }
     ensures only { (usage : Usage) (split : List (List ℕ) → Option Split) → FollowsRules usage split
         → (words : List (List ℕ)) → split words ≡ split_of usage None words }
-{
-}
+{}

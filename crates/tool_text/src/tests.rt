@@ -147,10 +147,14 @@ fn put_files(out: &mut String, command: &Command) -> Result<(), Fail> {
         Command::Selftest { out: name, .. } => put(out, name.as_str()),
         Command::Rehash { out: name, file } => put_two(out, name, file),
         Command::Copy {
-            out: name, file, ..
+            out: name,
+            file,
+            ..
         } => put_two(out, name, file),
         Command::Unstrip {
-            stripped, debug, ..
+            stripped,
+            debug,
+            ..
         } => put_two(out, stripped, debug),
     }
 }
@@ -296,8 +300,7 @@ fn lines_are_the_stated_ones(rt: HostRuntime) -> Result<(), Fail> {
         let want = format!(in rt.alloc(); "usage: elfkit {name} {rest}")?;
         assert_eq!(rt; line, Some(want.as_str()));
     }
-    assert_eq!(
-        rt;
+    assert_eq!(rt;
         Usage::General.line(),
         "usage: elfkit readelf|nm|size|strings|strip|elflint|calls|selftest|rehash|copy|unstrip|lines"
     );

@@ -4,7 +4,7 @@ use Rattle.elfkit.proofs.program.readelf.Goals as goal
 
 pub returns-then-not-are_built-clause-delivers : goal.returns-then-not-are_built-clause-delivers
 returns-then-not-are_built-clause-delivers g c =
-  λ told. readelf_not_built c.args.parts.now c.args.names.now (g.F.Files.named c.args.files.now) _ _ _ _ _ (sym c.if-not-are_built.ensures)
+    λ told. readelf_not_built c.args.parts.now c.args.names.now (g.F.Files.named c.args.files.now) _ _ _ _ _ (sym c.if-not-are_built.ensures)
     (says_not_built _ _ _ _ _ (c.say.ensures.delivers _))
 
 pub returns-then-not-are_built-clause-causes : goal.returns-then-not-are_built-clause-causes
@@ -12,5 +12,5 @@ returns-then-not-are_built-clause-causes g c = c.say.ensures.causes _ _
 
 pub returns-clause-delivers : goal.returns-clause-delivers
 returns-clause-delivers g c =
-  λ told. readelf_delivers c.args.parts.now c.args.names.now (g.F.Files.named c.args.files.now) _ _ _ _ _ _ (sym c.if-not-are_built.ensures)
+    λ told. readelf_delivers c.args.parts.now c.args.names.now (g.F.Files.named c.args.files.now) _ _ _ _ _ _ (sym c.if-not-are_built.ensures)
     c.ended_status.ensures (c.show_files.ensures.ended told)

@@ -5,7 +5,7 @@ use Rattle.elfkit.proofs.program.run_command.Goals as goal
 
 pub returns-in-Readelf-clause-delivers : goal.returns-in-Readelf-clause-delivers
 returns-in-Readelf-clause-delivers g c =
-  λ told. rw (c.in-Readelf.is, is_readelf) (c.readelf.ensures.delivers told)
+    λ told. rw (c.in-Readelf.is, is_readelf) (c.readelf.ensures.delivers told)
 
 not_two : (n : ℕ) → (n ≡ 1) ⊎ (3 ≤ n) → n ≢ 2
 not_two n (inl h) e = omega arith

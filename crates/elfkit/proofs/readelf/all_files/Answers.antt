@@ -18,22 +18,22 @@ loop-name-init g c = record {
 
 pub returns-in_err-was_refused-clause-reports : goal.returns-in_err-was_refused-clause-reports
 returns-in_err-was_refused-clause-reports g c =
-  let p = err_from_is_err_and c.from_residual.result c.from_residual.ensures.1 in
-  λ told. rw (p.1, p.2) (file_stop g.O.Sink g.E.Sink _ c.args.out.now c.loop-name.out _ c.args.page.now c.loop-name.page _ c.args.err.now c.loop-name.err _ c.loop-name.refused
+    let p = err_from_is_err_and c.from_residual.result c.from_residual.ensures.1 in
+    λ told. rw (p.1, p.2) (file_stop g.O.Sink g.E.Sink _ c.args.out.now c.loop-name.out _ c.args.page.now c.loop-name.page _ c.args.err.now c.loop-name.err _ c.loop-name.refused
     c.args.parts.now _ (g.F.Files.named c.args.files.now) c.args.names.now c.loop-name.name-index c.name-item.result _ c.loop-name-test.true c.name-item.is
     (c.loop-name.invariant.run told)
     (report_same g.O.Sink g.E.Sink _ c.loop-name.out _ c.loop-name.page _ c.loop-name.err _ c.args.parts.now _ _ _ (g.F.Files.named c.args.files.now) _ c.name-item.result _
-      (c.loop-name.invariant.names told) c.as_str.ensures
-      (c.in_err-was_refused.ensures.reports (told_after _ _ _ _ (c.loop-name.invariant.names told) told))))
+    (c.loop-name.invariant.names told) c.as_str.ensures
+    (c.in_err-was_refused.ensures.reports (told_after _ _ _ _ (c.loop-name.invariant.names told) told))))
 
 pub loop-name-preserved : goal.loop-name-preserved
 loop-name-preserved g c = record {
   names = λ told. names_after _ _ _ _ _ _ (c.loop-name.invariant.names told)
-    (c.in_ok-was_refused.ensures.names (told_after _ _ _ _ (c.loop-name.invariant.names told) told));
+      (c.in_ok-was_refused.ensures.names (told_after _ _ _ _ (c.loop-name.invariant.names told) told));
   run = λ told. rw c.either-refused.ensures (file_more g.O.Sink g.E.Sink c.args.out.now c.loop-name.out _ c.args.page.now c.loop-name.page _ c.args.err.now c.loop-name.err _ c.loop-name.refused _
-    c.args.parts.now _ (g.F.Files.named c.args.files.now) c.args.names.now c.loop-name.name-index c.name-item.result _ c.loop-name-test.true c.name-item.is
-    (c.loop-name.invariant.run told)
-    (report_same g.O.Sink g.E.Sink _ c.loop-name.out _ c.loop-name.page _ c.loop-name.err _ c.args.parts.now _ _ _ (g.F.Files.named c.args.files.now) _ c.name-item.result _
+      c.args.parts.now _ (g.F.Files.named c.args.files.now) c.args.names.now c.loop-name.name-index c.name-item.result _ c.loop-name-test.true c.name-item.is
+      (c.loop-name.invariant.run told)
+      (report_same g.O.Sink g.E.Sink _ c.loop-name.out _ c.loop-name.page _ c.loop-name.err _ c.args.parts.now _ _ _ (g.F.Files.named c.args.files.now) _ c.name-item.result _
       (c.loop-name.invariant.names told) c.as_str.ensures
       (c.in_ok-was_refused.ensures.reports (told_after _ _ _ _ (c.loop-name.invariant.names told) told))));
   live = λ small. c.in_ok-was_refused.ensures.live (rw (c.loop-name.invariant.live small) small) ∙ c.loop-name.invariant.live small;
@@ -46,5 +46,5 @@ loop-name-preserved g c = record {
 
 pub returns-clause-reports : goal.returns-clause-reports
 returns-clause-reports g c =
-  λ told. files_done g.O.Sink g.E.Sink c.args.out.now c.loop-name.out c.args.page.now c.loop-name.page c.args.err.now c.loop-name.err c.loop-name.refused
+    λ told. files_done g.O.Sink g.E.Sink c.args.out.now c.loop-name.out c.args.page.now c.loop-name.page c.args.err.now c.loop-name.err c.loop-name.refused
     c.args.parts.now _ (g.F.Files.named c.args.files.now) c.args.names.now c.loop-name.name-index _ c.loop-name-test.false (c.loop-name.invariant.run told)

@@ -47,15 +47,15 @@ loop-word-preserved c =
 pub returns : goal.returns
 returns c =
     elim c.match-split_first.branch [
-      in-Some+then-not-is_option_word w ↦
-        operand_met c.args.usage c.loop-word.options w.in-Some.word.now w.in-Some.after.now _ (rw w.in-Some.ensures.cases.0 at c.loop-word.invariant) (search rules)
-        ∙ ap (λ words. Some (record { options = c.loop-word.options; operands = words })) (search rules)
-    | in-Some+else-not-is_option_word+then-eq w ↦
-        end_met c.args.usage c.loop-word.options w.in-Some.word.now w.in-Some.after.now _ (rw w.in-Some.ensures.cases.0 at c.loop-word.invariant) (search rules) (search rules)
-        ∙ ap (λ words. Some (record { options = c.loop-word.options; operands = words })) (search rules)
-    | in_default w ↦
-        let empty : c.loop-word.rest.now ≡ [] = nil_from_length _ w.in_default.ensures.cases in
-        let copied : c.loop-word.rest.now ≡ c.in_ok-operands.operands = search rules in
-        words_ended c.args.usage c.loop-word.options _ (rw empty at c.loop-word.invariant)
-        ∙ ap (λ words. Some (record { options = c.loop-word.options; operands = words })) (sym empty ∙ copied)
+      | in-Some+then-not-is_option_word w ↦
+          operand_met c.args.usage c.loop-word.options w.in-Some.word.now w.in-Some.after.now _ (rw w.in-Some.ensures.cases.0 at c.loop-word.invariant) (search rules)
+          ∙ ap (λ words. Some (record { options = c.loop-word.options; operands = words })) (search rules)
+      | in-Some+else-not-is_option_word+then-eq w ↦
+          end_met c.args.usage c.loop-word.options w.in-Some.word.now w.in-Some.after.now _ (rw w.in-Some.ensures.cases.0 at c.loop-word.invariant) (search rules) (search rules)
+          ∙ ap (λ words. Some (record { options = c.loop-word.options; operands = words })) (search rules)
+      | in_default w ↦
+          let empty : c.loop-word.rest.now ≡ [] = nil_from_length _ w.in_default.ensures.cases in
+          let copied : c.loop-word.rest.now ≡ c.in_ok-operands.operands = search rules in
+          words_ended c.args.usage c.loop-word.options _ (rw empty at c.loop-word.invariant)
+          ∙ ap (λ words. Some (record { options = c.loop-word.options; operands = words })) (sym empty ∙ copied)
     ]
