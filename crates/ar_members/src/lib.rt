@@ -1,0 +1,6 @@
+//! Archives in the format of `ar`: a walk over the members, their names and bodies, and the table of
+//! symbols. An archive is only read.
+#![tactic(auto)]
+
+mod names;
+mod numbers;
