@@ -1,2 +1,4 @@
 pub mod Digits
 pub mod NameLemmas
+pub mod Told
+pub mod HeaderLemmas

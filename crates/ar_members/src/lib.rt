@@ -2,5 +2,7 @@
 //! symbols. An archive is only read.
 #![tactic(auto)]
 
+mod headers;
 mod names;
 mod numbers;
+mod reads;
