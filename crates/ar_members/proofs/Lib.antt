@@ -2,3 +2,5 @@ pub mod Digits
 pub mod NameLemmas
 pub mod Told
 pub mod HeaderLemmas
+pub mod StepLemmas
+pub mod EntryLemmas

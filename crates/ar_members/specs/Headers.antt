@@ -30,18 +30,25 @@ body_at bytes at size = take size (drop (at + 60) bytes)
 abbrev pub next_at : ℕ → ℕ → ℕ
 next_at at size = at + 60 + size + (at + 60 + size) % 2
 
+-- how many bytes a look at the header asks for: none where it is cut
+abbrev pub header_asks : ℕ → ℕ → ℕ
+header_asks len at = if nat_le (at + 60) len then 60 else 0
+
 -- the body of the member at a place, as its place and its size
 abbrev pub member_at : List ℕ → ℕ → Option (ℕ × ℕ)
 member_at bytes at = option_map (λ numbers. (at + 60, numbers.size)) (header_at bytes at)
 
--- the call gives what is stated of the header at a place; where nothing is, that header is bad; Read
--- may come at any read, and Memory is free
+-- the call gives, seen by view, what is stated of the header at a place; where nothing is, that header is
+-- bad; Read may come at any read, and Memory is free
+abbrev pub GivesBy : {T U : Type 0} → (T → U) → ℕ → Result T ElfError → Option U → Type 0
+GivesBy view at (Ok x) stated = stated ≡ Some (view x)
+GivesBy view at (Err (BadMember place)) stated = (place ≡ at) × (stated ≡ None)
+GivesBy view at (Err Memory) stated = Unit {0}
+GivesBy view at (Err Read) stated = Unit {0}
+GivesBy view at (Err _) stated = ⊥
+
 abbrev pub Gives : {T : Type 0} → ℕ → Result T ElfError → Option T → Type 0
-Gives at (Ok x) stated = stated ≡ Some x
-Gives at (Err (BadMember place)) stated = (place ≡ at) × (stated ≡ None)
-Gives at (Err Memory) stated = Unit {0}
-Gives at (Err Read) stated = Unit {0}
-Gives at (Err _) stated = ⊥
+Gives at result stated = GivesBy (λ x. x) at result stated
 
 -- the refusals of a call that reads the header at a place and takes no memory
 abbrev pub RefusesHeader : ℕ → ElfError → Type 0

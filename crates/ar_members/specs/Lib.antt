@@ -1,3 +1,5 @@
 pub mod Numbers
 pub mod Names
 pub mod Headers
+pub mod Members
+pub mod Steps
