@@ -4,3 +4,4 @@ pub mod Told
 pub mod HeaderLemmas
 pub mod StepLemmas
 pub mod EntryLemmas
+pub mod WalkLemmas

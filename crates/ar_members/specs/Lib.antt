@@ -3,3 +3,4 @@ pub mod Names
 pub mod Headers
 pub mod Members
 pub mod Steps
+pub mod Walks

@@ -29,7 +29,9 @@ pub enum Entry {
 /// An entry, and the place of the header after it.
 #[derive(Drop)]
 pub struct Step {
+    /// What stands at the place.
     pub entry: Entry,
+    /// The place of the next header.
     pub next: u64,
 }
 
@@ -94,4 +96,28 @@ fn step_into<S: Source>(
     let next = next_place(at, numbers.size);
     let entry = named_entry(alloc, src, names, at, &header[..16], &numbers)?;
     Ok(Step { entry, next })
+}
+
+/// The step at a place, after the long names before it. It asks for one header and for the body of a
+/// table of long names.
+///
+/// `BadMember` comes exactly where the header is cut, has other end bytes, a bad number, a bad name or a
+/// body past the end.
+pub fn step_at<S: Source>(
+    alloc: Global,
+    src: &mut S,
+    names: &[u8],
+    at: u64,
+) -> Result<Step, ElfError>
+    requires { S.size src.old ≤ 2 ^ 40 }
+    ensures entry { IfSome (S.holds src.old)
+        (λ image. GivesBy (step_entry names.now) at result (entry_at image names.now at)) }
+    ensures refusal { IfErr result (RefusesMember at) }
+    ensures lies { IfOk result (StepLies at (S.size src.old)) }
+    ensures asks { Asks S.Source result src.old src.new (step_asks at (S.size src.old) result) }
+    ensures due { IfSome (S.holds src.old)
+        (λ image. S.taken src.new ≤ S.taken src.old + step_due (entry_at image names.now at)) }
+{
+    let mut header = [0u8; HEADER_LEN];
+    step_into(alloc, src, names, at, &mut header)
 }

@@ -7,3 +7,4 @@ mod headers;
 mod names;
 mod numbers;
 mod reads;
+mod walk;
