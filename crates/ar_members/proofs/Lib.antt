@@ -5,3 +5,4 @@ pub mod HeaderLemmas
 pub mod StepLemmas
 pub mod EntryLemmas
 pub mod WalkLemmas
+pub mod MagicLemmas

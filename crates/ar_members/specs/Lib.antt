@@ -4,3 +4,5 @@ pub mod Headers
 pub mod Members
 pub mod Steps
 pub mod Walks
+pub mod Magic
+pub mod Archives

@@ -2,6 +2,7 @@
 //! symbols. An archive is only read.
 #![tactic(auto)]
 
+mod archive;
 mod entries;
 mod headers;
 mod names;
