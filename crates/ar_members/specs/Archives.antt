@@ -83,3 +83,8 @@ answer_of (Err back) = Err back.1
 abbrev pub source_of : {S : Type 0} → Result (Archive S) (S × ElfError) → S
 source_of (Ok archive) = archive.source
 source_of (Err back) = back.0
+
+-- the archive that is handed back, inside what was given or beside a refusal
+abbrev pub handed_back : {T A : Type 0} → (T → A) → Result T (A × ElfError) → A
+handed_back inner (Ok x) = inner x
+handed_back inner (Err back) = back.0

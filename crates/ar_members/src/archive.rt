@@ -4,13 +4,15 @@ ghost use Rattle.std.specs.Prelude.{◌≡◌, ◌+◌, ◌^◌, ◌≤◌, true
 ghost use Rattle.elf_outside.specs.Asks.{Asks};
 ghost use Rattle.ar_members.specs.Magic.{refusal_of, Begins, RefusesArchive};
 
-use crate::headers::ArHdr;
+use crate::headers::{ArHdr, read_header};
+use crate::numbers::HEADER_LEN;
 use crate::reads::read_into;
 use crate::walk::{Found, walk};
-use elf_outside::{Failed, Source};
+use elf_outside::{Failed, Source, Window};
 use elf_types::{ElfError, Octets};
 use std::alloc::Global;
 use std::marker::Model;
+use std::mem;
 
 /// The first line of an archive, `ARMAG` of ar.h.
 const MAGIC: &[u8] = b"!<arch>\n";
@@ -66,7 +68,8 @@ fn check<S: Source>(src: &mut S, line: &mut [u8]) -> Result<(), ElfError>
 
 impl<S: Source> Ar<S> {
     ghost use Rattle.ar_members.specs.Archives.{first_walk, answer_of, source_of};
-    ghost use Rattle.ar_members.specs.Archives.{members_left, Takes, Moves, GivenLies, next_asks, next_due};
+    ghost use Rattle.ar_members.specs.Headers.{member_at, header_asks, GivesBy, RefusesHeader};
+    ghost use Rattle.ar_members.specs.Archives.{handed_back, members_left, Takes, Moves, GivenLies, next_asks, next_due};
 
     /// Begins a walk over an archive. It asks for 8 bytes at most, and takes no memory.
     ///
@@ -91,6 +94,64 @@ impl<S: Source> Ar<S> {
             names: Octets::new(alloc),
             stopped: false,
         })
+    }
+
+    /// The next member that is not one of the three special ones, or None at the end. It reads one
+    /// header of 60 bytes after another, and the tables of long names.
+    ///
+    /// `BadMember` comes exactly where the header at that place is cut, has other end bytes, a bad
+    /// number, a bad name, or a body past the end; every later call then answers the same, and reads
+    /// nothing. After `Memory` or `Read`, which may come at any step, the walk stands where it stood.
+    pub fn next(&mut self) -> Result<Option<ArHdr>, ElfError>
+        ensures members { IfSome (S.holds self.old.source)
+            (λ image. Takes result (members_left image self.old.walk) (members_left image self.new.walk)) }
+        ensures walk { Moves result self.old.walk self.new.walk }
+        ensures repeats { self.old.walk.stopped ≡ true
+            → (result ≡ Err (ElfError.BadMember self.old.walk.place)) × (self.new ≡ self.old) }
+        ensures lies { IfOk result (GivenLies (S.size self.old.source) self.old.walk self.new.walk) }
+        ensures asks { Asks S.Source result self.old.source self.new.source (next_asks (S.size self.old.source) self.old.walk result) }
+        ensures due { IfSome (S.holds self.old.source)
+            (λ image. S.taken self.new.source ≤ S.taken self.old.source + next_due image self.old.walk) }
+    {
+        if self.stopped {
+            return Err(ElfError::BadMember { at: self.place });
+        }
+        match walk(self.alloc, &mut self.src, self.names.as_slice(), self.place) {
+            Ok(found) => {
+                let Found { member, place, names } = found;
+                let before = mem::replace(&mut self.names, Octets::new(self.alloc));
+                self.names = names.unwrap_or(before);
+                self.place = place;
+                Ok(member)
+            }
+            Err(ElfError::BadMember { at }) => {
+                self.place = at;
+                self.stopped = true;
+                Err(ElfError::BadMember { at })
+            }
+            Err(e) => Err(e),
+        }
+    }
+
+    /// A source over the body of the member whose header is at a place. It does not look at the name,
+    /// asks for 60 bytes at most, and takes no memory. The walk stands where it stood.
+    ///
+    /// `BadMember` comes exactly where the header is cut, has other end bytes, a bad number, or a body
+    /// past the end; it and `Read` hand the archive back.
+    pub fn member(mut self, at: u64) -> Result<Window<Ar<S>>, (Ar<S>, ElfError)>
+        ensures body { IfSome (S.holds self.source)
+            (λ image. GivesBy (λ w. (w.at, w.len)) at (answer_of result) (member_at image at)) }
+        ensures place { IfOk result (λ w. w.at ≡ at + 60) }
+        ensures refusals { IfErr result (λ back. RefusesHeader at back.1) }
+        ensures walk { (handed_back (λ w. w.inner) result).walk ≡ self.walk }
+        ensures asks { Asks S.Source (answer_of result) self.source
+            (handed_back (λ w. w.inner) result).source (header_asks (S.size self.source) at) }
+    {
+        let mut header = [0u8; HEADER_LEN];
+        match read_header(&mut self.src, at, &mut header) {
+            Ok(numbers) => Ok(Window::new(self, at + HEADER_LEN as u64, numbers.size)),
+            Err(e) => Err((self, e)),
+        }
     }
 
     /// The source. It takes no memory.
