@@ -6,3 +6,4 @@ pub mod StepLemmas
 pub mod EntryLemmas
 pub mod WalkLemmas
 pub mod MagicLemmas
+pub mod SymbolLemmas

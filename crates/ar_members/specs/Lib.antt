@@ -4,5 +4,6 @@ pub mod Headers
 pub mod Members
 pub mod Steps
 pub mod Walks
+pub mod Symbols
 pub mod Magic
 pub mod Archives

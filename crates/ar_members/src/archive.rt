@@ -1,12 +1,13 @@
 //! An archive over a source.
 
-ghost use Rattle.std.specs.Prelude.{◌≡◌, ◌+◌, ◌^◌, ◌≤◌, true, false, length, IfSome, IfOk, IfErr, OnOk};
+ghost use Rattle.std.specs.Prelude.{◌≡◌, ◌+◌, ◌-◌, ◌^◌, ◌≤◌, true, length, IfSome, IfOk, IfErr, OnOk};
 ghost use Rattle.elf_outside.specs.Asks.{Asks};
 ghost use Rattle.ar_members.specs.Magic.{refusal_of, Begins, RefusesArchive};
 
 use crate::headers::{ArHdr, read_header};
 use crate::numbers::HEADER_LEN;
 use crate::reads::read_into;
+use crate::symbols::{ArSyms, FIRST, read_symbols};
 use crate::walk::{Found, walk};
 use elf_outside::{Failed, Source, Window};
 use elf_types::{ElfError, Octets};
@@ -19,9 +20,6 @@ const MAGIC: &[u8] = b"!<arch>\n";
 
 /// The most bytes that an archive has.
 const MAX_SIZE: u64 = 1 << 40;
-
-/// The place of the first header.
-const FIRST: u64 = 8;
 
 /// An archive, and a walk over its members.
 #[derive(Drop)]
@@ -68,7 +66,8 @@ fn check<S: Source>(src: &mut S, line: &mut [u8]) -> Result<(), ElfError>
 
 impl<S: Source> Ar<S> {
     ghost use Rattle.ar_members.specs.Archives.{first_walk, answer_of, source_of};
-    ghost use Rattle.ar_members.specs.Headers.{member_at, header_asks, GivesBy, RefusesHeader};
+    ghost use Rattle.ar_members.specs.Headers.{member_at, header_asks, Gives, GivesBy, RefusesHeader, RefusesMember};
+    ghost use Rattle.ar_members.specs.Symbols.{arsyms, symbols_due};
     ghost use Rattle.ar_members.specs.Archives.{handed_back, members_left, Takes, Moves, GivenLies, next_asks, next_due};
 
     /// Begins a walk over an archive. It asks for 8 bytes at most, and takes no memory.
@@ -131,6 +130,24 @@ impl<S: Source> Ar<S> {
             }
             Err(e) => Err(e),
         }
+    }
+
+    /// The symbols of the first member, where that is the table of symbols; else the empty list. It
+    /// reads the first header and that table. The walk stands where it stood.
+    ///
+    /// `BadMember { at: 8 }` comes exactly where there is a byte at place 8 and the header there is bad,
+    /// or where the table does not begin with a big-endian count of four bytes, so many big-endian
+    /// offsets of four bytes and so many NUL-ended names. More bytes may follow, since the usual tool
+    /// pads the table. `Memory` and `Read` may come at any step.
+    pub fn arsym(&mut self) -> Result<ArSyms, ElfError>
+        ensures symbols { IfSome (S.holds self.old.source) (λ image. Gives 8 result (arsyms image)) }
+        ensures refusals { IfErr result (RefusesMember 8) }
+        ensures walk { self.new.walk ≡ self.old.walk }
+        ensures asks { Asks S.Source result self.old.source self.new.source (S.size self.old.source - 8) }
+        ensures due { IfSome (S.holds self.old.source)
+            (λ image. S.taken self.new.source ≤ S.taken self.old.source + symbols_due image) }
+    {
+        read_symbols(self.alloc, &mut self.src)
     }
 
     /// A source over the body of the member whose header is at a place. It does not look at the name,

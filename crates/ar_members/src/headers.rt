@@ -5,6 +5,7 @@ ghost use Rattle.elf_outside.specs.Asks.{Asks};
 ghost use Rattle.ar_members.specs.Headers.{next_at, numbers_in, header_asks, header_at, Gives, RefusesHeader};
 ghost use Rattle.ar_members.specs.Members.{shown_header};
 
+use crate::names::owned;
 use crate::numbers::{HEADER_LEN, Numbers, header_numbers};
 use crate::reads::read_into;
 use elf_outside::Source;
@@ -43,13 +44,12 @@ pub fn shown_header(
     ensures ok { IfOk result (λ header. header ≡ shown_header at numbers.now name.now) }
     ensures err { IfErr result (λ e. e ≡ ElfError.Memory) }
 {
-    let mut octets = Octets::with_capacity(alloc, name.len() as u64)?;
-    octets.extend(name)?;
+    let name = owned(alloc, name)?;
     Ok(ArHdr {
         at,
         body: at + HEADER_LEN as u64,
         size: numbers.size,
-        name: octets,
+        name,
         date: numbers.date,
         uid: numbers.uid,
         gid: numbers.gid,

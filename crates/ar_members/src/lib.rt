@@ -1,5 +1,6 @@
-//! Archives in the format of `ar`: a walk over the members, their names and bodies, and the table of
-//! symbols. An archive is only read.
+//! Archives in the format of `ar` (ar.h, and the forms of System V and GNU): a walk over the members,
+//! with their long names resolved, a source over the body of each, and the table of symbols. An archive
+//! is only read.
 #![tactic(auto)]
 
 mod archive;
@@ -8,4 +9,9 @@ mod headers;
 mod names;
 mod numbers;
 mod reads;
+mod symbols;
 mod walk;
+
+pub use archive::Ar;
+pub use headers::ArHdr;
+pub use symbols::{ArSym, ArSyms};
