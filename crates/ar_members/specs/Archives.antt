@@ -1,7 +1,5 @@
 -- An archive, as a caller sees it.
-use Rattle.std.specs.Prelude.{◌≡◌, ℕ, ◌-◌, Bool, true, false, List, [], ◌∷◌, drop, slice_index, slice_index_or, Option, Some, None, Result, Ok, Err, nat_lt, if◌then◌else◌, refl}
-use Rattle.std.proofs.Common.{sym, ap, ◌∙◌}
-use Rattle.std.proofs.lemmas.Bool.{false≢true}
+use Rattle.std.specs.Prelude.{◌≡◌, ℕ, ◌-◌, Bool, true, false, List, [], ◌∷◌, Option, Some, None, Result, Ok, Err, if◌then◌else◌}
 use Rattle.elf_types.specs.declared.errors.ElfError.{ElfError}
 use Rattle.elf_types.specs.declared.errors.ElfError.TheVariants.{BadMember, Memory, Read}
 use Rattle.ar_members.specs.declared.headers.ArHdr.{ArHdr}
@@ -89,23 +87,3 @@ source_of (Err back) = back.0
 abbrev pub handed_back : {T A : Type 0} → (T → A) → Result T (A × ElfError) → A
 handed_back inner (Ok x) = inner x
 handed_back inner (Err back) = back.0
-
--- the flag tells whether the walk stopped
-flag_tells : (a b : Bool) → flag a ≡ flag b → a ≡ b
-flag_tells false false same = refl
-flag_tells true true same = refl
-flag_tells false true same = absurd (false≢true (ap (λ n. nat_lt 0 n) same))
-flag_tells true false same = absurd (false≢true (sym (ap (λ n. nat_lt 0 n) same)))
-
--- the rest of an archive tells its walk and the rest of its own source whole: where it is left, as by a
--- call that is handed a window over a member, so are these
-pub walk_from_rest : (new old : Walk) (new_rest old_rest : List (List ℕ)) → archive_rest new new_rest ≡ archive_rest old old_rest → (new ≡ old) × (new_rest ≡ old_rest)
-walk_from_rest new old new_rest old_rest same =
-    let place : new.place ≡ old.place = ap (λ (r : List (List ℕ)). slice_index (slice_index_or r 0 []) 0) same in
-    let stopped : new.stopped ≡ old.stopped = flag_tells new.stopped old.stopped (ap (λ (r : List (List ℕ)). slice_index (slice_index_or r 0 []) 1) same) in
-    let names : new.names ≡ old.names = ap (λ (r : List (List ℕ)). slice_index_or r 1 []) same in (
-      ap (λ p. record { place = p; names = new.names; stopped = new.stopped }) place
-      ∙ ap (λ n. record { place = old.place; names = n; stopped = new.stopped }) names
-      ∙ ap (λ s. record { place = old.place; names = old.names; stopped = s }) stopped,
-      ap (drop 2) same,
-    )

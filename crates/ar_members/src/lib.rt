@@ -10,6 +10,8 @@ mod names;
 mod numbers;
 mod reads;
 mod symbols;
+#[cfg(test)]
+mod tests;
 mod walk;
 
 pub use archive::Ar;
