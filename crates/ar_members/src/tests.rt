@@ -1,6 +1,6 @@
 //! What no clause says: archives as the usual tool writes them, and damaged ones.
 
-use crate::Ar;
+use crate::{Ar, ArHdr};
 use elf_outside::{MemSource, Source};
 use elf_types::{Addrs, ElfError, Octets};
 use std::alloc::Global;
@@ -60,129 +60,147 @@ fn opened(alloc: Global, bytes: Octets, bad_read: u64) -> Result<Ar<MemSource>, 
     }
 }
 
-/// The refusal at which a walk ends.
-fn refusal(archive: &mut Ar<MemSource>) -> Option<ElfError> {
+/// The place of the bad header at which a walk ends, 0 where it ends well, and 1 where it fails.
+fn end_of(archive: &mut Ar<MemSource>) -> u64 {
     for _ in 0..9 {
         match archive.next() {
             Ok(Some(_header)) => {}
-            Ok(None) => return None,
-            Err(e) => return Some(e),
+            Ok(None) => return 0,
+            Err(ElfError::BadMember { at }) => return at,
+            Err(_) => return 1,
         }
     }
-    None
+    1
+}
+
+/// The place of the next member, or 0 where the call is refused as `Read`, and 1 where there is none.
+fn next_place(archive: &mut Ar<MemSource>) -> u64 {
+    match archive.next() {
+        Ok(Some(header)) => header.at,
+        Err(ElfError::Read) => 0,
+        _ => 1,
+    }
+}
+
+/// Whether a header is that of a member of these, with the other numbers of [`put_header`].
+fn is_member(header: &ArHdr, at: u64, body: u64, size: u64, name: &[u8]) -> bool {
+    header.at == at
+        && header.body == body
+        && header.size == size
+        && header.name.as_slice() == name
+        && header.date == 1_234_567_890
+        && header.uid == 1000
+        && header.gid == 0
+        && header.mode == 0o100644
+}
+
+/// The body of a member, or None where the call is refused as `BadMember` at that place.
+fn body_of(
+    alloc: Global,
+    archive: Ar<MemSource>,
+    at: u64,
+) -> Result<(Option<Octets>, Ar<MemSource>), Fail> {
+    match archive.member(at) {
+        Ok(window) => {
+            let mut window = window;
+            let mut body = vec![in alloc; 0u8; window.len() as usize]?;
+            window.read_at(0, body.as_mut_slice())?;
+            Ok((Some(Octets::from_vec(body)), window.into_inner()))
+        }
+        Err((back, ElfError::BadMember { at: place })) if place == at => Ok((None, back)),
+        Err((_back, e)) => Err(e.into()),
+    }
 }
 
 #[test]
 fn members_are_listed_with_their_names(rt: HostRuntime) -> Result<(), Fail> {
-    let alloc = rt.alloc();
-    let mut archive = opened(alloc, library(alloc)?, 0)?;
-    assert_eq!(rt; archive.len(), 662);
-    for (at, size, name) in [
-        (166, 312, b"a_member_with_long_name.o".as_slice()),
-        (538, 0, b"empty.o".as_slice()),
-        (598, 3, b"odd.txt".as_slice()),
-    ] {
-        let header = archive.next()?.ok_or("no member")?;
-        assert_eq!(rt; header.name.as_slice(), name);
-        assert_eq!(rt; (header.at, header.body, header.size), (at, at + 60, size));
-        assert_eq!(rt; (header.date, header.mode), (1_234_567_890, 0o100644));
-        assert_eq!(rt; (header.uid, header.gid), (1000, 0));
-    }
+    let mut archive = opened(rt.alloc(), library(rt.alloc())?, 0)?;
+    let header = archive.next()?.ok_or("no member")?;
+    assert!(rt; is_member(&header, 166, 226, 312, b"a_member_with_long_name.o"));
+    let header = archive.next()?.ok_or("no member")?;
+    assert!(rt; is_member(&header, 538, 598, 0, b"empty.o"));
+    let header = archive.next()?.ok_or("no member")?;
+    assert!(rt; is_member(&header, 598, 658, 3, b"odd.txt"));
     assert!(rt; archive.next()?.is_none());
     Ok(())
 }
 
 #[test]
 fn symbols_are_listed_with_their_members(rt: HostRuntime) -> Result<(), Fail> {
-    let alloc = rt.alloc();
-    let mut archive = opened(alloc, library(alloc)?, 0)?;
+    let mut archive = opened(rt.alloc(), library(rt.alloc())?, 0)?;
     let symbols = archive.arsym()?;
-    assert_eq!(rt; symbols.len(), 1);
+    assert!(rt; symbols.len() == 1);
     for symbol in symbols.as_slice() {
-        assert_eq!(rt; symbol.at, 166);
-        assert_eq!(rt; symbol.name.as_slice(), b"a".as_slice());
+        assert!(rt; symbol.at == 166 && symbol.name.as_slice() == b"a".as_slice());
     }
     Ok(())
 }
 
 #[test]
 fn a_body_is_a_source_and_the_walk_goes_on(rt: HostRuntime) -> Result<(), Fail> {
-    let alloc = rt.alloc();
-    let mut archive = opened(alloc, library(alloc)?, 0)?;
-    let _first = archive.next()?;
-    let Err((back, e)) = archive.member(597) else {
-        return Err("no refusal".into());
-    };
-    assert_eq!(rt; e, ElfError::BadMember { at: 597 });
-    let Ok(mut window) = back.member(598) else {
-        return Err("no member".into());
-    };
-    assert_eq!(rt; window.len(), 3);
-    let mut body = [0u8; 3];
-    window.read_at(0, &mut body)?;
-    assert_eq!(rt; body, *b"abc");
-    archive = window.into_inner();
-    let second = archive.next()?.ok_or("no member")?;
-    assert_eq!(rt; second.at, 538);
-    // Three headers, the long names, the two that were asked for by place, and the body.
-    assert_eq!(rt; archive.end().asked(), 8 + 3 * 60 + 27 + 2 * 60 + 3 + 60);
+    let mut archive = opened(rt.alloc(), library(rt.alloc())?, 0)?;
+    assert!(rt; archive.len() == 662);
+    assert!(rt; next_place(&mut archive) == 166);
+    let (none, archive) = body_of(rt.alloc(), archive, 597)?;
+    assert!(rt; none.is_none());
+    let (body, mut archive) = body_of(rt.alloc(), archive, 598)?;
+    assert!(rt; body.ok_or("no member")?.as_slice() == b"abc".as_slice());
+    assert!(rt; next_place(&mut archive) == 538);
+    // The first line, four headers of the walk and its long names, and two headers and a body besides.
+    assert!(rt; archive.end().asked() == 8 + 4 * 60 + 27 + 2 * 60 + 3);
     Ok(())
 }
 
 #[test]
 fn a_bad_header_ends_the_walk(rt: HostRuntime) -> Result<(), Fail> {
-    let alloc = rt.alloc();
     // The place of a byte, what stands there instead, and the member that is bad by it.
     for (place, byte, at) in [(66, 0, 8), (56, b'x', 8), (125, b'z', 78)] {
-        let mut bytes = library(alloc)?;
+        let mut bytes = library(rt.alloc())?;
         if let Some(there) = bytes.as_mut_slice().get_mut(place) {
             *there = byte;
         }
-        let mut archive = opened(alloc, bytes, 0)?;
-        let bad = Some(ElfError::BadMember { at });
-        assert_eq!(rt; refusal(&mut archive), bad);
-        assert_eq!(rt; refusal(&mut archive), bad, "again");
-        assert_eq!(rt; archive.arsym().err().is_some(), at == 8);
+        let mut archive = opened(rt.alloc(), bytes, 0)?;
+        assert!(rt; end_of(&mut archive) == at);
+        assert!(rt; end_of(&mut archive) == at, "again");
+        assert!(rt; archive.arsym().is_err() == (at == 8));
     }
-    let mut archive = opened(alloc, library_by(alloc, b"/99")?, 0)?;
-    assert_eq!(rt; refusal(&mut archive), Some(ElfError::BadMember { at: 166 }));
+    Ok(())
+}
+
+#[test]
+fn a_bad_name_or_a_cut_ends_the_walk(rt: HostRuntime) -> Result<(), Fail> {
+    let bytes = library_by(rt.alloc(), b"/99")?;
+    assert!(rt; end_of(&mut opened(rt.alloc(), bytes, 0)?) == 166);
     // Cut in the last header, in the last body, and before the last pad byte.
-    for (len, end) in [
-        (657, Some(ElfError::BadMember { at: 598 })),
-        (660, Some(ElfError::BadMember { at: 598 })),
-        (661, None),
-    ] {
-        let mut bytes = library(alloc)?;
+    for (len, end) in [(657, 598), (660, 598), (661, 0)] {
+        let mut bytes = library(rt.alloc())?;
         bytes.truncate(len);
-        assert_eq!(rt; refusal(&mut opened(alloc, bytes, 0)?), end);
+        assert!(rt; end_of(&mut opened(rt.alloc(), bytes, 0)?) == end);
     }
     Ok(())
 }
 
 #[test]
 fn what_is_no_archive_is_refused(rt: HostRuntime) -> Result<(), Fail> {
-    let alloc = rt.alloc();
     for (text, end) in [
         (b"!<arch>".as_slice(), Some(ElfError::Short)),
         (b"!<thin>\n".as_slice(), Some(ElfError::Magic)),
         (b"!<arch>\n".as_slice(), None),
     ] {
-        let mut bytes = Octets::new(alloc);
+        let mut bytes = Octets::new(rt.alloc());
         bytes.extend(text)?;
-        assert_eq!(rt; opened(alloc, bytes, 0).err(), end);
+        assert!(rt; opened(rt.alloc(), bytes, 0).err() == end);
     }
     Ok(())
 }
 
 #[test]
 fn a_failed_read_leaves_the_walk(rt: HostRuntime) -> Result<(), Fail> {
-    let alloc = rt.alloc();
     // The reads are: the first line, two headers, the long names, and the header of the first member.
     for bad_read in 2..6 {
-        let mut archive = opened(alloc, library(alloc)?, bad_read)?;
-        assert_eq!(rt; archive.next().err(), Some(ElfError::Read));
-        let first = archive.next()?.ok_or("no member")?;
-        assert_eq!(rt; first.at, 166);
+        let mut archive = opened(rt.alloc(), library(rt.alloc())?, bad_read)?;
+        assert!(rt; next_place(&mut archive) == 0);
+        assert!(rt; next_place(&mut archive) == 166);
     }
     Ok(())
 }
