@@ -1,0 +1,78 @@
+-- The fold of a line number program (DWARF 4, 6.2.2 and 6.2.5): what each instruction does to the registers, and the rows of the table.
+use Rattle.std.specs.Prelude.{ℕ, ◌+◌, ◌-◌, ◌*◌, ◌/◌, ◌%◌, ◌^◌, ◌==◌, Bool, true, false, not, List, [], ◌∷◌, ◌++◌, Option, Some, None, option_to_list, Result, Ok, Err, if◌then◌else◌}
+use Rattle.line_table.specs.declared.faults.LineWhy.{LineWhy}
+use Rattle.line_table.specs.declared.faults.LineWhy.TheVariants.{Range}
+use Rattle.line_table.specs.declared.faults.LineFault.{LineFault}
+use Rattle.line_table.specs.declared.operations.Operation.{Operation}
+use Rattle.line_table.specs.declared.operations.Operation.TheVariants.{Special, Copy, AdvancePc, AdvanceLine, SetFile, SetColumn, NegateStmt, ConstAddPc, FixedAdvancePc, EndSequence, SetAddress, DefineFile, Nothing}
+use Rattle.line_table.specs.declared.rows.Registers.{Registers}
+use Rattle.line_table.specs.declared.rows.Row.{Row}
+use Rattle.line_table.specs.Reading.{◌>>=◌}
+use Rattle.line_table.specs.Header.{UnitHeader}
+use Rattle.line_table.specs.Program.{Instruction, blamed}
+
+-- the registers with which a program and each sequence start
+abbrev pub start : UnitHeader → Registers
+start u = record { address = 0; file = 1; line = 1; column = 0; stmt = u.default_is_stmt }
+
+-- as many instructions of the machine further; addresses are kept modulo 2 ^ 64
+abbrev pub advanced : UnitHeader → ℕ → Registers → Registers
+advanced u n r = record r { address = (r.address + u.minimum_instruction_length * n) % 2 ^ 64 }
+
+-- lines are kept modulo 2 ^ 32
+abbrev pub moved : ℕ → Registers → Registers
+moved n r = record r { line = (r.line + n) % 2 ^ 32 }
+
+abbrev pub row_of : Bool → Registers → Row
+row_of end r = record { address = r.address; file = r.file; line = r.line; column = r.column; stmt = r.stmt; end = end }
+
+-- what an instruction does: the registers after it, and its row
+pub record Effect : Type 0 where
+  pub registers : Registers
+  pub row : Option Row
+
+abbrev pub silent : Registers → Result Effect LineWhy
+silent r = Ok (record { registers = r; row = None })
+
+abbrev pub shown : Registers → Result Effect LineWhy
+shown r = Ok (record { registers = r; row = Some (row_of false r) })
+
+-- where there is no line_range, nothing can be divided by it
+abbrev pub ranged : UnitHeader → Result Effect LineWhy → Result Effect LineWhy
+ranged u effect = if u.line_range == 0 then Err Range else effect
+
+-- the table of the instructions
+unfoldable pub effect : UnitHeader → Registers → Operation → Result Effect LineWhy
+effect u r (Special a) = ranged u (shown (advanced u (a / u.line_range) (moved (u.line_base + a % u.line_range) r)))
+effect u r Copy = shown r
+effect u r (AdvancePc n) = silent (advanced u n r)
+effect u r (AdvanceLine n) = silent (moved n r)
+effect u r (SetFile n) = silent (record r { file = n })
+effect u r (SetColumn n) = silent (record r { column = n })
+effect u r NegateStmt = silent (record r { stmt = not r.stmt })
+effect u r ConstAddPc = ranged u (silent (advanced u ((255 - u.opcode_base) / u.line_range) r))
+effect u r (FixedAdvancePc n) = silent (record r { address = (r.address + n) % 2 ^ 64 })
+effect u r EndSequence = Ok (record { registers = start u; row = Some (row_of true r) })
+effect u r (SetAddress n) = silent (record r { address = n })
+effect u r (DefineFile name) = silent r
+effect u r Nothing = silent r
+
+-- the rows of instructions, from registers on, or the first place at which one has no effect
+abbrev pub rows_from : UnitHeader → Registers → List Instruction → Result (List Row) LineFault
+rows_from u r [] = Ok []
+rows_from u r (i ∷ instructions) = do
+  e ← blamed i.place (effect u r i.operation)
+  later ← rows_from u e.registers instructions
+  Ok (option_to_list e.row ++ later)
+
+unfoldable pub rows : UnitHeader → List Instruction → Result (List Row) LineFault
+rows u instructions = rows_from u (start u) instructions
+
+-- the names of the files that instructions add
+abbrev pub names_added : Operation → List (List ℕ)
+names_added (DefineFile name) = name ∷ []
+names_added _ = []
+
+abbrev pub all_names_added : List Instruction → List (List ℕ)
+all_names_added [] = []
+all_names_added (i ∷ instructions) = names_added i.operation ++ all_names_added instructions

@@ -1,0 +1,14 @@
+//! Line number programs of DWARF 2, 3 and 4 (DWARF 4, section 6.2) in the 32-bit format: the names
+//! of a unit's files, and the rows of its table.
+//!
+//! `unit_at` reads and executes one unit of a `.debug_line` section, byte by byte.
+#![tactic(auto)]
+
+mod faults;
+mod header;
+mod operations;
+mod reader;
+mod rows;
+
+pub use faults::{LineFault, LineWhy};
+pub use rows::{FileNames, Row, Rows};
