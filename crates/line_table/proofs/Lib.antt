@@ -1,2 +1,3 @@
 pub mod Digits
 pub mod Operands
+pub mod Fields

@@ -5,7 +5,7 @@ use Rattle.elf_types.specs.declared.records.Class.{Class}
 use Rattle.elf_types.specs.declared.records.Order.{Order}
 use Rattle.line_table.specs.declared.faults.LineWhy.{LineWhy}
 use Rattle.line_table.specs.declared.faults.LineWhy.TheVariants.{Cut, Form, Version, Ops, Header}
-use Rattle.line_table.specs.Reading.{◌>>=◌, number, string_at, file_at, Listed, list_at}
+use Rattle.line_table.specs.Reading.{◌>>=◌, number, byte_at, string_at, file_at, Listed, list_at}
 
 -- the fields of a unit's header, with the class and the order of the image
 pub record UnitHeader : Type 0 where
@@ -40,6 +40,10 @@ body order unit = take (unit_length order unit) (drop 4 unit)
 abbrev pub one_more : ℕ → ℕ
 one_more version = if version == 4 then 1 else 0
 
+-- maximum_operations_per_instruction, which is 1 before version 4, and what stands after it
+abbrev pub operations_at : ℕ → List ℕ → Result (ℕ × List ℕ) LineWhy
+operations_at version bytes = if version == 4 then byte_at bytes else Ok (1, bytes)
+
 -- the fields, by their places in the unit's body
 unfoldable pub header_of : Class → Order → List ℕ → UnitHeader
 header_of class order body =
@@ -69,11 +73,11 @@ abbrev pub program_of : UnitHeader → ℕ
 program_of u = 6 + u.header_length
 
 -- the first cause whose test holds refuses
-abbrev pub checked : List (Bool × LineWhy) → Result ⊤ LineWhy
-checked [] = Ok tt
-checked (cause ∷ causes) = if cause.0 then Err cause.1 else checked causes
+abbrev pub checked : {A : Type 0} → List (Bool × LineWhy) → A → Result A LineWhy
+checked [] x = Ok x
+checked (cause ∷ causes) x = if cause.0 then Err cause.1 else checked causes x
 
--- unit_length has no end, stands for another format, or counts more bytes than there are
+-- unit_length passes the section, stands for another format, or counts more bytes than the section has
 unfoldable pub length_causes : Order → List ℕ → List (Bool × LineWhy)
 length_causes order unit =
   (nat_lt (length unit) 4, Cut) ∷
@@ -88,12 +92,19 @@ field_causes u body =
   (nat_lt (length body) (tables_of u), Cut) ∷
   (not (u.maximum_operations == 1), Ops) ∷ []
 
+-- there is no opcode_base, or the program begins past the unit's end, or the files end past the program's begin
+unfoldable pub program_causes : UnitHeader → List ℕ → List ℕ → List (Bool × LineWhy)
+program_causes u body after_files =
+  (u.opcode_base == 0, Header) ∷
+  (nat_lt (length body) (program_of u), Header) ∷
+  (nat_lt (program_of u) (length body - length after_files), Header) ∷ []
+
 -- an item of a list that an empty string ends
 abbrev pub unless_empty : List ℕ → Option (List ℕ)
 unless_empty [] = None
 unless_empty (b ∷ text) = Some (b ∷ text)
 
--- the directories are strings, of which an empty one is the end
+-- the directories are strings, and an empty one is their end
 unfoldable pub directory_at : List ℕ → Result (Option (List ℕ) × List ℕ) LineWhy
 directory_at bytes = string_at bytes >>= λ text. Ok (unless_empty text.0, text.1)
 
@@ -102,33 +113,37 @@ unfoldable pub named_file_at : List ℕ → Result (Option (List ℕ) × List �
 named_file_at [] = Err Cut
 named_file_at (b ∷ bytes) = if b == 0 then Ok (None, bytes) else file_at (b ∷ bytes) >>= λ file. Ok (Some file.0, file.1)
 
--- the names of the files, which stand after the directories, and what stands after them. It is Cut where a string or a file passes the unit
-unfoldable pub file_names : UnitHeader → List ℕ → Result (List (List ℕ) × List ℕ) LineWhy
-file_names u body = do
-  files ← (list_at directory_at (drop (tables_of u) body)).after
-  after ← (list_at named_file_at files).after
-  Ok ((list_at named_file_at files).items, after)
+-- the names of the files, and what stands after them
+unfoldable pub files_at : List ℕ → Result (List (List ℕ) × List ℕ) LineWhy
+files_at bytes = (list_at named_file_at bytes).after >>= λ after. Ok ((list_at named_file_at bytes).items, after)
 
--- there is no opcode_base, the program, which begins header_length bytes after that field, begins past the unit's end, or the files end past the program's begin
-unfoldable pub program_causes : UnitHeader → List ℕ → List ℕ → List (Bool × LineWhy)
-program_causes u body after =
-  (u.opcode_base == 0, Header) ∷
-  (nat_lt (length body) (program_of u), Header) ∷
-  (nat_lt (program_of u) (length body - length after), Header) ∷ []
+-- the names of the files, which stand behind the directories, and what stands after them; it is Cut where a string or a file passes the unit
+unfoldable pub tables_at : List ℕ → Result (List (List ℕ) × List ℕ) LineWhy
+tables_at bytes = (list_at directory_at bytes).after >>= files_at
 
--- a unit before its program is executed; the places are those in its body
+unfoldable pub body_at : Order → List ℕ → Result (List ℕ) LineWhy
+body_at order unit = checked (length_causes order unit) (body order unit)
+
+-- the header, and the tables behind it
+unfoldable pub header_at : Class → Order → List ℕ → Result (UnitHeader × List ℕ) LineWhy
+header_at class order body =
+  let u = header_of class order body in
+  checked (field_causes u body) (u, drop (tables_of u) body)
+
+unfoldable pub program_at : UnitHeader → List ℕ → List ℕ → Result (List ℕ) LineWhy
+program_at u body after_files = checked (program_causes u body after_files) (drop (program_of u) body)
+
+-- a unit before its program is executed
 pub record Opened : Type 0 where
   pub header : UnitHeader
   pub files : List (List ℕ)
   pub program : List ℕ
 
--- the unit at the front of bytes, or the first cause for which it is refused
+-- the unit at the front of bytes, or the first cause for which it is refused before its program is executed
 unfoldable pub opened : Class → Order → List ℕ → Result Opened LineWhy
-opened class order unit =
-  let inside = body order unit in
-  let u = header_of class order inside in do
-  length_checked ← checked (length_causes order unit)
-  fields_checked ← checked (field_causes u inside)
-  files ← file_names u inside
-  program_checked ← checked (program_causes u inside files.1)
-  Ok (record { header = u; files = files.0; program = drop (program_of u) inside })
+opened class order unit = do
+  inside ← body_at order unit
+  header ← header_at class order inside
+  files ← tables_at header.1
+  program ← program_at header.0 inside files.1
+  Ok (record { header = header.0; files = files.0; program = program })
