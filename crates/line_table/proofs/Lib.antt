@@ -1,3 +1,5 @@
 pub mod Digits
 pub mod Operands
 pub mod Fields
+pub mod Lists
+pub mod Names

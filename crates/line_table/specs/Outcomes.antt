@@ -1,6 +1,8 @@
 -- What the code returned, against what a definition states.
 use Rattle.std.specs.Prelude.{ℕ, List, Result, Ok, Err, ◌≡◌}
 use Rattle.line_table.specs.declared.faults.LineWhy.{LineWhy}
+use Rattle.line_table.specs.declared.faults.LineFault.{LineFault}
+use Rattle.line_table.specs.declared.faults.LineFault.TheVariants as LineFaults
 use Rattle.line_table.specs.declared.faults.Stop.{Stop}
 use Rattle.line_table.specs.declared.faults.Stop.TheVariants.{Memory, Why}
 
@@ -23,3 +25,18 @@ Gives view (Err e) stated = Refuses e stated
 abbrev pub Passes : {X Y : Type 0} → Result X Stop → Y → Result Y LineWhy → Type 0
 Passes (Ok x) left stated = stated ≡ Ok left
 Passes (Err e) left stated = Refuses e stated
+
+-- the fault of a refusal at a place
+abbrev pub fault_at : Stop → ℕ → LineFault
+fault_at Memory at = LineFaults.Memory
+fault_at (Why why) at = LineFaults.Bad at why
+
+-- a fault is the stated one, unless memory ran out
+abbrev pub Faults : {Y : Type 0} → LineFault → Result Y LineFault → Type 0
+Faults LineFaults.Memory stated = Unit {0}
+Faults (LineFaults.Bad at why) stated = stated ≡ Err (LineFaults.Bad at why)
+
+-- what was made, seen by `view`, is the stated value, and a fault is the stated one
+abbrev pub Follows : {X Y : Type 0} → (X → Y) → Result X LineFault → Result Y LineFault → Type 0
+Follows view (Ok x) stated = stated ≡ Ok (view x)
+Follows view (Err e) stated = Faults e stated

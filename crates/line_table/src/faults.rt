@@ -66,6 +66,20 @@ pub enum Stop {
     Why(LineWhy),
 }
 
+impl Stop {
+    ghost use Rattle.line_table.specs.Outcomes.{fault_at};
+
+    /// The fault of a refusal at a place of the section.
+    pub fn at(self, at: u64) -> LineFault
+        ensures { result ≡ fault_at self at }
+    {
+        match self {
+            Stop::Memory => LineFault::Memory,
+            Stop::Why(why) => LineFault::Bad { at, why },
+        }
+    }
+}
+
 impl From<ElfError> for Stop {
     ghost from_gives = { λ _ e. e ≡ Memory };
 

@@ -7,8 +7,12 @@
 mod faults;
 mod header;
 mod operations;
+mod program;
 mod reader;
 mod rows;
+mod tables;
+mod units;
 
 pub use faults::{LineFault, LineWhy};
 pub use rows::{FileNames, Row, Rows};
+pub use units::Unit;

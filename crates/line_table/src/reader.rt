@@ -3,6 +3,8 @@
 ghost use Rattle.std.specs.Prelude.{◌≡◌, ◌≤◌, ◌<◌, length, OnOk, ◌==◌, position};
 ghost use Rattle.std.specs.Int.{w16, w32, w64};
 ghost use Rattle.line_table.specs.Reading.{byte_at, bytes_at, number_at, leb128_at, string_at, digit, file_at};
+ghost use Rattle.std.specs.Option.{option_copied};
+ghost use Rattle.line_table.specs.Header.{named_file_at};
 ghost use Rattle.line_table.specs.Outcomes.{Reads};
 
 use crate::faults::{LineWhy, Stop};
@@ -162,6 +164,22 @@ impl<'a> Reader<'a> {
         let _time = self.read_leb128(false)?;
         let _length = self.read_leb128(false)?;
         Ok(name)
+    }
+
+    /// The name of a file in a list of files, or None where a byte 0 ends the list.
+    #[tactic(auto, unfolding(crate::specs::Header::named_file_at))]
+    pub fn read_named_file(&mut self) -> Result<Option<&'a [u8]>, Stop>
+        ensures value { Reads option_copied result self.new (named_file_at self.old) }
+        ensures shorter { OnOk result (length self.new < length self.old) }
+    {
+        match self.rest {
+            [] => Err(Stop::Why(LineWhy::Cut)),
+            [0, rest @ ..] => {
+                self.rest = rest;
+                Ok(None)
+            }
+            _ => Ok(Some(self.read_file()?)),
+        }
     }
 }
 
