@@ -3,3 +3,4 @@ pub mod Operands
 pub mod Fields
 pub mod Lists
 pub mod Names
+pub mod Running

@@ -42,3 +42,9 @@ module _ {X E : Type 0} (next : List ℕ → Result (Option X × List ℕ) E) (b
   left_refused e l h =
       let t = one_turn l.turns l.enough l.same (Err e) h in
       sym t.2 ∙ ap (λ (items : List X). record { items = items; after = Err e }) (append-nil front)
+
+  -- an item stands where the items so far end
+  pub left_item : (x : X) (rest : List ℕ) → Left next bytes front whole → next bytes ≡ Ok (Some x, rest) → (later : Listed X E) × (whole ≡ record { items = front ++ x ∷ later.items; after = later.after })
+  left_item x rest l e =
+      let t = one_turn l.turns l.enough l.same (Ok (Some x, rest)) e in
+      (listed next t.0 rest, sym t.2)
