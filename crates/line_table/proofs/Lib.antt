@@ -4,3 +4,4 @@ pub mod Fields
 pub mod Lists
 pub mod Names
 pub mod Running
+pub mod Made

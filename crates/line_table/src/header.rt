@@ -1,7 +1,7 @@
 //! The header of a unit (DWARF 4, 6.2.4), and the tables of directories and files behind it.
 
-ghost use Rattle.std.specs.Prelude.{◌≡◌, ◌+◌, ◌-◌, ◌<◌, ◌≤◌, length, drop, Ok, OnOk};
-ghost use Rattle.line_table.specs.Header.{body_at, signed_byte, operations_at, header_at};
+ghost use Rattle.std.specs.Prelude.{◌≡◌, ◌+◌, ◌-◌, ◌<◌, ◌≤◌, length, drop, Ok, OnOk, IfOk};
+ghost use Rattle.line_table.specs.Header.{body_at, unit_length, signed_byte, operations_at, header_at};
 ghost use Rattle.line_table.specs.Outcomes.{Gives, Reads};
 
 use crate::faults::{LineWhy, Stop};
@@ -43,7 +43,8 @@ pub struct Header<'a> {
 /// where that field passes the bytes, then `Form`, and then `Cut` where the body passes them.
 #[tactic(auto, unfolding(crate::specs::Header::body_at, crate::specs::Header::length_causes, crate::specs::Header::unit_length, crate::specs::Header::body, crate::specs::Header::field, crate::specs::Reading::number_at, crate::specs::Reading::bytes_at))]
 pub fn read_body(bytes: &[u8], order: Order) -> Result<&[u8], Stop>
-    ensures { Gives (λ b. b.now) result (body_at order bytes.now) }
+    ensures value { Gives (λ b. b.now) result (body_at order bytes.now) }
+    ensures size { IfOk result (λ b. (length b.now ≡ unit_length order bytes.now) × (4 + length b.now ≤ length bytes.now)) }
 {
     let mut reader = Reader::new(bytes);
     let length = reader.read_u32(order)?;

@@ -6,6 +6,7 @@
 
 mod faults;
 mod header;
+mod opening;
 mod operations;
 mod program;
 mod reader;
@@ -15,4 +16,4 @@ mod units;
 
 pub use faults::{LineFault, LineWhy};
 pub use rows::{FileNames, Row, Rows};
-pub use units::Unit;
+pub use units::{Unit, unit_at};
