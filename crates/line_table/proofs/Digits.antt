@@ -47,6 +47,7 @@ one_digit number worth d high m =
   where
     swapped : (a b c : ℕ) → a + b + c ≡ a + c + b
     swapped a b c = omega arith
+
     gathered : (a w d h : ℕ) → a + w * 128 * h + d * w ≡ a + w * (d + 128 * h)
     gathered a w d h = omega arith
 
@@ -72,6 +73,7 @@ raised_last signed number worth b bytes rest lt e =
   where
     ended : (signed : Bool) (b : ℕ) (bytes rest : List ℕ) → b < 128 → bytes ≡ b ∷ rest → leb128 signed bytes ≡ Ok (digit signed b, rest)
     ended signed b bytes rest lt e = rw e (rw (lt-ltb b 128 lt) refl)
+
     last_digit : (number worth d m : ℕ) → (number + worth * d) % m ≡ (number + (d * worth) % m) % m
     last_digit number worth d m = ap (λ (k : ℕ). (number + k) % m) (omega arith) ∙ sym (add-mod-mod number (d * worth) m)
 

@@ -29,8 +29,8 @@ bytes_step p n q body f t e inside good bad =
     elim (cases_lt (length body) q) [
       | inl lt ↦ let short : ltb (length (drop p body)) n ≡ true = lt-ltb _ _ (omega (arith, length-drop p body)) in rw short (bad lt)
       | inr le ↦
-        let long : ltb (length (drop p body)) n ≡ false = le-ltb _ _ (omega (arith, length-drop p body)) in
-        rw (long, drop-drop n p body, ← e) (good le)
+          let long : ltb (length (drop p body)) n ≡ false = le-ltb _ _ (omega (arith, length-drop p body)) in
+          rw (long, drop-drop n p body, ← e) (good le)
     ]
 
 number_step : {B : Type 0} (order : Order) (w : Width) (p q : ℕ) (body : List ℕ) (f : ℕ × List ℕ → Result B LineWhy) (t : Result B LineWhy) → q ≡ p + byte_len w → p ≤ length body
@@ -75,19 +75,22 @@ later_read class order version header_length minimum operations bytes = do
   opcode_base ← byte_at line_range.1
   counts ← bytes_at (opcode_base.0 - 1) opcode_base.1
   if not (eqb operations 1) then Err Ops else
-    Ok (record {
-      class = class;
-      order = order;
-      version = version;
-      header_length = header_length;
-      minimum_instruction_length = minimum;
-      maximum_operations = operations;
-      default_is_stmt = not (eqb default_is_stmt.0 0);
-      line_base = signed_byte line_base.0;
-      line_range = line_range.0;
-      opcode_base = opcode_base.0;
-      operand_counts = counts.0;
-    }, counts.1)
+      Ok (
+        record {
+          class = class;
+          order = order;
+          version = version;
+          header_length = header_length;
+          minimum_instruction_length = minimum;
+          maximum_operations = operations;
+          default_is_stmt = not (eqb default_is_stmt.0 0);
+          line_base = signed_byte line_base.0;
+          line_range = line_range.0;
+          opcode_base = opcode_base.0;
+          operand_counts = counts.0;
+        },
+        counts.1,
+      )
 
 -- all of the fields
 abbrev pub fields_read : Class → Order → List ℕ → Result (UnitHeader × List ℕ) LineWhy
@@ -102,38 +105,38 @@ fields_read class order body = do
 -- a header whose later fields stand so many places further back
 abbrev header_by : Class → Order → ℕ → ℕ → ℕ → ℕ → ℕ → List ℕ → UnitHeader
 header_by class order version header_length minimum operations more body =
-  let opcode_base = get_or body (10 + more) 0 in
-  record {
-    class = class;
-    order = order;
-    version = version;
-    header_length = header_length;
-    minimum_instruction_length = minimum;
-    maximum_operations = operations;
-    default_is_stmt = not (eqb (get_or body (7 + more) 0) 0);
-    line_base = signed_byte (get_or body (8 + more) 0);
-    line_range = get_or body (9 + more) 0;
-    opcode_base = opcode_base;
-    operand_counts = take (opcode_base - 1) (drop (11 + more) body);
-  }
+    let opcode_base = get_or body (10 + more) 0 in
+    record {
+      class = class;
+      order = order;
+      version = version;
+      header_length = header_length;
+      minimum_instruction_length = minimum;
+      maximum_operations = operations;
+      default_is_stmt = not (eqb (get_or body (7 + more) 0) 0);
+      line_base = signed_byte (get_or body (8 + more) 0);
+      line_range = get_or body (9 + more) 0;
+      opcode_base = opcode_base;
+      operand_counts = take (opcode_base - 1) (drop (11 + more) body);
+    }
 
 -- the later fields, from their place on
 later_step : (class : Class) (order : Order) (version header_length minimum operations more at : ℕ) (body : List ℕ) (t : Result (UnitHeader × List ℕ) LineWhy)
     → at ≡ 7 + more → at ≤ length body
     → (length body < 11 + more + (get_or body (10 + more) 0 - 1) → Err Cut ≡ t)
     → (11 + more + (get_or body (10 + more) 0 - 1) ≤ length body
-        → cond (not (eqb operations 1)) (Err Ops) (Ok (header_by class order version header_length minimum operations more body, drop (11 + more + (get_or body (10 + more) 0 - 1)) body)) ≡ t)
+    → cond (not (eqb operations 1)) (Err Ops) (Ok (header_by class order version header_length minimum operations more body, drop (11 + more + (get_or body (10 + more) 0 - 1)) body)) ≡ t)
     → later_read class order version header_length minimum operations (drop at body) ≡ t
 later_step class order version header_length minimum operations more at body t e inside short long =
     rw e (byte_step (7 + more) (8 + more) body _ t (omega arith)
-      (λ _. byte_step (8 + more) (9 + more) body _ t (omega arith)
-        (λ _. byte_step (9 + more) (10 + more) body _ t (omega arith)
-          (λ _. byte_step (10 + more) (11 + more) body _ t (omega arith)
-            (λ le. bytes_step (11 + more) (get_or body (10 + more) 0 - 1) (11 + more + (get_or body (10 + more) 0 - 1)) body _ t refl le long short)
-            (λ lt. short (omega arith)))
-          (λ lt. short (omega arith)))
-        (λ lt. short (omega arith)))
-      (λ lt. short (omega arith)))
+    (λ _. byte_step (8 + more) (9 + more) body _ t (omega arith)
+    (λ _. byte_step (9 + more) (10 + more) body _ t (omega arith)
+    (λ _. byte_step (10 + more) (11 + more) body _ t (omega arith)
+    (λ le. bytes_step (11 + more) (get_or body (10 + more) 0 - 1) (11 + more + (get_or body (10 + more) 0 - 1)) body _ t refl le long short)
+    (λ lt. short (omega arith)))
+    (λ lt. short (omega arith)))
+    (λ lt. short (omega arith)))
+    (λ lt. short (omega arith)))
 
 -- the fields of this header that stand before maximum_operations_per_instruction
 module _ (class : Class) (order : Order) (body : List ℕ) where
@@ -165,10 +168,10 @@ module _ (class : Class) (order : Order) (body : List ℕ) where
       let place_of_tables : tables_of u ≡ tables = same_tables operations more e f in
       let known_version : other_version u.version ≡ false = ap other_version same_version ∙ known in
       later_step class order (field order w16 0 body) (field order w32 2 body) (get_or body 6 0) operations more at body (header_at class order body) place inside
-        (λ lt. causes_cut u body (u, drop (tables_of u) body) (omega arith) known_version (omega arith))
-        (λ le. ap (λ (h : UnitHeader). cond (not (eqb h.maximum_operations 1)) (Err Ops) (Ok (h, drop tables body))) (sym same)
-          ∙ ap (λ (k : ℕ). cond (not (eqb u.maximum_operations 1)) (Err Ops) (Ok (u, drop k body))) (sym place_of_tables)
-          ∙ causes_none u body (u, drop (tables_of u) body) (omega arith) known_version (omega arith))
+      (λ lt. causes_cut u body (u, drop (tables_of u) body) (omega arith) known_version (omega arith))
+      (λ le. ap (λ (h : UnitHeader). cond (not (eqb h.maximum_operations 1)) (Err Ops) (Ok (h, drop tables body))) (sym same)
+      ∙ ap (λ (k : ℕ). cond (not (eqb u.maximum_operations 1)) (Err Ops) (Ok (u, drop k body))) (sym place_of_tables)
+      ∙ causes_none u body (u, drop (tables_of u) body) (omega arith) known_version (omega arith))
 
   -- the body ends before it has any header's fields
   cut_at : 2 ≤ length body → other_version (field order w16 0 body) ≡ false → length body < 11 → Err Cut ≡ header_at class order body
@@ -201,15 +204,15 @@ module _ (class : Class) (order : Order) (body : List ℕ) where
   pub fields_read_is : fields_read class order body ≡ header_at class order body
   fields_read_is =
       number_step order w16 0 2 body _ (header_at class order body) refl (omega arith)
-        (λ le2. elim (cases_Bool (other_version (field order w16 0 body))) [
-            | inl other ↦ rw other (version_at le2 other)
-            | inr known ↦ rw known (number_step order w32 2 6 body _ (header_at class order body) refl le2
-                (λ le6. byte_step 6 7 body _ (header_at class order body) refl
-                  (λ le7. operations_step le7 known)
-                  (λ lt. cut_at le2 known (omega arith)))
-                (λ lt. cut_at le2 known (omega arith)))
-          ])
-        short_at
+      (λ le2. elim (cases_Bool (other_version (field order w16 0 body))) [
+        | inl other ↦ rw other (version_at le2 other)
+        | inr known ↦ rw known (number_step order w32 2 6 body _ (header_at class order body) refl le2
+            (λ le6. byte_step 6 7 body _ (header_at class order body) refl
+            (λ le7. operations_step le7 known)
+            (λ lt. cut_at le2 known (omega arith)))
+            (λ lt. cut_at le2 known (omega arith)))
+      ])
+      short_at
 
 pub as_read : {X : Type 0} (view : X → UnitHeader × List ℕ) (r : Result X Stop) (class : Class) (order : Order) (body : List ℕ) → Gives view r (fields_read class order body) → Gives view r (header_at class order body)
 as_read view r class order body h = subst (Gives view r) (fields_read_is class order body) h

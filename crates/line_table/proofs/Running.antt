@@ -126,7 +126,7 @@ module _ (u : UnitHeader) (end : ℕ) where
       let table = done_same {E = LineWhy} (after_one t a.0.0 d.0) b.0 d.2 in
       let lengths = ap (λ (p : Table × List ℕ). length p.1) parts in
       subst (λ (p : Table × List ℕ). Running u end files whole p.1 p.0) parts
-        (subst (λ (x : Table). Running u end files whole a.0.1 x) table (one_more files whole bytes a.0.1 t a.0.0 d.0 r lt a.1 d.1 (omega (arith, lengths, shorter))))
+      (subst (λ (x : Table). Running u end files whole a.0.1 x) table (one_more files whole bytes a.0.1 t a.0.0 d.0 r lt a.1 d.1 (omega (arith, lengths, shorter))))
 
   -- what was executed, whichever way the list of instructions goes on
   made_of : List (List ℕ) → Listed Instruction LineFault → Result (List (List ℕ) × List Row) LineFault
@@ -168,7 +168,7 @@ module _ (u : UnitHeader) (end : ℕ) where
       let whole : Listed Instruction LineFault = record { items = r.front ++ here bytes operation ∷ later.0.items; after = later.0.after } in
       made_is at files program whole later.1
       ∙ ap (λ (q : Result (List Row) LineFault). q >>= λ table. whole.after >>= λ _. Ok (files ++ all_names_added whole.items, table))
-        (r.ran (here bytes operation ∷ later.0.items) ∙ ap (λ (q : Result (List Row) LineFault). q >>= λ l. Ok (t.rows ++ l)) (no_row bytes t operation later.0.items why h))
+      (r.ran (here bytes operation ∷ later.0.items) ∙ ap (λ (q : Result (List Row) LineFault). q >>= λ l. Ok (t.rows ++ l)) (no_row bytes t operation later.0.items why h))
     where
       no_row : (bytes : List ℕ) (t : Table) (operation : Operation) (later : List Instruction) (why : LineWhy) → effect u t.registers operation ≡ Err why
           → rows_from u t.registers (here bytes operation ∷ later) ≡ Err (Bad (end - length bytes) why)
@@ -182,6 +182,7 @@ module _ (u : UnitHeader) (end : ℕ) where
     where
       goes : Result (Operation × List ℕ) LineWhy → Result (Table × List ℕ) LineWhy
       goes o = o >>= λ x. stepped u t x.0 >>= λ table. Ok (table, x.1)
+
       stopped : (o : Result (Operation × List ℕ) LineWhy) → operation_at u bytes ≡ o → executed u at files program ≡ Err (Bad (end - length bytes) why)
       stopped (Err w) e = stopped_reading why at files program bytes t r lt (e ∙ ap (λ (v : LineWhy). refused v) (refused_same {A = Table × List ℕ} w why (sym (ap goes e) ∙ h)))
       stopped (Ok x) e =

@@ -47,22 +47,22 @@ operations_at version bytes = if version == 4 then byte_at bytes else Ok (1, byt
 -- the fields, by their places in the unit's body
 unfoldable pub header_of : Class → Order → List ℕ → UnitHeader
 header_of class order body =
-  let version = field order w16 0 body in
-  let more = one_more version in
-  let opcode_base = slice_index body (10 + more) in
-  record {
-    class = class;
-    order = order;
-    version = version;
-    header_length = field order w32 2 body;
-    minimum_instruction_length = slice_index body 6;
-    maximum_operations = if version == 4 then slice_index body 7 else 1;
-    default_is_stmt = not (slice_index body (7 + more) == 0);
-    line_base = signed_byte (slice_index body (8 + more));
-    line_range = slice_index body (9 + more);
-    opcode_base = opcode_base;
-    operand_counts = take (opcode_base - 1) (drop (11 + more) body);
-  }
+    let version = field order w16 0 body in
+    let more = one_more version in
+    let opcode_base = slice_index body (10 + more) in
+    record {
+      class = class;
+      order = order;
+      version = version;
+      header_length = field order w32 2 body;
+      minimum_instruction_length = slice_index body 6;
+      maximum_operations = if version == 4 then slice_index body 7 else 1;
+      default_is_stmt = not (slice_index body (7 + more) == 0);
+      line_base = signed_byte (slice_index body (8 + more));
+      line_range = slice_index body (9 + more);
+      opcode_base = opcode_base;
+      operand_counts = take (opcode_base - 1) (drop (11 + more) body);
+    }
 
 -- the directories stand after the operand counts, of which there is one for each opcode from 1 up to opcode_base
 abbrev pub tables_of : UnitHeader → ℕ
@@ -80,24 +80,24 @@ checked (cause ∷ causes) x = if cause.0 then Err cause.1 else checked causes x
 -- unit_length passes the section, stands for another format, or counts more bytes than the section has
 unfoldable pub length_causes : Order → List ℕ → List (Bool × LineWhy)
 length_causes order unit =
-  (nat_lt (length unit) 4, Cut) ∷
-  (nat_le 0xfffffff0 (unit_length order unit), Form) ∷
-  (nat_lt (length unit) (4 + unit_length order unit), Cut) ∷ []
+    (nat_lt (length unit) 4, Cut) ∷
+    (nat_le 0xfffffff0 (unit_length order unit), Form) ∷
+    (nat_lt (length unit) (4 + unit_length order unit), Cut) ∷ []
 
 -- the body ends before its version, or before the end of its fields, of which the operand counts are the last
 unfoldable pub field_causes : UnitHeader → List ℕ → List (Bool × LineWhy)
 field_causes u body =
-  (nat_lt (length body) 2, Cut) ∷
-  (nat_lt u.version 2 || nat_lt 4 u.version, Version) ∷
-  (nat_lt (length body) (tables_of u), Cut) ∷
-  (not (u.maximum_operations == 1), Ops) ∷ []
+    (nat_lt (length body) 2, Cut) ∷
+    (nat_lt u.version 2 || nat_lt 4 u.version, Version) ∷
+    (nat_lt (length body) (tables_of u), Cut) ∷
+    (not (u.maximum_operations == 1), Ops) ∷ []
 
 -- there is no opcode_base, or the program begins past the unit's end, or the files end past the program's begin
 unfoldable pub program_causes : UnitHeader → List ℕ → List ℕ → List (Bool × LineWhy)
 program_causes u body after_files =
-  (u.opcode_base == 0, Header) ∷
-  (nat_lt (length body) (program_of u), Header) ∷
-  (nat_lt (program_of u) (length body - length after_files), Header) ∷ []
+    (u.opcode_base == 0, Header) ∷
+    (nat_lt (length body) (program_of u), Header) ∷
+    (nat_lt (program_of u) (length body - length after_files), Header) ∷ []
 
 -- an item of a list that an empty string ends
 abbrev pub unless_empty : List ℕ → Option (List ℕ)
@@ -127,8 +127,8 @@ body_at order unit = checked (length_causes order unit) (body order unit)
 -- the header, and the tables behind it
 unfoldable pub header_at : Class → Order → List ℕ → Result (UnitHeader × List ℕ) LineWhy
 header_at class order body =
-  let u = header_of class order body in
-  checked (field_causes u body) (u, drop (tables_of u) body)
+    let u = header_of class order body in
+    checked (field_causes u body) (u, drop (tables_of u) body)
 
 unfoldable pub program_at : UnitHeader → List ℕ → List ℕ → Result (List ℕ) LineWhy
 program_at u body after_files = checked (program_causes u body after_files) (drop (program_of u) body)

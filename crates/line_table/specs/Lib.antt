@@ -6,3 +6,4 @@ pub mod Rows
 pub mod Table
 pub mod Views
 pub mod Units
+pub mod Texts

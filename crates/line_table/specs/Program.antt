@@ -23,18 +23,18 @@ pub data Operand : Type 0 where
 -- the standard opcodes (DWARF 4, 6.2.5.2); basic blocks, prologues, epilogues and instruction sets are in no row of the table
 unfoldable pub standard_opcodes : List (ℕ × Operand)
 standard_opcodes =
-  (1, none Copy) ∷
-  (2, unsigned AdvancePc) ∷
-  (3, signed AdvanceLine) ∷
-  (4, unsigned SetFile) ∷
-  (5, unsigned SetColumn) ∷
-  (6, none NegateStmt) ∷
-  (7, none Nothing) ∷
-  (8, none ConstAddPc) ∷
-  (9, half FixedAdvancePc) ∷
-  (10, none Nothing) ∷
-  (11, none Nothing) ∷
-  (12, unsigned (λ _. Nothing)) ∷ []
+    (1, none Copy) ∷
+    (2, unsigned AdvancePc) ∷
+    (3, signed AdvanceLine) ∷
+    (4, unsigned SetFile) ∷
+    (5, unsigned SetColumn) ∷
+    (6, none NegateStmt) ∷
+    (7, none Nothing) ∷
+    (8, none ConstAddPc) ∷
+    (9, half FixedAdvancePc) ∷
+    (10, none Nothing) ∷
+    (11, none Nothing) ∷
+    (12, unsigned (λ _. Nothing)) ∷ []
 
 abbrev pub operand_of : List (ℕ × Operand) → ℕ → Option Operand
 operand_of [] opcode = None
@@ -71,7 +71,7 @@ unfoldable pub extended_in : UnitHeader → List ℕ → Result Operation LineWh
 extended_in u bytes = do
   opcode ← byte_at bytes
   if opcode.0 == 1 then Ok EndSequence else
-    (if opcode.0 == 2 then (address_in u opcode.1 >>= λ address. Ok (SetAddress address)) else
+      (if opcode.0 == 2 then (address_in u opcode.1 >>= λ address. Ok (SetAddress address)) else
       (if opcode.0 == 3 then (file_at opcode.1 >>= λ file. Ok (DefineFile file.0)) else Ok Nothing))
 
 -- the instruction behind the 0 of an extended opcode: a count of bytes, and these bytes
@@ -87,7 +87,7 @@ unfoldable pub operation_at : UnitHeader → List ℕ → Result (Operation × L
 operation_at u bytes = do
   opcode ← byte_at bytes
   if nat_le u.opcode_base opcode.0 then Ok (Special (opcode.0 - u.opcode_base), opcode.1) else
-    (if opcode.0 == 0 then extended_at u opcode.1 else standard_at u opcode.0 opcode.1)
+      (if opcode.0 == 0 then extended_at u opcode.1 else standard_at u opcode.0 opcode.1)
 
 pub record Instruction : Type 0 where
   pub place : ℕ

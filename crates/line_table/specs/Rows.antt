@@ -23,6 +23,21 @@ advanced u n r = record r { address = (r.address + u.minimum_instruction_length 
 abbrev pub moved : ℕ → Registers → Registers
 moved n r = record r { line = (r.line + n) % 2 ^ 32 }
 
+abbrev pub skipped : ℕ → Registers → Registers
+skipped bytes r = record r { address = (r.address + bytes) % 2 ^ 64 }
+
+-- a special opcode (DWARF 4, 6.2.5.1), less opcode_base
+abbrev pub advanced_both : UnitHeader → ℕ → Registers → Registers
+advanced_both u a r = advanced u (a / u.line_range) (moved (u.line_base + a % u.line_range) r)
+
+-- the addresses alone of the special opcode 255
+abbrev pub advanced_as_255 : UnitHeader → Registers → Registers
+advanced_as_255 u r = advanced u ((255 - u.opcode_base) / u.line_range) r
+
+-- where line_range is 0, nothing can be divided by it
+abbrev pub ranged : {A : Type 0} → UnitHeader → A → Result A LineWhy
+ranged u x = if u.line_range == 0 then Err Range else Ok x
+
 abbrev pub row_of : Bool → Registers → Row
 row_of end r = record { address = r.address; file = r.file; line = r.line; column = r.column; stmt = r.stmt; end = end }
 
@@ -31,31 +46,29 @@ pub record Effect : Type 0 where
   pub registers : Registers
   pub row : Option Row
 
-abbrev pub silent : Registers → Result Effect LineWhy
-silent r = Ok (record { registers = r; row = None })
+-- no row
+abbrev pub silent : Registers → Effect
+silent r = record { registers = r; row = None }
 
-abbrev pub shown : Registers → Result Effect LineWhy
-shown r = Ok (record { registers = r; row = Some (row_of false r) })
-
--- where there is no line_range, nothing can be divided by it
-abbrev pub ranged : UnitHeader → Result Effect LineWhy → Result Effect LineWhy
-ranged u effect = if u.line_range == 0 then Err Range else effect
+-- a row of the registers
+abbrev pub shown : Registers → Effect
+shown r = record { registers = r; row = Some (row_of false r) }
 
 -- the table of the instructions
 unfoldable pub effect : UnitHeader → Registers → Operation → Result Effect LineWhy
-effect u r (Special a) = ranged u (shown (advanced u (a / u.line_range) (moved (u.line_base + a % u.line_range) r)))
-effect u r Copy = shown r
-effect u r (AdvancePc n) = silent (advanced u n r)
-effect u r (AdvanceLine n) = silent (moved n r)
-effect u r (SetFile n) = silent (record r { file = n })
-effect u r (SetColumn n) = silent (record r { column = n })
-effect u r NegateStmt = silent (record r { stmt = not r.stmt })
-effect u r ConstAddPc = ranged u (silent (advanced u ((255 - u.opcode_base) / u.line_range) r))
-effect u r (FixedAdvancePc n) = silent (record r { address = (r.address + n) % 2 ^ 64 })
+effect u r (Special a) = ranged u (shown (advanced_both u a r))
+effect u r Copy = Ok (shown r)
+effect u r (AdvancePc n) = Ok (silent (advanced u n r))
+effect u r (AdvanceLine n) = Ok (silent (moved n r))
+effect u r (SetFile n) = Ok (silent (record r { file = n }))
+effect u r (SetColumn n) = Ok (silent (record r { column = n }))
+effect u r NegateStmt = Ok (silent (record r { stmt = not r.stmt }))
+effect u r ConstAddPc = ranged u (silent (advanced_as_255 u r))
+effect u r (FixedAdvancePc n) = Ok (silent (skipped n r))
 effect u r EndSequence = Ok (record { registers = start u; row = Some (row_of true r) })
-effect u r (SetAddress n) = silent (record r { address = n })
-effect u r (DefineFile name) = silent r
-effect u r Nothing = silent r
+effect u r (SetAddress n) = Ok (silent (record r { address = n }))
+effect u r (DefineFile name) = Ok (silent r)
+effect u r Nothing = Ok (silent r)
 
 -- the rows of instructions, from registers on, or the first place at which one has no effect
 abbrev pub rows_from : UnitHeader → Registers → List Instruction → Result (List Row) LineFault

@@ -15,10 +15,10 @@ shown_in end t = record t { rows = t.rows ++ row_of end t.registers ∷ [] }
 -- with what an instruction does and adds
 abbrev pub stepped : UnitHeader → Table → Operation → Result Table LineWhy
 stepped u t operation = effect u t.registers operation >>= λ e. Ok (record {
-    registers = e.registers;
-    files = t.files ++ names_added operation;
-    rows = t.rows ++ option_to_list e.row;
-  })
+  registers = e.registers;
+  files = t.files ++ names_added operation;
+  rows = t.rows ++ option_to_list e.row;
+})
 
 -- one turn of a program: the next instruction, and what it makes of the table
 unfoldable pub turn : UnitHeader → Table → List ℕ → Result (Table × List ℕ) LineWhy

@@ -13,18 +13,18 @@ use Rattle.line_table.specs.Rows.{rows, all_names_added}
 -- the files and the rows of a unit whose program begins at a place: the rows stop at the first place where the fold or the grammar does, and the grammar has no instruction from where it stops on
 unfoldable pub executed : UnitHeader → ℕ → List (List ℕ) → List ℕ → Result (List (List ℕ) × List Row) LineFault
 executed u at files program =
-  let instructions = ops u at program in do
-  table ← rows u instructions.items
-  end ← instructions.after
-  Ok (files ++ all_names_added instructions.items, table)
+    let instructions = ops u at program in do
+      table ← rows u instructions.items
+      end ← instructions.after
+      Ok (files ++ all_names_added instructions.items, table)
 
 -- the unit at a place of a section. Its places count from the four bytes of unit_length, which its body follows
 unfoldable pub unit_of : Class → Order → List ℕ → ℕ → Result LineUnit LineFault
 unit_of class order section at =
-  let unit = drop at section in do
-  o ← blamed at (opened class order unit)
-  made ← executed o.header (at + 4 + program_of o.header) o.files o.program
-  Ok (record { at = at; next = at + 4 + unit_length order unit; version = o.header.version; files = made.0; rows = made.1 })
+    let unit = drop at section in do
+      o ← blamed at (opened class order unit)
+      made ← executed o.header (at + 4 + program_of o.header) o.files o.program
+      Ok (record { at = at; next = at + 4 + unit_length order unit; version = o.header.version; files = made.0; rows = made.1 })
 
 -- there is no unit at the section's end alone
 unfoldable pub unit_at : Class → Order → List ℕ → ℕ → Result (Option LineUnit) LineFault

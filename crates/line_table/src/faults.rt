@@ -28,8 +28,13 @@ pub enum LineWhy {
 }
 
 impl LineWhy {
-    /// The text under which the cause is shown.
-    pub fn text(&self) -> &'static str {
+    ghost use Rattle.line_table.specs.Texts.{cause_text};
+
+    /// The text under which the cause is shown. It takes no memory.
+    #[tactic(auto, unfolding(crate::specs::Texts::cause_text))]
+    pub fn text(&self) -> &'static str
+        ensures { result.now ≡ cause_text self.now }
+    {
         match self {
             LineWhy::Cut => "cut",
             LineWhy::Form => "form",
@@ -57,7 +62,7 @@ pub enum LineFault {
     },
 }
 
-/// Why a part of a unit is refused, without the place, which is its caller's.
+/// Why a part of a unit is refused, without the place, which its caller knows.
 #[derive(Clone, Copy, Debug)]
 pub enum Stop {
     /// There is no memory.

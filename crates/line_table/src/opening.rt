@@ -40,8 +40,7 @@ pub fn open<'a>(
     ensures placed { IfOk result (λ o. IsPlaced o (unit_length order bytes.now) (length bytes.now)) }
 {
     let body = read_body(bytes, order)?;
-    let (header, reader) = Header::read(body, class, order)?;
-    let mut reader = reader;
+    let (header, mut reader) = Header::read(body, class, order)?;
     let files = read_tables(alloc, &mut reader)?;
     let program = find_program(&header, body, &reader)?;
     Ok(Opened {

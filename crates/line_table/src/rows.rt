@@ -49,7 +49,7 @@ pub struct Registers {
 }
 
 impl Registers {
-    ghost use Rattle.line_table.specs.Rows.{start, row_of, advanced, moved};
+    ghost use Rattle.line_table.specs.Rows.{start, row_of, advanced, moved, skipped, ranged, advanced_both, advanced_as_255};
 
     /// The registers with which a program and each sequence start.
     pub fn start(header: &Header) -> Registers
@@ -93,6 +93,41 @@ impl Registers {
     {
         self.line = self.line.wrapping_add((count % 0x1_0000_0000) as u32);
     }
+
+    /// Goes on by a number of bytes.
+    fn skip(&mut self, bytes: u16)
+        ensures { self.new ≡ skipped bytes self.old }
+    {
+        self.address = self.address.wrapping_add(u64::from(bytes));
+    }
+
+    /// Goes on in addresses and in lines, by a special opcode less `opcode_base`. It refuses `Range`
+    /// where `line_range` is 0, and then changes nothing.
+    fn advance_both(&mut self, header: &Header, adjusted: u8) -> Result<(), Stop>
+        ensures { Passes result self.new (ranged (seen header.now) (advanced_both (seen header.now) adjusted self.old)) }
+    {
+        if header.line_range == 0 {
+            return Err(Stop::Why(LineWhy::Range));
+        }
+        self.advance(header, u64::from(adjusted / header.line_range));
+        self.move_line(u64::from(header.line_base) + u64::from(adjusted % header.line_range));
+        Ok(())
+    }
+
+    /// Goes on in addresses as the special opcode 255 does. It refuses `Range` where `line_range` is
+    /// 0, and then changes nothing.
+    fn advance_as_255(&mut self, header: &Header) -> Result<(), Stop>
+        ensures { Passes result self.new (ranged (seen header.now) (advanced_as_255 (seen header.now) self.old)) }
+    {
+        if header.line_range == 0 {
+            return Err(Stop::Why(LineWhy::Range));
+        }
+        self.advance(
+            header,
+            u64::from((255 - header.opcode_base) / header.line_range),
+        );
+        Ok(())
+    }
 }
 
 /// What a program has made so far.
@@ -116,63 +151,26 @@ impl Table {
     {
         match operation {
             Operation::Special(adjusted) => {
-                if header.line_range == 0 {
-                    return Err(Stop::Why(LineWhy::Range));
-                }
-                let line = u64::from(header.line_base) + u64::from(adjusted % header.line_range);
-                self.registers.move_line(line);
-                let count = u64::from(adjusted / header.line_range);
-                self.registers.advance(header, count);
-                self.append_row(false)
+                self.registers.advance_both(header, adjusted)?;
+                self.append_row(false)?;
             }
-            Operation::Copy => self.append_row(false),
-            Operation::AdvancePc(count) => {
-                self.registers.advance(header, count);
-                Ok(())
-            }
-            Operation::AdvanceLine(count) => {
-                self.registers.move_line(count);
-                Ok(())
-            }
-            Operation::SetFile(file) => {
-                self.registers.file = file;
-                Ok(())
-            }
-            Operation::SetColumn(column) => {
-                self.registers.column = column;
-                Ok(())
-            }
-            Operation::NegateStmt => {
-                self.registers.stmt = !self.registers.stmt;
-                Ok(())
-            }
-            Operation::ConstAddPc => {
-                if header.line_range == 0 {
-                    return Err(Stop::Why(LineWhy::Range));
-                }
-                let count = u64::from((255 - header.opcode_base) / header.line_range);
-                self.registers.advance(header, count);
-                Ok(())
-            }
-            Operation::FixedAdvancePc(bytes) => {
-                self.registers.address = self.registers.address.wrapping_add(u64::from(bytes));
-                Ok(())
-            }
+            Operation::Copy => self.append_row(false)?,
+            Operation::AdvancePc(count) => self.registers.advance(header, count),
+            Operation::AdvanceLine(count) => self.registers.move_line(count),
+            Operation::SetFile(file) => self.registers.file = file,
+            Operation::SetColumn(column) => self.registers.column = column,
+            Operation::NegateStmt => self.registers.stmt = !self.registers.stmt,
+            Operation::ConstAddPc => self.registers.advance_as_255(header)?,
+            Operation::FixedAdvancePc(bytes) => self.registers.skip(bytes),
             Operation::EndSequence => {
                 self.append_row(true)?;
                 self.registers = Registers::start(header);
-                Ok(())
             }
-            Operation::SetAddress(address) => {
-                self.registers.address = address;
-                Ok(())
-            }
-            Operation::DefineFile(name) => {
-                self.files.push(name)?;
-                Ok(())
-            }
-            Operation::Nothing => Ok(()),
+            Operation::SetAddress(address) => self.registers.address = address,
+            Operation::DefineFile(name) => self.files.push(name)?,
+            Operation::Nothing => {}
         }
+        Ok(())
     }
 
     /// Appends the row that the registers make. It refuses `Memory` alone.

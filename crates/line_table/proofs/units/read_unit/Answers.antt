@@ -13,9 +13,9 @@ pub returns-in_err-table-clause-value : goal.returns-in_err-table-clause-value
 returns-in_err-table-clause-value c =
     let p = err_from_is_err_and c.from_residual.result c.from_residual.ensures.1 in
     rw (p.1, p.2) (unit_faulted c.args.class c.args.order c.args.bytes.now c.args.at c.in_err-table.field-0.0 (seen_opened c.in-Ok.opened) (c.args.at + c.in-Ok.opened.size - length c.in-Ok.opened.program.now)
-      (rw (← c.split_at.ensures.back) c.in-Ok.ensures.value) (omega (arith, c.in-Ok.ensures.placed.program)) c.in_err-table.ensures)
+    (rw (← c.split_at.ensures.back) c.in-Ok.ensures.value) (omega (arith, c.in-Ok.ensures.placed.program)) c.in_err-table.ensures)
 
 pub returns-clause-value : goal.returns-clause-value
 returns-clause-value c =
     unit_made c.args.class c.args.order c.args.bytes.now c.args.at (seen_opened c.in-Ok.opened) (c.args.at + c.in-Ok.opened.size - length c.in-Ok.opened.program.now) (c.args.at + c.in-Ok.opened.size) c.in_ok-table.table.files c.in_ok-table.table.rows
-      (rw (← c.split_at.ensures.back) c.in-Ok.ensures.value) (omega (arith, c.in-Ok.ensures.placed.program)) c.in_ok-table.ensures (rw (← c.split_at.ensures.back) (omega (arith, c.in-Ok.ensures.placed.size)))
+    (rw (← c.split_at.ensures.back) c.in-Ok.ensures.value) (omega (arith, c.in-Ok.ensures.placed.program)) c.in_ok-table.ensures (rw (← c.split_at.ensures.back) (omega (arith, c.in-Ok.ensures.placed.size)))
