@@ -1,5 +1,5 @@
 -- Executing instructions, one after the other, makes the rows of the list of all of them.
-use Rattle.std.proofs.Common.{◌≡◌, ℕ, zero, suc, ◌+◌, ◌-◌, ◌<◌, List, [], ◌∷◌, ◌++◌, length, Option, Some, None, Result, Ok, Err, refl, sym, ap, subst, ◌∙◌, append_assoc, arith}
+use Rattle.std.proofs.Common.{◌≡◌, ℕ, zero, suc, ◌+◌, ◌-◌, ◌<◌, false, eqb, List, [], ◌∷◌, ◌++◌, length, Option, Some, None, Result, Ok, Err, refl, sym, ap, subst, ◌∙◌, append_assoc, arith}
 use Rattle.std.specs.Prelude.{option_to_list}
 use Rattle.std.proofs.lemmas.List.{append-nil, nil_from_length}
 use Rattle.line_table.specs.declared.faults.LineWhy.{LineWhy}
@@ -18,6 +18,10 @@ use Rattle.line_table.specs.Table.{stepped, turn}
 use Rattle.line_table.specs.Units.{executed}
 use Rattle.line_table.specs.Outcomes.{Refuses, Faults, fault_at}
 use Rattle.line_table.proofs.Lists.{Left, left_all, left_more, left_end, left_refused, left_item}
+
+pub some_left : (bytes : List ℕ) → eqb (length bytes) 0 ≡ false → 0 < length bytes
+some_left [] e = absurd cc
+some_left (b ∷ bytes) e = omega arith
 
 abbrev done : {A E : Type 0} → A → Result A E
 done x = Ok x
@@ -115,6 +119,13 @@ module _ (u : UnitHeader) (end : ℕ) where
           → rows_from u t.registers (here bytes operation ∷ later) ≡ (rows_from u e.registers later >>= λ l. Ok (option_to_list e.row ++ l))
       first_row bytes t operation e later executed = rw executed refl
 
+  -- the same, of what is equal to the table and to the bytes after the instruction
+  one_more_is : (files : List (List ℕ)) (whole : Listed Instruction LineFault) (bytes read_to rest : List ℕ) (t made after : Table) (operation : Operation) (e : Effect) → Running u end files whole bytes t
+      → 0 < length bytes → operation_at u bytes ≡ Ok (operation, read_to) → effect u t.registers operation ≡ Ok e → after_one t operation e ≡ made → read_to ≡ rest → made ≡ after → length rest < length bytes
+      → Running u end files whole rest after
+  one_more_is files whole bytes read_to rest t made after operation e r lt read executed table same_rest same_table shorter =
+      subst (λ (x : Table). Running u end files whole rest x) (table ∙ same_table) (one_more files whole bytes rest t operation e r lt (read ∙ ap (λ (x : List ℕ). done (operation, x)) same_rest) executed shorter)
+
   pub running_more : (files : List (List ℕ)) (whole : Listed Instruction LineFault) (bytes rest : List ℕ) (t after : Table) → Running u end files whole bytes t → 0 < length bytes
       → turn u t bytes ≡ Ok (after, rest) → length rest < length bytes → Running u end files whole rest after
   unfolding turn after_one
@@ -124,9 +135,7 @@ module _ (u : UnitHeader) (end : ℕ) where
       let d = then_ok (effect u t.registers a.0.0) (λ e. Ok (after_one t a.0.0 e)) b.0 b.1 in
       let parts = done_same {E = LineWhy} (b.0, a.0.1) (after, rest) b.2 in
       let table = done_same {E = LineWhy} (after_one t a.0.0 d.0) b.0 d.2 in
-      let lengths = ap (λ (p : Table × List ℕ). length p.1) parts in
-      subst (λ (p : Table × List ℕ). Running u end files whole p.1 p.0) parts
-      (subst (λ (x : Table). Running u end files whole a.0.1 x) table (one_more files whole bytes a.0.1 t a.0.0 d.0 r lt a.1 d.1 (omega (arith, lengths, shorter))))
+      one_more_is files whole bytes a.0.1 rest t b.0 after a.0.0 d.0 r lt a.1 d.1 table (ap (λ (p : Table × List ℕ). p.1) parts) (ap (λ (p : Table × List ℕ). p.0) parts) shorter
 
   -- what was executed, whichever way the list of instructions goes on
   made_of : List (List ℕ) → Listed Instruction LineFault → Result (List (List ℕ) × List Row) LineFault

@@ -23,16 +23,16 @@ advanced u n r = record r { address = (r.address + u.minimum_instruction_length 
 abbrev pub moved : ℕ → Registers → Registers
 moved n r = record r { line = (r.line + n) % 2 ^ 32 }
 
-abbrev pub skipped : ℕ → Registers → Registers
-skipped bytes r = record r { address = (r.address + bytes) % 2 ^ 64 }
+abbrev pub fixed_advanced : ℕ → Registers → Registers
+fixed_advanced bytes r = record r { address = (r.address + bytes) % 2 ^ 64 }
 
 -- a special opcode (DWARF 4, 6.2.5.1), less opcode_base
-abbrev pub advanced_both : UnitHeader → ℕ → Registers → Registers
-advanced_both u a r = advanced u (a / u.line_range) (moved (u.line_base + a % u.line_range) r)
+abbrev pub advanced_special : UnitHeader → ℕ → Registers → Registers
+advanced_special u a r = advanced u (a / u.line_range) (moved (u.line_base + a % u.line_range) r)
 
 -- the addresses alone of the special opcode 255
-abbrev pub advanced_as_255 : UnitHeader → Registers → Registers
-advanced_as_255 u r = advanced u ((255 - u.opcode_base) / u.line_range) r
+abbrev pub const_added : UnitHeader → Registers → Registers
+const_added u r = advanced u ((255 - u.opcode_base) / u.line_range) r
 
 -- where line_range is 0, nothing can be divided by it
 abbrev pub ranged : {A : Type 0} → UnitHeader → A → Result A LineWhy
@@ -56,15 +56,15 @@ shown r = record { registers = r; row = Some (row_of false r) }
 
 -- the table of the instructions
 unfoldable pub effect : UnitHeader → Registers → Operation → Result Effect LineWhy
-effect u r (Special a) = ranged u (shown (advanced_both u a r))
+effect u r (Special a) = ranged u (shown (advanced_special u a r))
 effect u r Copy = Ok (shown r)
 effect u r (AdvancePc n) = Ok (silent (advanced u n r))
 effect u r (AdvanceLine n) = Ok (silent (moved n r))
 effect u r (SetFile n) = Ok (silent (record r { file = n }))
 effect u r (SetColumn n) = Ok (silent (record r { column = n }))
 effect u r NegateStmt = Ok (silent (record r { stmt = not r.stmt }))
-effect u r ConstAddPc = ranged u (silent (advanced_as_255 u r))
-effect u r (FixedAdvancePc n) = Ok (silent (skipped n r))
+effect u r ConstAddPc = ranged u (silent (const_added u r))
+effect u r (FixedAdvancePc n) = Ok (silent (fixed_advanced n r))
 effect u r EndSequence = Ok (record { registers = start u; row = Some (row_of true r) })
 effect u r (SetAddress n) = Ok (silent (record r { address = n }))
 effect u r (DefineFile name) = Ok (silent r)

@@ -1,4 +1,4 @@
-//! The header of a unit (DWARF 4, 6.2.4), and the tables of directories and files behind it.
+//! The header of a unit (DWARF 4, 6.2.4).
 
 ghost use Rattle.std.specs.Prelude.{◌≡◌, ◌+◌, ◌-◌, ◌<◌, ◌≤◌, length, drop, Ok, OnOk, IfOk};
 ghost use Rattle.line_table.specs.Header.{body_at, unit_length, signed_byte, operations_at, header_at};
@@ -6,9 +6,7 @@ ghost use Rattle.line_table.specs.Outcomes.{Gives, Reads};
 
 use crate::faults::{LineWhy, Stop};
 use crate::reader::Reader;
-use crate::rows::FileNames;
-use elf_types::{Class, List, Order};
-use std::alloc::Global;
+use elf_types::{Class, Order};
 
 /// The fields of a unit's header.
 #[derive(Drop)]
@@ -91,7 +89,7 @@ impl<'a> Header<'a> {
     {
         let mut reader = Reader::new(body);
         let version = reader.read_u16(order)?;
-        if version < 2 || version > 4 {
+        if !matches!(version, 2..=4) {
             return Err(Stop::Why(LineWhy::Version));
         }
         let header_length = reader.read_u32(order)?;

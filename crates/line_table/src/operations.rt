@@ -1,7 +1,6 @@
 //! The instructions of a line number program (DWARF 4, 6.2.5), read one at a time.
 
-ghost use Rattle.std.specs.Prelude.{◌≡◌, ◌<◌, ◌≤◌, length, OnOk, OnErr, IfOk, IfErr};
-ghost use Rattle.line_table.specs.Header.{UnitHeader};
+ghost use Rattle.std.specs.Prelude.{◌≡◌, ◌<◌, ◌≤◌, length, OnOk, IfOk, IfErr};
 ghost use Rattle.line_table.specs.Program.{operation_at, extended_at, extended_in, standard_at, address_in, passed};
 ghost use Rattle.line_table.specs.Outcomes.{Reads, Gives, Passes};
 ghost use Rattle.line_table.specs.Views.{seen};

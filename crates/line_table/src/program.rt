@@ -34,7 +34,7 @@ pub fn execute(
         files,
         rows: List::new(alloc),
     };
-    while reader.len() > 0 {
+    while !reader.is_empty() {
         let place = end - reader.len() as u64;
         if let Err(stop) = execute_next(alloc, header, &mut reader, &mut table) {
             return Err(stop.at(place));

@@ -12,7 +12,8 @@ use elf_types::Order;
 use std::marker::Model;
 
 /// What is left to read, which contracts see as the list of these bytes. Each call takes what it
-/// reads off the front, and refuses `Cut` where the bytes end before it does.
+/// reads off the front, and refuses `Cut` where the bytes end before it does; what is left then is
+/// open.
 #[derive(Drop)]
 pub struct Reader<'a> {
     rest: &'a [u8],
@@ -39,6 +40,13 @@ impl<'a> Reader<'a> {
         ensures { result ≡ length self.now }
     {
         self.rest.len()
+    }
+
+    /// Whether nothing is left.
+    pub fn is_empty(&self) -> bool
+        ensures { result ≡ (length self.now == 0) }
+    {
+        self.rest.is_empty()
     }
 
     /// A byte.
@@ -196,7 +204,7 @@ fn digit_of(byte: u8, signed: bool) -> u64
     ensures { result ≡ digit signed byte }
 {
     let low = u64::from(byte % 128);
-    if signed && byte < 128 && byte >= 64 {
+    if signed && matches!(byte, 64..=127) {
         low.wrapping_sub(128)
     } else {
         low

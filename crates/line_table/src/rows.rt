@@ -49,7 +49,7 @@ pub struct Registers {
 }
 
 impl Registers {
-    ghost use Rattle.line_table.specs.Rows.{start, row_of, advanced, moved, skipped, ranged, advanced_both, advanced_as_255};
+    ghost use Rattle.line_table.specs.Rows.{start, row_of, advanced, moved, fixed_advanced, ranged, advanced_special, const_added};
 
     /// The registers with which a program and each sequence start.
     pub fn start(header: &Header) -> Registers
@@ -78,54 +78,52 @@ impl Registers {
         }
     }
 
-    /// Goes on by as many instructions of the machine.
-    fn advance(&mut self, header: &Header, count: u64)
+    /// Goes on in addresses, by a count of instructions of the least length.
+    fn advance_pc(&mut self, header: &Header, count: u64)
         ensures { self.new ≡ advanced (seen header.now) count self.old }
     {
         let bytes = u64::from(header.minimum_instruction_length).wrapping_mul(count);
         self.address = self.address.wrapping_add(bytes);
     }
 
-    /// Goes to another line.
+    /// Goes on in lines, by a number modulo 2 to the power of 64.
     #[tactic(auto, using(crate::proofs::Digits::sum_mod))]
-    fn move_line(&mut self, count: u64)
+    fn advance_line(&mut self, count: u64)
         ensures { self.new ≡ moved count self.old }
     {
         self.line = self.line.wrapping_add((count % 0x1_0000_0000) as u32);
     }
 
-    /// Goes on by a number of bytes.
-    fn skip(&mut self, bytes: u16)
-        ensures { self.new ≡ skipped bytes self.old }
+    /// Goes on in addresses, by a number of bytes.
+    fn fixed_advance_pc(&mut self, bytes: u16)
+        ensures { self.new ≡ fixed_advanced bytes self.old }
     {
         self.address = self.address.wrapping_add(u64::from(bytes));
     }
 
     /// Goes on in addresses and in lines, by a special opcode less `opcode_base`. It refuses `Range`
-    /// where `line_range` is 0, and then changes nothing.
-    fn advance_both(&mut self, header: &Header, adjusted: u8) -> Result<(), Stop>
-        ensures { Passes result self.new (ranged (seen header.now) (advanced_both (seen header.now) adjusted self.old)) }
+    /// where `line_range` is 0.
+    fn advance_special(&mut self, header: &Header, adjusted: u8) -> Result<(), Stop>
+        ensures { Passes result self.new (ranged (seen header.now) (advanced_special (seen header.now) adjusted self.old)) }
     {
         if header.line_range == 0 {
             return Err(Stop::Why(LineWhy::Range));
         }
-        self.advance(header, u64::from(adjusted / header.line_range));
-        self.move_line(u64::from(header.line_base) + u64::from(adjusted % header.line_range));
+        self.advance_pc(header, u64::from(adjusted / header.line_range));
+        self.advance_line(u64::from(header.line_base) + u64::from(adjusted % header.line_range));
         Ok(())
     }
 
     /// Goes on in addresses as the special opcode 255 does. It refuses `Range` where `line_range` is
-    /// 0, and then changes nothing.
-    fn advance_as_255(&mut self, header: &Header) -> Result<(), Stop>
-        ensures { Passes result self.new (ranged (seen header.now) (advanced_as_255 (seen header.now) self.old)) }
+    /// 0.
+    fn const_add_pc(&mut self, header: &Header) -> Result<(), Stop>
+        ensures { Passes result self.new (ranged (seen header.now) (const_added (seen header.now) self.old)) }
     {
         if header.line_range == 0 {
             return Err(Stop::Why(LineWhy::Range));
         }
-        self.advance(
-            header,
-            u64::from((255 - header.opcode_base) / header.line_range),
-        );
+        let count = (255 - header.opcode_base) / header.line_range;
+        self.advance_pc(header, u64::from(count));
         Ok(())
     }
 }
@@ -151,17 +149,17 @@ impl Table {
     {
         match operation {
             Operation::Special(adjusted) => {
-                self.registers.advance_both(header, adjusted)?;
+                self.registers.advance_special(header, adjusted)?;
                 self.append_row(false)?;
             }
             Operation::Copy => self.append_row(false)?,
-            Operation::AdvancePc(count) => self.registers.advance(header, count),
-            Operation::AdvanceLine(count) => self.registers.move_line(count),
+            Operation::AdvancePc(count) => self.registers.advance_pc(header, count),
+            Operation::AdvanceLine(count) => self.registers.advance_line(count),
             Operation::SetFile(file) => self.registers.file = file,
             Operation::SetColumn(column) => self.registers.column = column,
             Operation::NegateStmt => self.registers.stmt = !self.registers.stmt,
-            Operation::ConstAddPc => self.registers.advance_as_255(header)?,
-            Operation::FixedAdvancePc(bytes) => self.registers.skip(bytes),
+            Operation::ConstAddPc => self.registers.const_add_pc(header)?,
+            Operation::FixedAdvancePc(bytes) => self.registers.fixed_advance_pc(bytes),
             Operation::EndSequence => {
                 self.append_row(true)?;
                 self.registers = Registers::start(header);

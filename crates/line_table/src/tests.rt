@@ -14,7 +14,8 @@ fn small_unit() -> [u8; 50] {
     ]
 }
 
-/// A unit of version 4 whose program has every opcode.
+/// A unit of version 4 whose program has every opcode. The rows that the test expects are those
+/// that readelf and llvm-dwarfdump show.
 fn unit_of_every_opcode() -> &'static [u8] {
     b"\x73\0\0\0\x04\0\x29\0\0\0\x02\x01\x01\xfd\x0c\x0e\
     \0\x01\x01\x01\x01\0\0\0\x01\0\0\x01\x02d\0ee\0\0\
