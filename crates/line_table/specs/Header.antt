@@ -21,7 +21,7 @@ pub record UnitHeader : Type 0 where
   pub opcode_base : ℕ
   pub operand_counts : List ℕ
 
--- the number at a place of bytes, 0 for what is not there
+-- the number at a place of bytes, of which those that are not there count as 0
 unfoldable pub field : Order → Width → ℕ → List ℕ → ℕ
 field order w place bytes = number order w (take (byte_len w) (drop place bytes))
 
@@ -33,6 +33,7 @@ signed_byte b = if nat_lt b 128 then b else (2 ^ 32 - 256) + b
 unfoldable pub unit_length : Order → List ℕ → ℕ
 unit_length order unit = field order w32 0 unit
 
+-- what unit_length counts
 unfoldable pub body : Order → List ℕ → List ℕ
 body order unit = take (unit_length order unit) (drop 4 unit)
 
@@ -44,7 +45,7 @@ one_more version = if version == 4 then 1 else 0
 abbrev pub operations_at : ℕ → List ℕ → Result (ℕ × List ℕ) LineWhy
 operations_at version bytes = if version == 4 then byte_at bytes else Ok (1, bytes)
 
--- the fields, by their places in the unit's body
+-- The fields, by their places in the unit's body: version 0, header_length 2, minimum_instruction_length 6, maximum_operations_per_instruction 7 in version 4 alone, and behind it default_is_stmt, line_base, line_range, opcode_base and the operand counts, standard_opcode_lengths
 unfoldable pub header_of : Class → Order → List ℕ → UnitHeader
 header_of class order body =
     let version = field order w16 0 body in
@@ -92,7 +93,7 @@ field_causes u body =
     (nat_lt (length body) (tables_of u), Cut) ∷
     (not (u.maximum_operations == 1), Ops) ∷ []
 
--- there is no opcode_base, or the program begins past the unit's end, or the files end past the program's begin
+-- opcode_base is 0, or the program begins past the unit's end, or the files end past the program's begin
 unfoldable pub program_causes : UnitHeader → List ℕ → List ℕ → List (Bool × LineWhy)
 program_causes u body after_files =
     (u.opcode_base == 0, Header) ∷
@@ -121,15 +122,17 @@ files_at bytes = (list_at named_file_at bytes).after >>= λ after. Ok ((list_at 
 unfoldable pub tables_at : List ℕ → Result (List (List ℕ) × List ℕ) LineWhy
 tables_at bytes = (list_at directory_at bytes).after >>= files_at
 
+-- the body, unless its length is refused
 unfoldable pub body_at : Order → List ℕ → Result (List ℕ) LineWhy
 body_at order unit = checked (length_causes order unit) (body order unit)
 
--- the header, and the tables behind it
+-- the header and the tables behind it, unless its fields are refused
 unfoldable pub header_at : Class → Order → List ℕ → Result (UnitHeader × List ℕ) LineWhy
 header_at class order body =
     let u = header_of class order body in
     checked (field_causes u body) (u, drop (tables_of u) body)
 
+-- the program, unless its place is refused
 unfoldable pub program_at : UnitHeader → List ℕ → List ℕ → Result (List ℕ) LineWhy
 program_at u body after_files = checked (program_causes u body after_files) (drop (program_of u) body)
 

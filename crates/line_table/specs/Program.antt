@@ -36,11 +36,12 @@ standard_opcodes =
     (11, none Nothing) ∷
     (12, unsigned (λ _. Nothing)) ∷ []
 
+-- the first row for an opcode
 abbrev pub operand_of : List (ℕ × Operand) → ℕ → Option Operand
 operand_of [] opcode = None
 operand_of (row ∷ rows) opcode = if row.0 == opcode then Some row.1 else operand_of rows opcode
 
--- as many unsigned numbers, which have no meaning
+-- what stands after as many unsigned numbers
 abbrev pub passed : ℕ → List ℕ → Result (List ℕ) LineWhy
 passed zero bytes = Ok bytes
 passed (suc n) bytes = leb128_at false bytes >>= λ operand. passed n operand.1
@@ -53,7 +54,7 @@ operation_with u opcode (Some (unsigned o)) bytes = leb128_at false bytes >>= λ
 operation_with u opcode (Some (signed o)) bytes = leb128_at true bytes >>= λ n. Ok (o n.0, n.1)
 operation_with u opcode (Some (half o)) bytes = number_at u.order w16 bytes >>= λ n. Ok (o n.0, n.1)
 
--- the instruction of a standard opcode, which stands before bytes
+-- the instruction of a standard opcode, which stands before these bytes
 unfoldable pub standard_at : UnitHeader → ℕ → List ℕ → Result (Operation × List ℕ) LineWhy
 standard_at u opcode bytes = operation_with u opcode (operand_of standard_opcodes opcode) bytes
 
@@ -89,6 +90,7 @@ operation_at u bytes = do
   if nat_le u.opcode_base opcode.0 then Ok (Special (opcode.0 - u.opcode_base), opcode.1) else
       (if opcode.0 == 0 then extended_at u opcode.1 else standard_at u opcode.0 opcode.1)
 
+-- an instruction, and the place of its opcode in the section
 pub record Instruction : Type 0 where
   pub place : ℕ
   pub operation : Operation

@@ -15,14 +15,15 @@ use Rattle.line_table.specs.Program.{Instruction, blamed}
 abbrev pub start : UnitHeader → Registers
 start u = record { address = 0; file = 1; line = 1; column = 0; stmt = u.default_is_stmt }
 
--- as many instructions of the machine further; addresses are kept modulo 2 ^ 64
+-- further in addresses, by a count of instructions of the least length; addresses are kept modulo 2 ^ 64
 abbrev pub advanced : UnitHeader → ℕ → Registers → Registers
 advanced u n r = record r { address = (r.address + u.minimum_instruction_length * n) % 2 ^ 64 }
 
--- lines are kept modulo 2 ^ 32
+-- further in lines, which are kept modulo 2 ^ 32
 abbrev pub moved : ℕ → Registers → Registers
 moved n r = record r { line = (r.line + n) % 2 ^ 32 }
 
+-- further in addresses, by a number of bytes
 abbrev pub fixed_advanced : ℕ → Registers → Registers
 fixed_advanced bytes r = record r { address = (r.address + bytes) % 2 ^ 64 }
 
@@ -38,6 +39,7 @@ const_added u r = advanced u ((255 - u.opcode_base) / u.line_range) r
 abbrev pub ranged : {A : Type 0} → UnitHeader → A → Result A LineWhy
 ranged u x = if u.line_range == 0 then Err Range else Ok x
 
+-- the row that the registers make
 abbrev pub row_of : Bool → Registers → Row
 row_of end r = record { address = r.address; file = r.file; line = r.line; column = r.column; stmt = r.stmt; end = end }
 
@@ -46,15 +48,15 @@ pub record Effect : Type 0 where
   pub registers : Registers
   pub row : Option Row
 
--- no row
+-- an effect without a row
 abbrev pub silent : Registers → Effect
 silent r = record { registers = r; row = None }
 
--- a row of the registers
+-- an effect with the row of the registers after it
 abbrev pub shown : Registers → Effect
 shown r = record { registers = r; row = Some (row_of false r) }
 
--- the table of the instructions
+-- the effect of each instruction
 unfoldable pub effect : UnitHeader → Registers → Operation → Result Effect LineWhy
 effect u r (Special a) = ranged u (shown (advanced_special u a r))
 effect u r Copy = Ok (shown r)
@@ -78,14 +80,16 @@ rows_from u r (i ∷ instructions) = do
   later ← rows_from u e.registers instructions
   Ok (option_to_list e.row ++ later)
 
+-- the rows of a program's instructions
 unfoldable pub rows : UnitHeader → List Instruction → Result (List Row) LineFault
 rows u instructions = rows_from u (start u) instructions
 
--- the names of the files that instructions add
+-- the name of the file that an instruction adds
 abbrev pub names_added : Operation → List (List ℕ)
 names_added (DefineFile name) = name ∷ []
 names_added _ = []
 
+-- the names of the files that instructions add, in order
 abbrev pub all_names_added : List Instruction → List (List ℕ)
 all_names_added [] = []
 all_names_added (i ∷ instructions) = names_added i.operation ++ all_names_added instructions

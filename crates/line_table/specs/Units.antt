@@ -10,7 +10,7 @@ use Rattle.line_table.specs.Header.{UnitHeader, unit_length, program_of, opened}
 use Rattle.line_table.specs.Program.{blamed, ops}
 use Rattle.line_table.specs.Rows.{rows, all_names_added}
 
--- the files and the rows of a unit whose program begins at a place: the rows stop at the first place where the fold or the grammar does, and the grammar has no instruction from where it stops on
+-- the files and the rows of a unit whose program begins at a place, or the first place where the fold or the grammar stops: the grammar gives the instructions before the place where it stops, so a place where the fold stops is before that one
 unfoldable pub executed : UnitHeader → ℕ → List (List ℕ) → List ℕ → Result (List (List ℕ) × List Row) LineFault
 executed u at files program =
     let instructions = ops u at program in do
@@ -18,7 +18,7 @@ executed u at files program =
       end ← instructions.after
       Ok (files ++ all_names_added instructions.items, table)
 
--- the unit at a place of a section. Its places count from the four bytes of unit_length, which its body follows
+-- the unit at a place of a section, where its body stands behind the four bytes of unit_length
 unfoldable pub unit_of : Class → Order → List ℕ → ℕ → Result LineUnit LineFault
 unit_of class order section at =
     let unit = drop at section in do
@@ -26,6 +26,6 @@ unit_of class order section at =
       made ← executed o.header (at + 4 + program_of o.header) o.files o.program
       Ok (record { at = at; next = at + 4 + unit_length order unit; version = o.header.version; files = made.0; rows = made.1 })
 
--- there is no unit at the section's end alone
+-- there is no unit exactly at the section's end
 unfoldable pub unit_at : Class → Order → List ℕ → ℕ → Result (Option LineUnit) LineFault
 unit_at class order section at = if at == length section then Ok None else (unit_of class order section at >>= λ unit. Ok (Some unit))

@@ -4,6 +4,7 @@ use Rattle.std.specs.Prelude.{ℕ, ◌≡◌, ◌+◌, ◌≤◌, length}
 use Rattle.line_table.specs.declared.opening.Opened.{Opened as OpenedUnit}
 use Rattle.line_table.specs.Header.{UnitHeader, Opened, program_of}
 
+-- the fields of a header
 abbrev pub seen : Header → UnitHeader
 seen h = record {
   class = h.class;
@@ -19,6 +20,7 @@ seen h = record {
   operand_counts = h.operand_counts.now;
 }
 
+-- a unit before its program is executed
 abbrev pub seen_opened : OpenedUnit → Opened
 seen_opened o = record { header = seen o.header; files = o.files; program = o.program.now }
 
