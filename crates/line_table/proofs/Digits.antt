@@ -1,10 +1,9 @@
 -- Reading from the front of bytes, one byte after the other.
-use Rattle.std.proofs.Common.{◌≡◌, ℕ, zero, suc, ◌+◌, ◌-◌, ◌*◌, ◌%◌, ◌^◌, ◌<◌, ◌≤◌, Bool, true, false, cond, ltb, List, [], ◌∷◌, length, take, drop, Result, Ok, Err, refl, sym, ap, subst, ◌∙◌, arith}
+use Rattle.std.proofs.Common.{◌≡◌, ℕ, ◌+◌, ◌*◌, ◌%◌, ◌^◌, ◌<◌, ◌≤◌, Bool, List, [], ◌∷◌, Result, Ok, Err, refl, sym, ap, ◌∙◌, arith}
 use Rattle.std.proofs.Math.Nat.{add-mod-mod, mod-add-mod}
 use Rattle.std.proofs.lemmas.Nat.{mul-mod_first}
 use Rattle.std.proofs.lemmas.Bool.{lt-ltb, le-ltb}
 use Rattle.line_table.specs.declared.faults.LineWhy.{LineWhy}
-use Rattle.line_table.specs.declared.faults.LineWhy.TheVariants.{Cut}
 use Rattle.line_table.specs.declared.faults.Stop.{Stop}
 use Rattle.line_table.specs.declared.faults.Stop.TheVariants.{Memory, Why}
 use Rattle.line_table.specs.Reading.{◌>>=◌, byte_at, digit, leb128, leb128_at}

@@ -1,15 +1,15 @@
 -- The fields of a header, read one after the other, are those that stand at their places.
-use Rattle.std.proofs.Common.{◌≡◌, ℕ, zero, suc, ◌+◌, ◌-◌, ◌*◌, ◌<◌, ◌≤◌, Bool, true, false, not, ◌||◌, cond, if◌then◌else◌, eqb, ltb, leb, List, [], ◌∷◌, length, get_or, take, drop, Result, Ok, Err, refl, sym, ap, subst, ◌∙◌, arith, inl, inr}
+use Rattle.std.proofs.Common.{◌≡◌, ℕ, ◌+◌, ◌-◌, ◌<◌, ◌≤◌, Bool, true, false, not, ◌||◌, cond, if◌then◌else◌, eqb, ltb, List, length, get_or, take, drop, Result, Ok, Err, refl, sym, ap, subst, ◌∙◌, arith, inl, inr}
 use Rattle.std.specs.Int.{Width, w16, w32, byte_len}
 use Rattle.std.proofs.lemmas.Bool.{lt-ltb, le-ltb, cases_lt, cases_Bool}
-use Rattle.std.proofs.lemmas.List.{length-drop, get_or-drop, drop-drop, drop_more, drop_all}
+use Rattle.std.proofs.lemmas.List.{length-drop, drop-drop, drop_more, drop_all}
 use Rattle.elf_types.specs.declared.records.Class.{Class}
 use Rattle.elf_types.specs.declared.records.Order.{Order}
 use Rattle.line_table.specs.declared.faults.LineWhy.{LineWhy}
 use Rattle.line_table.specs.declared.faults.LineWhy.TheVariants.{Cut, Version, Ops}
 use Rattle.line_table.specs.declared.faults.Stop.{Stop}
 use Rattle.line_table.specs.Reading.{◌>>=◌, byte_at, bytes_at, number, number_at}
-use Rattle.line_table.specs.Header.{UnitHeader, field, signed_byte, one_more, operations_at, header_of, tables_of, program_of, checked, field_causes, header_at}
+use Rattle.line_table.specs.Header.{UnitHeader, field, signed_byte, one_more, operations_at, header_of, tables_of, checked, field_causes, header_at}
 use Rattle.line_table.specs.Outcomes.{Gives}
 
 -- a byte is there, or the bytes end before it

@@ -1,5 +1,5 @@
 -- A unit from its parts.
-use Rattle.std.proofs.Common.{◌≡◌, ℕ, ◌+◌, List, drop, Result, Ok, Err, refl, sym, ap, ◌∙◌}
+use Rattle.std.proofs.Common.{◌≡◌, ℕ, ◌+◌, List, drop, Ok, refl}
 use Rattle.elf_types.specs.declared.records.Class.{Class}
 use Rattle.elf_types.specs.declared.records.Order.{Order}
 use Rattle.line_table.specs.declared.faults.LineFault.{LineFault}
@@ -7,9 +7,7 @@ use Rattle.line_table.specs.declared.faults.LineFault.TheVariants as LineFaults
 use Rattle.line_table.specs.declared.faults.Stop.{Stop}
 use Rattle.line_table.specs.declared.faults.Stop.TheVariants as Stops
 use Rattle.line_table.specs.declared.rows.Row.{Row}
-use Rattle.line_table.specs.Reading.{◌>>=◌}
-use Rattle.line_table.specs.Header.{UnitHeader, Opened, unit_length, program_of, opened}
-use Rattle.line_table.specs.Program.{blamed}
+use Rattle.line_table.specs.Header.{Opened, unit_length, program_of, opened}
 use Rattle.line_table.specs.Units.{executed, unit_of}
 use Rattle.line_table.specs.Outcomes.{Refuses, Faults, fault_at}
 

@@ -1,5 +1,5 @@
 -- Passing over operands, one after the other.
-use Rattle.std.proofs.Common.{◌≡◌, ℕ, zero, suc, ◌+◌, ◌-◌, ◌<◌, ◌≤◌, false, List, Result, Ok, Err, refl, sym, ap, ◌∙◌, arith}
+use Rattle.std.proofs.Common.{◌≡◌, ℕ, suc, ◌+◌, ◌-◌, ◌<◌, false, List, Result, Ok, refl, sym, ◌∙◌, arith}
 use Rattle.line_table.specs.declared.faults.LineWhy.{LineWhy}
 use Rattle.line_table.specs.declared.faults.Stop.{Stop}
 use Rattle.line_table.specs.declared.faults.Stop.TheVariants.{Memory, Why}

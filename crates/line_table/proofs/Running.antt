@@ -1,7 +1,7 @@
 -- Executing instructions, one after the other, makes the rows of the list of all of them.
-use Rattle.std.proofs.Common.{◌≡◌, ℕ, zero, suc, ◌+◌, ◌-◌, ◌<◌, false, eqb, List, [], ◌∷◌, ◌++◌, length, Option, Some, None, Result, Ok, Err, refl, sym, ap, subst, ◌∙◌, append_assoc, arith}
+use Rattle.std.proofs.Common.{◌≡◌, ℕ, ◌+◌, ◌-◌, ◌<◌, false, eqb, List, [], ◌∷◌, ◌++◌, length, Some, None, Result, Ok, Err, refl, sym, ap, subst, ◌∙◌, append_assoc, arith}
 use Rattle.std.specs.Prelude.{option_to_list}
-use Rattle.std.proofs.lemmas.List.{append-nil, nil_from_length}
+use Rattle.std.proofs.lemmas.List.{append-nil}
 use Rattle.line_table.specs.declared.faults.LineWhy.{LineWhy}
 use Rattle.line_table.specs.declared.faults.LineFault.{LineFault}
 use Rattle.line_table.specs.declared.faults.LineFault.TheVariants.{Bad}
@@ -10,9 +10,9 @@ use Rattle.line_table.specs.declared.faults.Stop.TheVariants as Stops
 use Rattle.line_table.specs.declared.operations.Operation.{Operation}
 use Rattle.line_table.specs.declared.rows.Row.{Row}
 use Rattle.line_table.specs.declared.rows.Table.{Table}
-use Rattle.line_table.specs.Reading.{◌>>=◌, Listed, list_at}
+use Rattle.line_table.specs.Reading.{◌>>=◌, Listed}
 use Rattle.line_table.specs.Header.{UnitHeader}
-use Rattle.line_table.specs.Program.{Instruction, operation_at, blamed, instruction_at, ops}
+use Rattle.line_table.specs.Program.{Instruction, operation_at, instruction_at, ops}
 use Rattle.line_table.specs.Rows.{Effect, start, effect, rows_from, rows, names_added, all_names_added}
 use Rattle.line_table.specs.Table.{stepped, turn}
 use Rattle.line_table.specs.Units.{executed}

@@ -1,11 +1,11 @@
 -- The header of a unit (DWARF 4, 6.2.4): its fields by their places, and why a unit is refused before its program.
-use Rattle.std.specs.Prelude.{ℕ, ◌+◌, ◌-◌, ◌^◌, ◌==◌, ◌||◌, Bool, not, List, [], ◌∷◌, length, take, drop, slice_index, Option, Some, None, Result, Ok, Err, if◌then◌else◌, nat_lt, nat_le, is_err, ⊤}
+use Rattle.std.specs.Prelude.{ℕ, ◌+◌, ◌-◌, ◌^◌, ◌==◌, ◌||◌, Bool, not, List, [], ◌∷◌, length, take, drop, slice_index, Option, Some, None, Result, Ok, Err, if◌then◌else◌, nat_lt, nat_le}
 use Rattle.std.specs.Int.{Width, w16, w32, byte_len}
 use Rattle.elf_types.specs.declared.records.Class.{Class}
 use Rattle.elf_types.specs.declared.records.Order.{Order}
 use Rattle.line_table.specs.declared.faults.LineWhy.{LineWhy}
 use Rattle.line_table.specs.declared.faults.LineWhy.TheVariants.{Cut, Form, Version, Ops, Header}
-use Rattle.line_table.specs.Reading.{◌>>=◌, number, byte_at, string_at, file_at, Listed, list_at}
+use Rattle.line_table.specs.Reading.{◌>>=◌, number, byte_at, string_at, file_at, list_at}
 
 -- the fields of a unit's header, with the class and the order of the image
 pub record UnitHeader : Type 0 where

@@ -1,6 +1,6 @@
 -- What definitions see of the code's structs.
-use Rattle.line_table.specs.declared.header.Header.{Header}
 use Rattle.std.specs.Prelude.{ℕ, ◌≡◌, ◌+◌, ◌≤◌, length}
+use Rattle.line_table.specs.declared.header.Header.{Header}
 use Rattle.line_table.specs.declared.opening.Opened.{Opened as OpenedUnit}
 use Rattle.line_table.specs.Header.{UnitHeader, Opened, program_of}
 

@@ -1,6 +1,6 @@
 //! The header of a unit (DWARF 4, 6.2.4).
 
-ghost use Rattle.std.specs.Prelude.{◌≡◌, ◌+◌, ◌-◌, ◌<◌, ◌≤◌, length, drop, Ok, OnOk, IfOk};
+ghost use Rattle.std.specs.Prelude.{◌≡◌, ◌+◌, ◌-◌, ◌≤◌, length, IfOk};
 ghost use Rattle.line_table.specs.Header.{body_at, unit_length, signed_byte, operations_at, header_at};
 ghost use Rattle.line_table.specs.Outcomes.{Gives, Reads};
 
@@ -42,7 +42,8 @@ pub struct Header<'a> {
 #[tactic(auto, unfolding(crate::specs::Header::body_at, crate::specs::Header::length_causes, crate::specs::Header::unit_length, crate::specs::Header::body, crate::specs::Header::field, crate::specs::Reading::number_at, crate::specs::Reading::bytes_at))]
 pub fn read_body(bytes: &[u8], order: Order) -> Result<&[u8], Stop>
     ensures value { Gives (λ b. b.now) result (body_at order bytes.now) }
-    ensures size { IfOk result (λ b. (length b.now ≡ unit_length order bytes.now) × (4 + length b.now ≤ length bytes.now)) }
+    ensures size { IfOk result
+        (λ b. (length b.now ≡ unit_length order bytes.now) × (4 + length b.now ≤ length bytes.now)) }
 {
     let mut reader = Reader::new(bytes);
     let length = reader.read_u32(order)?;
@@ -76,9 +77,9 @@ fn read_maximum_operations(version: u16, reader: &mut Reader) -> Result<u8, Stop
 impl<'a> Header<'a> {
     ghost use Rattle.line_table.specs.Views.{seen};
 
-    /// The header in a unit's body, and a reader of what stands behind it. It refuses `Cut` where the
-    /// body ends before the version, then `Version`, then `Cut` where it ends before another field, and
-    /// then `Ops`.
+    /// The header in a unit's body, and a reader of what stands behind it. It refuses `Cut` where
+    /// the body ends before the version, then `Version`, then `Cut` where it ends before another
+    /// field, and then `Ops`.
     #[tactic(auto, unfolding(crate::specs::Header::header_at, crate::specs::Header::field_causes, crate::specs::Header::header_of, crate::specs::Header::field, crate::specs::Reading::number_at, crate::specs::Reading::bytes_at))]
     pub fn read(
         body: &'a [u8],

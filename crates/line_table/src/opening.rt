@@ -1,6 +1,6 @@
 //! Opening a unit: what stands before its program (DWARF 4, 6.2.4).
 
-ghost use Rattle.std.specs.Prelude.{◌≡◌, ◌+◌, ◌≤◌, length, IfOk};
+ghost use Rattle.std.specs.Prelude.{◌≡◌, ◌+◌, length, IfOk};
 ghost use Rattle.line_table.specs.Header.{unit_length, program_of, program_at, opened};
 ghost use Rattle.line_table.specs.Outcomes.{Gives};
 ghost use Rattle.line_table.specs.Views.{seen, seen_opened, IsPlaced};
@@ -26,9 +26,9 @@ pub struct Opened<'a> {
     pub size: u64,
 }
 
-/// The unit at the front of bytes. It refuses `Form`, then `Cut` of the length, then `Version`, then
-/// `Cut` of the header's fields, then `Ops`, then `Cut` of the directories and the files, and then
-/// `Header`.
+/// The unit at the front of bytes. It refuses `Form`, then `Cut` of the length, then `Version`,
+/// then `Cut` of the header's fields, then `Ops`, then `Cut` of the directories and the files, and
+/// then `Header`.
 #[tactic(auto, unfolding(crate::specs::Header::opened))]
 pub fn open<'a>(
     alloc: Global,
@@ -54,8 +54,10 @@ pub fn open<'a>(
 /// The program in a unit's body, where a reader stands behind the files.
 #[tactic(auto, unfolding(crate::specs::Header::program_at, crate::specs::Header::program_causes))]
 fn find_program<'a>(header: &Header, body: &'a [u8], after_files: &Reader) -> Result<&'a [u8], Stop>
-    ensures value { Gives (λ p. p.now) result (program_at (seen header.now) body.now after_files.now) }
-    ensures size { IfOk result (λ p. program_of (seen header.now) + length p.now ≡ length body.now) }
+    ensures value { Gives (λ p. p.now) result
+        (program_at (seen header.now) body.now after_files.now) }
+    ensures size { IfOk result
+        (λ p. program_of (seen header.now) + length p.now ≡ length body.now) }
 {
     let begin = 6 + header.header_length as usize;
     if header.opcode_base == 0 || begin > body.len() {

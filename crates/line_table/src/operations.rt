@@ -68,7 +68,8 @@ pub fn read_operation(
 fn read_standard(header: &Header, opcode: u8, reader: &mut Reader) -> Result<Operation, Stop>
     requires above { 0 < opcode }
     requires below { opcode < header.now.opcode_base }
-    ensures value { Reads (λ o. o) result reader.new (standard_at (seen header.now) opcode reader.old) }
+    ensures value { Reads (λ o. o) result reader.new
+        (standard_at (seen header.now) opcode reader.old) }
     ensures no_longer { OnOk result (length reader.new ≤ length reader.old) }
 {
     match opcode {

@@ -1,6 +1,6 @@
 //! Executing a line number program (DWARF 4, 6.2.5), instruction by instruction.
 
-ghost use Rattle.std.specs.Prelude.{◌≡◌, ◌+◌, ◌<◌, ◌^◌, length, OnOk};
+ghost use Rattle.std.specs.Prelude.{◌+◌, ◌<◌, ◌^◌, length, OnOk};
 ghost use Rattle.line_table.specs.Table.{turn};
 ghost use Rattle.line_table.specs.Units.{executed};
 ghost use Rattle.line_table.specs.Outcomes.{Passes, Follows};
@@ -25,7 +25,8 @@ pub fn execute(
     files: FileNames,
 ) -> Result<Table, LineFault>
     requires { at + length program.now < 2 ^ 64 }
-    ensures { Follows (λ t. (t.files, t.rows)) result (executed (seen header.now) at files program.now) }
+    ensures { Follows (λ t. (t.files, t.rows)) result
+        (executed (seen header.now) at files program.now) }
 {
     let end = at + program.len() as u64;
     let mut reader = Reader::new(program);
@@ -51,7 +52,8 @@ fn execute_next(
     reader: &mut Reader,
     table: &mut Table,
 ) -> Result<(), Stop>
-    ensures value { Passes result (table.new, reader.new) (turn (seen header.now) table.old reader.old) }
+    ensures value { Passes result (table.new, reader.new)
+        (turn (seen header.now) table.old reader.old) }
     ensures shorter { OnOk result (length reader.new < length reader.old) }
 {
     let operation = read_operation(alloc, header, reader)?;

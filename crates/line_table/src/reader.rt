@@ -2,8 +2,8 @@
 
 ghost use Rattle.std.specs.Prelude.{◌≡◌, ◌≤◌, ◌<◌, length, OnOk, ◌==◌, position};
 ghost use Rattle.std.specs.Int.{w16, w32, w64};
-ghost use Rattle.line_table.specs.Reading.{byte_at, bytes_at, number_at, leb128_at, string_at, digit, file_at};
 ghost use Rattle.std.specs.Option.{option_copied};
+ghost use Rattle.line_table.specs.Reading.{byte_at, bytes_at, number_at, leb128_at, string_at, digit, file_at};
 ghost use Rattle.line_table.specs.Header.{named_file_at};
 ghost use Rattle.line_table.specs.Outcomes.{Reads};
 

@@ -101,10 +101,11 @@ impl Registers {
         self.address = self.address.wrapping_add(u64::from(bytes));
     }
 
-    /// Goes on in addresses and in lines, by a special opcode less `opcode_base`. It refuses `Range`
-    /// where `line_range` is 0.
+    /// Goes on in addresses and in lines, by a special opcode less `opcode_base`. It refuses
+    /// `Range` where `line_range` is 0.
     fn advance_special(&mut self, header: &Header, adjusted: u8) -> Result<(), Stop>
-        ensures { Passes result self.new (ranged (seen header.now) (advanced_special (seen header.now) adjusted self.old)) }
+        ensures { Passes result self.new
+            (ranged (seen header.now) (advanced_special (seen header.now) adjusted self.old)) }
     {
         if header.line_range == 0 {
             return Err(Stop::Why(LineWhy::Range));
@@ -114,10 +115,11 @@ impl Registers {
         Ok(())
     }
 
-    /// Goes on in addresses as the special opcode 255 does. It refuses `Range` where `line_range` is
-    /// 0.
+    /// Goes on in addresses as the special opcode 255 does. It refuses `Range` where `line_range`
+    /// is 0.
     fn const_add_pc(&mut self, header: &Header) -> Result<(), Stop>
-        ensures { Passes result self.new (ranged (seen header.now) (const_added (seen header.now) self.old)) }
+        ensures { Passes result self.new
+            (ranged (seen header.now) (const_added (seen header.now) self.old)) }
     {
         if header.line_range == 0 {
             return Err(Stop::Why(LineWhy::Range));

@@ -1,6 +1,5 @@
 //! The tables of directories and files behind a unit's header (DWARF 4, 6.2.4, items 11 and 12).
 
-ghost use Rattle.std.specs.Prelude.{◌≡◌};
 ghost use Rattle.line_table.specs.Reading.{list_at};
 ghost use Rattle.line_table.specs.Header.{directory_at, files_at, tables_at};
 ghost use Rattle.line_table.specs.Outcomes.{Passes, Reads};

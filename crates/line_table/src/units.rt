@@ -1,6 +1,6 @@
 //! A unit of a line table.
 
-ghost use Rattle.std.specs.Prelude.{◌≡◌, ◌+◌, ◌<◌, ◌≤◌, ◌^◌, ◌↔◌, length, IfOk, IfSome, Ok, None};
+ghost use Rattle.std.specs.Prelude.{◌≡◌, ◌<◌, ◌≤◌, ◌↔◌, length, IfOk, IfSome, Ok, None};
 ghost use Rattle.line_table.specs.Units.{unit_of, unit_at};
 ghost use Rattle.line_table.specs.Outcomes.{Follows};
 
@@ -46,7 +46,8 @@ pub fn unit_at(
     requires { at ≤ length bytes.now }
     ensures value { Follows (λ unit. unit) result (unit_at class order bytes.now at) }
     ensures none { (result ≡ Ok None) ↔ (at ≡ length bytes.now) }
-    ensures next { IfOk result (λ found. IfSome found (λ unit. (at < unit.next) × (unit.next ≤ length bytes.now))) }
+    ensures next { IfOk result
+        (λ found. IfSome found (λ unit. (at < unit.next) × (unit.next ≤ length bytes.now))) }
 {
     if at == bytes.len() as u64 {
         return Ok(None);

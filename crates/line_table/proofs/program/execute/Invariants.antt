@@ -1,4 +1,4 @@
-use Rattle.std.proofs.Common.{◌+◌, ◌≤◌, length}
+use Rattle.std.proofs.Common.{◌≤◌, length}
 use Rattle.line_table.specs.Program.{ops}
 use Rattle.line_table.specs.Views.{seen}
 use Rattle.line_table.proofs.Running.{Running}

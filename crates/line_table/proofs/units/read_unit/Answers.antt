@@ -1,7 +1,6 @@
-use Rattle.std.proofs.Common.{◌≡◌, ◌+◌, ◌-◌, length, arith}
+use Rattle.std.proofs.Common.{◌+◌, ◌-◌, length, arith}
 use Rattle.std.proofs.lemmas.Result.{err_from_is_err_and}
-use Rattle.line_table.specs.Header.{unit_length, program_of}
-use Rattle.line_table.specs.Views.{seen, seen_opened}
+use Rattle.line_table.specs.Views.{seen_opened}
 use Rattle.line_table.proofs.Made.{unit_refused, unit_faulted, unit_made}
 use Rattle.line_table.proofs.units.read_unit.Goals as goal
 
