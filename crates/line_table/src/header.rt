@@ -80,7 +80,7 @@ impl<'a> Header<'a> {
     /// The header in a unit's body, and a reader of what stands behind it. It refuses `Cut` where
     /// the body ends before the version, then `Version`, then `Cut` where it ends before another
     /// field, and then `Ops`.
-    #[tactic(auto, unfolding(crate::specs::Header::header_at, crate::specs::Header::field_causes, crate::specs::Header::header_of, crate::specs::Header::field, crate::specs::Reading::number_at, crate::specs::Reading::bytes_at))]
+    #[tactic(auto, unfolding(crate::specs::Reading::bytes_at))]
     pub fn read(
         body: &'a [u8],
         class: Class,

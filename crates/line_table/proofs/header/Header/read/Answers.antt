@@ -3,6 +3,15 @@ use Rattle.line_table.proofs.Fields.{fields_read_is, as_read}
 use Rattle.line_table.specs.Views.{seen}
 use Rattle.line_table.proofs.header.Header.read.Goals as goal
 
+pub returns-in_err-version : goal.returns-in_err-version
+returns-in_err-version c = as_read (λ x. (seen x.0, x.1)) _ c.args.class c.args.order c.args.body.now (search rules)
+
+pub returns-then-not-matches : goal.returns-then-not-matches
+returns-then-not-matches c = sym (fields_read_is c.args.class c.args.order c.args.body.now) ∙ search rules
+
+pub returns-in_err-header_length : goal.returns-in_err-header_length
+returns-in_err-header_length c = as_read (λ x. (seen x.0, x.1)) _ c.args.class c.args.order c.args.body.now (search rules)
+
 pub returns-in_err-minimum_instruction_length : goal.returns-in_err-minimum_instruction_length
 returns-in_err-minimum_instruction_length c = as_read (λ x. (seen x.0, x.1)) _ c.args.class c.args.order c.args.body.now (search rules)
 
