@@ -1,0 +1,156 @@
+//! The instructions of a line number program (DWARF 4, 6.2.5), read one at a time.
+
+ghost use Rattle.std.specs.Prelude.{◌≡◌, ◌<◌, ◌≤◌, length, OnOk, IfOk, IfErr};
+ghost use Rattle.line_table.specs.Program.{operation_at, extended_at, extended_in, standard_at, address_in, passed};
+ghost use Rattle.line_table.specs.Outcomes.{Reads, Gives, Passes};
+ghost use Rattle.line_table.specs.Views.{seen};
+
+use crate::faults::{LineWhy, Stop};
+use crate::header::Header;
+use crate::reader::Reader;
+use elf_types::{Class, ElfError, Octets};
+use std::alloc::Global;
+
+/// What an instruction does, with its operand.
+#[derive(Drop)]
+pub enum Operation {
+    /// A special opcode, less `opcode_base`.
+    Special(u8),
+    /// `DW_LNS_copy`.
+    Copy,
+    /// `DW_LNS_advance_pc`.
+    AdvancePc(u64),
+    /// `DW_LNS_advance_line`, with a signed number modulo 2 to the power of 64.
+    AdvanceLine(u64),
+    /// `DW_LNS_set_file`.
+    SetFile(u64),
+    /// `DW_LNS_set_column`.
+    SetColumn(u64),
+    /// `DW_LNS_negate_stmt`.
+    NegateStmt,
+    /// `DW_LNS_const_add_pc`.
+    ConstAddPc,
+    /// `DW_LNS_fixed_advance_pc`.
+    FixedAdvancePc(u16),
+    /// `DW_LNE_end_sequence`.
+    EndSequence,
+    /// `DW_LNE_set_address`.
+    SetAddress(u64),
+    /// `DW_LNE_define_file`, with the file's name.
+    DefineFile(Octets),
+    /// An instruction that changes no register of the table and appends no row.
+    Nothing,
+}
+
+/// The next instruction. It refuses `Cut` where one of its parts passes the unit or its extended
+/// opcode, and `Address` where an address is not as wide as one of the class.
+#[tactic(auto, unfolding(crate::specs::Program::operation_at))]
+pub fn read_operation(
+    alloc: Global,
+    header: &Header,
+    reader: &mut Reader,
+) -> Result<Operation, Stop>
+    ensures value { Reads (λ o. o) result reader.new (operation_at (seen header.now) reader.old) }
+    ensures shorter { OnOk result (length reader.new < length reader.old) }
+{
+    let opcode = reader.read_u8()?;
+    if opcode >= header.opcode_base {
+        return Ok(Operation::Special(opcode - header.opcode_base));
+    }
+    if opcode == 0 {
+        return read_extended(alloc, header, reader);
+    }
+    read_standard(header, opcode, reader)
+}
+
+/// The instruction of a standard opcode, which was read.
+#[tactic(auto, unfolding(crate::specs::Program::standard_at, crate::specs::Program::standard_opcodes))]
+fn read_standard(header: &Header, opcode: u8, reader: &mut Reader) -> Result<Operation, Stop>
+    requires above { 0 < opcode }
+    requires below { opcode < header.now.opcode_base }
+    ensures value { Reads (λ o. o) result reader.new
+        (standard_at (seen header.now) opcode reader.old) }
+    ensures no_longer { OnOk result (length reader.new ≤ length reader.old) }
+{
+    match opcode {
+        1 => Ok(Operation::Copy),
+        2 => Ok(Operation::AdvancePc(reader.read_leb128(false)?)),
+        3 => Ok(Operation::AdvanceLine(reader.read_leb128(true)?)),
+        4 => Ok(Operation::SetFile(reader.read_leb128(false)?)),
+        5 => Ok(Operation::SetColumn(reader.read_leb128(false)?)),
+        6 => Ok(Operation::NegateStmt),
+        7 | 10 | 11 => Ok(Operation::Nothing),
+        8 => Ok(Operation::ConstAddPc),
+        9 => Ok(Operation::FixedAdvancePc(reader.read_u16(header.order)?)),
+        12 => {
+            let _isa = reader.read_leb128(false)?;
+            Ok(Operation::Nothing)
+        }
+        _ => {
+            pass_operands(header.operand_counts[opcode as usize - 1], reader)?;
+            Ok(Operation::Nothing)
+        }
+    }
+}
+
+/// Passes over the operands of an opcode that has no meaning here.
+fn pass_operands(count: u8, reader: &mut Reader) -> Result<(), Stop>
+    ensures value { Passes result reader.new (passed count reader.old) }
+    ensures no_longer { OnOk result (length reader.new ≤ length reader.old) }
+{
+    for _ in 0..count {
+        let _operand = reader.read_leb128(false)?;
+    }
+    Ok(())
+}
+
+/// The instruction of an extended opcode, whose 0 was read: it is as long as it says, whatever it
+/// holds.
+#[tactic(auto, unfolding(crate::specs::Program::extended_at))]
+fn read_extended(alloc: Global, header: &Header, reader: &mut Reader) -> Result<Operation, Stop>
+    ensures value { Reads (λ o. o) result reader.new (extended_at (seen header.now) reader.old) }
+    ensures no_longer { OnOk result (length reader.new ≤ length reader.old) }
+{
+    let size = reader.read_leb128(false)?;
+    let bytes = reader.read_bytes(size)?;
+    extended_operation(alloc, header, bytes)
+}
+
+/// The instruction in the bytes of an extended opcode.
+#[tactic(auto, unfolding(crate::specs::Program::extended_in))]
+fn extended_operation(alloc: Global, header: &Header, bytes: &[u8]) -> Result<Operation, Stop>
+    ensures value { Gives (λ o. o) result (extended_in (seen header.now) bytes.now) }
+{
+    let mut reader = Reader::new(bytes);
+    match reader.read_u8()? {
+        1 => Ok(Operation::EndSequence),
+        2 => Ok(Operation::SetAddress(read_address(header, &mut reader)?)),
+        3 => {
+            let name = owned(alloc, reader.read_file()?)?;
+            Ok(Operation::DefineFile(name))
+        }
+        _ => Ok(Operation::Nothing),
+    }
+}
+
+/// The address that is all of what is left.
+#[tactic(auto, unfolding(crate::specs::Program::address_in, crate::specs::Reading::number_at, crate::specs::Reading::bytes_at))]
+fn read_address(header: &Header, reader: &mut Reader) -> Result<u64, Stop>
+    ensures value { Gives (λ n. n) result (address_in (seen header.now) reader.old) }
+{
+    match header.class {
+        Class::C32 if reader.len() == 4 => Ok(u64::from(reader.read_u32(header.order)?)),
+        Class::C64 if reader.len() == 8 => reader.read_u64(header.order),
+        _ => Err(Stop::Why(LineWhy::Address)),
+    }
+}
+
+/// A copy of a text. It refuses `Memory` alone.
+pub fn owned(alloc: Global, text: &[u8]) -> Result<Octets, ElfError>
+    ensures ok { IfOk result (λ copy. copy ≡ text.now) }
+    ensures err { IfErr result (λ e. e ≡ ElfError.Memory) }
+{
+    let mut copy = Octets::with_capacity(alloc, text.len() as u64)?;
+    copy.extend(text)?;
+    Ok(copy)
+}

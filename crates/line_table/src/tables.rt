@@ -1,0 +1,46 @@
+//! The tables of directories and files behind a unit's header (DWARF 4, 6.2.4, items 11 and 12).
+
+ghost use Rattle.line_table.specs.Reading.{list_at};
+ghost use Rattle.line_table.specs.Header.{directory_at, files_at, tables_at};
+ghost use Rattle.line_table.specs.Outcomes.{Passes, Reads};
+
+use crate::faults::Stop;
+use crate::operations::owned;
+use crate::reader::Reader;
+use crate::rows::FileNames;
+use elf_types::List;
+use std::alloc::Global;
+
+/// The names of the files. It refuses `Cut` where a string or a file passes the unit.
+#[tactic(auto, unfolding(crate::specs::Header::tables_at))]
+pub fn read_tables(alloc: Global, reader: &mut Reader) -> Result<FileNames, Stop>
+    ensures { Reads (λ names. names) result reader.new (tables_at reader.old) }
+{
+    pass_directories(reader)?;
+    read_files(alloc, reader)
+}
+
+/// Passes over the directories, which are strings that an empty one ends.
+fn pass_directories(reader: &mut Reader) -> Result<(), Stop>
+    ensures { Passes result reader.new (list_at directory_at reader.old).after }
+{
+    loop {
+        let directory = reader.read_string()?;
+        if directory.is_empty() {
+            return Ok(());
+        }
+    }
+}
+
+/// The names of the files, which a byte 0 ends.
+fn read_files(alloc: Global, reader: &mut Reader) -> Result<FileNames, Stop>
+    ensures { Reads (λ names. names) result reader.new (files_at reader.old) }
+{
+    let mut names = List::new(alloc);
+    loop {
+        match reader.read_named_file()? {
+            Some(name) => names.push(owned(alloc, name)?)?,
+            None => return Ok(names),
+        }
+    }
+}
