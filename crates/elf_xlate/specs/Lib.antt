@@ -1,0 +1,5 @@
+pub mod Numbers
+pub mod Fields
+pub mod Items
+pub mod Headers
+pub mod Translation
