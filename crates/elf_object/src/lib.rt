@@ -1,0 +1,2 @@
+//! What the library means.
+#![tactic(auto)]
