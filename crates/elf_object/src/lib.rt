@@ -1,2 +1,5 @@
 //! What the library means.
 #![tactic(auto)]
+
+#[cfg(test)]
+mod tests;
