@@ -2,12 +2,22 @@
 //! what each call leaves, takes and may have done when it fails.
 #![tactic(auto)]
 
+pub mod device_sink;
 pub mod devices;
 pub mod file_sets;
+pub mod memory;
+pub mod no_source;
+pub mod real;
 pub mod sinks;
 pub mod sources;
+pub mod window;
 
+pub use device_sink::DeviceSink;
 pub use devices::Device;
 pub use file_sets::{Files, OpenFault};
+pub use memory::{MemDevice, MemFiles, MemSink, MemSource};
+pub use no_source::NoSource;
+pub use real::{RealFile, RealFiles, RealSink};
 pub use sinks::Sink;
 pub use sources::{Failed, Source};
+pub use window::Window;

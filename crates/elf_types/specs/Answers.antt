@@ -9,3 +9,9 @@ Follows (Ok x) stated = stated ≡ Ok x
 Follows (Err Memory) stated = Unit {0}
 Follows (Err Read) stated = Unit {0}
 Follows (Err e) stated = stated ≡ Err e
+
+-- a refusal that a definition states: neither Memory nor Read
+abbrev pub IsRefusal : ElfError → Type 0
+IsRefusal Memory = ⊥
+IsRefusal Read = ⊥
+IsRefusal e = Unit {0}

@@ -3,3 +3,4 @@ pub mod Fields
 pub mod Items
 pub mod Headers
 pub mod Translation
+pub mod Orders

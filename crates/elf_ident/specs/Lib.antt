@@ -1,0 +1,3 @@
+pub mod FileKinds
+pub mod Front
+pub mod Reading

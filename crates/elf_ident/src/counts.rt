@@ -1,0 +1,234 @@
+//! The true counts of an image's tables.
+
+ghost use Rattle.std.specs.Prelude.{◌≡◌, ◌+◌, ◌<◌, ◌≤◌, length, take, drop, IsTrue, IfOk, OnOk, IfErr, IfSome, Ok};
+ghost use Rattle.elf_types.specs.Answers.{Follows, IsRefusal};
+ghost use Rattle.elf_outside.specs.Asks.{Asks};
+ghost use Rattle.elf_xlate.specs.Headers.{phdr_size, shdr_size, shdr_of};
+ghost use Rattle.elf_ident.specs.Reading.{HasTables};
+ghost use Rattle.elf_ident.specs.Front.{unless, needs_first, first_section, zero_shdr, true_counts, true_phnum, true_shnum, true_shstrndx, lies_in, header_refusals, count_refusals, counts_by, counts_in};
+
+use crate::reads::read;
+use elf_outside::Source;
+use elf_types::{Class, Ehdr, ElfError, Shdr};
+use elf_xlate::get_shdr;
+
+/// The true counts and the true string index of an image, after extended numbering.
+#[derive(Clone, Copy, Debug, PartialEq, Eq)]
+pub struct Counts {
+    /// The number of program headers.
+    pub phnum: u32,
+    /// The number of section headers.
+    pub shnum: u64,
+    /// The number of the section that holds the sections' names.
+    pub shstrndx: u32,
+}
+
+/// The largest image, in bytes.
+pub const MAX_IMAGE: u64 = 1 << 40;
+
+/// The most entries of each table.
+pub const MAX_ENTRIES: u64 = 1 << 20;
+
+/// `PN_XNUM` and `SHN_XINDEX`: the number stands in section 0.
+pub const EXTENDED: u32 = 0xffff;
+
+/// The number of bytes of a program header.
+pub fn segment_header_size(class: Class) -> u64
+    ensures { result ≡ phdr_size class }
+{
+    match class {
+        Class::C32 => 32,
+        Class::C64 => 56,
+    }
+}
+
+/// The number of bytes of a section header.
+pub fn section_header_size(class: Class) -> u64
+    ensures { result ≡ shdr_size class }
+{
+    match class {
+        Class::C32 => 40,
+        Class::C64 => 64,
+    }
+}
+
+/// Whether a count or the string index stands in section 0.
+fn needs_first(h: &Ehdr) -> bool
+    ensures { result ≡ needs_first h.now }
+{
+    h.shoff != 0 && (h.shnum == 0 || h.shstrndx == EXTENDED || h.phnum == EXTENDED)
+}
+
+/// Whether `count` entries of a size lie in an image of `len` bytes from the place `at` on.
+fn lies_in(len: u64, at: u64, count: u64, size: u64) -> bool
+    requires { 0 < size }
+    ensures { result ≡ lies_in len at count size }
+{
+    at <= len && count <= (len - at) / size
+}
+
+/// What a header is refused by before section 0 is looked at.
+#[tactic(auto, unfolding(crate::specs::Front::header_refusals))]
+fn check_header(h: &Ehdr, len: u64) -> Result<(), ElfError>
+    ensures refusal { result ≡ unless (header_refusals h.now len) (Ok tt) }
+    ensures err { IfErr result IsRefusal }
+{
+    if h.version != 1 {
+        return Err(ElfError::Version);
+    }
+    if len > MAX_IMAGE {
+        return Err(ElfError::TooLarge);
+    }
+    if h.shoff == 0 && h.shnum != 0 {
+        return Err(ElfError::ShTable);
+    }
+    let size = section_header_size(h.class);
+    if h.shoff != 0 && u64::from(h.shentsize) != size {
+        return Err(ElfError::ShTable);
+    }
+    if needs_first(h) && !lies_in(len, h.shoff, 1, size) {
+        return Err(ElfError::ShTable);
+    }
+    Ok(())
+}
+
+/// What a header is refused by for its true counts.
+#[tactic(auto, unfolding(crate::specs::Front::count_refusals))]
+fn check_counts(h: &Ehdr, c: &Counts, len: u64) -> Result<(), ElfError>
+    ensures refusal { result ≡ unless (count_refusals h.now c.now len) (Ok tt) }
+    ensures tables { OnOk result (HasTables h.now c.now len) }
+    ensures err { IfErr result IsRefusal }
+{
+    if !lies_in(len, h.shoff, c.shnum, section_header_size(h.class)) {
+        return Err(ElfError::ShTable);
+    }
+    let size = segment_header_size(h.class);
+    if h.phnum != 0 && u64::from(h.phentsize) != size {
+        return Err(ElfError::PhTable);
+    }
+    if h.phnum == EXTENDED && h.shoff == 0 {
+        return Err(ElfError::PhTable);
+    }
+    if h.phnum != 0 && !lies_in(len, h.phoff, u64::from(c.phnum), size) {
+        return Err(ElfError::PhTable);
+    }
+    if c.shnum > MAX_ENTRIES || u64::from(c.phnum) > MAX_ENTRIES {
+        return Err(ElfError::TooMany);
+    }
+    Ok(())
+}
+
+#[tactic(auto, unfolding(crate::specs::Front::true_phnum))]
+fn true_phnum(h: &Ehdr, first: &Shdr) -> u32
+    ensures phnum { result ≡ true_phnum h.now first.now }
+    ensures none { h.now.phnum ≡ 0 → result ≡ 0 }
+{
+    if h.phnum == EXTENDED {
+        first.info
+    } else {
+        h.phnum
+    }
+}
+
+#[tactic(auto, unfolding(crate::specs::Front::true_shnum))]
+fn true_shnum(h: &Ehdr, first: &Shdr) -> u64
+    ensures { result ≡ true_shnum h.now first.now }
+{
+    if h.shoff != 0 && h.shnum == 0 {
+        first.size
+    } else {
+        u64::from(h.shnum)
+    }
+}
+
+#[tactic(auto, unfolding(crate::specs::Front::true_shstrndx))]
+fn true_shstrndx(h: &Ehdr, first: &Shdr) -> u32
+    ensures { result ≡ true_shstrndx h.now first.now }
+{
+    if true_shnum(h, first) == 0 {
+        0
+    } else if h.shstrndx == EXTENDED {
+        first.link
+    } else {
+        h.shstrndx
+    }
+}
+
+/// The true counts, by the header of section 0, or the first refusal by them.
+#[tactic(auto, using(crate::proofs::Refusals::unless_passed, crate::proofs::Refusals::unless_refused), unfolding(crate::specs::Front::counts_by))]
+fn counts_by(h: &Ehdr, first: &Shdr, len: u64) -> Result<Counts, ElfError>
+    ensures counts { result ≡ counts_by h.now first.now len }
+    ensures tables { IfOk result (λ c. HasTables h.now c len) }
+    ensures none { IfOk result (λ c. h.now.phnum ≡ 0 → c.phnum ≡ 0) }
+    ensures err { IfErr result IsRefusal }
+{
+    let counts = Counts {
+        phnum: true_phnum(h, first),
+        shnum: true_shnum(h, first),
+        shstrndx: true_shstrndx(h, first),
+    };
+    check_counts(h, &counts, len)?;
+    Ok(counts)
+}
+
+/// The header of section 0 where it is needed, a header of zeros else.
+#[tactic(auto, unfolding(crate::specs::Front::zero_shdr))]
+fn zero_section_header() -> Shdr
+    ensures { result ≡ zero_shdr }
+{
+    Shdr {
+        name: 0,
+        stype: 0,
+        flags: 0,
+        addr: 0,
+        offset: 0,
+        size: 0,
+        link: 0,
+        info: 0,
+        addralign: 0,
+        entsize: 0,
+    }
+}
+
+/// Reads the header of section 0 where it is needed; a header of zeros stands for it else. It refuses
+/// `Read` alone.
+fn read_first_section<S: Source>(src: &mut S, h: &Ehdr) -> Result<Shdr, ElfError>
+    requires { IsTrue (needs_first h.now) → h.now.shoff + shdr_size h.now.class ≤ S.size src.old }
+    ensures first { IfSome (S.holds src.old) (λ image. Follows result (Ok (first_section h.now image))) }
+    ensures asks { Asks S.Source result src.old src.new (shdr_size h.now.class) }
+    ensures err { IfErr result (λ e. e ≡ ElfError.Read) }
+{
+    if !needs_first(h) {
+        return Ok(zero_section_header());
+    }
+    let mut bytes = [0u8; 64];
+    read_section_header(src, h, &mut bytes)
+}
+
+fn read_section_header<S: Source>(src: &mut S, h: &Ehdr, bytes: &mut [u8]) -> Result<Shdr, ElfError>
+    requires len { length bytes.old ≡ 64 }
+    requires within { h.now.shoff + shdr_size h.now.class ≤ S.size src.old }
+    ensures header { IfSome (S.holds src.old) (λ image. Follows result
+        (Ok (shdr_of h.now.class h.now.order (take (shdr_size h.now.class) (drop h.now.shoff image))))) }
+    ensures asks { Asks S.Source result src.old src.new (shdr_size h.now.class) }
+    ensures err { IfErr result (λ e. e ≡ ElfError.Read) }
+{
+    let size = section_header_size(h.class) as usize;
+    let header = &mut bytes[..size];
+    read(src, h.shoff, header)?;
+    Ok(get_shdr(h.class, h.order, header))
+}
+
+/// The true counts of an image with the header `h`, or the first refusal of the header and of them.
+/// It asks for at most one section header, and refuses `Read` besides.
+pub fn read_counts<S: Source>(src: &mut S, h: &Ehdr) -> Result<Counts, ElfError>
+    ensures counts { IfSome (S.holds src.old) (λ image. Follows result (counts_in h.now image)) }
+    ensures tables { IfOk result (λ c. HasTables h.now c (S.size src.old)) }
+    ensures none { IfOk result (λ c. h.now.phnum ≡ 0 → c.phnum ≡ 0) }
+    ensures asks { Asks S.Source result src.old src.new (shdr_size h.now.class) }
+{
+    let len = src.len();
+    check_header(h, len)?;
+    let first = read_first_section(src, h)?;
+    counts_by(h, &first, len)
+}

@@ -1,0 +1,130 @@
+//! The header and the two tables of an image.
+
+ghost use Rattle.std.specs.Prelude.{◌≡◌, ◌+◌, ◌*◌, ◌^◌, ◌≤◌, ◌⊎◌, length, IfOk, IfErr, IfSome};
+ghost use Rattle.elf_types.specs.Answers.{Follows};
+ghost use Rattle.elf_outside.specs.Asks.{Asks};
+ghost use Rattle.elf_xlate.specs.Headers.{HasNarrowCounts, phdr_size, shdr_size};
+ghost use Rattle.elf_ident.specs.Reading.{HasTables, IsSound, IsCounted};
+ghost use Rattle.elf_ident.specs.Front.{head_in, front, front_with, phdrs_at, shdrs_at, counted, table_bytes, header_bytes, first_bytes, front_bytes};
+
+use crate::counts::{Counts, read_counts};
+use crate::entries::read_entries;
+use crate::headers::read_header;
+use elf_outside::Source;
+use elf_types::{Ehdr, ElfError, Phdrs, Shdrs};
+use std::alloc::Global;
+
+/// The header of an image as it stands there, and its true counts.
+#[derive(Drop)]
+pub struct Head {
+    /// The header, with the counts and the string index as they stand.
+    pub header: Ehdr,
+    /// Bytes 9 to 15 of the identification.
+    pub pad: [u8; 7],
+    /// The true counts and the true string index.
+    pub counts: Counts,
+}
+
+/// The front of an image.
+#[derive(Drop)]
+pub struct Front {
+    /// The header, with the true counts and the true string index.
+    pub ehdr: Ehdr,
+    /// Bytes 9 to 15 of the identification.
+    pub pad: [u8; 7],
+    /// `e_phnum`, `e_shnum` and `e_shstrndx` as they stand in the image.
+    pub written: [u16; 3],
+    /// The program headers.
+    pub phdrs: Phdrs,
+    /// The section headers.
+    pub shdrs: Shdrs,
+}
+
+/// Reads the header, and section 0 where a count stands there.
+fn read_head<S: Source>(src: &mut S) -> Result<Head, ElfError>
+    ensures head { IfSome (S.holds src.old) (λ image. Follows result (head_in image)) }
+    ensures sound { IfOk result (λ head. IsSound head (S.size src.old)) }
+    ensures asks { Asks S.Source result src.old src.new 128 }
+    ensures bound { IfSome (S.holds src.old) (λ image.
+        S.taken src.new ≤ S.taken src.old + (header_bytes image + first_bytes image)) }
+{
+    let (header, pad) = read_header(src)?;
+    let counts = read_counts(src, &header)?;
+    Ok(Head {
+        header,
+        pad,
+        counts,
+    })
+}
+
+/// Reads the two tables, each by one read. It refuses `Memory` and `Read` alone.
+fn read_tables<S: Source>(
+    alloc: Global,
+    src: &mut S,
+    head: &Head,
+) -> Result<(Phdrs, Shdrs), ElfError>
+    requires { IsSound head.now (S.size src.old) }
+    ensures phdrs { IfOk result (λ t. IfSome (S.holds src.old) (λ image.
+        t.0 ≡ phdrs_at head.now.header head.now.counts.phnum image)) }
+    ensures shdrs { IfOk result (λ t. IfSome (S.holds src.old) (λ image.
+        t.1 ≡ shdrs_at head.now.header head.now.counts.shnum image)) }
+    ensures phnum { IfOk result (λ t. length t.0 ≡ head.now.counts.phnum) }
+    ensures shnum { IfOk result (λ t. length t.1 ≡ head.now.counts.shnum) }
+    ensures asks { Asks S.Source result src.old src.new (table_bytes head.now.header head.now.counts) }
+    ensures err { IfErr result (λ e. (e ≡ ElfError.Memory) ⊎ (e ≡ ElfError.Read)) }
+{
+    let h = &head.header;
+    let phdrs = read_entries(alloc, src, h, h.phoff, u64::from(head.counts.phnum))?;
+    let shdrs = read_entries(alloc, src, h, h.shoff, head.counts.shnum)?;
+    Ok((phdrs, shdrs))
+}
+
+fn front_of(head: Head, phdrs: Phdrs, shdrs: Shdrs) -> Front
+    requires narrow { HasNarrowCounts head.header }
+    requires few { head.counts.shnum ≤ 2 ^ 20 }
+    ensures { result ≡ front_with head phdrs shdrs }
+{
+    let written = [
+        head.header.phnum as u16,
+        head.header.shnum as u16,
+        head.header.shstrndx as u16,
+    ];
+    let ehdr = Ehdr {
+        phnum: head.counts.phnum,
+        shnum: head.counts.shnum as u32,
+        shstrndx: head.counts.shstrndx,
+        ..head.header
+    };
+    let pad = head.pad;
+    Front {
+        ehdr,
+        pad,
+        written,
+        phdrs,
+        shdrs,
+    }
+}
+
+/// Reads the front of an image, as elf_begin of elf(3E) does: the header with its true counts (after
+/// extended numbering), the bytes 9 to 15 of the identification, and the two tables.
+///
+/// The first refusal of these is the answer: `Short` (fewer than 16 bytes), `Magic`, `Class`, `Order`,
+/// `Version` (of the identification), `Short` (fewer bytes than the class's header), `Version`
+/// (`e_version`), `TooLarge` (more than 2^40 bytes), `ShTable`, `PhTable` (a table that is not well
+/// formed or does not lie in the image), `TooMany` (more than 2^20 entries). `Read` and `Memory` may
+/// come at any read before.
+///
+/// It asks for at most one header and one section header, and for the two tables where nothing is
+/// refused; each table takes one read.
+///
+/// Source: gABI chapter 4, "ELF Header" and "Sections", chapter 5, "Program Header".
+pub fn read_front<S: Source>(alloc: Global, src: &mut S) -> Result<Front, ElfError>
+    ensures front { IfSome (S.holds src.old) (λ image. Follows result (front image)) }
+    ensures counted { IfOk result IsCounted }
+    ensures asks { Asks S.Source result src.old src.new (128 + 2 ^ 20 * 120) }
+    ensures bound { IfSome (S.holds src.old) (λ image. S.taken src.new ≤ S.taken src.old + front_bytes image) }
+{
+    let head = read_head(src)?;
+    let (phdrs, shdrs) = read_tables(alloc, src, &head)?;
+    Ok(front_of(head, phdrs, shdrs))
+}

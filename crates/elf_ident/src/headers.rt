@@ -1,0 +1,141 @@
+//! The identification and the header of an image.
+
+ghost use Rattle.std.specs.Prelude.{◌≡◌, ◌+◌, ◌-◌, ◌≤◌, length, take, drop, OnOk, IfOk, IfErr, IfSome};
+ghost use Rattle.elf_types.specs.Answers.{Follows, IsRefusal};
+ghost use Rattle.elf_outside.specs.Asks.{Asks};
+ghost use Rattle.elf_xlate.specs.Headers.{HasNarrowCounts, ehdr_size};
+ghost use Rattle.elf_ident.specs.Reading.{HasStart, HasRest};
+ghost use Rattle.elf_ident.specs.Front.{class_named, order_named, ident_in, header_in, header_at, header_bytes};
+
+use crate::file_kinds::ELF_MAGIC;
+use crate::reads::read;
+use elf_outside::Source;
+use elf_types::{Class, Ehdr, ElfError, Order};
+use elf_xlate::get_ehdr;
+
+/// The bytes of the identification, `EI_NIDENT`.
+pub const IDENT_SIZE: usize = 16;
+
+/// The bytes of the longest header, that of class 64.
+pub const MAX_HEADER_SIZE: usize = 64;
+
+/// The class that `e_ident[EI_CLASS]` names.
+fn class_named(code: u8) -> Option<Class>
+    ensures { result ≡ class_named code }
+{
+    match code {
+        1 => Some(Class::C32),
+        2 => Some(Class::C64),
+        _ => None,
+    }
+}
+
+/// The order that `e_ident[EI_DATA]` names.
+fn order_named(code: u8) -> Option<Order>
+    ensures { result ≡ order_named code }
+{
+    match code {
+        1 => Some(Order::Least),
+        2 => Some(Order::Greatest),
+        _ => None,
+    }
+}
+
+/// The number of bytes of a header.
+pub fn header_size(class: Class) -> usize
+    ensures { result ≡ ehdr_size class }
+{
+    match class {
+        Class::C32 => 52,
+        Class::C64 => 64,
+    }
+}
+
+/// The class and the order that an identification names, or the first of `Magic`, `Class`, `Order`
+/// and `Version` that it is refused by.
+#[tactic(auto, unfolding(crate::specs::Front::ident_in, crate::specs::FileKinds::elf_magic))]
+fn ident(bytes: &[u8]) -> Result<(Class, Order), ElfError>
+    requires { length bytes.now ≡ 16 }
+    ensures ident { result ≡ ident_in bytes.now }
+    ensures err { IfErr result IsRefusal }
+{
+    if !bytes.starts_with(&ELF_MAGIC) {
+        return Err(ElfError::Magic);
+    }
+    let Some(class) = class_named(bytes[4]) else {
+        return Err(ElfError::Class);
+    };
+    let Some(order) = order_named(bytes[5]) else {
+        return Err(ElfError::Order);
+    };
+    if bytes[6] != 1 {
+        return Err(ElfError::Version);
+    }
+    Ok((class, order))
+}
+
+/// Reads the identification into `start`.
+fn read_ident<S: Source>(src: &mut S, start: &mut [u8]) -> Result<(Class, Order), ElfError>
+    requires { length start.old ≡ 16 }
+    ensures ident { IfSome (S.holds src.old) (λ image. Follows result (ident_in image)) }
+    ensures start { OnOk result (IfSome (S.holds src.old) (λ image. HasStart image start.new)) }
+    ensures long { OnOk result (16 ≤ S.size src.old) }
+    ensures asks { Asks S.Source result src.old src.new 16 }
+{
+    if src.len() < IDENT_SIZE as u64 {
+        return Err(ElfError::Short);
+    }
+    read(src, 0, start)?;
+    ident(start)
+}
+
+/// Reads the bytes of the header after the identification into the front of `rest`.
+fn read_rest<S: Source>(src: &mut S, class: Class, rest: &mut [u8]) -> Result<(), ElfError>
+    requires len { length rest.old ≡ 48 }
+    requires long { 16 ≤ S.size src.old }
+    ensures rest { IfSome (S.holds src.old) (λ image. HasRest image class result rest.new) }
+    ensures asks { Asks S.Source result src.old src.new (ehdr_size class - 16) }
+{
+    let size = header_size(class);
+    if src.len() < size as u64 {
+        return Err(ElfError::Short);
+    }
+    read(src, IDENT_SIZE as u64, &mut rest[..size - IDENT_SIZE])
+}
+
+/// Bytes 9 to 15 of an identification.
+fn pad_of(bytes: &[u8]) -> [u8; 7]
+    requires { 16 ≤ length bytes.now }
+    ensures { result ≡ take 7 (drop 9 bytes.now) }
+{
+    let mut pad = [0u8; 7];
+    pad.copy_from_slice(&bytes[9..16]);
+    pad
+}
+
+/// The header of an image as it stands there, and bytes 9 to 15 of its identification. It refuses, in
+/// this order, `Short`, `Magic`, `Class`, `Order`, `Version` (of the identification), `Short` (for the
+/// class), and `Read` at any read. It asks for at most one header.
+pub fn read_header<S: Source>(src: &mut S) -> Result<(Ehdr, [u8; 7]), ElfError>
+    ensures header { IfSome (S.holds src.old) (λ image. Follows result (header_in image)) }
+    ensures counts { IfOk result (λ h. HasNarrowCounts h.0) }
+    ensures asks { Asks S.Source result src.old src.new 64 }
+    ensures bound { IfSome (S.holds src.old) (λ image. S.taken src.new ≤ S.taken src.old + header_bytes image) }
+{
+    let mut bytes = [0u8; MAX_HEADER_SIZE];
+    read_header_by(src, &mut bytes)
+}
+
+fn read_header_by<S: Source>(src: &mut S, bytes: &mut [u8]) -> Result<(Ehdr, [u8; 7]), ElfError>
+    requires { length bytes.old ≡ 64 }
+    ensures header { IfSome (S.holds src.old) (λ image. Follows result (header_in image)) }
+    ensures counts { IfOk result (λ h. HasNarrowCounts h.0) }
+    ensures asks { Asks S.Source result src.old src.new 64 }
+    ensures bound { IfSome (S.holds src.old) (λ image. S.taken src.new ≤ S.taken src.old + header_bytes image) }
+{
+    let (start, others) = bytes.split_at_mut(IDENT_SIZE);
+    let (class, order) = read_ident(src, start)?;
+    read_rest(src, class, others)?;
+    let header = get_ehdr(class, order, &bytes[..header_size(class)]);
+    Ok((header, pad_of(bytes)))
+}

@@ -1,0 +1,20 @@
+//! The outside of the system: its files and streams. None of them tells its bytes.
+
+pub mod files;
+pub mod read_ahead;
+pub mod sink;
+pub mod system_file;
+pub mod transfers;
+
+pub use files::RealFiles;
+pub use sink::RealSink;
+
+use read_ahead::ReadAhead;
+use system_file::SystemFile;
+
+/// A file of the system whose small reads are served from a window. It tells no bytes. Its length
+/// is that of the file as it was opened, and as the writes through it changed it since.
+pub type RealFile = ReadAhead<SystemFile>;
+
+#[cfg(test)]
+mod tests;

@@ -1,0 +1,29 @@
+-- Numbers of few bytes.
+use Rattle.std.proofs.Common.{◌≡◌, ℕ, ◌<◌, List, [], ◌∷◌, length, take, get_or, refl, ap, arith}
+use Rattle.std.proofs.lemmas.List.{drop_more, take_all}
+use Rattle.elf_types.specs.declared.records.Order.{Order}
+use Rattle.elf_types.specs.declared.records.Order.TheVariants.{Least, Greatest}
+use Rattle.elf_xlate.specs.Numbers.{by_weight, weighed, number_of, number_at}
+
+number_of_one : (order : Order) (b : ℕ) → number_of order (b ∷ []) ≡ b
+unfolding number_of by_weight weighed
+number_of_one Least b = omega arith
+number_of_one Greatest b = omega arith
+
+-- the number of one byte
+pub number_of_byte : (order : Order) (bytes : List ℕ) (place : ℕ) → place < length bytes → get_or bytes place 0 ≡ number_at order bytes place 1
+unfolding number_at
+number_of_byte order bytes place h =
+    let front = drop_more bytes place 0 h in
+    rw (front, number_of_one order (get_or bytes place 0)) refl
+
+-- the number of no byte
+pub number_of_none : (order : Order) (bytes : List ℕ) → length bytes ≡ 0 → number_of order bytes ≡ 0
+unfolding number_of by_weight weighed
+number_of_none Least [] h = refl
+number_of_none Greatest [] h = refl
+number_of_none order (b ∷ bytes) h = absurd (omega arith)
+
+-- the number of all bytes
+pub number_of_all : (order : Order) (bytes : List ℕ) → number_of order (take (length bytes) bytes) ≡ number_of order bytes
+number_of_all order bytes = ap (number_of order) (take_all (length bytes) bytes (omega arith))

@@ -1,0 +1,47 @@
+-- What the folds over options say, step by step.
+use Rattle.std.proofs.Common.{◌-◌, slice_get, ◌≡◌, ◌++◌, ◌+◌, ◌<◌, ◌≤◌, ◌==◌, List, [], ◌∷◌, ℕ, length, take, drop, get_or, Bool, cond, Option, Some, None, option_map, option_and_then, option_to_list, MatchOption, refl, sym, ap, subst, ◌∙◌, append_assoc, arith}
+use Rattle.std.specs.List.{last_or, filter_map, cons_option}
+use Rattle.std.proofs.lemmas.List.{append-nil, drop_more, drop_all, nil_from_length, take_more}
+use Rattle.std.proofs.lemmas.List.Elements.{filter_map-append}
+use Rattle.tool_text.specs.declared.splitting.Given.{Given}
+use Rattle.tool_text.specs.Reading.{last, only_one, all_values, arguments, argument_of}
+
+last_or-push : {X : Type 0} (o : Option X) (xs : List X) (x : X) → last_or o (xs ++ x ∷ []) ≡ Some x
+last_or-push o [] x = refl
+last_or-push o (y ∷ ys) x = last_or-push (Some y) ys x
+
+-- what is taken from the end is the last
+pub last_popped : {X : Type 0} (xs rest : List X) (r : Option X) (n m : ℕ) → n ≡ length xs → xs ≡ rest ++ option_to_list r → MatchOption r ((n ≡ 0) × (m ≡ 0)) (λ _. m + 1 ≡ n) → r ≡ last xs
+unfolding last
+last_popped xs rest None n m len parts empty = ap (last_or None) (sym (nil_from_length xs (sym len ∙ empty.0)))
+last_popped xs rest (Some x) n m len parts more = sym (ap (last_or None) parts ∙ last_or-push None rest x)
+
+pub last-one : (xs : List (List ℕ)) → length xs ≡ 1 → last xs ≡ only_one xs
+unfolding last only_one
+last-one [] one = absurd (omega arith)
+last-one (x ∷ []) one = refl
+last-one (x ∷ y ∷ xs) one = absurd (omega arith)
+
+one_argument : (a : Option (List ℕ)) → cons_option a [] ≡ option_to_list a
+one_argument None = refl
+one_argument (Some x) = refl
+
+-- the argument of one option more
+pub arguments_more : (letter : ℕ) (options : List Given) (i : ℕ) (o : Given) (words new : List (List ℕ)) (argument : Option (List ℕ)) → i < length options → o ≡ get_or options i o → words ≡ arguments letter (take i options) → argument_of letter o ≡ argument → new ≡ words ++ option_to_list argument → new ≡ arguments letter (take (i + 1) options)
+unfolding arguments
+arguments_more letter options i o words new argument within here so_far is added =
+    let more : take (i + 1) options ≡ take i options ++ o ∷ [] = take_more options i o within ∙ ap (λ x. take i options ++ x ∷ []) (sym here) in
+    added
+    ∙ ap (λ ws. ws ++ option_to_list argument) so_far
+    ∙ ap (λ ws. filter_map (argument_of letter) (take i options) ++ ws) (sym (one_argument argument) ∙ ap (λ a. cons_option a []) (sym is))
+    ∙ sym (ap (filter_map (argument_of letter)) more ∙ filter_map-append (argument_of letter) (take i options) (o ∷ []))
+
+-- the last item by its index
+pub last_read : {X : Type 0} (xs : List X) → slice_get xs (length xs - 1) ≡ last xs
+unfolding last
+last_read [] = refl
+last_read (x ∷ xs) = ap (slice_get (x ∷ xs)) (omega arith) ∙ by_length None x xs
+  where
+    by_length : {X : Type 0} (o : Option X) (x : X) (xs : List X) → slice_get (x ∷ xs) (length xs) ≡ last_or o (x ∷ xs)
+    by_length o x [] = refl
+    by_length o x (y ∷ ys) = by_length (Some x) y ys

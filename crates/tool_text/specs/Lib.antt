@@ -1,0 +1,5 @@
+pub mod Messages
+pub mod Numbers
+pub mod Reading
+pub mod Splitting
+pub mod Usages

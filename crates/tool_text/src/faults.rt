@@ -1,0 +1,41 @@
+//! Why a part of the words is not read.
+
+ghost use Rattle.std.specs.Prelude.{◌≡◌};
+ghost use Rattle.tool_text.specs.declared.faults.Fault.TheVariants.{Memory};
+
+use elf_types::ElfError;
+use std::alloc::{AllocError, AllocFailed};
+
+/// Why a part of the words is not read.
+#[derive(Clone, Copy, Debug, PartialEq, Eq)]
+pub(crate) enum Fault {
+    /// There was no memory.
+    Memory,
+    /// The words are not of the command's form.
+    Words,
+}
+
+impl From<AllocError> for Fault {
+    ghost from_gives = { λ _ e. e ≡ Memory };
+
+    fn from(_e: AllocError) -> Fault {
+        Fault::Memory
+    }
+}
+
+impl<T: Drop> From<AllocFailed<T>> for Fault {
+    ghost from_gives = { λ _ e. e ≡ Memory };
+
+    fn from(_e: AllocFailed<T>) -> Fault {
+        Fault::Memory
+    }
+}
+
+// A list refuses `Memory` alone.
+impl From<ElfError> for Fault {
+    ghost from_gives = { λ _ e. e ≡ Memory };
+
+    fn from(_e: ElfError) -> Fault {
+        Fault::Memory
+    }
+}
