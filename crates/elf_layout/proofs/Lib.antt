@@ -1,2 +1,9 @@
+pub mod Apart
+pub mod FirstMet
 pub mod Lengths
+pub mod Neighbours
+pub mod Placed
+pub mod Ranks
+pub mod Sorting
 pub mod Successive
+pub mod Unique

@@ -1,5 +1,5 @@
 -- Parts one after the other, as a loop over them places them.
-use Rattle.std.proofs.Common.{◌≡◌, ℕ, ◌+◌, ◌<◌, ◌≤◌, ◌⊎◌, max, List, [], ◌∷◌, ◌++◌, length, get_or, drop, Bool, true, false, cond, ◌||◌, nat_lt, ◌&&◌, None, Result, Ok, Err, sym, ◌∙◌, ap, refl, subst, ⊎_elim, arith}
+use Rattle.std.proofs.Common.{◌≡◌, ℕ, ◌+◌, ◌<◌, ◌≤◌, ◌⊎◌, max, List, [], ◌∷◌, ◌++◌, length, get_or, drop, Bool, true, false, cond, ◌||◌, nat_lt, ◌&&◌, Some, None, Result, Ok, Err, sym, ◌∙◌, ap, refl, subst, ⊎_elim, arith}
 use Rattle.std.proofs.lemmas.List.{append_assoc, append-nil, drop_more, drop_all}
 use Rattle.std.proofs.lemmas.Bool.{le-ltb, lt-ltb, or_left, or_right, or_from, cases_lt}
 use Rattle.std.specs.List.{list_any}
@@ -7,7 +7,7 @@ use Rattle.elf_types.specs.declared.errors.ElfError.{ElfError}
 use Rattle.elf_types.specs.declared.errors.ElfError.TheVariants.{TooLarge}
 use Rattle.elf_layout.specs.declared.parts.PartAt.{PartAt}
 use Rattle.elf_layout.specs.declared.parts.Places.{Places}
-use Rattle.elf_layout.specs.Layout.{place_of, end_after, in_order_from, length_from, length_with, some_above, positions, placed, placed_in_order, rounded_up}
+use Rattle.elf_layout.specs.Layout.{place_of, end_after, in_order_from, length_from, length_with, some_above, positions, standing, length_of, places_of, is_too_large, overlap_refusal, refusal_within, placed, placing_within, rounded_up}
 use Rattle.elf_layout.specs.Meeting.{has_bytes, end_of}
 use Rattle.elf_layout.proofs.Lengths.{length_from_ge}
 
@@ -28,7 +28,7 @@ placed_none limit parts = record {
   same_above = refl;
 }
 
-place_of-ge : (end : ℕ) (p : PartAt) → end ≤ place_of end p
+pub place_of-ge : (end : ℕ) (p : PartAt) → end ≤ place_of end p
 unfolding place_of rounded_up
 place_of-ge end p = omega arith
 
@@ -43,7 +43,7 @@ unfolding length_with has_bytes end_of end_after
 length_with_next end length p below =
     length_with_same (place_of end p) p.len end length p.filled (omega (arith, place_of-ge end p))
 
-end_after-ge : (end : ℕ) (p : PartAt) → end ≤ end_after end p
+pub end_after-ge : (end : ℕ) (p : PartAt) → end ≤ end_after end p
 unfolding end_after
 end_after-ge end p =
     elim (p.filled) as (λ b. end ≤ cond b (place_of end p + p.len) end) [ true ↦ omega (arith, place_of-ge end p) | false ↦ omega arith ]
@@ -76,7 +76,7 @@ length_above place len end length limit true end_fits place_fits above =
     rw some (omega arith)
 length_above place len end length limit false end_fits place_fits above = absurd (omega arith)
 
-refuses : (too_large : Bool) (places : Places) → too_large ≡ true → placed None too_large places ≡ Err TooLarge
+refuses : (too_large : Bool) (places : Places) → too_large ≡ true → placed (cond too_large (Some TooLarge) None) places ≡ Err TooLarge
 unfolding placed
 refuses true places e = refl
 refuses false places e = cc
@@ -94,8 +94,8 @@ length_with_above limit end length p end_fits place_fits above =
 pub placed_above : (limit : ℕ) (parts : List PartAt) (p : PartAt) (rest : List PartAt) (at : List ℕ) (end length : ℕ)
   → IsPlacedSoFar limit parts (p ∷ rest) at end length
   → ((place_of end p ≤ limit) × (end_after end p ≤ limit) → ⊥)
-  → placed_in_order parts limit ≡ Err TooLarge
-unfolding placed_in_order in_order_from length_from some_above
+  → placing_within parts false 0 limit ≡ Err TooLarge
+unfolding placing_within refusal_within overlap_refusal is_too_large places_of length_of standing in_order_from length_from some_above
 placed_above limit parts p rest at end length so_far above =
     refuses _ _ (⊎_elim
       (λ (here : limit < place_of end p). or_right _ _ (sym so_far.same_above ∙ or_left _ _ (lt-ltb _ _ here)))
@@ -107,7 +107,7 @@ placed_above limit parts p rest at end length so_far above =
         let long = length_with_above limit end length p so_far.end_fits fits (above_from _ _ _ fits above) in
         omega (arith, long, length_from_ge (length_with length (record p { at = place_of end p })) (in_order_from (end_after end p) rest))
 
-placed_at : (too_large : Bool) (at at' : List ℕ) (end end' : ℕ) → too_large ≡ false → at ≡ at' → end ≡ end' → placed None too_large (record { at = at; end = end }) ≡ Ok (record { at = at'; end = end' })
+placed_at : (too_large : Bool) (at at' : List ℕ) (end end' : ℕ) → too_large ≡ false → at ≡ at' → end ≡ end' → placed (cond too_large (Some TooLarge) None) (record { at = at; end = end }) ≡ Ok (record { at = at'; end = end' })
 unfolding placed
 placed_at true at at' end end' e same_at same_end = cc
 placed_at false at at' end end' e same_at same_end = cc
@@ -115,8 +115,8 @@ placed_at false at at' end end' e same_at same_end = cc
 -- all parts
 pub placed_all : (limit : ℕ) (parts : List PartAt) (at : List ℕ) (end length : ℕ)
   → IsPlacedSoFar limit parts [] at end length
-  → placed_in_order parts limit ≡ Ok (record { at = at; end = length })
-unfolding placed_in_order in_order_from length_from some_above positions
+  → placing_within parts false 0 limit ≡ Ok (record { at = at; end = length })
+unfolding placing_within refusal_within overlap_refusal is_too_large places_of length_of standing in_order_from length_from some_above positions
 placed_all limit parts at end length so_far =
     placed_at _ _ _ _ _
     (or_from _ _ (le-ltb _ _ (omega (arith, so_far.same_length, so_far.length_below, so_far.end_fits))) (sym so_far.same_above))
@@ -146,7 +146,7 @@ pub placed_past : (limit : ℕ) (parts : List PartAt) (i : ℕ) (d : PartAt) (at
   → i < length parts
   → IsPlacedSoFar limit parts (drop i parts) at end length'
   → ((place_of end (get_or parts i d) ≤ limit) × (end_after end (get_or parts i d) ≤ limit) → ⊥)
-  → placed_in_order parts limit ≡ Err TooLarge
+  → placing_within parts false 0 limit ≡ Err TooLarge
 placed_past limit parts i d at end length' inside so_far above =
     placed_above limit parts (get_or parts i d) (drop (i + 1) parts) at end length'
     (subst (λ (rest : List PartAt). IsPlacedSoFar limit parts rest at end length') (drop_more parts i d inside) so_far)
@@ -155,7 +155,12 @@ placed_past limit parts i d at end length' inside so_far above =
 pub placed_end : (limit : ℕ) (parts : List PartAt) (i : ℕ) (at : List ℕ) (end length' : ℕ)
   → length parts ≤ i
   → IsPlacedSoFar limit parts (drop i parts) at end length'
-  → placed_in_order parts limit ≡ Ok (record { at = at; end = length' })
+  → placing_within parts false 0 limit ≡ Ok (record { at = at; end = length' })
 placed_end limit parts i at end length' outside so_far =
     placed_all limit parts at end length'
     (subst (λ (rest : List PartAt). IsPlacedSoFar limit parts rest at end length') (drop_all i parts outside) so_far)
+
+-- where the parts stand one after the other, the bytes that are there already do not count
+pub placing_anew : (parts : List PartAt) (base limit : ℕ) → placing_within parts false base limit ≡ placing_within parts false 0 limit
+unfolding placing_within refusal_within is_too_large places_of length_of
+placing_anew parts base limit = refl

@@ -1,18 +1,18 @@
--- Where the parts of an image stand, and which images are too large.
-use Rattle.std.specs.Prelude.{ℕ, ◌+◌, ◌-◌, ◌*◌, ◌/◌, ◌^◌, max, nat_lt, List, [], ◌∷◌, map, Bool, true, false, ◌&&◌, ◌||◌, if◌then◌else◌, Option, Some, None, Result, Ok, Err}
+-- Where the parts of an image stand, how long the image is, and which images are refused (gABI
+-- chapter 4, "ELF Header" and "Section Header"; ELF_F_LAYOUT of elf(3E)).
+use Rattle.std.specs.Prelude.{ℕ, ◌+◌, ◌-◌, ◌^◌, max, nat_lt, List, [], ◌∷◌, map, Bool, not, ◌&&◌, ◌||◌, if◌then◌else◌, Option, Some, None, Result, Ok, Err}
 use Rattle.std.specs.Int.{next_multiple_of}
 use Rattle.std.specs.List.{list_any}
+use Rattle.std.specs.Option.{option_map, option_or}
 use Rattle.elf_types.specs.declared.records.Class.{Class}
 use Rattle.elf_types.specs.declared.records.Class.TheVariants.{C32, C64}
-use Rattle.elf_types.specs.declared.records.Part.{Part}
 use Rattle.elf_types.specs.declared.errors.ElfError.{ElfError}
 use Rattle.elf_types.specs.declared.errors.ElfError.TheVariants.{Overlap, TooLarge}
 use Rattle.elf_layout.specs.declared.parts.PartAt.{PartAt}
 use Rattle.elf_layout.specs.declared.parts.Places.{Places}
 use Rattle.elf_layout.specs.Meeting.{has_bytes, end_of, overlap_of}
 
--- the least multiple of the alignment that is not below n; sh_addralign 0 means what 1 does
--- (gABI chapter 4, "Section Header")
+-- the least multiple of the alignment that is not below n; an sh_addralign of 0 means what 1 does
 unfoldable pub rounded_up : ℕ → ℕ → ℕ
 rounded_up n align = next_multiple_of n (max align 1)
 
@@ -20,53 +20,71 @@ rounded_up n align = next_multiple_of n (max align 1)
 unfoldable pub place_of : ℕ → PartAt → ℕ
 place_of end p = rounded_up end p.align
 
--- the end after it, which a part without bytes in the image does not move
+-- the end after it; a part of which the image holds nothing does not move it
 unfoldable pub end_after : ℕ → PartAt → ℕ
 end_after end p = if p.filled then place_of end p + p.len else end
 
--- the parts one after the other
+-- the parts one after the other, from an end on
 unfoldable pub in_order_from : ℕ → List PartAt → List PartAt
 in_order_from end [] = []
 in_order_from end (p ∷ ps) = record p { at = place_of end p } ∷ in_order_from (end_after end p) ps
 
--- the image's length with one more part
+-- the parts at their positions: under ELF_F_LAYOUT where the caller puts them
+unfoldable pub standing : List PartAt → Bool → List PartAt
+standing parts layout = if layout then parts else in_order_from 0 parts
+
+-- the greatest end of a part that is not empty, and at least a length
 unfoldable pub length_with : ℕ → PartAt → ℕ
 length_with length p = if has_bytes p then max length (end_of p) else length
 
--- the image's length: the greatest end of a part that is not empty, and at least a length
 unfoldable pub length_from : ℕ → List PartAt → ℕ
-length_from least [] = least
-length_from least (p ∷ ps) = length_from (length_with least p) ps
+length_from length [] = length
+length_from length (p ∷ ps) = length_from (length_with length p) ps
+
+-- the image's length; under ELF_F_LAYOUT the bytes that are there already stay
+unfoldable pub length_of : List PartAt → Bool → ℕ → ℕ
+length_of parts layout base = length_from (if layout then base else 0) (standing parts layout)
+
+unfoldable pub positions : List PartAt → List ℕ
+positions ps = map (λ p. p.at) ps
+
+unfoldable pub places_of : List PartAt → Bool → ℕ → Places
+places_of parts layout base = record { at = positions (standing parts layout); end = length_of parts layout base }
 
 -- the greatest length of an image, and the greatest place in it that a header may name
 unfoldable pub limit_of : Class → ℕ
 limit_of C32 = 2 ^ 32 - 1
 limit_of C64 = 2 ^ 40
 
--- some part stands above the limit
 unfoldable pub some_above : ℕ → List PartAt → Bool
 some_above limit ps = list_any (λ p. nat_lt limit p.at) ps
 
-unfoldable pub positions : List PartAt → List ℕ
-positions ps = map (λ p. p.at) ps
+-- The length is above the limit, or a position that is not the caller's. Every part counts, though
+-- no header stores that of SHT_NULL: it is the end so far, so above the limit only behind a part
+-- that is there already or ends there.
+unfoldable pub is_too_large : List PartAt → Bool → ℕ → ℕ → Bool
+is_too_large parts layout base limit =
+    nat_lt limit (length_of parts layout base) || not layout && some_above limit (standing parts layout)
 
--- the refusals in their order, or the places
-unfoldable pub placed : Option (Part × Part) → Bool → Places → Result Places ElfError
-placed (Some pair) too_large places = Err (Overlap pair.0 pair.1)
-placed None true places = Err TooLarge
-placed None false places = Ok places
+-- the refusals in their order: two parts at the caller's positions share a byte; too large
+unfoldable pub overlap_refusal : List PartAt → Bool → Option ElfError
+overlap_refusal parts layout = if layout then option_map (λ pair. Overlap pair.0 pair.1) (overlap_of parts) else None
 
--- without ELF_F_LAYOUT
-unfoldable pub placed_in_order : List PartAt → ℕ → Result Places ElfError
-placed_in_order parts limit =
-    let ps = in_order_from 0 parts in
-    placed None (nat_lt limit (length_from 0 ps) || some_above limit ps) (record { at = positions ps; end = length_from 0 ps })
+unfoldable pub refusal_within : List PartAt → Bool → ℕ → ℕ → Option ElfError
+refusal_within parts layout base limit =
+    option_or (overlap_refusal parts layout) (if is_too_large parts layout base limit then Some TooLarge else None)
 
--- with ELF_F_LAYOUT, over an image of a length
-unfoldable pub placed_by_caller : List PartAt → ℕ → ℕ → Result Places ElfError
-placed_by_caller ps base limit =
-    placed (overlap_of ps) (nat_lt limit (length_from base ps)) (record { at = positions ps; end = length_from base ps })
+-- the places, where nothing is refused
+unfoldable pub placed : Option ElfError → Places → Result Places ElfError
+placed None places = Ok places
+placed (Some e) places = Err e
+
+unfoldable pub placing_within : List PartAt → Bool → ℕ → ℕ → Result Places ElfError
+placing_within parts layout base limit = placed (refusal_within parts layout base limit) (places_of parts layout base)
+
+-- the same under the limit of a class
+unfoldable pub refusal_of : List PartAt → Bool → ℕ → Class → Option ElfError
+refusal_of parts layout base class = refusal_within parts layout base (limit_of class)
 
 unfoldable pub placing : List PartAt → Bool → ℕ → Class → Result Places ElfError
-placing parts true base class = placed_by_caller parts base (limit_of class)
-placing parts false base class = placed_in_order parts (limit_of class)
+placing parts layout base class = placing_within parts layout base (limit_of class)

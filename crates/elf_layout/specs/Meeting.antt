@@ -1,6 +1,6 @@
 -- Which parts of an image share a byte.
-use Rattle.std.specs.Prelude.{ℕ, ◌+◌, nat_lt, nat_le, List, [], ◌∷◌, Bool, ◌&&◌, if◌then◌else◌, Option, None, slice_get}
-use Rattle.std.specs.List.{list_any}
+use Rattle.std.specs.Prelude.{ℕ, ◌+◌, ◌<◌, nat_lt, nat_le, List, [], ◌∷◌, Bool, IsTrue, ◌&&◌, if◌then◌else◌, Option, None, slice_get, All}
+use Rattle.std.specs.List.{list_any, filter, AllPairs}
 use Rattle.std.specs.Option.{option_map}
 use Rattle.elf_types.specs.declared.records.Part.{Part}
 use Rattle.elf_layout.specs.declared.parts.PartAt.{PartAt}
@@ -17,15 +17,31 @@ end_of p = p.at + p.len
 unfoldable pub meets : PartAt → PartAt → Bool
 meets a b = has_bytes a && has_bytes b && nat_lt a.at (end_of b) && nat_lt b.at (end_of a)
 
--- a part put among parts by position, before those at its own
-unfoldable pub inserted : PartAt → List PartAt → List PartAt
-inserted p [] = p ∷ []
-inserted p (q ∷ qs) = if nat_le p.at q.at then p ∷ q ∷ qs else q ∷ inserted p qs
+-- the byte of the image at a place is one of the part's
+unfoldable pub covers : PartAt → ℕ → Bool
+covers p n = p.filled && nat_le p.at n && nat_lt n (end_of p)
 
--- the parts that are not empty, by position and then by rank, which is the order of the list
+-- no byte of the image is one of two parts
+abbrev pub IsApart : List PartAt → Type 0
+IsApart ps = AllPairs (λ p q. (n : ℕ) → IsTrue (covers p n) → IsTrue (covers q n) → ⊥) ps
+
+-- the parts have no byte at a length or behind it
+abbrev pub LiesWithin : ℕ → List PartAt → Type 0
+LiesWithin length ps = All (λ p. (n : ℕ) → IsTrue (covers p n) → n < length) ps
+
+-- an item put among items by a key, before those with its own
+abbrev pub inserted_by : {X : Type 0} → (X → ℕ) → X → List X → List X
+inserted_by key x [] = x ∷ []
+inserted_by key x (y ∷ ys) = if nat_le (key x) (key y) then x ∷ y ∷ ys else y ∷ inserted_by key x ys
+
+-- the items by a key, and those with one key in the order of the list
+abbrev pub sorted_by : {X : Type 0} → (X → ℕ) → List X → List X
+sorted_by key [] = []
+sorted_by key (x ∷ xs) = inserted_by key x (sorted_by key xs)
+
+-- the parts that are not empty, by position and then by rank
 unfoldable pub listed : List PartAt → List PartAt
-listed [] = []
-listed (p ∷ ps) = if has_bytes p then inserted p (listed ps) else listed ps
+listed ps = sorted_by (λ p. p.at) (filter has_bytes ps)
 
 -- the first that a later one meets, and the one next after it
 unfoldable pub first_met : List PartAt → Option (Part × Part)

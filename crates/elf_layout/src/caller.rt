@@ -1,9 +1,9 @@
 //! The layout with `ELF_F_LAYOUT`: the parts stand where the caller puts them.
 
-ghost use Rattle.std.specs.Prelude.{◌≡◌, ◌≤◌, ◌⊎◌, IfOk, IfErr, Ok, Err};
+ghost use Rattle.std.specs.Prelude.{◌≡◌, ◌≤◌, ◌⊎◌, IfOk, IfErr, Ok, Err, true};
 ghost use Rattle.std.specs.Option.{SomeIff};
 ghost use Rattle.elf_types.specs.declared.errors.ElfError.TheVariants.{Memory};
-ghost use Rattle.elf_layout.specs.Layout.{placed_by_caller, length_from, length_with, positions};
+ghost use Rattle.elf_layout.specs.Layout.{placing_within, length_from, length_with, positions};
 
 use crate::overlap::overlap;
 use crate::parts::{PartAt, Places};
@@ -15,14 +15,15 @@ use std::alloc::Global;
 ///
 /// It refuses, in this order, `Overlap` where two parts share a byte, `TooLarge` where the image's
 /// length is above `limit`, and `Memory`.
+#[tactic(auto, unfolding(crate::specs::Layout::placing_within, crate::specs::Layout::placed, crate::specs::Layout::refusal_within, crate::specs::Layout::places_of, crate::specs::Layout::length_of, crate::specs::Layout::standing, crate::specs::Layout::overlap_refusal, crate::specs::Layout::is_too_large))]
 pub fn place_by_caller(
     alloc: Global,
     parts: &[PartAt],
     base: u64,
     limit: u64,
 ) -> Result<Places, ElfError>
-    ensures ok { IfOk result (λ places. placed_by_caller parts.now base limit ≡ Ok places) }
-    ensures err { IfErr result (λ e. (e ≡ Memory) ⊎ (placed_by_caller parts.now base limit ≡ Err e)) }
+    ensures ok { IfOk result (λ places. placing_within parts.now true base limit ≡ Ok places) }
+    ensures err { IfErr result (λ e. (e ≡ Memory) ⊎ (placing_within parts.now true base limit ≡ Err e)) }
 {
     if let Some((a, b)) = overlap(alloc, parts)? {
         return Err(ElfError::Overlap { a, b });

@@ -1,9 +1,9 @@
 //! The layout without `ELF_F_LAYOUT`: the parts stand one after the other.
 
-ghost use Rattle.std.specs.Prelude.{◌≡◌, ◌≤◌, ◌⊎◌, IfOk, IfErr, Ok, Err};
+ghost use Rattle.std.specs.Prelude.{◌≡◌, ◌≤◌, ◌⊎◌, IfOk, IfErr, Ok, Err, false};
 ghost use Rattle.std.specs.Option.{SomeIff};
 ghost use Rattle.elf_types.specs.declared.errors.ElfError.TheVariants.{Memory};
-ghost use Rattle.elf_layout.specs.Layout.{placed_in_order, place_of, end_after};
+ghost use Rattle.elf_layout.specs.Layout.{placing_within, place_of, end_after};
 
 use crate::parts::{PartAt, Places};
 use crate::rounding::rounded_within;
@@ -15,8 +15,8 @@ use std::alloc::Global;
 ///
 /// It refuses `TooLarge` where a position or the image's length is above `limit`, and `Memory`.
 pub fn place_in_order(alloc: Global, parts: &[PartAt], limit: u64) -> Result<Places, ElfError>
-    ensures ok { IfOk result (λ places. placed_in_order parts.now limit ≡ Ok places) }
-    ensures err { IfErr result (λ e. (e ≡ Memory) ⊎ (placed_in_order parts.now limit ≡ Err e)) }
+    ensures ok { IfOk result (λ places. placing_within parts.now false 0 limit ≡ Ok places) }
+    ensures err { IfErr result (λ e. (e ≡ Memory) ⊎ (placing_within parts.now false 0 limit ≡ Err e)) }
 {
     let mut at = Addrs::with_capacity(alloc, parts.len() as u64)?;
     let mut end = 0;

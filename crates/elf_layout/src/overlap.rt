@@ -1,8 +1,8 @@
 //! Parts that share a byte.
 
-ghost use Rattle.std.specs.Prelude.{◌≡◌, ◌<◌, IfOk, IfErr, All, length};
-ghost use Rattle.std.specs.List.Sorted.{IsSorted, IsPermutation};
+ghost use Rattle.std.specs.Prelude.{◌≡◌, IfOk, IfErr};
 ghost use Rattle.elf_types.specs.declared.errors.ElfError.TheVariants.{Memory};
+ghost use Rattle.elf_layout.specs.Extents.{extents_of, first_close};
 ghost use Rattle.elf_layout.specs.Meeting.{overlap_of};
 
 use crate::parts::PartAt;
@@ -25,28 +25,36 @@ pub fn overlap(alloc: Global, parts: &[PartAt]) -> Result<Option<(Part, Part)>, 
 {
     let mut extents = extents(alloc, parts)?;
     extents.sort_unstable();
-    Ok(first_met(&extents).map(|(a, b)| (parts[a].part, parts[b].part)))
+    let Some((a, b)) = first_close(&extents) else {
+        return Ok(None);
+    };
+    Ok(Some((parts[a].part, parts[b].part)))
 }
 
-/// The parts that are not empty, with their ranks.
+/// The parts that are not empty, with their ranks, in the order of the parts. It refuses `Memory`
+/// alone.
+#[tactic(auto, unfolding(crate::specs::Extents::extents_of, crate::specs::Extents::ranked_from, crate::specs::Extents::extent_of))]
 fn extents(alloc: Global, parts: &[PartAt]) -> Result<Vec<Extent>, ElfError>
+    ensures ok { IfOk result (λ extents. extents.items ≡ extents_of parts.now) }
+    ensures err { IfErr result (λ e. e ≡ Memory) }
 {
-    let mut extents = Vec::with_capacity(alloc, parts.len())?;
-    for (rank, part) in parts.iter().enumerate() {
-        if part.filled && part.len > 0 {
-            extents.push(Extent { at: part.at, rank, len: part.len })?;
-        }
-    }
+    let extents = parts
+        .iter()
+        .enumerate()
+        .filter(|(_, part)| part.has_bytes())
+        .map(|(rank, part)| Extent { at: part.at, rank, len: part.len })
+        .collect(alloc)?;
     Ok(extents)
 }
 
-/// The ranks of the first two neighbours that share a byte.
-fn first_met(extents: &[Extent]) -> Option<(usize, usize)>
+/// The ranks of the first two neighbours of which the later begins before the earlier ends.
+fn first_close(extents: &[Extent]) -> Option<(usize, usize)>
+    ensures { result ≡ first_close extents.now }
 {
-    for (i, next) in extents.iter().enumerate().skip(1) {
-        let a = extents[i - 1];
-        if next.at.saturating_sub(a.at) < a.len {
-            return Some((a.rank, next.rank));
+    for next in 1..extents.len() {
+        let (a, b) = (extents[next - 1], extents[next]);
+        if b.at.saturating_sub(a.at) < a.len {
+            return Some((a.rank, b.rank));
         }
     }
     None

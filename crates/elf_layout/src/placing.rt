@@ -1,16 +1,30 @@
 //! Placing the parts of an image.
 
-ghost use Rattle.std.specs.Prelude.{◌≡◌, ◌⊎◌, IfOk, IfErr, Ok, Err};
+ghost use Rattle.std.specs.Prelude.{◌≡◌, ◌≤◌, ◌⊎◌, IfOk, IfErr, Ok, Err, All};
+ghost use Rattle.std.specs.Bool.{OnFalse};
 ghost use Rattle.elf_types.specs.declared.errors.ElfError.TheVariants.{Memory};
-ghost use Rattle.elf_layout.specs.Layout.{placing, limit_of};
+ghost use Rattle.elf_layout.specs.Layout.{placing, placing_within, standing, limit_of};
+ghost use Rattle.elf_layout.specs.Meeting.{IsApart, LiesWithin};
 
 use crate::caller::place_by_caller;
 use crate::order::place_in_order;
-use crate::parts::{Parts, Places};
+use crate::parts::{PartAt, Parts, Places};
 use elf_types::{Class, ElfError};
 use std::alloc::Global;
 
-/// Where the parts of an image stand, and the image's length.
+/// Where the parts of an image stand, and the image's length in bytes.
+///
+/// Without `layout` each part stands at the end so far, rounded up to its alignment, from 0 on, and
+/// `at` and `base` do not count; parts that are not filled leave the end where it is. With `layout`
+/// each part stands at its `at`, and the image keeps the `base` bytes that it has already. The
+/// length is the greatest end of a part that is filled and not empty, and with `layout` at least
+/// `base`.
+///
+/// It refuses, in this order: `Overlap`, with `layout`, where two such parts share a byte, with the
+/// first, in the order by position and then by rank, that a later one meets, and the part next
+/// after it; `TooLarge` where the length, or without `layout` a position, is above 2^40 in class 64
+/// and 2^32 - 1 in class 32; and `Memory`.
+#[tactic(auto, unfolding(crate::specs::Layout::placing))]
 pub fn place(
     alloc: Global,
     parts: &Parts,
@@ -20,12 +34,33 @@ pub fn place(
 ) -> Result<Places, ElfError>
     ensures ok { IfOk result (λ places. placing parts.now layout base class ≡ Ok places) }
     ensures err { IfErr result (λ e. (e ≡ Memory) ⊎ (placing parts.now layout base class ≡ Err e)) }
+
+    // What the places are good for: no byte of the image is one of two parts, and none lies past
+    // its end.
+    ensures apart { IfOk result (λ _. IsApart (standing parts.now layout)) }
+    ensures within { IfOk result (λ places. LiesWithin places.end (standing parts.now layout)) }
+    ensures length { IfOk result (λ places. places.end ≤ limit_of class) }
+    ensures positions { OnFalse layout (IfOk result (λ places. All (λ n. n ≤ limit_of class) places.at)) }
 {
-    let limit = limit(class);
+    place_within(alloc, parts.as_slice(), layout, base, limit(class))
+}
+
+/// The same under any limit on the length and on the positions.
+#[tactic(auto, using(crate::proofs::Successive::placing_anew))]
+fn place_within(
+    alloc: Global,
+    parts: &[PartAt],
+    layout: bool,
+    base: u64,
+    limit: u64,
+) -> Result<Places, ElfError>
+    ensures ok { IfOk result (λ places. placing_within parts.now layout base limit ≡ Ok places) }
+    ensures err { IfErr result (λ e. (e ≡ Memory) ⊎ (placing_within parts.now layout base limit ≡ Err e)) }
+{
     if layout {
-        place_by_caller(alloc, parts.as_slice(), base, limit)
+        place_by_caller(alloc, parts, base, limit)
     } else {
-        place_in_order(alloc, parts.as_slice(), limit)
+        place_in_order(alloc, parts, limit)
     }
 }
 

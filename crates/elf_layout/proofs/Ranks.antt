@@ -1,0 +1,110 @@
+-- The extents of an image's parts, sorted by position and rank.
+use Rattle.std.proofs.Common.{◌≡◌, ℕ, ◌+◌, ◌<◌, ◌≤◌, List, [], ◌∷◌, length, get_or, drop, map, Bool, true, false, cond, nat_cmp, Ordering, nat_le, sym, ◌∙◌, ap, refl, subst, arith}
+use Rattle.std.specs.Bool.{⊤}
+use Rattle.std.specs.Ordering.{is_lt, ordering_then}
+use Rattle.std.specs.declared.cmp.Ordering.TheVariants.{Less, Equal, Greater}
+use Rattle.std.specs.Cmp.{IsTotalOrder}
+use Rattle.std.specs.List.{AllByRecursion, sum_by, filter, enumerate_from}
+use Rattle.std.specs.List.Sorted.{IsSorted, IsPermutation}
+use Rattle.std.proofs.lemmas.Cmp.{nat_cmp_total, then_total, on_total}
+use Rattle.std.proofs.lemmas.Map.Lookups.{exact_unsigned}
+use Rattle.std.proofs.lemmas.List.Sorted.{sum_by-IsPermutation}
+use Rattle.std.proofs.lemmas.Bool.{leb-true, leb-false}
+use Rattle.std.proofs.lemmas.Bool.Decides.{nat_tests}
+use Rattle.elf_layout.specs.declared.parts.PartAt.{PartAt}
+use Rattle.elf_layout.specs.declared.overlap.Extent.{Extent}
+use Rattle.elf_layout.specs.Meeting.{has_bytes, inserted_by, sorted_by}
+use Rattle.elf_layout.specs.Extents.{ranked_from, extent_of, extents_of}
+use Rattle.elf_layout.proofs.Sorting.{all_weaker, all_both, all-inserted_by, all-sorted_by, sum_by-sorted_by, map-sorted_by}
+use Rattle.elf_layout.proofs.Unique.{Rises, Rises-from_sorted, unique}
+
+-- the derived order
+abbrev pub extent_cmp : Extent → Extent → Ordering
+extent_cmp x y = ordering_then (nat_cmp x.at y.at) (ordering_then (nat_cmp x.rank y.rank) (nat_cmp x.len y.len))
+
+extent_cmp_total : IsTotalOrder extent_cmp
+extent_cmp_total =
+    then_total (on_total (λ (e : Extent). e.at) nat_cmp_total) (then_total (on_total (λ (e : Extent). e.rank) nat_cmp_total) (on_total (λ (e : Extent). e.len) nat_cmp_total))
+
+then_equal : (r s : Ordering) → ordering_then r s ≡ Equal → (r ≡ Equal) × (s ≡ Equal)
+then_equal Less s e = absurd (let h : Less ≡ Equal = e in cc)
+then_equal Equal s e = (refl, e)
+then_equal Greater s e = absurd (let h : Greater ≡ Equal = e in cc)
+
+same_extent : (at at' rank rank' len len' : ℕ) → at ≡ at' → rank ≡ rank' → len ≡ len' → ◌≡◌ {A = Extent} (record { at = at; rank = rank; len = len }) (record { at = at'; rank = rank'; len = len' })
+same_extent at at' rank rank' len len' same_at same_rank same_len = cc
+
+extent_cmp_exact : (x y : Extent) → extent_cmp x y ≡ Equal → x ≡ y
+extent_cmp_exact x y e =
+    let at = then_equal _ _ e in
+    let rest = then_equal _ _ at.1 in
+    same_extent _ _ _ _ _ _ (exact_unsigned x.at y.at at.0) (exact_unsigned x.rank y.rank rest.0) (exact_unsigned x.len y.len rest.1)
+
+-- what the order tells of positions and ranks
+position_above : (x y : Extent) → y.at < x.at → is_lt (extent_cmp x y) ≡ false
+position_above x y above = grind (arith, nat_tests)
+
+rank_above : (x y : Extent) → y.at ≤ x.at → y.rank < x.rank → is_lt (extent_cmp x y) ≡ false
+rank_above x y above ranks = grind (arith, nat_tests)
+
+position_from : (x y : Extent) → is_lt (extent_cmp x y) ≡ false → y.at ≤ x.at
+position_from x y e = grind (arith, nat_tests)
+
+rises_either : (e f : Extent) (es : List Extent) → AllByRecursion (λ g. e.rank < g.rank) (f ∷ es) → Rises extent_cmp (f ∷ es) → Rises extent_cmp (inserted_by (λ g. g.at) e es) → (b : Bool) → (b ≡ true → e.at ≤ f.at) → (b ≡ false → f.at < e.at) → Rises extent_cmp (cond b (e ∷ f ∷ es) (f ∷ inserted_by (λ g. g.at) e es))
+rises_either e f es ranks rises rest true below above =
+    let first : e.at ≤ f.at = below refl in
+    ((rank_above f e first ranks.0,
+      all_both (λ g. is_lt (extent_cmp g f) ≡ false) (λ g. e.rank < g.rank) (λ g. is_lt (extent_cmp g e) ≡ false)
+        (λ g later rank. let second : f.at ≤ g.at = position_from g f later in rank_above g e (omega arith) rank) es rises.0 ranks.1),
+     rises)
+rises_either e f es ranks rises rest false below above =
+    (all-inserted_by (λ g. g.at) (λ g. is_lt (extent_cmp g f) ≡ false) e es (position_above e f (above refl)) rises.0, rest)
+
+rises-inserted_by : (e : Extent) (es : List Extent) → AllByRecursion (λ g. e.rank < g.rank) es → Rises extent_cmp es → Rises extent_cmp (inserted_by (λ g. g.at) e es)
+rises-inserted_by e [] ranks rises = (tt, tt)
+rises-inserted_by e (f ∷ es) ranks rises =
+    rises_either e f es ranks rises (rises-inserted_by e es ranks.1 rises.1) (nat_le e.at f.at) (leb-true e.at f.at) (leb-false e.at f.at)
+
+-- extents in the order of their ranks
+abbrev Ascends : List Extent → Type 0
+Ascends [] = ⊤
+Ascends (e ∷ es) = AllByRecursion (λ f. e.rank < f.rank) es × Ascends es
+
+rises-sorted_by : (es : List Extent) → Ascends es → Rises extent_cmp (sorted_by (λ e. e.at) es)
+rises-sorted_by [] ascends = tt
+rises-sorted_by (e ∷ es) ascends =
+    rises-inserted_by e (sorted_by (λ f. f.at) es) (all-sorted_by (λ f. f.at) (λ f. e.rank < f.rank) es ascends.0) (rises-sorted_by es ascends.1)
+
+ranks_from : (rank : ℕ) (ps : List PartAt) → AllByRecursion (λ e. rank ≤ e.rank) (map extent_of (ranked_from rank ps))
+unfolding ranked_from extent_of
+ranks_from rank [] = tt
+ranks_from rank (p ∷ ps) =
+    let later = all_weaker (λ e. rank + 1 ≤ e.rank) (λ e. rank ≤ e.rank) (λ e h. omega arith) _ (ranks_from (rank + 1) ps) in
+    elim (has_bytes p) as (λ b. AllByRecursion (λ e. rank ≤ e.rank) (map extent_of (cond b ((rank, p) ∷ ranked_from (rank + 1) ps) (ranked_from (rank + 1) ps)))) [
+      true ↦ (omega arith, later)
+      | false ↦ later
+    ]
+
+ascends-ranked_from : (rank : ℕ) (ps : List PartAt) → Ascends (map extent_of (ranked_from rank ps))
+unfolding ranked_from extent_of
+ascends-ranked_from rank [] = tt
+ascends-ranked_from rank (p ∷ ps) =
+    let later = all_weaker (λ e. rank + 1 ≤ e.rank) (λ e. rank < e.rank) (λ e h. omega arith) _ (ranks_from (rank + 1) ps) in
+    elim (has_bytes p) as (λ b. Ascends (map extent_of (cond b ((rank, p) ∷ ranked_from (rank + 1) ps) (ranked_from (rank + 1) ps)))) [
+      true ↦ (later, ascends-ranked_from (rank + 1) ps)
+      | false ↦ ascends-ranked_from (rank + 1) ps
+    ]
+
+-- the parts that are not empty, with their ranks, by position and then by rank
+abbrev pub ranked_listed : List PartAt → List (ℕ × PartAt)
+ranked_listed ps = sorted_by (λ x. x.1.at) (ranked_from 0 ps)
+
+-- what the sort leaves
+pub sorted_extents : (ps : List PartAt) (es : List Extent) → IsPermutation (extents_of ps) es → IsSorted extent_cmp es → es ≡ map extent_of (ranked_listed ps)
+unfolding extents_of extent_of
+sorted_extents ps es moved sorted =
+    unique extent_cmp extent_cmp_total extent_cmp_exact es (sorted_by (λ e. e.at) (extents_of ps))
+      (Rises-from_sorted extent_cmp extent_cmp_total es sorted)
+      (rises-sorted_by (extents_of ps) (ascends-ranked_from 0 ps))
+      (λ f. sum_by-IsPermutation f (extents_of ps) es moved ∙ sym (sum_by-sorted_by (λ e. e.at) f (extents_of ps)))
+    ∙ sym (map-sorted_by extent_of (λ e. e.at) (ranked_from 0 ps))
