@@ -1,5 +1,5 @@
 -- A section's data in its file form and in its memory form (gABI chapter 4, "Data Representation").
-use Rattle.std.specs.Prelude.{ℕ, ◌*◌, ◌/◌, ◌%◌, ◌^◌, ◌<◌, List, [], length, take, drop, map, Bool, not, ◌==◌, if◌then◌else◌, Option, Some, None}
+use Rattle.std.specs.Prelude.{ℕ, ◌*◌, ◌/◌, ◌%◌, ◌^◌, ◌<◌, List, [], length, take, drop, map, Bool, not, ◌==◌, if◌then◌else◌, Option, Some, None, Result, Ok, Err, IsSome, ◌≡◌}
 use Rattle.std.specs.Option.{option_map}
 use Rattle.std.specs.List.{range_with_len, flat_map, position, All}
 use Rattle.elf_types.specs.declared.records.Class.{Class}
@@ -8,6 +8,8 @@ use Rattle.elf_types.specs.declared.records.Kind.{Kind}
 use Rattle.elf_types.specs.declared.records.Kind.TheVariants as kinds
 use Rattle.elf_xlate.specs.declared.content.Items.{Items}
 use Rattle.elf_xlate.specs.declared.content.Items.TheVariants.{Empty, Bytes, Half, Word, Addr, Sym, Rel, Rela, Dyn}
+use Rattle.elf_xlate.specs.declared.failure.XlateError.{XlateError}
+use Rattle.elf_xlate.specs.declared.failure.XlateError.TheVariants as errors
 use Rattle.elf_xlate.specs.Fields.{fits}
 use Rattle.elf_xlate.specs.Items.{item_size, half_of, word_of, addr_of, sym_of, rel_of, rela_of, dyn_of, half_bytes, word_bytes, addr_bytes, sym_bytes, rel_bytes, rela_bytes, dyn_bytes, sym_fits, rel_fits, rela_fits, dyn_fits, IsSym, IsRel, IsRela, IsDyn}
 
@@ -99,3 +101,19 @@ AreItems (Sym l) = All IsSym l
 AreItems (Rel l) = All IsRel l
 AreItems (Rela l) = All IsRela l
 AreItems (Dyn l) = All IsDyn l
+
+-- a translation to memory gives what is stated: the items, or that the bytes are ragged. Only where they are
+-- not can it want memory.
+abbrev pub Gives : {X : Type 0} → Result X XlateError → Option X → Type 0
+Gives (Ok x) stated = stated ≡ Some x
+Gives (Err errors.Memory) stated = IsSome stated
+Gives (Err errors.Ragged) stated = stated ≡ None
+Gives (Err (errors.Unfit index)) stated = ⊥
+
+-- a translation to the file is refused where an item does not fit, with the first one's index. Only where
+-- all fit can it want memory.
+abbrev pub RefusesUnfit : {X : Type 0} → Result X XlateError → Option ℕ → Type 0
+RefusesUnfit (Ok x) unfit = unfit ≡ None
+RefusesUnfit (Err errors.Memory) unfit = unfit ≡ None
+RefusesUnfit (Err errors.Ragged) unfit = ⊥
+RefusesUnfit (Err (errors.Unfit index)) unfit = unfit ≡ Some index

@@ -4,12 +4,20 @@
 
 mod byte_order;
 pub mod content;
+mod decode;
+mod entries;
 pub mod failure;
 mod fields;
+pub mod fitting;
 pub mod headers;
 pub mod numbers;
+mod records;
+mod sizes;
 
 pub use content::Items;
+pub use decode::to_memory;
 pub use failure::XlateError;
-pub use headers::{get_ehdr, get_phdr, get_shdr};
+pub use fitting::{ehdr_fits, phdr_fits, shdr_fits};
+pub use headers::{get_ehdr, get_phdr, get_shdr, put_ehdr, put_phdr, put_shdr};
 pub use numbers::number;
+pub use sizes::fsize;

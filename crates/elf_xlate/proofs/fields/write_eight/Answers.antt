@@ -1,0 +1,7 @@
+-- The loan of the bytes from the place on had the number written at its front.
+use Rattle.elf_xlate.proofs.Written.{lent}
+use Rattle.elf_xlate.proofs.fields.write_eight.Goals as goal
+
+pub returns : goal.returns
+returns g c =
+    lent g.T.Endian.order c.args.place 8 c.args.n c.args.out.now _ _ c.requires (g.met.T.Endian.writes 8 c.args.n) c.write_u64.ensures
