@@ -1,7 +1,7 @@
 -- Each call on an object: what it answers, the object that an Ok leaves, and the sections whose homes it may read
 -- (elf(3E), gelf(3E)). Refusals stand in their order. Further calls are stated in the same form where they are made.
 use Rattle.std.specs.Prelude.{◌≡◌, ℕ, ◌^◌, Bool, true, not, ◌==◌, ◌&&◌, nat_lt, nat_le, List, [], ◌∷◌, length, slice_set, Option, Some, None, Result, Ok, Err}
-use Rattle.std.specs.List.{list_any}
+use Rattle.std.specs.Int.{is_power_of_two}
 use Rattle.elf_types.specs.declared.records.Class.{Class}
 use Rattle.elf_types.specs.declared.records.Kind.{Kind}
 use Rattle.elf_types.specs.declared.records.Kind.TheVariants as kinds
@@ -240,8 +240,7 @@ newnull = edit (λ o. None) done with_null_section
 
 -- an alignment of a piece is a power of two and at most 2^20
 unfoldable pub is_piece_align : ℕ → Bool
-is_piece_align align = list_any (λ k. align == 2 ^ k)
-    (0 ∷ 1 ∷ 2 ∷ 3 ∷ 4 ∷ 5 ∷ 6 ∷ 7 ∷ 8 ∷ 9 ∷ 10 ∷ 11 ∷ 12 ∷ 13 ∷ 14 ∷ 15 ∷ 16 ∷ 17 ∷ 18 ∷ 19 ∷ 20 ∷ [])
+is_piece_align align = is_power_of_two align && nat_le align (2 ^ 20)
 
 -- items that do not fit, as the piece with that number
 abbrev pub unfit_items : Object → ℕ → ℕ → Items → Option ElfError

@@ -5,8 +5,8 @@ use Rattle.elf_types.specs.declared.errors.ElfError.{ElfError}
 use Rattle.elf_types.specs.declared.errors.ElfError.TheVariants.{NoSection, NoData, WrongKind, NotStrings, OutOfFile, Ragged}
 use Rattle.elf_object.specs.Blocks.{is_covered}
 use Rattle.elf_object.specs.Object.{Object, section_at, has_file_bytes, home_is_clean, is_dirty}
-use Rattle.elf_object.specs.Layout.{placed, kept_base}
-use Rattle.elf_object.specs.Image.{part_blocks}
+use Rattle.elf_object.specs.Layout.{placed}
+use Rattle.elf_object.specs.Image.{part_blocks, kept_base}
 use Rattle.elf_object.specs.Changed.{is_moved}
 
 unfoldable pub is_loaded : List Bool → ℕ → Bool

@@ -5,7 +5,7 @@ use Rattle.elf_object.specs.Object.{Object, WrittenFront, section_at, is_dirty}
 use Rattle.elf_object.specs.Open.{written_front}
 use Rattle.elf_object.specs.Joined.{joined}
 use Rattle.elf_object.specs.Derived.{written_header}
-use Rattle.elf_object.specs.Layout.{placed, places_of, section_numbers, kept_base}
+use Rattle.elf_object.specs.Layout.{placed, places_of, section_numbers}
 
 -- header and tables of an object whose places are stored
 unfoldable pub front_blocks : Object → WrittenFront
@@ -19,6 +19,10 @@ section_block o s = record { at = (section_at o s).header.offset; bytes = joined
 unfoldable pub part_blocks : Object → List Block
 part_blocks o =
     (front_blocks o).header ∷ (front_blocks o).segments ∷ map (section_block o) (section_numbers o) ++ (front_blocks o).table ∷ []
+
+-- the bytes of the base that count: all of them with ELF_F_LAYOUT, and else none
+unfoldable pub kept_base : Object → ℕ
+kept_base o = if o.layout then length o.base else 0
 
 -- the byte where no part stands: with ELF_F_LAYOUT the base's, where the base has one, and else the fill byte
 unfoldable pub uncovered_byte : Object → ℕ → ℕ

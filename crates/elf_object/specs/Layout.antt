@@ -10,7 +10,7 @@ use Rattle.elf_types.specs.declared.records.Part.TheVariants as part
 use Rattle.elf_xlate.specs.Headers.{ehdr_size, phdr_size, shdr_size}
 use Rattle.elf_layout.specs.declared.parts.PartAt.{PartAt}
 use Rattle.elf_layout.specs.declared.parts.Places.{Places}
-use Rattle.elf_layout.specs.Layout.{in_order_from, length_from, positions}
+use Rattle.elf_layout.specs.Layout.{standing, places_of as parts_places}
 use Rattle.elf_object.specs.Object.{Object, Section, section_at, header_of, is_null, occupies_file, is_dirty}
 use Rattle.elf_object.specs.Joined.{joined}
 use Rattle.elf_object.specs.Derived.{derived_header, numbered_shdr}
@@ -65,15 +65,12 @@ parts_of o = header_part o ∷ segments_part o ∷ map (section_part o) (section
 -- ---- Their places: one after the other, or with ELF_F_LAYOUT the caller's
 
 unfoldable pub placed_parts : Object → List PartAt
-placed_parts o = if o.layout then parts_of o else in_order_from 0 (parts_of o)
+placed_parts o = standing (parts_of o) o.layout
 
--- the bytes of the base that count: all of them with ELF_F_LAYOUT, and else none
-unfoldable pub kept_base : Object → ℕ
-kept_base o = if o.layout then length o.base else 0
-
--- the places of the parts, and the length of the image: the greatest end of a part that is not empty
+-- the places of the parts, and the length of the image: the greatest end of a part that is not empty, and with
+-- ELF_F_LAYOUT at least the base's length
 unfoldable pub places_of : Object → Places
-places_of o = record { at = positions (placed_parts o); end = length_from (kept_base o) (placed_parts o) }
+places_of o = parts_places (parts_of o) o.layout (length o.base)
 
 -- ---- Places stored in the headers
 

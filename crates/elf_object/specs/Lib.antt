@@ -15,4 +15,6 @@ pub mod Steps
 pub mod Calls
 pub mod Runs
 pub mod Valid
+pub mod BlockLaws
+pub mod KeepLaws
 pub mod Samples

@@ -1,6 +1,6 @@
 -- The plain object: an ELF image as lists of headers and sections (gABI chapter 4, "Object Files"). Each
 -- section has what the image held of it when it was opened, and pieces of data, which edits change.
-use Rattle.std.specs.Prelude.{ℕ, Bool, true, false, not, ◌==◌, ◌&&◌, ◌||◌, List, [], length, slice_get, Option, Some, None, unwrap_or, is_none}
+use Rattle.std.specs.Prelude.{ℕ, Bool, true, false, not, ◌==◌, ◌&&◌, ◌||◌, List, [], length, slice_get, slice_index_or, Option, Some, None, is_none}
 use Rattle.std.specs.List.{list_any}
 use Rattle.elf_types.specs.declared.records.Kind.{Kind}
 use Rattle.elf_types.specs.declared.records.Kind.TheVariants as kinds
@@ -84,10 +84,10 @@ abbrev pub home_piece : Piece
 home_piece = record { own = None; align = 1; marked = false }
 
 unfoldable pub section_at : Object → ℕ → Section
-section_at o s = unwrap_or (slice_get o.sections s) new_section
+section_at o s = slice_index_or o.sections s new_section
 
 unfoldable pub piece_at : Object → ℕ → ℕ → Piece
-piece_at o s p = unwrap_or (slice_get (section_at o s).pieces p) home_piece
+piece_at o s p = slice_index_or (section_at o s).pieces p home_piece
 
 -- the header with its true counts
 unfoldable pub header_of : Object → Ehdr

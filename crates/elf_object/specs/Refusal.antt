@@ -8,10 +8,9 @@ use Rattle.elf_types.specs.declared.errors.ElfError.{ElfError}
 use Rattle.elf_types.specs.declared.errors.ElfError.TheVariants.{TooMany, Unfit, OutOfFile}
 use Rattle.elf_xlate.specs.Headers.{phdr_fits}
 use Rattle.elf_xlate.specs.Translation.{first_unfit}
-use Rattle.elf_layout.specs.Layout.{placing}
+use Rattle.elf_layout.specs.Layout.{refusal_of}
 use Rattle.elf_object.specs.Words.{refused_if, first_refusal}
 use Rattle.elf_object.specs.Object.{Object, Section, Piece, section_at, occupies_file, has_file_bytes, home_is_clean, is_dirty}
-use Rattle.elf_object.specs.Answers.{err_of}
 use Rattle.elf_object.specs.Layout.{parts_of}
 
 -- a count that the header does not hold has no section 0 to stand in, or would give a section 0 of another type than
@@ -55,7 +54,7 @@ content_refusal o = first_refusal (too_many o ∷ unfit_segment o ∷ unfit_item
 
 -- two parts share a byte, with ELF_F_LAYOUT; the image, or without ELF_F_LAYOUT a place, is too large
 unfoldable pub placing_refusal : Object → Option ElfError
-placing_refusal o = err_of (placing (parts_of o) o.layout (length o.base) o.header.class)
+placing_refusal o = refusal_of (parts_of o) o.layout (length o.base) o.header.class
 
 unfoldable pub refusal : Object → Option ElfError
 refusal o = if is_dirty o then first_refusal (content_refusal o ∷ placing_refusal o ∷ []) else None

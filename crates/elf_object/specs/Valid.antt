@@ -1,6 +1,6 @@
 -- What makes an object: each number is in the range of its type, the lists are within their limits, and the home piece
 -- fits its home. Every step keeps it.
-use Rattle.std.specs.Prelude.{◌≡◌, ℕ, ◌^◌, ◌<◌, ◌≤◌, true, false, List, [], length, slice_get, Some, None, All, IfSome, IsTrue, Ok}
+use Rattle.std.specs.Prelude.{◌≡◌, ℕ, ◌^◌, ◌<◌, ◌≤◌, true, false, List, [], ◌∷◌, length, All, IfSome, IsSome, IsTrue, Ok}
 use Rattle.elf_types.specs.declared.records.Class.{Class}
 use Rattle.elf_types.specs.declared.records.Kind.TheVariants as kinds
 use Rattle.elf_xlate.specs.Headers.{IsEhdr, IsPhdr, IsShdr, ehdr_fits, shdr_fits}
@@ -27,16 +27,17 @@ pub record IsPiece (p : Piece) : Type 0 where
   pub align : IsTrue (is_piece_align p.align)
   pub own : IfSome p.own (λ items. AreItems items × IsTrue p.marked)
 
--- a clean piece is the first one
-abbrev pub CleanIsFirst : List Piece → Type 0
-CleanIsFirst pieces = (p : ℕ) (piece : Piece) → slice_get pieces p ≡ Some piece → piece.own ≡ None → p ≡ 0
+-- a piece after the first is own: the home piece stands first
+abbrev pub OthersOwn : List Piece → Type 0
+OthersOwn [] = Unit {0}
+OthersOwn (first ∷ others) = All (λ p. IsSome p.own) others
 
 pub record IsSection (class : Class) (s : Section) : Type 0 where
   pub header : IsShdr s.header
   pub fitting : IsTrue (shdr_fits class s.header)
   pub home : IsHome s.home s.raw
   pub pieces : All IsPiece s.pieces
-  pub clean : CleanIsFirst s.pieces
+  pub others : OthersOwn s.pieces
   pub piece_count : length s.pieces ≤ 2 ^ 20
 
 pub record IsObject (o : Object) : Type 0 where
