@@ -16,5 +16,6 @@ pub mod Calls
 pub mod Runs
 pub mod Valid
 pub mod BlockLaws
+pub mod RangeLaws
 pub mod KeepLaws
 pub mod Samples
