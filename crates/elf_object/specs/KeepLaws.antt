@@ -40,11 +40,11 @@ use Rattle.elf_object.specs.Valid.{AreBytes, IsHome, IsPiece, OthersOwn, IsSecti
 
 -- ---- Refusals that did not come
 
-none_first : (r : Option ElfError) (rs : List (Option ElfError)) → first_refusal (r ∷ rs) ≡ None → r ≡ None
+pub none_first : (r : Option ElfError) (rs : List (Option ElfError)) → first_refusal (r ∷ rs) ≡ None → r ≡ None
 none_first None rs h = refl
 none_first (Some e) rs h = cc
 
-none_rest : (r : Option ElfError) (rs : List (Option ElfError)) → first_refusal (r ∷ rs) ≡ None → first_refusal rs ≡ None
+pub none_rest : (r : Option ElfError) (rs : List (Option ElfError)) → first_refusal (r ∷ rs) ≡ None → first_refusal rs ≡ None
 none_rest None rs h = h
 none_rest (Some e) rs h = cc
 
@@ -72,16 +72,16 @@ passed_one false x rs h = (refl, h)
 passed_one true x rs h = cc
 
 -- an edit is as it was, or stepped where nothing was refused
-answered_keeps : {A : Type 0} (P : Object → Type 0) (r : Option ElfError) (v : A) (old stepped : Object) → P old → (r ≡ None → P stepped) → P (after_answer (answered r v) old stepped)
+pub answered_keeps : {A : Type 0} (P : Object → Type 0) (r : Option ElfError) (v : A) (old stepped : Object) → P old → (r ≡ None → P stepped) → P (after_answer (answered r v) old stepped)
 answered_keeps P None v old stepped h k = k refl
 answered_keeps P (Some e) v old stepped h k = h
 
-edit_keeps : {A : Type 0} (refusal : Object → Option ElfError) (value : Object → A) (after : Object → Object) → ((o : Object) → IsObject o → refusal o ≡ None → IsObject (after o)) → KeepsObject (edit refusal value after)
+pub edit_keeps : {A : Type 0} (refusal : Object → Option ElfError) (value : Object → A) (after : Object → Object) → ((o : Object) → IsObject o → refusal o ≡ None → IsObject (after o)) → KeepsObject (edit refusal value after)
 unfolding step
 edit_keeps refusal value after k o h = answered_keeps IsObject (refusal o) (value o) o (after o) h (k o h)
 
 -- what holds of each item, and of what stands for none, holds of the item at any index
-at_or : {X : Type 0} (P : X → Type 0) (l : List X) (i : ℕ) (d : X) → All P l → P d → P (get_or l i d)
+pub at_or : {X : Type 0} (P : X → Type 0) (l : List X) (i : ℕ) (d : X) → All P l → P d → P (get_or l i d)
 at_or P l i d each none = ⊎_elim (λ h. All-get_or P l i d h each) (λ h. let same = get_or_past l i d h in subst P (sym same) none) (cases_lt i (length l))
 
 -- ---- Headers

@@ -17,5 +17,7 @@ pub mod Runs
 pub mod Valid
 pub mod BlockLaws
 pub mod RangeLaws
+pub mod PlaceLaws
 pub mod KeepLaws
+pub mod PlacedLaws
 pub mod Samples

@@ -179,7 +179,7 @@ dyn_range C64 order bytes are = record {
 
 -- ---- Lists of items
 
-each_made : {X : Type 0} (P : X → Type 0) (f : ℕ → X) (l : List ℕ) → ((i : ℕ) → P (f i)) → All P (map f l)
+pub each_made : {X : Type 0} (P : X → Type 0) (f : ℕ → X) (l : List ℕ) → ((i : ℕ) → P (f i)) → All P (map f l)
 each_made P f [] holds = All-nil P
 each_made P f (i ∷ l) holds = All-cons P (f i) (map f l) (holds i) (each_made P f l holds)
 

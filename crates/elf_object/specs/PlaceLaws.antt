@@ -1,0 +1,198 @@
+-- What is known of the places of the parts where the update is not refused: none is too large for the class, and no two
+-- parts share a byte.
+use Rattle.std.proofs.Common.{◌≡◌, ℕ, zero, suc, ◌+◌, ◌-◌, ◌*◌, ◌^◌, ◌<◌, ◌≤◌, min, max, Bool, true, false, not, ◌&&◌, ◌||◌, List, [], ◌∷◌, ◌++◌, length, get_or, Option, Some, None, refl, sym, ap, ◌∙◌, subst, arith, lit<, lit≤, ⊎_elim, eqb, leb, ltb}
+use Rattle.std.specs.Prelude.{All, IsTrue, nat_lt, nat_le, if◌then◌else◌, map, slice_get}
+use Rattle.std.specs.List.{range_with_len, AllByRecursion, list_any}
+use Rattle.std.specs.Option.{option_or, option_map}
+use Rattle.std.proofs.lemmas.Bool.{ltb-true, ltb-false, cases_lt, lt-ltb, le-ltb}
+use Rattle.std.proofs.lemmas.List.{length-map, length-append, get_or-map, get_or_past, get_or-append-add, get_or_append_left}
+use Rattle.std.proofs.lemmas.List.FromFn.{length-map-range_with_len, get_or-map-range_with_len}
+use Rattle.std.proofs.lemmas.List.Elements.{All-nil, All-cons, All-append, All-map, All-from_recursion, recursion_from_All, All-get_or, All-weaker, All-tail, All-head}
+use Rattle.elf_types.specs.declared.records.Class.{Class}
+use Rattle.elf_types.specs.declared.records.Class.TheVariants.{C32, C64}
+use Rattle.elf_types.specs.declared.records.Part.{Part}
+use Rattle.elf_types.specs.declared.errors.ElfError.{ElfError}
+use Rattle.elf_types.specs.declared.errors.ElfError.TheVariants.{Overlap, TooLarge}
+use Rattle.elf_xlate.specs.Fields.{fits}
+use Rattle.elf_layout.specs.declared.parts.PartAt.{PartAt}
+use Rattle.elf_layout.specs.declared.parts.Places.{Places}
+use Rattle.elf_layout.specs.Layout.{rounded_up, place_of, end_after, in_order_from, standing, length_with, length_from, length_of, positions, limit_of, some_above, is_too_large, overlap_refusal, refusal_within, refusal_of}
+use Rattle.elf_layout.specs.Meeting.{has_bytes, end_of, meets}
+
+-- ---- One after the other
+
+pub rounded_up-ge : (n align : ℕ) → n ≤ rounded_up n align
+unfolding rounded_up
+rounded_up-ge n align = omega arith
+
+end_after-ge : (end : ℕ) (p : PartAt) → end ≤ end_after end p
+unfolding end_after place_of
+end_after-ge end p = by_test p.filled
+    where
+      by_test : (b : Bool) → end ≤ (if b then rounded_up end p.align + p.len else end)
+      by_test true = let up = rounded_up-ge end p.align in omega arith
+      by_test false = omega arith
+
+-- each part stands at the end so far or after it
+in_order-ge : (end : ℕ) (ps : List PartAt) → AllByRecursion (λ p. end ≤ p.at) (in_order_from end ps)
+unfolding in_order_from place_of
+in_order-ge end [] = tt
+in_order-ge end (p ∷ ps) = (rounded_up-ge end p.align, raise end (end_after end p) (end_after-ge end p) (in_order_from (end_after end p) ps) (in_order-ge (end_after end p) ps))
+    where
+      raise : (m n : ℕ) → m ≤ n → (l : List PartAt) → AllByRecursion (λ q. n ≤ q.at) l → AllByRecursion (λ q. m ≤ q.at) l
+      raise m n h [] each = tt
+      raise m n h (q ∷ l) each = (omega (arith, h, each.0), raise m n h l each.1)
+
+-- a part that begins where another ends, or after it, does not meet it
+abbrev pub IsBehind : PartAt → PartAt → Type 0
+IsBehind p q = p.filled ≡ true → end_of p ≤ q.at
+
+abbrev pub AreInOrder : List PartAt → Type 0
+AreInOrder [] = Unit {0}
+AreInOrder (p ∷ ps) = AllByRecursion (IsBehind p) ps × AreInOrder ps
+
+pub in_order : (end : ℕ) (ps : List PartAt) → AreInOrder (in_order_from end ps)
+unfolding in_order_from end_of end_after
+in_order end [] = tt
+in_order end (p ∷ ps) = (behind p.filled refl, in_order (end_after end p) ps)
+    where
+      lower : (m n : ℕ) → m ≤ n → (l : List PartAt) → AllByRecursion (λ q. n ≤ q.at) l → AllByRecursion (λ q. p.filled ≡ true → m ≤ q.at) l
+      lower m n h [] each = tt
+      lower m n h (q ∷ l) each = ((λ filled. omega (arith, h, each.0)), lower m n h l each.1)
+      never : (m : ℕ) → p.filled ≡ false → (l : List PartAt) → AllByRecursion (λ q. p.filled ≡ true → m ≤ q.at) l
+      never m empty [] = tt
+      never m empty (q ∷ l) = ((λ filled. let clash : false ≡ true = sym empty ∙ filled in cc), never m empty l)
+      behind : (b : Bool) → p.filled ≡ b → AllByRecursion (λ q. p.filled ≡ true → place_of end p + p.len ≤ q.at) (in_order_from (end_after end p) ps)
+      behind true e =
+          let same : end_after end p ≡ place_of end p + p.len = rw e refl in
+          lower (place_of end p + p.len) (end_after end p) (omega arith) (in_order_from (end_after end p) ps) (in_order-ge (end_after end p) ps)
+      behind false e = never (place_of end p + p.len) e (in_order_from (end_after end p) ps)
+
+and_false : (b : Bool) → (b && false) ≡ false
+and_false true = refl
+and_false false = refl
+
+-- two of which one is behind the other do not meet
+pub behind_apart : (p q : PartAt) → IsBehind p q → meets p q ≡ false
+unfolding meets has_bytes end_of
+behind_apart p q behind = by_test p.filled refl
+    where
+      by_test : (b : Bool) → p.filled ≡ b → (p.filled && nat_lt 0 p.len && (q.filled && nat_lt 0 q.len) && nat_lt p.at (q.at + q.len) && nat_lt q.at (p.at + p.len)) ≡ false
+      by_test true e =
+          let past = le-ltb q.at (p.at + p.len) (behind e) in
+          rw past (and_false (p.filled && nat_lt 0 p.len && (q.filled && nat_lt 0 q.len) && nat_lt p.at (q.at + q.len)))
+      by_test false e = rw e refl
+
+-- ---- The length of the image
+
+length_with-ge : (n : ℕ) (p : PartAt) → n ≤ length_with n p
+unfolding length_with
+length_with-ge n p = by_test (has_bytes p)
+    where
+      by_test : (b : Bool) → n ≤ (if b then max n (end_of p) else n)
+      by_test true = omega arith
+      by_test false = omega arith
+
+pub length_from-ge : (n : ℕ) (ps : List PartAt) → n ≤ length_from n ps
+unfolding length_from
+length_from-ge n [] = omega arith
+length_from-ge n (p ∷ ps) =
+    let here = length_with-ge n p in let rest = length_from-ge (length_with n p) ps in omega arith
+
+-- a part that is not empty ends within the image
+pub ends_within : (n : ℕ) (ps : List PartAt) → AllByRecursion (λ p. has_bytes p ≡ true → end_of p ≤ length_from n ps) ps
+unfolding length_from length_with
+ends_within n [] = tt
+ends_within n (p ∷ ps) = (here (has_bytes p) refl, ends_within (length_with n p) ps)
+    where
+      here : (b : Bool) → has_bytes p ≡ b → has_bytes p ≡ true → end_of p ≤ length_from (length_with n p) ps
+      here true e h =
+          let with_it : end_of p ≤ length_with n p = rw e (omega arith) in
+          let rest = length_from-ge (length_with n p) ps in omega arith
+      here false e h = let clash : false ≡ true = sym e ∙ h in cc
+
+-- ---- An update that is not refused
+
+or_none : (a b : Option ElfError) → option_or a b ≡ None → (a ≡ None) × (b ≡ None)
+or_none None b h = (refl, h)
+or_none (Some e) b h = cc
+
+or_false : (a b : Bool) → (a || b) ≡ false → (a ≡ false) × (b ≡ false)
+or_false false b h = (refl, h)
+or_false true b h = cc
+
+and_not : (a b : Bool) → (not a && b) ≡ false → a ≡ false → b ≡ false
+and_not true b h e = cc
+and_not false b h e = h
+
+not_then : (b : Bool) (e : ElfError) → (if b then Some e else None) ≡ None → b ≡ false
+not_then true e h = cc
+not_then false e h = refl
+
+none_above : (limit : ℕ) (ps : List PartAt) → list_any (λ p. nat_lt limit p.at) ps ≡ false → AllByRecursion (λ p. p.at ≤ limit) ps
+none_above limit [] h = tt
+none_above limit (p ∷ ps) h =
+    let both = or_false (nat_lt limit p.at) (list_any (λ q. nat_lt limit q.at) ps) h in
+    (ltb-false limit p.at both.0, none_above limit ps both.1)
+
+-- the image is not too large, and no position is that is not the caller's
+pub record AreNotTooLarge (parts : List PartAt) (layout : Bool) (base : ℕ) (class : Class) : Type 0 where
+  pub length : length_of parts layout base ≤ limit_of class
+  pub places : layout ≡ false → AllByRecursion (λ p. p.at ≤ limit_of class) (standing parts layout)
+
+pub not_too_large : (parts : List PartAt) (layout : Bool) (base : ℕ) (class : Class) → refusal_of parts layout base class ≡ None → AreNotTooLarge parts layout base class
+unfolding refusal_of refusal_within is_too_large some_above
+not_too_large parts layout base class h =
+    let both = or_none (overlap_refusal parts layout) (if is_too_large parts layout base (limit_of class) then Some TooLarge else None) h in
+    let small = not_then (is_too_large parts layout base (limit_of class)) TooLarge both.1 in
+    let tests = or_false (nat_lt (limit_of class) (length_of parts layout base)) (not layout && some_above (limit_of class) (standing parts layout)) small in
+    record {
+      length = ltb-false (limit_of class) (length_of parts layout base) tests.0;
+      places = λ e. none_above (limit_of class) (standing parts layout) (and_not layout (some_above (limit_of class) (standing parts layout)) tests.1 e);
+    }
+
+-- a place or a size that fits the class
+pub record IsFitting (class : Class) (n : ℕ) : Type 0 where
+  pub range : n < 2 ^ 64
+  pub fits : fits class n ≡ true
+
+pub within_limit : (class : Class) (n : ℕ) → n ≤ limit_of class → IsFitting class n
+unfolding limit_of
+within_limit C32 n h = record { range = omega arith; fits = lt-ltb n (2 ^ 32) (omega arith) }
+within_limit C64 n h = record { range = omega arith; fits = refl }
+
+pub zero_fits : (class : Class) → IsFitting class 0
+unfolding limit_of
+zero_fits C32 = within_limit C32 0 (lit≤ tt)
+zero_fits C64 = within_limit C64 0 (lit≤ tt)
+
+-- a length of a part of which the image holds bytes: it is 0, or its end is within the image
+len_within : (n : ℕ) (p : PartAt) → (has_bytes p ≡ true → end_of p ≤ n) → p.filled ≡ true → p.len ≤ n
+unfolding has_bytes end_of
+len_within n p ends filled = ⊎_elim
+    (λ h. let some : (p.filled && nat_lt 0 p.len) ≡ true = rw (filled, lt-ltb 0 p.len h) refl in let end = ends some in omega arith)
+    (λ h. omega arith) (cases_lt 0 p.len)
+
+lens_within : (n : ℕ) (ps : List PartAt) → AllByRecursion (λ p. has_bytes p ≡ true → end_of p ≤ n) ps → AllByRecursion (λ p. p.filled ≡ true → p.len ≤ n) ps
+lens_within n [] each = tt
+lens_within n (p ∷ ps) each = (len_within n p each.0, lens_within n ps each.1)
+
+-- a fact of lengths holds before the parts are placed where it holds after
+lens_before : (n end : ℕ) (ps : List PartAt) → AllByRecursion (λ p. p.filled ≡ true → p.len ≤ n) (in_order_from end ps) → AllByRecursion (λ p. p.filled ≡ true → p.len ≤ n) ps
+unfolding in_order_from
+lens_before n end [] each = tt
+lens_before n end (p ∷ ps) each = (each.0, lens_before n (end_after end p) ps each.1)
+
+-- each part of which the image holds bytes is as long as the class allows at most
+pub lens_limited : (parts : List PartAt) (layout : Bool) (base : ℕ) (class : Class) → AreNotTooLarge parts layout base class → AllByRecursion (λ p. p.filled ≡ true → p.len ≤ limit_of class) parts
+unfolding standing length_of
+lens_limited parts true base class small = raise parts (lens_within (length_from base parts) parts (ends_within base parts))
+    where
+      raise : (l : List PartAt) → AllByRecursion (λ p. p.filled ≡ true → p.len ≤ length_from base parts) l → AllByRecursion (λ p. p.filled ≡ true → p.len ≤ limit_of class) l
+      raise [] each = tt
+      raise (p ∷ l) each = ((λ e. let here = each.0 e in let whole = small.length in omega arith), raise l each.1)
+lens_limited parts false base class small = lens_before (limit_of class) 0 parts (raise (in_order_from 0 parts) (lens_within (length_from 0 (in_order_from 0 parts)) (in_order_from 0 parts) (ends_within 0 (in_order_from 0 parts))))
+    where
+      raise : (l : List PartAt) → AllByRecursion (λ p. p.filled ≡ true → p.len ≤ length_from 0 (in_order_from 0 parts)) l → AllByRecursion (λ p. p.filled ≡ true → p.len ≤ limit_of class) l
+      raise [] each = tt
+      raise (p ∷ l) each = ((λ e. let here = each.0 e in let whole = small.length in omega arith), raise l each.1)
