@@ -80,10 +80,10 @@ take-drop-spread n otherwise bs i b apart at fits =
     let rest : length (drop b.at (spread n otherwise bs)) ≡ n - b.at = length-drop b.at (spread n otherwise bs) ∙ ap (λ (m : ℕ). m - b.at) whole in
     let len : length (take (length b.bytes) (drop b.at (spread n otherwise bs))) ≡ length b.bytes = length-take-le (length b.bytes) (drop b.at (spread n otherwise bs)) (omega arith) in
     ext_get_or 0 (take (length b.bytes) (drop b.at (spread n otherwise bs))) b.bytes len (λ j h.
-        let below : j < length b.bytes = omega (arith, h, len) in
-        let inside : b.at + j < n = omega arith in
-        get_or-take (length b.bytes) (drop b.at (spread n otherwise bs)) j 0 below
-        ∙ get_or-drop b.at (spread n otherwise bs) j 0
-        ∙ get_or-spread n otherwise bs (b.at + j) inside
-        ∙ byte_over_at otherwise bs i b (b.at + j) apart at (covers_at b j below)
-        ∙ ap (λ (m : ℕ). get_or b.bytes m 0) (omega arith))
+    let below : j < length b.bytes = omega (arith, h, len) in
+    let inside : b.at + j < n = omega arith in
+    get_or-take (length b.bytes) (drop b.at (spread n otherwise bs)) j 0 below
+    ∙ get_or-drop b.at (spread n otherwise bs) j 0
+    ∙ get_or-spread n otherwise bs (b.at + j) inside
+    ∙ byte_over_at otherwise bs i b (b.at + j) apart at (covers_at b j below)
+    ∙ ap (λ (m : ℕ). get_or b.bytes m 0) (omega arith))

@@ -1,6 +1,6 @@
 -- Each step keeps what makes an object (`IsObject`).
-use Rattle.std.proofs.Common.{◌≡◌, ℕ, zero, suc, ◌+◌, ◌-◌, ◌^◌, ◌<◌, ◌≤◌, Bool, true, false, not, ◌&&◌, ◌||◌, List, [], ◌∷◌, ◌++◌, length, get_or, set, replicate, Option, Some, None, Result, Ok, Err, refl, sym, ap, ◌∙◌, subst, arith, eqb, leb, ltb, lit<, lit≤, ⊎_elim}
-use Rattle.std.specs.Prelude.{All, IfSome, IsSome, IsTrue, slice_set, slice_index_or, nat_le, nat_lt, if◌then◌else◌, ◌==◌}
+use Rattle.std.proofs.Common.{◌≡◌, ℕ, zero, suc, ◌+◌, ◌^◌, ◌<◌, ◌≤◌, Bool, true, false, not, ◌&&◌, List, [], ◌∷◌, ◌++◌, length, get_or, set, replicate, Option, Some, None, Ok, Err, refl, sym, ap, ◌∙◌, subst, arith, lit<, lit≤, ⊎_elim}
+use Rattle.std.specs.Prelude.{All, IfSome, IsSome, IsTrue, nat_le, nat_lt, if◌then◌else◌, ◌==◌}
 use lib.Count.{ones}
 use Rattle.std.proofs.lemmas.Bool.{le-leb, leb-false, ltb-false, eqb-true, cases_lt}
 use Rattle.std.proofs.lemmas.List.{length-set, length-append, length-replicate, get_or_past, set_past, nil_from_length, length_push}
@@ -32,11 +32,11 @@ use Rattle.std.proofs.Math.Nat.{mod-lt}
 use Rattle.elf_object.specs.RangeLaws.{decoded_range}
 use Rattle.elf_object.specs.Runs.{addall, added, more, more_sym, more_rel, more_rela, more_dyn, or_same}
 use Rattle.elf_object.specs.Words.{refused_if, first_refusal, answered}
-use Rattle.elf_object.specs.Object.{Object, Section, Piece, Home, section_at, piece_at, new_section, home_piece, no_shdr, no_phdr, no_home}
+use Rattle.elf_object.specs.Object.{Object, Section, Piece, section_at, piece_at, new_section, home_piece, no_shdr, no_phdr, no_home}
 use Rattle.elf_object.specs.Steps.{new_number, with_section, with_piece_at, with_ehdr, stored_ehdr, with_phdrs, with_phdr, with_new_phdrs, with_shdr, with_new_section, with_null_section, with_new_piece, own_piece, with_own, with_mark, with_layout, with_flags, is_whole, with_fill}
-use Rattle.elf_object.specs.Calls.{Call, step, after_answer, edit, update_ehdr, update_ehdr_refusal, update_phdr, update_phdr_refusal, newphdr, newphdr_refusal, phdrs_mut, update_shdr, update_shdr_refusal, newscn, newscn_refusal, newnull,  newdata_aligned, newdata_refusal, unfit_items, flag_refusal, update_item, update_item_refusal, update_half, update_word, update_addr, update_sym, update_rel, update_rela, update_dynent, set_fill, replace, replace_refusal, flag, lend, is_piece_align}
+use Rattle.elf_object.specs.Calls.{step, after_answer, edit, update_ehdr, update_ehdr_refusal, update_phdr, update_phdr_refusal, newphdr, newphdr_refusal, phdrs_mut, update_shdr, update_shdr_refusal, newscn, newscn_refusal, newnull, newdata_aligned, newdata_refusal, unfit_items, flag_refusal, update_item, update_item_refusal, update_half, update_word, update_addr, update_sym, update_rel, update_rela, update_dynent, set_fill, replace, replace_refusal, flag, lend, is_piece_align}
 use Rattle.elf_object.specs.Answers.{content, or_empty, kind_at, halves_of, words_of, addrs_of, syms_of, rels_of, relas_of, dyns_of, lend_refusal, items_at, piece_count, flags_of, has_dirty, has_layout}
-use Rattle.elf_object.specs.Valid.{AreBytes, IsHome, IsPiece, OthersOwn, IsSection, IsObject, KeepsObject}
+use Rattle.elf_object.specs.Valid.{IsHome, IsPiece, OthersOwn, IsSection, IsObject, KeepsObject}
 
 -- ---- Refusals that did not come
 
@@ -89,9 +89,21 @@ at_or P l i d each none = ⊎_elim (λ h. All-get_or P l i d h each) (λ h. let 
 stored_ehdr_is : (old h : Ehdr) → IsEhdr old → IsEhdr h → IsEhdr (stored_ehdr old h)
 unfolding stored_ehdr
 stored_ehdr_is old h a b = record {
-  osabi = b.osabi; abiversion = b.abiversion; etype = b.etype; machine = b.machine; version = a.version; entry = b.entry;
-  phoff = b.phoff; shoff = b.shoff; flags = b.flags; ehsize = a.ehsize; phentsize = a.phentsize; phnum = a.phnum;
-  shentsize = a.shentsize; shnum = a.shnum; shstrndx = b.shstrndx;
+  osabi = b.osabi;
+  abiversion = b.abiversion;
+  etype = b.etype;
+  machine = b.machine;
+  version = a.version;
+  entry = b.entry;
+  phoff = b.phoff;
+  shoff = b.shoff;
+  flags = b.flags;
+  ehsize = a.ehsize;
+  phentsize = a.phentsize;
+  phnum = a.phnum;
+  shentsize = a.shentsize;
+  shnum = a.shnum;
+  shstrndx = b.shstrndx;
 }
 
 or_first : (b c : Bool) → (not b && c) ≡ false → c ≡ true → b ≡ true
@@ -108,10 +120,16 @@ ehdr_stored o h ok is passed =
     record {
       header = stored_ehdr_is o.header h ok.header is;
       fitting = not_not (ehdr_fits (stored_ehdr o.header h)) tests.1;
-      pad = ok.pad; pad_bytes = ok.pad_bytes; phdrs = ok.phdrs; phdr_count = ok.phdr_count;
-      sections = ok.sections; section_count = ok.section_count;
+      pad = ok.pad;
+      pad_bytes = ok.pad_bytes;
+      phdrs = ok.phdrs;
+      phdr_count = ok.phdr_count;
+      sections = ok.sections;
+      section_count = ok.section_count;
       string_index = λ none. zero_or_below h.shstrndx (length o.sections) tests.0 (ap length none);
-      base = ok.base; base_length = ok.base_length; fill = ok.fill;
+      base = ok.base;
+      base_length = ok.base_length;
+      fill = ok.fill;
     }
 
 pub update_ehdr_keeps : (h : Ehdr) → IsEhdr h → KeepsObject (update_ehdr h)
@@ -122,9 +140,18 @@ update_ehdr_keeps h is = edit_keeps (λ o. update_ehdr_refusal o h) (λ o. tt) (
 phdrs_kept : (o : Object) (l : List Phdr) → IsObject o → All IsPhdr l → length l ≤ 2 ^ 20 → IsObject (with_phdrs o l)
 unfolding with_phdrs
 phdrs_kept o l ok each count = record {
-  header = ok.header; fitting = ok.fitting; pad = ok.pad; pad_bytes = ok.pad_bytes; phdrs = each; phdr_count = count;
-  sections = ok.sections; section_count = ok.section_count; string_index = ok.string_index; base = ok.base;
-  base_length = ok.base_length; fill = ok.fill;
+  header = ok.header;
+  fitting = ok.fitting;
+  pad = ok.pad;
+  pad_bytes = ok.pad_bytes;
+  phdrs = each;
+  phdr_count = count;
+  sections = ok.sections;
+  section_count = ok.section_count;
+  string_index = ok.string_index;
+  base = ok.base;
+  base_length = ok.base_length;
+  fill = ok.fill;
 }
 
 pub update_phdr_keeps : (i : ℕ) (p : Phdr) → IsPhdr p → KeepsObject (update_phdr i p)
@@ -138,7 +165,13 @@ phdrs_mut_keeps left each count = edit_keeps (λ o. None) (λ o. tt) (λ o. with
 
 no_phdr_is : IsPhdr no_phdr
 no_phdr_is = record {
-  ptype = lit< tt; flags = lit< tt; offset = lit< tt; vaddr = lit< tt; paddr = lit< tt; filesz = lit< tt; memsz = lit< tt;
+  ptype = lit< tt;
+  flags = lit< tt;
+  offset = lit< tt;
+  vaddr = lit< tt;
+  paddr = lit< tt;
+  filesz = lit< tt;
+  memsz = lit< tt;
   align = lit< tt;
 }
 
@@ -157,18 +190,32 @@ nil_before l i x h = nil_from_length l (sym (length-set l i x) ∙ ap length h)
 section_kept : (o : Object) (s : ℕ) (c : Section) → IsObject o → IsSection o.header.class c → IsObject (with_section o s c)
 unfolding with_section
 section_kept o s c ok is = record {
-  header = ok.header; fitting = ok.fitting; pad = ok.pad; pad_bytes = ok.pad_bytes; phdrs = ok.phdrs;
+  header = ok.header;
+  fitting = ok.fitting;
+  pad = ok.pad;
+  pad_bytes = ok.pad_bytes;
+  phdrs = ok.phdrs;
   phdr_count = ok.phdr_count;
   sections = All-set (IsSection o.header.class) o.sections s c is ok.sections;
   section_count = rw length-set (ok.section_count);
   string_index = λ none. ok.string_index (nil_before o.sections s c none);
-  base = ok.base; base_length = ok.base_length; fill = ok.fill;
+  base = ok.base;
+  base_length = ok.base_length;
+  fill = ok.fill;
 }
 
 no_shdr_is : IsShdr no_shdr
 no_shdr_is = record {
-  name = lit< tt; stype = lit< tt; flags = lit< tt; addr = lit< tt; offset = lit< tt; size = lit< tt; link = lit< tt;
-  info = lit< tt; addralign = lit< tt; entsize = lit< tt;
+  name = lit< tt;
+  stype = lit< tt;
+  flags = lit< tt;
+  addr = lit< tt;
+  offset = lit< tt;
+  size = lit< tt;
+  link = lit< tt;
+  info = lit< tt;
+  addralign = lit< tt;
+  entsize = lit< tt;
 }
 
 no_shdr_fits : (class : Class) → IsTrue (shdr_fits class no_shdr)
@@ -178,13 +225,21 @@ no_shdr_fits C64 = refl
 
 no_home_is : IsHome no_home []
 no_home_is = record {
-  at = lit< tt; len = lit< tt; inside = λ h. refl; outside = λ h. refl; empty = λ h. refl;
+  at = lit< tt;
+  len = lit< tt;
+  inside = λ h. refl;
+  outside = λ h. refl;
+  empty = λ h. refl;
   bytes = All-nil (λ n. n < 2 ^ 8);
 }
 
 pub new_section_is : (class : Class) → IsSection class new_section
 new_section_is class = record {
-  header = no_shdr_is; fitting = no_shdr_fits class; home = no_home_is; pieces = All-nil IsPiece; others = tt;
+  header = no_shdr_is;
+  fitting = no_shdr_fits class;
+  home = no_home_is;
+  pieces = All-nil IsPiece;
+  others = tt;
   piece_count = lit≤ tt;
 }
 
@@ -199,19 +254,29 @@ update_shdr_keeps s h is = edit_keeps (λ o. update_shdr_refusal o s h) (λ o. t
     let tests = passed_three (nat_le (length o.sections) s) (s == 0) (not (shdr_fits o.header.class h)) (NoSection s (length o.sections)) Reserved (Unfit (part.Section s) 0) passed in
     let old = section_at_is o s ok in
     section_kept o s (record (section_at o s) { header = h; marked = true }) ok (record {
-      header = is; fitting = not_not (shdr_fits o.header.class h) tests.2; home = old.home; pieces = old.pieces;
-      others = old.others; piece_count = old.piece_count;
+      header = is;
+      fitting = not_not (shdr_fits o.header.class h) tests.2;
+      home = old.home;
+      pieces = old.pieces;
+      others = old.others;
+      piece_count = old.piece_count;
     }))
 
 -- sections at the end
 sections_more : (o : Object) (l : List Section) → IsObject o → All (IsSection o.header.class) l → length o.sections + length l ≤ 2 ^ 20 → (o.sections ++ l ≡ [] → o.sections ≡ []) → IsObject (record o { sections = o.sections ++ l })
 sections_more o l ok each count back = record {
-  header = ok.header; fitting = ok.fitting; pad = ok.pad; pad_bytes = ok.pad_bytes; phdrs = ok.phdrs;
+  header = ok.header;
+  fitting = ok.fitting;
+  pad = ok.pad;
+  pad_bytes = ok.pad_bytes;
+  phdrs = ok.phdrs;
   phdr_count = ok.phdr_count;
   sections = All-append (IsSection o.header.class) o.sections l ok.sections each;
   section_count = rw length-append count;
   string_index = λ none. ok.string_index (back none);
-  base = ok.base; base_length = ok.base_length; fill = ok.fill;
+  base = ok.base;
+  base_length = ok.base_length;
+  fill = ok.fill;
 }
 
 nil_front : {X : Type 0} (l m : List X) → l ++ m ≡ [] → l ≡ []
@@ -224,10 +289,10 @@ added_sections n = if n == 0 then new_section ∷ new_section ∷ [] else new_se
 
 added_count : (n : ℕ) → n < 2 ^ 20 → n + length (added_sections n) ≤ 2 ^ 20
 added_count n h = by_test (n == 0) refl
-    where
-      by_test : (b : Bool) → (n == 0) ≡ b → n + length (if n == 0 then new_section ∷ new_section ∷ [] else new_section ∷ []) ≤ 2 ^ 20
-      by_test true e = let none = eqb-true n 0 e in rw e (omega arith)
-      by_test false e = rw e (omega arith)
+  where
+    by_test : (b : Bool) → (n == 0) ≡ b → n + length (if n == 0 then new_section ∷ new_section ∷ [] else new_section ∷ []) ≤ 2 ^ 20
+    by_test true e = let none = eqb-true n 0 e in rw e (omega arith)
+    by_test false e = rw e (omega arith)
 
 added_are : (class : Class) (b : Bool) → All (IsSection class) (if b then new_section ∷ new_section ∷ [] else new_section ∷ [])
 added_are class true = All-cons (IsSection class) new_section (new_section ∷ []) (new_section_is class) (All-cons (IsSection class) new_section [] (new_section_is class) (All-nil (IsSection class)))
@@ -242,12 +307,18 @@ newscn_keeps = edit_keeps newscn_refusal new_number with_new_section (λ o ok pa
 
 null_keeps : (b : Bool) (o : Object) → IsObject o → (b ≡ true → o.sections ≡ []) → IsObject (if b then (record o { sections = new_section ∷ [] }) else o)
 null_keeps true o ok none = record {
-  header = ok.header; fitting = ok.fitting; pad = ok.pad; pad_bytes = ok.pad_bytes; phdrs = ok.phdrs;
+  header = ok.header;
+  fitting = ok.fitting;
+  pad = ok.pad;
+  pad_bytes = ok.pad_bytes;
+  phdrs = ok.phdrs;
   phdr_count = ok.phdr_count;
   sections = All-cons (IsSection o.header.class) new_section [] (new_section_is o.header.class) (All-nil (IsSection o.header.class));
   section_count = lit≤ tt;
   string_index = λ h. cc;
-  base = ok.base; base_length = ok.base_length; fill = ok.fill;
+  base = ok.base;
+  base_length = ok.base_length;
+  fill = ok.fill;
 }
 null_keeps false o ok none = ok
 
@@ -261,7 +332,12 @@ newnull_keeps = edit_keeps (λ o. None) (λ o. tt) with_null_section (λ o ok pa
 -- a section with other pieces
 pieces_kept : (class : Class) (c : Section) (l : List Piece) → IsSection class c → All IsPiece l → OthersOwn l → length l ≤ 2 ^ 20 → IsSection class (record c { pieces = l })
 pieces_kept class c l is each others count = record {
-  header = is.header; fitting = is.fitting; home = is.home; pieces = each; others = others; piece_count = count;
+  header = is.header;
+  fitting = is.fitting;
+  home = is.home;
+  pieces = each;
+  others = others;
+  piece_count = count;
 }
 
 abbrev IsOwn : Piece → Type 0
@@ -295,9 +371,9 @@ with_own_is o s p items ok are =
     let piece = own_piece_is items (piece_at o s p).align are (piece_at_is o s p ok).align in
     section_kept o s (record (section_at o s) { pieces = set (section_at o s).pieces p (own_piece items (piece_at o s p).align) }) ok
     (pieces_kept o.header.class (section_at o s) (set (section_at o s).pieces p (own_piece items (piece_at o s p).align)) old
-      (All-set IsPiece (section_at o s).pieces p (own_piece items (piece_at o s p).align) piece old.pieces)
-      (others_set (section_at o s).pieces p (own_piece items (piece_at o s p).align) old.others refl)
-      (rw length-set (old.piece_count)))
+    (All-set IsPiece (section_at o s).pieces p (own_piece items (piece_at o s p).align) piece old.pieces)
+    (others_set (section_at o s).pieces p (own_piece items (piece_at o s p).align) old.others refl)
+    (rw length-set (old.piece_count)))
 
 pub replace_keeps : (s p : ℕ) (items : Items) → AreItems items → KeepsObject (replace s p items)
 replace_keeps s p items are = edit_keeps (λ o. replace_refusal o s p items) (λ o. tt) (λ o. with_own o s p items) (λ o ok passed. with_own_is o s p items ok are)
@@ -313,9 +389,9 @@ with_new_piece_is o s items align ok are aligned room =
     let piece = own_piece_is items align are aligned in
     section_kept o s (record (section_at o s) { pieces = (section_at o s).pieces ++ own_piece items align ∷ [] }) ok
     (pieces_kept o.header.class (section_at o s) ((section_at o s).pieces ++ own_piece items align ∷ []) old
-      (All-push IsPiece (section_at o s).pieces (own_piece items align) old.pieces piece)
-      (others_push (section_at o s).pieces (own_piece items align) old.others refl)
-      (rw length_push (omega arith)))
+    (All-push IsPiece (section_at o s).pieces (own_piece items align) old.pieces piece)
+    (others_push (section_at o s).pieces (own_piece items align) old.others refl)
+    (rw length_push (omega arith)))
 
 pub newdata_keeps : (s : ℕ) (items : Items) (align : ℕ) → AreItems items → KeepsObject (newdata_aligned s items align)
 unfolding newdata_refusal
@@ -351,16 +427,34 @@ others_marked (x ∷ l) (suc i) others = ⊎_elim
 -- an object with other marks, and with another layout
 marks_kept : (o : Object) (header segments whole : Bool) → IsObject o → IsObject (record o { header_marked = header; segments_marked = segments; marked = whole })
 marks_kept o header segments whole ok = record {
-  header = ok.header; fitting = ok.fitting; pad = ok.pad; pad_bytes = ok.pad_bytes; phdrs = ok.phdrs;
-  phdr_count = ok.phdr_count; sections = ok.sections; section_count = ok.section_count; string_index = ok.string_index;
-  base = ok.base; base_length = ok.base_length; fill = ok.fill;
+  header = ok.header;
+  fitting = ok.fitting;
+  pad = ok.pad;
+  pad_bytes = ok.pad_bytes;
+  phdrs = ok.phdrs;
+  phdr_count = ok.phdr_count;
+  sections = ok.sections;
+  section_count = ok.section_count;
+  string_index = ok.string_index;
+  base = ok.base;
+  base_length = ok.base_length;
+  fill = ok.fill;
 }
 
 layout_kept : (o : Object) (layout : Bool) → IsObject o → IsObject (with_layout o layout)
 layout_kept o layout ok = record {
-  header = ok.header; fitting = ok.fitting; pad = ok.pad; pad_bytes = ok.pad_bytes; phdrs = ok.phdrs;
-  phdr_count = ok.phdr_count; sections = ok.sections; section_count = ok.section_count; string_index = ok.string_index;
-  base = ok.base; base_length = ok.base_length; fill = ok.fill;
+  header = ok.header;
+  fitting = ok.fitting;
+  pad = ok.pad;
+  pad_bytes = ok.pad_bytes;
+  phdrs = ok.phdrs;
+  phdr_count = ok.phdr_count;
+  sections = ok.sections;
+  section_count = ok.section_count;
+  string_index = ok.string_index;
+  base = ok.base;
+  base_length = ok.base_length;
+  fill = ok.fill;
 }
 
 with_mark_is : (o : Object) (p : Part) → IsObject o → IsObject (with_mark o p)
@@ -372,16 +466,20 @@ with_mark_is o part.Segments ok = marks_kept o o.header_marked true o.marked ok
 with_mark_is o (part.Section s) ok =
     let old = section_at_is o s ok in
     section_kept o s (record (section_at o s) { marked = true }) ok (record {
-      header = old.header; fitting = old.fitting; home = old.home; pieces = old.pieces; others = old.others;
+      header = old.header;
+      fitting = old.fitting;
+      home = old.home;
+      pieces = old.pieces;
+      others = old.others;
       piece_count = old.piece_count;
     })
 with_mark_is o (part.Piece s p) ok =
     let old = section_at_is o s ok in
     section_kept o s (record (section_at o s) { pieces = set (section_at o s).pieces p (record (get_or (section_at o s).pieces p home_piece) { marked = true }) }) ok
     (pieces_kept o.header.class (section_at o s) (set (section_at o s).pieces p (record (get_or (section_at o s).pieces p home_piece) { marked = true })) old
-      (All-set IsPiece (section_at o s).pieces p (record (get_or (section_at o s).pieces p home_piece) { marked = true }) (marked_is (get_or (section_at o s).pieces p home_piece) (at_or IsPiece (section_at o s).pieces p home_piece old.pieces home_piece_is)) old.pieces)
-      (others_marked (section_at o s).pieces p old.others)
-      (rw length-set (old.piece_count)))
+    (All-set IsPiece (section_at o s).pieces p (record (get_or (section_at o s).pieces p home_piece) { marked = true }) (marked_is (get_or (section_at o s).pieces p home_piece) (at_or IsPiece (section_at o s).pieces p home_piece old.pieces home_piece_is)) old.pieces)
+    (others_marked (section_at o s).pieces p old.others)
+    (rw length-set (old.piece_count)))
 
 flagged : (dirty layout set : Bool) (o : Object) (p : Part) → IsObject o → IsObject (if layout then with_layout (if dirty then with_mark o p else o) set else (if dirty then with_mark o p else o))
 flagged true true set o p ok = layout_kept (with_mark o p) set (with_mark_is o p ok)
@@ -397,20 +495,29 @@ flag_keeps p set bits = edit_keeps (λ o. flag_refusal o p set bits) (λ o. flag
 pub set_fill_keeps : (byte : ℕ) → byte < 2 ^ 8 → KeepsObject (set_fill byte)
 unfolding with_fill
 set_fill_keeps byte small = edit_keeps (λ o. None) (λ o. tt) (λ o. with_fill o byte) (λ o ok passed. record {
-  header = ok.header; fitting = ok.fitting; pad = ok.pad; pad_bytes = ok.pad_bytes; phdrs = ok.phdrs;
-  phdr_count = ok.phdr_count; sections = ok.sections; section_count = ok.section_count; string_index = ok.string_index;
-  base = ok.base; base_length = ok.base_length; fill = small;
+  header = ok.header;
+  fitting = ok.fitting;
+  pad = ok.pad;
+  pad_bytes = ok.pad_bytes;
+  phdrs = ok.phdrs;
+  phdr_count = ok.phdr_count;
+  sections = ok.sections;
+  section_count = ok.section_count;
+  string_index = ok.string_index;
+  base = ok.base;
+  base_length = ok.base_length;
+  fill = small;
 })
 
 -- ---- Items
 
 content_are : (c : Section) (class : Class) (order : Order) (s : ℕ) → IsSection class c → AreItems (or_empty (if c.home.out then Err (OutOfFile s) else (elim (decoded c.home.kind class order c.raw) [ None ↦ Err (Ragged s) | Some items ↦ Ok items ])))
 content_are c class order s is = by_test c.home.out (decoded c.home.kind class order c.raw) refl
-    where
-      by_test : (out : Bool) (made : Option Items) → decoded c.home.kind class order c.raw ≡ made → AreItems (or_empty (if out then Err (OutOfFile s) else (elim made [ None ↦ Err (Ragged s) | Some items ↦ Ok items ])))
-      by_test true made e = tt
-      by_test false None e = tt
-      by_test false (Some items) e = decoded_range c.home.kind class order c.raw items is.home.bytes e
+  where
+    by_test : (out : Bool) (made : Option Items) → decoded c.home.kind class order c.raw ≡ made → AreItems (or_empty (if out then Err (OutOfFile s) else (elim made [ None ↦ Err (Ragged s) | Some items ↦ Ok items ])))
+    by_test true made e = tt
+    by_test false None e = tt
+    by_test false (Some items) e = decoded_range c.home.kind class order c.raw items is.home.bytes e
 
 own_or : (own : Option Items) (b : Bool) (content : Items) → AreItems content → IfSome own (λ items. AreItems items × IsTrue b) → AreItems (elim own [ None ↦ content | Some items ↦ items ])
 own_or None b content are own = are

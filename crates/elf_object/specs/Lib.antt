@@ -20,4 +20,7 @@ pub mod RangeLaws
 pub mod PlaceLaws
 pub mod KeepLaws
 pub mod PlacedLaws
+pub mod ImageLaws
+pub mod Laws
+pub mod LawsHold
 pub mod Samples

@@ -1,22 +1,17 @@
 -- What is known of the places of the parts where the update is not refused: none is too large for the class, and no two
 -- parts share a byte.
-use Rattle.std.proofs.Common.{◌≡◌, ℕ, zero, suc, ◌+◌, ◌-◌, ◌*◌, ◌^◌, ◌<◌, ◌≤◌, min, max, Bool, true, false, not, ◌&&◌, ◌||◌, List, [], ◌∷◌, ◌++◌, length, get_or, Option, Some, None, refl, sym, ap, ◌∙◌, subst, arith, lit<, lit≤, ⊎_elim, eqb, leb, ltb}
-use Rattle.std.specs.Prelude.{All, IsTrue, nat_lt, nat_le, if◌then◌else◌, map, slice_get}
-use Rattle.std.specs.List.{range_with_len, AllByRecursion, list_any}
-use Rattle.std.specs.Option.{option_or, option_map}
-use Rattle.std.proofs.lemmas.Bool.{ltb-true, ltb-false, cases_lt, lt-ltb, le-ltb}
-use Rattle.std.proofs.lemmas.List.{length-map, length-append, get_or-map, get_or_past, get_or-append-add, get_or_append_left}
-use Rattle.std.proofs.lemmas.List.FromFn.{length-map-range_with_len, get_or-map-range_with_len}
-use Rattle.std.proofs.lemmas.List.Elements.{All-nil, All-cons, All-append, All-map, All-from_recursion, recursion_from_All, All-get_or, All-weaker, All-tail, All-head}
+use Rattle.std.proofs.Common.{◌≡◌, ℕ, ◌+◌, ◌^◌, ◌<◌, ◌≤◌, max, Bool, true, false, not, ◌&&◌, ◌||◌, List, [], ◌∷◌, Option, Some, None, refl, sym, ◌∙◌, arith, lit≤, ⊎_elim}
+use Rattle.std.specs.Prelude.{nat_lt, if◌then◌else◌}
+use Rattle.std.specs.List.{AllByRecursion, list_any}
+use Rattle.std.specs.Option.{option_or}
+use Rattle.std.proofs.lemmas.Bool.{ltb-false, cases_lt, lt-ltb, le-ltb}
 use Rattle.elf_types.specs.declared.records.Class.{Class}
 use Rattle.elf_types.specs.declared.records.Class.TheVariants.{C32, C64}
-use Rattle.elf_types.specs.declared.records.Part.{Part}
 use Rattle.elf_types.specs.declared.errors.ElfError.{ElfError}
-use Rattle.elf_types.specs.declared.errors.ElfError.TheVariants.{Overlap, TooLarge}
+use Rattle.elf_types.specs.declared.errors.ElfError.TheVariants.{TooLarge}
 use Rattle.elf_xlate.specs.Fields.{fits}
 use Rattle.elf_layout.specs.declared.parts.PartAt.{PartAt}
-use Rattle.elf_layout.specs.declared.parts.Places.{Places}
-use Rattle.elf_layout.specs.Layout.{rounded_up, place_of, end_after, in_order_from, standing, length_with, length_from, length_of, positions, limit_of, some_above, is_too_large, overlap_refusal, refusal_within, refusal_of}
+use Rattle.elf_layout.specs.Layout.{rounded_up, place_of, end_after, in_order_from, standing, length_with, length_from, length_of, limit_of, some_above, is_too_large, overlap_refusal, refusal_within, refusal_of}
 use Rattle.elf_layout.specs.Meeting.{has_bytes, end_of, meets}
 
 -- ---- One after the other
@@ -28,20 +23,20 @@ rounded_up-ge n align = omega arith
 end_after-ge : (end : ℕ) (p : PartAt) → end ≤ end_after end p
 unfolding end_after place_of
 end_after-ge end p = by_test p.filled
-    where
-      by_test : (b : Bool) → end ≤ (if b then rounded_up end p.align + p.len else end)
-      by_test true = let up = rounded_up-ge end p.align in omega arith
-      by_test false = omega arith
+  where
+    by_test : (b : Bool) → end ≤ (if b then rounded_up end p.align + p.len else end)
+    by_test true = let up = rounded_up-ge end p.align in omega arith
+    by_test false = omega arith
 
 -- each part stands at the end so far or after it
 in_order-ge : (end : ℕ) (ps : List PartAt) → AllByRecursion (λ p. end ≤ p.at) (in_order_from end ps)
 unfolding in_order_from place_of
 in_order-ge end [] = tt
 in_order-ge end (p ∷ ps) = (rounded_up-ge end p.align, raise end (end_after end p) (end_after-ge end p) (in_order_from (end_after end p) ps) (in_order-ge (end_after end p) ps))
-    where
-      raise : (m n : ℕ) → m ≤ n → (l : List PartAt) → AllByRecursion (λ q. n ≤ q.at) l → AllByRecursion (λ q. m ≤ q.at) l
-      raise m n h [] each = tt
-      raise m n h (q ∷ l) each = (omega (arith, h, each.0), raise m n h l each.1)
+  where
+    raise : (m n : ℕ) → m ≤ n → (l : List PartAt) → AllByRecursion (λ q. n ≤ q.at) l → AllByRecursion (λ q. m ≤ q.at) l
+    raise m n h [] each = tt
+    raise m n h (q ∷ l) each = (omega (arith, h, each.0), raise m n h l each.1)
 
 -- a part that begins where another ends, or after it, does not meet it
 abbrev pub IsBehind : PartAt → PartAt → Type 0
@@ -55,18 +50,20 @@ pub in_order : (end : ℕ) (ps : List PartAt) → AreInOrder (in_order_from end 
 unfolding in_order_from end_of end_after
 in_order end [] = tt
 in_order end (p ∷ ps) = (behind p.filled refl, in_order (end_after end p) ps)
-    where
-      lower : (m n : ℕ) → m ≤ n → (l : List PartAt) → AllByRecursion (λ q. n ≤ q.at) l → AllByRecursion (λ q. p.filled ≡ true → m ≤ q.at) l
-      lower m n h [] each = tt
-      lower m n h (q ∷ l) each = ((λ filled. omega (arith, h, each.0)), lower m n h l each.1)
-      never : (m : ℕ) → p.filled ≡ false → (l : List PartAt) → AllByRecursion (λ q. p.filled ≡ true → m ≤ q.at) l
-      never m empty [] = tt
-      never m empty (q ∷ l) = ((λ filled. let clash : false ≡ true = sym empty ∙ filled in cc), never m empty l)
-      behind : (b : Bool) → p.filled ≡ b → AllByRecursion (λ q. p.filled ≡ true → place_of end p + p.len ≤ q.at) (in_order_from (end_after end p) ps)
-      behind true e =
-          let same : end_after end p ≡ place_of end p + p.len = rw e refl in
-          lower (place_of end p + p.len) (end_after end p) (omega arith) (in_order_from (end_after end p) ps) (in_order-ge (end_after end p) ps)
-      behind false e = never (place_of end p + p.len) e (in_order_from (end_after end p) ps)
+  where
+    lower : (m n : ℕ) → m ≤ n → (l : List PartAt) → AllByRecursion (λ q. n ≤ q.at) l → AllByRecursion (λ q. p.filled ≡ true → m ≤ q.at) l
+    lower m n h [] each = tt
+    lower m n h (q ∷ l) each = ((λ filled. omega (arith, h, each.0)), lower m n h l each.1)
+
+    never : (m : ℕ) → p.filled ≡ false → (l : List PartAt) → AllByRecursion (λ q. p.filled ≡ true → m ≤ q.at) l
+    never m empty [] = tt
+    never m empty (q ∷ l) = ((λ filled. let clash : false ≡ true = sym empty ∙ filled in cc), never m empty l)
+
+    behind : (b : Bool) → p.filled ≡ b → AllByRecursion (λ q. p.filled ≡ true → place_of end p + p.len ≤ q.at) (in_order_from (end_after end p) ps)
+    behind true e =
+        let same : end_after end p ≡ place_of end p + p.len = rw e refl in
+        lower (place_of end p + p.len) (end_after end p) (omega arith) (in_order_from (end_after end p) ps) (in_order-ge (end_after end p) ps)
+    behind false e = never (place_of end p + p.len) e (in_order_from (end_after end p) ps)
 
 and_false : (b : Bool) → (b && false) ≡ false
 and_false true = refl
@@ -76,22 +73,22 @@ and_false false = refl
 pub behind_apart : (p q : PartAt) → IsBehind p q → meets p q ≡ false
 unfolding meets has_bytes end_of
 behind_apart p q behind = by_test p.filled refl
-    where
-      by_test : (b : Bool) → p.filled ≡ b → (p.filled && nat_lt 0 p.len && (q.filled && nat_lt 0 q.len) && nat_lt p.at (q.at + q.len) && nat_lt q.at (p.at + p.len)) ≡ false
-      by_test true e =
-          let past = le-ltb q.at (p.at + p.len) (behind e) in
-          rw past (and_false (p.filled && nat_lt 0 p.len && (q.filled && nat_lt 0 q.len) && nat_lt p.at (q.at + q.len)))
-      by_test false e = rw e refl
+  where
+    by_test : (b : Bool) → p.filled ≡ b → (p.filled && nat_lt 0 p.len && (q.filled && nat_lt 0 q.len) && nat_lt p.at (q.at + q.len) && nat_lt q.at (p.at + p.len)) ≡ false
+    by_test true e =
+        let past = le-ltb q.at (p.at + p.len) (behind e) in
+        rw past (and_false (p.filled && nat_lt 0 p.len && (q.filled && nat_lt 0 q.len) && nat_lt p.at (q.at + q.len)))
+    by_test false e = rw e refl
 
 -- ---- The length of the image
 
 length_with-ge : (n : ℕ) (p : PartAt) → n ≤ length_with n p
 unfolding length_with
 length_with-ge n p = by_test (has_bytes p)
-    where
-      by_test : (b : Bool) → n ≤ (if b then max n (end_of p) else n)
-      by_test true = omega arith
-      by_test false = omega arith
+  where
+    by_test : (b : Bool) → n ≤ (if b then max n (end_of p) else n)
+    by_test true = omega arith
+    by_test false = omega arith
 
 pub length_from-ge : (n : ℕ) (ps : List PartAt) → n ≤ length_from n ps
 unfolding length_from
@@ -104,12 +101,12 @@ pub ends_within : (n : ℕ) (ps : List PartAt) → AllByRecursion (λ p. has_byt
 unfolding length_from length_with
 ends_within n [] = tt
 ends_within n (p ∷ ps) = (here (has_bytes p) refl, ends_within (length_with n p) ps)
-    where
-      here : (b : Bool) → has_bytes p ≡ b → has_bytes p ≡ true → end_of p ≤ length_from (length_with n p) ps
-      here true e h =
-          let with_it : end_of p ≤ length_with n p = rw e (omega arith) in
-          let rest = length_from-ge (length_with n p) ps in omega arith
-      here false e h = let clash : false ≡ true = sym e ∙ h in cc
+  where
+    here : (b : Bool) → has_bytes p ≡ b → has_bytes p ≡ true → end_of p ≤ length_from (length_with n p) ps
+    here true e h =
+        let with_it : end_of p ≤ length_with n p = rw e (omega arith) in
+        let rest = length_from-ge (length_with n p) ps in omega arith
+    here false e h = let clash : false ≡ true = sym e ∙ h in cc
 
 -- ---- An update that is not refused
 
@@ -187,12 +184,12 @@ lens_before n end (p ∷ ps) each = (each.0, lens_before n (end_after end p) ps 
 pub lens_limited : (parts : List PartAt) (layout : Bool) (base : ℕ) (class : Class) → AreNotTooLarge parts layout base class → AllByRecursion (λ p. p.filled ≡ true → p.len ≤ limit_of class) parts
 unfolding standing length_of
 lens_limited parts true base class small = raise parts (lens_within (length_from base parts) parts (ends_within base parts))
-    where
-      raise : (l : List PartAt) → AllByRecursion (λ p. p.filled ≡ true → p.len ≤ length_from base parts) l → AllByRecursion (λ p. p.filled ≡ true → p.len ≤ limit_of class) l
-      raise [] each = tt
-      raise (p ∷ l) each = ((λ e. let here = each.0 e in let whole = small.length in omega arith), raise l each.1)
+  where
+    raise : (l : List PartAt) → AllByRecursion (λ p. p.filled ≡ true → p.len ≤ length_from base parts) l → AllByRecursion (λ p. p.filled ≡ true → p.len ≤ limit_of class) l
+    raise [] each = tt
+    raise (p ∷ l) each = ((λ e. let here = each.0 e in let whole = small.length in omega arith), raise l each.1)
 lens_limited parts false base class small = lens_before (limit_of class) 0 parts (raise (in_order_from 0 parts) (lens_within (length_from 0 (in_order_from 0 parts)) (in_order_from 0 parts) (ends_within 0 (in_order_from 0 parts))))
-    where
-      raise : (l : List PartAt) → AllByRecursion (λ p. p.filled ≡ true → p.len ≤ length_from 0 (in_order_from 0 parts)) l → AllByRecursion (λ p. p.filled ≡ true → p.len ≤ limit_of class) l
-      raise [] each = tt
-      raise (p ∷ l) each = ((λ e. let here = each.0 e in let whole = small.length in omega arith), raise l each.1)
+  where
+    raise : (l : List PartAt) → AllByRecursion (λ p. p.filled ≡ true → p.len ≤ length_from 0 (in_order_from 0 parts)) l → AllByRecursion (λ p. p.filled ≡ true → p.len ≤ limit_of class) l
+    raise [] each = tt
+    raise (p ∷ l) each = ((λ e. let here = each.0 e in let whole = small.length in omega arith), raise l each.1)

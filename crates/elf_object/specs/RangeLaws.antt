@@ -1,13 +1,13 @@
 -- What bytes hold is in the range of its type.
-use Rattle.std.proofs.Common.{◌≡◌, ℕ, zero, suc, ◌+◌, ◌-◌, ◌*◌, ◌/◌, ◌%◌, ◌^◌, ◌<◌, ◌≤◌, Bool, true, false, List, [], ◌∷◌, length, take, drop, get_or, Option, Some, None, refl, sym, ap, ◌∙◌, subst, arith, lit<, lit≤, ⊎_elim, eqb, ltb}
-use Rattle.std.specs.Prelude.{All, IsTrue, nat_lt, if◌then◌else◌, ◌==◌, ℤ, pos, negsuc, ◌-ℤ◌, reverse, map, slice_index}
+use Rattle.std.proofs.Common.{◌≡◌, ℕ, ◌-◌, ◌*◌, ◌/◌, ◌%◌, ◌^◌, ◌<◌, ◌≤◌, Bool, true, false, List, [], ◌∷◌, length, take, drop, get_or, Some, None, refl, subst, arith, lit<}
+use Rattle.std.specs.Prelude.{All, nat_lt, if◌then◌else◌, ◌==◌, pos, negsuc, ◌-ℤ◌, reverse, map}
 use Rattle.std.specs.List.{range_with_len}
 use Rattle.std.specs.Option.{option_map}
 use Rattle.std.proofs.lemmas.Int.{ints}
-use Rattle.std.proofs.lemmas.Bool.{ltb-true, ltb-false, cases_lt}
-use Rattle.std.proofs.lemmas.List.{length-take, length-reverse, get_or-reverse, get_or-take, get_or-drop, get_or_past}
-use Rattle.std.proofs.lemmas.List.Elements.{All-head, All-tail, All-take, All-drop, All-map, All-nil, All-cons, All-get_or}
-use Rattle.std.proofs.Math.Nat.{pow-le-pow_right, pow-succ', div-lt_iff_lt-mul, mod-lt}
+use Rattle.std.proofs.lemmas.Bool.{ltb-true, ltb-false}
+use Rattle.std.proofs.lemmas.List.{length-take, length-reverse, get_or-reverse}
+use Rattle.std.proofs.lemmas.List.Elements.{All-head, All-tail, All-take, All-drop, All-nil, All-cons}
+use Rattle.std.proofs.Math.Nat.{pow-le-pow_right, pow-succ'}
 use Rattle.elf_types.specs.declared.records.Class.{Class}
 use Rattle.elf_types.specs.declared.records.Class.TheVariants.{C32, C64}
 use Rattle.elf_types.specs.declared.records.Order.{Order}
@@ -19,7 +19,7 @@ use Rattle.elf_xlate.specs.declared.content.Items.TheVariants as items
 use Rattle.elf_xlate.specs.Numbers.{by_weight, weighed, number_of, number_at, signed_of}
 use Rattle.elf_xlate.specs.Orders.{weighed-suc}
 use Rattle.elf_xlate.specs.Fields.{Field, place_in, number_in, IsSigned}
-use Rattle.elf_xlate.specs.Items.{item_size, half_of, half_fields, word_of, word_fields, addr_of, addr_fields, sym_of, sym_fields, rel_of, rel_fields, rela_of, rela_fields, dyn_of, dyn_fields, type_range, IsSym, IsRel, IsRela, IsDyn}
+use Rattle.elf_xlate.specs.Items.{item_size, half_of, half_fields, word_of, word_fields, addr_of, addr_fields, sym_of, sym_fields, rel_of, rel_fields, rela_of, rela_fields, dyn_of, dyn_fields, IsSym, IsRel, IsRela, IsDyn}
 use Rattle.elf_xlate.specs.Translation.{listed, items_of, decoded, AreItems}
 use Rattle.elf_object.specs.Valid.{AreBytes}
 
@@ -68,18 +68,18 @@ number_in_below class order bytes f are = number_at_below order bytes (place_in 
 signed_narrow : (n : ℕ) → n < 2 ^ 32 → IsSigned (signed_of 4 n)
 unfolding signed_of
 signed_narrow n h = by_test (nat_lt n (2 ^ 31)) refl
-    where
-      by_test : (b : Bool) → nat_lt n (2 ^ 31) ≡ b → IsSigned (if nat_lt n (2 ^ 31) then pos n else pos n -ℤ pos (2 ^ 32))
-      by_test true e = rw e (let low = ltb-true n (2 ^ 31) e in omega arith)
-      by_test false e = let same : pos n -ℤ pos (2 ^ 32) ≡ negsuc (2 ^ 32 - n - 1) = omega (arith, ints) in rw (e, same) (omega arith)
+  where
+    by_test : (b : Bool) → nat_lt n (2 ^ 31) ≡ b → IsSigned (if nat_lt n (2 ^ 31) then pos n else pos n -ℤ pos (2 ^ 32))
+    by_test true e = rw e (let low = ltb-true n (2 ^ 31) e in omega arith)
+    by_test false e = let same : pos n -ℤ pos (2 ^ 32) ≡ negsuc (2 ^ 32 - n - 1) = omega (arith, ints) in rw (e, same) (omega arith)
 
 signed_broad : (n : ℕ) → n < 2 ^ 64 → IsSigned (signed_of 8 n)
 unfolding signed_of
 signed_broad n h = by_test (nat_lt n (2 ^ 63)) refl
-    where
-      by_test : (b : Bool) → nat_lt n (2 ^ 63) ≡ b → IsSigned (if nat_lt n (2 ^ 63) then pos n else pos n -ℤ pos (2 ^ 64))
-      by_test true e = rw e (ltb-true n (2 ^ 63) e)
-      by_test false e = let high = ltb-false n (2 ^ 63) e in let same : pos n -ℤ pos (2 ^ 64) ≡ negsuc (2 ^ 64 - n - 1) = omega (arith, ints) in rw (e, same) (omega arith)
+  where
+    by_test : (b : Bool) → nat_lt n (2 ^ 63) ≡ b → IsSigned (if nat_lt n (2 ^ 63) then pos n else pos n -ℤ pos (2 ^ 64))
+    by_test true e = rw e (ltb-true n (2 ^ 63) e)
+    by_test false e = let high = ltb-false n (2 ^ 63) e in let same : pos n -ℤ pos (2 ^ 64) ≡ negsuc (2 ^ 64 - n - 1) = omega (arith, ints) in rw (e, same) (omega arith)
 
 -- ---- Items
 
@@ -193,12 +193,12 @@ items_range P item size count bytes holds are =
 made_range : {X : Type 0} (P : X → Type 0) (form : List X → Items) (item : List ℕ → X) (size : ℕ) (bytes : List ℕ) (made : Items) → ((part : List ℕ) → AreBytes part → P (item part)) → ((l : List X) → All P l → AreItems (form l)) → AreBytes bytes → option_map form (listed item size bytes) ≡ Some made → AreItems made
 unfolding listed
 made_range P form item size bytes made holds forms are e = by_test (length bytes % size == 0) e
-    where
-      by_test : (b : Bool) → option_map form (if b then Some (items_of item size (length bytes / size) bytes) else None) ≡ Some made → AreItems made
-      by_test true h =
-          let same : form (items_of item size (length bytes / size) bytes) ≡ made = cc in
-          subst AreItems same (forms (items_of item size (length bytes / size) bytes) (items_range P item size (length bytes / size) bytes holds are))
-      by_test false h = cc
+  where
+    by_test : (b : Bool) → option_map form (if b then Some (items_of item size (length bytes / size) bytes) else None) ≡ Some made → AreItems made
+    by_test true h =
+        let same : form (items_of item size (length bytes / size) bytes) ≡ made = cc in
+        subst AreItems same (forms (items_of item size (length bytes / size) bytes) (items_range P item size (length bytes / size) bytes holds are))
+    by_test false h = cc
 
 -- the items that bytes hold are in the range of their types
 pub decoded_range : (kind : Kind) (class : Class) (order : Order) (bytes : List ℕ) (made : Items) → AreBytes bytes → decoded kind class order bytes ≡ Some made → AreItems made
