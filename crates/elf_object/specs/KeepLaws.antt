@@ -355,7 +355,7 @@ others_push (x ∷ l) p others own = All-push IsOwn l p others own
 own_piece_is : (items : Items) (align : ℕ) → AreItems items → IsTrue (is_piece_align align) → IsPiece (own_piece items align)
 own_piece_is items align are aligned = record { align = aligned; own = (are, refl) }
 
-home_piece_is : IsPiece home_piece
+pub home_piece_is : IsPiece home_piece
 unfolding is_piece_align ones
 home_piece_is = record { align = refl; own = tt }
 

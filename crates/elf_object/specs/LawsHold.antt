@@ -2,8 +2,9 @@
 use Rattle.std.proofs.Common.{ap, ◌∙◌}
 use Rattle.elf_object.specs.Object.{Object, section_at}
 use Rattle.elf_object.specs.Layout.{places_of}
-use Rattle.elf_object.specs.Laws.{CleanStays, EveryStepKeeps, PartsDoNotMeet, RefusedStays, SizesAreLengths}
+use Rattle.elf_object.specs.Laws.{BeginningsAre, CleanStays, EveryStepKeeps, PartsDoNotMeet, RefusedStays, SizesAreLengths}
 use Rattle.elf_object.specs.ImageLaws.{step-refused, image-clean, placed-clean, placed-dirty, length-image, length-joined, size-placed, parts_apart}
+use Rattle.elf_object.specs.OpenLaws.{created_is, opened_is}
 use Rattle.elf_object.specs.KeepLaws as keep
 use Rattle.elf_object.specs.PlacedLaws as placed_laws
 
@@ -48,3 +49,6 @@ sizes_are_lengths = record {
 
 pub parts_do_not_meet : PartsDoNotMeet
 parts_do_not_meet = parts_apart
+
+pub beginnings_are : BeginningsAre
+beginnings_are = record { from_image = opened_is; from_nothing = created_is }

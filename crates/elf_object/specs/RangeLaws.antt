@@ -60,7 +60,7 @@ number_at_below order bytes place width are =
     omega arith
 
 -- a field's number
-number_in_below : (class : Class) (order : Order) (bytes : List ℕ) (f : Field) → AreBytes bytes → number_in class order bytes f < 256 ^ (place_in class f).1
+pub number_in_below : (class : Class) (order : Order) (bytes : List ℕ) (f : Field) → AreBytes bytes → number_in class order bytes f < 256 ^ (place_in class f).1
 unfolding number_in
 number_in_below class order bytes f are = number_at_below order bytes (place_in class f).0 (place_in class f).1 are
 
@@ -83,7 +83,7 @@ signed_broad n h = by_test (nat_lt n (2 ^ 63)) refl
 
 -- ---- Items
 
-no_field : Field
+pub no_field : Field
 no_field = record { narrow = (0, 0); broad = (0, 0) }
 
 half_range : (class : Class) (order : Order) (bytes : List ℕ) → AreBytes bytes → half_of class order bytes < 2 ^ 16
@@ -97,7 +97,7 @@ word_range C32 order bytes are = number_in_below C32 order bytes (get_or word_fi
 word_range C64 order bytes are = number_in_below C64 order bytes (get_or word_fields 0 no_field) are
 
 -- a field of four bytes in class 32 and of eight in class 64
-native_range : (class : Class) (order : Order) (bytes : List ℕ) (f : Field) → f.narrow.1 ≡ 4 → f.broad.1 ≡ 8 → AreBytes bytes → number_in class order bytes f < 2 ^ 64
+pub native_range : (class : Class) (order : Order) (bytes : List ℕ) (f : Field) → f.narrow.1 ≡ 4 → f.broad.1 ≡ 8 → AreBytes bytes → number_in class order bytes f < 2 ^ 64
 native_range C32 order bytes f four eight are =
     let small = number_in_below C32 order bytes f are in
     let P : ℕ → Type 0 = λ w. number_in C32 order bytes f < 256 ^ w in
@@ -108,7 +108,7 @@ native_range C64 order bytes f four eight are =
     subst P eight (number_in_below C64 order bytes f are)
 
 -- a field of one width in both classes
-field_range : (class : Class) (order : Order) (bytes : List ℕ) (f : Field) (width : ℕ) → f.narrow.1 ≡ width → f.broad.1 ≡ width → AreBytes bytes → number_in class order bytes f < 256 ^ width
+pub field_range : (class : Class) (order : Order) (bytes : List ℕ) (f : Field) (width : ℕ) → f.narrow.1 ≡ width → f.broad.1 ≡ width → AreBytes bytes → number_in class order bytes f < 256 ^ width
 field_range C32 order bytes f width narrow broad are =
     let P : ℕ → Type 0 = λ w. number_in C32 order bytes f < 256 ^ w in
     subst P narrow (number_in_below C32 order bytes f are)
@@ -183,7 +183,7 @@ pub each_made : {X : Type 0} (P : X → Type 0) (f : ℕ → X) (l : List ℕ) �
 each_made P f [] holds = All-nil P
 each_made P f (i ∷ l) holds = All-cons P (f i) (map f l) (holds i) (each_made P f l holds)
 
-items_range : {X : Type 0} (P : X → Type 0) (item : List ℕ → X) (size count : ℕ) (bytes : List ℕ) → ((part : List ℕ) → AreBytes part → P (item part)) → AreBytes bytes → All P (items_of item size count bytes)
+pub items_range : {X : Type 0} (P : X → Type 0) (item : List ℕ → X) (size count : ℕ) (bytes : List ℕ) → ((part : List ℕ) → AreBytes part → P (item part)) → AreBytes bytes → All P (items_of item size count bytes)
 unfolding items_of
 items_range P item size count bytes holds are =
     each_made P (λ i. item (take size (drop (i * size) bytes))) (range_with_len 0 count)

@@ -1,7 +1,7 @@
 //! Laws over the definitions. Each is the contract of a function that does nothing: what it ensures
 //! holds of every object, and is proved.
 
-ghost use Rattle.elf_object.specs.Laws.{CleanStays, EveryStepKeeps, PartsDoNotMeet, RefusedStays, SizesAreLengths};
+ghost use Rattle.elf_object.specs.Laws.{BeginningsAre, CleanStays, EveryStepKeeps, PartsDoNotMeet, RefusedStays, SizesAreLengths};
 
 /// With nothing dirty the image is the base, and an update leaves the object.
 #[tactic(auto, using(crate::specs::LawsHold::clean_stays))]
@@ -13,6 +13,13 @@ pub fn clean_stays()
 pub fn refused_stays<T>()
     ensures { RefusedStays T }
 {}
+
+/// An image of bytes that is opened gives an object, and so does creating one.
+#[tactic(auto, using(crate::specs::LawsHold::beginnings_are))]
+pub fn beginnings_are()
+    ensures { BeginningsAre }
+{
+}
 
 /// Every edit keeps what makes an object: the ranges of its numbers, the limits of its lists, and the
 /// pieces that fit their homes.
