@@ -1,10 +1,8 @@
 -- An image that is opened gives an object, and so does creating one.
-use Rattle.std.proofs.Common.{◌≡◌, ℕ, zero, suc, ◌+◌, ◌-◌, ◌*◌, ◌^◌, ◌<◌, ◌≤◌, min, Bool, true, false, not, ◌&&◌, ◌||◌, List, [], ◌∷◌, length, take, drop, get_or, Option, Some, None, Result, Ok, Err, refl, sym, ap, ◌∙◌, subst, arith, lit<, lit≤, eqb, leb, ltb}
-use Rattle.std.specs.Prelude.{All, IsSome, IsTrue, nat_lt, nat_le, if◌then◌else◌, ◌==◌, map, slice_index}
-use Rattle.std.specs.List.{range_with_len}
-use Rattle.std.proofs.Math.ListN.{replicate}
-use Rattle.std.proofs.lemmas.Bool.{ltb-true, ltb-false, leb-true, lt-ltb, eqb-true}
-use Rattle.std.proofs.lemmas.List.{length-take, length-drop, length-map, length-replicate, nil_from_length, length-take-le}
+use Rattle.std.proofs.Common.{◌≡◌, ℕ, ◌+◌, ◌*◌, ◌^◌, ◌<◌, ◌≤◌, Bool, true, false, not, ◌&&◌, ◌||◌, List, [], ◌∷◌, length, take, drop, get_or, Result, Ok, Err, refl, sym, ap, ◌∙◌, subst, arith, lit<, lit≤}
+use Rattle.std.specs.Prelude.{IsSome, IsTrue, nat_lt, if◌then◌else◌, ◌==◌}
+use Rattle.std.proofs.lemmas.Bool.{ltb-false, lt-ltb, eqb-true}
+use Rattle.std.proofs.lemmas.List.{length-take, length-drop, length-map, length-replicate, length-take-le}
 use Rattle.std.proofs.lemmas.List.FromFn.{length-map-range_with_len}
 use Rattle.std.proofs.lemmas.List.Elements.{All-nil, All-cons, All-take, All-drop, All-map, All-weaker, All-replicate}
 use Rattle.elf_types.specs.Kinds.{section_kind, kind_of_type, hash_kind, is_compressed}
@@ -14,7 +12,6 @@ use Rattle.elf_types.specs.declared.records.Order.{Order}
 use Rattle.elf_types.specs.declared.records.Kind.{Kind}
 use Rattle.elf_types.specs.declared.records.Kind.TheVariants as kinds
 use Rattle.elf_types.specs.declared.records.Ehdr.{Ehdr}
-use Rattle.elf_types.specs.declared.records.Phdr.{Phdr}
 use Rattle.elf_types.specs.declared.records.Shdr.{Shdr}
 use Rattle.elf_types.specs.declared.errors.ElfError.{ElfError}
 use Rattle.elf_types.specs.declared.errors.ElfError.TheVariants as error
@@ -25,12 +22,12 @@ use Rattle.elf_ident.specs.declared.counts.Counts.{Counts}
 use Rattle.elf_ident.specs.declared.fronts.Head.{Head}
 use Rattle.elf_ident.specs.declared.fronts.Front.{Front}
 use Rattle.elf_ident.specs.Front.{unless, and_then, ident_in, header_at, header_in, zero_shdr, needs_first, first_section, true_shnum, true_shstrndx, true_counts, phdrs_at, shdrs_at, header_refusals, count_refusals, counts_by, counts_in, front_at, head_in, front}
-use Rattle.elf_object.specs.Object.{Object, Section, Home, home_piece, occupies_file}
+use Rattle.elf_object.specs.Object.{Object, home_piece, occupies_file}
 use Rattle.elf_object.specs.Open.{extent_of, home_of, home_bytes, opened_section, begun, begun_or_refused, opened, created_over, new_ehdr}
 use Rattle.elf_object.specs.Valid.{AreBytes, IsHome, IsPiece, IsSection, IsObject}
 use Rattle.elf_object.specs.KeepLaws.{home_piece_is}
 use Rattle.elf_object.specs.RangeLaws.{no_field, native_range, field_range, number_in_below, items_range}
-use Rattle.elf_object.specs.PlacedLaws.{EhdrFits, ehdr_fits_all, ShdrFits, shdr_fits_all}
+use Rattle.elf_object.specs.PlacedLaws.{ehdr_fits_all, shdr_fits_all}
 
 -- ---- Headers that bytes hold
 
@@ -46,28 +43,31 @@ unfolding ehdr_of ehdr_fields
 ehdr_range class order bytes are =
     let phnum = field_range class order bytes (get_or ehdr_fields 11 no_field) 2 refl refl are in
     let shnum = field_range class order bytes (get_or ehdr_fields 13 no_field) 2 refl refl are in
-    let shstrndx = field_range class order bytes (get_or ehdr_fields 14 no_field) 2 refl refl are in
-    (record {
-      osabi = field_range class order bytes (get_or ehdr_fields 0 no_field) 1 refl refl are;
-      abiversion = field_range class order bytes (get_or ehdr_fields 1 no_field) 1 refl refl are;
-      etype = field_range class order bytes (get_or ehdr_fields 2 no_field) 2 refl refl are;
-      machine = field_range class order bytes (get_or ehdr_fields 3 no_field) 2 refl refl are;
-      version = field_range class order bytes (get_or ehdr_fields 4 no_field) 4 refl refl are;
-      entry = native_range class order bytes (get_or ehdr_fields 5 no_field) refl refl are;
-      phoff = native_range class order bytes (get_or ehdr_fields 6 no_field) refl refl are;
-      shoff = native_range class order bytes (get_or ehdr_fields 7 no_field) refl refl are;
-      flags = field_range class order bytes (get_or ehdr_fields 8 no_field) 4 refl refl are;
-      ehsize = field_range class order bytes (get_or ehdr_fields 9 no_field) 2 refl refl are;
-      phentsize = field_range class order bytes (get_or ehdr_fields 10 no_field) 2 refl refl are;
-      phnum = omega arith;
-      shentsize = field_range class order bytes (get_or ehdr_fields 12 no_field) 2 refl refl are;
-      shnum = omega arith;
-      shstrndx = omega arith;
-    }, ehdr_fits_all (ehdr_of class order bytes) (record {
-      entry = native_fits class order bytes (get_or ehdr_fields 5 no_field) refl are;
-      phoff = native_fits class order bytes (get_or ehdr_fields 6 no_field) refl are;
-      shoff = native_fits class order bytes (get_or ehdr_fields 7 no_field) refl are;
-    }), record { phnum = phnum; shnum = shnum; shstrndx = shstrndx })
+    let shstrndx = field_range class order bytes (get_or ehdr_fields 14 no_field) 2 refl refl are in (
+      record {
+        osabi = field_range class order bytes (get_or ehdr_fields 0 no_field) 1 refl refl are;
+        abiversion = field_range class order bytes (get_or ehdr_fields 1 no_field) 1 refl refl are;
+        etype = field_range class order bytes (get_or ehdr_fields 2 no_field) 2 refl refl are;
+        machine = field_range class order bytes (get_or ehdr_fields 3 no_field) 2 refl refl are;
+        version = field_range class order bytes (get_or ehdr_fields 4 no_field) 4 refl refl are;
+        entry = native_range class order bytes (get_or ehdr_fields 5 no_field) refl refl are;
+        phoff = native_range class order bytes (get_or ehdr_fields 6 no_field) refl refl are;
+        shoff = native_range class order bytes (get_or ehdr_fields 7 no_field) refl refl are;
+        flags = field_range class order bytes (get_or ehdr_fields 8 no_field) 4 refl refl are;
+        ehsize = field_range class order bytes (get_or ehdr_fields 9 no_field) 2 refl refl are;
+        phentsize = field_range class order bytes (get_or ehdr_fields 10 no_field) 2 refl refl are;
+        phnum = omega arith;
+        shentsize = field_range class order bytes (get_or ehdr_fields 12 no_field) 2 refl refl are;
+        shnum = omega arith;
+        shstrndx = omega arith;
+      },
+      ehdr_fits_all (ehdr_of class order bytes) (record {
+        entry = native_fits class order bytes (get_or ehdr_fields 5 no_field) refl are;
+        phoff = native_fits class order bytes (get_or ehdr_fields 6 no_field) refl are;
+        shoff = native_fits class order bytes (get_or ehdr_fields 7 no_field) refl are;
+      }),
+      record { phnum = phnum; shnum = shnum; shstrndx = shstrndx },
+    )
 
 pub phdr_range : (class : Class) (order : Order) (bytes : List ℕ) → AreBytes bytes → IsPhdr (phdr_of class order bytes)
 unfolding phdr_of phdr_fields
@@ -84,26 +84,28 @@ phdr_range class order bytes are = record {
 
 pub shdr_range : (class : Class) (order : Order) (bytes : List ℕ) → AreBytes bytes → IsShdr (shdr_of class order bytes) × IsTrue (shdr_fits class (shdr_of class order bytes))
 unfolding shdr_of shdr_fields
-shdr_range class order bytes are =
-    (record {
-      name = field_range class order bytes (get_or shdr_fields 0 no_field) 4 refl refl are;
-      stype = field_range class order bytes (get_or shdr_fields 1 no_field) 4 refl refl are;
-      flags = native_range class order bytes (get_or shdr_fields 2 no_field) refl refl are;
-      addr = native_range class order bytes (get_or shdr_fields 3 no_field) refl refl are;
-      offset = native_range class order bytes (get_or shdr_fields 4 no_field) refl refl are;
-      size = native_range class order bytes (get_or shdr_fields 5 no_field) refl refl are;
-      link = field_range class order bytes (get_or shdr_fields 6 no_field) 4 refl refl are;
-      info = field_range class order bytes (get_or shdr_fields 7 no_field) 4 refl refl are;
-      addralign = native_range class order bytes (get_or shdr_fields 8 no_field) refl refl are;
-      entsize = native_range class order bytes (get_or shdr_fields 9 no_field) refl refl are;
-    }, shdr_fits_all class (shdr_of class order bytes) (record {
-      flags = native_fits class order bytes (get_or shdr_fields 2 no_field) refl are;
-      addr = native_fits class order bytes (get_or shdr_fields 3 no_field) refl are;
-      offset = native_fits class order bytes (get_or shdr_fields 4 no_field) refl are;
-      size = native_fits class order bytes (get_or shdr_fields 5 no_field) refl are;
-      addralign = native_fits class order bytes (get_or shdr_fields 8 no_field) refl are;
-      entsize = native_fits class order bytes (get_or shdr_fields 9 no_field) refl are;
-    }))
+shdr_range class order bytes are = (
+  record {
+    name = field_range class order bytes (get_or shdr_fields 0 no_field) 4 refl refl are;
+    stype = field_range class order bytes (get_or shdr_fields 1 no_field) 4 refl refl are;
+    flags = native_range class order bytes (get_or shdr_fields 2 no_field) refl refl are;
+    addr = native_range class order bytes (get_or shdr_fields 3 no_field) refl refl are;
+    offset = native_range class order bytes (get_or shdr_fields 4 no_field) refl refl are;
+    size = native_range class order bytes (get_or shdr_fields 5 no_field) refl refl are;
+    link = field_range class order bytes (get_or shdr_fields 6 no_field) 4 refl refl are;
+    info = field_range class order bytes (get_or shdr_fields 7 no_field) 4 refl refl are;
+    addralign = native_range class order bytes (get_or shdr_fields 8 no_field) refl refl are;
+    entsize = native_range class order bytes (get_or shdr_fields 9 no_field) refl refl are;
+  },
+  shdr_fits_all class (shdr_of class order bytes) (record {
+    flags = native_fits class order bytes (get_or shdr_fields 2 no_field) refl are;
+    addr = native_fits class order bytes (get_or shdr_fields 3 no_field) refl are;
+    offset = native_fits class order bytes (get_or shdr_fields 4 no_field) refl are;
+    size = native_fits class order bytes (get_or shdr_fields 5 no_field) refl are;
+    addralign = native_fits class order bytes (get_or shdr_fields 8 no_field) refl are;
+    entsize = native_fits class order bytes (get_or shdr_fields 9 no_field) refl are;
+  }),
+)
 
 -- ---- Sections
 
@@ -130,29 +132,29 @@ typed_kind stype entsize =
 pub extent_of_no_kind : (h : Shdr) → section_kind h ≡ kinds.Empty → extent_of h ≡ 0
 unfolding section_kind extent_of IsKind
 extent_of_no_kind h e = by_test (h.stype == 0 || h.stype == 8) e
-    where
-      by_test : (b : Bool) → (if b then kinds.Empty else (if is_compressed h.flags then kinds.Bytes else kind_of_type h.stype h.entsize)) ≡ kinds.Empty → (if not b then h.size else 0) ≡ 0
-      by_test true e = refl
-      by_test false e = absurd (either_kind (is_compressed h.flags) kinds.Bytes (kind_of_type h.stype h.entsize) (λ h. cc) (typed_kind h.stype h.entsize) e)
+  where
+    by_test : (b : Bool) → (if b then kinds.Empty else (if is_compressed h.flags then kinds.Bytes else kind_of_type h.stype h.entsize)) ≡ kinds.Empty → (if not b then h.size else 0) ≡ 0
+    by_test true e = refl
+    by_test false e = absurd (either_kind (is_compressed h.flags) kinds.Bytes (kind_of_type h.stype h.entsize) (λ h. cc) (typed_kind h.stype h.entsize) e)
 
 extent_small : (h : Shdr) → IsShdr h → extent_of h < 2 ^ 64
 unfolding extent_of
 extent_small h is = by_test (occupies_file h)
-    where
-      by_test : (b : Bool) → (if b then h.size else 0) < 2 ^ 64
-      by_test true = is.size
-      by_test false = lit< tt
+  where
+    by_test : (b : Bool) → (if b then h.size else 0) < 2 ^ 64
+    by_test true = is.size
+    by_test false = lit< tt
 
 -- a home in the file is as long as its bytes
 pub home_inside : (image : List ℕ) (at len : ℕ) → (not (len == 0) && nat_lt (length image) (at + len)) ≡ false → length (take len (drop at image)) ≡ len
 home_inside image at len h = by_test (len == 0) refl h
-    where
-      by_test : (b : Bool) → (len == 0) ≡ b → (not b && nat_lt (length image) (at + len)) ≡ false → length (take len (drop at image)) ≡ len
-      by_test true e passed = let none = eqb-true len 0 e in rw (length-take, none) (omega arith)
-      by_test false e passed =
-          let end = ltb-false (length image) (at + len) passed in
-          let rest = length-drop at image in
-          length-take-le len (drop at image) (omega arith)
+  where
+    by_test : (b : Bool) → (len == 0) ≡ b → (not b && nat_lt (length image) (at + len)) ≡ false → length (take len (drop at image)) ≡ len
+    by_test true e passed = let none = eqb-true len 0 e in rw (length-take, none) (omega arith)
+    by_test false e passed =
+        let end = ltb-false (length image) (at + len) passed in
+        let rest = length-drop at image in
+        length-take-le len (drop at image) (omega arith)
 
 home_is : (image : List ℕ) (h : Shdr) → AreBytes image → IsShdr h → IsHome (home_of (length image) h) (home_bytes (home_of (length image) h) image)
 unfolding home_of home_bytes
@@ -164,19 +166,22 @@ home_is image h are is = record {
   empty = extent_of_no_kind h;
   bytes = bytes (not (extent_of h == 0) && nat_lt (length image) (h.offset + extent_of h));
 }
-    where
-      inside : (b : Bool) → b ≡ false → (not (extent_of h == 0) && nat_lt (length image) (h.offset + extent_of h)) ≡ b → length (if b then [] else take (extent_of h) (drop h.offset image)) ≡ extent_of h
-      inside true e same = cc
-      inside false e same = home_inside image h.offset (extent_of h) same
-      bytes : (b : Bool) → AreBytes (if b then [] else take (extent_of h) (drop h.offset image))
-      bytes true = All-nil (λ n. n < 2 ^ 8)
-      bytes false = All-take (λ n. n < 2 ^ 8) (extent_of h) (drop h.offset image) (All-drop (λ n. n < 2 ^ 8) h.offset image are)
+  where
+    inside : (b : Bool) → b ≡ false → (not (extent_of h == 0) && nat_lt (length image) (h.offset + extent_of h)) ≡ b → length (if b then [] else take (extent_of h) (drop h.offset image)) ≡ extent_of h
+    inside true e same = cc
+    inside false e same = home_inside image h.offset (extent_of h) same
+
+    bytes : (b : Bool) → AreBytes (if b then [] else take (extent_of h) (drop h.offset image))
+    bytes true = All-nil (λ n. n < 2 ^ 8)
+    bytes false = All-take (λ n. n < 2 ^ 8) (extent_of h) (drop h.offset image) (All-drop (λ n. n < 2 ^ 8) h.offset image are)
 
 -- a section as it is opened
 pub opened_section_is : (class : Class) (image : List ℕ) (h : Shdr) → AreBytes image → IsShdr h → IsTrue (shdr_fits class h) → IsSection class (opened_section image h)
 unfolding opened_section
 opened_section_is class image h are is fitting = record {
-  header = is; fitting = fitting; home = home_is image h are is;
+  header = is;
+  fitting = fitting;
+  home = home_is image h are is;
   pieces = All-cons IsPiece home_piece [] home_piece_is (All-nil IsPiece);
   others = All-nil (λ p. IsSome p.own);
   piece_count = lit≤ tt;
@@ -255,26 +260,34 @@ front_known image f h =
 zero_shdr_is : IsShdr zero_shdr
 unfolding zero_shdr
 zero_shdr_is = record {
-  name = lit< tt; stype = lit< tt; flags = lit< tt; addr = lit< tt; offset = lit< tt; size = lit< tt; link = lit< tt;
-  info = lit< tt; addralign = lit< tt; entsize = lit< tt;
+  name = lit< tt;
+  stype = lit< tt;
+  flags = lit< tt;
+  addr = lit< tt;
+  offset = lit< tt;
+  size = lit< tt;
+  link = lit< tt;
+  info = lit< tt;
+  addralign = lit< tt;
+  entsize = lit< tt;
 }
 
 first_is : (h : Ehdr) (image : List ℕ) → AreBytes image → IsShdr (first_section h image)
 unfolding first_section
 first_is h image are = by_test (needs_first h)
-    where
-      by_test : (b : Bool) → IsShdr (if b then shdr_of h.class h.order (take (shdr_size h.class) (drop h.shoff image)) else zero_shdr)
-      by_test true = (shdr_range h.class h.order (take (shdr_size h.class) (drop h.shoff image)) (All-take (λ n. n < 2 ^ 8) (shdr_size h.class) (drop h.shoff image) (All-drop (λ n. n < 2 ^ 8) h.shoff image are))).0
-      by_test false = zero_shdr_is
+  where
+    by_test : (b : Bool) → IsShdr (if b then shdr_of h.class h.order (take (shdr_size h.class) (drop h.shoff image)) else zero_shdr)
+    by_test true = (shdr_range h.class h.order (take (shdr_size h.class) (drop h.shoff image)) (All-take (λ n. n < 2 ^ 8) (shdr_size h.class) (drop h.shoff image) (All-drop (λ n. n < 2 ^ 8) h.shoff image are))).0
+    by_test false = zero_shdr_is
 
 index_small : (h : Ehdr) (first : Shdr) → h.shstrndx < 2 ^ 32 → first.link < 2 ^ 32 → true_shstrndx h first < 2 ^ 32
 unfolding true_shstrndx
 index_small h first a b = by_test (true_shnum h first == 0) (h.shstrndx == 0xffff)
-    where
-      by_test : (none extended : Bool) → (if none then 0 else (if extended then first.link else h.shstrndx)) < 2 ^ 32
-      by_test true extended = lit< tt
-      by_test false true = b
-      by_test false false = a
+  where
+    by_test : (none extended : Bool) → (if none then 0 else (if extended then first.link else h.shstrndx)) < 2 ^ 32
+    by_test true extended = lit< tt
+    by_test false true = b
+    by_test false false = a
 
 index_none : (h : Ehdr) (first : Shdr) → true_shnum h first ≡ 0 → true_shstrndx h first ≡ 0
 unfolding true_shstrndx
@@ -292,10 +305,10 @@ unfolding count_refusals
 counts_small h c len late =
     let both = neither (nat_lt (2 ^ 20) c.shnum) (nat_lt (2 ^ 20) c.phnum) late.1.1.1.1.0 in
     (ltb-false (2 ^ 20) c.shnum both.0, ltb-false (2 ^ 20) c.phnum both.1)
-    where
-      neither : (a b : Bool) → (a || b) ≡ false → (a ≡ false) × (b ≡ false)
-      neither true b e = cc
-      neither false b e = (refl, e)
+  where
+    neither : (a b : Bool) → (a || b) ≡ false → (a ≡ false) × (b ≡ false)
+    neither true b e = cc
+    neither false b e = (refl, e)
 
 image_small : (h : Ehdr) (len : ℕ) → AllPass (header_refusals h len) → len ≤ 2 ^ 40
 unfolding header_refusals
@@ -313,12 +326,25 @@ front_is image head are is fitting seven pad counts early late =
     let each = items_range (λ x. IsShdr x × IsTrue (shdr_fits head.header.class x)) (shdr_of head.header.class head.header.order) (shdr_size head.header.class) head.counts.shnum (take (head.counts.shnum * shdr_size head.header.class) (drop head.header.shoff image)) (shdr_range head.header.class head.header.order) (table_is image head.header.shoff (head.counts.shnum * shdr_size head.header.class) are) in
     record {
       header = record {
-        osabi = is.osabi; abiversion = is.abiversion; etype = is.etype; machine = is.machine; version = is.version;
-        entry = is.entry; phoff = is.phoff; shoff = is.shoff; flags = is.flags; ehsize = is.ehsize; phentsize = is.phentsize;
-        phnum = omega arith; shentsize = is.shentsize; shnum = omega arith; shstrndx = omega arith;
+        osabi = is.osabi;
+        abiversion = is.abiversion;
+        etype = is.etype;
+        machine = is.machine;
+        version = is.version;
+        entry = is.entry;
+        phoff = is.phoff;
+        shoff = is.shoff;
+        flags = is.flags;
+        ehsize = is.ehsize;
+        phentsize = is.phentsize;
+        phnum = omega arith;
+        shentsize = is.shentsize;
+        shnum = omega arith;
+        shstrndx = omega arith;
       };
       fitting = fitting;
-      pad = seven; pad_bytes = pad;
+      pad = seven;
+      pad_bytes = pad;
       phdrs = items_range IsPhdr (phdr_of head.header.class head.header.order) (phdr_size head.header.class) head.counts.phnum (take (head.counts.phnum * phdr_size head.header.class) (drop head.header.phoff image)) (phdr_range head.header.class head.header.order) (table_is image head.header.phoff (head.counts.phnum * phdr_size head.header.class) are);
       phdr_count = rw length-items_of (small.1);
       sections = All-map (IsSection head.header.class) (opened_section image) shdrs (All-weaker (λ x. IsShdr x × IsTrue (shdr_fits head.header.class x)) (λ x. IsSection head.header.class (opened_section image x)) (λ x both. opened_section_is head.header.class image x are both.0 both.1) shdrs each);
@@ -345,10 +371,10 @@ begun_is image f are known =
     let pad : AreBytes known.head.pad = subst AreBytes (sym known.pad) (table_is image 9 7 are) in
     let P : Front → Type 0 = λ x. IsObject (begun x image) in
     subst P (sym known.whole) (front_is image known.head are is fitting seven pad known.counts known.early known.late)
-    where
-      size_long : (class : Class) → 16 ≤ ehdr_size class
-      size_long C32 = lit≤ tt
-      size_long C64 = lit≤ tt
+  where
+    size_long : (class : Class) → 16 ≤ ehdr_size class
+    size_long C32 = lit≤ tt
+    size_long C64 = lit≤ tt
 
 opened_front : (r : Result Front ElfError) (image : List ℕ) (o : Object) → begun_or_refused r image ≡ Ok o → (f : Front) × (r ≡ Ok f) × (begun f image ≡ o)
 opened_front (Ok f) image o h = (f, refl, cc)
@@ -364,9 +390,21 @@ opened_is image o are h =
 
 zeros : (class : Class) (order : Order) → IsEhdr (new_ehdr class order)
 zeros class order = record {
-  osabi = lit< tt; abiversion = lit< tt; etype = lit< tt; machine = lit< tt; version = lit< tt; entry = lit< tt;
-  phoff = lit< tt; shoff = lit< tt; flags = lit< tt; ehsize = lit< tt; phentsize = lit< tt; phnum = lit< tt;
-  shentsize = lit< tt; shnum = lit< tt; shstrndx = lit< tt;
+  osabi = lit< tt;
+  abiversion = lit< tt;
+  etype = lit< tt;
+  machine = lit< tt;
+  version = lit< tt;
+  entry = lit< tt;
+  phoff = lit< tt;
+  shoff = lit< tt;
+  flags = lit< tt;
+  ehsize = lit< tt;
+  phentsize = lit< tt;
+  phnum = lit< tt;
+  shentsize = lit< tt;
+  shnum = lit< tt;
+  shstrndx = lit< tt;
 }
 
 new_ehdr_is : (class : Class) (order : Order) → IsEhdr (new_ehdr class order) × IsTrue (ehdr_fits (new_ehdr class order))
@@ -379,7 +417,16 @@ unfolding created_over
 created_is class order base are small =
     let header = new_ehdr_is class order in
     record {
-      header = header.0; fitting = header.1; pad = length-replicate {A = ℕ} 7 0; pad_bytes = All-replicate (λ n. n < 2 ^ 8) 7 0 (lit< tt);
-      phdrs = All-nil IsPhdr; phdr_count = lit≤ tt; sections = All-nil (IsSection class); section_count = lit≤ tt;
-      string_index = λ h. refl; base = are; base_length = small; fill = lit< tt;
+      header = header.0;
+      fitting = header.1;
+      pad = length-replicate {A = ℕ} 7 0;
+      pad_bytes = All-replicate (λ n. n < 2 ^ 8) 7 0 (lit< tt);
+      phdrs = All-nil IsPhdr;
+      phdr_count = lit≤ tt;
+      sections = All-nil (IsSection class);
+      section_count = lit≤ tt;
+      string_index = λ h. refl;
+      base = are;
+      base_length = small;
+      fill = lit< tt;
     }

@@ -18,8 +18,7 @@ pub fn refused_stays<T>()
 #[tactic(auto, using(crate::specs::LawsHold::beginnings_are))]
 pub fn beginnings_are()
     ensures { BeginningsAre }
-{
-}
+{}
 
 /// Every edit keeps what makes an object: the ranges of its numbers, the limits of its lists, and the
 /// pieces that fit their homes.
