@@ -21,6 +21,7 @@ pub mod PlaceLaws
 pub mod KeepLaws
 pub mod PlacedLaws
 pub mod ImageLaws
+pub mod StepLaws
 pub mod OpenLaws
 pub mod Laws
 pub mod LawsHold
