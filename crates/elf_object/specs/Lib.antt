@@ -22,6 +22,7 @@ pub mod KeepLaws
 pub mod PlacedLaws
 pub mod ImageLaws
 pub mod StepLaws
+pub mod LengthLaws
 pub mod OpenLaws
 pub mod Laws
 pub mod LawsHold
