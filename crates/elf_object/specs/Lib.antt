@@ -23,6 +23,7 @@ pub mod PlacedLaws
 pub mod ImageLaws
 pub mod StepLaws
 pub mod LengthLaws
+pub mod StandLaws
 pub mod OpenLaws
 pub mod Laws
 pub mod LawsHold
