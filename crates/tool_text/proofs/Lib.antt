@@ -4,3 +4,4 @@ pub mod Letters
 pub mod Numerals
 pub mod Rows
 pub mod Splits
+pub mod PageLemmas

@@ -3,3 +3,4 @@ pub mod Numbers
 pub mod Reading
 pub mod Splitting
 pub mod Usages
+pub mod Pages

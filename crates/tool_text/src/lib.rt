@@ -9,6 +9,7 @@ mod givens;
 pub mod messages;
 pub mod numbers;
 pub mod options;
+pub mod pages;
 pub mod reading;
 mod splitting;
 pub mod texts;
@@ -20,6 +21,7 @@ pub use commands::{CallsOutput, Command, CopyChanges, NamedBits, NamedFile, Refu
 pub use messages::put_message;
 pub use numbers::{number, script_number};
 pub use options::{NmOptions, Radix, ReadelfParts, Stop, StringsOptions};
+pub use pages::{PAGE_SIZE, finish, turn, turn_after};
 pub use reading::read_words;
 pub use texts::Text;
 pub use usages::Usage;

@@ -1,0 +1,3 @@
+pub mod Reports
+pub mod Program
+pub mod Runs

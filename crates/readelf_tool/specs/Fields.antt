@@ -1,0 +1,28 @@
+-- Lines of one field, and numbers with names.
+use Rattle.std.specs.Prelude.{◌++◌, ℕ, List, Option, Some, None, codes, decimal}
+use Rattle.elf_types.specs.Text.{hex}
+
+-- a name, or in hexadecimal a number that has none
+unfoldable pub name_or_hex : Option (List ℕ) → ℕ → List ℕ
+name_or_hex (Some name) n = name
+name_or_hex None n = codes "0x" ++ hex n
+
+-- `  NAME: `
+unfoldable pub field_title : List ℕ → List ℕ
+field_title name = (codes "  " ++ name) ++ codes ": "
+
+-- a line `  NAME: VALUE`
+unfoldable pub field_line : List ℕ → List ℕ → List ℕ
+field_line name value = (field_title name ++ value) ++ codes "\n"
+
+-- its value is a decimal number
+unfoldable pub decimal_line : List ℕ → ℕ → List ℕ
+decimal_line name n = field_line name (decimal n)
+
+-- or a hexadecimal one
+unfoldable pub hex_line : List ℕ → ℕ → List ℕ
+hex_line name n = field_line name (codes "0x" ++ hex n)
+
+-- or a number by its name
+unfoldable pub name_line : List ℕ → Option (List ℕ) → ℕ → List ℕ
+name_line title name n = field_line title (name_or_hex name n)

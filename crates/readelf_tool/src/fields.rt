@@ -1,0 +1,72 @@
+//! Lines of one field, and numbers with names. Each call refuses `Memory` alone; the page has then
+//! gained a front of the text.
+
+ghost use Rattle.std.specs.Prelude.{◌≡◌, ◌++◌, OnOk};
+ghost use Rattle.std.specs.Option.{option_copied};
+ghost use Rattle.readelf_tool.specs.Fields.{name_or_hex, field_title, field_line, decimal_line, hex_line, name_line};
+
+use elf_types::{ElfError, Octets, put_decimal, put_hex, put_text};
+
+/// Appends a name, or in hexadecimal a number that has none.
+#[tactic(auto, unfolding(crate::specs::Fields::name_or_hex))]
+pub fn put_name_or_hex(page: &mut Octets, name: Option<&'static str>, n: u64) -> Result<(), ElfError>
+    ensures { OnOk result (page.new ≡ page.old ++ name_or_hex (option_copied name.entry) n) }
+{
+    match name {
+        Some(name) => put_text(page, name),
+        None => {
+            put_text(page, "0x")?;
+            put_hex(page, n)
+        }
+    }
+}
+
+#[tactic(auto, unfolding(crate::specs::Fields::field_title))]
+fn put_title(page: &mut Octets, name: &str) -> Result<(), ElfError>
+    ensures { OnOk result (page.new ≡ page.old ++ field_title name.now) }
+{
+    put_text(page, "  ")?;
+    put_text(page, name)?;
+    put_text(page, ": ")
+}
+
+/// Appends the line `  NAME: VALUE`.
+#[tactic(auto, unfolding(crate::specs::Fields::field_line))]
+pub fn put_field(page: &mut Octets, name: &str, value: &str) -> Result<(), ElfError>
+    ensures { OnOk result (page.new ≡ page.old ++ field_line name.now value.now) }
+{
+    put_title(page, name)?;
+    put_text(page, value)?;
+    put_text(page, "\n")
+}
+
+/// Appends the line `  NAME: N`, the number in decimal.
+#[tactic(auto, unfolding(crate::specs::Fields::field_line, crate::specs::Fields::decimal_line))]
+pub fn put_decimal_field(page: &mut Octets, name: &str, n: u64) -> Result<(), ElfError>
+    ensures { OnOk result (page.new ≡ page.old ++ decimal_line name.now n) }
+{
+    put_title(page, name)?;
+    put_decimal(page, n)?;
+    put_text(page, "\n")
+}
+
+/// Appends the line `  NAME: 0xN`, the number in hexadecimal.
+#[tactic(auto, unfolding(crate::specs::Fields::field_line, crate::specs::Fields::hex_line))]
+pub fn put_hex_field(page: &mut Octets, name: &str, n: u64) -> Result<(), ElfError>
+    ensures { OnOk result (page.new ≡ page.old ++ hex_line name.now n) }
+{
+    put_title(page, name)?;
+    put_text(page, "0x")?;
+    put_hex(page, n)?;
+    put_text(page, "\n")
+}
+
+/// Appends the line `  TITLE: NAME`, the name of a number or the number in hexadecimal.
+#[tactic(auto, unfolding(crate::specs::Fields::field_line, crate::specs::Fields::name_line))]
+pub fn put_name_field(page: &mut Octets, title: &str, name: Option<&'static str>, n: u64) -> Result<(), ElfError>
+    ensures { OnOk result (page.new ≡ page.old ++ name_line title.now (option_copied name.entry) n) }
+{
+    put_title(page, title)?;
+    put_name_or_hex(page, name, n)?;
+    put_text(page, "\n")
+}

@@ -1,0 +1,87 @@
+//! The lines of an ELF header.
+
+ghost use Rattle.std.specs.Prelude.{◌≡◌, ◌++◌, OnOk};
+ghost use Rattle.readelf_tool.specs.Header.{class_bits, order_text, header_title, ident_lines, type_lines, place_lines, table_lines, header_lines};
+
+use crate::fields::{put_decimal_field, put_field, put_hex_field, put_name_field};
+use elf_types::{Class, Ehdr, ElfError, Octets, Order, etype_name, machine_name, put_text};
+
+#[tactic(auto, unfolding(crate::specs::Header::class_bits))]
+fn class_bits(class: Class) -> u64
+    ensures { result ≡ class_bits class }
+{
+    match class {
+        Class::C32 => 32,
+        Class::C64 => 64,
+    }
+}
+
+#[tactic(auto, unfolding(crate::specs::Header::order_text))]
+fn order_text(order: Order) -> &'static str
+    ensures { result.now ≡ order_text order }
+{
+    match order {
+        Order::Least => "least",
+        Order::Greatest => "greatest",
+    }
+}
+
+#[tactic(auto, unfolding(crate::specs::Header::header_title))]
+fn put_title(page: &mut Octets) -> Result<(), ElfError>
+    ensures { OnOk result (page.new ≡ page.old ++ header_title) }
+{
+    put_text(page, "ELF header\n")
+}
+
+#[tactic(auto, unfolding(crate::specs::Header::ident_lines))]
+fn put_ident(page: &mut Octets, h: &Ehdr) -> Result<(), ElfError>
+    ensures { OnOk result (page.new ≡ page.old ++ ident_lines h.now) }
+{
+    put_decimal_field(page, "class", class_bits(h.class))?;
+    put_field(page, "order", order_text(h.order))?;
+    put_decimal_field(page, "osabi", u64::from(h.osabi))?;
+    put_decimal_field(page, "abiversion", u64::from(h.abiversion))
+}
+
+#[tactic(auto, unfolding(crate::specs::Header::type_lines))]
+fn put_type(page: &mut Octets, h: &Ehdr) -> Result<(), ElfError>
+    ensures { OnOk result (page.new ≡ page.old ++ type_lines h.now) }
+{
+    put_name_field(page, "type", etype_name(h.etype), u64::from(h.etype))?;
+    put_name_field(page, "machine", machine_name(h.machine), u64::from(h.machine))?;
+    put_decimal_field(page, "version", u64::from(h.version))
+}
+
+#[tactic(auto, unfolding(crate::specs::Header::place_lines))]
+fn put_places(page: &mut Octets, h: &Ehdr) -> Result<(), ElfError>
+    ensures { OnOk result (page.new ≡ page.old ++ place_lines h.now) }
+{
+    put_hex_field(page, "entry", h.entry)?;
+    put_decimal_field(page, "phoff", h.phoff)?;
+    put_decimal_field(page, "shoff", h.shoff)?;
+    put_hex_field(page, "flags", u64::from(h.flags))
+}
+
+#[tactic(auto, unfolding(crate::specs::Header::table_lines))]
+fn put_tables(page: &mut Octets, h: &Ehdr) -> Result<(), ElfError>
+    ensures { OnOk result (page.new ≡ page.old ++ table_lines h.now) }
+{
+    put_decimal_field(page, "ehsize", u64::from(h.ehsize))?;
+    put_decimal_field(page, "phentsize", u64::from(h.phentsize))?;
+    put_decimal_field(page, "phnum", u64::from(h.phnum))?;
+    put_decimal_field(page, "shentsize", u64::from(h.shentsize))?;
+    put_decimal_field(page, "shnum", u64::from(h.shnum))?;
+    put_decimal_field(page, "shstrndx", u64::from(h.shstrndx))
+}
+
+/// Appends the lines of a header. It refuses `Memory` alone; the page has then gained a front of them.
+#[tactic(auto, unfolding(crate::specs::Header::header_lines))]
+pub fn put_header(page: &mut Octets, h: &Ehdr) -> Result<(), ElfError>
+    ensures { OnOk result (page.new ≡ page.old ++ header_lines h.now) }
+{
+    put_title(page)?;
+    put_ident(page, h)?;
+    put_type(page, h)?;
+    put_places(page, h)?;
+    put_tables(page, h)
+}

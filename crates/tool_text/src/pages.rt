@@ -1,0 +1,64 @@
+//! The one way in which text goes to a sink: it is collected in a page, which is put when it is full
+//! and at the end. So a sink gets few large pieces, and no more than a page and a line is held.
+
+ghost use Rattle.std.specs.Prelude.{◌≡◌, ◌≤◌, [], OnOk, OnErr};
+ghost use Rattle.elf_outside.specs.Counts.{Rose};
+ghost use Rattle.elf_outside.specs.Writes.{Appends, AppendsFront};
+ghost use Rattle.tool_text.specs.Pages.{Writes, WriteStops};
+
+use crate::options::Stop;
+use elf_outside::{Failed, Sink};
+use elf_types::{ElfError, Octets};
+
+/// How many bytes fill a page.
+pub const PAGE_SIZE: u64 = 65536;
+
+/// Puts the page and empties it.
+fn put_page<K: Sink>(out: &mut K, page: &mut Octets) -> Result<(), Failed>
+    ensures ok { OnOk result (Appends (K.wrote out.old) (K.wrote out.new) page.old) }
+    ensures empty { OnOk result (page.new ≡ []) }
+    ensures err { OnErr result (AppendsFront (K.wrote out.old) (K.wrote out.new) page.old) }
+    ensures rest { K.rest out.new ≡ K.rest out.old }
+    ensures later { K.faults out.old ≤ K.faults out.new }
+    ensures cause { OnErr result (Rose (K.faults out.old) (K.faults out.new)) }
+{
+    out.put(page.as_slice())?;
+    page.truncate(0);
+    Ok(())
+}
+
+/// Puts what waits in the page. It stops with `Write` alone.
+pub fn finish<K: Sink>(out: &mut K, page: &mut Octets) -> Result<(), Stop>
+    ensures writes { Writes K.Sink result out.old out.new page.old page.new [] }
+    ensures empty { OnOk result (page.new ≡ []) }
+    ensures stops { WriteStops result (K.faults out.old) (K.faults out.new) }
+{
+    match put_page(out, page) {
+        Ok(()) => Ok(()),
+        Err(Failed) => Err(Stop::Write),
+    }
+}
+
+/// Puts the page where it is full. It stops with `Write` alone.
+pub fn turn<K: Sink>(out: &mut K, page: &mut Octets) -> Result<(), Stop>
+    ensures writes { Writes K.Sink result out.old out.new page.old page.new [] }
+    ensures stops { WriteStops result (K.faults out.old) (K.faults out.new) }
+{
+    if page.len() < PAGE_SIZE {
+        return Ok(());
+    }
+    finish(out, page)
+}
+
+/// Puts the page where it is full, once a text was appended to it or found no memory.
+pub fn turn_after<K: Sink>(out: &mut K, page: &mut Octets, appended: Result<(), ElfError>) -> Result<(), Stop>
+    ensures ok { OnOk appended (Writes K.Sink result out.old out.new page.old page.new []) }
+    ensures err { OnErr appended (result ≡ Err Stop.Memory) }
+    ensures same { OnErr appended (out.new ≡ out.old) }
+    ensures stops { WriteStops result (K.faults out.old) (K.faults out.new) }
+{
+    match appended {
+        Ok(()) => turn(out, page),
+        Err(_) => Err(Stop::Memory),
+    }
+}
