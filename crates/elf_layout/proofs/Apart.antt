@@ -1,17 +1,14 @@
 -- Where nothing is refused no byte of the image is one of two parts, and each lies within its length.
-use Rattle.std.proofs.Common.{◌≡◌, ℕ, ◌+◌, ◌<◌, ◌≤◌, max, List, [], ◌∷◌, length, get_or, zero, suc, map, Bool, true, false, not, cond, ◌&&◌, ◌||◌, nat_lt, nat_le, IsTrue, Option, Some, None, Result, Ok, Err, slice_get, All, sym, ◌∙◌, ap, refl, subst, ⊎_elim, arith}
+use Rattle.std.proofs.Common.{◌≡◌, ℕ, ◌+◌, ◌<◌, ◌≤◌, max, List, [], ◌∷◌, length, zero, suc, Bool, true, false, cond, ◌&&◌, nat_lt, nat_le, IsTrue, Option, None, slice_get, ◌∙◌, refl, arith}
 use Rattle.std.specs.Bool.{⊤}
-use Rattle.std.specs.Option.{option_map, option_or}
+use Rattle.std.specs.Option.{option_map}
 use Rattle.std.specs.List.{AllByRecursion, AllPairs, filter, list_any}
-use Rattle.std.proofs.lemmas.Bool.{lt-ltb, le-ltb, ltb-true, ltb-false, leb-true, both_ways, and_parts, and_from, and_left, and_right, or_parts, cond-true}
-use Rattle.std.proofs.lemmas.List.Elements.{All-from_recursion, All-map, All-get_or}
+use Rattle.std.proofs.lemmas.Bool.{lt-ltb, ltb-true, leb-true, both_ways, and_parts, and_from, and_left, and_right, or_parts, cond-true}
+use Rattle.std.proofs.lemmas.List.Elements.{All-from_recursion}
 use Rattle.elf_types.specs.declared.records.Part.{Part}
-use Rattle.elf_types.specs.declared.records.Class.{Class}
-use Rattle.elf_types.specs.declared.errors.ElfError.{ElfError}
 use Rattle.elf_layout.specs.declared.parts.PartAt.{PartAt}
-use Rattle.elf_layout.specs.declared.parts.Places.{Places}
 use Rattle.elf_layout.specs.Meeting.{has_bytes, end_of, meets, covers, IsApart, LiesWithin, inserted_by, sorted_by, listed, first_met, overlap_of}
-use Rattle.elf_layout.specs.Layout.{rounded_up, place_of, end_after, in_order_from, standing, length_with, length_from, length_of, places_of, positions, limit_of, some_above, is_too_large, overlap_refusal, refusal_within, refusal_of, placed, placing}
+use Rattle.elf_layout.specs.Layout.{place_of, end_after, in_order_from, length_with, length_from}
 use Rattle.elf_layout.proofs.Sorting.{all_weaker, all-inserted_by_back, all-sorted_by_back}
 use Rattle.elf_layout.proofs.Lengths.{length_from_ge}
 use Rattle.elf_layout.proofs.Successive.{place_of-ge, end_after-ge}
@@ -161,9 +158,10 @@ disjoint_behind end p q after n first second =
 pairs_in_order : (end : ℕ) (ps : List PartAt) → Pairs IsDisjoint (in_order_from end ps)
 unfolding in_order_from
 pairs_in_order end [] = tt
-pairs_in_order end (p ∷ ps) =
-    (all_weaker (λ q. end_after end p ≤ q.at) (IsDisjoint (record p { at = place_of end p })) (λ q after. disjoint_behind end p q after) (in_order_from (end_after end p) ps) (behind (end_after end p) ps),
-     pairs_in_order (end_after end p) ps)
+pairs_in_order end (p ∷ ps) = (
+  all_weaker (λ q. end_after end p ≤ q.at) (IsDisjoint (record p { at = place_of end p })) (λ q after. disjoint_behind end p q after) (in_order_from (end_after end p) ps) (behind (end_after end p) ps),
+  pairs_in_order (end_after end p) ps,
+)
 
 pub apart_in_order : (ps : List PartAt) → IsApart (in_order_from 0 ps)
 apart_in_order ps = all_pairs_from IsDisjoint (in_order_from 0 ps) (pairs_in_order 0 ps)
@@ -178,9 +176,10 @@ length_with_covers length n p covered =
 within : (length : ℕ) (ps : List PartAt) → AllByRecursion (λ p. (n : ℕ) → IsTrue (covers p n) → n < length_from length ps) ps
 unfolding length_from
 within length [] = tt
-within length (p ∷ ps) =
-    ((λ n covered. omega (arith, length_with_covers length n p (covered_from p n covered), length_from_ge (length_with length p) ps)),
-     within (length_with length p) ps)
+within length (p ∷ ps) = (
+  (λ n covered. omega (arith, length_with_covers length n p (covered_from p n covered), length_from_ge (length_with length p) ps)),
+  within (length_with length p) ps,
+)
 
 pub lies_within : (length : ℕ) (ps : List PartAt) → LiesWithin (length_from length ps) ps
 lies_within length ps = All-from_recursion _ ps (within length ps)

@@ -1,13 +1,12 @@
 -- Parts that share a byte, as neighbours in the order by position and rank.
-use Rattle.std.proofs.Common.{◌≡◌, ℕ, ◌+◌, ◌-◌, ◌<◌, ◌≤◌, List, [], ◌∷◌, length, get_or, drop, map, Bool, true, false, cond, ◌&&◌, ◌||◌, nat_lt, Option, Some, None, MatchOption, slice_get, sym, ◌∙◌, ap, refl, subst, ⊎_elim, arith}
-use Rattle.std.specs.Bool.{⊤}
-use Rattle.std.specs.List.{AllByRecursion, filter, enumerate_from, list_any}
+use Rattle.std.proofs.Common.{◌≡◌, ℕ, ◌+◌, ◌-◌, ◌<◌, ◌≤◌, List, [], ◌∷◌, length, get_or, drop, map, Bool, true, false, cond, ◌||◌, nat_lt, Option, Some, None, MatchOption, sym, ◌∙◌, ap, refl, subst, ⊎_elim, arith}
+use Rattle.std.specs.List.{AllByRecursion, filter, list_any}
 use Rattle.std.specs.List.Sorted.{IsSorted, IsPermutation}
-use Rattle.std.proofs.lemmas.Bool.{cases_lt, lt-ltb, le-ltb, ltb-true, and_parts, and_from, and_right, cond-true, cond-false}
+use Rattle.std.proofs.lemmas.Bool.{cases_lt, lt-ltb, le-ltb, ltb-true, and_parts, and_from, and_right}
 use Rattle.std.proofs.lemmas.List.{get_or-drop, drop-drop, length-drop}
 use Rattle.elf_types.specs.declared.records.Part.{Part}
 use Rattle.elf_layout.specs.declared.parts.PartAt.{PartAt}
-use Rattle.elf_layout.specs.declared.overlap.Extent.{Extent}
+use Rattle.elf_layout.specs.declared.meeting.Extent.{Extent}
 use Rattle.elf_layout.specs.Meeting.{has_bytes, end_of, meets, sorted_by, listed, first_met, overlap_of}
 use Rattle.elf_layout.specs.Extents.{ranked_from, extent_of, extents_of, first_close, first_close_or}
 use Rattle.elf_layout.proofs.Sorting.{all_map, all-sorted_by, map-sorted_by, Climbs, climbs-sorted_by}
@@ -42,9 +41,9 @@ meets_next p q qs full full' order later =
     let some = has_bytes-len p full in
     ⊎_elim
     (λ (close : q.at - p.at < p.len).
-      ap (λ b. b || list_any (meets p) qs) (meets-in_order p q full full' order (omega arith)) ∙ sym (lt-ltb _ _ close))
+    ap (λ b. b || list_any (meets p) qs) (meets-in_order p q full full' order (omega arith)) ∙ sym (lt-ltb _ _ close))
     (λ (apart : p.len ≤ q.at - p.at).
-      meets_none p q.at (q ∷ qs) (omega arith) (omega arith, later) ∙ sym (le-ltb _ _ apart))
+    meets_none p q.at (q ∷ qs) (omega arith) (omega arith, later) ∙ sym (le-ltb _ _ apart))
     (cases_lt (q.at - p.at) p.len)
 
 -- a ranked part is not empty, and is the part with that rank
@@ -88,8 +87,8 @@ ranked_at whole ps p rank rest_is full = record {
   full = full;
   inside = omega (arith, length-drop rank whole, ap length rest_is);
   found = λ d.
-    let e : rank + 0 ≡ rank = omega arith in
-    sym (ap (λ n. get_or whole n d) e) ∙ (sym (get_or-drop rank whole 0 d) ∙ ap (λ l. get_or l 0 d) rest_is);
+      let e : rank + 0 ≡ rank = omega arith in
+      sym (ap (λ n. get_or whole n d) e) ∙ (sym (get_or-drop rank whole 0 d) ∙ ap (λ l. get_or l 0 d) rest_is);
 }
 
 ranked_if : (whole : List PartAt) (x : ℕ × PartAt) (xs : List (ℕ × PartAt)) (b : Bool) → (b ≡ true → IsRanked whole x) → AllByRecursion (IsRanked whole) xs → AllByRecursion (IsRanked whole) (cond b (x ∷ xs) xs)
@@ -108,7 +107,7 @@ unfolding ranked_from
 full_parts rank [] = refl
 full_parts rank (p ∷ ps) =
     elim (has_bytes p) as (λ b. cond b (p ∷ filter has_bytes ps) (filter has_bytes ps) ≡ map (λ x. x.1) (cond b ((rank, p) ∷ ranked_from (rank + 1) ps) (ranked_from (rank + 1) ps))) [
-      true ↦ ap (λ qs. p ∷ qs) (full_parts (rank + 1) ps)
+      | true ↦ ap (λ qs. p ∷ qs) (full_parts (rank + 1) ps)
       | false ↦ full_parts (rank + 1) ps
     ]
 

@@ -1,9 +1,9 @@
-pub mod Apart
-pub mod FirstMet
-pub mod Lengths
-pub mod Neighbours
+mod Apart
+mod FirstMet
+mod Lengths
+mod Neighbours
 pub mod Placed
-pub mod Ranks
-pub mod Sorting
-pub mod Successive
-pub mod Unique
+mod Ranks
+mod Sorting
+mod Successive
+mod Unique

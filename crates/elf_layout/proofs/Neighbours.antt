@@ -1,8 +1,8 @@
 -- The first two neighbours that share a byte, as a loop over the extents finds them.
-use Rattle.std.proofs.Common.{◌≡◌, ℕ, ◌+◌, ◌-◌, ◌<◌, ◌≤◌, List, [], ◌∷◌, length, get_or, drop, Bool, true, false, cond, nat_lt, Option, Some, None, slice_get, sym, ◌∙◌, ap, refl, subst, ⊎_elim, arith}
+use Rattle.std.proofs.Common.{◌≡◌, ℕ, ◌+◌, ◌-◌, ◌<◌, ◌≤◌, List, length, get_or, drop, true, false, cond, nat_lt, Option, Some, None, slice_get, sym, ◌∙◌, ap, subst, ⊎_elim, arith}
 use Rattle.std.proofs.lemmas.List.{at_drop_more, drop_more, drop_all, at_drop_all}
 use Rattle.std.proofs.lemmas.Bool.{cases_lt, lt-ltb, le-ltb, cond-true, cond-false}
-use Rattle.elf_layout.specs.declared.overlap.Extent.{Extent}
+use Rattle.elf_layout.specs.declared.meeting.Extent.{Extent}
 use Rattle.elf_layout.specs.Extents.{first_close, first_close_or}
 
 -- one neighbour on

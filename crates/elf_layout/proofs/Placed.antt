@@ -1,8 +1,9 @@
 -- What an answer of `placing` tells.
-use Rattle.std.proofs.Common.{◌≡◌, ℕ, ◌+◌, ◌<◌, ◌≤◌, List, [], ◌∷◌, map, Bool, true, false, not, cond, ◌&&◌, ◌||◌, nat_lt, Option, Some, None, Result, Ok, Err, IfOk, All, sym, ◌∙◌, ap, refl, subst, arith}
+use Rattle.std.proofs.Common.{◌≡◌, ℕ, ◌+◌, ◌-◌, ◌%◌, ◌≤◌, max, List, [], ◌∷◌, length, suc, Bool, true, false, cond, nat_lt, Option, Some, None, Result, Ok, Err, IfOk, All, sym, ◌∙◌, ap, refl, subst, arith}
 use Rattle.std.specs.Option.{option_map, option_or}
 use Rattle.std.specs.List.{AllByRecursion, list_any}
-use Rattle.std.proofs.lemmas.Bool.{ltb-false, or_parts}
+use Rattle.std.proofs.lemmas.Bool.{ltb-false, or_parts, cond-false}
+use Rattle.std.proofs.lemmas.List.{length-map}
 use Rattle.std.proofs.lemmas.List.Elements.{All-from_recursion}
 use Rattle.std.proofs.lemmas.Result.{IfOk-weaker}
 use Rattle.elf_types.specs.declared.records.Part.{Part}
@@ -12,7 +13,7 @@ use Rattle.elf_types.specs.declared.errors.ElfError.TheVariants.{Overlap, TooLar
 use Rattle.elf_layout.specs.declared.parts.PartAt.{PartAt}
 use Rattle.elf_layout.specs.declared.parts.Places.{Places}
 use Rattle.elf_layout.specs.Meeting.{IsApart, LiesWithin, overlap_of}
-use Rattle.elf_layout.specs.Layout.{in_order_from, standing, length_from, length_of, places_of, positions, limit_of, some_above, is_too_large, overlap_refusal, refusal_within, refusal_of, placed, placing_within, placing}
+use Rattle.elf_layout.specs.Layout.{rounded_up, place_of, end_after, in_order_from, standing, length_of, places_of, positions, limit_of, some_above, is_too_large, overlap_refusal, refusal_within, refusal_of, placed, placing_within, placing}
 use Rattle.elf_layout.proofs.Apart.{apart_by_caller, apart_in_order, lies_within}
 
 ok_from : (refusal : Option ElfError) (stated places : Places) → placed refusal stated ≡ Ok places → (refusal ≡ None) × (places ≡ stated)
@@ -72,6 +73,23 @@ placing_length parts layout base class places e =
     let small : nat_lt (limit_of class) (length_of parts layout base) ≡ false = (or_parts _ _ (neither parts layout base class places e).1).0 in
     omega (arith, end_is parts layout base class places e, ltb-false (limit_of class) (length_of parts layout base) small)
 
+length-in_order_from : (end : ℕ) (ps : List PartAt) → length (in_order_from end ps) ≡ length ps
+unfolding in_order_from
+length-in_order_from end [] = refl
+length-in_order_from end (p ∷ ps) = ap suc (length-in_order_from (end_after end p) ps)
+
+length-standing : (parts : List PartAt) (layout : Bool) → length (standing parts layout) ≡ length parts
+unfolding standing
+length-standing parts true = refl
+length-standing parts false = length-in_order_from 0 parts
+
+-- each part has its position
+pub placing_count : (parts : List PartAt) (layout : Bool) (base : ℕ) (class : Class) (places : Places) → placing parts layout base class ≡ Ok places → length places.at ≡ length parts
+unfolding places_of positions
+placing_count parts layout base class places e =
+    ap (λ (p : Places). length p.at) (placing_ok parts layout base class places e).1
+    ∙ (length-map (standing parts layout) (λ (p : PartAt). p.at) ∙ length-standing parts layout)
+
 none_above : (limit : ℕ) (ps : List PartAt) → some_above limit ps ≡ false → AllByRecursion (λ n. n ≤ limit) (positions ps)
 unfolding some_above positions
 none_above limit [] none = tt
@@ -98,3 +116,14 @@ of_places P parts given layout base limit class result given_is limit_is placed_
 pub placing_positions_at : (parts : List PartAt) (layout : Bool) (base : ℕ) (class : Class) (places : Places) → layout ≡ false → placing parts layout base class ≡ Ok places → All (λ n. n ≤ limit_of class) places.at
 placing_positions_at parts true base class places in_order e = absurd (let h : true ≡ false = in_order in cc)
 placing_positions_at parts false base class places in_order e = placing_positions parts base class places e
+
+-- a section of type SHT_NULL, which is not filled and has alignment 1, stands at the end so far and moves nothing
+pub place_of-null : (end : ℕ) (p : PartAt) → p.align ≡ 1 → place_of end p ≡ end
+unfolding place_of rounded_up
+place_of-null end p one =
+    let largest : max p.align 1 ≡ 1 = omega arith in
+    subst (λ (m : ℕ). end + (m - end % m) % m ≡ end) (sym largest) (omega arith)
+
+pub end_after-null : (end : ℕ) (p : PartAt) → p.filled ≡ false → end_after end p ≡ end
+unfolding end_after
+end_after-null end p bare = cond-false p.filled (place_of end p + p.len) end bare

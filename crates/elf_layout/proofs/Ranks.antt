@@ -1,18 +1,19 @@
 -- The extents of an image's parts, sorted by position and rank.
-use Rattle.std.proofs.Common.{◌≡◌, ℕ, ◌+◌, ◌<◌, ◌≤◌, List, [], ◌∷◌, length, get_or, drop, map, Bool, true, false, cond, nat_cmp, Ordering, nat_le, sym, ◌∙◌, ap, refl, subst, arith}
+use Rattle.std.proofs.Common.{◌≡◌, ℕ, ◌+◌, ◌<◌, ◌≤◌, List, [], ◌∷◌, ◌++◌, length, get_or, drop, map, Bool, true, false, cond, nat_cmp, Ordering, nat_le, sym, ◌∙◌, ap, refl, arith}
 use Rattle.std.specs.Bool.{⊤}
 use Rattle.std.specs.Ordering.{is_lt, ordering_then}
 use Rattle.std.specs.declared.cmp.Ordering.TheVariants.{Less, Equal, Greater}
 use Rattle.std.specs.Cmp.{IsTotalOrder}
-use Rattle.std.specs.List.{AllByRecursion, sum_by, filter, enumerate_from}
+use Rattle.std.specs.List.{AllByRecursion}
 use Rattle.std.specs.List.Sorted.{IsSorted, IsPermutation}
 use Rattle.std.proofs.lemmas.Cmp.{nat_cmp_total, then_total, on_total}
 use Rattle.std.proofs.lemmas.Map.Lookups.{exact_unsigned}
 use Rattle.std.proofs.lemmas.List.Sorted.{sum_by-IsPermutation}
+use Rattle.std.proofs.lemmas.List.{append_assoc, append-nil, at_drop_more, at_drop_all}
 use Rattle.std.proofs.lemmas.Bool.{leb-true, leb-false}
 use Rattle.std.proofs.lemmas.Bool.Decides.{nat_tests}
 use Rattle.elf_layout.specs.declared.parts.PartAt.{PartAt}
-use Rattle.elf_layout.specs.declared.overlap.Extent.{Extent}
+use Rattle.elf_layout.specs.declared.meeting.Extent.{Extent}
 use Rattle.elf_layout.specs.Meeting.{has_bytes, inserted_by, sorted_by}
 use Rattle.elf_layout.specs.Extents.{ranked_from, extent_of, extents_of}
 use Rattle.elf_layout.proofs.Sorting.{all_weaker, all_both, all-inserted_by, all-sorted_by, sum_by-sorted_by, map-sorted_by}
@@ -52,11 +53,14 @@ position_from x y e = grind (arith, nat_tests)
 
 rises_either : (e f : Extent) (es : List Extent) → AllByRecursion (λ g. e.rank < g.rank) (f ∷ es) → Rises extent_cmp (f ∷ es) → Rises extent_cmp (inserted_by (λ g. g.at) e es) → (b : Bool) → (b ≡ true → e.at ≤ f.at) → (b ≡ false → f.at < e.at) → Rises extent_cmp (cond b (e ∷ f ∷ es) (f ∷ inserted_by (λ g. g.at) e es))
 rises_either e f es ranks rises rest true below above =
-    let first : e.at ≤ f.at = below refl in
-    ((rank_above f e first ranks.0,
-      all_both (λ g. is_lt (extent_cmp g f) ≡ false) (λ g. e.rank < g.rank) (λ g. is_lt (extent_cmp g e) ≡ false)
-        (λ g later rank. let second : f.at ≤ g.at = position_from g f later in rank_above g e (omega arith) rank) es rises.0 ranks.1),
-     rises)
+    let first : e.at ≤ f.at = below refl in (
+      (
+        rank_above f e first ranks.0,
+        all_both (λ g. is_lt (extent_cmp g f) ≡ false) (λ g. e.rank < g.rank) (λ g. is_lt (extent_cmp g e) ≡ false)
+            (λ g later rank. let second : f.at ≤ g.at = position_from g f later in rank_above g e (omega arith) rank) es rises.0 ranks.1,
+      ),
+      rises,
+    )
 rises_either e f es ranks rises rest false below above =
     (all-inserted_by (λ g. g.at) (λ g. is_lt (extent_cmp g f) ≡ false) e es (position_above e f (above refl)) rises.0, rest)
 
@@ -81,7 +85,7 @@ ranks_from rank [] = tt
 ranks_from rank (p ∷ ps) =
     let later = all_weaker (λ e. rank + 1 ≤ e.rank) (λ e. rank ≤ e.rank) (λ e h. omega arith) _ (ranks_from (rank + 1) ps) in
     elim (has_bytes p) as (λ b. AllByRecursion (λ e. rank ≤ e.rank) (map extent_of (cond b ((rank, p) ∷ ranked_from (rank + 1) ps) (ranked_from (rank + 1) ps)))) [
-      true ↦ (omega arith, later)
+      | true ↦ (omega arith, later)
       | false ↦ later
     ]
 
@@ -91,7 +95,7 @@ ascends-ranked_from rank [] = tt
 ascends-ranked_from rank (p ∷ ps) =
     let later = all_weaker (λ e. rank + 1 ≤ e.rank) (λ e. rank < e.rank) (λ e h. omega arith) _ (ranks_from (rank + 1) ps) in
     elim (has_bytes p) as (λ b. Ascends (map extent_of (cond b ((rank, p) ∷ ranked_from (rank + 1) ps) (ranked_from (rank + 1) ps)))) [
-      true ↦ (later, ascends-ranked_from (rank + 1) ps)
+      | true ↦ (later, ascends-ranked_from (rank + 1) ps)
       | false ↦ ascends-ranked_from (rank + 1) ps
     ]
 
@@ -104,7 +108,35 @@ pub sorted_extents : (ps : List PartAt) (es : List Extent) → IsPermutation (ex
 unfolding extents_of extent_of
 sorted_extents ps es moved sorted =
     unique extent_cmp extent_cmp_total extent_cmp_exact es (sorted_by (λ e. e.at) (extents_of ps))
-      (Rises-from_sorted extent_cmp extent_cmp_total es sorted)
-      (rises-sorted_by (extents_of ps) (ascends-ranked_from 0 ps))
-      (λ f. sum_by-IsPermutation f (extents_of ps) es moved ∙ sym (sum_by-sorted_by (λ e. e.at) f (extents_of ps)))
+    (Rises-from_sorted extent_cmp extent_cmp_total es sorted)
+    (rises-sorted_by (extents_of ps) (ascends-ranked_from 0 ps))
+    (λ f. sum_by-IsPermutation f (extents_of ps) es moved ∙ sym (sum_by-sorted_by (λ e. e.at) f (extents_of ps)))
     ∙ sym (map-sorted_by extent_of (λ e. e.at) (ranked_from 0 ps))
+
+-- the extents of the parts from the rank on, as a loop makes them
+rest_more : (ps : List PartAt) (rank : ℕ) (d : PartAt) (b : Bool) → rank < length ps → has_bytes (get_or ps rank d) ≡ b → map extent_of (ranked_from rank (drop rank ps)) ≡ map extent_of (cond b ((rank, get_or ps rank d) ∷ ranked_from (rank + 1) (drop (rank + 1) ps)) (ranked_from (rank + 1) (drop (rank + 1) ps)))
+unfolding ranked_from
+rest_more ps rank d b inside full =
+    at_drop_more (λ l. map extent_of (ranked_from rank l)) ps rank d inside
+    ∙ ap (λ b. map extent_of (cond b ((rank, get_or ps rank d) ∷ ranked_from (rank + 1) (drop (rank + 1) ps)) (ranked_from (rank + 1) (drop (rank + 1) ps)))) full
+
+pub extents_none : (ps : List PartAt) (made : List Extent) → made ≡ [] → made ++ map extent_of (ranked_from 0 (drop 0 ps)) ≡ extents_of ps
+unfolding extents_of
+extents_none ps made made_is = ap (λ l. l ++ map extent_of (ranked_from 0 ps)) made_is
+
+pub extents_more : (ps : List PartAt) (rank : ℕ) (d : PartAt) (made made' : List Extent) → rank < length ps → made ++ map extent_of (ranked_from rank (drop rank ps)) ≡ extents_of ps → has_bytes (get_or ps rank d) ≡ true → made' ≡ made ++ extent_of (rank, get_or ps rank d) ∷ [] → made' ++ map extent_of (ranked_from (rank + 1) (drop (rank + 1) ps)) ≡ extents_of ps
+extents_more ps rank d made made' inside so_far full made_is =
+    let later = map extent_of (ranked_from (rank + 1) (drop (rank + 1) ps)) in
+    ap (λ l. l ++ later) made_is
+    ∙ (append_assoc made (extent_of (rank, get_or ps rank d) ∷ []) later
+    ∙ (ap (λ l. made ++ l) (sym (rest_more ps rank d true inside full)) ∙ so_far))
+
+pub extents_same : (ps : List PartAt) (rank : ℕ) (d : PartAt) (made made' : List Extent) → rank < length ps → made ++ map extent_of (ranked_from rank (drop rank ps)) ≡ extents_of ps → has_bytes (get_or ps rank d) ≡ false → made' ≡ made → made' ++ map extent_of (ranked_from (rank + 1) (drop (rank + 1) ps)) ≡ extents_of ps
+extents_same ps rank d made made' inside so_far empty made_is =
+    ap (λ l. l ++ map extent_of (ranked_from (rank + 1) (drop (rank + 1) ps))) made_is
+    ∙ (ap (λ l. made ++ l) (sym (rest_more ps rank d false inside empty)) ∙ so_far)
+
+pub extents_all : (ps : List PartAt) (rank : ℕ) (made : List Extent) → length ps ≤ rank → made ++ map extent_of (ranked_from rank (drop rank ps)) ≡ extents_of ps → made ≡ extents_of ps
+unfolding ranked_from
+extents_all ps rank made outside so_far =
+    sym (append-nil made) ∙ (ap (λ l. made ++ l) (sym (at_drop_all (λ l. map extent_of (ranked_from rank l)) ps rank outside)) ∙ so_far)

@@ -1,5 +1,5 @@
 -- What a stable sort by a key keeps and gives.
-use Rattle.std.proofs.Common.{◌≡◌, ℕ, ◌+◌, ◌<◌, ◌≤◌, List, [], ◌∷◌, map, Bool, true, false, cond, nat_le, sym, ◌∙◌, ap, refl, arith}
+use Rattle.std.proofs.Common.{◌≡◌, ℕ, ◌+◌, ◌<◌, ◌≤◌, List, [], ◌∷◌, map, Bool, true, false, cond, nat_le, ◌∙◌, ap, refl, arith}
 use Rattle.std.specs.Bool.{⊤}
 use Rattle.std.specs.List.{AllByRecursion, sum_by}
 use Rattle.std.proofs.lemmas.List.Sums.{sum_by-cons}
@@ -22,7 +22,7 @@ sum_by-inserted_by : {X : Type 0} (key f : X → ℕ) (x : X) (xs : List X) → 
 sum_by-inserted_by key f x [] = sum_by-cons f x []
 sum_by-inserted_by key f x (y ∷ ys) =
     elim (nat_le (key x) (key y)) as (λ b. sum_by f (cond b (x ∷ y ∷ ys) (y ∷ inserted_by key x ys)) ≡ f x + sum_by f (y ∷ ys)) [
-      true ↦ sum_by-cons f x (y ∷ ys)
+      | true ↦ sum_by-cons f x (y ∷ ys)
       | false ↦ omega (arith, sum_by-cons f y (inserted_by key x ys), sum_by-cons f y ys, sum_by-inserted_by key f x ys)
     ]
 
@@ -35,7 +35,7 @@ pub all-inserted_by : {X : Type 0} (key : X → ℕ) (P : X → Type 0) (x : X) 
 all-inserted_by key P x [] here all = (here, tt)
 all-inserted_by key P x (y ∷ ys) here all =
     elim (nat_le (key x) (key y)) as (λ b. AllByRecursion P (cond b (x ∷ y ∷ ys) (y ∷ inserted_by key x ys))) [
-      true ↦ (here, all)
+      | true ↦ (here, all)
       | false ↦ (all.0, all-inserted_by key P x ys here all.1)
     ]
 
@@ -63,7 +63,7 @@ map-inserted_by : {X Y : Type 0} (g : X → Y) (key : Y → ℕ) (x : X) (xs : L
 map-inserted_by g key x [] = refl
 map-inserted_by g key x (y ∷ ys) =
     elim (nat_le (key (g x)) (key (g y))) as (λ b. map g (cond b (x ∷ y ∷ ys) (y ∷ inserted_by (λ z. key (g z)) x ys)) ≡ cond b (g x ∷ g y ∷ map g ys) (g y ∷ inserted_by key (g x) (map g ys))) [
-      true ↦ refl
+      | true ↦ refl
       | false ↦ ap (λ zs. g y ∷ zs) (map-inserted_by g key x ys)
     ]
 

@@ -1,9 +1,7 @@
 -- Parts one after the other, as a loop over them places them.
-use Rattle.std.proofs.Common.{◌≡◌, ℕ, ◌+◌, ◌<◌, ◌≤◌, ◌⊎◌, max, List, [], ◌∷◌, ◌++◌, length, get_or, drop, Bool, true, false, cond, ◌||◌, nat_lt, ◌&&◌, Some, None, Result, Ok, Err, sym, ◌∙◌, ap, refl, subst, ⊎_elim, arith}
+use Rattle.std.proofs.Common.{◌≡◌, ℕ, ◌+◌, ◌<◌, ◌≤◌, max, List, [], ◌∷◌, ◌++◌, length, get_or, drop, Bool, true, false, cond, ◌||◌, nat_lt, ◌&&◌, Some, None, Ok, Err, sym, ◌∙◌, ap, refl, subst, ⊎_elim, arith}
 use Rattle.std.proofs.lemmas.List.{append_assoc, append-nil, drop_more, drop_all}
 use Rattle.std.proofs.lemmas.Bool.{le-ltb, lt-ltb, or_left, or_right, or_from, cases_lt}
-use Rattle.std.specs.List.{list_any}
-use Rattle.elf_types.specs.declared.errors.ElfError.{ElfError}
 use Rattle.elf_types.specs.declared.errors.ElfError.TheVariants.{TooLarge}
 use Rattle.elf_layout.specs.declared.parts.PartAt.{PartAt}
 use Rattle.elf_layout.specs.declared.parts.Places.{Places}
@@ -50,22 +48,22 @@ end_after-ge end p =
 
 -- the next part
 pub placed_more : (limit : ℕ) (parts : List PartAt) (p : PartAt) (rest : List PartAt) (at at' : List ℕ) (end length length' : ℕ)
-  → IsPlacedSoFar limit parts (p ∷ rest) at end length
-  → (place_of end p ≤ limit) × (end_after end p ≤ limit)
-  → at' ≡ at ++ place_of end p ∷ []
-  → length' ≡ cond (has_bytes p) (end_after end p) length
-  → IsPlacedSoFar limit parts rest at' (end_after end p) length'
+    → IsPlacedSoFar limit parts (p ∷ rest) at end length
+    → (place_of end p ≤ limit) × (end_after end p ≤ limit)
+    → at' ≡ at ++ place_of end p ∷ []
+    → length' ≡ cond (has_bytes p) (end_after end p) length
+    → IsPlacedSoFar limit parts rest at' (end_after end p) length'
 unfolding in_order_from length_from some_above positions
 placed_more limit parts p rest at at' end length length' so_far fits at_is length_is = record {
   length_below =
-    rw length_is (elim (has_bytes p) as (λ b. cond b (end_after end p) length ≤ end_after end p) [ true ↦ omega arith | false ↦ omega (arith, so_far.length_below, end_after-ge end p) ]);
+      rw length_is (elim (has_bytes p) as (λ b. cond b (end_after end p) length ≤ end_after end p) [ true ↦ omega arith | false ↦ omega (arith, so_far.length_below, end_after-ge end p) ]);
   end_fits = fits.1;
   same_places =
-    ap (λ l. l ++ positions (in_order_from (end_after end p) rest)) at_is ∙ (append_assoc at (place_of end p ∷ []) (positions (in_order_from (end_after end p) rest)) ∙ so_far.same_places);
+      ap (λ l. l ++ positions (in_order_from (end_after end p) rest)) at_is ∙ (append_assoc at (place_of end p ∷ []) (positions (in_order_from (end_after end p) rest)) ∙ so_far.same_places);
   same_length =
-    ap (λ n. length_from n (in_order_from (end_after end p) rest)) (length_is ∙ sym (length_with_next end length p so_far.length_below)) ∙ so_far.same_length;
+      ap (λ n. length_from n (in_order_from (end_after end p) rest)) (length_is ∙ sym (length_with_next end length p so_far.length_below)) ∙ so_far.same_length;
   same_above =
-    ap (λ b. b || some_above limit (in_order_from (end_after end p) rest)) (sym (le-ltb limit (place_of end p) fits.0)) ∙ so_far.same_above;
+      ap (λ b. b || some_above limit (in_order_from (end_after end p) rest)) (sym (le-ltb limit (place_of end p) fits.0)) ∙ so_far.same_above;
 }
 
 -- a length that the end of a part puts above the limit
@@ -92,15 +90,15 @@ length_with_above limit end length p end_fits place_fits above =
 
 -- a part that stands or ends above the limit
 pub placed_above : (limit : ℕ) (parts : List PartAt) (p : PartAt) (rest : List PartAt) (at : List ℕ) (end length : ℕ)
-  → IsPlacedSoFar limit parts (p ∷ rest) at end length
-  → ((place_of end p ≤ limit) × (end_after end p ≤ limit) → ⊥)
-  → placing_within parts false 0 limit ≡ Err TooLarge
+    → IsPlacedSoFar limit parts (p ∷ rest) at end length
+    → ((place_of end p ≤ limit) × (end_after end p ≤ limit) → ⊥)
+    → placing_within parts false 0 limit ≡ Err TooLarge
 unfolding placing_within refusal_within overlap_refusal is_too_large places_of length_of standing in_order_from length_from some_above
 placed_above limit parts p rest at end length so_far above =
     refuses _ _ (⊎_elim
-      (λ (here : limit < place_of end p). or_right _ _ (sym so_far.same_above ∙ or_left _ _ (lt-ltb _ _ here)))
-      (λ (fits : place_of end p ≤ limit). or_left _ _ (lt-ltb _ _ (subst (λ (n : ℕ). limit < n) so_far.same_length (longer fits))))
-      (cases_lt limit (place_of end p)))
+    (λ (here : limit < place_of end p). or_right _ _ (sym so_far.same_above ∙ or_left _ _ (lt-ltb _ _ here)))
+    (λ (fits : place_of end p ≤ limit). or_left _ _ (lt-ltb _ _ (subst (λ (n : ℕ). limit < n) so_far.same_length (longer fits))))
+    (cases_lt limit (place_of end p)))
   where
     longer : place_of end p ≤ limit → limit < length_from (length_with length (record p { at = place_of end p })) (in_order_from (end_after end p) rest)
     longer fits =
@@ -114,8 +112,8 @@ placed_at false at at' end end' e same_at same_end = cc
 
 -- all parts
 pub placed_all : (limit : ℕ) (parts : List PartAt) (at : List ℕ) (end length : ℕ)
-  → IsPlacedSoFar limit parts [] at end length
-  → placing_within parts false 0 limit ≡ Ok (record { at = at; end = length })
+    → IsPlacedSoFar limit parts [] at end length
+    → placing_within parts false 0 limit ≡ Ok (record { at = at; end = length })
 unfolding placing_within refusal_within overlap_refusal is_too_large places_of length_of standing in_order_from length_from some_above positions
 placed_all limit parts at end length so_far =
     placed_at _ _ _ _ _
@@ -125,37 +123,37 @@ placed_all limit parts at end length so_far =
 
 -- the same where a loop is at the part i
 pub placed_next : (limit : ℕ) (parts : List PartAt) (i : ℕ) (d : PartAt) (at at' : List ℕ) (end length' length'' place after : ℕ)
-  → i < length parts
-  → IsPlacedSoFar limit parts (drop i parts) at end length'
-  → ((place_of end (get_or parts i d) ≤ limit) × (end_after end (get_or parts i d) ≤ limit)) × ◌≡◌ {A = ℕ × ℕ} (place, after) (place_of end (get_or parts i d), end_after end (get_or parts i d))
-  → at' ≡ at ++ place ∷ []
-  → length'' ≡ cond (has_bytes (get_or parts i d)) after length'
-  → IsPlacedSoFar limit parts (drop (i + 1) parts) at' after length''
+    → i < length parts
+    → IsPlacedSoFar limit parts (drop i parts) at end length'
+    → ((place_of end (get_or parts i d) ≤ limit) × (end_after end (get_or parts i d) ≤ limit)) × ◌≡◌ {A = ℕ × ℕ} (place, after) (place_of end (get_or parts i d), end_after end (get_or parts i d))
+    → at' ≡ at ++ place ∷ []
+    → length'' ≡ cond (has_bytes (get_or parts i d)) after length'
+    → IsPlacedSoFar limit parts (drop (i + 1) parts) at' after length''
 placed_next limit parts i d at at' end length' length'' place after inside so_far next at_is length_is =
     let p = get_or parts i d in
     let place_is : place ≡ place_of end p = ap (λ (pair : ℕ × ℕ). pair.0) next.1 in
     let after_is : after ≡ end_after end p = ap (λ (pair : ℕ × ℕ). pair.1) next.1 in
     subst (λ (n : ℕ). IsPlacedSoFar limit parts (drop (i + 1) parts) at' n length'') (sym after_is)
     (placed_more limit parts p (drop (i + 1) parts) at at' end length' length''
-      (subst (λ (rest : List PartAt). IsPlacedSoFar limit parts rest at end length') (drop_more parts i d inside) so_far)
-      next.0
-      (at_is ∙ ap (λ (n : ℕ). at ++ n ∷ []) place_is)
-      (length_is ∙ ap (λ (n : ℕ). cond (has_bytes p) n length') after_is))
+    (subst (λ (rest : List PartAt). IsPlacedSoFar limit parts rest at end length') (drop_more parts i d inside) so_far)
+    next.0
+    (at_is ∙ ap (λ (n : ℕ). at ++ n ∷ []) place_is)
+    (length_is ∙ ap (λ (n : ℕ). cond (has_bytes p) n length') after_is))
 
 pub placed_past : (limit : ℕ) (parts : List PartAt) (i : ℕ) (d : PartAt) (at : List ℕ) (end length' : ℕ)
-  → i < length parts
-  → IsPlacedSoFar limit parts (drop i parts) at end length'
-  → ((place_of end (get_or parts i d) ≤ limit) × (end_after end (get_or parts i d) ≤ limit) → ⊥)
-  → placing_within parts false 0 limit ≡ Err TooLarge
+    → i < length parts
+    → IsPlacedSoFar limit parts (drop i parts) at end length'
+    → ((place_of end (get_or parts i d) ≤ limit) × (end_after end (get_or parts i d) ≤ limit) → ⊥)
+    → placing_within parts false 0 limit ≡ Err TooLarge
 placed_past limit parts i d at end length' inside so_far above =
     placed_above limit parts (get_or parts i d) (drop (i + 1) parts) at end length'
     (subst (λ (rest : List PartAt). IsPlacedSoFar limit parts rest at end length') (drop_more parts i d inside) so_far)
     above
 
 pub placed_end : (limit : ℕ) (parts : List PartAt) (i : ℕ) (at : List ℕ) (end length' : ℕ)
-  → length parts ≤ i
-  → IsPlacedSoFar limit parts (drop i parts) at end length'
-  → placing_within parts false 0 limit ≡ Ok (record { at = at; end = length' })
+    → length parts ≤ i
+    → IsPlacedSoFar limit parts (drop i parts) at end length'
+    → placing_within parts false 0 limit ≡ Ok (record { at = at; end = length' })
 placed_end limit parts i at end length' outside so_far =
     placed_all limit parts at end length'
     (subst (λ (rest : List PartAt). IsPlacedSoFar limit parts rest at end length') (drop_all i parts outside) so_far)

@@ -1,15 +1,15 @@
 -- A sorted list is the only one with its items: what a sort leaves is known from what it was given.
-use Rattle.std.proofs.Common.{◌≡◌, ℕ, ◌+◌, ◌<◌, ◌≤◌, List, [], ◌∷◌, length, get_or, suc, Bool, true, false, cond, Ordering, sym, ◌∙◌, ap, subst, refl, arith}
+use Rattle.std.proofs.Common.{◌≡◌, ℕ, ◌+◌, List, [], ◌∷◌, get_or, suc, Bool, true, false, cond, Ordering, sym, ap, subst, refl, arith}
 use Rattle.std.specs.Bool.{⊤}
 use Rattle.std.specs.Ordering.{is_lt, ordering_reverse}
 use Rattle.std.specs.declared.cmp.Ordering.TheVariants.{Less, Equal, Greater}
-use Rattle.std.specs.Cmp.{IsTotalOrder, IsStrictWeakOrder}
+use Rattle.std.specs.Cmp.{IsTotalOrder}
 use Rattle.std.specs.List.{AllByRecursion, sum_by}
-use Rattle.std.specs.List.Sorted.{IsSorted, IsPermutation}
+use Rattle.std.specs.List.Sorted.{IsSorted}
 use Rattle.std.proofs.lemmas.Cmp.{tied_itself}
 use Rattle.std.proofs.lemmas.List.Sums.{sum_by-cons}
 use Rattle.std.proofs.lemmas.List.Elements.{recursion_from_All}
-use Rattle.std.proofs.lemmas.List.Sorted.{ranks_by, sorted_far, sum_by-IsPermutation}
+use Rattle.std.proofs.lemmas.List.Sorted.{ranks_by, sorted_far}
 
 -- no item comes before an earlier one
 abbrev pub Rises : {X : Type 0} → (X → X → Ordering) → List X → Type 0
@@ -24,10 +24,11 @@ IsSorted-tail R x xs sorted k d low inside =
 -- the same from what a sort ensures
 pub Rises-from_sorted : {X : Type 0} (R : X → X → Ordering) → IsTotalOrder R → (xs : List X) → IsSorted R xs → Rises R xs
 Rises-from_sorted R o [] sorted = tt
-Rises-from_sorted {X} R o (x ∷ xs) sorted =
-    (recursion_from_All (λ y. is_lt (R y x) ≡ false) xs
+Rises-from_sorted {X} R o (x ∷ xs) sorted = (
+  recursion_from_All (λ y. is_lt (R y x) ≡ false) xs
       (λ k d h. sorted_far (λ y z. is_lt (R y z)) (ranks_by o (λ (y : X). y)) (x ∷ xs) sorted 0 (suc k) d (omega arith) (omega arith)),
-     Rises-from_sorted R o xs (IsSorted-tail R x xs sorted))
+  Rises-from_sorted R o xs (IsSorted-tail R x xs sorted),
+)
 
 sum_by-none : {X : Type 0} (f : X → ℕ) (xs : List X) → AllByRecursion (λ x. f x ≡ 0) xs → sum_by f xs ≡ 0
 sum_by-none f [] none = refl

@@ -2,16 +2,18 @@
 use Rattle.std.specs.Prelude.{ℕ, ◌-◌, nat_lt, List, [], ◌∷◌, map, if◌then◌else◌, Option, Some, None, slice_get}
 use Rattle.std.specs.List.{filter, enumerate_from}
 use Rattle.elf_layout.specs.declared.parts.PartAt.{PartAt}
-use Rattle.elf_layout.specs.declared.overlap.Extent.{Extent}
+use Rattle.elf_layout.specs.declared.meeting.Extent.{Extent}
 use Rattle.elf_layout.specs.Meeting.{has_bytes}
 
--- the parts that are not empty, with their ranks from one on
+-- the parts that are not empty, with their ranks, which count up from one
 unfoldable pub ranked_from : ℕ → List PartAt → List (ℕ × PartAt)
 ranked_from rank ps = filter (λ x. has_bytes x.1) (enumerate_from rank ps)
 
+-- a ranked part as it is sorted
 unfoldable pub extent_of : ℕ × PartAt → Extent
 extent_of x = record { at = x.1.at; rank = x.0; len = x.1.len }
 
+-- the parts that are not empty, in the order of the list
 unfoldable pub extents_of : List PartAt → List Extent
 extents_of ps = map extent_of (ranked_from 0 ps)
 

@@ -13,7 +13,7 @@ has_bytes p = p.filled && nat_lt 0 p.len
 unfoldable pub end_of : PartAt → ℕ
 end_of p = p.at + p.len
 
--- two parts share a byte
+-- neither is empty, and each begins before the other ends: they share a byte
 unfoldable pub meets : PartAt → PartAt → Bool
 meets a b = has_bytes a && has_bytes b && nat_lt a.at (end_of b) && nat_lt b.at (end_of a)
 
@@ -29,17 +29,17 @@ IsApart ps = AllPairs (λ p q. (n : ℕ) → IsTrue (covers p n) → IsTrue (cov
 abbrev pub LiesWithin : ℕ → List PartAt → Type 0
 LiesWithin length ps = All (λ p. (n : ℕ) → IsTrue (covers p n) → n < length) ps
 
--- an item put among items by a key, before those with its own
+-- an item put among items by a key, before those with the same key
 abbrev pub inserted_by : {X : Type 0} → (X → ℕ) → X → List X → List X
 inserted_by key x [] = x ∷ []
 inserted_by key x (y ∷ ys) = if nat_le (key x) (key y) then x ∷ y ∷ ys else y ∷ inserted_by key x ys
 
--- the items by a key, and those with one key in the order of the list
+-- the items by a key, and those with the same key in the order of the list
 abbrev pub sorted_by : {X : Type 0} → (X → ℕ) → List X → List X
 sorted_by key [] = []
 sorted_by key (x ∷ xs) = inserted_by key x (sorted_by key xs)
 
--- the parts that are not empty, by position and then by rank
+-- the parts that are not empty, by position and then by rank, their order in the list
 unfoldable pub listed : List PartAt → List PartAt
 listed ps = sorted_by (λ p. p.at) (filter has_bytes ps)
 
@@ -48,5 +48,6 @@ unfoldable pub first_met : List PartAt → Option (Part × Part)
 first_met [] = None
 first_met (a ∷ ps) = if list_any (meets a) ps then option_map (λ b. (a.part, b.part)) (slice_get ps 0) else first_met ps
 
+-- two parts that share a byte
 unfoldable pub overlap_of : List PartAt → Option (Part × Part)
 overlap_of ps = first_met (listed ps)

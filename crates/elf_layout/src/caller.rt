@@ -5,7 +5,7 @@ ghost use Rattle.std.specs.Option.{SomeIff};
 ghost use Rattle.elf_types.specs.declared.errors.ElfError.TheVariants.{Memory};
 ghost use Rattle.elf_layout.specs.Layout.{placing_within, length_from, length_with, positions};
 
-use crate::overlap::overlap;
+use crate::meeting::overlap;
 use crate::parts::{PartAt, Places};
 use elf_types::{Addrs, ElfError};
 use std::alloc::Global;
@@ -15,7 +15,6 @@ use std::alloc::Global;
 ///
 /// It refuses, in this order, `Overlap` where two parts share a byte, `TooLarge` where the image's
 /// length is above `limit`, and `Memory`.
-#[tactic(auto, unfolding(crate::specs::Layout::placing_within, crate::specs::Layout::placed, crate::specs::Layout::refusal_within, crate::specs::Layout::places_of, crate::specs::Layout::length_of, crate::specs::Layout::standing, crate::specs::Layout::overlap_refusal, crate::specs::Layout::is_too_large))]
 pub fn place_by_caller(
     alloc: Global,
     parts: &[PartAt],

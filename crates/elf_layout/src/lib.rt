@@ -1,14 +1,18 @@
-//! Where the parts of an ELF image stand: one after the other, or where the caller puts them, and
-//! whether they fit into an image there.
+//! Where the parts of an ELF image stand, one after the other or where the caller puts them, and
+//! which of them share a byte.
 #![tactic(auto)]
 
-pub mod caller;
-pub mod order;
-pub mod overlap;
-pub mod parts;
-pub mod placing;
-pub mod rounding;
+mod caller;
+mod meeting;
+mod order;
+mod parts;
+mod placing;
+mod rounding;
 
+pub use meeting::overlap;
 pub use parts::{PartAt, Parts, Places};
 pub use placing::place;
 pub use rounding::rounded_within;
+
+#[cfg(test)]
+mod tests;

@@ -39,7 +39,9 @@ pub fn place_in_order(alloc: Global, parts: &[PartAt], limit: u64) -> Result<Pla
 #[tactic(auto, unfolding(crate::specs::Layout::end_after, crate::specs::Layout::place_of))]
 fn next_within(end: u64, part: &PartAt, limit: u64) -> Option<(u64, u64)>
     requires { end ≤ limit }
-    ensures { SomeIff result ((place_of end part.now ≤ limit) × (end_after end part.now ≤ limit)) (place_of end part.now, end_after end part.now) }
+    ensures { SomeIff result
+        ((place_of end part.now ≤ limit) × (end_after end part.now ≤ limit))
+        (place_of end part.now, end_after end part.now) }
 {
     let place = rounded_within(end, part.align, limit)?;
     if !part.filled {

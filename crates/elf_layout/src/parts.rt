@@ -14,7 +14,8 @@ pub struct PartAt {
     pub at: u64,
     /// Its length in bytes.
     pub len: u64,
-    /// Its alignment in bytes (`sh_addralign`); 0 counts as 1. It need not be a power of two.
+    /// Its alignment in bytes (`sh_addralign`); 0 counts as 1, and it need not be a power of two. A
+    /// section of type `SHT_NULL` has 1 here, so that its place is the end so far.
     pub align: u64,
     /// Whether the image holds its bytes: false for sections of type `SHT_NULL` and `SHT_NOBITS`.
     pub filled: bool,
@@ -32,8 +33,8 @@ impl PartAt {
     }
 }
 
-/// The parts of an image. A part's rank is its place in this list, which is in the order header,
-/// program header table, sections by number, section header table.
+/// The parts of an image: the ELF header, the program header table, the sections from 1 on by number,
+/// and the section header table. A part's rank is its place in this list.
 pub type Parts = List<PartAt>;
 
 /// Where the parts of an image stand.

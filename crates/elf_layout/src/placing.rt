@@ -1,6 +1,6 @@
 //! Placing the parts of an image.
 
-ghost use Rattle.std.specs.Prelude.{◌≡◌, ◌≤◌, ◌⊎◌, IfOk, IfErr, Ok, Err, All};
+ghost use Rattle.std.specs.Prelude.{◌≡◌, ◌≤◌, ◌⊎◌, IfOk, IfErr, Ok, Err, All, length};
 ghost use Rattle.std.specs.Bool.{OnFalse};
 ghost use Rattle.elf_types.specs.declared.errors.ElfError.TheVariants.{Memory};
 ghost use Rattle.elf_layout.specs.Layout.{placing, placing_within, standing, limit_of};
@@ -14,16 +14,16 @@ use std::alloc::Global;
 
 /// Where the parts of an image stand, and the image's length in bytes.
 ///
-/// Without `layout` each part stands at the end so far, rounded up to its alignment, from 0 on, and
-/// `at` and `base` do not count; parts that are not filled leave the end where it is. With `layout`
-/// each part stands at its `at`, and the image keeps the `base` bytes that it has already. The
-/// length is the greatest end of a part that is filled and not empty, and with `layout` at least
-/// `base`.
+/// Without `layout` each part stands at the end so far, rounded up to its alignment, from 0 on;
+/// `at` and `base` do not count, and a part that is not filled leaves the end where it is. With
+/// `layout` (`ELF_F_LAYOUT` of elf(3E)) each part stands at its `at`, and the image keeps the `base`
+/// bytes that it has already. The length is the greatest end of a part that is filled and not empty,
+/// and with `layout` at least `base`.
 ///
-/// It refuses, in this order: `Overlap`, with `layout`, where two such parts share a byte, with the
-/// first, in the order by position and then by rank, that a later one meets, and the part next
-/// after it; `TooLarge` where the length, or without `layout` a position, is above 2^40 in class 64
-/// and 2^32 - 1 in class 32; and `Memory`.
+/// It refuses, in this order: `Overlap`, with `layout`, where two such parts share a byte; of the
+/// parts in the order by position, then by rank, it names the first that a later one meets, and the
+/// one next after it. Then `TooLarge`, where the length, or without `layout` a position, is above
+/// 2^40 in class 64 and 2^32 - 1 in class 32. `Memory` may come in place of any answer.
 #[tactic(auto, unfolding(crate::specs::Layout::placing))]
 pub fn place(
     alloc: Global,
@@ -36,11 +36,13 @@ pub fn place(
     ensures err { IfErr result (λ e. (e ≡ Memory) ⊎ (placing parts.now layout base class ≡ Err e)) }
 
     // What the places are good for: no byte of the image is one of two parts, and none lies past
-    // its end.
+    // the end.
+    ensures count { IfOk result (λ places. length places.at ≡ length parts.now) }
     ensures apart { IfOk result (λ _. IsApart (standing parts.now layout)) }
     ensures within { IfOk result (λ places. LiesWithin places.end (standing parts.now layout)) }
     ensures length { IfOk result (λ places. places.end ≤ limit_of class) }
-    ensures positions { OnFalse layout (IfOk result (λ places. All (λ n. n ≤ limit_of class) places.at)) }
+    ensures positions { OnFalse layout
+        (IfOk result (λ places. All (λ n. n ≤ limit_of class) places.at)) }
 {
     place_within(alloc, parts.as_slice(), layout, base, limit(class))
 }

@@ -12,7 +12,7 @@ pub loop-part-preserved : goal.loop-part-preserved
 loop-part-preserved c =
     placed_next _ _ _ _ _ _ _ _ _ _ _ c.loop-part-test.true c.loop-part.invariant c.in-Some.ensures c.in_ok-push.ensures.ok
     (elim c.if-has_bytes.branch [
-      then-has_bytes w ↦ w.length-is ∙ sym (cond-true _ _ _ (sym c.has_bytes.ensures ∙ w.if-has_bytes.true))
+      | then-has_bytes w ↦ w.length-is ∙ sym (cond-true _ _ _ (sym c.has_bytes.ensures ∙ w.if-has_bytes.true))
       | else-has_bytes w ↦ w.length-is ∙ sym (cond-false _ _ _ (sym c.has_bytes.ensures ∙ w.if-has_bytes.false))
     ])
 

@@ -17,8 +17,12 @@ struct Extent {
     len: u64,
 }
 
-/// The first two parts that share a byte: in the order by position, then by rank, the first part
-/// that a later one meets, and the part next after it. It refuses `Memory` alone.
+/// Two parts that share a byte at the positions `at`, if there are any: of the parts that are filled
+/// and not empty, in the order by position, then by rank, the first that a later one meets, and the
+/// one next after it. A part's rank is its place in the list. It refuses `Memory` alone.
+///
+/// A part that meets a later one meets the next one too, which begins no later. So neighbours alone
+/// are compared, after a sort.
 pub fn overlap(alloc: Global, parts: &[PartAt]) -> Result<Option<(Part, Part)>, ElfError>
     ensures ok { IfOk result (λ pair. pair ≡ overlap_of parts.now) }
     ensures err { IfErr result (λ e. e ≡ Memory) }
@@ -33,17 +37,20 @@ pub fn overlap(alloc: Global, parts: &[PartAt]) -> Result<Option<(Part, Part)>, 
 
 /// The parts that are not empty, with their ranks, in the order of the parts. It refuses `Memory`
 /// alone.
-#[tactic(auto, unfolding(crate::specs::Extents::extents_of, crate::specs::Extents::ranked_from, crate::specs::Extents::extent_of))]
 fn extents(alloc: Global, parts: &[PartAt]) -> Result<Vec<Extent>, ElfError>
     ensures ok { IfOk result (λ extents. extents.items ≡ extents_of parts.now) }
     ensures err { IfErr result (λ e. e ≡ Memory) }
 {
-    let extents = parts
-        .iter()
-        .enumerate()
-        .filter(|(_, part)| part.has_bytes())
-        .map(|(rank, part)| Extent { at: part.at, rank, len: part.len })
-        .collect(alloc)?;
+    let mut extents = Vec::with_capacity(alloc, parts.len())?;
+    for (rank, part) in parts.iter().enumerate() {
+        if part.has_bytes() {
+            extents.push(Extent {
+                at: part.at,
+                rank,
+                len: part.len,
+            })?;
+        }
+    }
     Ok(extents)
 }
 
@@ -53,6 +60,7 @@ fn first_close(extents: &[Extent]) -> Option<(usize, usize)>
 {
     for next in 1..extents.len() {
         let (a, b) = (extents[next - 1], extents[next]);
+        // The distance never overflows, where an end may lie past 2^64.
         if b.at.saturating_sub(a.at) < a.len {
             return Some((a.rank, b.rank));
         }

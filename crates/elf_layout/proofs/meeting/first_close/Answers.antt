@@ -1,5 +1,5 @@
 use Rattle.elf_layout.proofs.Neighbours.{first_close_found, first_close_passed, first_close_none}
-use Rattle.elf_layout.proofs.overlap.first_close.Goals as goal
+use Rattle.elf_layout.proofs.meeting.first_close.Goals as goal
 
 pub returns-then-saturating_sub-a : goal.returns-then-saturating_sub-a
 returns-then-saturating_sub-a c =

@@ -1,7 +1,7 @@
-use Rattle.std.proofs.Common.{◌≡◌, ◌∙◌, ap, ◌<◌, length, rules, sym}
+use Rattle.std.proofs.Common.{◌∙◌, ap, ◌<◌, length, rules, sym}
 use Rattle.elf_layout.specs.Extents.{first_close}
 use Rattle.elf_layout.proofs.FirstMet.{overlap_named, overlap_none}
-use Rattle.elf_layout.proofs.overlap.overlap.Goals as goal
+use Rattle.elf_layout.proofs.meeting.overlap.Goals as goal
 
 pub returns-in_default-clause-ok : goal.returns-in_default-clause-ok
 returns-in_default-clause-ok c =
