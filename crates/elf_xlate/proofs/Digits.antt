@@ -1,10 +1,11 @@
 -- A number and its bytes.
 use Rattle.std.proofs.Common.{◌≡◌, ℕ, zero, suc, ◌+◌, ◌-◌, ◌*◌, ◌/◌, ◌%◌, ◌^◌, ◌<◌, ◌≤◌, List, [], ◌∷◌, length, take, drop, get_or, refl, sym, ap, inl, inr, ◌∙◌, arith}
-use Rattle.std.proofs.lemmas.List.{reverse-reverse, length-reverse, get_or-reverse, get_or_past}
+use Rattle.std.proofs.lemmas.List.{reverse-reverse, length-reverse, get_or-reverse, get_or-take, get_or-drop, get_or_past, length-take}
 use Rattle.std.proofs.lemmas.Bool.{cases_lt}
 use Rattle.std.proofs.Math.Nat.{pow-suc, pow-succ', mod-lt, div-add-mod, div-lt_iff_lt-mul, mul-add-mod_self_left, mod-eq_of_lt, add_comm, mul_comm}
 use Rattle.std.proofs.lemmas.Nat.{div-mul-add}
 use Rattle.std.specs.Prelude.{reverse}
+use Rattle.std.specs.List.{All}
 use Rattle.elf_types.specs.declared.records.Order.{Order}
 use Rattle.elf_types.specs.declared.records.Order.TheVariants.{Least, Greatest}
 use Rattle.elf_xlate.specs.Numbers.{by_weight, weighed, number_of, lowest_bytes, octets}
@@ -13,6 +14,19 @@ use Rattle.elf_xlate.specs.Orders.{weighed-suc}
 -- each is below 256
 unfoldable pub AreBytes : List ℕ → Type 0
 AreBytes bytes = (k : ℕ) → get_or bytes k 0 < 256
+
+pub are_bytes : (bytes : List ℕ) → All (λ b. b < 2 ^ 8) bytes → AreBytes bytes
+unfolding AreBytes
+are_bytes bytes h = λ k. elim (cases_lt k (length bytes)) [ inl low ↦ h k 0 low | inr high ↦ rw (get_or_past bytes k 0 high) (omega arith) ]
+
+-- a part of bytes
+pub part_bytes : (place width : ℕ) (bytes : List ℕ) → AreBytes bytes → AreBytes (take width (drop place bytes))
+unfolding AreBytes
+part_bytes place width bytes h =
+    λ k. elim (cases_lt k width) [
+      | inl low ↦ rw (get_or-take width (drop place bytes) k 0 low, get_or-drop place bytes k 0) (h (place + k))
+      | inr high ↦ rw (get_or_past (take width (drop place bytes)) k 0 (omega (arith, length-take width (drop place bytes)))) (omega arith)
+    ]
 
 length_lowest : (width n : ℕ) → length (lowest_bytes width n) ≡ width
 unfolding lowest_bytes

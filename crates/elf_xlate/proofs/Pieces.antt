@@ -1,7 +1,11 @@
 -- Lists of items of one size.
-use Rattle.std.proofs.Common.{◌≡◌, ℕ, ◌+◌, ◌*◌, List, [], ◌∷◌, ◌++◌, take, drop, refl, arith}
+use Rattle.std.proofs.Common.{◌≡◌, ℕ, ◌+◌, ◌*◌, ◌<◌, length, get_or, List, [], ◌∷◌, ◌++◌, take, drop, refl, sym, ap, ◌∙◌, inl, inr, ◌≤◌, arith}
 use Rattle.std.proofs.lemmas.List.FromFn.{map-range_with_len_more}
-use Rattle.elf_xlate.specs.Translation.{items_of}
+use Rattle.std.specs.Prelude.{Option, Some, None, Bool, true, false, not, cond, nat_lt}
+use Rattle.std.specs.List.{position_or_len}
+use Rattle.std.proofs.lemmas.List.Sums.{fails_before_first}
+use Rattle.std.proofs.lemmas.Bool.{cases_lt, lt-ltb, not-false}
+use Rattle.elf_xlate.specs.Translation.{items_of, first_not}
 
 -- one item more
 pub items_of_more : {X : Type 0} (item : List ℕ → X) (size i : ℕ) (bytes : List ℕ)
@@ -13,3 +17,22 @@ items_of_more item size i bytes = map-range_with_len_more (λ k. item (take size
 pub items_of_none : {X : Type 0} (item : List ℕ → X) (size : ℕ) (bytes : List ℕ) → items_of item size 0 bytes ≡ []
 unfolding items_of
 items_of_none item size bytes = refl
+
+some_is_not_none : (n : ℕ) → Some n ≡ None → ⊥
+some_is_not_none n e = cc
+
+-- where no place is the first that passes, there is none before the end
+no_place : {X : Type 0} (n : ℕ) (l : List X) → cond (nat_lt n (length l)) (Some n) None ≡ None → length l ≤ n
+no_place n l none =
+    elim (cases_lt n (length l)) [
+      | inl low ↦ absurd (some_is_not_none n (sym (ap (λ (b : Bool). cond b (Some n) None) (lt-ltb n (length l) low)) ∙ none))
+      | inr high ↦ high
+    ]
+
+-- where none is the first that does not pass, each passes
+pub each_passes : {X : Type 0} (passes : X → Bool) (l : List X) (i : ℕ) (x : X) → first_not passes l ≡ None → i < length l → x ≡ get_or l i x → passes x ≡ true
+each_passes {X} passes l i x none low at =
+    let fails : X → Bool = λ y. not (passes y) in
+    let past : length l ≤ position_or_len (λ y. not (passes y)) l = no_place _ l none in
+    let here : not (passes (get_or l i x)) ≡ false = fails_before_first fails l i x (omega (arith, past)) in
+    ap passes at ∙ not-false (passes (get_or l i x)) here

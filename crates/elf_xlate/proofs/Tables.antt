@@ -24,7 +24,7 @@ ehdr_table C32 = record { within = refl; apart = refl }
 ehdr_table C64 = record { within = refl; apart = refl }
 
 -- the fields after the identification cover all that follows it
-ehdr_covers : (class : Class) → cover class ehdr_fields 16 (ehdr_size class - 16) ≡ true
+pub ehdr_covers : (class : Class) → cover class ehdr_fields 16 (ehdr_size class - 16) ≡ true
 unfolding ehdr_fields
 ehdr_covers C32 = refl
 ehdr_covers C64 = refl
@@ -46,15 +46,15 @@ ehdr_laid h pad rest len len_rest =
     let whole : length (ident h.class h.order pad ++ rest) ≡ ehdr_size h.class = omega (arith, length-append front rest) in
     let blank : length (ident h.class h.order pad ++ replicate {A = ℕ} (ehdr_size h.class - 16) 0) ≡ ehdr_size h.class = omega (arith, length-append front zeros) in
     laid_from h.class h.order (ehdr_size h.class) 16 ehdr_fields (ehdr_numbers h) (front ++ rest) (front ++ zeros) whole blank room
-        (unfold ehdr_fields in refl) (ehdr_table h.class).within (ehdr_covers h.class)
-        (λ k low. get_or_append_left front rest 0 k (omega (arith, low)) ∙ sym (get_or_append_left front zeros 0 k (omega (arith, low))))
+    (unfold ehdr_fields in refl) (ehdr_table h.class).within (ehdr_covers h.class)
+    (λ k low. get_or_append_left front rest 0 k (omega (arith, low)) ∙ sym (get_or_append_left front zeros 0 k (omega (arith, low))))
 
 pub phdr_table : (class : Class) → IsTable class (phdr_size class) phdr_fields
 unfolding phdr_fields
 phdr_table C32 = record { within = refl; apart = refl }
 phdr_table C64 = record { within = refl; apart = refl }
 
-phdr_covers : (class : Class) → cover class phdr_fields 0 (phdr_size class - 0) ≡ true
+pub phdr_covers : (class : Class) → cover class phdr_fields 0 (phdr_size class - 0) ≡ true
 unfolding phdr_fields
 phdr_covers C32 = refl
 phdr_covers C64 = refl
@@ -70,7 +70,7 @@ unfolding shdr_fields
 shdr_table C32 = record { within = refl; apart = refl }
 shdr_table C64 = record { within = refl; apart = refl }
 
-shdr_covers : (class : Class) → cover class shdr_fields 0 (shdr_size class - 0) ≡ true
+pub shdr_covers : (class : Class) → cover class shdr_fields 0 (shdr_size class - 0) ≡ true
 unfolding shdr_fields
 shdr_covers C32 = refl
 shdr_covers C64 = refl
@@ -81,12 +81,12 @@ unfolding shdr_bytes
 shdr_laid class order h bytes len =
     laid_is_record class order (shdr_size class) shdr_fields (shdr_numbers h) bytes len (unfold shdr_fields in refl) (shdr_table class).within (shdr_covers class)
 
-half_table : (class : Class) → IsTable class (item_size kinds.Half class) half_fields
+pub half_table : (class : Class) → IsTable class (item_size kinds.Half class) half_fields
 unfolding half_fields
 half_table C32 = record { within = refl; apart = refl }
 half_table C64 = record { within = refl; apart = refl }
 
-half_covers : (class : Class) → cover class half_fields 0 (item_size kinds.Half class - 0) ≡ true
+pub half_covers : (class : Class) → cover class half_fields 0 (item_size kinds.Half class - 0) ≡ true
 unfolding half_fields
 half_covers C32 = refl
 half_covers C64 = refl
@@ -97,12 +97,12 @@ unfolding half_bytes
 half_laid class order n bytes len =
     laid_is_record class order (item_size kinds.Half class) half_fields (n ∷ []) bytes len (unfold half_fields in refl) (half_table class).within (half_covers class)
 
-word_table : (class : Class) → IsTable class (item_size kinds.Word class) word_fields
+pub word_table : (class : Class) → IsTable class (item_size kinds.Word class) word_fields
 unfolding word_fields
 word_table C32 = record { within = refl; apart = refl }
 word_table C64 = record { within = refl; apart = refl }
 
-word_covers : (class : Class) → cover class word_fields 0 (item_size kinds.Word class - 0) ≡ true
+pub word_covers : (class : Class) → cover class word_fields 0 (item_size kinds.Word class - 0) ≡ true
 unfolding word_fields
 word_covers C32 = refl
 word_covers C64 = refl
@@ -113,12 +113,12 @@ unfolding word_bytes
 word_laid class order n bytes len =
     laid_is_record class order (item_size kinds.Word class) word_fields (n ∷ []) bytes len (unfold word_fields in refl) (word_table class).within (word_covers class)
 
-addr_table : (class : Class) → IsTable class (item_size kinds.Addr class) addr_fields
+pub addr_table : (class : Class) → IsTable class (item_size kinds.Addr class) addr_fields
 unfolding addr_fields
 addr_table C32 = record { within = refl; apart = refl }
 addr_table C64 = record { within = refl; apart = refl }
 
-addr_covers : (class : Class) → cover class addr_fields 0 (item_size kinds.Addr class - 0) ≡ true
+pub addr_covers : (class : Class) → cover class addr_fields 0 (item_size kinds.Addr class - 0) ≡ true
 unfolding addr_fields
 addr_covers C32 = refl
 addr_covers C64 = refl
@@ -129,12 +129,12 @@ unfolding addr_bytes
 addr_laid class order n bytes len =
     laid_is_record class order (item_size kinds.Addr class) addr_fields (n ∷ []) bytes len (unfold addr_fields in refl) (addr_table class).within (addr_covers class)
 
-sym_table : (class : Class) → IsTable class (item_size kinds.Sym class) sym_fields
+pub sym_table : (class : Class) → IsTable class (item_size kinds.Sym class) sym_fields
 unfolding sym_fields
 sym_table C32 = record { within = refl; apart = refl }
 sym_table C64 = record { within = refl; apart = refl }
 
-sym_covers : (class : Class) → cover class sym_fields 0 (item_size kinds.Sym class - 0) ≡ true
+pub sym_covers : (class : Class) → cover class sym_fields 0 (item_size kinds.Sym class - 0) ≡ true
 unfolding sym_fields
 sym_covers C32 = refl
 sym_covers C64 = refl
@@ -145,12 +145,12 @@ unfolding sym_bytes
 sym_laid class order s bytes len =
     laid_is_record class order (item_size kinds.Sym class) sym_fields (sym_numbers s) bytes len (unfold sym_fields in refl) (sym_table class).within (sym_covers class)
 
-rel_table : (class : Class) → IsTable class (item_size kinds.Rel class) rel_fields
+pub rel_table : (class : Class) → IsTable class (item_size kinds.Rel class) rel_fields
 unfolding rel_fields
 rel_table C32 = record { within = refl; apart = refl }
 rel_table C64 = record { within = refl; apart = refl }
 
-rel_covers : (class : Class) → cover class rel_fields 0 (item_size kinds.Rel class - 0) ≡ true
+pub rel_covers : (class : Class) → cover class rel_fields 0 (item_size kinds.Rel class - 0) ≡ true
 unfolding rel_fields
 rel_covers C32 = refl
 rel_covers C64 = refl
@@ -161,12 +161,12 @@ unfolding rel_bytes
 rel_laid class order r bytes len =
     laid_is_record class order (item_size kinds.Rel class) rel_fields (rel_numbers class r) bytes len (unfold rel_fields in refl) (rel_table class).within (rel_covers class)
 
-rela_table : (class : Class) → IsTable class (item_size kinds.Rela class) rela_fields
+pub rela_table : (class : Class) → IsTable class (item_size kinds.Rela class) rela_fields
 unfolding rela_fields
 rela_table C32 = record { within = refl; apart = refl }
 rela_table C64 = record { within = refl; apart = refl }
 
-rela_covers : (class : Class) → cover class rela_fields 0 (item_size kinds.Rela class - 0) ≡ true
+pub rela_covers : (class : Class) → cover class rela_fields 0 (item_size kinds.Rela class - 0) ≡ true
 unfolding rela_fields
 rela_covers C32 = refl
 rela_covers C64 = refl
@@ -177,12 +177,12 @@ unfolding rela_bytes
 rela_laid class order r bytes len =
     laid_is_record class order (item_size kinds.Rela class) rela_fields (rela_numbers class r) bytes len (unfold rela_fields in refl) (rela_table class).within (rela_covers class)
 
-dyn_table : (class : Class) → IsTable class (item_size kinds.Dyn class) dyn_fields
+pub dyn_table : (class : Class) → IsTable class (item_size kinds.Dyn class) dyn_fields
 unfolding dyn_fields
 dyn_table C32 = record { within = refl; apart = refl }
 dyn_table C64 = record { within = refl; apart = refl }
 
-dyn_covers : (class : Class) → cover class dyn_fields 0 (item_size kinds.Dyn class - 0) ≡ true
+pub dyn_covers : (class : Class) → cover class dyn_fields 0 (item_size kinds.Dyn class - 0) ≡ true
 unfolding dyn_fields
 dyn_covers C32 = refl
 dyn_covers C64 = refl

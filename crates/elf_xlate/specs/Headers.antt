@@ -1,7 +1,7 @@
 -- The three headers (gABI chapter 4, "ELF Header" and "Section Header", chapter 5, "Program Header"). Each
 -- has one table for both classes, by which it is read and written: place and width of each field in
 -- class 32, and then in class 64.
-use Rattle.std.specs.Prelude.{ℕ, ◌-◌, ◌^◌, ◌<◌, List, [], ◌∷◌, ◌++◌, slice_index, Bool, ◌&&◌}
+use Rattle.std.specs.Prelude.{ℕ, ◌-◌, ◌^◌, ◌<◌, List, [], ◌∷◌, ◌++◌, length, take, drop, slice_index, Bool, ◌&&◌, ◌≡◌}
 use Rattle.std.proofs.Math.ListN.{replicate}
 use Rattle.elf_types.specs.declared.records.Class.{Class}
 use Rattle.elf_types.specs.declared.records.Class.TheVariants.{C32, C64}
@@ -111,6 +111,13 @@ pub record IsEhdr (h : Ehdr) : Type 0 where
   pub shentsize : h.shentsize < 2 ^ 16
   pub shnum : h.shnum < 2 ^ 32
   pub shstrndx : h.shstrndx < 2 ^ 32
+
+-- bytes are those of a header, whose identification has that pad
+pub record HoldsEhdr (h : Ehdr) (pad bytes : List ℕ) : Type 0 where
+  pub size : length bytes ≡ ehdr_size h.class
+  pub start : take 7 bytes ≡ take 7 (ident h.class h.order pad)
+  pub pad_is : take 7 (drop 9 bytes) ≡ pad
+  pub value : ehdr_of h.class h.order bytes ≡ h
 
 -- ---- Program headers ("Program Header")
 

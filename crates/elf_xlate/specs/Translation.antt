@@ -1,5 +1,5 @@
 -- A section's data in its file form and in its memory form (gABI chapter 4, "Data Representation").
-use Rattle.std.specs.Prelude.{ℕ, ◌*◌, ◌/◌, ◌%◌, ◌^◌, ◌<◌, List, [], length, take, drop, map, Bool, not, ◌==◌, if◌then◌else◌, Option, Some, None, Result, Ok, Err, IsSome, ◌≡◌}
+use Rattle.std.specs.Prelude.{ℕ, ◌*◌, ◌/◌, ◌%◌, ◌^◌, ◌<◌, List, [], length, take, drop, map, Bool, not, ◌==◌, if◌then◌else◌, Option, Some, None, Result, Ok, Err, IsSome, IfSome, ◌≡◌, ◌≢◌}
 use Rattle.std.specs.Option.{option_map}
 use Rattle.std.specs.List.{range_with_len, flat_map, position, All}
 use Rattle.elf_types.specs.declared.records.Class.{Class}
@@ -117,3 +117,13 @@ RefusesUnfit (Ok x) unfit = unfit ≡ None
 RefusesUnfit (Err errors.Memory) unfit = unfit ≡ None
 RefusesUnfit (Err errors.Ragged) unfit = ⊥
 RefusesUnfit (Err (errors.Unfit index)) unfit = unfit ≡ Some index
+
+-- Bytes, read as items of a kind that has a file form, are written as they were.
+abbrev pub EncodesAsDecoded : Kind → Class → Order → List ℕ → Type 0
+EncodesAsDecoded kind class order bytes =
+    kind ≢ kinds.Empty → All (λ b. b < 2 ^ 8) bytes → IfSome (decoded kind class order bytes) (λ items. encoded class order items ≡ bytes)
+
+-- Items that all fit, written in a class, are read as they were.
+abbrev pub DecodesAsEncoded : Class → Order → Items → Type 0
+DecodesAsEncoded class order items =
+    AreItems items → first_unfit class items ≡ None → decoded (items_kind items) class order (encoded class order items) ≡ Some items

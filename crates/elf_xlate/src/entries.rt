@@ -7,8 +7,8 @@ ghost use Rattle.elf_xlate.specs.Items.{item_size, type_range, info_fits, sym_of
 
 use crate::byte_order::Endian;
 use crate::fields::{
-    get_field, get_four, get_native, get_one, get_signed, get_two, put_field, put_four, put_native, put_one,
-    put_signed, put_two,
+    get_field, get_four, get_native, get_one, get_signed, get_two, put_field, put_four, put_native,
+    put_one, put_signed, put_two,
 };
 use crate::records::{Codec, Form};
 use elf_types::{Dyn, Rel, Rela, Sym};

@@ -192,6 +192,7 @@ macro_rules! get_field {
         get_signed::<$order, $wide>($bytes, $narrow, $broad)
     };
 }
+
 pub(crate) use get_field;
 
 /// Writes a number into the field at these places and widths, in class 32 and then in class 64; `s`
@@ -213,4 +214,5 @@ macro_rules! put_field {
         put_signed::<$order, $wide>($out, $narrow, $broad, $n)
     };
 }
+
 pub(crate) use put_field;

@@ -1,11 +1,14 @@
 //! Whether values fit their fields in a class. In class 64 every value does.
 
-ghost use Rattle.std.specs.Prelude.{◌≡◌};
+ghost use Rattle.std.specs.Prelude.{Bool, ◌≡◌};
+ghost use Rattle.elf_types.specs.declared.records.Class.TheVariants.{C32};
 ghost use Rattle.elf_xlate.specs.Fields.{fits, fits_signed};
-ghost use Rattle.elf_xlate.specs.Items.{info_fits};
+ghost use Rattle.elf_xlate.specs.Items.{info_fits, sym_fits, rel_fits, rela_fits, dyn_fits};
 ghost use Rattle.elf_xlate.specs.Headers.{ehdr_fits, phdr_fits, shdr_fits};
+ghost use Rattle.elf_xlate.specs.Translation.{first_not, first_unfit};
 
-use elf_types::{Class, Ehdr, Phdr, Shdr};
+use crate::content::Items;
+use elf_types::{Class, Dyn, Ehdr, Phdr, Rel, Rela, Shdr, Sym};
 
 /// Whether a number fits a field of four bytes in class 32 and of eight in class 64.
 pub fn number_fits(class: Class, n: u64) -> bool
@@ -76,4 +79,106 @@ pub fn shdr_fits(h: &Shdr, class: Class) -> bool
         && number_fits(class, h.size)
         && number_fits(class, h.addralign)
         && number_fits(class, h.entsize)
+}
+
+/// The index of the first item that does not fit its fields in a class, or None exactly where all fit.
+/// In class 32 a number of four bytes is below 2^32 and a signed one from -2^31 to 2^31 - 1, the index
+/// of a relocation's symbol is below 2^24 and its type below 2^8. It takes no memory.
+///
+/// Source: gABI chapter 4, "Data Representation" and "Relocation".
+#[tactic(auto, using(crate::proofs::Broad::none_unfit))]
+pub fn unfit(items: &Items, class: Class) -> Option<u64>
+    ensures { result ≡ first_unfit class items.now }
+{
+    match class {
+        Class::C32 => narrow_unfit(items),
+        Class::C64 => None,
+    }
+}
+
+// The same in class 32.
+#[tactic(auto, unfolding(crate::specs::Translation::first_unfit))]
+fn narrow_unfit(items: &Items) -> Option<u64>
+    ensures { result ≡ first_unfit C32 items.now }
+{
+    match items {
+        Items::Empty | Items::Bytes(_) | Items::Half(_) | Items::Word(_) => None,
+        Items::Addr(l) => index_of(first_not_narrow(l.as_slice())),
+        Items::Sym(l) => index_of(first_not_narrow(l.as_slice())),
+        Items::Rel(l) => index_of(first_not_narrow(l.as_slice())),
+        Items::Rela(l) => index_of(first_not_narrow(l.as_slice())),
+        Items::Dyn(l) => index_of(first_not_narrow(l.as_slice())),
+    }
+}
+
+// The same of a list.
+fn first_not_narrow<T: Narrow>(items: &[T]) -> Option<usize>
+    ensures { result ≡ first_not T.narrow items.now }
+{
+    items.iter().position(|item| !item.fits_narrow())
+}
+
+// An index as a number of 64 bits.
+fn index_of(index: Option<usize>) -> Option<u64>
+    ensures { result ≡ index }
+{
+    match index {
+        Some(i) => Some(i as u64),
+        None => None,
+    }
+}
+
+// An item that may not fit its fields in class 32.
+trait Narrow {
+    // Whether it fits.
+    ghost narrow: { Self → Bool };
+
+    fn fits_narrow(&self) -> bool
+        ensures { result ≡ narrow self.now };
+}
+
+impl Narrow for u64 {
+    ghost narrow = { fits C32 };
+
+    fn fits_narrow(&self) -> bool {
+        number_fits(Class::C32, *self)
+    }
+}
+
+impl Narrow for Sym {
+    ghost narrow = { sym_fits C32 };
+
+    #[tactic(auto, unfolding(crate::specs::Items::sym_fits))]
+    fn fits_narrow(&self) -> bool {
+        number_fits(Class::C32, self.value) && number_fits(Class::C32, self.size)
+    }
+}
+
+impl Narrow for Rel {
+    ghost narrow = { rel_fits C32 };
+
+    #[tactic(auto, unfolding(crate::specs::Items::rel_fits))]
+    fn fits_narrow(&self) -> bool {
+        number_fits(Class::C32, self.offset) && relocation_fits(Class::C32, self.sym, self.rtype)
+    }
+}
+
+impl Narrow for Rela {
+    ghost narrow = { rela_fits C32 };
+
+    #[tactic(auto, unfolding(crate::specs::Items::rela_fits))]
+    fn fits_narrow(&self) -> bool {
+        number_fits(Class::C32, self.offset)
+            && relocation_fits(Class::C32, self.sym, self.rtype)
+            && signed_fits(Class::C32, self.addend)
+    }
+}
+
+impl Narrow for Dyn {
+    ghost narrow = { dyn_fits C32 };
+
+    #[tactic(auto, unfolding(crate::specs::Items::dyn_fits))]
+    fn fits_narrow(&self) -> bool {
+        signed_fits(Class::C32, self.tag) && number_fits(Class::C32, self.val)
+    }
 }

@@ -6,7 +6,8 @@ ghost use Rattle.elf_xlate.specs.Headers.{ident, class_code, order_code, ehdr_by
 
 use crate::byte_order::{Endian, in_form};
 use crate::fields::{
-    get_field, get_four, get_native, get_one, get_two, put_field, put_four, put_native, put_one, put_two,
+    get_field, get_four, get_native, get_one, get_two, put_field, put_four, put_native, put_one,
+    put_two,
 };
 use byteorder::{BigEndian, LittleEndian};
 use elf_types::{Class, Ehdr, Order, Phdr, Shdr};
@@ -86,7 +87,17 @@ fn encode_ident(class: Class, order: Order, pad: [u8; 7], out: &mut [u8])
     ensures { out.new ≡ ident class order pad ++ drop 16 out.old }
 {
     let (front, others) = out.split_at_mut(9);
-    front.copy_from_slice(&[0x7f, b'E', b'L', b'F', class_byte(class), order_byte(order), 1, 0, 0]);
+    front.copy_from_slice(&[
+        0x7f,
+        b'E',
+        b'L',
+        b'F',
+        class_byte(class),
+        order_byte(order),
+        1,
+        0,
+        0,
+    ]);
     let (back, _) = others.split_at_mut(7);
     back.copy_from_slice(&pad);
 }
