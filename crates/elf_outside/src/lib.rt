@@ -10,6 +10,8 @@ pub mod no_source;
 pub mod real;
 pub mod sinks;
 pub mod sources;
+#[cfg(test)]
+pub(crate) mod steps;
 pub mod window;
 
 pub use device_sink::DeviceSink;

@@ -7,9 +7,8 @@ pub mod system_file;
 pub mod transfers;
 
 pub use files::RealFiles;
-pub use sink::RealSink;
-
 use read_ahead::ReadAhead;
+pub use sink::RealSink;
 use system_file::SystemFile;
 
 /// A file of the system whose small reads are served from a window. It tells no bytes. Its length

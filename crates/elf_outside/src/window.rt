@@ -55,3 +55,6 @@ impl<S: Source> Source for Window<S> {
         self.inner.read_at(self.at + at, buf)
     }
 }
+
+#[cfg(test)]
+mod tests;

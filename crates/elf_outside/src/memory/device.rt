@@ -1,6 +1,6 @@
 //! A device in memory.
 
-ghost use Rattle.std.specs.Prelude.{refl, ◌≡◌, ◌⊎◌, ◌↔◌, ℕ, ◌+◌, ◌-◌, ◌≤◌, ◌<◌, ◌++◌, ◌∷◌, [], List, Option, Some, Contains, IsErr, is_err, if◌then◌else◌, length, take, drop, vec_len, vec_capacity, OnOk, OnErr, IfOk, IfErr};
+ghost use Rattle.std.specs.Prelude.{refl, ◌≡◌, ◌⊎◌, ◌↔◌, ◌+◌, ◌≤◌, ◌<◌, ◌++◌, ◌∷◌, [], Some, Contains, IsErr, is_err, if◌then◌else◌, length, take, drop, vec_len, vec_capacity, OnOk, OnErr, IfOk, IfErr};
 ghost use Rattle.elf_outside.specs.Counts.{HasCause, RaisedBy, one_more};
 ghost use Rattle.elf_outside.specs.Writes.{written_over, resized};
 
@@ -203,3 +203,6 @@ fn put_over(bytes: &mut [u8], at: usize, piece: &[u8])
 {
     bytes[at..at + piece.len()].copy_from_slice(piece);
 }
+
+#[cfg(test)]
+mod tests;

@@ -1,8 +1,8 @@
 //! A set of files in memory.
 
-ghost use Rattle.std.specs.Prelude.{◌≡◌, ◌↔◌, ℕ, ◌+◌, ◌-◌, ◌≤◌, ◌∷◌, [], true, List, Option, Some, None, Contains, is_err, if◌then◌else◌, max, length, vec_len, IsErrOf, IsSome, IfOk, IfErr, IfSome, OnOk, OnErr};
+ghost use Rattle.std.specs.Prelude.{◌≡◌, ℕ, ◌-◌, [], true, List, Some, None, IfOk, IfErr, OnOk, OnErr};
 ghost use Rattle.std.specs.Option.{option_copied};
-ghost use Rattle.elf_outside.specs.Counts.{HasCause, RaisedBy, Passes, one_more};
+ghost use Rattle.elf_outside.specs.Counts.{RaisedBy, Passes};
 ghost use Rattle.elf_outside.specs.Kept.{kept, bytes_named, closed, SameKept, SetsKept};
 ghost use Rattle.elf_outside.specs.MemFiles.{SameSettings, IsFileOf, IsUntouched, HandsOut, Creates, emptied};
 
@@ -10,12 +10,12 @@ use crate::file_sets::{Files, OpenFault};
 use crate::memory::calls::Calls;
 use crate::memory::device::MemDevice;
 use elf_types::{Addrs, ElfError, Octets};
-use std::alloc::{AllocError, Global};
+use std::alloc::Global;
 use std::collections::BTreeMap;
 
 /// The bytes of a name, and the calls that are to fail of each file that is opened under it.
 #[derive(Drop)]
-pub struct Kept {
+struct Kept {
     bytes: Octets,
     bad_reads: Addrs,
     bad_writes: Addrs,
@@ -231,11 +231,7 @@ fn new_file(alloc: Global, room: u64, bad_writes: &Addrs) -> Result<MemDevice, O
 
 /// Sets a name to the empty text, and leaves the failing calls of a name that is there. It refuses
 /// `Memory` alone, and then every name is as before.
-fn set_empty(
-    names: &mut BTreeMap<String, Kept>,
-    alloc: Global,
-    name: &str,
-) -> Result<(), OpenFault>
+fn set_empty(names: &mut BTreeMap<String, Kept>, alloc: Global, name: &str) -> Result<(), OpenFault>
     ensures ok { OnOk result (SetsKept names.old names.new name.now (Some (emptied (kept names.old name.now)))) }
     ensures unchanged { OnErr result (SameKept names.old names.new) }
     ensures err { IfErr result (λ e. e ≡ OpenFault.Memory) }
@@ -257,3 +253,6 @@ fn set_empty(
         Err(_) => Err(OpenFault::Memory),
     }
 }
+
+#[cfg(test)]
+mod tests;

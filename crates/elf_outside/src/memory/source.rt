@@ -1,6 +1,6 @@
 //! A source in memory.
 
-ghost use Rattle.std.specs.Prelude.{◌≡◌, ◌↔◌, ℕ, ◌+◌, ◌≤◌, ◌∷◌, [], List, Option, Some, Contains, IsErr, is_err, if◌then◌else◌, length, take, drop, OnOk, OnErr};
+ghost use Rattle.std.specs.Prelude.{◌≡◌, ◌↔◌, ◌+◌, ◌≤◌, ◌∷◌, [], Some, Contains, IsErr, is_err, if◌then◌else◌, length, take, drop, OnOk, OnErr};
 ghost use Rattle.elf_outside.specs.Counts.{HasCause, RaisedBy, one_more};
 
 use crate::memory::calls::Calls;
@@ -88,3 +88,6 @@ impl Source for MemSource {
         Ok(())
     }
 }
+
+#[cfg(test)]
+mod tests;

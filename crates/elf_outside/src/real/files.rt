@@ -41,12 +41,7 @@ impl<R: rt::Files<File = File>> RealFiles<R> {
     }
 
     /// Opens a file for reading, and for writing too where that is asked.
-    fn hand_out(
-        &mut self,
-        alloc: Global,
-        name: &str,
-        writes: bool,
-    ) -> Result<RealFile, OpenFault>
+    fn hand_out(&mut self, alloc: Global, name: &str, writes: bool) -> Result<RealFile, OpenFault>
         ensures own_faults { IfOk result (λ f. (f.faults ≡ 0) × (f.inner.write_faults ≡ 0)) }
         ensures own_numbers { IfOk result (λ f. (f.taken ≡ 0) × (f.inner.given ≡ 0)) }
         ensures failed { IsErrOf result OpenFault.Failed → Rose self.old.read_faults self.new.read_faults }

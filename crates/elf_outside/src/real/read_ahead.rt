@@ -1,6 +1,6 @@
 //! A source that serves small reads from a window.
 
-ghost use Rattle.std.specs.Prelude.{◌≡◌, ◌+◌, ◌≤◌, ◌<◌, IsTrue, vec_len, take, drop, length};
+ghost use Rattle.std.specs.Prelude.{◌≡◌, ◌+◌, ◌≤◌, IsTrue, vec_len, take, drop, length};
 ghost use Rattle.std.specs.Option.{ForSome, IfSome};
 ghost use Rattle.elf_outside.specs.Leaves.{LeavesBy};
 
@@ -60,7 +60,9 @@ impl<S: Source> ReadAhead<S> {
     fn has(&self, at: u64, n: usize) -> bool
         ensures { IsTrue result → (self.now.start ≤ at) × (at + n ≤ self.now.start + vec_len self.now.held) }
     {
-        self.start <= at && at - self.start <= self.held.len() as u64 && n <= self.held.len() - (at - self.start) as usize
+        self.start <= at
+            && at - self.start <= self.held.len() as u64
+            && n <= self.held.len() - (at - self.start) as usize
     }
 
     /// The size of a window from a place on: small at first, and twice that of the last window where
@@ -168,3 +170,6 @@ impl<D: Device> Device for ReadAhead<D> {
 
     ghost rest_begins = { λ r. D.rest_begins r.inner };
 }
+
+#[cfg(test)]
+mod tests;

@@ -1,6 +1,8 @@
 //! A sink over a stream of the system.
 
-ghost use Rattle.std.specs.Prelude.{◌≡◌, [], None};
+ghost use Rattle.std.specs.Prelude.{◌≡◌, ℕ, [], None, take, OnOk, OnErr};
+ghost use Rattle.std.specs.Io.KnownBytes.{Appends as BytesAppend};
+ghost use Rattle.elf_outside.specs.Counts.{HasCause};
 
 use crate::real::transfers::write_to;
 use crate::sinks::Sink;
@@ -31,7 +33,14 @@ impl<W: Write> Sink for RealSink<W> {
 
     ghost rest = { λ _. [] };
 
-    fn put(&mut self, buf: &[u8]) -> Result<(), Failed> {
+    fn put(&mut self, buf: &[u8]) -> Result<(), Failed>
+        ensures cause { HasCause self.old.faults self.new.faults result }
+
+        // what a stream that holds its bytes has got
+        ensures stream { OnOk result (BytesAppend (W.contents self.old.stream) (W.contents self.new.stream) buf.now) }
+        ensures front { OnErr result
+            ((n : ℕ) × BytesAppend (W.contents self.old.stream) (W.contents self.new.stream) (take n buf.now)) }
+    {
         if write_to(&mut self.stream, buf) < buf.len() {
             self.faults = self.faults.saturating_add(1);
             return Err(Failed);

@@ -1,8 +1,7 @@
 //! Reads and writes of whole ranges, a part at a time, as the system takes them. A call that was
 //! interrupted is tried again.
 
-ghost use Rattle.std.specs.Prelude.{◌≡◌, ◌+◌, ◌^◌, ◌<◌, ◌≤◌, length, take};
-ghost use Rattle.std.specs.Bool.{OnTrue};
+ghost use Rattle.std.specs.Prelude.{◌+◌, ◌^◌, ◌<◌, ◌≤◌, length, take};
 ghost use Rattle.std.specs.Io.KnownBytes.{Appends as BytesAppend};
 
 use std::io::{ErrorKind, Write};
@@ -70,3 +69,6 @@ pub(crate) fn write_to<W: Write>(stream: &mut W, piece: &[u8]) -> usize
     }
     done
 }
+
+#[cfg(test)]
+mod tests;

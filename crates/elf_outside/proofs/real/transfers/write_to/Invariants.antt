@@ -6,5 +6,5 @@ use Rattle.elf_outside.proofs.real.transfers.write_to.Given as goal
 abbrev pub invariant-loop : goal.invariant-loop
 invariant-loop g l = record {
   in_range : l.done ≤ length l.piece;
-  written : Appends (g.W.Write.contents l.initial.stream) (g.W.Write.contents l.stream) (take l.done l.piece)
+  written : Appends (g.W.Write.contents l.initial.stream) (g.W.Write.contents l.stream) (take l.done l.piece);
 }
