@@ -1,7 +1,7 @@
 -- What is known of the places of the parts where the update is not refused: none is too large for the class, and no two
 -- parts share a byte.
 use Rattle.std.proofs.Common.{◌≡◌, ℕ, ◌+◌, ◌^◌, ◌<◌, ◌≤◌, max, Bool, true, false, not, ◌&&◌, ◌||◌, List, [], ◌∷◌, Option, Some, None, refl, sym, ◌∙◌, arith, lit≤, ⊎_elim}
-use Rattle.std.specs.Prelude.{All, nat_lt, nat_le, if◌then◌else◌, cond, slice_get}
+use Rattle.std.specs.Prelude.{nat_lt, nat_le, if◌then◌else◌, cond, slice_get}
 use Rattle.std.specs.List.{AllByRecursion, list_any, filter}
 use Rattle.std.specs.Option.{option_or, option_map}
 use Rattle.std.proofs.lemmas.Bool.{ltb-false, cases_lt, lt-ltb, le-ltb}
@@ -205,21 +205,21 @@ Pairs R (x ∷ xs) = AllByRecursion (R x) xs × Pairs R xs
 inserted_each : {X : Type 0} (key : X → ℕ) (P : X → Type 0) (x : X) (ys : List X) → AllByRecursion P (inserted_by key x ys) → P x × AllByRecursion P ys
 inserted_each key P x [] each = (each.0, tt)
 inserted_each key P x (y ∷ ys) each = by_test (nat_le (key x) (key y)) (inserted_each key P x ys) each
-    where
-      by_test : (b : Bool) → (AllByRecursion P (inserted_by key x ys) → P x × AllByRecursion P ys) → AllByRecursion P (if b then x ∷ y ∷ ys else y ∷ inserted_by key x ys) → P x × (P y × AllByRecursion P ys)
-      by_test true rest all = (all.0, (all.1.0, all.1.1))
-      by_test false rest all = let both = rest all.1 in (both.0, (all.0, both.1))
+  where
+    by_test : (b : Bool) → (AllByRecursion P (inserted_by key x ys) → P x × AllByRecursion P ys) → AllByRecursion P (if b then x ∷ y ∷ ys else y ∷ inserted_by key x ys) → P x × (P y × AllByRecursion P ys)
+    by_test true rest all = (all.0, (all.1.0, all.1.1))
+    by_test false rest all = let both = rest all.1 in (both.0, (all.0, both.1))
 
 inserted_pairs : {X : Type 0} (key : X → ℕ) (R : X → X → Type 0) → ((a b : X) → R a b → R b a) → (x : X) (ys : List X) → Pairs R (inserted_by key x ys) → AllByRecursion (R x) ys × Pairs R ys
 inserted_pairs key R turn x [] pairs = (tt, tt)
 inserted_pairs key R turn x (y ∷ ys) pairs = by_test (nat_le (key x) (key y)) (inserted_pairs key R turn x ys) pairs
-    where
-      by_test : (b : Bool) → (Pairs R (inserted_by key x ys) → AllByRecursion (R x) ys × Pairs R ys) → Pairs R (if b then x ∷ y ∷ ys else y ∷ inserted_by key x ys) → (R x y × AllByRecursion (R x) ys) × (AllByRecursion (R y) ys × Pairs R ys)
-      by_test true rest all = (all.0, all.1)
-      by_test false rest all =
-          let first = inserted_each key (R y) x ys all.0 in
-          let later = rest all.1 in
-          ((turn y x first.0, later.0), (first.1, later.1))
+  where
+    by_test : (b : Bool) → (Pairs R (inserted_by key x ys) → AllByRecursion (R x) ys × Pairs R ys) → Pairs R (if b then x ∷ y ∷ ys else y ∷ inserted_by key x ys) → (R x y × AllByRecursion (R x) ys) × (AllByRecursion (R y) ys × Pairs R ys)
+    by_test true rest all = (all.0, all.1)
+    by_test false rest all =
+        let first = inserted_each key (R y) x ys all.0 in
+        let later = rest all.1 in
+        ((turn y x first.0, later.0), (first.1, later.1))
 
 sorted_each : {X : Type 0} (key : X → ℕ) (P : X → Type 0) (xs : List X) → AllByRecursion P (sorted_by key xs) → AllByRecursion P xs
 sorted_each key P [] each = tt
@@ -236,34 +236,35 @@ sorted_pairs key R turn (x ∷ xs) pairs =
 filter_each : {X : Type 0} (test : X → Bool) (P : X → Type 0) → ((x : X) → test x ≡ false → P x) → (xs : List X) → AllByRecursion P (filter test xs) → AllByRecursion P xs
 filter_each test P out [] each = tt
 filter_each test P out (x ∷ xs) each = by_test (test x) refl (filter_each test P out xs) each
-    where
-      by_test : (b : Bool) → test x ≡ b → (AllByRecursion P (filter test xs) → AllByRecursion P xs) → AllByRecursion P (cond b (x ∷ filter test xs) (filter test xs)) → P x × AllByRecursion P xs
-      by_test true e rest all = (all.0, rest all.1)
-      by_test false e rest all = (out x e, rest all)
+  where
+    by_test : (b : Bool) → test x ≡ b → (AllByRecursion P (filter test xs) → AllByRecursion P xs) → AllByRecursion P (cond b (x ∷ filter test xs) (filter test xs)) → P x × AllByRecursion P xs
+    by_test true e rest all = (all.0, rest all.1)
+    by_test false e rest all = (out x e, rest all)
 
 filter_pairs : {X : Type 0} (test : X → Bool) (R : X → X → Type 0) → ((x y : X) → test x ≡ false → R x y) → ((x y : X) → test y ≡ false → R x y) → (xs : List X) → Pairs R (filter test xs) → Pairs R xs
 filter_pairs test R left right [] pairs = tt
 filter_pairs {X = X} test R left right (x ∷ xs) pairs = by_test (test x) refl (filter_pairs test R left right xs) pairs
-    where
-      all_out : test x ≡ false → (ys : List X) → AllByRecursion (R x) ys
-      all_out e [] = tt
-      all_out e (y ∷ ys) = (left x y e, all_out e ys)
-      by_test : (b : Bool) → test x ≡ b → (Pairs R (filter test xs) → Pairs R xs) → Pairs R (cond b (x ∷ filter test xs) (filter test xs)) → AllByRecursion (R x) xs × Pairs R xs
-      by_test true e rest all = (filter_each test (R x) (λ y out. right x y out) xs all.0, rest all.1)
-      by_test false e rest all = (all_out e xs, rest all)
+  where
+    all_out : test x ≡ false → (ys : List X) → AllByRecursion (R x) ys
+    all_out e [] = tt
+    all_out e (y ∷ ys) = (left x y e, all_out e ys)
+
+    by_test : (b : Bool) → test x ≡ b → (Pairs R (filter test xs) → Pairs R xs) → Pairs R (cond b (x ∷ filter test xs) (filter test xs)) → AllByRecursion (R x) xs × Pairs R xs
+    by_test true e rest all = (filter_each test (R x) (λ y out. right x y out) xs all.0, rest all.1)
+    by_test false e rest all = (all_out e xs, rest all)
 
 meets_turned : (a b : PartAt) → meets a b ≡ false → meets b a ≡ false
 unfolding meets
 meets_turned a b h = turned (has_bytes a) (has_bytes b) (nat_lt a.at (end_of b)) (nat_lt b.at (end_of a)) h
-    where
-      turned : (p q r s : Bool) → (p && q && r && s) ≡ false → (q && p && s && r) ≡ false
-      turned true true true true h = h
-      turned true true true false h = refl
-      turned true true false true h = refl
-      turned true true false false h = refl
-      turned true false r s h = refl
-      turned false true r s h = refl
-      turned false false r s h = refl
+  where
+    turned : (p q r s : Bool) → (p && q && r && s) ≡ false → (q && p && s && r) ≡ false
+    turned true true true true h = h
+    turned true true true false h = refl
+    turned true true false true h = refl
+    turned true true false false h = refl
+    turned true false r s h = refl
+    turned false true r s h = refl
+    turned false false r s h = refl
 
 empty_first : (a b : PartAt) → has_bytes a ≡ false → meets a b ≡ false
 unfolding meets
@@ -279,10 +280,10 @@ none_met a (b ∷ ps) h = let both = or_false (meets a b) (list_any (meets a) ps
 first_none : (a : PartAt) (ps : List PartAt) → (if list_any (meets a) ps then option_map (λ b. (a.part, b.part)) (slice_get ps 0) else first_met ps) ≡ None → (list_any (meets a) ps ≡ false) × (first_met ps ≡ None)
 first_none a [] h = (refl, h)
 first_none a (b ∷ ps) h = by_test (list_any (meets a) (b ∷ ps)) refl h
-    where
-      by_test : (t : Bool) → list_any (meets a) (b ∷ ps) ≡ t → (if t then Some (a.part, b.part) else first_met (b ∷ ps)) ≡ None → (list_any (meets a) (b ∷ ps) ≡ false) × (first_met (b ∷ ps) ≡ None)
-      by_test true e g = cc
-      by_test false e g = (e, g)
+  where
+    by_test : (t : Bool) → list_any (meets a) (b ∷ ps) ≡ t → (if t then Some (a.part, b.part) else first_met (b ∷ ps)) ≡ None → (list_any (meets a) (b ∷ ps) ≡ false) × (first_met (b ∷ ps) ≡ None)
+    by_test true e g = cc
+    by_test false e g = (e, g)
 
 first_met_none : (ps : List PartAt) → first_met ps ≡ None → Pairs (λ a b. meets a b ≡ false) ps
 unfolding first_met
@@ -297,10 +298,10 @@ no_overlap (Some pair) h = cc
 in_order_pairs : (ps : List PartAt) → AreInOrder ps → Pairs (λ a b. meets a b ≡ false) ps
 in_order_pairs [] order = tt
 in_order_pairs (p ∷ ps) order = (each p ps order.0, in_order_pairs ps order.1)
-    where
-      each : (a : PartAt) (l : List PartAt) → AllByRecursion (IsBehind a) l → AllByRecursion (λ b. meets a b ≡ false) l
-      each a [] all = tt
-      each a (b ∷ l) all = (behind_apart a b all.0, each a l all.1)
+  where
+    each : (a : PartAt) (l : List PartAt) → AllByRecursion (IsBehind a) l → AllByRecursion (λ b. meets a b ≡ false) l
+    each a [] all = tt
+    each a (b ∷ l) all = (behind_apart a b all.0, each a l all.1)
 
 -- no two parts share a byte where nothing is refused
 pub standing_apart : (parts : List PartAt) (layout : Bool) (base : ℕ) (class : Class) → refusal_of parts layout base class ≡ None → Pairs (λ a b. meets a b ≡ false) (standing parts layout)

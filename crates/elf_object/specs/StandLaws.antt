@@ -1,28 +1,25 @@
 -- The parts stand in the image where their headers say, each with all of its bytes, where the update is not refused.
-use Rattle.std.proofs.Common.{◌≡◌, ℕ, zero, suc, ◌+◌, ◌-◌, ◌*◌, ◌^◌, ◌<◌, ◌≤◌, Bool, true, false, not, ◌&&◌, ◌||◌, List, [], ◌∷◌, ◌++◌, length, take, drop, get_or, Option, Some, None, refl, sym, ap, ◌∙◌, subst, arith, lit<, lit≤, ⊎_elim, eqb, leb, ltb}
-use Rattle.std.specs.Prelude.{All, IsTrue, nat_lt, nat_le, if◌then◌else◌, ◌==◌, map, slice_index, slice_get}
+use Rattle.std.proofs.Common.{◌≡◌, ℕ, zero, suc, ◌+◌, ◌-◌, ◌*◌, ◌<◌, ◌≤◌, Bool, true, false, not, ◌&&◌, ◌||◌, List, [], ◌∷◌, ◌++◌, length, take, drop, get_or, Some, None, refl, sym, ap, ◌∙◌, subst, arith, ⊎_elim}
+use Rattle.std.specs.Prelude.{nat_lt, nat_le, if◌then◌else◌, ◌==◌, map, slice_get}
 use Rattle.std.specs.List.{range_with_len, enumerate_from, AllByRecursion}
-use Rattle.std.proofs.lemmas.Bool.{ltb-true, ltb-false, leb-true, cases_lt, lt-ltb, eqb-true, eq-eqb}
+use Rattle.std.proofs.lemmas.Bool.{ltb-true, leb-true, cases_lt, lt-ltb, eqb-true}
 use Rattle.std.proofs.lemmas.List.{length-map, length-append, get_or-map, get_or_append_left, get_or-append-add, get_or_past, nil_from_length}
 use Rattle.std.proofs.lemmas.List.FromFn.{length-map-range_with_len, get_or-map-range_with_len, length-enumerate_from}
-use Rattle.std.proofs.lemmas.Option.{slice_get-get_or, get_or_from_slice_get, slice_get_within}
 use Rattle.elf_types.specs.declared.records.Class.{Class}
 use Rattle.elf_types.specs.declared.records.Order.{Order}
-use Rattle.elf_types.specs.declared.records.Ehdr.{Ehdr}
 use Rattle.elf_types.specs.declared.records.Shdr.{Shdr}
-use Rattle.elf_types.specs.declared.errors.ElfError.{ElfError}
-use Rattle.elf_xlate.specs.Headers.{ehdr_size, phdr_size, shdr_size}
+use Rattle.elf_xlate.specs.Headers.{phdr_size, shdr_size}
 use Rattle.elf_layout.specs.declared.parts.PartAt.{PartAt}
 use Rattle.elf_layout.specs.declared.parts.Places.{Places}
-use Rattle.elf_layout.specs.Layout.{rounded_up, place_of, end_after, standing, in_order_from, length_from, length_of, positions, places_of as parts_places, refusal_of}
+use Rattle.elf_layout.specs.Layout.{rounded_up, place_of, end_after, standing, in_order_from, length_from, length_of, positions, places_of as parts_places}
 use Rattle.elf_layout.specs.Meeting.{has_bytes, end_of, meets}
 use Rattle.elf_object.specs.Blocks.{Block, block_end, covers, spread, stacked, last_end}
 use Rattle.elf_object.specs.BlockLaws.{AreApart, AllApart, take-drop-spread}
 use Rattle.elf_object.specs.Object.{Object, Section, new_section, section_at, header_of, has_file_bytes, occupies_file, is_null, is_dirty}
-use Rattle.elf_object.specs.Open.{written_front, segments_bytes, table_bytes, no_block}
+use Rattle.elf_object.specs.Open.{written_front, no_block}
 use Rattle.elf_object.specs.Joined.{aligned_pieces, piece_blocks, pieces_end, joined}
 use Rattle.elf_object.specs.Derived.{where_any, derived_header, written_header, numbered_shdr}
-use Rattle.elf_object.specs.Layout.{header_part, segments_part, section_part, table_part, section_numbers, parts_of, placed_parts, places_of, segments_place, section_place, size_in_file, table_place, placed_header, placed_shdr, placed_section, placed_by, placed}
+use Rattle.elf_object.specs.Layout.{header_part, segments_part, section_part, table_part, section_numbers, parts_of, places_of, section_place, size_in_file, placed_header, placed_shdr, placed_section, placed_by, placed}
 use Rattle.elf_object.specs.Image.{front_blocks, section_block, part_blocks, uncovered_byte, image_length, image}
 use Rattle.elf_object.specs.Refusal.{refusal, placing_refusal}
 use Rattle.elf_object.specs.ImageLaws.{section_at-placed, joined-none, file_bytes_from, image-dirty, placed-dirty}
@@ -45,11 +42,11 @@ pub record IsCovered (b : Block) (k : ℕ) : Type 0 where
 pub covered_from : (b : Block) (k : ℕ) → covers b k ≡ true → IsCovered b k
 unfolding covers block_end
 covered_from b k h = by_test (nat_le b.at k) (nat_lt k (b.at + length b.bytes)) refl refl h
-    where
-      by_test : (x y : Bool) → nat_le b.at k ≡ x → nat_lt k (b.at + length b.bytes) ≡ y → (x && y) ≡ true → IsCovered b k
-      by_test true true e f g = record { from = leb-true b.at k e; below = ltb-true k (b.at + length b.bytes) f }
-      by_test true false e f g = cc
-      by_test false y e f g = cc
+  where
+    by_test : (x y : Bool) → nat_le b.at k ≡ x → nat_lt k (b.at + length b.bytes) ≡ y → (x && y) ≡ true → IsCovered b k
+    by_test true true e f g = record { from = leb-true b.at k e; below = ltb-true k (b.at + length b.bytes) f }
+    by_test true false e f g = cc
+    by_test false y e f g = cc
 
 -- a block that is not empty is that of a part that is not
 pub record IsFull (b : Block) (p : PartAt) : Type 0 where
@@ -60,10 +57,10 @@ pub record IsFull (b : Block) (p : PartAt) : Type 0 where
 pub full_from : (b : Block) (p : PartAt) → IsBlockOf b p → 0 < length b.bytes → IsFull b p
 unfolding has_bytes
 full_from b p of some = by_test p.filled refl of.len
-    where
-      by_test : (f : Bool) → p.filled ≡ f → length b.bytes ≡ (if f then p.len else 0) → IsFull b p
-      by_test true e len = record { full = rw (e, lt-ltb 0 p.len (omega arith)) refl; len = len; at = of.at some }
-      by_test false e len = absurd (omega arith)
+  where
+    by_test : (f : Bool) → p.filled ≡ f → length b.bytes ≡ (if f then p.len else 0) → IsFull b p
+    by_test true e len = record { full = rw (e, lt-ltb 0 p.len (omega arith)) refl; len = len; at = of.at some }
+    by_test false e len = absurd (omega arith)
 
 meet_at : (p q : PartAt) (k : ℕ) → has_bytes p ≡ true → has_bytes q ≡ true → p.at ≤ k → k < p.at + p.len → q.at ≤ k → k < q.at + q.len → meets p q ≡ true
 unfolding meets end_of
@@ -166,9 +163,9 @@ from_place layout ps i b d h of =
       len = of.len ∙ sized (get_or ps i d).filled (get_or (standing ps layout) i d).filled (get_or ps i d).len (get_or (standing ps layout) i d).len same.1 same.0;
       at = λ some. of.at some ∙ place;
     }
-    where
-      sized : (f g : Bool) (m n : ℕ) → g ≡ f → n ≡ m → (if f then m else 0) ≡ (if g then n else 0)
-      sized f g m n e k = rw (e, k) refl
+  where
+    sized : (f g : Bool) (m n : ℕ) → g ≡ f → n ≡ m → (if f then m else 0) ≡ (if g then n else 0)
+    sized f g m n e k = rw (e, k) refl
 
 -- ---- The parts of an object
 
@@ -185,10 +182,10 @@ header_stands o d seven = record {
 
 where_some : (count n : ℕ) → 0 < count → where_any count n ≡ n
 where_some count n h = by_test (count == 0) refl
-    where
-      by_test : (b : Bool) → (count == 0) ≡ b → (if b then 0 else n) ≡ n
-      by_test true e = let none = eqb-true count 0 e in absurd (omega arith)
-      by_test false e = refl
+  where
+    by_test : (b : Bool) → (count == 0) ≡ b → (if b then 0 else n) ≡ n
+    by_test true e = let none = eqb-true count 0 e in absurd (omega arith)
+    by_test false e = refl
 
 some_of : (count size : ℕ) → 0 < count * size → 0 < count
 some_of zero size h = absurd (omega arith)
@@ -233,11 +230,11 @@ joined_of-header class order fill s c h e =
 type-placed : (places : Places) (o : Object) (s : ℕ) (h : Shdr) → (placed_shdr places o s h).stype ≡ h.stype
 unfolding placed_shdr numbered_shdr
 type-placed places o s h = by_test (s == 0) (is_null h)
-    where
-      by_test : (a b : Bool) → (if a then numbered_shdr (placed_header places o) h else (if b then h else (record h { offset = section_place places s; size = size_in_file o s h }))).stype ≡ h.stype
-      by_test true b = refl
-      by_test false true = refl
-      by_test false false = refl
+  where
+    by_test : (a b : Bool) → (if a then numbered_shdr (placed_header places o) h else (if b then h else (record h { offset = section_place places s; size = size_in_file o s h }))).stype ≡ h.stype
+    by_test true b = refl
+    by_test false true = refl
+    by_test false false = refl
 
 -- an index past the sections
 section_at-past : (o : Object) (s : ℕ) → length o.sections ≤ s → section_at o s ≡ new_section
@@ -254,15 +251,15 @@ unfolding joined pieces_end piece_blocks placed_by placed_header derived_header 
 joined-placed places o s = ⊎_elim
     (λ h. ap (joined_of o.header.class o.header.order o.fill s) (section_at-placed places o s h) ∙ joined_of-header o.header.class o.header.order o.fill s (section_at o s) (placed_shdr places o s (section_at o s).header) (type-placed places o s (section_at o s).header))
     (λ h. let count = section_count-placed places o in
-        ap (joined_of o.header.class o.header.order o.fill s) (section_at-past (placed_by places o) s (omega arith) ∙ sym (section_at-past o s h)))
+    ap (joined_of o.header.class o.header.order o.fill s) (section_at-past (placed_by places o) s (omega arith) ∙ sym (section_at-past o s h)))
     (cases_lt s (length o.sections))
 
 not_null : (h : Shdr) → occupies_file h ≡ true → is_null h ≡ false
 not_null h filled = by_test (h.stype == 0) (h.stype == 8) filled
-    where
-      by_test : (a b : Bool) → not (a || b) ≡ true → a ≡ false
-      by_test true b e = cc
-      by_test false b e = refl
+  where
+    by_test : (a b : Bool) → not (a || b) ≡ true → a ≡ false
+    by_test true b e = cc
+    by_test false b e = refl
 
 placed_offset : (first empty : Bool) (numbered h : Shdr) (offset n : ℕ) → first ≡ false → empty ≡ false → (if first then numbered else (if empty then h else (record h { offset = offset; size = n }))).offset ≡ offset
 placed_offset false false numbered h offset n a b = refl
@@ -281,10 +278,10 @@ offset-placed places o s inside filled =
 file_bytes_when : (s : ℕ) (c : Section) → 0 < s → has_file_bytes s c ≡ occupies_file c.header
 unfolding has_file_bytes
 file_bytes_when s c positive = by_test (s == 0) refl
-    where
-      by_test : (b : Bool) → (s == 0) ≡ b → (not b && occupies_file c.header) ≡ occupies_file c.header
-      by_test true e = let none = eqb-true s 0 e in absurd (omega arith)
-      by_test false e = refl
+  where
+    by_test : (b : Bool) → (s == 0) ≡ b → (not b && occupies_file c.header) ≡ occupies_file c.header
+    by_test true e = let none = eqb-true s 0 e in absurd (omega arith)
+    by_test false e = refl
 
 section_stands : (o : Object) (s : ℕ) → 0 < s → s < length o.sections → IsBlockAt (section_block (placed_by (places_of o) o) s) (section_part o s) (PlacesOf o (s + 1))
 unfolding section_block section_part
@@ -295,25 +292,27 @@ section_stands o s positive inside =
       len = ap length same ∙ by_test (occupies_file (section_at o s).header) test;
       at = λ some. by_bytes (has_file_bytes s (section_at o s)) refl (subst (λ (l : List ℕ). 0 < length l) same some);
     }
-    where
-      by_test : (b : Bool) → has_file_bytes s (section_at o s) ≡ b → length (joined o s) ≡ (if b then length (joined o s) else 0)
-      by_test true e = refl
-      by_test false e = ap length (joined-none o s e)
-      by_bytes : (b : Bool) → has_file_bytes s (section_at o s) ≡ b → 0 < length (joined o s) → (section_at (placed_by (places_of o) o) s).header.offset ≡ PlacesOf o (s + 1)
-      by_bytes true e some = offset-placed (places_of o) o s inside e
-      by_bytes false e some = let none = ap length (joined-none o s e) in absurd (omega arith)
+  where
+    by_test : (b : Bool) → has_file_bytes s (section_at o s) ≡ b → length (joined o s) ≡ (if b then length (joined o s) else 0)
+    by_test true e = refl
+    by_test false e = ap length (joined-none o s e)
+
+    by_bytes : (b : Bool) → has_file_bytes s (section_at o s) ≡ b → 0 < length (joined o s) → (section_at (placed_by (places_of o) o) s).header.offset ≡ PlacesOf o (s + 1)
+    by_bytes true e some = offset-placed (places_of o) o s inside e
+    by_bytes false e some = let none = ap length (joined-none o s e) in absurd (omega arith)
 
 -- ---- All parts
 
 header_place : (o : Object) → PlacesOf o 0 ≡ 0
 unfolding places_of parts_places positions standing parts_of in_order_from place_of rounded_up
 header_place o = by_test o.layout
-    where
-      rest : List PartAt
-      rest = segments_part o ∷ map (section_part o) (section_numbers o) ++ table_part o ∷ []
-      by_test : (b : Bool) → get_or (map (λ p. p.at) (if b then header_part o ∷ rest else in_order_from 0 (header_part o ∷ rest))) 0 0 ≡ 0
-      by_test true = refl
-      by_test false = refl
+  where
+    rest : List PartAt
+    rest = segments_part o ∷ map (section_part o) (section_numbers o) ++ table_part o ∷ []
+
+    by_test : (b : Bool) → get_or (map (λ p. p.at) (if b then header_part o ∷ rest else in_order_from 0 (header_part o ∷ rest))) 0 0 ≡ 0
+    by_test true = refl
+    by_test false = refl
 
 -- a list of two, a row of many, and one more, at an index past the two
 row_left : {X : Type 0} (f : ℕ → X) (m : ℕ) (last : X) (j : ℕ) (d : X) → j < m → get_or (map f (range_with_len 1 m) ++ last ∷ []) j d ≡ f (1 + j)
@@ -348,22 +347,22 @@ part_stands o (suc (suc j)) b d seven h =
     let numbers : length (placed_by (places_of o) o).sections - 1 ≡ length o.sections - 1 = ap (λ (n : ℕ). n - 1) same in
     let R : ℕ → Type 0 = λ n. IsBlockAt (get_or (map (section_block (placed_by (places_of o) o)) (range_with_len 1 n) ++ (front_blocks (placed_by (places_of o) o)).table ∷ []) j b) (get_or (map (section_part o) (range_with_len 1 (length o.sections - 1)) ++ table_part o ∷ []) j d) (PlacesOf o (suc (suc j))) in
     subst R (sym numbers) (⊎_elim
-      (λ below.
-        let left = row_left (section_block (placed_by (places_of o) o)) (length o.sections - 1) (front_blocks (placed_by (places_of o) o)).table j b below in
-        let right = row_left (section_part o) (length o.sections - 1) (table_part o) j d below in
-        let index : 1 + j + 1 ≡ suc (suc j) = omega arith in
-        let stands = section_stands o (1 + j) (omega arith) (omega arith) in
-        subst (λ (x : Block). IsBlockAt x (get_or (map (section_part o) (range_with_len 1 (length o.sections - 1)) ++ table_part o ∷ []) j d) (PlacesOf o (suc (suc j)))) (sym left)
-        (subst (λ (x : PartAt). IsBlockAt (section_block (placed_by (places_of o) o) (1 + j)) x (PlacesOf o (suc (suc j)))) (sym right)
-        (subst (λ (k : ℕ). IsBlockAt (section_block (placed_by (places_of o) o) (1 + j)) (section_part o (1 + j)) (PlacesOf o k)) index stands)))
-      (λ past.
-        let last : j ≡ length o.sections - 1 = omega arith in
-        let left = row_last (section_block (placed_by (places_of o) o)) (length o.sections - 1) (front_blocks (placed_by (places_of o) o)).table j b last in
-        let right = row_last (section_part o) (length o.sections - 1) (table_part o) j d last in
-        let stands = table_place_is o (front_blocks (placed_by (places_of o) o)).table (table_part o) j (table_stands o) last (λ full. some_of (length o.sections) (shdr_size o.header.class) (let len = (table_stands o).len in omega arith)) in
-        subst (λ (x : Block). IsBlockAt x (get_or (map (section_part o) (range_with_len 1 (length o.sections - 1)) ++ table_part o ∷ []) j d) (PlacesOf o (suc (suc j)))) (sym left)
-        (subst (λ (x : PartAt). IsBlockAt (front_blocks (placed_by (places_of o) o)).table x (PlacesOf o (suc (suc j)))) (sym right) stands))
-      (cases_lt j (length o.sections - 1)))
+    (λ below.
+    let left = row_left (section_block (placed_by (places_of o) o)) (length o.sections - 1) (front_blocks (placed_by (places_of o) o)).table j b below in
+    let right = row_left (section_part o) (length o.sections - 1) (table_part o) j d below in
+    let index : 1 + j + 1 ≡ suc (suc j) = omega arith in
+    let stands = section_stands o (1 + j) (omega arith) (omega arith) in
+    subst (λ (x : Block). IsBlockAt x (get_or (map (section_part o) (range_with_len 1 (length o.sections - 1)) ++ table_part o ∷ []) j d) (PlacesOf o (suc (suc j)))) (sym left)
+    (subst (λ (x : PartAt). IsBlockAt (section_block (placed_by (places_of o) o) (1 + j)) x (PlacesOf o (suc (suc j)))) (sym right)
+    (subst (λ (k : ℕ). IsBlockAt (section_block (placed_by (places_of o) o) (1 + j)) (section_part o (1 + j)) (PlacesOf o k)) index stands)))
+    (λ past.
+    let last : j ≡ length o.sections - 1 = omega arith in
+    let left = row_last (section_block (placed_by (places_of o) o)) (length o.sections - 1) (front_blocks (placed_by (places_of o) o)).table j b last in
+    let right = row_last (section_part o) (length o.sections - 1) (table_part o) j d last in
+    let stands = table_place_is o (front_blocks (placed_by (places_of o) o)).table (table_part o) j (table_stands o) last (λ full. some_of (length o.sections) (shdr_size o.header.class) (let len = (table_stands o).len in omega arith)) in
+    subst (λ (x : Block). IsBlockAt x (get_or (map (section_part o) (range_with_len 1 (length o.sections - 1)) ++ table_part o ∷ []) j d) (PlacesOf o (suc (suc j)))) (sym left)
+    (subst (λ (x : PartAt). IsBlockAt (front_blocks (placed_by (places_of o) o)).table x (PlacesOf o (suc (suc j)))) (sym right) stands))
+    (cases_lt j (length o.sections - 1)))
 
 length-part_blocks : (o : Object) → length (part_blocks (placed_by (places_of o) o)) ≡ length (parts_of o)
 unfolding part_blocks parts_of
@@ -381,7 +380,7 @@ placed_blocks o seven =
     let parts = length-standing o.layout (parts_of o) in
     are_blocks_of (part_blocks (placed_by (places_of o) o)) (standing (parts_of o) o.layout) no_block (header_part o) (count ∙ sym parts)
     (λ i h. from_place o.layout (parts_of o) i (get_or (part_blocks (placed_by (places_of o) o)) i no_block) (header_part o) (omega arith)
-      (part_stands o i no_block (header_part o) seven (omega arith)))
+    (part_stands o i no_block (header_part o) seven (omega arith)))
 
 -- ---- The image
 
@@ -408,7 +407,7 @@ parts_are_apart o ok dirty passed =
     record {
       apart = subst (λ (q : Object). AllApart (part_blocks q)) (sym same) (all_apart (part_blocks (placed_by (places_of o) o)) (standing (parts_of o) o.layout) blocks pairs);
       within = subst (λ (q : Object). AllByRecursion (λ b. 0 < length b.bytes → block_end b ≤ image_length o) (part_blocks q)) (sym same)
-        (subst (λ (n : ℕ). AllByRecursion (λ b. 0 < length b.bytes → block_end b ≤ n) (part_blocks (placed_by (places_of o) o))) (sym len) within);
+          (subst (λ (n : ℕ). AllByRecursion (λ b. 0 < length b.bytes → block_end b ≤ n) (part_blocks (placed_by (places_of o) o))) (sym len) within);
     }
 
 -- each part stands in the image with all of its bytes
@@ -418,8 +417,8 @@ part_in_image o i b ok dirty passed at =
     let end = get_each (λ (x : Block). 0 < length x.bytes → block_end x ≤ image_length o) (part_blocks (placed o)) i b parts.within at in
     ap (λ (l : List ℕ). take (length b.bytes) (drop b.at l)) (image-dirty o dirty)
     ∙ ⊎_elim
-      (λ some. take-drop-spread (image_length o) (uncovered_byte o) (part_blocks (placed o)) i b parts.apart at (end some))
-      (λ none.
-        let empty : b.bytes ≡ [] = nil_from_length b.bytes (omega arith) in
-        rw empty refl)
-      (cases_lt 0 (length b.bytes))
+    (λ some. take-drop-spread (image_length o) (uncovered_byte o) (part_blocks (placed o)) i b parts.apart at (end some))
+    (λ none.
+    let empty : b.bytes ≡ [] = nil_from_length b.bytes (omega arith) in
+    rw empty refl)
+    (cases_lt 0 (length b.bytes))

@@ -1,17 +1,17 @@
 -- What an edit leaves of the object, for callers that see the words alone.
-use Rattle.std.proofs.Common.{◌≡◌, ◌≢◌, ℕ, zero, suc, ◌+◌, ◌<◌, ◌≤◌, Bool, true, false, not, ◌&&◌, ◌||◌, List, [], ◌∷◌, ◌++◌, length, get_or, set, Option, Some, None, refl, sym, ap, ◌∙◌, subst, arith}
-use Rattle.std.specs.Prelude.{map, if◌then◌else◌, ◌==◌}
+use Rattle.std.proofs.Common.{◌≡◌, ◌≢◌, ℕ, zero, suc, ◌<◌, Bool, true, false, ◌||◌, List, [], ◌∷◌, ◌++◌, length, get_or, set, Option, Some, None, refl, sym, ap, ◌∙◌, arith}
+use Rattle.std.specs.Prelude.{if◌then◌else◌, ◌==◌}
 use Rattle.std.specs.List.{list_any}
 use Rattle.std.specs.Option.{option_or}
 use Rattle.std.proofs.lemmas.Bool.{eqb-true, eq-eqb}
-use Rattle.std.proofs.lemmas.List.{length-set, get_or-set_same, get_or-set_other, length_push}
+use Rattle.std.proofs.lemmas.List.{length-set, get_or-set_same, get_or-set_other}
 use Rattle.elf_types.specs.declared.records.Kind.{Kind}
 use Rattle.elf_types.specs.declared.records.Kind.TheVariants as kinds
 use Rattle.elf_types.specs.declared.records.Shdr.{Shdr}
 use Rattle.elf_types.specs.declared.errors.ElfError.{ElfError}
 use Rattle.elf_xlate.specs.declared.content.Items.{Items}
 use Rattle.elf_xlate.specs.Translation.{items_kind}
-use Rattle.elf_object.specs.Words.{refused_if, first_refusal}
+use Rattle.elf_object.specs.Words.{first_refusal}
 use Rattle.elf_object.specs.Object.{Object, Section, Piece, section_at, piece_at, new_section, home_piece, is_dirty, some_section_marked, some_piece_marked}
 use Rattle.elf_object.specs.Answers.{content, or_empty, items_at, kind_at, piece_count, kind_code, same_kind}
 use Rattle.elf_object.specs.Steps.{with_section, with_piece_at, with_own, own_piece, with_shdr}
@@ -135,10 +135,10 @@ some_true : {X : Type 0} (test : X → Bool) (l : List X) (i : ℕ) (d : X) → 
 some_true test [] i d h e = absurd (omega arith)
 some_true test (x ∷ l) zero d h e = rw e refl
 some_true test (x ∷ l) (suc i) d h e = rw (some_true test l i d (omega arith) e) (or_true (test x))
-    where
-      or_true : (b : Bool) → (b || true) ≡ true
-      or_true true = refl
-      or_true false = refl
+  where
+    or_true : (b : Bool) → (b || true) ≡ true
+    or_true true = refl
+    or_true false = refl
 
 last_true : (b : Bool) → (b || true) ≡ true
 last_true true = refl
