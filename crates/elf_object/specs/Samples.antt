@@ -1,0 +1,155 @@
+-- Small images, byte by byte, and objects made of them, on which the definitions are computed.
+use Rattle.std.specs.Prelude.{◌^◌, ℕ, ◌+◌, ◌-◌, ◌*◌, nat_lt, List, [], ◌∷◌, ◌++◌, codes, slice_get, Option, if◌then◌else◌, Result, Ok, Err}
+use Rattle.elf_types.specs.declared.records.Class.TheVariants.{C64}
+use Rattle.elf_types.specs.declared.records.Order.TheVariants.{Least}
+use Rattle.elf_types.specs.declared.records.Shdr.{Shdr}
+use Rattle.elf_types.specs.declared.records.Sym.{Sym}
+use Rattle.elf_types.specs.declared.errors.ElfError.{ElfError}
+use Rattle.elf_xlate.specs.declared.content.Items.{Items}
+use Rattle.elf_xlate.specs.Numbers.{octets}
+use Rattle.elf_xlate.specs.Fields.{written}
+use Rattle.elf_object.specs.Object.{Object}
+use Rattle.elf_object.specs.Open.{opened, created}
+use Rattle.elf_object.specs.Answers.{bytes_of}
+use Rattle.elf_object.specs.Calls.{step, newdata, newdata_aligned, newphdr, newscn, set_fill}
+use Rattle.elf_object.specs.Runs.{left_by, addall, set_shdr}
+use Rattle.elf_xlate.specs.declared.content.Items.TheVariants.{Bytes}
+use Rattle.std.proofs.Math.ListN.{replicate}
+
+-- a hexadecimal digit
+abbrev pub digit : ℕ → ℕ
+digit c = if nat_lt c 58 then c - 48 else c - 87
+
+-- the bytes of two digits each
+abbrev pub hex : List ℕ → List ℕ
+hex [] = []
+hex (a ∷ []) = []
+hex (a ∷ b ∷ digits) = (16 * digit a + digit b) ∷ hex digits
+
+-- class 64, least byte first: a string table and a symbol table of two symbols
+unfoldable pub small64 : List ℕ
+small64 =
+    hex (codes "7f454c4602010100000000000000000001003e000100000000000000000000000000000000000000780000000000000000000000400000000000400003000100")
+    ++ hex (codes "006100")
+    ++ hex (codes "0000000000")
+    ++ hex (codes "000000000000000000000000000000000000000000000000")
+    ++ hex (codes "010000001200f1ff00100000000000000400000000000000")
+    ++ hex (codes "00000000000000000000000000000000000000000000000000000000000000000000000000000000000000000000000000000000000000000000000000000000")
+    ++ hex (codes "00000000030000000000000000000000000000000000000040000000000000000300000000000000000000000000000001000000000000000000000000000000")
+    ++ hex (codes "00000000020000000000000000000000000000000000000048000000000000003000000000000000010000000100000008000000000000001800000000000000")
+
+-- the same object in class 32, greatest byte first
+unfoldable pub small32 : List ℕ
+small32 =
+    hex (codes "7f454c460102010000000000000000000001003e0000000100000000000000000000005800000000003400000000002800030001")
+    ++ hex (codes "006100")
+    ++ hex (codes "00")
+    ++ hex (codes "00000000000000000000000000000000")
+    ++ hex (codes "0000000100001000000000041200fff1")
+    ++ hex (codes "00000000000000000000000000000000000000000000000000000000000000000000000000000000")
+    ++ hex (codes "00000000000000030000000000000000000000340000000300000000000000000000000100000000")
+    ++ hex (codes "00000000000000020000000000000000000000380000002000000001000000010000000400000010")
+
+-- class 64, least byte first: five sections of eight bytes
+unfoldable pub five64 : List ℕ
+five64 =
+    hex (codes "7f454c4602010100000000000000000001003e000100000000000000000000000000000000000000680000000000000000000000400000000000400006000000")
+    ++ hex (codes "0101010101010101")
+    ++ hex (codes "0202020202020202")
+    ++ hex (codes "0303030303030303")
+    ++ hex (codes "0404040404040404")
+    ++ hex (codes "0505050505050505")
+    ++ hex (codes "00000000000000000000000000000000000000000000000000000000000000000000000000000000000000000000000000000000000000000000000000000000")
+    ++ hex (codes "00000000010000000000000000000000000000000000000040000000000000000800000000000000000000000000000008000000000000000000000000000000")
+    ++ hex (codes "00000000010000000000000000000000000000000000000048000000000000000800000000000000000000000000000008000000000000000000000000000000")
+    ++ hex (codes "00000000010000000000000000000000000000000000000050000000000000000800000000000000000000000000000008000000000000000000000000000000")
+    ++ hex (codes "00000000010000000000000000000000000000000000000058000000000000000800000000000000000000000000000008000000000000000000000000000000")
+    ++ hex (codes "00000000010000000000000000000000000000000000000060000000000000000800000000000000000000000000000008000000000000000000000000000000")
+
+-- five bytes after the last part
+unfoldable pub tailed64 : List ℕ
+tailed64 = small64 ++ hex (codes "7461696c0a")
+
+-- a header alone
+unfoldable pub header64 : List ℕ
+header64 = hex (codes "7f454c4602010100000000000000000002003e00010000000010400000000000")
+    ++ hex (codes "0000000000000000000000000000000000000000400000000000000000000000")
+
+-- an image with a number of a width, least byte first, at a place
+unfoldable pub with_number : ℕ → ℕ → ℕ → List ℕ → List ℕ
+with_number at width n image = written at (octets Least width n) image
+
+-- ---- Fields that are set, and the form of a byte
+
+abbrev pub flags_set : ℕ → Shdr → Shdr
+flags_set n h = record h { flags = n }
+
+abbrev pub type_set : ℕ → Shdr → Shdr
+type_set n h = record h { stype = n }
+
+abbrev pub offset_set : ℕ → Shdr → Shdr
+offset_set n h = record h { offset = n }
+
+abbrev pub addralign_set : ℕ → Shdr → Shdr
+addralign_set n h = record h { addralign = n }
+
+abbrev pub value_set : ℕ → Sym → Sym
+value_set n s = record s { value = n }
+
+abbrev pub byte_in : Items → ℕ → Option ℕ
+byte_in items i = slice_get (bytes_of items) i
+
+-- ---- Objects
+
+-- the object of an image, and one without sections where it is refused
+abbrev pub or_none : Result Object ElfError → Object
+or_none (Ok o) = o
+or_none (Err e) = created C64 Least
+
+unfoldable pub object_in : List ℕ → Object
+object_in image = or_none (opened image)
+
+abbrev pub symbols64 : Object
+symbols64 = object_in small64
+
+abbrev pub symbols32 : Object
+symbols32 = object_in small32
+
+abbrev pub sections : Object
+sections = object_in five64
+
+abbrev pub tailed : Object
+tailed = object_in tailed64
+
+-- e_shnum 0 and e_shstrndx 0xffff, with the numbers in sh_size and sh_link of section 0
+abbrev pub numbered64 : ℕ → List ℕ
+numbered64 count = with_number 60 2 0 (with_number 62 2 0xffff (with_number 152 8 count (with_number 160 4 1 small64)))
+
+-- section 2 has sh_size 25
+abbrev pub ragged : Object
+ragged = object_in (with_number 280 8 25 small64)
+
+-- section 2 is of type PROGBITS, and has two bytes from the last place that a number can name
+abbrev pub missing : Object
+missing = object_in (with_number 252 4 1 (with_number 272 8 (2 ^ 64 - 1) (with_number 280 8 2 small64)))
+
+-- 16 added to each symbol's value
+abbrev pub shifted : Object
+shifted = step (addall 2 0 16) symbols64
+
+-- eight bytes more in section 3
+abbrev pub eight_more : Items
+eight_more = Bytes (replicate 8 0x33)
+
+abbrev pub grown : Object
+grown = step (newdata 3 eight_more) sections
+
+-- a fourth section with two bytes, and a program header
+abbrev pub extended : Object
+extended = left_by
+    (set_shdr 3 (type_set 1) ∷ set_shdr 3 (addralign_set 4) ∷ newphdr 1 ∷ [])
+    (step (newdata 3 (Bytes (1 ∷ 2 ∷ []))) (step newscn symbols64))
+
+-- one byte more in section 1, aligned to eight, over another fill byte
+abbrev pub spaced : Object
+spaced = step (newdata_aligned 1 (Bytes (0x62 ∷ [])) 8) (step (set_fill 0xaa) symbols64)

@@ -1,0 +1,52 @@
+-- How the answer of a call meets its statement. A call's refusals stand in a list, in their order.
+--
+-- `Memory`, want of memory, is free and comes after the stated refusals, and so does `Read`, whose
+-- cause is a count of the outside. Neither changes the object.
+use Rattle.std.specs.Prelude.{◌≡◌, Bool, true, false, IsTrue, List, [], ◌∷◌, Option, Some, None, Result, Ok, Err, IsOk}
+use Rattle.elf_types.specs.declared.errors.ElfError.{ElfError}
+use Rattle.elf_types.specs.declared.errors.ElfError.TheVariants.{Memory, Read}
+use Rattle.elf_xlate.specs.declared.content.Items.{Items}
+
+-- the refusal, where the test holds
+abbrev pub refused_if : Bool → ElfError → Option ElfError
+refused_if true e = Some e
+refused_if false e = None
+
+-- the first refusal of a list, or none
+abbrev pub first_refusal : List (Option ElfError) → Option ElfError
+first_refusal [] = None
+first_refusal (None ∷ later) = first_refusal later
+first_refusal (Some e ∷ later) = Some e
+
+-- the refusal, or else the value
+abbrev pub answered : {A : Type 0} → Option ElfError → A → Result A ElfError
+answered None value = Ok value
+answered (Some e) value = Err e
+
+-- the stated refusal comes, and no other but Memory and Read, which come where there is none
+abbrev pub Refuses : {A : Type 0} → Result A ElfError → Option ElfError → Type 0
+Refuses (Ok x) stated = stated ≡ None
+Refuses (Err Memory) stated = stated ≡ None
+Refuses (Err Read) stated = stated ≡ None
+Refuses (Err e) stated = stated ≡ Some e
+
+-- the stated answer, where the source tells its bytes; over every source it is refused as stated, but
+-- for Memory and Read
+abbrev pub Answers : {A : Type 0} → Bool → Result A ElfError → Result A ElfError → Type 0
+Answers told (Ok x) stated = IsOk stated × (IsTrue told → stated ≡ Ok x)
+Answers told (Err Memory) stated = Unit {0}
+Answers told (Err Read) stated = Unit {0}
+Answers told (Err e) stated = stated ≡ Err e
+
+-- an edit: it answers the value and leaves the stepped state, or it is refused as stated, or wants
+-- memory, and leaves the state as it was
+abbrev pub Edits : {A S : Type 0} → Result A ElfError → S → S → Option ElfError → A → S → Type 0
+Edits (Ok x) old new refusal value stepped = (refusal ≡ None) × (x ≡ value) × (new ≡ stepped)
+Edits (Err Memory) old new refusal value stepped = (refusal ≡ None) × (new ≡ old)
+Edits (Err Read) old new refusal value stepped = (refusal ≡ None) × (new ≡ old)
+Edits (Err e) old new refusal value stepped = (refusal ≡ Some e) × (new ≡ old)
+
+-- an edit that hands the items back with its refusal
+abbrev pub EditsWith : {A S : Type 0} → Result A (Items × ElfError) → Items → S → S → Option ElfError → A → S → Type 0
+EditsWith (Ok x) items old new refusal value stepped = (refusal ≡ None) × (x ≡ value) × (new ≡ stepped)
+EditsWith (Err (back, e)) items old new refusal value stepped = (back ≡ items) × Edits {A = Unit {0}} (Err e) old new refusal tt old

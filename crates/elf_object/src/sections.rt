@@ -1,0 +1,40 @@
+//! Small questions on sections and their pieces.
+
+ghost use Rattle.std.specs.Prelude.{◌≡◌};
+ghost use Rattle.elf_object.specs.Object.{occupies_file};
+ghost use Rattle.elf_object.specs.Open.{extent_of};
+ghost use Rattle.elf_object.specs.Calls.{is_piece_align};
+
+use elf_types::Shdr;
+
+/// The type of a header that is not in use (gABI chapter 4, "Sections").
+pub const SHT_NULL: u32 = 0;
+
+/// The type of a section that occupies no space in the file.
+pub const SHT_NOBITS: u32 = 8;
+
+/// The greatest alignment of a piece of data, in bytes.
+pub const MAX_PIECE_ALIGN: u64 = 1 << 20;
+
+/// Whether a section with this header occupies space in the file, be it 0 bytes.
+pub fn occupies_file(h: &Shdr) -> bool
+    ensures { result ≡ occupies_file h.now }
+{
+    h.stype != SHT_NULL && h.stype != SHT_NOBITS
+}
+
+/// How many bytes of the file a section with this header has.
+#[tactic(auto, unfolding(crate::specs::Open::extent_of))]
+pub fn extent(h: &Shdr) -> u64
+    ensures { result ≡ extent_of h.now }
+{
+    if occupies_file(h) { h.size } else { 0 }
+}
+
+/// Whether a piece of data may have this alignment: a power of two, at most [`MAX_PIECE_ALIGN`].
+#[tactic(auto, unfolding(crate::specs::Calls::is_piece_align))]
+pub fn is_piece_align(align: u64) -> bool
+    ensures { result ≡ is_piece_align align }
+{
+    align.is_power_of_two() && align <= MAX_PIECE_ALIGN
+}

@@ -1,0 +1,168 @@
+//! The definitions computed on three small images. Each function below states what they give there, and
+//! is proved by computation. The values were worked out by hand from the gABI.
+#![tactic(auto, unfolding(crate::proofs::Computing::all_words))]
+
+ghost use Rattle.std.specs.Prelude.{◌≡◌, ◌+◌, ◌-◌, ◌^◌, [], ◌∷◌, ◌++◌, take, drop, slice_set, true, false};
+ghost use Rattle.std.proofs.Math.ListN.{replicate};
+ghost use Rattle.elf_types.specs.declared.errors.ElfError.TheVariants.{BadAlign, FlagKept, NoSection, OutOfFile, Overlap, Ragged, Reserved, ShTable, Unfit};
+ghost use Rattle.elf_types.specs.declared.records.Kind.TheVariants as kind;
+ghost use Rattle.elf_types.specs.declared.records.Part.TheVariants as part;
+ghost use Rattle.elf_xlate.specs.declared.content.Items.TheVariants.{Bytes};
+ghost use Rattle.elf_object.specs.Object.{header_of};
+ghost use Rattle.elf_object.specs.Open.{opened};
+ghost use Rattle.elf_object.specs.Answers.{count_at, kind_at};
+ghost use Rattle.elf_object.specs.Joined.{pieces_end};
+ghost use Rattle.elf_object.specs.Derived.{numbered_shdr, written_header};
+ghost use Rattle.elf_object.specs.Image.{image};
+ghost use Rattle.elf_object.specs.Settled.{settle};
+ghost use Rattle.elf_object.specs.Changed.{changed, changed_bytes, fill_places, torn};
+ghost use Rattle.elf_object.specs.Due.{update_in_place_due, update_to_due};
+ghost use Rattle.elf_object.specs.Calls.{step, data_answer, raw_answer, shdr_answer, sym_answer, sym, update_sym, newdata, newdata_aligned, newscn, replace, flag, set_fill, update_null};
+ghost use Rattle.elf_object.specs.Runs.{answers_to, left_by, addall, item, set_item, set_shdr};
+ghost use Rattle.elf_object.specs.Samples.{small64, five64, tailed64, header64, numbered64, object_in, symbols64, symbols32, sections, tailed, ragged, missing, shifted, eight_more, grown, extended, spaced, byte_in, flags_set, type_set, offset_set, value_set};
+
+/// A symbol is read in both classes and orders.
+fn symbols_are_read()
+    ensures in_64 { sym_answer symbols64 2 0 1 ≡ Ok (record { name = 1; info = 0x12; other = 0; shndx = 0xfff1; value = 0x1000; size = 4 }) }
+    ensures in_32 { sym_answer symbols32 2 0 1 ≡ Ok (record { name = 1; info = 0x12; other = 0; shndx = 0xfff1; value = 0x1000; size = 4 }) }
+    ensures no_section { data_answer symbols64 9 0 ≡ Err (NoSection 9 3) }
+{}
+
+/// The count and the string index may stand in section 0.
+fn extended_numbers_are_read()
+    ensures counts { header_of (object_in (numbered64 3)) ≡ header_of symbols64 }
+    ensures too_long { opened (numbered64 (2 ^ 60)) ≡ Err ShTable }
+{}
+
+/// The header holds counts below `SHN_LORESERVE` itself; from there on section 0 does.
+fn extended_numbers_are_written()
+    ensures below { written_header (record (header_of symbols64) { shnum = 0xfeff }) ≡ record (header_of symbols64) { shnum = 0xfeff } }
+    ensures from { written_header (record (header_of symbols64) { shnum = 0xff00; shstrndx = 0xff00 }) ≡ record (header_of symbols64) { shnum = 0; shstrndx = 0xffff } }
+    ensures first { (numbered_shdr (record (header_of symbols64) { shnum = 0xff00; shstrndx = 0xff00; phnum = 0xffff }) (record { name = 0; stype = 0; flags = 0; addr = 0; offset = 0; size = 7; link = 7; info = 7; addralign = 0; entsize = 0 })) ≡ record { name = 0; stype = 0; flags = 0; addr = 0; offset = 0; size = 0xff00; link = 0xff00; info = 0xffff; addralign = 0; entsize = 0 } }
+    ensures sections { answers_to (newscn ∷ newscn ∷ update_null ∷ []) (object_in header64) ≡ Ok 1 ∷ Ok 2 ∷ Ok 256 ∷ [] }
+    ensures bytes { take 2 (drop 60 (image (left_by (newscn ∷ newscn ∷ []) (object_in header64)))) ≡ 3 ∷ 0 ∷ [] }
+{}
+
+/// A section whose length is no multiple of its items' size.
+fn ragged_sections_keep_their_bytes()
+    ensures refused { data_answer ragged 2 0 ≡ Err (Ragged 2) }
+    ensures bytes { raw_answer ragged 2 ≡ Ok (replicate 24 0 ++ 1 ∷ []) }
+{}
+
+/// A section that passes the end of the file.
+fn missing_sections_are_refused()
+    ensures reading { raw_answer missing 2 ≡ Err (OutOfFile 2) }
+    ensures editing { (set_shdr 1 (flags_set 2)).answer missing ≡ Ok tt }
+    ensures updating { update_null.answer (step (set_shdr 1 (flags_set 2)) missing) ≡ Err (OutOfFile 2) }
+{}
+
+/// A section keeps the kind of its header as opened.
+fn edited_headers_do_not_decide()
+    ensures kind { kind_at (step (set_shdr 2 (type_set 1)) symbols64) 2 0 ≡ kind.Sym }
+    ensures count { count_at (step (set_shdr 2 (type_set 1)) symbols64) 2 0 ≡ 2 }
+{}
+
+/// 16 added to each symbol's value changes one byte of each symbol.
+fn edited_items_show_in_the_image()
+    ensures changed { (addall 2 0 16).answer symbols64 ≡ Ok 2 }
+    ensures size { update_null.answer shifted ≡ Ok 312 }
+    ensures bytes { image shifted ≡ slice_set (slice_set small64 80 0x10) 104 0x10 }
+    ensures again { sym_answer (object_in (image shifted)) 2 0 1 ≡ Ok (record { name = 1; info = 0x12; other = 0; shndx = 0xfff1; value = 0x1010; size = 4 }) }
+{}
+
+/// A value of 2^32 fits no symbol of class 32: the call that stores it is refused, and after a lend the
+/// update.
+fn values_that_do_not_fit_are_refused()
+    ensures stored { (set_item (sym 2 0 1) (λ v. update_sym 2 0 1 v) (value_set (2 ^ 32))).answer symbols32 ≡ Err (Unfit (part.Piece 2 0) 1) }
+    ensures kept { step (set_item (sym 2 0 1) (λ v. update_sym 2 0 1 v) (value_set (2 ^ 32))) symbols32 ≡ symbols32 }
+    ensures lent { answers_to (addall 2 0 (2 ^ 32) ∷ update_null ∷ addall 2 0 0xffffffff00000000 ∷ update_null ∷ []) symbols32 ≡ Ok 2 ∷ Err (Unfit (part.Piece 2 0) 0) ∷ Ok 2 ∷ Ok 208 ∷ [] }
+{}
+
+/// With nothing dirty the image is the input, also what follows its last part.
+fn clean_images_stay()
+    ensures bytes { image tailed ≡ tailed64 }
+    ensures size { update_null.answer tailed ≡ Ok 317 }
+    ensures kept { step update_null tailed ≡ tailed }
+{}
+
+/// With `ELF_F_LAYOUT` section 2 may begin where section 1 ends, and not a byte before.
+fn parts_may_not_share_a_byte()
+    ensures refused { answers_to (flag part.Object true 4 ∷ update_null ∷ []) (step (set_shdr 2 (offset_set 66)) symbols64) ≡ Ok 4 ∷ Err (Overlap (part.Section 1) (part.Section 2)) ∷ [] }
+    ensures placed { answers_to (flag part.Object true 4 ∷ update_null ∷ []) (step (set_shdr 2 (offset_set 67)) symbols64) ≡ Ok 4 ∷ Ok 312 ∷ [] }
+{}
+
+/// A section that grows moves those after it.
+fn grown_sections_move_others()
+    ensures piece { (newdata 3 eight_more).answer sections ≡ Ok (3, 1) }
+    ensures size { update_null.answer grown ≡ Ok 496 }
+    ensures bytes { take 40 (drop 80 (image grown)) ≡ replicate 8 3 ++ replicate 8 0x33 ++ replicate 8 4 ++ replicate 8 5 ++ replicate 8 0 }
+    ensures changed { changed grown ≡ part.Header ∷ part.Section 3 ∷ part.Section 4 ∷ part.Section 5 ∷ part.Table ∷ [] }
+    ensures given { changed_bytes grown ≡ 64 + 16 + 8 + 8 + 384 }
+    ensures moved { update_in_place_due grown [] ≡ 24 }
+    ensures read { update_to_due grown [] ≡ 40 }
+{}
+
+/// The image of an object, opened again, is that object settled.
+fn grown_objects_settle()
+    ensures { opened (image grown) ≡ Ok (settle grown) }
+{}
+
+/// The object that a write leaves which failed after the first 96 bytes has the same image.
+fn torn_objects_keep_their_image()
+    ensures { image (torn grown (take 96 (image grown) ++ drop 96 five64)) ≡ image grown }
+{}
+
+/// `ELF_F_LAYOUT` keeps the bytes of the base that no part covers; without it they go. A dirty mark stays.
+fn flags_are_set_and_cleared()
+    ensures kept { answers_to (flag part.Object true 4 ∷ flag part.Object true 4 ∷ flag part.Object false 4 ∷ flag part.Object false 1 ∷ flag part.Object true 4 ∷ flag part.Header true 1 ∷ update_null ∷ []) tailed ≡ Ok 4 ∷ Ok 4 ∷ Ok 0 ∷ Err FlagKept ∷ Ok 4 ∷ Ok 1 ∷ Ok 317 ∷ [] }
+    ensures bytes { image (left_by (flag part.Object true 4 ∷ flag part.Header true 1 ∷ []) tailed) ≡ tailed64 }
+    ensures gone { answers_to (flag part.Header true 1 ∷ update_null ∷ []) tailed ≡ Ok 1 ∷ Ok 312 ∷ [] }
+    ensures shorter { image (step (flag part.Header true 1) tailed) ≡ small64 }
+{}
+
+/// A new section with two bytes and one program header: the update places both.
+fn new_sections_are_placed()
+    ensures number { newscn.answer symbols64 ≡ Ok 3 }
+    ensures size { update_null.answer extended ≡ Ok 440 }
+    ensures stored { shdr_answer (step update_null extended) 3 ≡ Ok (record { name = 0; stype = 1; flags = 0; addr = 0; offset = 0xb0; size = 2; link = 0; info = 0; addralign = 4; entsize = 0 }) }
+{}
+
+/// The raw bytes stay those of the file, whatever was edited.
+fn raw_bytes_stay()
+    ensures changed { (addall 1 0 1).answer symbols64 ≡ Ok 3 }
+    ensures item { (item byte_in 1 0 1).answer (step (addall 1 0 1) symbols64) ≡ Ok 0x62 }
+    ensures raw { raw_answer (step (addall 1 0 1) symbols64) 1 ≡ Ok (0 ∷ 0x61 ∷ 0 ∷ []) }
+    ensures replaced { data_answer (left_by (addall 1 0 1 ∷ []) (step (replace 1 0 (Bytes [])) symbols64)) 1 0 ≡ Ok (Bytes []) }
+    ensures reserved { (replace 0 0 (Bytes [])).answer symbols64 ≡ Err Reserved }
+{}
+
+/// Pieces stand at their alignments, and the fill byte stands in the gaps, also between parts.
+fn gaps_have_the_fill_byte()
+    ensures piece { (newdata_aligned 1 (Bytes (0x62 ∷ [])) 8).answer (step (set_fill 0xaa) symbols64) ≡ Ok (1, 1) }
+    ensures refused { (newdata_aligned 1 (Bytes (0x62 ∷ [])) 3).answer spaced ≡ Err (BadAlign 3) }
+    ensures end { pieces_end spaced 1 ≡ 9 }
+    ensures size { update_null.answer spaced ≡ Ok 320 }
+    ensures bytes { take 16 (drop 64 (image spaced)) ≡ 0 ∷ 0x61 ∷ 0 ∷ replicate 5 0xaa ++ 0x62 ∷ replicate 7 0xaa }
+    ensures places { fill_places spaced ≡ 73 ∷ 74 ∷ 75 ∷ 76 ∷ 77 ∷ 78 ∷ 79 ∷ [] }
+{}
+
+#[test]
+fn definitions_compute_on_small_images() {
+    symbols_are_read();
+    extended_numbers_are_read();
+    extended_numbers_are_written();
+    ragged_sections_keep_their_bytes();
+    missing_sections_are_refused();
+    edited_headers_do_not_decide();
+    edited_items_show_in_the_image();
+    values_that_do_not_fit_are_refused();
+    clean_images_stay();
+    parts_may_not_share_a_byte();
+    grown_sections_move_others();
+    grown_objects_settle();
+    torn_objects_keep_their_image();
+    flags_are_set_and_cleared();
+    new_sections_are_placed();
+    raw_bytes_stay();
+    gaps_have_the_fill_byte();
+}
