@@ -18,8 +18,8 @@ tested bytes size len =
 pub refused_short : (told : Option (List ℕ)) (size : ℕ) → IfSome told (λ bytes. length bytes ≡ size) → size < 8 → IfSome told (λ bytes. refusal_of bytes ≡ Some Short)
 refused_short told size len short =
     told_by told (λ bytes is.
-      tested bytes size (told_at (λ b. length b ≡ size) told bytes is len)
-      ∙ ap (λ b. cond b (Some Short) (cond (is_archive bytes) (cond (ltb (2 ^ 40) size) (Some TooLarge) None) (Some Magic))) (lt-ltb _ _ short))
+    tested bytes size (told_at (λ b. length b ≡ size) told bytes is len)
+    ∙ ap (λ b. cond b (Some Short) (cond (is_archive bytes) (cond (ltb (2 ^ 40) size) (Some TooLarge) None) (Some Magic))) (lt-ltb _ _ short))
 
 -- the first line, as it was read
 first_line : (bytes line : List ℕ) → line ≡ take 8 (drop 0 bytes) → starts_with nat_eq line (codes "!<arch>\n") ≡ is_archive bytes
@@ -46,19 +46,19 @@ line_is told bytes buffer line is eight read =
 pub refused_magic : (told : Option (List ℕ)) (size : ℕ) (buffer line : List ℕ) → IfSome told (λ bytes. length bytes ≡ size) → 8 ≤ size → length buffer ≡ 8 → WasRead told buffer line → starts_with nat_eq line (codes "!<arch>\n") ≡ false → IfSome told (λ bytes. refusal_of bytes ≡ Some Magic)
 refused_magic told size buffer line len enough eight read other =
     told_by told (λ bytes is.
-      long told bytes size is len enough
-      ∙ ap (λ b. cond b (cond (ltb (2 ^ 40) size) (Some TooLarge) None) (Some Magic)) (sym (line_is told bytes buffer line is eight read) ∙ other))
+    long told bytes size is len enough
+    ∙ ap (λ b. cond b (cond (ltb (2 ^ 40) size) (Some TooLarge) None) (Some Magic)) (sym (line_is told bytes buffer line is eight read) ∙ other))
 
 pub refused_large : (told : Option (List ℕ)) (size : ℕ) (buffer line : List ℕ) → IfSome told (λ bytes. length bytes ≡ size) → 8 ≤ size → length buffer ≡ 8 → WasRead told buffer line → starts_with nat_eq line (codes "!<arch>\n") ≡ true → 2 ^ 40 < size → IfSome told (λ bytes. refusal_of bytes ≡ Some TooLarge)
 refused_large told size buffer line len enough eight read same large =
     told_by told (λ bytes is.
-      long told bytes size is len enough
-      ∙ ap (λ b. cond b (cond (ltb (2 ^ 40) size) (Some TooLarge) None) (Some Magic)) (sym (line_is told bytes buffer line is eight read) ∙ same)
-      ∙ ap (λ b. cond b (Some TooLarge) None) (lt-ltb _ _ large))
+    long told bytes size is len enough
+    ∙ ap (λ b. cond b (cond (ltb (2 ^ 40) size) (Some TooLarge) None) (Some Magic)) (sym (line_is told bytes buffer line is eight read) ∙ same)
+    ∙ ap (λ b. cond b (Some TooLarge) None) (lt-ltb _ _ large))
 
 pub accepted : (told : Option (List ℕ)) (size : ℕ) (buffer line : List ℕ) → IfSome told (λ bytes. length bytes ≡ size) → 8 ≤ size → length buffer ≡ 8 → WasRead told buffer line → starts_with nat_eq line (codes "!<arch>\n") ≡ true → size ≤ 2 ^ 40 → IfSome told (λ bytes. refusal_of bytes ≡ None)
 accepted told size buffer line len enough eight read same small =
     told_by told (λ bytes is.
-      long told bytes size is len enough
-      ∙ ap (λ b. cond b (cond (ltb (2 ^ 40) size) (Some TooLarge) None) (Some Magic)) (sym (line_is told bytes buffer line is eight read) ∙ same)
-      ∙ ap (λ b. cond b (Some TooLarge) None) (le-ltb _ _ small))
+    long told bytes size is len enough
+    ∙ ap (λ b. cond b (cond (ltb (2 ^ 40) size) (Some TooLarge) None) (Some Magic)) (sym (line_is told bytes buffer line is eight read) ∙ same)
+    ∙ ap (λ b. cond b (Some TooLarge) None) (le-ltb _ _ small))

@@ -27,8 +27,8 @@ map_cons front s (Some more) = ap Some (sym (append_assoc front (s ∷ []) more)
 
 pub symbols_none : (count : ℕ) (offsets names : List ℕ) → SymbolsFrom count offsets names [] 0 names
 symbols_none count offsets names = record {
-    split = map_same (symbols_from count offsets names) ∙ ap (λ n. option_map (λ (more : List ArSym). [] ++ more) (symbols_from n offsets names)) (omega arith);
-  }
+  split = map_same (symbols_from count offsets names) ∙ ap (λ n. option_map (λ (more : List ArSym). [] ++ more) (symbols_from n offsets names)) (omega arith);
+}
 
 -- what is left, at the end of the next name
 step : (count i end : ℕ) (offsets rest : List ℕ) → i < count → Some end ≡ position is_nul rest → symbols_from (count - i) (drop (4 * i) offsets) rest ≡ option_map (λ (more : List ArSym). record { at = word_of (drop (4 * i) offsets); name = take end rest } ∷ more) (symbols_from (count - (i + 1)) (drop (4 * (i + 1)) offsets) (drop (end + 1) rest))
@@ -48,12 +48,12 @@ symbols_more count i end at offsets names rest name left symbols pushed within f
     let front : List ArSym → Option (List ArSym) → Option (List ArSym) = λ ss o. option_map (λ (more : List ArSym). ss ++ more) o in
     record {
       split = so_far.split
-        ∙ ap (front symbols) (step count i end offsets rest within found)
-        ∙ ap (λ n. front symbols (onto (record { at = n; name = take end rest }) (tail (drop (end + 1) rest)))) (sym at_is)
-        ∙ ap (λ n. front symbols (onto (record { at = at; name = n }) (tail (drop (end + 1) rest)))) (sym name_is)
-        ∙ map_cons symbols (record { at = at; name = name }) (tail (drop (end + 1) rest))
-        ∙ ap (λ ss. front ss (tail (drop (end + 1) rest))) (sym pushed_is)
-        ∙ ap (λ l. front pushed (tail l)) (sym left_is);
+          ∙ ap (front symbols) (step count i end offsets rest within found)
+          ∙ ap (λ n. front symbols (onto (record { at = n; name = take end rest }) (tail (drop (end + 1) rest)))) (sym at_is)
+          ∙ ap (λ n. front symbols (onto (record { at = at; name = n }) (tail (drop (end + 1) rest)))) (sym name_is)
+          ∙ map_cons symbols (record { at = at; name = name }) (tail (drop (end + 1) rest))
+          ∙ ap (λ ss. front ss (tail (drop (end + 1) rest))) (sym pushed_is)
+          ∙ ap (λ l. front pushed (tail l)) (sym left_is);
     }
 
 -- a name without an end
@@ -94,9 +94,9 @@ arsyms_first bytes some =
 -- a refusal that came with the first header
 pub arsyms_refused : (bytes : List ℕ) (e : ElfError) → 8 < length bytes → Gives {T = Numbers} 8 (Err e) (header_at bytes 8) → Gives {T = List ArSym} 8 (Err e) (arsyms bytes)
 arsyms_refused bytes (BadMember place) some bad = (
-    bad.0,
-    arsyms_first bytes some ∙ ap (option_and_then (λ (n : Numbers). symbols_by (body_at bytes 8 n.size) (kind_of_name (name_field_at bytes 8)))) bad.1,
-  )
+  bad.0,
+  arsyms_first bytes some ∙ ap (option_and_then (λ (n : Numbers). symbols_by (body_at bytes 8 n.size) (kind_of_name (name_field_at bytes 8)))) bad.1,
+)
 arsyms_refused bytes Memory some free = tt
 arsyms_refused bytes Read some free = tt
 arsyms_refused bytes _ some never = never

@@ -26,7 +26,7 @@ abbrev pub symbols_from : ℕ → List ℕ → List ℕ → Option (List ArSym)
 symbols_from zero offsets names = Some []
 symbols_from (suc more) offsets names =
     position is_nul names >>= λ end.
-      option_map (λ (rest : List ArSym). record { at = word_of offsets; name = take end names } ∷ rest) (symbols_from more (drop 4 offsets) (drop (end + 1) names))
+    option_map (λ (rest : List ArSym). record { at = word_of offsets; name = take end names } ∷ rest) (symbols_from more (drop 4 offsets) (drop (end + 1) names))
 
 -- the symbols of the offsets and names that follow a count
 abbrev pub symbols_after : ℕ → List ℕ → Option (List ArSym)

@@ -117,7 +117,11 @@ impl<S: Source> Ar<S> {
         }
         match walk(self.alloc, &mut self.src, self.names.as_slice(), self.place) {
             Ok(found) => {
-                let Found { member, place, names } = found;
+                let Found {
+                    member,
+                    place,
+                    names,
+                } = found;
                 let before = mem::replace(&mut self.names, Octets::new(self.alloc));
                 self.names = names.unwrap_or(before);
                 self.place = place;

@@ -90,11 +90,7 @@ fn numbers_in(header: &[u8], room: u64) -> Option<Numbers>
 ///
 /// `BadMember` comes where the header is cut, has other end bytes, a bad number, or a body past the
 /// end.
-pub fn read_header<S: Source>(
-    src: &mut S,
-    at: u64,
-    header: &mut [u8],
-) -> Result<Numbers, ElfError>
+pub fn read_header<S: Source>(src: &mut S, at: u64, header: &mut [u8]) -> Result<Numbers, ElfError>
     requires { length header.old ≡ 60 }
     ensures numbers { IfSome (S.holds src.old) (λ image. Gives at result (header_at image at)) }
     ensures bytes { IfSome (S.holds src.old)

@@ -15,11 +15,11 @@ returns-then-not-is_whole-clause-numbers g c =
 pub returns-clause-numbers : goal.returns-clause-numbers
 returns-clause-numbers g c =
     told_by (g.S.Source.holds c.args.src.now) (λ image is.
-      let len = told_at (λ bytes. length bytes ≡ c.len-size.result) _ image is c.len-size.ensures.bytes in
-      let read = told_at (λ bytes. c.read_into.new.buf ≡ take (length c.args.header.now) (drop c.args.at bytes)) _ image is c.in_ok-read_into.ensures.bytes in
-      let header = read ∙ ap (λ n. take n (drop c.args.at image)) c.requires in
-      let found = header_whole image c.read_into.new.buf c.args.at c.len-size.result len (sym c.is_whole.ensures ∙ c.if-not-is_whole.false) header in
-      rw c.ok_or.ensures.value (gives_or_bad c.args.at (header_at image c.args.at) c.numbers_in.result (found ∙ sym c.numbers_in.ensures.value)))
+    let len = told_at (λ bytes. length bytes ≡ c.len-size.result) _ image is c.len-size.ensures.bytes in
+    let read = told_at (λ bytes. c.read_into.new.buf ≡ take (length c.args.header.now) (drop c.args.at bytes)) _ image is c.in_ok-read_into.ensures.bytes in
+    let header = read ∙ ap (λ n. take n (drop c.args.at image)) c.requires in
+    let found = header_whole image c.read_into.new.buf c.args.at c.len-size.result len (sym c.is_whole.ensures ∙ c.if-not-is_whole.false) header in
+    rw c.ok_or.ensures.value (gives_or_bad c.args.at (header_at image c.args.at) c.numbers_in.result (found ∙ sym c.numbers_in.ensures.value)))
 
 pub returns-clause-body : goal.returns-clause-body
 returns-clause-body g c =

@@ -6,5 +6,5 @@ use Rattle.ar_members.proofs.symbols.read_symbols.Goals as goal
 pub returns-then-len-le-FIRST-clause-symbols : goal.returns-then-len-le-FIRST-clause-symbols
 returns-then-len-le-FIRST-clause-symbols g c =
     told_by (g.S.Source.holds c.args.src.now) (λ image is.
-      let len = told_at (λ b. length b ≡ c.len.result) _ image is c.len.ensures.bytes in
-      arsyms_empty image (subst (λ n. n ≤ 8) (sym len) c.if-len-le-FIRST.true) ∙ ap Some (sym c.new.ensures))
+    let len = told_at (λ b. length b ≡ c.len.result) _ image is c.len.ensures.bytes in
+    arsyms_empty image (subst (λ n. n ≤ 8) (sym len) c.if-len-le-FIRST.true) ∙ ap Some (sym c.new.ensures))
