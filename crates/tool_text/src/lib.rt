@@ -28,6 +28,3 @@ pub use pages::{PAGE_SIZE, finish, turn, turn_after};
 pub use reading::read_words;
 pub use texts::Text;
 pub use usages::Usage;
-
-#[cfg(test)]
-mod tests;

@@ -3,16 +3,16 @@ use Rattle.elfkit.proofs.program.run.Goals as goal
 
 pub returns-in-Ok-clause-delivers : goal.returns-in-Ok-clause-delivers
 returns-in-Ok-clause-delivers g c =
-    λ told. rw (program_of_command c.args.words.now (g.F.Files.named c.args.files.now) _ c.in-Ok.ensures) (c.run_command.ensures.delivers told)
+    λ told. rw (program_of_command c.args.words.now (g.F.Files.named c.args.files.now) _ c.in-Ok.ensures.value) (c.run_command.ensures.delivers told)
 
 pub returns-in-Err-Usage-clause-delivers : goal.returns-in-Err-Usage-clause-delivers
 returns-in-Err-Usage-clause-delivers g c =
-    λ told. rw (program_of_usage c.args.words.now (g.F.Files.named c.args.files.now) _ (rw (c.in-Err-Usage.field-0-is, c.in-Err-Usage.usage-is) at c.in-Err-Usage.ensures))
+    λ told. rw (program_of_usage c.args.words.now (g.F.Files.named c.args.files.now) _ (rw (c.in-Err-Usage.field-0-is, c.in-Err-Usage.usage-is) at c.in-Err-Usage.ensures.value))
     (says_usage _ _ _ _ _ _ _ c.line.ensures (c.say.ensures.delivers _))
 
 pub returns-in-Err-Usage-clause-usage : goal.returns-in-Err-Usage-clause-usage
 returns-in-Err-Usage-clause-usage g c =
-    rw (rw (c.in-Err-Usage.field-0-is, c.in-Err-Usage.usage-is) at c.in-Err-Usage.ensures) (says_usage _ _ _ _ _ _ _ c.line.ensures (c.say.ensures.delivers _))
+    rw (rw (c.in-Err-Usage.field-0-is, c.in-Err-Usage.usage-is) at c.in-Err-Usage.ensures.value) (says_usage _ _ _ _ _ _ _ c.line.ensures (c.say.ensures.delivers _))
 
 pub returns-in-Err-Usage-clause-causes : goal.returns-in-Err-Usage-clause-causes
 returns-in-Err-Usage-clause-causes g c = c.say.ensures.causes _ _
