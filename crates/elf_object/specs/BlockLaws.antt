@@ -1,11 +1,11 @@
 -- What is known of blocks and of the bytes that are spread from them.
-use Rattle.std.proofs.Common.{◌≡◌, ℕ, zero, suc, ◌+◌, ◌-◌, ◌<◌, ◌≤◌, Bool, true, false, List, [], ◌∷◌, length, take, drop, get_or, refl, sym, ap, ◌∙◌, subst, arith}
+use Rattle.std.proofs.Common.{◌≡◌, ℕ, zero, suc, ◌+◌, ◌-◌, ◌<◌, ◌≤◌, Bool, true, false, ◌||◌, List, [], ◌∷◌, length, take, drop, get_or, refl, sym, ap, ◌∙◌, subst, arith}
 use Rattle.std.specs.Prelude.{nat_le, nat_lt, if◌then◌else◌, slice_get, Some}
 use Rattle.std.specs.List.{AllByRecursion}
 use Rattle.std.proofs.lemmas.List.{length-drop, get_or-take, get_or-drop, length-take-le, ext_get_or}
 use Rattle.std.proofs.lemmas.Bool.{le-leb, lt-ltb}
 use Rattle.std.proofs.lemmas.List.FromFn.{length-map-range_with_len, get_or-map-range_with_len, take-map-range_with_len}
-use Rattle.elf_object.specs.Blocks.{Block, block_end, covers, byte_over, spread}
+use Rattle.elf_object.specs.Blocks.{Block, block_end, covers, is_covered, byte_over, spread}
 
 -- so many bytes
 pub length-spread : (n : ℕ) (otherwise : ℕ → ℕ) (blocks : List Block) → length (spread n otherwise blocks) ≡ n
@@ -87,3 +87,36 @@ take-drop-spread n otherwise bs i b apart at fits =
     ∙ get_or-spread n otherwise bs (b.at + j) inside
     ∙ byte_over_at otherwise bs i b (b.at + j) apart at (covers_at b j below)
     ∙ ap (λ (m : ℕ). get_or b.bytes m 0) (omega arith))
+
+-- what stands elsewhere counts only where no block covers the place
+pub byte_over-otherwise : (f g : ℕ → ℕ) (bs : List Block) (k : ℕ) → (is_covered bs k ≡ false → f k ≡ g k) → byte_over f bs k ≡ byte_over g bs k
+unfolding byte_over is_covered
+byte_over-otherwise f g [] k same = same refl
+byte_over-otherwise f g (b ∷ bs) k same = by_test (covers b k) refl (byte_over-otherwise f g bs k)
+  where
+    both_out : covers b k ≡ false → is_covered bs k ≡ false → is_covered (b ∷ bs) k ≡ false
+    both_out here rest = rw here rest
+
+    by_test : (c : Bool) → covers b k ≡ c → ((is_covered bs k ≡ false → f k ≡ g k) → byte_over f bs k ≡ byte_over g bs k) → (if c then get_or b.bytes (k - b.at) 0 else byte_over f bs k) ≡ (if c then get_or b.bytes (k - b.at) 0 else byte_over g bs k)
+    by_test true e rest = refl
+    by_test false e rest = rest (λ none. same (both_out e none))
+
+-- a place that no block covers has the other byte
+pub byte_over-uncovered : (otherwise : ℕ → ℕ) (bs : List Block) (k : ℕ) → is_covered bs k ≡ false → byte_over otherwise bs k ≡ otherwise k
+unfolding byte_over is_covered
+byte_over-uncovered otherwise [] k none = refl
+byte_over-uncovered otherwise (b ∷ bs) k none =
+    let both = neither (covers b k) (is_covered bs k) none in
+    not_first (covers b k) (get_or b.bytes (k - b.at) 0) (byte_over otherwise bs k) both.0 ∙ byte_over-uncovered otherwise bs k both.1
+  where
+    neither : (x y : Bool) → (x || y) ≡ false → (x ≡ false) × (y ≡ false)
+    neither true y h = cc
+    neither false y h = (refl, h)
+
+-- bytes that are spread alike
+pub spread-same : (n : ℕ) (f g : ℕ → ℕ) (bs : List Block) → ((k : ℕ) → k < n → is_covered bs k ≡ false → f k ≡ g k) → spread n f bs ≡ spread n g bs
+spread-same n f g bs same =
+    let left = length-spread n f bs in
+    let right = length-spread n g bs in
+    ext_get_or 0 (spread n f bs) (spread n g bs) (left ∙ sym right) (λ k h.
+    get_or-spread n f bs k (omega arith) ∙ byte_over-otherwise f g bs k (same k (omega arith)) ∙ sym (get_or-spread n g bs k (omega arith)))

@@ -1,5 +1,5 @@
--- Laws over the definitions. Those that a function of `laws.rs` names are proved.
-use Rattle.std.specs.Prelude.{◌≡◌, ◌≢◌, ℕ, ◌<◌, ◌≤◌, ◌^◌, min, All, Bool, true, false, List, [], ◌∷◌, length, slice_get, slice_index, Some, None, ◌⊎◌, Ok, IsErr}
+-- Laws over the definitions, each proved as the contract of a function.
+use Rattle.std.specs.Prelude.{◌≡◌, ◌≢◌, ℕ, ◌<◌, ◌≤◌, ◌^◌, min, take, drop, All, Bool, true, false, List, [], ◌∷◌, length, slice_get, slice_index, Some, None, ◌⊎◌, Ok, IsErr}
 use Rattle.elf_types.specs.Kinds.{section_kind}
 use Rattle.elf_types.specs.declared.records.Class.{Class}
 use Rattle.elf_types.specs.declared.records.Order.{Order}
@@ -19,12 +19,13 @@ use Rattle.elf_xlate.specs.Items.{IsSym, IsRel, IsRela, IsDyn}
 use Rattle.elf_xlate.specs.Translation.{AreItems, items_kind}
 use Rattle.elf_layout.specs.declared.parts.PartAt.{PartAt}
 use Rattle.elf_layout.specs.Meeting.{meets}
+use Rattle.elf_object.specs.Blocks.{Block}
 use Rattle.elf_object.specs.Object.{Object, Piece, section_at, has_file_bytes, is_dirty}
 use Rattle.elf_object.specs.Open.{opened, created_over}
 use Rattle.elf_object.specs.Answers.{content}
 use Rattle.elf_object.specs.Joined.{joined, pieces_end}
 use Rattle.elf_object.specs.Layout.{placed, placed_parts}
-use Rattle.elf_object.specs.Image.{image, image_length}
+use Rattle.elf_object.specs.Image.{image, image_length, part_blocks}
 use Rattle.elf_object.specs.Refusal.{refusal}
 use Rattle.elf_object.specs.Settled.{settle}
 use Rattle.elf_object.specs.Changed.{torn}
@@ -32,8 +33,6 @@ use Rattle.elf_object.specs.Calls.{Call, step}
 use Rattle.elf_object.specs.Calls as calls
 use Rattle.elf_object.specs.Runs as runs
 use Rattle.elf_object.specs.Valid.{AreBytes, IsObject, IsTied, KeepsObject, as_opened}
-
--- ---- Proved
 
 -- with nothing dirty the image is the base, and an update leaves the object
 pub record CleanStays : Type 0 where
@@ -85,18 +84,9 @@ PartsDoNotMeet =
     (o : Object) (i j : ℕ) (p q : PartAt) → o.layout ≡ false → i < j → slice_get (placed_parts o) i ≡ Some p → slice_get (placed_parts o) j ≡ Some q
     → meets p q ≡ false
 
--- ---- Stated
-
--- the image of an object, opened again, is that object settled, but for ELF_F_LAYOUT and the fill byte
-abbrev pub ReopenLaw : Object → Type 0
-ReopenLaw o = IsObject o → IsTied o → refusal o ≡ None → opened (image o) ≡ Ok (as_opened (settle o))
-
--- settling keeps the items of a piece that stands alone in a section from 1 on and is of the kind of its present header
-abbrev pub SettlingKeepsItems : Object → Type 0
-SettlingKeepsItems o =
-    (s : ℕ) (p : Piece) (items : Items) → IsObject o → is_dirty o ≡ true → refusal o ≡ None → 0 < s → s < length o.sections
-    → (section_at o s).pieces ≡ p ∷ [] → p.own ≡ Some items → items_kind items ≡ section_kind (section_at o s).header
-    → items_kind items ≢ kinds.Empty → content (settle o) s ≡ Ok items
+-- the places that are stored stay where nothing else is edited
+abbrev pub PlacedStays : Object → Type 0
+PlacedStays o = IsObject o → refusal o ≡ None → (placed (placed o) ≡ placed o) × (refusal (placed o) ≡ None) × (image (placed o) ≡ image o)
 
 -- what a failed write may leave below the length of the base: at each place the base's byte or the image's
 pub record IsTornImage (o : Object) (bytes : List ℕ) : Type 0 where
@@ -109,6 +99,19 @@ TornLaw o =
     (bytes : List ℕ) → IsObject o → is_dirty o ≡ true → refusal o ≡ None → IsTornImage o bytes
     → (refusal (torn o bytes) ≡ None) × (image (torn o bytes) ≡ image o)
 
--- the places that are stored stay where nothing else is edited
-abbrev pub PlacedStays : Object → Type 0
-PlacedStays o = IsObject o → refusal o ≡ None → (placed (placed o) ≡ placed o) × (refusal (placed o) ≡ None) × (image (placed o) ≡ image o)
+-- where the update is not refused, each part stands in the image with all of its bytes
+abbrev pub PartsStand : Object → Type 0
+PartsStand o =
+    (i : ℕ) (b : Block) → IsObject o → is_dirty o ≡ true → refusal o ≡ None → slice_get (part_blocks (placed o)) i ≡ Some b
+    → take (length b.bytes) (drop b.at (image o)) ≡ b.bytes
+
+-- the image of an object, opened again, is that object settled, but for ELF_F_LAYOUT and the fill byte
+abbrev pub ReopenLaw : Object → Type 0
+ReopenLaw o = IsObject o → IsTied o → refusal o ≡ None → opened (image o) ≡ Ok (as_opened (settle o))
+
+-- settling keeps the items of a piece that stands alone in a section from 1 on and is of the kind of its present header
+abbrev pub SettlingKeepsItems : Object → Type 0
+SettlingKeepsItems o =
+    (s : ℕ) (p : Piece) (items : Items) → IsObject o → is_dirty o ≡ true → refusal o ≡ None → 0 < s → s < length o.sections
+    → (section_at o s).pieces ≡ p ∷ [] → p.own ≡ Some items → items_kind items ≡ section_kind (section_at o s).header
+    → items_kind items ≢ kinds.Empty → content (settle o) s ≡ Ok items

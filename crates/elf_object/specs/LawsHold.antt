@@ -2,9 +2,10 @@
 use Rattle.std.proofs.Common.{ap, ◌∙◌}
 use Rattle.elf_object.specs.Object.{Object, section_at}
 use Rattle.elf_object.specs.Layout.{places_of}
-use Rattle.elf_object.specs.Laws.{BeginningsAre, CleanStays, EveryStepKeeps, PartsDoNotMeet, RefusedStays, SizesAreLengths}
+use Rattle.elf_object.specs.Laws.{PartsStand, BeginningsAre, CleanStays, EveryStepKeeps, PartsDoNotMeet, RefusedStays, SizesAreLengths}
 use Rattle.elf_object.specs.ImageLaws.{step-refused, image-clean, placed-clean, placed-dirty, length-image, length-joined, size-placed, parts_apart}
 use Rattle.elf_object.specs.OpenLaws.{created_is, opened_is}
+use Rattle.elf_object.specs.StandLaws.{part_in_image}
 use Rattle.elf_object.specs.KeepLaws as keep
 use Rattle.elf_object.specs.PlacedLaws as placed_laws
 
@@ -52,3 +53,6 @@ parts_do_not_meet = parts_apart
 
 pub beginnings_are : BeginningsAre
 beginnings_are = record { from_image = opened_is; from_nothing = created_is }
+
+pub parts_stand : (o : Object) → PartsStand o
+parts_stand o i b ok dirty passed at = part_in_image o i b ok dirty passed at

@@ -24,7 +24,13 @@ pub mod ImageLaws
 pub mod StepLaws
 pub mod LengthLaws
 pub mod StandLaws
+pub mod AgainLaws
 pub mod OpenLaws
 pub mod Laws
+pub mod TornLaws
+pub mod ReopenLaws
+pub mod FrontLaws
+pub mod SettledLaws
+pub mod ItemLaws
 pub mod LawsHold
 pub mod Samples

@@ -190,7 +190,7 @@ opened_section_is class image h are is fitting = record {
 -- ---- A front that is not refused
 
 -- each test of the rows failed
-abbrev AllPass : List (Bool × ElfError) → Type 0
+abbrev pub AllPass : List (Bool × ElfError) → Type 0
 AllPass [] = Unit {0}
 AllPass (row ∷ rows) = (row.0 ≡ false) × AllPass rows
 

@@ -180,14 +180,14 @@ header_stands o d seven = record {
   at = λ some. refl;
 }
 
-where_some : (count n : ℕ) → 0 < count → where_any count n ≡ n
+pub where_some : (count n : ℕ) → 0 < count → where_any count n ≡ n
 where_some count n h = by_test (count == 0) refl
   where
     by_test : (b : Bool) → (count == 0) ≡ b → (if b then 0 else n) ≡ n
     by_test true e = let none = eqb-true count 0 e in absurd (omega arith)
     by_test false e = refl
 
-some_of : (count size : ℕ) → 0 < count * size → 0 < count
+pub some_of : (count size : ℕ) → 0 < count * size → 0 < count
 some_of zero size h = absurd (omega arith)
 some_of (suc count) size h = omega arith
 
@@ -227,7 +227,7 @@ unfolding joined_of has_file_bytes aligned_pieces
 joined_of-header class order fill s c h e =
     ap (λ (t : ℕ). if not (s == 0) && not (t == 0 || t == 8) then spread (last_end 0 (stacked 0 (aligned_pieces class order c))) (λ _. fill) (stacked 0 (aligned_pieces class order c)) else []) e
 
-type-placed : (places : Places) (o : Object) (s : ℕ) (h : Shdr) → (placed_shdr places o s h).stype ≡ h.stype
+pub type-placed : (places : Places) (o : Object) (s : ℕ) (h : Shdr) → (placed_shdr places o s h).stype ≡ h.stype
 unfolding placed_shdr numbered_shdr
 type-placed places o s h = by_test (s == 0) (is_null h)
   where
@@ -237,7 +237,7 @@ type-placed places o s h = by_test (s == 0) (is_null h)
     by_test false false = refl
 
 -- an index past the sections
-section_at-past : (o : Object) (s : ℕ) → length o.sections ≤ s → section_at o s ≡ new_section
+pub section_at-past : (o : Object) (s : ℕ) → length o.sections ≤ s → section_at o s ≡ new_section
 unfolding section_at
 section_at-past o s h = get_or_past o.sections s new_section h
 
@@ -275,7 +275,7 @@ offset-placed places o s inside filled =
     ap (λ (c : Section). c.header.offset) (section_at-placed places o s inside)
     ∙ placed_offset (s == 0) (is_null (section_at o s).header) (numbered_shdr (placed_header places o) (section_at o s).header) (section_at o s).header (section_place places s) (size_in_file o s (section_at o s).header) parts.0 full
 
-file_bytes_when : (s : ℕ) (c : Section) → 0 < s → has_file_bytes s c ≡ occupies_file c.header
+pub file_bytes_when : (s : ℕ) (c : Section) → 0 < s → has_file_bytes s c ≡ occupies_file c.header
 unfolding has_file_bytes
 file_bytes_when s c positive = by_test (s == 0) refl
   where
@@ -315,18 +315,18 @@ header_place o = by_test o.layout
     by_test false = refl
 
 -- a list of two, a row of many, and one more, at an index past the two
-row_left : {X : Type 0} (f : ℕ → X) (m : ℕ) (last : X) (j : ℕ) (d : X) → j < m → get_or (map f (range_with_len 1 m) ++ last ∷ []) j d ≡ f (1 + j)
+pub row_left : {X : Type 0} (f : ℕ → X) (m : ℕ) (last : X) (j : ℕ) (d : X) → j < m → get_or (map f (range_with_len 1 m) ++ last ∷ []) j d ≡ f (1 + j)
 row_left f m last j d h =
     let count = length-map-range_with_len f 1 m in
     get_or_append_left (map f (range_with_len 1 m)) (last ∷ []) d j (omega arith) ∙ get_or-map-range_with_len f 1 m j (1 + j) d h refl
 
-row_last : {X : Type 0} (f : ℕ → X) (m : ℕ) (last : X) (j : ℕ) (d : X) → j ≡ m → get_or (map f (range_with_len 1 m) ++ last ∷ []) j d ≡ last
+pub row_last : {X : Type 0} (f : ℕ → X) (m : ℕ) (last : X) (j : ℕ) (d : X) → j ≡ m → get_or (map f (range_with_len 1 m) ++ last ∷ []) j d ≡ last
 row_last f m last j d h =
     let count = length-map-range_with_len f 1 m in
     let place : j ≡ length (map f (range_with_len 1 m)) + 0 = omega arith in
     ap (λ (k : ℕ). get_or (map f (range_with_len 1 m) ++ last ∷ []) k d) place ∙ get_or-append-add (map f (range_with_len 1 m)) (last ∷ []) 0 d
 
-length-row : {X : Type 0} (f : ℕ → X) (m : ℕ) (last : X) → length (map f (range_with_len 1 m) ++ last ∷ []) ≡ m + 1
+pub length-row : {X : Type 0} (f : ℕ → X) (m : ℕ) (last : X) → length (map f (range_with_len 1 m) ++ last ∷ []) ≡ m + 1
 length-row f m last = let count = length-map-range_with_len f 1 m in length-append (map f (range_with_len 1 m)) (last ∷ []) ∙ omega arith
 
 table_place_is : (o : Object) (b : Block) (p : PartAt) (j : ℕ) → IsBlockAt b p (PlacesOf o (length o.sections + 1)) → j ≡ length o.sections - 1 → (0 < length b.bytes → 0 < length o.sections) → IsBlockAt b p (PlacesOf o (suc (suc j)))
@@ -384,7 +384,7 @@ placed_blocks o seven =
 
 -- ---- The image
 
-get_each : {X : Type 0} (P : X → Type 0) (l : List X) (i : ℕ) (x : X) → AllByRecursion P l → slice_get l i ≡ Some x → P x
+pub get_each : {X : Type 0} (P : X → Type 0) (l : List X) (i : ℕ) (x : X) → AllByRecursion P l → slice_get l i ≡ Some x → P x
 get_each P [] i x each at = cc
 get_each P (y ∷ l) zero x each at = let same : y ≡ x = cc in subst P same each.0
 get_each P (y ∷ l) (suc i) x each at = get_each P l i x each.1 at

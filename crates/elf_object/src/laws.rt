@@ -1,7 +1,10 @@
 //! Laws over the definitions. Each is the contract of a function that does nothing: what it ensures
 //! holds of every object, and is proved.
 
-ghost use Rattle.elf_object.specs.Laws.{BeginningsAre, CleanStays, EveryStepKeeps, PartsDoNotMeet, RefusedStays, SizesAreLengths};
+ghost use Rattle.elf_object.specs.Laws.{BeginningsAre, CleanStays, EveryStepKeeps, PartsDoNotMeet, PartsStand, PlacedStays, RefusedStays, ReopenLaw, SettlingKeepsItems, SizesAreLengths, TornLaw};
+ghost use Rattle.elf_object.specs.Object.{Object};
+
+use elf_xlate::{decodes_as_encoded, ehdr_both_ways, phdr_both_ways, shdr_both_ways};
 
 /// With nothing dirty the image is the base, and an update leaves the object.
 #[tactic(auto, using(crate::specs::LawsHold::clean_stays))]
@@ -38,3 +41,38 @@ pub fn sizes_are_lengths()
 pub fn parts_do_not_meet()
     ensures { PartsDoNotMeet }
 {}
+
+/// Where an update is not refused, each part stands in the image, at the place that its header says,
+/// with all of its bytes.
+#[tactic(auto, using(crate::specs::LawsHold::parts_stand))]
+pub fn parts_stand()
+    ensures { (o : Object) → PartsStand o }
+{}
+
+/// Places that are stored stay where they are stored again, and neither changes the image.
+pub fn placed_stays()
+    ensures { (o : Object) → PlacedStays o }
+{}
+
+/// An object whose base was torn by a failed write is not refused and has the same image.
+pub fn torn_law()
+    ensures { (o : Object) → TornLaw o }
+{}
+
+/// The image of an object, opened again, is that object settled, but for `ELF_F_LAYOUT` and the fill
+/// byte, which are clear and 0 in an image that is opened.
+pub fn reopen_law()
+    ensures { (o : Object) → ReopenLaw o }
+{
+    ehdr_both_ways();
+    phdr_both_ways();
+    shdr_both_ways();
+}
+
+/// Where an own piece stands alone in a section from 1 on and is of the kind of the section's present
+/// header, settling keeps its items.
+pub fn settling_keeps_items()
+    ensures { (o : Object) → SettlingKeepsItems o }
+{
+    decodes_as_encoded();
+}
