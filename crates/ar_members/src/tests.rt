@@ -204,3 +204,22 @@ fn a_failed_read_leaves_the_walk(rt: HostRuntime) -> Result<(), Fail> {
     }
     Ok(())
 }
+
+#[test]
+fn a_failed_read_is_named_and_hands_the_archive_back(rt: HostRuntime) -> Result<(), Fail> {
+    // The first line, and then the header and the body of the table of symbols.
+    let refused = opened(rt.alloc(), library(rt.alloc())?, 1).err();
+    assert!(rt; refused == Some(ElfError::Read));
+    for bad_read in 2..4 {
+        let mut archive = opened(rt.alloc(), library(rt.alloc())?, bad_read)?;
+        assert!(rt; archive.arsym().err() == Some(ElfError::Read));
+        assert!(rt; archive.arsym()?.len() == 1);
+    }
+    // The header of a member that is asked for in the middle of a walk, which goes on.
+    let mut archive = opened(rt.alloc(), library(rt.alloc())?, 6)?;
+    assert!(rt; next_place(&mut archive) == 166);
+    let (mut back, e) = archive.member(598).err().ok_or("a read that fails")?;
+    assert!(rt; e == ElfError::Read);
+    assert!(rt; next_place(&mut back) == 538);
+    Ok(())
+}

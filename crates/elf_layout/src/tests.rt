@@ -86,6 +86,62 @@ fn an_image_stands_where_it_stood(rt: HostRuntime) -> Result<(), Fail> {
     Ok(())
 }
 
+/// The parts of an image of class 64: the length of its program headers, the length and the
+/// alignment of each section, and the length of the section headers.
+fn image(
+    alloc: Global,
+    segments: u64,
+    sections: &[(u64, u64)],
+    table: u64,
+) -> Result<Parts, ElfError> {
+    let mut parts = Parts::new(alloc);
+    parts.push(filled(Part::Header, 0, 64, 1))?;
+    parts.push(filled(Part::Segments, 0, segments, 1))?;
+    let mut number = 0u32;
+    for (len, align) in sections {
+        number = number.wrapping_add(1);
+        parts.push(filled(Part::Section(number), 0, *len, *align))?;
+    }
+    parts.push(filled(Part::Table, 0, table, 8))?;
+    Ok(parts)
+}
+
+#[test]
+fn sections_follow_the_program_headers(rt: HostRuntime) -> Result<(), Fail> {
+    let cases = [
+        // data, a symbol table and two string tables
+        (
+            image(rt.alloc(), 0, &[(2, 1), (48, 8), (4, 1), (31, 1)], 320)?,
+            [0, 64, 64, 72, 120, 124, 160].as_slice(),
+            480,
+        ),
+        // a program header and a third section with an alignment of 4
+        (
+            image(rt.alloc(), 56, &[(3, 1), (48, 8), (2, 4)], 256)?,
+            [0, 64, 120, 128, 176, 184].as_slice(),
+            440,
+        ),
+        // one section of two pieces moves those behind it
+        (
+            image(rt.alloc(), 0, &[(8, 8), (16, 8), (8, 8)], 256)?,
+            [0, 64, 64, 72, 88, 96].as_slice(),
+            352,
+        ),
+        // a name table without names
+        (
+            image(rt.alloc(), 0, &[(1, 1)], 128)?,
+            [0, 64, 64, 72].as_slice(),
+            200,
+        ),
+    ];
+    for (parts, positions, length) in &cases {
+        let places = place(rt.alloc(), parts, false, 0, Class::C64)?;
+        assert_eq!(rt; places.at.as_slice(), *positions);
+        assert_eq!(rt; places.end, *length);
+    }
+    Ok(())
+}
+
 #[test]
 fn parts_follow_one_another(rt: HostRuntime) -> Result<(), Fail> {
     let cases = [

@@ -1,6 +1,6 @@
 use super::reader::Reader;
 use super::*;
-use elf_types::{Class, Order};
+use elf_types::{Class, Octets, Order};
 use std::process::Abort;
 use std::test::*;
 
@@ -34,7 +34,7 @@ fn greatest_unit() -> &'static [u8] {
 /// Changes of bytes of the small unit, and the fault that they make.
 type Damage = (&'static [(usize, u8)], u64, LineWhy);
 
-fn damages() -> [Damage; 20] {
+fn damages() -> [Damage; 21] {
     [
         (
             &[(0, 0xf0), (1, 0xff), (2, 0xff), (3, 0xff)],
@@ -58,6 +58,7 @@ fn damages() -> [Damage; 20] {
         (&[(6, 0x29)], 0, LineWhy::Header),
         (&[(6, 0x16)], 0, LineWhy::Header),
         (&[(13, 0), (48, 0)], 44, LineWhy::Range),
+        (&[(13, 0), (44, 8)], 44, LineWhy::Range),
         (&[(48, 0)], 47, LineWhy::Cut),
         (&[(34, 0x10)], 33, LineWhy::Cut),
         (&[(34, 0x0f)], 33, LineWhy::Address),
@@ -175,6 +176,53 @@ fn names_the_first_fault(rt: HostRuntime) {
         let fault = unit_at(rt.alloc(), &bytes, 0, Class::C64, Order::Least).err();
         assert_eq!(rt; fault, Some(LineFault::Bad { at, why }), "{changes:?}");
     }
+}
+
+/// A line_range of 0 is no fault where nothing is divided by it.
+#[test]
+fn divides_by_the_range_of_lines_alone(rt: HostRuntime) -> Result<(), Fail> {
+    let bytes = damaged(&[(13, 0), (44, 1)]);
+    let found = unit_at(rt.alloc(), &bytes, 0, Class::C64, Order::Least)?;
+    let unit = found.ok_or("there is a unit")?;
+    expect_rows(
+        &rt,
+        &unit.rows,
+        &[
+            row(0x401000, 1, 1, 0, true, false),
+            row(0x401004, 1, 1, 0, true, true),
+        ],
+    );
+    Ok(())
+}
+
+#[test]
+fn cuts_operands_that_run_away(rt: HostRuntime) -> Result<(), Fail> {
+    let mut bytes = Octets::new(rt.alloc());
+    bytes.extend(unit_of_every_opcode())?;
+    // Opcode 13, which stands at 84, is to have 255 operands.
+    if let Some(count) = bytes.as_mut_slice().get_mut(28) {
+        *count = 255;
+    }
+    let fault = unit_at(rt.alloc(), bytes.as_slice(), 0, Class::C64, Order::Least).err();
+    let (at, why) = (84, LineWhy::Cut);
+    assert_eq!(rt; fault, Some(LineFault::Bad { at, why }));
+    Ok(())
+}
+
+#[test]
+fn places_are_those_in_the_section(rt: HostRuntime) -> Result<(), Fail> {
+    let mut section = Octets::new(rt.alloc());
+    section.extend(&small_unit())?;
+    section.extend(&damaged(&[(13, 0)]))?;
+    section.extend(&damaged(&[(4, 5)]))?;
+    let bytes = section.as_slice();
+    let first = unit_at(rt.alloc(), bytes, 0, Class::C64, Order::Least)?;
+    assert_eq!(rt; first.map(|unit| unit.next), Some(50));
+    for (place, at, why) in [(50, 94, LineWhy::Range), (100, 100, LineWhy::Version)] {
+        let fault = unit_at(rt.alloc(), bytes, place, Class::C64, Order::Least).err();
+        assert_eq!(rt; fault, Some(LineFault::Bad { at, why }));
+    }
+    Ok(())
 }
 
 #[test]

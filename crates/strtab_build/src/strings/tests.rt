@@ -16,6 +16,24 @@ fn names_stand_once_in_order_of_first_use(rt: HostRuntime) -> Result<(), Fail> {
     Ok(())
 }
 
+// The name table of an image with one section of data and the usual three tables.
+#[test]
+fn names_of_sections_have_their_offsets(rt: HostRuntime) -> Result<(), Fail> {
+    let mut strings = Strings::new(rt.alloc());
+    let uses: [(&[u8], u32); 4] = [
+        (b".s1", 1),
+        (b".symtab", 5),
+        (b".strtab", 13),
+        (b".shstrtab", 21),
+    ];
+    for (name, offset) in uses {
+        assert_eq!(rt; strings.add(name), Ok(offset));
+    }
+    let table = strings.finish()?;
+    assert!(rt; table.as_slice() == b"\0.s1\0.symtab\0.strtab\0.shstrtab\0".as_slice());
+    Ok(())
+}
+
 #[test]
 fn a_table_with_no_name_is_one_nul(rt: HostRuntime) -> Result<(), Fail> {
     let table = Strings::new(rt.alloc()).finish();
