@@ -1,10 +1,12 @@
 -- Lists of items of one size.
-use Rattle.std.proofs.Common.{◌≡◌, ℕ, ◌+◌, ◌*◌, ◌<◌, length, get_or, List, [], ◌∷◌, ◌++◌, take, drop, refl, sym, ap, ◌∙◌, inl, inr, ◌≤◌, arith}
+use Rattle.std.proofs.Common.{◌≡◌, ℕ, ◌+◌, ◌*◌, ◌<◌, length, get_or, List, [], ◌∷◌, ◌++◌, take, drop, refl, sym, ap, subst, ◌∙◌, inl, inr, ◌≤◌, arith}
+use Rattle.std.proofs.lemmas.List.{take_all}
 use Rattle.std.proofs.lemmas.List.FromFn.{map-range_with_len_more}
 use Rattle.std.specs.Prelude.{Option, Some, None, Bool, true, false, not, cond, nat_lt}
-use Rattle.std.specs.List.{position_or_len}
-use Rattle.std.proofs.lemmas.List.Sums.{fails_before_first}
-use Rattle.std.proofs.lemmas.Bool.{cases_lt, lt-ltb, not-false}
+use Rattle.std.specs.List.{All, position_or_len}
+use Rattle.std.proofs.lemmas.List.Sums.{position_or_len_is, fails_before_first}
+use Rattle.std.proofs.lemmas.List.Elements.{All-get_or}
+use Rattle.std.proofs.lemmas.Bool.{cases_lt, le-ltb, lt-ltb, not-false}
 use Rattle.elf_xlate.specs.Translation.{items_of, first_not}
 
 -- one item more
@@ -17,6 +19,20 @@ items_of_more item size i bytes = map-range_with_len_more (λ k. item (take size
 pub items_of_none : {X : Type 0} (item : List ℕ → X) (size : ℕ) (bytes : List ℕ) → items_of item size 0 bytes ≡ []
 unfolding items_of
 items_of_none item size bytes = refl
+
+-- where all pass, none is the first that does not
+pub all_pass : {X : Type 0} (passes : X → Bool) (l : List X) → All (λ x. passes x ≡ true) l → first_not passes l ≡ None
+all_pass passes [] h = refl
+all_pass {X} passes (x ∷ xs) h =
+    let fails : X → Bool = λ y. not (passes y) in
+    let none : position_or_len (λ y. not (passes y)) (x ∷ xs) ≡ length (x ∷ xs) =
+    position_or_len_is fails (x ∷ xs) (length (x ∷ xs)) x (omega arith)
+    (λ k low. ap not (All-get_or (λ y. passes y ≡ true) (x ∷ xs) k x low h)) (λ low. absurd (omega (arith, low))) in
+    ap (λ (n : ℕ). cond (nat_lt n (length (x ∷ xs))) (Some n) None) none ∙ ap (λ (b : Bool). cond b (Some (length (x ∷ xs))) None) (le-ltb _ _ (omega arith))
+
+-- the same of the whole of a list
+pub all_passed : {X : Type 0} (passes : X → Bool) (l : List X) (i : ℕ) → length l ≤ i → All (λ x. passes x ≡ true) (take i l) → first_not passes l ≡ None
+all_passed {X} passes l i whole h = all_pass passes l (subst (λ (m : List X). All (λ x. passes x ≡ true) m) (take_all i l whole) h)
 
 some_is_not_none : (n : ℕ) → Some n ≡ None → ⊥
 some_is_not_none n e = cc

@@ -1,6 +1,6 @@
 //! From the memory form to the file form.
 
-ghost use Rattle.std.specs.Prelude.{ℕ, ◌≡◌, ◌≤◌, ◌<◌, ◌++◌, length, take, IsTrue, OnOk, OnErr, IfErr, None, slice_index_or};
+ghost use Rattle.std.specs.Prelude.{◌≡◌, ◌++◌, length, take, IsTrue, OnOk, OnErr, None};
 ghost use Rattle.std.specs.List.{flat_map};
 ghost use Rattle.elf_types.specs.declared.errors.ElfError.TheVariants.{Memory};
 ghost use Rattle.elf_xlate.specs.Fields.{class_of};
@@ -29,32 +29,28 @@ pub fn to_file(
     ensures unchanged { OnErr result (out.new ≡ out.old) }
     ensures cause { RefusesUnfit result (first_unfit class items.now) }
 {
-    if let Some(index) = unfit(items, class) {
-        return Err(XlateError::Unfit { index });
-    }
     let length = out.len();
-    match in_form!(class, order, encode_items(items, out)) {
-        Ok(()) => Ok(()),
-        Err(_) => {
-            out.truncate(length);
-            Err(XlateError::Memory)
-        }
+    if in_form!(class, order, encode_items(items, out)) {
+        return Ok(());
+    }
+    out.truncate(length);
+    match unfit(items, class) {
+        Some(index) => Err(XlateError::Unfit { index }),
+        None => Err(XlateError::Memory),
     }
 }
 
-// Appends the bytes of items that fit. After a refusal there may be some of them.
-#[tactic(auto, using(crate::proofs::Broad::all_pass), unfolding(crate::specs::Translation::encoded, crate::specs::Translation::first_unfit))]
-fn encode_items<T: Endian, const WIDE: bool>(
-    items: &Items,
-    out: &mut Octets,
-) -> Result<(), ElfError>
-    requires { first_unfit (class_of WIDE) items.now ≡ None }
-    ensures ok { OnOk result (out.new ≡ out.old ++ encoded (class_of WIDE) T.order items.now) }
-    ensures front { OnErr result (take (length out.old) out.new ≡ out.old) }
+// Appends the bytes of items, each of which is tested as it is written, in one pass. Where it answers false,
+// one does not fit or there is no memory, and there may be bytes of some.
+#[tactic(auto, unfolding(crate::specs::Translation::encoded, crate::specs::Translation::first_unfit))]
+fn encode_items<T: Endian, const WIDE: bool>(items: &Items, out: &mut Octets) -> bool
+    ensures fits { IsTrue result → first_unfit (class_of WIDE) items.now ≡ None }
+    ensures bytes { IsTrue result → out.new ≡ out.old ++ encoded (class_of WIDE) T.order items.now }
+    ensures front { take (length out.old) out.new ≡ out.old }
 {
     match items {
-        Items::Empty => Ok(()),
-        Items::Bytes(l) => out.extend(l.as_slice()),
+        Items::Empty => true,
+        Items::Bytes(l) => out.extend(l.as_slice()).is_ok(),
         Items::Half(l) => encode_list::<Form<T, WIDE>, u16>(l.as_slice(), out),
         Items::Word(l) => encode_list::<Form<T, WIDE>, u32>(l.as_slice(), out),
         Items::Addr(l) => encode_list::<Form<T, WIDE>, u64>(l.as_slice(), out),
@@ -66,32 +62,48 @@ fn encode_items<T: Endian, const WIDE: bool>(
 }
 
 // Appends the bytes of a list.
-fn encode_list<C: Codec<R>, R>(items: &[R], out: &mut Octets) -> Result<(), ElfError>
-    requires { first_not C.fitting items.now ≡ None }
-    ensures ok { OnOk result (out.new ≡ out.old ++ flat_map C.bytes_of items.now) }
-    ensures front { OnErr result (take (length out.old) out.new ≡ out.old) }
+fn encode_list<C: Codec<R>, R>(items: &[R], out: &mut Octets) -> bool
+    ensures fits { IsTrue result → first_not C.fitting items.now ≡ None }
+    ensures bytes { IsTrue result → out.new ≡ out.old ++ flat_map C.bytes_of items.now }
+    ensures front { take (length out.old) out.new ≡ out.old }
 {
     let size = C::file_size();
-    out.reserve((items.len() as u64).saturating_mul(size as u64))?;
-    let mut buffer = [0; 24];
-    encode_through::<C, R>(items, &mut buffer[..size], out)
+    if let Err(_) = out.reserve((items.len() as u64).saturating_mul(size as u64)) {
+        return false;
+    }
+    let zeros = [0; 24];
+    encode_each::<C, R>(items, &zeros[..size], out)
 }
 
-// Appends the bytes of a list, each item through a buffer of its size.
-#[tactic(auto, using(crate::proofs::Pieces::each_passes))]
-fn encode_through<C: Codec<R>, R>(
-    items: &[R],
-    buffer: &mut [u8],
-    out: &mut Octets,
-) -> Result<(), ElfError>
-    requires size { length buffer.old ≡ C.size }
-    requires fits { first_not C.fitting items.now ≡ None }
-    ensures ok { OnOk result (out.new ≡ out.old ++ flat_map C.bytes_of items.now) }
-    ensures front { OnErr result (take (length out.old) out.new ≡ out.old) }
+// Appends the bytes of each item of a list.
+fn encode_each<C: Codec<R>, R>(items: &[R], zeros: &[u8], out: &mut Octets) -> bool
+    requires { length zeros.now ≡ C.size }
+    ensures fits { IsTrue result → first_not C.fitting items.now ≡ None }
+    ensures bytes { IsTrue result → out.new ≡ out.old ++ flat_map C.bytes_of items.now }
+    ensures front { take (length out.old) out.new ≡ out.old }
 {
     for item in items {
-        C::encode(item, buffer);
-        out.extend(buffer)?;
+        if !C::fits(item) {
+            return false;
+        }
+        if let Err(_) = append_item::<C, R>(item, zeros, out) {
+            return false;
+        }
     }
+    true
+}
+
+// Appends the bytes of an item. They are written where they stay, over as many zeros: what is written to a
+// buffer in narrow pieces and copied from it in broad ones makes the processor wait.
+fn append_item<C: Codec<R>, R>(item: &R, zeros: &[u8], out: &mut Octets) -> Result<(), ElfError>
+    requires size { length zeros.now ≡ C.size }
+    requires fits { IsTrue (C.fitting item.now) }
+    ensures ok { OnOk result (out.new ≡ out.old ++ C.bytes_of item.now) }
+    ensures unchanged { OnErr result (out.new ≡ out.old) }
+{
+    let end = out.len() as usize;
+    out.extend(zeros)?;
+    let (_, room) = out.as_mut_slice().split_at_mut(end);
+    C::encode(item, room);
     Ok(())
 }

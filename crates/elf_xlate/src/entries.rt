@@ -10,6 +10,7 @@ use crate::fields::{
     get_field, get_four, get_native, get_one, get_signed, get_two, put_field, put_four, put_native,
     put_one, put_signed, put_two,
 };
+use crate::fitting::{Fit, class};
 use crate::records::{Codec, Form};
 use elf_types::{Dyn, Rel, Rela, Sym};
 
@@ -42,6 +43,10 @@ impl<T: Endian, const WIDE: bool> Codec<Sym> for Form<T, WIDE> {
             value: get_field!(T, WIDE, bytes, 4:4, 8:8),
             size: get_field!(T, WIDE, bytes, 8:4, 16:8),
         }
+    }
+
+    fn fits(item: &Sym) -> bool {
+        item.fits_class(class::<WIDE>())
     }
 
     #[tactic(auto, using(crate::proofs::Tables::sym_laid), unfolding(crate::specs::Items::sym_fits, crate::specs::Items::sym_fields))]
@@ -120,6 +125,10 @@ impl<T: Endian, const WIDE: bool> Codec<Rel> for Form<T, WIDE> {
         }
     }
 
+    fn fits(item: &Rel) -> bool {
+        item.fits_class(class::<WIDE>())
+    }
+
     #[tactic(auto, using(crate::proofs::Tables::rel_laid), unfolding(crate::specs::Items::rel_fits, crate::specs::Items::rel_fields))]
     fn encode(item: &Rel, out: &mut [u8]) {
         let info = info_of::<WIDE>(item.sym, item.rtype);
@@ -158,6 +167,10 @@ impl<T: Endian, const WIDE: bool> Codec<Rela> for Form<T, WIDE> {
         }
     }
 
+    fn fits(item: &Rela) -> bool {
+        item.fits_class(class::<WIDE>())
+    }
+
     #[tactic(auto, using(crate::proofs::Tables::rela_laid, crate::proofs::Signed::passed_on), unfolding(crate::specs::Items::rela_fits, crate::specs::Items::rela_fields))]
     fn encode(item: &Rela, out: &mut [u8]) {
         let info = info_of::<WIDE>(item.sym, item.rtype);
@@ -192,6 +205,10 @@ impl<T: Endian, const WIDE: bool> Codec<Dyn> for Form<T, WIDE> {
             tag: get_field!(T, WIDE, bytes, 0:4 s, 0:8 s),
             val: get_field!(T, WIDE, bytes, 4:4, 8:8),
         }
+    }
+
+    fn fits(item: &Dyn) -> bool {
+        item.fits_class(class::<WIDE>())
     }
 
     #[tactic(auto, using(crate::proofs::Tables::dyn_laid, crate::proofs::Signed::passed_on), unfolding(crate::specs::Items::dyn_fits, crate::specs::Items::dyn_fields))]

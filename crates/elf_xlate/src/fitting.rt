@@ -1,8 +1,9 @@
 //! Whether values fit their fields in a class. In class 64 every value does.
 
 ghost use Rattle.std.specs.Prelude.{Bool, ◌≡◌};
+ghost use Rattle.elf_types.specs.declared.records.Class.{Class};
 ghost use Rattle.elf_types.specs.declared.records.Class.TheVariants.{C32};
-ghost use Rattle.elf_xlate.specs.Fields.{fits, fits_signed};
+ghost use Rattle.elf_xlate.specs.Fields.{class_of, fits, fits_signed};
 ghost use Rattle.elf_xlate.specs.Items.{info_fits, sym_fits, rel_fits, rela_fits, dyn_fits};
 ghost use Rattle.elf_xlate.specs.Headers.{ehdr_fits, phdr_fits, shdr_fits};
 ghost use Rattle.elf_xlate.specs.Translation.{first_not, first_unfit};
@@ -112,10 +113,10 @@ fn narrow_unfit(items: &Items) -> Option<u64>
 }
 
 // The same of a list.
-fn first_not_narrow<T: Narrow>(items: &[T]) -> Option<usize>
-    ensures { result ≡ first_not T.narrow items.now }
+fn first_not_narrow<T: Fit>(items: &[T]) -> Option<usize>
+    ensures { result ≡ first_not (T.fitting C32) items.now }
 {
-    items.iter().position(|item| !item.fits_narrow())
+    items.iter().position(|item| !item.fits_class(Class::C32))
 }
 
 // An index as a number of 64 bits.
@@ -128,57 +129,65 @@ fn index_of(index: Option<usize>) -> Option<u64>
     }
 }
 
-// An item that may not fit its fields in class 32.
-trait Narrow {
-    // Whether it fits.
-    ghost narrow: { Self → Bool };
-
-    fn fits_narrow(&self) -> bool
-        ensures { result ≡ narrow self.now };
+/// Class 64 or class 32 as a value.
+pub(crate) fn class<const WIDE: bool>() -> Class
+    ensures { result ≡ class_of WIDE }
+{
+    if WIDE { Class::C64 } else { Class::C32 }
 }
 
-impl Narrow for u64 {
-    ghost narrow = { fits C32 };
+/// An item that may not fit its fields in class 32.
+pub(crate) trait Fit {
+    // Whether it fits.
+    ghost fitting: { Class → Self → Bool };
 
-    fn fits_narrow(&self) -> bool {
-        number_fits(Class::C32, *self)
+    /// Whether it fits its fields in a class.
+    fn fits_class(&self, class: Class) -> bool
+        ensures { result ≡ fitting class self.now };
+}
+
+impl Fit for u64 {
+    ghost fitting = { fits };
+
+    fn fits_class(&self, class: Class) -> bool {
+        number_fits(class, *self)
     }
 }
 
-impl Narrow for Sym {
-    ghost narrow = { sym_fits C32 };
+impl Fit for Sym {
+    ghost fitting = { sym_fits };
 
     #[tactic(auto, unfolding(crate::specs::Items::sym_fits))]
-    fn fits_narrow(&self) -> bool {
-        number_fits(Class::C32, self.value) && number_fits(Class::C32, self.size)
+    fn fits_class(&self, class: Class) -> bool {
+        number_fits(class, self.value) && number_fits(class, self.size)
     }
 }
 
-impl Narrow for Rel {
-    ghost narrow = { rel_fits C32 };
+impl Fit for Rel {
+    ghost fitting = { rel_fits };
 
     #[tactic(auto, unfolding(crate::specs::Items::rel_fits))]
-    fn fits_narrow(&self) -> bool {
-        number_fits(Class::C32, self.offset) && relocation_fits(Class::C32, self.sym, self.rtype)
+    fn fits_class(&self, class: Class) -> bool {
+        number_fits(class, self.offset) && relocation_fits(class, self.sym, self.rtype)
     }
 }
 
-impl Narrow for Rela {
-    ghost narrow = { rela_fits C32 };
+impl Fit for Rela {
+    ghost fitting = { rela_fits };
 
     #[tactic(auto, unfolding(crate::specs::Items::rela_fits))]
-    fn fits_narrow(&self) -> bool {
-        number_fits(Class::C32, self.offset)
-            && relocation_fits(Class::C32, self.sym, self.rtype)
-            && signed_fits(Class::C32, self.addend)
+    fn fits_class(&self, class: Class) -> bool {
+        number_fits(class, self.offset)
+            && relocation_fits(class, self.sym, self.rtype)
+            && signed_fits(class, self.addend)
     }
 }
 
-impl Narrow for Dyn {
-    ghost narrow = { dyn_fits C32 };
+impl Fit for Dyn {
+    ghost fitting = { dyn_fits };
 
     #[tactic(auto, unfolding(crate::specs::Items::dyn_fits))]
-    fn fits_narrow(&self) -> bool {
-        signed_fits(Class::C32, self.tag) && number_fits(Class::C32, self.val)
+    fn fits_class(&self, class: Class) -> bool {
+        signed_fits(class, self.tag) && number_fits(class, self.val)
     }
 }

@@ -29,4 +29,8 @@ pub use numbers::number;
 pub use sizes::fsize;
 
 #[cfg(test)]
+mod extreme_tests;
+#[cfg(test)]
+mod header_tests;
+#[cfg(test)]
 mod tests;

@@ -9,6 +9,7 @@ use crate::byte_order::Endian;
 use crate::fields::{
     get_field, get_four, get_native, get_two, put_field, put_four, put_native, put_two,
 };
+use crate::fitting::{Fit, class};
 use std::marker::PhantomData;
 
 /// A byte order and a class, class 64 or class 32.
@@ -38,6 +39,10 @@ pub trait Codec<R> {
     fn decode(bytes: &[u8]) -> R
         requires { length bytes.now ≡ size }
         ensures { result ≡ item_of bytes.now };
+
+    /// Whether the item fits its fields.
+    fn fits(item: &R) -> bool
+        ensures { result ≡ fitting item.now };
 
     /// Writes the item's bytes.
     fn encode(item: &R, out: &mut [u8])
@@ -76,6 +81,10 @@ impl<T: Endian, const WIDE: bool> Codec<u16> for Form<T, WIDE> {
         get_field!(T, WIDE, bytes, 0:2, 0:2)
     }
 
+    fn fits(_item: &u16) -> bool {
+        true
+    }
+
     #[tactic(auto, using(crate::proofs::Tables::half_laid), unfolding(crate::specs::Items::half_fields))]
     fn encode(item: &u16, out: &mut [u8]) {
         put_field!(T, WIDE, out, 0:2, 0:2, *item);
@@ -106,6 +115,10 @@ impl<T: Endian, const WIDE: bool> Codec<u32> for Form<T, WIDE> {
         get_field!(T, WIDE, bytes, 0:4, 0:4)
     }
 
+    fn fits(_item: &u32) -> bool {
+        true
+    }
+
     #[tactic(auto, using(crate::proofs::Tables::word_laid), unfolding(crate::specs::Items::word_fields))]
     fn encode(item: &u32, out: &mut [u8]) {
         put_field!(T, WIDE, out, 0:4, 0:4, *item);
@@ -134,6 +147,10 @@ impl<T: Endian, const WIDE: bool> Codec<u64> for Form<T, WIDE> {
     #[tactic(auto, unfolding(crate::specs::Items::addr_of, crate::specs::Items::addr_fields))]
     fn decode(bytes: &[u8]) -> u64 {
         get_field!(T, WIDE, bytes, 0:4, 0:8)
+    }
+
+    fn fits(item: &u64) -> bool {
+        item.fits_class(class::<WIDE>())
     }
 
     #[tactic(auto, using(crate::proofs::Tables::addr_laid), unfolding(crate::specs::Items::addr_fields))]

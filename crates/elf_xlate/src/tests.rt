@@ -1,23 +1,21 @@
-//! The forms against bytes written by hand from the tables of the gABI.
+//! The forms of items against bytes written by hand from the tables of the gABI.
 
 use super::*;
-use elf_types::{
-    Addrs, Class, Dyn, Dyns, Ehdr, Kind, Octets, Order, Phdr, Rel, Rela, Relas, Rels, Shdr, Sym,
-    Syms,
-};
+use elf_types::{Addrs, Class, Dyn, Dyns, Kind, Octets, Order, Rel, Rela, Relas, Rels, Sym, Syms};
 use std::alloc::Global;
 use std::process::Abort;
 use std::test::Fail;
 
-const FORMS: [(Class, Order); 4] = [
+/// Both orders of both classes.
+pub const FORMS: [(Class, Order); 4] = [
     (Class::C32, Order::Least),
     (Class::C32, Order::Greatest),
     (Class::C64, Order::Least),
     (Class::C64, Order::Greatest),
 ];
 
-// Decodes bytes and encodes the items again, behind a byte that stays.
-fn both_ways(
+/// Decodes bytes and encodes the items again, behind a byte that stays.
+pub fn both_ways(
     rt: &impl Abort,
     alloc: Global,
     kind: Kind,
@@ -213,7 +211,7 @@ fn texts_of_errors(rt: HostRuntime) -> Result<(), Fail> {
     Ok(())
 }
 
-// The item 1 of two does not fit class 32; class 64 takes both.
+// The items 1 and 2 of three do not fit class 32; class 64 takes all.
 fn refuses_second(rt: &impl Abort, alloc: Global, items: &Items) -> Result<(), Fail> {
     let mut out = Octets::new(alloc);
     out.push(7)?;
@@ -223,7 +221,7 @@ fn refuses_second(rt: &impl Abort, alloc: Global, items: &Items) -> Result<(), F
     assert_eq!(rt; unfit(items, Class::C32), Some(1));
     assert_eq!(rt; unfit(items, Class::C64), None);
     to_file(items, Class::C64, Order::Greatest, &mut out)?;
-    assert_eq!(rt; Some(out.len() - 1), fsize(items.kind(), Class::C64, 2));
+    assert_eq!(rt; Some(out.len() - 1), fsize(items.kind(), Class::C64, 3));
     Ok(())
 }
 
@@ -231,7 +229,7 @@ fn refuses_second(rt: &impl Abort, alloc: Global, items: &Items) -> Result<(), F
 fn first_that_does_not_fit(rt: HostRuntime) -> Result<(), Fail> {
     let alloc = rt.alloc();
     let mut addrs = Addrs::new(alloc);
-    addrs.extend(&[0xffff_ffff, 1 << 32])?;
+    addrs.extend(&[0xffff_ffff, 1 << 32, u64::MAX])?;
     refuses_second(&rt, alloc, &Items::Addr(addrs))?;
     let sym = Sym {
         name: 0,
@@ -252,7 +250,7 @@ fn first_that_does_not_fit(rt: HostRuntime) -> Result<(), Fail> {
         },
     ] {
         let mut syms = Syms::new(alloc);
-        syms.extend(&[sym, bad])?;
+        syms.extend(&[sym, bad, bad])?;
         refuses_second(&rt, alloc, &Items::Sym(syms))?;
     }
     let rel = Rel {
@@ -275,18 +273,39 @@ fn first_that_does_not_fit(rt: HostRuntime) -> Result<(), Fail> {
         },
     ] {
         let mut rels = Rels::new(alloc);
-        rels.extend(&[rel, bad])?;
+        rels.extend(&[rel, bad, bad])?;
         refuses_second(&rt, alloc, &Items::Rel(rels))?;
     }
     let rela = Rela {
-        offset: 0,
-        sym: 0,
-        rtype: 0,
+        offset: 0xffff_ffff,
+        sym: 0xff_ffff,
+        rtype: 0xff,
         addend: -0x8000_0000,
     };
-    for addend in [-0x8000_0001, 0x8000_0000] {
+    for bad in [
+        Rela {
+            offset: 1 << 32,
+            ..rela
+        },
+        Rela {
+            sym: 1 << 24,
+            ..rela
+        },
+        Rela {
+            rtype: 1 << 8,
+            ..rela
+        },
+        Rela {
+            addend: -0x8000_0001,
+            ..rela
+        },
+        Rela {
+            addend: 0x8000_0000,
+            ..rela
+        },
+    ] {
         let mut relas = Relas::new(alloc);
-        relas.extend(&[rela, Rela { addend, ..rela }])?;
+        relas.extend(&[rela, bad, bad])?;
         refuses_second(&rt, alloc, &Items::Rela(relas))?;
     }
     let entry = Dyn {
@@ -299,99 +318,17 @@ fn first_that_does_not_fit(rt: HostRuntime) -> Result<(), Fail> {
             ..entry
         },
         Dyn {
+            tag: -0x8000_0001,
+            ..entry
+        },
+        Dyn {
             val: 1 << 32,
             ..entry
         },
     ] {
         let mut dyns = Dyns::new(alloc);
-        dyns.extend(&[entry, bad])?;
+        dyns.extend(&[entry, bad, bad])?;
         refuses_second(&rt, alloc, &Items::Dyn(dyns))?;
     }
     Ok(())
-}
-
-#[test]
-fn headers(rt: HostRuntime) {
-    let shdr = Shdr {
-        name: 1,
-        stype: 2,
-        flags: 3,
-        addr: 4,
-        offset: 5,
-        size: 6,
-        link: 7,
-        info: 8,
-        addralign: 9,
-        entsize: 0xffff_ffff,
-    };
-    let narrow =
-        b"\0\0\0\x01\0\0\0\x02\0\0\0\x03\0\0\0\x04\0\0\0\x05\0\0\0\x06\0\0\0\x07\0\0\0\x08\0\0\0\x09\xff\xff\xff\xff";
-    assert!(rt; get_shdr(Class::C32, Order::Greatest, narrow) == shdr);
-    let mut out = [1; 40];
-    assert!(rt; shdr_fits(&shdr, Class::C32));
-    put_shdr(Class::C32, Order::Greatest, &shdr, &mut out);
-    assert_eq!(rt; &out, narrow);
-    assert!(rt;
-        !shdr_fits(
-            &Shdr {
-                entsize: 1 << 32,
-                ..shdr
-            },
-            Class::C32
-        )
-    );
-    let phdr = Phdr {
-        ptype: 1,
-        flags: 2,
-        offset: 3,
-        vaddr: 4,
-        paddr: 5,
-        filesz: 6,
-        memsz: 7,
-        align: 1 << 63,
-    };
-    let broad =
-        b"\x01\0\0\0\x02\0\0\0\x03\0\0\0\0\0\0\0\x04\0\0\0\0\0\0\0\x05\0\0\0\0\0\0\0\x06\0\0\0\0\0\0\0\x07\0\0\0\0\0\0\0\0\0\0\0\0\0\0\x80";
-    assert!(rt; get_phdr(Class::C64, Order::Least, broad) == phdr);
-    let mut out = [1; 56];
-    assert!(rt; phdr_fits(&phdr, Class::C64));
-    put_phdr(Class::C64, Order::Least, &phdr, &mut out);
-    assert_eq!(rt; &out, broad);
-    assert!(rt; !phdr_fits(&phdr, Class::C32));
-}
-
-#[test]
-fn elf_headers(rt: HostRuntime) {
-    let h = Ehdr {
-        class: Class::C32,
-        order: Order::Greatest,
-        osabi: 3,
-        abiversion: 1,
-        etype: 2,
-        machine: 8,
-        version: 1,
-        entry: 0x0040_0100,
-        phoff: 0x34,
-        shoff: 0x1234,
-        flags: 0x5000_0000,
-        ehsize: 52,
-        phentsize: 32,
-        phnum: 2,
-        shentsize: 40,
-        shnum: 9,
-        shstrndx: 0xffff,
-    };
-    let bytes =
-        b"\x7fELF\x01\x02\x01\x03\x01\0\0\0\0\0\0\x05\0\x02\0\x08\0\0\0\x01\0\x40\x01\0\0\0\0\x34\0\0\x12\x34\x50\0\0\0\0\x34\0\x20\0\x02\0\x28\0\x09\xff\xff";
-    assert!(rt; get_ehdr(Class::C32, Order::Greatest, bytes) == h);
-    let mut out = [1; 52];
-    assert!(rt; ehdr_fits(&h));
-    put_ehdr(&h, [0, 0, 0, 0, 0, 0, 5], &mut out);
-    assert_eq!(rt; &out, bytes);
-    assert!(rt;
-        !ehdr_fits(&Ehdr {
-            shoff: 1 << 32,
-            ..h
-        })
-    );
 }
