@@ -35,7 +35,8 @@ use Rattle.elf_object.specs.Refusal.{unfit_in_piece, unfit_in_section, unfit_ite
 use Rattle.elf_object.specs.Settled.{settled_section, settled_over, settle}
 use Rattle.elf_object.specs.Valid.{IsPiece, IsSection, IsObject}
 use Rattle.elf_object.specs.ImageLaws.{section_at-placed, placed-dirty}
-use Rattle.elf_object.specs.KeepLaws.{section_at_is, none_first, none_rest}
+use Rattle.elf_object.specs.PassedLaws.{none_first, none_rest}
+use Rattle.elf_object.specs.KeepLaws.{section_at_is}
 use Rattle.elf_object.specs.PlacedLaws.{update_passes}
 use Rattle.elf_object.specs.StandLaws.{section_count-placed, joined-placed}
 use Rattle.elf_object.specs.AgainLaws.{placed_section_header}

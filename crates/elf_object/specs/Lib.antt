@@ -18,7 +18,9 @@ pub mod Valid
 pub mod BlockLaws
 pub mod RangeLaws
 pub mod PlaceLaws
+pub mod PassedLaws
 pub mod KeepLaws
+pub mod KeepItemLaws
 pub mod PlacedLaws
 pub mod ImageLaws
 pub mod StepLaws
@@ -32,5 +34,6 @@ pub mod ReopenLaws
 pub mod FrontLaws
 pub mod SettledLaws
 pub mod ItemLaws
+pub mod TiedLaws
 pub mod LawsHold
 pub mod Samples

@@ -31,7 +31,8 @@ use Rattle.elf_object.specs.Refusal.{too_many, unfit_segment, unfit_item, missin
 use Rattle.elf_object.specs.Settled.{settled_section, settled_over, settle}
 use Rattle.elf_object.specs.Valid.{IsSection, IsObject, IsTied, as_opened}
 use Rattle.elf_object.specs.ImageLaws.{section_at-placed, joined-none, length-image, image-clean, placed-clean, placed-dirty, size-placed}
-use Rattle.elf_object.specs.KeepLaws.{none_first, none_rest, section_at_is}
+use Rattle.elf_object.specs.PassedLaws.{none_first, none_rest}
+use Rattle.elf_object.specs.KeepLaws.{section_at_is}
 use Rattle.elf_object.specs.PlacedLaws.{EhdrFits, ehdr_fits_each, ehdr_fits_all, placed_is, update_passes}
 use Rattle.elf_object.specs.StandLaws.{PartsAreApart, parts_are_apart, part_in_image, get_each, section_count-placed, joined-placed, where_some}
 use Rattle.elf_object.specs.AgainLaws.{stype-placed}
