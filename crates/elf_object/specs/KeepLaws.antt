@@ -1,43 +1,29 @@
 -- Each step on headers, sections and pieces keeps what makes an object (`IsObject`).
-use Rattle.std.proofs.Common.{◌≡◌, ℕ, zero, suc, ◌+◌, ◌^◌, ◌<◌, ◌≤◌, Bool, true, false, not, ◌&&◌, List, [], ◌∷◌, ◌++◌, length, get_or, set, replicate, Option, Some, None, Ok, Err, refl, sym, ap, ◌∙◌, subst, arith, lit<, lit≤, ⊎_elim}
+use Rattle.std.proofs.Common.{◌≡◌, ℕ, zero, suc, ◌+◌, ◌^◌, ◌<◌, ◌≤◌, Bool, true, false, not, ◌&&◌, List, [], ◌∷◌, ◌++◌, length, get_or, set, replicate, Option, Some, None, refl, sym, ap, ◌∙◌, subst, arith, lit<, lit≤, ⊎_elim}
 use Rattle.std.specs.Prelude.{All, IfSome, IsSome, IsTrue, nat_le, nat_lt, if◌then◌else◌, ◌==◌}
 use lib.Count.{ones}
 use Rattle.std.proofs.lemmas.Bool.{le-leb, leb-false, ltb-false, eqb-true, cases_lt}
 use Rattle.std.proofs.lemmas.List.{length-set, length-append, length-replicate, get_or_past, set_past, nil_from_length, length_push}
-use Rattle.std.proofs.lemmas.List.Elements.{All-nil, All-cons, All-set, All-append, All-replicate, All-push, All-get_or, All-head, All-tail}
+use Rattle.std.proofs.lemmas.List.Elements.{All-nil, All-cons, All-set, All-append, All-replicate, All-push, All-get_or}
 use Rattle.elf_types.specs.declared.records.Class.{Class}
 use Rattle.elf_types.specs.declared.records.Class.TheVariants.{C32, C64}
-use Rattle.elf_types.specs.declared.records.Order.{Order}
-use Rattle.elf_types.specs.declared.records.Sym.{Sym}
-use Rattle.elf_types.specs.declared.records.Rel.{Rel}
-use Rattle.elf_types.specs.declared.records.Rela.{Rela}
-use Rattle.elf_types.specs.declared.records.Dyn.{Dyn}
 use Rattle.elf_types.specs.declared.records.Ehdr.{Ehdr}
 use Rattle.elf_types.specs.declared.records.Phdr.{Phdr}
 use Rattle.elf_types.specs.declared.records.Shdr.{Shdr}
 use Rattle.elf_types.specs.declared.records.Kind.{Kind}
-use Rattle.elf_types.specs.declared.records.Kind.TheVariants as kinds
 use Rattle.elf_types.specs.declared.records.Part.{Part}
 use Rattle.elf_types.specs.declared.records.Part.TheVariants as part
-use Rattle.elf_types.specs.declared.errors.ElfError.{ElfError}
-use Rattle.elf_types.specs.declared.errors.ElfError.TheVariants.{BadAlign, NoSection, OutOfFile, Ragged, Reserved, TooMany, Unfit}
+use Rattle.elf_types.specs.declared.errors.ElfError.TheVariants.{BadAlign, NoSection, Reserved, TooMany, Unfit}
 use Rattle.elf_xlate.specs.declared.content.Items.{Items}
 use Rattle.elf_xlate.specs.Headers.{IsEhdr, IsPhdr, IsShdr, ehdr_fits, shdr_fits}
-use Rattle.elf_xlate.specs.declared.content.Items.TheVariants as items
-use Rattle.elf_xlate.specs.Fields.{fits}
-use Rattle.elf_xlate.specs.Items.{IsSym, IsRel, IsRela, IsDyn, sym_fits, rel_fits, rela_fits, dyn_fits}
-use Rattle.elf_xlate.specs.Translation.{AreItems, decoded, items_count}
-use Rattle.std.specs.Prelude.{map}
-use Rattle.std.proofs.Math.Nat.{mod-lt}
-use Rattle.elf_object.specs.RangeLaws.{decoded_range}
-use Rattle.elf_object.specs.Runs.{addall, added, more, more_sym, more_rel, more_rela, more_dyn, or_same}
-use Rattle.elf_object.specs.Words.{refused_if, first_refusal, answered}
+use Rattle.elf_xlate.specs.Translation.{AreItems}
+use Rattle.elf_object.specs.Words.{refused_if}
 use Rattle.elf_object.specs.Object.{Object, Section, Piece, section_at, piece_at, new_section, home_piece, no_shdr, no_phdr, no_home}
 use Rattle.elf_object.specs.Steps.{new_number, with_section, with_piece_at, with_ehdr, stored_ehdr, with_phdrs, with_phdr, with_new_phdrs, with_shdr, with_new_section, with_null_section, with_new_piece, own_piece, with_own, with_mark, with_layout, with_flags, is_whole, with_fill}
-use Rattle.elf_object.specs.Calls.{step, after_answer, edit, update_ehdr, update_ehdr_refusal, update_phdr, update_phdr_refusal, newphdr, newphdr_refusal, phdrs_mut, update_shdr, update_shdr_refusal, newscn, newscn_refusal, newnull, newdata_aligned, newdata_refusal, unfit_items, flag_refusal, update_item, update_item_refusal, update_half, update_word, update_addr, update_sym, update_rel, update_rela, update_dynent, set_fill, replace, replace_refusal, flag, lend, is_piece_align}
-use Rattle.elf_object.specs.Answers.{content, or_empty, kind_at, halves_of, words_of, addrs_of, syms_of, rels_of, relas_of, dyns_of, lend_refusal, items_at, piece_count, flags_of, has_dirty, has_layout}
+use Rattle.elf_object.specs.Calls.{step, update_ehdr, update_ehdr_refusal, update_phdr, update_phdr_refusal, newphdr, newphdr_refusal, phdrs_mut, update_shdr, update_shdr_refusal, newscn, newscn_refusal, newnull, newdata_aligned, newdata_refusal, unfit_items, flag_refusal, set_fill, replace, replace_refusal, flag, lend, is_piece_align}
+use Rattle.elf_object.specs.Answers.{lend_refusal, items_at, piece_count, flags_of, has_dirty, has_layout}
 use Rattle.elf_object.specs.Valid.{IsHome, IsPiece, OthersOwn, IsSection, IsObject, KeepsObject}
-use Rattle.elf_object.specs.PassedLaws.{none_first, none_rest, not_refused, not_not, passed_two, passed_three, passed_one, answered_keeps, edit_keeps}
+use Rattle.elf_object.specs.PassedLaws.{not_refused, not_not, passed_two, passed_three, passed_one, answered_keeps, edit_keeps}
 
 -- what holds of each item, and of what stands for none, holds of the item at any index
 pub at_or : {X : Type 0} (P : X → Type 0) (l : List X) (i : ℕ) (d : X) → All P l → P d → P (get_or l i d)

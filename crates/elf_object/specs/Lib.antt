@@ -26,11 +26,15 @@ pub mod ImageLaws
 pub mod StepLaws
 pub mod LengthLaws
 pub mod StandLaws
+pub mod PartLaws
 pub mod AgainLaws
+pub mod ContentLaws
 pub mod OpenLaws
 pub mod Laws
 pub mod TornLaws
 pub mod ReopenLaws
+pub mod HeaderLaws
+pub mod CountLaws
 pub mod FrontLaws
 pub mod SettledLaws
 pub mod ItemLaws
