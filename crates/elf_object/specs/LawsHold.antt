@@ -2,14 +2,13 @@
 use Rattle.std.proofs.Common.{ap, ◌∙◌}
 use Rattle.elf_object.specs.Object.{Object, section_at}
 use Rattle.elf_object.specs.Layout.{places_of}
-use Rattle.elf_object.specs.Laws.{PartsStand, BeginningsAre, BeginningsAreTied, CleanStays, EveryStepKeeps, EveryStepKeepsTied, PartsDoNotMeet, RefusedStays, ReopenLaw, SizesAreLengths, UpdatesTie}
+use Rattle.elf_object.specs.Laws.{PartsStand, BeginningsAre, CleanStays, EveryStepKeeps, PartsDoNotMeet, RefusedStays, SizesAreLengths}
 use Rattle.elf_object.specs.ImageLaws.{step-refused, image-clean, placed-clean, placed-dirty, length-image, length-joined, size-placed, parts_apart}
 use Rattle.elf_object.specs.OpenLaws.{created_is, opened_is}
 use Rattle.elf_object.specs.StandLaws.{part_in_image}
 use Rattle.elf_object.specs.KeepLaws as keep
 use Rattle.elf_object.specs.KeepItemLaws as keep_items
 use Rattle.elf_object.specs.PlacedLaws as placed_laws
-use Rattle.elf_object.specs.TiedLaws as ties
 
 pub clean_stays : CleanStays
 clean_stays = record { same_image = image-clean; same_object = placed-clean }
@@ -42,31 +41,6 @@ every_step_keeps = record {
   addall = keep_items.addall_keeps;
 }
 
-pub every_step_keeps_tied : EveryStepKeepsTied
-every_step_keeps_tied = record {
-  update_ehdr = ties.update_ehdr_ties;
-  update_phdr = ties.update_phdr_ties;
-  newphdr = ties.newphdr_ties;
-  phdrs_mut = ties.phdrs_mut_ties;
-  update_shdr = ties.update_shdr_ties;
-  newscn = ties.newscn_ties;
-  newnull = ties.newnull_ties;
-  newdata = ties.newdata_ties;
-  set_fill = ties.set_fill_ties;
-  replace = ties.replace_ties;
-  flag = ties.flag_ties;
-  update_null = ties.update_null_ties;
-  lend = ties.lend_ties;
-  update_half = ties.update_half_ties;
-  update_word = ties.update_word_ties;
-  update_addr = ties.update_addr_ties;
-  update_sym = ties.update_sym_ties;
-  update_rel = ties.update_rel_ties;
-  update_rela = ties.update_rela_ties;
-  update_dynent = ties.update_dynent_ties;
-  addall = ties.addall_ties;
-}
-
 pub sizes_are_lengths : SizesAreLengths
 sizes_are_lengths = record {
   of_pieces = length-joined;
@@ -83,9 +57,3 @@ beginnings_are = record { from_image = opened_is; from_nothing = created_is }
 
 pub parts_stand : (o : Object) → PartsStand o
 parts_stand o i b ok dirty passed at = part_in_image o i b ok dirty passed at
-
-pub beginnings_are_tied : BeginningsAreTied
-beginnings_are_tied = record { from_image = ties.opened_ties; from_nothing = ties.created_ties }
-
-pub updates_tie : ((o : Object) → ReopenLaw o) → (o : Object) → UpdatesTie o
-updates_tie reopens o = record { settled = ties.settle_ties o (reopens o); torn = ties.torn_ties o }

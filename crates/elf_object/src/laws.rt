@@ -32,13 +32,13 @@ pub fn every_step_keeps()
 
 /// Every edit keeps that an object in which nothing is dirty is that of its base: it marks what it
 /// changes, or it changes only `ELF_F_LAYOUT` and the fill byte.
-#[tactic(auto, using(crate::specs::LawsHold::every_step_keeps_tied))]
+#[tactic(auto, using(crate::specs::TiedLaws::every_step_keeps_tied))]
 pub fn every_step_keeps_tied()
     ensures { EveryStepKeepsTied }
 {}
 
 /// An object is that of its base as it is opened or created.
-#[tactic(auto, using(crate::specs::LawsHold::beginnings_are_tied))]
+#[tactic(auto, using(crate::specs::TiedLaws::beginnings_are_tied))]
 pub fn beginnings_are_tied()
     ensures { BeginningsAreTied }
 {}

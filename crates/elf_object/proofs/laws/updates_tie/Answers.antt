@@ -1,4 +1,4 @@
-use Rattle.elf_object.specs.LawsHold.{updates_tie}
+use Rattle.elf_object.specs.TiedLaws.{updates_tie}
 use Rattle.elf_object.proofs.laws.updates_tie.Goals as goal
 
 pub returns : goal.returns
