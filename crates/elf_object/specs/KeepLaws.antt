@@ -275,7 +275,7 @@ newnull_keeps = edit_keeps IsObject (λ o. None) (λ o. tt) with_null_section (�
 -- ---- Pieces
 
 -- a section with other pieces
-pieces_kept : (class : Class) (c : Section) (l : List Piece) → IsSection class c → All IsPiece l → OthersOwn l → length l ≤ 2 ^ 20 → IsSection class (record c { pieces = l })
+pub pieces_kept : (class : Class) (c : Section) (l : List Piece) → IsSection class c → All IsPiece l → OthersOwn l → length l ≤ 2 ^ 20 → IsSection class (record c { pieces = l })
 pieces_kept class c l is each others count = record {
   header = is.header;
   fitting = is.fitting;
@@ -358,7 +358,7 @@ marked_own : (own : Option Items) (b : Bool) → IfSome own (λ items. AreItems 
 marked_own None b h = tt
 marked_own (Some items) b h = (h.0, refl)
 
-marked_is : (p : Piece) → IsPiece p → IsPiece (record p { marked = true })
+pub marked_is : (p : Piece) → IsPiece p → IsPiece (record p { marked = true })
 marked_is p is = record { align = is.align; own = marked_own p.own p.marked is.own }
 
 others_marked : (l : List Piece) (i : ℕ) → OthersOwn l → OthersOwn (set l i (record (get_or l i home_piece) { marked = true }))

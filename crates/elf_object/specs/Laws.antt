@@ -138,6 +138,12 @@ PartsStand o =
 abbrev pub ReopenLaw : Object → Type 0
 ReopenLaw o = IsObject o → IsTied o → refusal o ≡ None → opened (image o) ≡ Ok (as_opened (settle o))
 
+-- an image is made of bytes, and an update in place leaves an object, and so does one that failed
+pub record UpdatesKeep (o : Object) : Type 0 where
+  pub bytes : IsObject o → refusal o ≡ None → AreBytes (image o)
+  pub settled : IsObject o → refusal o ≡ None → IsObject (settle o)
+  pub torn : (bytes : List ℕ) → IsObject o → refusal o ≡ None → AreBytes bytes → length bytes < 2 ^ 64 → IsObject (torn o bytes)
+
 -- an update in place leaves an object that is that of its base, and so does one that failed
 pub record UpdatesTie (o : Object) : Type 0 where
   pub settled : IsObject o → IsTied o → refusal o ≡ None → IsTied (settle o)

@@ -22,6 +22,7 @@ pub mod PassedLaws
 pub mod KeepLaws
 pub mod KeepItemLaws
 pub mod PlacedLaws
+pub mod ByteLaws
 pub mod ImageLaws
 pub mod StepLaws
 pub mod LengthLaws
@@ -39,5 +40,6 @@ pub mod FrontLaws
 pub mod SettledLaws
 pub mod ItemLaws
 pub mod TiedLaws
+pub mod UpdateLaws
 pub mod LawsHold
 pub mod Samples

@@ -49,7 +49,7 @@ use Rattle.elf_object.specs.SettledLaws.{settle-dirty, settle-clean}
 -- ---- What ties
 
 -- where something is dirty there is nothing to show
-tied_dirty : (o : Object) → is_dirty o ≡ true → IsTied o
+pub tied_dirty : (o : Object) → is_dirty o ≡ true → IsTied o
 tied_dirty o dirty clean = let clash : true ≡ false = sym dirty ∙ clean in cc
 
 -- the same marks and base, and what opening gives

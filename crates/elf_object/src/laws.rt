@@ -1,7 +1,7 @@
 //! Laws over the definitions. Each is the contract of a function that does nothing: what it ensures
 //! holds of every object, and is proved.
 
-ghost use Rattle.elf_object.specs.Laws.{BeginningsAre, BeginningsAreTied, CleanStays, EveryStepKeeps, EveryStepKeepsTied, PartsDoNotMeet, PartsStand, PlacedStays, RefusedStays, ReopenLaw, SettlingKeepsItems, SizesAreLengths, TornLaw, UpdatesTie};
+ghost use Rattle.elf_object.specs.Laws.{BeginningsAre, BeginningsAreTied, CleanStays, EveryStepKeeps, EveryStepKeepsTied, PartsDoNotMeet, PartsStand, PlacedStays, RefusedStays, ReopenLaw, SettlingKeepsItems, SizesAreLengths, TornLaw, UpdatesKeep, UpdatesTie};
 ghost use Rattle.elf_object.specs.Object.{Object};
 
 use elf_xlate::{decodes_as_encoded, ehdr_both_ways, phdr_both_ways, shdr_both_ways};
@@ -80,6 +80,14 @@ pub fn reopen_law()
     ehdr_both_ways();
     phdr_both_ways();
     shdr_both_ways();
+}
+
+/// An image is made of bytes. An update in place leaves what makes an object, and so does one that
+/// failed and left bytes.
+pub fn updates_keep()
+    ensures { (o : Object) → UpdatesKeep o }
+{
+    reopen_law();
 }
 
 /// An update in place leaves an object that is that of its base, and so does one that failed.
