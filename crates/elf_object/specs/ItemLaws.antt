@@ -1,10 +1,10 @@
 -- Settling keeps the items of a piece that stands alone in its section.
-use Rattle.std.proofs.Common.{◌≡◌, ◌≢◌, ℕ, zero, suc, ◌+◌, ◌-◌, ◌*◌, ◌/◌, ◌%◌, ◌<◌, ◌≤◌, max, Bool, true, false, not, ◌&&◌, ◌||◌, List, [], ◌∷◌, ◌++◌, length, take, drop, get_or, Option, Some, None, Result, Ok, Err, refl, sym, ap, ◌∙◌, subst, arith, lit<, lit≤, ⊎_elim}
-use Rattle.std.specs.Prelude.{All, IfSome, IsTrue, nat_lt, nat_le, if◌then◌else◌, ◌==◌, map, slice_get}
+use Rattle.std.proofs.Common.{◌≡◌, ◌≢◌, ℕ, zero, suc, ◌+◌, ◌-◌, ◌%◌, ◌<◌, max, Bool, true, false, not, ◌&&◌, ◌||◌, List, [], ◌∷◌, length, take, drop, get_or, Option, Some, None, Result, Ok, Err, refl, sym, ap, ◌∙◌, subst, arith}
+use Rattle.std.specs.Prelude.{All, IfSome, IsTrue, nat_lt, if◌then◌else◌, ◌==◌, map}
 use Rattle.std.specs.List.{enumerate_from}
 use Rattle.std.specs.Option.{option_map}
-use Rattle.std.proofs.lemmas.Bool.{cases_lt, eq-eqb, eqb-true, ne_eqb, lt-ltb, le-ltb}
-use Rattle.std.proofs.lemmas.List.{length-map, get_or-map, take_all, length-take}
+use Rattle.std.proofs.lemmas.Bool.{eq-eqb, ne_eqb}
+use Rattle.std.proofs.lemmas.List.{get_or-map, take_all}
 use Rattle.std.proofs.lemmas.List.FromFn.{length-enumerate_from, get_or-enumerate_from}
 use Rattle.std.proofs.lemmas.List.Elements.{All-head}
 use Rattle.std.proofs.Math.Nat.{mod_self, mod-eq_of_lt}
@@ -22,20 +22,21 @@ use Rattle.elf_xlate.specs.Translation.{AreItems, DecodesAsEncoded, decoded, enc
 use Rattle.elf_layout.specs.declared.parts.Places.{Places}
 use Rattle.elf_layout.specs.Layout.{rounded_up}
 use Rattle.elf_object.specs.Words.{first_refusal}
-use Rattle.elf_object.specs.Blocks.{Block, block_end, stacked, last_end, spread}
+use Rattle.elf_object.specs.Blocks.{block_end, stacked, last_end, spread}
 use Rattle.elf_object.specs.BlockLaws.{length-spread, take-drop-spread}
-use Rattle.elf_object.specs.Object.{Object, Section, Piece, new_section, section_at, header_of, has_file_bytes, occupies_file, is_null, is_dirty}
+use Rattle.elf_object.specs.Object.{Object, Section, Piece, new_section, section_at, header_of, has_file_bytes, occupies_file, is_null}
 use Rattle.elf_object.specs.Open.{extent_of, home_of, home_bytes}
 use Rattle.elf_object.specs.Answers.{content}
 use Rattle.elf_object.specs.Joined.{piece_bytes, aligned_pieces, piece_blocks, pieces_end, joined}
 use Rattle.elf_object.specs.Derived.{derived_header, numbered_shdr}
-use Rattle.elf_object.specs.Layout.{places_of, section_place, size_in_file, placed_header, placed_shdr, placed_section, placed_by, placed}
+use Rattle.elf_object.specs.Layout.{places_of, section_place, size_in_file, placed_header, placed_shdr, placed_by}
 use Rattle.elf_object.specs.Image.{image}
-use Rattle.elf_object.specs.Refusal.{unfit_in_piece, unfit_in_section, unfit_item, refusal}
-use Rattle.elf_object.specs.Settled.{settled_section, settled_over, settle}
-use Rattle.elf_object.specs.Valid.{IsPiece, IsSection, IsObject}
+use Rattle.elf_object.specs.Refusal.{unfit_in_piece, unfit_in_section, unfit_item}
+use Rattle.elf_object.specs.Settled.{settled_section, settled_over}
+use Rattle.elf_object.specs.Valid.{IsPiece}
 use Rattle.elf_object.specs.ImageLaws.{section_at-placed, placed-dirty}
-use Rattle.elf_object.specs.KeepLaws.{section_at_is, none_first, none_rest}
+use Rattle.elf_object.specs.PassedLaws.{none_first, none_rest}
+use Rattle.elf_object.specs.KeepLaws.{section_at_is}
 use Rattle.elf_object.specs.PlacedLaws.{update_passes}
 use Rattle.elf_object.specs.StandLaws.{section_count-placed, joined-placed}
 use Rattle.elf_object.specs.AgainLaws.{placed_section_header}

@@ -1,84 +1,29 @@
--- Each step keeps what makes an object (`IsObject`).
-use Rattle.std.proofs.Common.{◌≡◌, ℕ, zero, suc, ◌+◌, ◌^◌, ◌<◌, ◌≤◌, Bool, true, false, not, ◌&&◌, List, [], ◌∷◌, ◌++◌, length, get_or, set, replicate, Option, Some, None, Ok, Err, refl, sym, ap, ◌∙◌, subst, arith, lit<, lit≤, ⊎_elim}
+-- Each step on headers, sections and pieces keeps what makes an object (`IsObject`).
+use Rattle.std.proofs.Common.{◌≡◌, ℕ, zero, suc, ◌+◌, ◌^◌, ◌<◌, ◌≤◌, Bool, true, false, not, ◌&&◌, List, [], ◌∷◌, ◌++◌, length, get_or, set, replicate, Option, Some, None, refl, sym, ap, ◌∙◌, subst, arith, lit<, lit≤, ⊎_elim}
 use Rattle.std.specs.Prelude.{All, IfSome, IsSome, IsTrue, nat_le, nat_lt, if◌then◌else◌, ◌==◌}
 use lib.Count.{ones}
 use Rattle.std.proofs.lemmas.Bool.{le-leb, leb-false, ltb-false, eqb-true, cases_lt}
 use Rattle.std.proofs.lemmas.List.{length-set, length-append, length-replicate, get_or_past, set_past, nil_from_length, length_push}
-use Rattle.std.proofs.lemmas.List.Elements.{All-nil, All-cons, All-set, All-append, All-replicate, All-push, All-get_or, All-head, All-tail}
+use Rattle.std.proofs.lemmas.List.Elements.{All-nil, All-cons, All-set, All-append, All-replicate, All-push, All-get_or}
 use Rattle.elf_types.specs.declared.records.Class.{Class}
 use Rattle.elf_types.specs.declared.records.Class.TheVariants.{C32, C64}
-use Rattle.elf_types.specs.declared.records.Order.{Order}
-use Rattle.elf_types.specs.declared.records.Sym.{Sym}
-use Rattle.elf_types.specs.declared.records.Rel.{Rel}
-use Rattle.elf_types.specs.declared.records.Rela.{Rela}
-use Rattle.elf_types.specs.declared.records.Dyn.{Dyn}
 use Rattle.elf_types.specs.declared.records.Ehdr.{Ehdr}
 use Rattle.elf_types.specs.declared.records.Phdr.{Phdr}
 use Rattle.elf_types.specs.declared.records.Shdr.{Shdr}
 use Rattle.elf_types.specs.declared.records.Kind.{Kind}
-use Rattle.elf_types.specs.declared.records.Kind.TheVariants as kinds
 use Rattle.elf_types.specs.declared.records.Part.{Part}
 use Rattle.elf_types.specs.declared.records.Part.TheVariants as part
-use Rattle.elf_types.specs.declared.errors.ElfError.{ElfError}
-use Rattle.elf_types.specs.declared.errors.ElfError.TheVariants.{BadAlign, NoSection, OutOfFile, Ragged, Reserved, TooMany, Unfit}
+use Rattle.elf_types.specs.declared.errors.ElfError.TheVariants.{BadAlign, NoSection, Reserved, TooMany, Unfit}
 use Rattle.elf_xlate.specs.declared.content.Items.{Items}
 use Rattle.elf_xlate.specs.Headers.{IsEhdr, IsPhdr, IsShdr, ehdr_fits, shdr_fits}
-use Rattle.elf_xlate.specs.declared.content.Items.TheVariants as items
-use Rattle.elf_xlate.specs.Fields.{fits}
-use Rattle.elf_xlate.specs.Items.{IsSym, IsRel, IsRela, IsDyn, sym_fits, rel_fits, rela_fits, dyn_fits}
-use Rattle.elf_xlate.specs.Translation.{AreItems, decoded, items_count}
-use Rattle.std.specs.Prelude.{map}
-use Rattle.std.proofs.Math.Nat.{mod-lt}
-use Rattle.elf_object.specs.RangeLaws.{decoded_range}
-use Rattle.elf_object.specs.Runs.{addall, added, more, more_sym, more_rel, more_rela, more_dyn, or_same}
-use Rattle.elf_object.specs.Words.{refused_if, first_refusal, answered}
+use Rattle.elf_xlate.specs.Translation.{AreItems}
+use Rattle.elf_object.specs.Words.{refused_if}
 use Rattle.elf_object.specs.Object.{Object, Section, Piece, section_at, piece_at, new_section, home_piece, no_shdr, no_phdr, no_home}
 use Rattle.elf_object.specs.Steps.{new_number, with_section, with_piece_at, with_ehdr, stored_ehdr, with_phdrs, with_phdr, with_new_phdrs, with_shdr, with_new_section, with_null_section, with_new_piece, own_piece, with_own, with_mark, with_layout, with_flags, is_whole, with_fill}
-use Rattle.elf_object.specs.Calls.{step, after_answer, edit, update_ehdr, update_ehdr_refusal, update_phdr, update_phdr_refusal, newphdr, newphdr_refusal, phdrs_mut, update_shdr, update_shdr_refusal, newscn, newscn_refusal, newnull, newdata_aligned, newdata_refusal, unfit_items, flag_refusal, update_item, update_item_refusal, update_half, update_word, update_addr, update_sym, update_rel, update_rela, update_dynent, set_fill, replace, replace_refusal, flag, lend, is_piece_align}
-use Rattle.elf_object.specs.Answers.{content, or_empty, kind_at, halves_of, words_of, addrs_of, syms_of, rels_of, relas_of, dyns_of, lend_refusal, items_at, piece_count, flags_of, has_dirty, has_layout}
+use Rattle.elf_object.specs.Calls.{step, update_ehdr, update_ehdr_refusal, update_phdr, update_phdr_refusal, newphdr, newphdr_refusal, phdrs_mut, update_shdr, update_shdr_refusal, newscn, newscn_refusal, newnull, newdata_aligned, newdata_refusal, unfit_items, flag_refusal, set_fill, replace, replace_refusal, flag, lend, is_piece_align}
+use Rattle.elf_object.specs.Answers.{lend_refusal, items_at, piece_count, flags_of, has_dirty, has_layout}
 use Rattle.elf_object.specs.Valid.{IsHome, IsPiece, OthersOwn, IsSection, IsObject, KeepsObject}
-
--- ---- Refusals that did not come
-
-pub none_first : (r : Option ElfError) (rs : List (Option ElfError)) → first_refusal (r ∷ rs) ≡ None → r ≡ None
-none_first None rs h = refl
-none_first (Some e) rs h = cc
-
-pub none_rest : (r : Option ElfError) (rs : List (Option ElfError)) → first_refusal (r ∷ rs) ≡ None → first_refusal rs ≡ None
-none_rest None rs h = h
-none_rest (Some e) rs h = cc
-
-not_refused : (b : Bool) (e : ElfError) → refused_if b e ≡ None → b ≡ false
-not_refused false e h = refl
-not_refused true e h = cc
-
-not_not : (b : Bool) → not b ≡ false → IsTrue b
-not_not true h = refl
-not_not false h = cc
-
--- two, three and five tests in a row
-passed_two : (a b : Bool) (x y : ElfError) → first_refusal (refused_if a x ∷ refused_if b y ∷ []) ≡ None → (a ≡ false) × (b ≡ false)
-passed_two false false x y h = (refl, refl)
-passed_two false true x y h = cc
-passed_two true b x y h = cc
-
-passed_three : (a b c : Bool) (x y z : ElfError) → first_refusal (refused_if a x ∷ refused_if b y ∷ refused_if c z ∷ []) ≡ None → (a ≡ false) × (b ≡ false) × (c ≡ false)
-passed_three false b c x y z h = let rest = passed_two b c y z h in (refl, rest.0, rest.1)
-passed_three true b c x y z h = cc
-
--- the first of several tests
-passed_one : (a : Bool) (x : ElfError) (rs : List (Option ElfError)) → first_refusal (refused_if a x ∷ rs) ≡ None → (a ≡ false) × (first_refusal rs ≡ None)
-passed_one false x rs h = (refl, h)
-passed_one true x rs h = cc
-
--- an edit is as it was, or stepped where nothing was refused
-pub answered_keeps : {A : Type 0} (P : Object → Type 0) (r : Option ElfError) (v : A) (old stepped : Object) → P old → (r ≡ None → P stepped) → P (after_answer (answered r v) old stepped)
-answered_keeps P None v old stepped h k = k refl
-answered_keeps P (Some e) v old stepped h k = h
-
-pub edit_keeps : {A : Type 0} (refusal : Object → Option ElfError) (value : Object → A) (after : Object → Object) → ((o : Object) → IsObject o → refusal o ≡ None → IsObject (after o)) → KeepsObject (edit refusal value after)
-unfolding step
-edit_keeps refusal value after k o h = answered_keeps IsObject (refusal o) (value o) o (after o) h (k o h)
+use Rattle.elf_object.specs.PassedLaws.{not_refused, not_not, passed_two, passed_three, passed_one, answered_keeps, edit_keeps}
 
 -- what holds of each item, and of what stands for none, holds of the item at any index
 pub at_or : {X : Type 0} (P : X → Type 0) (l : List X) (i : ℕ) (d : X) → All P l → P d → P (get_or l i d)
@@ -133,7 +78,7 @@ ehdr_stored o h ok is passed =
     }
 
 pub update_ehdr_keeps : (h : Ehdr) → IsEhdr h → KeepsObject (update_ehdr h)
-update_ehdr_keeps h is = edit_keeps (λ o. update_ehdr_refusal o h) (λ o. tt) (λ o. with_ehdr o h) (λ o ok passed. ehdr_stored o h ok is passed)
+update_ehdr_keeps h is = edit_keeps IsObject (λ o. update_ehdr_refusal o h) (λ o. tt) (λ o. with_ehdr o h) (λ o ok passed. ehdr_stored o h ok is passed)
 
 -- ---- Program headers
 
@@ -156,12 +101,12 @@ phdrs_kept o l ok each count = record {
 
 pub update_phdr_keeps : (i : ℕ) (p : Phdr) → IsPhdr p → KeepsObject (update_phdr i p)
 unfolding with_phdr
-update_phdr_keeps i p is = edit_keeps (λ o. update_phdr_refusal o i p) (λ o. tt) (λ o. with_phdr o i p) (λ o ok passed.
+update_phdr_keeps i p is = edit_keeps IsObject (λ o. update_phdr_refusal o i p) (λ o. tt) (λ o. with_phdr o i p) (λ o ok passed.
     let count : length (set o.phdrs i p) ≤ 2 ^ 20 = rw length-set (ok.phdr_count) in
     phdrs_kept o (set o.phdrs i p) ok (All-set IsPhdr o.phdrs i p is ok.phdrs) count)
 
 pub phdrs_mut_keeps : (left : List Phdr) → All IsPhdr left → length left ≤ 2 ^ 20 → KeepsObject (phdrs_mut left)
-phdrs_mut_keeps left each count = edit_keeps (λ o. None) (λ o. tt) (λ o. with_phdrs o left) (λ o ok passed. phdrs_kept o left ok each count)
+phdrs_mut_keeps left each count = edit_keeps IsObject (λ o. None) (λ o. tt) (λ o. with_phdrs o left) (λ o ok passed. phdrs_kept o left ok each count)
 
 no_phdr_is : IsPhdr no_phdr
 no_phdr_is = record {
@@ -177,7 +122,7 @@ no_phdr_is = record {
 
 pub newphdr_keeps : (n : ℕ) → KeepsObject (newphdr n)
 unfolding with_new_phdrs
-newphdr_keeps n = edit_keeps (λ o. newphdr_refusal n) (λ o. tt) (λ o. with_new_phdrs o n) (λ o ok passed.
+newphdr_keeps n = edit_keeps IsObject (λ o. newphdr_refusal n) (λ o. tt) (λ o. with_new_phdrs o n) (λ o ok passed.
     let small = ltb-false 65534 n (not_refused (nat_lt 65534 n) TooMany passed) in
     let count : length (replicate n no_phdr) ≤ 2 ^ 20 = rw length-replicate (omega arith) in
     phdrs_kept o (replicate n no_phdr) ok (All-replicate IsPhdr n no_phdr no_phdr_is) count)
@@ -250,7 +195,7 @@ section_at_is o s ok = at_or (IsSection o.header.class) o.sections s new_section
 
 pub update_shdr_keeps : (s : ℕ) (h : Shdr) → IsShdr h → KeepsObject (update_shdr s h)
 unfolding update_shdr_refusal with_shdr
-update_shdr_keeps s h is = edit_keeps (λ o. update_shdr_refusal o s h) (λ o. tt) (λ o. with_shdr o s h) (λ o ok passed.
+update_shdr_keeps s h is = edit_keeps IsObject (λ o. update_shdr_refusal o s h) (λ o. tt) (λ o. with_shdr o s h) (λ o ok passed.
     let tests = passed_three (nat_le (length o.sections) s) (s == 0) (not (shdr_fits o.header.class h)) (NoSection s (length o.sections)) Reserved (Unfit (part.Section s) 0) passed in
     let old = section_at_is o s ok in
     section_kept o s (record (section_at o s) { header = h; marked = true }) ok (record {
@@ -300,7 +245,7 @@ added_are class false = All-cons (IsSection class) new_section [] (new_section_i
 
 pub newscn_keeps : KeepsObject newscn
 unfolding with_new_section
-newscn_keeps = edit_keeps newscn_refusal new_number with_new_section (λ o ok passed.
+newscn_keeps = edit_keeps IsObject newscn_refusal new_number with_new_section (λ o ok passed.
     let room = leb-false (2 ^ 20) (length o.sections) (not_refused (nat_le (2 ^ 20) (length o.sections)) TooMany passed) in
     sections_more o (added_sections (length o.sections)) ok (added_are o.header.class (length o.sections == 0)) (added_count (length o.sections) room)
     (nil_front o.sections (added_sections (length o.sections))))
@@ -324,13 +269,13 @@ null_keeps false o ok none = ok
 
 pub newnull_keeps : KeepsObject newnull
 unfolding with_null_section
-newnull_keeps = edit_keeps (λ o. None) (λ o. tt) with_null_section (λ o ok passed.
+newnull_keeps = edit_keeps IsObject (λ o. None) (λ o. tt) with_null_section (λ o ok passed.
     null_keeps (length o.sections == 0) o ok (λ h. nil_from_length o.sections (eqb-true (length o.sections) 0 h)))
 
 -- ---- Pieces
 
 -- a section with other pieces
-pieces_kept : (class : Class) (c : Section) (l : List Piece) → IsSection class c → All IsPiece l → OthersOwn l → length l ≤ 2 ^ 20 → IsSection class (record c { pieces = l })
+pub pieces_kept : (class : Class) (c : Section) (l : List Piece) → IsSection class c → All IsPiece l → OthersOwn l → length l ≤ 2 ^ 20 → IsSection class (record c { pieces = l })
 pieces_kept class c l is each others count = record {
   header = is.header;
   fitting = is.fitting;
@@ -364,7 +309,7 @@ pub piece_at_is : (o : Object) (s p : ℕ) → IsObject o → IsPiece (piece_at 
 unfolding piece_at
 piece_at_is o s p ok = at_or IsPiece (section_at o s).pieces p home_piece (section_at_is o s ok).pieces home_piece_is
 
-with_own_is : (o : Object) (s p : ℕ) (items : Items) → IsObject o → AreItems items → IsObject (with_own o s p items)
+pub with_own_is : (o : Object) (s p : ℕ) (items : Items) → IsObject o → AreItems items → IsObject (with_own o s p items)
 unfolding with_own with_piece_at
 with_own_is o s p items ok are =
     let old = section_at_is o s ok in
@@ -376,7 +321,7 @@ with_own_is o s p items ok are =
     (rw length-set (old.piece_count)))
 
 pub replace_keeps : (s p : ℕ) (items : Items) → AreItems items → KeepsObject (replace s p items)
-replace_keeps s p items are = edit_keeps (λ o. replace_refusal o s p items) (λ o. tt) (λ o. with_own o s p items) (λ o ok passed. with_own_is o s p items ok are)
+replace_keeps s p items are = edit_keeps IsObject (λ o. replace_refusal o s p items) (λ o. tt) (λ o. with_own o s p items) (λ o ok passed. with_own_is o s p items ok are)
 
 pub lend_keeps : (kind : Kind) (s p : ℕ) (left : Items) → AreItems left → KeepsObject (lend kind s p left)
 unfolding step
@@ -396,7 +341,7 @@ with_new_piece_is o s items align ok are aligned room =
 pub newdata_keeps : (s : ℕ) (items : Items) (align : ℕ) → AreItems items → KeepsObject (newdata_aligned s items align)
 unfolding newdata_refusal
 newdata_keeps s items align are =
-    edit_keeps (λ o. newdata_refusal o s items align) (λ o. (s, piece_count o s)) (λ o. with_new_piece o s items align) (λ o ok passed.
+    edit_keeps IsObject (λ o. newdata_refusal o s items align) (λ o. (s, piece_count o s)) (λ o. with_new_piece o s items align) (λ o ok passed.
     let fits = unfit_items o s (piece_count o s) items ∷ [] in
     let fourth = refused_if (not (is_piece_align align)) (BadAlign align) ∷ fits in
     let third = refused_if (nat_le (2 ^ 20) (piece_count o s)) TooMany ∷ fourth in
@@ -413,7 +358,7 @@ marked_own : (own : Option Items) (b : Bool) → IfSome own (λ items. AreItems 
 marked_own None b h = tt
 marked_own (Some items) b h = (h.0, refl)
 
-marked_is : (p : Piece) → IsPiece p → IsPiece (record p { marked = true })
+pub marked_is : (p : Piece) → IsPiece p → IsPiece (record p { marked = true })
 marked_is p is = record { align = is.align; own = marked_own p.own p.marked is.own }
 
 others_marked : (l : List Piece) (i : ℕ) → OthersOwn l → OthersOwn (set l i (record (get_or l i home_piece) { marked = true }))
@@ -489,12 +434,12 @@ flagged false false set o p ok = ok
 
 pub flag_keeps : (p : Part) (set : Bool) (bits : ℕ) → KeepsObject (flag p set bits)
 unfolding with_flags
-flag_keeps p set bits = edit_keeps (λ o. flag_refusal o p set bits) (λ o. flags_of (with_flags o p set bits) p) (λ o. with_flags o p set bits)
+flag_keeps p set bits = edit_keeps IsObject (λ o. flag_refusal o p set bits) (λ o. flags_of (with_flags o p set bits) p) (λ o. with_flags o p set bits)
     (λ o ok passed. flagged (set && has_dirty bits) (is_whole p && has_layout bits) set o p ok)
 
 pub set_fill_keeps : (byte : ℕ) → byte < 2 ^ 8 → KeepsObject (set_fill byte)
 unfolding with_fill
-set_fill_keeps byte small = edit_keeps (λ o. None) (λ o. tt) (λ o. with_fill o byte) (λ o ok passed. record {
+set_fill_keeps byte small = edit_keeps IsObject (λ o. None) (λ o. tt) (λ o. with_fill o byte) (λ o ok passed. record {
   header = ok.header;
   fitting = ok.fitting;
   pad = ok.pad;
@@ -508,107 +453,3 @@ set_fill_keeps byte small = edit_keeps (λ o. None) (λ o. tt) (λ o. with_fill 
   base_length = ok.base_length;
   fill = small;
 })
-
--- ---- Items
-
-content_are : (c : Section) (class : Class) (order : Order) (s : ℕ) → IsSection class c → AreItems (or_empty (if c.home.out then Err (OutOfFile s) else (elim (decoded c.home.kind class order c.raw) [ None ↦ Err (Ragged s) | Some items ↦ Ok items ])))
-content_are c class order s is = by_test c.home.out (decoded c.home.kind class order c.raw) refl
-  where
-    by_test : (out : Bool) (made : Option Items) → decoded c.home.kind class order c.raw ≡ made → AreItems (or_empty (if out then Err (OutOfFile s) else (elim made [ None ↦ Err (Ragged s) | Some items ↦ Ok items ])))
-    by_test true made e = tt
-    by_test false None e = tt
-    by_test false (Some items) e = decoded_range c.home.kind class order c.raw items is.home.bytes e
-
-own_or : (own : Option Items) (b : Bool) (content : Items) → AreItems content → IfSome own (λ items. AreItems items × IsTrue b) → AreItems (elim own [ None ↦ content | Some items ↦ items ])
-own_or None b content are own = are
-own_or (Some items) b content are own = own.0
-
--- the items of an object are in the range of their types
-pub items_at_are : (o : Object) (s p : ℕ) → IsObject o → AreItems (items_at o s p)
-unfolding items_at content
-items_at_are o s p ok =
-    own_or (piece_at o s p).own (piece_at o s p).marked (or_empty (content o s))
-    (content_are (section_at o s) o.header.class o.header.order s (section_at_is o s ok)) (piece_at_is o s p ok).own
-
-update_item_keeps : (kind : Kind) (s p i : ℕ) (fitting : Class → Bool) (stored : Items → Items) → ((l : Items) → AreItems l → AreItems (stored l)) → KeepsObject (update_item kind s p i fitting stored)
-unfolding step
-update_item_keeps kind s p i fitting stored holds o ok =
-    answered_keeps IsObject (update_item_refusal o kind s p i (fitting o.header.class)) tt o (with_own o s p (stored (items_at o s p))) ok
-    (λ passed. with_own_is o s p (stored (items_at o s p)) ok (holds (items_at o s p) (items_at_are o s p ok)))
-
-halves_are : (l : Items) → AreItems l → All (λ n. n < 2 ^ 16) (halves_of l)
-halves_are (items.Half l) are = are
-halves_are _ are = All-nil (λ n. n < 2 ^ 16)
-
-words_are : (l : Items) → AreItems l → All (λ n. n < 2 ^ 32) (words_of l)
-words_are (items.Word l) are = are
-words_are _ are = All-nil (λ n. n < 2 ^ 32)
-
-addrs_are : (l : Items) → AreItems l → All (λ n. n < 2 ^ 64) (addrs_of l)
-addrs_are (items.Addr l) are = are
-addrs_are _ are = All-nil (λ n. n < 2 ^ 64)
-
-syms_are : (l : Items) → AreItems l → All IsSym (syms_of l)
-syms_are (items.Sym l) are = are
-syms_are _ are = All-nil IsSym
-
-rels_are : (l : Items) → AreItems l → All IsRel (rels_of l)
-rels_are (items.Rel l) are = are
-rels_are _ are = All-nil IsRel
-
-relas_are : (l : Items) → AreItems l → All IsRela (relas_of l)
-relas_are (items.Rela l) are = are
-relas_are _ are = All-nil IsRela
-
-dyns_are : (l : Items) → AreItems l → All IsDyn (dyns_of l)
-dyns_are (items.Dyn l) are = are
-dyns_are _ are = All-nil IsDyn
-
-pub update_half_keeps : (s p i v : ℕ) → v < 2 ^ 16 → KeepsObject (update_half s p i v)
-update_half_keeps s p i v small = update_item_keeps kinds.Half s p i (λ c. true) (λ l. items.Half (set (halves_of l) i v)) (λ l are. All-set (λ n. n < 2 ^ 16) (halves_of l) i v small (halves_are l are))
-
-pub update_word_keeps : (s p i v : ℕ) → v < 2 ^ 32 → KeepsObject (update_word s p i v)
-update_word_keeps s p i v small = update_item_keeps kinds.Word s p i (λ c. true) (λ l. items.Word (set (words_of l) i v)) (λ l are. All-set (λ n. n < 2 ^ 32) (words_of l) i v small (words_are l are))
-
-pub update_addr_keeps : (s p i v : ℕ) → v < 2 ^ 64 → KeepsObject (update_addr s p i v)
-update_addr_keeps s p i v small = update_item_keeps kinds.Addr s p i (λ c. fits c v) (λ l. items.Addr (set (addrs_of l) i v)) (λ l are. All-set (λ n. n < 2 ^ 64) (addrs_of l) i v small (addrs_are l are))
-
-pub update_sym_keeps : (s p i : ℕ) (v : Sym) → IsSym v → KeepsObject (update_sym s p i v)
-update_sym_keeps s p i v is = update_item_keeps kinds.Sym s p i (λ c. sym_fits c v) (λ l. items.Sym (set (syms_of l) i v)) (λ l are. All-set IsSym (syms_of l) i v is (syms_are l are))
-
-pub update_rel_keeps : (s p i : ℕ) (v : Rel) → IsRel v → KeepsObject (update_rel s p i v)
-update_rel_keeps s p i v is = update_item_keeps kinds.Rel s p i (λ c. rel_fits c v) (λ l. items.Rel (set (rels_of l) i v)) (λ l are. All-set IsRel (rels_of l) i v is (rels_are l are))
-
-pub update_rela_keeps : (s p i : ℕ) (v : Rela) → IsRela v → KeepsObject (update_rela s p i v)
-update_rela_keeps s p i v is = update_item_keeps kinds.Rela s p i (λ c. rela_fits c v) (λ l. items.Rela (set (relas_of l) i v)) (λ l are. All-set IsRela (relas_of l) i v is (relas_are l are))
-
-pub update_dynent_keeps : (s p i : ℕ) (v : Dyn) → IsDyn v → KeepsObject (update_dynent s p i v)
-update_dynent_keeps s p i v is = update_item_keeps kinds.Dyn s p i (λ c. dyn_fits c v) (λ l. items.Dyn (set (dyns_of l) i v)) (λ l are. All-set IsDyn (dyns_of l) i v is (dyns_are l are))
-
--- ---- A number added to each item
-
-each_more : {X : Type 0} (P : X → Type 0) (f : X → X) → ((x : X) → P x → P (f x)) → (l : List X) → All P l → All P (map f l)
-each_more P f holds [] each = All-nil P
-each_more P f holds (x ∷ l) each = All-cons P (f x) (map f l) (holds x (All-head P x l each)) (each_more P f holds l (All-tail P x l each))
-
-added_are_items : (n : ℕ) (l : Items) → AreItems l → AreItems (added n l)
-unfolding added
-added_are_items n items.Empty are = tt
-added_are_items n (items.Bytes l) are = each_more (λ x. x < 2 ^ 8) (more 8 n) (λ x h. mod-lt (x + n) (lit< tt)) l are
-added_are_items n (items.Half l) are = each_more (λ x. x < 2 ^ 16) (more 16 n) (λ x h. mod-lt (x + n) (lit< tt)) l are
-added_are_items n (items.Word l) are = each_more (λ x. x < 2 ^ 32) (more 32 n) (λ x h. mod-lt (x + n) (lit< tt)) l are
-added_are_items n (items.Addr l) are = each_more (λ x. x < 2 ^ 64) (more 64 n) (λ x h. mod-lt (x + n) (lit< tt)) l are
-added_are_items n (items.Sym l) are = each_more IsSym (more_sym n) (λ x h. record { name = h.name; info = h.info; other = h.other; shndx = h.shndx; value = mod-lt (x.value + n) (lit< tt); size = h.size }) l are
-added_are_items n (items.Rel l) are = each_more IsRel (more_rel n) (λ x h. record { offset = mod-lt (x.offset + n) (lit< tt); sym = h.sym; rtype = h.rtype }) l are
-added_are_items n (items.Rela l) are = each_more IsRela (more_rela n) (λ x h. record { offset = mod-lt (x.offset + n) (lit< tt); sym = h.sym; rtype = h.rtype; addend = h.addend }) l are
-added_are_items n (items.Dyn l) are = each_more IsDyn (more_dyn n) (λ x h. record { tag = h.tag; val = mod-lt (x.val + n) (lit< tt) }) l are
-
-or_same_is : (kind : Kind) (old stepped : Object) → IsObject old → IsObject stepped → IsObject (or_same kind old stepped)
-or_same_is kinds.Empty old stepped a b = a
-or_same_is _ old stepped a b = b
-
-pub addall_keeps : (s p n : ℕ) → KeepsObject (addall s p n)
-unfolding step
-addall_keeps s p n o ok =
-    answered_keeps IsObject (lend_refusal o (kind_at o s p) s p) (items_count (items_at o s p)) o (or_same (kind_at o s p) o (with_own o s p (added n (items_at o s p)))) ok
-    (λ passed. or_same_is (kind_at o s p) o (with_own o s p (added n (items_at o s p))) ok (with_own_is o s p (added n (items_at o s p)) ok (added_are_items n (items_at o s p) (items_at_are o s p ok))))

@@ -32,7 +32,7 @@ use Rattle.elf_object.specs.Changed.{torn}
 use Rattle.elf_object.specs.Calls.{Call, step}
 use Rattle.elf_object.specs.Calls as calls
 use Rattle.elf_object.specs.Runs as runs
-use Rattle.elf_object.specs.Valid.{AreBytes, IsObject, IsTied, KeepsObject, as_opened}
+use Rattle.elf_object.specs.Valid.{AreBytes, IsObject, IsTied, KeepsObject, KeepsTied, as_opened}
 
 -- with nothing dirty the image is the base, and an update leaves the object
 pub record CleanStays : Type 0 where
@@ -67,10 +67,39 @@ pub record EveryStepKeeps : Type 0 where
   pub update_dynent : (s p i : ℕ) (v : Dyn) → IsDyn v → KeepsObject (calls.update_dynent s p i v)
   pub addall : (s p n : ℕ) → KeepsObject (runs.addall s p n)
 
+-- every step keeps that an object in which nothing is dirty is that of its base
+pub record EveryStepKeepsTied : Type 0 where
+  pub update_ehdr : (h : Ehdr) → KeepsTied (calls.update_ehdr h)
+  pub update_phdr : (i : ℕ) (p : Phdr) → KeepsTied (calls.update_phdr i p)
+  pub newphdr : (n : ℕ) → KeepsTied (calls.newphdr n)
+  pub phdrs_mut : (left : List Phdr) → KeepsTied (calls.phdrs_mut left)
+  pub update_shdr : (s : ℕ) (h : Shdr) → KeepsTied (calls.update_shdr s h)
+  pub newscn : KeepsTied calls.newscn
+  pub newnull : KeepsTied calls.newnull
+  pub newdata : (s : ℕ) (items : Items) (align : ℕ) → KeepsTied (calls.newdata_aligned s items align)
+  pub set_fill : (byte : ℕ) → KeepsTied (calls.set_fill byte)
+  pub replace : (s p : ℕ) (items : Items) → KeepsTied (calls.replace s p items)
+  pub flag : (p : Part) (set : Bool) (bits : ℕ) → KeepsTied (calls.flag p set bits)
+  pub update_null : KeepsTied calls.update_null
+  pub lend : (kind : Kind) (s p : ℕ) (left : Items) → KeepsTied (calls.lend kind s p left)
+  pub update_half : (s p i v : ℕ) → KeepsTied (calls.update_half s p i v)
+  pub update_word : (s p i v : ℕ) → KeepsTied (calls.update_word s p i v)
+  pub update_addr : (s p i v : ℕ) → KeepsTied (calls.update_addr s p i v)
+  pub update_sym : (s p i : ℕ) (v : Sym) → KeepsTied (calls.update_sym s p i v)
+  pub update_rel : (s p i : ℕ) (v : Rel) → KeepsTied (calls.update_rel s p i v)
+  pub update_rela : (s p i : ℕ) (v : Rela) → KeepsTied (calls.update_rela s p i v)
+  pub update_dynent : (s p i : ℕ) (v : Dyn) → KeepsTied (calls.update_dynent s p i v)
+  pub addall : (s p n : ℕ) → KeepsTied (runs.addall s p n)
+
 -- an image that is opened gives an object, and so does creating one
 pub record BeginningsAre : Type 0 where
   pub from_image : (image : List ℕ) (o : Object) → AreBytes image → opened image ≡ Ok o → IsObject o
   pub from_nothing : (class : Class) (order : Order) (base : List ℕ) → AreBytes base → length base < 2 ^ 64 → IsObject (created_over class order base)
+
+-- an object is that of its base as it is opened or created
+pub record BeginningsAreTied : Type 0 where
+  pub from_image : (image : List ℕ) (o : Object) → opened image ≡ Ok o → IsTied o
+  pub from_nothing : (class : Class) (order : Order) (base : List ℕ) → IsTied (created_over class order base)
 
 -- sh_size as it is stored is the number of the section's bytes, which end with its last piece
 pub record SizesAreLengths : Type 0 where
@@ -108,6 +137,17 @@ PartsStand o =
 -- the image of an object, opened again, is that object settled, but for ELF_F_LAYOUT and the fill byte
 abbrev pub ReopenLaw : Object → Type 0
 ReopenLaw o = IsObject o → IsTied o → refusal o ≡ None → opened (image o) ≡ Ok (as_opened (settle o))
+
+-- an image is made of bytes, and an update in place leaves an object, and so does one that failed
+pub record UpdatesKeep (o : Object) : Type 0 where
+  pub bytes : IsObject o → refusal o ≡ None → AreBytes (image o)
+  pub settled : IsObject o → refusal o ≡ None → IsObject (settle o)
+  pub torn : (bytes : List ℕ) → IsObject o → refusal o ≡ None → AreBytes bytes → length bytes < 2 ^ 64 → IsObject (torn o bytes)
+
+-- an update in place leaves an object that is that of its base, and so does one that failed
+pub record UpdatesTie (o : Object) : Type 0 where
+  pub settled : IsObject o → IsTied o → refusal o ≡ None → IsTied (settle o)
+  pub torn : (bytes : List ℕ) → IsTied (torn o bytes)
 
 -- settling keeps the items of a piece that stands alone in a section from 1 on and is of the kind of its present header
 abbrev pub SettlingKeepsItems : Object → Type 0

@@ -7,6 +7,7 @@ use Rattle.elf_object.specs.ImageLaws.{step-refused, image-clean, placed-clean, 
 use Rattle.elf_object.specs.OpenLaws.{created_is, opened_is}
 use Rattle.elf_object.specs.StandLaws.{part_in_image}
 use Rattle.elf_object.specs.KeepLaws as keep
+use Rattle.elf_object.specs.KeepItemLaws as keep_items
 use Rattle.elf_object.specs.PlacedLaws as placed_laws
 
 pub clean_stays : CleanStays
@@ -30,14 +31,14 @@ every_step_keeps = record {
   flag = keep.flag_keeps;
   update_null = placed_laws.update_null_keeps;
   lend = keep.lend_keeps;
-  update_half = keep.update_half_keeps;
-  update_word = keep.update_word_keeps;
-  update_addr = keep.update_addr_keeps;
-  update_sym = keep.update_sym_keeps;
-  update_rel = keep.update_rel_keeps;
-  update_rela = keep.update_rela_keeps;
-  update_dynent = keep.update_dynent_keeps;
-  addall = keep.addall_keeps;
+  update_half = keep_items.update_half_keeps;
+  update_word = keep_items.update_word_keeps;
+  update_addr = keep_items.update_addr_keeps;
+  update_sym = keep_items.update_sym_keeps;
+  update_rel = keep_items.update_rel_keeps;
+  update_rela = keep_items.update_rela_keeps;
+  update_dynent = keep_items.update_dynent_keeps;
+  addall = keep_items.addall_keeps;
 }
 
 pub sizes_are_lengths : SizesAreLengths

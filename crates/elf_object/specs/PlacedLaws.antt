@@ -27,7 +27,8 @@ use Rattle.elf_object.specs.Image.{image_length}
 use Rattle.elf_object.specs.Valid.{IsSection, IsObject, KeepsObject}
 use Rattle.elf_object.specs.PlaceLaws.{AreNotTooLarge, IsFitting, not_too_large, within_limit, zero_fits, lens_limited}
 use Rattle.elf_object.specs.RangeLaws.{each_made}
-use Rattle.elf_object.specs.KeepLaws.{section_at_is, at_or, edit_keeps, none_first, none_rest}
+use Rattle.elf_object.specs.PassedLaws.{edit_keeps, none_first, none_rest}
+use Rattle.elf_object.specs.KeepLaws.{section_at_is, at_or}
 
 -- ---- Fits of headers
 
@@ -334,4 +335,4 @@ placed_is o ok passed = by_test (is_dirty o) refl
     by_test false e = ok
 
 pub update_null_keeps : KeepsObject update_null
-update_null_keeps = edit_keeps refusal image_length placed (λ o ok passed. placed_is o ok passed)
+update_null_keeps = edit_keeps IsObject refusal image_length placed (λ o ok passed. placed_is o ok passed)

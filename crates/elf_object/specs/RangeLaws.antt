@@ -35,7 +35,7 @@ weighed_below (b ∷ bytes) are =
     let power = pow-succ' 256 (length bytes) in
     rw (further, power) (omega arith)
 
-bytes_reverse : (bytes : List ℕ) → AreBytes bytes → AreBytes (reverse bytes)
+pub bytes_reverse : (bytes : List ℕ) → AreBytes bytes → AreBytes (reverse bytes)
 bytes_reverse bytes are k d h =
     let len = length-reverse bytes in
     let inside : k < length bytes = omega (arith, h, len) in

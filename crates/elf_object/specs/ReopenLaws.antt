@@ -1,39 +1,34 @@
 -- The image of an object, opened again, is that object settled: what of the image the front reads.
-use Rattle.std.proofs.Common.{◌≡◌, ℕ, zero, suc, ◌+◌, ◌-◌, ◌*◌, ◌/◌, ◌%◌, ◌^◌, ◌<◌, ◌≤◌, min, max, Bool, true, false, not, ◌&&◌, ◌||◌, List, [], ◌∷◌, ◌++◌, length, take, drop, get_or, Option, Some, None, Result, Ok, Err, refl, sym, ap, ◌∙◌, subst, arith, lit<, lit≤, ⊎_elim, eqb, leb, ltb}
-use Rattle.std.specs.Prelude.{All, IsTrue, nat_lt, nat_le, if◌then◌else◌, ◌==◌, map, flat_map, slice_get}
-use Rattle.std.specs.List.{range_with_len, AllByRecursion, position}
-use Rattle.std.proofs.lemmas.Bool.{cases_lt, eq-eqb, eqb-true, ltb-true, ltb-false, lt-ltb, le-ltb, le-leb, leb-true}
-use Rattle.std.proofs.lemmas.List.{length-map, length-take, length-drop, length-append, ext_get_or, get_or-map, take_at, drop_at, drop-drop, take-append-le, take_all, nil_from_length, get_or-append-add}
+use Rattle.std.proofs.Common.{◌≡◌, ℕ, zero, suc, ◌+◌, ◌-◌, ◌*◌, ◌<◌, ◌≤◌, true, List, [], ◌∷◌, ◌++◌, length, take, drop, get_or, Some, None, refl, sym, ap, ◌∙◌, subst, arith, lit<, ⊎_elim}
+use Rattle.std.specs.Prelude.{All, IsTrue, if◌then◌else◌, map, flat_map, slice_get}
+use Rattle.std.specs.List.{range_with_len}
+use Rattle.std.proofs.lemmas.Bool.{cases_lt}
+use Rattle.std.proofs.lemmas.List.{length-map, ext_get_or, take_at, drop_at, drop-drop}
 use Rattle.std.proofs.lemmas.List.FromFn.{length-map-range_with_len, get_or-map-range_with_len}
-use Rattle.std.proofs.lemmas.List.Elements.{All-get_or, All-head, All-tail}
 use Rattle.elf_types.specs.declared.records.Class.{Class}
 use Rattle.elf_types.specs.declared.records.Class.TheVariants.{C32, C64}
 use Rattle.elf_types.specs.declared.records.Order.{Order}
 use Rattle.elf_types.specs.declared.records.Ehdr.{Ehdr}
 use Rattle.elf_types.specs.declared.records.Phdr.{Phdr}
 use Rattle.elf_types.specs.declared.records.Shdr.{Shdr}
-use Rattle.elf_types.specs.declared.errors.ElfError.{ElfError}
-use Rattle.elf_xlate.specs.Headers.{ehdr_size, ehdr_of, ehdr_bytes, ehdr_fits, ident, IsEhdr, HasNarrowCounts, HoldsEhdr, phdr_size, phdr_of, phdr_bytes, phdr_fits, IsPhdr, shdr_size, shdr_of, shdr_bytes, shdr_fits, IsShdr}
+use Rattle.elf_xlate.specs.Headers.{ehdr_size, ehdr_bytes, ehdr_fits, IsEhdr, HasNarrowCounts, HoldsEhdr, phdr_size, phdr_of, phdr_bytes, phdr_fits, IsPhdr, shdr_size, shdr_of, shdr_bytes, shdr_fits, IsShdr}
 use Rattle.elf_xlate.specs.Translation.{items_of}
-use Rattle.elf_layout.specs.declared.parts.PartAt.{PartAt}
-use Rattle.elf_layout.specs.declared.parts.Places.{Places}
 use Rattle.elf_layout.specs.Layout.{limit_of, length_of, places_of as parts_places}
-use Rattle.elf_object.specs.Blocks.{Block, block_end, covers}
+use Rattle.elf_object.specs.Blocks.{Block, block_end}
 use Rattle.elf_object.specs.BlockLaws.{AreApart, AllApart, covers_at}
-use Rattle.elf_object.specs.Object.{Object, Section, WrittenFront, section_at, is_dirty}
+use Rattle.elf_object.specs.Object.{Object, is_dirty}
 use Rattle.elf_object.specs.Open.{written_front, segments_bytes, table_bytes}
-use Rattle.elf_object.specs.Joined.{joined}
-use Rattle.elf_object.specs.Derived.{where_any, derived_header, written_header, numbered_shdr}
-use Rattle.elf_object.specs.Layout.{section_numbers, parts_of, places_of, placed_by, placed}
+use Rattle.elf_object.specs.Derived.{written_header}
+use Rattle.elf_object.specs.Layout.{section_numbers, parts_of, places_of, placed}
 use Rattle.elf_object.specs.Image.{front_blocks, section_block, part_blocks, image_length, image}
 use Rattle.elf_object.specs.Refusal.{placing_refusal, refusal}
-use Rattle.elf_object.specs.Valid.{IsObject, IsSection}
+use Rattle.elf_object.specs.Valid.{IsObject}
 use Rattle.elf_object.specs.ImageLaws.{length-image, placed-dirty}
 use Rattle.elf_object.specs.PlaceLaws.{not_too_large}
 use Rattle.elf_object.specs.PlacedLaws.{update_passes, placed_is}
 use Rattle.elf_object.specs.AgainLaws.{class-placed}
-use Rattle.elf_object.specs.LengthLaws.{length-ehdr_bytes, length-phdr_bytes, length-shdr_bytes, length-segments_bytes, length-table_bytes}
-use Rattle.elf_object.specs.StandLaws.{PartsAreApart, parts_are_apart, part_in_image, get_each}
+use Rattle.elf_object.specs.LengthLaws.{length-ehdr_bytes, length-segments_bytes, length-table_bytes}
+use Rattle.elf_object.specs.StandLaws.{parts_are_apart, part_in_image, get_each}
 
 -- ---- What is taken of the translation of headers
 

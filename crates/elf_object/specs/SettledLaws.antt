@@ -1,13 +1,13 @@
 -- The image of an object, opened again, is that object settled.
-use Rattle.std.proofs.Common.{◌≡◌, ℕ, zero, suc, ◌+◌, ◌-◌, ◌*◌, ◌^◌, ◌<◌, ◌≤◌, Bool, true, false, not, ◌&&◌, ◌||◌, List, [], ◌∷◌, ◌++◌, length, take, drop, get_or, Option, Some, None, Result, Ok, Err, refl, sym, ap, ◌∙◌, subst, arith, lit<, lit≤, ⊎_elim, eqb, leb, ltb}
+use Rattle.std.proofs.Common.{◌≡◌, ℕ, zero, suc, ◌+◌, ◌-◌, ◌^◌, ◌<◌, ◌≤◌, Bool, true, false, not, ◌&&◌, ◌||◌, List, [], ◌∷◌, ◌++◌, length, take, drop, get_or, Option, Some, None, Result, Ok, refl, sym, ap, ◌∙◌, subst, arith, lit≤, ⊎_elim}
 use Rattle.std.specs.Prelude.{cond, All, IsTrue, nat_lt, nat_le, if◌then◌else◌, ◌==◌, map, slice_get}
 use Rattle.std.specs.List.{range_with_len, enumerate_from, position, position_from, AllByRecursion}
 use Rattle.std.specs.Option.{option_map}
-use Rattle.std.proofs.lemmas.Bool.{cases_lt, eq-eqb, eqb-true, ne_eqb, ltb-true, ltb-false, lt-ltb, le-ltb, le-leb, leb-true}
+use Rattle.std.proofs.lemmas.Bool.{cases_lt, eq-eqb, eqb-true, ltb-true, lt-ltb, le-ltb, le-leb}
 use Rattle.std.proofs.lemmas.List.{length-map, get_or-map, ext_get_or, nil_from_length}
 use Rattle.std.proofs.lemmas.Iterator.Adapters.{position_from-zero}
 use Rattle.std.proofs.lemmas.List.FromFn.{length-enumerate_from, get_or-enumerate_from}
-use Rattle.std.proofs.lemmas.List.Elements.{All-nil, All-cons, All-map, All-weaker, All-get_or, All-head, All-tail, All-from_recursion, recursion_from_All}
+use Rattle.std.proofs.lemmas.List.Elements.{All-map, All-weaker, All-from_recursion, recursion_from_All}
 use Rattle.elf_types.specs.declared.records.Class.{Class}
 use Rattle.elf_types.specs.declared.records.Ehdr.{Ehdr}
 use Rattle.elf_types.specs.declared.records.Phdr.{Phdr}
@@ -15,28 +15,28 @@ use Rattle.elf_types.specs.declared.records.Shdr.{Shdr}
 use Rattle.elf_types.specs.declared.records.Part.TheVariants as part
 use Rattle.elf_types.specs.declared.errors.ElfError.{ElfError}
 use Rattle.elf_types.specs.declared.errors.ElfError.TheVariants.{TooMany, Unfit}
-use Rattle.elf_xlate.specs.Headers.{ehdr_size, phdr_size, shdr_size, ehdr_fits, IsEhdr, HasNarrowCounts, phdr_fits, IsPhdr, shdr_fits, IsShdr}
-use Rattle.elf_layout.specs.declared.parts.Places.{Places}
+use Rattle.elf_xlate.specs.Headers.{phdr_size, shdr_size, ehdr_fits, IsEhdr, HasNarrowCounts, phdr_fits, IsPhdr, shdr_fits, IsShdr}
 use Rattle.elf_ident.specs.declared.fronts.Front.{Front}
-use Rattle.elf_ident.specs.Front.{front}
-use Rattle.elf_object.specs.Words.{refused_if, first_refusal}
+use Rattle.elf_object.specs.Words.{refused_if}
 use Rattle.elf_object.specs.Blocks.{Block, block_end}
-use Rattle.elf_object.specs.Object.{Object, Section, Home, home_piece, new_section, section_at, header_of, has_file_bytes, occupies_file, is_dirty}
+use Rattle.elf_object.specs.Object.{Object, Section, home_piece, new_section, section_at, header_of, has_file_bytes, occupies_file, is_dirty}
 use Rattle.elf_object.specs.Open.{extent_of, home_of, home_bytes, opened_section, written_front, standing_header, begun, begun_or_refused, opened}
 use Rattle.elf_object.specs.Joined.{joined}
 use Rattle.elf_object.specs.Derived.{where_any, derived_header, written_header, numbered_shdr}
 use Rattle.elf_object.specs.Layout.{section_numbers, places_of, table_place, placed_header, placed_shdr, placed_section, placed_by, placed}
 use Rattle.elf_object.specs.Image.{front_blocks, section_block, part_blocks, image_length, image}
-use Rattle.elf_object.specs.Refusal.{too_many, unfit_segment, unfit_item, missing_home, content_refusal, placing_refusal, refusal}
+use Rattle.elf_object.specs.Refusal.{too_many, unfit_segment, unfit_item, missing_home, content_refusal, refusal}
 use Rattle.elf_object.specs.Settled.{settled_section, settled_over, settle}
-use Rattle.elf_object.specs.Valid.{IsSection, IsObject, IsTied, as_opened}
-use Rattle.elf_object.specs.ImageLaws.{section_at-placed, joined-none, length-image, image-clean, placed-clean, placed-dirty, size-placed}
-use Rattle.elf_object.specs.KeepLaws.{none_first, none_rest, section_at_is}
-use Rattle.elf_object.specs.PlacedLaws.{EhdrFits, ehdr_fits_each, ehdr_fits_all, placed_is, update_passes}
-use Rattle.elf_object.specs.StandLaws.{PartsAreApart, parts_are_apart, part_in_image, get_each, section_count-placed, joined-placed, where_some}
+use Rattle.elf_object.specs.Valid.{IsSection, IsObject, as_opened}
+use Rattle.elf_object.specs.ImageLaws.{section_at-placed, joined-none, length-image, image-clean, placed-dirty, size-placed}
+use Rattle.elf_object.specs.PassedLaws.{none_first, none_rest}
+use Rattle.elf_object.specs.KeepLaws.{section_at_is}
+use Rattle.elf_object.specs.PlacedLaws.{ehdr_fits_each, ehdr_fits_all, placed_is, update_passes}
+use Rattle.elf_object.specs.StandLaws.{parts_are_apart, part_in_image, get_each, section_count-placed, joined-placed, where_some}
 use Rattle.elf_object.specs.AgainLaws.{stype-placed}
 use Rattle.elf_object.specs.ReopenLaws.{ReadsBack, StandsIn, image_stands}
-use Rattle.elf_object.specs.FrontLaws.{IsWritten, IsDerived, AreFitting, ArePhdrs, AreShdrs, headers_of, IsReadable, front_of, front_read}
+use Rattle.elf_object.specs.CountLaws.{IsDerived, AreFitting, headers_of}
+use Rattle.elf_object.specs.FrontLaws.{ArePhdrs, AreShdrs, IsReadable, front_of, front_read}
 use Rattle.elf_object.specs.Laws.{ReopenLaw}
 
 -- ---- A placed object can be read

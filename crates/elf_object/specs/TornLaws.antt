@@ -1,9 +1,9 @@
 -- A placed object stays, and an object whose write failed has the same image.
-use Rattle.std.proofs.Common.{◌≡◌, ℕ, zero, suc, ◌+◌, ◌-◌, ◌<◌, ◌≤◌, min, max, Bool, true, false, not, ◌&&◌, ◌||◌, List, [], ◌∷◌, ◌++◌, length, get_or, Option, Some, None, refl, sym, ap, ◌∙◌, subst, arith, ⊎_elim, inl, inr}
-use Rattle.std.specs.Prelude.{nat_lt, if◌then◌else◌, ◌==◌, ◌⊎◌, map, slice_index}
+use Rattle.std.proofs.Common.{◌≡◌, ℕ, ◌+◌, ◌<◌, ◌≤◌, Bool, true, false, not, ◌&&◌, ◌||◌, List, [], ◌∷◌, length, get_or, Option, Some, None, refl, sym, ap, ◌∙◌, subst, arith, ⊎_elim}
+use Rattle.std.specs.Prelude.{nat_lt, if◌then◌else◌, ◌==◌, map}
 use Rattle.std.specs.List.{enumerate_from, list_any}
-use Rattle.std.proofs.lemmas.Bool.{cases_lt, ltb-true, lt-ltb, le-ltb}
-use Rattle.std.proofs.lemmas.List.{length-map, get_or-map, get_or_past, ext_get_or}
+use Rattle.std.proofs.lemmas.Bool.{cases_lt, ltb-true, le-ltb}
+use Rattle.std.proofs.lemmas.List.{length-map, get_or-map, ext_get_or}
 use Rattle.std.proofs.lemmas.List.FromFn.{length-enumerate_from, get_or-enumerate_from}
 use Rattle.elf_types.specs.declared.records.Class.{Class}
 use Rattle.elf_types.specs.declared.records.Order.{Order}
@@ -11,25 +11,22 @@ use Rattle.elf_types.specs.declared.records.Ehdr.{Ehdr}
 use Rattle.elf_types.specs.declared.records.Shdr.{Shdr}
 use Rattle.elf_types.specs.declared.errors.ElfError.{ElfError}
 use Rattle.elf_xlate.specs.Translation.{encoded}
-use Rattle.elf_layout.specs.declared.parts.PartAt.{PartAt}
 use Rattle.elf_layout.specs.declared.parts.Places.{Places}
 use Rattle.elf_layout.specs.Layout.{length_from, length_of, standing, places_of as parts_places}
 use Rattle.elf_object.specs.Words.{first_refusal}
-use Rattle.elf_object.specs.Blocks.{Block, spread, byte_over, is_covered, stacked, last_end}
-use Rattle.elf_object.specs.BlockLaws.{length-spread, get_or-spread, byte_over-uncovered}
-use Rattle.elf_object.specs.Object.{Object, Home, Section, Piece, new_section, section_at, has_file_bytes, is_dirty, some_section_marked, some_piece_marked}
+use Rattle.elf_object.specs.Blocks.{spread, is_covered, stacked, last_end}
+use Rattle.elf_object.specs.BlockLaws.{get_or-spread, byte_over-uncovered}
+use Rattle.elf_object.specs.Object.{Object, Home, Section, new_section, section_at, has_file_bytes, is_dirty, some_section_marked, some_piece_marked}
 use Rattle.elf_object.specs.Joined.{piece_bytes, aligned_pieces, piece_blocks, pieces_end, joined}
 use Rattle.elf_object.specs.Layout.{parts_of, places_of, placed_header, placed_shdr, placed_section, placed_by, placed}
-use Rattle.elf_object.specs.Derived.{derived_header}
 use Rattle.elf_object.specs.Image.{part_blocks, uncovered_byte, kept_base, image_length, image}
 use Rattle.elf_object.specs.Refusal.{content_refusal, placing_refusal, refusal}
 use Rattle.elf_object.specs.Changed.{is_moved, marked_piece, torn_section, torn}
-use Rattle.elf_object.specs.Valid.{IsObject}
-use Rattle.elf_object.specs.ImageLaws.{section_at-placed, placed-dirty, placed-clean, image-dirty, image-clean, length-image}
+use Rattle.elf_object.specs.ImageLaws.{section_at-placed, placed-dirty, placed-clean, image-dirty, length-image}
 use Rattle.elf_object.specs.PlaceLaws.{length_from-ge}
-use Rattle.elf_object.specs.PlacedLaws.{update_passes}
 use Rattle.elf_object.specs.StandLaws.{section_count-placed, joined-placed, section_at-past}
-use Rattle.elf_object.specs.AgainLaws.{SameFront, SameGround, SameContent, owns, section_again_at, image-again, placing-again, content-again, header_again, headers_again, class-placed, phdrs-placed, stype-placed}
+use Rattle.elf_object.specs.AgainLaws.{SameFront, SameGround, section_again_at, image-again, placing-again, header_again, class-placed, phdrs-placed, stype-placed}
+use Rattle.elf_object.specs.ContentLaws.{SameContent, owns, content-again}
 use Rattle.elf_object.specs.Laws.{IsTornImage, PlacedStays, TornLaw}
 
 -- ---- Marks

@@ -65,3 +65,7 @@ as_opened o = record o { layout = false; fill = 0 }
 -- an object in which nothing is dirty is that of its base. It holds of an object over a source that tells its bytes.
 abbrev pub IsTied : Object → Type 0
 IsTied o = is_dirty o ≡ false → opened o.base ≡ Ok (as_opened o)
+
+-- a call keeps it
+abbrev pub KeepsTied : {A : Type 0} → Call A → Type 0
+KeepsTied c = (o : Object) → IsTied o → IsTied (step c o)

@@ -1,7 +1,7 @@
 //! Laws over the definitions. Each is the contract of a function that does nothing: what it ensures
 //! holds of every object, and is proved.
 
-ghost use Rattle.elf_object.specs.Laws.{BeginningsAre, CleanStays, EveryStepKeeps, PartsDoNotMeet, PartsStand, PlacedStays, RefusedStays, ReopenLaw, SettlingKeepsItems, SizesAreLengths, TornLaw};
+ghost use Rattle.elf_object.specs.Laws.{BeginningsAre, BeginningsAreTied, CleanStays, EveryStepKeeps, EveryStepKeepsTied, PartsDoNotMeet, PartsStand, PlacedStays, RefusedStays, ReopenLaw, SettlingKeepsItems, SizesAreLengths, TornLaw, UpdatesKeep, UpdatesTie};
 ghost use Rattle.elf_object.specs.Object.{Object};
 
 use elf_xlate::{decodes_as_encoded, ehdr_both_ways, phdr_both_ways, shdr_both_ways};
@@ -28,6 +28,19 @@ pub fn beginnings_are()
 #[tactic(auto, using(crate::specs::LawsHold::every_step_keeps))]
 pub fn every_step_keeps()
     ensures { EveryStepKeeps }
+{}
+
+/// Every edit keeps that an object in which nothing is dirty is that of its base: it marks what it
+/// changes, or it changes only `ELF_F_LAYOUT` and the fill byte.
+#[tactic(auto, using(crate::specs::TiedLaws::every_step_keeps_tied))]
+pub fn every_step_keeps_tied()
+    ensures { EveryStepKeepsTied }
+{}
+
+/// An object is that of its base as it is opened or created.
+#[tactic(auto, using(crate::specs::TiedLaws::beginnings_are_tied))]
+pub fn beginnings_are_tied()
+    ensures { BeginningsAreTied }
 {}
 
 /// A section's bytes end with its last piece, and its stored `sh_size` is their number.
@@ -67,6 +80,21 @@ pub fn reopen_law()
     ehdr_both_ways();
     phdr_both_ways();
     shdr_both_ways();
+}
+
+/// An image is made of bytes. An update in place leaves what makes an object, and so does one that
+/// failed and left bytes.
+pub fn updates_keep()
+    ensures { (o : Object) → UpdatesKeep o }
+{
+    reopen_law();
+}
+
+/// An update in place leaves an object that is that of its base, and so does one that failed.
+pub fn updates_tie()
+    ensures { (o : Object) → UpdatesTie o }
+{
+    reopen_law();
 }
 
 /// Where an own piece stands alone in a section from 1 on and is of the kind of the section's present
