@@ -9,7 +9,7 @@ use Rattle.elf_types.specs.declared.records.Shdr.{Shdr}
 unfoldable pub is_compressed : ℕ → Bool
 is_compressed flags = flags / 0x800 % 2 == 1
 
--- SHT_HASH and the tables of words
+-- SHT_HASH: a table of words, but on the machines whose entries have eight bytes
 abbrev pub hash_kind : ℕ → Kind
 hash_kind entsize = if entsize == 8 then Bytes else Word
 

@@ -1,6 +1,6 @@
 //! The texts of kinds, parts and errors, appended to a list of bytes.
 //!
-//! Each call refuses `Memory` alone; the list has then gained a front of the text.
+//! Each call refuses `Memory` alone; what the list holds after that is not stated.
 
 ghost use Rattle.std.specs.Prelude.{◌≡◌, ◌++◌, [], OnOk, IfOk, IfErr};
 ghost use Rattle.elf_types.specs.Text.{numbered, numbered_twice, kind_text, part_text, unfit_text, overlap_text, held_text, error_text};

@@ -73,28 +73,28 @@ impl<T: Drop> List<T> {
         Ok(())
     }
 
-    /// The number of items.
+    /// The number of items. It takes no memory.
     pub fn len(&self) -> u64
         ensures { result ≡ length self.now }
     {
         self.items.len() as u64
     }
 
-    /// Whether there is no item.
+    /// Whether there is no item. It takes no memory.
     pub fn is_empty(&self) -> bool
         ensures { result ≡ (length self.now == 0) }
     {
         self.items.is_empty()
     }
 
-    /// The items.
+    /// The items. It takes no memory.
     pub fn as_slice(&self) -> &[T]
         ensures { result.now ≡ self.now }
     {
         self.items.as_slice()
     }
 
-    /// The items, lent for writing: what the borrower leaves in them stays.
+    /// The items, lent for writing: what the borrower leaves in them stays. It takes no memory.
     pub fn as_mut_slice(&mut self) -> &mut [T]
         ensures* writes_back { sem 𝓛 (LendsItems T.row self.entry result) }
         ensures value { result.now ≡ self.old }
@@ -118,7 +118,7 @@ impl<T: Drop> List<T> {
 }
 
 impl<T: Copy> List<T> {
-    /// The item at an index, or None exactly where the index is not below the length.
+    /// The item at an index, or None exactly where the index is not below the length. It takes no memory.
     pub fn get(&self, i: u64) -> Option<T>
         ensures { result ≡ slice_get self.now i }
     {

@@ -1,4 +1,4 @@
-//! The parts of a symbol's `st_info` and `st_other`.
+//! The parts of a symbol's `st_info` and `st_other`. These calls take no memory.
 
 ghost use Rattle.std.specs.Prelude.{◌≡◌, ◌/◌, ◌%◌};
 

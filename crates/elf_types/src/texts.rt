@@ -1,16 +1,14 @@
-//! Texts of numbers, parts and errors, appended to a list of bytes.
+//! Numbers as text, appended to a list of bytes.
 //!
-//! Each call refuses `Memory` alone; the list has then gained a front of the text.
+//! Each call refuses `Memory` alone; what the list holds after that is not stated.
 
-ghost use Rattle.std.specs.Prelude.{◌≡◌, ◌++◌, ◌≤◌, ◌^◌, ◌<◌, ◌+◌, [], false, length, drop, codes, decimal, OnOk, IfOk, IfErr};
+ghost use Rattle.std.specs.Prelude.{◌≡◌, ◌++◌, ◌≤◌, ◌<◌, false, length, drop, decimal, OnOk, IfErr};
 ghost use Rattle.std.specs.Fmt.{digits, digit_glyph, signed_decimal};
-ghost use Rattle.elf_types.specs.Text.{hex, numbered, numbered_twice, kind_text, part_text, unfit_text, overlap_text, held_text, error_text};
+ghost use Rattle.elf_types.specs.Text.{hex};
 
 use crate::errors::ElfError;
 use crate::lists::Octets;
-use crate::records::{Kind, Part};
 use itoa::Buffer;
-use std::alloc::Global;
 
 /// Appends a text.
 pub fn put_text(out: &mut Octets, text: &str) -> Result<(), ElfError>

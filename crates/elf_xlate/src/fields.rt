@@ -92,7 +92,7 @@ fn write_four<T: Endian>(out: &mut [u8], place: usize, n: u32)
     T::write_u32(&mut out[place..], n);
 }
 
-// Writes a eight-byte number at a place.
+// Writes an eight-byte number at a place.
 #[inline(always)]
 fn write_eight<T: Endian>(out: &mut [u8], place: usize, n: u64)
     requires { place + 8 ≤ length out.old }

@@ -21,7 +21,7 @@ pub fn number_fits(class: Class, n: u64) -> bool
     }
 }
 
-/// Whether a signed number does.
+/// Whether a signed number does, from -2^31 to 2^31 - 1 in class 32.
 pub fn signed_fits(class: Class, n: i64) -> bool
     ensures { result ≡ fits_signed class n }
 {
