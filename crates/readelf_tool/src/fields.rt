@@ -1,8 +1,9 @@
-//! Lines of one field, and numbers with names. Each call refuses `Memory` alone; the page has then
-//! gained a front of the text.
+//! Lines of one field, and numbers with names. Each call refuses `Memory` alone; nothing is then said
+//! of what the page gained.
 
-ghost use Rattle.std.specs.Prelude.{◌≡◌, ◌++◌, OnOk};
+ghost use Rattle.std.specs.Prelude.{◌≡◌, ◌++◌, OnOk, IfErr};
 ghost use Rattle.std.specs.Option.{option_copied};
+ghost use Rattle.elf_types.specs.declared.errors.ElfError.TheVariants.{Memory};
 ghost use Rattle.readelf_tool.specs.Fields.{name_or_hex, field_title, field_line, decimal_line, hex_line, name_line};
 
 use elf_types::{ElfError, Octets, put_decimal, put_hex, put_text};
@@ -14,7 +15,8 @@ pub fn put_name_or_hex(
     name: Option<&'static str>,
     n: u64,
 ) -> Result<(), ElfError>
-    ensures { OnOk result (page.new ≡ page.old ++ name_or_hex (option_copied name.entry) n) }
+    ensures ok { OnOk result (page.new ≡ page.old ++ name_or_hex (option_copied name.entry) n) }
+    ensures err { IfErr result (λ e. e ≡ Memory) }
 {
     match name {
         Some(name) => put_text(page, name),
@@ -27,7 +29,8 @@ pub fn put_name_or_hex(
 
 #[tactic(auto, unfolding(crate::specs::Fields::field_title))]
 fn put_title(page: &mut Octets, name: &str) -> Result<(), ElfError>
-    ensures { OnOk result (page.new ≡ page.old ++ field_title name.now) }
+    ensures ok { OnOk result (page.new ≡ page.old ++ field_title name.now) }
+    ensures err { IfErr result (λ e. e ≡ Memory) }
 {
     put_text(page, "  ")?;
     put_text(page, name)?;
@@ -37,7 +40,8 @@ fn put_title(page: &mut Octets, name: &str) -> Result<(), ElfError>
 /// Appends the line `  NAME: VALUE`.
 #[tactic(auto, unfolding(crate::specs::Fields::field_line))]
 pub fn put_field(page: &mut Octets, name: &str, value: &str) -> Result<(), ElfError>
-    ensures { OnOk result (page.new ≡ page.old ++ field_line name.now value.now) }
+    ensures ok { OnOk result (page.new ≡ page.old ++ field_line name.now value.now) }
+    ensures err { IfErr result (λ e. e ≡ Memory) }
 {
     put_title(page, name)?;
     put_text(page, value)?;
@@ -47,7 +51,8 @@ pub fn put_field(page: &mut Octets, name: &str, value: &str) -> Result<(), ElfEr
 /// Appends the line `  NAME: N`, the number in decimal.
 #[tactic(auto, unfolding(crate::specs::Fields::field_line, crate::specs::Fields::decimal_line))]
 pub fn put_decimal_field(page: &mut Octets, name: &str, n: u64) -> Result<(), ElfError>
-    ensures { OnOk result (page.new ≡ page.old ++ decimal_line name.now n) }
+    ensures ok { OnOk result (page.new ≡ page.old ++ decimal_line name.now n) }
+    ensures err { IfErr result (λ e. e ≡ Memory) }
 {
     put_title(page, name)?;
     put_decimal(page, n)?;
@@ -57,7 +62,8 @@ pub fn put_decimal_field(page: &mut Octets, name: &str, n: u64) -> Result<(), El
 /// Appends the line `  NAME: 0xN`, the number in hexadecimal.
 #[tactic(auto, unfolding(crate::specs::Fields::field_line, crate::specs::Fields::hex_line))]
 pub fn put_hex_field(page: &mut Octets, name: &str, n: u64) -> Result<(), ElfError>
-    ensures { OnOk result (page.new ≡ page.old ++ hex_line name.now n) }
+    ensures ok { OnOk result (page.new ≡ page.old ++ hex_line name.now n) }
+    ensures err { IfErr result (λ e. e ≡ Memory) }
 {
     put_title(page, name)?;
     put_text(page, "0x")?;
@@ -73,7 +79,8 @@ pub fn put_name_field(
     name: Option<&'static str>,
     n: u64,
 ) -> Result<(), ElfError>
-    ensures { OnOk result (page.new ≡ page.old ++ name_line title.now (option_copied name.entry) n) }
+    ensures ok { OnOk result (page.new ≡ page.old ++ name_line title.now (option_copied name.entry) n) }
+    ensures err { IfErr result (λ e. e ≡ Memory) }
 {
     put_title(page, title)?;
     put_name_or_hex(page, name, n)?;

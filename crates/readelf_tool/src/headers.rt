@@ -1,6 +1,7 @@
 //! The lines of an ELF header.
 
-ghost use Rattle.std.specs.Prelude.{◌≡◌, ◌++◌, OnOk};
+ghost use Rattle.std.specs.Prelude.{◌≡◌, ◌++◌, OnOk, IfErr};
+ghost use Rattle.elf_types.specs.declared.errors.ElfError.TheVariants.{Memory};
 ghost use Rattle.readelf_tool.specs.Header.{class_bits, order_text, header_title, ident_lines, type_lines, place_lines, table_lines, header_lines};
 
 use crate::fields::{put_decimal_field, put_field, put_hex_field, put_name_field};
@@ -28,14 +29,16 @@ fn order_text(order: Order) -> &'static str
 
 #[tactic(auto, unfolding(crate::specs::Header::header_title))]
 fn put_title(page: &mut Octets) -> Result<(), ElfError>
-    ensures { OnOk result (page.new ≡ page.old ++ header_title) }
+    ensures ok { OnOk result (page.new ≡ page.old ++ header_title) }
+    ensures err { IfErr result (λ e. e ≡ Memory) }
 {
     put_text(page, "ELF header\n")
 }
 
 #[tactic(auto, unfolding(crate::specs::Header::ident_lines))]
 fn put_ident(page: &mut Octets, h: &Ehdr) -> Result<(), ElfError>
-    ensures { OnOk result (page.new ≡ page.old ++ ident_lines h.now) }
+    ensures ok { OnOk result (page.new ≡ page.old ++ ident_lines h.now) }
+    ensures err { IfErr result (λ e. e ≡ Memory) }
 {
     put_decimal_field(page, "class", class_bits(h.class))?;
     put_field(page, "order", order_text(h.order))?;
@@ -45,7 +48,8 @@ fn put_ident(page: &mut Octets, h: &Ehdr) -> Result<(), ElfError>
 
 #[tactic(auto, unfolding(crate::specs::Header::type_lines))]
 fn put_type(page: &mut Octets, h: &Ehdr) -> Result<(), ElfError>
-    ensures { OnOk result (page.new ≡ page.old ++ type_lines h.now) }
+    ensures ok { OnOk result (page.new ≡ page.old ++ type_lines h.now) }
+    ensures err { IfErr result (λ e. e ≡ Memory) }
 {
     put_name_field(page, "type", etype_name(h.etype), u64::from(h.etype))?;
     put_name_field(
@@ -59,7 +63,8 @@ fn put_type(page: &mut Octets, h: &Ehdr) -> Result<(), ElfError>
 
 #[tactic(auto, unfolding(crate::specs::Header::place_lines))]
 fn put_places(page: &mut Octets, h: &Ehdr) -> Result<(), ElfError>
-    ensures { OnOk result (page.new ≡ page.old ++ place_lines h.now) }
+    ensures ok { OnOk result (page.new ≡ page.old ++ place_lines h.now) }
+    ensures err { IfErr result (λ e. e ≡ Memory) }
 {
     put_hex_field(page, "entry", h.entry)?;
     put_decimal_field(page, "phoff", h.phoff)?;
@@ -69,7 +74,8 @@ fn put_places(page: &mut Octets, h: &Ehdr) -> Result<(), ElfError>
 
 #[tactic(auto, unfolding(crate::specs::Header::table_lines))]
 fn put_tables(page: &mut Octets, h: &Ehdr) -> Result<(), ElfError>
-    ensures { OnOk result (page.new ≡ page.old ++ table_lines h.now) }
+    ensures ok { OnOk result (page.new ≡ page.old ++ table_lines h.now) }
+    ensures err { IfErr result (λ e. e ≡ Memory) }
 {
     put_decimal_field(page, "ehsize", u64::from(h.ehsize))?;
     put_decimal_field(page, "phentsize", u64::from(h.phentsize))?;
@@ -79,10 +85,12 @@ fn put_tables(page: &mut Octets, h: &Ehdr) -> Result<(), ElfError>
     put_decimal_field(page, "shstrndx", u64::from(h.shstrndx))
 }
 
-/// Appends the lines of a header. It refuses `Memory` alone; the page has then gained a front of them.
+/// Appends the lines of a header. It refuses `Memory` alone; nothing is then said of what the page
+/// gained.
 #[tactic(auto, unfolding(crate::specs::Header::header_lines))]
 pub fn put_header(page: &mut Octets, h: &Ehdr) -> Result<(), ElfError>
-    ensures { OnOk result (page.new ≡ page.old ++ header_lines h.now) }
+    ensures ok { OnOk result (page.new ≡ page.old ++ header_lines h.now) }
+    ensures err { IfErr result (λ e. e ≡ Memory) }
 {
     put_title(page)?;
     put_ident(page, h)?;

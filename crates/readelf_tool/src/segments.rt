@@ -1,6 +1,7 @@
 //! The lines of the program headers.
 
-ghost use Rattle.std.specs.Prelude.{◌≡◌, ◌++◌, ◌<◌, length, OnOk};
+ghost use Rattle.std.specs.Prelude.{◌≡◌, ◌++◌, ◌<◌, length, OnOk, IfErr};
+ghost use Rattle.elf_types.specs.declared.errors.ElfError.TheVariants.{Memory};
 ghost use Rattle.tool_text.specs.Pages.{Writes, WriteStops};
 ghost use Rattle.readelf_tool.specs.Segments.{flag_letter, other_flags, flags_text, flags_column, hex_column, segment_start, segment_places, segment_sizes, segment_end, segment_line, segment_lines, segments_title, segments_text};
 
@@ -23,7 +24,8 @@ fn flag_letter(flags: u32, weight: u32, letter: u8) -> u8
 
 #[tactic(auto, unfolding(crate::specs::Segments::other_flags))]
 fn put_other_flags(page: &mut Octets, flags: u32) -> Result<(), ElfError>
-    ensures { OnOk result (page.new ≡ page.old ++ other_flags flags) }
+    ensures ok { OnOk result (page.new ≡ page.old ++ other_flags flags) }
+    ensures err { IfErr result (λ e. e ≡ Memory) }
 {
     if flags / 8 == 0 {
         return Ok(());
@@ -34,7 +36,8 @@ fn put_other_flags(page: &mut Octets, flags: u32) -> Result<(), ElfError>
 
 #[tactic(auto, unfolding(crate::specs::Segments::flags_text))]
 fn put_flags(page: &mut Octets, flags: u32) -> Result<(), ElfError>
-    ensures { OnOk result (page.new ≡ page.old ++ flags_text flags) }
+    ensures ok { OnOk result (page.new ≡ page.old ++ flags_text flags) }
+    ensures err { IfErr result (λ e. e ≡ Memory) }
 {
     let letters = [
         flag_letter(flags, 4, b'R'),
@@ -47,7 +50,8 @@ fn put_flags(page: &mut Octets, flags: u32) -> Result<(), ElfError>
 
 #[tactic(auto, unfolding(crate::specs::Segments::flags_column))]
 fn put_flags_column(page: &mut Octets, flags: u32) -> Result<(), ElfError>
-    ensures { OnOk result (page.new ≡ page.old ++ flags_column flags) }
+    ensures ok { OnOk result (page.new ≡ page.old ++ flags_column flags) }
+    ensures err { IfErr result (λ e. e ≡ Memory) }
 {
     put_text(page, " flags ")?;
     put_flags(page, flags)
@@ -55,7 +59,8 @@ fn put_flags_column(page: &mut Octets, flags: u32) -> Result<(), ElfError>
 
 #[tactic(auto, unfolding(crate::specs::Segments::hex_column))]
 fn put_hex_column(page: &mut Octets, name: &str, n: u64) -> Result<(), ElfError>
-    ensures { OnOk result (page.new ≡ page.old ++ hex_column name.now n) }
+    ensures ok { OnOk result (page.new ≡ page.old ++ hex_column name.now n) }
+    ensures err { IfErr result (λ e. e ≡ Memory) }
 {
     put_text(page, " ")?;
     put_text(page, name)?;
@@ -65,7 +70,8 @@ fn put_hex_column(page: &mut Octets, name: &str, n: u64) -> Result<(), ElfError>
 
 #[tactic(auto, unfolding(crate::specs::Segments::segment_start))]
 fn put_start(page: &mut Octets, i: u64, p: &Phdr) -> Result<(), ElfError>
-    ensures { OnOk result (page.new ≡ page.old ++ segment_start i p.now) }
+    ensures ok { OnOk result (page.new ≡ page.old ++ segment_start i p.now) }
+    ensures err { IfErr result (λ e. e ≡ Memory) }
 {
     put_text(page, "  ")?;
     put_decimal(page, i)?;
@@ -75,7 +81,8 @@ fn put_start(page: &mut Octets, i: u64, p: &Phdr) -> Result<(), ElfError>
 
 #[tactic(auto, unfolding(crate::specs::Segments::segment_places))]
 fn put_places(page: &mut Octets, p: &Phdr) -> Result<(), ElfError>
-    ensures { OnOk result (page.new ≡ page.old ++ segment_places p.now) }
+    ensures ok { OnOk result (page.new ≡ page.old ++ segment_places p.now) }
+    ensures err { IfErr result (λ e. e ≡ Memory) }
 {
     put_hex_column(page, "offset", p.offset)?;
     put_hex_column(page, "vaddr", p.vaddr)?;
@@ -84,7 +91,8 @@ fn put_places(page: &mut Octets, p: &Phdr) -> Result<(), ElfError>
 
 #[tactic(auto, unfolding(crate::specs::Segments::segment_sizes))]
 fn put_sizes(page: &mut Octets, p: &Phdr) -> Result<(), ElfError>
-    ensures { OnOk result (page.new ≡ page.old ++ segment_sizes p.now) }
+    ensures ok { OnOk result (page.new ≡ page.old ++ segment_sizes p.now) }
+    ensures err { IfErr result (λ e. e ≡ Memory) }
 {
     put_hex_column(page, "filesz", p.filesz)?;
     put_hex_column(page, "memsz", p.memsz)
@@ -92,7 +100,8 @@ fn put_sizes(page: &mut Octets, p: &Phdr) -> Result<(), ElfError>
 
 #[tactic(auto, unfolding(crate::specs::Segments::segment_end))]
 fn put_end(page: &mut Octets, p: &Phdr) -> Result<(), ElfError>
-    ensures { OnOk result (page.new ≡ page.old ++ segment_end p.now) }
+    ensures ok { OnOk result (page.new ≡ page.old ++ segment_end p.now) }
+    ensures err { IfErr result (λ e. e ≡ Memory) }
 {
     put_flags_column(page, p.flags)?;
     put_hex_column(page, "align", p.align)?;
@@ -101,7 +110,8 @@ fn put_end(page: &mut Octets, p: &Phdr) -> Result<(), ElfError>
 
 #[tactic(auto, unfolding(crate::specs::Segments::segment_line))]
 fn put_segment(page: &mut Octets, i: u64, p: &Phdr) -> Result<(), ElfError>
-    ensures { OnOk result (page.new ≡ page.old ++ segment_line i p.now) }
+    ensures ok { OnOk result (page.new ≡ page.old ++ segment_line i p.now) }
+    ensures err { IfErr result (λ e. e ≡ Memory) }
 {
     put_start(page, i, p)?;
     put_places(page, p)?;
@@ -111,7 +121,8 @@ fn put_segment(page: &mut Octets, i: u64, p: &Phdr) -> Result<(), ElfError>
 
 #[tactic(auto, unfolding(crate::specs::Segments::segments_title))]
 fn put_title(page: &mut Octets, count: u64) -> Result<(), ElfError>
-    ensures { OnOk result (page.new ≡ page.old ++ segments_title count) }
+    ensures ok { OnOk result (page.new ≡ page.old ++ segments_title count) }
+    ensures err { IfErr result (λ e. e ≡ Memory) }
 {
     put_text(page, "Program headers: ")?;
     put_decimal(page, count)?;

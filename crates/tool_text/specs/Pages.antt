@@ -7,6 +7,10 @@ use Rattle.elf_outside.specs.declared.sinks.Sink.{Ghosts}
 use Rattle.tool_text.specs.declared.options.Stop.{Stop}
 use Rattle.tool_text.specs.declared.options.Stop.TheVariants.{Read, Write, Memory}
 
+-- how many bytes fill a page
+abbrev pub page_size : ℕ
+page_size = 65536
+
 -- since `old` the text was written, but for its end, which stands in the page
 abbrev pub HasPending : Option (List ℕ) → Option (List ℕ) → List ℕ → List ℕ → Type 0
 HasPending old now page text =

@@ -13,6 +13,8 @@ pub mod pages;
 pub mod reading;
 pub mod rules;
 mod splitting;
+#[cfg(test)]
+mod tests;
 pub mod texts;
 pub mod usages;
 mod values;

@@ -1,10 +1,10 @@
 //! The one way in which text goes to a sink: it is collected in a page, which is put when it is full
 //! and at the end. So a sink gets few large pieces, and no more than a page and a line is held.
 
-ghost use Rattle.std.specs.Prelude.{◌≡◌, ◌≤◌, [], OnOk, OnErr};
+ghost use Rattle.std.specs.Prelude.{◌≡◌, ◌≤◌, ◌<◌, [], length, OnOk, OnErr};
 ghost use Rattle.elf_outside.specs.Counts.{Rose};
 ghost use Rattle.elf_outside.specs.Writes.{Appends, AppendsFront};
-ghost use Rattle.tool_text.specs.Pages.{Writes, WriteStops};
+ghost use Rattle.tool_text.specs.Pages.{Writes, WriteStops, page_size};
 
 use crate::options::Stop;
 use elf_outside::{Failed, Sink};
@@ -39,9 +39,11 @@ pub fn finish<K: Sink>(out: &mut K, page: &mut Octets) -> Result<(), Stop>
     }
 }
 
-/// Puts the page where it is full. It stops with `Write` alone.
+/// Puts the page where it is full, and does nothing where it is not. It stops with `Write` alone.
 pub fn turn<K: Sink>(out: &mut K, page: &mut Octets) -> Result<(), Stop>
     ensures writes { Writes K.Sink result out.old out.new page.old page.new [] }
+    ensures room { OnOk result (length page.new < page_size) }
+    ensures waits { length page.old < page_size → (out.new ≡ out.old) × (page.new ≡ page.old) }
     ensures stops { WriteStops result (K.faults out.old) (K.faults out.new) }
 {
     if page.len() < PAGE_SIZE {
@@ -57,6 +59,8 @@ pub fn turn_after<K: Sink>(
     appended: Result<(), ElfError>,
 ) -> Result<(), Stop>
     ensures ok { OnOk appended (Writes K.Sink result out.old out.new page.old page.new []) }
+    ensures room { OnOk result (length page.new < page_size) }
+    ensures waits { length page.old < page_size → (out.new ≡ out.old) × (page.new ≡ page.old) }
     ensures err { OnErr appended (result ≡ Err Stop.Memory) }
     ensures same { OnErr appended (out.new ≡ out.old) }
     ensures stops { WriteStops result (K.faults out.old) (K.faults out.new) }
