@@ -17,7 +17,7 @@ use Rattle.elf_types.specs.declared.records.Part.TheVariants as part
 use Rattle.elf_object.specs.Calls.{Call, step, newdata, newdata_aligned, newphdr, newscn, set_fill, flag}
 use Rattle.elf_object.specs.SymbolSections.{symshndx}
 use Rattle.elf_object.specs.Runs.{left_by, addall, set_shdr}
-use Rattle.elf_xlate.specs.declared.content.Items.TheVariants.{Bytes, Word}
+use Rattle.elf_xlate.specs.declared.content.Items.TheVariants.{Bytes}
 use Rattle.std.proofs.Math.ListN.{replicate}
 
 -- a hexadecimal digit
