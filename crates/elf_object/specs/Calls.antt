@@ -22,14 +22,14 @@ use Rattle.elf_xlate.specs.Fields.{fits}
 use Rattle.elf_xlate.specs.Headers.{ehdr_fits, phdr_fits, shdr_fits}
 use Rattle.elf_xlate.specs.Items.{sym_fits, rel_fits, rela_fits, dyn_fits}
 use Rattle.elf_xlate.specs.Translation.{first_unfit}
-use Rattle.elf_object.specs.Words.{refused_if, first_refusal, answered}
+use Rattle.elf_object.specs.Words.{refused_if, first_refusal, answered, MayWant}
 use Rattle.elf_object.specs.Object.{Object, section_at, piece_at, header_of}
-use Rattle.elf_object.specs.Answers.{no_section, no_data, no_entry, reserved, items_at, kind_at, piece_count, flags_of, entry_answer, piece_refusal, part_refusal, data_refusal, raw_refusal, lend_refusal, item_refusal, halves_of, words_of, addrs_of, syms_of, rels_of, relas_of, dyns_of, has_dirty}
+use Rattle.elf_object.specs.Answers.{err_of, no_section, no_data, no_entry, reserved, items_at, kind_at, piece_count, flags_of, entry_answer, piece_refusal, part_refusal, data_refusal, raw_refusal, lend_refusal, item_refusal, halves_of, words_of, addrs_of, syms_of, rels_of, relas_of, dyns_of, has_dirty}
 use Rattle.elf_object.specs.Steps.{stored_ehdr, with_ehdr, with_phdrs, with_phdr, with_new_phdrs, with_shdr, with_new_section, new_number, with_null_section, with_new_piece, with_own, with_flags, with_fill}
 use Rattle.elf_object.specs.Layout.{placed}
 use Rattle.elf_object.specs.Image.{image_length}
 use Rattle.elf_object.specs.Refusal.{refusal}
-use Rattle.elf_object.specs.Due.{when_clean}
+use Rattle.elf_object.specs.Due.{call_due, homes_due, when_clean}
 
 -- a call that answers an A
 pub record Call (A : Type 0) : Type 0 where
@@ -45,12 +45,31 @@ after_answer (Err e) old stepped = old
 unfoldable pub step : {A : Type 0} → Call A → Object → Object
 step c o = after_answer (c.answer o) o (c.after o)
 
+-- whether Memory may come: where the call reads no home, only in place of an Ok
+abbrev pub MayWantMemory : {A : Type 0} → List ℕ → Result A ElfError → Type 0
+MayWantMemory [] (Ok x) = Unit {0}
+MayWantMemory [] (Err e) = ⊥
+MayWantMemory (s ∷ others) stated = MayWant stated
+
+-- whether Read may come: never where the call reads no home
+abbrev pub MayFailToRead : {A : Type 0} → List ℕ → Result A ElfError → Type 0
+MayFailToRead [] stated = ⊥
+MayFailToRead (s ∷ others) stated = MayWant stated
+
 -- the answer that came and the object that is left are those of the call; Memory and Read leave the object
 abbrev pub Obeys : {A : Type 0} → Result A ElfError → Object → Object → Call A → Type 0
 Obeys (Ok x) old new c = (c.answer old ≡ Ok x) × (new ≡ c.after old)
-Obeys (Err Memory) old new c = new ≡ old
-Obeys (Err Read) old new c = new ≡ old
+Obeys (Err Memory) old new c = MayWantMemory (c.reads old) (c.answer old) × (new ≡ old)
+Obeys (Err Read) old new c = MayFailToRead (c.reads old) (c.answer old) × (new ≡ old)
 Obeys (Err e) old new c = (c.answer old ≡ Err e) × (new ≡ old)
+
+-- how many bytes a call may ask its source for at most
+abbrev pub due : {A : Type 0} → Call A → Object → List Bool → ℕ
+due c o loaded = call_due o loaded (err_of (c.answer o)) (c.reads o)
+
+-- of a call that may have read some homes before it meets a refusal: of a symbol's section and of a look-up by a hash
+abbrev pub due_refused_or_not : {A : Type 0} → Call A → Object → List Bool → ℕ
+due_refused_or_not c o loaded = homes_due o loaded (c.reads o)
 
 -- ---- Calls that change nothing
 

@@ -7,6 +7,7 @@ use Rattle.elf_object.specs.Blocks.{is_covered}
 use Rattle.elf_object.specs.Object.{Object, section_at, has_file_bytes, home_is_clean, is_dirty}
 use Rattle.elf_object.specs.Layout.{placed}
 use Rattle.elf_object.specs.Image.{part_blocks, kept_base}
+use Rattle.elf_object.specs.Refusal.{refusal}
 use Rattle.elf_object.specs.Changed.{is_moved}
 
 unfoldable pub is_loaded : List Bool → ℕ → Bool
@@ -42,15 +43,22 @@ when_clean o s = if home_is_clean (section_at o s) then s ∷ [] else []
 abbrev pub all_sections : Object → List ℕ
 all_sections o = range_with_len 0 (length o.sections)
 
+-- of an update of a dirty object, which is due so many bytes: none where it is refused as a home that is not in the
+-- file, which is seen before a read
+abbrev pub unless_unread : Object → ℕ → ℕ
+unless_unread o bytes = if is_refused_unread (refusal o) then 0 else bytes
+
 -- of an update that hands the image to a sink: the base where nothing is dirty, else the homes of clean pieces and
 -- with ELF_F_LAYOUT what stays of the base
 unfoldable pub update_to_due : Object → List Bool → ℕ
 update_to_due o loaded =
     if is_dirty o
-    then homes_due o loaded (filter (λ s. has_file_bytes s (section_at o s) && home_is_clean (section_at o s)) (all_sections o))
-    + count_by (λ k. not (is_covered (part_blocks (placed o)) k)) (range_with_len 0 (kept_base o))
+    then unless_unread o
+    (homes_due o loaded (filter (λ s. has_file_bytes s (section_at o s) && home_is_clean (section_at o s)) (all_sections o))
+    + count_by (λ k. not (is_covered (part_blocks (placed o)) k)) (range_with_len 0 (kept_base o)))
     else length o.base
 
 -- of an update in place: the homes of the sections that move
 unfoldable pub update_in_place_due : Object → List Bool → ℕ
-update_in_place_due o loaded = if is_dirty o then homes_due o loaded (filter (is_moved o) (all_sections o)) else 0
+update_in_place_due o loaded =
+    if is_dirty o then unless_unread o (homes_due o loaded (filter (is_moved o) (all_sections o))) else 0

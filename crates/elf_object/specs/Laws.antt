@@ -101,7 +101,8 @@ pub record BeginningsAreTied : Type 0 where
   pub from_image : (image : List ℕ) (o : Object) → opened image ≡ Ok o → IsTied o
   pub from_nothing : (class : Class) (order : Order) (base : List ℕ) → IsTied (created_over class order base)
 
--- sh_size as it is stored is the number of the section's bytes, which end with its last piece
+-- a section's bytes end with its last piece; where something is dirty sh_size as it is stored is their number; an
+-- image is as long as said
 pub record SizesAreLengths : Type 0 where
   pub of_pieces : (o : Object) (s : ℕ) → has_file_bytes s (section_at o s) ≡ true → length (joined o s) ≡ pieces_end o s
   pub as_stored : (o : Object) (s : ℕ) → is_dirty o ≡ true → s < length o.sections → has_file_bytes s (section_at o s) ≡ true → (section_at (placed o) s).header.size ≡ length (joined o s)
@@ -113,7 +114,7 @@ PartsDoNotMeet =
     (o : Object) (i j : ℕ) (p q : PartAt) → o.layout ≡ false → i < j → slice_get (placed_parts o) i ≡ Some p → slice_get (placed_parts o) j ≡ Some q
     → meets p q ≡ false
 
--- the places that are stored stay where nothing else is edited
+-- where the update is not refused, the places that are stored stay where nothing else is edited
 abbrev pub PlacedStays : Object → Type 0
 PlacedStays o = IsObject o → refusal o ≡ None → (placed (placed o) ≡ placed o) × (refusal (placed o) ≡ None) × (image (placed o) ≡ image o)
 
@@ -122,34 +123,37 @@ pub record IsTornImage (o : Object) (bytes : List ℕ) : Type 0 where
   pub len : length bytes ≡ min (length o.base) (length (image o))
   pub each : (k : ℕ) → k < length bytes → (slice_index bytes k ≡ slice_index o.base k) ⊎ (slice_index bytes k ≡ slice_index (image o) k)
 
--- a torn object has the same image
+-- where something is dirty and the update is not refused, a torn object has the same image
 abbrev pub TornLaw : Object → Type 0
 TornLaw o =
     (bytes : List ℕ) → IsObject o → is_dirty o ≡ true → refusal o ≡ None → IsTornImage o bytes
     → (refusal (torn o bytes) ≡ None) × (image (torn o bytes) ≡ image o)
 
--- where the update is not refused, each part stands in the image with all of its bytes
+-- where something is dirty and the update is not refused, each part stands in the image with all of its bytes
 abbrev pub PartsStand : Object → Type 0
 PartsStand o =
     (i : ℕ) (b : Block) → IsObject o → is_dirty o ≡ true → refusal o ≡ None → slice_get (part_blocks (placed o)) i ≡ Some b
     → take (length b.bytes) (drop b.at (image o)) ≡ b.bytes
 
--- the image of an object, opened again, is that object settled, but for ELF_F_LAYOUT and the fill byte
+-- where the update is not refused, the image of an object, opened again, is that object settled, but for ELF_F_LAYOUT
+-- and the fill byte
 abbrev pub ReopenLaw : Object → Type 0
 ReopenLaw o = IsObject o → IsTied o → refusal o ≡ None → opened (image o) ≡ Ok (as_opened (settle o))
 
--- an image is made of bytes, and an update in place leaves an object, and so does one that failed
+-- where the update is not refused, the image is made of bytes, and an update in place leaves an object, and so does one
+-- that failed
 pub record UpdatesKeep (o : Object) : Type 0 where
   pub bytes : IsObject o → refusal o ≡ None → AreBytes (image o)
   pub settled : IsObject o → refusal o ≡ None → IsObject (settle o)
   pub torn : (bytes : List ℕ) → IsObject o → refusal o ≡ None → AreBytes bytes → length bytes < 2 ^ 64 → IsObject (torn o bytes)
 
--- an update in place leaves an object that is that of its base, and so does one that failed
+-- where it is not refused, an update in place leaves an object that is that of its base; one that failed always does
 pub record UpdatesTie (o : Object) : Type 0 where
   pub settled : IsObject o → IsTied o → refusal o ≡ None → IsTied (settle o)
   pub torn : (bytes : List ℕ) → IsTied (torn o bytes)
 
--- settling keeps the items of a piece that stands alone in a section from 1 on and is of the kind of its present header
+-- where something is dirty and the update is not refused, settling keeps the items of a piece that stands alone in a
+-- section from 1 on and is of the kind of its present header, which has items
 abbrev pub SettlingKeepsItems : Object → Type 0
 SettlingKeepsItems o =
     (s : ℕ) (p : Piece) (items : Items) → IsObject o → is_dirty o ≡ true → refusal o ≡ None → 0 < s → s < length o.sections

@@ -14,6 +14,7 @@ pub mod Due
 pub mod Steps
 pub mod Calls
 pub mod Runs
+pub mod SymbolSections
 pub mod Valid
 pub mod BlockLaws
 pub mod RangeLaws

@@ -118,7 +118,8 @@ abbrev pub or_same : Kind → Object → Object → Object
 or_same kinds.Empty old stepped = old
 or_same _ old stepped = stepped
 
--- by the lend of the kind that the piece holds; it answers the number of items, and on a piece without data it marks nothing
+-- by the lend of the kind that the piece holds; it answers the number of items. A piece of kind Empty can not be lent: it
+-- answers 0 and marks nothing. A piece of another kind is marked, also where it has no items.
 abbrev pub addall : ℕ → ℕ → ℕ → Call ℕ
 addall s p n = record {
   answer = λ o. answered (lend_refusal o (kind_at o s p) s p) (items_count (items_at o s p));

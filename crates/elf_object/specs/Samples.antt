@@ -1,17 +1,21 @@
 -- Small images, byte by byte, and objects made of them, on which the definitions are computed.
-use Rattle.std.specs.Prelude.{◌^◌, ℕ, ◌+◌, ◌-◌, ◌*◌, nat_lt, List, [], ◌∷◌, ◌++◌, codes, slice_get, Option, if◌then◌else◌, Result, Ok, Err}
+use Rattle.std.specs.Prelude.{◌^◌, ℕ, ◌+◌, ◌-◌, ◌*◌, nat_lt, Bool, true, false, List, [], ◌∷◌, ◌++◌, codes, slice_get, Option, if◌then◌else◌, Result, Ok, Err}
 use Rattle.elf_types.specs.declared.records.Class.TheVariants.{C64}
 use Rattle.elf_types.specs.declared.records.Order.TheVariants.{Least}
+use Rattle.elf_types.specs.declared.records.Ehdr.{Ehdr}
+use Rattle.elf_types.specs.declared.records.Phdr.{Phdr}
 use Rattle.elf_types.specs.declared.records.Shdr.{Shdr}
 use Rattle.elf_types.specs.declared.records.Sym.{Sym}
 use Rattle.elf_types.specs.declared.errors.ElfError.{ElfError}
 use Rattle.elf_xlate.specs.declared.content.Items.{Items}
 use Rattle.elf_xlate.specs.Numbers.{octets}
 use Rattle.elf_xlate.specs.Fields.{written}
-use Rattle.elf_object.specs.Object.{Object}
+use Rattle.elf_object.specs.Object.{Object, Section, new_section, no_shdr}
 use Rattle.elf_object.specs.Open.{opened, created}
-use Rattle.elf_object.specs.Answers.{bytes_of}
-use Rattle.elf_object.specs.Calls.{step, newdata, newdata_aligned, newphdr, newscn, set_fill}
+use Rattle.elf_object.specs.Answers.{bytes_of, syms_of}
+use Rattle.elf_types.specs.declared.records.Part.TheVariants as part
+use Rattle.elf_object.specs.Calls.{Call, step, newdata, newdata_aligned, newphdr, newscn, set_fill, flag}
+use Rattle.elf_object.specs.SymbolSections.{symshndx}
 use Rattle.elf_object.specs.Runs.{left_by, addall, set_shdr}
 use Rattle.elf_xlate.specs.declared.content.Items.TheVariants.{Bytes}
 use Rattle.std.proofs.Math.ListN.{replicate}
@@ -93,11 +97,30 @@ offset_set n h = record h { offset = n }
 abbrev pub addralign_set : ℕ → Shdr → Shdr
 addralign_set n h = record h { addralign = n }
 
+abbrev pub link_set : ℕ → Shdr → Shdr
+link_set n h = record h { link = n }
+
+abbrev pub entry_set : ℕ → Ehdr → Ehdr
+entry_set n h = record h { entry = n }
+
+abbrev pub shstrndx_set : ℕ → Ehdr → Ehdr
+shstrndx_set n h = record h { shstrndx = n }
+
+abbrev pub vaddr_set : ℕ → Phdr → Phdr
+vaddr_set n p = record p { vaddr = n }
+
 abbrev pub value_set : ℕ → Sym → Sym
 value_set n s = record s { value = n }
 
 abbrev pub byte_in : Items → ℕ → Option ℕ
 byte_in items i = slice_get (bytes_of items) i
+
+abbrev pub sym_in : Items → ℕ → Option Sym
+sym_in items i = slice_get (syms_of items) i
+
+-- the section of symbol i: whether the index is a section's number, and the index
+abbrev pub section_of : ℕ → ℕ → ℕ → Call (Bool × ℕ)
+section_of s p i = symshndx (λ n. (false, n)) (λ n. (true, n)) s p i
 
 -- ---- Objects
 
@@ -133,9 +156,24 @@ ragged = object_in (with_number 280 8 25 small64)
 abbrev pub missing : Object
 missing = object_in (with_number 252 4 1 (with_number 272 8 (2 ^ 64 - 1) (with_number 280 8 2 small64)))
 
+-- section 1 is a table of extended indexes of section 2, and has the words 0x6100 and 7; symbol 1 has an extended index
+abbrev pub indexed : Object
+indexed = object_in
+    (with_number 68 4 7 (with_number 102 2 0xffff (with_number 188 4 18 (with_number 216 8 8 (with_number 224 4 2 small64)))))
+
+abbrev pub filled_section : Section
+filled_section = record new_section { header = type_set 1 no_shdr }
+
 -- 16 added to each symbol's value
 abbrev pub shifted : Object
 shifted = step (addall 2 0 16) symbols64
+
+abbrev pub shifted32 : Object
+shifted32 = step (addall 2 0 16) symbols32
+
+-- with ELF_F_LAYOUT
+abbrev pub laid : Object → Object
+laid o = step (flag part.Object true 4) o
 
 -- eight bytes more in section 3
 abbrev pub eight_more : Items
@@ -144,11 +182,20 @@ eight_more = Bytes (replicate 8 0x33)
 abbrev pub grown : Object
 grown = step (newdata 3 eight_more) sections
 
--- a fourth section with two bytes, and a program header
+-- section 3 is of type SHT_NULL, and section 4 of type SHT_NOBITS
+abbrev pub hollow : Object
+hollow = left_by (set_shdr 3 (type_set 0) ∷ set_shdr 4 (type_set 8) ∷ []) sections
+
+-- a fourth section, with a type and an alignment
+abbrev pub typed : Object
+typed = left_by (set_shdr 3 (type_set 1) ∷ set_shdr 3 (addralign_set 4) ∷ []) (step newscn symbols64)
+
+abbrev pub two_bytes : Items
+two_bytes = Bytes (1 ∷ 2 ∷ [])
+
+-- with two bytes, and with a program header
 abbrev pub extended : Object
-extended = left_by
-    (set_shdr 3 (type_set 1) ∷ set_shdr 3 (addralign_set 4) ∷ newphdr 1 ∷ [])
-    (step (newdata 3 (Bytes (1 ∷ 2 ∷ []))) (step newscn symbols64))
+extended = step (newphdr 1) (step (newdata 3 two_bytes) typed)
 
 -- one byte more in section 1, aligned to eight, over another fill byte
 abbrev pub spaced : Object

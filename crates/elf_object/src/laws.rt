@@ -43,7 +43,8 @@ pub fn beginnings_are_tied()
     ensures { BeginningsAreTied }
 {}
 
-/// A section's bytes end with its last piece, and its stored `sh_size` is their number.
+/// A section's bytes end with its last piece, and where something is dirty its stored `sh_size` is
+/// their number. An image is as long as said.
 #[tactic(auto, using(crate::specs::LawsHold::sizes_are_lengths))]
 pub fn sizes_are_lengths()
     ensures { SizesAreLengths }
@@ -55,25 +56,27 @@ pub fn parts_do_not_meet()
     ensures { PartsDoNotMeet }
 {}
 
-/// Where an update is not refused, each part stands in the image, at the place that its header says,
-/// with all of its bytes.
+/// Where something is dirty and an update is not refused, each part stands in the image, at the place
+/// that its header says, with all of its bytes.
 #[tactic(auto, using(crate::specs::LawsHold::parts_stand))]
 pub fn parts_stand()
     ensures { (o : Object) → PartsStand o }
 {}
 
-/// Places that are stored stay where they are stored again, and neither changes the image.
+/// Where an update is not refused, places that are stored stay where they are stored again, that update
+/// is not refused either, and neither changes the image.
 pub fn placed_stays()
     ensures { (o : Object) → PlacedStays o }
 {}
 
-/// An object whose base was torn by a failed write is not refused and has the same image.
+/// Where something is dirty and an update is not refused, an object whose base was torn by a failed write
+/// is not refused and has the same image.
 pub fn torn_law()
     ensures { (o : Object) → TornLaw o }
 {}
 
-/// The image of an object, opened again, is that object settled, but for `ELF_F_LAYOUT` and the fill
-/// byte, which are clear and 0 in an image that is opened.
+/// Where an update is not refused, the image of an object, opened again, is that object settled, but for
+/// `ELF_F_LAYOUT` and the fill byte, which are clear and 0 in an image that is opened.
 pub fn reopen_law()
     ensures { (o : Object) → ReopenLaw o }
 {
@@ -82,23 +85,24 @@ pub fn reopen_law()
     shdr_both_ways();
 }
 
-/// An image is made of bytes. An update in place leaves what makes an object, and so does one that
-/// failed and left bytes.
+/// Where an update is not refused, the image is made of bytes, an update in place leaves what makes an
+/// object, and so does one that failed and left bytes.
 pub fn updates_keep()
     ensures { (o : Object) → UpdatesKeep o }
 {
     reopen_law();
 }
 
-/// An update in place leaves an object that is that of its base, and so does one that failed.
+/// Where it is not refused, an update in place leaves an object that is that of its base. One that failed
+/// always does, since it leaves marks.
 pub fn updates_tie()
     ensures { (o : Object) → UpdatesTie o }
 {
     reopen_law();
 }
 
-/// Where an own piece stands alone in a section from 1 on and is of the kind of the section's present
-/// header, settling keeps its items.
+/// Where something is dirty, an update is not refused, and an own piece stands alone in a section from 1 on
+/// and is of the kind of the section's present header, which has items, settling keeps its items.
 pub fn settling_keeps_items()
     ensures { (o : Object) → SettlingKeepsItems o }
 {

@@ -12,4 +12,8 @@ pub use derived::{
 pub use sections::{MAX_PIECE_ALIGN, SHT_NOBITS, SHT_NULL, extent, is_piece_align, occupies_file};
 
 #[cfg(test)]
+mod call_tests;
+#[cfg(test)]
+mod layout_tests;
+#[cfg(test)]
 mod tests;

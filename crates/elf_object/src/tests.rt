@@ -1,4 +1,4 @@
-//! The definitions computed on three small images. Each function below states what they give there, and
+//! The definitions computed on four small images. Each function below states what they give there, and
 //! is proved by computation. The values were worked out by hand from the gABI.
 #![tactic(auto, unfolding(crate::proofs::Computing::all_words))]
 
@@ -7,30 +7,40 @@ ghost use Rattle.std.proofs.Math.ListN.{replicate};
 ghost use Rattle.elf_types.specs.declared.errors.ElfError.TheVariants.{BadAlign, FlagKept, NoSection, OutOfFile, Overlap, Ragged, Reserved, ShTable, Unfit};
 ghost use Rattle.elf_types.specs.declared.records.Kind.TheVariants as kind;
 ghost use Rattle.elf_types.specs.declared.records.Part.TheVariants as part;
-ghost use Rattle.elf_xlate.specs.declared.content.Items.TheVariants.{Bytes};
-ghost use Rattle.elf_object.specs.Object.{header_of};
+ghost use Rattle.elf_types.specs.declared.records.Class.TheVariants.{C64};
+ghost use Rattle.elf_types.specs.declared.records.Order.TheVariants.{Least};
+ghost use Rattle.elf_ident.specs.Front.{true_phnum, true_shnum, true_shstrndx};
+ghost use Rattle.elf_xlate.specs.Headers.{ehdr_bytes, shdr_bytes};
+ghost use Rattle.elf_xlate.specs.declared.content.Items.TheVariants.{Bytes, Sym};
+ghost use Rattle.elf_object.specs.Object.{header_of, no_shdr, section_at};
 ghost use Rattle.elf_object.specs.Open.{opened};
 ghost use Rattle.elf_object.specs.Answers.{count_at, kind_at};
-ghost use Rattle.elf_object.specs.Joined.{pieces_end};
+ghost use Rattle.elf_object.specs.Blocks.{is_covered};
+ghost use Rattle.elf_object.specs.Joined.{piece_blocks, pieces_end};
+ghost use Rattle.elf_object.specs.Layout.{placed};
 ghost use Rattle.elf_object.specs.Derived.{numbered_shdr, written_header};
 ghost use Rattle.elf_object.specs.Image.{image};
 ghost use Rattle.elf_object.specs.Settled.{settle};
 ghost use Rattle.elf_object.specs.Changed.{changed, changed_bytes, fill_places, torn};
 ghost use Rattle.elf_object.specs.Due.{update_in_place_due, update_to_due};
-ghost use Rattle.elf_object.specs.Calls.{step, data_answer, raw_answer, shdr_answer, sym_answer, sym, update_sym, newdata, newdata_aligned, newscn, replace, flag, set_fill, update_null};
+ghost use Rattle.elf_object.specs.Calls.{step, data_answer, raw_answer, shdr_answer, sym_answer, sym, update_sym, newdata, newdata_aligned, newphdr, newscn, replace, flag, set_fill, update_null};
 ghost use Rattle.elf_object.specs.Runs.{answers_to, left_by, addall, item, set_item, set_shdr};
-ghost use Rattle.elf_object.specs.Samples.{small64, five64, tailed64, header64, numbered64, object_in, symbols64, symbols32, sections, tailed, ragged, missing, shifted, eight_more, grown, extended, spaced, byte_in, flags_set, type_set, offset_set, value_set};
+ghost use Rattle.elf_object.specs.Samples.{small64, five64, tailed64, header64, numbered64, object_in, symbols64, symbols32, sections, tailed, ragged, missing, shifted, eight_more, grown, typed, two_bytes, extended, spaced, laid, byte_in, sym_in, flags_set, type_set, offset_set, addralign_set, value_set};
 
 /// A symbol is read in both classes and orders.
 fn symbols_are_read()
     ensures in_64 { sym_answer symbols64 2 0 1 ≡ Ok (record { name = 1; info = 0x12; other = 0; shndx = 0xfff1; value = 0x1000; size = 4 }) }
     ensures in_32 { sym_answer symbols32 2 0 1 ≡ Ok (record { name = 1; info = 0x12; other = 0; shndx = 0xfff1; value = 0x1000; size = 4 }) }
+    ensures items { (item sym_in 2 0 1).answer symbols32 ≡ (item sym_in 2 0 1).answer symbols64 }
+    ensures item { (item sym_in 2 0 1).answer symbols64 ≡ Ok (record { name = 1; info = 0x12; other = 0; shndx = 0xfff1; value = 0x1000; size = 4 }) }
     ensures no_section { data_answer symbols64 9 0 ≡ Err (NoSection 9 3) }
 {}
 
 /// The count and the string index may stand in section 0.
 fn extended_numbers_are_read()
     ensures counts { header_of (object_in (numbered64 3)) ≡ header_of symbols64 }
+    ensures count { (header_of (object_in (numbered64 3))).shnum ≡ 3 }
+    ensures index { (header_of (object_in (numbered64 3))).shstrndx ≡ 1 }
     ensures too_long { opened (numbered64 (2 ^ 60)) ≡ Err ShTable }
 {}
 
@@ -41,6 +51,26 @@ fn extended_numbers_are_written()
     ensures first { (numbered_shdr (record (header_of symbols64) { shnum = 0xff00; shstrndx = 0xff00; phnum = 0xffff }) (record { name = 0; stype = 0; flags = 0; addr = 0; offset = 0; size = 7; link = 7; info = 7; addralign = 0; entsize = 0 })) ≡ record { name = 0; stype = 0; flags = 0; addr = 0; offset = 0; size = 0xff00; link = 0xff00; info = 0xffff; addralign = 0; entsize = 0 } }
     ensures sections { answers_to (newscn ∷ newscn ∷ update_null ∷ []) (object_in header64) ≡ Ok 1 ∷ Ok 2 ∷ Ok 256 ∷ [] }
     ensures bytes { take 2 (drop 60 (image (left_by (newscn ∷ newscn ∷ []) (object_in header64)))) ≡ 3 ∷ 0 ∷ [] }
+{}
+
+/// The bytes of the counts in the ELF header, and of `sh_size` in section 0, on both sides of the border.
+fn extended_numbers_have_their_bytes()
+    ensures below { take 2 (drop 60 (ehdr_bytes (written_header (record (header_of symbols64) { shnum = 0xfeff })) symbols64.pad)) ≡ 0xff ∷ 0xfe ∷ [] }
+    ensures from { take 2 (drop 60 (ehdr_bytes (written_header (record (header_of symbols64) { shnum = 0xff00 })) symbols64.pad)) ≡ 0 ∷ 0 ∷ [] }
+    ensures first_below { take 8 (drop 32 (shdr_bytes C64 Least (numbered_shdr (record (header_of symbols64) { shnum = 0xfeff }) no_shdr))) ≡ replicate 8 0 }
+    ensures first_from { take 8 (drop 32 (shdr_bytes C64 Least (numbered_shdr (record (header_of symbols64) { shnum = 0xff00 }) no_shdr))) ≡ 0 ∷ 0xff ∷ replicate 6 0 }
+{}
+
+/// What is written is read back as it was, on both sides of each border.
+fn extended_numbers_are_read_back()
+    ensures sections { true_shnum (written_header (record (header_of symbols64) { shnum = 0xff00 })) (numbered_shdr (record (header_of symbols64) { shnum = 0xff00 }) no_shdr) ≡ 0xff00 }
+    ensures sections_below { true_shnum (written_header (record (header_of symbols64) { shnum = 0xfeff })) (numbered_shdr (record (header_of symbols64) { shnum = 0xfeff }) no_shdr) ≡ 0xfeff }
+    ensures index { true_shstrndx (written_header (record (header_of symbols64) { shstrndx = 0xff00 })) (numbered_shdr (record (header_of symbols64) { shstrndx = 0xff00 }) no_shdr) ≡ 0xff00 }
+    ensures segments { true_phnum (written_header (record (header_of symbols64) { phnum = 0xffff })) (numbered_shdr (record (header_of symbols64) { phnum = 0xffff }) no_shdr) ≡ 0xffff }
+    ensures segments_from { (written_header (record (header_of symbols64) { phnum = 0x10000 })).phnum ≡ 0xffff }
+    ensures segments_first { (numbered_shdr (record (header_of symbols64) { phnum = 0xffff }) no_shdr).info ≡ 0xffff }
+    ensures segments_below { (written_header (record (header_of symbols64) { phnum = 0xfffe })).phnum ≡ 0xfffe }
+    ensures segments_first_below { (numbered_shdr (record (header_of symbols64) { phnum = 0xfffe }) no_shdr).info ≡ 0 }
 {}
 
 /// A section whose length is no multiple of its items' size.
@@ -58,6 +88,9 @@ fn missing_sections_are_refused()
 
 /// A section keeps the kind of its header as opened.
 fn edited_headers_do_not_decide()
+    ensures edited { (set_shdr 2 (type_set 1)).answer symbols64 ≡ Ok tt }
+    ensures data { data_answer (step (set_shdr 2 (type_set 1)) symbols64) 2 0 ≡ data_answer symbols64 2 0 }
+    ensures held { data_answer symbols64 2 0 ≡ Ok (Sym (record { name = 0; info = 0; other = 0; shndx = 0; value = 0; size = 0 } ∷ record { name = 1; info = 0x12; other = 0; shndx = 0xfff1; value = 0x1000; size = 4 } ∷ [])) }
     ensures kind { kind_at (step (set_shdr 2 (type_set 1)) symbols64) 2 0 ≡ kind.Sym }
     ensures count { count_at (step (set_shdr 2 (type_set 1)) symbols64) 2 0 ≡ 2 }
 {}
@@ -87,8 +120,10 @@ fn clean_images_stay()
 
 /// With `ELF_F_LAYOUT` section 2 may begin where section 1 ends, and not a byte before.
 fn parts_may_not_share_a_byte()
-    ensures refused { answers_to (flag part.Object true 4 ∷ update_null ∷ []) (step (set_shdr 2 (offset_set 66)) symbols64) ≡ Ok 4 ∷ Err (Overlap (part.Section 1) (part.Section 2)) ∷ [] }
-    ensures placed { answers_to (flag part.Object true 4 ∷ update_null ∷ []) (step (set_shdr 2 (offset_set 67)) symbols64) ≡ Ok 4 ∷ Ok 312 ∷ [] }
+    ensures flagged { (flag part.Object true 4).answer symbols64 ≡ Ok 4 }
+    ensures edited { answers_to (set_shdr 2 (offset_set 66) ∷ set_shdr 2 (offset_set 67) ∷ []) (laid symbols64) ≡ Ok tt ∷ Ok tt ∷ [] }
+    ensures refused { update_null.answer (step (set_shdr 2 (offset_set 66)) (laid symbols64)) ≡ Err (Overlap (part.Section 1) (part.Section 2)) }
+    ensures placed { update_null.answer (left_by (set_shdr 2 (offset_set 66) ∷ set_shdr 2 (offset_set 67) ∷ []) (laid symbols64)) ≡ Ok 312 }
 {}
 
 /// A section that grows moves those after it.
@@ -96,6 +131,10 @@ fn grown_sections_move_others()
     ensures piece { (newdata 3 eight_more).answer sections ≡ Ok (3, 1) }
     ensures size { update_null.answer grown ≡ Ok 496 }
     ensures bytes { take 40 (drop 80 (image grown)) ≡ replicate 8 3 ++ replicate 8 0x33 ++ replicate 8 4 ++ replicate 8 5 ++ replicate 8 0 }
+    ensures table { (placed grown).header.shoff ≡ 112 }
+    ensures third { shdr_answer (step update_null grown) 3 ≡ Ok (record { name = 0; stype = 1; flags = 0; addr = 0; offset = 80; size = 16; link = 0; info = 0; addralign = 8; entsize = 0 }) }
+    ensures fourth { shdr_answer (step update_null grown) 4 ≡ Ok (record { name = 0; stype = 1; flags = 0; addr = 0; offset = 96; size = 8; link = 0; info = 0; addralign = 8; entsize = 0 }) }
+    ensures fifth { shdr_answer (step update_null grown) 5 ≡ Ok (record { name = 0; stype = 1; flags = 0; addr = 0; offset = 104; size = 8; link = 0; info = 0; addralign = 8; entsize = 0 }) }
     ensures changed { changed grown ≡ part.Header ∷ part.Section 3 ∷ part.Section 4 ∷ part.Section 5 ∷ part.Table ∷ [] }
     ensures given { changed_bytes grown ≡ 64 + 16 + 8 + 8 + 384 }
     ensures moved { update_in_place_due grown [] ≡ 24 }
@@ -123,6 +162,9 @@ fn flags_are_set_and_cleared()
 /// A new section with two bytes and one program header: the update places both.
 fn new_sections_are_placed()
     ensures number { newscn.answer symbols64 ≡ Ok 3 }
+    ensures edited { answers_to (set_shdr 3 (type_set 1) ∷ set_shdr 3 (addralign_set 4) ∷ []) (step newscn symbols64) ≡ Ok tt ∷ Ok tt ∷ [] }
+    ensures piece { (newdata 3 two_bytes).answer typed ≡ Ok (3, 0) }
+    ensures segments { (newphdr 1).answer (step (newdata 3 two_bytes) typed) ≡ Ok tt }
     ensures size { update_null.answer extended ≡ Ok 440 }
     ensures stored { shdr_answer (step update_null extended) 3 ≡ Ok (record { name = 0; stype = 1; flags = 0; addr = 0; offset = 0xb0; size = 2; link = 0; info = 0; addralign = 4; entsize = 0 }) }
 {}
@@ -132,15 +174,21 @@ fn raw_bytes_stay()
     ensures changed { (addall 1 0 1).answer symbols64 ≡ Ok 3 }
     ensures item { (item byte_in 1 0 1).answer (step (addall 1 0 1) symbols64) ≡ Ok 0x62 }
     ensures raw { raw_answer (step (addall 1 0 1) symbols64) 1 ≡ Ok (0 ∷ 0x61 ∷ 0 ∷ []) }
-    ensures replaced { data_answer (left_by (addall 1 0 1 ∷ []) (step (replace 1 0 (Bytes [])) symbols64)) 1 0 ≡ Ok (Bytes []) }
+    ensures replaced { (replace 1 0 (Bytes [])).answer (step (addall 1 0 1) symbols64) ≡ Ok tt }
+    ensures data { data_answer (step (replace 1 0 (Bytes [])) (step (addall 1 0 1) symbols64)) 1 0 ≡ Ok (Bytes []) }
+    ensures raw_then { raw_answer (step (replace 1 0 (Bytes [])) (step (addall 1 0 1) symbols64)) 1 ≡ Ok (0 ∷ 0x61 ∷ 0 ∷ []) }
     ensures reserved { (replace 0 0 (Bytes [])).answer symbols64 ≡ Err Reserved }
 {}
 
 /// Pieces stand at their alignments, and the fill byte stands in the gaps, also between parts.
 fn gaps_have_the_fill_byte()
+    ensures filled { (set_fill 0xaa).answer symbols64 ≡ Ok tt }
     ensures piece { (newdata_aligned 1 (Bytes (0x62 ∷ [])) 8).answer (step (set_fill 0xaa) symbols64) ≡ Ok (1, 1) }
     ensures refused { (newdata_aligned 1 (Bytes (0x62 ∷ [])) 3).answer spaced ≡ Err (BadAlign 3) }
     ensures end { pieces_end spaced 1 ≡ 9 }
+    ensures gap { is_covered (piece_blocks spaced 1) 4 ≡ false }
+    ensures second { (section_at (placed spaced) 2).header.offset ≡ 80 }
+    ensures table { (placed spaced).header.shoff ≡ 128 }
     ensures size { update_null.answer spaced ≡ Ok 320 }
     ensures bytes { take 16 (drop 64 (image spaced)) ≡ 0 ∷ 0x61 ∷ 0 ∷ replicate 5 0xaa ++ 0x62 ∷ replicate 7 0xaa }
     ensures places { fill_places spaced ≡ 73 ∷ 74 ∷ 75 ∷ 76 ∷ 77 ∷ 78 ∷ 79 ∷ [] }
@@ -151,6 +199,8 @@ fn definitions_compute_on_small_images() {
     symbols_are_read();
     extended_numbers_are_read();
     extended_numbers_are_written();
+    extended_numbers_have_their_bytes();
+    extended_numbers_are_read_back();
     ragged_sections_keep_their_bytes();
     missing_sections_are_refused();
     edited_headers_do_not_decide();
