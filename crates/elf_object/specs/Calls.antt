@@ -67,7 +67,7 @@ Obeys (Err e) old new c = (c.answer old ≡ Err e) × (new ≡ old)
 abbrev pub due : {A : Type 0} → Call A → Object → List Bool → ℕ
 due c o loaded = call_due o loaded (err_of (c.answer o)) (c.reads o)
 
--- of a call that may have read some homes before it meets a refusal: of a symbol's section and of a look-up by a hash
+-- of a call that may have read some homes before it meets a refusal: of a symbol's section and of a lookup by a hash
 abbrev pub due_refused_or_not : {A : Type 0} → Call A → Object → List Bool → ℕ
 due_refused_or_not c o loaded = homes_due o loaded (c.reads o)
 

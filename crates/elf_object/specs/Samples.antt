@@ -83,6 +83,15 @@ header64 = hex (codes "7f454c4602010100000000000000000002003e0001000000001040000
 unfoldable pub with_number : ℕ → ℕ → ℕ → List ℕ → List ℕ
 with_number at width n image = written at (octets Least width n) image
 
+-- a header and the header of section 0, which has the three numbers 0xff00, 0xff01 and 0x10000
+unfoldable pub crowded64 : List ℕ
+crowded64 =
+    with_number 40 8 64
+    (with_number 56 2 0xffff
+    (with_number 58 2 64
+    (with_number 62 2 0xffff
+    (with_number 96 8 0xff00 (with_number 104 4 0xff01 (with_number 108 4 0x10000 (header64 ++ replicate 64 0)))))))
+
 -- ---- Fields that are set, and the form of a byte
 
 abbrev pub flags_set : ℕ → Shdr → Shdr

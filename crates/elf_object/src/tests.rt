@@ -9,7 +9,7 @@ ghost use Rattle.elf_types.specs.declared.records.Kind.TheVariants as kind;
 ghost use Rattle.elf_types.specs.declared.records.Part.TheVariants as part;
 ghost use Rattle.elf_types.specs.declared.records.Class.TheVariants.{C64};
 ghost use Rattle.elf_types.specs.declared.records.Order.TheVariants.{Least};
-ghost use Rattle.elf_ident.specs.Front.{true_phnum, true_shnum, true_shstrndx};
+ghost use Rattle.elf_ident.specs.Front.{first_section, header_at, true_counts, true_phnum, true_shnum, true_shstrndx};
 ghost use Rattle.elf_xlate.specs.Headers.{ehdr_bytes, shdr_bytes};
 ghost use Rattle.elf_xlate.specs.declared.content.Items.TheVariants.{Bytes, Sym};
 ghost use Rattle.elf_object.specs.Object.{header_of, no_shdr, section_at};
@@ -25,7 +25,7 @@ ghost use Rattle.elf_object.specs.Changed.{changed, changed_bytes, fill_places, 
 ghost use Rattle.elf_object.specs.Due.{update_in_place_due, update_to_due};
 ghost use Rattle.elf_object.specs.Calls.{step, data_answer, raw_answer, shdr_answer, sym_answer, sym, update_sym, newdata, newdata_aligned, newphdr, newscn, replace, flag, set_fill, update_null};
 ghost use Rattle.elf_object.specs.Runs.{answers_to, left_by, addall, item, set_item, set_shdr};
-ghost use Rattle.elf_object.specs.Samples.{small64, five64, tailed64, header64, numbered64, object_in, symbols64, symbols32, sections, tailed, ragged, missing, shifted, eight_more, grown, typed, two_bytes, extended, spaced, laid, byte_in, sym_in, flags_set, type_set, offset_set, addralign_set, value_set};
+ghost use Rattle.elf_object.specs.Samples.{small64, five64, tailed64, header64, crowded64, numbered64, object_in, symbols64, symbols32, sections, tailed, ragged, missing, shifted, eight_more, grown, typed, two_bytes, extended, spaced, laid, byte_in, sym_in, flags_set, type_set, offset_set, addralign_set, value_set};
 
 /// A symbol is read in both classes and orders.
 fn symbols_are_read()
@@ -71,6 +71,12 @@ fn extended_numbers_are_read_back()
     ensures segments_first { (numbered_shdr (record (header_of symbols64) { phnum = 0xffff }) no_shdr).info ≡ 0xffff }
     ensures segments_below { (written_header (record (header_of symbols64) { phnum = 0xfffe })).phnum ≡ 0xfffe }
     ensures segments_first_below { (numbered_shdr (record (header_of symbols64) { phnum = 0xfffe }) no_shdr).info ≡ 0 }
+{}
+
+/// The numbers in the bytes of section 0 are the true ones; then the table does not lie in the image.
+fn extended_numbers_are_read_from_bytes()
+    ensures counts { true_counts (header_at C64 Least crowded64).0 (first_section (header_at C64 Least crowded64).0 crowded64) ≡ record { phnum = 0x10000; shnum = 0xff00; shstrndx = 0xff01 } }
+    ensures too_long { opened crowded64 ≡ Err ShTable }
 {}
 
 /// A section whose length is no multiple of its items' size.
@@ -201,6 +207,7 @@ fn definitions_compute_on_small_images() {
     extended_numbers_are_written();
     extended_numbers_have_their_bytes();
     extended_numbers_are_read_back();
+    extended_numbers_are_read_from_bytes();
     ragged_sections_keep_their_bytes();
     missing_sections_are_refused();
     edited_headers_do_not_decide();
