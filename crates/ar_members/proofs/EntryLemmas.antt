@@ -1,15 +1,15 @@
 -- The entries of an archive, one after another.
-use Rattle.std.proofs.Common.{◌≡◌, ℕ, zero, suc, ◌+◌, ◌<◌, ◌≤◌, Bool, true, false, cond, leb, List, [], ◌∷◌, length, Option, Some, None, refl, sym, ap, ◌∙◌, arith, add-one}
+use Rattle.std.proofs.Common.{◌≡◌, ℕ, zero, suc, ◌+◌, ◌<◌, ◌≤◌, Bool, cond, leb, List, [], ◌∷◌, length, Option, Some, None, refl, sym, ap, ◌∙◌, arith}
 use Rattle.std.specs.List.{filter_map, cons_option}
 use Rattle.std.specs.Option.{option_map, option_and_then}
-use Rattle.std.proofs.lemmas.Bool.{le-leb, lt-leb, leb-false, leb-true}
+use Rattle.std.proofs.lemmas.Bool.{le-leb, lt-leb}
 use Rattle.ar_members.specs.declared.headers.ArHdr.{ArHdr}
 use Rattle.ar_members.specs.declared.numbers.Numbers.{Numbers}
 use Rattle.ar_members.specs.declared.names.NameKind.{NameKind}
 use Rattle.ar_members.specs.declared.names.NameKind.TheVariants.{Symbols, LongNames, Symbols64, Long, Short}
 use Rattle.ar_members.specs.Names.{kind_of_name, long_name_of}
 use Rattle.ar_members.specs.Headers.{header_at, name_field_at}
-use Rattle.ar_members.specs.Members.{Entry, Entries, Members, member_entry, entry_by, named_entry, entry_at, entries_after, entries_within, entries_from, members_of, members_from, no_members, bad_at, member_before, due_past, due_among, due_from}
+use Rattle.ar_members.specs.Members.{Entry, Entries, member_entry, entry_by, named_entry, entry_at, entries_after, entries_within, entries_from, members_of, members_from, no_members, bad_at, member_before, due_past, due_among, due_from}
 use Rattle.ar_members.specs.Steps.{step_due}
 
 -- the header after an entry stands past its own

@@ -1,15 +1,14 @@
 -- The entry of a header by the kind of its name, and the step at a place.
-use Rattle.std.proofs.Common.{◌≡◌, ℕ, ◌+◌, ◌≤◌, List, length, Option, Some, None, Err, IfSome, take, drop, refl, sym, ap, ◌∙◌, subst, arith}
+use Rattle.std.proofs.Common.{◌≡◌, ℕ, ◌+◌, ◌≤◌, List, length, Option, Some, None, Err, IfSome, take, drop, sym, ap, ◌∙◌, subst, arith}
 use Rattle.std.specs.Option.{option_map, option_and_then}
 use Rattle.ar_members.specs.declared.headers.ArHdr.{ArHdr}
 use Rattle.ar_members.specs.declared.numbers.Numbers.{Numbers}
 use Rattle.ar_members.specs.declared.names.NameKind.{NameKind}
 use Rattle.ar_members.specs.declared.names.NameKind.TheVariants.{Symbols, LongNames, Symbols64, Long, Short}
 use Rattle.ar_members.specs.declared.entries.Entry.TheVariants as found
-use Rattle.ar_members.specs.Names.{kind_of_name, short_name_of, long_name_of}
+use Rattle.ar_members.specs.Names.{kind_of_name, long_name_of}
 use Rattle.ar_members.specs.Headers.{header_at, name_field_at, body_at, next_at, Gives, GivesBy}
 use Rattle.ar_members.specs.Members.{Entry, shown_header, member_entry, entry_by, named_entry, entry_at}
-use Rattle.ar_members.specs.declared.entries.Step.{Step}
 use Rattle.ar_members.proofs.Told.{told_at}
 use Rattle.ar_members.specs.Steps.{entry_of, step_entry, asked_by, step_due}
 use Rattle.elf_types.specs.declared.errors.ElfError.{ElfError}

@@ -1,18 +1,15 @@
 -- The walk to the next member, step by step.
-use Rattle.std.proofs.Common.{◌≡◌, ℕ, ◌+◌, ◌-◌, ◌<◌, ◌≤◌, List, length, Option, Some, None, Result, Ok, Err, IfSome, unwrap_or, refl, sym, ap, ◌∙◌, subst, arith}
+use Rattle.std.proofs.Common.{◌≡◌, ℕ, ◌+◌, ◌-◌, ◌<◌, ◌≤◌, List, length, Option, Some, None, Ok, Err, IfSome, unwrap_or, refl, sym, ap, ◌∙◌, subst, arith}
 use Rattle.elf_types.specs.declared.errors.ElfError.{ElfError}
 use Rattle.elf_types.specs.declared.errors.ElfError.TheVariants.{BadMember, Memory, Read}
-use Rattle.elf_outside.specs.Asks.{Asks, Leaves, ReadRose}
-use Rattle.elf_outside.specs.Counts.{Rose}
+use Rattle.elf_outside.specs.Asks.{Asks, Leaves}
 use Rattle.elf_outside.specs.declared.sources.Source.{Ghosts}
 use Rattle.ar_members.specs.declared.headers.ArHdr.{ArHdr}
-use Rattle.ar_members.specs.declared.entries.Entry.{Entry as Seen}
 use Rattle.ar_members.specs.declared.entries.Entry.TheVariants as seen
 use Rattle.ar_members.specs.declared.entries.Step.{Step}
-use Rattle.ar_members.specs.declared.walk.Found.{Found}
 use Rattle.ar_members.specs.Headers.{GivesBy}
-use Rattle.ar_members.specs.Members.{Entry, entry_at, members_from, no_members, bad_at, member_before, due_from}
-use Rattle.ar_members.specs.Steps.{entry_of, step_entry, step_due, asked_of, StepLies, step_asks}
+use Rattle.ar_members.specs.Members.{Entry, entry_at, members_from, bad_at, member_before, due_from}
+use Rattle.ar_members.specs.Steps.{entry_of, step_entry, step_due, asked_of, StepLies}
 use Rattle.ar_members.specs.Walks.{Walks, Finds}
 use Rattle.ar_members.proofs.Told.{told_by, told_at}
 use Rattle.ar_members.proofs.EntryLemmas.{members_end, members_bad, members_passed, members_next, due_passed, due_step}

@@ -1,8 +1,8 @@
-use Rattle.std.proofs.Common.{◌≡◌, ◌+◌, ◌≤◌, Some, Err, length, take, drop, refl, sym, ap, ◌∙◌, subst, arith}
+use Rattle.std.proofs.Common.{◌≡◌, Some, Err, take, sym, ap, ◌∙◌, arith}
 use Rattle.std.proofs.lemmas.Result.{err_from_is_err_and}
-use Rattle.ar_members.specs.Headers.{header_at, name_field_at, next_at, Gives, GivesBy}
-use Rattle.ar_members.specs.Members.{named_entry, entry_at}
-use Rattle.ar_members.specs.Steps.{entry_of, step_entry, step_due}
+use Rattle.ar_members.specs.Headers.{header_at, next_at, Gives, GivesBy}
+use Rattle.ar_members.specs.Members.{named_entry}
+use Rattle.ar_members.specs.Steps.{entry_of}
 use Rattle.ar_members.proofs.Told.{told_by, told_at}
 use Rattle.ar_members.proofs.HeaderLemmas.{header_asks_low}
 use Rattle.ar_members.proofs.StepLemmas.{entry_read, refused_at_header, refused_at_name, step_due_by}

@@ -1,4 +1,4 @@
-use Rattle.std.proofs.Common.{◌∙◌, ap, sym, length, take, drop}
+use Rattle.std.proofs.Common.{◌∙◌, ap, sym}
 use Rattle.std.proofs.lemmas.List.{take_rest}
 use Rattle.ar_members.specs.Names.{ends_name}
 use Rattle.ar_members.proofs.NameLemmas.{ends_from_more}

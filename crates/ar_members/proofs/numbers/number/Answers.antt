@@ -1,5 +1,4 @@
-use Rattle.std.proofs.Common.{◌≡◌, ◌+◌, ◌*◌, ◌-◌, ◌^◌, ◌<◌, length, sym, subst, get_or, true, arith, ◌∙◌, Some}
-use Rattle.ar_members.specs.Numbers.{is_digit, number_of}
+use Rattle.std.proofs.Common.{◌≡◌, ◌-◌, length, sym, subst, get_or, arith, ◌∙◌}
 use Rattle.ar_members.proofs.Digits.{ReadsDigits, number_stops, number_whole, number_fits, digit_within}
 use Rattle.ar_members.proofs.numbers.number.Goals as goal
 

@@ -1,4 +1,4 @@
-use Rattle.std.proofs.Common.{◌+◌, ◌*◌, drop, ap, ◌∙◌}
+use Rattle.std.proofs.Common.{◌+◌, ◌*◌, ap, ◌∙◌}
 use Rattle.std.proofs.lemmas.List.{take_rest}
 use Rattle.ar_members.specs.Symbols.{word_of}
 use Rattle.ar_members.proofs.SymbolLemmas.{symbols_more}

@@ -1,6 +1,6 @@
-use Rattle.std.proofs.Common.{Some, None, Err, refl, sym, ap, ◌∙◌}
+use Rattle.std.proofs.Common.{Some, refl, ap}
 use Rattle.std.proofs.lemmas.Result.{err_from_is_err_and}
-use Rattle.ar_members.specs.declared.entries.Entry.TheVariants.{Member, LongNames, Passed}
+use Rattle.ar_members.specs.declared.entries.Entry.TheVariants.{LongNames, Passed}
 use Rattle.ar_members.specs.Steps.{entry_of, asked_of}
 use Rattle.ar_members.proofs.WalkLemmas.{walked_more, walked_to, walked_refused, walked_due, walked_end}
 use Rattle.ar_members.proofs.walk.walk.Goals as goal
