@@ -1,10 +1,10 @@
 //! The true counts of an image's tables.
 
-ghost use Rattle.std.specs.Prelude.{◌≡◌, ◌+◌, ◌<◌, ◌≤◌, length, take, drop, IsTrue, IfOk, OnOk, IfErr, IfSome, Ok};
+ghost use Rattle.std.specs.Prelude.{◌≡◌, ◌+◌, ◌^◌, ◌<◌, ◌≤◌, length, take, drop, IsTrue, IfOk, OnOk, IfErr, IfSome, Ok};
 ghost use Rattle.elf_types.specs.Answers.{Follows, IsRefusal};
 ghost use Rattle.elf_outside.specs.Asks.{Asks};
 ghost use Rattle.elf_xlate.specs.Headers.{phdr_size, shdr_size, shdr_of};
-ghost use Rattle.elf_ident.specs.Reading.{HasTables};
+ghost use Rattle.elf_ident.specs.Reading.{HasTables, IsCountRefusal};
 ghost use Rattle.elf_ident.specs.Front.{unless, needs_first, first_section, zero_shdr, true_counts, true_phnum, true_shnum, true_shstrndx, lies_in, header_refusals, count_refusals, counts_by, counts_in};
 
 use crate::reads::read;
@@ -71,7 +71,9 @@ fn lies_in(len: u64, at: u64, count: u64, size: u64) -> bool
 #[tactic(auto, unfolding(crate::specs::Front::header_refusals))]
 fn check_header(h: &Ehdr, len: u64) -> Result<(), ElfError>
     ensures refusal { result ≡ unless (header_refusals h.now len) (Ok tt) }
+    ensures small { OnOk result (len ≤ 2 ^ 40) }
     ensures err { IfErr result IsRefusal }
+    ensures named { IfErr result (IsCountRefusal len) }
 {
     if h.version != 1 {
         return Err(ElfError::Version);
@@ -98,6 +100,7 @@ fn check_counts(h: &Ehdr, c: &Counts, len: u64) -> Result<(), ElfError>
     ensures refusal { result ≡ unless (count_refusals h.now c.now len) (Ok tt) }
     ensures tables { OnOk result (HasTables h.now c.now len) }
     ensures err { IfErr result IsRefusal }
+    ensures named { IfErr result (IsCountRefusal len) }
 {
     if !lies_in(len, h.shoff, c.shnum, section_header_size(h.class)) {
         return Err(ElfError::ShTable);
@@ -161,6 +164,7 @@ fn counts_by(h: &Ehdr, first: &Shdr, len: u64) -> Result<Counts, ElfError>
     ensures tables { IfOk result (λ c. HasTables h.now c len) }
     ensures none { IfOk result (λ c. h.now.phnum ≡ 0 → c.phnum ≡ 0) }
     ensures err { IfErr result IsRefusal }
+    ensures named { IfErr result (IsCountRefusal len) }
 {
     let counts = Counts {
         phnum: true_phnum(h, first),
@@ -225,7 +229,9 @@ pub fn read_counts<S: Source>(src: &mut S, h: &Ehdr) -> Result<Counts, ElfError>
     ensures counts { IfSome (S.holds src.old) (λ image. Follows result (counts_in h.now image)) }
     ensures tables { IfOk result (λ c. HasTables h.now c (S.size src.old)) }
     ensures none { IfOk result (λ c. h.now.phnum ≡ 0 → c.phnum ≡ 0) }
+    ensures small { OnOk result (S.size src.old ≤ 2 ^ 40) }
     ensures asks { Asks S.Source result src.old src.new (shdr_size h.now.class) }
+    ensures err { IfErr result (IsCountRefusal (S.size src.old)) }
 {
     let len = src.len();
     check_header(h, len)?;

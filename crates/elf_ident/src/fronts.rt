@@ -1,10 +1,10 @@
 //! The header and the two tables of an image.
 
-ghost use Rattle.std.specs.Prelude.{◌≡◌, ◌+◌, ◌*◌, ◌^◌, ◌≤◌, ◌⊎◌, length, IfOk, IfErr, IfSome};
+ghost use Rattle.std.specs.Prelude.{◌≡◌, ◌+◌, ◌*◌, ◌^◌, ◌<◌, ◌≤◌, ◌⊎◌, length, OnOk, IfOk, IfErr, IfSome, Err};
 ghost use Rattle.elf_types.specs.Answers.{Follows};
 ghost use Rattle.elf_outside.specs.Asks.{Asks};
 ghost use Rattle.elf_xlate.specs.Headers.{HasNarrowCounts, phdr_size, shdr_size};
-ghost use Rattle.elf_ident.specs.Reading.{HasTables, IsSound, IsCounted};
+ghost use Rattle.elf_ident.specs.Reading.{HasTables, IsSound, IsCounted, IsFrontRefusal};
 ghost use Rattle.elf_ident.specs.Front.{head_in, front, front_with, phdrs_at, shdrs_at, counted, table_bytes, header_bytes, first_bytes, front_bytes};
 
 use crate::counts::{Counts, read_counts};
@@ -47,6 +47,9 @@ fn read_head<S: Source>(src: &mut S) -> Result<Head, ElfError>
     ensures asks { Asks S.Source result src.old src.new 128 }
     ensures bound { IfSome (S.holds src.old) (λ image.
         S.taken src.new ≤ S.taken src.old + (header_bytes image + first_bytes image)) }
+    ensures err { IfErr result (IsFrontRefusal (S.size src.old)) }
+    ensures short { S.size src.old < 16 → result ≡ Err ElfError.Short }
+    ensures small { OnOk result (S.size src.old ≤ 2 ^ 40) }
 {
     let (header, pad) = read_header(src)?;
     let counts = read_counts(src, &header)?;
@@ -123,6 +126,9 @@ pub fn read_front<S: Source>(alloc: Global, src: &mut S) -> Result<Front, ElfErr
     ensures counted { IfOk result IsCounted }
     ensures asks { Asks S.Source result src.old src.new (128 + 2 ^ 20 * 120) }
     ensures bound { IfSome (S.holds src.old) (λ image. S.taken src.new ≤ S.taken src.old + front_bytes image) }
+    ensures err { IfErr result (IsFrontRefusal (S.size src.old)) }
+    ensures short { S.size src.old < 16 → result ≡ Err ElfError.Short }
+    ensures small { OnOk result (S.size src.old ≤ 2 ^ 40) }
 {
     let head = read_head(src)?;
     let (phdrs, shdrs) = read_tables(alloc, src, &head)?;

@@ -1,10 +1,10 @@
 //! The identification and the header of an image.
 
-ghost use Rattle.std.specs.Prelude.{◌≡◌, ◌+◌, ◌-◌, ◌≤◌, length, take, drop, OnOk, IfOk, IfErr, IfSome};
+ghost use Rattle.std.specs.Prelude.{◌≡◌, ℕ, ◌+◌, ◌-◌, ◌<◌, ◌≤◌, length, take, drop, OnOk, IfOk, IfErr, IfSome, Err};
 ghost use Rattle.elf_types.specs.Answers.{Follows, IsRefusal};
 ghost use Rattle.elf_outside.specs.Asks.{Asks};
 ghost use Rattle.elf_xlate.specs.Headers.{HasNarrowCounts, ehdr_size};
-ghost use Rattle.elf_ident.specs.Reading.{HasStart, HasRest};
+ghost use Rattle.elf_ident.specs.Reading.{HasStart, HasRest, IsHeaderRefusal};
 ghost use Rattle.elf_ident.specs.Front.{class_named, order_named, ident_in, header_in, header_at, header_bytes};
 
 use crate::file_kinds::ELF_MAGIC;
@@ -58,6 +58,7 @@ fn ident(bytes: &[u8]) -> Result<(Class, Order), ElfError>
     requires { length bytes.now ≡ 16 }
     ensures ident { result ≡ ident_in bytes.now }
     ensures err { IfErr result IsRefusal }
+    ensures named { (len : ℕ) → IfErr result (IsHeaderRefusal len) }
 {
     if !bytes.starts_with(&ELF_MAGIC) {
         return Err(ElfError::Magic);
@@ -81,6 +82,8 @@ fn read_ident<S: Source>(src: &mut S, start: &mut [u8]) -> Result<(Class, Order)
     ensures start { OnOk result (IfSome (S.holds src.old) (λ image. HasStart image start.new)) }
     ensures long { OnOk result (16 ≤ S.size src.old) }
     ensures asks { Asks S.Source result src.old src.new 16 }
+    ensures err { IfErr result (IsHeaderRefusal (S.size src.old)) }
+    ensures short { S.size src.old < 16 → result ≡ Err ElfError.Short }
 {
     if src.len() < IDENT_SIZE as u64 {
         return Err(ElfError::Short);
@@ -95,6 +98,7 @@ fn read_rest<S: Source>(src: &mut S, class: Class, rest: &mut [u8]) -> Result<()
     requires long { 16 ≤ S.size src.old }
     ensures rest { IfSome (S.holds src.old) (λ image. HasRest image class result rest.new) }
     ensures asks { Asks S.Source result src.old src.new (ehdr_size class - 16) }
+    ensures err { IfErr result (IsHeaderRefusal (S.size src.old)) }
 {
     let size = header_size(class);
     if src.len() < size as u64 {
@@ -120,6 +124,8 @@ pub fn read_header<S: Source>(src: &mut S) -> Result<(Ehdr, [u8; 7]), ElfError>
     ensures header { IfSome (S.holds src.old) (λ image. Follows result (header_in image)) }
     ensures counts { IfOk result (λ h. HasNarrowCounts h.0) }
     ensures asks { Asks S.Source result src.old src.new 64 }
+    ensures err { IfErr result (IsHeaderRefusal (S.size src.old)) }
+    ensures short { S.size src.old < 16 → result ≡ Err ElfError.Short }
     ensures bound { IfSome (S.holds src.old) (λ image. S.taken src.new ≤ S.taken src.old + header_bytes image) }
 {
     let mut bytes = [0u8; MAX_HEADER_SIZE];
@@ -131,6 +137,8 @@ fn read_header_by<S: Source>(src: &mut S, bytes: &mut [u8]) -> Result<(Ehdr, [u8
     ensures header { IfSome (S.holds src.old) (λ image. Follows result (header_in image)) }
     ensures counts { IfOk result (λ h. HasNarrowCounts h.0) }
     ensures asks { Asks S.Source result src.old src.new 64 }
+    ensures err { IfErr result (IsHeaderRefusal (S.size src.old)) }
+    ensures short { S.size src.old < 16 → result ≡ Err ElfError.Short }
     ensures bound { IfSome (S.holds src.old) (λ image. S.taken src.new ≤ S.taken src.old + header_bytes image) }
 {
     let (start, others) = bytes.split_at_mut(IDENT_SIZE);
