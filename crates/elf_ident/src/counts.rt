@@ -12,7 +12,8 @@ use elf_outside::Source;
 use elf_types::{Class, Ehdr, ElfError, Shdr};
 use elf_xlate::get_shdr;
 
-/// The true counts and the true string index of an image, after extended numbering.
+/// The true counts and the true string index of an image, after extended numbering. Source: gABI
+/// chapter 4, "ELF Header", `e_shnum` and `e_shstrndx`, and chapter 5, "Program Header", `PN_XNUM`.
 #[derive(Clone, Copy, Debug, PartialEq, Eq)]
 pub struct Counts {
     /// The number of program headers.
@@ -32,7 +33,7 @@ pub const MAX_ENTRIES: u64 = 1 << 20;
 /// `PN_XNUM` and `SHN_XINDEX`: the number stands in section 0.
 pub const EXTENDED: u32 = 0xffff;
 
-/// The number of bytes of a program header.
+/// The number of bytes of a program header. Source: gABI chapter 5, "Program Header".
 pub fn segment_header_size(class: Class) -> u64
     ensures { result ≡ phdr_size class }
 {
@@ -42,7 +43,7 @@ pub fn segment_header_size(class: Class) -> u64
     }
 }
 
-/// The number of bytes of a section header.
+/// The number of bytes of a section header. Source: gABI chapter 4, "Sections".
 pub fn section_header_size(class: Class) -> u64
     ensures { result ≡ shdr_size class }
 {
@@ -67,7 +68,8 @@ fn lies_in(len: u64, at: u64, count: u64, size: u64) -> bool
     at <= len && count <= (len - at) / size
 }
 
-/// What a header is refused by before section 0 is looked at.
+/// What a header is refused by before section 0 is looked at: `Version`, `TooLarge`, `ShTable`, in this
+/// order.
 #[tactic(auto, unfolding(crate::specs::Front::header_refusals))]
 fn check_header(h: &Ehdr, len: u64) -> Result<(), ElfError>
     ensures refusal { result ≡ unless (header_refusals h.now len) (Ok tt) }
@@ -94,7 +96,7 @@ fn check_header(h: &Ehdr, len: u64) -> Result<(), ElfError>
     Ok(())
 }
 
-/// What a header is refused by for its true counts.
+/// What a header is refused by for its true counts: `ShTable`, `PhTable`, `TooMany`, in this order.
 #[tactic(auto, unfolding(crate::specs::Front::count_refusals))]
 fn check_counts(h: &Ehdr, c: &Counts, len: u64) -> Result<(), ElfError>
     ensures refusal { result ≡ unless (count_refusals h.now c.now len) (Ok tt) }
@@ -175,7 +177,7 @@ fn counts_by(h: &Ehdr, first: &Shdr, len: u64) -> Result<Counts, ElfError>
     Ok(counts)
 }
 
-/// The header of section 0 where it is needed, a header of zeros else.
+/// A section header of zeros, which stands for that of section 0 where that one is not needed.
 #[tactic(auto, unfolding(crate::specs::Front::zero_shdr))]
 fn zero_section_header() -> Shdr
     ensures { result ≡ zero_shdr }
@@ -223,8 +225,11 @@ fn read_section_header<S: Source>(src: &mut S, h: &Ehdr, bytes: &mut [u8]) -> Re
     Ok(get_shdr(h.class, h.order, header))
 }
 
-/// The true counts of an image with the header `h`, or the first refusal of the header and of them.
-/// It asks for at most one section header, and refuses `Read` besides.
+/// The true counts of an image with the header `h`, or the first refusal, in this order: `Version`
+/// (`e_version`), `TooLarge` (more than 2^40 bytes), `ShTable` (of the header's own fields, and where
+/// section 0 is needed and does not lie in the image), `Read` (of section 0), `ShTable` (the table does
+/// not lie in the image), `PhTable`, `TooMany` (more than 2^20 entries of a table). It asks for at most
+/// one section header, where section 0 is needed, and takes no memory.
 pub fn read_counts<S: Source>(src: &mut S, h: &Ehdr) -> Result<Counts, ElfError>
     ensures counts { IfSome (S.holds src.old) (λ image. Follows result (counts_in h.now image)) }
     ensures tables { IfOk result (λ c. HasTables h.now c (S.size src.old)) }

@@ -40,7 +40,8 @@ pub struct Front {
     pub shdrs: Shdrs,
 }
 
-/// Reads the header, and section 0 where a count stands there.
+/// Reads the header, and section 0 where a count stands there. Its refusals are those of the header,
+/// then those of the counts.
 fn read_head<S: Source>(src: &mut S) -> Result<Head, ElfError>
     ensures head { IfSome (S.holds src.old) (λ image. Follows result (head_in image)) }
     ensures sound { IfOk result (λ head. IsSound head (S.size src.old)) }
@@ -114,8 +115,9 @@ fn front_of(head: Head, phdrs: Phdrs, shdrs: Shdrs) -> Front
 /// The first refusal of these is the answer: `Short` (fewer than 16 bytes), `Magic`, `Class`, `Order`,
 /// `Version` (of the identification), `Short` (fewer bytes than the class's header), `Version`
 /// (`e_version`), `TooLarge` (more than 2^40 bytes), `ShTable`, `PhTable` (a table that is not well
-/// formed or does not lie in the image), `TooMany` (more than 2^20 entries). `Read` and `Memory` may
-/// come at any read before.
+/// formed or does not lie in the image), `TooMany` (more than 2^20 entries of a table). `Read` and
+/// `Memory` may come at any read before. No other refusal comes, also where the source does not tell
+/// its bytes.
 ///
 /// It asks for at most one header and one section header, and for the two tables where nothing is
 /// refused; each table takes one read.

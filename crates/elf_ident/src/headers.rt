@@ -41,7 +41,7 @@ fn order_named(code: u8) -> Option<Order>
     }
 }
 
-/// The number of bytes of a header.
+/// The number of bytes of a header. Source: gABI chapter 4, "ELF Header".
 pub fn header_size(class: Class) -> usize
     ensures { result ≡ ehdr_size class }
 {
@@ -75,7 +75,8 @@ fn ident(bytes: &[u8]) -> Result<(Class, Order), ElfError>
     Ok((class, order))
 }
 
-/// Reads the identification into `start`.
+/// Reads the identification into `start`. It refuses, in this order, `Short` (fewer than 16 bytes),
+/// `Read`, `Magic`, `Class`, `Order`, `Version`.
 fn read_ident<S: Source>(src: &mut S, start: &mut [u8]) -> Result<(Class, Order), ElfError>
     requires { length start.old ≡ 16 }
     ensures ident { IfSome (S.holds src.old) (λ image. Follows result (ident_in image)) }
@@ -92,7 +93,8 @@ fn read_ident<S: Source>(src: &mut S, start: &mut [u8]) -> Result<(Class, Order)
     ident(start)
 }
 
-/// Reads the bytes of the header after the identification into the front of `rest`.
+/// Reads the bytes of the header after the identification into the front of `rest`. It refuses `Short`
+/// (fewer bytes than the class's header), then `Read`.
 fn read_rest<S: Source>(src: &mut S, class: Class, rest: &mut [u8]) -> Result<(), ElfError>
     requires len { length rest.old ≡ 48 }
     requires long { 16 ≤ S.size src.old }
@@ -118,8 +120,11 @@ fn pad_of(bytes: &[u8]) -> [u8; 7]
 }
 
 /// The header of an image as it stands there, and bytes 9 to 15 of its identification. It refuses, in
-/// this order, `Short`, `Magic`, `Class`, `Order`, `Version` (of the identification), `Short` (for the
-/// class), and `Read` at any read. It asks for at most one header.
+/// this order, `Short` (fewer than 16 bytes), `Magic`, `Class`, `Order`, `Version` (of the
+/// identification), `Short` (fewer bytes than the class's header), and `Read` at either of its two
+/// reads, that of 16 bytes and that of the rest. It asks for at most one header, and takes no memory.
+///
+/// Source: gABI chapter 4, "ELF Header" and "ELF Identification".
 pub fn read_header<S: Source>(src: &mut S) -> Result<(Ehdr, [u8; 7]), ElfError>
     ensures header { IfSome (S.holds src.old) (λ image. Follows result (header_in image)) }
     ensures counts { IfOk result (λ h. HasNarrowCounts h.0) }
