@@ -2,7 +2,8 @@
 use Rattle.std.specs.Prelude.{◌≡◌, ◌≢◌, ◌+◌, ◌*◌, ◌^◌, ◌-◌, ◌<◌, ◌≤◌, List, ℕ, length, take, drop, Result, Ok, Err}
 use Rattle.elf_types.specs.declared.records.Class.{Class}
 use Rattle.elf_types.specs.declared.errors.ElfError.{ElfError}
-use Rattle.elf_types.specs.declared.errors.ElfError.TheVariants.{Short, Read}
+use Rattle.elf_types.specs.declared.errors.ElfError.TheVariants.{Memory, Read, Short, Magic, Version, PhTable, ShTable, TooLarge, TooMany}
+use Rattle.elf_types.specs.declared.errors.ElfError.TheVariants.{Class as Class_error, Order as Order_error}
 use Rattle.elf_types.specs.declared.records.Ehdr.{Ehdr}
 use Rattle.elf_xlate.specs.Headers.{ehdr_size, phdr_size, shdr_size, HasNarrowCounts}
 use Rattle.elf_ident.specs.declared.counts.Counts.{Counts}
@@ -45,3 +46,40 @@ pub record IsCounted (f : Front) : Type 0 where
   pub shnum : length f.shdrs ≡ f.ehdr.shnum
   pub few_phdrs : f.ehdr.phnum ≤ 2 ^ 20
   pub few_shdrs : f.ehdr.shnum ≤ 2 ^ 20
+
+-- ---- The refusals that may come where a source of `len` bytes does not tell them
+
+-- those of the header
+abbrev pub IsHeaderRefusal : ℕ → ElfError → Type 0
+IsHeaderRefusal len Read = Unit {0}
+IsHeaderRefusal len Short = len < 64
+IsHeaderRefusal len Magic = Unit {0}
+IsHeaderRefusal len Class_error = Unit {0}
+IsHeaderRefusal len Order_error = Unit {0}
+IsHeaderRefusal len Version = Unit {0}
+IsHeaderRefusal len e = ⊥
+
+-- those of the counts
+abbrev pub IsCountRefusal : ℕ → ElfError → Type 0
+IsCountRefusal len Read = Unit {0}
+IsCountRefusal len Version = Unit {0}
+IsCountRefusal len TooLarge = 2 ^ 40 < len
+IsCountRefusal len ShTable = Unit {0}
+IsCountRefusal len PhTable = Unit {0}
+IsCountRefusal len TooMany = Unit {0}
+IsCountRefusal len e = ⊥
+
+-- those of the whole front
+abbrev pub IsFrontRefusal : ℕ → ElfError → Type 0
+IsFrontRefusal len Memory = Unit {0}
+IsFrontRefusal len Read = Unit {0}
+IsFrontRefusal len Short = len < 64
+IsFrontRefusal len Magic = Unit {0}
+IsFrontRefusal len Class_error = Unit {0}
+IsFrontRefusal len Order_error = Unit {0}
+IsFrontRefusal len Version = Unit {0}
+IsFrontRefusal len TooLarge = 2 ^ 40 < len
+IsFrontRefusal len ShTable = Unit {0}
+IsFrontRefusal len PhTable = Unit {0}
+IsFrontRefusal len TooMany = Unit {0}
+IsFrontRefusal len e = ⊥

@@ -1,10 +1,10 @@
 //! The true counts of an image's tables.
 
-ghost use Rattle.std.specs.Prelude.{◌≡◌, ◌+◌, ◌<◌, ◌≤◌, length, take, drop, IsTrue, IfOk, OnOk, IfErr, IfSome, Ok};
+ghost use Rattle.std.specs.Prelude.{◌≡◌, ◌+◌, ◌^◌, ◌<◌, ◌≤◌, length, take, drop, IsTrue, IfOk, OnOk, IfErr, IfSome, Ok};
 ghost use Rattle.elf_types.specs.Answers.{Follows, IsRefusal};
 ghost use Rattle.elf_outside.specs.Asks.{Asks};
 ghost use Rattle.elf_xlate.specs.Headers.{phdr_size, shdr_size, shdr_of};
-ghost use Rattle.elf_ident.specs.Reading.{HasTables};
+ghost use Rattle.elf_ident.specs.Reading.{HasTables, IsCountRefusal};
 ghost use Rattle.elf_ident.specs.Front.{unless, needs_first, first_section, zero_shdr, true_counts, true_phnum, true_shnum, true_shstrndx, lies_in, header_refusals, count_refusals, counts_by, counts_in};
 
 use crate::reads::read;
@@ -12,7 +12,8 @@ use elf_outside::Source;
 use elf_types::{Class, Ehdr, ElfError, Shdr};
 use elf_xlate::get_shdr;
 
-/// The true counts and the true string index of an image, after extended numbering.
+/// The true counts and the true string index of an image, after extended numbering. Source: gABI
+/// chapter 4, "ELF Header", `e_shnum` and `e_shstrndx`, and chapter 5, "Program Header", `PN_XNUM`.
 #[derive(Clone, Copy, Debug, PartialEq, Eq)]
 pub struct Counts {
     /// The number of program headers.
@@ -32,7 +33,7 @@ pub const MAX_ENTRIES: u64 = 1 << 20;
 /// `PN_XNUM` and `SHN_XINDEX`: the number stands in section 0.
 pub const EXTENDED: u32 = 0xffff;
 
-/// The number of bytes of a program header.
+/// The number of bytes of a program header. Source: gABI chapter 5, "Program Header".
 pub fn segment_header_size(class: Class) -> u64
     ensures { result ≡ phdr_size class }
 {
@@ -42,7 +43,7 @@ pub fn segment_header_size(class: Class) -> u64
     }
 }
 
-/// The number of bytes of a section header.
+/// The number of bytes of a section header. Source: gABI chapter 4, "Sections".
 pub fn section_header_size(class: Class) -> u64
     ensures { result ≡ shdr_size class }
 {
@@ -67,11 +68,14 @@ fn lies_in(len: u64, at: u64, count: u64, size: u64) -> bool
     at <= len && count <= (len - at) / size
 }
 
-/// What a header is refused by before section 0 is looked at.
+/// What a header is refused by before section 0 is looked at: `Version`, `TooLarge`, `ShTable`, in this
+/// order.
 #[tactic(auto, unfolding(crate::specs::Front::header_refusals))]
 fn check_header(h: &Ehdr, len: u64) -> Result<(), ElfError>
     ensures refusal { result ≡ unless (header_refusals h.now len) (Ok tt) }
+    ensures small { OnOk result (len ≤ 2 ^ 40) }
     ensures err { IfErr result IsRefusal }
+    ensures named { IfErr result (IsCountRefusal len) }
 {
     if h.version != 1 {
         return Err(ElfError::Version);
@@ -92,12 +96,13 @@ fn check_header(h: &Ehdr, len: u64) -> Result<(), ElfError>
     Ok(())
 }
 
-/// What a header is refused by for its true counts.
+/// What a header is refused by for its true counts: `ShTable`, `PhTable`, `TooMany`, in this order.
 #[tactic(auto, unfolding(crate::specs::Front::count_refusals))]
 fn check_counts(h: &Ehdr, c: &Counts, len: u64) -> Result<(), ElfError>
     ensures refusal { result ≡ unless (count_refusals h.now c.now len) (Ok tt) }
     ensures tables { OnOk result (HasTables h.now c.now len) }
     ensures err { IfErr result IsRefusal }
+    ensures named { IfErr result (IsCountRefusal len) }
 {
     if !lies_in(len, h.shoff, c.shnum, section_header_size(h.class)) {
         return Err(ElfError::ShTable);
@@ -161,6 +166,7 @@ fn counts_by(h: &Ehdr, first: &Shdr, len: u64) -> Result<Counts, ElfError>
     ensures tables { IfOk result (λ c. HasTables h.now c len) }
     ensures none { IfOk result (λ c. h.now.phnum ≡ 0 → c.phnum ≡ 0) }
     ensures err { IfErr result IsRefusal }
+    ensures named { IfErr result (IsCountRefusal len) }
 {
     let counts = Counts {
         phnum: true_phnum(h, first),
@@ -171,7 +177,7 @@ fn counts_by(h: &Ehdr, first: &Shdr, len: u64) -> Result<Counts, ElfError>
     Ok(counts)
 }
 
-/// The header of section 0 where it is needed, a header of zeros else.
+/// A section header of zeros, which stands for that of section 0 where that one is not needed.
 #[tactic(auto, unfolding(crate::specs::Front::zero_shdr))]
 fn zero_section_header() -> Shdr
     ensures { result ≡ zero_shdr }
@@ -219,13 +225,18 @@ fn read_section_header<S: Source>(src: &mut S, h: &Ehdr, bytes: &mut [u8]) -> Re
     Ok(get_shdr(h.class, h.order, header))
 }
 
-/// The true counts of an image with the header `h`, or the first refusal of the header and of them.
-/// It asks for at most one section header, and refuses `Read` besides.
+/// The true counts of an image with the header `h`, or the first refusal, in this order: `Version`
+/// (`e_version`), `TooLarge` (more than 2^40 bytes), `ShTable` (of the header's own fields, and where
+/// section 0 is needed and does not lie in the image), `Read` (of section 0), `ShTable` (the table does
+/// not lie in the image), `PhTable`, `TooMany` (more than 2^20 entries of a table). It asks for at most
+/// one section header, where section 0 is needed, and takes no memory.
 pub fn read_counts<S: Source>(src: &mut S, h: &Ehdr) -> Result<Counts, ElfError>
     ensures counts { IfSome (S.holds src.old) (λ image. Follows result (counts_in h.now image)) }
     ensures tables { IfOk result (λ c. HasTables h.now c (S.size src.old)) }
     ensures none { IfOk result (λ c. h.now.phnum ≡ 0 → c.phnum ≡ 0) }
+    ensures small { OnOk result (S.size src.old ≤ 2 ^ 40) }
     ensures asks { Asks S.Source result src.old src.new (shdr_size h.now.class) }
+    ensures err { IfErr result (IsCountRefusal (S.size src.old)) }
 {
     let len = src.len();
     check_header(h, len)?;

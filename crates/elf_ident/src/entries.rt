@@ -104,8 +104,8 @@ fn table_size(count: u64, size: u64) -> u64
     count * size
 }
 
-/// The table of `count` entries from the place `at` on, which takes one read. It refuses `Memory` and
-/// `Read` alone.
+/// The table of `count` entries of the header's class and order from the byte `at` on. It takes one
+/// read, and none where there are no entries. It refuses `Memory` and `Read` alone.
 pub fn read_entries<E: Entry + Drop, S: Source>(
     alloc: Global,
     src: &mut S,

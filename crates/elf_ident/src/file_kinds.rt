@@ -43,6 +43,8 @@ fn kind_by(head: &[u8]) -> FileKind
 /// What a source holds, `elf_kind` of elf(3E): an archive, an ELF image, or something else, also where
 /// it is shorter than eight bytes. It asks for at most eight bytes, takes no memory and refuses `Read`
 /// alone.
+///
+/// Source: gABI chapter 4, "ELF Identification", and chapter 7, "Archive File".
 pub fn kind_of_source<S: Source>(src: &mut S) -> Result<FileKind, ElfError>
     ensures kind { IfSome (S.holds src.old) (λ image. Follows result (Ok (file_kind image))) }
     ensures asks { Asks S.Source result src.old src.new 8 }

@@ -1,10 +1,10 @@
 //! The header and the two tables of an image.
 
-ghost use Rattle.std.specs.Prelude.{◌≡◌, ◌+◌, ◌*◌, ◌^◌, ◌≤◌, ◌⊎◌, length, IfOk, IfErr, IfSome};
+ghost use Rattle.std.specs.Prelude.{◌≡◌, ◌+◌, ◌*◌, ◌^◌, ◌<◌, ◌≤◌, ◌⊎◌, length, OnOk, IfOk, IfErr, IfSome, Err};
 ghost use Rattle.elf_types.specs.Answers.{Follows};
 ghost use Rattle.elf_outside.specs.Asks.{Asks};
 ghost use Rattle.elf_xlate.specs.Headers.{HasNarrowCounts, phdr_size, shdr_size};
-ghost use Rattle.elf_ident.specs.Reading.{HasTables, IsSound, IsCounted};
+ghost use Rattle.elf_ident.specs.Reading.{HasTables, IsSound, IsCounted, IsFrontRefusal};
 ghost use Rattle.elf_ident.specs.Front.{head_in, front, front_with, phdrs_at, shdrs_at, counted, table_bytes, header_bytes, first_bytes, front_bytes};
 
 use crate::counts::{Counts, read_counts};
@@ -40,13 +40,17 @@ pub struct Front {
     pub shdrs: Shdrs,
 }
 
-/// Reads the header, and section 0 where a count stands there.
+/// Reads the header, and section 0 where a count stands there. Its refusals are those of the header,
+/// then those of the counts.
 fn read_head<S: Source>(src: &mut S) -> Result<Head, ElfError>
     ensures head { IfSome (S.holds src.old) (λ image. Follows result (head_in image)) }
     ensures sound { IfOk result (λ head. IsSound head (S.size src.old)) }
     ensures asks { Asks S.Source result src.old src.new 128 }
     ensures bound { IfSome (S.holds src.old) (λ image.
         S.taken src.new ≤ S.taken src.old + (header_bytes image + first_bytes image)) }
+    ensures err { IfErr result (IsFrontRefusal (S.size src.old)) }
+    ensures short { S.size src.old < 16 → result ≡ Err ElfError.Short }
+    ensures small { OnOk result (S.size src.old ≤ 2 ^ 40) }
 {
     let (header, pad) = read_header(src)?;
     let counts = read_counts(src, &header)?;
@@ -111,8 +115,9 @@ fn front_of(head: Head, phdrs: Phdrs, shdrs: Shdrs) -> Front
 /// The first refusal of these is the answer: `Short` (fewer than 16 bytes), `Magic`, `Class`, `Order`,
 /// `Version` (of the identification), `Short` (fewer bytes than the class's header), `Version`
 /// (`e_version`), `TooLarge` (more than 2^40 bytes), `ShTable`, `PhTable` (a table that is not well
-/// formed or does not lie in the image), `TooMany` (more than 2^20 entries). `Read` and `Memory` may
-/// come at any read before.
+/// formed or does not lie in the image), `TooMany` (more than 2^20 entries of a table). `Read` and
+/// `Memory` may come at any read before. No other refusal comes, also where the source does not tell
+/// its bytes.
 ///
 /// It asks for at most one header and one section header, and for the two tables where nothing is
 /// refused; each table takes one read.
@@ -123,6 +128,9 @@ pub fn read_front<S: Source>(alloc: Global, src: &mut S) -> Result<Front, ElfErr
     ensures counted { IfOk result IsCounted }
     ensures asks { Asks S.Source result src.old src.new (128 + 2 ^ 20 * 120) }
     ensures bound { IfSome (S.holds src.old) (λ image. S.taken src.new ≤ S.taken src.old + front_bytes image) }
+    ensures err { IfErr result (IsFrontRefusal (S.size src.old)) }
+    ensures short { S.size src.old < 16 → result ≡ Err ElfError.Short }
+    ensures small { OnOk result (S.size src.old ≤ 2 ^ 40) }
 {
     let head = read_head(src)?;
     let (phdrs, shdrs) = read_tables(alloc, src, &head)?;

@@ -1,10 +1,10 @@
 //! The identification and the header of an image.
 
-ghost use Rattle.std.specs.Prelude.{◌≡◌, ◌+◌, ◌-◌, ◌≤◌, length, take, drop, OnOk, IfOk, IfErr, IfSome};
+ghost use Rattle.std.specs.Prelude.{◌≡◌, ℕ, ◌+◌, ◌-◌, ◌<◌, ◌≤◌, length, take, drop, OnOk, IfOk, IfErr, IfSome, Err};
 ghost use Rattle.elf_types.specs.Answers.{Follows, IsRefusal};
 ghost use Rattle.elf_outside.specs.Asks.{Asks};
 ghost use Rattle.elf_xlate.specs.Headers.{HasNarrowCounts, ehdr_size};
-ghost use Rattle.elf_ident.specs.Reading.{HasStart, HasRest};
+ghost use Rattle.elf_ident.specs.Reading.{HasStart, HasRest, IsHeaderRefusal};
 ghost use Rattle.elf_ident.specs.Front.{class_named, order_named, ident_in, header_in, header_at, header_bytes};
 
 use crate::file_kinds::ELF_MAGIC;
@@ -41,7 +41,7 @@ fn order_named(code: u8) -> Option<Order>
     }
 }
 
-/// The number of bytes of a header.
+/// The number of bytes of a header. Source: gABI chapter 4, "ELF Header".
 pub fn header_size(class: Class) -> usize
     ensures { result ≡ ehdr_size class }
 {
@@ -58,6 +58,7 @@ fn ident(bytes: &[u8]) -> Result<(Class, Order), ElfError>
     requires { length bytes.now ≡ 16 }
     ensures ident { result ≡ ident_in bytes.now }
     ensures err { IfErr result IsRefusal }
+    ensures named { (len : ℕ) → IfErr result (IsHeaderRefusal len) }
 {
     if !bytes.starts_with(&ELF_MAGIC) {
         return Err(ElfError::Magic);
@@ -74,13 +75,16 @@ fn ident(bytes: &[u8]) -> Result<(Class, Order), ElfError>
     Ok((class, order))
 }
 
-/// Reads the identification into `start`.
+/// Reads the identification into `start`. It refuses, in this order, `Short` (fewer than 16 bytes),
+/// `Read`, `Magic`, `Class`, `Order`, `Version`.
 fn read_ident<S: Source>(src: &mut S, start: &mut [u8]) -> Result<(Class, Order), ElfError>
     requires { length start.old ≡ 16 }
     ensures ident { IfSome (S.holds src.old) (λ image. Follows result (ident_in image)) }
     ensures start { OnOk result (IfSome (S.holds src.old) (λ image. HasStart image start.new)) }
     ensures long { OnOk result (16 ≤ S.size src.old) }
     ensures asks { Asks S.Source result src.old src.new 16 }
+    ensures err { IfErr result (IsHeaderRefusal (S.size src.old)) }
+    ensures short { S.size src.old < 16 → result ≡ Err ElfError.Short }
 {
     if src.len() < IDENT_SIZE as u64 {
         return Err(ElfError::Short);
@@ -89,12 +93,14 @@ fn read_ident<S: Source>(src: &mut S, start: &mut [u8]) -> Result<(Class, Order)
     ident(start)
 }
 
-/// Reads the bytes of the header after the identification into the front of `rest`.
+/// Reads the bytes of the header after the identification into the front of `rest`. It refuses `Short`
+/// (fewer bytes than the class's header), then `Read`.
 fn read_rest<S: Source>(src: &mut S, class: Class, rest: &mut [u8]) -> Result<(), ElfError>
     requires len { length rest.old ≡ 48 }
     requires long { 16 ≤ S.size src.old }
     ensures rest { IfSome (S.holds src.old) (λ image. HasRest image class result rest.new) }
     ensures asks { Asks S.Source result src.old src.new (ehdr_size class - 16) }
+    ensures err { IfErr result (IsHeaderRefusal (S.size src.old)) }
 {
     let size = header_size(class);
     if src.len() < size as u64 {
@@ -114,12 +120,17 @@ fn pad_of(bytes: &[u8]) -> [u8; 7]
 }
 
 /// The header of an image as it stands there, and bytes 9 to 15 of its identification. It refuses, in
-/// this order, `Short`, `Magic`, `Class`, `Order`, `Version` (of the identification), `Short` (for the
-/// class), and `Read` at any read. It asks for at most one header.
+/// this order, `Short` (fewer than 16 bytes), `Magic`, `Class`, `Order`, `Version` (of the
+/// identification), `Short` (fewer bytes than the class's header), and `Read` at either of its two
+/// reads, that of 16 bytes and that of the rest. It asks for at most one header, and takes no memory.
+///
+/// Source: gABI chapter 4, "ELF Header" and "ELF Identification".
 pub fn read_header<S: Source>(src: &mut S) -> Result<(Ehdr, [u8; 7]), ElfError>
     ensures header { IfSome (S.holds src.old) (λ image. Follows result (header_in image)) }
     ensures counts { IfOk result (λ h. HasNarrowCounts h.0) }
     ensures asks { Asks S.Source result src.old src.new 64 }
+    ensures err { IfErr result (IsHeaderRefusal (S.size src.old)) }
+    ensures short { S.size src.old < 16 → result ≡ Err ElfError.Short }
     ensures bound { IfSome (S.holds src.old) (λ image. S.taken src.new ≤ S.taken src.old + header_bytes image) }
 {
     let mut bytes = [0u8; MAX_HEADER_SIZE];
@@ -131,6 +142,8 @@ fn read_header_by<S: Source>(src: &mut S, bytes: &mut [u8]) -> Result<(Ehdr, [u8
     ensures header { IfSome (S.holds src.old) (λ image. Follows result (header_in image)) }
     ensures counts { IfOk result (λ h. HasNarrowCounts h.0) }
     ensures asks { Asks S.Source result src.old src.new 64 }
+    ensures err { IfErr result (IsHeaderRefusal (S.size src.old)) }
+    ensures short { S.size src.old < 16 → result ≡ Err ElfError.Short }
     ensures bound { IfSome (S.holds src.old) (λ image. S.taken src.new ≤ S.taken src.old + header_bytes image) }
 {
     let (start, others) = bytes.split_at_mut(IDENT_SIZE);

@@ -10,3 +10,8 @@ pub mod reads;
 
 pub use file_kinds::{FileKind, kind_of_source};
 pub use fronts::{Front, read_front};
+
+#[cfg(test)]
+pub(crate) mod test_images;
+#[cfg(test)]
+mod tests;

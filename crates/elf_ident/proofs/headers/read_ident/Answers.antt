@@ -8,3 +8,6 @@ returns-then-len-clause-ident g c = short_ident (g.S.Source.holds c.args.src.now
 pub returns-clause-ident : goal.returns-clause-ident
 returns-clause-ident g c =
     ident_of_start (g.S.Source.holds c.args.src.now) _ _ c.len.result _ c.len.ensures.bytes (omega arith) c.requires c.in_ok-read.ensures.bytes c.ident.ensures.ident
+
+pub returns-clause-err : goal.returns-clause-err
+returns-clause-err g c = c.ident.ensures.named (g.S.Source.size c.args.src.now)
