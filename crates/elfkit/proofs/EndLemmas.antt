@@ -1,5 +1,5 @@
 -- The end of a run.
-use Rattle.std.proofs.Common.{◌≡◌, ◌≢◌, ◌++◌, ◌≤◌, ◌<◌, ◌||◌, ℕ, Bool, true, false, List, [], ◌∷◌, length, take, Option, Some, None, Result, Ok, Err, OnOk, OnErr, IfOk, IfErr, refl, sym, ap, ◌∙◌, subst, append-nil, arith, lit≤, lit<, codes, cond}
+use Rattle.std.proofs.Common.{◌≡◌, ◌≢◌, ◌⊎◌, inl, inr, ◌++◌, ◌≤◌, ◌<◌, ◌||◌, ℕ, Bool, true, false, List, [], ◌∷◌, length, take, Option, Some, None, Result, Ok, Err, OnOk, OnErr, IfOk, IfErr, refl, sym, ap, ◌∙◌, subst, append-nil, arith, lit≤, lit<, codes, cond}
 use Rattle.std.specs.Option.{option_map}
 use Rattle.std.specs.Prelude.{nat_lt}
 use Rattle.std.proofs.lemmas.List.{take_all}
@@ -14,10 +14,10 @@ use Rattle.tool_text.specs.declared.commands.Command.{Command}
 use Rattle.tool_text.specs.declared.commands.Command.TheVariants.{Readelf}
 use Rattle.tool_text.specs.Usages.{usage_line}
 use Rattle.tool_text.specs.Reading.{reading}
-use Rattle.tool_text.specs.Pages.{HasPending, Writes}
+use Rattle.tool_text.specs.Pages.{HasPending, Writes, WriteStops}
 use Rattle.tool_text.proofs.PageLemmas.{pending_none, pending_done}
 use Rattle.elfkit.specs.Reports.{Report, Outcome, outcome_of}
-use Rattle.elfkit.specs.Program.{are_built, readelf_files, readelf_outcome, not_built, usage_outcome, command_outcome, outcome_by, program}
+use Rattle.elfkit.specs.Program.{are_built, readelf_files, readelf_outcome, not_built, usage_outcome, command_outcome, is_built, opens_files, outcome_by, program}
 use Rattle.elfkit.specs.Runs.{Delivers, Reports, Ended, stop_status, ended_status}
 use Rattle.elfkit.proofs.ReportLemmas.{appends_none, front_none}
 
@@ -129,3 +129,23 @@ pub says_usage : (usage : Usage) (text : List ℕ) (status : ℕ) (a b c d : Opt
     → Delivers (record { out = []; err = text ++ codes "\n"; status = 2 }) status a b c d → Delivers (usage_outcome usage) status a b c d
 unfolding usage_outcome
 says_usage usage text status a b c d e h = rw (← e) h
+
+-- ---- Words on which no file is opened
+
+-- a stop that is no failed read
+pub later_stop : (stop : Stop) (a b : ℕ) → WriteStops {T = Unit {0}} (Err stop) a b → 4 ≤ stop_status stop
+later_stop Read a b h = absurd h
+later_stop Write a b h = lit≤ tt
+later_stop Memory a b h = lit≤ tt
+
+pub never_three : (status answer : ℕ) → status < 3 → (answer ≡ status) ⊎ (4 ≤ answer) → answer ≢ 3
+never_three status answer small (inl h) e = omega (arith, small, h, e)
+never_three status answer small (inr h) e = omega (arith, h, e)
+
+pub readelf_is_built : (parts : ReadelfParts) (names : List (List ℕ)) → is_built (Readelf parts names) ≡ are_built parts
+unfolding is_built
+readelf_is_built parts names = refl
+
+pub opens_of_command : (words : List (List ℕ)) (command : Command) → reading words ≡ Ok command → opens_files (reading words) ≡ is_built command
+unfolding opens_files
+opens_of_command words command h = rw h refl

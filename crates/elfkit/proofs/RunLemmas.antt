@@ -19,7 +19,7 @@ use Rattle.elfkit.specs.declared.fronts.Unread.{Unread}
 use Rattle.elfkit.specs.declared.fronts.Unread.TheVariants.{NotThere, Refused, Stopped}
 use Rattle.elfkit.specs.Reports.{Report, no_report, joined, all_joined, refusal, shown}
 use Rattle.elfkit.specs.Program.{file_title, file_front, front_report, readelf_file, readelf_files}
-use Rattle.elfkit.specs.Runs.{Reports, ReadsFront, FrontStops, Stops, Steps}
+use Rattle.elfkit.specs.Runs.{Reports, ReadsFront, FrontStops, Stops, Steps, Totals}
 use Rattle.elfkit.proofs.ReportLemmas.{appends_none, front_none, shown_done, shown_stop}
 
 -- ---- One file
@@ -115,6 +115,16 @@ steps_after (Err Write) a0 a b c0 c d x0 x y h k l s = record {
   out = omega (arith, s.out);
   err = omega (arith, s.err);
   stops = elim s.stops [ inl w ↦ inl (rose_before c0 c d k w) | inr w ↦ inr (rose_before x0 x y l w) ];
+}
+
+pub totals_same : {F : Type 0} (w t g : F → ℕ) (s : F) → Totals w t g s s
+totals_same w t g s = record { write_faults = omega arith; taken = omega arith; given = omega arith }
+
+pub totals_after : {F : Type 0} (w t g : F → ℕ) (a b c : F) → Totals w t g a b → Totals w t g b c → Totals w t g a c
+totals_after w t g a b c h k = record {
+  write_faults = omega (arith, h.write_faults, k.write_faults);
+  taken = omega (arith, h.taken, k.taken);
+  given = omega (arith, h.given, k.given);
 }
 
 -- ---- All files

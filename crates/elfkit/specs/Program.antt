@@ -67,6 +67,17 @@ unfoldable pub command_outcome : Command → (List ℕ → Option (List ℕ)) �
 command_outcome (Readelf parts files) named = readelf_outcome parts files named
 command_outcome _ named = not_built
 
+-- a command whose files are opened
+unfoldable pub is_built : Command → Bool
+is_built (Readelf parts files) = are_built parts
+is_built _ = false
+
+-- words that make a run open files; it opens none on words that are refused, or of a form that is
+-- not built
+unfoldable pub opens_files : Result Command Usage → Bool
+opens_files (Ok command) = is_built command
+opens_files (Err usage) = false
+
 unfoldable pub outcome_by : Result Command Usage → (List ℕ → Option (List ℕ)) → Outcome
 outcome_by (Ok command) named = command_outcome command named
 outcome_by (Err usage) named = usage_outcome usage

@@ -62,6 +62,12 @@ pub record Steps {T : Type 0} (result : Result T Stop) (reads_old reads_new out_
   pub err : err_old ≤ err_new
   pub stops : Stops result reads_old reads_new out_old out_new err_old err_new
 
+-- the other totals of a set of files never fall either
+pub record Totals {F : Type 0} (writes takes gives : F → ℕ) (old new : F) : Type 0 where
+  pub write_faults : writes old ≤ writes new
+  pub taken : takes old ≤ takes new
+  pub given : gives old ≤ gives new
+
 -- the status of a step that stops
 abbrev pub stop_status : Stop → ℕ
 stop_status Read = 3

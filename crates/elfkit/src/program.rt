@@ -1,12 +1,12 @@
 //! The program, from its words to its status.
 
-ghost use Rattle.std.specs.Prelude.{◌≡◌, ◌≢◌, ◌++◌, ◌≤◌, ◌<◌, ◌^◌, ◌-◌, ◌⊎◌, ℕ, List, Option, [], codes, length, nat_lt, OnOk, IfErr, IsErr, IsTrue};
+ghost use Rattle.std.specs.Prelude.{false, ◌≡◌, ◌≢◌, ◌++◌, ◌≤◌, ◌<◌, ◌^◌, ◌-◌, ◌⊎◌, ℕ, List, Option, [], codes, length, nat_lt, OnOk, IfErr, IsErr, IsTrue};
 ghost use Rattle.elf_outside.specs.Names.{SameNames};
 ghost use Rattle.tool_text.specs.Reading.{reading};
 ghost use Rattle.tool_text.specs.declared.options.Stop.{Stop};
 ghost use Rattle.elfkit.specs.Reports.{outcome_of};
-ghost use Rattle.elfkit.specs.Program.{are_built, readelf_files, readelf_outcome, not_built, usage_outcome, command_outcome, program};
-ghost use Rattle.elfkit.specs.Runs.{Delivers, Ended, Causes, Steps, stop_status, ended_status};
+ghost use Rattle.elfkit.specs.Program.{are_built, readelf_files, readelf_outcome, not_built, usage_outcome, command_outcome, is_built, opens_files, program};
+ghost use Rattle.elfkit.specs.Runs.{Delivers, Ended, Causes, Steps, Totals, stop_status, ended_status};
 
 use crate::messages::put_made;
 use crate::readelf::all_files;
@@ -46,7 +46,7 @@ fn put_line(line: &mut Octets, text: &str) -> Result<(), ElfError>
 fn say<E: Sink>(alloc: Global, err: &mut E, text: &str, status: u8) -> u8
     requires { status < 3 }
     ensures delivers { (o : Option (List ℕ)) → Delivers (record { out = []; err = text.now ++ codes "\n"; status = status }) result o o (E.wrote err.old) (E.wrote err.new) }
-    ensures answers { (result ≡ status) ⊎ (3 ≤ result) }
+    ensures answers { (result ≡ status) ⊎ (4 ≤ result) }
     ensures known { result ≤ 5 }
     ensures causes { (n m : ℕ) → Causes result n n m m (E.faults err.old) (E.faults err.new) }
     ensures rest { E.rest err.new ≡ E.rest err.old }
@@ -84,6 +84,7 @@ fn show_files<F: Files, O: Sink, E: Sink>(
     ensures ended { IsTrue (F.tells files.old) → Ended result (O.wrote out.old) (O.wrote out.new) (E.wrote err.old) (E.wrote err.new)
         (readelf_files parts.now (nat_lt 1 (length names.now)) (F.named files.old) names.now) }
     ensures steps { Steps result (F.read_faults files.old) (F.read_faults files.new) (O.faults out.old) (O.faults out.new) (E.faults err.old) (E.faults err.new) }
+    ensures totals { Totals F.write_faults F.taken F.given files.old files.new }
     ensures names { IsTrue (F.tells files.old) → SameNames (F.tells files.old) (F.named files.old) (F.tells files.new) (F.named files.new) }
     ensures live { F.live files.old < 2 ^ 64 - 8 → F.live files.new ≡ F.live files.old }
     ensures out_rest { O.rest out.new ≡ O.rest out.old }
@@ -118,6 +119,8 @@ fn readelf<F: Files, O: Sink, E: Sink>(
     ensures known { result ≤ 5 }
     ensures words { result ≢ 2 }
     ensures causes { Causes result (F.read_faults files.old) (F.read_faults files.new) (O.faults out.old) (O.faults out.new) (E.faults err.old) (E.faults err.new) }
+    ensures totals { Totals F.write_faults F.taken F.given files.old files.new }
+    ensures untouched { are_built parts.now ≡ false → (files.new ≡ files.old) × (result ≢ 3) }
     ensures names { IsTrue (F.tells files.old) → SameNames (F.tells files.old) (F.named files.old) (F.tells files.new) (F.named files.new) }
     ensures live { F.live files.old < 2 ^ 64 - 8 → F.live files.new ≡ F.live files.old }
     ensures out_rest { O.rest out.new ≡ O.rest out.old }
@@ -141,6 +144,8 @@ fn run_command<F: Files, O: Sink, E: Sink>(
     ensures known { result ≤ 5 }
     ensures words { result ≢ 2 }
     ensures causes { Causes result (F.read_faults files.old) (F.read_faults files.new) (O.faults out.old) (O.faults out.new) (E.faults err.old) (E.faults err.new) }
+    ensures totals { Totals F.write_faults F.taken F.given files.old files.new }
+    ensures untouched { is_built command ≡ false → (files.new ≡ files.old) × (result ≢ 3) }
     ensures names { IsTrue (F.tells files.old) → SameNames (F.tells files.old) (F.named files.old) (F.tells files.new) (F.named files.new) }
     ensures live { F.live files.old < 2 ^ 64 - 8 → F.live files.new ≡ F.live files.old }
     ensures out_rest { O.rest out.new ≡ O.rest out.old }
@@ -177,6 +182,8 @@ pub fn run<F: Files, O: Sink, E: Sink>(
     ensures used { result ≡ 2 → IsErr (reading words.now) }
     ensures known { result ≤ 5 }
     ensures causes { Causes result (F.read_faults files.old) (F.read_faults files.new) (O.faults out.old) (O.faults out.new) (E.faults err.old) (E.faults err.new) }
+    ensures totals { Totals F.write_faults F.taken F.given files.old files.new }
+    ensures untouched { opens_files (reading words.now) ≡ false → (files.new ≡ files.old) × (result ≢ 3) }
     ensures names { IsTrue (F.tells files.old) → SameNames (F.tells files.old) (F.named files.old) (F.tells files.new) (F.named files.new) }
     ensures live { F.live files.old < 2 ^ 64 - 8 → F.live files.new ≡ F.live files.old }
     ensures out_rest { O.rest out.new ≡ O.rest out.old }

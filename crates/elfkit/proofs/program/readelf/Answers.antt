@@ -1,5 +1,5 @@
-use Rattle.std.proofs.Common.{sym}
-use Rattle.elfkit.proofs.EndLemmas.{readelf_delivers, readelf_not_built, says_not_built}
+use Rattle.std.proofs.Common.{refl, sym, lit<}
+use Rattle.elfkit.proofs.EndLemmas.{readelf_delivers, readelf_not_built, says_not_built, never_three}
 use Rattle.elfkit.proofs.program.readelf.Goals as goal
 
 pub returns-then-not-are_built-clause-delivers : goal.returns-then-not-are_built-clause-delivers
@@ -9,6 +9,9 @@ returns-then-not-are_built-clause-delivers g c =
 
 pub returns-then-not-are_built-clause-causes : goal.returns-then-not-are_built-clause-causes
 returns-then-not-are_built-clause-causes g c = c.say.ensures.causes _ _
+
+pub returns-then-not-are_built-clause-untouched : goal.returns-then-not-are_built-clause-untouched
+returns-then-not-are_built-clause-untouched g c = λ unbuilt. (refl, never_three 1 _ (lit< tt) c.say.ensures.answers)
 
 pub returns-clause-delivers : goal.returns-clause-delivers
 returns-clause-delivers g c =

@@ -1,7 +1,7 @@
 use Rattle.std.proofs.Common.{arith, refl, sym, ◌∙◌}
 use Rattle.std.proofs.lemmas.Result.{err_from_is_err_and}
 use Rattle.elfkit.specs.Program.{readelf_files}
-use Rattle.elfkit.proofs.RunLemmas.{run_none, names_same, names_after, told_after, report_same, file_more, file_stop, files_done}
+use Rattle.elfkit.proofs.RunLemmas.{totals_same, totals_after, run_none, names_same, names_after, told_after, report_same, file_more, file_stop, files_done}
 use Rattle.elfkit.proofs.readelf.all_files.Goals as goal
 
 pub loop-name-init : goal.loop-name-init
@@ -10,6 +10,7 @@ loop-name-init g c = record {
   run = λ told. run_none g.O.Sink g.E.Sink c.args.out.now c.args.page.now c.args.err.now _;
   live = λ small. refl;
   reads = omega arith;
+  totals = totals_same _ _ _ _;
   out = omega arith;
   err = omega arith;
   out_rest = refl;
@@ -38,6 +39,7 @@ loop-name-preserved g c = record {
       (c.in_ok-was_refused.ensures.reports (told_after _ _ _ _ (c.loop-name.invariant.names told) told))));
   live = λ small. c.in_ok-was_refused.ensures.live (rw (c.loop-name.invariant.live small) small) ∙ c.loop-name.invariant.live small;
   reads = omega (arith, c.loop-name.invariant.reads, c.in_ok-was_refused.ensures.steps.reads);
+  totals = totals_after _ _ _ _ _ _ c.loop-name.invariant.totals c.in_ok-was_refused.ensures.totals;
   out = omega (arith, c.loop-name.invariant.out, c.in_ok-was_refused.ensures.steps.out);
   err = omega (arith, c.loop-name.invariant.err, c.in_ok-was_refused.ensures.steps.err);
   out_rest = c.in_ok-was_refused.ensures.out_rest ∙ c.loop-name.invariant.out_rest;
@@ -48,3 +50,6 @@ pub returns-clause-reports : goal.returns-clause-reports
 returns-clause-reports g c =
     λ told. files_done g.O.Sink g.E.Sink c.args.out.now c.loop-name.out c.args.page.now c.loop-name.page c.args.err.now c.loop-name.err c.loop-name.refused
     c.args.parts.now _ (g.F.Files.named c.args.files.now) c.args.names.now c.loop-name.name-index _ c.loop-name-test.false (c.loop-name.invariant.run told)
+
+pub returns-in_err-was_refused-clause-totals : goal.returns-in_err-was_refused-clause-totals
+returns-in_err-was_refused-clause-totals g c = totals_after _ _ _ _ _ _ c.loop-name.invariant.totals c.in_err-was_refused.ensures.totals

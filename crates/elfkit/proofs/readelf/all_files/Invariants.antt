@@ -1,6 +1,7 @@
 use Rattle.std.proofs.Common.{◌≡◌, ◌≤◌, ◌<◌, ◌^◌, ◌-◌, drop, IsTrue}
 use Rattle.elf_outside.specs.Names.{SameNames}
 use Rattle.elfkit.specs.Program.{readelf_files}
+use Rattle.elfkit.specs.Runs.{Totals}
 use Rattle.elfkit.proofs.RunLemmas.{HasRun}
 use Rattle.elfkit.proofs.readelf.all_files.Given as goal
 
@@ -14,6 +15,7 @@ invariant-loop-name g l = record {
       (readelf_files l.parts l.many (g.F.Files.named l.initial.files) l.names);
   live : g.F.Files.live l.initial.files < 2 ^ 64 - 8 → g.F.Files.live l.files ≡ g.F.Files.live l.initial.files;
   reads : g.F.Files.read_faults l.initial.files ≤ g.F.Files.read_faults l.files;
+  totals : Totals g.F.Files.write_faults g.F.Files.taken g.F.Files.given l.initial.files l.files;
   out : g.O.Sink.faults l.initial.out ≤ g.O.Sink.faults l.out;
   err : g.E.Sink.faults l.initial.err ≤ g.E.Sink.faults l.err;
   out_rest : g.O.Sink.rest l.out ≡ g.O.Sink.rest l.initial.out;
