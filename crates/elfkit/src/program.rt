@@ -5,8 +5,8 @@ ghost use Rattle.elf_outside.specs.Names.{SameNames};
 ghost use Rattle.tool_text.specs.Reading.{reading};
 ghost use Rattle.tool_text.specs.declared.options.Stop.{Stop};
 ghost use Rattle.elfkit.specs.Reports.{outcome_of};
-ghost use Rattle.elfkit.specs.Program.{are_built, readelf_files, readelf_outcome, not_built, usage_outcome, command_outcome, is_built, opens_files, program};
-ghost use Rattle.elfkit.specs.Runs.{Delivers, Ended, Causes, Steps, Totals, stop_status, ended_status};
+ghost use Rattle.elfkit.specs.Program.{are_built, readelf_files, readelf_start, command_start, program_start, readelf_outcome, not_built, usage_outcome, command_outcome, is_built, opens_files, program};
+ghost use Rattle.elfkit.specs.Runs.{Delivers, Ended, Causes, Steps, Totals, OnRead, Starts, keeps_page, stop_status, ended_status};
 
 use crate::messages::put_made;
 use crate::readelf::all_files;
@@ -72,6 +72,18 @@ fn are_built(parts: &ReadelfParts) -> bool
         || parts.versions)
 }
 
+/// Whether what waits for standard output is still to be put.
+fn keeps_page(ended: &Result<bool, Stop>) -> bool
+    ensures { result ≡ keeps_page ended.now }
+{
+    match ended {
+        Ok(_) => true,
+        Err(Stop::Read) => true,
+        Err(Stop::Write) => false,
+        Err(Stop::Memory) => false,
+    }
+}
+
 /// readelf over all files, and what waits for standard output.
 fn show_files<F: Files, O: Sink, E: Sink>(
     alloc: Global,
@@ -83,6 +95,7 @@ fn show_files<F: Files, O: Sink, E: Sink>(
 ) -> Result<bool, Stop>
     ensures ended { IsTrue (F.tells files.old) → Ended result (O.wrote out.old) (O.wrote out.new) (E.wrote err.old) (E.wrote err.new)
         (readelf_files parts.now (nat_lt 1 (length names.now)) (F.named files.old) names.now) }
+    ensures unread { IsTrue (F.tells files.old) → OnRead result (Starts (O.wrote out.old) (O.wrote out.new) (E.wrote err.old) (E.wrote err.new) (readelf_start parts.now names.now (F.named files.old))) }
     ensures steps { Steps result (F.read_faults files.old) (F.read_faults files.new) (O.faults out.old) (O.faults out.new) (E.faults err.old) (E.faults err.new) }
     ensures totals { Totals F.write_faults F.taken F.given files.old files.new }
     ensures names { IsTrue (F.tells files.old) → SameNames (F.tells files.old) (F.named files.old) (F.tells files.new) (F.named files.new) }
@@ -91,9 +104,12 @@ fn show_files<F: Files, O: Sink, E: Sink>(
     ensures err_rest { E.rest err.new ≡ E.rest err.old }
 {
     let mut page = Octets::new(alloc);
-    let refused = all_files(alloc, parts, names.as_slice(), files, out, &mut page, err)?;
+    let ended = all_files(alloc, parts, names.as_slice(), files, out, &mut page, err);
+    if !keeps_page(&ended) {
+        return ended;
+    }
     finish(out, &mut page)?;
-    Ok(refused)
+    ended
 }
 
 fn ended_status(ended: Result<bool, Stop>) -> u8
@@ -119,6 +135,7 @@ fn readelf<F: Files, O: Sink, E: Sink>(
     ensures known { result ≤ 5 }
     ensures words { result ≢ 2 }
     ensures causes { Causes result (F.read_faults files.old) (F.read_faults files.new) (O.faults out.old) (O.faults out.new) (E.faults err.old) (E.faults err.new) }
+    ensures unread { IsTrue (F.tells files.old) → result ≡ 3 → Starts (O.wrote out.old) (O.wrote out.new) (E.wrote err.old) (E.wrote err.new) (readelf_start parts.now names.now (F.named files.old)) }
     ensures totals { Totals F.write_faults F.taken F.given files.old files.new }
     ensures untouched { are_built parts.now ≡ false → (files.new ≡ files.old) × (result ≢ 3) }
     ensures names { IsTrue (F.tells files.old) → SameNames (F.tells files.old) (F.named files.old) (F.tells files.new) (F.named files.new) }
@@ -144,6 +161,7 @@ fn run_command<F: Files, O: Sink, E: Sink>(
     ensures known { result ≤ 5 }
     ensures words { result ≢ 2 }
     ensures causes { Causes result (F.read_faults files.old) (F.read_faults files.new) (O.faults out.old) (O.faults out.new) (E.faults err.old) (E.faults err.new) }
+    ensures unread { IsTrue (F.tells files.old) → result ≡ 3 → Starts (O.wrote out.old) (O.wrote out.new) (E.wrote err.old) (E.wrote err.new) (command_start command (F.named files.old)) }
     ensures totals { Totals F.write_faults F.taken F.given files.old files.new }
     ensures untouched { is_built command ≡ false → (files.new ≡ files.old) × (result ≢ 3) }
     ensures names { IsTrue (F.tells files.old) → SameNames (F.tells files.old) (F.named files.old) (F.tells files.new) (F.named files.new) }
@@ -182,6 +200,7 @@ pub fn run<F: Files, O: Sink, E: Sink>(
     ensures used { result ≡ 2 → IsErr (reading words.now) }
     ensures known { result ≤ 5 }
     ensures causes { Causes result (F.read_faults files.old) (F.read_faults files.new) (O.faults out.old) (O.faults out.new) (E.faults err.old) (E.faults err.new) }
+    ensures unread { IsTrue (F.tells files.old) → result ≡ 3 → Starts (O.wrote out.old) (O.wrote out.new) (E.wrote err.old) (E.wrote err.new) (program_start words.now (F.named files.old)) }
     ensures totals { Totals F.write_faults F.taken F.given files.old files.new }
     ensures untouched { opens_files (reading words.now) ≡ false → (files.new ≡ files.old) × (result ≢ 3) }
     ensures names { IsTrue (F.tells files.old) → SameNames (F.tells files.old) (F.named files.old) (F.tells files.new) (F.named files.new) }
