@@ -184,10 +184,12 @@ fn run_command<F: Files, O: Sink, E: Sink>(
 /// - 0: done, and nothing was refused;
 /// - 1: a file was refused, or the form is not built yet;
 /// - 2: the words are refused, with their usage line on `err`;
-/// - 3: a read failed; 4: a write to `out` or `err` failed; 5: there was no memory. The run stops
-///   there, and both outputs have gained fronts of their texts.
+/// - 3: a read failed. Both outputs have what the files before it give;
+/// - 4: a write to `out` or `err` failed; 5: there was no memory. Both outputs have gained fronts of
+///   their texts.
 ///
-/// Each file that was opened is closed again.
+/// From 3 on the run stops there. Each file that was opened is closed again. Words that are refused,
+/// or of a form that is not built, open no file.
 pub fn run<F: Files, O: Sink, E: Sink>(
     alloc: Global,
     words: &Args,

@@ -175,6 +175,26 @@ fn faults_end_the_run(rt: HostRuntime) -> Result<(), Fail> {
 }
 
 #[test]
+fn a_failed_read_keeps_the_files_before(rt: HostRuntime) -> Result<(), Fail> {
+    let image = header_alone(rt.alloc())?;
+    let words = ["readelf", "-h", "F", "F"];
+    let unread = Bad {
+        open: 2,
+        read: 0,
+        put: 0,
+    };
+    let shown = run_on(rt.alloc(), &words, image.as_slice(), unread)?;
+    assert_eq!(rt; shown.status, 3);
+    assert!(rt; shown.out.as_slice().starts_with(b"File: F\nELF header\n"));
+    assert!(rt; shown.out.as_slice().ends_with(HEADER_TEXT));
+    assert_eq!(rt; shown.out.len(), 8 + HEADER_TEXT.len() as u64);
+    let unwritten = Bad { put: 1, ..unread };
+    let shown = run_on(rt.alloc(), &words, image.as_slice(), unwritten)?;
+    assert_eq!(rt; shown.status, 4);
+    Ok(())
+}
+
+#[test]
 fn words_that_open_no_file_meet_no_fault(rt: HostRuntime) -> Result<(), Fail> {
     for (words, status) in [
         (["readelf", "F"].as_slice(), 2),
