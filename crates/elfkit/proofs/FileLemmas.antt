@@ -1,5 +1,5 @@
 -- A file that was opened, read and closed.
-use Rattle.std.proofs.Common.{◌≡◌, ◌≢◌, ◌≤◌, ℕ, Bool, true, false, List, Option, Some, None, Result, Ok, Err, IsTrue, IsSome, IsNone, IfSome, refl, sym, ap, ◌∙◌, subst}
+use Rattle.std.proofs.Common.{◌≡◌, ◌≢◌, ℕ, Bool, true, false, List, Option, Some, None, Result, Ok, Err, IsTrue, IsSome, IsNone, IfSome, refl, sym, ap, ◌∙◌, subst}
 use Rattle.std.proofs.lemmas.Slice.Eq.{bytes_eq-Decides}
 use Rattle.std.specs.Str.{bytes_eq}
 use Rattle.elf_types.specs.declared.errors.ElfError.{ElfError}
@@ -7,7 +7,7 @@ use Rattle.elf_types.specs.declared.errors.ElfError.TheVariants as error
 use Rattle.elf_types.specs.Answers.{Follows}
 use Rattle.elf_outside.specs.Counts.{Rose}
 use Rattle.elf_outside.specs.Asks.{ReadRose}
-use Rattle.elf_outside.specs.Names.{Map, SameNames, SameOthers, Closes}
+use Rattle.elf_outside.specs.Names.{Map, SameNames, Closes}
 use Rattle.elf_ident.specs.declared.file_kinds.FileKind.{FileKind}
 use Rattle.elf_ident.specs.declared.file_kinds.FileKind.TheVariants.{Archive, Elf, Other}
 use Rattle.elf_ident.specs.FileKinds.{file_kind}

@@ -1,13 +1,12 @@
 -- Steps that write reports.
-use Rattle.std.proofs.Common.{◌≡◌, ◌++◌, ◌||◌, ℕ, Bool, true, false, List, [], Option, Some, None, Result, Ok, Err, OnOk, OnErr, IfOk, refl, sym, ap, ◌∙◌, subst, append_assoc, append-nil, arith}
-use Rattle.std.specs.Option.{option_map}
+use Rattle.std.proofs.Common.{◌++◌, ℕ, true, false, List, [], Option, Some, None, Ok, Err, refl, sym, ap, subst, append-nil}
 use Rattle.elf_outside.specs.Writes.{Appends, AppendsFront}
 use Rattle.elf_outside.specs.declared.sinks.Sink.{Ghosts}
 use Rattle.tool_text.specs.declared.options.Stop.{Stop}
 use Rattle.tool_text.specs.Messages.{message}
-use Rattle.tool_text.specs.Pages.{HasPending, Writes}
+use Rattle.tool_text.specs.Pages.{Writes}
 use Rattle.tool_text.proofs.PageLemmas.{pending_lost}
-use Rattle.elfkit.specs.Reports.{Report, no_report, joined, refusal, shown}
+use Rattle.elfkit.specs.Reports.{refusal, shown}
 use Rattle.elfkit.specs.Runs.{Reports}
 
 -- the same answer at other types

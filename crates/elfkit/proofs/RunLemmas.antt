@@ -1,7 +1,9 @@
 -- Files, one after another.
-use Rattle.std.proofs.Common.{◌≡◌, ◌+◌, ◌<◌, ◌≤◌, ◌++◌, ◌||◌, ℕ, Bool, true, false, List, [], ◌∷◌, suc, zero-add, length, length-append, take, min, drop, get_or, map, Option, Some, None, Result, Ok, Err, OnOk, OnErr, IfOk, IsTrue, refl, sym, ap, ◌∙◌, subst, append_assoc, append-nil, arith, ◌⊎◌, inl, inr, codes}
+use Rattle.std.proofs.Common.{◌≡◌, ◌+◌, ◌<◌, ◌≤◌, ◌++◌, ◌||◌, ℕ, Bool, true, false, List, [], ◌∷◌, suc, zero-add, length, length-append, take, min, drop, get_or, map, Option, Some, None, Result, Ok, Err, IfOk, IsTrue, refl, sym, ap, ◌∙◌, subst, append_assoc, append-nil, arith, inl, inr, codes}
 use Rattle.std.specs.Option.{option_map}
-use Rattle.std.proofs.lemmas.List.{at_drop_more, at_drop_all, take-append-le, take_min}
+use Rattle.std.proofs.lemmas.List.{take-append-le, take-append-drop, take_min, take_all, map-append}
+use Rattle.std.proofs.Math.Seq.{take-suc}
+use Rattle.std.specs.Prelude.{nat_lt}
 use Rattle.elf_types.specs.declared.errors.ElfError.{ElfError}
 use Rattle.elf_types.specs.Text.{error_text}
 use Rattle.elf_outside.specs.Counts.{Rose}
@@ -12,15 +14,14 @@ use Rattle.elf_ident.specs.declared.fronts.Front.{Front}
 use Rattle.tool_text.specs.declared.options.Stop.{Stop}
 use Rattle.tool_text.specs.declared.options.Stop.TheVariants.{Read, Write, Memory}
 use Rattle.tool_text.specs.declared.options.ReadelfParts.{ReadelfParts}
-use Rattle.tool_text.specs.Pages.{HasPending, Writes, WriteStops}
+use Rattle.tool_text.specs.Pages.{Writes, WriteStops}
 use Rattle.tool_text.proofs.PageLemmas.{writes_none, writes_lost, writes_then, writes_stop}
 use Rattle.readelf_tool.specs.Front.{front_text}
-use Rattle.elfkit.specs.declared.fronts.Unread.{Unread}
-use Rattle.elfkit.specs.declared.fronts.Unread.TheVariants.{NotThere, Refused, Stopped}
+use Rattle.elfkit.specs.declared.fronts.Unread.TheVariants.{Refused, Stopped}
 use Rattle.elfkit.specs.Reports.{Report, no_report, joined, all_joined, refusal, shown}
-use Rattle.elfkit.specs.Program.{file_title, file_front, front_report, readelf_file, readelf_files}
-use Rattle.elfkit.specs.Runs.{Reports, ReadsFront, FrontStops, Stops, Steps}
-use Rattle.elfkit.proofs.ReportLemmas.{appends_none, front_none, shown_done, shown_stop}
+use Rattle.elfkit.specs.Program.{file_title, front_report, readelf_file, readelf_files, readelf_start}
+use Rattle.elfkit.specs.Runs.{Reports, ReadsFront, FrontStops, Steps, Totals, OnRead, Waits}
+use Rattle.elfkit.proofs.ReportLemmas.{writes_ok, appends_none, front_none}
 
 -- ---- One file
 
@@ -117,6 +118,16 @@ steps_after (Err Write) a0 a b c0 c d x0 x y h k l s = record {
   stops = elim s.stops [ inl w ↦ inl (rose_before c0 c d k w) | inr w ↦ inr (rose_before x0 x y l w) ];
 }
 
+pub totals_same : {F : Type 0} (w t g : F → ℕ) (s : F) → Totals w t g s s
+totals_same w t g s = record { write_faults = omega arith; taken = omega arith; given = omega arith }
+
+pub totals_after : {F : Type 0} (w t g : F → ℕ) (a b c : F) → Totals w t g a b → Totals w t g b c → Totals w t g a c
+totals_after w t g a b c h k = record {
+  write_faults = omega (arith, h.write_faults, k.write_faults);
+  taken = omega (arith, h.taken, k.taken);
+  given = omega (arith, h.given, k.given);
+}
+
 -- ---- All files
 
 or_assoc : (a b c : Bool) → (a || b) || c ≡ a || (b || c)
@@ -131,31 +142,9 @@ or_false : (a : Bool) → a || false ≡ a
 or_false true = refl
 or_false false = refl
 
--- of a report all but the rest was written
-pub record HasRun {O E : Type 0} (o : Ghosts O) (e : Ghosts E) (s t : O) (p q : List ℕ) (u v : E) (refused : Bool) (rest whole : Report) : Type 0 where
-  pub done : Report
-  pub whole_is : joined done rest ≡ whole
-  pub out : Writes {T = Bool} {E = Stop} o (Ok refused) s t p q done.out
-  pub err : Appends (e.wrote u) (e.wrote v) done.err
-  pub refused_is : refused ≡ done.refused
-
 none_first : (r : Report) → joined no_report r ≡ r
 unfolding joined no_report
 none_first r = refl
-
-none_last_refused : (r : Report) → (joined r no_report).refused ≡ r.refused
-unfolding joined no_report
-none_last_refused r = or_false r.refused
-
-pub run_none : {O E : Type 0} (o : Ghosts O) (e : Ghosts E) (s : O) (p : List ℕ) (u : E) (whole : Report) → HasRun o e s s p p u u false whole whole
-unfolding no_report
-run_none o e s p u whole = record {
-  done = no_report;
-  whole_is = none_first whole;
-  out = writes_none o false s p;
-  err = appends_none (e.wrote u);
-  refused_is = refl;
-}
 
 appended_twice : (a b c : Option (List ℕ)) (x y : List ℕ) → Appends a b x → Appends b c y → Appends a c (x ++ y)
 appended_twice None b c x y first second = rw second (rw first refl)
@@ -180,55 +169,69 @@ front_after (Some w) b c x y z first front =
           ∙ ap (λ (t : List ℕ). w ++ t) (ap (λ (t : List ℕ). x ++ t) (sym (take_min front.0 y)) ∙ sym (front_of_two x y z (min front.0 (length y)) (omega arith)))),
     )
 
-pub run_more : {O E : Type 0} (o : Ghosts O) (e : Ghosts E) (s t r : O) (p q m : List ℕ) (u v w : E) (refused b : Bool) (report rest whole : Report)
-    → HasRun o e s t p q u v refused (joined report rest) whole → Reports o e (Ok b) t r q m v w report → HasRun o e s r p m u w (refused || b) rest whole
+-- files after others
+run_more : {O E : Type 0} (o : Ghosts O) (e : Ghosts E) (s t r : O) (p q m : List ℕ) (u v w : E) (refused b : Bool) (done report : Report)
+    → Reports o e (Ok refused) s t p q u v done → Reports o e (Ok b) t r q m v w report → Reports o e (Ok (refused || b)) s r p m u w (joined done report)
 unfolding joined
-run_more o e s t r p q m u v w refused b report rest whole h step = record {
-  done = joined h.done report;
-  whole_is = joined_assoc h.done report rest ∙ h.whole_is;
+run_more o e s t r p q m u v w refused b done report h step = record {
   out = record {
-    ok = (writes_then o refused (Ok b) s t r p q m h.done.out report.out h.out step.out).ok;
+    ok = (writes_then o refused (Ok b) s t r p q m done.out report.out h.out step.out).ok;
     err = tt;
     rest = step.out.rest ∙ h.out.rest;
     later = omega (arith, h.out.later, step.out.later);
   };
-  err = appended_twice (e.wrote u) (e.wrote v) (e.wrote w) h.done.err report.err h.err step.err;
-  refused_is = rw (h.refused_is, step.refused) refl;
+  err = appended_twice (e.wrote u) (e.wrote v) (e.wrote w) done.err report.err h.err step.err;
+  err_front = tt;
+  refused = rw (h.refused, step.refused) refl;
 }
 
-pub run_stop : {O E : Type 0} (o : Ghosts O) (e : Ghosts E) (stop : Stop) (s t r : O) (p q m : List ℕ) (u v w : E) (refused : Bool) (report rest whole : Report)
-    → HasRun o e s t p q u v refused (joined report rest) whole → Reports o e (Err stop) t r q m v w report → Reports o e (Err stop) s r p m u w whole
+run_stop : {O E : Type 0} (o : Ghosts O) (e : Ghosts E) (stop : Stop) (s t r : O) (p q m : List ℕ) (u v w : E) (refused : Bool) (done report rest : Report)
+    → Reports o e (Ok refused) s t p q u v done → Reports o e (Err stop) t r q m v w report → Reports o e (Err stop) s r p m u w (joined (joined done report) rest)
 unfolding joined
-run_stop o e stop s t r p q m u v w refused report rest whole h step =
-    subst (λ (x : Report). Reports o e (Err stop) s r p m u w x) (joined_assoc h.done report rest ∙ h.whole_is) (record {
-      out = writes_stop o stop stop s r p m m (h.done.out ++ report.out) rest.out (writes_then o refused (Err stop) s t r p q m h.done.out report.out h.out step.out);
-      err = tt;
-      err_front = front_after (e.wrote u) (e.wrote v) (e.wrote w) h.done.err report.err rest.err h.err step.err_front;
-      refused = tt;
-    })
+run_stop o e stop s t r p q m u v w refused done report rest h step = record {
+  out = writes_stop o stop stop s r p m m (done.out ++ report.out) rest.out (writes_then o refused (Err stop) s t r p q m done.out report.out h.out step.out);
+  err = tt;
+  err_front = front_after (e.wrote u) (e.wrote v) (e.wrote w) done.err report.err rest.err h.err step.err_front;
+  refused = tt;
+}
 
-pub run_done : {O E : Type 0} (o : Ghosts O) (e : Ghosts E) (s t : O) (p q : List ℕ) (u v : E) (refused : Bool) (whole : Report)
-    → HasRun o e s t p q u v refused no_report whole → Reports o e (Ok refused) s t p q u v whole
-unfolding joined no_report
-run_done o e s t p q u v refused whole h =
-    subst (λ (x : Report). Reports o e (Ok refused) s t p q u v x) h.whole_is (record {
-      out = subst (λ (x : List ℕ). Writes o (Ok refused) s t p q x) (sym (append-nil h.done.out)) h.out;
-      err = subst (λ (x : List ℕ). Appends (e.wrote u) (e.wrote v) x) (sym (append-nil h.done.err)) h.err;
-      err_front = tt;
-      refused = h.refused_is ∙ sym (or_false h.done.refused);
-    })
+-- ---- The first files and the others
 
-pub files_more : (parts : ReadelfParts) (many : Bool) (named : List ℕ → Option (List ℕ)) (names : List (List ℕ)) (i : ℕ) (name : List ℕ) → i < length names → name ≡ get_or names i name
-    → readelf_files parts many named (drop i names) ≡ joined (readelf_file parts many name (named name)) (readelf_files parts many named (drop (i + 1) names))
-unfolding readelf_files all_joined
-files_more parts many named names i name lt is =
-    at_drop_more (λ ns. all_joined (map (λ n. readelf_file parts many n (named n)) ns)) names i name lt
-    ∙ ap (λ (n : List ℕ). joined (readelf_file parts many n (named n)) (all_joined (map (λ n. readelf_file parts many n (named n)) (drop (i + 1) names)))) (sym is)
+all_joined_append : (rs ss : List Report) → all_joined (rs ++ ss) ≡ joined (all_joined rs) (all_joined ss)
+unfolding all_joined
+all_joined_append [] ss = sym (none_first (all_joined ss))
+all_joined_append (r ∷ rs) ss = ap (joined r) (all_joined_append rs ss) ∙ sym (joined_assoc r (all_joined rs) (all_joined ss))
 
-pub files_end : (parts : ReadelfParts) (many : Bool) (named : List ℕ → Option (List ℕ)) (names : List (List ℕ)) (i : ℕ) → length names ≤ i
-    → readelf_files parts many named (drop i names) ≡ no_report
-unfolding readelf_files all_joined
-files_end parts many named names i le = at_drop_all (λ ns. all_joined (map (λ n. readelf_file parts many n (named n)) ns)) names i le
+one_joined : (r : Report) → all_joined (r ∷ []) ≡ r
+unfolding all_joined joined no_report
+one_joined r = rw (append-nil r.out, append-nil r.err) (ap (λ (b : Bool). record { out = r.out; err = r.err; refused = b }) (or_false r.refused))
+
+files_append : (parts : ReadelfParts) (many : Bool) (named : Map) (xs ys : List (List ℕ))
+    → readelf_files parts many named (xs ++ ys) ≡ joined (readelf_files parts many named xs) (readelf_files parts many named ys)
+unfolding readelf_files
+files_append parts many named xs ys =
+    ap all_joined (map-append (λ name. readelf_file parts many name (named name)) xs ys)
+    ∙ all_joined_append (map (λ name. readelf_file parts many name (named name)) xs) (map (λ name. readelf_file parts many name (named name)) ys)
+
+-- what the first files give is a front of what all give
+pub files_split : (parts : ReadelfParts) (many : Bool) (named : Map) (names : List (List ℕ)) (n : ℕ)
+    → joined (readelf_files parts many named (take n names)) (readelf_files parts many named (drop n names)) ≡ readelf_files parts many named names
+files_split parts many named names n =
+    sym (files_append parts many named (take n names) (drop n names))
+    ∙ ap (readelf_files parts many named) (take-append-drop n names)
+
+file_is_one : (parts : ReadelfParts) (many : Bool) (named : Map) (name : List ℕ) → readelf_files parts many named (name ∷ []) ≡ readelf_file parts many name (named name)
+unfolding readelf_files
+file_is_one parts many named name = one_joined (readelf_file parts many name (named name))
+
+files_taken : (parts : ReadelfParts) (many : Bool) (named : Map) (names : List (List ℕ)) (i : ℕ) (name : List ℕ) → i < length names → name ≡ get_or names i name
+    → readelf_files parts many named (take (i + 1) names) ≡ joined (readelf_files parts many named (take i names)) (readelf_file parts many name (named name))
+files_taken parts many named names i name lt is =
+    let next : i + 1 ≡ suc i = omega arith in
+    ap (λ (n : ℕ). readelf_files parts many named (take n names)) next
+    ∙ ap (readelf_files parts many named) (take-suc names i name lt ∙ ap (λ (n : List ℕ). take i names ++ (n ∷ [])) (sym is))
+    ∙ files_append parts many named (take i names) (name ∷ [])
+    ∙ ap (joined (readelf_files parts many named (take i names))) (file_is_one parts many named name)
 
 -- names that are as before, and what is told of them
 pub names_same : (t : Bool) (m : Map) → SameNames t m t m
@@ -250,29 +253,82 @@ report_same o e r s t p q u v parts many t0 t1 m0 m1 name shown_name same is w =
     subst (λ (h : Option (List ℕ)). Reports o e r s t p q u v (readelf_file parts many name h)) (same.same name)
     (subst (λ (n : List ℕ). Reports o e r s t p q u v (readelf_file parts many n (m1 n))) is w)
 
+-- no file yet
+pub files_none : {O E : Type 0} (o : Ghosts O) (e : Ghosts E) (s : O) (p : List ℕ) (u : E) (parts : ReadelfParts) (many : Bool) (named : Map) (names : List (List ℕ))
+    → Reports o e (Ok false) s s p p u u (readelf_files parts many named (take 0 names))
+unfolding readelf_files all_joined no_report
+files_none o e s p u parts many named names = record {
+  out = writes_none o false s p;
+  err = appends_none (e.wrote u);
+  err_front = tt;
+  refused = refl;
+}
+
 -- one more file
 pub file_more : {O E : Type 0} (o : Ghosts O) (e : Ghosts E) (s t r : O) (p q m : List ℕ) (u v w : E) (refused b : Bool)
-    (parts : ReadelfParts) (many : Bool) (named : Map) (names : List (List ℕ)) (i : ℕ) (name : List ℕ) (whole : Report)
+    (parts : ReadelfParts) (many : Bool) (named : Map) (names : List (List ℕ)) (i : ℕ) (name : List ℕ)
     → i < length names → name ≡ get_or names i name
-    → HasRun o e s t p q u v refused (readelf_files parts many named (drop i names)) whole
+    → Reports o e (Ok refused) s t p q u v (readelf_files parts many named (take i names))
     → Reports o e (Ok b) t r q m v w (readelf_file parts many name (named name))
-    → HasRun o e s r p m u w (refused || b) (readelf_files parts many named (drop (i + 1) names)) whole
-file_more o e s t r p q m u v w refused b parts many named names i name whole lt is h step =
-    run_more o e s t r p q m u v w refused b (readelf_file parts many name (named name)) (readelf_files parts many named (drop (i + 1) names)) whole
-    (subst (λ (x : Report). HasRun o e s t p q u v refused x whole) (files_more parts many named names i name lt is) h) step
+    → Reports o e (Ok (refused || b)) s r p m u w (readelf_files parts many named (take (i + 1) names))
+file_more o e s t r p q m u v w refused b parts many named names i name lt is h step =
+    subst (λ (x : Report). Reports o e (Ok (refused || b)) s r p m u w x) (sym (files_taken parts many named names i name lt is))
+    (run_more o e s t r p q m u v w refused b (readelf_files parts many named (take i names)) (readelf_file parts many name (named name)) h step)
 
 pub file_stop : {O E : Type 0} (o : Ghosts O) (e : Ghosts E) (stop : Stop) (s t r : O) (p q m : List ℕ) (u v w : E) (refused : Bool)
-    (parts : ReadelfParts) (many : Bool) (named : Map) (names : List (List ℕ)) (i : ℕ) (name : List ℕ) (whole : Report)
+    (parts : ReadelfParts) (many : Bool) (named : Map) (names : List (List ℕ)) (i : ℕ) (name : List ℕ)
     → i < length names → name ≡ get_or names i name
-    → HasRun o e s t p q u v refused (readelf_files parts many named (drop i names)) whole
+    → Reports o e (Ok refused) s t p q u v (readelf_files parts many named (take i names))
     → Reports o e (Err stop) t r q m v w (readelf_file parts many name (named name))
-    → Reports o e (Err stop) s r p m u w whole
-file_stop o e stop s t r p q m u v w refused parts many named names i name whole lt is h step =
-    run_stop o e stop s t r p q m u v w refused (readelf_file parts many name (named name)) (readelf_files parts many named (drop (i + 1) names)) whole
-    (subst (λ (x : Report). HasRun o e s t p q u v refused x whole) (files_more parts many named names i name lt is) h) step
+    → Reports o e (Err stop) s r p m u w (readelf_files parts many named names)
+file_stop o e stop s t r p q m u v w refused parts many named names i name lt is h step =
+    subst (λ (x : Report). Reports o e (Err stop) s r p m u w x)
+    (ap (λ (x : Report). joined x (readelf_files parts many named (drop (i + 1) names))) (sym (files_taken parts many named names i name lt is)) ∙ files_split parts many named names (i + 1))
+    (run_stop o e stop s t r p q m u v w refused (readelf_files parts many named (take i names)) (readelf_file parts many name (named name)) (readelf_files parts many named (drop (i + 1) names)) h step)
 
 pub files_done : {O E : Type 0} (o : Ghosts O) (e : Ghosts E) (s t : O) (p q : List ℕ) (u v : E) (refused : Bool)
-    (parts : ReadelfParts) (many : Bool) (named : Map) (names : List (List ℕ)) (i : ℕ) (whole : Report) → length names ≤ i
-    → HasRun o e s t p q u v refused (readelf_files parts many named (drop i names)) whole → Reports o e (Ok refused) s t p q u v whole
-files_done o e s t p q u v refused parts many named names i whole le h =
-    run_done o e s t p q u v refused whole (subst (λ (x : Report). HasRun o e s t p q u v refused x whole) (files_end parts many named names i le) h)
+    (parts : ReadelfParts) (many : Bool) (named : Map) (names : List (List ℕ)) (i : ℕ) → length names ≤ i
+    → Reports o e (Ok refused) s t p q u v (readelf_files parts many named (take i names)) → Reports o e (Ok refused) s t p q u v (readelf_files parts many named names)
+files_done o e s t p q u v refused parts many named names i le h =
+    subst (λ (ns : List (List ℕ)). Reports o e (Ok refused) s t p q u v (readelf_files parts many named ns)) (take_all i names le) h
+
+-- ---- A failed read
+
+-- a failed read that came before anything was written
+pub stopped_same : {O E : Type 0} (stop : Stop) (s t : O) (p q : List ℕ) (u v : E) → s ≡ t → p ≡ q → u ≡ v → OnRead {T = Bool} (Err stop) ((s ≡ t) × (p ≡ q) × (u ≡ v))
+stopped_same Read s t p q u v h k l = (h, k, l)
+stopped_same Write s t p q u v h k l = tt
+stopped_same Memory s t p q u v h k l = tt
+
+-- steps that read nothing
+pub write_is_no_read : (r : Result Bool Stop) (a b : ℕ) (P : Type 0) → WriteStops r a b → OnRead r P
+write_is_no_read (Ok z) a b P s = tt
+write_is_no_read (Err Read) a b P s = absurd s
+write_is_no_read (Err Write) a b P s = tt
+write_is_no_read (Err Memory) a b P s = tt
+
+pub refusal_is_no_read : (r : Result Bool Stop) (c d x y : ℕ) (P : Type 0) → Steps r 0 0 c d x y → OnRead r P
+refusal_is_no_read (Ok z) c d x y P s = tt
+refusal_is_no_read (Err Read) c d x y P s = absurd (let never : Rose 0 0 = s.stops in omega arith)
+refusal_is_no_read (Err Write) c d x y P s = tt
+refusal_is_no_read (Err Memory) c d x y P s = tt
+
+waits_at : {O E : Type 0} (o : Ghosts O) (e : Ghosts E) (s t r : O) (p q m : List ℕ) (u v w : E) (refused : Bool)
+    (parts : ReadelfParts) (named : Map) (names : List (List ℕ)) (i : ℕ) → (r ≡ t) × (m ≡ q) × (w ≡ v)
+    → Reports o e (Ok refused) s t p q u v (readelf_files parts (nat_lt 1 (length names)) named (take i names))
+    → Waits o e s r p m u w (readelf_start parts names named)
+unfolding readelf_start
+waits_at o e s t r p q m u v w refused parts named names i same h = rw (same.0, same.1, same.2) (record {
+  count = i;
+  out = writes_ok o refused tt s t p q (readelf_files parts (nat_lt 1 (length names)) named (take i names)).out h.out;
+  err = h.err;
+})
+
+pub file_unread : {O E : Type 0} (o : Ghosts O) (e : Ghosts E) (stop : Stop) (s t r : O) (p q m : List ℕ) (u v w : E) (refused : Bool)
+    (parts : ReadelfParts) (named : Map) (names : List (List ℕ)) (i : ℕ)
+    → Reports o e (Ok refused) s t p q u v (readelf_files parts (nat_lt 1 (length names)) named (take i names))
+    → OnRead {T = Bool} (Err stop) ((r ≡ t) × (m ≡ q) × (w ≡ v))
+    → OnRead {T = Bool} (Err stop) (Waits o e s r p m u w (readelf_start parts names named))
+file_unread o e Read s t r p q m u v w refused parts named names i h same = waits_at o e s t r p q m u v w refused parts named names i same h
+file_unread o e Write s t r p q m u v w refused parts named names i h same = tt
+file_unread o e Memory s t r p q m u v w refused parts named names i h same = tt

@@ -1,5 +1,5 @@
 -- What the program does: its outputs and its status, by the words and the bytes of the files.
-use Rattle.std.specs.Prelude.{◌++◌, ◌||◌, ℕ, List, [], ◌∷◌, length, map, Bool, true, false, not, nat_lt, Option, Some, None, Result, Ok, Err, codes, if◌then◌else◌}
+use Rattle.std.specs.Prelude.{◌++◌, ◌||◌, ℕ, List, [], length, take, map, Bool, true, false, not, nat_lt, Option, Some, None, Result, Ok, Err, codes, if◌then◌else◌}
 use Rattle.elf_types.specs.declared.errors.ElfError.{ElfError}
 use Rattle.elf_types.specs.declared.errors.ElfError.TheVariants.{Magic}
 use Rattle.elf_types.specs.Text.{error_text}
@@ -15,7 +15,7 @@ use Rattle.tool_text.specs.declared.commands.Command.TheVariants.{Readelf}
 use Rattle.tool_text.specs.Usages.{usage_line}
 use Rattle.tool_text.specs.Reading.{reading}
 use Rattle.readelf_tool.specs.Front.{front_text}
-use Rattle.elfkit.specs.Reports.{Report, no_report, joined, all_joined, refusal, shown, Outcome, outcome_of}
+use Rattle.elfkit.specs.Reports.{Report, no_report, all_joined, refusal, shown, Outcome, outcome_of}
 
 -- ---- readelf
 
@@ -46,6 +46,10 @@ readelf_file parts many name None = refusal (codes "readelf") name (codes "not f
 unfoldable pub readelf_files : ReadelfParts → Bool → (List ℕ → Option (List ℕ)) → List (List ℕ) → Report
 readelf_files parts many named names = all_joined (map (λ name. readelf_file parts many name (named name)) names)
 
+-- what the first n files give, of all that are named
+unfoldable pub readelf_start : ReadelfParts → List (List ℕ) → (List ℕ → Option (List ℕ)) → ℕ → Report
+readelf_start parts files named n = readelf_files parts (nat_lt 1 (length files)) named (take n files)
+
 -- ---- The words
 
 -- the parts that are built so far
@@ -67,6 +71,17 @@ unfoldable pub command_outcome : Command → (List ℕ → Option (List ℕ)) �
 command_outcome (Readelf parts files) named = readelf_outcome parts files named
 command_outcome _ named = not_built
 
+-- a command whose files are opened
+unfoldable pub is_built : Command → Bool
+is_built (Readelf parts files) = are_built parts
+is_built _ = false
+
+-- words that make a run open files; it opens none on words that are refused, or of a form that is
+-- not built
+unfoldable pub opens_files : Result Command Usage → Bool
+opens_files (Ok command) = is_built command
+opens_files (Err usage) = false
+
 unfoldable pub outcome_by : Result Command Usage → (List ℕ → Option (List ℕ)) → Outcome
 outcome_by (Ok command) named = command_outcome command named
 outcome_by (Err usage) named = usage_outcome usage
@@ -74,3 +89,15 @@ outcome_by (Err usage) named = usage_outcome usage
 -- the program
 unfoldable pub program : List (List ℕ) → (List ℕ → Option (List ℕ)) → Outcome
 program words named = outcome_by (reading words) named
+
+-- what the first n files give, of all that the words name
+unfoldable pub command_start : Command → (List ℕ → Option (List ℕ)) → ℕ → Report
+command_start (Readelf parts files) named n = readelf_start parts files named n
+command_start _ named n = no_report
+
+unfoldable pub start_by : Result Command Usage → (List ℕ → Option (List ℕ)) → ℕ → Report
+start_by (Ok command) named n = command_start command named n
+start_by (Err usage) named n = no_report
+
+unfoldable pub program_start : List (List ℕ) → (List ℕ → Option (List ℕ)) → ℕ → Report
+program_start words named n = start_by (reading words) named n

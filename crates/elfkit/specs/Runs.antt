@@ -1,5 +1,5 @@
 -- How a run answers, and what it leaves.
-use Rattle.std.specs.Prelude.{◌≡◌, ◌⊎◌, ◌+◌, ◌<◌, ◌≤◌, ℕ, List, Bool, Option, Result, Ok, Err, OnOk, OnErr, IfOk, IsTrue, Some, None, true, false}
+use Rattle.std.specs.Prelude.{◌≡◌, ◌⊎◌, ◌<◌, ◌≤◌, ℕ, List, Bool, Option, Result, Ok, Err, OnOk, OnErr, IfOk, Some, None, true, false}
 use Rattle.elf_types.specs.declared.errors.ElfError.{ElfError}
 use Rattle.elf_types.specs.declared.errors.ElfError.TheVariants as error
 use Rattle.elf_outside.specs.Counts.{Rose}
@@ -61,6 +61,37 @@ pub record Steps {T : Type 0} (result : Result T Stop) (reads_old reads_new out_
   pub out : out_old ≤ out_new
   pub err : err_old ≤ err_new
   pub stops : Stops result reads_old reads_new out_old out_new err_old err_new
+
+-- the other totals of a set of files never fall either
+pub record Totals {F : Type 0} (writes takes gives : F → ℕ) (old new : F) : Type 0 where
+  pub write_faults : writes old ≤ writes new
+  pub taken : takes old ≤ takes new
+  pub given : gives old ≤ gives new
+
+-- what holds of a step that a failed read stops
+abbrev pub OnRead : {T : Type 0} → Result T Stop → Type 0 → Type 0
+OnRead (Err Read) P = P
+OnRead _ P = Unit {0}
+
+-- both outputs have all that some of the first files give, but for what waits in the page
+pub record Waits {O E : Type 0} (o : Ghosts O) (e : Ghosts E) (out_old out_new : O) (page_old page_new : List ℕ) (err_old err_new : E) (start : ℕ → Report) : Type 0 where
+  pub count : ℕ
+  pub out : Writes {T = Unit {0}} {E = Stop} o (Ok tt) out_old out_new page_old page_new (start count).out
+  pub err : Appends (e.wrote err_old) (e.wrote err_new) (start count).err
+
+-- both outputs have all that some of the first files give, and nothing of the others
+pub record Starts (out_old out_new err_old err_new : Option (List ℕ)) (start : ℕ → Report) : Type 0 where
+  pub count : ℕ
+  pub out : Appends out_old out_new (start count).out
+  pub err : Appends err_old err_new (start count).err
+
+-- whether what waits in the page is still to be put: it is lost with a write that failed, and where
+-- there is no memory
+abbrev pub keeps_page : Result Bool Stop → Bool
+keeps_page (Ok b) = true
+keeps_page (Err Read) = true
+keeps_page (Err Write) = false
+keeps_page (Err Memory) = false
 
 -- the status of a step that stops
 abbrev pub stop_status : Stop → ℕ

@@ -5,7 +5,7 @@ ghost use Rattle.elf_types.specs.Answers.{Follows};
 ghost use Rattle.elf_outside.specs.Asks.{Asks};
 ghost use Rattle.elf_outside.specs.Names.{SameNames};
 ghost use Rattle.elfkit.specs.Program.{file_front};
-ghost use Rattle.elfkit.specs.Runs.{ReadsFront, FrontStops, unread_of};
+ghost use Rattle.elfkit.specs.Runs.{ReadsFront, FrontStops, Totals, unread_of};
 
 use elf_ident::{FileKind, Front, kind_of_source, read_front};
 use elf_outside::{Files, OpenFault, Source};
@@ -54,6 +54,7 @@ pub fn read_file<F: Files>(alloc: Global, files: &mut F, name: &str) -> Result<F
         SameNames (F.tells files.old) (F.named files.old) (F.tells files.new) (F.named files.new) }
     ensures stops { FrontStops result (F.read_faults files.old) (F.read_faults files.new) }
     ensures reads { F.read_faults files.old ≤ F.read_faults files.new }
+    ensures totals { Totals F.write_faults F.taken F.given files.old files.new }
     ensures live { F.live files.old < 2 ^ 64 - 8 → F.live files.new ≡ F.live files.old }
 {
     let mut file = match files.open(alloc, name) {

@@ -1,12 +1,12 @@
 //! The program, from its words to its status.
 
-ghost use Rattle.std.specs.Prelude.{◌≡◌, ◌≢◌, ◌++◌, ◌≤◌, ◌<◌, ◌^◌, ◌-◌, ◌⊎◌, ℕ, List, Option, [], codes, length, nat_lt, OnOk, IfErr, IsErr, IsTrue};
+ghost use Rattle.std.specs.Prelude.{false, ◌≡◌, ◌≢◌, ◌++◌, ◌≤◌, ◌<◌, ◌^◌, ◌-◌, ◌⊎◌, ℕ, List, Option, [], codes, length, nat_lt, OnOk, IfErr, IsErr, IsTrue};
 ghost use Rattle.elf_outside.specs.Names.{SameNames};
 ghost use Rattle.tool_text.specs.Reading.{reading};
 ghost use Rattle.tool_text.specs.declared.options.Stop.{Stop};
 ghost use Rattle.elfkit.specs.Reports.{outcome_of};
-ghost use Rattle.elfkit.specs.Program.{are_built, readelf_files, readelf_outcome, not_built, usage_outcome, command_outcome, program};
-ghost use Rattle.elfkit.specs.Runs.{Delivers, Ended, Causes, Steps, stop_status, ended_status};
+ghost use Rattle.elfkit.specs.Program.{are_built, readelf_files, readelf_start, command_start, program_start, readelf_outcome, not_built, usage_outcome, command_outcome, is_built, opens_files, program};
+ghost use Rattle.elfkit.specs.Runs.{Delivers, Ended, Causes, Steps, Totals, OnRead, Starts, keeps_page, stop_status, ended_status};
 
 use crate::messages::put_made;
 use crate::readelf::all_files;
@@ -46,7 +46,7 @@ fn put_line(line: &mut Octets, text: &str) -> Result<(), ElfError>
 fn say<E: Sink>(alloc: Global, err: &mut E, text: &str, status: u8) -> u8
     requires { status < 3 }
     ensures delivers { (o : Option (List ℕ)) → Delivers (record { out = []; err = text.now ++ codes "\n"; status = status }) result o o (E.wrote err.old) (E.wrote err.new) }
-    ensures answers { (result ≡ status) ⊎ (3 ≤ result) }
+    ensures answers { (result ≡ status) ⊎ (4 ≤ result) }
     ensures known { result ≤ 5 }
     ensures causes { (n m : ℕ) → Causes result n n m m (E.faults err.old) (E.faults err.new) }
     ensures rest { E.rest err.new ≡ E.rest err.old }
@@ -72,6 +72,18 @@ fn are_built(parts: &ReadelfParts) -> bool
         || parts.versions)
 }
 
+/// Whether what waits for standard output is still to be put.
+fn keeps_page(ended: &Result<bool, Stop>) -> bool
+    ensures { result ≡ keeps_page ended.now }
+{
+    match ended {
+        Ok(_) => true,
+        Err(Stop::Read) => true,
+        Err(Stop::Write) => false,
+        Err(Stop::Memory) => false,
+    }
+}
+
 /// readelf over all files, and what waits for standard output.
 fn show_files<F: Files, O: Sink, E: Sink>(
     alloc: Global,
@@ -83,16 +95,21 @@ fn show_files<F: Files, O: Sink, E: Sink>(
 ) -> Result<bool, Stop>
     ensures ended { IsTrue (F.tells files.old) → Ended result (O.wrote out.old) (O.wrote out.new) (E.wrote err.old) (E.wrote err.new)
         (readelf_files parts.now (nat_lt 1 (length names.now)) (F.named files.old) names.now) }
+    ensures unread { IsTrue (F.tells files.old) → OnRead result (Starts (O.wrote out.old) (O.wrote out.new) (E.wrote err.old) (E.wrote err.new) (readelf_start parts.now names.now (F.named files.old))) }
     ensures steps { Steps result (F.read_faults files.old) (F.read_faults files.new) (O.faults out.old) (O.faults out.new) (E.faults err.old) (E.faults err.new) }
+    ensures totals { Totals F.write_faults F.taken F.given files.old files.new }
     ensures names { IsTrue (F.tells files.old) → SameNames (F.tells files.old) (F.named files.old) (F.tells files.new) (F.named files.new) }
     ensures live { F.live files.old < 2 ^ 64 - 8 → F.live files.new ≡ F.live files.old }
     ensures out_rest { O.rest out.new ≡ O.rest out.old }
     ensures err_rest { E.rest err.new ≡ E.rest err.old }
 {
     let mut page = Octets::new(alloc);
-    let refused = all_files(alloc, parts, names.as_slice(), files, out, &mut page, err)?;
+    let ended = all_files(alloc, parts, names.as_slice(), files, out, &mut page, err);
+    if !keeps_page(&ended) {
+        return ended;
+    }
     finish(out, &mut page)?;
-    Ok(refused)
+    ended
 }
 
 fn ended_status(ended: Result<bool, Stop>) -> u8
@@ -118,6 +135,9 @@ fn readelf<F: Files, O: Sink, E: Sink>(
     ensures known { result ≤ 5 }
     ensures words { result ≢ 2 }
     ensures causes { Causes result (F.read_faults files.old) (F.read_faults files.new) (O.faults out.old) (O.faults out.new) (E.faults err.old) (E.faults err.new) }
+    ensures unread { IsTrue (F.tells files.old) → result ≡ 3 → Starts (O.wrote out.old) (O.wrote out.new) (E.wrote err.old) (E.wrote err.new) (readelf_start parts.now names.now (F.named files.old)) }
+    ensures totals { Totals F.write_faults F.taken F.given files.old files.new }
+    ensures untouched { are_built parts.now ≡ false → (files.new ≡ files.old) × (result ≢ 3) }
     ensures names { IsTrue (F.tells files.old) → SameNames (F.tells files.old) (F.named files.old) (F.tells files.new) (F.named files.new) }
     ensures live { F.live files.old < 2 ^ 64 - 8 → F.live files.new ≡ F.live files.old }
     ensures out_rest { O.rest out.new ≡ O.rest out.old }
@@ -141,6 +161,9 @@ fn run_command<F: Files, O: Sink, E: Sink>(
     ensures known { result ≤ 5 }
     ensures words { result ≢ 2 }
     ensures causes { Causes result (F.read_faults files.old) (F.read_faults files.new) (O.faults out.old) (O.faults out.new) (E.faults err.old) (E.faults err.new) }
+    ensures unread { IsTrue (F.tells files.old) → result ≡ 3 → Starts (O.wrote out.old) (O.wrote out.new) (E.wrote err.old) (E.wrote err.new) (command_start command (F.named files.old)) }
+    ensures totals { Totals F.write_faults F.taken F.given files.old files.new }
+    ensures untouched { is_built command ≡ false → (files.new ≡ files.old) × (result ≢ 3) }
     ensures names { IsTrue (F.tells files.old) → SameNames (F.tells files.old) (F.named files.old) (F.tells files.new) (F.named files.new) }
     ensures live { F.live files.old < 2 ^ 64 - 8 → F.live files.new ≡ F.live files.old }
     ensures out_rest { O.rest out.new ≡ O.rest out.old }
@@ -161,10 +184,12 @@ fn run_command<F: Files, O: Sink, E: Sink>(
 /// - 0: done, and nothing was refused;
 /// - 1: a file was refused, or the form is not built yet;
 /// - 2: the words are refused, with their usage line on `err`;
-/// - 3: a read failed; 4: a write to `out` or `err` failed; 5: there was no memory. The run stops
-///   there, and both outputs have gained fronts of their texts.
+/// - 3: a read failed. Both outputs have what the files before it give;
+/// - 4: a write to `out` or `err` failed; 5: there was no memory. Both outputs have gained fronts of
+///   their texts.
 ///
-/// Each file that was opened is closed again.
+/// From 3 on the run stops there. Each file that was opened is closed again. Words that are refused,
+/// or of a form that is not built, open no file.
 pub fn run<F: Files, O: Sink, E: Sink>(
     alloc: Global,
     words: &Args,
@@ -177,6 +202,9 @@ pub fn run<F: Files, O: Sink, E: Sink>(
     ensures used { result ≡ 2 → IsErr (reading words.now) }
     ensures known { result ≤ 5 }
     ensures causes { Causes result (F.read_faults files.old) (F.read_faults files.new) (O.faults out.old) (O.faults out.new) (E.faults err.old) (E.faults err.new) }
+    ensures unread { IsTrue (F.tells files.old) → result ≡ 3 → Starts (O.wrote out.old) (O.wrote out.new) (E.wrote err.old) (E.wrote err.new) (program_start words.now (F.named files.old)) }
+    ensures totals { Totals F.write_faults F.taken F.given files.old files.new }
+    ensures untouched { opens_files (reading words.now) ≡ false → (files.new ≡ files.old) × (result ≢ 3) }
     ensures names { IsTrue (F.tells files.old) → SameNames (F.tells files.old) (F.named files.old) (F.tells files.new) (F.named files.new) }
     ensures live { F.live files.old < 2 ^ 64 - 8 → F.live files.new ≡ F.live files.old }
     ensures out_rest { O.rest out.new ≡ O.rest out.old }

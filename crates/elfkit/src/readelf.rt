@@ -4,8 +4,8 @@ ghost use Rattle.std.specs.Prelude.{◌≡◌, ◌++◌, ◌≤◌, ◌<◌, ◌
 ghost use Rattle.elf_outside.specs.Names.{SameNames};
 ghost use Rattle.tool_text.specs.Pages.{Writes, WriteStops};
 ghost use Rattle.readelf_tool.specs.Front.{front_text};
-ghost use Rattle.elfkit.specs.Program.{file_title, readelf_file, readelf_files};
-ghost use Rattle.elfkit.specs.Runs.{Reports, Steps};
+ghost use Rattle.elfkit.specs.Program.{file_title, readelf_file, readelf_files, readelf_start};
+ghost use Rattle.elfkit.specs.Runs.{Reports, Steps, Totals, OnRead, Waits};
 
 use crate::fronts::{Unread, read_file};
 use crate::messages::{refuse, refuse_by};
@@ -73,7 +73,9 @@ fn one_file<F: Files, O: Sink, E: Sink>(
 ) -> Result<bool, Stop>
     ensures reports { IsTrue (F.tells files.old) → Reports O.Sink E.Sink result out.old out.new page.old page.new err.old err.new
         (readelf_file parts.now many name.now (F.named files.old name.now)) }
+    ensures unread { OnRead result ((out.new ≡ out.old) × (page.new ≡ page.old) × (err.new ≡ err.old)) }
     ensures steps { Steps result (F.read_faults files.old) (F.read_faults files.new) (O.faults out.old) (O.faults out.new) (E.faults err.old) (E.faults err.new) }
+    ensures totals { Totals F.write_faults F.taken F.given files.old files.new }
     ensures names { IsTrue (F.tells files.old) → SameNames (F.tells files.old) (F.named files.old) (F.tells files.new) (F.named files.new) }
     ensures live { F.live files.old < 2 ^ 64 - 8 → F.live files.new ≡ F.live files.old }
     ensures out_rest { O.rest out.new ≡ O.rest out.old }
@@ -105,7 +107,9 @@ pub fn all_files<F: Files, O: Sink, E: Sink>(
 ) -> Result<bool, Stop>
     ensures reports { IsTrue (F.tells files.old) → Reports O.Sink E.Sink result out.old out.new page.old page.new err.old err.new
         (readelf_files parts.now (nat_lt 1 (length names.now)) (F.named files.old) names.now) }
+    ensures unread { IsTrue (F.tells files.old) → OnRead result (Waits O.Sink E.Sink out.old out.new page.old page.new err.old err.new (readelf_start parts.now names.now (F.named files.old))) }
     ensures steps { Steps result (F.read_faults files.old) (F.read_faults files.new) (O.faults out.old) (O.faults out.new) (E.faults err.old) (E.faults err.new) }
+    ensures totals { Totals F.write_faults F.taken F.given files.old files.new }
     ensures names { IsTrue (F.tells files.old) → SameNames (F.tells files.old) (F.named files.old) (F.tells files.new) (F.named files.new) }
     ensures live { F.live files.old < 2 ^ 64 - 8 → F.live files.new ≡ F.live files.old }
     ensures out_rest { O.rest out.new ≡ O.rest out.old }
