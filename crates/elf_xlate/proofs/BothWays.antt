@@ -1,9 +1,8 @@
 -- Lists of items, read and written: both ways round, from the same of one item.
 use Rattle.std.proofs.Common.{◌≡◌, ℕ, zero, suc, ◌+◌, ◌*◌, ◌/◌, ◌%◌, ◌<◌, ◌≤◌, List, [], ◌∷◌, ◌++◌, length, take, drop, map, refl, sym, ap, ◌∙◌, arith, inl, inr, add-one}
-use Rattle.std.specs.Prelude.{Option, Some, None, ◌==◌, if◌then◌else◌, cond, nat_eq, Bool, true, false}
-use Rattle.std.specs.List.{range_with_len, flat_map, All, AllByRecursion}
+use Rattle.std.specs.Prelude.{Some, None, cond, nat_eq, Bool}
+use Rattle.std.specs.List.{range_with_len, flat_map, AllByRecursion}
 use Rattle.std.proofs.lemmas.List.{drop-drop, take_at, drop_at, take_all, length-append, length-take-le, length-drop, append-nil}
-use Rattle.std.proofs.lemmas.List.Elements.{recursion_from_All}
 use Rattle.std.proofs.lemmas.Grind.{flat_map-append}
 use Rattle.std.proofs.lemmas.Bool.{eq-eqb, eqb-true, cases_Bool}
 use Rattle.std.proofs.Math.Nat.{div-add-mod, mul-mod_left, mul-div_cancel, add-mul, suc-mul, mul_comm}

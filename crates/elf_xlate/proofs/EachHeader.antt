@@ -1,8 +1,8 @@
 -- Each header, read and written: both ways round, by its table.
-use Rattle.std.proofs.Common.{◌≡◌, ℕ, zero, suc, ◌+◌, ◌-◌, ◌^◌, ◌<◌, ◌≤◌, List, [], ◌∷◌, ◌++◌, length, take, drop, get_or, slice_index, refl, sym, ap, ◌∙◌, arith, inl, inr}
-use Rattle.std.specs.Prelude.{Bool, true, false, ◌&&◌, ◌⊎◌}
+use Rattle.std.proofs.Common.{◌≡◌, ℕ, ◌+◌, ◌-◌, ◌<◌, ◌≤◌, List, ◌++◌, length, take, drop, get_or, refl, sym, ap, ◌∙◌, arith, inl, inr}
+use Rattle.std.specs.Prelude.{true, ◌&&◌}
 use Rattle.std.proofs.Math.ListN.{replicate}
-use Rattle.std.proofs.lemmas.List.{length-replicate, length-append, length-take-le, length-drop, take-append-le, drop-append-le, get_or_append_left, get_or-take, get_or-drop, ext_get_or, take_all, take_at}
+use Rattle.std.proofs.lemmas.List.{length-replicate, length-append, take-append-le, drop-append-le, get_or-take, get_or-drop, ext_get_or, take_at}
 use Rattle.std.proofs.lemmas.Bool.{and_parts, cases_lt}
 use Rattle.elf_types.specs.declared.records.Class.{Class}
 use Rattle.elf_types.specs.declared.records.Class.TheVariants.{C32, C64}
@@ -10,10 +10,10 @@ use Rattle.elf_types.specs.declared.records.Order.{Order}
 use Rattle.elf_types.specs.declared.records.Ehdr.{Ehdr}
 use Rattle.elf_types.specs.declared.records.Phdr.{Phdr}
 use Rattle.elf_types.specs.declared.records.Shdr.{Shdr}
-use Rattle.elf_xlate.specs.Fields.{place_in, field, fits, numbers_in, laid}
+use Rattle.elf_xlate.specs.Fields.{fits, numbers_in, laid}
 use Rattle.elf_xlate.specs.Headers.{ehdr_size, ehdr_fields, ehdr_from, ehdr_numbers, ehdr_of, ehdr_bytes, ehdr_fits, ident, HasNarrowCounts, IsEhdr, HoldsEhdr, phdr_size, phdr_fields, phdr_from, phdr_numbers, phdr_of, phdr_bytes, phdr_fits, IsPhdr, shdr_size, shdr_fields, shdr_from, shdr_numbers, shdr_of, shdr_bytes, shdr_fits, IsShdr}
 use Rattle.elf_xlate.proofs.Digits.{AreBytes}
-use Rattle.elf_xlate.proofs.Laid.{Suit, spare, read_laid, length_laid, laid_back, laid_alike, laid_spares, covered_below, cover, any_field, has_byte}
+use Rattle.elf_xlate.proofs.Laid.{Suit, spare, read_laid, length_laid, laid_back, laid_alike, laid_spares, covered_below, cover}
 use Rattle.elf_xlate.proofs.Tables.{ehdr_table, ehdr_covers, phdr_table, phdr_covers, shdr_table, shdr_covers}
 use Rattle.elf_xlate.proofs.EachItem.{record_read, record_written, length_record, fixed, native}
 

@@ -1,7 +1,6 @@
 -- Each record, read and written: both ways round, by its table.
-use Rattle.std.proofs.Common.{◌≡◌, ℕ, zero, suc, ◌+◌, ◌-◌, ◌*◌, ◌/◌, ◌%◌, ◌^◌, ◌<◌, ◌≤◌, List, [], ◌∷◌, ◌++◌, length, take, drop, map, slice_index, refl, sym, ap, ◌∙◌, arith}
-use Rattle.std.proofs.lemmas.Int.{ints}
-use Rattle.std.specs.Prelude.{Bool, true, false, nat_lt, ◌&&◌, ℤ, pos, negsuc, cond}
+use Rattle.std.proofs.Common.{◌≡◌, ℕ, ◌+◌, ◌-◌, ◌*◌, ◌/◌, ◌%◌, ◌^◌, ◌<◌, ◌≤◌, List, [], ◌∷◌, length, take, drop, slice_index, refl, sym, ap, ◌∙◌, arith}
+use Rattle.std.specs.Prelude.{true, nat_lt, ◌&&◌, ℤ}
 use Rattle.std.proofs.Math.ListN.{replicate}
 use Rattle.std.proofs.lemmas.List.{length-replicate, length-map, length-take-le, length-drop}
 use Rattle.std.proofs.lemmas.Bool.{and_parts, ltb-true, leb-true}
@@ -16,11 +15,11 @@ use Rattle.elf_types.specs.declared.records.Rel.{Rel}
 use Rattle.elf_types.specs.declared.records.Rela.{Rela}
 use Rattle.elf_types.specs.declared.records.Dyn.{Dyn}
 use Rattle.elf_xlate.specs.Numbers.{number_of, number_at, signed_of, unsigned_of}
-use Rattle.elf_xlate.specs.Fields.{Field, field, place_in, number_in, numbers_in, laid, record_bytes, fits, fits_signed, IsSigned}
+use Rattle.elf_xlate.specs.Fields.{Field, field, place_in, number_in, numbers_in, record_bytes, fits, fits_signed, IsSigned}
 use Rattle.elf_xlate.specs.Items.{item_size, half_fields, half_of, half_bytes, word_fields, word_of, word_bytes, addr_fields, addr_of, addr_bytes, sym_fields, sym_from, sym_numbers, sym_of, sym_bytes, sym_fits, IsSym, type_range, info_fits, signed_width, rel_fields, rel_from, rel_numbers, rel_of, rel_bytes, rel_fits, IsRel, rela_fields, rela_from, rela_numbers, rela_of, rela_bytes, rela_fits, IsRela, dyn_fields, dyn_from, dyn_numbers, dyn_of, dyn_bytes, dyn_fits, IsDyn}
 use Rattle.elf_xlate.proofs.Digits.{AreBytes, number_below, part_bytes}
 use Rattle.elf_xlate.proofs.Signed.{unsigned_signed, signed_unsigned, unsigned_below}
-use Rattle.elf_xlate.proofs.Laid.{IsTable, Suit, read_laid, laid_back, laid_is_record, length_laid, cover, all_fields, lies_in}
+use Rattle.elf_xlate.proofs.Laid.{IsTable, Suit, read_laid, laid_back, laid_is_record, length_laid, cover, lies_in}
 use Rattle.elf_xlate.proofs.Tables.{half_table, half_covers, word_table, word_covers, addr_table, addr_covers, sym_table, sym_covers, rel_table, rel_covers, rela_table, rela_covers, dyn_table, dyn_covers}
 
 -- ---- The two ways round of a table

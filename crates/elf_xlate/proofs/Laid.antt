@@ -1,14 +1,14 @@
 -- Records laid by their tables, and read by them.
-use Rattle.std.proofs.Common.{◌≡◌, ℕ, zero, suc, ◌+◌, ◌-◌, ◌^◌, ◌<◌, ◌≤◌, List, [], ◌∷◌, ◌++◌, length, take, drop, map, get_or, Bool, true, false, refl, sym, ap, ◌∙◌, arith, inl, inr}
+use Rattle.std.proofs.Common.{◌≡◌, ℕ, zero, suc, ◌+◌, ◌-◌, ◌^◌, ◌<◌, ◌≤◌, List, [], ◌∷◌, length, take, drop, get_or, Bool, true, false, refl, sym, ap, ◌∙◌, arith, inl, inr}
 use Rattle.std.specs.Prelude.{◌⊎◌, ◌&&◌, ◌||◌, not, nat_lt, nat_le}
-use Rattle.std.proofs.lemmas.List.{same_lists, length-replicate, length-take-le, length-drop, get_or-take, get_or-drop, ext_get_or}
+use Rattle.std.proofs.lemmas.List.{length-replicate, length-take-le, length-drop, get_or-take, get_or-drop, ext_get_or}
 use Rattle.std.proofs.Math.ListN.{replicate}
-use Rattle.std.proofs.lemmas.Bool.{cases_lt, cases_Bool, and_parts, or_cases, ltb-true, leb-true, lt-ltb, le-leb, or_parts, or_left, or_right, and_cases, not-true, leb-false, ltb-false}
+use Rattle.std.proofs.lemmas.Bool.{cases_lt, and_parts, or_cases, ltb-true, leb-true, or_parts, or_left, or_right, and_cases, not-true, leb-false, ltb-false}
 use Rattle.elf_types.specs.declared.records.Class.{Class}
 use Rattle.elf_types.specs.declared.records.Order.{Order}
 use Rattle.elf_xlate.specs.Numbers.{number_of, number_at, octets}
 use Rattle.elf_xlate.specs.Fields.{Field, place_in, number_in, numbers_in, written, written_in, laid, record_bytes}
-use Rattle.elf_xlate.proofs.Digits.{AreBytes, part_bytes, length_octets, number_of_octets, octets_number_of, number_below}
+use Rattle.elf_xlate.proofs.Digits.{AreBytes, part_bytes, length_octets, number_of_octets, octets_number_of}
 use Rattle.elf_xlate.proofs.Written.{length_written, written_same, written_before, written_after, written_again, written_inside, written_outside_low, written_outside_high}
 
 -- a field lies in that many bytes

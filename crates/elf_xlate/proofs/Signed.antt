@@ -1,6 +1,6 @@
 -- Signed numbers.
-use Rattle.std.proofs.Common.{◌≡◌, ℕ, suc, ◌-◌, ◌^◌, ◌<◌, ◌≤◌, ℤ, FitsSigned, to_z, of_z, refl, ap, sym, ◌∙◌, arith, inl, inr}
-use Rattle.std.specs.Prelude.{Bool, true, false, nat_lt, cond, pos, negsuc, ◌-ℤ◌}
+use Rattle.std.proofs.Common.{◌≡◌, ℕ, suc, ◌-◌, ◌^◌, ◌<◌, ℤ, FitsSigned, to_z, of_z, refl, arith, inl, inr}
+use Rattle.std.specs.Prelude.{true, pos, negsuc, ◌-ℤ◌}
 use Rattle.std.specs.Int.{Width}
 use Rattle.std.proofs.lemmas.Int.{to_z-of_z, ints}
 use Rattle.std.proofs.lemmas.Bool.{cases_lt, ltb-true, lt-ltb, le-ltb}

@@ -1,8 +1,8 @@
 -- The two laws of translation.
-use Rattle.std.proofs.Common.{◌≡◌, ℕ, ◌+◌, ◌*◌, ◌<◌, ◌^◌, List, [], ◌∷◌, length, get_or, refl, sym, ap, ◌∙◌, arith, inl, inr}
-use Rattle.std.specs.Prelude.{Option, Some, None, IfSome, Bool, true, false, ◌≢◌}
+use Rattle.std.proofs.Common.{◌≡◌, ℕ, ◌<◌, ◌^◌, List, [], ◌∷◌, length, get_or, refl, ap, arith}
+use Rattle.std.specs.Prelude.{Option, Some, None, IfSome, Bool, true, ◌≢◌}
 use Rattle.std.specs.Option.{option_map}
-use Rattle.std.specs.List.{All, AllByRecursion, flat_map}
+use Rattle.std.specs.List.{All, AllByRecursion}
 use Rattle.std.proofs.lemmas.List.{get_or_default}
 use Rattle.std.proofs.lemmas.List.Elements.{recursion_from_All}
 use Rattle.elf_types.specs.declared.records.Class.{Class}
@@ -18,7 +18,7 @@ use Rattle.elf_xlate.specs.declared.content.Items.{Items}
 use Rattle.elf_xlate.specs.declared.content.Items.TheVariants.{Empty, Bytes, Half, Word, Addr, Sym, Rel, Rela, Dyn}
 use Rattle.elf_xlate.specs.Fields.{fits}
 use Rattle.elf_xlate.specs.Items.{item_size, half_fields, half_of, half_bytes, word_fields, word_of, word_bytes, addr_fields, addr_of, addr_bytes, sym_fields, sym_numbers, sym_of, sym_bytes, sym_fits, IsSym, rel_fields, rel_numbers, rel_of, rel_bytes, rel_fits, IsRel, rela_fields, rela_numbers, rela_of, rela_bytes, rela_fits, IsRela, dyn_fields, dyn_numbers, dyn_of, dyn_bytes, dyn_fits, IsDyn}
-use Rattle.elf_xlate.specs.Translation.{decoded, encoded, listed, first_not, first_unfit, items_kind, AreItems, EncodesAsDecoded, DecodesAsEncoded}
+use Rattle.elf_xlate.specs.Translation.{decoded, encoded, listed, first_not, first_unfit, EncodesAsDecoded, DecodesAsEncoded}
 use Rattle.elf_xlate.proofs.Digits.{are_bytes}
 use Rattle.elf_xlate.proofs.Pieces.{each_passes}
 use Rattle.elf_xlate.proofs.BothWays.{written_all, listed_again}

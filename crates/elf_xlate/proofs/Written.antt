@@ -1,6 +1,6 @@
 -- Bytes with others written over them.
-use Rattle.std.proofs.Common.{◌≡◌, ℕ, zero, suc, ◌+◌, ◌-◌, ◌<◌, ◌≤◌, List, [], ◌∷◌, ◌++◌, length, take, drop, get_or, set, refl, sym, ap, ◌∙◌, arith, rules}
-use Rattle.std.proofs.lemmas.List.{same_lists, places, take-append-drop, set_split}
+use Rattle.std.proofs.Common.{◌≡◌, ℕ, suc, ◌+◌, ◌-◌, ◌<◌, ◌≤◌, List, ◌∷◌, ◌++◌, length, take, drop, get_or, set, ap, ◌∙◌, arith, rules}
+use Rattle.std.proofs.lemmas.List.{same_lists, places, set_split}
 use Rattle.elf_types.specs.declared.records.Order.{Order}
 use Rattle.elf_xlate.specs.Numbers.{octets}
 use Rattle.elf_xlate.proofs.Digits.{length_octets, octets_one}

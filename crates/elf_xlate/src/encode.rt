@@ -62,7 +62,7 @@ fn encode_items<T: Endian, const WIDE: bool>(items: &Items, out: &mut Octets) ->
 }
 
 // Appends the bytes of a list.
-fn encode_list<C: Codec<R>, R>(items: &[R], out: &mut Octets) -> bool
+fn encode_list<C: Codec<R>, R: Copy>(items: &[R], out: &mut Octets) -> bool
     ensures fits { IsTrue result → first_not C.fitting items.now ≡ None }
     ensures bytes { IsTrue result → out.new ≡ out.old ++ flat_map C.bytes_of items.now }
     ensures front { take (length out.old) out.new ≡ out.old }
@@ -75,18 +75,20 @@ fn encode_list<C: Codec<R>, R>(items: &[R], out: &mut Octets) -> bool
     encode_each::<C, R>(items, &zeros[..size], out)
 }
 
-// Appends the bytes of each item of a list.
-fn encode_each<C: Codec<R>, R>(items: &[R], zeros: &[u8], out: &mut Octets) -> bool
+// Appends the bytes of each item of a list. An item is read whole before anything is written, so that the
+// compiler, which can't tell that the two do not overlap, needn't keep the order of reads and writes.
+fn encode_each<C: Codec<R>, R: Copy>(items: &[R], zeros: &[u8], out: &mut Octets) -> bool
     requires { length zeros.now ≡ C.size }
     ensures fits { IsTrue result → first_not C.fitting items.now ≡ None }
     ensures bytes { IsTrue result → out.new ≡ out.old ++ flat_map C.bytes_of items.now }
     ensures front { take (length out.old) out.new ≡ out.old }
 {
     for item in items {
-        if !C::fits(item) {
+        let item = *item;
+        if !C::fits(&item) {
             return false;
         }
-        if let Err(_) = append_item::<C, R>(item, zeros, out) {
+        if let Err(_) = append_item::<C, R>(&item, zeros, out) {
             return false;
         }
     }
@@ -94,16 +96,17 @@ fn encode_each<C: Codec<R>, R>(items: &[R], zeros: &[u8], out: &mut Octets) -> b
 }
 
 // Appends the bytes of an item. They are written where they stay, over as many zeros: what is written to a
-// buffer in narrow pieces and copied from it in broad ones makes the processor wait.
+// buffer in narrow pieces and copied from it in broad ones makes the processor wait. The place is found from
+// the end, where the compiler sees that it is that of the zeros, and writes none.
 fn append_item<C: Codec<R>, R>(item: &R, zeros: &[u8], out: &mut Octets) -> Result<(), ElfError>
     requires size { length zeros.now ≡ C.size }
     requires fits { IsTrue (C.fitting item.now) }
     ensures ok { OnOk result (out.new ≡ out.old ++ C.bytes_of item.now) }
     ensures unchanged { OnErr result (out.new ≡ out.old) }
 {
-    let end = out.len() as usize;
     out.extend(zeros)?;
-    let (_, room) = out.as_mut_slice().split_at_mut(end);
+    let place = out.len() as usize - zeros.len();
+    let (_, room) = out.as_mut_slice().split_at_mut(place);
     C::encode(item, room);
     Ok(())
 }
