@@ -152,6 +152,17 @@ fn a_body_is_a_source_and_the_walk_goes_on(rt: HostRuntime) -> Result<(), Fail> 
 }
 
 #[test]
+fn each_member_has_its_body(rt: HostRuntime) -> Result<(), Fail> {
+    let archive = opened(rt.alloc(), library(rt.alloc())?, 0)?;
+    let (body, archive) = body_of(rt.alloc(), archive, 166)?;
+    let body = body.ok_or("no member")?;
+    assert!(rt; body.len() == 312 && body.as_slice().iter().all(|byte| *byte == 0));
+    let (body, _archive) = body_of(rt.alloc(), archive, 538)?;
+    assert!(rt; body.ok_or("no member")?.is_empty());
+    Ok(())
+}
+
+#[test]
 fn a_bad_header_ends_the_walk(rt: HostRuntime) -> Result<(), Fail> {
     // The place of a byte, what stands there instead, and the member that is bad by it.
     for (place, byte, at) in [(66, 0, 8), (56, b'x', 8), (125, b'z', 78)] {
