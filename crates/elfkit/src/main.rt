@@ -8,6 +8,8 @@ mod readelf;
 #[cfg(test)]
 mod tests;
 
+ghost use Rattle.std.specs.Prelude.{◌≡◌, ◌≤◌, ◌⊎◌, IfErr};
+
 use elf_outside::{RealFiles, RealSink};
 use program::run;
 use std::env;
@@ -23,7 +25,9 @@ const BAD_WORDS: u8 = 2;
 const NO_MEMORY: u8 = 5;
 
 /// The words after the program's name, or the status that ends the program.
-fn read_arguments(rt: &(impl Env + AllocGlobal)) -> Result<Args, u8> {
+fn read_arguments(rt: &(impl Env + AllocGlobal)) -> Result<Args, u8>
+    ensures { IfErr result (λ status. (status ≡ 2) ⊎ (status ≡ 5)) }
+{
     let all = match env::args(rt) {
         Ok(all) => all,
         Err(e) if e.kind() == ErrorKind::OutOfMemory => return Err(NO_MEMORY),
@@ -38,7 +42,10 @@ fn read_arguments(rt: &(impl Env + AllocGlobal)) -> Result<Args, u8> {
     Ok(words)
 }
 
-fn start(rt: &HostRuntime) -> u8 {
+/// The status of the program.
+fn start(rt: &HostRuntime) -> u8
+    ensures { result ≤ 5 }
+{
     let words = match read_arguments(rt) {
         Ok(words) => words,
         Err(status) => return status,

@@ -36,7 +36,8 @@ fn status_of(stop: Stop) -> u8
 }
 
 fn put_line(line: &mut Octets, text: &str) -> Result<(), ElfError>
-    ensures { OnOk result (line.new ≡ line.old ++ (text.now ++ codes "\n")) }
+    ensures ok { OnOk result (line.new ≡ line.old ++ (text.now ++ codes "\n")) }
+    ensures err { IfErr result (λ e. e ≡ ElfError.Memory) }
 {
     put_text(line, text)?;
     put_text(line, "\n")

@@ -1,6 +1,6 @@
 //! readelf: the parts of files, one file after another.
 
-ghost use Rattle.std.specs.Prelude.{◌≡◌, ◌++◌, ◌≤◌, ◌<◌, ◌^◌, ◌-◌, ◌||◌, false, length, nat_lt, OnOk, IfOk, IsTrue};
+ghost use Rattle.std.specs.Prelude.{◌≡◌, ◌++◌, ◌≤◌, ◌<◌, ◌^◌, ◌-◌, ◌||◌, false, length, nat_lt, OnOk, IfOk, IfErr, IsTrue};
 ghost use Rattle.elf_outside.specs.Names.{SameNames};
 ghost use Rattle.tool_text.specs.Pages.{Writes, WriteStops};
 ghost use Rattle.readelf_tool.specs.Front.{front_text};
@@ -19,7 +19,8 @@ use tool_text::{ReadelfParts, Stop, Text, turn_after};
 /// Appends the line `File: FILE` where there is more than one file.
 #[tactic(auto, unfolding(crate::specs::Program::file_title))]
 fn put_title(page: &mut Octets, many: bool, name: &str) -> Result<(), ElfError>
-    ensures { OnOk result (page.new ≡ page.old ++ file_title many name.now) }
+    ensures ok { OnOk result (page.new ≡ page.old ++ file_title many name.now) }
+    ensures err { IfErr result (λ e. e ≡ ElfError.Memory) }
 {
     if !many {
         return Ok(());

@@ -1,5 +1,5 @@
 -- One more line.
-use Rattle.std.proofs.Common.{◌≡◌, ◌+◌, ◌<◌, ◌≤◌, ◌++◌, ℕ, List, [], ◌∷◌, length, drop, get_or, sym, ap, subst, Result, Ok, Err, ◌∙◌}
+use Rattle.std.proofs.Common.{◌≡◌, ◌+◌, ◌<◌, ◌≤◌, ◌++◌, ℕ, List, [], length, drop, get_or, sym, ap, subst, Ok, Err, ◌∙◌}
 use Rattle.std.proofs.lemmas.List.{at_drop_more, at_drop_all}
 use Rattle.elf_types.specs.declared.records.Phdr.{Phdr}
 use Rattle.elf_outside.specs.declared.sinks.Sink.{Ghosts}
