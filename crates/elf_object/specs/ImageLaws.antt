@@ -87,7 +87,7 @@ file_bytes_from s c h = by_test (s == 0) (occupies_file c.header) h
     by_test false b e = (refl, e)
 
 -- a header that occupies the file is not of type SHT_NULL
-not_null : (h : Shdr) → occupies_file h ≡ true → is_null h ≡ false
+pub not_null : (h : Shdr) → occupies_file h ≡ true → is_null h ≡ false
 not_null h filled = by_test (h.stype == 0) (h.stype == 8) filled
   where
     by_test : (a b : Bool) → not (a || b) ≡ true → a ≡ false

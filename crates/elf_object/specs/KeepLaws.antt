@@ -18,7 +18,8 @@ use Rattle.elf_xlate.specs.declared.content.Items.{Items}
 use Rattle.elf_xlate.specs.Headers.{IsEhdr, IsPhdr, IsShdr, ehdr_fits, shdr_fits}
 use Rattle.elf_xlate.specs.Translation.{AreItems}
 use Rattle.elf_object.specs.Words.{refused_if}
-use Rattle.elf_object.specs.Object.{Object, Section, Piece, section_at, piece_at, new_section, home_piece, no_shdr, no_phdr, no_home}
+use Rattle.elf_ident.specs.Front.{zero_shdr}
+use Rattle.elf_object.specs.Object.{Object, Section, Piece, section_at, piece_at, new_section, home_piece, no_phdr, no_home}
 use Rattle.elf_object.specs.Steps.{new_number, with_section, with_piece_at, with_ehdr, stored_ehdr, with_phdrs, with_phdr, with_new_phdrs, with_shdr, with_new_section, with_null_section, with_new_piece, own_piece, with_own, with_mark, with_layout, with_flags, is_whole, with_fill}
 use Rattle.elf_object.specs.Calls.{step, update_ehdr, update_ehdr_refusal, update_phdr, update_phdr_refusal, newphdr, newphdr_refusal, phdrs_mut, update_shdr, update_shdr_refusal, newscn, newscn_refusal, newnull, newdata_aligned, newdata_refusal, unfit_items, flag_refusal, set_fill, replace, replace_refusal, flag, lend, is_piece_align}
 use Rattle.elf_object.specs.Answers.{lend_refusal, items_at, piece_count, flags_of, has_dirty, has_layout}
@@ -149,8 +150,9 @@ section_kept o s c ok is = record {
   fill = ok.fill;
 }
 
-no_shdr_is : IsShdr no_shdr
-no_shdr_is = record {
+pub zero_shdr_is : IsShdr zero_shdr
+unfolding zero_shdr
+zero_shdr_is = record {
   name = lit< tt;
   stype = lit< tt;
   flags = lit< tt;
@@ -163,10 +165,10 @@ no_shdr_is = record {
   entsize = lit< tt;
 }
 
-no_shdr_fits : (class : Class) → IsTrue (shdr_fits class no_shdr)
-unfolding shdr_fits
-no_shdr_fits C32 = refl
-no_shdr_fits C64 = refl
+zero_shdr_fits : (class : Class) → IsTrue (shdr_fits class zero_shdr)
+unfolding shdr_fits zero_shdr
+zero_shdr_fits C32 = refl
+zero_shdr_fits C64 = refl
 
 no_home_is : IsHome no_home []
 no_home_is = record {
@@ -180,8 +182,8 @@ no_home_is = record {
 
 pub new_section_is : (class : Class) → IsSection class new_section
 new_section_is class = record {
-  header = no_shdr_is;
-  fitting = no_shdr_fits class;
+  header = zero_shdr_is;
+  fitting = zero_shdr_fits class;
   home = no_home_is;
   pieces = All-nil IsPiece;
   others = tt;

@@ -8,6 +8,7 @@ use Rattle.elf_types.specs.declared.records.Ehdr.{Ehdr}
 use Rattle.elf_types.specs.declared.records.Phdr.{Phdr}
 use Rattle.elf_types.specs.declared.records.Shdr.{Shdr}
 use Rattle.elf_xlate.specs.declared.content.Items.{Items}
+use Rattle.elf_ident.specs.Front.{zero_shdr}
 use Rattle.elf_object.specs.Blocks.{Block}
 
 -- a section's home: the extent that its header, as opened, gives it in the image, the kind of its items,
@@ -56,20 +57,6 @@ pub record Object : Type 0 where
 
 -- ---- What stands at an index
 
-abbrev pub no_shdr : Shdr
-no_shdr = record {
-  name = 0;
-  stype = 0;
-  flags = 0;
-  addr = 0;
-  offset = 0;
-  size = 0;
-  link = 0;
-  info = 0;
-  addralign = 0;
-  entsize = 0;
-}
-
 abbrev pub no_phdr : Phdr
 no_phdr = record { ptype = 0; flags = 0; offset = 0; vaddr = 0; paddr = 0; filesz = 0; memsz = 0; align = 0 }
 
@@ -78,7 +65,7 @@ no_home = record { at = 0; len = 0; kind = kinds.Empty; out = false }
 
 -- a section as elf_newscn makes it
 abbrev pub new_section : Section
-new_section = record { header = no_shdr; home = no_home; raw = []; pieces = []; marked = true }
+new_section = record { header = zero_shdr; home = no_home; raw = []; pieces = []; marked = true }
 
 abbrev pub home_piece : Piece
 home_piece = record { own = None; align = 1; marked = false }

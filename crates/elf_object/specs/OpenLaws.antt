@@ -25,7 +25,7 @@ use Rattle.elf_ident.specs.Front.{unless, and_then, ident_in, header_at, header_
 use Rattle.elf_object.specs.Object.{Object, home_piece, occupies_file}
 use Rattle.elf_object.specs.Open.{extent_of, home_of, home_bytes, opened_section, begun, begun_or_refused, opened, created_over, new_ehdr}
 use Rattle.elf_object.specs.Valid.{AreBytes, IsHome, IsPiece, IsSection, IsObject}
-use Rattle.elf_object.specs.KeepLaws.{home_piece_is}
+use Rattle.elf_object.specs.KeepLaws.{home_piece_is, zero_shdr_is}
 use Rattle.elf_object.specs.RangeLaws.{no_field, native_range, field_range, number_in_below, items_range}
 use Rattle.elf_object.specs.PlacedLaws.{ehdr_fits_all, shdr_fits_all}
 
@@ -256,21 +256,6 @@ front_known image f h =
     subst (IsFrontOf image) same (head_known image whole.0 whole.1)
 
 -- ---- The object of a front
-
-zero_shdr_is : IsShdr zero_shdr
-unfolding zero_shdr
-zero_shdr_is = record {
-  name = lit< tt;
-  stype = lit< tt;
-  flags = lit< tt;
-  addr = lit< tt;
-  offset = lit< tt;
-  size = lit< tt;
-  link = lit< tt;
-  info = lit< tt;
-  addralign = lit< tt;
-  entsize = lit< tt;
-}
 
 first_is : (h : Ehdr) (image : List ℕ) → AreBytes image → IsShdr (first_section h image)
 unfolding first_section

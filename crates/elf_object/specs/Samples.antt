@@ -10,7 +10,8 @@ use Rattle.elf_types.specs.declared.errors.ElfError.{ElfError}
 use Rattle.elf_xlate.specs.declared.content.Items.{Items}
 use Rattle.elf_xlate.specs.Numbers.{octets}
 use Rattle.elf_xlate.specs.Fields.{written}
-use Rattle.elf_object.specs.Object.{Object, Section, new_section, no_shdr}
+use Rattle.elf_ident.specs.Front.{zero_shdr}
+use Rattle.elf_object.specs.Object.{Object, Section, new_section}
 use Rattle.elf_object.specs.Open.{opened, created}
 use Rattle.elf_object.specs.Answers.{bytes_of, syms_of}
 use Rattle.elf_types.specs.declared.records.Part.TheVariants as part
@@ -171,7 +172,7 @@ indexed = object_in
     (with_number 68 4 7 (with_number 102 2 0xffff (with_number 188 4 18 (with_number 216 8 8 (with_number 224 4 2 small64)))))
 
 abbrev pub filled_section : Section
-filled_section = record new_section { header = type_set 1 no_shdr }
+filled_section = record new_section { header = type_set 1 zero_shdr }
 
 -- 16 added to each symbol's value
 abbrev pub shifted : Object

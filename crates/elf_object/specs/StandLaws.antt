@@ -22,7 +22,7 @@ use Rattle.elf_object.specs.Derived.{where_any, derived_header, written_header, 
 use Rattle.elf_object.specs.Layout.{header_part, segments_part, section_part, table_part, section_numbers, parts_of, places_of, section_place, size_in_file, placed_header, placed_shdr, placed_section, placed_by, placed}
 use Rattle.elf_object.specs.Image.{front_blocks, section_block, part_blocks, uncovered_byte, image_length, image}
 use Rattle.elf_object.specs.Refusal.{refusal, placing_refusal}
-use Rattle.elf_object.specs.ImageLaws.{section_at-placed, joined-none, file_bytes_from, image-dirty, placed-dirty}
+use Rattle.elf_object.specs.ImageLaws.{section_at-placed, joined-none, not_null, file_bytes_from, image-dirty, placed-dirty}
 use Rattle.elf_object.specs.PlaceLaws.{Pairs, ends_within, standing_apart}
 use Rattle.elf_object.specs.PlacedLaws.{update_passes}
 use Rattle.elf_object.specs.LengthLaws.{length-ehdr_bytes, length-segments_bytes, length-table_bytes}
@@ -253,13 +253,6 @@ joined-placed places o s = ⊎_elim
     (λ h. let count = section_count-placed places o in
     ap (joined_of o.header.class o.header.order o.fill s) (section_at-past (placed_by places o) s (omega arith) ∙ sym (section_at-past o s h)))
     (cases_lt s (length o.sections))
-
-not_null : (h : Shdr) → occupies_file h ≡ true → is_null h ≡ false
-not_null h filled = by_test (h.stype == 0) (h.stype == 8) filled
-  where
-    by_test : (a b : Bool) → not (a || b) ≡ true → a ≡ false
-    by_test true b e = cc
-    by_test false b e = refl
 
 placed_offset : (first empty : Bool) (numbered h : Shdr) (offset n : ℕ) → first ≡ false → empty ≡ false → (if first then numbered else (if empty then h else (record h { offset = offset; size = n }))).offset ≡ offset
 placed_offset false false numbered h offset n a b = refl

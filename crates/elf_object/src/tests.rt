@@ -9,10 +9,10 @@ ghost use Rattle.elf_types.specs.declared.records.Kind.TheVariants as kind;
 ghost use Rattle.elf_types.specs.declared.records.Part.TheVariants as part;
 ghost use Rattle.elf_types.specs.declared.records.Class.TheVariants.{C64};
 ghost use Rattle.elf_types.specs.declared.records.Order.TheVariants.{Least};
-ghost use Rattle.elf_ident.specs.Front.{first_section, header_at, true_counts, true_phnum, true_shnum, true_shstrndx};
+ghost use Rattle.elf_ident.specs.Front.{first_section, header_at, true_counts, true_phnum, true_shnum, true_shstrndx, zero_shdr};
 ghost use Rattle.elf_xlate.specs.Headers.{ehdr_bytes, shdr_bytes};
 ghost use Rattle.elf_xlate.specs.declared.content.Items.TheVariants.{Bytes, Sym};
-ghost use Rattle.elf_object.specs.Object.{header_of, no_shdr, section_at};
+ghost use Rattle.elf_object.specs.Object.{header_of, section_at};
 ghost use Rattle.elf_object.specs.Open.{opened};
 ghost use Rattle.elf_object.specs.Answers.{count_at, kind_at};
 ghost use Rattle.elf_object.specs.Blocks.{is_covered};
@@ -57,20 +57,20 @@ fn extended_numbers_are_written()
 fn extended_numbers_have_their_bytes()
     ensures below { take 2 (drop 60 (ehdr_bytes (written_header (record (header_of symbols64) { shnum = 0xfeff })) symbols64.pad)) ≡ 0xff ∷ 0xfe ∷ [] }
     ensures from { take 2 (drop 60 (ehdr_bytes (written_header (record (header_of symbols64) { shnum = 0xff00 })) symbols64.pad)) ≡ 0 ∷ 0 ∷ [] }
-    ensures first_below { take 8 (drop 32 (shdr_bytes C64 Least (numbered_shdr (record (header_of symbols64) { shnum = 0xfeff }) no_shdr))) ≡ replicate 8 0 }
-    ensures first_from { take 8 (drop 32 (shdr_bytes C64 Least (numbered_shdr (record (header_of symbols64) { shnum = 0xff00 }) no_shdr))) ≡ 0 ∷ 0xff ∷ replicate 6 0 }
+    ensures first_below { take 8 (drop 32 (shdr_bytes C64 Least (numbered_shdr (record (header_of symbols64) { shnum = 0xfeff }) zero_shdr))) ≡ replicate 8 0 }
+    ensures first_from { take 8 (drop 32 (shdr_bytes C64 Least (numbered_shdr (record (header_of symbols64) { shnum = 0xff00 }) zero_shdr))) ≡ 0 ∷ 0xff ∷ replicate 6 0 }
 {}
 
 /// What is written is read back as it was, on both sides of each border.
 fn extended_numbers_are_read_back()
-    ensures sections { true_shnum (written_header (record (header_of symbols64) { shnum = 0xff00 })) (numbered_shdr (record (header_of symbols64) { shnum = 0xff00 }) no_shdr) ≡ 0xff00 }
-    ensures sections_below { true_shnum (written_header (record (header_of symbols64) { shnum = 0xfeff })) (numbered_shdr (record (header_of symbols64) { shnum = 0xfeff }) no_shdr) ≡ 0xfeff }
-    ensures index { true_shstrndx (written_header (record (header_of symbols64) { shstrndx = 0xff00 })) (numbered_shdr (record (header_of symbols64) { shstrndx = 0xff00 }) no_shdr) ≡ 0xff00 }
-    ensures segments { true_phnum (written_header (record (header_of symbols64) { phnum = 0xffff })) (numbered_shdr (record (header_of symbols64) { phnum = 0xffff }) no_shdr) ≡ 0xffff }
+    ensures sections { true_shnum (written_header (record (header_of symbols64) { shnum = 0xff00 })) (numbered_shdr (record (header_of symbols64) { shnum = 0xff00 }) zero_shdr) ≡ 0xff00 }
+    ensures sections_below { true_shnum (written_header (record (header_of symbols64) { shnum = 0xfeff })) (numbered_shdr (record (header_of symbols64) { shnum = 0xfeff }) zero_shdr) ≡ 0xfeff }
+    ensures index { true_shstrndx (written_header (record (header_of symbols64) { shstrndx = 0xff00 })) (numbered_shdr (record (header_of symbols64) { shstrndx = 0xff00 }) zero_shdr) ≡ 0xff00 }
+    ensures segments { true_phnum (written_header (record (header_of symbols64) { phnum = 0xffff })) (numbered_shdr (record (header_of symbols64) { phnum = 0xffff }) zero_shdr) ≡ 0xffff }
     ensures segments_from { (written_header (record (header_of symbols64) { phnum = 0x10000 })).phnum ≡ 0xffff }
-    ensures segments_first { (numbered_shdr (record (header_of symbols64) { phnum = 0xffff }) no_shdr).info ≡ 0xffff }
+    ensures segments_first { (numbered_shdr (record (header_of symbols64) { phnum = 0xffff }) zero_shdr).info ≡ 0xffff }
     ensures segments_below { (written_header (record (header_of symbols64) { phnum = 0xfffe })).phnum ≡ 0xfffe }
-    ensures segments_first_below { (numbered_shdr (record (header_of symbols64) { phnum = 0xfffe }) no_shdr).info ≡ 0 }
+    ensures segments_first_below { (numbered_shdr (record (header_of symbols64) { phnum = 0xfffe }) zero_shdr).info ≡ 0 }
 {}
 
 /// The numbers in the bytes of section 0 are the true ones; then the table does not lie in the image.
