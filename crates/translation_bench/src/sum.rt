@@ -1,15 +1,24 @@
 //! One number of all that came out, which depends on each value and its place.
 
+ghost use Rattle.std.specs.Prelude.{◌≡◌};
+ghost use Rattle.translation_bench.specs.Sums as sums;
+
 use elf_types::Sym;
 use elf_xlate::Items;
 
 /// The sum with one number more.
-pub fn with_number(sum: u64, n: u64) -> u64 {
+#[tactic(auto, unfolding(crate::specs::Sums::with_number))]
+pub fn with_number(sum: u64, n: u64) -> u64
+    ensures { result ≡ sums.with_number sum n }
+{
     sum.wrapping_mul(31).wrapping_add(n)
 }
 
 /// The sum with the fields of a symbol more.
-pub fn with_symbol(sum: u64, s: &Sym) -> u64 {
+#[tactic(auto, unfolding(crate::specs::Sums::with_all, crate::specs::Sums::symbol_numbers))]
+pub fn with_symbol(sum: u64, s: &Sym) -> u64
+    ensures { result ≡ sums.with_symbol sum s.now }
+{
     let sum = with_number(sum, u64::from(s.name));
     let sum = with_number(sum, u64::from(s.info));
     let sum = with_number(sum, u64::from(s.other));
@@ -19,16 +28,36 @@ pub fn with_symbol(sum: u64, s: &Sym) -> u64 {
 }
 
 /// The sum of bytes.
-pub fn sum_of_bytes(bytes: &[u8]) -> u64 {
-    bytes
-        .iter()
-        .fold(0, |sum, b| with_number(sum, u64::from(*b)))
+#[tactic(auto, using(crate::proofs::Sums::with_none, crate::proofs::Sums::with_next))]
+pub fn sum_of_bytes(bytes: &[u8]) -> u64
+    ensures { result ≡ sums.with_all 0 bytes.now }
+{
+    let mut sum = 0;
+    for byte in bytes {
+        sum = with_number(sum, u64::from(*byte));
+    }
+    sum
 }
 
 /// The sum of symbols, 0 of other items.
-pub fn sum_of_symbols(items: &Items) -> u64 {
+#[tactic(auto, unfolding(crate::specs::Sums::sum_of_symbols))]
+pub fn sum_of_symbols(items: &Items) -> u64
+    ensures { result ≡ sums.sum_of_symbols items.now }
+{
     match items {
-        Items::Sym(symbols) => symbols.as_slice().iter().fold(0, with_symbol),
+        Items::Sym(symbols) => sum_of_list(symbols.as_slice()),
         _ => 0,
     }
+}
+
+// The sum of a list of symbols.
+#[tactic(auto, using(crate::proofs::Sums::with_no_symbol, crate::proofs::Sums::with_next_symbol))]
+fn sum_of_list(symbols: &[Sym]) -> u64
+    ensures { result ≡ sums.with_symbols 0 symbols.now }
+{
+    let mut sum = 0;
+    for symbol in symbols {
+        sum = with_symbol(sum, symbol);
+    }
+    sum
 }

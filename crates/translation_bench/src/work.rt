@@ -1,5 +1,8 @@
 //! The words of the command line.
 
+ghost use Rattle.std.specs.Prelude.{◌≡◌};
+ghost use Rattle.translation_bench.specs.Words.{way_of, class_of, order_of};
+
 use elf_types::{Class, Order};
 use std::env::Args;
 
@@ -50,7 +53,11 @@ pub fn read_work(mut words: Args) -> Option<Work> {
     })
 }
 
-fn read_way(word: &str) -> Option<Way> {
+// The way that a word names.
+#[tactic(auto, unfolding(crate::specs::Words::way_of))]
+fn read_way(word: &str) -> Option<Way>
+    ensures { result ≡ way_of word.now }
+{
     match word {
         "decode" => Some(Way::Decode),
         "encode" => Some(Way::Encode),
@@ -58,7 +65,11 @@ fn read_way(word: &str) -> Option<Way> {
     }
 }
 
-fn read_class(word: &str) -> Option<Class> {
+// The class that a word names.
+#[tactic(auto, unfolding(crate::specs::Words::class_of))]
+fn read_class(word: &str) -> Option<Class>
+    ensures { result ≡ class_of word.now }
+{
     match word {
         "32" => Some(Class::C32),
         "64" => Some(Class::C64),
@@ -66,7 +77,11 @@ fn read_class(word: &str) -> Option<Class> {
     }
 }
 
-fn read_order(word: &str) -> Option<Order> {
+// The byte order that a word names.
+#[tactic(auto, unfolding(crate::specs::Words::order_of))]
+fn read_order(word: &str) -> Option<Order>
+    ensures { result ≡ order_of word.now }
+{
     match word {
         "little" => Some(Order::Least),
         "big" => Some(Order::Greatest),

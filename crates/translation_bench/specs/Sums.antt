@@ -1,0 +1,32 @@
+-- The one number that is printed: a sum in which each number counts with its place.
+use Rattle.std.specs.Prelude.{ℕ, ◌+◌, ◌*◌, ◌%◌, ◌^◌, List, [], ◌∷◌}
+use Rattle.std.specs.List.{flat_map}
+use Rattle.elf_types.specs.declared.records.Sym.{Sym}
+use Rattle.elf_xlate.specs.declared.content.Items.{Items}
+use Rattle.elf_xlate.specs.declared.content.Items.TheVariants as items
+
+-- a sum with one number more
+unfoldable pub with_number : ℕ → ℕ → ℕ
+with_number sum n = (sum * 31 % 2 ^ 64 + n) % 2 ^ 64
+
+-- a sum with all numbers of a list more, one after the other
+unfoldable pub with_all : ℕ → List ℕ → ℕ
+with_all sum [] = sum
+with_all sum (n ∷ numbers) = with_all (with_number sum n) numbers
+
+-- the numbers of a symbol
+unfoldable pub symbol_numbers : Sym → List ℕ
+symbol_numbers s = s.name ∷ s.info ∷ s.other ∷ s.shndx ∷ s.value ∷ s.size ∷ []
+
+-- a sum with a symbol more
+abbrev pub with_symbol : ℕ → Sym → ℕ
+with_symbol sum s = with_all sum (symbol_numbers s)
+
+-- a sum with all symbols of a list more
+abbrev pub with_symbols : ℕ → List Sym → ℕ
+with_symbols sum symbols = with_all sum (flat_map symbol_numbers symbols)
+
+-- the sum of symbols, 0 of other items
+unfoldable pub sum_of_symbols : Items → ℕ
+sum_of_symbols (items.Sym symbols) = with_symbols 0 symbols
+sum_of_symbols _ = 0
