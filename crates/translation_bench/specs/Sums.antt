@@ -1,5 +1,5 @@
 -- The one number that is printed: a sum in which each number counts with its place.
-use Rattle.std.specs.Prelude.{ℕ, ◌+◌, ◌*◌, ◌%◌, ◌^◌, List, [], ◌∷◌}
+use Rattle.std.specs.Prelude.{ℕ, ◌+◌, ◌*◌, ◌%◌, ◌^◌, List, [], ◌∷◌, take, Option, Some}
 use Rattle.std.specs.List.{flat_map}
 use Rattle.elf_types.specs.declared.records.Sym.{Sym}
 use Rattle.elf_xlate.specs.declared.content.Items.{Items}
@@ -30,3 +30,16 @@ with_symbols sum symbols = with_all sum (flat_map symbol_numbers symbols)
 unfoldable pub sum_of_symbols : Items → ℕ
 sum_of_symbols (items.Sym symbols) = with_symbols 0 symbols
 sum_of_symbols _ = 0
+
+-- the symbols among items that may be there
+unfoldable pub symbols_in : Option Items → List Sym
+symbols_in (Some (items.Sym symbols)) = symbols
+symbols_in _ = []
+
+-- the sum after rounds each of which adds the symbol of its place, where there is one
+unfoldable pub decode_sum : ℕ → ℕ → List Sym → ℕ
+decode_sum first rounds symbols = with_symbols first (take rounds symbols)
+
+-- the sum of bytes, and after rounds each of which adds the byte of its place, where there is one
+unfoldable pub encode_sum : ℕ → List ℕ → ℕ
+encode_sum rounds bytes = with_all (with_all 0 bytes) (take rounds bytes)

@@ -1,5 +1,10 @@
 //! The rounds.
 
+ghost use Rattle.std.specs.Prelude.{◌≡◌, take, drop, Some, IfSome};
+ghost use Rattle.elf_types.specs.declared.records.Kind.TheVariants as kinds;
+ghost use Rattle.elf_xlate.specs.Translation.{decoded, encoded};
+ghost use Rattle.translation_bench.specs.Sums.{with_all, with_symbols, symbols_in, decode_sum, encode_sum};
+
 use crate::input::made_bytes;
 use crate::sum::{sum_of_bytes, sum_of_symbols, with_number, with_symbol};
 use crate::work::{Way, Work};
@@ -19,29 +24,56 @@ pub fn total(alloc: Global, work: &Work) -> Option<u64> {
     }
 }
 
-fn decode_rounds(alloc: Global, work: &Work, bytes: &[u8], first: u64) -> Option<u64> {
+// The sum after all rounds of decoding.
+#[tactic(auto, unfolding(crate::specs::Sums::decode_sum), using(crate::proofs::Sums::with_no_symbol, crate::proofs::Places::decoded_round))]
+fn decode_rounds(alloc: Global, work: &Work, bytes: &[u8], first: u64) -> Option<u64>
+    ensures { IfSome result (λ sum. sum ≡ decode_sum first work.now.rounds (symbols_in (decoded kinds.Sym work.now.class work.now.order bytes.now))) }
+{
     let mut sum = first;
     for round in 0..work.rounds {
         let items = to_memory(alloc, Kind::Sym, work.class, work.order, bytes).ok()?;
-        if let Items::Sym(symbols) = &items
-            && let Some(symbol) = symbols.get(u64::from(round))
-        {
-            sum = with_symbol(sum, &symbol);
-        }
+        sum = with_symbol_at(sum, &items, u64::from(round));
     }
     Some(sum)
 }
 
-fn encode_rounds(alloc: Global, work: &Work, items: &Items) -> Option<u64> {
+// The sum with the symbol at a place more, where there is one.
+#[tactic(auto, unfolding(crate::specs::Sums::symbols_in), using(crate::proofs::Places::symbol_there, crate::proofs::Places::symbol_past, crate::proofs::Sums::with_no_symbol))]
+fn with_symbol_at(sum: u64, items: &Items, place: u64) -> u64
+    ensures { result ≡ with_symbols sum (take 1 (drop place (symbols_in (Some items.now)))) }
+{
+    match items {
+        Items::Sym(symbols) => match symbols.get(place) {
+            Some(symbol) => with_symbol(sum, &symbol),
+            None => sum,
+        },
+        _ => sum,
+    }
+}
+
+// The sum of what encoding makes, and after all rounds of it.
+#[tactic(auto, unfolding(crate::specs::Sums::encode_sum), using(crate::proofs::Sums::with_none, crate::proofs::Places::encoded_round))]
+fn encode_rounds(alloc: Global, work: &Work, items: &Items) -> Option<u64>
+    ensures { IfSome result (λ sum. sum ≡ encode_sum work.now.rounds (encoded work.now.class work.now.order items.now)) }
+{
     let mut out = Octets::new(alloc);
     to_file(items, work.class, work.order, &mut out).ok()?;
     let mut sum = sum_of_bytes(out.as_slice());
     for round in 0..work.rounds {
         let mut out = Octets::new(alloc);
         to_file(items, work.class, work.order, &mut out).ok()?;
-        if let Some(byte) = out.get(u64::from(round)) {
-            sum = with_number(sum, u64::from(byte));
-        }
+        sum = with_byte_at(sum, &out, u64::from(round));
     }
     Some(sum)
+}
+
+// The sum with the byte at a place more, where there is one.
+#[tactic(auto, using(crate::proofs::Places::byte_there, crate::proofs::Places::byte_past))]
+fn with_byte_at(sum: u64, bytes: &Octets, place: u64) -> u64
+    ensures { result ≡ with_all sum (take 1 (drop place bytes.now)) }
+{
+    match bytes.get(place) {
+        Some(byte) => with_number(sum, u64::from(byte)),
+        None => sum,
+    }
 }
