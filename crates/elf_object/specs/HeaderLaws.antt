@@ -1,5 +1,5 @@
 -- The identification and the header of an image in which they stand are what was written.
-use Rattle.std.proofs.Common.{◌≡◌, ℕ, suc, ◌+◌, ◌-◌, ◌≤◌, Bool, false, List, [], ◌∷◌, ◌++◌, length, take, drop, Result, Ok, refl, sym, ap, ◌∙◌, arith, lit≤}
+use Rattle.std.proofs.Common.{◌≡◌, ℕ, suc, ◌+◌, ◌-◌, ◌≤◌, Bool, false, List, [], ◌∷◌, ◌++◌, length, take, drop, Result, Ok, refl, sym, ap, ◌∙◌, arith}
 use Rattle.std.specs.Prelude.{IsTrue, nat_lt}
 use Rattle.std.proofs.lemmas.Bool.{le-ltb}
 use Rattle.std.proofs.lemmas.List.{length-drop, take-append-drop, take-take, drop-take}
@@ -17,6 +17,7 @@ use Rattle.elf_object.specs.Object.{Object}
 use Rattle.elf_object.specs.Derived.{written_header}
 use Rattle.elf_object.specs.OpenLaws.{AllPass}
 use Rattle.elf_object.specs.ReopenLaws.{ReadsBack, StandsIn}
+use Rattle.elf_object.specs.LengthLaws.{size_long}
 
 pub unless_pass : {T : Type 0} (rows : List (Bool × ElfError)) (follows : Result T ElfError) → AllPass rows → unless rows follows ≡ follows
 unless_pass [] follows all = refl
@@ -44,10 +45,6 @@ ident_found image class order pad long start =
     ap ident_in split ∙ ident_read class order (drop 7 image) (omega arith)
 
 -- ---- The header
-
-size_long : (class : Class) → 16 ≤ ehdr_size class
-size_long C32 = lit≤ tt
-size_long C64 = lit≤ tt
 
 pub written_kept : (h : Ehdr) → ((written_header h).class ≡ h.class) × ((written_header h).order ≡ h.order)
 unfolding written_header

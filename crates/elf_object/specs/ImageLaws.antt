@@ -19,6 +19,7 @@ use Rattle.elf_object.specs.Derived.{numbered_shdr}
 use Rattle.elf_object.specs.Image.{image, image_length, uncovered_byte, part_blocks}
 use Rattle.elf_object.specs.Calls.{Call, step, after_answer}
 use Rattle.elf_object.specs.PlaceLaws.{AreInOrder, IsBehind, in_order, behind_apart}
+use Rattle.elf_object.specs.Settled.{settle}
 
 -- ---- A refused call
 
@@ -39,6 +40,10 @@ image-clean o h = rw h refl
 pub placed-clean : (o : Object) → is_dirty o ≡ false → placed o ≡ o
 unfolding placed
 placed-clean o h = rw h refl
+
+pub settle-clean : (o : Object) → is_dirty o ≡ false → settle o ≡ o
+unfolding settle
+settle-clean o h = rw h refl
 
 pub image-dirty : (o : Object) → is_dirty o ≡ true → image o ≡ spread (image_length o) (uncovered_byte o) (part_blocks (placed o))
 unfolding image

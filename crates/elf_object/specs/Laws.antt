@@ -38,6 +38,7 @@ use Rattle.elf_object.specs.Valid.{AreBytes, IsObject, IsTied, KeepsObject, Keep
 pub record CleanStays : Type 0 where
   pub same_image : (o : Object) → is_dirty o ≡ false → image o ≡ o.base
   pub same_object : (o : Object) → is_dirty o ≡ false → placed o ≡ o
+  pub same_settled : (o : Object) → is_dirty o ≡ false → settle o ≡ o
 
 -- a refused call leaves the object
 abbrev pub RefusedStays : Type 0 → Type 0

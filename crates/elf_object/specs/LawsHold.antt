@@ -3,7 +3,7 @@ use Rattle.std.proofs.Common.{ap, ◌∙◌}
 use Rattle.elf_object.specs.Object.{Object, section_at}
 use Rattle.elf_object.specs.Layout.{places_of}
 use Rattle.elf_object.specs.Laws.{PartsStand, BeginningsAre, CleanStays, EveryStepKeeps, PartsDoNotMeet, RefusedStays, SizesAreLengths}
-use Rattle.elf_object.specs.ImageLaws.{step-refused, image-clean, placed-clean, placed-dirty, length-image, length-joined, size-placed, parts_apart}
+use Rattle.elf_object.specs.ImageLaws.{step-refused, image-clean, placed-clean, settle-clean, placed-dirty, length-image, length-joined, size-placed, parts_apart}
 use Rattle.elf_object.specs.OpenLaws.{created_is, opened_is}
 use Rattle.elf_object.specs.StandLaws.{part_in_image}
 use Rattle.elf_object.specs.KeepLaws as keep
@@ -11,7 +11,7 @@ use Rattle.elf_object.specs.KeepItemLaws as keep_items
 use Rattle.elf_object.specs.PlacedLaws as placed_laws
 
 pub clean_stays : CleanStays
-clean_stays = record { same_image = image-clean; same_object = placed-clean }
+clean_stays = record { same_image = image-clean; same_object = placed-clean; same_settled = settle-clean }
 
 pub refused_stays : (A : Type 0) → RefusedStays A
 refused_stays A c o h = step-refused c o h

@@ -72,7 +72,7 @@ unfolding ehdr_fields
 fields_lie C32 = refl
 fields_lie C64 = refl
 
-size_long : (class : Class) → 16 ≤ ehdr_size class
+pub size_long : (class : Class) → 16 ≤ ehdr_size class
 size_long C32 = lit≤ tt
 size_long C64 = lit≤ tt
 

@@ -29,7 +29,7 @@ use Rattle.elf_object.specs.Refusal.{too_many, unfit_segment, unfit_item, missin
 use Rattle.elf_object.specs.Settled.{settled_section, settled_over, settle}
 use Rattle.elf_object.specs.Valid.{IsSection, IsObject, as_opened}
 use Rattle.elf_object.specs.ImageLaws.{section_at-placed, joined-none, length-image, image-clean, placed-dirty, size-placed}
-use Rattle.elf_object.specs.PassedLaws.{none_first, none_rest}
+use Rattle.elf_object.specs.PassedLaws.{none_first, none_rest, not_not}
 use Rattle.elf_object.specs.KeepLaws.{section_at_is}
 use Rattle.elf_object.specs.PlacedLaws.{ehdr_fits_each, ehdr_fits_all, placed_is, update_passes}
 use Rattle.elf_object.specs.StandLaws.{parts_are_apart, part_in_image, get_each, section_count-placed, joined-placed, where_some}
@@ -142,10 +142,6 @@ both_each : {X : Type 0} (P Q R : X → Type 0) → ((x : X) → P x → Q x →
 both_each P Q R join [] a b = tt
 both_each P Q R join (x ∷ l) a b = (join x a.0 b.0, both_each P Q R join l a.1 b.1)
 
-not_false : (b : Bool) → not b ≡ false → IsTrue b
-not_false true h = refl
-not_false false h = cc
-
 phdrs_fit : (o : Object) → IsObject o → unfit_segment o ≡ None → All (λ p. IsPhdr p × IsTrue (phdr_fits o.header.class p)) o.phdrs
 unfolding unfit_segment
 phdrs_fit o ok h =
@@ -153,7 +149,7 @@ phdrs_fit o ok h =
     let fitting = none_at (λ p. not (phdr_fits o.header.class p)) o.phdrs none in
     let are = recursion_from_All IsPhdr o.phdrs ok.phdrs in
     All-from_recursion (λ p. IsPhdr p × IsTrue (phdr_fits o.header.class p)) o.phdrs
-    (both_each IsPhdr (λ p. not (phdr_fits o.header.class p) ≡ false) (λ p. IsPhdr p × IsTrue (phdr_fits o.header.class p)) (λ p a b. (a, not_false (phdr_fits o.header.class p) b)) o.phdrs are fitting)
+    (both_each IsPhdr (λ p. not (phdr_fits o.header.class p) ≡ false) (λ p. IsPhdr p × IsTrue (phdr_fits o.header.class p)) (λ p a b. (a, not_not (phdr_fits o.header.class p) b)) o.phdrs are fitting)
 
 -- ---- The placed object is readable
 

@@ -140,7 +140,7 @@ some_true test (x ∷ l) (suc i) d h e = rw (some_true test l i d (omega arith) 
     or_true true = refl
     or_true false = refl
 
-last_true : (b : Bool) → (b || true) ≡ true
+pub last_true : (b : Bool) → (b || true) ≡ true
 last_true true = refl
 last_true false = refl
 

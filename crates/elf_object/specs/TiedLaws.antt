@@ -41,7 +41,7 @@ use Rattle.elf_object.specs.Runs.{addall, added, or_same}
 use Rattle.elf_object.specs.Valid.{IsObject, IsTied, KeepsTied, as_opened}
 use Rattle.elf_object.specs.Laws.{BeginningsAreTied, EveryStepKeepsTied, ReopenLaw, UpdatesTie}
 use Rattle.elf_object.specs.PassedLaws.{none_first, none_rest, not_refused, answered_keeps, edit_keeps}
-use Rattle.elf_object.specs.StepLaws.{section_count-with_section, section_at-with_section, dirty_by_section, marked_by_piece, dirty-with_own, dirty-with_shdr}
+use Rattle.elf_object.specs.StepLaws.{last_true, section_count-with_section, section_at-with_section, dirty_by_section, marked_by_piece, dirty-with_own, dirty-with_shdr}
 use Rattle.elf_object.specs.ImageLaws.{image-clean}
 use Rattle.elf_object.specs.TornLaws.{dirty-placed}
 use Rattle.elf_object.specs.SettledLaws.{settle-dirty, settle-clean}
@@ -70,10 +70,6 @@ third_true : (a b d : Bool) → (a || b || true || d) ≡ true
 third_true true b d = refl
 third_true false true d = refl
 third_true false false d = refl
-
-last_true : (b : Bool) → (b || true) ≡ true
-last_true true = refl
-last_true false = refl
 
 any_behind : {X : Type 0} (test : X → Bool) (l m : List X) → list_any test m ≡ true → list_any test (l ++ m) ≡ true
 any_behind test [] m h = h

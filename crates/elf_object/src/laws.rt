@@ -6,7 +6,7 @@ ghost use Rattle.elf_object.specs.Object.{Object};
 
 use elf_xlate::{decodes_as_encoded, ehdr_both_ways, phdr_both_ways, shdr_both_ways};
 
-/// With nothing dirty the image is the base, and an update leaves the object.
+/// With nothing dirty the image is the base, and storing places and settling leave the object.
 #[tactic(auto, using(crate::specs::LawsHold::clean_stays))]
 pub fn clean_stays()
     ensures { CleanStays }
