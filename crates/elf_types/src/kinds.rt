@@ -3,32 +3,35 @@
 ghost use Rattle.std.specs.Prelude.{◌≡◌};
 ghost use Rattle.elf_types.specs.Kinds.{is_compressed, kind_of_type, section_kind};
 
+use crate::constants::{
+    SHF_COMPRESSED, SHT_DYNAMIC, SHT_DYNSYM, SHT_FINI_ARRAY, SHT_GNU_VERSYM, SHT_GROUP, SHT_HASH,
+    SHT_INIT_ARRAY, SHT_NOBITS, SHT_NULL, SHT_PREINIT_ARRAY, SHT_REL, SHT_RELA, SHT_SYMTAB,
+    SHT_SYMTAB_SHNDX,
+};
 use crate::records::{Class, Kind, Shdr};
-
-/// `SHF_COMPRESSED`, the flag of a section whose data is compressed.
-pub const COMPRESSED: u64 = 0x800;
 
 /// Whether a section's flags say that its data is compressed.
 #[tactic(auto, unfolding(crate::specs::Kinds::is_compressed))]
 pub fn is_compressed(flags: u64) -> bool
     ensures { result ≡ is_compressed flags }
 {
-    flags / COMPRESSED % 2 == 1
+    flags / SHF_COMPRESSED % 2 == 1
 }
 
+/// The kind by a section's type.
 #[tactic(auto, unfolding(crate::specs::Kinds::kind_of_type))]
 fn kind_of_type(stype: u32, entsize: u64) -> Kind
     ensures { result ≡ kind_of_type stype entsize }
 {
     match stype {
-        2 | 11 => Kind::Sym,
-        4 => Kind::Rela,
-        9 => Kind::Rel,
-        6 => Kind::Dyn,
-        5 if entsize == 8 => Kind::Bytes,
-        5 | 17 | 18 => Kind::Word,
-        0x6fffffff => Kind::Half,
-        14 | 15 | 16 => Kind::Addr,
+        SHT_SYMTAB | SHT_DYNSYM => Kind::Sym,
+        SHT_RELA => Kind::Rela,
+        SHT_REL => Kind::Rel,
+        SHT_DYNAMIC => Kind::Dyn,
+        SHT_HASH if entsize == 8 => Kind::Bytes,
+        SHT_HASH | SHT_GROUP | SHT_SYMTAB_SHNDX => Kind::Word,
+        SHT_GNU_VERSYM => Kind::Half,
+        SHT_INIT_ARRAY | SHT_FINI_ARRAY | SHT_PREINIT_ARRAY => Kind::Addr,
         _ => Kind::Bytes,
     }
 }
@@ -43,7 +46,7 @@ pub fn kind_of(_class: Class, h: &Shdr) -> Kind
     ensures { result ≡ section_kind h.now }
 {
     match h.stype {
-        0 | 8 => Kind::Empty,
+        SHT_NULL | SHT_NOBITS => Kind::Empty,
         _ if is_compressed(h.flags) => Kind::Bytes,
         _ => kind_of_type(h.stype, h.entsize),
     }

@@ -2,6 +2,7 @@
 //! kinds of items, the error type, and the names and texts under which all of them are shown.
 #![tactic(auto)]
 
+pub mod constants;
 pub mod error_texts;
 pub mod errors;
 pub mod kinds;
@@ -15,7 +16,7 @@ pub mod texts;
 
 pub use error_texts::{kind_name, put_error, put_numbered, put_numbered_twice, put_part, text};
 pub use errors::ElfError;
-pub use kinds::{COMPRESSED, is_compressed, kind_of};
+pub use kinds::{is_compressed, kind_of};
 pub use lists::{Addrs, Dyns, Halves, List, Octets, Phdrs, Relas, Rels, Shdrs, Syms, Words};
 pub use names::{
     binding_name, etype_name, machine_name, section_type_name, segment_type_name, symbol_type_name,

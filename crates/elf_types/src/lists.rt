@@ -125,6 +125,16 @@ impl<T: Copy> List<T> {
         self.items.get(i as usize).copied()
     }
 
+    /// The list of a slice's items. It refuses `Memory` alone.
+    pub fn from_slice(alloc: Global, items: &[T]) -> Result<List<T>, ElfError>
+        ensures ok { IfOk result (λ l. l ≡ items.now) }
+        ensures err { IfErr result (λ e. e ≡ ElfError.Memory) }
+    {
+        let mut list = List::with_capacity(alloc, items.len() as u64)?;
+        list.extend(items)?;
+        Ok(list)
+    }
+
     /// Appends items. It refuses `Memory` alone, and then the list is as before.
     pub fn extend(&mut self, v: &[T]) -> Result<(), ElfError>
         ensures ok { OnOk result (self.new ≡ self.old ++ v.now) }

@@ -1,5 +1,8 @@
 //! Values of the standard's tables, and texts.
 
+use crate::constants::{
+    SHF_COMPRESSED, SHT_DYNSYM, SHT_FINI_ARRAY, SHT_GNU_VERSYM, SHT_HASH, SHT_NOBITS, SHT_SYMTAB,
+};
 use crate::{
     Class, ElfError, Kind, Octets, Part, Shdr, bind, binding_name, etype_name, kind_of,
     machine_name, put_hex, put_signed, section_type_name, segment_type_name, stt, symbol_type_name,
@@ -58,13 +61,13 @@ fn numbers_have_digits(rt: HostRuntime) -> Result<(), Fail> {
 #[test]
 fn sections_have_kinds(rt: HostRuntime) {
     for (stype, flags, entsize, wanted) in [
-        (8, 0, 0, Kind::Empty),
-        (2, 0x800, 24, Kind::Bytes),
-        (11, 0, 24, Kind::Sym),
-        (5, 0, 4, Kind::Word),
-        (5, 0, 8, Kind::Bytes),
-        (0x6fffffff, 0, 2, Kind::Half),
-        (15, 0, 8, Kind::Addr),
+        (SHT_NOBITS, 0, 0, Kind::Empty),
+        (SHT_SYMTAB, SHF_COMPRESSED, 24, Kind::Bytes),
+        (SHT_DYNSYM, 0, 24, Kind::Sym),
+        (SHT_HASH, 0, 4, Kind::Word),
+        (SHT_HASH, 0, 8, Kind::Bytes),
+        (SHT_GNU_VERSYM, 0, 2, Kind::Half),
+        (SHT_FINI_ARRAY, 0, 8, Kind::Addr),
     ] {
         let h = Shdr {
             name: 0,
@@ -88,6 +91,10 @@ fn a_list_keeps_its_items(rt: HostRuntime) -> Result<(), Fail> {
     list.extend(b"abc")?;
     list.push(b'd')?;
     list.truncate(3);
+    assert_eq!(rt;
+        Octets::from_slice(rt.alloc(), b"abc")?.as_slice(),
+        list.as_slice()
+    );
     assert_eq!(rt; list.get(2), Some(b'c'));
     assert_eq!(rt; list.get(3), None);
     assert_eq!(rt; list.len(), 3);
