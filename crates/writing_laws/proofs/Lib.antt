@@ -1,0 +1,5 @@
+pub mod LineLaws
+pub mod GapLaws
+pub mod SortLaws
+pub mod BasedSteps
+pub mod BasedBeginnings
