@@ -1,5 +1,7 @@
 pub mod LineLaws
 pub mod GapLaws
 pub mod SortLaws
+pub mod HeldLaws
+pub mod PlanLaws
 pub mod BasedSteps
 pub mod BasedBeginnings
