@@ -14,7 +14,7 @@ use Rattle.elf_types.specs.declared.errors.ElfError.TheVariants.{NoSection, NoDa
 use Rattle.elf_xlate.specs.declared.content.Items.{Items}
 use Rattle.elf_xlate.specs.declared.content.Items.TheVariants as items
 use Rattle.elf_xlate.specs.Translation.{decoded, items_kind, items_count}
-use Rattle.elf_object.specs.Words.{refused_if, first_refusal}
+use Rattle.elf_types.specs.Answers.{refused_if, first_refusal, err_of}
 use Rattle.elf_object.specs.Object.{Object, section_at, piece_at}
 
 -- ---- Content
@@ -29,10 +29,6 @@ content o s =
 abbrev pub or_empty : Result Items ElfError → Items
 or_empty (Ok items) = items
 or_empty (Err e) = items.Empty
-
-abbrev pub err_of : {A : Type 0} → Result A ElfError → Option ElfError
-err_of (Ok x) = None
-err_of (Err e) = Some e
 
 -- the items of a piece: its own, or for the clean home piece the content
 unfoldable pub items_at : Object → ℕ → ℕ → Items

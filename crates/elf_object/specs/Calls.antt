@@ -1,6 +1,6 @@
 -- Each call on an object: what it answers, the object that an Ok leaves, and the sections whose homes it may read
 -- (elf(3E), gelf(3E)). Refusals stand in their order. Further calls are stated in the same form where they are made.
-use Rattle.std.specs.Prelude.{◌≡◌, ℕ, ◌^◌, Bool, true, not, ◌==◌, ◌&&◌, nat_lt, nat_le, List, [], ◌∷◌, length, slice_set, Option, Some, None, Result, Ok, Err}
+use Rattle.std.specs.Prelude.{◌≡◌, ℕ, Bool, true, not, ◌==◌, ◌&&◌, nat_le, List, [], ◌∷◌, length, slice_set, Option, Some, None, Result, Ok, Err}
 use Rattle.std.specs.Int.{is_power_of_two}
 use Rattle.elf_types.specs.declared.records.Class.{Class}
 use Rattle.elf_types.specs.declared.records.Kind.{Kind}
@@ -16,15 +16,17 @@ use Rattle.elf_types.specs.declared.records.Part.{Part}
 use Rattle.elf_types.specs.declared.records.Part.TheVariants as part
 use Rattle.elf_types.specs.declared.errors.ElfError.{ElfError}
 use Rattle.elf_types.specs.declared.errors.ElfError.TheVariants.{Memory, Read, NoSection, TooMany, Unfit, FlagKept, BadAlign}
+use Rattle.elf_types.specs.declared.constants.TheConstants.{PN_XNUM, MAX_SECTIONS, MAX_PIECES, MAX_PIECE_ALIGN}
 use Rattle.elf_xlate.specs.declared.content.Items.{Items}
 use Rattle.elf_xlate.specs.declared.content.Items.TheVariants as items
 use Rattle.elf_xlate.specs.Fields.{fits}
 use Rattle.elf_xlate.specs.Headers.{ehdr_fits, phdr_fits, shdr_fits}
 use Rattle.elf_xlate.specs.Items.{sym_fits, rel_fits, rela_fits, dyn_fits}
 use Rattle.elf_xlate.specs.Translation.{first_unfit}
-use Rattle.elf_object.specs.Words.{refused_if, first_refusal, answered, MayWant}
+use Rattle.elf_types.specs.Answers.{refused_if, first_refusal, answered, err_of}
+use Rattle.elf_object.specs.Words.{MayWant}
 use Rattle.elf_object.specs.Object.{Object, section_at, piece_at, header_of}
-use Rattle.elf_object.specs.Answers.{err_of, no_section, no_data, no_entry, reserved, items_at, kind_at, piece_count, flags_of, entry_answer, piece_refusal, part_refusal, data_refusal, raw_refusal, lend_refusal, item_refusal, halves_of, words_of, addrs_of, syms_of, rels_of, relas_of, dyns_of, has_dirty}
+use Rattle.elf_object.specs.Answers.{no_section, no_data, no_entry, reserved, items_at, kind_at, piece_count, flags_of, entry_answer, piece_refusal, part_refusal, data_refusal, raw_refusal, lend_refusal, item_refusal, halves_of, words_of, addrs_of, syms_of, rels_of, relas_of, dyns_of, has_dirty}
 use Rattle.elf_object.specs.Steps.{stored_ehdr, with_ehdr, with_phdrs, with_phdr, with_new_phdrs, with_shdr, with_new_section, new_number, with_null_section, with_new_piece, with_own, with_flags, with_fill}
 use Rattle.elf_object.specs.Layout.{placed}
 use Rattle.elf_object.specs.Image.{image_length}
@@ -230,7 +232,7 @@ update_phdr i p = edit (λ o. update_phdr_refusal o i p) done (λ o. with_phdr o
 
 -- gelf_newphdr: a count that e_phnum holds (PN_XNUM)
 abbrev pub newphdr_refusal : ℕ → Option ElfError
-newphdr_refusal n = refused_if (nat_lt 65534 n) TooMany
+newphdr_refusal n = refused_if (nat_le PN_XNUM n) TooMany
 
 abbrev pub newphdr : ℕ → Call (Unit {0})
 newphdr n = edit (λ o. newphdr_refusal n) done (λ o. with_new_phdrs o n)
@@ -249,7 +251,7 @@ update_shdr s h = edit (λ o. update_shdr_refusal o s h) done (λ o. with_shdr o
 
 -- elf_newscn: at most 2^20 sections
 abbrev pub newscn_refusal : Object → Option ElfError
-newscn_refusal o = refused_if (nat_le (2 ^ 20) (length o.sections)) TooMany
+newscn_refusal o = refused_if (nat_le MAX_SECTIONS (length o.sections)) TooMany
 
 abbrev pub newscn : Call ℕ
 newscn = edit newscn_refusal new_number with_new_section
@@ -259,7 +261,7 @@ newnull = edit (λ o. None) done with_null_section
 
 -- an alignment of a piece is a power of two and at most 2^20
 unfoldable pub is_piece_align : ℕ → Bool
-is_piece_align align = is_power_of_two align && nat_le align (2 ^ 20)
+is_piece_align align = is_power_of_two align && nat_le align MAX_PIECE_ALIGN
 
 -- items that do not fit, as the piece with that number
 abbrev pub unfit_items : Object → ℕ → ℕ → Items → Option ElfError
@@ -270,7 +272,7 @@ unfoldable pub newdata_refusal : Object → ℕ → Items → ℕ → Option Elf
 newdata_refusal o s items align = first_refusal
     (no_section o s
     ∷ reserved s
-    ∷ refused_if (nat_le (2 ^ 20) (piece_count o s)) TooMany
+    ∷ refused_if (nat_le MAX_PIECES (piece_count o s)) TooMany
     ∷ refused_if (not (is_piece_align align)) (BadAlign align)
     ∷ unfit_items o s (piece_count o s) items
     ∷ [])

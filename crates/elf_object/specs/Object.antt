@@ -7,6 +7,7 @@ use Rattle.elf_types.specs.declared.records.Kind.TheVariants as kinds
 use Rattle.elf_types.specs.declared.records.Ehdr.{Ehdr}
 use Rattle.elf_types.specs.declared.records.Phdr.{Phdr}
 use Rattle.elf_types.specs.declared.records.Shdr.{Shdr}
+use Rattle.elf_types.specs.declared.constants.TheConstants.{SHT_NULL, SHT_NOBITS}
 use Rattle.elf_xlate.specs.declared.content.Items.{Items}
 use Rattle.elf_ident.specs.Front.{zero_shdr}
 use Rattle.elf_object.specs.Blocks.{Block}
@@ -84,11 +85,11 @@ header_of o = record o.header { phnum = length o.phdrs; shnum = length o.section
 
 -- SHT_NULL, an inactive header (gABI chapter 4, "Sections")
 abbrev pub is_null : Shdr → Bool
-is_null h = h.stype == 0
+is_null h = h.stype == SHT_NULL
 
 -- a section of type SHT_NULL or SHT_NOBITS occupies no space in the file
 abbrev pub occupies_file : Shdr → Bool
-occupies_file h = not (h.stype == 0 || h.stype == 8)
+occupies_file h = not (h.stype == SHT_NULL || h.stype == SHT_NOBITS)
 
 -- whether the image holds bytes of the section with this number, empty or not
 unfoldable pub has_file_bytes : ℕ → Section → Bool

@@ -6,10 +6,11 @@ use Rattle.elf_types.specs.declared.records.Class.{Class}
 use Rattle.elf_types.specs.declared.records.Part.TheVariants as part
 use Rattle.elf_types.specs.declared.errors.ElfError.{ElfError}
 use Rattle.elf_types.specs.declared.errors.ElfError.TheVariants.{TooMany, Unfit, OutOfFile}
+use Rattle.elf_types.specs.declared.constants.TheConstants.{SHN_LORESERVE, PN_XNUM}
 use Rattle.elf_xlate.specs.Headers.{phdr_fits}
 use Rattle.elf_xlate.specs.Translation.{first_unfit}
 use Rattle.elf_layout.specs.Layout.{refusal_of}
-use Rattle.elf_object.specs.Words.{refused_if, first_refusal}
+use Rattle.elf_types.specs.Answers.{refused_if, first_refusal}
 use Rattle.elf_object.specs.Object.{Object, Section, Piece, section_at, occupies_file, has_file_bytes, home_is_clean, is_dirty}
 use Rattle.elf_object.specs.Layout.{parts_of}
 
@@ -18,8 +19,8 @@ use Rattle.elf_object.specs.Layout.{parts_of}
 unfoldable pub too_many : Object → Option ElfError
 too_many o =
     refused_if
-    ((nat_le 0xffff (length o.phdrs) && length o.sections == 0)
-    || (nat_le 0xff00 (length o.sections) && occupies_file (section_at o 0).header))
+    ((nat_le PN_XNUM (length o.phdrs) && length o.sections == 0)
+    || (nat_le SHN_LORESERVE (length o.sections) && occupies_file (section_at o 0).header))
     TooMany
 
 -- the first program header that does not fit the class

@@ -16,7 +16,7 @@ use Rattle.elf_xlate.specs.declared.content.Items.TheVariants as items
 use Rattle.elf_xlate.specs.Translation.{items_count}
 use Rattle.elf_object.specs.Object.{Object}
 use Rattle.elf_object.specs.Answers.{items_at, kind_at, lend_refusal}
-use Rattle.elf_object.specs.Words.{answered}
+use Rattle.elf_types.specs.Answers.{answered}
 use Rattle.elf_object.specs.Steps.{with_own}
 use Rattle.elf_object.specs.Due.{when_clean}
 use Rattle.elf_object.specs.Calls.{Call, step, reader, ehdr, phdr, shdr, update_ehdr, update_phdr, update_shdr, data_answer}

@@ -3,6 +3,7 @@
 use Rattle.std.specs.Prelude.{◌≡◌, ℕ, ◌^◌, ◌<◌, ◌≤◌, true, false, List, [], ◌∷◌, length, All, IfSome, IsSome, IsTrue, Ok}
 use Rattle.elf_types.specs.declared.records.Class.{Class}
 use Rattle.elf_types.specs.declared.records.Kind.TheVariants as kinds
+use Rattle.elf_types.specs.declared.constants.TheConstants.{MAX_SECTIONS, MAX_SEGMENTS, MAX_PIECES}
 use Rattle.elf_xlate.specs.Headers.{IsEhdr, IsPhdr, IsShdr, ehdr_fits, shdr_fits}
 use Rattle.elf_xlate.specs.Translation.{AreItems}
 use Rattle.elf_object.specs.Object.{Object, Section, Piece, Home, is_dirty}
@@ -38,7 +39,7 @@ pub record IsSection (class : Class) (s : Section) : Type 0 where
   pub home : IsHome s.home s.raw
   pub pieces : All IsPiece s.pieces
   pub others : OthersOwn s.pieces
-  pub piece_count : length s.pieces ≤ 2 ^ 20
+  pub piece_count : length s.pieces ≤ MAX_PIECES
 
 pub record IsObject (o : Object) : Type 0 where
   pub header : IsEhdr o.header
@@ -46,9 +47,9 @@ pub record IsObject (o : Object) : Type 0 where
   pub pad : length o.pad ≡ 7
   pub pad_bytes : AreBytes o.pad
   pub phdrs : All IsPhdr o.phdrs
-  pub phdr_count : length o.phdrs ≤ 2 ^ 20
+  pub phdr_count : length o.phdrs ≤ MAX_SEGMENTS
   pub sections : All (IsSection o.header.class) o.sections
-  pub section_count : length o.sections ≤ 2 ^ 20
+  pub section_count : length o.sections ≤ MAX_SECTIONS
   pub string_index : o.sections ≡ [] → o.header.shstrndx ≡ 0
   pub base : AreBytes o.base
   pub base_length : length o.base < 2 ^ 64

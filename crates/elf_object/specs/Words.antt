@@ -2,26 +2,10 @@
 --
 -- `Memory`, want of memory, is free, and the cause of `Read` is a count of the outside. Both come after the
 -- stated refusals; in a call that reads a home they may come before the late ones. Neither changes the object.
-use Rattle.std.specs.Prelude.{◌≡◌, Bool, true, false, IsTrue, List, [], ◌∷◌, Option, Some, None, Result, Ok, Err, IsOk}
+use Rattle.std.specs.Prelude.{◌≡◌, Bool, true, false, IsTrue, Option, Some, None, Result, Ok, Err, IsOk}
 use Rattle.elf_types.specs.declared.errors.ElfError.{ElfError}
 use Rattle.elf_types.specs.declared.errors.ElfError.TheVariants.{Memory, Read, NoEntry, Unfit, BadChain, Unended}
 use Rattle.elf_xlate.specs.declared.content.Items.{Items}
-
--- the refusal, where the test holds
-abbrev pub refused_if : Bool → ElfError → Option ElfError
-refused_if true e = Some e
-refused_if false e = None
-
--- the first refusal of a list, or none
-abbrev pub first_refusal : List (Option ElfError) → Option ElfError
-first_refusal [] = None
-first_refusal (None ∷ later) = first_refusal later
-first_refusal (Some e ∷ later) = Some e
-
--- the refusal, or else the value
-abbrev pub answered : {A : Type 0} → Option ElfError → A → Result A ElfError
-answered None value = Ok value
-answered (Some e) value = Err e
 
 -- a refusal that is found in the items of a home: no such item, a value that does not fit, a record or a string that
 -- does not end in its piece

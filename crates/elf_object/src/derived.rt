@@ -6,18 +6,8 @@ ghost use Rattle.elf_xlate.specs.Headers.{HasNarrowCounts, ehdr_size, phdr_size,
 ghost use Rattle.elf_object.specs.Derived.{derived_header, numbered_shdr, where_any, written_header};
 ghost use Rattle.elf_object.specs.Steps.{stored_ehdr};
 
+use elf_types::constants::{EV_CURRENT, PN_XNUM, SHN_LORESERVE, SHN_XINDEX};
 use elf_types::{Class, Ehdr, Shdr};
-
-/// The first count of sections that `e_shnum` does not hold, and the first string index that
-/// `e_shstrndx` does not (gABI, `SHN_LORESERVE`).
-pub const SHN_LORESERVE: u32 = 0xff00;
-
-/// What stands in `e_shstrndx` where section 0 holds the string index.
-pub const SHN_XINDEX: u32 = 0xffff;
-
-/// What stands in `e_phnum` where section 0 holds the number of program headers, and the first such
-/// number.
-pub const PN_XNUM: u32 = 0xffff;
 
 /// A header that has the true counts, with what follows from them: the version, the sizes of the
 /// header and of the tables' entries, and, where they have entries, the places of the two tables, in
@@ -29,7 +19,7 @@ pub fn derived_header(phoff: u64, shoff: u64, h: &Ehdr) -> Ehdr
 {
     let sizes = entry_sizes(h.class);
     Ehdr {
-        version: 1,
+        version: EV_CURRENT,
         ehsize: sizes.ehsize,
         phoff: where_any(h.phnum, phoff),
         phentsize: size_where_any(h.phnum, sizes.phentsize),

@@ -6,15 +6,7 @@ ghost use Rattle.elf_object.specs.Open.{extent_of};
 ghost use Rattle.elf_object.specs.Calls.{is_piece_align};
 
 use elf_types::Shdr;
-
-/// The type of a header that is not in use (gABI chapter 4, "Sections").
-pub const SHT_NULL: u32 = 0;
-
-/// The type of a section that occupies no space in the file.
-pub const SHT_NOBITS: u32 = 8;
-
-/// The greatest alignment of a piece of data, in bytes.
-pub const MAX_PIECE_ALIGN: u64 = 1 << 20;
+use elf_types::constants::{MAX_PIECE_ALIGN, SHT_NOBITS, SHT_NULL};
 
 /// Whether a section with this header occupies space in the file, be it 0 bytes.
 pub fn occupies_file(h: &Shdr) -> bool
