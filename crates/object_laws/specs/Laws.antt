@@ -119,9 +119,10 @@ PartsDoNotMeet =
 abbrev pub PlacedStays : Object → Type 0
 PlacedStays o = IsObject o → refusal o ≡ None → (placed (placed o) ≡ placed o) × (refusal (placed o) ≡ None) × (image (placed o) ≡ image o)
 
--- what a failed write may leave below the length of the base: at each place the base's byte or the image's
+-- what a failed write may leave below the length of the base: at each place the base's byte or the image's. Where the
+-- image is the shorter one, it may be cut there or not yet.
 pub record IsTornImage (o : Object) (bytes : List ℕ) : Type 0 where
-  pub len : length bytes ≡ min (length o.base) (length (image o))
+  pub len : (length bytes ≡ length o.base) ⊎ (length bytes ≡ min (length o.base) (length (image o)))
   pub each : (k : ℕ) → k < length bytes → (slice_index bytes k ≡ slice_index o.base k) ⊎ (slice_index bytes k ≡ slice_index (image o) k)
 
 -- where something is dirty and the update is not refused, a torn object has the same image
@@ -153,10 +154,10 @@ pub record UpdatesTie (o : Object) : Type 0 where
   pub settled : IsObject o → IsTied o → refusal o ≡ None → IsTied (settle o)
   pub torn : (bytes : List ℕ) → IsTied (torn o bytes)
 
--- where something is dirty and the update is not refused, settling keeps the items of a piece that stands alone in a
--- section from 1 on and is of the kind of its present header, which has items
+-- where the update is not refused, settling keeps the items of an own piece that stands alone in a section from 1 on and
+-- is of the kind of its present header, which has items
 abbrev pub SettlingKeepsItems : Object → Type 0
 SettlingKeepsItems o =
-    (s : ℕ) (p : Piece) (items : Items) → IsObject o → is_dirty o ≡ true → refusal o ≡ None → 0 < s → s < length o.sections
+    (s : ℕ) (p : Piece) (items : Items) → IsObject o → refusal o ≡ None → 0 < s → s < length o.sections
     → (section_at o s).pieces ≡ p ∷ [] → p.own ≡ Some items → items_kind items ≡ section_kind (section_at o s).header
     → items_kind items ≢ kinds.Empty → content (settle o) s ≡ Ok items

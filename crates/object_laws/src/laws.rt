@@ -101,8 +101,8 @@ pub fn updates_tie()
     reopen_law();
 }
 
-/// Where something is dirty, an update is not refused, and an own piece stands alone in a section from 1 on
-/// and is of the kind of the section's present header, which has items, settling keeps its items.
+/// Where an update is not refused, and an own piece stands alone in a section from 1 on and is of the
+/// kind of the section's present header, which has items, settling keeps its items.
 pub fn settling_keeps_items()
     ensures { (o : Object) → SettlingKeepsItems o }
 {
