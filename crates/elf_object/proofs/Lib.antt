@@ -1,1 +1,3 @@
+pub mod PassedLaws
+pub mod StepLaws
 pub mod Computing

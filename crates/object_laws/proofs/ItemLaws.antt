@@ -36,7 +36,7 @@ use Rattle.elf_object.specs.Refusal.{unfit_in_piece, unfit_in_section, unfit_ite
 use Rattle.elf_object.specs.Settled.{settled_section, settled_over}
 use Rattle.elf_object.specs.Valid.{IsPiece}
 use Rattle.object_laws.proofs.ImageLaws.{section_at-placed, placed-dirty}
-use Rattle.object_laws.proofs.PassedLaws.{none_first, none_rest}
+use Rattle.elf_object.proofs.PassedLaws.{none_first, none_rest}
 use Rattle.object_laws.proofs.KeepLaws.{section_at_is}
 use Rattle.object_laws.proofs.PlacedLaws.{update_passes}
 use Rattle.object_laws.proofs.StandLaws.{section_count-placed, joined-placed}

@@ -24,7 +24,7 @@ use Rattle.elf_object.specs.Steps.{with_own}
 use Rattle.elf_object.specs.Calls.{step, update_item, update_item_refusal, update_half, update_word, update_addr, update_sym, update_rel, update_rela, update_dynent}
 use Rattle.elf_object.specs.Answers.{content, or_empty, kind_at, halves_of, words_of, addrs_of, syms_of, rels_of, relas_of, dyns_of, lend_refusal, items_at}
 use Rattle.elf_object.specs.Valid.{IsSection, IsObject, KeepsObject}
-use Rattle.object_laws.proofs.PassedLaws.{answered_keeps}
+use Rattle.elf_object.proofs.PassedLaws.{answered_keeps}
 use Rattle.object_laws.proofs.KeepLaws.{section_at_is, piece_at_is, with_own_is}
 
 -- ---- Items

@@ -24,7 +24,7 @@ use Rattle.elf_object.specs.Steps.{new_number, with_section, with_piece_at, with
 use Rattle.elf_object.specs.Calls.{step, update_ehdr, update_ehdr_refusal, update_phdr, update_phdr_refusal, newphdr, newphdr_refusal, phdrs_mut, update_shdr, update_shdr_refusal, newscn, newscn_refusal, newnull, newdata_aligned, newdata_refusal, unfit_items, flag_refusal, set_fill, replace, replace_refusal, flag, lend, is_piece_align}
 use Rattle.elf_object.specs.Answers.{lend_refusal, items_at, piece_count, flags_of, has_dirty, has_layout}
 use Rattle.elf_object.specs.Valid.{IsHome, IsPiece, OthersOwn, IsSection, IsObject, KeepsObject}
-use Rattle.object_laws.proofs.PassedLaws.{not_refused, not_not, passed_two, passed_three, passed_one, answered_keeps, edit_keeps}
+use Rattle.elf_object.proofs.PassedLaws.{not_refused, not_not, passed_two, passed_three, passed_one, answered_keeps, edit_keeps}
 
 -- what holds of each item, and of what stands for none, holds of the item at any index
 pub at_or : {X : Type 0} (P : X → Type 0) (l : List X) (i : ℕ) (d : X) → All P l → P d → P (get_or l i d)

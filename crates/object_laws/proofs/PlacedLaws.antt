@@ -27,7 +27,7 @@ use Rattle.elf_object.specs.Image.{image_length}
 use Rattle.elf_object.specs.Valid.{IsSection, IsObject, KeepsObject}
 use Rattle.object_laws.proofs.PlaceLaws.{AreNotTooLarge, IsFitting, not_too_large, within_limit, zero_fits, lens_limited}
 use Rattle.object_laws.proofs.RangeLaws.{each_made}
-use Rattle.object_laws.proofs.PassedLaws.{edit_keeps, none_first, none_rest}
+use Rattle.elf_object.proofs.PassedLaws.{edit_keeps, none_first, none_rest}
 use Rattle.object_laws.proofs.KeepLaws.{section_at_is, at_or}
 
 -- ---- Fits of headers

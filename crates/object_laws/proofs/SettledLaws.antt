@@ -29,7 +29,7 @@ use Rattle.elf_object.specs.Refusal.{too_many, unfit_segment, unfit_item, missin
 use Rattle.elf_object.specs.Settled.{settled_section, settled_over, settle}
 use Rattle.elf_object.specs.Valid.{IsSection, IsObject, as_opened}
 use Rattle.object_laws.proofs.ImageLaws.{section_at-placed, joined-none, length-image, image-clean, placed-dirty, size-placed}
-use Rattle.object_laws.proofs.PassedLaws.{none_first, none_rest, not_not}
+use Rattle.elf_object.proofs.PassedLaws.{none_first, none_rest, not_not}
 use Rattle.object_laws.proofs.KeepLaws.{section_at_is}
 use Rattle.object_laws.proofs.PlacedLaws.{ehdr_fits_each, ehdr_fits_all, placed_is, update_passes}
 use Rattle.object_laws.proofs.StandLaws.{parts_are_apart, part_in_image, get_each, section_count-placed, joined-placed, where_some}

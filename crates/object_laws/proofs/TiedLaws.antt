@@ -40,8 +40,8 @@ use Rattle.elf_object.specs.Calls.{step, edit, update_ehdr_refusal, update_phdr_
 use Rattle.elf_object.specs.Runs.{addall, added, or_same}
 use Rattle.elf_object.specs.Valid.{IsObject, IsTied, KeepsTied, as_opened}
 use Rattle.object_laws.specs.Laws.{BeginningsAreTied, EveryStepKeepsTied, ReopenLaw, UpdatesTie}
-use Rattle.object_laws.proofs.PassedLaws.{none_first, none_rest, not_refused, answered_keeps, edit_keeps}
-use Rattle.object_laws.proofs.StepLaws.{last_true, section_count-with_section, section_at-with_section, dirty_by_section, marked_by_piece, dirty-with_own, dirty-with_shdr}
+use Rattle.elf_object.proofs.PassedLaws.{none_first, none_rest, not_refused, answered_keeps, edit_keeps}
+use Rattle.elf_object.proofs.StepLaws.{last_true, section_count-with_section, section_at-with_section, dirty_by_section, marked_by_piece, dirty-with_own, dirty-with_shdr}
 use Rattle.object_laws.proofs.ImageLaws.{image-clean}
 use Rattle.object_laws.proofs.TornLaws.{dirty-placed}
 use Rattle.object_laws.proofs.SettledLaws.{settle-dirty, settle-clean}
