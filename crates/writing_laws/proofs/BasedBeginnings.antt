@@ -21,15 +21,18 @@ use Rattle.elf_xlate.specs.Headers.{class_code, order_code, ident, ident as iden
 use Rattle.elf_xlate.specs.Translation.{items_of, listed}
 use Rattle.elf_xlate.proofs.Digits.{AreBytes as AreDigits, are_bytes}
 use Rattle.elf_xlate.proofs.BothWays.{written_all}
-use Rattle.elf_ident.specs.FileKinds.{elf_magic}
+use Rattle.elf_types.specs.Answers.{refused_if, answered, or_refused}
+use Rattle.elf_types.specs.declared.constants.TheConstants.{ELFMAG, PN_XNUM}
 use Rattle.elf_ident.specs.declared.counts.Counts.{Counts}
 use Rattle.elf_ident.specs.declared.fronts.Head.{Head}
 use Rattle.elf_ident.specs.declared.fronts.Front.{Front}
-use Rattle.elf_ident.specs.Front.{unless, and_then, known, is_current, class_named, order_named, ident_in, header_in, header_at, first_section, true_counts, true_phnum, header_refusals, count_refusals, counts_by, counts_in, lies_in, phdrs_at, shdrs_at, front_at, head_in, front}
+use Rattle.elf_ident.specs.Front.{class_named, order_named, no_ident, ident_in, first_section, true_counts, true_phnum, count_refusal, lies_in, phdrs_at, shdrs_at, front_at, front}
 use Rattle.elf_object.specs.Object.{Object}
 use Rattle.elf_object.specs.Open.{home_of, home_bytes, opened_section, written_front, segments_bytes, table_bytes, standing_header, begun, begun_or_refused, opened, created_over, no_block}
 use Rattle.elf_object.specs.Valid.{AreBytes}
-use Rattle.object_laws.proofs.OpenLaws.{AllPass}
+use Rattle.elf_object.proofs.PassedLaws.{not_refused, not_not, passed_one, passed_two}
+use Rattle.elf_ident.proofs.Refusals.{answered_ok, bind_ok}
+use Rattle.object_laws.proofs.OpenLaws.{IsFrontOf, front_known}
 use Rattle.writing_laws.specs.Lines.{StandsAt, HoldsBlock}
 use Rattle.writing_laws.specs.Based.{HomeStands, IsBased, BeginningsAreBased}
 
@@ -40,33 +43,6 @@ pub record WritesBack : Type 0 where
   pub ehdr : (h : Ehdr) (pad bytes : List ℕ) → AreBytes bytes → length pad ≡ 7 → HoldsEhdr h pad bytes → ehdr_bytes h pad ≡ bytes
   pub phdr : (class : Class) (order : Order) (bytes : List ℕ) → AreBytes bytes → length bytes ≡ phdr_size class → phdr_bytes class order (phdr_of class order bytes) ≡ bytes
   pub shdr : (class : Class) (order : Order) (bytes : List ℕ) → AreBytes bytes → length bytes ≡ shdr_size class → shdr_bytes class order (shdr_of class order bytes) ≡ bytes
-
--- ---- Refusals that did not come
-
-abbrev ok : {A : Type 0} → A → Result A ElfError
-ok x = Ok x
-
-same_ok : {A : Type 0} (a b : A) → ok a ≡ ok b → a ≡ b
-same_ok a b e = cc
-
-row_failed : {T : Type 0} (b : Bool) (e : ElfError) (follows : Result T ElfError) (x : T) → (if b then Err e else follows) ≡ Ok x → (b ≡ false) × (follows ≡ Ok x)
-row_failed true e follows x h = cc
-row_failed false e follows x h = (refl, h)
-
-and_then_ok : {A B : Type 0} (r : Result A ElfError) (f : A → Result B ElfError) (y : B) → and_then r f ≡ Ok y → (x : A) × (r ≡ Ok x) × (f x ≡ Ok y)
-and_then_ok (Ok x) f y h = (x, refl, h)
-and_then_ok (Err e) f y h = cc
-
-unless_ok : {T : Type 0} (rows : List (Bool × ElfError)) (follows : Result T ElfError) (x : T) → unless rows follows ≡ Ok x → AllPass rows × (follows ≡ Ok x)
-unless_ok [] follows x h = (tt, h)
-unless_ok (row ∷ rows) follows x h =
-    let first = row_failed row.0 row.1 (unless rows follows) x h in
-    let rest = unless_ok rows follows x first.1 in
-    ((first.0, rest.0), rest.1)
-
-known_ok : {T : Type 0} (o : Option T) (e : ElfError) (x : T) → known o e ≡ Ok x → o ≡ Some x
-known_ok (Some y) e x h = let same : y ≡ x = cc in ap Some same
-known_ok None e x h = cc
 
 -- ---- The identification
 
@@ -98,27 +74,38 @@ not_false : (b : Bool) → not b ≡ false → b ≡ true
 not_false true h = refl
 not_false false h = cc
 
+abbrev ok : {A : Type 0} → A → Result A ElfError
+ok x = Ok x
+
 pair_is : {A B : Type 0} (a c : A) (b d : B) → ok {A = A × B} (a, b) ≡ Ok (c, d) → (a ≡ c) × (b ≡ d)
-pair_is {A} {B} a c b d h =
-    let same = same_ok {A = A × B} (a, b) (c, d) h in
-    (ap (λ (p : A × B). p.0) same, ap (λ (p : A × B). p.1) same)
+pair_is {A} {B} a c b d h = let same : (a, b) ≡ (c, d) = same_ok h in (ap (λ (p : A × B). p.0) same, ap (λ (p : A × B). p.1) same)
+  where
+    same_ok : {X : Type 0} {x y : X} → ok x ≡ ok y → x ≡ y
+    same_ok e = cc
 
 ident_is : (image : List ℕ) (class : Class) (order : Order) → ident_in image ≡ Ok (class, order) → IsIdent image class order
-unfolding ident_in elf_magic
+unfolding ident_in no_ident
 ident_is image class order h =
-    let long = row_failed (nat_lt (length image) 16) error.Short _ (class, order) h in
-    let magic = row_failed (not (starts_with nat_eq image (0x7f ∷ 0x45 ∷ 0x4c ∷ 0x46 ∷ []))) error.Magic _ (class, order) long.1 in
-    let classed = and_then_ok (known (class_named (get_or image 4 0)) error.Class) _ (class, order) magic.1 in
-    let ordered = and_then_ok (known (order_named (get_or image 5 0)) error.Order) _ (class, order) classed.2 in
-    let current = row_failed (not (is_current (get_or image 6 0))) error.Version _ (class, order) ordered.2 in
-    let same = pair_is classed.0 class ordered.0 order current.1 in
+    let magic = bind_ok (answered (no_ident image) image) _ (class, order) h in
+    let start = answered_ok (no_ident image) image magic.0 magic.1 in
+    let passed = passed_two (nat_lt (length image) 16) (not (starts_with nat_eq image ELFMAG)) error.Short error.Magic start.0 in
+    let classed = bind_ok (or_refused (class_named (get_or magic.0 4 0)) error.Class) _ (class, order) magic.2 in
+    let ordered = bind_ok (or_refused (order_named (get_or magic.0 5 0)) error.Order) _ (class, order) classed.2 in
+    let current = answered_ok (refused_if (not (get_or magic.0 6 0 == 1)) error.Version) (classed.0, ordered.0) (class, order) ordered.2 in
+    let version = not_refused (not (get_or magic.0 6 0 == 1)) error.Version current.0 in
+    let same = pair_is classed.0 class ordered.0 order (ap ok current.1) in
+    let image_same : magic.0 ≡ image = sym start.1 in
     record {
-      long = ltb-false (length image) 16 long.0;
-      magic = sym (same_text (0x7f ∷ 0x45 ∷ 0x4c ∷ 0x46 ∷ []) (take 4 image) (sym (not_false (starts_with nat_eq image (0x7f ∷ 0x45 ∷ 0x4c ∷ 0x46 ∷ [])) magic.0)));
-      class_at = class_is (get_or image 4 0) classed.0 (known_ok (class_named (get_or image 4 0)) error.Class classed.0 classed.1) ∙ ap class_code same.0;
-      order_at = order_is (get_or image 5 0) ordered.0 (known_ok (order_named (get_or image 5 0)) error.Order ordered.0 ordered.1) ∙ ap order_code same.1;
-      version = eqb-true (get_or image 6 0) 1 (not_false (get_or image 6 0 == 1) current.0);
+      long = ltb-false (length image) 16 passed.0;
+      magic = sym (same_text (0x7f ∷ 0x45 ∷ 0x4c ∷ 0x46 ∷ []) (take 4 image) (sym (not_not (starts_with nat_eq image ELFMAG) passed.1)));
+      class_at = ap (λ (l : List ℕ). get_or l 4 0) (sym image_same) ∙ class_is (get_or magic.0 4 0) classed.0 (named (class_named (get_or magic.0 4 0)) error.Class classed.0 classed.1) ∙ ap class_code same.0;
+      order_at = ap (λ (l : List ℕ). get_or l 5 0) (sym image_same) ∙ order_is (get_or magic.0 5 0) ordered.0 (named (order_named (get_or magic.0 5 0)) error.Order ordered.0 ordered.1) ∙ ap order_code same.1;
+      version = ap (λ (l : List ℕ). get_or l 6 0) (sym image_same) ∙ eqb-true (get_or magic.0 6 0) 1 (not_not (get_or magic.0 6 0 == 1) version);
     }
+  where
+    named : {T : Type 0} (o : Option T) (e : ElfError) (x : T) → or_refused o e ≡ Ok x → o ≡ Some x
+    named (Some y) e x h = let same : y ≡ x = cc in ap Some same
+    named None e x h = cc
 
 -- so the first seven bytes are those of an identification
 start_is : (image : List ℕ) (class : Class) (order : Order) (pad : List ℕ) → IsIdent image class order → take 7 image ≡ take 7 (ident class order pad)
@@ -157,57 +144,6 @@ table_again {X} item enc size count bytes back some are len =
     bytes_from : (piece : List ℕ) → AreDigits piece → AreBytes piece
     bytes_from piece digits = All-from_get_or (λ b. b < 2 ^ 8) piece 0 (λ i h. digits i)
 
--- ---- The front of an image
-
-record IsFront (image : List ℕ) (f : Front) : Type 0 where
-  class : Class
-  order : Order
-  ident : IsIdent image class order
-  long : ehdr_size class ≤ length image
-  head : Head
-  header : head.header ≡ ehdr_of class order (take (ehdr_size class) image)
-  pad : head.pad ≡ take 7 (drop 9 image)
-  counts : head.counts ≡ true_counts head.header (first_section head.header image)
-  late : AllPass (count_refusals head.header head.counts (length image))
-  whole : f ≡ front_at head image
-
-head_made : (id : Class × Order) (image : List ℕ) (x : Ehdr × List ℕ) → ok (header_at id.0 id.1 image) ≡ Ok x → (x.0 ≡ ehdr_of id.0 id.1 (take (ehdr_size id.0) image)) × (x.1 ≡ take 7 (drop 9 image))
-unfolding header_at
-head_made id image x h = let same : header_at id.0 id.1 image ≡ x = cc in (sym (ap (λ (y : Ehdr × List ℕ). y.0) same), sym (ap (λ (y : Ehdr × List ℕ). y.1) same))
-
-head_is : (image : List ℕ) (head : Head) → head_in image ≡ Ok head → IsFront image (front_at head image)
-unfolding head_in header_in counts_in counts_by
-head_is image head h =
-    let outer = and_then_ok (header_in image) (λ x. and_then (counts_in x.0 image) (λ c. Ok (record { header = x.0; pad = x.1; counts = c }))) head h in
-    let id = and_then_ok (ident_in image) (λ i. unless ((nat_lt (length image) (ehdr_size i.0), error.Short) ∷ []) (Ok (header_at i.0 i.1 image))) outer.0 outer.1 in
-    let long = unless_ok ((nat_lt (length image) (ehdr_size id.0.0), error.Short) ∷ []) (Ok (header_at id.0.0 id.0.1 image)) outer.0 id.2 in
-    let inner = and_then_ok (counts_in outer.0.0 image) (λ c. Ok (record { header = outer.0.0; pad = outer.0.1; counts = c })) head outer.2 in
-    let early = unless_ok (header_refusals outer.0.0 (length image)) (counts_by outer.0.0 (first_section outer.0.0 image) (length image)) inner.0 inner.1 in
-    let late = unless_ok (count_refusals outer.0.0 (true_counts outer.0.0 (first_section outer.0.0 image)) (length image)) (Ok (true_counts outer.0.0 (first_section outer.0.0 image))) inner.0 early.1 in
-    let made : record { header = outer.0.0; pad = outer.0.1; counts = inner.0 } ≡ head = same_ok (record { header = outer.0.0; pad = outer.0.1; counts = inner.0 }) head inner.2 in
-    let parts = head_made id.0 image outer.0 long.1 in
-    let counts : true_counts outer.0.0 (first_section outer.0.0 image) ≡ inner.0 = same_ok (true_counts outer.0.0 (first_section outer.0.0 image)) inner.0 late.1 in
-    let P : Head → Type 0 = λ x. IsFront image (front_at x image) in
-    subst P made (record {
-      class = id.0.0;
-      order = id.0.1;
-      ident = ident_is image id.0.0 id.0.1 id.1;
-      long = ltb-false (length image) (ehdr_size id.0.0) long.0.0;
-      head = record { header = outer.0.0; pad = outer.0.1; counts = inner.0 };
-      header = parts.0;
-      pad = parts.1;
-      counts = sym counts;
-      late = let Q : Counts → Type 0 = λ c. AllPass (count_refusals outer.0.0 c (length image)) in subst Q counts late.0;
-      whole = refl;
-    })
-
-front_is : (image : List ℕ) (f : Front) → front image ≡ Ok f → IsFront image f
-unfolding front
-front_is image f h =
-    let whole = and_then_ok (head_in image) (λ head. Ok (front_at head image)) f h in
-    let same : front_at whole.0 image ≡ f = same_ok (front_at whole.0 image) f whole.2 in
-    subst (IsFront image) same (head_is image whole.0 whole.1)
-
 -- ---- The object of a front
 
 -- bytes of a length from a place on, where the image has so many, stand there
@@ -222,7 +158,7 @@ part_are : (image : List ℕ) (at n : ℕ) → AreBytes image → AreBytes (take
 part_are image at n are = All-take (λ b. b < 2 ^ 8) n (drop at image) (All-drop (λ b. b < 2 ^ 8) at image are)
 
 -- the header that was read is written back
-header_back : (writes : WritesBack) (image : List ℕ) (f : Front) → AreBytes image → (is : IsFront image f) → ehdr_bytes is.head.header is.head.pad ≡ take (ehdr_size is.class) image
+header_back : (writes : WritesBack) (image : List ℕ) (f : Front) → AreBytes image → (is : IsFrontOf image f) → ehdr_bytes is.head.header is.head.pad ≡ take (ehdr_size is.class) image
 unfolding ehdr_of
 header_back writes image f are is =
     let long = is.long in
@@ -232,7 +168,8 @@ header_back writes image f are is =
     let bytes : List ℕ = take (ehdr_size is.class) image in
     let len : length (take (ehdr_size is.class) image) ≡ ehdr_size is.class = length-take-le (ehdr_size is.class) image long in
     let rest = length-drop 9 image in
-    let ident = is.ident in
+    let ident = ident_is image is.class is.order is.ident in
+    let sixteen = ident.long in
     let seven : length is.head.pad ≡ 7 = ap length is.pad ∙ length-take-le 7 (drop 9 image) (omega arith) in
     let start : take 7 (take (ehdr_size is.class) image) ≡ take 7 (ident_bytes is.head.header.class is.head.header.order is.head.pad) =
     take-take 7 (ehdr_size is.class) image (omega arith) ∙ start_is image is.class is.order is.head.pad ident
@@ -253,7 +190,7 @@ header_back writes image f are is =
 
 -- a table lies in the image where it has entries
 lies_from : (len at count size : ℕ) → not (lies_in len at count size) ≡ false → at + count * size ≤ len
-lies_from len at count size h = leb-true (at + count * size) len (not_false (nat_le (at + count * size) len) h)
+lies_from len at count size h = leb-true (at + count * size) len (not_not (nat_le (at + count * size) len) h)
 
 -- a table that was read is written back
 table_back : {X : Type 0} (item : List ℕ → X) (enc : X → List ℕ) (size at count : ℕ) (image : List ℕ) → ((piece : List ℕ) → AreBytes piece → length piece ≡ size → enc (item piece) ≡ piece) → 0 < size → AreBytes image → (0 < count → at + count * size ≤ length image) → StandsAt image at (flat_map enc (items_of item size count (take (count * size) (drop at image))))
@@ -275,12 +212,17 @@ no_segments : (h : Ehdr) (first : Shdr) → h.phnum ≡ 0 → true_phnum h first
 unfolding true_phnum
 no_segments h first none = rw none refl
 
-tables_lie : (image : List ℕ) (head : Head) → head.counts ≡ true_counts head.header (first_section head.header image) → AllPass (count_refusals head.header head.counts (length image)) → TablesLie image head
-unfolding count_refusals
-tables_lie image head counts late = record {
-  segments = λ some. by_test (head.header.phnum == 0) refl some late.1.1.1.0;
-  table = lies_from (length image) head.header.shoff head.counts.shnum (shdr_size head.header.class) late.0;
-}
+tables_lie : (image : List ℕ) (head : Head) → head.counts ≡ true_counts head.header (first_section head.header image) → count_refusal head.header head.counts (length image) ≡ None → TablesLie image head
+unfolding count_refusal
+tables_lie image head counts late =
+    let first = passed_one (not (lies_in (length image) head.header.shoff head.counts.shnum (shdr_size head.header.class))) error.ShTable _ late in
+    let second = passed_one (not (head.header.phnum == 0) && not (head.header.phentsize == phdr_size head.header.class)) error.PhTable _ first.1 in
+    let third = passed_one (head.header.phnum == PN_XNUM && head.header.shoff == 0) error.PhTable _ second.1 in
+    let fourth = passed_one (not (head.header.phnum == 0) && not (lies_in (length image) head.header.phoff head.counts.phnum (phdr_size head.header.class))) error.PhTable _ third.1 in
+    record {
+      segments = λ some. by_test (head.header.phnum == 0) refl some fourth.0;
+      table = lies_from (length image) head.header.shoff head.counts.shnum (shdr_size head.header.class) first.0;
+    }
   where
     by_test : (b : Bool) → (head.header.phnum == 0) ≡ b → 0 < head.counts.phnum → (not b && not (lies_in (length image) head.header.phoff head.counts.phnum (phdr_size head.header.class))) ≡ false → head.header.phoff + head.counts.phnum * phdr_size head.header.class ≤ length image
     by_test true e some h =
@@ -302,7 +244,7 @@ home_stands image h some inside =
 
 -- ---- The laws
 
-made_based : (writes : WritesBack) (image : List ℕ) (f : Front) → AreBytes image → (is : IsFront image f) → IsBased (begun (front_at is.head image) image)
+made_based : (writes : WritesBack) (image : List ℕ) (f : Front) → AreBytes image → (is : IsFrontOf image f) → IsBased (begun (front_at is.head image) image)
 unfolding begun written_front standing_header front_at phdrs_at shdrs_at segments_bytes table_bytes
 made_based writes image f are is =
     let h = is.head.header in
@@ -323,7 +265,7 @@ made_based writes image f are is =
 
 begun_based : (writes : WritesBack) (image : List ℕ) (f : Front) → AreBytes image → front image ≡ Ok f → IsBased (begun f image)
 begun_based writes image f are h =
-    let is = front_is image f h in
+    let is = front_known image f h in
     let P : Front → Type 0 = λ x. IsBased (begun x image) in
     subst P (sym is.whole) (made_based writes image f are is)
 

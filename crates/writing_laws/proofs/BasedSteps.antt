@@ -34,7 +34,7 @@ use Rattle.elf_object.specs.Image.{image_length}
 use Rattle.elf_object.specs.Refusal.{refusal}
 use Rattle.elf_object.specs.Calls.{step, update_ehdr_refusal, update_phdr_refusal, newphdr_refusal, update_shdr_refusal, newscn, newscn_refusal, newnull, newdata_refusal, newdata_aligned, set_fill, replace, replace_refusal, flag, flag_refusal, update_null, lend, update_item, update_item_refusal, update_half, update_word, update_addr, update_sym, update_rel, update_rela, update_dynent}
 use Rattle.elf_object.specs.Runs.{addall, added, or_same}
-use Rattle.object_laws.proofs.PassedLaws.{answered_keeps, edit_keeps}
+use Rattle.elf_object.proofs.PassedLaws.{answered_keeps, edit_keeps}
 use Rattle.writing_laws.specs.Lines.{HoldsBlock}
 use Rattle.writing_laws.specs.Based.{some_unmarked, HomeStands, IsBased, KeepsBased, EveryStepKeepsBased}
 

@@ -2,3 +2,4 @@
 //! write that failed leaves. Their statements stand in `specs/`, and the lemmas that prove them in `proofs/`.
 #![tactic(auto)]
 
+pub mod based;
