@@ -1,6 +1,7 @@
 //! From the file form to the memory form.
 
-ghost use Rattle.std.specs.Prelude.{◌≡◌, ◌/◌, ◌%◌, length, IfOk, IfErr};
+ghost use Rattle.std.specs.Prelude.{◌≡◌, ◌/◌, ◌%◌, length, IfOk, IfErr, IsTrue};
+ghost use Rattle.std.specs.List.{All};
 ghost use Rattle.elf_xlate.specs.declared.failure.XlateError.TheVariants.{Memory};
 ghost use Rattle.elf_xlate.specs.Fields.{class_of};
 ghost use Rattle.elf_xlate.specs.Translation.{decoded, items_of, listed, Gives};
@@ -10,7 +11,7 @@ use crate::content::Items;
 use crate::failure::XlateError;
 use crate::records::{Codec, Form};
 use byteorder::{BigEndian, LittleEndian};
-use elf_types::{Class, Dyn, Kind, List, Octets, Order, Rel, Rela, Sym};
+use elf_types::{Class, Dyn, ElfError, Kind, List, Octets, Order, Rel, Rela, Sym};
 use std::alloc::Global;
 
 /// The items of a section's data that bytes hold. It refuses in this order: `Ragged` exactly where the
@@ -56,11 +57,10 @@ fn decode_items<T: Endian, const WIDE: bool>(
 fn copy_bytes(alloc: Global, bytes: &[u8]) -> Result<Octets, XlateError>
     ensures { Gives result (Some bytes.now) }
 {
-    let mut copy = List::new(alloc);
-    if let Err(_) = copy.extend(bytes) {
-        return Err(XlateError::Memory);
+    match List::from_slice(alloc, bytes) {
+        Ok(copy) => Ok(copy),
+        Err(_) => Err(XlateError::Memory),
     }
-    Ok(copy)
 }
 
 // The items of a list.
@@ -72,31 +72,32 @@ fn decode_list<C: Codec<R>, R: Drop>(alloc: Global, bytes: &[u8]) -> Result<List
     if bytes.len() % size != 0 {
         return Err(XlateError::Ragged);
     }
-    decode_whole::<C, R>(alloc, bytes, size)
+    match decode_whole::<C, R>(alloc, bytes, size) {
+        Ok(items) => Ok(items),
+        Err(_) => Err(XlateError::Memory),
+    }
 }
 
-// The items of a list of whole items.
-#[tactic(auto, using(crate::proofs::Pieces::items_of_more, crate::proofs::Pieces::items_of_none))]
-fn decode_whole<C: Codec<R>, R: Drop>(
+/// The items of a list of whole items, of `size` bytes each. It refuses `Memory` alone.
+#[tactic(auto, using(crate::proofs::Pieces::length_items_of))]
+pub fn decode_whole<C: Codec<R>, R: Drop>(
     alloc: Global,
     bytes: &[u8],
     size: usize,
-) -> Result<List<R>, XlateError>
+) -> Result<List<R>, ElfError>
     requires size { size ≡ C.size }
     requires whole { length bytes.now % size ≡ 0 }
     ensures ok { IfOk result (λ l. l ≡ items_of C.item_of size (length bytes.now / size) bytes.now) }
-    ensures err { IfErr result (λ e. e ≡ Memory) }
+    ensures count { IfOk result (λ l. length l ≡ length bytes.now / size) }
+    ensures ranged { IfOk result (λ l. All C.in_range l) }
+    ensures fits { IfOk result (λ l. All (λ x. IsTrue (C.fitting x)) l) }
+    ensures err { IfErr result (λ e. e ≡ ElfError.Memory) }
 {
     let count = bytes.len() / size;
-    let mut items = match List::with_capacity(alloc, count as u64) {
-        Ok(items) => items,
-        Err(_) => return Err(XlateError::Memory),
-    };
+    let mut items = List::with_capacity(alloc, count as u64)?;
     for i in 0..count {
         let at = i * size;
-        if let Err(_) = items.push(C::decode(&bytes[at..at + size])) {
-            return Err(XlateError::Memory);
-        }
+        items.push(C::decode(&bytes[at..at + size]))?;
     }
     Ok(items)
 }

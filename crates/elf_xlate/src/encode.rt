@@ -71,7 +71,7 @@ fn encode_list<C: Codec<R>, R: Copy>(items: &[R], out: &mut Octets) -> bool
     if let Err(_) = out.reserve((items.len() as u64).saturating_mul(size as u64)) {
         return false;
     }
-    let zeros = [0; 24];
+    let zeros = [0; 64];
     encode_each::<C, R>(items, &zeros[..size], out)
 }
 
