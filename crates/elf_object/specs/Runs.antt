@@ -1,5 +1,5 @@
 -- Calls one after the other, and calls that are made of several.
-use Rattle.std.specs.Prelude.{ℕ, ◌+◌, ◌%◌, ◌^◌, Bool, false, ◌||◌, List, [], ◌∷◌, map, Option, Some, None, Result, Ok, Err}
+use Rattle.std.specs.Prelude.{ℕ, ◌+◌, ◌%◌, ◌^◌, false, ◌||◌, List, [], ◌∷◌, map, Option, Some, None, Result, Ok, Err}
 use Rattle.elf_types.specs.declared.records.Kind.{Kind}
 use Rattle.elf_types.specs.declared.records.Kind.TheVariants as kinds
 use Rattle.elf_types.specs.declared.records.Ehdr.{Ehdr}
