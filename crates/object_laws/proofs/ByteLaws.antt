@@ -19,6 +19,7 @@ use Rattle.elf_xlate.specs.Fields.{Field, place_in, written, written_in, laid, r
 use Rattle.elf_xlate.specs.Headers.{ehdr_size, ehdr_fields, ehdr_numbers, class_code, order_code, ident, ehdr_bytes, phdr_size, phdr_fields, phdr_numbers, phdr_bytes, shdr_size, shdr_fields, shdr_numbers, shdr_bytes}
 use Rattle.elf_xlate.specs.Items.{half_bytes, word_bytes, addr_bytes, sym_bytes, rel_bytes, rela_bytes, dyn_bytes}
 use Rattle.elf_xlate.specs.Translation.{AreItems, encoded}
+use Rattle.elf_xlate.proofs.ByteRanges.{encoded_are as all_bytes}
 use Rattle.elf_layout.specs.Layout.{rounded_up}
 use Rattle.elf_object.specs.Blocks.{Block, covers, byte_over, spread, stacked}
 use Rattle.elf_object.specs.Object.{Object, Piece, section_at, has_file_bytes, is_dirty}
@@ -103,7 +104,7 @@ flat_are enc each (x ∷ l) = All-append IsByte (enc x) (flat_map enc l) (each x
 encoded_are : (class : Class) (order : Order) (l : Items) → AreItems l → AreBytes (encoded class order l)
 unfolding encoded half_bytes word_bytes addr_bytes sym_bytes rel_bytes rela_bytes dyn_bytes
 encoded_are class order items.Empty are = All-nil IsByte
-encoded_are class order (items.Bytes l) are = are
+encoded_are class order (items.Bytes l) are = all_bytes class order (items.Bytes l)
 encoded_are class order (items.Half l) are = flat_are (half_bytes class order) (λ x. record_are class order _ _ _) l
 encoded_are class order (items.Word l) are = flat_are (word_bytes class order) (λ x. record_are class order _ _ _) l
 encoded_are class order (items.Addr l) are = flat_are (addr_bytes class order) (λ x. record_are class order _ _ _) l
