@@ -14,12 +14,8 @@ use Rattle.elf_types.specs.declared.errors.ElfError.{ElfError}
 use Rattle.elf_types.specs.declared.errors.ElfError.TheVariants.{Memory, Read, NoEntry, OutOfFile, Ragged}
 use Rattle.elf_types.specs.Answers.{answered, err_of, IsRefusal}
 use Rattle.elf_xlate.specs.declared.content.Items.{Items}
-use Rattle.elf_xlate.specs.declared.content.Items.TheVariants as items
-use Rattle.elf_xlate.specs.Items.{item_size, half_of, word_of, addr_of, sym_of, rel_of, rela_of, dyn_of}
-use Rattle.elf_xlate.specs.Translation.{decoded, listed, items_kind}
-use Rattle.std.specs.Option.{option_map}
-use Rattle.elf_types.specs.declared.records.Class.{Class}
-use Rattle.elf_types.specs.declared.records.Order.{Order}
+use Rattle.elf_xlate.specs.Translation.{decoded, items_kind}
+use Rattle.elf_xlate.proofs.Decoded.{decoded_kind}
 use Rattle.elf_object.specs.Words.{Wants, Answers, Edits}
 use Rattle.elf_object.specs.Object.{Object, section_at, piece_at}
 use Rattle.elf_object.specs.Answers.{content, or_empty, no_section, no_data, wrong_kind, no_content, same_kind, piece_count, kind_at, items_at, flags_of, entry_answer, piece_refusal, data_refusal, raw_refusal, lend_refusal, part_refusal, halves_of, words_of, addrs_of, syms_of, rels_of, relas_of, dyns_of}
@@ -115,22 +111,6 @@ dyn_value o s p i x e = entry_value (lend_refusal o kinds.Dyn s p) (dyns_of (ite
 
 -- ---- What is lent is of the kind
 
-made_kind : {X : Type 0} (variant : List X → Items) (kind : Kind) (made : Option (List X)) (l : Items) → ((xs : List X) → items_kind (variant xs) ≡ kind) → option_map variant made ≡ Some l → items_kind l ≡ kind
-made_kind variant kind None l each e = cc
-made_kind variant kind (Some xs) l each e = let same : variant xs ≡ l = cc in ap items_kind (sym same) ∙ each xs
-
-decoded_kind : (kind : Kind) (class : Class) (order : Order) (bytes : List ℕ) (l : Items) → decoded kind class order bytes ≡ Some l → items_kind l ≡ kind
-unfolding decoded
-decoded_kind kinds.Empty class order bytes l e = let same : items.Empty ≡ l = cc in ap items_kind (sym same)
-decoded_kind kinds.Bytes class order bytes l e = let same : items.Bytes bytes ≡ l = cc in ap items_kind (sym same)
-decoded_kind kinds.Half class order bytes l e = made_kind items.Half kinds.Half (listed (half_of class order) (item_size kinds.Half class) bytes) l (λ xs. refl) e
-decoded_kind kinds.Word class order bytes l e = made_kind items.Word kinds.Word (listed (word_of class order) (item_size kinds.Word class) bytes) l (λ xs. refl) e
-decoded_kind kinds.Addr class order bytes l e = made_kind items.Addr kinds.Addr (listed (addr_of class order) (item_size kinds.Addr class) bytes) l (λ xs. refl) e
-decoded_kind kinds.Sym class order bytes l e = made_kind items.Sym kinds.Sym (listed (sym_of class order) (item_size kinds.Sym class) bytes) l (λ xs. refl) e
-decoded_kind kinds.Rel class order bytes l e = made_kind items.Rel kinds.Rel (listed (rel_of class order) (item_size kinds.Rel class) bytes) l (λ xs. refl) e
-decoded_kind kinds.Rela class order bytes l e = made_kind items.Rela kinds.Rela (listed (rela_of class order) (item_size kinds.Rela class) bytes) l (λ xs. refl) e
-decoded_kind kinds.Dyn class order bytes l e = made_kind items.Dyn kinds.Dyn (listed (dyn_of class order) (item_size kinds.Dyn class) bytes) l (λ xs. refl) e
-
 -- a lend that is not refused has passed each of its tests
 pub lend_passed : (o : Object) (kind : Kind) (s p : ℕ) → lend_refusal o kind s p ≡ None
     → (no_section o s ≡ None) × (no_data o s p ≡ None) × (kind_at o s p ≡ kind) × (no_content o s p ≡ None)
@@ -139,11 +119,12 @@ lend_passed o kind s p passed =
     let third = wrong_kind o kind s p ∷ no_content o s p ∷ [] in
     let after_section = none_rest (no_section o s) (no_data o s p ∷ third) passed in
     let after_data = none_rest (no_data o s p) third after_section in
-    let kind_right = not_refused (not (same_kind (kind_at o s p) kind)) _ (none_first (wrong_kind o kind s p) (no_content o s p ∷ []) after_data) in
-    (none_first (no_section o s) (no_data o s p ∷ third) passed,
+    let kind_right = not_refused (not (same_kind (kind_at o s p) kind)) _ (none_first (wrong_kind o kind s p) (no_content o s p ∷ []) after_data) in (
+      none_first (no_section o s) (no_data o s p ∷ third) passed,
       none_first (no_data o s p) third after_section,
       same_kind-true (kind_at o s p) kind (not_not (same_kind (kind_at o s p) kind) kind_right),
-      none_first (no_content o s p) [] (none_rest (wrong_kind o kind s p) (no_content o s p ∷ []) after_data))
+      none_first (no_content o s p) [] (none_rest (wrong_kind o kind s p) (no_content o s p ∷ []) after_data),
+    )
 
 -- the items of a piece are of the kind that it holds, where its content is there
 pub items_kind_at : (o : Object) (s p : ℕ) → no_content o s p ≡ None → items_kind (items_at o s p) ≡ kind_at o s p
@@ -156,6 +137,7 @@ items_kind_at o s p there = by_own (piece_at o s p).own there
     by_content true made e there = cc
     by_content false None e there = cc
     by_content false (Some items) e there = decoded_kind (section_at o s).home.kind o.header.class o.header.order (section_at o s).raw items e
+
     by_own : (own : Option Items) → ◌≡◌ {A = Option ElfError} (elim own [ None ↦ err_of (content o s) | Some items ↦ None ]) None
         → ◌≡◌ {A = Kind} (items_kind (elim own [ None ↦ or_empty (content o s) | Some items ↦ items ])) (elim own [ None ↦ (section_at o s).home.kind | Some items ↦ items_kind items ])
     by_own None there = by_content (section_at o s).home.out (decoded (section_at o s).home.kind o.header.class o.header.order (section_at o s).raw) refl there
