@@ -24,7 +24,7 @@ use Rattle.elf_xlate.specs.declared.content.Items.{Items}
 use Rattle.elf_xlate.specs.declared.content.Items.TheVariants as items
 use Rattle.elf_xlate.specs.Fields.{fits}
 use Rattle.elf_xlate.specs.Items.{sym_fits, rel_fits, rela_fits, dyn_fits}
-use Rattle.elf_xlate.specs.Translation.{items_count}
+use Rattle.elf_xlate.specs.Translation.{items_count, items_kind}
 use Rattle.elf_object.specs.Object.{Object, Section, Piece, section_at, piece_at, new_section, home_piece, no_phdr, is_dirty}
 use Rattle.elf_object.specs.Open.{created_over}
 use Rattle.elf_object.specs.Answers.{count_at, kind_at, items_at, piece_count, flags_of, has_dirty, has_layout, lend_refusal, halves_of, words_of, addrs_of, syms_of, rels_of, relas_of, dyns_of}
@@ -151,9 +151,9 @@ null_kept false o is = is
 
 -- ---- Items
 
-lend_based : (kind : Kind) (s p : ℕ) (left : Items) → KeepsBased (lend kind s p left)
+lend_based : (s p : ℕ) (left : Items) → KeepsBased (lend s p left)
 unfolding step
-lend_based kind s p left o is = answered_keeps IsBased (lend_refusal o kind s p) (items_at o s p) o (with_own o s p left) is (λ passed. own_kept o s p left is)
+lend_based s p left o is = answered_keeps IsBased (lend_refusal o (items_kind left) s p) (items_at o s p) o (with_own o s p left) is (λ passed. own_kept o s p left is)
 
 update_item_based : (kind : Kind) (s p i : ℕ) (fitting : Class → Bool) (stored : Items → Items) → KeepsBased (update_item kind s p i fitting stored)
 unfolding step
@@ -197,12 +197,12 @@ flagged_kept false false set o p is = is
 
 flag_based : (p : Part) (set : Bool) (bits : ℕ) → KeepsBased (flag p set bits)
 unfolding with_flags
-flag_based p set bits = edit_keeps IsBased (λ o. flag_refusal o p set bits) (λ o. flags_of (with_flags o p set bits) p) (λ o. with_flags o p set bits)
+flag_based p set bits = edit_keeps IsBased _ (λ o. flag_refusal o p set bits) (λ o. flags_of (with_flags o p set bits) p) (λ o. with_flags o p set bits)
     (λ o is passed. flagged_kept (set && has_dirty bits) (is_whole p && has_layout bits) set o p is)
 
 set_fill_based : (byte : ℕ) → KeepsBased (set_fill byte)
 unfolding with_fill
-set_fill_based byte = edit_keeps IsBased (λ o. None) (λ o. tt) (λ o. with_fill o byte) (λ o is passed. with_sections o (record o { fill = byte }) (λ e. e) refl refl is.homes is)
+set_fill_based byte = edit_keeps IsBased _ (λ o. None) (λ o. tt) (λ o. with_fill o byte) (λ o is passed. with_sections o (record o { fill = byte }) (λ e. e) refl refl is.homes is)
 
 rows_kept : (base : List ℕ) (g : ℕ → Section → Section) → ((i : ℕ) (c : Section) → HomeStands base c → HomeStands base (g i c)) → (n : ℕ) (l : List Section) → All (HomeStands base) l → All (HomeStands base) (map (λ row. g row.0 row.1) (enumerate_from n l))
 rows_kept base g keeps n [] each = All-nil (HomeStands base)
@@ -224,18 +224,18 @@ placed_kept o is = by_test (is_dirty o)
 pub every_step_keeps_based : EveryStepKeepsBased
 unfolding with_phdr with_new_phdrs with_null_section
 every_step_keeps_based = record {
-  update_ehdr = λ h. edit_keeps IsBased (λ o. update_ehdr_refusal o h) (λ o. tt) (λ o. with_ehdr o h) (λ o is passed. ehdr_kept o h is);
-  update_phdr = λ i p. edit_keeps IsBased (λ o. update_phdr_refusal o i p) (λ o. tt) (λ o. with_phdr o i p) (λ o is passed. phdrs_kept o (set o.phdrs i p) is);
-  newphdr = λ n. edit_keeps IsBased (λ o. newphdr_refusal n) (λ o. tt) (λ o. with_new_phdrs o n) (λ o is passed. phdrs_kept o (replicate n no_phdr) is);
-  phdrs_mut = λ left. edit_keeps IsBased (λ o. None) (λ o. tt) (λ o. with_phdrs o left) (λ o is passed. phdrs_kept o left is);
-  update_shdr = λ s h. edit_keeps IsBased (λ o. update_shdr_refusal o s h) (λ o. tt) (λ o. with_shdr o s h) (λ o is passed. header_kept o s h is);
-  newscn = edit_keeps IsBased newscn_refusal new_number with_new_section (λ o is passed. new_section_kept o is);
-  newnull = edit_keeps IsBased (λ o. None) (λ o. tt) with_null_section (λ o is passed. null_kept (length o.sections == 0) o is);
-  newdata = λ s items align. edit_keeps IsBased (λ o. newdata_refusal o s items align) (λ o. (s, piece_count o s)) (λ o. with_new_piece o s items align) (λ o is passed. new_piece_kept o s items align is);
+  update_ehdr = λ h. edit_keeps IsBased _ (λ o. update_ehdr_refusal o h) (λ o. tt) (λ o. with_ehdr o h) (λ o is passed. ehdr_kept o h is);
+  update_phdr = λ i p. edit_keeps IsBased _ (λ o. update_phdr_refusal o i p) (λ o. tt) (λ o. with_phdr o i p) (λ o is passed. phdrs_kept o (set o.phdrs i p) is);
+  newphdr = λ n. edit_keeps IsBased _ (λ o. newphdr_refusal n) (λ o. tt) (λ o. with_new_phdrs o n) (λ o is passed. phdrs_kept o (replicate n no_phdr) is);
+  phdrs_mut = λ left. edit_keeps IsBased _ (λ o. None) (λ o. tt) (λ o. with_phdrs o left) (λ o is passed. phdrs_kept o left is);
+  update_shdr = λ s h. edit_keeps IsBased _ (λ o. update_shdr_refusal o s h) (λ o. tt) (λ o. with_shdr o s h) (λ o is passed. header_kept o s h is);
+  newscn = edit_keeps IsBased _ newscn_refusal new_number with_new_section (λ o is passed. new_section_kept o is);
+  newnull = edit_keeps IsBased _ (λ o. None) (λ o. tt) with_null_section (λ o is passed. null_kept (length o.sections == 0) o is);
+  newdata = λ s items align. edit_keeps IsBased _ (λ o. newdata_refusal o s items align) (λ o. (s, piece_count o s)) (λ o. with_new_piece o s items align) (λ o is passed. new_piece_kept o s items align is);
   set_fill = set_fill_based;
-  replace = λ s p items. edit_keeps IsBased (λ o. replace_refusal o s p items) (λ o. tt) (λ o. with_own o s p items) (λ o is passed. own_kept o s p items is);
+  replace = λ s p items. edit_keeps IsBased _ (λ o. replace_refusal o s p items) (λ o. tt) (λ o. with_own o s p items) (λ o is passed. own_kept o s p items is);
   flag = flag_based;
-  update_null = edit_keeps IsBased refusal image_length placed (λ o is passed. placed_kept o is);
+  update_null = edit_keeps IsBased _ refusal image_length placed (λ o is passed. placed_kept o is);
   lend = lend_based;
   update_half = λ s p i v. update_item_based kinds.Half s p i (λ c. true) (λ l. items.Half (set (halves_of l) i v));
   update_word = λ s p i v. update_item_based kinds.Word s p i (λ c. true) (λ l. items.Word (set (words_of l) i v));

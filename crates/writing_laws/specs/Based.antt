@@ -4,7 +4,6 @@ use Rattle.std.specs.Prelude.{◌≡◌, ℕ, ◌<◌, ◌≤◌, ◌^◌, Bool,
 use Rattle.std.specs.List.{list_any}
 use Rattle.elf_types.specs.declared.records.Class.{Class}
 use Rattle.elf_types.specs.declared.records.Order.{Order}
-use Rattle.elf_types.specs.declared.records.Kind.{Kind}
 use Rattle.elf_types.specs.declared.records.Ehdr.{Ehdr}
 use Rattle.elf_types.specs.declared.records.Phdr.{Phdr}
 use Rattle.elf_types.specs.declared.records.Shdr.{Shdr}
@@ -69,7 +68,7 @@ pub record EveryStepKeepsBased : Type 0 where
   pub replace : (s p : ℕ) (items : Items) → KeepsBased (calls.replace s p items)
   pub flag : (p : Part) (set : Bool) (bits : ℕ) → KeepsBased (calls.flag p set bits)
   pub update_null : KeepsBased calls.update_null
-  pub lend : (kind : Kind) (s p : ℕ) (left : Items) → KeepsBased (calls.lend kind s p left)
+  pub lend : (s p : ℕ) (left : Items) → KeepsBased (calls.lend s p left)
   pub update_half : (s p i v : ℕ) → KeepsBased (calls.update_half s p i v)
   pub update_word : (s p i v : ℕ) → KeepsBased (calls.update_word s p i v)
   pub update_addr : (s p i v : ℕ) → KeepsBased (calls.update_addr s p i v)
