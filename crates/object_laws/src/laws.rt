@@ -101,8 +101,9 @@ pub fn updates_tie()
     reopen_law();
 }
 
-/// Where an update is not refused, and an own piece stands alone in a section from 1 on and is of the
-/// kind of the section's present header, which has items, settling keeps its items.
+/// Where an update is not refused, and an own piece stands alone in a section from 1 on, has items in the
+/// range of their types and is of the kind of the section's present header, which has items, settling keeps
+/// them.
 pub fn settling_keeps_items()
     ensures { (o : Object) → SettlingKeepsItems o }
 {
