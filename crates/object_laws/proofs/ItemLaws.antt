@@ -64,7 +64,7 @@ whole_spread bytes fill =
     sym (take_all (length bytes) (spread (0 + length bytes) (λ _. fill) (record { at = 0; bytes = bytes } ∷ [])) (omega arith))
     ∙ take-drop-spread (0 + length bytes) (λ _. fill) (record { at = 0; bytes = bytes } ∷ []) 0 (record { at = 0; bytes = bytes }) (tt, tt) refl (omega arith)
 
-alone_spread : (align : ℕ) (bytes : List ℕ) (fill : ℕ) → spread (last_end 0 (stacked 0 ((align, bytes) ∷ []))) (λ _. fill) (stacked 0 ((align, bytes) ∷ [])) ≡ bytes
+pub alone_spread : (align : ℕ) (bytes : List ℕ) (fill : ℕ) → spread (last_end 0 (stacked 0 ((align, bytes) ∷ []))) (λ _. fill) (stacked 0 ((align, bytes) ∷ [])) ≡ bytes
 unfolding stacked last_end block_end
 alone_spread align bytes fill =
     let place = first_place align in
@@ -110,7 +110,7 @@ positive_bytes s c positive filled = let test : (s == 0) ≡ false = ne_eqb s 0 
 
 -- ---- Its items fit
 
-row_none : (f : ℕ → Section → Option ElfError) (n : ℕ) (l : List Section) (i : ℕ) (d : Section) → first_refusal (map (λ row. f row.0 row.1) (enumerate_from n l)) ≡ None → i < length l → f (n + i) (get_or l i d) ≡ None
+pub row_none : (f : ℕ → Section → Option ElfError) (n : ℕ) (l : List Section) (i : ℕ) (d : Section) → first_refusal (map (λ row. f row.0 row.1) (enumerate_from n l)) ≡ None → i < length l → f (n + i) (get_or l i d) ≡ None
 row_none f n [] i d h below = absurd (omega arith)
 row_none f n (c ∷ l) zero d h below =
     let at : n + 0 ≡ n = omega arith in

@@ -10,13 +10,12 @@ use Rattle.elf_types.specs.declared.records.Class.TheVariants.{C32, C64}
 use Rattle.elf_types.specs.declared.records.Ehdr.{Ehdr}
 use Rattle.elf_types.specs.declared.records.Phdr.{Phdr}
 use Rattle.elf_types.specs.declared.records.Shdr.{Shdr}
-use Rattle.elf_types.specs.declared.records.Kind.{Kind}
 use Rattle.elf_types.specs.declared.records.Part.{Part}
 use Rattle.elf_types.specs.declared.records.Part.TheVariants as part
 use Rattle.elf_types.specs.declared.errors.ElfError.TheVariants.{BadAlign, NoSection, Reserved, TooMany, Unfit}
 use Rattle.elf_xlate.specs.declared.content.Items.{Items}
 use Rattle.elf_xlate.specs.Headers.{IsEhdr, IsPhdr, IsShdr, ehdr_fits, shdr_fits}
-use Rattle.elf_xlate.specs.Translation.{AreItems}
+use Rattle.elf_xlate.specs.Translation.{AreItems, items_kind}
 use Rattle.elf_types.specs.Answers.{refused_if}
 use Rattle.elf_ident.specs.Front.{zero_shdr}
 use Rattle.elf_object.specs.Object.{Object, Section, Piece, section_at, piece_at, new_section, home_piece, no_phdr, no_home}
@@ -79,7 +78,7 @@ ehdr_stored o h ok is passed =
     }
 
 pub update_ehdr_keeps : (h : Ehdr) → IsEhdr h → KeepsObject (update_ehdr h)
-update_ehdr_keeps h is = edit_keeps IsObject (λ o. update_ehdr_refusal o h) (λ o. tt) (λ o. with_ehdr o h) (λ o ok passed. ehdr_stored o h ok is passed)
+update_ehdr_keeps h is = edit_keeps IsObject _ (λ o. update_ehdr_refusal o h) (λ o. tt) (λ o. with_ehdr o h) (λ o ok passed. ehdr_stored o h ok is passed)
 
 -- ---- Program headers
 
@@ -102,12 +101,12 @@ phdrs_kept o l ok each count = record {
 
 pub update_phdr_keeps : (i : ℕ) (p : Phdr) → IsPhdr p → KeepsObject (update_phdr i p)
 unfolding with_phdr
-update_phdr_keeps i p is = edit_keeps IsObject (λ o. update_phdr_refusal o i p) (λ o. tt) (λ o. with_phdr o i p) (λ o ok passed.
+update_phdr_keeps i p is = edit_keeps IsObject _ (λ o. update_phdr_refusal o i p) (λ o. tt) (λ o. with_phdr o i p) (λ o ok passed.
     let count : length (set o.phdrs i p) ≤ 2 ^ 20 = rw length-set (ok.phdr_count) in
     phdrs_kept o (set o.phdrs i p) ok (All-set IsPhdr o.phdrs i p is ok.phdrs) count)
 
 pub phdrs_mut_keeps : (left : List Phdr) → All IsPhdr left → length left ≤ 2 ^ 20 → KeepsObject (phdrs_mut left)
-phdrs_mut_keeps left each count = edit_keeps IsObject (λ o. None) (λ o. tt) (λ o. with_phdrs o left) (λ o ok passed. phdrs_kept o left ok each count)
+phdrs_mut_keeps left each count = edit_keeps IsObject _ (λ o. None) (λ o. tt) (λ o. with_phdrs o left) (λ o ok passed. phdrs_kept o left ok each count)
 
 no_phdr_is : IsPhdr no_phdr
 no_phdr_is = record {
@@ -123,7 +122,7 @@ no_phdr_is = record {
 
 pub newphdr_keeps : (n : ℕ) → KeepsObject (newphdr n)
 unfolding with_new_phdrs
-newphdr_keeps n = edit_keeps IsObject (λ o. newphdr_refusal n) (λ o. tt) (λ o. with_new_phdrs o n) (λ o ok passed.
+newphdr_keeps n = edit_keeps IsObject _ (λ o. newphdr_refusal n) (λ o. tt) (λ o. with_new_phdrs o n) (λ o ok passed.
     let small = ltb-false 65534 n (not_refused (nat_lt 65534 n) TooMany passed) in
     let count : length (replicate n no_phdr) ≤ 2 ^ 20 = rw length-replicate (omega arith) in
     phdrs_kept o (replicate n no_phdr) ok (All-replicate IsPhdr n no_phdr no_phdr_is) count)
@@ -197,7 +196,7 @@ section_at_is o s ok = at_or (IsSection o.header.class) o.sections s new_section
 
 pub update_shdr_keeps : (s : ℕ) (h : Shdr) → IsShdr h → KeepsObject (update_shdr s h)
 unfolding update_shdr_refusal with_shdr
-update_shdr_keeps s h is = edit_keeps IsObject (λ o. update_shdr_refusal o s h) (λ o. tt) (λ o. with_shdr o s h) (λ o ok passed.
+update_shdr_keeps s h is = edit_keeps IsObject _ (λ o. update_shdr_refusal o s h) (λ o. tt) (λ o. with_shdr o s h) (λ o ok passed.
     let tests = passed_three (nat_le (length o.sections) s) (s == 0) (not (shdr_fits o.header.class h)) (NoSection s (length o.sections)) Reserved (Unfit (part.Section s) 0) passed in
     let old = section_at_is o s ok in
     section_kept o s (record (section_at o s) { header = h; marked = true }) ok (record {
@@ -247,7 +246,7 @@ added_are class false = All-cons (IsSection class) new_section [] (new_section_i
 
 pub newscn_keeps : KeepsObject newscn
 unfolding with_new_section
-newscn_keeps = edit_keeps IsObject newscn_refusal new_number with_new_section (λ o ok passed.
+newscn_keeps = edit_keeps IsObject _ newscn_refusal new_number with_new_section (λ o ok passed.
     let room = leb-false (2 ^ 20) (length o.sections) (not_refused (nat_le (2 ^ 20) (length o.sections)) TooMany passed) in
     sections_more o (added_sections (length o.sections)) ok (added_are o.header.class (length o.sections == 0)) (added_count (length o.sections) room)
     (nil_front o.sections (added_sections (length o.sections))))
@@ -271,7 +270,7 @@ null_keeps false o ok none = ok
 
 pub newnull_keeps : KeepsObject newnull
 unfolding with_null_section
-newnull_keeps = edit_keeps IsObject (λ o. None) (λ o. tt) with_null_section (λ o ok passed.
+newnull_keeps = edit_keeps IsObject _ (λ o. None) (λ o. tt) with_null_section (λ o ok passed.
     null_keeps (length o.sections == 0) o ok (λ h. nil_from_length o.sections (eqb-true (length o.sections) 0 h)))
 
 -- ---- Pieces
@@ -323,11 +322,11 @@ with_own_is o s p items ok are =
     (rw length-set (old.piece_count)))
 
 pub replace_keeps : (s p : ℕ) (items : Items) → AreItems items → KeepsObject (replace s p items)
-replace_keeps s p items are = edit_keeps IsObject (λ o. replace_refusal o s p items) (λ o. tt) (λ o. with_own o s p items) (λ o ok passed. with_own_is o s p items ok are)
+replace_keeps s p items are = edit_keeps IsObject _ (λ o. replace_refusal o s p items) (λ o. tt) (λ o. with_own o s p items) (λ o ok passed. with_own_is o s p items ok are)
 
-pub lend_keeps : (kind : Kind) (s p : ℕ) (left : Items) → AreItems left → KeepsObject (lend kind s p left)
+pub lend_keeps : (s p : ℕ) (left : Items) → AreItems left → KeepsObject (lend s p left)
 unfolding step
-lend_keeps kind s p left are o ok = answered_keeps IsObject (lend_refusal o kind s p) (items_at o s p) o (with_own o s p left) ok (λ passed. with_own_is o s p left ok are)
+lend_keeps s p left are o ok = answered_keeps IsObject (lend_refusal o (items_kind left) s p) (items_at o s p) o (with_own o s p left) ok (λ passed. with_own_is o s p left ok are)
 
 with_new_piece_is : (o : Object) (s : ℕ) (items : Items) (align : ℕ) → IsObject o → AreItems items → IsTrue (is_piece_align align) → piece_count o s < 2 ^ 20 → IsObject (with_new_piece o s items align)
 unfolding with_new_piece piece_count
@@ -343,7 +342,7 @@ with_new_piece_is o s items align ok are aligned room =
 pub newdata_keeps : (s : ℕ) (items : Items) (align : ℕ) → AreItems items → KeepsObject (newdata_aligned s items align)
 unfolding newdata_refusal
 newdata_keeps s items align are =
-    edit_keeps IsObject (λ o. newdata_refusal o s items align) (λ o. (s, piece_count o s)) (λ o. with_new_piece o s items align) (λ o ok passed.
+    edit_keeps IsObject _ (λ o. newdata_refusal o s items align) (λ o. (s, piece_count o s)) (λ o. with_new_piece o s items align) (λ o ok passed.
     let fits = unfit_items o s (piece_count o s) items ∷ [] in
     let fourth = refused_if (not (is_piece_align align)) (BadAlign align) ∷ fits in
     let third = refused_if (nat_le (2 ^ 20) (piece_count o s)) TooMany ∷ fourth in
@@ -436,12 +435,12 @@ flagged false false set o p ok = ok
 
 pub flag_keeps : (p : Part) (set : Bool) (bits : ℕ) → KeepsObject (flag p set bits)
 unfolding with_flags
-flag_keeps p set bits = edit_keeps IsObject (λ o. flag_refusal o p set bits) (λ o. flags_of (with_flags o p set bits) p) (λ o. with_flags o p set bits)
+flag_keeps p set bits = edit_keeps IsObject _ (λ o. flag_refusal o p set bits) (λ o. flags_of (with_flags o p set bits) p) (λ o. with_flags o p set bits)
     (λ o ok passed. flagged (set && has_dirty bits) (is_whole p && has_layout bits) set o p ok)
 
 pub set_fill_keeps : (byte : ℕ) → byte < 2 ^ 8 → KeepsObject (set_fill byte)
 unfolding with_fill
-set_fill_keeps byte small = edit_keeps IsObject (λ o. None) (λ o. tt) (λ o. with_fill o byte) (λ o ok passed. record {
+set_fill_keeps byte small = edit_keeps IsObject _ (λ o. None) (λ o. tt) (λ o. with_fill o byte) (λ o ok passed. record {
   header = ok.header;
   fitting = ok.fitting;
   pad = ok.pad;

@@ -202,6 +202,7 @@ opened_section_is class image h are is fitting = record {
 pub record IsFrontOf (image : List ℕ) (f : Front) : Type 0 where
   pub class : Class
   pub order : Order
+  pub ident : ident_in image ≡ Ok (class, order)
   pub long : ehdr_size class ≤ length image
   pub head : Head
   pub header : head.header ≡ ehdr_of class order (take (ehdr_size class) image)
@@ -228,6 +229,7 @@ head_known image head h =
     subst P (sym made) (record {
       class = id.0.0;
       order = id.0.1;
+      ident = id.1;
       long = ltb-false (length image) (ehdr_size id.0.0) (not_refused (nat_lt (length image) (ehdr_size id.0.0)) error.Short long.0);
       head = record { header = outer.0.0; pad = outer.0.1; counts = inner.0 };
       header = ap (λ (x : Ehdr × List ℕ). x.0) parts;

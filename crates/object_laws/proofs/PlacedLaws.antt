@@ -335,4 +335,4 @@ placed_is o ok passed = by_test (is_dirty o) refl
     by_test false e = ok
 
 pub update_null_keeps : KeepsObject update_null
-update_null_keeps = edit_keeps IsObject refusal image_length placed (λ o ok passed. placed_is o ok passed)
+update_null_keeps = edit_keeps IsObject _ refusal image_length placed (λ o ok passed. placed_is o ok passed)

@@ -3,7 +3,6 @@ use Rattle.std.specs.Prelude.{◌≡◌, ◌≢◌, ℕ, ◌<◌, ◌≤◌, ◌
 use Rattle.elf_types.specs.Kinds.{section_kind}
 use Rattle.elf_types.specs.declared.records.Class.{Class}
 use Rattle.elf_types.specs.declared.records.Order.{Order}
-use Rattle.elf_types.specs.declared.records.Kind.{Kind}
 use Rattle.elf_types.specs.declared.records.Kind.TheVariants as kinds
 use Rattle.elf_types.specs.declared.records.Ehdr.{Ehdr}
 use Rattle.elf_types.specs.declared.records.Phdr.{Phdr}
@@ -58,7 +57,7 @@ pub record EveryStepKeeps : Type 0 where
   pub replace : (s p : ℕ) (items : Items) → AreItems items → KeepsObject (calls.replace s p items)
   pub flag : (p : Part) (set : Bool) (bits : ℕ) → KeepsObject (calls.flag p set bits)
   pub update_null : KeepsObject calls.update_null
-  pub lend : (kind : Kind) (s p : ℕ) (left : Items) → AreItems left → KeepsObject (calls.lend kind s p left)
+  pub lend : (s p : ℕ) (left : Items) → AreItems left → KeepsObject (calls.lend s p left)
   pub update_half : (s p i v : ℕ) → v < 2 ^ 16 → KeepsObject (calls.update_half s p i v)
   pub update_word : (s p i v : ℕ) → v < 2 ^ 32 → KeepsObject (calls.update_word s p i v)
   pub update_addr : (s p i v : ℕ) → v < 2 ^ 64 → KeepsObject (calls.update_addr s p i v)
@@ -82,7 +81,7 @@ pub record EveryStepKeepsTied : Type 0 where
   pub replace : (s p : ℕ) (items : Items) → KeepsTied (calls.replace s p items)
   pub flag : (p : Part) (set : Bool) (bits : ℕ) → KeepsTied (calls.flag p set bits)
   pub update_null : KeepsTied calls.update_null
-  pub lend : (kind : Kind) (s p : ℕ) (left : Items) → KeepsTied (calls.lend kind s p left)
+  pub lend : (s p : ℕ) (left : Items) → KeepsTied (calls.lend s p left)
   pub update_half : (s p i v : ℕ) → KeepsTied (calls.update_half s p i v)
   pub update_word : (s p i v : ℕ) → KeepsTied (calls.update_word s p i v)
   pub update_addr : (s p i v : ℕ) → KeepsTied (calls.update_addr s p i v)
