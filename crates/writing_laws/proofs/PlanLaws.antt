@@ -1,22 +1,22 @@
 -- The parts of an image, and its plan.
-use Rattle.std.proofs.Common.{◌≡◌, ℕ, zero, suc, ◌+◌, ◌-◌, ◌<◌, ◌≤◌, min, max, Bool, true, false, not, ◌&&◌, ◌||◌, List, [], ◌∷◌, ◌++◌, length, take, drop, get_or, Some, refl, sym, ap, ◌∙◌, subst, arith, ⊎_elim}
-use Rattle.std.specs.Prelude.{All, nat_lt, if◌then◌else◌, slice_get, count_by, map}
+use Rattle.std.proofs.Common.{◌≡◌, ℕ, zero, suc, ◌+◌, ◌-◌, ◌<◌, ◌≤◌, Bool, true, false, not, ◌&&◌, List, [], ◌∷◌, ◌++◌, length, get_or, Some, refl, sym, ap, ◌∙◌, subst, arith}
+use Rattle.std.specs.Prelude.{nat_lt, if◌then◌else◌, slice_get, count_by}
 use Rattle.std.specs.List.{range_with_len, filter, AllByRecursion}
-use Rattle.std.proofs.lemmas.Bool.{cases_lt, lt-ltb, le-ltb}
+use Rattle.std.proofs.lemmas.Bool.{lt-ltb, le-ltb}
 use Rattle.std.proofs.lemmas.List.Sums.{length-filter}
 use Rattle.std.proofs.lemmas.List.{append-nil}
 use Rattle.std.proofs.lemmas.List.Elements.{filter-append}
 use Rattle.elf_layout.specs.Layout.{length_from, length_of, standing, places_of as parts_places}
-use Rattle.elf_object.specs.Blocks.{Block, block_end, covers, is_covered, byte_over, spread}
+use Rattle.elf_object.specs.Blocks.{Block, block_end, is_covered, spread}
 use Rattle.elf_object.specs.Object.{Object, is_dirty}
 use Rattle.elf_object.specs.Layout.{parts_of, places_of, placed}
 use Rattle.elf_object.specs.Image.{part_blocks, kept_base, uncovered_byte, image_length, image, is_fill_place}
 use Rattle.elf_object.specs.Changed.{fill_places}
 use Rattle.object_laws.proofs.BlockLaws.{AreApart, AllApart, get_or-spread, byte_over-uncovered}
-use Rattle.object_laws.proofs.ImageLaws.{image-dirty, length-image}
+use Rattle.object_laws.proofs.ImageLaws.{image-dirty}
 use Rattle.object_laws.proofs.PlaceLaws.{length_from-ge}
 use Rattle.object_laws.proofs.StandLaws as stand
-use Rattle.writing_laws.specs.Lines.{HoldsBlock, AreInLine, in_line, gap_places}
+use Rattle.writing_laws.specs.Lines.{HoldsBlock, AreInLine, gap_places}
 use Rattle.writing_laws.specs.Plan.{in_order, plan, base_gaps}
 use Rattle.writing_laws.specs.Writing.{IsReady, PartsAreApart, PlanIsImage, GapsAreFill}
 use Rattle.writing_laws.proofs.LineLaws.{drop-spread}

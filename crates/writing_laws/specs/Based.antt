@@ -1,6 +1,6 @@
 -- What ties the base to an object in which something is dirty: what is not marked stands in the base as it stood in the
 -- image that was opened or last written (elf_update, ELF_F_DIRTY).
-use Rattle.std.specs.Prelude.{◌≡◌, ℕ, ◌<◌, ◌≤◌, ◌^◌, Bool, true, false, not, List, [], length, take, drop, All, None, Ok}
+use Rattle.std.specs.Prelude.{◌≡◌, ℕ, Bool, true, false, not, List, take, drop, All, None, Ok}
 use Rattle.std.specs.List.{list_any}
 use Rattle.elf_types.specs.declared.records.Class.{Class}
 use Rattle.elf_types.specs.declared.records.Order.{Order}

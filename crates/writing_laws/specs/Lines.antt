@@ -1,6 +1,6 @@
 -- Words for those who write bytes at places: what stands where, blocks in a line with what lies between them, and what
 -- a device may hold while it is written.
-use Rattle.std.specs.Prelude.{◌≡◌, ℕ, ◌+◌, ◌-◌, ◌<◌, ◌≤◌, true, false, List, [], ◌∷◌, ◌++◌, length, take, drop, map, slice_index, ◌⊎◌}
+use Rattle.std.specs.Prelude.{◌≡◌, ℕ, ◌-◌, ◌≤◌, true, false, List, [], ◌∷◌, ◌++◌, length, take, drop, map, slice_index, ◌⊎◌}
 use Rattle.std.specs.List.{range_with_len}
 use Rattle.elf_object.specs.Blocks.{Block, block_end, is_covered, spread}
 

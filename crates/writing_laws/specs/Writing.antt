@@ -1,8 +1,8 @@
 -- Laws on what a write leaves alone, in what order it may write, and what a write that failed leaves (elf_update with
 -- ELF_C_WRITE). Each is proved as the contract of a function.
-use Rattle.std.specs.Prelude.{◌≡◌, ℕ, ◌+◌, ◌<◌, ◌≤◌, Bool, true, false, not, ◌||◌, ◌&&◌, nat_lt, List, [], ◌∷◌, length, take, drop, slice_index, slice_get, sum_by, count_by, filter, All, Some, None}
-use Rattle.std.specs.List.{range_with_len, list_any}
-use Rattle.elf_object.specs.Blocks.{Block, block_end, covers, is_covered, spread, extents_meet}
+use Rattle.std.specs.Prelude.{◌≡◌, ℕ, ◌+◌, ◌<◌, ◌≤◌, true, false, not, nat_lt, List, length, take, drop, slice_index, slice_get, sum_by, count_by, filter, All, Some, None}
+use Rattle.std.specs.List.{range_with_len}
+use Rattle.elf_object.specs.Blocks.{Block, block_end, covers, is_covered, spread}
 use Rattle.elf_object.specs.Object.{Object, Home, is_dirty}
 use Rattle.elf_object.specs.Layout.{placed}
 use Rattle.elf_object.specs.Image.{part_blocks, kept_base, uncovered_byte, image_length, image, is_fill_place}
