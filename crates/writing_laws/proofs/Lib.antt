@@ -8,5 +8,7 @@ pub mod LeftPlaces
 pub mod WriteLaws
 pub mod AfterLaws
 pub mod AlikeLaws
+pub mod PieceLaws
+pub mod DisturbedLaws
 pub mod BasedSteps
 pub mod BasedBeginnings

@@ -1,4 +1,5 @@
 pub mod Lines
 pub mod Plan
+pub mod Marks
 pub mod Based
 pub mod Writing

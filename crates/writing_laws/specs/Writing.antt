@@ -1,9 +1,12 @@
 -- Laws on what a write leaves alone, in what order it may write, and what a write that failed leaves (elf_update with
 -- ELF_C_WRITE). Each is proved as the contract of a function.
-use Rattle.std.specs.Prelude.{◌≡◌, ℕ, ◌+◌, ◌<◌, ◌≤◌, true, false, not, nat_lt, List, length, take, drop, slice_index, slice_get, sum_by, count_by, filter, All, Some, None}
-use Rattle.std.specs.List.{range_with_len}
-use Rattle.elf_object.specs.Blocks.{Block, block_end, covers, is_covered, spread}
-use Rattle.elf_object.specs.Object.{Object, Home, is_dirty}
+use Rattle.std.specs.Prelude.{◌≡◌, ℕ, ◌+◌, ◌-◌, ◌<◌, ◌≤◌, max, Bool, true, false, not, ◌&&◌, ◌||◌, nat_lt, List, ◌∷◌, ◌++◌, length, map, take, drop, slice_index, slice_get, sum_by, count_by, filter, All, Some, None}
+use Rattle.std.proofs.Math.ListN.{replicate}
+use Rattle.std.specs.List.{range_with_len, list_any}
+use Rattle.elf_types.specs.declared.records.Part.TheVariants as part
+use Rattle.elf_object.specs.Blocks.{Block, block_end, covers, is_covered, spread, extents_meet}
+use Rattle.elf_object.specs.Object.{Object, Home, section_at, has_file_bytes, is_dirty}
+use Rattle.elf_object.specs.Joined.{piece_blocks, pieces_end, joined}
 use Rattle.elf_object.specs.Layout.{placed}
 use Rattle.elf_object.specs.Image.{part_blocks, kept_base, uncovered_byte, image_length, image, is_fill_place}
 use Rattle.elf_object.specs.Refusal.{refusal}
@@ -12,7 +15,8 @@ use Rattle.elf_object.specs.Changed.{changed_blocks, fill_places, changed_bytes,
 use Rattle.elf_object.specs.Valid.{IsObject}
 use Rattle.object_laws.specs.Laws.{IsTornImage}
 use Rattle.writing_laws.specs.Lines.{HoldsBlock, AreInLine, in_line, gap_places, patched, IsTornPatch}
-use Rattle.writing_laws.specs.Plan.{plan, base_gaps, written_blocks}
+use Rattle.writing_laws.specs.Plan.{plan, places_below, base_gaps, written_blocks, meets_some}
+use Rattle.writing_laws.specs.Marks.{marked_all, moved_pieces}
 use Rattle.writing_laws.specs.Based.{IsBased}
 
 -- an object that an update writes: something is dirty, and the update is not refused
@@ -76,9 +80,33 @@ UndisturbedStays o =
     (bytes : List ℕ) (home : Home) → IsReady o → IsBased o → IsTornImage o bytes → is_disturbed o home ≡ false
     → (0 < home.len → home.at + home.len ≤ length o.base) → take home.len (drop home.at bytes) ≡ take home.len (drop home.at o.base)
 
+-- it is disturbed where it meets something that is written, or passes the new end
+abbrev pub DisturbedByWrites : Object → Type 0
+DisturbedByWrites o =
+    (home : Home) → IsReady o
+    → is_disturbed o home ≡ (meets_some home (written_blocks o) || (nat_lt 0 home.len && nat_lt (image_length o) (home.at + home.len)))
+
 -- ---- After an update in place
 
 -- an object whose places are stored, and one whose write failed, settle as the object itself
 pub record SettlesAlike (o : Object) : Type 0 where
   pub placed : IsObject o → refusal o ≡ None → settle (placed o) ≡ settle o
   pub torn : (bytes : List ℕ) → IsReady o → IsTornImage o bytes → settle (torn o bytes) ≡ settle o
+
+-- after places are stored, the object marked, and each piece of each section that moves marked, an object is torn over
+-- its own base
+abbrev pub MarksAreTorn : Object → Type 0
+MarksAreTorn o = marked_all (placed o) (part.Object ∷ moved_pieces o) ≡ torn o o.base
+
+-- ---- Gaps and pieces, of every object
+
+-- the bytes of a gap: those of the base below the end of what counts, and then the fill byte
+abbrev pub GapBytes : Object → Type 0
+GapBytes o =
+    (from end : ℕ) → map (uncovered_byte o) (range_with_len from (end - from))
+    ≡ take (places_below (kept_base o) from end) (drop from o.base) ++ replicate (end - max from (kept_base o)) o.fill
+
+-- the pieces of a section with file bytes stand in a line, and its bytes are theirs, with the fill byte between them
+pub record PiecesInLine (o : Object) : Type 0 where
+  pub line : (s : ℕ) → AreInLine (pieces_end o s) 0 (piece_blocks o s)
+  pub bytes : (s : ℕ) → has_file_bytes s (section_at o s) ≡ true → joined o s ≡ in_line (pieces_end o s) (λ _. o.fill) 0 (piece_blocks o s)
