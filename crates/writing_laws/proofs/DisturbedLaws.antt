@@ -1,5 +1,5 @@
 -- A home is disturbed where it meets something that is written.
-use Rattle.std.proofs.Common.{◌≡◌, ℕ, zero, suc, ◌+◌, ◌-◌, ◌<◌, ◌≤◌, max, Bool, true, false, not, ◌&&◌, ◌||◌, List, [], ◌∷◌, ◌++◌, length, refl, sym, ap, ◌∙◌, arith, ⊎_elim, ◌⊎◌, inl, inr}
+use Rattle.std.proofs.Common.{◌≡◌, ℕ, zero, suc, ◌+◌, ◌-◌, ◌<◌, ◌≤◌, max, Bool, true, false, not, ◌&&◌, ◌||◌, List, [], ◌∷◌, length, refl, sym, ap, ◌∙◌, arith, ⊎_elim, ◌⊎◌, inl, inr}
 use Rattle.std.specs.Prelude.{nat_lt, cond}
 use Rattle.std.specs.List.{range_with_len, list_any, filter}
 use Rattle.std.proofs.lemmas.Bool.{cases_lt, lt-ltb, le-ltb, ltb-true}
@@ -7,12 +7,12 @@ use Rattle.std.proofs.lemmas.List.{length-replicate}
 use Rattle.std.proofs.lemmas.List.Elements.{filter-append}
 use Rattle.std.proofs.lemmas.List.Folds.{list_any-append}
 use Rattle.elf_object.specs.Blocks.{Block, block_end, extents_meet}
-use Rattle.elf_object.specs.Object.{Object, Home}
+use Rattle.elf_object.specs.Object.{Object}
 use Rattle.elf_object.specs.Image.{kept_base, image_length}
-use Rattle.elf_object.specs.Changed.{changed_blocks, fill_places, is_disturbed}
+use Rattle.elf_object.specs.Changed.{changed_blocks, is_disturbed}
 use Rattle.writing_laws.specs.Lines.{AreInLine, gap_places}
 use Rattle.writing_laws.specs.Plan.{plan, fill_block, fill_between, fill_blocks, written_blocks, meets_some}
-use Rattle.writing_laws.specs.Writing.{IsReady, DisturbedByWrites}
+use Rattle.writing_laws.specs.Writing.{DisturbedByWrites}
 use Rattle.writing_laws.proofs.PlanLaws.{plan_line, fill_places_are}
 
 -- ---- Extents that meet

@@ -10,5 +10,7 @@ pub mod AfterLaws
 pub mod AlikeLaws
 pub mod PieceLaws
 pub mod DisturbedLaws
+pub mod MarkLaws
+pub mod UnderWayLaws
 pub mod BasedSteps
 pub mod BasedBeginnings

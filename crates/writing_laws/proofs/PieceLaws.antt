@@ -1,18 +1,17 @@
 -- The bytes of a gap, and those of a section's pieces: both are of every object.
-use Rattle.std.proofs.Common.{◌≡◌, ℕ, ◌+◌, ◌-◌, ◌<◌, ◌≤◌, min, max, Bool, true, false, List, [], ◌∷◌, ◌++◌, length, take, drop, replicate, get_or, refl, sym, ap, ◌∙◌, arith, ⊎_elim}
-use Rattle.std.specs.Prelude.{nat_lt, if◌then◌else◌, map}
+use Rattle.std.proofs.Common.{◌≡◌, ℕ, ◌+◌, ◌-◌, ◌<◌, ◌≤◌, min, max, Bool, true, false, List, [], ◌∷◌, ◌++◌, length, take, drop, replicate, get_or, refl, sym, ◌∙◌, arith, ⊎_elim}
+use Rattle.std.specs.Prelude.{if◌then◌else◌, map}
 use Rattle.std.specs.List.{range_with_len}
 use Rattle.std.proofs.lemmas.Bool.{cases_lt, lt-ltb, le-ltb}
 use Rattle.std.proofs.lemmas.List.{length-append, length-take, length-drop, length-replicate, get_or_append_left, get_or-append_right, get_or-take, get_or-drop, get_or-replicate, ext_get_or}
 use Rattle.std.proofs.lemmas.List.FromFn.{length-map-range_with_len, get_or-map-range_with_len}
 use Rattle.elf_layout.specs.Layout.{rounded_up}
-use Rattle.elf_object.specs.Blocks.{Block, block_end, stacked, last_end, spread}
+use Rattle.elf_object.specs.Blocks.{block_end, stacked, last_end}
 use Rattle.elf_object.specs.Object.{Object, section_at, has_file_bytes}
 use Rattle.elf_object.specs.Joined.{aligned_pieces, piece_blocks, pieces_end, joined}
 use Rattle.elf_object.specs.Image.{kept_base, uncovered_byte}
 use Rattle.object_laws.proofs.PlaceLaws.{rounded_up-ge}
 use Rattle.writing_laws.specs.Lines.{AreInLine, in_line}
-use Rattle.writing_laws.specs.Plan.{places_below}
 use Rattle.writing_laws.specs.Writing.{GapBytes, PiecesInLine}
 use Rattle.writing_laws.proofs.LineLaws.{drop-spread}
 

@@ -1,10 +1,10 @@
 -- Laws on what a write leaves alone, in what order it may write, and what a write that failed leaves (elf_update with
 -- ELF_C_WRITE). Each is proved as the contract of a function.
-use Rattle.std.specs.Prelude.{◌≡◌, ℕ, ◌+◌, ◌-◌, ◌<◌, ◌≤◌, max, Bool, true, false, not, ◌&&◌, ◌||◌, nat_lt, List, ◌∷◌, ◌++◌, length, map, take, drop, slice_index, slice_get, sum_by, count_by, filter, All, Some, None}
+use Rattle.std.specs.Prelude.{◌≡◌, ℕ, ◌+◌, ◌-◌, ◌<◌, ◌≤◌, max, true, false, not, ◌&&◌, ◌||◌, nat_lt, List, ◌∷◌, ◌++◌, length, map, take, drop, slice_index, slice_get, sum_by, count_by, filter, All, Some, None}
 use Rattle.std.proofs.Math.ListN.{replicate}
-use Rattle.std.specs.List.{range_with_len, list_any}
+use Rattle.std.specs.List.{range_with_len}
 use Rattle.elf_types.specs.declared.records.Part.TheVariants as part
-use Rattle.elf_object.specs.Blocks.{Block, block_end, covers, is_covered, spread, extents_meet}
+use Rattle.elf_object.specs.Blocks.{Block, block_end, covers, is_covered, spread}
 use Rattle.elf_object.specs.Object.{Object, Home, section_at, has_file_bytes, is_dirty}
 use Rattle.elf_object.specs.Joined.{piece_blocks, pieces_end, joined}
 use Rattle.elf_object.specs.Layout.{placed}

@@ -2,7 +2,7 @@
 //! does nothing.
 
 ghost use Rattle.elf_object.specs.Object.{Object};
-ghost use Rattle.writing_laws.specs.Writing.{InPlace, LeftStands, WrittenStands};
+ghost use Rattle.writing_laws.specs.Writing.{DisturbedByWrites, InPlace, LeftStands, WrittenStands};
 
 /// Where something is dirty, an update is not refused, and what is not marked stands in the base, a place of
 /// the image in no part that changes and no gap that is filled has the base's byte.
@@ -21,4 +21,11 @@ pub fn written_stands()
 #[tactic(auto, using(crate::proofs::WriteLaws::in_place))]
 pub fn in_place()
     ensures { (o : Object) → InPlace o }
+{}
+
+/// A home is disturbed where it shares a place with a part that changes or with the fill of a gap, or passes
+/// the new end.
+#[tactic(auto, using(crate::proofs::DisturbedLaws::disturbed_by_writes))]
+pub fn disturbed_by_writes()
+    ensures { (o : Object) → DisturbedByWrites o }
 {}

@@ -2,7 +2,7 @@
 //! the contract of a function that does nothing.
 
 ghost use Rattle.elf_object.specs.Object.{Object};
-ghost use Rattle.writing_laws.specs.Writing.{GapsAreFill, PartsAreApart, PlanIsImage};
+ghost use Rattle.writing_laws.specs.Writing.{GapBytes, GapsAreFill, PartsAreApart, PiecesInLine, PlanIsImage};
 
 /// Where something is dirty and an update is not refused, no place is a byte of two parts, and each part
 /// that is not empty ends within the image.
@@ -23,4 +23,17 @@ pub fn plan_is_image()
 #[tactic(auto, using(crate::proofs::PlanLaws::gaps_are_fill))]
 pub fn gaps_are_fill()
     ensures { (o : Object) → GapsAreFill o }
+{}
+
+/// A gap has the base's bytes below the end of those that count, and then the fill byte.
+#[tactic(auto, using(crate::proofs::PieceLaws::gap_bytes))]
+pub fn gap_bytes()
+    ensures { (o : Object) → GapBytes o }
+{}
+
+/// The pieces of a section stand in a line, and the section's bytes in the file are theirs, with the fill
+/// byte between them.
+#[tactic(auto, using(crate::proofs::PieceLaws::pieces_in_line))]
+pub fn pieces_in_line()
+    ensures { (o : Object) → PiecesInLine o }
 {}
