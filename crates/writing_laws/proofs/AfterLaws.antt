@@ -24,7 +24,8 @@ use Rattle.object_laws.proofs.SettledLaws.{settle-dirty, settle-clean, section_r
 use Rattle.object_laws.proofs.StandLaws.{covered_from, section_count-placed}
 use Rattle.writing_laws.specs.Lines.{HoldsBlock}
 use Rattle.writing_laws.specs.Based.{some_unmarked, HomeStands, IsBased, UpdatesKeepBased}
-use Rattle.writing_laws.specs.Writing.{IsReady, UndisturbedStays}
+use Rattle.writing_laws.specs.Ready.{IsReady}
+use Rattle.writing_laws.specs.Writing.{UndisturbedStays}
 use Rattle.writing_laws.proofs.BasedSteps.{placed_kept}
 use Rattle.writing_laws.proofs.PlanLaws.{parts_hold}
 use Rattle.writing_laws.proofs.LeftPlaces.{left_stands}
@@ -232,5 +233,5 @@ settle_based o ok is passed = by_test (is_dirty o) refl
 pub updates_keep_based : (o : Object) → UpdatesKeepBased o
 updates_keep_based o = record {
   settled = settle_based o;
-  torn = λ bytes ok is dirty passed between. torn_based o bytes (record { object = ok; dirty = dirty; passed = passed }) is between;
+  torn = λ bytes ready is between. torn_based o bytes ready is between;
 }

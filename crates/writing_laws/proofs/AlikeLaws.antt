@@ -18,7 +18,8 @@ use Rattle.object_laws.proofs.SettledLaws.{settle-dirty}
 use Rattle.object_laws.proofs.StandLaws.{section_count-placed, joined-placed}
 use Rattle.object_laws.proofs.AgainLaws.{SameFront, header_again, headers_again, front_again}
 use Rattle.object_laws.proofs.TornLaws.{dirty-placed, placed_stays, torn_of, torn-is, torn_front, torn_dirty, torn_law}
-use Rattle.writing_laws.specs.Writing.{IsReady, SettlesAlike}
+use Rattle.writing_laws.specs.Ready.{IsReady}
+use Rattle.writing_laws.specs.Writing.{SettlesAlike}
 
 -- ---- Objects that settle alike
 

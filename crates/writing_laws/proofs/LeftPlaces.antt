@@ -18,7 +18,8 @@ use Rattle.object_laws.proofs.StandLaws.{section_count-placed}
 use Rattle.writing_laws.specs.Lines.{HoldsBlock}
 use Rattle.writing_laws.specs.Based.{IsBased}
 use Rattle.writing_laws.specs.Plan.{plan}
-use Rattle.writing_laws.specs.Writing.{IsReady, LeftStands}
+use Rattle.writing_laws.specs.Ready.{IsReady}
+use Rattle.writing_laws.specs.Writing.{LeftStands}
 use Rattle.writing_laws.proofs.HeldLaws.{held_byte, held_within}
 use Rattle.writing_laws.proofs.PlanLaws.{parts_hold, image_uncovered, fill_place_is, covered-plan}
 use Rattle.writing_laws.proofs.LeftLaws.{header_stands, segments_stand, table_stands, section_stands}

@@ -17,7 +17,8 @@ use Rattle.object_laws.proofs.ImageLaws.{length-image, placed-dirty}
 use Rattle.object_laws.proofs.StandLaws.{section_count-placed}
 use Rattle.writing_laws.specs.Lines.{HoldsBlock, AreInLine, patched}
 use Rattle.writing_laws.specs.Plan.{plan, fill_block, fill_between, fill_blocks, written_blocks}
-use Rattle.writing_laws.specs.Writing.{IsReady, WrittenStands, InPlace, TornDevice}
+use Rattle.writing_laws.specs.Ready.{IsReady}
+use Rattle.writing_laws.specs.Writing.{WrittenStands, InPlace, TornDevice}
 use Rattle.writing_laws.proofs.LineLaws.{end_is, line_within, not_covered}
 use Rattle.writing_laws.proofs.GapLaws.{before_first, length-fill_between, fill_covers}
 use Rattle.writing_laws.proofs.HeldLaws.{stands_from, covered_byte, spread_is}

@@ -1,4 +1,5 @@
--- The marks that an update in place sets before it writes (ELF_F_DIRTY), so that it can be done again.
+-- The marks that an update in place sets before it writes (ELF_F_DIRTY), so that it can be done
+-- again.
 use Rattle.std.specs.Prelude.{ℕ, List, [], ◌∷◌, length, map, flat_map, filter}
 use Rattle.std.specs.List.{range_with_len}
 use Rattle.elf_types.specs.declared.records.Part.{Part}
@@ -20,4 +21,5 @@ pieces_of o s = map (part.Piece s) (range_with_len 0 (length (section_at o s).pi
 -- the pieces of the sections that move, once places are stored
 unfoldable pub moved_pieces : Object → List Part
 moved_pieces o =
-    flat_map (pieces_of (placed o)) (filter (is_moved o) (range_with_len 0 (length (placed o).sections)))
+    flat_map (pieces_of (placed o))
+    (filter (is_moved o) (range_with_len 0 (length (placed o).sections)))

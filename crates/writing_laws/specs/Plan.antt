@@ -1,5 +1,5 @@
--- The plan of a write (elf_update): the parts of an image that are not empty, in the order of their places, and the gaps
--- between them.
+-- The plan of a write (elf_update): the parts of an image that are not empty, in the order of their
+-- places, and the gaps between them.
 use Rattle.std.specs.Prelude.{ℕ, ◌+◌, ◌-◌, Bool, nat_lt, min, max, List, [], ◌∷◌, ◌++◌, length}
 use Rattle.std.specs.List.{filter, list_any}
 use Rattle.std.proofs.Math.ListN.{replicate}
