@@ -1,6 +1,5 @@
 -- copy: an image made anew with changes, in five kinds that come one after the other (objcopy(1) has the like of them).
-use Rattle.std.specs.Prelude.{ℕ, Bool, not, ◌==◌, ◌&&◌, ◌||◌, List, [], ◌∷◌, ◌++◌, length, drop, map, slice_set, slice_index_or, if◌then◌else◌, Option, Some, None, Result, Ok, Err}
-use Rattle.std.specs.Bool.{xor}
+use Rattle.std.specs.Prelude.{ℕ, Bool, true, false, not, ◌==◌, ◌&&◌, ◌||◌, List, [], ◌∷◌, ◌++◌, length, drop, map, slice_set, slice_index_or, if◌then◌else◌, Option, Some, None, Result, Ok, Err}
 use Rattle.std.specs.List.{position, enumerate_from}
 use Rattle.elf_types.specs.Answers.{refused_if, first_refusal, answered, or_refused, ◌>>=◌}
 use Rattle.elf_types.specs.declared.records.Shdr.{Shdr}
@@ -75,10 +74,14 @@ with_name names change = section_named names change.0 >>= λ s. Ok (slice_set na
 
 -- ---- Other flags
 
+abbrev pub differ : Bool → Bool → Bool
+differ true b = not b
+differ false b = b
+
 -- a program's sections stay allocated or not
 abbrev pub flags_fault : Object → ℕ → List ℕ → ℕ → Option CopyFault
 flags_fault o s name bits = refused_if
-    (not (length o.phdrs == 0) && xor (is_allocated (header_at o s)) (is_allocated (record (header_at o s) { flags = bits })))
+    (not (length o.phdrs == 0) && differ (is_allocated (header_at o s)) (is_allocated (record (header_at o s) { flags = bits })))
     (Fixed name)
 
 unfoldable pub with_section_flags : List (Option (List ℕ)) → Object → List ℕ × ℕ → Result Object CopyFault

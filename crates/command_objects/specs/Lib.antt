@@ -15,3 +15,4 @@ pub mod Split
 pub mod Generated
 pub mod Files
 pub mod Samples
+pub mod Programs

@@ -7,4 +7,6 @@ mod copy_tests;
 #[cfg(test)]
 mod hash_tests;
 #[cfg(test)]
+mod program_tests;
+#[cfg(test)]
 mod strip_tests;
