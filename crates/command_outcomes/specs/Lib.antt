@@ -3,3 +3,4 @@ pub mod Files
 pub mod Strip
 pub mod Copy
 pub mod Selftest
+pub mod Samples
