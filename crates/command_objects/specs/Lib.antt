@@ -16,3 +16,5 @@ pub mod Generated
 pub mod Files
 pub mod Samples
 pub mod Programs
+pub mod Laws
+pub mod KeepingLaws

@@ -20,9 +20,9 @@ use Rattle.command_objects.specs.Rebuilt.{made_section, assembled, stripped}
 use Rattle.command_objects.specs.Copied.{Changes, copied}
 use Rattle.command_objects.specs.Split.{debug_half}
 use Rattle.command_objects.specs.Rehashed.{rehashed}
-use Rattle.command_objects.specs.Files.{file_of}
+use Rattle.command_objects.specs.Files.{file_of, file_made}
 use Rattle.command_objects.specs.Generated.{zero_sym}
-use Rattle.command_objects.specs.Samples.{bytes_or_none, made_or_none, file_made, no_changes}
+use Rattle.command_objects.specs.Samples.{bytes_or_none, made_or_none, no_changes}
 
 -- an object with these program headers and sections, written and opened again
 abbrev pub opened_again : List Phdr → List Section → ℕ → List ℕ
@@ -61,13 +61,13 @@ program_sections =
     ∷ made_section (program_header (codes ".rela") SHT_RELA 0 6 3) (items.Rela [])
     ∷ made_section (program_header (codes ".note") SHT_PROGBITS 0 0 0) (items.Bytes (8 ∷ 9 ∷ 10 ∷ []))
     ∷ made_section
-      (program_header (codes ".tab") SHT_SYMTAB 0 7 1)
-      (items.Sym (zero_sym ∷ symbol_in 1 1 ∷ symbol_in 1 3 ∷ symbol_in 1 5 ∷ symbol_in 1 0xffff ∷ symbol_in 1 0xffff ∷ symbol_in 1 0xfff1 ∷ []))
+    (program_header (codes ".tab") SHT_SYMTAB 0 7 1)
+    (items.Sym (zero_sym ∷ symbol_in 1 1 ∷ symbol_in 1 3 ∷ symbol_in 1 5 ∷ symbol_in 1 0xffff ∷ symbol_in 1 0xffff ∷ symbol_in 1 0xfff1 ∷ []))
     ∷ made_section (program_header (codes ".str") SHT_STRTAB 0 0 0) (items.Bytes (0 ∷ 0x61 ∷ 0 ∷ []))
     ∷ made_section (program_header (codes ".shstr") SHT_STRTAB 0 0 0) (items.Bytes (table program_names))
     ∷ made_section
-      (program_header (codes ".shndx") SHT_SYMTAB_SHNDX 0 6 0)
-      (items.Word (0 ∷ 0 ∷ 0 ∷ 0 ∷ 3 ∷ 5 ∷ 0 ∷ []))
+    (program_header (codes ".shndx") SHT_SYMTAB_SHNDX 0 6 0)
+    (items.Word (0 ∷ 0 ∷ 0 ∷ 0 ∷ 3 ∷ 5 ∷ 0 ∷ []))
     ∷ []
 
 -- what is loaded: the headers, and .text at 120

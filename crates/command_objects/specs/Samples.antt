@@ -8,10 +8,6 @@ use Rattle.command_objects.specs.Arranged.{Rebuilt}
 use Rattle.command_objects.specs.Files.{file_of}
 use Rattle.command_objects.specs.Copied.{Changes, copied}
 
--- the image of what is made anew
-abbrev pub file_made : Result Rebuilt ElfError → Result (List ℕ) ElfError
-file_made made = made >>= λ r. file_of r.object
-
 -- an answer's value, or the empty one
 abbrev pub bytes_or_none : {E : Type 0} → Result (List ℕ) E → List ℕ
 bytes_or_none (Ok bytes) = bytes

@@ -6,13 +6,13 @@ ghost use Rattle.std.specs.Prelude.{◌≡◌, [], ◌∷◌, ◌++◌, take, dr
 ghost use Rattle.elf_object.specs.Object.{header_of, section_at};
 ghost use Rattle.elf_object.specs.Samples.{small64, header64, symbols64, object_in};
 ghost use Rattle.command_objects.specs.Rebuilt.{stripped};
-ghost use Rattle.command_objects.specs.Files.{file_of};
+ghost use Rattle.command_objects.specs.Files.{file_of, file_made};
 ghost use Rattle.command_objects.specs.Copied.{copied};
 ghost use Rattle.command_objects.specs.Copied.CopyFault.{NoSection, NoTable};
 ghost use Rattle.command_objects.specs.Split.{debug_half, debug_refusal, unstripped};
 ghost use Rattle.command_objects.specs.Split.UnstripFault.{Mismatch};
 ghost use Rattle.command_objects.specs.Generated.{generated_and_shifted, five_lines};
-ghost use Rattle.command_objects.specs.Samples.{made_or_none, bytes_or_none, file_made, unlinked64, no_changes, two_letters, with_new_section};
+ghost use Rattle.command_objects.specs.Samples.{made_or_none, bytes_or_none, unlinked64, no_changes, two_letters, with_new_section};
 
 /// A section is added behind the others, and its name goes into the table.
 fn sections_are_added()

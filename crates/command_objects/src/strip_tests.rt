@@ -6,7 +6,8 @@ ghost use Rattle.elf_object.specs.Object.{header_of, section_at};
 ghost use Rattle.elf_object.specs.Samples.{small64, symbols64, object_in};
 ghost use Rattle.command_objects.specs.Removed.{removed_sections};
 ghost use Rattle.command_objects.specs.Rebuilt.{stripped};
-ghost use Rattle.command_objects.specs.Samples.{bytes_or_none, file_made, unnamed64};
+ghost use Rattle.command_objects.specs.Samples.{bytes_or_none, unnamed64};
+ghost use Rattle.command_objects.specs.Files.{file_made};
 
 /// Strip removes the symbol table; the table of the names is made anew, and stands alone.
 fn symbols_are_removed()

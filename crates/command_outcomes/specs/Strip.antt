@@ -44,8 +44,8 @@ strip_done options named file =
     object_named named file >>= λ o.
     let removed = removed_sections options.debug_only options.names o in
     elim (options.debug) [
-      None ↦ strip_alone o removed options.out file
-    | Some debug ↦ strip_split o removed options.out debug file
+      | None ↦ strip_alone o removed options.out file
+      | Some debug ↦ strip_split o removed options.out debug file
     ]
 
 unfoldable pub strip_outcome : StripOptions → Named → List ℕ → Outcome
