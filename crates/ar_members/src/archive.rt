@@ -203,4 +203,6 @@ impl<S: Source> Source for Ar<S> {
     fn read_at(&mut self, at: u64, buf: &mut [u8]) -> Result<(), Failed> {
         self.src.read_at(at, buf)
     }
+
+    ghost sized = { λ a. S.sized a.source };
 }

@@ -1,14 +1,18 @@
 //! The true counts of an image's tables.
 
 ghost use Rattle.std.specs.Prelude.{◌≡◌, ◌+◌, ◌^◌, ◌<◌, ◌≤◌, length, take, drop, IsTrue, IfOk, OnOk, IfErr, IfSome, Ok};
-ghost use Rattle.elf_types.specs.Answers.{Follows, IsRefusal};
+ghost use Rattle.elf_types.specs.Answers.{Follows, IsRefusal, answered};
+ghost use Rattle.elf_types.specs.declared.constants.TheConstants.{MAX_IMAGE};
 ghost use Rattle.elf_outside.specs.Asks.{Asks};
 ghost use Rattle.elf_xlate.specs.Headers.{phdr_size, shdr_size, shdr_of};
 ghost use Rattle.elf_ident.specs.Reading.{HasTables, IsCountRefusal};
-ghost use Rattle.elf_ident.specs.Front.{unless, needs_first, first_section, zero_shdr, true_counts, true_phnum, true_shnum, true_shstrndx, lies_in, header_refusals, count_refusals, counts_by, counts_in};
+ghost use Rattle.elf_ident.specs.Front.{needs_first, first_section, zero_shdr, true_counts, true_phnum, true_shnum, true_shstrndx, lies_in, header_refusal, count_refusal, counts_by, counts_in};
 
 use crate::reads::read;
 use elf_outside::Source;
+use elf_types::constants::{
+    EV_CURRENT, MAX_IMAGE, MAX_SECTIONS, MAX_SEGMENTS, PN_XNUM, SHN_XINDEX,
+};
 use elf_types::{Class, Ehdr, ElfError, Shdr};
 use elf_xlate::get_shdr;
 
@@ -23,15 +27,6 @@ pub struct Counts {
     /// The number of the section that holds the sections' names.
     pub shstrndx: u32,
 }
-
-/// The largest image, in bytes.
-pub const MAX_IMAGE: u64 = 1 << 40;
-
-/// The most entries of each table.
-pub const MAX_ENTRIES: u64 = 1 << 20;
-
-/// `PN_XNUM` and `SHN_XINDEX`: the number stands in section 0.
-pub const EXTENDED: u32 = 0xffff;
 
 /// The number of bytes of a program header. Source: gABI chapter 5, "Program Header".
 pub fn segment_header_size(class: Class) -> u64
@@ -57,7 +52,7 @@ pub fn section_header_size(class: Class) -> u64
 fn needs_first(h: &Ehdr) -> bool
     ensures { result ≡ needs_first h.now }
 {
-    h.shoff != 0 && (h.shnum == 0 || h.shstrndx == EXTENDED || h.phnum == EXTENDED)
+    h.shoff != 0 && (h.shnum == 0 || h.shstrndx == SHN_XINDEX || h.phnum == PN_XNUM)
 }
 
 /// Whether `count` entries of a size lie in an image of `len` bytes from the place `at` on.
@@ -70,14 +65,14 @@ fn lies_in(len: u64, at: u64, count: u64, size: u64) -> bool
 
 /// What a header is refused by before section 0 is looked at: `Version`, `TooLarge`, `ShTable`, in this
 /// order.
-#[tactic(auto, unfolding(crate::specs::Front::header_refusals))]
+#[tactic(auto, unfolding(crate::specs::Front::header_refusal))]
 fn check_header(h: &Ehdr, len: u64) -> Result<(), ElfError>
-    ensures refusal { result ≡ unless (header_refusals h.now len) (Ok tt) }
-    ensures small { OnOk result (len ≤ 2 ^ 40) }
+    ensures refusal { result ≡ answered (header_refusal h.now len) tt }
+    ensures small { OnOk result (len ≤ MAX_IMAGE) }
     ensures err { IfErr result IsRefusal }
     ensures named { IfErr result (IsCountRefusal len) }
 {
-    if h.version != 1 {
+    if h.version != EV_CURRENT {
         return Err(ElfError::Version);
     }
     if len > MAX_IMAGE {
@@ -97,9 +92,9 @@ fn check_header(h: &Ehdr, len: u64) -> Result<(), ElfError>
 }
 
 /// What a header is refused by for its true counts: `ShTable`, `PhTable`, `TooMany`, in this order.
-#[tactic(auto, unfolding(crate::specs::Front::count_refusals))]
+#[tactic(auto, unfolding(crate::specs::Front::count_refusal))]
 fn check_counts(h: &Ehdr, c: &Counts, len: u64) -> Result<(), ElfError>
-    ensures refusal { result ≡ unless (count_refusals h.now c.now len) (Ok tt) }
+    ensures refusal { result ≡ answered (count_refusal h.now c.now len) tt }
     ensures tables { OnOk result (HasTables h.now c.now len) }
     ensures err { IfErr result IsRefusal }
     ensures named { IfErr result (IsCountRefusal len) }
@@ -111,13 +106,13 @@ fn check_counts(h: &Ehdr, c: &Counts, len: u64) -> Result<(), ElfError>
     if h.phnum != 0 && u64::from(h.phentsize) != size {
         return Err(ElfError::PhTable);
     }
-    if h.phnum == EXTENDED && h.shoff == 0 {
+    if h.phnum == PN_XNUM && h.shoff == 0 {
         return Err(ElfError::PhTable);
     }
     if h.phnum != 0 && !lies_in(len, h.phoff, u64::from(c.phnum), size) {
         return Err(ElfError::PhTable);
     }
-    if c.shnum > MAX_ENTRIES || u64::from(c.phnum) > MAX_ENTRIES {
+    if c.shnum > MAX_SECTIONS || u64::from(c.phnum) > MAX_SEGMENTS {
         return Err(ElfError::TooMany);
     }
     Ok(())
@@ -128,7 +123,7 @@ fn true_phnum(h: &Ehdr, first: &Shdr) -> u32
     ensures phnum { result ≡ true_phnum h.now first.now }
     ensures none { h.now.phnum ≡ 0 → result ≡ 0 }
 {
-    if h.phnum == EXTENDED {
+    if h.phnum == PN_XNUM {
         first.info
     } else {
         h.phnum
@@ -152,7 +147,7 @@ fn true_shstrndx(h: &Ehdr, first: &Shdr) -> u32
 {
     if true_shnum(h, first) == 0 {
         0
-    } else if h.shstrndx == EXTENDED {
+    } else if h.shstrndx == SHN_XINDEX {
         first.link
     } else {
         h.shstrndx
@@ -160,7 +155,7 @@ fn true_shstrndx(h: &Ehdr, first: &Shdr) -> u32
 }
 
 /// The true counts, by the header of section 0, or the first refusal by them.
-#[tactic(auto, using(crate::proofs::Refusals::unless_passed, crate::proofs::Refusals::unless_refused), unfolding(crate::specs::Front::counts_by))]
+#[tactic(auto, using(crate::proofs::Refusals::answered_passed, crate::proofs::Refusals::answered_refused), unfolding(crate::specs::Front::counts_by))]
 fn counts_by(h: &Ehdr, first: &Shdr, len: u64) -> Result<Counts, ElfError>
     ensures counts { result ≡ counts_by h.now first.now len }
     ensures tables { IfOk result (λ c. HasTables h.now c len) }
@@ -234,7 +229,7 @@ pub fn read_counts<S: Source>(src: &mut S, h: &Ehdr) -> Result<Counts, ElfError>
     ensures counts { IfSome (S.holds src.old) (λ image. Follows result (counts_in h.now image)) }
     ensures tables { IfOk result (λ c. HasTables h.now c (S.size src.old)) }
     ensures none { IfOk result (λ c. h.now.phnum ≡ 0 → c.phnum ≡ 0) }
-    ensures small { OnOk result (S.size src.old ≤ 2 ^ 40) }
+    ensures small { OnOk result (S.size src.old ≤ MAX_IMAGE) }
     ensures asks { Asks S.Source result src.old src.new (shdr_size h.now.class) }
     ensures err { IfErr result (IsCountRefusal (S.size src.old)) }
 {

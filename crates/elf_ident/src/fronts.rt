@@ -2,6 +2,7 @@
 
 ghost use Rattle.std.specs.Prelude.{◌≡◌, ◌+◌, ◌*◌, ◌^◌, ◌<◌, ◌≤◌, ◌⊎◌, length, OnOk, IfOk, IfErr, IfSome, Err};
 ghost use Rattle.elf_types.specs.Answers.{Follows};
+ghost use Rattle.elf_types.specs.declared.constants.TheConstants.{MAX_IMAGE};
 ghost use Rattle.elf_outside.specs.Asks.{Asks};
 ghost use Rattle.elf_xlate.specs.Headers.{HasNarrowCounts, phdr_size, shdr_size};
 ghost use Rattle.elf_ident.specs.Reading.{HasTables, IsSound, IsCounted, IsFrontRefusal};
@@ -50,7 +51,7 @@ fn read_head<S: Source>(src: &mut S) -> Result<Head, ElfError>
         S.taken src.new ≤ S.taken src.old + (header_bytes image + first_bytes image)) }
     ensures err { IfErr result (IsFrontRefusal (S.size src.old)) }
     ensures short { S.size src.old < 16 → result ≡ Err ElfError.Short }
-    ensures small { OnOk result (S.size src.old ≤ 2 ^ 40) }
+    ensures small { OnOk result (S.size src.old ≤ MAX_IMAGE) }
 {
     let (header, pad) = read_header(src)?;
     let counts = read_counts(src, &header)?;
@@ -130,7 +131,7 @@ pub fn read_front<S: Source>(alloc: Global, src: &mut S) -> Result<Front, ElfErr
     ensures bound { IfSome (S.holds src.old) (λ image. S.taken src.new ≤ S.taken src.old + front_bytes image) }
     ensures err { IfErr result (IsFrontRefusal (S.size src.old)) }
     ensures short { S.size src.old < 16 → result ≡ Err ElfError.Short }
-    ensures small { OnOk result (S.size src.old ≤ 2 ^ 40) }
+    ensures small { OnOk result (S.size src.old ≤ MAX_IMAGE) }
 {
     let head = read_head(src)?;
     let (phdrs, shdrs) = read_tables(alloc, src, &head)?;

@@ -7,14 +7,14 @@ ghost use Rattle.elf_xlate.specs.Headers.{HasNarrowCounts, ehdr_size};
 ghost use Rattle.elf_ident.specs.Reading.{HasStart, HasRest, IsHeaderRefusal};
 ghost use Rattle.elf_ident.specs.Front.{class_named, order_named, ident_in, header_in, header_at, header_bytes};
 
-use crate::file_kinds::ELF_MAGIC;
 use crate::reads::read;
 use elf_outside::Source;
+use elf_types::constants::{
+    EI_CLASS, EI_DATA, EI_NIDENT, EI_PAD, EI_VERSION, ELFCLASS32, ELFCLASS64, ELFDATA2LSB,
+    ELFDATA2MSB, ELFMAG, EV_CURRENT,
+};
 use elf_types::{Class, Ehdr, ElfError, Order};
 use elf_xlate::get_ehdr;
-
-/// The bytes of the identification, `EI_NIDENT`.
-pub const IDENT_SIZE: usize = 16;
 
 /// The bytes of the longest header, that of class 64.
 pub const MAX_HEADER_SIZE: usize = 64;
@@ -24,8 +24,8 @@ fn class_named(code: u8) -> Option<Class>
     ensures { result ≡ class_named code }
 {
     match code {
-        1 => Some(Class::C32),
-        2 => Some(Class::C64),
+        ELFCLASS32 => Some(Class::C32),
+        ELFCLASS64 => Some(Class::C64),
         _ => None,
     }
 }
@@ -35,8 +35,8 @@ fn order_named(code: u8) -> Option<Order>
     ensures { result ≡ order_named code }
 {
     match code {
-        1 => Some(Order::Least),
-        2 => Some(Order::Greatest),
+        ELFDATA2LSB => Some(Order::Least),
+        ELFDATA2MSB => Some(Order::Greatest),
         _ => None,
     }
 }
@@ -53,23 +53,23 @@ pub fn header_size(class: Class) -> usize
 
 /// The class and the order that an identification names, or the first of `Magic`, `Class`, `Order`
 /// and `Version` that it is refused by.
-#[tactic(auto, unfolding(crate::specs::Front::ident_in, crate::specs::FileKinds::elf_magic))]
+#[tactic(auto, unfolding(crate::specs::Front::ident_in, crate::specs::Front::no_ident))]
 fn ident(bytes: &[u8]) -> Result<(Class, Order), ElfError>
     requires { length bytes.now ≡ 16 }
     ensures ident { result ≡ ident_in bytes.now }
     ensures err { IfErr result IsRefusal }
     ensures named { (len : ℕ) → IfErr result (IsHeaderRefusal len) }
 {
-    if !bytes.starts_with(&ELF_MAGIC) {
+    if !bytes.starts_with(&ELFMAG) {
         return Err(ElfError::Magic);
     }
-    let Some(class) = class_named(bytes[4]) else {
+    let Some(class) = class_named(bytes[EI_CLASS]) else {
         return Err(ElfError::Class);
     };
-    let Some(order) = order_named(bytes[5]) else {
+    let Some(order) = order_named(bytes[EI_DATA]) else {
         return Err(ElfError::Order);
     };
-    if bytes[6] != 1 {
+    if u32::from(bytes[EI_VERSION]) != EV_CURRENT {
         return Err(ElfError::Version);
     }
     Ok((class, order))
@@ -86,7 +86,7 @@ fn read_ident<S: Source>(src: &mut S, start: &mut [u8]) -> Result<(Class, Order)
     ensures err { IfErr result (IsHeaderRefusal (S.size src.old)) }
     ensures short { S.size src.old < 16 → result ≡ Err ElfError.Short }
 {
-    if src.len() < IDENT_SIZE as u64 {
+    if src.len() < EI_NIDENT as u64 {
         return Err(ElfError::Short);
     }
     read(src, 0, start)?;
@@ -106,7 +106,7 @@ fn read_rest<S: Source>(src: &mut S, class: Class, rest: &mut [u8]) -> Result<()
     if src.len() < size as u64 {
         return Err(ElfError::Short);
     }
-    read(src, IDENT_SIZE as u64, &mut rest[..size - IDENT_SIZE])
+    read(src, EI_NIDENT as u64, &mut rest[..size - EI_NIDENT])
 }
 
 /// Bytes 9 to 15 of an identification.
@@ -115,7 +115,7 @@ fn pad_of(bytes: &[u8]) -> [u8; 7]
     ensures { result ≡ take 7 (drop 9 bytes.now) }
 {
     let mut pad = [0u8; 7];
-    pad.copy_from_slice(&bytes[9..16]);
+    pad.copy_from_slice(&bytes[EI_PAD..EI_NIDENT]);
     pad
 }
 
@@ -146,7 +146,7 @@ fn read_header_by<S: Source>(src: &mut S, bytes: &mut [u8]) -> Result<(Ehdr, [u8
     ensures short { S.size src.old < 16 → result ≡ Err ElfError.Short }
     ensures bound { IfSome (S.holds src.old) (λ image. S.taken src.new ≤ S.taken src.old + header_bytes image) }
 {
-    let (start, others) = bytes.split_at_mut(IDENT_SIZE);
+    let (start, others) = bytes.split_at_mut(EI_NIDENT);
     let (class, order) = read_ident(src, start)?;
     read_rest(src, class, others)?;
     let header = get_ehdr(class, order, &bytes[..header_size(class)]);

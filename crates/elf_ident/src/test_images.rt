@@ -292,4 +292,6 @@ impl Source for Sparse {
         }
         Ok(())
     }
+
+    ghost sized = { λ _. tt };
 }

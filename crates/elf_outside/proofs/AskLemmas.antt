@@ -3,9 +3,7 @@ use Rattle.std.proofs.Common.{◌+◌, ◌≤◌, ℕ, Result, Ok, Err, ◌∙�
 use Rattle.elf_types.specs.declared.errors.ElfError.{ElfError}
 use Rattle.elf_types.specs.declared.errors.ElfError.TheVariants.{Memory, Read}
 use Rattle.elf_types.specs.Answers.{IsRefusal}
-use Rattle.elf_outside.specs.Counts.{Rose, RaisedAtMost}
-use Rattle.elf_outside.specs.Leaves.{LeavesBy}
-use Rattle.elf_outside.specs.Asks.{Leaves, ReadRose, Asks}
+use Rattle.elf_outside.specs.Asks.{ReadRose, Asks}
 use Rattle.elf_outside.specs.declared.sources.Source.{Ghosts}
 
 -- a count that rose from a later value on rose from the first

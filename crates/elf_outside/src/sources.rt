@@ -1,6 +1,6 @@
 //! What is read.
 
-ghost use Rattle.std.specs.Prelude.{◌≡◌, ℕ, ◌+◌, ◌≤◌, List, Option, length, take, drop, IfSome, OnOk};
+ghost use Rattle.std.specs.Prelude.{◌≡◌, ℕ, ◌+◌, ◌^◌, ◌<◌, ◌≤◌, List, Option, All, length, take, drop, IfSome, OnOk};
 ghost use Rattle.elf_outside.specs.Counts.{HasCause, RaisedBy};
 ghost use Rattle.elf_outside.specs.Leaves.{LeavesBy};
 
@@ -31,7 +31,7 @@ pub trait Source {
     /// The number of bytes.
     fn len(&self) -> u64
         ensures size { result ≡ size self.now }
-        ensures bytes { IfSome (holds self.now) (λ bytes. length bytes ≡ result) };
+        ensures ranged { IfSome (holds self.now) (λ bytes. All (λ n. n < 2 ^ 8) bytes) };
 
     /// Reads the bytes from the place `at` into the whole of `buf`. The range lies in the source.
     /// `Failed` comes only where the count of faults rose; the buffer then holds anything.
@@ -42,4 +42,6 @@ pub trait Source {
             (IfSome (holds self.old) (λ bytes. buf.new ≡ take (length buf.old) (drop at bytes))) }
         ensures cause { HasCause (faults self.old) (faults self.new) result }
         ensures taken { RaisedBy (taken self.old) (taken self.new) (length buf.old) };
+
+    ghost sized: { (s : Self) → IfSome (holds s) (λ bytes. length bytes ≡ size s) };
 }

@@ -36,8 +36,8 @@ impl Endian for BigEndian {
     ghost writes = { big_writes };
 }
 
-/// Calls a function at the byte order and the class that are given as values. The choice is made once,
-/// outside the function.
+/// Calls a function at the byte order and the class that are given as values; one that is named with a
+/// record, at the form of both and that record. The choice is made once, outside the function.
 macro_rules! in_form {
     ($class:expr, $order:expr, $function:ident($($argument:expr),*)) => {
         match ($class, $order) {
@@ -45,6 +45,22 @@ macro_rules! in_form {
             (Class::C32, Order::Greatest) => $function::<BigEndian, false>($($argument),*),
             (Class::C64, Order::Least) => $function::<LittleEndian, true>($($argument),*),
             (Class::C64, Order::Greatest) => $function::<BigEndian, true>($($argument),*),
+        }
+    };
+    ($class:expr, $order:expr, $function:ident::<$record:ty>($($argument:expr),*)) => {
+        match ($class, $order) {
+            (Class::C32, Order::Least) => {
+                $function::<Form<LittleEndian, false>, $record>($($argument),*)
+            }
+            (Class::C32, Order::Greatest) => {
+                $function::<Form<BigEndian, false>, $record>($($argument),*)
+            }
+            (Class::C64, Order::Least) => {
+                $function::<Form<LittleEndian, true>, $record>($($argument),*)
+            }
+            (Class::C64, Order::Greatest) => {
+                $function::<Form<BigEndian, true>, $record>($($argument),*)
+            }
         }
     };
 }

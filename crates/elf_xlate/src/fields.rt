@@ -65,7 +65,8 @@ pub fn get_native<T: Endian, const WIDE: bool>(bytes: &[u8], narrow: usize, broa
 #[tactic(auto, unfolding(crate::specs::Fields::number_in, crate::specs::Numbers::number_at, crate::specs::Numbers::signed_of))]
 pub fn get_signed<T: Endian, const WIDE: bool>(bytes: &[u8], narrow: usize, broad: usize) -> i64
     requires { (if WIDE then broad + 8 else narrow + 4) ≤ length bytes.now }
-    ensures { result ≡ signed_of (signed_width (class_of WIDE)) (number_in (class_of WIDE) T.order bytes.now (field (narrow, 4) (broad, 8))) }
+    ensures fits { IsTrue (fits_signed (class_of WIDE) result) }
+    ensures value { result ≡ signed_of (signed_width (class_of WIDE)) (number_in (class_of WIDE) T.order bytes.now (field (narrow, 4) (broad, 8))) }
 {
     if WIDE {
         T::read_i64(&bytes[broad..])
@@ -176,19 +177,19 @@ pub fn put_signed<T: Endian, const WIDE: bool>(out: &mut [u8], narrow: usize, br
 /// The number in the field at these places and widths, in class 32 and then in class 64; `s` marks a
 /// signed one.
 macro_rules! get_field {
-    ($order:ident, $wide:ident, $bytes:ident, $narrow:literal : 1, $broad:literal : 1) => {
+    ($order:ident, $wide:ident, $bytes:ident, $narrow:tt : 1, $broad:tt : 1) => {
         get_one::<$order, $wide>($bytes, $narrow, $broad)
     };
-    ($order:ident, $wide:ident, $bytes:ident, $narrow:literal : 2, $broad:literal : 2) => {
+    ($order:ident, $wide:ident, $bytes:ident, $narrow:tt : 2, $broad:tt : 2) => {
         get_two::<$order, $wide>($bytes, $narrow, $broad)
     };
-    ($order:ident, $wide:ident, $bytes:ident, $narrow:literal : 4, $broad:literal : 4) => {
+    ($order:ident, $wide:ident, $bytes:ident, $narrow:tt : 4, $broad:tt : 4) => {
         get_four::<$order, $wide>($bytes, $narrow, $broad)
     };
-    ($order:ident, $wide:ident, $bytes:ident, $narrow:literal : 4, $broad:literal : 8) => {
+    ($order:ident, $wide:ident, $bytes:ident, $narrow:tt : 4, $broad:tt : 8) => {
         get_native::<$order, $wide>($bytes, $narrow, $broad)
     };
-    ($order:ident, $wide:ident, $bytes:ident, $narrow:literal : 4 s, $broad:literal : 8 s) => {
+    ($order:ident, $wide:ident, $bytes:ident, $narrow:tt : 4 s, $broad:tt : 8 s) => {
         get_signed::<$order, $wide>($bytes, $narrow, $broad)
     };
 }
@@ -198,19 +199,19 @@ pub(crate) use get_field;
 /// Writes a number into the field at these places and widths, in class 32 and then in class 64; `s`
 /// marks a signed one.
 macro_rules! put_field {
-    ($order:ident, $wide:ident, $out:ident, $narrow:literal : 1, $broad:literal : 1, $n:expr) => {
+    ($order:ident, $wide:ident, $out:ident, $narrow:tt : 1, $broad:tt : 1, $n:expr) => {
         put_one::<$order, $wide>($out, $narrow, $broad, $n)
     };
-    ($order:ident, $wide:ident, $out:ident, $narrow:literal : 2, $broad:literal : 2, $n:expr) => {
+    ($order:ident, $wide:ident, $out:ident, $narrow:tt : 2, $broad:tt : 2, $n:expr) => {
         put_two::<$order, $wide>($out, $narrow, $broad, $n)
     };
-    ($order:ident, $wide:ident, $out:ident, $narrow:literal : 4, $broad:literal : 4, $n:expr) => {
+    ($order:ident, $wide:ident, $out:ident, $narrow:tt : 4, $broad:tt : 4, $n:expr) => {
         put_four::<$order, $wide>($out, $narrow, $broad, $n)
     };
-    ($order:ident, $wide:ident, $out:ident, $narrow:literal : 4, $broad:literal : 8, $n:expr) => {
+    ($order:ident, $wide:ident, $out:ident, $narrow:tt : 4, $broad:tt : 8, $n:expr) => {
         put_native::<$order, $wide>($out, $narrow, $broad, $n)
     };
-    ($order:ident, $wide:ident, $out:ident, $narrow:literal : 4 s, $broad:literal : 8 s, $n:expr) => {
+    ($order:ident, $wide:ident, $out:ident, $narrow:tt : 4 s, $broad:tt : 8 s, $n:expr) => {
         put_signed::<$order, $wide>($out, $narrow, $broad, $n)
     };
 }

@@ -274,10 +274,9 @@ base_within o dirty lay =
 
 torn_base : (o : Object) (bytes : List ℕ) → is_dirty o ≡ true → IsTornImage o bytes → o.layout ≡ true → length bytes ≡ length o.base
 torn_base o bytes dirty is lay =
-    let len = is.len in
     let whole = length-image o in
     let within = base_within o dirty lay in
-    omega arith
+    ⊎_elim (λ len. len) (λ len. omega arith) is.len
 
 -- where no part stands, the torn base has the byte that the base had
 image_uncovered : (o : Object) (k : ℕ) → is_dirty o ≡ true → k < image_length o → is_covered (part_blocks (placed o)) k ≡ false → get_or (image o) k 0 ≡ uncovered_byte o k

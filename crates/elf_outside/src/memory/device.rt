@@ -1,6 +1,7 @@
 //! A device in memory.
 
 ghost use Rattle.std.specs.Prelude.{refl, ◌≡◌, ◌⊎◌, ◌↔◌, ◌+◌, ◌≤◌, ◌<◌, ◌++◌, ◌∷◌, [], Some, Contains, IsErr, is_err, if◌then◌else◌, length, take, drop, vec_len, vec_capacity, OnOk, OnErr, IfOk, IfErr};
+ghost use Rattle.std.proofs.Common.{rules};
 ghost use Rattle.elf_outside.specs.Counts.{HasCause, RaisedBy, one_more};
 ghost use Rattle.elf_outside.specs.Writes.{written_over, resized};
 
@@ -89,7 +90,8 @@ impl Source for MemDevice {
     ghost taken = { λ d. d.taken };
 
     fn len(&self) -> u64 {
-        self.bytes.len() as u64
+        let bytes = self.bytes.as_slice();
+        bytes.len() as u64
     }
 
     fn read_at(&mut self, at: u64, buf: &mut [u8]) -> Result<(), Failed>
@@ -116,6 +118,8 @@ impl Source for MemDevice {
         buf.copy_from_slice(wanted);
         Ok(())
     }
+
+    ghost sized = { Prim.search rules };
 }
 
 impl Device for MemDevice {

@@ -1,6 +1,6 @@
 //! A source in memory.
 
-ghost use Rattle.std.specs.Prelude.{◌≡◌, ◌↔◌, ◌+◌, ◌≤◌, ◌∷◌, [], Some, Contains, IsErr, is_err, if◌then◌else◌, length, take, drop, OnOk, OnErr};
+ghost use Rattle.std.specs.Prelude.{refl, ◌≡◌, ◌↔◌, ◌+◌, ◌≤◌, ◌∷◌, [], Some, Contains, IsErr, is_err, if◌then◌else◌, length, take, drop, OnOk, OnErr};
 ghost use Rattle.elf_outside.specs.Counts.{HasCause, RaisedBy, one_more};
 
 use crate::memory::calls::Calls;
@@ -61,7 +61,8 @@ impl Source for MemSource {
     ghost taken = { λ s. s.taken };
 
     fn len(&self) -> u64 {
-        self.bytes.len()
+        let bytes = self.bytes.as_slice();
+        bytes.len() as u64
     }
 
     fn read_at(&mut self, at: u64, buf: &mut [u8]) -> Result<(), Failed>
@@ -87,6 +88,8 @@ impl Source for MemSource {
         buf.copy_from_slice(wanted);
         Ok(())
     }
+
+    ghost sized = { λ _. refl };
 }
 
 #[cfg(test)]

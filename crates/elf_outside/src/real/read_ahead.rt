@@ -144,6 +144,8 @@ impl<S: Source> Source for ReadAhead<S> {
         }
         outcome
     }
+
+    ghost sized = { λ r. S.sized r.inner };
 }
 
 impl<D: Device> Device for ReadAhead<D> {

@@ -62,6 +62,8 @@ impl Source for SystemFile {
         }
         Ok(())
     }
+
+    ghost sized = { λ _. tt };
 }
 
 impl Device for SystemFile {
