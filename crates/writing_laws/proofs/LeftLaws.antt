@@ -47,21 +47,21 @@ front_stands o p dirty same stands =
     let holds = same_holds o.base (block_of p (front_blocks (placed_by (places_of o) o))) (block_of p o.written) (is_not _ same) stands in
     subst (λ (q : Object). HoldsBlock o.base (block_of p (front_blocks q))) (sym (placed-dirty o dirty)) holds
 
-header_stands : (o : Object) → is_dirty o ≡ true → IsBased o → header_changed o ≡ false → HoldsBlock o.base (front_blocks (placed o)).header
+pub header_stands : (o : Object) → is_dirty o ≡ true → IsBased o → header_changed o ≡ false → HoldsBlock o.base (front_blocks (placed o)).header
 unfolding header_changed
 header_stands o dirty is same =
     let tests = neither (o.marked || o.header_marked) (front_differs (places_of o) o part.Header) same in
     let marks = neither o.marked o.header_marked tests.0 in
     front_stands o part.Header dirty tests.1 (is.header marks.0)
 
-segments_stand : (o : Object) → is_dirty o ≡ true → IsBased o → segments_changed o ≡ false → HoldsBlock o.base (front_blocks (placed o)).segments
+pub segments_stand : (o : Object) → is_dirty o ≡ true → IsBased o → segments_changed o ≡ false → HoldsBlock o.base (front_blocks (placed o)).segments
 unfolding segments_changed
 segments_stand o dirty is same =
     let tests = neither (o.marked || o.segments_marked) (front_differs (places_of o) o part.Segments) same in
     let marks = neither o.marked o.segments_marked tests.0 in
     front_stands o part.Segments dirty tests.1 (is.segments marks.0)
 
-table_stands : (o : Object) → is_dirty o ≡ true → IsBased o → table_changed o ≡ false → HoldsBlock o.base (front_blocks (placed o)).table
+pub table_stands : (o : Object) → is_dirty o ≡ true → IsBased o → table_changed o ≡ false → HoldsBlock o.base (front_blocks (placed o)).table
 unfolding table_changed
 table_stands o dirty is same =
     let tests = neither (o.marked || list_any (λ s. s.marked) o.sections) (front_differs (places_of o) o part.Table) same in
@@ -149,11 +149,11 @@ placed_joined : (o : Object) (s : ℕ) → is_dirty o ≡ true → (section_bloc
 unfolding section_block
 placed_joined o s dirty = ap (λ (q : Object). joined q s) (placed-dirty o dirty) ∙ joined-placed (places_of o) o s
 
-home_at : (o : Object) (s : ℕ) → IsBased o → s < length o.sections → HomeStands o.base (section_at o s)
+pub home_at : (o : Object) (s : ℕ) → IsBased o → s < length o.sections → HomeStands o.base (section_at o s)
 unfolding section_at
 home_at o s is inside = is.homes s new_section inside
 
-section_stands : (o : Object) (s : ℕ) → IsReady o → IsBased o → s < length o.sections → section_changed o s ≡ false → HoldsBlock o.base (section_block (placed o) s)
+pub section_stands : (o : Object) (s : ℕ) → IsReady o → IsBased o → s < length o.sections → section_changed o s ≡ false → HoldsBlock o.base (section_block (placed o) s)
 unfolding section_changed is_at_home some_piece_marked
 section_stands o s ready is inside same = by_bytes (has_file_bytes s (section_at o s)) refl
   where
