@@ -1,10 +1,9 @@
 -- Where the parts of a program stand that are not loaded: from a place on, one after the other, over a base that has
 -- what is loaded (gABI chapter 5, "Program Header": p_offset and p_filesz say what is loaded of the file).
-use Rattle.std.specs.Prelude.{ℕ, ◌+◌, ◌*◌, min, true, false, not, ◌==◌, ◌&&◌, ◌||◌, nat_eq, List, [], ◌∷◌, ◌++◌, length, take, map, filter, slice_index, if◌then◌else◌, Option, Some, None, Result, Ok, Err}
+use Rattle.std.specs.Prelude.{ℕ, ◌+◌, ◌*◌, min, true, not, ◌==◌, ◌&&◌, ◌||◌, nat_eq, List, [], ◌∷◌, ◌++◌, length, take, map, filter, slice_index, if◌then◌else◌, Option, Some, None, Result, Ok}
 use Rattle.std.specs.List.{position, enumerate_from}
 use Rattle.elf_types.specs.Answers.{refused_if, answered}
 use Rattle.elf_types.specs.declared.records.Phdr.{Phdr}
-use Rattle.elf_types.specs.declared.records.Shdr.{Shdr}
 use Rattle.elf_types.specs.declared.errors.ElfError.{ElfError}
 use Rattle.elf_types.specs.declared.errors.ElfError.TheVariants.{TooLarge}
 use Rattle.elf_types.specs.declared.constants.TheConstants.{PT_NULL}

@@ -1,6 +1,6 @@
 -- The hash sections of a symbol table, built anew (gABI chapter 5, "Hash Table"; GNU's hash section).
-use Rattle.std.specs.Prelude.{ℕ, ◌+◌, ◌-◌, ◌*◌, ◌/◌, ◌%◌, ◌^◌, Bool, true, false, not, ◌==◌, ◌&&◌, ◌||◌, nat_lt, nat_le, List, [], ◌∷◌, ◌++◌, length, map, filter, slice_index_or, if◌then◌else◌, Option, Some, None, is_none, Result}
-use Rattle.std.specs.List.{range_with_len, enumerate_from, list_any, sum, position}
+use Rattle.std.specs.Prelude.{ℕ, ◌+◌, ◌-◌, ◌*◌, ◌/◌, ◌%◌, ◌^◌, Bool, true, false, not, ◌==◌, ◌&&◌, ◌||◌, nat_lt, nat_le, List, [], ◌∷◌, length, map, filter, slice_index_or, if◌then◌else◌, Option, Some, None, is_none, Result}
+use Rattle.std.specs.List.{range_with_len, list_any, sum, position}
 use Rattle.std.specs.Option.{option_map}
 use Rattle.elf_types.specs.Answers.{refused_if, first_refusal, answered}
 use Rattle.elf_types.specs.declared.records.Class.{Class}

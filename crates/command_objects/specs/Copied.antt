@@ -1,5 +1,5 @@
 -- copy: an image made anew with changes, in five kinds that come one after the other (objcopy(1) has the like of them).
-use Rattle.std.specs.Prelude.{ℕ, Bool, true, false, not, ◌==◌, ◌&&◌, ◌||◌, List, [], ◌∷◌, ◌++◌, length, drop, map, slice_set, slice_index_or, if◌then◌else◌, Option, Some, None, Result, Ok, Err}
+use Rattle.std.specs.Prelude.{ℕ, Bool, true, false, not, ◌==◌, ◌&&◌, List, [], ◌∷◌, ◌++◌, length, drop, map, slice_set, slice_index_or, if◌then◌else◌, Option, Some, None, Result, Ok, Err}
 use Rattle.std.specs.List.{position, enumerate_from}
 use Rattle.elf_types.specs.Answers.{refused_if, first_refusal, answered, or_refused, ◌>>=◌}
 use Rattle.elf_types.specs.declared.records.Shdr.{Shdr}
@@ -12,7 +12,7 @@ use Rattle.elf_object.specs.Object.{Object, Section, occupies_file}
 use Rattle.elf_object.specs.Joined.{pieces_end}
 use Rattle.elf_object.specs.Layout.{section_numbers}
 use Rattle.elf_object.specs.Steps.{with_own, new_number}
-use Rattle.elf_object.specs.Calls.{Call, newscn, newdata, update_shdr, replace}
+use Rattle.elf_object.specs.Calls.{newscn, newdata, update_shdr, replace}
 use Rattle.command_objects.specs.Words.{is_allocated, header_at, edited, in_turn}
 use Rattle.command_objects.specs.Strings.{section_name, is_name, or_empty_name}
 use Rattle.command_objects.specs.Removed.{removed_by_name}

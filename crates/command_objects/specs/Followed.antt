@@ -1,7 +1,7 @@
 -- The map from old section numbers to new ones, and what follows it: links, symbols, extended indexes and group members
 -- (gABI chapter 4, "Sections", sh_link and sh_info; "Symbol Table", st_shndx; SHT_SYMTAB_SHNDX; SHT_GROUP). A number is
 -- a section's where it is neither 0 nor as great as the number of sections; every other number stays.
-use Rattle.std.specs.Prelude.{ℕ, Bool, true, false, not, ◌==◌, ◌&&◌, ◌||◌, nat_lt, nat_eq, List, [], ◌∷◌, ◌++◌, length, take, drop, map, filter, slice_get, if◌then◌else◌, Option, Some, None}
+use Rattle.std.specs.Prelude.{ℕ, Bool, false, not, ◌==◌, ◌&&◌, nat_lt, nat_eq, List, [], ◌∷◌, ◌++◌, length, take, drop, map, filter, slice_get, if◌then◌else◌, Option, Some, None}
 use Rattle.std.specs.List.{position, enumerate_from, flat_map, range_with_len}
 use Rattle.elf_types.specs.declared.records.Kind.TheVariants as kinds
 use Rattle.elf_types.specs.declared.records.Shdr.{Shdr}

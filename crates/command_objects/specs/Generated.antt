@@ -1,6 +1,6 @@
 -- The image of the self test: so many sections, each with a symbol.
-use Rattle.std.specs.Prelude.{ℕ, ◌+◌, ◌*◌, ◌%◌, List, [], ◌∷◌, ◌++◌, length, map, codes, decimal, Option, Some, None, Result, Ok, Err}
-use Rattle.std.specs.List.{range_with_len, sum, fold}
+use Rattle.std.specs.Prelude.{ℕ, ◌+◌, ◌*◌, ◌%◌, List, [], ◌∷◌, ◌++◌, length, map, codes, decimal, Option, Some, Result, Ok}
+use Rattle.std.specs.List.{range_with_len, sum}
 use Rattle.std.proofs.Math.ListN.{replicate}
 use Rattle.elf_types.specs.declared.records.Class.TheVariants.{C64}
 use Rattle.elf_types.specs.declared.records.Order.TheVariants.{Least}
@@ -8,7 +8,6 @@ use Rattle.elf_types.specs.declared.records.Shdr.{Shdr}
 use Rattle.elf_types.specs.declared.records.Sym.{Sym}
 use Rattle.elf_types.specs.declared.errors.ElfError.{ElfError}
 use Rattle.elf_types.specs.declared.constants.TheConstants.{SHT_PROGBITS, SHT_SYMTAB, SHT_STRTAB, SHF_ALLOC, STB_GLOBAL, STT_OBJECT}
-use Rattle.elf_xlate.specs.declared.content.Items.{Items}
 use Rattle.elf_xlate.specs.declared.content.Items.TheVariants as items
 use Rattle.elf_ident.specs.Front.{zero_shdr}
 use Rattle.strtab_build.specs.Table.{table, place_of}
@@ -17,7 +16,7 @@ use Rattle.elf_object.specs.Open.{created, new_ehdr}
 use Rattle.elf_object.specs.Steps.{with_ehdr}
 use Rattle.elf_object.specs.Calls.{step}
 use Rattle.elf_object.specs.Runs.{addall}
-use Rattle.elf_object.specs.Answers.{items_at, count_at, syms_of}
+use Rattle.elf_object.specs.Answers.{items_at, syms_of}
 use Rattle.command_objects.specs.Rebuilt.{made_section}
 use Rattle.command_objects.specs.Listed.{find_linear_answer}
 

@@ -1,6 +1,6 @@
 -- Hash sections, and when one is whole: each listed symbol is found by its name, and every chain ends (gABI chapter 5,
 -- "Hash Table"; GNU's hash section). The names are those of a symbol table, each where its symbol is listed.
-use Rattle.std.specs.Prelude.{ℕ, zero, suc, ◌+◌, ◌-◌, ◌*◌, ◌/◌, ◌%◌, ◌^◌, Bool, true, false, not, ◌==◌, ◌&&◌, ◌||◌, nat_lt, nat_le, nat_eq, List, [], ◌∷◌, ◌++◌, length, take, drop, map, slice_get, slice_index_or, if◌then◌else◌, Option, Some, None}
+use Rattle.std.specs.Prelude.{ℕ, zero, suc, ◌+◌, ◌-◌, ◌*◌, ◌/◌, ◌%◌, ◌^◌, Bool, true, false, not, ◌==◌, ◌&&◌, nat_lt, nat_le, List, [], ◌∷◌, ◌++◌, length, take, drop, map, slice_get, slice_index_or, if◌then◌else◌, Option, Some, None}
 use Rattle.std.specs.List.{range_with_len, enumerate_from, list_all, list_any, flat_map}
 use Rattle.std.specs.Option.{option_map}
 use Rattle.elf_types.specs.declared.records.Class.{Class}

@@ -1,9 +1,8 @@
 -- What strip and rehash keep, as laws over the definitions. They are stated here, and not proved yet.
-use Rattle.std.specs.Prelude.{◌≡◌, ℕ, ◌+◌, ◌<◌, ◌≤◌, ◌^◌, Bool, true, false, ◌&&◌, nat_le, nat_lt, List, [], ◌∷◌, length, slice_get, slice_index, All, Option, Some, None, ◌⊎◌, Result, Ok, Err}
+use Rattle.std.specs.Prelude.{◌≡◌, ℕ, ◌+◌, ◌<◌, ◌≤◌, ◌^◌, Bool, true, false, ◌&&◌, nat_le, nat_lt, List, [], ◌∷◌, length, slice_get, slice_index, All, Option, Some, None, Result, Ok, Err}
 use Rattle.std.proofs.Math.ListN.{replicate}
 use Rattle.std.specs.List.{list_any}
 use Rattle.elf_types.specs.declared.records.Class.{Class}
-use Rattle.elf_types.specs.declared.records.Order.{Order}
 use Rattle.elf_types.specs.declared.records.Phdr.{Phdr}
 use Rattle.elf_types.specs.declared.records.Sym.{Sym}
 use Rattle.elf_types.specs.declared.errors.ElfError.{ElfError}
@@ -12,7 +11,7 @@ use Rattle.elf_xlate.specs.Fields.{Field, field, place_in}
 use Rattle.elf_xlate.specs.Headers.{ehdr_size, shdr_size}
 use Rattle.elf_ident.specs.declared.fronts.Front.{Front}
 use Rattle.elf_ident.specs.Front.{front}
-use Rattle.elf_object.specs.Object.{Object, section_at}
+use Rattle.elf_object.specs.Object.{Object}
 use Rattle.elf_object.specs.Open.{begun, opened}
 use Rattle.elf_object.specs.Answers.{items_at, syms_of, rels_of, relas_of}
 use Rattle.elf_object.specs.Derived.{where_any}

@@ -1,8 +1,7 @@
 -- A small program and a small shared object, made of sections, on which the definitions are computed.
-use Rattle.std.specs.Prelude.{ℕ, List, [], ◌∷◌, ◌++◌, codes, map, true, false, Result, Ok, Err, pos}
+use Rattle.std.specs.Prelude.{ℕ, List, [], ◌∷◌, ◌++◌, codes, true, false, Result, Ok, Err, pos}
 use Rattle.elf_types.specs.declared.records.Class.TheVariants.{C64}
 use Rattle.elf_types.specs.declared.records.Order.TheVariants.{Least}
-use Rattle.elf_types.specs.declared.records.Ehdr.{Ehdr}
 use Rattle.elf_types.specs.declared.records.Phdr.{Phdr}
 use Rattle.elf_types.specs.declared.records.Shdr.{Shdr}
 use Rattle.elf_types.specs.declared.records.Sym.{Sym}

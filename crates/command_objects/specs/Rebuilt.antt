@@ -1,8 +1,7 @@
 -- The image made anew with the sections that are kept: strip and copy.
-use Rattle.std.specs.Prelude.{ℕ, ◌-◌, ◌^◌, Bool, true, false, not, ◌==◌, ◌&&◌, ◌||◌, nat_lt, nat_le, List, [], ◌∷◌, length, map, if◌then◌else◌, Option, Some, None, Result, Ok, Err}
+use Rattle.std.specs.Prelude.{ℕ, ◌-◌, ◌^◌, Bool, true, not, ◌==◌, ◌&&◌, ◌||◌, nat_lt, List, [], ◌∷◌, length, map, if◌then◌else◌, Option, None, Result}
 use Rattle.std.specs.List.{list_any}
 use Rattle.elf_types.specs.Answers.{refused_if, first_refusal, answered, ◌>>=◌}
-use Rattle.elf_types.specs.declared.records.Ehdr.{Ehdr}
 use Rattle.elf_types.specs.declared.records.Shdr.{Shdr}
 use Rattle.elf_types.specs.declared.errors.ElfError.{ElfError}
 use Rattle.elf_types.specs.declared.errors.ElfError.TheVariants.{TooLarge}
@@ -17,7 +16,7 @@ use Rattle.elf_object.specs.Calls.{newphdr_refusal, update_ehdr_refusal}
 use Rattle.command_objects.specs.Strings.{section_name, or_empty_name}
 use Rattle.command_objects.specs.Words.{is_allocated, header_at, is_among}
 use Rattle.command_objects.specs.Removed.{removed_sections, linking_to}
-use Rattle.command_objects.specs.Followed.{Renumbering, renumbering, kept_sections, kept_from_1, followed, followed_header, followed_group, followed_syms, followed_words, symbols_follow, members_follow, indexes_follow, words_for, syms_in}
+use Rattle.command_objects.specs.Followed.{renumbering, kept_sections, kept_from_1, followed, followed_header, followed_group, followed_syms, followed_words, symbols_follow, members_follow, indexes_follow, words_for, syms_in}
 use Rattle.command_objects.specs.Arranged.{Rebuilt, tail_of, over_base, arranged}
 
 -- ---- The table of the names

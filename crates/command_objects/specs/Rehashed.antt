@@ -1,5 +1,5 @@
 -- rehash: the hash sections of the dynamic symbols built anew.
-use Rattle.std.specs.Prelude.{ℕ, ◌^◌, Bool, true, not, ◌==◌, ◌&&◌, nat_lt, nat_le, List, [], ◌∷◌, length, slice_get, slice_index_or, if◌then◌else◌, Option, Some, None, is_none, Result, Ok, Err}
+use Rattle.std.specs.Prelude.{ℕ, ◌^◌, Bool, true, ◌==◌, ◌&&◌, nat_lt, nat_le, List, length, slice_index_or, if◌then◌else◌, Option, Some, None, Result, Ok, Err}
 use Rattle.std.specs.List.{position}
 use Rattle.elf_types.specs.Answers.{answered, ◌>>=◌}
 use Rattle.elf_types.specs.declared.records.Class.{Class}
@@ -8,10 +8,9 @@ use Rattle.elf_types.specs.declared.records.Order.{Order}
 use Rattle.elf_types.specs.declared.records.Kind.TheVariants as kinds
 use Rattle.elf_types.specs.declared.errors.ElfError.{ElfError}
 use Rattle.elf_types.specs.declared.constants.TheConstants.{SHT_DYNSYM, SHT_HASH, SHT_GNU_HASH}
-use Rattle.elf_xlate.specs.declared.content.Items.{Items}
 use Rattle.elf_xlate.specs.declared.content.Items.TheVariants as items
 use Rattle.elf_object.specs.Object.{Object}
-use Rattle.elf_object.specs.Answers.{items_at, bytes_of, words_of}
+use Rattle.elf_object.specs.Answers.{bytes_of, words_of}
 use Rattle.elf_object.specs.Steps.{with_layout}
 use Rattle.elf_object.specs.Calls.{data_answer, replace}
 use Rattle.command_objects.specs.Words.{is_of, edited}

@@ -1,6 +1,6 @@
 -- A symbol table in another order, and what goes by the indexes of its symbols: extended indexes, versions, relocations
 -- and the signatures of groups (gABI chapter 4, "Sections", sh_link and sh_info).
-use Rattle.std.specs.Prelude.{ℕ, ◌-◌, not, ◌==◌, ◌&&◌, ◌||◌, Bool, nat_lt, nat_eq, List, [], ◌∷◌, ◌++◌, length, drop, map, slice_get, if◌then◌else◌, Option, Some, None, Result}
+use Rattle.std.specs.Prelude.{ℕ, ◌-◌, not, ◌==◌, ◌&&◌, ◌||◌, Bool, nat_lt, nat_eq, List, [], ◌∷◌, ◌++◌, length, drop, map, slice_get, if◌then◌else◌, Option, Some, None}
 use Rattle.std.specs.List.{position, flat_map, fold}
 use Rattle.elf_types.specs.Answers.{refused_if, first_refusal}
 use Rattle.elf_types.specs.declared.records.Kind.{Kind}
@@ -13,7 +13,7 @@ use Rattle.elf_types.specs.declared.constants.TheConstants.{SHT_REL, SHT_RELA, S
 use Rattle.elf_xlate.specs.declared.content.Items.{Items}
 use Rattle.elf_xlate.specs.declared.content.Items.TheVariants as items
 use Rattle.elf_object.specs.Object.{Object}
-use Rattle.elf_object.specs.Answers.{items_at, count_at, syms_of, words_of, halves_of, rels_of, relas_of, lend_refusal}
+use Rattle.elf_object.specs.Answers.{items_at, count_at, syms_of, lend_refusal}
 use Rattle.elf_object.specs.Steps.{with_own, with_shdr}
 use Rattle.command_objects.specs.Words.{header_at, all_sections}
 

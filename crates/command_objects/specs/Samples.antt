@@ -1,9 +1,7 @@
 -- Small images on which the definitions are computed, and forms of answers that the tests compare.
-use Rattle.std.specs.Prelude.{ℕ, List, [], ◌∷◌, codes, Option, Some, None, Result, Ok, Err}
-use Rattle.elf_types.specs.Answers.{◌>>=◌}
-use Rattle.elf_types.specs.declared.errors.ElfError.{ElfError}
+use Rattle.std.specs.Prelude.{ℕ, List, [], ◌∷◌, codes, Result, Ok, Err}
 use Rattle.elf_object.specs.Object.{Object}
-use Rattle.elf_object.specs.Samples.{small64, with_number, object_in, or_none}
+use Rattle.elf_object.specs.Samples.{small64, with_number, object_in}
 use Rattle.command_objects.specs.Arranged.{Rebuilt}
 use Rattle.command_objects.specs.Files.{file_of}
 use Rattle.command_objects.specs.Copied.{Changes, copied}

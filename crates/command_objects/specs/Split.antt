@@ -1,6 +1,6 @@
 -- The debug half of a program, whose allocated sections have no bytes, and what combines it with the stripped half again
 -- (eu-strip(1) with -f, eu-unstrip(1)).
-use Rattle.std.specs.Prelude.{ℕ, Bool, true, false, not, ◌==◌, ◌&&◌, ◌||◌, nat_eq, List, [], ◌∷◌, length, map, filter, slice_get, if◌then◌else◌, Option, Some, None, Result, Ok, Err}
+use Rattle.std.specs.Prelude.{ℕ, Bool, true, false, not, ◌==◌, ◌&&◌, nat_eq, List, [], ◌∷◌, length, map, filter, slice_get, if◌then◌else◌, Option, Some, None, Result, Ok, Err}
 use Rattle.std.specs.Cmp.Lexicographic.{pointwise}
 use Rattle.std.specs.List.{position}
 use Rattle.std.specs.Option.{option_map}

@@ -1,6 +1,6 @@
 -- The string at an offset of a section's pieces, and the names that are such strings (gABI chapter 4, "String Table",
 -- sh_name and st_name; elf_strptr).
-use Rattle.std.specs.Prelude.{ℕ, ◌-◌, ◌^◌, min, Bool, false, not, ◌==◌, ◌&&◌, nat_le, List, [], ◌∷◌, length, drop, filter, slice_get, if◌then◌else◌, Option, Some, None, is_none, Result, Ok, Err}
+use Rattle.std.specs.Prelude.{ℕ, ◌-◌, ◌^◌, min, Bool, false, not, ◌==◌, ◌&&◌, List, [], ◌∷◌, drop, filter, slice_get, if◌then◌else◌, Option, Some, None, is_none, Result, Ok, Err}
 use Rattle.std.specs.List.{list_any, list_all}
 use Rattle.std.specs.Str.{bytes_eq}
 use Rattle.elf_types.specs.declared.records.Kind.{Kind}
