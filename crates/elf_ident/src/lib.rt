@@ -1,12 +1,11 @@
 //! The front of an ELF image: what a file is, its header, and its two tables.
 #![tactic(auto)]
 
-pub mod counts;
-pub mod entries;
-pub mod file_kinds;
-pub mod fronts;
-pub mod headers;
-pub mod reads;
+mod counts;
+mod file_kinds;
+mod fronts;
+mod headers;
+mod tables;
 
 pub use file_kinds::{FileKind, kind_of_source};
 pub use fronts::{Front, read_front};
