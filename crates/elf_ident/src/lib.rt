@@ -11,6 +11,6 @@ pub use file_kinds::{FileKind, kind_of_source};
 pub use fronts::{Front, read_front};
 
 #[cfg(test)]
-pub(crate) mod test_images;
+pub(crate) mod test_sources;
 #[cfg(test)]
 mod tests;
