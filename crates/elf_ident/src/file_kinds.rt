@@ -3,11 +3,12 @@
 ghost use Rattle.std.specs.Prelude.{◌≡◌, length, IfSome, IfErr};
 ghost use Rattle.elf_types.specs.Answers.{Follows};
 ghost use Rattle.elf_outside.specs.Asks.{Asks};
-ghost use Rattle.elf_ident.specs.FileKinds.{file_kind, archive_magic, elf_magic};
+ghost use Rattle.elf_ident.specs.FileKinds.{file_kind};
 
-use crate::reads::read;
 use elf_outside::Source;
+use elf_outside::reads::read;
 use elf_types::ElfError;
+use elf_types::constants::{ARMAG, ELFMAG};
 
 /// What a file is, `elf_kind` of elf(3E).
 #[derive(Clone, Copy, Debug, PartialEq, Eq)]
@@ -20,20 +21,14 @@ pub enum FileKind {
     Other,
 }
 
-/// The first bytes of an ELF image.
-pub const ELF_MAGIC: [u8; 4] = [0x7f, b'E', b'L', b'F'];
-
-/// The first bytes of an archive.
-pub const ARCHIVE_MAGIC: [u8; 8] = *b"!<arch>\n";
-
 /// What the first bytes of a file, at most eight, say that it is.
-#[tactic(auto, unfolding(crate::specs::FileKinds::file_kind, crate::specs::FileKinds::archive_magic, crate::specs::FileKinds::elf_magic))]
+#[tactic(auto, unfolding(crate::specs::FileKinds::file_kind))]
 fn kind_by(head: &[u8]) -> FileKind
     ensures { result ≡ file_kind head.now }
 {
-    if head.starts_with(&ARCHIVE_MAGIC) {
+    if head.starts_with(&ARMAG) {
         FileKind::Archive
-    } else if head.starts_with(&ELF_MAGIC) {
+    } else if head.starts_with(&ELFMAG) {
         FileKind::Elf
     } else {
         FileKind::Other

@@ -7,7 +7,8 @@ use Rattle.std.specs.Option.{option_map, option_or}
 use Rattle.elf_types.specs.declared.records.Class.{Class}
 use Rattle.elf_types.specs.declared.records.Class.TheVariants.{C32, C64}
 use Rattle.elf_types.specs.declared.errors.ElfError.{ElfError}
-use Rattle.elf_types.specs.declared.errors.ElfError.TheVariants.{Overlap, TooLarge}
+use Rattle.elf_types.specs.declared.errors.ElfError.TheVariants.{Memory, Overlap, TooLarge}
+use Rattle.elf_types.specs.Answers.{answered}
 use Rattle.elf_layout.specs.declared.parts.PartAt.{PartAt}
 use Rattle.elf_layout.specs.declared.parts.Places.{Places}
 use Rattle.elf_layout.specs.Meeting.{has_bytes, end_of, overlap_of}
@@ -81,14 +82,10 @@ unfoldable pub refusal_within : List PartAt → Bool → ℕ → ℕ → Option 
 refusal_within parts layout base limit =
     option_or (overlap_refusal parts layout) (if is_too_large parts layout base limit then Some TooLarge else None)
 
--- the places where nothing is refused, else the refusal
-unfoldable pub placed : Option ElfError → Places → Result Places ElfError
-placed None places = Ok places
-placed (Some e) places = Err e
-
 -- the whole answer under a limit
 unfoldable pub placing_within : List PartAt → Bool → ℕ → ℕ → Result Places ElfError
-placing_within parts layout base limit = placed (refusal_within parts layout base limit) (places_of parts layout base)
+placing_within parts layout base limit =
+    answered (refusal_within parts layout base limit) (places_of parts layout base)
 
 -- the refusal under the limit of a class
 unfoldable pub refusal_of : List PartAt → Bool → ℕ → Class → Option ElfError
@@ -97,3 +94,16 @@ refusal_of parts layout base class = refusal_within parts layout base (limit_of 
 -- the whole answer for an image of a class
 unfoldable pub placing : List PartAt → Bool → ℕ → Class → Result Places ElfError
 placing parts layout base class = placing_within parts layout base (limit_of class)
+
+-- a refusal that a definition states: want of memory is none
+abbrev pub layout_refusal : ElfError → Option ElfError
+layout_refusal Memory = None
+layout_refusal e = Some e
+
+-- whether want of memory may come where this is stated: in place of a value, or of what is seen once the
+-- parts are sorted in a list of their own
+abbrev pub MayWantMemory : {A : Type 0} → Result A ElfError → Type 0
+MayWantMemory (Ok x) = Unit {0}
+MayWantMemory (Err (Overlap a b)) = Unit {0}
+MayWantMemory (Err TooLarge) = Unit {0}
+MayWantMemory (Err e) = ⊥

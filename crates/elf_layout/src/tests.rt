@@ -1,6 +1,6 @@
 //! That calls succeed with ample memory, and the places of worked images.
 
-use crate::{PartAt, Parts, Places, overlap, place, rounded_within};
+use crate::{PartAt, Parts, Places, overlap, place, ranks_by_position, rounded_within};
 use elf_types::{Class, ElfError, Part};
 use std::alloc::Global;
 use std::test::Fail;
@@ -192,6 +192,22 @@ fn parts_share_no_byte(rt: HostRuntime) -> Result<(), Fail> {
         let refusal = want.map(|(a, b)| ElfError::Overlap { a, b });
         let placed = placed(rt.alloc(), &parts, true, 0, Class::C64);
         assert_eq!(rt; placed.err().filter(|e| *e != ElfError::TooLarge), refusal);
+    }
+    Ok(())
+}
+
+#[test]
+fn ranks_go_by_position(rt: HostRuntime) -> Result<(), Fail> {
+    let cases = [
+        ([(40, 2, 1), (0, 50, 1), (20, 5, 1)], [1, 2, 0].as_slice()),
+        // at one position the rank decides
+        ([(8, 4, 1), (8, 4, 1), (0, 8, 1)], [2, 0, 1].as_slice()),
+        // an empty part has none
+        ([(5, 1, 1), (0, 0, 1), (4, 9, 1)], [2, 0].as_slice()),
+    ];
+    for (rows, want) in cases {
+        let ranks = ranks_by_position(rt.alloc(), &three(rows))?;
+        assert_eq!(rt; ranks.as_slice(), want);
     }
     Ok(())
 }

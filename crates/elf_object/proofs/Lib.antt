@@ -1,3 +1,4 @@
 pub mod PassedLaws
 pub mod StepLaws
+pub mod AnswerLaws
 pub mod Computing

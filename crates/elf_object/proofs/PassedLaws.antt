@@ -4,7 +4,7 @@ use Rattle.std.specs.Prelude.{IsTrue}
 use Rattle.elf_types.specs.declared.errors.ElfError.{ElfError}
 use Rattle.elf_types.specs.Answers.{refused_if, first_refusal, answered}
 use Rattle.elf_object.specs.Object.{Object}
-use Rattle.elf_object.specs.Calls.{step, after_answer, edit}
+use Rattle.elf_object.specs.Calls.{step, after_answer, edit_with}
 
 pub none_first : (r : Option ElfError) (rs : List (Option ElfError)) → first_refusal (r ∷ rs) ≡ None → r ≡ None
 none_first None rs h = refl
@@ -42,6 +42,6 @@ pub answered_keeps : {A : Type 0} (P : Object → Type 0) (r : Option ElfError) 
 answered_keeps P None v old stepped h k = k refl
 answered_keeps P (Some e) v old stepped h k = h
 
-pub edit_keeps : {A : Type 0} (P : Object → Type 0) (refusal : Object → Option ElfError) (value : Object → A) (after : Object → Object) → ((o : Object) → P o → refusal o ≡ None → P (after o)) → (o : Object) → P o → P (step (edit refusal value after) o)
+pub edit_keeps : {A : Type 0} (P : Object → Type 0) (memory : Object → List Bool → List Bool → Bool) (refusal : Object → Option ElfError) (value : Object → A) (after : Object → Object) → ((o : Object) → P o → refusal o ≡ None → P (after o)) → (o : Object) → P o → P (step (edit_with memory refusal value after) o)
 unfolding step
-edit_keeps P refusal value after k o h = answered_keeps P (refusal o) (value o) o (after o) h (k o h)
+edit_keeps P memory refusal value after k o h = answered_keeps P (refusal o) (value o) o (after o) h (k o h)

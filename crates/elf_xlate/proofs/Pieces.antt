@@ -1,11 +1,11 @@
 -- Lists of items of one size.
 use Rattle.std.proofs.Common.{◌≡◌, ℕ, ◌+◌, ◌*◌, ◌<◌, length, get_or, List, [], ◌∷◌, ◌++◌, take, drop, refl, sym, ap, subst, ◌∙◌, inl, inr, ◌≤◌, arith}
-use Rattle.std.proofs.lemmas.List.{take_all}
+use Rattle.std.proofs.lemmas.List.{take_all, get_or_default}
 use Rattle.std.proofs.lemmas.List.FromFn.{map-range_with_len_more, length-map-range_with_len}
 use Rattle.std.specs.Prelude.{Some, None, Bool, true, false, not, cond, nat_lt, IsTrue}
 use Rattle.std.specs.List.{All, position_or_len}
 use Rattle.std.proofs.lemmas.List.Sums.{position_or_len_is, fails_before_first}
-use Rattle.std.proofs.lemmas.List.Elements.{All-get_or, All-nil, All-cons, All-append}
+use Rattle.std.proofs.lemmas.List.Elements.{All-get_or, All-nil, All-cons, All-append, All-take, All-drop}
 use Rattle.std.proofs.lemmas.Bool.{cases_lt, le-ltb, lt-ltb, not-false}
 use Rattle.elf_xlate.specs.Translation.{items_of, first_not}
 
@@ -88,3 +88,9 @@ each_passes {X} passes l i x none low at =
     let past : length l ≤ position_or_len (λ y. not (passes y)) l = no_place _ l none in
     let here : not (passes (get_or l i x)) ≡ false = fails_before_first fails l i x (omega (arith, past)) in
     ap passes at ∙ not-false (passes (get_or l i x)) here
+
+-- the same of a range
+pub range_passes : {X : Type 0} (passes : X → Bool) (l : List X) (place count : ℕ) → first_not passes l ≡ None → All (λ x. passes x ≡ true) (take count (drop place l))
+range_passes {X} passes l place count none =
+    All-take (λ x. passes x ≡ true) count (drop place l)
+    (All-drop (λ x. passes x ≡ true) place l (λ k d low. each_passes passes l k (get_or l k d) none low (get_or_default l k d (get_or l k d) low)))

@@ -8,7 +8,7 @@ ghost use Rattle.elf_xlate.specs.Headers.{phdr_of, phdr_size, phdr_fits, phdr_by
 ghost use Rattle.elf_xlate.specs.Translation.{items_of};
 
 use crate::byte_order::{Endian, in_form};
-use crate::decode::decode_whole;
+use crate::decode::decode_list;
 use crate::fields::{get_field, get_four, get_native, put_field, put_four, put_native};
 use crate::fitting::{class, phdr_fits, shdr_fits};
 use crate::records::{Codec, Form, decode_one, encode_one};
@@ -164,11 +164,7 @@ pub fn get_phdrs(alloc: Global, class: Class, order: Order, bytes: &[u8]) -> Res
     ensures fits { IfOk result (λ l. All (λ p. IsTrue (phdr_fits class p)) l) }
     ensures err { IfErr result (λ e. e ≡ Memory) }
 {
-    in_form!(
-        class,
-        order,
-        decode_whole::<Phdr>(alloc, bytes, phdr_size(class))
-    )
+    in_form!(class, order, decode_list::<Phdr>(alloc, bytes))
 }
 
 /// The section headers of a table, of whose bytes the size of one is a divisor. It refuses `Memory`
@@ -184,11 +180,7 @@ pub fn get_shdrs(alloc: Global, class: Class, order: Order, bytes: &[u8]) -> Res
     ensures fits { IfOk result (λ l. All (λ h. IsTrue (shdr_fits class h)) l) }
     ensures err { IfErr result (λ e. e ≡ Memory) }
 {
-    in_form!(
-        class,
-        order,
-        decode_whole::<Shdr>(alloc, bytes, shdr_size(class))
-    )
+    in_form!(class, order, decode_list::<Shdr>(alloc, bytes))
 }
 
 /// Writes a program header. `out` has just the header's size, and the header fits the class. It refuses

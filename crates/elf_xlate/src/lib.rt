@@ -20,7 +20,7 @@ mod sizes;
 
 pub use content::Items;
 pub use decode::to_memory;
-pub use encode::to_file;
+pub use encode::{put_items, to_file};
 pub use failure::XlateError;
 pub use fitting::{ehdr_fits, phdr_fits, shdr_fits, unfit};
 pub use header_tables::{get_phdr, get_phdrs, get_shdr, get_shdrs, put_phdr, put_shdr};

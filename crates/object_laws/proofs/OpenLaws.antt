@@ -1,6 +1,6 @@
 -- An image that is opened gives an object, and so does creating one.
-use Rattle.std.proofs.Common.{◌≡◌, ℕ, ◌+◌, ◌*◌, ◌^◌, ◌<◌, ◌≤◌, Bool, true, false, not, ◌&&◌, ◌||◌, List, [], ◌∷◌, length, take, drop, get_or, Result, Ok, Err, refl, sym, ap, ◌∙◌, subst, arith, lit<, lit≤}
-use Rattle.std.specs.Prelude.{IsSome, IsTrue, nat_lt, if◌then◌else◌, ◌==◌}
+use Rattle.std.proofs.Common.{◌≡◌, ℕ, ◌+◌, ◌*◌, ◌^◌, ◌<◌, ◌≤◌, Bool, true, false, not, ◌&&◌, ◌||◌, List, [], ◌∷◌, length, take, drop, get_or, None, Result, Ok, Err, refl, sym, ap, ◌∙◌, subst, arith, lit<, lit≤}
+use Rattle.std.specs.Prelude.{All, IsSome, IsTrue, nat_lt, if◌then◌else◌, ◌==◌}
 use Rattle.std.proofs.lemmas.Bool.{ltb-false, lt-ltb, eqb-true}
 use Rattle.std.proofs.lemmas.List.{length-take, length-drop, length-map, length-replicate, length-take-le}
 use Rattle.std.proofs.lemmas.List.FromFn.{length-map-range_with_len}
@@ -21,9 +21,13 @@ use Rattle.elf_xlate.specs.Translation.{items_of}
 use Rattle.elf_ident.specs.declared.counts.Counts.{Counts}
 use Rattle.elf_ident.specs.declared.fronts.Head.{Head}
 use Rattle.elf_ident.specs.declared.fronts.Front.{Front}
-use Rattle.elf_ident.specs.Front.{unless, and_then, ident_in, header_at, header_in, zero_shdr, needs_first, first_section, true_shnum, true_shstrndx, true_counts, phdrs_at, shdrs_at, header_refusals, count_refusals, counts_by, counts_in, front_at, head_in, front}
+use Rattle.elf_ident.specs.Front.{ident_in, header_at, header_in, zero_shdr, needs_first, first_section, true_shnum, true_shstrndx, true_counts, lies_in, phdrs_at, shdrs_at, header_refusal, count_refusal, counts_by, counts_in, front_at, head_in, front}
 use Rattle.elf_object.specs.Object.{Object, home_piece, occupies_file}
 use Rattle.elf_object.specs.Open.{extent_of, home_of, home_bytes, opened_section, begun, begun_or_refused, opened, created_over, new_ehdr}
+use Rattle.elf_types.specs.Answers.{refused_if, answered, ◌>>=◌}
+use Rattle.elf_types.specs.declared.constants.TheConstants.{EV_CURRENT, PN_XNUM, MAX_IMAGE, MAX_SECTIONS, MAX_SEGMENTS}
+use Rattle.elf_ident.proofs.Refusals.{answered_ok, bind_ok, last_passed}
+use Rattle.elf_object.proofs.PassedLaws.{not_refused, passed_one}
 use Rattle.elf_object.specs.Valid.{AreBytes, IsHome, IsPiece, IsSection, IsObject}
 use Rattle.object_laws.proofs.KeepLaws.{home_piece_is, zero_shdr_is}
 use Rattle.object_laws.proofs.RangeLaws.{no_field, native_range, field_range, number_in_below, items_range}
@@ -194,69 +198,52 @@ opened_section_is class image h are is fitting = record {
 
 -- ---- A front that is not refused
 
--- each test of the rows failed
-abbrev pub AllPass : List (Bool × ElfError) → Type 0
-AllPass [] = Unit {0}
-AllPass (row ∷ rows) = (row.0 ≡ false) × AllPass rows
-
-row_failed : {T : Type 0} (b : Bool) (e : ElfError) (follows : Result T ElfError) (x : T) → (if b then Err e else follows) ≡ Ok x → (b ≡ false) × (follows ≡ Ok x)
-row_failed true e follows x h = cc
-row_failed false e follows x h = (refl, h)
-
-unless_ok : {T : Type 0} (rows : List (Bool × ElfError)) (follows : Result T ElfError) (x : T) → unless rows follows ≡ Ok x → AllPass rows × (follows ≡ Ok x)
-unless_ok [] follows x h = (tt, h)
-unless_ok (row ∷ rows) follows x h =
-    let first = row_failed row.0 row.1 (unless rows follows) x h in
-    let rest = unless_ok rows follows x first.1 in
-    ((first.0, rest.0), rest.1)
-
-and_then_ok : {A B : Type 0} (r : Result A ElfError) (f : A → Result B ElfError) (y : B) → and_then r f ≡ Ok y → (x : A) × (r ≡ Ok x) × (f x ≡ Ok y)
-and_then_ok (Err e) f y h = cc
-and_then_ok (Ok x) f y h = (x, refl, h)
-
 -- what is known of a front that is not refused
 pub record IsFrontOf (image : List ℕ) (f : Front) : Type 0 where
   pub class : Class
   pub order : Order
+  pub ident : ident_in image ≡ Ok (class, order)
   pub long : ehdr_size class ≤ length image
   pub head : Head
   pub header : head.header ≡ ehdr_of class order (take (ehdr_size class) image)
   pub pad : head.pad ≡ take 7 (drop 9 image)
   pub counts : head.counts ≡ true_counts head.header (first_section head.header image)
-  pub early : AllPass (header_refusals head.header (length image))
-  pub late : AllPass (count_refusals head.header head.counts (length image))
+  pub early : header_refusal head.header (length image) ≡ None
+  pub late : count_refusal head.header head.counts (length image) ≡ None
   pub whole : f ≡ front_at head image
 
 head_known : (image : List ℕ) (head : Head) → head_in image ≡ Ok head → IsFrontOf image (front_at head image)
 unfolding head_in header_in counts_in counts_by header_at
 head_known image head h =
-    let outer = and_then_ok (header_in image) (λ x. and_then (counts_in x.0 image) (λ c. Ok (record { header = x.0; pad = x.1; counts = c }))) head h in
-    let id = and_then_ok (ident_in image) (λ i. unless ((nat_lt (length image) (ehdr_size i.0), error.Short) ∷ []) (Ok (header_at i.0 i.1 image))) outer.0 outer.1 in
-    let long = unless_ok ((nat_lt (length image) (ehdr_size id.0.0), error.Short) ∷ []) (Ok (header_at id.0.0 id.0.1 image)) outer.0 id.2 in
-    let inner = and_then_ok (counts_in outer.0.0 image) (λ c. Ok (record { header = outer.0.0; pad = outer.0.1; counts = c })) head outer.2 in
-    let early = unless_ok (header_refusals outer.0.0 (length image)) (counts_by outer.0.0 (first_section outer.0.0 image) (length image)) inner.0 inner.1 in
-    let late = unless_ok (count_refusals outer.0.0 (true_counts outer.0.0 (first_section outer.0.0 image)) (length image)) (Ok (true_counts outer.0.0 (first_section outer.0.0 image))) inner.0 early.1 in
+    let outer = bind_ok (header_in image) (λ x. counts_in x.0 image >>= λ c. Ok (record { header = x.0; pad = x.1; counts = c })) head h in
+    let id = bind_ok (ident_in image) (λ i. answered (refused_if (nat_lt (length image) (ehdr_size i.0)) error.Short) (header_at i.0 i.1 image)) outer.0 outer.1 in
+    let long = answered_ok (refused_if (nat_lt (length image) (ehdr_size id.0.0)) error.Short) (header_at id.0.0 id.0.1 image) outer.0 id.2 in
+    let inner = bind_ok (counts_in outer.0.0 image) (λ c. Ok (record { header = outer.0.0; pad = outer.0.1; counts = c })) head outer.2 in
+    let first = bind_ok (answered (header_refusal outer.0.0 (length image)) (first_section outer.0.0 image)) (λ first. counts_by outer.0.0 first (length image)) inner.0 inner.1 in
+    let early = answered_ok (header_refusal outer.0.0 (length image)) (first_section outer.0.0 image) first.0 first.1 in
+    let late = answered_ok (count_refusal outer.0.0 (true_counts outer.0.0 first.0) (length image)) (true_counts outer.0.0 first.0) inner.0 first.2 in
     let made : head ≡ record { header = outer.0.0; pad = outer.0.1; counts = inner.0 } = cc in
-    let parts : outer.0 ≡ (ehdr_of id.0.0 id.0.1 (take (ehdr_size id.0.0) image), take 7 (drop 9 image)) = cc in
-    let counts : inner.0 ≡ true_counts outer.0.0 (first_section outer.0.0 image) = cc in
+    let parts : outer.0 ≡ (ehdr_of id.0.0 id.0.1 (take (ehdr_size id.0.0) image), take 7 (drop 9 image)) = sym long.1 in
+    let counts : inner.0 ≡ true_counts outer.0.0 (first_section outer.0.0 image) = sym (ap (true_counts outer.0.0) early.1 ∙ late.1) in
     let P : Head → Type 0 = λ x. IsFrontOf image (front_at x image) in
     subst P (sym made) (record {
       class = id.0.0;
       order = id.0.1;
-      long = ltb-false (length image) (ehdr_size id.0.0) long.0.0;
+      ident = id.1;
+      long = ltb-false (length image) (ehdr_size id.0.0) (not_refused (nat_lt (length image) (ehdr_size id.0.0)) error.Short long.0);
       head = record { header = outer.0.0; pad = outer.0.1; counts = inner.0 };
       header = ap (λ (x : Ehdr × List ℕ). x.0) parts;
       pad = ap (λ (x : Ehdr × List ℕ). x.1) parts;
       counts = counts;
       early = early.0;
-      late = let Q : Counts → Type 0 = λ c. AllPass (count_refusals outer.0.0 c (length image)) in subst Q (sym counts) late.0;
+      late = let Q : Counts → Type 0 = λ c. count_refusal outer.0.0 c (length image) ≡ None in subst Q late.1 late.0;
       whole = refl;
     })
 
 pub front_known : (image : List ℕ) (f : Front) → front image ≡ Ok f → IsFrontOf image f
 unfolding front
 front_known image f h =
-    let whole = and_then_ok (head_in image) (λ head. Ok (front_at head image)) f h in
+    let whole = bind_ok (head_in image) (λ head. Ok (front_at head image)) f h in
     let same : front_at whole.0 image ≡ f = cc in
     subst (IsFrontOf image) same (head_known image whole.0 whole.1)
 
@@ -290,22 +277,30 @@ length-items_of item size count bytes = length-map-range_with_len (λ i. item (t
 table_is : (image : List ℕ) (at n : ℕ) → AreBytes image → AreBytes (take n (drop at image))
 table_is image at n are = All-take (λ b. b < 2 ^ 8) n (drop at image) (All-drop (λ b. b < 2 ^ 8) at image are)
 
-counts_small : (h : Ehdr) (c : Counts) (len : ℕ) → AllPass (count_refusals h c len) → (c.shnum ≤ 2 ^ 20) × (c.phnum ≤ 2 ^ 20)
-unfolding count_refusals
+counts_small : (h : Ehdr) (c : Counts) (len : ℕ) → count_refusal h c len ≡ None → (c.shnum ≤ 2 ^ 20) × (c.phnum ≤ 2 ^ 20)
+unfolding count_refusal
 counts_small h c len late =
-    let both = neither (nat_lt (2 ^ 20) c.shnum) (nat_lt (2 ^ 20) c.phnum) late.1.1.1.1.0 in
+    let both = neither (nat_lt MAX_SECTIONS c.shnum) (nat_lt MAX_SEGMENTS c.phnum)
+    (last_passed (refused_if (not (lies_in len h.shoff c.shnum (shdr_size h.class))) error.ShTable
+    ∷ refused_if (not (h.phnum == 0) && not (h.phentsize == phdr_size h.class)) error.PhTable
+    ∷ refused_if (h.phnum == PN_XNUM && h.shoff == 0) error.PhTable
+    ∷ refused_if (not (h.phnum == 0) && not (lies_in len h.phoff c.phnum (phdr_size h.class))) error.PhTable ∷ [])
+    (nat_lt MAX_SECTIONS c.shnum || nat_lt MAX_SEGMENTS c.phnum) error.TooMany late) in
     (ltb-false (2 ^ 20) c.shnum both.0, ltb-false (2 ^ 20) c.phnum both.1)
   where
     neither : (a b : Bool) → (a || b) ≡ false → (a ≡ false) × (b ≡ false)
     neither true b e = cc
     neither false b e = (refl, e)
 
-image_small : (h : Ehdr) (len : ℕ) → AllPass (header_refusals h len) → len ≤ 2 ^ 40
-unfolding header_refusals
-image_small h len early = ltb-false (2 ^ 40) len early.1.0
+image_small : (h : Ehdr) (len : ℕ) → header_refusal h len ≡ None → len ≤ 2 ^ 40
+unfolding header_refusal
+image_small h len early =
+    let later = passed_one (not (h.version == EV_CURRENT)) error.Version _ early in
+    let size = passed_one (nat_lt MAX_IMAGE len) error.TooLarge _ later.1 in
+    ltb-false (2 ^ 40) len size.0
 
 -- the object of a header and its counts
-front_is : (image : List ℕ) (head : Head) → AreBytes image → IsEhdr head.header → IsTrue (ehdr_fits head.header) → length head.pad ≡ 7 → AreBytes head.pad → head.counts ≡ true_counts head.header (first_section head.header image) → AllPass (header_refusals head.header (length image)) → AllPass (count_refusals head.header head.counts (length image)) → IsObject (begun (front_at head image) image)
+front_is : (image : List ℕ) (head : Head) → AreBytes image → IsEhdr head.header → IsTrue (ehdr_fits head.header) → length head.pad ≡ 7 → AreBytes head.pad → head.counts ≡ true_counts head.header (first_section head.header image) → header_refusal head.header (length image) ≡ None → count_refusal head.header head.counts (length image) ≡ None → IsObject (begun (front_at head image) image)
 unfolding begun front_at phdrs_at shdrs_at ehdr_fits
 front_is image head are is fitting seven pad counts early late =
     let small = counts_small head.header head.counts (length image) late in
@@ -335,7 +330,6 @@ front_is image head are is fitting seven pad counts early late =
       fitting = fitting;
       pad = seven;
       pad_bytes = pad;
-      phdrs = items_range IsPhdr (phdr_of head.header.class head.header.order) (phdr_size head.header.class) head.counts.phnum (take (head.counts.phnum * phdr_size head.header.class) (drop head.header.phoff image)) (phdr_range head.header.class head.header.order) (table_is image head.header.phoff (head.counts.phnum * phdr_size head.header.class) are);
       phdr_count = rw length-items_of (small.1);
       sections = All-map (IsSection head.header.class) (opened_section image) shdrs (All-weaker (λ x. IsShdr x × IsTrue (shdr_fits head.header.class x)) (λ x. IsSection head.header.class (opened_section image x)) (λ x both. opened_section_is head.header.class image x are both.0 both.1) shdrs each);
       section_count = rw (length-map, length-items_of) (small.0);
@@ -376,6 +370,18 @@ opened_is image o are h =
     let found = opened_front (front image) image o h in
     subst IsObject found.2 (begun_is image found.0 are (front_known image found.0 found.1))
 
+-- its program headers are in range
+pub opened_phdrs : (image : List ℕ) (o : Object) → AreBytes image → opened image ≡ Ok o → All IsPhdr o.phdrs
+unfolding opened begun front_at phdrs_at
+opened_phdrs image o are h =
+    let found = opened_front (front image) image o h in
+    let known = front_known image found.0 found.1 in
+    let class : Class = known.head.header.class in
+    let order : Order = known.head.header.order in
+    let part = take (known.head.counts.phnum * phdr_size class) (drop known.head.header.phoff image) in
+    let each = items_range IsPhdr (phdr_of class order) (phdr_size class) known.head.counts.phnum part (phdr_range class order) (table_is image known.head.header.phoff (known.head.counts.phnum * phdr_size class) are) in
+    subst (λ (q : Object). All IsPhdr q.phdrs) found.2 (subst (λ (x : Front). All IsPhdr x.phdrs) (sym known.whole) each)
+
 -- ---- Create
 
 zeros : (class : Class) (order : Order) → IsEhdr (new_ehdr class order)
@@ -411,7 +417,6 @@ created_is class order base are small =
       fitting = header.1;
       pad = length-replicate {A = ℕ} 7 0;
       pad_bytes = All-replicate (λ n. n < 2 ^ 8) 7 0 (lit< tt);
-      phdrs = All-nil IsPhdr;
       phdr_count = lit≤ tt;
       sections = All-nil (IsSection class);
       section_count = lit≤ tt;

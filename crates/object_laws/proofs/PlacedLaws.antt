@@ -303,7 +303,6 @@ placed_by_is o ok small =
       fitting = header.1;
       pad = ok.pad;
       pad_bytes = ok.pad_bytes;
-      phdrs = ok.phdrs;
       phdr_count = ok.phdr_count;
       sections = All-map (IsSection o.header.class) (λ r. placed_section places o r.0 r.1) (enumerate_from 0 o.sections)
           (each_row (λ r. IsSection o.header.class (placed_section places o r.0 r.1)) o.sections new_section row);
@@ -335,4 +334,4 @@ placed_is o ok passed = by_test (is_dirty o) refl
     by_test false e = ok
 
 pub update_null_keeps : KeepsObject update_null
-update_null_keeps = edit_keeps IsObject refusal image_length placed (λ o ok passed. placed_is o ok passed)
+update_null_keeps = edit_keeps IsObject _ refusal image_length placed (λ o ok passed. placed_is o ok passed)

@@ -1,0 +1,4 @@
+pub mod Lines
+pub mod Plan
+pub mod Based
+pub mod Writing
