@@ -12,5 +12,6 @@ pub mod PieceLaws
 pub mod DisturbedLaws
 pub mod MarkLaws
 pub mod UnderWayLaws
+pub mod RankLaws
 pub mod BasedSteps
 pub mod BasedBeginnings

@@ -7,7 +7,8 @@ use Rattle.elf_types.specs.declared.records.Part.TheVariants as part
 use Rattle.elf_object.specs.Blocks.{Block, block_end, covers, is_covered, spread}
 use Rattle.elf_object.specs.Object.{Object, Home, section_at, has_file_bytes}
 use Rattle.elf_object.specs.Joined.{piece_blocks, pieces_end, joined}
-use Rattle.elf_object.specs.Layout.{placed}
+use Rattle.elf_layout.specs.Meeting.{ranks_by_position}
+use Rattle.elf_object.specs.Layout.{placed_parts, placed}
 use Rattle.elf_object.specs.Image.{part_blocks, kept_base, uncovered_byte, image_length, image, is_fill_place}
 use Rattle.elf_object.specs.Refusal.{refusal}
 use Rattle.elf_object.specs.Settled.{settle}
@@ -15,7 +16,7 @@ use Rattle.elf_object.specs.Changed.{changed_blocks, fill_places, changed_bytes,
 use Rattle.elf_object.specs.Valid.{IsObject}
 use Rattle.object_laws.specs.Laws.{IsTornImage}
 use Rattle.writing_laws.specs.Lines.{HoldsBlock, AreInLine, in_line, gap_places, patched, IsTornPatch}
-use Rattle.writing_laws.specs.Plan.{plan, places_below, base_gaps, written_blocks, meets_some}
+use Rattle.writing_laws.specs.Plan.{plan, block_of_rank, places_below, base_gaps, written_blocks, meets_some}
 use Rattle.writing_laws.specs.Marks.{marked_all, moved_pieces}
 use Rattle.writing_laws.specs.Ready.{IsReady}
 use Rattle.writing_laws.specs.Based.{IsBased}
@@ -37,6 +38,10 @@ pub record PlanIsImage (o : Object) : Type 0 where
   pub line : IsReady o → AreInLine (image_length o) 0 (plan o)
   pub spread : IsReady o → image o ≡ spread (image_length o) (uncovered_byte o) (plan o)
   pub bytes : IsReady o → image o ≡ in_line (image_length o) (uncovered_byte o) 0 (plan o)
+
+-- the plan by the ranks that elf_layout sorts: a part's rank is its place in the order of the parts
+abbrev pub PlanByRank : Object → Type 0
+PlanByRank o = IsReady o → plan o ≡ map (block_of_rank o) (ranks_by_position (placed_parts o))
 
 -- the fill places are those between the parts from the base bytes that count on; the base bytes in
 -- the gaps are as many as an update to a sink is due

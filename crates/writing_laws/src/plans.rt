@@ -2,7 +2,7 @@
 //! Each law is the contract of a function that does nothing.
 
 ghost use Rattle.elf_object.specs.Object.{Object};
-ghost use Rattle.writing_laws.specs.Writing.{GapBytes, GapsAreFill, PartsAreApart, PiecesInLine, PlanIsImage};
+ghost use Rattle.writing_laws.specs.Writing.{GapBytes, GapsAreFill, PartsAreApart, PiecesInLine, PlanByRank, PlanIsImage};
 
 /// Where something is dirty and an update is not refused, no place is a byte of two parts, and each
 /// part that is not empty ends within the image.
@@ -16,6 +16,13 @@ pub fn parts_are_apart()
 #[tactic(auto, using(crate::proofs::PlanLaws::plan_is_image))]
 pub fn plan_is_image()
     ensures { (o : Object) → PlanIsImage o }
+{}
+
+/// There the plan is the parts by the ranks that elf_layout sorts: by position, and then in the order of the
+/// parts.
+#[tactic(auto, using(crate::proofs::RankLaws::plan_by_rank))]
+pub fn plan_by_rank()
+    ensures { (o : Object) → PlanByRank o }
 {}
 
 /// There the fill places are those between the parts from the base bytes that count on, and the
