@@ -94,7 +94,7 @@ unfoldable pub rebuilt_index : Object → List ℕ → ℕ
 rebuilt_index o removed = followed (renumbering o removed) o.header.shstrndx
 
 unfoldable pub rebuilt_tail : Object → List ℕ → Option ℕ
-rebuilt_tail o removed = tail_of o (map (section_at o) (kept_from_1 o removed))
+rebuilt_tail o removed = tail_of o (map (section_at o) (kept_sections o removed))
 
 unfoldable pub rebuilt_object : Object → List ℕ → Object
 rebuilt_object o removed =

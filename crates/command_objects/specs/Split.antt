@@ -146,7 +146,7 @@ combined_sections stripped debug = map (combined_section stripped debug) (all_se
 
 -- all sections of the stripped half count for the base
 abbrev pub combined_tail : Object → Option ℕ
-combined_tail stripped = tail_of stripped (map (section_at stripped) (section_numbers stripped))
+combined_tail stripped = tail_of stripped stripped.sections
 
 unfoldable pub combined_object : Object → Object → Object
 combined_object stripped debug = assembled

@@ -1,9 +1,14 @@
 //! What strip makes of small images, computed by proof. The values were worked out by hand.
 #![tactic(auto, unfolding(crate::proofs::Computing::all_words))]
 
-ghost use Rattle.std.specs.Prelude.{◌≡◌, [], ◌∷◌, ◌++◌, take, drop, length, true, false, Ok};
+ghost use Rattle.std.specs.Prelude.{◌≡◌, [], ◌∷◌, ◌++◌, take, drop, length, ◌^◌, codes, true, false, Ok, Err, Some, None};
 ghost use Rattle.elf_object.specs.Object.{header_of, section_at};
-ghost use Rattle.elf_object.specs.Samples.{small64, symbols64, object_in};
+ghost use Rattle.elf_object.specs.Samples.{small64, symbols64, missing, ragged, object_in, with_number, addralign_set};
+ghost use Rattle.elf_object.specs.Calls.{step};
+ghost use Rattle.elf_object.specs.Runs.{set_shdr};
+ghost use Rattle.elf_types.specs.Answers.{err_of};
+ghost use Rattle.elf_types.specs.declared.errors.ElfError.TheVariants.{OutOfFile, Ragged, NoSection, TooLarge};
+ghost use Rattle.command_objects.specs.Programs.{a_small_program};
 ghost use Rattle.command_objects.specs.Removed.{removed_sections};
 ghost use Rattle.command_objects.specs.Rebuilt.{stripped};
 ghost use Rattle.command_objects.specs.Samples.{bytes_or_none, unnamed64};
@@ -35,9 +40,21 @@ fn section_0_stays_alone()
     ensures index { (header_of (object_in (bytes_or_none (file_made (stripped false [] unnamed64))))).shstrndx ≡ 0 }
 {}
 
+/// Refusals in their order: a kept section's bytes and items, the string index, and the places.
+fn strip_is_refused()
+    ensures missing { stripped true [] missing ≡ Err (OutOfFile 2) }
+    ensures removed_before { err_of (stripped false (codes "a" ∷ []) missing) ≡ Some (OutOfFile 2) }
+    ensures ragged { stripped true [] ragged ≡ Err (Ragged 2) }
+    ensures not_ragged { err_of (stripped false [] ragged) ≡ None }
+    ensures kept_count { stripped false [] (object_in (with_number 62 2 7 small64)) ≡ Err (NoSection 7 1) }
+    ensures whole_count { stripped true [] (object_in (with_number 62 2 7 small64)) ≡ Err (NoSection 7 3) }
+    ensures places { stripped true [] (step (set_shdr 3 (addralign_set (2 ^ 41))) a_small_program) ≡ Err TooLarge }
+{}
+
 #[test]
 fn strip_computes_on_small_images() {
     symbols_are_removed();
     symbols_stay_with_debug_only();
     section_0_stays_alone();
+    strip_is_refused();
 }
