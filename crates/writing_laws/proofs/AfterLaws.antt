@@ -1,39 +1,35 @@
 -- After an update in place, or one that failed: what is not marked stands in the base, and both settle alike.
-use Rattle.std.proofs.Common.{◌≡◌, ℕ, zero, suc, ◌+◌, ◌-◌, ◌<◌, ◌≤◌, min, Bool, true, false, not, ◌&&◌, ◌||◌, List, [], ◌∷◌, ◌++◌, length, take, drop, get_or, None, refl, sym, ap, ◌∙◌, subst, arith, ⊎_elim, ◌⊎◌, inl, inr}
-use Rattle.std.specs.Prelude.{All, nat_lt, if◌then◌else◌, map, ◌==◌}
-use Rattle.std.specs.List.{range_with_len, enumerate_from, list_any, filter, AllByRecursion}
-use Rattle.std.proofs.lemmas.Bool.{cases_lt, lt-ltb, ltb-true, ltb-false, le-ltb}
-use Rattle.std.proofs.lemmas.List.{length-take, length-take-le, length-drop, get_or-take, get_or-drop, ext_get_or, length-map}
-use Rattle.std.proofs.lemmas.List.FromFn.{length-enumerate_from}
+use Rattle.std.proofs.Common.{◌≡◌, ℕ, zero, suc, ◌+◌, ◌<◌, ◌≤◌, Bool, true, false, not, ◌&&◌, ◌||◌, List, [], ◌∷◌, length, take, drop, get_or, None, refl, sym, ap, ◌∙◌, subst, arith, ⊎_elim}
+use Rattle.std.specs.Prelude.{nat_lt, if◌then◌else◌, map}
+use Rattle.std.specs.List.{range_with_len, enumerate_from, list_any, filter}
+use Rattle.std.proofs.lemmas.Bool.{cases_lt, lt-ltb, ltb-false}
+use Rattle.std.proofs.lemmas.List.{length-take, length-take-le, length-drop, get_or-take, get_or-drop, ext_get_or}
 use Rattle.std.proofs.lemmas.List.Elements.{All-map}
-use Rattle.elf_types.specs.declared.records.Ehdr.{Ehdr}
-use Rattle.elf_types.specs.declared.records.Phdr.{Phdr}
 use Rattle.elf_types.specs.declared.records.Shdr.{Shdr}
 use Rattle.elf_object.specs.Blocks.{Block, covers, is_covered, extents_meet}
-use Rattle.elf_object.specs.Object.{Object, Section, Piece, Home, WrittenFront, new_section, section_at, is_dirty}
-use Rattle.elf_object.specs.Open.{home_of, home_bytes, written_front}
+use Rattle.elf_object.specs.Object.{Object, Section, Piece, Home, new_section, section_at, is_dirty}
+use Rattle.elf_object.specs.Open.{home_of, home_bytes}
 use Rattle.elf_object.specs.Joined.{joined}
 use Rattle.elf_object.specs.Layout.{places_of, placed_by, placed, placed_section}
-use Rattle.elf_object.specs.Image.{front_blocks, image_length, image, is_fill_place}
+use Rattle.elf_object.specs.Image.{image_length, image, is_fill_place}
 use Rattle.elf_object.specs.Refusal.{refusal}
 use Rattle.elf_object.specs.Settled.{settled_section, settled_over, settle}
 use Rattle.elf_object.specs.Changed.{changed_blocks, fill_places, is_disturbed, section_changed, is_moved, marked_piece, torn_section, torn}
 use Rattle.elf_object.specs.Valid.{IsObject}
 use Rattle.object_laws.specs.Laws.{IsTornImage}
-use Rattle.object_laws.proofs.ImageLaws.{length-image, placed-dirty, placed-clean, section_at-placed}
+use Rattle.object_laws.proofs.ImageLaws.{length-image, placed-dirty, section_at-placed}
 use Rattle.object_laws.proofs.KeepLaws.{section_at_is}
 use Rattle.object_laws.proofs.PlacedLaws.{each_row, placed_is}
 use Rattle.object_laws.proofs.SettledLaws.{settle-dirty, settle-clean, section_raw}
-use Rattle.object_laws.proofs.StandLaws.{IsCovered, covered_from, section_count-placed, joined-placed}
-use Rattle.object_laws.proofs.AgainLaws.{SameFront, header_again, headers_again, front_again}
-use Rattle.object_laws.proofs.TornLaws.{dirty-placed, placed_stays, torn_of, torn-is, torn_front, torn_dirty, torn_law}
+use Rattle.object_laws.proofs.StandLaws.{covered_from, section_count-placed}
 use Rattle.writing_laws.specs.Lines.{HoldsBlock}
 use Rattle.writing_laws.specs.Based.{some_unmarked, HomeStands, IsBased, UpdatesKeepBased}
-use Rattle.writing_laws.specs.Writing.{IsReady, UndisturbedStays, SettlesAlike}
+use Rattle.writing_laws.specs.Ready.{IsReady}
+use Rattle.writing_laws.specs.Writing.{UndisturbedStays}
 use Rattle.writing_laws.proofs.BasedSteps.{placed_kept}
 use Rattle.writing_laws.proofs.PlanLaws.{parts_hold}
 use Rattle.writing_laws.proofs.LeftPlaces.{left_stands}
-use Rattle.writing_laws.proofs.WriteLaws.{EachPart, each_part}
+use Rattle.writing_laws.proofs.WriteLaws.{each_part}
 
 -- ---- A home that is not disturbed
 
@@ -237,5 +233,5 @@ settle_based o ok is passed = by_test (is_dirty o) refl
 pub updates_keep_based : (o : Object) → UpdatesKeepBased o
 updates_keep_based o = record {
   settled = settle_based o;
-  torn = λ bytes ok is dirty passed between. torn_based o bytes (record { object = ok; dirty = dirty; passed = passed }) is between;
+  torn = λ bytes ready is between. torn_based o bytes ready is between;
 }

@@ -1,13 +1,10 @@
 -- An object whose places are stored, and one whose write failed, settle as the object itself.
-use Rattle.std.proofs.Common.{◌≡◌, ℕ, ◌+◌, ◌<◌, Bool, true, false, List, [], ◌∷◌, length, get_or, None, refl, sym, ap, ◌∙◌, subst, arith}
+use Rattle.std.proofs.Common.{◌≡◌, ℕ, ◌+◌, ◌<◌, Bool, true, false, List, length, get_or, None, refl, sym, ap, ◌∙◌, arith}
 use Rattle.std.specs.Prelude.{map}
 use Rattle.std.specs.List.{enumerate_from}
 use Rattle.std.proofs.lemmas.List.{length-map, get_or-map, ext_get_or}
 use Rattle.std.proofs.lemmas.List.FromFn.{length-enumerate_from, get_or-enumerate_from}
-use Rattle.elf_types.specs.declared.records.Ehdr.{Ehdr}
-use Rattle.elf_types.specs.declared.records.Phdr.{Phdr}
-use Rattle.elf_types.specs.declared.records.Shdr.{Shdr}
-use Rattle.elf_object.specs.Object.{Object, Section, WrittenFront, new_section, section_at, is_dirty}
+use Rattle.elf_object.specs.Object.{Object, Section, new_section, section_at, is_dirty}
 use Rattle.elf_object.specs.Joined.{joined}
 use Rattle.elf_object.specs.Layout.{places_of, placed_by, placed}
 use Rattle.elf_object.specs.Image.{front_blocks, image}
@@ -17,11 +14,12 @@ use Rattle.elf_object.specs.Changed.{is_moved, torn}
 use Rattle.elf_object.specs.Valid.{IsObject}
 use Rattle.object_laws.specs.Laws.{IsTornImage}
 use Rattle.object_laws.proofs.ImageLaws.{placed-dirty, placed-clean}
-use Rattle.object_laws.proofs.SettledLaws.{settle-dirty, settle-clean}
+use Rattle.object_laws.proofs.SettledLaws.{settle-dirty}
 use Rattle.object_laws.proofs.StandLaws.{section_count-placed, joined-placed}
 use Rattle.object_laws.proofs.AgainLaws.{SameFront, header_again, headers_again, front_again}
 use Rattle.object_laws.proofs.TornLaws.{dirty-placed, placed_stays, torn_of, torn-is, torn_front, torn_dirty, torn_law}
-use Rattle.writing_laws.specs.Writing.{IsReady, SettlesAlike}
+use Rattle.writing_laws.specs.Ready.{IsReady}
+use Rattle.writing_laws.specs.Writing.{SettlesAlike}
 
 -- ---- Objects that settle alike
 

@@ -27,7 +27,7 @@ use Rattle.object_laws.proofs.SettledLaws.{unrefused}
 use Rattle.object_laws.proofs.StandLaws.{joined-placed}
 use Rattle.writing_laws.specs.Lines.{HoldsBlock}
 use Rattle.writing_laws.specs.Based.{some_unmarked, HomeStands, IsBased}
-use Rattle.writing_laws.specs.Writing.{IsReady}
+use Rattle.writing_laws.specs.Ready.{IsReady}
 use Rattle.writing_laws.proofs.HeldLaws.{same_holds, same_extent_is, empty_holds}
 
 -- ---- The front

@@ -10,15 +10,16 @@ use Rattle.elf_types.specs.declared.records.Part.{Part}
 use Rattle.elf_types.specs.declared.records.Part.TheVariants as part
 use Rattle.elf_object.specs.Blocks.{Block, covers, is_covered}
 use Rattle.elf_object.specs.Object.{Object, is_dirty}
-use Rattle.elf_object.specs.Layout.{section_numbers, places_of, placed_by, placed}
-use Rattle.elf_object.specs.Image.{front_blocks, section_block, part_blocks, kept_base, uncovered_byte, image_length, image, is_fill_place}
+use Rattle.elf_object.specs.Layout.{section_numbers, places_of, placed}
+use Rattle.elf_object.specs.Image.{front_blocks, section_block, part_blocks, kept_base, uncovered_byte, image}
 use Rattle.elf_object.specs.Changed.{header_changed, segments_changed, table_changed, section_changed, when, changed_parts, changed_blocks}
 use Rattle.object_laws.proofs.ImageLaws.{placed-dirty}
 use Rattle.object_laws.proofs.StandLaws.{section_count-placed}
 use Rattle.writing_laws.specs.Lines.{HoldsBlock}
 use Rattle.writing_laws.specs.Based.{IsBased}
 use Rattle.writing_laws.specs.Plan.{plan}
-use Rattle.writing_laws.specs.Writing.{IsReady, LeftStands}
+use Rattle.writing_laws.specs.Ready.{IsReady}
+use Rattle.writing_laws.specs.Writing.{LeftStands}
 use Rattle.writing_laws.proofs.HeldLaws.{held_byte, held_within}
 use Rattle.writing_laws.proofs.PlanLaws.{parts_hold, image_uncovered, fill_place_is, covered-plan}
 use Rattle.writing_laws.proofs.LeftLaws.{header_stands, segments_stand, table_stands, section_stands}

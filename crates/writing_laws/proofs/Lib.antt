@@ -8,5 +8,10 @@ pub mod LeftPlaces
 pub mod WriteLaws
 pub mod AfterLaws
 pub mod AlikeLaws
+pub mod PieceLaws
+pub mod DisturbedLaws
+pub mod MarkLaws
+pub mod UnderWayLaws
+pub mod RankLaws
 pub mod BasedSteps
 pub mod BasedBeginnings

@@ -18,7 +18,8 @@ use Rattle.object_laws.proofs.PlaceLaws.{length_from-ge}
 use Rattle.object_laws.proofs.StandLaws as stand
 use Rattle.writing_laws.specs.Lines.{HoldsBlock, AreInLine, gap_places}
 use Rattle.writing_laws.specs.Plan.{in_order, plan, base_gaps}
-use Rattle.writing_laws.specs.Writing.{IsReady, PartsAreApart, PlanIsImage, GapsAreFill}
+use Rattle.writing_laws.specs.Ready.{IsReady}
+use Rattle.writing_laws.specs.Writing.{PartsAreApart, PlanIsImage, GapsAreFill}
 use Rattle.writing_laws.proofs.LineLaws.{drop-spread}
 use Rattle.writing_laws.proofs.GapLaws.{filter_range, filter_gaps, split_range, filter_range_none, length-base_gaps}
 use Rattle.writing_laws.proofs.SortLaws.{byte_over-in_order, covered-in_order, in_order_line}

@@ -1,30 +1,29 @@
 -- What an update in place writes: it stands in the image, and over the base it gives the image.
-use Rattle.std.proofs.Common.{◌≡◌, ℕ, zero, suc, ◌+◌, ◌-◌, ◌<◌, ◌≤◌, min, max, Bool, true, false, not, ◌&&◌, ◌||◌, List, [], ◌∷◌, ◌++◌, length, take, drop, replicate, get_or, refl, sym, ap, ◌∙◌, subst, arith, ⊎_elim, ◌⊎◌, inl, inr}
-use Rattle.std.specs.Prelude.{All, nat_lt, if◌then◌else◌, map, sum_by, cond}
+use Rattle.std.proofs.Common.{◌≡◌, ℕ, zero, suc, ◌+◌, ◌-◌, ◌<◌, ◌≤◌, max, Bool, true, false, not, ◌&&◌, ◌||◌, List, [], ◌∷◌, ◌++◌, length, take, replicate, get_or, refl, sym, ap, ◌∙◌, subst, arith, ⊎_elim, inl, inr}
+use Rattle.std.specs.Prelude.{nat_lt, map, sum_by, cond}
 use Rattle.std.specs.List.{range_with_len, list_any, filter, AllByRecursion}
 use Rattle.std.proofs.lemmas.Bool.{cases_lt, le-ltb, ltb-false}
 use Rattle.std.proofs.lemmas.List.{length-replicate, get_or-replicate, length-take, get_or-take}
 use Rattle.std.proofs.lemmas.List.Elements.{All-from_recursion, recursion_from_All}
 use Rattle.std.proofs.lemmas.List.Folds.{list_any-append}
 use Rattle.std.proofs.lemmas.List.Sums.{sum_by-append}
-use Rattle.elf_object.specs.Blocks.{Block, block_end, covers, is_covered, byte_over, spread}
+use Rattle.elf_object.specs.Blocks.{Block, block_end, covers, is_covered, byte_over}
 use Rattle.elf_object.specs.Object.{Object}
-use Rattle.elf_object.specs.Layout.{section_numbers, places_of, placed}
+use Rattle.elf_object.specs.Layout.{places_of, placed}
 use Rattle.elf_object.specs.Image.{front_blocks, section_block, part_blocks, kept_base, uncovered_byte, image_length, image, is_fill_place}
-use Rattle.elf_object.specs.Changed.{header_changed, segments_changed, table_changed, section_changed, changed_blocks, fill_places, changed_bytes}
+use Rattle.elf_object.specs.Changed.{header_changed, segments_changed, table_changed, section_changed, changed_blocks, changed_bytes}
 use Rattle.object_laws.proofs.BlockLaws.{byte_over-uncovered}
 use Rattle.object_laws.proofs.ImageLaws.{length-image, placed-dirty}
 use Rattle.object_laws.proofs.StandLaws.{section_count-placed}
-use Rattle.object_laws.specs.Laws.{IsTornImage}
-use Rattle.writing_laws.specs.Lines.{HoldsBlock, AreInLine, gap_places, patched, AreBetween, IsTornPatch}
+use Rattle.writing_laws.specs.Lines.{HoldsBlock, AreInLine, patched}
 use Rattle.writing_laws.specs.Plan.{plan, fill_block, fill_between, fill_blocks, written_blocks}
-use Rattle.writing_laws.specs.Based.{IsBased}
-use Rattle.writing_laws.specs.Writing.{IsReady, WrittenStands, InPlace, TornDevice}
+use Rattle.writing_laws.specs.Ready.{IsReady}
+use Rattle.writing_laws.specs.Writing.{WrittenStands, InPlace, TornDevice}
 use Rattle.writing_laws.proofs.LineLaws.{end_is, line_within, not_covered}
 use Rattle.writing_laws.proofs.GapLaws.{before_first, length-fill_between, fill_covers}
 use Rattle.writing_laws.proofs.HeldLaws.{stands_from, covered_byte, spread_is}
 use Rattle.writing_laws.proofs.PlanLaws.{parts_hold, plan_line, covered-plan, image_uncovered, fill_place_is, fill_places_are}
-use Rattle.writing_laws.proofs.LeftPlaces.{when_block, changed_of, changed_are, left_stands}
+use Rattle.writing_laws.proofs.LeftPlaces.{when_block, changed_are, left_stands}
 
 -- ---- The parts that change stand in the image
 
