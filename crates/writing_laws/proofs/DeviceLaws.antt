@@ -1,12 +1,11 @@
 -- Blocks that are written over a device, in the words of its calls: one after the other or by pieces, behind a device that
 -- was lengthened, and one that is cut at the end.
-use Rattle.std.proofs.Common.{◌≡◌, ℕ, ◌+◌, ◌-◌, ◌<◌, ◌≤◌, Bool, true, false, ◌||◌, List, [], ◌∷◌, ◌++◌, length, take, drop, replicate, get_or, refl, sym, ap, ◌∙◌, subst, arith, ⊎_elim, ◌⊎◌, inl, inr}
-use Rattle.std.specs.Prelude.{if◌then◌else◌}
+use Rattle.std.proofs.Common.{◌≡◌, ℕ, ◌+◌, ◌-◌, ◌<◌, ◌≤◌, Bool, true, false, ◌||◌, List, [], ◌∷◌, ◌++◌, length, take, drop, replicate, get_or, sym, ap, ◌∙◌, subst, arith, ⊎_elim, ◌⊎◌, inl, inr}
 use Rattle.std.proofs.lemmas.Bool.{cases_lt}
 use Rattle.std.proofs.lemmas.List.{length-append, length-take, length-take-le, length-drop, length-replicate, get_or-append_right, get_or_append_left, get_or-take, get_or-drop, get_or-replicate, get_or_past, append-nil, ext_get_or}
 use Rattle.elf_outside.specs.Writes.{written_over, resized, IsTorn}
 use Rattle.elf_object.specs.Blocks.{Block, block_end, covers, is_covered}
-use Rattle.writing_laws.specs.Lines.{HoldsBlock, patched, AreBetween, IsTornPatch, IsUnderWay}
+use Rattle.writing_laws.specs.Lines.{HoldsBlock, patched, IsTornPatch, IsUnderWay}
 use Rattle.writing_laws.proofs.Tests.{neither}
 use Rattle.writing_laws.proofs.LineLaws.{covers_from, not_covered, end_is}
 use Rattle.writing_laws.proofs.HeldLaws.{stands_from, stands_byte, stands_within}

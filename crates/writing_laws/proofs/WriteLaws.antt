@@ -20,6 +20,7 @@ use Rattle.writing_laws.proofs.Tests.{neither}
 use Rattle.writing_laws.specs.Lines.{HoldsBlock, AreInLine, patched}
 use Rattle.writing_laws.specs.Plan.{plan, fill_block, fill_between, fill_blocks, written_blocks}
 use Rattle.writing_laws.specs.Ready.{IsReady}
+use Rattle.writing_laws.specs.Based.{IsBased}
 use Rattle.writing_laws.specs.Writing.{WrittenStands, InPlace, TornDevice}
 use Rattle.writing_laws.proofs.LineLaws.{end_is, line_within, not_covered}
 use Rattle.writing_laws.proofs.GapLaws.{before_first, length-fill_between, fill_covers}
