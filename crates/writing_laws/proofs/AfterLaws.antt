@@ -22,7 +22,7 @@ use Rattle.object_laws.proofs.KeepLaws.{section_at_is}
 use Rattle.object_laws.proofs.PlacedLaws.{each_row, placed_is}
 use Rattle.object_laws.proofs.SettledLaws.{settle-dirty, settle-clean, section_raw}
 use Rattle.object_laws.proofs.StandLaws.{covered_from, section_count-placed}
-use Rattle.writing_laws.proofs.Tests.{neither, second_false}
+use Rattle.writing_laws.proofs.Bools.{neither, second_false}
 use Rattle.writing_laws.specs.Lines.{HoldsBlock}
 use Rattle.writing_laws.specs.Based.{some_unmarked, HomeStands, IsBased, UpdatesKeepBased}
 use Rattle.writing_laws.specs.Ready.{IsReady}

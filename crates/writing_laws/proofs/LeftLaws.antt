@@ -25,7 +25,7 @@ use Rattle.object_laws.proofs.ItemLaws.{alone_spread, row_none}
 use Rattle.object_laws.proofs.PlacedLaws.{update_passes}
 use Rattle.object_laws.proofs.SettledLaws.{unrefused}
 use Rattle.object_laws.proofs.StandLaws.{joined-placed}
-use Rattle.writing_laws.proofs.Tests.{neither}
+use Rattle.writing_laws.proofs.Bools.{neither}
 use Rattle.std.proofs.lemmas.Bool.{not-false}
 use Rattle.writing_laws.specs.Lines.{HoldsBlock}
 use Rattle.writing_laws.specs.Based.{some_unmarked, HomeStands, IsBased}
