@@ -189,8 +189,8 @@ fn as_range(alloc: Global, items: &Items, form: Form) -> Result<Vec<u8>, Fail> {
     Ok(out)
 }
 
-/// The first row whose bytes do not hold its item in its form, alone or in a list, or are not written for
-/// it again. The rows are in the four forms, one after the other.
+/// The first row whose bytes do not hold its item in its form, alone or in a list, or are not
+/// written for it again. The rows are in the four forms, one after the other.
 pub fn first_wrong<R: Item>(
     alloc: Global,
     kind: Kind,
@@ -208,8 +208,8 @@ pub fn first_wrong<R: Item>(
     Ok(None)
 }
 
-/// The first of the items that fits class 32, or does not fit class 64, or is not the index of the refusal
-/// where it stands behind one that fits.
+/// The first of the items that fits class 32, or does not fit class 64, or is not the index of the
+/// refusal where it stands behind one that fits.
 pub fn first_that_fits<R: Item>(
     alloc: Global,
     good: R,

@@ -200,8 +200,8 @@ fn numbers_alone(rt: HostRuntime) -> Result<(), Fail> {
     Ok(())
 }
 
-/// The first kind of the rows that has another size in class 32 or in class 64, or whose items are read of
-/// fewer bytes.
+/// The first kind of the rows that has another size in class 32 or in class 64, or whose items are
+/// read of fewer bytes.
 fn first_other_size(rt: &HostRuntime, rows: &[(Kind, u64, u64)]) -> Option<usize> {
     for (i, (kind, narrow, broad)) in rows.iter().enumerate() {
         let sizes = fsize(*kind, Class::C32, 3) == Some(narrow.wrapping_mul(3))
