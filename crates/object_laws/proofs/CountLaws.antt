@@ -226,7 +226,7 @@ left_without a b count none some = ⊎_elim (λ h. and_false_right a b (some h))
 left_with : (a b : Bool) (count : ℕ) → (count ≡ 0 → b ≡ false) → (0 < count → a ≡ false) → (a && b) ≡ false
 left_with a b count none some = ⊎_elim (λ h. and_false_left a b (some h)) (λ h. and_false_right a b (none (omega arith))) (cases_lt 0 count)
 
-limit_small : (class : Class) → limit_of class ≤ 2 ^ 40
+pub limit_small : (class : Class) → limit_of class ≤ 2 ^ 40
 unfolding limit_of
 limit_small C32 = lit≤ tt
 limit_small C64 = lit≤ tt

@@ -19,7 +19,7 @@ use Rattle.elf_types.specs.declared.records.Part.TheVariants as part
 use Rattle.elf_types.specs.declared.errors.ElfError.{ElfError}
 use Rattle.elf_types.specs.declared.errors.ElfError.TheVariants.{OutOfFile, Ragged, Unfit}
 use Rattle.elf_xlate.specs.declared.content.Items.{Items}
-use Rattle.elf_xlate.specs.Translation.{AreItems, DecodesAsEncoded, decoded, encoded, first_unfit, items_kind}
+use Rattle.elf_xlate.specs.Translation.{DecodesAsEncoded, decoded, encoded, first_unfit, items_kind}
 use Rattle.elf_layout.specs.declared.parts.Places.{Places}
 use Rattle.elf_layout.specs.Layout.{rounded_up}
 use Rattle.elf_types.specs.Answers.{first_refusal}
@@ -187,15 +187,10 @@ item_fits o s h inside =
     let at : 0 + s ≡ s = omega arith in
     sym (ap (λ (k : ℕ). unfit_in_section o.header.class k (get_or o.sections s new_section)) at) ∙ row_none (unfit_in_section o.header.class) 0 o.sections s new_section h inside
 
-own_is : (p : Piece) (items : Items) → p.own ≡ Some items → IsPiece p → AreItems items
-own_is p items own is =
-    let R : Option Items → Type 0 = λ x. IfSome x (λ l. AreItems l × IsTrue p.marked) in
-    (subst R own is.own).0
-
 own_marked : (p : Piece) (items : Items) → p.own ≡ Some items → IsPiece p → p.marked ≡ true
 own_marked p items own is =
-    let R : Option Items → Type 0 = λ x. IfSome x (λ l. AreItems l × IsTrue p.marked) in
-    (subst R own is.own).1
+    let R : Option Items → Type 0 = λ x. IfSome x (λ l. IsTrue p.marked) in
+    subst R own is.own
 
 -- an object with a marked piece that stands alone in its section is dirty
 dirty_alone : (o : Object) (s : ℕ) (p : Piece) → s < length o.sections → (section_at o s).pieces ≡ p ∷ [] → p.marked ≡ true → is_dirty o ≡ true
@@ -220,7 +215,7 @@ dirty_alone o s p inside alone marked =
     three false false c = or_true c
 
 pub settling_keeps_items : (back : (class : Class) (order : Order) (items : Items) → DecodesAsEncoded class order items) (o : Object) → SettlingKeepsItems o
-settling_keeps_items back o s p items ok passed positive inside alone own kind some =
+settling_keeps_items back o s p items ok passed positive inside alone own are kind some =
     let here = section_at_is o s ok in
     let piece : IsPiece p = All-head IsPiece p [] (subst (All IsPiece) alone here.pieces) in
     let dirty = dirty_alone o s p inside alone (own_marked p items own piece) in
@@ -238,7 +233,7 @@ settling_keeps_items back o s p items ok passed positive inside alone own kind s
     let made = settled_fields (length (image o)) (joined (placed_by (places_of o) o) s) (section_at (placed_by (places_of o) o) s).header in
     let out : (home_of (length (image o)) (section_at (placed_by (places_of o) o) s).header).out ≡ false = out_false (image o) (joined (placed_by (places_of o) o) s) (section_at (placed_by (places_of o) o) s).header (section_extent o s inside first) (section_raw o s ok dirty passed inside) in
     let fitting = fits_alone o.header.class s (section_at o s) p items filled alone own (item_fits o s un.item inside) in
-    let read : decoded (items_kind items) o.header.class o.header.order (encoded o.header.class o.header.order items) ≡ Some items = back o.header.class o.header.order items (own_is p items own piece) fitting in
+    let read : decoded (items_kind items) o.header.class o.header.order (encoded o.header.class o.header.order items) ≡ Some items = back o.header.class o.header.order items are fitting in
     let settled = settle-dirty o dirty ∙ ap (settled_over (image o)) (placed-dirty o dirty) in
     let codes = codes_placed o in
     ap (λ (x : Object). content x s) settled

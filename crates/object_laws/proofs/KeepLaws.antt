@@ -4,7 +4,7 @@ use Rattle.std.specs.Prelude.{All, IfSome, IsSome, IsTrue, nat_le, nat_lt, if◌
 use lib.Count.{ones}
 use Rattle.std.proofs.lemmas.Bool.{le-leb, leb-false, ltb-false, eqb-true, cases_lt}
 use Rattle.std.proofs.lemmas.List.{length-set, length-append, length-replicate, get_or_past, set_past, nil_from_length, length_push}
-use Rattle.std.proofs.lemmas.List.Elements.{All-nil, All-cons, All-set, All-append, All-replicate, All-push, All-get_or}
+use Rattle.std.proofs.lemmas.List.Elements.{All-nil, All-cons, All-set, All-append, All-push, All-get_or}
 use Rattle.elf_types.specs.declared.records.Class.{Class}
 use Rattle.elf_types.specs.declared.records.Class.TheVariants.{C32, C64}
 use Rattle.elf_types.specs.declared.records.Ehdr.{Ehdr}
@@ -14,8 +14,8 @@ use Rattle.elf_types.specs.declared.records.Part.{Part}
 use Rattle.elf_types.specs.declared.records.Part.TheVariants as part
 use Rattle.elf_types.specs.declared.errors.ElfError.TheVariants.{BadAlign, NoSection, Reserved, TooMany, Unfit}
 use Rattle.elf_xlate.specs.declared.content.Items.{Items}
-use Rattle.elf_xlate.specs.Headers.{IsEhdr, IsPhdr, IsShdr, ehdr_fits, shdr_fits}
-use Rattle.elf_xlate.specs.Translation.{AreItems, items_kind}
+use Rattle.elf_xlate.specs.Headers.{IsEhdr, IsShdr, ehdr_fits, shdr_fits}
+use Rattle.elf_xlate.specs.Translation.{items_kind}
 use Rattle.elf_types.specs.Answers.{refused_if}
 use Rattle.elf_ident.specs.Front.{zero_shdr}
 use Rattle.elf_object.specs.Object.{Object, Section, Piece, section_at, piece_at, new_section, home_piece, no_phdr, no_home}
@@ -67,7 +67,6 @@ ehdr_stored o h ok is passed =
       fitting = not_not (ehdr_fits (stored_ehdr o.header h)) tests.1;
       pad = ok.pad;
       pad_bytes = ok.pad_bytes;
-      phdrs = ok.phdrs;
       phdr_count = ok.phdr_count;
       sections = ok.sections;
       section_count = ok.section_count;
@@ -82,14 +81,13 @@ update_ehdr_keeps h is = edit_keeps IsObject _ (λ o. update_ehdr_refusal o h) (
 
 -- ---- Program headers
 
-phdrs_kept : (o : Object) (l : List Phdr) → IsObject o → All IsPhdr l → length l ≤ 2 ^ 20 → IsObject (with_phdrs o l)
+phdrs_kept : (o : Object) (l : List Phdr) → IsObject o → length l ≤ 2 ^ 20 → IsObject (with_phdrs o l)
 unfolding with_phdrs
-phdrs_kept o l ok each count = record {
+phdrs_kept o l ok count = record {
   header = ok.header;
   fitting = ok.fitting;
   pad = ok.pad;
   pad_bytes = ok.pad_bytes;
-  phdrs = each;
   phdr_count = count;
   sections = ok.sections;
   section_count = ok.section_count;
@@ -99,33 +97,21 @@ phdrs_kept o l ok each count = record {
   fill = ok.fill;
 }
 
-pub update_phdr_keeps : (i : ℕ) (p : Phdr) → IsPhdr p → KeepsObject (update_phdr i p)
+pub update_phdr_keeps : (i : ℕ) (p : Phdr) → KeepsObject (update_phdr i p)
 unfolding with_phdr
-update_phdr_keeps i p is = edit_keeps IsObject _ (λ o. update_phdr_refusal o i p) (λ o. tt) (λ o. with_phdr o i p) (λ o ok passed.
+update_phdr_keeps i p = edit_keeps IsObject _ (λ o. update_phdr_refusal o i p) (λ o. tt) (λ o. with_phdr o i p) (λ o ok passed.
     let count : length (set o.phdrs i p) ≤ 2 ^ 20 = rw length-set (ok.phdr_count) in
-    phdrs_kept o (set o.phdrs i p) ok (All-set IsPhdr o.phdrs i p is ok.phdrs) count)
+    phdrs_kept o (set o.phdrs i p) ok count)
 
-pub phdrs_mut_keeps : (left : List Phdr) → All IsPhdr left → length left ≤ 2 ^ 20 → KeepsObject (phdrs_mut left)
-phdrs_mut_keeps left each count = edit_keeps IsObject _ (λ o. None) (λ o. tt) (λ o. with_phdrs o left) (λ o ok passed. phdrs_kept o left ok each count)
-
-no_phdr_is : IsPhdr no_phdr
-no_phdr_is = record {
-  ptype = lit< tt;
-  flags = lit< tt;
-  offset = lit< tt;
-  vaddr = lit< tt;
-  paddr = lit< tt;
-  filesz = lit< tt;
-  memsz = lit< tt;
-  align = lit< tt;
-}
+pub phdrs_mut_keeps : (left : List Phdr) → length left ≤ 2 ^ 20 → KeepsObject (phdrs_mut left)
+phdrs_mut_keeps left count = edit_keeps IsObject _ (λ o. None) (λ o. tt) (λ o. with_phdrs o left) (λ o ok passed. phdrs_kept o left ok count)
 
 pub newphdr_keeps : (n : ℕ) → KeepsObject (newphdr n)
 unfolding with_new_phdrs
 newphdr_keeps n = edit_keeps IsObject _ (λ o. newphdr_refusal n) (λ o. tt) (λ o. with_new_phdrs o n) (λ o ok passed.
     let small = ltb-false 65534 n (not_refused (nat_lt 65534 n) TooMany passed) in
     let count : length (replicate n no_phdr) ≤ 2 ^ 20 = rw length-replicate (omega arith) in
-    phdrs_kept o (replicate n no_phdr) ok (All-replicate IsPhdr n no_phdr no_phdr_is) count)
+    phdrs_kept o (replicate n no_phdr) ok count)
 
 -- ---- Sections
 
@@ -139,7 +125,6 @@ section_kept o s c ok is = record {
   fitting = ok.fitting;
   pad = ok.pad;
   pad_bytes = ok.pad_bytes;
-  phdrs = ok.phdrs;
   phdr_count = ok.phdr_count;
   sections = All-set (IsSection o.header.class) o.sections s c is ok.sections;
   section_count = rw length-set (ok.section_count);
@@ -215,7 +200,6 @@ sections_more o l ok each count back = record {
   fitting = ok.fitting;
   pad = ok.pad;
   pad_bytes = ok.pad_bytes;
-  phdrs = ok.phdrs;
   phdr_count = ok.phdr_count;
   sections = All-append (IsSection o.header.class) o.sections l ok.sections each;
   section_count = rw length-append count;
@@ -257,7 +241,6 @@ null_keeps true o ok none = record {
   fitting = ok.fitting;
   pad = ok.pad;
   pad_bytes = ok.pad_bytes;
-  phdrs = ok.phdrs;
   phdr_count = ok.phdr_count;
   sections = All-cons (IsSection o.header.class) new_section [] (new_section_is o.header.class) (All-nil (IsSection o.header.class));
   section_count = lit≤ tt;
@@ -298,8 +281,8 @@ others_push : (l : List Piece) (p : Piece) → OthersOwn l → IsOwn p → Other
 others_push [] p others own = All-nil IsOwn
 others_push (x ∷ l) p others own = All-push IsOwn l p others own
 
-own_piece_is : (items : Items) (align : ℕ) → AreItems items → IsTrue (is_piece_align align) → IsPiece (own_piece items align)
-own_piece_is items align are aligned = record { align = aligned; own = (are, refl) }
+own_piece_is : (items : Items) (align : ℕ) → IsTrue (is_piece_align align) → IsPiece (own_piece items align)
+own_piece_is items align aligned = record { align = aligned; own = refl }
 
 pub home_piece_is : IsPiece home_piece
 unfolding is_piece_align ones
@@ -310,38 +293,38 @@ pub piece_at_is : (o : Object) (s p : ℕ) → IsObject o → IsPiece (piece_at 
 unfolding piece_at
 piece_at_is o s p ok = at_or IsPiece (section_at o s).pieces p home_piece (section_at_is o s ok).pieces home_piece_is
 
-pub with_own_is : (o : Object) (s p : ℕ) (items : Items) → IsObject o → AreItems items → IsObject (with_own o s p items)
+pub with_own_is : (o : Object) (s p : ℕ) (items : Items) → IsObject o → IsObject (with_own o s p items)
 unfolding with_own with_piece_at
-with_own_is o s p items ok are =
+with_own_is o s p items ok =
     let old = section_at_is o s ok in
-    let piece = own_piece_is items (piece_at o s p).align are (piece_at_is o s p ok).align in
+    let piece = own_piece_is items (piece_at o s p).align (piece_at_is o s p ok).align in
     section_kept o s (record (section_at o s) { pieces = set (section_at o s).pieces p (own_piece items (piece_at o s p).align) }) ok
     (pieces_kept o.header.class (section_at o s) (set (section_at o s).pieces p (own_piece items (piece_at o s p).align)) old
     (All-set IsPiece (section_at o s).pieces p (own_piece items (piece_at o s p).align) piece old.pieces)
     (others_set (section_at o s).pieces p (own_piece items (piece_at o s p).align) old.others refl)
     (rw length-set (old.piece_count)))
 
-pub replace_keeps : (s p : ℕ) (items : Items) → AreItems items → KeepsObject (replace s p items)
-replace_keeps s p items are = edit_keeps IsObject _ (λ o. replace_refusal o s p items) (λ o. tt) (λ o. with_own o s p items) (λ o ok passed. with_own_is o s p items ok are)
+pub replace_keeps : (s p : ℕ) (items : Items) → KeepsObject (replace s p items)
+replace_keeps s p items = edit_keeps IsObject _ (λ o. replace_refusal o s p items) (λ o. tt) (λ o. with_own o s p items) (λ o ok passed. with_own_is o s p items ok)
 
-pub lend_keeps : (s p : ℕ) (left : Items) → AreItems left → KeepsObject (lend s p left)
+pub lend_keeps : (s p : ℕ) (left : Items) → KeepsObject (lend s p left)
 unfolding step
-lend_keeps s p left are o ok = answered_keeps IsObject (lend_refusal o (items_kind left) s p) (items_at o s p) o (with_own o s p left) ok (λ passed. with_own_is o s p left ok are)
+lend_keeps s p left o ok = answered_keeps IsObject (lend_refusal o (items_kind left) s p) (items_at o s p) o (with_own o s p left) ok (λ passed. with_own_is o s p left ok)
 
-with_new_piece_is : (o : Object) (s : ℕ) (items : Items) (align : ℕ) → IsObject o → AreItems items → IsTrue (is_piece_align align) → piece_count o s < 2 ^ 20 → IsObject (with_new_piece o s items align)
+with_new_piece_is : (o : Object) (s : ℕ) (items : Items) (align : ℕ) → IsObject o → IsTrue (is_piece_align align) → piece_count o s < 2 ^ 20 → IsObject (with_new_piece o s items align)
 unfolding with_new_piece piece_count
-with_new_piece_is o s items align ok are aligned room =
+with_new_piece_is o s items align ok aligned room =
     let old = section_at_is o s ok in
-    let piece = own_piece_is items align are aligned in
+    let piece = own_piece_is items align aligned in
     section_kept o s (record (section_at o s) { pieces = (section_at o s).pieces ++ own_piece items align ∷ [] }) ok
     (pieces_kept o.header.class (section_at o s) ((section_at o s).pieces ++ own_piece items align ∷ []) old
     (All-push IsPiece (section_at o s).pieces (own_piece items align) old.pieces piece)
     (others_push (section_at o s).pieces (own_piece items align) old.others refl)
     (rw length_push (omega arith)))
 
-pub newdata_keeps : (s : ℕ) (items : Items) (align : ℕ) → AreItems items → KeepsObject (newdata_aligned s items align)
+pub newdata_keeps : (s : ℕ) (items : Items) (align : ℕ) → KeepsObject (newdata_aligned s items align)
 unfolding newdata_refusal
-newdata_keeps s items align are =
+newdata_keeps s items align =
     edit_keeps IsObject _ (λ o. newdata_refusal o s items align) (λ o. (s, piece_count o s)) (λ o. with_new_piece o s items align) (λ o ok passed.
     let fits = unfit_items o s (piece_count o s) items ∷ [] in
     let fourth = refused_if (not (is_piece_align align)) (BadAlign align) ∷ fits in
@@ -351,16 +334,16 @@ newdata_keeps s items align are =
     let free = passed_one (s == 0) Reserved third there.1 in
     let room = passed_one (nat_le (2 ^ 20) (piece_count o s)) TooMany fourth free.1 in
     let aligned = passed_one (not (is_piece_align align)) (BadAlign align) fits room.1 in
-    with_new_piece_is o s items align ok are (not_not (is_piece_align align) aligned.0) (leb-false (2 ^ 20) (piece_count o s) room.0))
+    with_new_piece_is o s items align ok (not_not (is_piece_align align) aligned.0) (leb-false (2 ^ 20) (piece_count o s) room.0))
 
 -- ---- Flags and fill
 
-marked_own : (own : Option Items) (b : Bool) → IfSome own (λ items. AreItems items × IsTrue b) → IfSome own (λ items. AreItems items × IsTrue true)
-marked_own None b h = tt
-marked_own (Some items) b h = (h.0, refl)
+marked_own : (own : Option Items) → IfSome own (λ items. IsTrue true)
+marked_own None = tt
+marked_own (Some items) = refl
 
 pub marked_is : (p : Piece) → IsPiece p → IsPiece (record p { marked = true })
-marked_is p is = record { align = is.align; own = marked_own p.own p.marked is.own }
+marked_is p is = record { align = is.align; own = marked_own p.own }
 
 others_marked : (l : List Piece) (i : ℕ) → OthersOwn l → OthersOwn (set l i (record (get_or l i home_piece) { marked = true }))
 others_marked [] i others = tt
@@ -377,7 +360,6 @@ marks_kept o header segments whole ok = record {
   fitting = ok.fitting;
   pad = ok.pad;
   pad_bytes = ok.pad_bytes;
-  phdrs = ok.phdrs;
   phdr_count = ok.phdr_count;
   sections = ok.sections;
   section_count = ok.section_count;
@@ -393,7 +375,6 @@ layout_kept o layout ok = record {
   fitting = ok.fitting;
   pad = ok.pad;
   pad_bytes = ok.pad_bytes;
-  phdrs = ok.phdrs;
   phdr_count = ok.phdr_count;
   sections = ok.sections;
   section_count = ok.section_count;
@@ -445,7 +426,6 @@ set_fill_keeps byte small = edit_keeps IsObject _ (λ o. None) (λ o. tt) (λ o.
   fitting = ok.fitting;
   pad = ok.pad;
   pad_bytes = ok.pad_bytes;
-  phdrs = ok.phdrs;
   phdr_count = ok.phdr_count;
   sections = ok.sections;
   section_count = ok.section_count;

@@ -4,7 +4,7 @@ use Rattle.elf_object.specs.Object.{Object, section_at}
 use Rattle.elf_object.specs.Layout.{places_of}
 use Rattle.object_laws.specs.Laws.{PartsStand, BeginningsAre, CleanStays, EveryStepKeeps, PartsDoNotMeet, RefusedStays, SizesAreLengths}
 use Rattle.object_laws.proofs.ImageLaws.{step-refused, image-clean, placed-clean, settle-clean, placed-dirty, length-image, length-joined, size-placed, parts_apart}
-use Rattle.object_laws.proofs.OpenLaws.{created_is, opened_is}
+use Rattle.object_laws.proofs.OpenLaws.{created_is, opened_is, opened_phdrs}
 use Rattle.object_laws.proofs.StandLaws.{part_in_image}
 use Rattle.object_laws.proofs.KeepLaws as keep
 use Rattle.object_laws.proofs.KeepItemLaws as keep_items
@@ -53,7 +53,7 @@ pub parts_do_not_meet : PartsDoNotMeet
 parts_do_not_meet = parts_apart
 
 pub beginnings_are : BeginningsAre
-beginnings_are = record { from_image = opened_is; from_nothing = created_is }
+beginnings_are = record { from_image = opened_is; phdrs = opened_phdrs; from_nothing = created_is }
 
 pub parts_stand : (o : Object) → PartsStand o
 parts_stand o i b ok dirty passed at = part_in_image o i b ok dirty passed at

@@ -1,6 +1,6 @@
 -- An image that is opened gives an object, and so does creating one.
 use Rattle.std.proofs.Common.{◌≡◌, ℕ, ◌+◌, ◌*◌, ◌^◌, ◌<◌, ◌≤◌, Bool, true, false, not, ◌&&◌, ◌||◌, List, [], ◌∷◌, length, take, drop, get_or, None, Result, Ok, Err, refl, sym, ap, ◌∙◌, subst, arith, lit<, lit≤}
-use Rattle.std.specs.Prelude.{IsSome, IsTrue, nat_lt, if◌then◌else◌, ◌==◌}
+use Rattle.std.specs.Prelude.{All, IsSome, IsTrue, nat_lt, if◌then◌else◌, ◌==◌}
 use Rattle.std.proofs.lemmas.Bool.{ltb-false, lt-ltb, eqb-true}
 use Rattle.std.proofs.lemmas.List.{length-take, length-drop, length-map, length-replicate, length-take-le}
 use Rattle.std.proofs.lemmas.List.FromFn.{length-map-range_with_len}
@@ -330,7 +330,6 @@ front_is image head are is fitting seven pad counts early late =
       fitting = fitting;
       pad = seven;
       pad_bytes = pad;
-      phdrs = items_range IsPhdr (phdr_of head.header.class head.header.order) (phdr_size head.header.class) head.counts.phnum (take (head.counts.phnum * phdr_size head.header.class) (drop head.header.phoff image)) (phdr_range head.header.class head.header.order) (table_is image head.header.phoff (head.counts.phnum * phdr_size head.header.class) are);
       phdr_count = rw length-items_of (small.1);
       sections = All-map (IsSection head.header.class) (opened_section image) shdrs (All-weaker (λ x. IsShdr x × IsTrue (shdr_fits head.header.class x)) (λ x. IsSection head.header.class (opened_section image x)) (λ x both. opened_section_is head.header.class image x are both.0 both.1) shdrs each);
       section_count = rw (length-map, length-items_of) (small.0);
@@ -371,6 +370,18 @@ opened_is image o are h =
     let found = opened_front (front image) image o h in
     subst IsObject found.2 (begun_is image found.0 are (front_known image found.0 found.1))
 
+-- its program headers are in range
+pub opened_phdrs : (image : List ℕ) (o : Object) → AreBytes image → opened image ≡ Ok o → All IsPhdr o.phdrs
+unfolding opened begun front_at phdrs_at
+opened_phdrs image o are h =
+    let found = opened_front (front image) image o h in
+    let known = front_known image found.0 found.1 in
+    let class : Class = known.head.header.class in
+    let order : Order = known.head.header.order in
+    let part = take (known.head.counts.phnum * phdr_size class) (drop known.head.header.phoff image) in
+    let each = items_range IsPhdr (phdr_of class order) (phdr_size class) known.head.counts.phnum part (phdr_range class order) (table_is image known.head.header.phoff (known.head.counts.phnum * phdr_size class) are) in
+    subst (λ (q : Object). All IsPhdr q.phdrs) found.2 (subst (λ (x : Front). All IsPhdr x.phdrs) (sym known.whole) each)
+
 -- ---- Create
 
 zeros : (class : Class) (order : Order) → IsEhdr (new_ehdr class order)
@@ -406,7 +417,6 @@ created_is class order base are small =
       fitting = header.1;
       pad = length-replicate {A = ℕ} 7 0;
       pad_bytes = All-replicate (λ n. n < 2 ^ 8) 7 0 (lit< tt);
-      phdrs = All-nil IsPhdr;
       phdr_count = lit≤ tt;
       sections = All-nil (IsSection class);
       section_count = lit≤ tt;

@@ -303,7 +303,6 @@ placed_by_is o ok small =
       fitting = header.1;
       pad = ok.pad;
       pad_bytes = ok.pad_bytes;
-      phdrs = ok.phdrs;
       phdr_count = ok.phdr_count;
       sections = All-map (IsSection o.header.class) (λ r. placed_section places o r.0 r.1) (enumerate_from 0 o.sections)
           (each_row (λ r. IsSection o.header.class (placed_section places o r.0 r.1)) o.sections new_section row);

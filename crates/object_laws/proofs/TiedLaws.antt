@@ -1,7 +1,7 @@
 -- Each step keeps that an object in which nothing is dirty is that of its base (`IsTied`): it marks what it changes, or it
 -- changes nothing that opening gives.
 use Rattle.std.proofs.Common.{◌≡◌, ℕ, ◌<◌, Bool, true, false, not, ◌&&◌, ◌||◌, List, [], ◌∷◌, ◌++◌, length, set, Option, None, Ok, Err, refl, sym, ap, ◌∙◌, subst, arith}
-use Rattle.std.specs.Prelude.{if◌then◌else◌, ◌==◌, nat_le, Result}
+use Rattle.std.specs.Prelude.{All, if◌then◌else◌, ◌==◌, nat_le, Result}
 use Rattle.std.specs.List.{list_any}
 use Rattle.std.proofs.lemmas.Bool.{leb-false}
 use Rattle.std.proofs.lemmas.List.{length-set, get_or-set_same}
@@ -23,6 +23,7 @@ use Rattle.elf_xlate.specs.declared.content.Items.TheVariants as items
 use Rattle.elf_xlate.specs.Fields.{fits}
 use Rattle.elf_xlate.specs.Headers.{shdr_fits}
 use Rattle.elf_xlate.specs.Items.{sym_fits, rel_fits, rela_fits, dyn_fits}
+use Rattle.elf_xlate.specs.Headers.{IsPhdr}
 use Rattle.elf_xlate.specs.Translation.{items_count, items_kind}
 use Rattle.elf_ident.specs.declared.fronts.Front.{Front}
 use Rattle.elf_ident.specs.Front.{front}
@@ -277,8 +278,8 @@ base_over : (bytes : List ℕ) (q : Object) → (settled_over bytes q).base ≡ 
 unfolding settled_over
 base_over bytes q = refl
 
-settle_ties : (o : Object) → ReopenLaw o → IsObject o → IsTied o → refusal o ≡ None → IsTied (settle o)
-settle_ties o reopens ok tied passed clean = ap opened (base_settled (is_dirty o) refl) ∙ reopens ok tied passed
+settle_ties : (o : Object) → ReopenLaw o → IsObject o → All IsPhdr o.phdrs → IsTied o → refusal o ≡ None → IsTied (settle o)
+settle_ties o reopens ok ranged tied passed clean = ap opened (base_settled (is_dirty o) refl) ∙ reopens ok ranged tied passed
   where
     base_settled : (b : Bool) → is_dirty o ≡ b → (settle o).base ≡ image o
     base_settled true dirty = ap (λ (q : Object). q.base) (settle-dirty o dirty) ∙ base_over (image o) (placed o)

@@ -159,14 +159,14 @@ placed_stays o ok passed = by_test (is_dirty o) refl
 -- ---- A failed write
 
 -- the placed object with another base and further marks
-torn_of : (ℕ → Bool) → List ℕ → Object → Object
+unfoldable pub torn_of : (ℕ → Bool) → List ℕ → Object → Object
 torn_of moved bytes q = record q {
   base = bytes;
   marked = true;
   sections = map (λ row. torn_section (moved row.0) row.1) (enumerate_from 0 q.sections);
 }
 
-torn-is : (o : Object) (bytes : List ℕ) → is_dirty o ≡ true → torn o bytes ≡ torn_of (is_moved o) bytes (placed_by (places_of o) o)
+pub torn-is : (o : Object) (bytes : List ℕ) → is_dirty o ≡ true → torn o bytes ≡ torn_of (is_moved o) bytes (placed_by (places_of o) o)
 unfolding torn torn_of
 torn-is o bytes dirty = ap (torn_of (is_moved o) bytes) (placed-dirty o dirty)
 
@@ -233,7 +233,7 @@ joined-torn_of : (moved : ℕ → Bool) (bytes : List ℕ) (q : Object) (s : ℕ
 unfolding joined pieces_end piece_blocks torn_of joined_from
 joined-torn_of moved bytes q s = torn_facts (joined_from q.header.class q.header.order q.fill s) moved bytes q s (joined-torn q.header.class q.header.order q.fill s)
 
-torn_front : (o : Object) (moved : ℕ → Bool) (bytes : List ℕ) → SameFront (torn_of moved bytes (placed_by (places_of o) o)) o
+pub torn_front : (o : Object) (moved : ℕ → Bool) (bytes : List ℕ) → SameFront (torn_of moved bytes (placed_by (places_of o) o)) o
 unfolding torn_of placed_by
 torn_front o moved bytes = record {
   layout = refl;
@@ -258,7 +258,7 @@ torn_content o moved bytes =
       out = λ s. torn_facts (λ c. c.home.out) moved bytes (placed_by (places_of o) o) s (λ b c. ap (λ (h : Home). h.out) (home-torn b c)) ∙ content.out s;
     }
 
-torn_dirty : (moved : ℕ → Bool) (bytes : List ℕ) (q : Object) → is_dirty (torn_of moved bytes q) ≡ true
+pub torn_dirty : (moved : ℕ → Bool) (bytes : List ℕ) (q : Object) → is_dirty (torn_of moved bytes q) ≡ true
 unfolding torn_of is_dirty
 torn_dirty moved bytes q = refl
 
@@ -279,7 +279,7 @@ torn_base o bytes dirty is lay =
     ⊎_elim (λ len. len) (λ len. omega arith) is.len
 
 -- where no part stands, the torn base has the byte that the base had
-image_uncovered : (o : Object) (k : ℕ) → is_dirty o ≡ true → k < image_length o → is_covered (part_blocks (placed o)) k ≡ false → get_or (image o) k 0 ≡ uncovered_byte o k
+pub image_uncovered : (o : Object) (k : ℕ) → is_dirty o ≡ true → k < image_length o → is_covered (part_blocks (placed o)) k ≡ false → get_or (image o) k 0 ≡ uncovered_byte o k
 image_uncovered o k dirty h none =
     ap (λ (l : List ℕ). get_or l k 0) (image-dirty o dirty)
     ∙ get_or-spread (image_length o) (uncovered_byte o) (part_blocks (placed o)) k h

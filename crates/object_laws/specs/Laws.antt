@@ -13,8 +13,8 @@ use Rattle.elf_types.specs.declared.records.Rela.{Rela}
 use Rattle.elf_types.specs.declared.records.Dyn.{Dyn}
 use Rattle.elf_types.specs.declared.records.Part.{Part}
 use Rattle.elf_xlate.specs.declared.content.Items.{Items}
+use Rattle.elf_types.specs.declared.constants.TheConstants.{MAX_SEGMENTS}
 use Rattle.elf_xlate.specs.Headers.{IsEhdr, IsPhdr, IsShdr}
-use Rattle.elf_xlate.specs.Items.{IsSym, IsRel, IsRela, IsDyn}
 use Rattle.elf_xlate.specs.Translation.{AreItems, items_kind}
 use Rattle.elf_layout.specs.declared.parts.PartAt.{PartAt}
 use Rattle.elf_layout.specs.Meeting.{meets}
@@ -46,25 +46,25 @@ RefusedStays A = (c : Call A) (o : Object) → IsErr (c.answer o) → step c o �
 -- every step keeps what makes an object; what is handed in is in the range of its type
 pub record EveryStepKeeps : Type 0 where
   pub update_ehdr : (h : Ehdr) → IsEhdr h → KeepsObject (calls.update_ehdr h)
-  pub update_phdr : (i : ℕ) (p : Phdr) → IsPhdr p → KeepsObject (calls.update_phdr i p)
+  pub update_phdr : (i : ℕ) (p : Phdr) → KeepsObject (calls.update_phdr i p)
   pub newphdr : (n : ℕ) → KeepsObject (calls.newphdr n)
-  pub phdrs_mut : (left : List Phdr) → All IsPhdr left → length left ≤ 2 ^ 20 → KeepsObject (calls.phdrs_mut left)
+  pub phdrs_mut : (left : List Phdr) → length left ≤ MAX_SEGMENTS → KeepsObject (calls.phdrs_mut left)
   pub update_shdr : (s : ℕ) (h : Shdr) → IsShdr h → KeepsObject (calls.update_shdr s h)
   pub newscn : KeepsObject calls.newscn
   pub newnull : KeepsObject calls.newnull
-  pub newdata : (s : ℕ) (items : Items) (align : ℕ) → AreItems items → KeepsObject (calls.newdata_aligned s items align)
+  pub newdata : (s : ℕ) (items : Items) (align : ℕ) → KeepsObject (calls.newdata_aligned s items align)
   pub set_fill : (byte : ℕ) → byte < 2 ^ 8 → KeepsObject (calls.set_fill byte)
-  pub replace : (s p : ℕ) (items : Items) → AreItems items → KeepsObject (calls.replace s p items)
+  pub replace : (s p : ℕ) (items : Items) → KeepsObject (calls.replace s p items)
   pub flag : (p : Part) (set : Bool) (bits : ℕ) → KeepsObject (calls.flag p set bits)
   pub update_null : KeepsObject calls.update_null
-  pub lend : (s p : ℕ) (left : Items) → AreItems left → KeepsObject (calls.lend s p left)
-  pub update_half : (s p i v : ℕ) → v < 2 ^ 16 → KeepsObject (calls.update_half s p i v)
-  pub update_word : (s p i v : ℕ) → v < 2 ^ 32 → KeepsObject (calls.update_word s p i v)
-  pub update_addr : (s p i v : ℕ) → v < 2 ^ 64 → KeepsObject (calls.update_addr s p i v)
-  pub update_sym : (s p i : ℕ) (v : Sym) → IsSym v → KeepsObject (calls.update_sym s p i v)
-  pub update_rel : (s p i : ℕ) (v : Rel) → IsRel v → KeepsObject (calls.update_rel s p i v)
-  pub update_rela : (s p i : ℕ) (v : Rela) → IsRela v → KeepsObject (calls.update_rela s p i v)
-  pub update_dynent : (s p i : ℕ) (v : Dyn) → IsDyn v → KeepsObject (calls.update_dynent s p i v)
+  pub lend : (s p : ℕ) (left : Items) → KeepsObject (calls.lend s p left)
+  pub update_half : (s p i v : ℕ) → KeepsObject (calls.update_half s p i v)
+  pub update_word : (s p i v : ℕ) → KeepsObject (calls.update_word s p i v)
+  pub update_addr : (s p i v : ℕ) → KeepsObject (calls.update_addr s p i v)
+  pub update_sym : (s p i : ℕ) (v : Sym) → KeepsObject (calls.update_sym s p i v)
+  pub update_rel : (s p i : ℕ) (v : Rel) → KeepsObject (calls.update_rel s p i v)
+  pub update_rela : (s p i : ℕ) (v : Rela) → KeepsObject (calls.update_rela s p i v)
+  pub update_dynent : (s p i : ℕ) (v : Dyn) → KeepsObject (calls.update_dynent s p i v)
   pub addall : (s p n : ℕ) → KeepsObject (runs.addall s p n)
 
 -- every step keeps that an object in which nothing is dirty is that of its base
@@ -91,9 +91,11 @@ pub record EveryStepKeepsTied : Type 0 where
   pub update_dynent : (s p i : ℕ) (v : Dyn) → KeepsTied (calls.update_dynent s p i v)
   pub addall : (s p n : ℕ) → KeepsTied (runs.addall s p n)
 
--- an image that is opened gives an object, and so does creating one
+-- an image that is opened gives an object, whose program headers are in the range of their types, and so does creating
+-- one
 pub record BeginningsAre : Type 0 where
   pub from_image : (image : List ℕ) (o : Object) → AreBytes image → opened image ≡ Ok o → IsObject o
+  pub phdrs : (image : List ℕ) (o : Object) → AreBytes image → opened image ≡ Ok o → All IsPhdr o.phdrs
   pub from_nothing : (class : Class) (order : Order) (base : List ℕ) → AreBytes base → length base < 2 ^ 64 → IsObject (created_over class order base)
 
 -- an object is that of its base as it is opened or created
@@ -139,7 +141,7 @@ PartsStand o =
 -- where the update is not refused, the image of an object, opened again, is that object settled, but for ELF_F_LAYOUT
 -- and the fill byte
 abbrev pub ReopenLaw : Object → Type 0
-ReopenLaw o = IsObject o → IsTied o → refusal o ≡ None → opened (image o) ≡ Ok (as_opened (settle o))
+ReopenLaw o = IsObject o → All IsPhdr o.phdrs → IsTied o → refusal o ≡ None → opened (image o) ≡ Ok (as_opened (settle o))
 
 -- where the update is not refused, the image is made of bytes, and an update in place leaves an object, and so does one
 -- that failed
@@ -150,7 +152,7 @@ pub record UpdatesKeep (o : Object) : Type 0 where
 
 -- where it is not refused, an update in place leaves an object that is that of its base; one that failed always does
 pub record UpdatesTie (o : Object) : Type 0 where
-  pub settled : IsObject o → IsTied o → refusal o ≡ None → IsTied (settle o)
+  pub settled : IsObject o → All IsPhdr o.phdrs → IsTied o → refusal o ≡ None → IsTied (settle o)
   pub torn : (bytes : List ℕ) → IsTied (torn o bytes)
 
 -- where the update is not refused, settling keeps the items of an own piece that stands alone in a section from 1 on and
@@ -158,5 +160,5 @@ pub record UpdatesTie (o : Object) : Type 0 where
 abbrev pub SettlingKeepsItems : Object → Type 0
 SettlingKeepsItems o =
     (s : ℕ) (p : Piece) (items : Items) → IsObject o → refusal o ≡ None → 0 < s → s < length o.sections
-    → (section_at o s).pieces ≡ p ∷ [] → p.own ≡ Some items → items_kind items ≡ section_kind (section_at o s).header
+    → (section_at o s).pieces ≡ p ∷ [] → p.own ≡ Some items → AreItems items → items_kind items ≡ section_kind (section_at o s).header
     → items_kind items ≢ kinds.Empty → content (settle o) s ≡ Ok items

@@ -1,7 +1,7 @@
 -- An image that is opened stands in itself: its header and tables are those that are written for what was read of them
 -- (`IsBased`).
-use Rattle.std.proofs.Common.{◌≡◌, ℕ, zero, suc, ◌+◌, ◌-◌, ◌*◌, ◌/◌, ◌%◌, ◌^◌, ◌<◌, ◌≤◌, Bool, true, false, not, ◌&&◌, ◌||◌, List, [], ◌∷◌, ◌++◌, length, take, drop, get_or, Option, Some, None, Result, Ok, Err, refl, sym, ap, ◌∙◌, subst, arith, lit<, lit≤, ⊎_elim}
-use Rattle.std.specs.Prelude.{All, if◌then◌else◌, ◌==◌, nat_eq, nat_lt, nat_le, flat_map, map, cond}
+use Rattle.std.proofs.Common.{◌≡◌, ℕ, ◌+◌, ◌-◌, ◌*◌, ◌/◌, ◌%◌, ◌^◌, ◌<◌, ◌≤◌, Bool, true, false, not, ◌&&◌, List, [], ◌∷◌, ◌++◌, length, take, drop, get_or, Option, Some, None, Result, Ok, Err, refl, sym, ap, ◌∙◌, subst, arith, lit<, lit≤, ⊎_elim}
+use Rattle.std.specs.Prelude.{if◌then◌else◌, ◌==◌, nat_eq, nat_lt, nat_le, flat_map}
 use Rattle.std.specs.List.{starts_with}
 use Rattle.std.specs.Cmp.Lexicographic.{same_text}
 use Rattle.std.proofs.lemmas.Bool.{cases_lt, eqb-true, eq-eqb, ltb-false, leb-true}
@@ -13,7 +13,6 @@ use Rattle.elf_types.specs.declared.records.Class.TheVariants.{C32, C64}
 use Rattle.elf_types.specs.declared.records.Order.{Order}
 use Rattle.elf_types.specs.declared.records.Order.TheVariants.{Least, Greatest}
 use Rattle.elf_types.specs.declared.records.Ehdr.{Ehdr}
-use Rattle.elf_types.specs.declared.records.Phdr.{Phdr}
 use Rattle.elf_types.specs.declared.records.Shdr.{Shdr}
 use Rattle.elf_types.specs.declared.errors.ElfError.{ElfError}
 use Rattle.elf_types.specs.declared.errors.ElfError.TheVariants as error
@@ -28,12 +27,12 @@ use Rattle.elf_ident.specs.declared.fronts.Head.{Head}
 use Rattle.elf_ident.specs.declared.fronts.Front.{Front}
 use Rattle.elf_ident.specs.Front.{class_named, order_named, no_ident, ident_in, first_section, true_counts, true_phnum, count_refusal, lies_in, phdrs_at, shdrs_at, front_at, front}
 use Rattle.elf_object.specs.Object.{Object}
-use Rattle.elf_object.specs.Open.{home_of, home_bytes, opened_section, written_front, segments_bytes, table_bytes, standing_header, begun, begun_or_refused, opened, created_over, no_block}
+use Rattle.elf_object.specs.Open.{home_of, home_bytes, opened_section, written_front, segments_bytes, table_bytes, standing_header, begun, begun_or_refused, opened, created_over}
 use Rattle.elf_object.specs.Valid.{AreBytes}
 use Rattle.elf_object.proofs.PassedLaws.{not_refused, not_not, passed_one, passed_two}
 use Rattle.elf_ident.proofs.Refusals.{answered_ok, bind_ok}
 use Rattle.object_laws.proofs.OpenLaws.{IsFrontOf, front_known}
-use Rattle.writing_laws.specs.Lines.{StandsAt, HoldsBlock}
+use Rattle.writing_laws.specs.Lines.{StandsAt}
 use Rattle.writing_laws.specs.Based.{HomeStands, IsBased, BeginningsAreBased}
 
 -- ---- What is taken of the translation of headers

@@ -1,41 +1,34 @@
 -- Each step keeps that what is not marked stands in the base (`IsBased`): it marks the pieces that it changes, and leaves
 -- base, homes and the written front.
-use Rattle.std.proofs.Common.{◌≡◌, ℕ, zero, suc, ◌<◌, Bool, true, false, not, ◌&&◌, ◌||◌, List, [], ◌∷◌, ◌++◌, ◌+◌, length, set, get_or, replicate, Option, None, refl, sym, ap, ◌∙◌, subst, arith, ⊎_elim}
+use Rattle.std.proofs.Common.{◌≡◌, ℕ, zero, suc, ◌<◌, Bool, true, false, not, ◌&&◌, ◌||◌, List, [], ◌∷◌, ◌++◌, ◌+◌, length, set, replicate, None, refl, sym, ap, ◌∙◌, subst, ⊎_elim}
 use Rattle.std.specs.Prelude.{All, if◌then◌else◌, ◌==◌, map}
 use Rattle.std.specs.List.{list_any, enumerate_from}
 use Rattle.std.proofs.lemmas.Bool.{cases_lt}
 use Rattle.std.proofs.lemmas.List.{set_past}
 use Rattle.std.proofs.lemmas.List.Elements.{All-nil, All-cons, All-append, All-head, All-tail, All-set}
 use Rattle.elf_types.specs.declared.records.Class.{Class}
-use Rattle.elf_types.specs.declared.records.Order.{Order}
 use Rattle.elf_types.specs.declared.records.Kind.{Kind}
 use Rattle.elf_types.specs.declared.records.Kind.TheVariants as kinds
 use Rattle.elf_types.specs.declared.records.Ehdr.{Ehdr}
 use Rattle.elf_types.specs.declared.records.Shdr.{Shdr}
 use Rattle.elf_types.specs.declared.records.Phdr.{Phdr}
-use Rattle.elf_types.specs.declared.records.Sym.{Sym}
-use Rattle.elf_types.specs.declared.records.Rel.{Rel}
-use Rattle.elf_types.specs.declared.records.Rela.{Rela}
-use Rattle.elf_types.specs.declared.records.Dyn.{Dyn}
 use Rattle.elf_types.specs.declared.records.Part.{Part}
 use Rattle.elf_types.specs.declared.records.Part.TheVariants as part
-use Rattle.elf_types.specs.declared.errors.ElfError.{ElfError}
 use Rattle.elf_xlate.specs.declared.content.Items.{Items}
 use Rattle.elf_xlate.specs.declared.content.Items.TheVariants as items
 use Rattle.elf_xlate.specs.Fields.{fits}
 use Rattle.elf_xlate.specs.Items.{sym_fits, rel_fits, rela_fits, dyn_fits}
 use Rattle.elf_xlate.specs.Translation.{items_count, items_kind}
-use Rattle.elf_object.specs.Object.{Object, Section, Piece, section_at, piece_at, new_section, home_piece, no_phdr, is_dirty}
-use Rattle.elf_object.specs.Open.{created_over}
-use Rattle.elf_object.specs.Answers.{count_at, kind_at, items_at, piece_count, flags_of, has_dirty, has_layout, lend_refusal, halves_of, words_of, addrs_of, syms_of, rels_of, relas_of, dyns_of}
+use Rattle.elf_object.specs.Object.{Object, Section, Piece, section_at, piece_at, new_section, no_phdr, is_dirty}
+use Rattle.elf_object.specs.Answers.{kind_at, items_at, piece_count, flags_of, has_dirty, has_layout, lend_refusal, halves_of, words_of, addrs_of, syms_of, rels_of, relas_of, dyns_of}
 use Rattle.elf_object.specs.Steps.{new_number, with_section, with_piece_at, with_ehdr, with_phdrs, with_phdr, with_new_phdrs, with_shdr, with_new_section, with_null_section, with_new_piece, own_piece, with_own, with_mark, with_layout, with_flags, is_whole, with_fill}
 use Rattle.elf_object.specs.Layout.{places_of, placed_by, placed, placed_section}
 use Rattle.elf_object.specs.Image.{image_length}
 use Rattle.elf_object.specs.Refusal.{refusal}
-use Rattle.elf_object.specs.Calls.{step, update_ehdr_refusal, update_phdr_refusal, newphdr_refusal, update_shdr_refusal, newscn, newscn_refusal, newnull, newdata_refusal, newdata_aligned, set_fill, replace, replace_refusal, flag, flag_refusal, update_null, lend, update_item, update_item_refusal, update_half, update_word, update_addr, update_sym, update_rel, update_rela, update_dynent}
+use Rattle.elf_object.specs.Calls.{step, update_ehdr_refusal, update_phdr_refusal, newphdr_refusal, update_shdr_refusal, newscn_refusal, newdata_refusal, set_fill, replace_refusal, flag, flag_refusal, lend, update_item, update_item_refusal}
 use Rattle.elf_object.specs.Runs.{addall, added, or_same}
 use Rattle.elf_object.proofs.PassedLaws.{answered_keeps, edit_keeps}
-use Rattle.writing_laws.specs.Lines.{HoldsBlock}
+use Rattle.std.proofs.Math.Bool.{or-true}
 use Rattle.writing_laws.specs.Based.{some_unmarked, HomeStands, IsBased, KeepsBased, EveryStepKeepsBased}
 
 -- ---- Homes
@@ -80,11 +73,7 @@ any_set : {X : Type 0} (test : X → Bool) (l : List X) (i : ℕ) (x : X) → te
 any_set test [] i x fails h = h
 any_set test (y ∷ l) zero x fails h =
     let rest : list_any test l ≡ true = sym (ap (λ (b : Bool). b || list_any test l) fails) ∙ h in
-    rw rest (or_true (test y))
-  where
-    or_true : (b : Bool) → (b || true) ≡ true
-    or_true true = refl
-    or_true false = refl
+    rw rest (or-true (test y))
 any_set test (y ∷ l) (suc i) x fails h = by_test (test y) h (any_set test l i x fails)
   where
     by_test : (b : Bool) → (b || list_any test (set l i x)) ≡ true → (list_any test (set l i x) ≡ true → list_any test l ≡ true) → (b || list_any test l) ≡ true

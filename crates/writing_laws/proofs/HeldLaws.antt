@@ -1,6 +1,6 @@
 -- Pieces of bytes that stand in others.
-use Rattle.std.proofs.Common.{◌≡◌, ℕ, ◌+◌, ◌-◌, ◌<◌, ◌≤◌, Bool, true, false, ◌&&◌, ◌||◌, List, [], ◌∷◌, ◌++◌, length, take, drop, get_or, refl, sym, ap, ◌∙◌, subst, arith, ⊎_elim, ◌⊎◌, inl, inr}
-use Rattle.std.specs.Prelude.{nat_le, nat_lt, if◌then◌else◌, ◌==◌}
+use Rattle.std.proofs.Common.{◌≡◌, ℕ, ◌+◌, ◌-◌, ◌<◌, ◌≤◌, Bool, true, false, ◌&&◌, ◌||◌, List, [], ◌∷◌, length, take, drop, get_or, refl, sym, ap, ◌∙◌, arith, ⊎_elim, ◌⊎◌, inl, inr}
+use Rattle.std.specs.Prelude.{if◌then◌else◌, ◌==◌}
 use Rattle.std.specs.List.{AllByRecursion}
 use Rattle.std.specs.Str.{bytes_eq}
 use Rattle.std.proofs.lemmas.Bool.{cases_lt, eqb-true}
@@ -8,7 +8,8 @@ use Rattle.std.proofs.lemmas.List.{length-take-le, length-take, length-drop, get
 use Rattle.std.proofs.lemmas.Slice.Eq.{bytes_eq-Decides}
 use Rattle.elf_object.specs.Blocks.{Block, covers, is_covered, byte_over, spread, same_extent, same_block}
 use Rattle.object_laws.proofs.BlockLaws.{length-spread, get_or-spread}
-use Rattle.object_laws.proofs.StandLaws.{IsCovered, covered_from}
+use Rattle.object_laws.proofs.StandLaws.{covered_from}
+use Rattle.writing_laws.proofs.Tests.{both_true}
 use Rattle.writing_laws.specs.Lines.{StandsAt, HoldsBlock}
 
 -- ---- Byte by byte
@@ -93,10 +94,6 @@ spread_is n f bs bytes len same =
     get_or-spread n f bs k below ∙ same k below)
 
 -- ---- Blocks that are alike
-
-both_true : (a b : Bool) → (a && b) ≡ true → (a ≡ true) × (b ≡ true)
-both_true true b h = (refl, h)
-both_true false b h = cc
 
 -- extents that are alike are the same, or both are empty
 pub same_extent_is : (a m b n : ℕ) → same_extent a m b n ≡ true → ((a ≡ b) × (m ≡ n)) ⊎ ((m ≡ 0) × (n ≡ 0))

@@ -1,71 +1,61 @@
 -- A part that does not change stands in the base, and so does each place that is left alone.
-use Rattle.std.proofs.Common.{◌≡◌, ℕ, zero, suc, ◌+◌, ◌-◌, ◌<◌, ◌≤◌, Bool, true, false, not, ◌&&◌, ◌||◌, List, [], ◌∷◌, ◌++◌, length, take, drop, get_or, Option, Some, None, refl, sym, ap, ◌∙◌, subst, arith, ⊎_elim, ◌⊎◌, inl, inr}
-use Rattle.std.specs.Prelude.{All, IfSome, IsSome, IsTrue, nat_lt, if◌then◌else◌, slice_get, map, is_none}
-use Rattle.std.specs.List.{range_with_len, enumerate_from, list_any, filter, AllByRecursion}
-use Rattle.std.proofs.lemmas.Bool.{cases_lt, ltb-true}
-use Rattle.std.proofs.lemmas.List.{map-append, nil_from_length}
+use Rattle.std.proofs.Common.{◌≡◌, ℕ, ◌+◌, ◌<◌, Bool, true, false, not, ◌&&◌, ◌||◌, List, [], ◌∷◌, length, take, drop, get_or, Option, Some, None, refl, sym, ap, ◌∙◌, subst, arith, ⊎_elim, ◌⊎◌, inl, inr}
+use Rattle.std.specs.Prelude.{All, IfSome, IsSome, IsTrue, if◌then◌else◌, slice_get, map, is_none}
+use Rattle.std.specs.List.{list_any}
+use Rattle.std.proofs.lemmas.List.{nil_from_length}
 use Rattle.std.proofs.lemmas.List.Elements.{All-head, All-tail}
-use Rattle.std.proofs.lemmas.List.Folds.{list_any-append}
-use Rattle.elf_types.specs.declared.records.Class.{Class}
 use Rattle.elf_types.specs.declared.records.Part.{Part}
 use Rattle.elf_types.specs.declared.records.Part.TheVariants as part
 use Rattle.elf_types.specs.declared.errors.ElfError.{ElfError}
 use Rattle.elf_types.specs.declared.errors.ElfError.TheVariants.{OutOfFile}
 use Rattle.elf_xlate.specs.declared.content.Items.{Items}
-use Rattle.elf_xlate.specs.Translation.{AreItems, encoded}
+use Rattle.elf_xlate.specs.Translation.{encoded}
 use Rattle.elf_types.specs.Answers.{refused_if}
-use Rattle.elf_object.specs.Blocks.{Block, covers, is_covered, stacked, last_end, spread}
+use Rattle.elf_object.specs.Blocks.{stacked, last_end, spread}
 use Rattle.elf_object.specs.Object.{Object, Section, Piece, new_section, section_at, has_file_bytes, home_is_clean, some_piece_marked, is_dirty}
 use Rattle.elf_object.specs.Joined.{piece_bytes, aligned_pieces, piece_blocks, pieces_end, joined}
-use Rattle.elf_object.specs.Layout.{section_numbers, places_of, placed_by, placed}
-use Rattle.elf_object.specs.Image.{front_blocks, section_block, part_blocks, kept_base, uncovered_byte, image_length, image, is_fill_place}
-use Rattle.elf_object.specs.Refusal.{missing_in_section, missing_home, refusal}
-use Rattle.elf_object.specs.Changed.{block_of, front_differs, header_changed, segments_changed, table_changed, is_at_home, section_changed, when, changed_parts, changed_blocks}
-use Rattle.elf_object.specs.Valid.{IsPiece, OthersOwn, IsSection}
+use Rattle.elf_object.specs.Layout.{places_of, placed_by, placed}
+use Rattle.elf_object.specs.Image.{front_blocks, section_block}
+use Rattle.elf_object.specs.Refusal.{missing_in_section, missing_home}
+use Rattle.elf_object.specs.Changed.{block_of, front_differs, header_changed, segments_changed, table_changed, is_at_home, section_changed}
+use Rattle.elf_object.specs.Valid.{IsPiece, OthersOwn}
 use Rattle.object_laws.proofs.KeepLaws.{section_at_is}
-use Rattle.object_laws.proofs.ImageLaws.{placed-dirty, joined-none, length-image}
+use Rattle.object_laws.proofs.ImageLaws.{placed-dirty, joined-none}
 use Rattle.object_laws.proofs.ItemLaws.{alone_spread, row_none}
 use Rattle.object_laws.proofs.PlacedLaws.{update_passes}
 use Rattle.object_laws.proofs.SettledLaws.{unrefused}
-use Rattle.object_laws.proofs.StandLaws.{joined-placed, section_count-placed}
+use Rattle.object_laws.proofs.StandLaws.{joined-placed}
+use Rattle.writing_laws.proofs.Tests.{neither}
+use Rattle.std.proofs.lemmas.Bool.{not-false}
 use Rattle.writing_laws.specs.Lines.{HoldsBlock}
 use Rattle.writing_laws.specs.Based.{some_unmarked, HomeStands, IsBased}
-use Rattle.writing_laws.specs.Writing.{IsReady, LeftStands}
-use Rattle.writing_laws.proofs.HeldLaws.{same_holds, same_extent_is, empty_holds, held_byte, held_within}
-use Rattle.writing_laws.proofs.PlanLaws.{parts_hold, image_uncovered, covered-plan}
+use Rattle.writing_laws.specs.Ready.{IsReady}
+use Rattle.writing_laws.proofs.HeldLaws.{same_holds, same_extent_is, empty_holds}
 
 -- ---- The front
-
-neither : (a b : Bool) → (a || b) ≡ false → (a ≡ false) × (b ≡ false)
-neither true b h = cc
-neither false b h = (refl, h)
-
-is_not : (b : Bool) → not b ≡ false → b ≡ true
-is_not true h = refl
-is_not false h = cc
 
 -- the place and the bytes of a part of the front that does not differ are those that were last written
 front_stands : (o : Object) (p : Part) → is_dirty o ≡ true → front_differs (places_of o) o p ≡ false → HoldsBlock o.base (block_of p o.written) → HoldsBlock o.base (block_of p (front_blocks (placed o)))
 unfolding front_differs
 front_stands o p dirty same stands =
-    let holds = same_holds o.base (block_of p (front_blocks (placed_by (places_of o) o))) (block_of p o.written) (is_not _ same) stands in
+    let holds = same_holds o.base (block_of p (front_blocks (placed_by (places_of o) o))) (block_of p o.written) (not-false _ same) stands in
     subst (λ (q : Object). HoldsBlock o.base (block_of p (front_blocks q))) (sym (placed-dirty o dirty)) holds
 
-header_stands : (o : Object) → is_dirty o ≡ true → IsBased o → header_changed o ≡ false → HoldsBlock o.base (front_blocks (placed o)).header
+pub header_stands : (o : Object) → is_dirty o ≡ true → IsBased o → header_changed o ≡ false → HoldsBlock o.base (front_blocks (placed o)).header
 unfolding header_changed
 header_stands o dirty is same =
     let tests = neither (o.marked || o.header_marked) (front_differs (places_of o) o part.Header) same in
     let marks = neither o.marked o.header_marked tests.0 in
     front_stands o part.Header dirty tests.1 (is.header marks.0)
 
-segments_stand : (o : Object) → is_dirty o ≡ true → IsBased o → segments_changed o ≡ false → HoldsBlock o.base (front_blocks (placed o)).segments
+pub segments_stand : (o : Object) → is_dirty o ≡ true → IsBased o → segments_changed o ≡ false → HoldsBlock o.base (front_blocks (placed o)).segments
 unfolding segments_changed
 segments_stand o dirty is same =
     let tests = neither (o.marked || o.segments_marked) (front_differs (places_of o) o part.Segments) same in
     let marks = neither o.marked o.segments_marked tests.0 in
     front_stands o part.Segments dirty tests.1 (is.segments marks.0)
 
-table_stands : (o : Object) → is_dirty o ≡ true → IsBased o → table_changed o ≡ false → HoldsBlock o.base (front_blocks (placed o)).table
+pub table_stands : (o : Object) → is_dirty o ≡ true → IsBased o → table_changed o ≡ false → HoldsBlock o.base (front_blocks (placed o)).table
 unfolding table_changed
 table_stands o dirty is same =
     let tests = neither (o.marked || list_any (λ s. s.marked) o.sections) (front_differs (places_of o) o part.Table) same in
@@ -78,9 +68,9 @@ table_stands o dirty is same =
 not_own : (p : Piece) → IsPiece p → p.marked ≡ false → p.own ≡ None
 not_own p is clean = by_own p.own refl is.own
   where
-    by_own : (x : Option Items) → p.own ≡ x → IfSome x (λ items. AreItems items × IsTrue p.marked) → x ≡ None
+    by_own : (x : Option Items) → p.own ≡ x → IfSome x (λ items. IsTrue p.marked) → x ≡ None
     by_own None e own = refl
-    by_own (Some items) e own = let clash : true ≡ false = sym own.1 ∙ clean in cc
+    by_own (Some items) e own = let clash : true ≡ false = sym own ∙ clean in cc
 
 -- pieces of which none is marked are the clean home piece alone, or none
 record IsAlone (l : List Piece) (p : Piece) : Type 0 where
@@ -153,11 +143,11 @@ placed_joined : (o : Object) (s : ℕ) → is_dirty o ≡ true → (section_bloc
 unfolding section_block
 placed_joined o s dirty = ap (λ (q : Object). joined q s) (placed-dirty o dirty) ∙ joined-placed (places_of o) o s
 
-home_at : (o : Object) (s : ℕ) → IsBased o → s < length o.sections → HomeStands o.base (section_at o s)
+pub home_at : (o : Object) (s : ℕ) → IsBased o → s < length o.sections → HomeStands o.base (section_at o s)
 unfolding section_at
 home_at o s is inside = is.homes s new_section inside
 
-section_stands : (o : Object) (s : ℕ) → IsReady o → IsBased o → s < length o.sections → section_changed o s ≡ false → HoldsBlock o.base (section_block (placed o) s)
+pub section_stands : (o : Object) (s : ℕ) → IsReady o → IsBased o → s < length o.sections → section_changed o s ≡ false → HoldsBlock o.base (section_block (placed o) s)
 unfolding section_changed is_at_home some_piece_marked
 section_stands o s ready is inside same = by_bytes (has_file_bytes s (section_at o s)) refl
   where

@@ -1,14 +1,14 @@
 -- Blocks in a line: the bytes that are spread from them, and the places between them.
-use Rattle.std.proofs.Common.{◌≡◌, ℕ, ◌+◌, ◌-◌, ◌<◌, ◌≤◌, Bool, true, false, not, ◌&&◌, ◌||◌, List, [], ◌∷◌, ◌++◌, length, take, drop, get_or, refl, sym, ap, ◌∙◌, subst, arith, ⊎_elim, ◌⊎◌, inl, inr}
-use Rattle.std.specs.Prelude.{nat_le, nat_lt, if◌then◌else◌, map, cond}
-use Rattle.std.specs.List.{range_with_len, filter, list_any}
-use Rattle.std.proofs.lemmas.Bool.{cases_lt, lt-ltb, le-ltb, le-leb}
+use Rattle.std.proofs.Common.{◌≡◌, ℕ, ◌+◌, ◌-◌, ◌<◌, ◌≤◌, Bool, true, false, List, [], ◌∷◌, ◌++◌, length, drop, get_or, refl, sym, ap, ◌∙◌, arith, ⊎_elim, ◌⊎◌, inl, inr}
+use Rattle.std.specs.Prelude.{if◌then◌else◌, map}
+use Rattle.std.specs.List.{range_with_len}
+use Rattle.std.proofs.lemmas.Bool.{cases_lt, lt-ltb, le-leb}
 use Rattle.std.proofs.lemmas.List.{length-append, get_or_append_left, get_or-append_right, length-drop, get_or-drop, ext_get_or}
 use Rattle.std.proofs.lemmas.List.FromFn.{length-map-range_with_len, get_or-map-range_with_len}
 use Rattle.elf_object.specs.Blocks.{Block, block_end, covers, is_covered, byte_over, spread}
 use Rattle.object_laws.proofs.BlockLaws.{length-spread, get_or-spread, byte_over-uncovered}
-use Rattle.object_laws.proofs.StandLaws.{IsCovered, covered_from}
-use Rattle.writing_laws.specs.Lines.{AreInLine, in_line, gap_places}
+use Rattle.object_laws.proofs.StandLaws.{covered_from}
+use Rattle.writing_laws.specs.Lines.{AreInLine, in_line}
 
 -- ---- What a block covers
 

@@ -1,8 +1,8 @@
 -- Blocks that are apart, by their places: they stand in a line, and the same bytes are spread from them.
-use Rattle.std.proofs.Common.{◌≡◌, ℕ, zero, suc, ◌+◌, ◌-◌, ◌<◌, ◌≤◌, Bool, true, false, ◌||◌, List, [], ◌∷◌, length, get_or, refl, sym, ap, ◌∙◌, subst, arith, ⊎_elim, ◌⊎◌, inl, inr}
-use Rattle.std.specs.Prelude.{nat_le, nat_lt, cond, if◌then◌else◌}
+use Rattle.std.proofs.Common.{◌≡◌, ℕ, ◌+◌, ◌-◌, ◌<◌, ◌≤◌, Bool, true, false, ◌||◌, List, [], ◌∷◌, length, get_or, refl, sym, ap, ◌∙◌, arith, ⊎_elim, ◌⊎◌, inl, inr}
+use Rattle.std.specs.Prelude.{nat_le, cond, if◌then◌else◌}
 use Rattle.std.specs.List.{filter, AllByRecursion}
-use Rattle.std.proofs.lemmas.Bool.{cases_lt, lt-ltb, ltb-true, ltb-false, leb-true, leb-false}
+use Rattle.std.proofs.lemmas.Bool.{cases_lt, ltb-true, ltb-false, leb-true, leb-false}
 use Rattle.elf_layout.specs.Meeting.{inserted_by, sorted_by}
 use Rattle.elf_object.specs.Blocks.{Block, block_end, covers, is_covered, byte_over}
 use Rattle.object_laws.proofs.BlockLaws.{AreApart, AllApart}
@@ -63,7 +63,7 @@ each_inserted key P x (y ∷ ys) here rest = by_test (nat_le (key x) (key y)) (e
     by_test true more = (here, rest)
     by_test false more = (rest.0, more)
 
-each_sorted : {X : Type 0} (key : X → ℕ) (P : X → Type 0) (xs : List X) → AllByRecursion P xs → AllByRecursion P (sorted_by key xs)
+pub each_sorted : {X : Type 0} (key : X → ℕ) (P : X → Type 0) (xs : List X) → AllByRecursion P xs → AllByRecursion P (sorted_by key xs)
 each_sorted key P [] each = tt
 each_sorted key P (x ∷ xs) each = each_inserted key P x (sorted_by key xs) each.0 (each_sorted key P xs each.1)
 
