@@ -18,7 +18,8 @@ fn strip_gives_files_or_a_message()
         ≡ written (record { name = codes "O"; bytes = small64 } ∷ []) }
     ensures split { lengths (strip_of false (Some (codes "D")) (codes "J"))
         ≡ (codes "O", 200) ∷ (codes "D", 312) ∷ [] }
-    ensures missing { strip_of false None (codes "N") ≡ refused_with (codes "strip: N: not found\n") }
+    ensures missing { strip_of false None (codes "N")
+        ≡ refused_with (codes "strip: N: not found\n") }
     ensures archive { strip_of false None (codes "A")
         ≡ refused_with (codes "strip: A: not an ELF image\n") }
     ensures short { strip_of false None (codes "G") ≡ refused_with (codes "strip: G: too short\n") }
