@@ -10,6 +10,7 @@ use Rattle.elf_object.specs.Blocks.{Block, block_end, extents_meet}
 use Rattle.elf_object.specs.Object.{Object}
 use Rattle.elf_object.specs.Image.{kept_base, image_length}
 use Rattle.elf_object.specs.Changed.{changed_blocks, is_disturbed}
+use Rattle.writing_laws.proofs.Tests.{both_true}
 use Rattle.writing_laws.specs.Lines.{AreInLine, gap_places}
 use Rattle.writing_laws.specs.Plan.{plan, fill_block, fill_between, fill_blocks, written_blocks, meets_some}
 use Rattle.writing_laws.specs.Writing.{DisturbedByWrites}
@@ -22,10 +23,6 @@ record IsMeeting (a m b n : ℕ) : Type 0 where
   other : 0 < n
   before : a < b + n
   after : b < a + m
-
-both_true : (x y : Bool) → (x && y) ≡ true → (x ≡ true) × (y ≡ true)
-both_true true y h = (refl, h)
-both_true false y h = cc
 
 meeting_from : (a m b n : ℕ) → extents_meet a m b n ≡ true → IsMeeting a m b n
 unfolding extents_meet

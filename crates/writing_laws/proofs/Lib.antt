@@ -1,3 +1,4 @@
+pub mod Tests
 pub mod LineLaws
 pub mod GapLaws
 pub mod SortLaws
