@@ -8,7 +8,6 @@ mod entries;
 mod headers;
 mod names;
 mod numbers;
-mod reads;
 mod symbols;
 #[cfg(test)]
 mod tests;
