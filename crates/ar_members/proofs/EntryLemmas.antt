@@ -82,7 +82,7 @@ module _ (bytes names : List ℕ) (at : ℕ) where
   entries_found : (found : Result Entry ElfError) → at < length bytes → entry_at bytes names at ≡ found → entries_from bytes names at ≡ entries_after at (λ e. entries_from bytes e.names e.next) found
   entries_found found within is = entries_more within ∙ ap (entries_after at (λ e. entries_from bytes e.names e.next)) is
 
--- ---- Members
+  -- ---- Members
 
   pub members_end : length bytes ≤ at → members_from bytes names at ≡ record { list = []; bad = None }
   unfolding members_from
@@ -111,7 +111,7 @@ module _ (bytes names : List ℕ) (at : ℕ) where
       → members_from bytes names at ≡ record { list = header ∷ (members_from bytes e.names e.next).list; bad = (members_from bytes e.names e.next).bad }
   members_next e header within is found = members_after e (Some header) within is found
 
--- ---- What a walk asks for
+  -- ---- What a walk asks for
 
   -- at most what is due at the place
   due_bad : (e : ElfError) → at < length bytes → entry_at bytes names at ≡ Err e → due_from bytes names at ≡ 60

@@ -15,9 +15,9 @@ is_archive bytes = starts_with nat_eq bytes ARMAG
 unfoldable pub archive_refusal : List ℕ → Option ElfError
 archive_refusal bytes =
     first_refusal (refused_if (nat_lt (length bytes) FIRST) Short
-        ∷ refused_if (not (is_archive bytes)) Magic
-        ∷ refused_if (nat_lt MAX_IMAGE (length bytes)) TooLarge
-        ∷ [])
+    ∷ refused_if (not (is_archive bytes)) Magic
+    ∷ refused_if (nat_lt MAX_IMAGE (length bytes)) TooLarge
+    ∷ [])
 
 -- what is so of the length where an archive is refused, whatever bytes were read
 abbrev pub RefusesBySize : ℕ → ElfError → Type 0

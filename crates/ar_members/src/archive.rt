@@ -34,8 +34,8 @@ impl<S: Source> Model for Ar<S> {
     ghost Value = { Archive S };
 
     ghost view = { λ a. record {
-        source = a.src;
-        walk = record { place = a.place; names = a.names; stopped = a.stopped };
+      source = a.src;
+      walk = record { place = a.place; names = a.names; stopped = a.stopped };
     } };
 
     ghost invariant = { λ a. (S.size a.src ≤ 2 ^ 40) × (a.stopped ≡ true → a.place < S.size a.src) };
@@ -104,7 +104,7 @@ impl<S: Source> Ar<S> {
     pub fn next(&mut self) -> Result<Option<ArHdr>, ElfError>
         ensures members { IfSome (S.holds self.old.source) (λ image.
             FollowsBy (λ member. (member, members_left image self.new.walk)) stated_refusal result
-                (next_of (members_left image self.old.walk))) }
+            (next_of (members_left image self.old.walk))) }
         ensures bodies { IfSome (S.holds self.old.source)
             (λ image. IfOk result (λ member. IfSome member (HasBody image))) }
         ensures walk { Moves result self.old.walk self.new.walk }

@@ -47,7 +47,7 @@ fn named_entry<S: Source>(
     requires size { S.size src.old ≤ 2 ^ 40 }
     ensures entry { IfSome (S.holds src.old) (λ image.
         FollowsBy (entry_of names.now (next_at at header.now.numbers.size)) stated_refusal result
-            (named_entry image names.now at header.now)) }
+        (named_entry image names.now at header.now)) }
     ensures refusals { IfErr result (IsBadAt at) }
     ensures shape { IfOk result (IsShaped at header.now.numbers) }
     ensures read { IfOk result (λ entry. asked_of entry

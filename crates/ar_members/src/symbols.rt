@@ -87,11 +87,7 @@ fn table_symbols(alloc: Global, table: &[u8]) -> Result<ArSyms, ElfError>
 }
 
 /// The symbols of the first member, by its header. It reads the body of a table of symbols alone.
-fn first_symbols<S: Source>(
-    alloc: Global,
-    src: &mut S,
-    header: &Header,
-) -> Result<ArSyms, ElfError>
+fn first_symbols<S: Source>(alloc: Global, src: &mut S, header: &Header) -> Result<ArSyms, ElfError>
     requires { 68 + header.now.numbers.size ≤ S.size src.old }
     ensures symbols { IfSome (S.holds src.old)
         (λ image. Follows result (first_symbols image header.now)) }

@@ -47,7 +47,7 @@ pub fn walk<S: Source>(
     requires { S.size src.old ≤ 2 ^ 40 }
     ensures members { IfSome (S.holds src.old) (λ image.
         FollowsBy (found_left image names.now) stated_refusal result
-            (next_of (members_from image names.now place))) }
+        (next_of (members_from image names.now place))) }
     ensures ended { S.size src.old ≤ place
         → (result ≡ Ok (record { member = None; place = place; names = None })) × (src.new ≡ src.old) }
     ensures lies { IfOk result

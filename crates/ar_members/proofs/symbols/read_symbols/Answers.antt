@@ -34,8 +34,8 @@ returns-clause-symbols g c =
     let Named = λ (image : List ℕ). Follows c.first_symbols.result (first_symbols image header) in
     let First = λ (image : List ℕ). arsyms image ≡ first_symbols image header in
     let first : IfSome (g.S.Source.holds c.args.src.now) First = told_both (λ image. length image ≡ g.S.Source.size c.args.src.now) (λ image. header_at image 8 ≡ Ok header) (g.S.Source.holds c.args.src.now)
-        (g.met.S.Source.sized c.args.src.now) c.in_ok-header.ensures.header
-        (λ image len is. arsyms_with image (omega (arith, len, c.len.ensures.size, c.if-len-le-FIRST.false)) header is) in
+    (g.met.S.Source.sized c.args.src.now) c.in_ok-header.ensures.header
+    (λ image len is. arsyms_with image (omega (arith, len, c.len.ensures.size, c.if-len-le-FIRST.false)) header is) in
     told_both First Named (g.S.Source.holds c.args.src.now) first
     (told_as Named _ _ c.in_ok-header.ensures.asks.leaves.same_bytes c.first_symbols.ensures.symbols)
     (λ image is named. rw is named)
