@@ -29,8 +29,8 @@ first_walk = record { place = FIRST; names = []; stopped = false }
 abbrev pub begun : List ℕ → Result Walk ElfError
 begun bytes = answered (archive_refusal bytes) first_walk
 
--- what the rest of an archive tells: the place of its walk and whether it stopped there, the long names
--- that it keeps, and the rest of its own source
+-- what the rest of an archive tells: the place of its walk and whether it stopped there, the long
+-- names that it keeps, and the rest of its own source
 abbrev pub flag : Bool → ℕ
 flag false = 0
 flag true = 1
@@ -47,8 +47,8 @@ members_left bytes walk =
 abbrev pub stopped_at : Walk → ℕ → Walk
 stopped_at walk at = record { place = at; names = walk.names; stopped = true }
 
--- what a call of next does to the walk, whatever bytes it read: it stops for good at a bad header, and
--- stands where it stood after Memory and Read
+-- what a call of next does to the walk, whatever bytes it read: it stops for good at a bad header,
+-- and stands where it stood after Memory and Read
 abbrev pub Moves : Result (Option ArHdr) ElfError → Walk → Walk → Type 0
 Moves (Ok member) old new = (old.stopped ≡ false) × (new.stopped ≡ false)
 Moves (Err (BadMember at)) old new = new ≡ stopped_at old at

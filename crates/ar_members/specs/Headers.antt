@@ -9,15 +9,16 @@ use Rattle.ar_members.specs.declared.headers.Header.{Header}
 use Rattle.ar_members.specs.declared.headers.ArHdr.{ArHdr}
 use Rattle.ar_members.specs.Numbers.{numbers_of}
 
--- the header at a place, of these bytes and with so many bytes after it: it is bad where its numbers are,
--- or its body is longer
+-- the header at a place, of these bytes and with so many bytes after it: it is bad where its
+-- numbers are, or its body is longer
 unfoldable pub header_in : ℕ → List ℕ → ℕ → Result Header ElfError
 header_in at header room = do
   numbers ← numbers_of at header
-  answered (refused_if (nat_lt room numbers.size) (BadMember at)) (record { bytes = header; numbers = numbers })
+  answered (refused_if (nat_lt room numbers.size) (BadMember at))
+      (record { bytes = header; numbers = numbers })
 
--- the header at a place: it is bad where it is cut, has other end bytes, a bad number or a body past the
--- end
+-- the header at a place: it is bad where it is cut, has other end bytes, a bad number or a body
+-- past the end
 unfoldable pub header_at : List ℕ → ℕ → Result Header ElfError
 header_at bytes at =
     if nat_le (at + HEADER_LEN) (length bytes)

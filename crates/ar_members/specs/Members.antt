@@ -1,5 +1,5 @@
--- The members of an archive (ar.h, and the archive format of System V and GNU): a line that tells the
--- format, and then headers of 60 bytes at even places, each with its body.
+-- The members of an archive (ar.h, and the archive format of System V and GNU): a line that tells
+-- the format, and then headers of 60 bytes at even places, each with its body.
 use Rattle.std.specs.Prelude.{ℕ, zero, suc, ◌+◌, List, [], ◌∷◌, length, Option, Some, None, Result, Ok, Err, nat_le, if◌then◌else◌}
 use Rattle.std.specs.List.{filter_map}
 use Rattle.elf_types.specs.declared.errors.ElfError.{ElfError}
@@ -14,8 +14,8 @@ use Rattle.ar_members.specs.declared.names.NameKind.TheVariants.{Symbols, LongNa
 use Rattle.ar_members.specs.Names.{kind_of_name, short_name_of, long_name_of}
 use Rattle.ar_members.specs.Headers.{header_at, name_field, body_at, next_at}
 
--- what stands at a place: a member, or None for the three special names; the long names from there on;
--- the place of the next header; and how many bytes of the body a walk has to know
+-- what stands at a place: a member, or None for the three special names; the long names from there
+-- on; the place of the next header; and how many bytes of the body a walk has to know
 pub record Entry : Type 0 where
   pub member : Option ArHdr
   pub names : List ℕ
@@ -35,7 +35,8 @@ shown_header at numbers name = record {
   mode = numbers.mode;
 }
 
--- a member, a table of symbols that is passed over, and a table of long names, before the next header
+-- a member, a table of symbols that is passed over, and a table of long names, before the next
+-- header
 abbrev pub member_entry : List ℕ → ℕ → ArHdr → Entry
 member_entry names next header =
     record { member = Some header; names = names; next = next; asked = 0 }
@@ -51,7 +52,8 @@ abbrev pub entry_by : List ℕ → List ℕ → ℕ → Header → NameKind → 
 entry_by bytes names at header Symbols = Ok (passed_entry names (next_at at header.numbers.size))
 entry_by bytes names at header Symbols64 = Ok (passed_entry names (next_at at header.numbers.size))
 entry_by bytes names at header LongNames =
-    let size = header.numbers.size in Ok (names_entry (body_at bytes at size) (next_at at size) size)
+    let size = header.numbers.size in
+    Ok (names_entry (body_at bytes at size) (next_at at size) size)
 entry_by bytes names at header (Long from) = do
   name ← or_refused (long_name_of names from) (BadMember at)
   Ok (member_entry names (next_at at header.numbers.size) (shown_header at header.numbers name))
@@ -119,8 +121,8 @@ next_among [] (Some at) = Err (BadMember at)
 abbrev pub next_of : Members → Result (Option ArHdr × Members) ElfError
 next_of members = next_among members.list members.bad
 
--- how many bytes a walk to the next member asks for: each header on the way, and the bodies of the tables
--- of long names
+-- how many bytes a walk to the next member asks for: each header on the way, and the bodies of the
+-- tables of long names
 abbrev pub due_past : Option ArHdr → ℕ → ℕ
 due_past (Some header) more = 0
 due_past None more = more

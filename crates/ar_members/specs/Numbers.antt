@@ -1,5 +1,5 @@
--- The number fields of a member's header (ar.h, `struct ar_hdr`): digits, then spaces up to the end of
--- the field. A blank field is 0.
+-- The number fields of a member's header (ar.h, `struct ar_hdr`): digits, then spaces up to the end
+-- of the field. A blank field is 0.
 use Rattle.std.specs.Prelude.{ℕ, ◌+◌, ◌-◌, ◌*◌, ◌==◌, Bool, ◌&&◌, List, length, take, drop, Option, Result, Ok, Err, fold, take_while, nat_eq, nat_le, nat_lt, if◌then◌else◌}
 use Rattle.std.specs.Bool.{then_some}
 use Rattle.std.specs.List.{list_all, ends_with}

@@ -37,7 +37,8 @@ IsShaped at numbers (Member header) = header ≡ shown_header at numbers header.
 IsShaped at numbers (LongNames more) = length more ≡ numbers.size
 IsShaped at numbers Passed = Unit {0}
 
--- the header lies in an archive of so many bytes from a place on, with its body, up to the next header
+-- the header lies in an archive of so many bytes from a place on, with its body, up to the next
+-- header
 pub record HeaderLies (from size next : ℕ) (header : ArHdr) : Type 0 where
   pub after : from ≤ header.at
   pub body : header.body ≡ header.at + HEADER_LEN
@@ -48,14 +49,15 @@ abbrev pub FoundLies : ℕ → ℕ → ℕ → Found → Type 0
 FoundLies at size next (Member header) = HeaderLies at size next header
 FoundLies at size next _ = Unit {0}
 
--- a step from a place: it goes past the header and what it read of the body, which lie in the archive
+-- a step from a place: it goes past the header and what it read of the body, which lie in the
+-- archive
 pub record StepLies (at size : ℕ) (step : Step) : Type 0 where
   pub ahead : at + HEADER_LEN + asked_of step.entry ≤ step.next
   pub within : at + HEADER_LEN + asked_of step.entry ≤ size
   pub header : FoundLies at size step.next step.entry
 
--- how many bytes a step asks for: a header and what it read of the body, or where it was refused all that
--- follow at most
+-- how many bytes a step asks for: a header and what it read of the body, or where it was refused
+-- all that follow at most
 abbrev pub step_asks : ℕ → ℕ → Result Step ElfError → ℕ
 step_asks at size (Ok step) = HEADER_LEN + asked_of step.entry
 step_asks at size (Err e) = size - at

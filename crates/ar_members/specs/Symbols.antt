@@ -58,7 +58,8 @@ abbrev pub first_symbols : List ℕ → Header → Result (List ArSym) ElfError
 first_symbols bytes header =
     symbols_by (body_at bytes FIRST header.numbers.size) (kind_of_name (name_field header))
 
--- the symbols of an archive, whose first header or table may be bad; one without a first member has none
+-- the symbols of an archive, whose first header or table may be bad; one without a first member has
+-- none
 unfoldable pub arsyms : List ℕ → Result (List ArSym) ElfError
 arsyms bytes =
     if nat_le (length bytes) FIRST then Ok [] else (header_at bytes FIRST >>= first_symbols bytes)
@@ -74,4 +75,5 @@ symbols_due_by (Ok header) =
 symbols_due_by (Err e) = HEADER_LEN
 
 unfoldable pub symbols_due : List ℕ → ℕ
-symbols_due bytes = if nat_le (length bytes) FIRST then 0 else symbols_due_by (header_at bytes FIRST)
+symbols_due bytes =
+    if nat_le (length bytes) FIRST then 0 else symbols_due_by (header_at bytes FIRST)

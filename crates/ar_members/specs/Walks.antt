@@ -14,8 +14,8 @@ found_left bytes names found =
 
 -- ---- Whatever bytes it read
 
--- what a walk from a place came to in an archive of so many bytes, and the place of the next header: a
--- member lies in it with its body, and at the end no byte is left
+-- what a walk from a place came to in an archive of so many bytes, and the place of the next
+-- header: a member lies in it with its body, and at the end no byte is left
 abbrev pub MemberLies : ℕ → ℕ → ℕ → Option ArHdr → Type 0
 MemberLies place size next None = size ≤ next
 MemberLies place size next (Some header) = HeaderLies place size next header

@@ -38,7 +38,8 @@ impl<S: Source> Model for Ar<S> {
       walk = record { place = a.place; names = a.names; stopped = a.stopped };
     } };
 
-    ghost invariant = { λ a. (S.size a.src ≤ 2 ^ 40) × (a.stopped ≡ true → a.place < S.size a.src) };
+    ghost invariant = { λ a.
+        (S.size a.src ≤ 2 ^ 40) × (a.stopped ≡ true → a.place < S.size a.src) };
 }
 
 /// Whether a source is an archive.
@@ -73,8 +74,8 @@ impl<S: Source> Ar<S> {
     /// Begins a walk over an archive. It asks for 8 bytes at most, and takes no memory.
     ///
     /// It refuses `Short` where there are fewer than 8 bytes, `Magic` where the first 8 are not
-    /// `!<arch>` and a newline, and `TooLarge` above 2^40 bytes, in this order, and hands the source
-    /// back. `Read` may come before the last two.
+    /// `!<arch>` and a newline, and `TooLarge` above 2^40 bytes, in this order, and hands the
+    /// source back. `Read` may come before the last two.
     pub fn begin(alloc: Global, mut src: S) -> Result<Ar<S>, (S, ElfError)>
         ensures begun { IfSome (S.holds src) (λ image.
             FollowsBy (λ archive. archive.walk) stated_refusal (answer_of result) (begun image)) }
@@ -99,8 +100,9 @@ impl<S: Source> Ar<S> {
     /// header of 60 bytes after another, and the tables of long names.
     ///
     /// `BadMember` comes exactly where the header at that place is cut, has other end bytes, a bad
-    /// number, a bad name, or a body past the end; every later call then answers the same, and reads
-    /// nothing. After `Memory` or `Read`, which may come at any step, the walk stands where it stood.
+    /// number, a bad name, or a body past the end; every later call then answers the same, and
+    /// reads nothing. After `Memory` or `Read`, which may come at any step, the walk stands where
+    /// it stood.
     pub fn next(&mut self) -> Result<Option<ArHdr>, ElfError>
         ensures members { IfSome (S.holds self.old.source) (λ image.
             FollowsBy (λ member. (member, members_left image self.new.walk)) stated_refusal result
@@ -116,8 +118,8 @@ impl<S: Source> Ar<S> {
             → (result ≡ Err (ElfError.BadMember self.old.walk.place)) × (self.new ≡ self.old) }
         ensures asks { Asks S.Source result self.old.source self.new.source
             (next_asks (S.size self.old.source) self.old.walk result) }
-        ensures due { IfSome (S.holds self.old.source)
-            (λ image. S.taken self.new.source ≤ S.taken self.old.source + next_due image self.old.walk) }
+        ensures due { IfSome (S.holds self.old.source) (λ image.
+            S.taken self.new.source ≤ S.taken self.old.source + next_due image self.old.walk) }
     {
         if self.stopped {
             return Err(ElfError::BadMember { at: self.place });
@@ -146,10 +148,10 @@ impl<S: Source> Ar<S> {
     /// The symbols of the first member, where that is the table of symbols; else the empty list. It
     /// reads the first header and that table. The walk stands where it stood.
     ///
-    /// `BadMember { at: 8 }` comes exactly where there is a byte at place 8 and the header there is bad,
-    /// or where the table does not begin with a big-endian count of four bytes, so many big-endian
-    /// offsets of four bytes and so many NUL-ended names. More bytes may follow, since the usual tool
-    /// pads the table. `Memory` and `Read` may come at any step.
+    /// `BadMember { at: 8 }` comes exactly where there is a byte at place 8 and the header there is
+    /// bad, or where the table does not begin with a big-endian count of four bytes, so many
+    /// big-endian offsets of four bytes and so many NUL-ended names. More bytes may follow, since
+    /// the usual tool pads the table. `Memory` and `Read` may come at any step.
     pub fn arsym(&mut self) -> Result<ArSyms, ElfError>
         ensures symbols { IfSome (S.holds self.old.source)
             (λ image. Follows result (arsyms image)) }
@@ -164,11 +166,11 @@ impl<S: Source> Ar<S> {
         read_symbols(self.alloc, &mut self.src)
     }
 
-    /// A source over the body of the member whose header is at a place. It does not look at the name,
-    /// asks for 60 bytes at most, and takes no memory. The walk stands where it stood.
+    /// A source over the body of the member whose header is at a place. It does not look at the
+    /// name, asks for 60 bytes at most, and takes no memory. The walk stands where it stood.
     ///
-    /// `BadMember` comes exactly where the header is cut, has other end bytes, a bad number, or a body
-    /// past the end; it and `Read` hand the archive back.
+    /// `BadMember` comes exactly where the header is cut, has other end bytes, a bad number, or a
+    /// body past the end; it and `Read` hand the archive back.
     pub fn member(mut self, at: u64) -> Result<Window<Ar<S>>, (Ar<S>, ElfError)>
         ensures body { IfSome (S.holds self.source) (λ image.
             FollowsBy (λ w. (w.at, w.len)) stated_refusal (answer_of result) (member_at image at)) }

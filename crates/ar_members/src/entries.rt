@@ -79,11 +79,11 @@ fn named_entry<S: Source>(
     }
 }
 
-/// The step at a place, after the long names before it. It asks for one header and for the body of a
-/// table of long names.
+/// The step at a place, after the long names before it. It asks for one header and for the body of
+/// a table of long names.
 ///
-/// `BadMember` comes exactly where the header is cut, has other end bytes, a bad number, a bad name or a
-/// body past the end.
+/// `BadMember` comes exactly where the header is cut, has other end bytes, a bad number, a bad name
+/// or a body past the end.
 pub fn step_at<S: Source>(
     alloc: Global,
     src: &mut S,

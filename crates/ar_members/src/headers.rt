@@ -97,8 +97,8 @@ fn is_whole(size: u64, at: u64) -> bool
     size >= HEADER_LEN as u64 && at <= size - HEADER_LEN as u64
 }
 
-/// The header at a place, of these bytes and with `room` bytes after it. It is bad where it has other
-/// end bytes, a bad number, or a body that is longer.
+/// The header at a place, of these bytes and with `room` bytes after it. It is bad where it has
+/// other end bytes, a bad number, or a body that is longer.
 #[tactic(auto, unfolding(crate::specs::Headers::header_in))]
 fn header_in(at: u64, bytes: [u8; HEADER_LEN], room: u64) -> Result<Header, ElfError>
     ensures value { result ≡ header_in at bytes room }
@@ -112,8 +112,8 @@ fn header_in(at: u64, bytes: [u8; HEADER_LEN], room: u64) -> Result<Header, ElfE
     Ok(Header { bytes, numbers })
 }
 
-/// Reads the header at a place. It does not look at the name. It asks for 60 bytes, or for none where
-/// the header is cut, and takes no memory.
+/// Reads the header at a place. It does not look at the name. It asks for 60 bytes, or for none
+/// where the header is cut, and takes no memory.
 ///
 /// `BadMember` comes where the header is cut, has other end bytes, a bad number, or a body past the
 /// end.

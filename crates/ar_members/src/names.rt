@@ -75,8 +75,8 @@ pub fn name_kind(field: &[u8]) -> Option<NameKind>
     Some(NameKind::Short)
 }
 
-/// The name that stands in a field: up to its first slash, or without trailing spaces where there is
-/// none. One that begins with `#1/`, which says where BSD keeps the name, is whole.
+/// The name that stands in a field: up to its first slash, or without trailing spaces where there
+/// is none. One that begins with `#1/`, which says where BSD keeps the name, is whole.
 #[tactic(auto, unfolding(crate::specs::Names::short_name_of))]
 pub fn short_name(field: &[u8]) -> &[u8]
     ensures { result.now ≡ short_name_of field.now }

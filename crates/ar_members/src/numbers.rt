@@ -90,8 +90,8 @@ fn fields(at: u64, header: &[u8]) -> Result<Numbers, ElfError>
     })
 }
 
-/// The numbers of the header at a place. It is bad where one is no number, or where the header does not
-/// end as one.
+/// The numbers of the header at a place. It is bad where one is no number, or where the header does
+/// not end as one.
 #[tactic(auto, unfolding(crate::specs::Numbers::numbers_of))]
 pub fn header_numbers(at: u64, header: &[u8]) -> Result<Numbers, ElfError>
     requires { length header.now ≡ 60 }

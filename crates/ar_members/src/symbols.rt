@@ -66,8 +66,8 @@ fn named_symbols(
     Ok(symbols)
 }
 
-/// The symbols of a table. `BadMember` comes where it does not begin with a count, so many offsets and
-/// so many names.
+/// The symbols of a table. `BadMember` comes where it does not begin with a count, so many offsets
+/// and so many names.
 #[tactic(auto, unfolding(crate::specs::Symbols::symbols_of))]
 fn table_symbols(alloc: Global, table: &[u8]) -> Result<ArSyms, ElfError>
     ensures symbols { Follows result (symbols_of table.now) }

@@ -28,8 +28,8 @@ fn put_member(bytes: &mut Octets, name: &[u8], size: &[u8], body: &[u8]) -> Resu
     bytes.extend(body)
 }
 
-/// An archive of 290 bytes with a table of symbols at 8, a table of long names at 78, an empty member
-/// with a long name at 166, and one of odd size at 226.
+/// An archive of 290 bytes with a table of symbols at 8, a table of long names at 78, an empty
+/// member with a long name at 166, and one of odd size at 226.
 fn library(alloc: Global) -> Result<Octets, ElfError> {
     let mut bytes = Octets::new(alloc);
     bytes.extend(b"!<arch>\n")?;

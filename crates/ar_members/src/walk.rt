@@ -33,11 +33,11 @@ fn known<'a>(met: &'a Option<Octets>, before: &'a [u8]) -> &'a [u8]
     }
 }
 
-/// Walks from the header at `place` to the next member that is not one of the three special ones, or
-/// to the end. It reads one header of 60 bytes after another, and the tables of long names.
+/// Walks from the header at `place` to the next member that is not one of the three special ones,
+/// or to the end. It reads one header of 60 bytes after another, and the tables of long names.
 ///
-/// `BadMember` comes at the first bad header, `Memory` for a name or a table of names, and `Read` at
-/// any read.
+/// `BadMember` comes at the first bad header, `Memory` for a name or a table of names, and `Read`
+/// at any read.
 pub fn walk<S: Source>(
     alloc: Global,
     src: &mut S,
@@ -49,7 +49,8 @@ pub fn walk<S: Source>(
         FollowsBy (found_left image names.now) stated_refusal result
         (next_of (members_from image names.now place))) }
     ensures ended { S.size src.old ≤ place
-        → (result ≡ Ok (record { member = None; place = place; names = None })) × (src.new ≡ src.old) }
+        → (result ≡ Ok (record { member = None; place = place; names = None }))
+        × (src.new ≡ src.old) }
     ensures lies { IfOk result
         (λ found. MemberLies place (S.size src.old) found.place found.member) }
     ensures refusals { IfErr result (RefusalLies place (S.size src.old)) }

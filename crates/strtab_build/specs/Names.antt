@@ -1,4 +1,5 @@
--- How the names of a table in the making are kept: their bytes once, an entry for each, and chains of entries by hash.
+-- How the names of a table in the making are kept: their bytes once, an entry for each, and chains
+-- of entries by hash.
 use Rattle.std.specs.Prelude.{◌≡◌, ℕ, suc, ◌+◌, ◌<◌, ◌^◌, false, ◌==◌, if◌then◌else◌, List, [], ◌∷◌, ◌++◌, length, take, drop, map, slice_index_or, Option, Some, None}
 use Rattle.std.specs.List.{flat_map, list_any}
 use Rattle.std.specs.Str.{bytes_eq}
