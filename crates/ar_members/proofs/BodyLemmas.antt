@@ -10,7 +10,7 @@ use Rattle.ar_members.specs.declared.names.NameKind.{NameKind}
 use Rattle.ar_members.specs.declared.names.NameKind.TheVariants.{Symbols, LongNames, Symbols64, Long, Short}
 use Rattle.ar_members.specs.Names.{kind_of_name, short_name_of, long_name_of}
 use Rattle.ar_members.specs.Headers.{header_at, name_field, next_at, HasBody}
-use Rattle.ar_members.specs.Members.{Entry, Entries, Members, shown_header, member_entry, entry_by, named_entry, entry_at, entries_after, entries_within, entries_from, members_from, next_among, next_of}
+use Rattle.ar_members.specs.Members.{Entry, Entries, Members, shown_header, member_entry, entry_by, named_entry, entry_at, entry_and_later, entries_within, entries_from, members_from, next_among, next_of}
 
 -- the member of an entry has its body
 abbrev BodyStands : List ℕ → Result Entry ElfError → Type 0
@@ -51,7 +51,7 @@ before_others bytes (Some header) others body all = (body, all)
 
 bodies_after : (bytes : List ℕ) (at : ℕ) (b : Bool) (rest : Entry → Entries) (found : Result Entry ElfError) → BodyStands bytes found
     → ((e : Entry) → AllByRecursion (HasBody bytes) (filter_map (λ e. e.member) (rest e).list))
-    → AllByRecursion (HasBody bytes) (filter_map (λ e. e.member) (cond b (record { list = []; bad = None }) (entries_after at rest found)).list)
+    → AllByRecursion (HasBody bytes) (filter_map (λ e. e.member) (cond b (record { list = []; bad = None }) (entry_and_later at rest found)).list)
 bodies_after bytes at true rest found body all = tt
 bodies_after bytes at false rest (Ok e) body all = before_others bytes e.member (filter_map (λ e. e.member) (rest e).list) body (all e)
 bodies_after bytes at false rest (Err e) body all = tt

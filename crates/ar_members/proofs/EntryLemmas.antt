@@ -11,7 +11,7 @@ use Rattle.ar_members.specs.declared.names.NameKind.{NameKind}
 use Rattle.ar_members.specs.declared.names.NameKind.TheVariants.{Symbols, LongNames, Symbols64, Long, Short}
 use Rattle.ar_members.specs.Names.{kind_of_name, long_name_of}
 use Rattle.ar_members.specs.Headers.{header_at, name_field, next_at}
-use Rattle.ar_members.specs.Members.{Entry, Entries, shown_header, member_entry, entry_by, named_entry, entry_at, entries_after, entries_within, entries_from, members_of, members_from, bad_at, due_past, due_among, due_from}
+use Rattle.ar_members.specs.Members.{Entry, Entries, shown_header, member_entry, entry_by, named_entry, entry_at, entry_and_later, entries_within, entries_from, members_of, members_from, bad_at, due_past, due_among, due_from}
 use Rattle.ar_members.specs.Steps.{step_due}
 
 -- ---- Entries
@@ -46,7 +46,7 @@ module _ (bytes names : List ℕ) (at : ℕ) where
       with_header (Err e) = tt
 
 -- what follows an entry depends on what follows its place alone
-after_same : (at : ℕ) (ended : Entries) (b : Bool) (f g : Entry → Entries) (found : Result Entry ElfError) → ((e : Entry) → at + 60 ≤ e.next → f e ≡ g e) → IsAhead at found → cond b ended (entries_after at f found) ≡ cond b ended (entries_after at g found)
+after_same : (at : ℕ) (ended : Entries) (b : Bool) (f g : Entry → Entries) (found : Result Entry ElfError) → ((e : Entry) → at + 60 ≤ e.next → f e ≡ g e) → IsAhead at found → cond b ended (entry_and_later at f found) ≡ cond b ended (entry_and_later at g found)
 after_same at ended b f g (Err e) same past = refl
 after_same at ended b f g (Ok e) same past =
     ap (λ rest. cond b ended (record { list = e ∷ rest.list; bad = rest.bad })) (same e past)
@@ -59,9 +59,9 @@ none = record { list = []; bad = None }
 enough : (n m : ℕ) (bytes names : List ℕ) (at : ℕ) → length bytes ≤ at + n → length bytes ≤ at + m → entries_within n bytes names at ≡ entries_within m bytes names at
 enough zero zero bytes names at h k = refl
 enough zero (suc m) bytes names at h k =
-    sym (ap (λ b. cond b none (entries_after at (λ e. entries_within m bytes e.names e.next) (entry_at bytes names at))) (le-leb _ _ (omega (arith, h))))
+    sym (ap (λ b. cond b none (entry_and_later at (λ e. entries_within m bytes e.names e.next) (entry_at bytes names at))) (le-leb _ _ (omega (arith, h))))
 enough (suc n) zero bytes names at h k =
-    ap (λ b. cond b none (entries_after at (λ e. entries_within n bytes e.names e.next) (entry_at bytes names at))) (le-leb _ _ (omega (arith, k)))
+    ap (λ b. cond b none (entry_and_later at (λ e. entries_within n bytes e.names e.next) (entry_at bytes names at))) (le-leb _ _ (omega (arith, k)))
 enough (suc n) (suc m) bytes names at h k =
     after_same at none (leb (length bytes) at) (λ e. entries_within n bytes e.names e.next) (λ e. entries_within m bytes e.names e.next) (entry_at bytes names at)
     (λ e past. enough n m bytes e.names e.next (omega (arith, h, past)) (omega (arith, k, past))) (ahead bytes names at)
@@ -73,14 +73,14 @@ module _ (bytes names : List ℕ) (at : ℕ) where
   entries_end past = enough (length bytes) zero bytes names at (omega arith) (omega (arith, past))
 
   -- before the end the entry at the place, and those from the next one on
-  entries_more : at < length bytes → entries_from bytes names at ≡ entries_after at (λ e. entries_from bytes e.names e.next) (entry_at bytes names at)
+  entries_more : at < length bytes → entries_from bytes names at ≡ entry_and_later at (λ e. entries_from bytes e.names e.next) (entry_at bytes names at)
   unfolding entries_from
   entries_more within =
       enough (length bytes) (suc (length bytes)) bytes names at (omega arith) (omega arith)
-      ∙ ap (λ b. cond b none (entries_after at (λ e. entries_within (length bytes) bytes e.names e.next) (entry_at bytes names at))) (lt-leb _ _ within)
+      ∙ ap (λ b. cond b none (entry_and_later at (λ e. entries_within (length bytes) bytes e.names e.next) (entry_at bytes names at))) (lt-leb _ _ within)
 
-  entries_found : (found : Result Entry ElfError) → at < length bytes → entry_at bytes names at ≡ found → entries_from bytes names at ≡ entries_after at (λ e. entries_from bytes e.names e.next) found
-  entries_found found within is = entries_more within ∙ ap (entries_after at (λ e. entries_from bytes e.names e.next)) is
+  entries_found : (found : Result Entry ElfError) → at < length bytes → entry_at bytes names at ≡ found → entries_from bytes names at ≡ entry_and_later at (λ e. entries_from bytes e.names e.next) found
+  entries_found found within is = entries_more within ∙ ap (entry_and_later at (λ e. entries_from bytes e.names e.next)) is
 
   -- ---- Members
 

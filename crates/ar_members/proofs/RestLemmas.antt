@@ -1,5 +1,5 @@
 -- The rest of an archive gives back its walk and the rest of its own source.
-use Rattle.std.proofs.Common.{◌≡◌, ◌==◌, ℕ, ◌∷◌, [], Bool, true, false, List, Option, get_or, drop, refl, sym, ap, ◌∙◌}
+use Rattle.std.proofs.Common.{◌≡◌, ◌==◌, ℕ, [], Bool, true, false, List, Option, get_or, drop, refl, sym, ap, ◌∙◌}
 use Rattle.elf_outside.specs.Windows.{window_rest}
 use Rattle.elf_outside.proofs.RestLemmas.{window_rest_same}
 use Rattle.ar_members.specs.Archives.{Walk, flag, archive_rest}

@@ -82,11 +82,3 @@ module _ (bytes names : List ℕ) (at : ℕ) (header : Header) where
 pub step_refused : (bytes names : List ℕ) (at : ℕ) (e : ElfError) → Follows (Err e) (header_at bytes at) → FollowsBy (step_entry names) stated_refusal (Err e) (entry_at bytes names at)
 unfolding entry_at
 step_refused bytes names at e h = refused_then (λ (x : Header). x) (step_entry names) stated_refusal e (header_at bytes at) (named_entry bytes names at) h
-
--- any step is due a header
-pub step_due_low : (bytes names : List ℕ) (at : ℕ) → 60 ≤ step_due (entry_at bytes names at)
-step_due_low bytes names at = low (entry_at bytes names at)
-  where
-    low : (found : Result Entry ElfError) → 60 ≤ step_due found
-    low (Ok e) = omega arith
-    low (Err e) = omega arith

@@ -1,6 +1,6 @@
 -- The symbols of a table, read one after another, and those of an archive by its first header.
 use Rattle.std.proofs.Common.{◌≡◌, ℕ, suc, ◌+◌, ◌-◌, ◌*◌, ◌<◌, ◌≤◌, List, [], ◌∷◌, ◌++◌, length, take, drop, position, Some, None, Result, Ok, Err, refl, sym, ap, ◌∙◌, subst, append_assoc, arith}
-use Rattle.std.proofs.lemmas.List.{append-nil, drop-drop}
+use Rattle.std.proofs.lemmas.List.{drop-drop}
 use Rattle.std.proofs.lemmas.Bool.{le-leb, lt-leb}
 use Rattle.elf_types.specs.declared.errors.ElfError.{ElfError}
 use Rattle.elf_types.specs.Answers.{or_refused, stated_refusal, Follows, ◌>>=◌}
@@ -9,7 +9,7 @@ use Rattle.ar_members.specs.declared.headers.Header.{Header}
 use Rattle.ar_members.specs.declared.symbols.ArSym.{ArSym}
 use Rattle.ar_members.specs.Names.{kind_of_name}
 use Rattle.ar_members.specs.Headers.{header_at, name_field}
-use Rattle.ar_members.specs.Symbols.{word_of, is_nul, bad_table, symbols_from, first_symbols, arsyms, table_asks, symbols_due_by, symbols_due}
+use Rattle.ar_members.specs.Symbols.{be_word, is_nul, bad_table, symbols_from, first_symbols, arsyms, table_asks, symbols_due_by, symbols_due}
 
 abbrev Read : Type 0
 Read = Result (List ArSym) ElfError
@@ -25,22 +25,13 @@ pushed s read = read >>= λ more. Ok (s ∷ more)
 pub record SymbolsFrom (count : ℕ) (offsets names : List ℕ) (symbols : List ArSym) (i : ℕ) (rest : List ℕ) : Type 0 where
   pub split : symbols_from count offsets names ≡ (symbols_from (count - i) (drop (4 * i) offsets) rest >>= λ more. Ok (symbols ++ more))
 
-behind_none : (read : Read) → read ≡ behind [] read
-behind_none (Ok more) = refl
-behind_none (Err e) = refl
-
 behind_more : (front : List ArSym) (s : ArSym) (read : Read) → behind front (pushed s read) ≡ behind (front ++ s ∷ []) read
 behind_more front s (Ok more) = ap (λ (l : List ArSym). Ok l) (sym (append_assoc front (s ∷ []) more))
 behind_more front s (Err e) = refl
 
-pub symbols_none : (count : ℕ) (offsets names : List ℕ) → SymbolsFrom count offsets names [] 0 names
-symbols_none count offsets names = record {
-  split = behind_none (symbols_from count offsets names) ∙ ap (λ n. behind [] (symbols_from n offsets names)) (omega arith);
-}
-
 -- the symbol whose name ends there
 abbrev symbol_of : List ℕ → List ℕ → ℕ → ArSym
-symbol_of offsets names end = record { at = word_of offsets; name = take end names }
+symbol_of offsets names end = record { at = be_word offsets; name = take end names }
 
 -- what is left, at the end of the next name
 step : (count i end : ℕ) (offsets rest : List ℕ) → i < count → Some end ≡ position is_nul rest
@@ -54,7 +45,7 @@ step count i end offsets rest within found =
     ∙ ap (λ l. pushed (symbol_of here rest end) (symbols_from (count - (i + 1)) l (drop (end + 1) rest))) next
 
 -- a symbol more
-pub symbols_more : (count i end at : ℕ) (offsets names rest name left : List ℕ) (symbols now : List ArSym) → i < count → Some end ≡ position is_nul rest → at ≡ word_of (drop (4 * i) offsets) → name ≡ take end rest
+pub symbols_more : (count i end at : ℕ) (offsets names rest name left : List ℕ) (symbols now : List ArSym) → i < count → Some end ≡ position is_nul rest → at ≡ be_word (drop (4 * i) offsets) → name ≡ take end rest
     → now ≡ symbols ++ record { at = at; name = name } ∷ [] → left ≡ drop (end + 1) rest → SymbolsFrom count offsets names symbols i rest → SymbolsFrom count offsets names now (i + 1) left
 symbols_more count i end at offsets names rest name left symbols now within found at_is name_is now_is left_is so_far =
     let tail : List ℕ → Read = symbols_from (count - (i + 1)) (drop (4 * (i + 1)) offsets) in
@@ -76,14 +67,6 @@ symbols_bad count i offsets names rest symbols within none so_far =
     so_far.split
     ∙ ap (λ n. behind symbols (symbols_from n here rest)) left
     ∙ ap (λ o. behind symbols (or_refused o bad_table >>= λ e. pushed (symbol_of here rest e) (symbols_from (count - (i + 1)) (drop 4 here) (drop (e + 1) rest)))) (sym none)
-
--- after the last one
-pub symbols_all : (count i : ℕ) (offsets names rest : List ℕ) (symbols : List ArSym) → count ≤ i → SymbolsFrom count offsets names symbols i rest → symbols_from count offsets names ≡ Ok symbols
-symbols_all count i offsets names rest symbols past so_far =
-    let left : count - i ≡ 0 = omega arith in
-    so_far.split
-    ∙ ap (λ n. behind symbols (symbols_from n (drop (4 * i) offsets) rest)) left
-    ∙ ap (λ (l : List ArSym). Ok l) (append-nil symbols)
 
 -- an archive without a byte after its first line
 pub arsyms_none : (bytes : List ℕ) → length bytes ≤ 8 → arsyms bytes ≡ Ok []

@@ -28,19 +28,6 @@ pub record Walked {S : Type 0} (g : Ghosts S) (place : ℕ) (names : List ℕ) (
   pub members : IfSome (g.holds first) (λ image. members_from image names place ≡ members_from image (unwrap_or met names) at)
   pub due : IfSome (g.holds first) (λ image. g.taken src + due_from image (unwrap_or met names) at ≤ g.taken first + due_from image names place)
 
-pub walked_none : {S : Type 0} (g : Ghosts S) (place : ℕ) (names : List ℕ) (src : S) → Walked g place names src src None place
-walked_none g place names src = record {
-  leaves = record { same_len = refl; same_bytes = refl; same_rest = refl };
-  faults = omega arith;
-  taken = omega arith;
-  ahead = omega arith;
-  asked = omega arith;
-  within = omega arith;
-  still = λ none. (refl, refl, refl);
-  members = told_by (g.holds src) (λ image is. refl);
-  due = told_by (g.holds src) (λ image is. omega arith);
-}
-
 -- where no byte is left the walk ends as it began
 pub walked_end : {S : Type 0} (g : Ghosts S) (place : ℕ) (names : List ℕ) (first src : S) (met : Option (List ℕ)) (at : ℕ) → Walked g place names first src met at → g.size first ≤ at
     → IfSome (g.holds first) (λ image. length image ≡ g.size first) → IfSome (g.holds first) (λ image. next_of (members_from image names place) ≡ Ok (None, members_from image (unwrap_or met names) at))

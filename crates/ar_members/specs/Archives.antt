@@ -26,8 +26,8 @@ abbrev pub first_walk : Walk
 first_walk = record { place = FIRST; names = []; stopped = false }
 
 -- where the walk over the bytes of a source begins, or why they are refused
-abbrev pub begun : List ℕ → Result Walk ElfError
-begun bytes = answered (archive_refusal bytes) first_walk
+abbrev pub begun_walk : List ℕ → Result Walk ElfError
+begun_walk bytes = answered (archive_refusal bytes) first_walk
 
 -- what the rest of an archive tells: the place of its walk and whether it stopped there, the long
 -- names that it keeps, and the rest of its own source

@@ -76,16 +76,16 @@ pub record Entries : Type 0 where
   pub bad : Option ℕ
 
 -- an entry and those after it, or none where its header is bad
-abbrev pub entries_after : ℕ → (Entry → Entries) → Result Entry ElfError → Entries
-entries_after at rest (Ok e) = record { list = e ∷ (rest e).list; bad = (rest e).bad }
-entries_after at rest (Err e) = record { list = []; bad = Some at }
+abbrev pub entry_and_later : ℕ → (Entry → Entries) → Result Entry ElfError → Entries
+entry_and_later at rest (Ok e) = record { list = e ∷ (rest e).list; bad = (rest e).bad }
+entry_and_later at rest (Err e) = record { list = []; bad = Some at }
 
 -- at most so many entries, up to the end of the archive
 abbrev pub entries_within : ℕ → List ℕ → List ℕ → ℕ → Entries
 entries_within zero bytes names at = record { list = []; bad = None }
 entries_within (suc most) bytes names at =
     if nat_le (length bytes) at then record { list = []; bad = None }
-    else entries_after at (λ e. entries_within most bytes e.names e.next) (entry_at bytes names at)
+    else entry_and_later at (λ e. entries_within most bytes e.names e.next) (entry_at bytes names at)
 
 -- all entries from a place on: there are no more than bytes
 unfoldable pub entries_from : List ℕ → List ℕ → ℕ → Entries

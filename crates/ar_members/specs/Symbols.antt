@@ -18,8 +18,8 @@ abbrev pub bad_table : ElfError
 bad_table = BadMember FIRST
 
 -- the number of the first four bytes
-unfoldable pub word_of : List ℕ → ℕ
-word_of bytes = from_be_bytes w32 (take 4 bytes)
+unfoldable pub be_word : List ℕ → ℕ
+be_word bytes = from_be_bytes w32 (take 4 bytes)
 
 -- the end of a name
 abbrev pub is_nul : ℕ → Bool
@@ -31,7 +31,7 @@ symbols_from zero offsets names = Ok []
 symbols_from (suc more) offsets names = do
   end ← or_refused (position is_nul names) bad_table
   rest ← symbols_from more (drop 4 offsets) (drop (end + 1) names)
-  Ok (record { at = word_of offsets; name = take end names } ∷ rest)
+  Ok (record { at = be_word offsets; name = take end names } ∷ rest)
 
 -- the symbols of the offsets and names that follow a count
 abbrev pub symbols_after : ℕ → List ℕ → Result (List ArSym) ElfError
@@ -42,7 +42,7 @@ symbols_after count rest =
 -- the symbols of a table, which is bad where it does not begin as one; more bytes may follow
 unfoldable pub symbols_of : List ℕ → Result (List ArSym) ElfError
 symbols_of table =
-    if nat_lt (length table) 4 then Err bad_table else symbols_after (word_of table) (drop 4 table)
+    if nat_lt (length table) 4 then Err bad_table else symbols_after (be_word table) (drop 4 table)
 
 -- the symbols of the first member, by the kind of its name: only one of the name / is a table
 abbrev pub symbols_by : List ℕ → Option NameKind → Result (List ArSym) ElfError

@@ -4,7 +4,7 @@ ghost use Rattle.std.specs.Prelude.{◌≡◌, ◌⊎◌, ◌+◌, ◌-◌, ◌^
 ghost use Rattle.elf_types.specs.Answers.{Follows, FollowsBy, stated_refusal};
 ghost use Rattle.elf_outside.specs.Asks.{Asks};
 ghost use Rattle.ar_members.specs.Magic.{RefusesBySize};
-ghost use Rattle.ar_members.specs.Archives.{first_walk, begun};
+ghost use Rattle.ar_members.specs.Archives.{first_walk, begun_walk};
 
 use crate::headers::{ArHdr, FIRST, HEADER_LEN, read_header};
 use crate::symbols::{ArSyms, read_symbols};
@@ -45,7 +45,7 @@ impl<S: Source> Model for Ar<S> {
 /// Whether a source is an archive.
 fn check<S: Source>(src: &mut S) -> Result<(), ElfError>
     ensures begun { IfSome (S.holds src.old)
-        (λ image. FollowsBy (λ _. first_walk) stated_refusal result (begun image)) }
+        (λ image. FollowsBy (λ _. first_walk) stated_refusal result (begun_walk image)) }
     ensures size { OnOk result ((8 ≤ S.size src.old) × (S.size src.old ≤ 2 ^ 40)) }
     ensures refusals { IfErr result (RefusesBySize (S.size src.old)) }
     ensures asks { Asks S.Source result src.old src.new 8 }
@@ -78,7 +78,7 @@ impl<S: Source> Ar<S> {
     /// source back. `Read` may come before the last two.
     pub fn begin(alloc: Global, mut src: S) -> Result<Ar<S>, (S, ElfError)>
         ensures begun { IfSome (S.holds src) (λ image.
-            FollowsBy (λ archive. archive.walk) stated_refusal (answer_of result) (begun image)) }
+            FollowsBy (λ archive. archive.walk) stated_refusal (answer_of result) (begun_walk image)) }
         ensures walk { IfOk result (λ archive. archive.walk ≡ first_walk) }
         ensures size { IfOk result (λ archive. (8 ≤ S.size src) × (S.size src ≤ 2 ^ 40)) }
         ensures refusals { IfErr result (λ back. RefusesBySize (S.size src) back.1) }

@@ -5,7 +5,7 @@ ghost use Rattle.elf_types.specs.Answers.{Follows};
 ghost use Rattle.elf_outside.specs.Asks.{Asks};
 ghost use Rattle.ar_members.specs.Names.{kind_of_name};
 ghost use Rattle.ar_members.specs.Headers.{name_field, IsBadAt};
-ghost use Rattle.ar_members.specs.Symbols.{word_of, symbols_from, symbols_of, first_symbols, arsyms, table_asks, symbols_due};
+ghost use Rattle.ar_members.specs.Symbols.{be_word, symbols_from, symbols_of, first_symbols, arsyms, table_asks, symbols_due};
 
 use crate::headers::{FIRST, HEADER_LEN, Header, read_header};
 use crate::names::{NameKind, name_kind, place_of};
@@ -30,10 +30,10 @@ pub struct ArSym {
 pub type ArSyms = List<ArSym>;
 
 /// The big-endian number of the first four bytes.
-#[tactic(auto, unfolding(crate::specs::Symbols::word_of))]
+#[tactic(auto, unfolding(crate::specs::Symbols::be_word))]
 fn word(bytes: &[u8]) -> u32
     requires { 4 ≤ length bytes.now }
-    ensures { result ≡ word_of bytes.now }
+    ensures { result ≡ be_word bytes.now }
 {
     match bytes.first_chunk::<4>() {
         Some(first) => u32::from_be_bytes(*first),

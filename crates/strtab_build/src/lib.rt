@@ -3,7 +3,8 @@
 #![tactic(auto)]
 
 mod entries;
-pub mod laws;
-pub mod strings;
+mod laws;
+mod strings;
 
+pub use laws::uses_have_places;
 pub use strings::Strings;
