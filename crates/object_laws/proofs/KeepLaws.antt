@@ -18,7 +18,7 @@ use Rattle.elf_xlate.specs.Headers.{IsEhdr, IsShdr, ehdr_fits, shdr_fits}
 use Rattle.elf_xlate.specs.Translation.{items_kind}
 use Rattle.elf_types.specs.Answers.{refused_if}
 use Rattle.elf_ident.specs.Front.{zero_shdr}
-use Rattle.elf_object.specs.Object.{Object, Section, Piece, section_at, piece_at, new_section, home_piece, no_phdr, no_home}
+use Rattle.elf_object.specs.Object.{Object, Section, Piece, section_at, piece_at, absent_section, new_section, home_piece, no_phdr, no_home}
 use Rattle.elf_object.specs.Steps.{new_number, with_section, with_piece_at, with_ehdr, stored_ehdr, with_phdrs, with_phdr, with_new_phdrs, with_shdr, with_new_section, with_null_section, with_new_piece, own_piece, with_own, with_mark, with_layout, with_flags, is_whole, with_fill}
 use Rattle.elf_object.specs.Calls.{step, update_ehdr, update_ehdr_refusal, update_phdr, update_phdr_refusal, newphdr, newphdr_refusal, phdrs_mut, update_shdr, update_shdr_refusal, newscn, newscn_refusal, newnull, newdata_aligned, newdata_refusal, unfit_items, flag_refusal, set_fill, replace, replace_refusal, flag, lend, is_piece_align}
 use Rattle.elf_object.specs.Answers.{lend_refusal, items_at, piece_count, flags_of, has_dirty, has_layout}
@@ -174,10 +174,16 @@ new_section_is class = record {
   piece_count = lit≤ tt;
 }
 
--- a section of an object, and a new one where there is none
+-- nor does its mark count
+absent_section_is : (class : Class) → IsSection class absent_section
+absent_section_is class =
+    let is = new_section_is class in
+    record { header = is.header; fitting = is.fitting; home = is.home; pieces = is.pieces; others = is.others; piece_count = is.piece_count }
+
+-- a section of an object, and what stands where there is none
 pub section_at_is : (o : Object) (s : ℕ) → IsObject o → IsSection o.header.class (section_at o s)
 unfolding section_at
-section_at_is o s ok = at_or (IsSection o.header.class) o.sections s new_section ok.sections (new_section_is o.header.class)
+section_at_is o s ok = at_or (IsSection o.header.class) o.sections s absent_section ok.sections (absent_section_is o.header.class)
 
 pub update_shdr_keeps : (s : ℕ) (h : Shdr) → IsShdr h → KeepsObject (update_shdr s h)
 unfolding update_shdr_refusal with_shdr

@@ -36,7 +36,7 @@ use Rattle.elf_object.specs.Layout.{places_of, placed_by, placed}
 use Rattle.elf_object.specs.Image.{image, image_length}
 use Rattle.elf_object.specs.Refusal.{refusal}
 use Rattle.elf_object.specs.Settled.{settled_over, settle}
-use Rattle.elf_object.specs.Changed.{torn}
+use Rattle.elf_object.specs.Changed.{is_moved, torn_over, torn}
 use Rattle.elf_object.specs.Calls.{step, edit_with, update_ehdr_refusal, update_phdr_refusal, newphdr_refusal, update_shdr, update_shdr_refusal, newscn, newscn_refusal, newnull, newdata_aligned, newdata_refusal, unfit_items, set_fill, replace, replace_refusal, flag, flag_refusal, update_null, lend, update_item, update_item_refusal, update_half, update_word, update_addr, update_sym, update_rel, update_rela, update_dynent}
 use Rattle.elf_object.specs.Runs.{addall, added, or_same}
 use Rattle.elf_object.specs.Valid.{IsObject, IsTied, KeepsTied, as_opened}
@@ -285,9 +285,17 @@ settle_ties o reopens ok ranged tied passed clean = ap opened (base_settled (is_
     base_settled true dirty = ap (λ (q : Object). q.base) (settle-dirty o dirty) ∙ base_over (image o) (placed o)
     base_settled false still = ap (λ (q : Object). q.base) (settle-clean o still) ∙ sym (image-clean o still)
 
-torn_ties : (o : Object) (bytes : List ℕ) → IsTied (torn o bytes)
-unfolding torn is_dirty
-torn_ties o bytes = tied_dirty (torn o bytes) refl
+torn_over_ties : (moved : ℕ → Bool) (bytes : List ℕ) (q : Object) → IsTied (torn_over moved bytes q)
+unfolding torn_over is_dirty
+torn_over_ties moved bytes q = tied_dirty (torn_over moved bytes q) refl
+
+torn_ties : (o : Object) (bytes : List ℕ) → IsTied o → IsTied (torn o bytes)
+unfolding torn
+torn_ties o bytes tied = by_test (is_dirty o)
+  where
+    by_test : (b : Bool) → IsTied (if b then torn_over (is_moved o) bytes (placed o) else o)
+    by_test true = torn_over_ties (is_moved o) bytes (placed o)
+    by_test false = tied
 
 -- ---- The laws
 

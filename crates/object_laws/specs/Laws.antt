@@ -150,10 +150,11 @@ pub record UpdatesKeep (o : Object) : Type 0 where
   pub settled : IsObject o → refusal o ≡ None → IsObject (settle o)
   pub torn : (bytes : List ℕ) → IsObject o → refusal o ≡ None → AreBytes bytes → length bytes < 2 ^ 64 → IsObject (torn o bytes)
 
--- where it is not refused, an update in place leaves an object that is that of its base; one that failed always does
+-- where it is not refused, an update in place leaves an object that is that of its base; one that failed does too, since
+-- it leaves a mark
 pub record UpdatesTie (o : Object) : Type 0 where
   pub settled : IsObject o → All IsPhdr o.phdrs → IsTied o → refusal o ≡ None → IsTied (settle o)
-  pub torn : (bytes : List ℕ) → IsTied (torn o bytes)
+  pub torn : (bytes : List ℕ) → IsTied o → IsTied (torn o bytes)
 
 -- where the update is not refused, settling keeps the items of an own piece that stands alone in a section from 1 on and
 -- is of the kind of its present header, which has items

@@ -19,7 +19,7 @@ use Rattle.elf_xlate.specs.declared.content.Items.TheVariants as items
 use Rattle.elf_xlate.specs.Fields.{fits}
 use Rattle.elf_xlate.specs.Items.{sym_fits, rel_fits, rela_fits, dyn_fits}
 use Rattle.elf_xlate.specs.Translation.{items_count, items_kind}
-use Rattle.elf_object.specs.Object.{Object, Section, Piece, section_at, piece_at, new_section, no_phdr, is_dirty}
+use Rattle.elf_object.specs.Object.{Object, Section, Piece, section_at, piece_at, absent_section, new_section, no_phdr, is_dirty}
 use Rattle.elf_object.specs.Answers.{kind_at, items_at, piece_count, flags_of, has_dirty, has_layout, lend_refusal, halves_of, words_of, addrs_of, syms_of, rels_of, relas_of, dyns_of}
 use Rattle.elf_object.specs.Steps.{new_number, with_section, with_piece_at, with_ehdr, with_phdrs, with_phdr, with_new_phdrs, with_shdr, with_new_section, with_null_section, with_new_piece, own_piece, with_own, with_mark, with_layout, with_flags, is_whole, with_fill}
 use Rattle.elf_object.specs.Layout.{places_of, placed_by, placed, placed_section}
@@ -60,7 +60,7 @@ section_kept o s c kept is = record {
   segments = is.segments;
   table = is.table;
   homes = ⊎_elim
-      (λ h. All-set (HomeStands o.base) o.sections s c (kept h (is.homes s new_section h)) is.homes)
+      (λ h. All-set (HomeStands o.base) o.sections s c (kept h (is.homes s absent_section h)) is.homes)
       (λ h. subst (All (HomeStands o.base)) (sym (set_past o.sections s c h)) is.homes)
       (cases_lt s (length o.sections));
 }

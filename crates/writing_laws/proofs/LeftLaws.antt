@@ -12,7 +12,7 @@ use Rattle.elf_xlate.specs.declared.content.Items.{Items}
 use Rattle.elf_xlate.specs.Translation.{encoded}
 use Rattle.elf_types.specs.Answers.{refused_if}
 use Rattle.elf_object.specs.Blocks.{stacked, last_end, spread}
-use Rattle.elf_object.specs.Object.{Object, Section, Piece, new_section, section_at, has_file_bytes, home_is_clean, some_piece_marked, is_dirty}
+use Rattle.elf_object.specs.Object.{Object, Section, Piece, absent_section, new_section, section_at, has_file_bytes, home_is_clean, some_piece_marked, is_dirty}
 use Rattle.elf_object.specs.Joined.{piece_bytes, aligned_pieces, piece_blocks, pieces_end, joined}
 use Rattle.elf_object.specs.Layout.{places_of, placed_by, placed}
 use Rattle.elf_object.specs.Image.{front_blocks, section_block}
@@ -120,9 +120,9 @@ unfolding missing_home missing_in_section section_at home_is_clean
 home_inside o s p ready inside filled alone =
     let un = unrefused o (update_passes o ready.dirty ready.passed).0 in
     let at : 0 + s ≡ s = omega arith in
-    let here : missing_in_section s (get_or o.sections s new_section) ≡ None = ap (λ (k : ℕ). missing_in_section k (get_or o.sections s new_section)) (sym at) ∙ row_none missing_in_section 0 o.sections s new_section un.missing inside in
-    let clean : elim (slice_get (get_or o.sections s new_section).pieces 0) [ None ↦ false | Some q ↦ is_none q.own ] ≡ true = ap (λ (l : List Piece). elim (slice_get l 0) [ None ↦ false | Some q ↦ is_none q.own ]) alone.pieces ∙ ap (λ (x : Option Items). is_none x) alone.clean in
-    refused_not (has_file_bytes s (get_or o.sections s new_section)) _ (get_or o.sections s new_section).home.out (OutOfFile s) here filled clean
+    let here : missing_in_section s (get_or o.sections s absent_section) ≡ None = ap (λ (k : ℕ). missing_in_section k (get_or o.sections s absent_section)) (sym at) ∙ row_none missing_in_section 0 o.sections s absent_section un.missing inside in
+    let clean : elim (slice_get (get_or o.sections s absent_section).pieces 0) [ None ↦ false | Some q ↦ is_none q.own ] ≡ true = ap (λ (l : List Piece). elim (slice_get l 0) [ None ↦ false | Some q ↦ is_none q.own ]) alone.pieces ∙ ap (λ (x : Option Items). is_none x) alone.clean in
+    refused_not (has_file_bytes s (get_or o.sections s absent_section)) _ (get_or o.sections s absent_section).home.out (OutOfFile s) here filled clean
   where
     refused_not : (a b c : Bool) (e : ElfError) → refused_if (a && b && c) e ≡ None → a ≡ true → b ≡ true → c ≡ false
     refused_not true true true e h x y = cc
@@ -151,7 +151,7 @@ placed_joined o s dirty = ap (λ (q : Object). joined q s) (placed-dirty o dirty
 
 home_at : (o : Object) (s : ℕ) → IsBased o → s < length o.sections → HomeStands o.base (section_at o s)
 unfolding section_at
-home_at o s is inside = is.homes s new_section inside
+home_at o s is inside = is.homes s absent_section inside
 
 section_stands : (o : Object) (s : ℕ) → IsReady o → IsBased o → s < length o.sections → section_changed o s ≡ false → HoldsBlock o.base (section_block (placed o) s)
 unfolding section_changed is_at_home some_piece_marked
