@@ -42,7 +42,7 @@ pub record WrittenFront : Type 0 where
   pub segments : Block
   pub table : Block
 
--- an object. The counts in its header are not looked at: those that count are the lengths of the lists.
+-- an object. The two counts in its header are the lengths of the lists: every step keeps them so.
 pub record Object : Type 0 where
   pub header : Ehdr
   pub pad : List ℕ  -- bytes 9 to 15 of the identification

@@ -301,6 +301,8 @@ placed_by_is o ok small =
     record {
       header = header.0;
       fitting = header.1;
+      phnum = refl;
+      shnum = sym (length-map (enumerate_from 0 o.sections) (λ r. placed_section places o r.0 r.1) ∙ length-enumerate_from 0 o.sections);
       pad = ok.pad;
       pad_bytes = ok.pad_bytes;
       phdr_count = ok.phdr_count;

@@ -58,6 +58,8 @@ unfolding settled_over
 settled_over_is image q is are small each = record {
   header = is.header;
   fitting = is.fitting;
+  phnum = is.phnum;
+  shnum = is.shnum ∙ sym (length-map (enumerate_from 0 q.sections) (λ (row : ℕ × Section). settled_section (length image) (joined q row.0) row.1.header) ∙ length-enumerate_from 0 q.sections);
   pad = is.pad;
   pad_bytes = is.pad_bytes;
   phdr_count = is.phdr_count;
@@ -109,6 +111,8 @@ torn_over_is moved bytes q is are small =
     record {
       header = is.header;
       fitting = is.fitting;
+      phnum = is.phnum;
+      shnum = is.shnum ∙ sym (length-map (enumerate_from 0 q.sections) (λ (r : ℕ × Section). torn_section (moved r.0) r.1) ∙ length-enumerate_from 0 q.sections);
       pad = is.pad;
       pad_bytes = is.pad_bytes;
       phdr_count = is.phdr_count;
