@@ -12,14 +12,15 @@ use Rattle.elf_types.specs.declared.errors.ElfError.{ElfError}
 use Rattle.elf_types.specs.declared.errors.ElfError.TheVariants.{Memory, Read, Short}
 use Rattle.elf_types.specs.Answers.{refused_if, answered, Follows}
 use Rattle.elf_types.specs.declared.constants.TheConstants.{EI_CLASS}
-use Rattle.elf_xlate.specs.Headers.{ehdr_size, phdr_size, shdr_size, ehdr_of}
+use Rattle.elf_xlate.specs.Headers.{ehdr_size, ehdr_fits, phdr_size, shdr_size, ehdr_of, IsEhdr}
 use Rattle.elf_ident.specs.declared.counts.Counts.{Counts}
 use Rattle.elf_ident.specs.declared.fronts.Head.{Head}
 use Rattle.elf_ident.specs.declared.fronts.Front.{Front}
-use Rattle.elf_ident.specs.Reading.{IsSound}
-use Rattle.elf_ident.specs.Front.{phdrs_at, shdrs_at, front, front_at, front_with, front_bytes, table_bytes, class_named, class_or_longer, ident_in, header_at, header_in, counts_in, head_in, header_bytes, first_bytes}
+use Rattle.elf_ident.specs.Reading.{IsSound, IsPhdrTable, IsShdrTable, IsFittingFront}
+use Rattle.elf_ident.specs.Front.{counted, phdrs_at, shdrs_at, front, front_at, front_with, front_bytes, table_bytes, class_named, class_or_longer, ident_in, header_at, header_in, counts_in, head_in, header_bytes, first_bytes}
 use Rattle.elf_ident.proofs.Refusals.{answered_ok, bind_ok}
 use Rattle.elf_ident.proofs.HeaderLemmas.{class_is}
+use Rattle.elf_ident.proofs.TableLemmas.{phdr_size_most, shdr_size_most}
 
 -- a refusal of the header is one of the image
 refused_by_header : (image : List ℕ) (e : ElfError) → Follows {T = Ehdr × List ℕ} (Err e) (header_in image) → Follows {T = Head} (Err e) (head_in image)
@@ -135,16 +136,26 @@ unfolding front_bytes
 bound_front None head old mid new is h n = tt
 bound_front (Some image) head old mid new is h n = rw is (omega (arith, h))
 
-phdr_size_most : (class : Class) → phdr_size class ≤ 56
-phdr_size_most C32 = lit≤ tt
-phdr_size_most C64 = lit≤ tt
-
-shdr_size_most : (class : Class) → shdr_size class ≤ 64
-shdr_size_most C32 = lit≤ tt
-shdr_size_most C64 = lit≤ tt
-
 pub table_bytes_most : (head : Head) (len : ℕ) → IsSound head len → table_bytes head.header head.counts ≤ 2 ^ 20 * 120
 table_bytes_most head len s =
-    let p = mul-le-mul s.tables.few_phdrs (phdr_size_most head.header.class) in
-    let q = mul-le-mul s.tables.few_shdrs (shdr_size_most head.header.class) in
+    let p = mul-le-mul s.counts.few_phdrs (phdr_size_most head.header.class) in
+    let q = mul-le-mul s.counts.few_shdrs (shdr_size_most head.header.class) in
     omega (arith, p, q)
+
+-- a front is fitting
+pub front_fits : (head : Head) (len : ℕ) (phdrs : List Phdr) (shdrs : List Shdr) → IsSound head len → IsEhdr (counted head.header head.counts)
+    → IsPhdrTable head.header.class head.counts.phnum phdrs → IsShdrTable head.header.class head.counts.shnum shdrs
+    → IsFittingFront (front_with head phdrs shdrs)
+unfolding ehdr_fits
+front_fits head len phdrs shdrs s range p t = record {
+  header = range;
+  fitting = s.header.fitting;
+  version = s.version;
+  phdrs = p.range;
+  fitting_phdrs = p.fitting;
+  shdrs = t.range;
+  fitting_shdrs = t.fitting;
+  string_index = λ none. s.counts.string_index (sym t.counted ∙ ap length none);
+  pad = s.header.pad_size;
+  pad_bytes = s.header.pad_bytes;
+}

@@ -2,19 +2,19 @@
 
 ghost use Rattle.std.specs.Prelude.{◌≡◌, ◌+◌, ◌^◌, ◌<◌, ◌≤◌, length, take, drop, IsTrue, IfOk, OnOk, IfErr, IfSome, Ok};
 ghost use Rattle.elf_types.specs.Answers.{Follows, IsRefusal, answered};
-ghost use Rattle.elf_types.specs.declared.constants.TheConstants.{MAX_IMAGE};
+ghost use Rattle.elf_types.specs.declared.constants.TheConstants.{EV_CURRENT, MAX_IMAGE, MAX_SECTIONS, MAX_SEGMENTS};
 ghost use Rattle.elf_outside.specs.Asks.{Asks};
 ghost use Rattle.elf_xlate.specs.Headers.{phdr_size, shdr_size, shdr_of};
-ghost use Rattle.elf_ident.specs.Reading.{HasTables, IsCountRefusal};
-ghost use Rattle.elf_ident.specs.Front.{needs_first, first_section, zero_shdr, true_counts, true_phnum, true_shnum, true_shstrndx, lies_in, header_refusal, count_refusal, counts_by, counts_in};
+ghost use Rattle.elf_ident.specs.Reading.{HasTables, AreCounts, IsCountRefusal};
+ghost use Rattle.elf_ident.specs.Front.{counted, needs_first, first_section, zero_shdr, true_counts, true_phnum, true_shnum, true_shstrndx, lies_in, header_refusal, count_refusal, counts_by, counts_in};
 
-use crate::reads::read;
 use elf_outside::Source;
+use elf_outside::reads::read;
 use elf_types::constants::{
     EV_CURRENT, MAX_IMAGE, MAX_SECTIONS, MAX_SEGMENTS, PN_XNUM, SHN_XINDEX,
 };
-use elf_types::{Class, Ehdr, ElfError, Shdr};
-use elf_xlate::get_shdr;
+use elf_types::{Ehdr, ElfError, Shdr};
+use elf_xlate::{get_shdr, phdr_size, shdr_size};
 
 /// The true counts and the true string index of an image, after extended numbering. Source: gABI
 /// chapter 4, "ELF Header", `e_shnum` and `e_shstrndx`, and chapter 5, "Program Header", `PN_XNUM`.
@@ -26,26 +26,6 @@ pub struct Counts {
     pub shnum: u64,
     /// The number of the section that holds the sections' names.
     pub shstrndx: u32,
-}
-
-/// The number of bytes of a program header. Source: gABI chapter 5, "Program Header".
-pub fn segment_header_size(class: Class) -> u64
-    ensures { result ≡ phdr_size class }
-{
-    match class {
-        Class::C32 => 32,
-        Class::C64 => 56,
-    }
-}
-
-/// The number of bytes of a section header. Source: gABI chapter 4, "Sections".
-pub fn section_header_size(class: Class) -> u64
-    ensures { result ≡ shdr_size class }
-{
-    match class {
-        Class::C32 => 40,
-        Class::C64 => 64,
-    }
 }
 
 /// Whether a count or the string index stands in section 0.
@@ -68,6 +48,7 @@ fn lies_in(len: u64, at: u64, count: u64, size: u64) -> bool
 #[tactic(auto, unfolding(crate::specs::Front::header_refusal))]
 fn check_header(h: &Ehdr, len: u64) -> Result<(), ElfError>
     ensures refusal { result ≡ answered (header_refusal h.now len) tt }
+    ensures version { OnOk result (h.now.version ≡ EV_CURRENT) }
     ensures small { OnOk result (len ≤ MAX_IMAGE) }
     ensures err { IfErr result IsRefusal }
     ensures named { IfErr result (IsCountRefusal len) }
@@ -81,7 +62,7 @@ fn check_header(h: &Ehdr, len: u64) -> Result<(), ElfError>
     if h.shoff == 0 && h.shnum != 0 {
         return Err(ElfError::ShTable);
     }
-    let size = section_header_size(h.class);
+    let size = shdr_size(h.class) as u64;
     if h.shoff != 0 && u64::from(h.shentsize) != size {
         return Err(ElfError::ShTable);
     }
@@ -94,15 +75,17 @@ fn check_header(h: &Ehdr, len: u64) -> Result<(), ElfError>
 /// What a header is refused by for its true counts: `ShTable`, `PhTable`, `TooMany`, in this order.
 #[tactic(auto, unfolding(crate::specs::Front::count_refusal))]
 fn check_counts(h: &Ehdr, c: &Counts, len: u64) -> Result<(), ElfError>
+    requires { h.now.phnum ≡ 0 → c.now.phnum ≡ 0 }
     ensures refusal { result ≡ answered (count_refusal h.now c.now len) tt }
-    ensures tables { OnOk result (HasTables h.now c.now len) }
+    ensures tables { OnOk result (HasTables (counted h.now c.now) len) }
+    ensures few { OnOk result ((c.now.shnum ≤ MAX_SECTIONS) × (c.now.phnum ≤ MAX_SEGMENTS)) }
     ensures err { IfErr result IsRefusal }
     ensures named { IfErr result (IsCountRefusal len) }
 {
-    if !lies_in(len, h.shoff, c.shnum, section_header_size(h.class)) {
+    if !lies_in(len, h.shoff, c.shnum, shdr_size(h.class) as u64) {
         return Err(ElfError::ShTable);
     }
-    let size = segment_header_size(h.class);
+    let size = phdr_size(h.class) as u64;
     if h.phnum != 0 && u64::from(h.phentsize) != size {
         return Err(ElfError::PhTable);
     }
@@ -143,7 +126,8 @@ fn true_shnum(h: &Ehdr, first: &Shdr) -> u64
 
 #[tactic(auto, unfolding(crate::specs::Front::true_shstrndx))]
 fn true_shstrndx(h: &Ehdr, first: &Shdr) -> u32
-    ensures { result ≡ true_shstrndx h.now first.now }
+    ensures shstrndx { result ≡ true_shstrndx h.now first.now }
+    ensures none { true_shnum h.now first.now ≡ 0 → result ≡ 0 }
 {
     if true_shnum(h, first) == 0 {
         0
@@ -158,8 +142,7 @@ fn true_shstrndx(h: &Ehdr, first: &Shdr) -> u32
 #[tactic(auto, using(crate::proofs::Refusals::answered_passed, crate::proofs::Refusals::answered_refused), unfolding(crate::specs::Front::counts_by))]
 fn counts_by(h: &Ehdr, first: &Shdr, len: u64) -> Result<Counts, ElfError>
     ensures counts { result ≡ counts_by h.now first.now len }
-    ensures tables { IfOk result (λ c. HasTables h.now c len) }
-    ensures none { IfOk result (λ c. h.now.phnum ≡ 0 → c.phnum ≡ 0) }
+    ensures sound { IfOk result (AreCounts h.now len) }
     ensures err { IfErr result IsRefusal }
     ensures named { IfErr result (IsCountRefusal len) }
 {
@@ -214,8 +197,7 @@ fn read_section_header<S: Source>(src: &mut S, h: &Ehdr, bytes: &mut [u8]) -> Re
     ensures asks { Asks S.Source result src.old src.new (shdr_size h.now.class) }
     ensures err { IfErr result (λ e. e ≡ ElfError.Read) }
 {
-    let size = section_header_size(h.class) as usize;
-    let header = &mut bytes[..size];
+    let header = &mut bytes[..shdr_size(h.class)];
     read(src, h.shoff, header)?;
     Ok(get_shdr(h.class, h.order, header))
 }
@@ -227,8 +209,8 @@ fn read_section_header<S: Source>(src: &mut S, h: &Ehdr, bytes: &mut [u8]) -> Re
 /// one section header, where section 0 is needed, and takes no memory.
 pub fn read_counts<S: Source>(src: &mut S, h: &Ehdr) -> Result<Counts, ElfError>
     ensures counts { IfSome (S.holds src.old) (λ image. Follows result (counts_in h.now image)) }
-    ensures tables { IfOk result (λ c. HasTables h.now c (S.size src.old)) }
-    ensures none { IfOk result (λ c. h.now.phnum ≡ 0 → c.phnum ≡ 0) }
+    ensures sound { IfOk result (AreCounts h.now (S.size src.old)) }
+    ensures version { OnOk result (h.now.version ≡ EV_CURRENT) }
     ensures small { OnOk result (S.size src.old ≤ MAX_IMAGE) }
     ensures asks { Asks S.Source result src.old src.new (shdr_size h.now.class) }
     ensures err { IfErr result (IsCountRefusal (S.size src.old)) }

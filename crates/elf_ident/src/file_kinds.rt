@@ -5,8 +5,8 @@ ghost use Rattle.elf_types.specs.Answers.{Follows};
 ghost use Rattle.elf_outside.specs.Asks.{Asks};
 ghost use Rattle.elf_ident.specs.FileKinds.{file_kind};
 
-use crate::reads::read;
 use elf_outside::Source;
+use elf_outside::reads::read;
 use elf_types::ElfError;
 use elf_types::constants::{ARMAG, ELFMAG};
 

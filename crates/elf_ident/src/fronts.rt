@@ -2,15 +2,15 @@
 
 ghost use Rattle.std.specs.Prelude.{◌≡◌, ◌+◌, ◌*◌, ◌^◌, ◌<◌, ◌≤◌, ◌⊎◌, length, OnOk, IfOk, IfErr, IfSome, Err};
 ghost use Rattle.elf_types.specs.Answers.{Follows};
-ghost use Rattle.elf_types.specs.declared.constants.TheConstants.{MAX_IMAGE};
+ghost use Rattle.elf_types.specs.declared.constants.TheConstants.{MAX_IMAGE, MAX_SECTIONS};
 ghost use Rattle.elf_outside.specs.Asks.{Asks};
-ghost use Rattle.elf_xlate.specs.Headers.{HasNarrowCounts, phdr_size, shdr_size};
-ghost use Rattle.elf_ident.specs.Reading.{HasTables, IsSound, IsCounted, IsFrontRefusal};
-ghost use Rattle.elf_ident.specs.Front.{head_in, front, front_with, phdrs_at, shdrs_at, counted, table_bytes, header_bytes, first_bytes, front_bytes};
+ghost use Rattle.elf_xlate.specs.Headers.{HasNarrowCounts, IsEhdr};
+ghost use Rattle.elf_ident.specs.Reading.{HasTables, IsSound, IsPhdrTable, IsShdrTable, IsFittingFront, IsCounted, IsFrontRefusal};
+ghost use Rattle.elf_ident.specs.Front.{head_in, front, front_with, phdrs_at, shdrs_at, table_bytes, header_bytes, first_bytes, front_bytes};
 
 use crate::counts::{Counts, read_counts};
-use crate::entries::read_entries;
 use crate::headers::read_header;
+use crate::tables::{read_phdrs, read_shdrs};
 use elf_outside::Source;
 use elf_types::{Ehdr, ElfError, Phdrs, Shdrs};
 use std::alloc::Global;
@@ -73,21 +73,22 @@ fn read_tables<S: Source>(
         t.0 ≡ phdrs_at head.now.header head.now.counts.phnum image)) }
     ensures shdrs { IfOk result (λ t. IfSome (S.holds src.old) (λ image.
         t.1 ≡ shdrs_at head.now.header head.now.counts.shnum image)) }
-    ensures phnum { IfOk result (λ t. length t.0 ≡ head.now.counts.phnum) }
-    ensures shnum { IfOk result (λ t. length t.1 ≡ head.now.counts.shnum) }
+    ensures tables { IfOk result (λ t. IsPhdrTable head.now.header.class head.now.counts.phnum t.0
+        × IsShdrTable head.now.header.class head.now.counts.shnum t.1) }
     ensures asks { Asks S.Source result src.old src.new (table_bytes head.now.header head.now.counts) }
     ensures err { IfErr result (λ e. (e ≡ ElfError.Memory) ⊎ (e ≡ ElfError.Read)) }
 {
     let h = &head.header;
-    let phdrs = read_entries(alloc, src, h, h.phoff, u64::from(head.counts.phnum))?;
-    let shdrs = read_entries(alloc, src, h, h.shoff, head.counts.shnum)?;
+    let phdrs = read_phdrs(alloc, src, h, u64::from(head.counts.phnum))?;
+    let shdrs = read_shdrs(alloc, src, h, head.counts.shnum)?;
     Ok((phdrs, shdrs))
 }
 
 fn front_of(head: Head, phdrs: Phdrs, shdrs: Shdrs) -> Front
     requires narrow { HasNarrowCounts head.header }
-    requires few { head.counts.shnum ≤ 2 ^ 20 }
-    ensures { result ≡ front_with head phdrs shdrs }
+    requires few { head.counts.shnum ≤ MAX_SECTIONS }
+    ensures front { result ≡ front_with head phdrs shdrs }
+    ensures range { IsEhdr result.ehdr }
 {
     let written = [
         head.header.phnum as u16,
@@ -126,7 +127,9 @@ fn front_of(head: Head, phdrs: Phdrs, shdrs: Shdrs) -> Front
 /// Source: gABI chapter 4, "ELF Header" and "Sections", chapter 5, "Program Header".
 pub fn read_front<S: Source>(alloc: Global, src: &mut S) -> Result<Front, ElfError>
     ensures front { IfSome (S.holds src.old) (λ image. Follows result (front image)) }
+    ensures fitting { IfOk result IsFittingFront }
     ensures counted { IfOk result IsCounted }
+    ensures tables { IfOk result (λ f. HasTables f.ehdr (S.size src.old)) }
     ensures asks { Asks S.Source result src.old src.new (128 + 2 ^ 20 * 120) }
     ensures bound { IfSome (S.holds src.old) (λ image. S.taken src.new ≤ S.taken src.old + front_bytes image) }
     ensures err { IfErr result (IsFrontRefusal (S.size src.old)) }

@@ -1,20 +1,21 @@
 //! The identification and the header of an image.
 
-ghost use Rattle.std.specs.Prelude.{◌≡◌, ℕ, ◌+◌, ◌-◌, ◌<◌, ◌≤◌, length, take, drop, OnOk, IfOk, IfErr, IfSome, Err};
+ghost use Rattle.std.specs.Prelude.{◌≡◌, ℕ, ◌+◌, ◌-◌, ◌^◌, ◌<◌, ◌≤◌, All, length, take, drop, OnOk, IfOk, IfErr, IfSome, Err};
+ghost use Rattle.elf_types.specs.declared.constants.TheConstants.{EI_NIDENT, EI_PAD};
 ghost use Rattle.elf_types.specs.Answers.{Follows, IsRefusal};
 ghost use Rattle.elf_outside.specs.Asks.{Asks};
-ghost use Rattle.elf_xlate.specs.Headers.{HasNarrowCounts, ehdr_size};
-ghost use Rattle.elf_ident.specs.Reading.{HasStart, HasRest, IsHeaderRefusal};
-ghost use Rattle.elf_ident.specs.Front.{class_named, order_named, ident_in, header_in, header_at, header_bytes};
+ghost use Rattle.elf_xlate.specs.Headers.{ehdr_size};
+ghost use Rattle.elf_ident.specs.Reading.{HasStart, HasRest, IsStored, IsHeaderRefusal};
+ghost use Rattle.elf_ident.specs.Front.{class_named, order_named, ident_in, header_in, header_bytes};
 
-use crate::reads::read;
 use elf_outside::Source;
+use elf_outside::reads::read;
 use elf_types::constants::{
     EI_CLASS, EI_DATA, EI_NIDENT, EI_PAD, EI_VERSION, ELFCLASS32, ELFCLASS64, ELFDATA2LSB,
     ELFDATA2MSB, ELFMAG, EV_CURRENT,
 };
 use elf_types::{Class, Ehdr, ElfError, Order};
-use elf_xlate::get_ehdr;
+use elf_xlate::{ehdr_size, get_ehdr};
 
 /// The bytes of the longest header, that of class 64.
 pub const MAX_HEADER_SIZE: usize = 64;
@@ -38,16 +39,6 @@ fn order_named(code: u8) -> Option<Order>
         ELFDATA2LSB => Some(Order::Least),
         ELFDATA2MSB => Some(Order::Greatest),
         _ => None,
-    }
-}
-
-/// The number of bytes of a header. Source: gABI chapter 4, "ELF Header".
-pub fn header_size(class: Class) -> usize
-    ensures { result ≡ ehdr_size class }
-{
-    match class {
-        Class::C32 => 52,
-        Class::C64 => 64,
     }
 }
 
@@ -102,7 +93,7 @@ fn read_rest<S: Source>(src: &mut S, class: Class, rest: &mut [u8]) -> Result<()
     ensures asks { Asks S.Source result src.old src.new (ehdr_size class - 16) }
     ensures err { IfErr result (IsHeaderRefusal (S.size src.old)) }
 {
-    let size = header_size(class);
+    let size = ehdr_size(class);
     if src.len() < size as u64 {
         return Err(ElfError::Short);
     }
@@ -110,11 +101,12 @@ fn read_rest<S: Source>(src: &mut S, class: Class, rest: &mut [u8]) -> Result<()
 }
 
 /// Bytes 9 to 15 of an identification.
-fn pad_of(bytes: &[u8]) -> [u8; 7]
-    requires { 16 ≤ length bytes.now }
-    ensures { result ≡ take 7 (drop 9 bytes.now) }
+fn pad_of(bytes: &[u8]) -> [u8; EI_NIDENT - EI_PAD]
+    requires { EI_NIDENT ≤ length bytes.now }
+    ensures pad { result ≡ take (EI_NIDENT - EI_PAD) (drop EI_PAD bytes.now) }
+    ensures bytes { All (λ n. n < 2 ^ 8) result }
 {
-    let mut pad = [0u8; 7];
+    let mut pad = [0u8; EI_NIDENT - EI_PAD];
     pad.copy_from_slice(&bytes[EI_PAD..EI_NIDENT]);
     pad
 }
@@ -127,7 +119,7 @@ fn pad_of(bytes: &[u8]) -> [u8; 7]
 /// Source: gABI chapter 4, "ELF Header" and "ELF Identification".
 pub fn read_header<S: Source>(src: &mut S) -> Result<(Ehdr, [u8; 7]), ElfError>
     ensures header { IfSome (S.holds src.old) (λ image. Follows result (header_in image)) }
-    ensures counts { IfOk result (λ h. HasNarrowCounts h.0) }
+    ensures stored { IfOk result (λ h. IsStored h.0 h.1) }
     ensures asks { Asks S.Source result src.old src.new 64 }
     ensures err { IfErr result (IsHeaderRefusal (S.size src.old)) }
     ensures short { S.size src.old < 16 → result ≡ Err ElfError.Short }
@@ -140,7 +132,7 @@ pub fn read_header<S: Source>(src: &mut S) -> Result<(Ehdr, [u8; 7]), ElfError>
 fn read_header_by<S: Source>(src: &mut S, bytes: &mut [u8]) -> Result<(Ehdr, [u8; 7]), ElfError>
     requires { length bytes.old ≡ 64 }
     ensures header { IfSome (S.holds src.old) (λ image. Follows result (header_in image)) }
-    ensures counts { IfOk result (λ h. HasNarrowCounts h.0) }
+    ensures stored { IfOk result (λ h. IsStored h.0 h.1) }
     ensures asks { Asks S.Source result src.old src.new 64 }
     ensures err { IfErr result (IsHeaderRefusal (S.size src.old)) }
     ensures short { S.size src.old < 16 → result ≡ Err ElfError.Short }
@@ -149,6 +141,6 @@ fn read_header_by<S: Source>(src: &mut S, bytes: &mut [u8]) -> Result<(Ehdr, [u8
     let (start, others) = bytes.split_at_mut(EI_NIDENT);
     let (class, order) = read_ident(src, start)?;
     read_rest(src, class, others)?;
-    let header = get_ehdr(class, order, &bytes[..header_size(class)]);
+    let header = get_ehdr(class, order, &bytes[..ehdr_size(class)]);
     Ok((header, pad_of(bytes)))
 }

@@ -12,7 +12,7 @@ use Rattle.elf_types.specs.declared.errors.ElfError.{ElfError}
 use Rattle.elf_xlate.specs.declared.content.Items.{Items}
 use Rattle.elf_xlate.specs.Translation.{items_kind}
 use Rattle.elf_types.specs.Answers.{first_refusal}
-use Rattle.elf_object.specs.Object.{Object, Section, Piece, section_at, piece_at, absent_section, new_section, home_piece, is_dirty, some_section_marked, some_piece_marked}
+use Rattle.elf_object.specs.Object.{Object, Section, Piece, section_at, piece_at, absent_section, home_piece, is_dirty, some_section_marked, some_piece_marked}
 use Rattle.elf_object.specs.Answers.{content, or_empty, items_at, kind_at, piece_count, kind_code, same_kind}
 use Rattle.elf_object.specs.Steps.{with_section, with_piece_at, with_own, own_piece, with_shdr}
 

@@ -1,4 +1,4 @@
-//! Steps over sources, devices and sets of files, for the tests: what each call answers, row by row.
+//! Steps over sources, devices and sets of files, for the tests: what each call answers.
 
 use crate::{Device, Files, OpenFault, Source};
 use elf_types::{Addrs, Octets};

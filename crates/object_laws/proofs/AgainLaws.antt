@@ -304,7 +304,7 @@ section_headers : (t o : Object) (s : ℕ) → SameFront t o → (get_or (placed
 unfolding section_at
 section_headers t o s same = headers_again t o s same
 
-front_again : (t o : Object) → SameFront t o → front_blocks (placed_by (places_of t) t) ≡ front_blocks (placed_by (places_of o) o)
+pub front_again : (t o : Object) → SameFront t o → front_blocks (placed_by (places_of t) t) ≡ front_blocks (placed_by (places_of o) o)
 unfolding front_blocks
 front_again t o same =
     let left = section_count-placed (places_of t) t in

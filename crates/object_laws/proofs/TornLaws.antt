@@ -158,7 +158,7 @@ placed_stays o ok passed = by_test (is_dirty o) refl
 
 -- ---- A failed write
 
-torn-is : (o : Object) (bytes : List ℕ) → is_dirty o ≡ true → torn o bytes ≡ torn_over (is_moved o) bytes (placed_by (places_of o) o)
+pub torn-is : (o : Object) (bytes : List ℕ) → is_dirty o ≡ true → torn o bytes ≡ torn_over (is_moved o) bytes (placed_by (places_of o) o)
 unfolding torn
 torn-is o bytes dirty = rw dirty (ap (torn_over (is_moved o) bytes) (placed-dirty o dirty))
 
@@ -225,7 +225,7 @@ joined-torn_of : (moved : ℕ → Bool) (bytes : List ℕ) (q : Object) (s : ℕ
 unfolding joined pieces_end piece_blocks torn_over joined_from
 joined-torn_of moved bytes q s = torn_facts (joined_from q.header.class q.header.order q.fill s) moved bytes q s (joined-torn q.header.class q.header.order q.fill s)
 
-torn_front : (o : Object) (moved : ℕ → Bool) (bytes : List ℕ) → SameFront (torn_over moved bytes (placed_by (places_of o) o)) o
+pub torn_front : (o : Object) (moved : ℕ → Bool) (bytes : List ℕ) → SameFront (torn_over moved bytes (placed_by (places_of o) o)) o
 unfolding torn_over placed_by
 torn_front o moved bytes = record {
   layout = refl;
@@ -250,7 +250,7 @@ torn_content o moved bytes =
       out = λ s. torn_facts (λ c. c.home.out) moved bytes (placed_by (places_of o) o) s (λ b c. ap (λ (h : Home). h.out) (home-torn b c)) ∙ content.out s;
     }
 
-torn_dirty : (moved : ℕ → Bool) (bytes : List ℕ) (q : Object) → is_dirty (torn_over moved bytes q) ≡ true
+pub torn_dirty : (moved : ℕ → Bool) (bytes : List ℕ) (q : Object) → is_dirty (torn_over moved bytes q) ≡ true
 unfolding torn_over is_dirty
 torn_dirty moved bytes q = refl
 

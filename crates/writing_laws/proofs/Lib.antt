@@ -4,5 +4,9 @@ pub mod SortLaws
 pub mod HeldLaws
 pub mod PlanLaws
 pub mod LeftLaws
+pub mod LeftPlaces
+pub mod WriteLaws
+pub mod AfterLaws
+pub mod AlikeLaws
 pub mod BasedSteps
 pub mod BasedBeginnings

@@ -102,7 +102,7 @@ fill_place_is o k h =
     let same = covered-plan o k in
     rw (inside, same) refl
 
-fill_places_are : (o : Object) → IsReady o → fill_places o ≡ filter (λ k. not (nat_lt k (kept_base o))) (gap_places (image_length o) 0 (plan o))
+pub fill_places_are : (o : Object) → IsReady o → fill_places o ≡ filter (λ k. not (nat_lt k (kept_base o))) (gap_places (image_length o) 0 (plan o))
 unfolding fill_places
 fill_places_are o ready =
     let whole : image_length o ≡ image_length o - 0 = omega arith in

@@ -70,11 +70,11 @@ TornDevice o =
 
 -- ---- Homes
 
--- a home that is not disturbed has the same bytes in a torn base
+-- a home that lies in the base and is not disturbed has the same bytes in a torn one
 abbrev pub UndisturbedStays : Object → Type 0
 UndisturbedStays o =
     (bytes : List ℕ) (home : Home) → IsReady o → IsBased o → IsTornImage o bytes → is_disturbed o home ≡ false
-    → home.at + home.len ≤ length o.base → take home.len (drop home.at bytes) ≡ take home.len (drop home.at o.base)
+    → (0 < home.len → home.at + home.len ≤ length o.base) → take home.len (drop home.at bytes) ≡ take home.len (drop home.at o.base)
 
 -- ---- After an update in place
 

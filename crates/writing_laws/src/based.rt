@@ -1,7 +1,8 @@
-//! What is not marked stands in the base: of the beginnings of an object, and kept by every step. Each law is
-//! the contract of a function that does nothing.
+//! What is not marked stands in the base: of the beginnings of an object, kept by every step, and after an
+//! update. Each law is the contract of a function that does nothing.
 
-ghost use Rattle.writing_laws.specs.Based.{BeginningsAreBased, EveryStepKeepsBased};
+ghost use Rattle.elf_object.specs.Object.{Object};
+ghost use Rattle.writing_laws.specs.Based.{BeginningsAreBased, EveryStepKeepsBased, UpdatesKeepBased};
 
 use elf_xlate::{ehdr_both_ways, phdr_both_ways, shdr_both_ways};
 
@@ -19,4 +20,11 @@ pub fn beginnings_are_based()
 #[tactic(auto, using(crate::proofs::BasedSteps::every_step_keeps_based))]
 pub fn every_step_keeps_based()
     ensures { EveryStepKeepsBased }
+{}
+
+/// Where it is not refused, an update in place keeps that what is not marked stands in the base, and so does
+/// one that failed and left at each place the old byte or the image's.
+#[tactic(auto, using(crate::proofs::AfterLaws::updates_keep_based))]
+pub fn updates_keep_based()
+    ensures { (o : Object) → UpdatesKeepBased o }
 {}

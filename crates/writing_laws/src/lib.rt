@@ -3,3 +3,6 @@
 #![tactic(auto)]
 
 pub mod based;
+pub mod failed;
+pub mod in_place;
+pub mod plans;

@@ -1,0 +1,179 @@
+-- A small program and a small shared object, made of sections, on which the definitions are computed.
+use Rattle.std.specs.Prelude.{ℕ, List, [], ◌∷◌, ◌++◌, codes, true, false, Result, Ok, Err, pos}
+use Rattle.elf_types.specs.declared.records.Class.TheVariants.{C64}
+use Rattle.elf_types.specs.declared.records.Order.TheVariants.{Least}
+use Rattle.elf_types.specs.declared.records.Phdr.{Phdr}
+use Rattle.elf_types.specs.declared.records.Shdr.{Shdr}
+use Rattle.elf_types.specs.declared.records.Sym.{Sym}
+use Rattle.elf_types.specs.declared.errors.ElfError.{ElfError}
+use Rattle.elf_types.specs.declared.constants.TheConstants.{SHT_PROGBITS, SHT_SYMTAB, SHT_STRTAB, SHT_RELA, SHT_HASH, SHT_NOBITS, SHT_DYNSYM, SHT_GROUP, SHT_SYMTAB_SHNDX, SHT_GNU_HASH, SHT_GNU_VERSYM, SHF_ALLOC, PT_LOAD}
+use Rattle.elf_xlate.specs.declared.content.Items.{Items}
+use Rattle.elf_xlate.specs.declared.content.Items.TheVariants as items
+use Rattle.elf_ident.specs.Front.{zero_shdr}
+use Rattle.strtab_build.specs.Table.{table, place_of}
+use Rattle.elf_object.specs.Object.{Object, Section, new_section, no_phdr}
+use Rattle.elf_object.specs.Open.{created, new_ehdr}
+use Rattle.elf_object.specs.Samples.{object_in}
+use Rattle.command_objects.specs.Arranged.{Rebuilt}
+use Rattle.command_objects.specs.Rebuilt.{made_section, assembled, stripped}
+use Rattle.command_objects.specs.Copied.{Changes, copied}
+use Rattle.command_objects.specs.Split.{debug_half}
+use Rattle.command_objects.specs.Rehashed.{rehashed}
+use Rattle.command_objects.specs.Files.{file_of, file_made}
+use Rattle.command_objects.specs.Generated.{zero_sym}
+use Rattle.command_objects.specs.Samples.{bytes_or_none, made_or_none, no_changes}
+
+-- an object with these program headers and sections, written and opened again
+abbrev pub opened_again : List Phdr → List Section → ℕ → List ℕ
+opened_again phdrs sections index = bytes_or_none (file_of (assembled
+    (created C64 Least)
+    (record (created C64 Least) { header = record (new_ehdr C64 Least) { etype = 2 }; phdrs = phdrs })
+    index
+    (new_section ∷ sections)))
+
+-- ---- A program: code that is loaded, and debug data that is not
+
+abbrev pub program_names : List (List ℕ)
+program_names =
+    codes ".text" ∷ codes ".bss" ∷ codes ".debug" ∷ codes ".rela" ∷ codes ".note" ∷ codes ".tab" ∷ codes ".str" ∷ codes ".shstr" ∷ codes ".shndx" ∷ []
+
+abbrev pub program_header : List ℕ → ℕ → ℕ → ℕ → ℕ → Shdr
+program_header name stype flags link info = record zero_shdr {
+  name = place_of name program_names;
+  stype = stype;
+  flags = flags;
+  link = link;
+  info = info;
+}
+
+-- a symbol of a section, with another name for each section
+abbrev pub symbol_in : ℕ → ℕ → Sym
+symbol_in name shndx = record { name = name; info = 0x10; other = 0; shndx = shndx; value = 7; size = 0 }
+
+-- 1 .text and 2 .bss are allocated; 3 .debug, its relocations 4, 5 .note, 6 the symbol table with its names 7, 8 the
+-- names of the sections, 9 the extended indexes of the symbols
+abbrev pub program_sections : List Section
+program_sections =
+    made_section (program_header (codes ".text") SHT_PROGBITS SHF_ALLOC 0 0) (items.Bytes (1 ∷ 2 ∷ 3 ∷ 4 ∷ []))
+    ∷ made_section (record (program_header (codes ".bss") SHT_NOBITS SHF_ALLOC 0 0) { size = 16 }) (items.Bytes [])
+    ∷ made_section (program_header (codes ".debug") SHT_PROGBITS 0 0 0) (items.Bytes (5 ∷ 6 ∷ []))
+    ∷ made_section (program_header (codes ".rela") SHT_RELA 0 6 3) (items.Rela [])
+    ∷ made_section (program_header (codes ".note") SHT_PROGBITS 0 0 0) (items.Bytes (8 ∷ 9 ∷ 10 ∷ []))
+    ∷ made_section
+    (program_header (codes ".tab") SHT_SYMTAB 0 7 1)
+    (items.Sym (zero_sym ∷ symbol_in 1 1 ∷ symbol_in 1 3 ∷ symbol_in 1 5 ∷ symbol_in 1 0xffff ∷ symbol_in 1 0xffff ∷ symbol_in 1 0xfff1 ∷ []))
+    ∷ made_section (program_header (codes ".str") SHT_STRTAB 0 0 0) (items.Bytes (0 ∷ 0x61 ∷ 0 ∷ []))
+    ∷ made_section (program_header (codes ".shstr") SHT_STRTAB 0 0 0) (items.Bytes (table program_names))
+    ∷ made_section
+    (program_header (codes ".shndx") SHT_SYMTAB_SHNDX 0 6 0)
+    (items.Word (0 ∷ 0 ∷ 0 ∷ 0 ∷ 3 ∷ 5 ∷ 0 ∷ []))
+    ∷ []
+
+-- what is loaded: the headers, and .text at 120
+abbrev pub loaded_segment : Phdr
+loaded_segment = record no_phdr { ptype = PT_LOAD; offset = 0; filesz = 124; memsz = 140 }
+
+unfoldable pub program_file : List ℕ
+program_file = opened_again (loaded_segment ∷ []) program_sections 8
+
+abbrev pub a_program : Object
+a_program = object_in program_file
+
+-- the same program with .text, .bss and .note alone, and their names
+abbrev pub small_names : List (List ℕ)
+small_names = codes ".text" ∷ codes ".bss" ∷ codes ".note" ∷ []
+
+abbrev pub small_header : List ℕ → ℕ → ℕ → Shdr
+small_header name stype flags = record zero_shdr { name = place_of name small_names; stype = stype; flags = flags }
+
+unfoldable pub small_file : List ℕ
+small_file = opened_again
+    (loaded_segment ∷ [])
+    (made_section (small_header (codes ".text") SHT_PROGBITS SHF_ALLOC) (items.Bytes (1 ∷ 2 ∷ 3 ∷ 4 ∷ []))
+    ∷ made_section (record (small_header (codes ".bss") SHT_NOBITS SHF_ALLOC) { size = 16 }) (items.Bytes [])
+    ∷ made_section (small_header (codes ".note") SHT_PROGBITS 0) (items.Bytes (8 ∷ 9 ∷ 10 ∷ []))
+    ∷ made_section (small_header [] SHT_STRTAB 0) (items.Bytes (table small_names))
+    ∷ [])
+    4
+
+abbrev pub a_small_program : Object
+a_small_program = object_in small_file
+
+-- a relocatable file: the same sections, with a group of .text and .debug behind them
+abbrev pub group_section : Section
+group_section = made_section
+    (record zero_shdr { stype = SHT_GROUP; link = 6; info = 1 })
+    (items.Word (1 ∷ 1 ∷ 3 ∷ 5 ∷ 99 ∷ []))
+
+unfoldable pub grouped_file : List ℕ
+grouped_file = opened_again [] (program_sections ++ group_section ∷ []) 8
+
+abbrev pub a_grouped : Object
+a_grouped = object_in grouped_file
+
+-- ---- A shared object, whose hash sections are out of date
+
+abbrev pub dynamic_section : ℕ → ℕ → Items → Section
+dynamic_section stype link items = made_section (record zero_shdr { stype = stype; flags = SHF_ALLOC; link = link }) items
+
+abbrev pub dynamic_symbol : ℕ → ℕ → Sym
+dynamic_symbol name shndx = record { name = name; info = 0x12; other = 0; shndx = shndx; value = name; size = 0 }
+
+-- 1 the dynamic symbols b, u (undefined) and a; 2 their names; 3 their versions; 4 relocations; 5 and 6 hash sections of
+-- two buckets, with nothing in them
+unfoldable pub dynamic_file : List ℕ
+dynamic_file = opened_again
+    []
+    (dynamic_section SHT_DYNSYM 2 (items.Sym (zero_sym ∷ dynamic_symbol 1 1 ∷ dynamic_symbol 3 0 ∷ dynamic_symbol 5 1 ∷ []))
+    ∷ dynamic_section SHT_STRTAB 0 (items.Bytes (table (codes "b" ∷ codes "u" ∷ codes "a" ∷ [])))
+    ∷ dynamic_section SHT_GNU_VERSYM 1 (items.Half (0 ∷ 11 ∷ 12 ∷ 13 ∷ 14 ∷ []))
+    ∷ dynamic_section SHT_RELA 1 (items.Rela (record { offset = 0; sym = 1; rtype = 6; addend = pos 0 } ∷ record { offset = 8; sym = 9; rtype = 6; addend = pos 0 } ∷ []))
+    ∷ dynamic_section SHT_GNU_HASH 1 (items.Bytes (2 ∷ 0 ∷ 0 ∷ 0 ∷ 1 ∷ 0 ∷ 0 ∷ 0 ∷ 1 ∷ 0 ∷ 0 ∷ 0 ∷ 6 ∷ 0 ∷ 0 ∷ 0 ∷ []))
+    ∷ dynamic_section SHT_HASH 1 (items.Word (2 ∷ []))
+    ∷ [])
+    0
+
+abbrev pub a_shared_object : Object
+a_shared_object = object_in dynamic_file
+
+-- ---- What the commands make of them, opened again
+
+abbrev pub again : Result Rebuilt ElfError → Object
+again made = object_in (bytes_or_none (file_made made))
+
+abbrev pub stripped_program : Object
+stripped_program = again (stripped false [] a_program)
+
+abbrev pub debug_only_program : Object
+debug_only_program = again (stripped true [] a_program)
+
+abbrev pub debug_program : Object
+debug_program = object_in (bytes_or_none (file_of (debug_half a_program)))
+
+-- the halves of the small program: .note is only in the debug half
+abbrev pub small_stripped : Object
+small_stripped = again (stripped false (codes ".note" ∷ []) a_small_program)
+
+abbrev pub small_debug : Object
+small_debug = object_in (bytes_or_none (file_of (debug_half a_small_program)))
+
+-- changes of one kind
+abbrev pub updating : List ℕ → List ℕ → Changes
+updating name bytes = record no_changes { update = (name, bytes) ∷ [] }
+
+abbrev pub flagging : List ℕ → ℕ → Changes
+flagging name bits = record no_changes { flags = (name, bits) ∷ [] }
+
+-- .note gets the name .n, and .n other flags
+abbrev pub renaming : Changes
+renaming = record no_changes { rename = (codes ".note", codes ".n") ∷ []; flags = (codes ".n", 0x30) ∷ [] }
+
+abbrev pub or_no_object : {E : Type 0} → Result Object E → Object
+or_no_object (Ok o) = o
+or_no_object (Err e) = created C64 Least
+
+abbrev pub copied_again : Changes → Object → Object
+copied_again c o = object_in (made_or_none (copied c o))
+
+abbrev pub rehashed_again : Object
+rehashed_again = object_in (bytes_or_none (file_of (or_no_object (rehashed a_shared_object))))
