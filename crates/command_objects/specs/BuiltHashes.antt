@@ -1,4 +1,5 @@
--- The hash sections of a symbol table, built anew (gABI chapter 5, "Hash Table"; GNU's hash section).
+-- The hash sections of a symbol table, built anew (gABI chapter 5, "Hash Table"; GNU's hash
+-- section).
 use Rattle.std.specs.Prelude.{ℕ, ◌+◌, ◌-◌, ◌*◌, ◌/◌, ◌%◌, ◌^◌, Bool, true, false, not, ◌==◌, ◌&&◌, ◌||◌, nat_lt, nat_le, List, [], ◌∷◌, length, map, filter, slice_index_or, if◌then◌else◌, Option, Some, None, is_none, Result}
 use Rattle.std.specs.List.{range_with_len, list_any, sum, position}
 use Rattle.std.specs.Option.{option_map}
@@ -27,7 +28,8 @@ is_in bucket (Some b) = b == bucket
 
 -- the symbols in a bucket, ascending
 unfoldable pub in_bucket : List (Option ℕ) → ℕ → List ℕ
-in_bucket buckets bucket = filter (λ i. is_in bucket (slice_index_or buckets i None)) (range_with_len 0 (length buckets))
+in_bucket buckets bucket =
+    filter (λ i. is_in bucket (slice_index_or buckets i None)) (range_with_len 0 (length buckets))
 
 -- the first symbol of a bucket, or 0
 abbrev pub first_in : List (Option ℕ) → ℕ → ℕ
@@ -75,7 +77,8 @@ is_unsorted_after None next = false
 is_unsorted_after (Some bucket) None = true
 is_unsorted_after (Some bucket) (Some next) = nat_lt next bucket
 
--- the first symbol that is not listed after a listed one, or whose bucket is below its predecessor's
+-- the first symbol that is not listed after a listed one, or whose bucket is below its
+-- predecessor's
 unfoldable pub first_unsorted : List (Option ℕ) → Option ℕ
 first_unsorted buckets = first_of
     (λ i. is_unsorted_after (slice_index_or buckets (i - 1) None) (slice_index_or buckets i None))
@@ -95,7 +98,9 @@ sets_bit class shape word bit (Some hash) =
 -- a word of the bloom has just the bits of the listed symbols
 unfoldable pub bloom_word : Class → GnuShape → List (Option ℕ) → ℕ → ℕ
 bloom_word class shape hashes word = sum
-    (map (λ bit. if list_any (sets_bit class shape word bit) hashes then 2 ^ bit else 0) (range_with_len 0 (bloom_bits class)))
+    (map
+    (λ bit. if list_any (sets_bit class shape word bit) hashes then 2 ^ bit else 0)
+    (range_with_len 0 (bloom_bits class)))
 
 -- the last symbol of a chain: the next one has another bucket, or there is none
 abbrev pub ends_chain : List (Option ℕ) → ℕ → Bool
@@ -111,7 +116,8 @@ chain_word hashes buckets i =
 
 -- the first listed symbol, or the number of symbols
 unfoldable pub first_listed : List (Option (List ℕ)) → ℕ
-first_listed names = elim (position (λ name. not (is_none name)) names) [ None ↦ length names | Some i ↦ i ]
+first_listed names =
+    elim (position (λ name. not (is_none name)) names) [ None ↦ length names | Some i ↦ i ]
 
 unfoldable pub gnu_built : Class → GnuShape → List (Option (List ℕ)) → GnuHash
 gnu_built class shape names =
@@ -123,7 +129,8 @@ gnu_built class shape names =
       shift = shape.shift;
       bloom = map (bloom_word class shape hashes) (range_with_len 0 shape.bloom);
       buckets = map (first_in buckets) (range_with_len 0 shape.nbuckets);
-      chains = map (chain_word hashes buckets) (range_with_len symoffset (length names - symoffset));
+      chains =
+          map (chain_word hashes buckets) (range_with_len symoffset (length names - symoffset));
     }
 
 -- ---- The calls, on piece 0 of a symbol table
@@ -131,16 +138,22 @@ gnu_built class shape names =
 -- a section's words do not hold the number of the symbols
 unfoldable pub hash_refusal : Object → ℕ → Option ElfError
 hash_refusal o s =
-    first_refusal (lend_refusal o kinds.Sym s 0 ∷ refused_if (nat_le (2 ^ 32) (count_at o s 0)) TooMany ∷ [])
+    first_refusal
+    (lend_refusal o kinds.Sym s 0
+    ∷ refused_if (nat_le (2 ^ 32) (count_at o s 0)) TooMany
+    ∷ [])
 
 unfoldable pub build_sysv_answer : Object → ℕ → ℕ → Result (List ℕ) ElfError
-build_sysv_answer o s nbucket = answered (hash_refusal o s) (sysv_words (sysv_built nbucket (listed_names o s)))
+build_sysv_answer o s nbucket =
+    answered (hash_refusal o s) (sysv_words (sysv_built nbucket (listed_names o s)))
 
 unfoldable pub gnu_order_answer : Object → ℕ → ℕ → Result (List ℕ) ElfError
-gnu_order_answer o s nbuckets = answered (hash_refusal o s) (gnu_order_of nbuckets (listed_names o s))
+gnu_order_answer o s nbuckets =
+    answered (hash_refusal o s) (gnu_order_of nbuckets (listed_names o s))
 
 unfoldable pub unsorted : Object → ℕ → ℕ → Option ElfError
-unsorted o s nbuckets = option_map Unsorted (first_unsorted (buckets_of gnu_hash nbuckets (listed_names o s)))
+unsorted o s nbuckets =
+    option_map Unsorted (first_unsorted (buckets_of gnu_hash nbuckets (listed_names o s)))
 
 unfoldable pub build_gnu_answer : Object → ℕ → GnuShape → Result (List ℕ) ElfError
 build_gnu_answer o s shape = answered

@@ -1,4 +1,5 @@
--- copy: an image made anew with changes, in five kinds that come one after the other (objcopy(1) has the like of them).
+-- copy: an image made anew with changes, in five kinds that come one after the other (objcopy(1)
+-- has the like of them).
 use Rattle.std.specs.Prelude.{ℕ, Bool, true, false, not, ◌==◌, ◌&&◌, List, [], ◌∷◌, ◌++◌, length, drop, map, slice_set, slice_index_or, if◌then◌else◌, Option, Some, None, Result, Ok, Err}
 use Rattle.std.specs.List.{position, enumerate_from}
 use Rattle.elf_types.specs.Answers.{refused_if, first_refusal, answered, or_refused, ◌>>=◌}
@@ -13,7 +14,7 @@ use Rattle.elf_object.specs.Joined.{pieces_end}
 use Rattle.elf_object.specs.Layout.{section_numbers}
 use Rattle.elf_object.specs.Steps.{with_own, new_number}
 use Rattle.elf_object.specs.Calls.{newscn, newdata, update_shdr, replace}
-use Rattle.command_objects.specs.Words.{is_allocated, header_at, edited, in_turn}
+use Rattle.command_objects.specs.Words.{is_allocated, is_program, header_at, edited, in_turn}
 use Rattle.command_objects.specs.Strings.{section_name, is_name, or_empty_name}
 use Rattle.command_objects.specs.Removed.{removed_by_name}
 use Rattle.command_objects.specs.Arranged.{Rebuilt, arranged}
@@ -56,7 +57,7 @@ unfoldable pub update_fault : Object → ℕ → List ℕ → List ℕ → Optio
 update_fault o s name bytes = first_refusal
     (refused_if (not (occupies_file (header_at o s))) (NoBytes name)
     ∷ refused_if
-    (not (length o.phdrs == 0) && is_allocated (header_at o s) && not (length bytes == pieces_end o s))
+    (is_program o && is_allocated (header_at o s) && not (length bytes == pieces_end o s))
     (Allocated name)
     ∷ [])
 
@@ -69,8 +70,10 @@ with_bytes o change =
 
 -- ---- Other names, which are stored at the end
 
-unfoldable pub with_name : List (Option (List ℕ)) → List ℕ × List ℕ → Result (List (Option (List ℕ))) CopyFault
-with_name names change = section_named names change.0 >>= λ s. Ok (slice_set names s (Some change.1))
+unfoldable pub with_name :
+    List (Option (List ℕ)) → List ℕ × List ℕ → Result (List (Option (List ℕ))) CopyFault
+with_name names change =
+    section_named names change.0 >>= λ s. Ok (slice_set names s (Some change.1))
 
 -- ---- Other flags
 
@@ -78,17 +81,21 @@ abbrev pub differ : Bool → Bool → Bool
 differ true b = not b
 differ false b = b
 
+abbrev pub with_bits : ℕ → Shdr → Shdr
+with_bits bits h = record h { flags = bits }
+
 -- a program's sections stay allocated or not
 abbrev pub flags_fault : Object → ℕ → List ℕ → ℕ → Option CopyFault
 flags_fault o s name bits = refused_if
-    (not (length o.phdrs == 0) && differ (is_allocated (header_at o s)) (is_allocated (record (header_at o s) { flags = bits })))
+    (is_program o && differ (is_allocated (header_at o s)) (is_allocated (with_bits bits (header_at o s))))
     (Fixed name)
 
-unfoldable pub with_section_flags : List (Option (List ℕ)) → Object → List ℕ × ℕ → Result Object CopyFault
+unfoldable pub with_section_flags :
+    List (Option (List ℕ)) → Object → List ℕ × ℕ → Result Object CopyFault
 with_section_flags names o change =
     section_named names change.0 >>= λ s.
     answered (flags_fault o s change.0 change.1) s >>= λ s.
-    or_strip (edited (update_shdr s (record (header_at o s) { flags = change.1 })) o)
+    or_strip (edited (update_shdr s (with_bits change.1 (header_at o s))) o)
 
 -- ---- New sections
 
@@ -106,15 +113,17 @@ with_added o change =
 -- ---- The table of the names, written anew
 
 -- a section's header with the place of its name
-abbrev pub named_section : List (List ℕ) → ℕ → List ℕ → Section → Section
-named_section names s name c =
+abbrev pub named_section : List (List ℕ) → ℕ → Section → Section
+named_section names s c =
+    let name = slice_index_or ([] ∷ names) s [] in
     if s == 0 then c else record c { header = record c.header { name = place_of name names } }
 
 -- each section's name in the table, and the table in the section of the names
 unfoldable pub with_names : Object → List (List ℕ) → Object
 with_names o names = with_own
     (record o {
-      sections = map (λ row. named_section names row.0 (slice_index_or ([] ∷ names) row.0 []) row.1) (enumerate_from 0 o.sections);
+      sections =
+          map (λ row. named_section names row.0 row.1) (enumerate_from 0 o.sections);
     })
     o.header.shstrndx
     0
@@ -138,7 +147,9 @@ with_changes c renewed o =
     in_turn with_name (names_in updated) c.rename >>= λ names.
     in_turn (with_section_flags names) updated c.flags >>= λ flagged.
     in_turn with_added flagged c.add >>= λ added.
-    if changes_names c then named renewed added (names ++ map (λ change. Some change.0) c.add) else Ok added
+    if changes_names c
+    then named renewed added (names ++ map (λ change. Some change.0) c.add)
+    else Ok added
 
 -- what copy makes of an object
 unfoldable pub copied : Changes → Object → Result Rebuilt CopyFault

@@ -1,6 +1,7 @@
--- The map from old section numbers to new ones, and what follows it: links, symbols, extended indexes and group members
--- (gABI chapter 4, "Sections", sh_link and sh_info; "Symbol Table", st_shndx; SHT_SYMTAB_SHNDX; SHT_GROUP). A number is
--- a section's where it is neither 0 nor as great as the number of sections; every other number stays.
+-- The map from old section numbers to new ones, and what follows it: links, symbols, extended
+-- indexes and group members (gABI chapter 4, "Sections", sh_link and sh_info; "Symbol Table",
+-- st_shndx; SHT_SYMTAB_SHNDX; SHT_GROUP). A number is a section's where it is neither 0 nor as
+-- great as the number of sections; every other number stays.
 use Rattle.std.specs.Prelude.{ℕ, Bool, false, not, ◌==◌, ◌&&◌, nat_lt, nat_eq, List, [], ◌∷◌, ◌++◌, length, take, drop, map, filter, slice_get, if◌then◌else◌, Option, Some, None}
 use Rattle.std.specs.List.{position, enumerate_from, flat_map, range_with_len}
 use Rattle.elf_types.specs.declared.records.Kind.TheVariants as kinds
@@ -17,7 +18,8 @@ use Rattle.command_objects.specs.Words.{is_loose, info_is_section, header_at, is
 
 -- the old numbers of the sections that are kept, in their order: each stands at its new number
 unfoldable pub kept_sections : Object → List ℕ → List ℕ
-kept_sections o removed = filter (λ s. not (is_among removed s)) (range_with_len 0 (length o.sections))
+kept_sections o removed =
+    filter (λ s. not (is_among removed s)) (range_with_len 0 (length o.sections))
 
 -- the old numbers of the sections from 1 on that are kept
 unfoldable pub kept_from_1 : Object → List ℕ → List ℕ
@@ -46,13 +48,18 @@ followed m n = if is_section_number m n then number_or_0 (renumbered m n) else n
 -- sh_link, and sh_info where it is a section's number
 unfoldable pub followed_header : Renumbering → Shdr → Shdr
 followed_header m h =
-    record h { link = followed m h.link; info = if info_is_section h then followed m h.info else h.info }
+    record h {
+      link = followed m h.link;
+      info = if info_is_section h then followed m h.info else h.info;
+    }
 
 -- ---- Group members
 
 abbrev pub followed_member : Renumbering → ℕ → List ℕ
 followed_member m n =
-    if is_section_number m n then (elim (renumbered m n) [ None ↦ [] | Some new ↦ new ∷ [] ]) else n ∷ []
+    if is_section_number m n
+    then (elim (renumbered m n) [ None ↦ [] | Some new ↦ new ∷ [] ])
+    else n ∷ []
 
 -- the words of a group: its flags, and then its members
 unfoldable pub followed_group : Renumbering → List ℕ → List ℕ
@@ -68,7 +75,10 @@ without_section x = record x { shndx = 0; value = 0 }
 unfoldable pub followed_sym : Renumbering → Sym → Sym
 followed_sym m x =
     if nat_lt x.shndx SHN_LORESERVE && is_section_number m x.shndx
-    then (elim (renumbered m x.shndx) [ None ↦ without_section x | Some new ↦ record x { shndx = new } ])
+    then (elim (renumbered m x.shndx) [
+      | None ↦ without_section x
+      | Some new ↦ record x { shndx = new }
+    ])
     else x
 
 -- a symbol whose section's number is a word of a table of extended indexes
@@ -97,7 +107,8 @@ followed_by_word m (Some word) x =
 
 -- symbols, with the words of their extended indexes, of which there may be fewer or none
 unfoldable pub followed_syms : Renumbering → List ℕ → List Sym → List Sym
-followed_syms m words syms = map (λ row. followed_by_word m (slice_get words row.0) row.1) (enumerate_from 0 syms)
+followed_syms m words syms =
+    map (λ row. followed_by_word m (slice_get words row.0) row.1) (enumerate_from 0 syms)
 
 abbrev pub word_of_sym : Renumbering → ℕ → Option Sym → ℕ
 word_of_sym m word None = word
@@ -105,7 +116,8 @@ word_of_sym m word (Some x) = if word_counts m x (Some word) then followed_word 
 
 -- those words, with the symbols
 unfoldable pub followed_words : Renumbering → List Sym → List ℕ → List ℕ
-followed_words m syms words = map (λ row. word_of_sym m row.1 (slice_get syms row.0)) (enumerate_from 0 words)
+followed_words m syms words =
+    map (λ row. word_of_sym m row.1 (slice_get syms row.0)) (enumerate_from 0 words)
 
 -- ---- Which sections have items that follow
 
@@ -117,10 +129,14 @@ symbols_follow o s = is_loose SHT_SYMTAB kinds.Sym (header_at o s)
 unfoldable pub members_follow : Object → ℕ → Bool
 members_follow o s = is_loose SHT_GROUP kinds.Word (header_at o s)
 
+-- extended indexes of the symbols of a table
+abbrev pub has_indexes_of : ℕ → Shdr → Bool
+has_indexes_of table h = is_loose SHT_SYMTAB_SHNDX kinds.Word h && h.link == table
+
 -- the extended indexes of such a symbol table: the first such section that is kept and links to it
 unfoldable pub extended_table : Object → List ℕ → ℕ → Option ℕ
 extended_table o removed table =
-    first_of (λ s. is_loose SHT_SYMTAB_SHNDX kinds.Word (header_at o s) && (header_at o s).link == table) (kept_from_1 o removed)
+    first_of (λ s. has_indexes_of table (header_at o s)) (kept_from_1 o removed)
 
 abbrev pub is_the : ℕ → Option ℕ → Bool
 is_the n None = false
@@ -129,11 +145,14 @@ is_the n (Some m) = n == m
 unfoldable pub indexes_follow : Object → List ℕ → ℕ → Bool
 indexes_follow o removed s =
     let table = (header_at o s).link in
-    is_among (kept_from_1 o removed) table && symbols_follow o table && is_the s (extended_table o removed table)
+    is_among (kept_from_1 o removed) table
+    && symbols_follow o table
+    && is_the s (extended_table o removed table)
 
 -- the words that a symbol table has for its extended indexes
 unfoldable pub words_for : Object → List ℕ → ℕ → List ℕ
-words_for o removed table = elim (extended_table o removed table) [ None ↦ [] | Some s ↦ words_of (items_at o s 0) ]
+words_for o removed table =
+    elim (extended_table o removed table) [ None ↦ [] | Some s ↦ words_of (items_at o s 0) ]
 
 abbrev pub syms_in : Object → ℕ → List Sym
 syms_in o s = syms_of (items_at o s 0)

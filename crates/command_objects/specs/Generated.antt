@@ -31,7 +31,8 @@ from_1_to n = range_with_len 1 n
 
 unfoldable pub generated_section_names : ℕ → List (List ℕ)
 generated_section_names n =
-    map (numbered_name (codes ".s")) (from_1_to n) ++ codes ".symtab" ∷ codes ".strtab" ∷ codes ".shstrtab" ∷ []
+    map (numbered_name (codes ".s")) (from_1_to n)
+    ++ codes ".symtab" ∷ codes ".strtab" ∷ codes ".shstrtab" ∷ []
 
 unfoldable pub generated_symbol_names : ℕ → List (List ℕ)
 generated_symbol_names n = map (numbered_name (codes "y")) (from_1_to n)
@@ -69,12 +70,19 @@ generated_sym n i = record {
 -- the symbol table, section n + 1
 unfoldable pub generated_symtab : ℕ → Section
 generated_symtab n = made_section
-    (record (generated_header n (codes ".symtab") SHT_SYMTAB) { link = n + 2; info = 1; addralign = 8; entsize = 24 })
+    (record (generated_header n (codes ".symtab") SHT_SYMTAB) {
+      link = n + 2;
+      info = 1;
+      addralign = 8;
+      entsize = 24;
+    })
     (items.Sym (zero_sym ∷ map (generated_sym n) (from_1_to n)))
 
--- a table of strings: of the symbols' names, section n + 2, and of the sections' names, section n + 3
+-- a table of strings: of the symbols' names, section n + 2, and of the sections' names, section
+-- n + 3
 unfoldable pub generated_strtab : ℕ → List ℕ → List (List ℕ) → Section
-generated_strtab n name strings = made_section (generated_header n name SHT_STRTAB) (items.Bytes (table strings))
+generated_strtab n name strings =
+    made_section (generated_header n name SHT_STRTAB) (items.Bytes (table strings))
 
 unfoldable pub generated_sections : ℕ → List Section
 generated_sections n =
@@ -108,10 +116,14 @@ found_text _ = codes "none"
 unfoldable pub symbols_in : Object → ℕ → List Sym
 symbols_in o n = syms_of (items_at o (n + 1) 0)
 
+-- a lookup of the last symbol's name
+abbrev pub last_found : ℕ → Object → Result (Option ℕ) ElfError
+last_found n o = find_linear_answer o (n + 1) (numbered_name (codes "y") n)
+
 unfoldable pub five_lines : ℕ → Object → List ℕ
 five_lines n o =
     line_of (codes "sections") (decimal (length o.sections))
     ++ line_of (codes "symbols") (decimal (length (symbols_in o n)))
     ++ line_of (codes "bytes") (decimal (length o.base))
     ++ line_of (codes "value sum") (decimal (sum (map (λ x. x.value) (symbols_in o n))))
-    ++ line_of (codes "found") (found_text (find_linear_answer o (n + 1) (numbered_name (codes "y") n)))
+    ++ line_of (codes "found") (found_text (last_found n o))

@@ -1,5 +1,6 @@
--- Hash sections, and when one is whole: each listed symbol is found by its name, and every chain ends (gABI chapter 5,
--- "Hash Table"; GNU's hash section). The names are those of a symbol table, each where its symbol is listed.
+-- Hash sections, and when one is whole: each listed symbol is found by its name, and every chain
+-- ends (gABI chapter 5, "Hash Table"; GNU's hash section). The names are those of a symbol
+-- table, each where its symbol is listed.
 use Rattle.std.specs.Prelude.{ℕ, zero, suc, ◌+◌, ◌-◌, ◌*◌, ◌/◌, ◌%◌, ◌^◌, Bool, true, false, not, ◌==◌, ◌&&◌, nat_lt, nat_le, List, [], ◌∷◌, ◌++◌, length, take, drop, map, slice_get, slice_index_or, if◌then◌else◌, Option, Some, None}
 use Rattle.std.specs.List.{range_with_len, enumerate_from, list_all, list_any, flat_map}
 use Rattle.std.specs.Option.{option_map}
@@ -13,7 +14,9 @@ use Rattle.command_objects.specs.Words.{is_among}
 -- each name is that of a symbol that is not listed, or passes
 abbrev pub each_listed : (ℕ → List ℕ → Bool) → List (Option (List ℕ)) → Bool
 each_listed test names =
-    list_all (λ row. elim (row.1) [ None ↦ true | Some name ↦ test row.0 name ]) (enumerate_from 0 names)
+    list_all
+    (λ row. elim (row.1) [ None ↦ true | Some name ↦ test row.0 name ])
+    (enumerate_from 0 names)
 
 -- ---- SHT_HASH
 
@@ -31,7 +34,8 @@ sysv_in words =
     let nbucket = slice_index_or words 0 0 in
     record { buckets = take nbucket (drop 2 words); chains = drop (2 + nbucket) words }
 
--- the indexes on a chain from a symbol on, up to 0; none where it has not ended after so many, or leaves the table
+-- the indexes on a chain from a symbol on, up to 0; none where it has not ended after so many,
+-- or leaves the table
 unfoldable pub sysv_chain : List ℕ → ℕ → ℕ → Option (List ℕ)
 sysv_chain chains n zero = Some []
 sysv_chain chains zero (suc i) = None
@@ -53,8 +57,8 @@ unfoldable pub sysv_chain_of : SysvHash → ℕ → Option (List ℕ)
 sysv_chain_of h hash =
     sysv_chain h.chains (length h.chains) (slice_index_or h.buckets (hash % length h.buckets) 0)
 
--- as many words as it says, as many chain entries as there are symbols, and chains with an end, on which are the
--- listed symbols
+-- as many words as it says, as many chain entries as there are symbols, and chains with an end,
+-- on which are the listed symbols
 unfoldable pub is_whole_sysv : List ℕ → List (Option (List ℕ)) → Bool
 is_whole_sysv words names =
     let h = sysv_in words in
@@ -67,8 +71,8 @@ is_whole_sysv words names =
 
 -- ---- GNU's hash section
 
--- its parts: the first symbol that it knows, the shift of the bloom's second bit, the bloom's words, the buckets, and a
--- chain word for each symbol from the first one on
+-- its parts: the first symbol that it knows, the shift of the bloom's second bit, the bloom's
+-- words, the buckets, and a chain word for each symbol from the first one on
 pub record GnuHash : Type 0 where
   pub symoffset : ℕ
   pub shift : ℕ
@@ -135,14 +139,15 @@ passes class h hash =
 
 -- the chain word of a symbol that is there
 abbrev pub gnu_word : GnuHash → ℕ → ℕ → Option ℕ
-gnu_word h count i = if nat_le h.symoffset i && nat_lt i count then slice_get h.chains (i - h.symoffset) else None
+gnu_word h count i =
+    if nat_le h.symoffset i && nat_lt i count then slice_get h.chains (i - h.symoffset) else None
 
 -- a chain word ends its chain where its low bit is set
 abbrev pub is_end : ℕ → Bool
 is_end word = word % 2 == 1
 
--- the symbols on a chain from one on, with their chain words, up to the end mark; none where it has not ended after so
--- many, or leaves the table
+-- the symbols on a chain from one on, with their chain words, up to the end mark; none where it
+-- has not ended after so many, or leaves the table
 unfoldable pub gnu_chain : GnuHash → ℕ → ℕ → ℕ → Option (List (ℕ × ℕ))
 gnu_chain h count zero i = None
 gnu_chain h count (suc n) i = elim (gnu_word h count i) [
@@ -166,10 +171,11 @@ is_on_with i hash (Some chain) = list_any (λ row. row.0 == i && row.1 / 2 == ha
 unfoldable pub is_found_gnu : Class → GnuHash → ℕ → ℕ → List ℕ → Bool
 is_found_gnu class h count i name =
     let hash = gnu_hash name in
-    passes class h hash
-    && is_on_with i hash (gnu_chain_from h count (slice_index_or h.buckets (hash % length h.buckets) 0))
+    let first = slice_index_or h.buckets (hash % length h.buckets) 0 in
+    passes class h hash && is_on_with i hash (gnu_chain_from h count first)
 
--- bloom and buckets lie in the section, the chains have an end, and the listed symbols pass the bloom and are on them
+-- bloom and buckets lie in the section, the chains have an end, and the listed symbols pass the
+-- bloom and are on them
 unfoldable pub is_whole_gnu : Class → Order → List ℕ → List (Option (List ℕ)) → Bool
 is_whole_gnu class order bytes names =
     let h = gnu_in class order bytes in

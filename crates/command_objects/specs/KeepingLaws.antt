@@ -1,6 +1,6 @@
--- What copy keeps, and that what was split combines again, as laws over the definitions. They are stated here, and not
--- proved yet.
-use Rattle.std.specs.Prelude.{◌≡◌, ◌≢◌, ℕ, ◌+◌, ◌<◌, ◌≤◌, Bool, true, false, not, ◌==◌, List, [], ◌∷◌, ◌++◌, length, slice_get, Option, Some, None, Result, Ok, Err}
+-- What copy keeps, and that what was split combines again, as laws over the definitions. They
+-- are stated here, and not proved yet.
+use Rattle.std.specs.Prelude.{◌≡◌, ◌≢◌, ℕ, ◌+◌, ◌<◌, ◌≤◌, Bool, true, false, List, [], ◌∷◌, ◌++◌, length, slice_get, Option, Some, None, Result, Ok, Err}
 use Rattle.std.specs.List.{flat_map}
 use Rattle.elf_types.specs.declared.records.Ehdr.{Ehdr}
 use Rattle.elf_types.specs.declared.records.Shdr.{Shdr}
@@ -11,7 +11,7 @@ use Rattle.elf_object.specs.Object.{Object, Section, section_at}
 use Rattle.elf_object.specs.Open.{opened}
 use Rattle.elf_object.specs.Refusal.{refusal}
 use Rattle.elf_object.specs.Valid.{AreBytes}
-use Rattle.command_objects.specs.Words.{is_allocated, header_at, is_among, in_turn}
+use Rattle.command_objects.specs.Words.{is_allocated, is_program, header_at, is_among, in_turn}
 use Rattle.command_objects.specs.Strings.{section_name, or_empty_name}
 use Rattle.command_objects.specs.Removed.{removed_sections, removed_by_name}
 use Rattle.command_objects.specs.Arranged.{Rebuilt}
@@ -54,7 +54,8 @@ chosen_for_names names (change ∷ later) =
 
 -- those that new flags choose, by the new names
 abbrev pub chosen_for_flags : List (Option (List ℕ)) → List (List ℕ × ℕ) → List ℕ
-chosen_for_flags names changes = flat_map (λ change. or_nowhere (section_named names change.0)) changes
+chosen_for_flags names changes =
+    flat_map (λ change. or_nowhere (section_named names change.0)) changes
 
 abbrev pub or_old : {A : Type 0} → A → Result A CopyFault → A
 or_old old (Ok new) = new
@@ -65,47 +66,68 @@ unfoldable pub chosen : Changes → Object → List ℕ
 chosen c o =
     let updated = or_old o (in_turn with_bytes o c.update) in
     let names = or_old (names_in updated) (in_turn with_name (names_in updated) c.rename) in
-    chosen_for_bytes o c.update ++ (chosen_for_names (names_in updated) c.rename ++ chosen_for_flags names c.flags)
+    chosen_for_bytes o c.update
+    ++ (chosen_for_names (names_in updated) c.rename ++ chosen_for_flags names c.flags)
 
 -- a header but for sh_name and sh_offset
 abbrev pub without_places : Shdr → Shdr
 without_places h = record h { name = 0; offset = 0 }
 
--- a section from 1 on that stays: it is not the table of the names, and no option chooses it
-pub record IsLeft (c : Changes) (before : Object) (made : Object) (s : ℕ) : Type 0 where
-  pub from_1 : 1 ≤ s
-  pub there : s < length before.sections
-  pub no_table : s ≢ before.header.shstrndx
-  pub not_chosen : is_among (chosen c made) s ≡ false
-
 -- the object that the changes after the first kind begin with
 abbrev pub rebuilt_for : Changes → Object → Result Rebuilt ElfError
 rebuilt_for c before = rebuilt before (removed_by_name c.remove before)
 
--- a name that is kept; where the table of the names is made anew, one that is none becomes the empty one
+-- without -R, a section from 1 on that stays: it is not the table of the names, and no option chooses
+-- it
+pub record IsLeft (c : Changes) (before : Object) (r : Rebuilt) (s : ℕ) : Type 0 where
+  pub none_removed : c.remove ≡ []
+  pub rebuilt : rebuilt_for c before ≡ Ok r
+  pub from_1 : 1 ≤ s
+  pub there : s < length before.sections
+  pub no_table : s ≢ before.header.shstrndx
+  pub not_chosen : is_among (chosen c r.object) s ≡ false
+
+-- a name that is kept; where the table of the names is made anew, one that is none becomes the
+-- empty one
 abbrev pub kept_name : Bool → Option (List ℕ) → Option (List ℕ)
 kept_name true name = Some (or_empty_name name)
 kept_name false name = name
 
--- without -R such a section keeps its number, its header but for sh_name and sh_offset, and its bytes; and its name
--- where no new bytes were given to the table of the names
+-- without -R such a section keeps its number, its header but for sh_name and sh_offset, and its
+-- bytes; and its name where no new bytes were given to the table of the names
 pub record SectionsAreKept (c : Changes) (before after : Object) : Type 0 where
-  pub header : c.remove ≡ [] → (r : Rebuilt) → rebuilt_for c before ≡ Ok r → (s : ℕ) → IsLeft c before r.object s
+  pub header : (r : Rebuilt) (s : ℕ) → IsLeft c before r s
       → without_places (header_at after s) ≡ without_places (header_at before s)
-  pub bytes : c.remove ≡ [] → (r : Rebuilt) → rebuilt_for c before ≡ Ok r → (s : ℕ) → IsLeft c before r.object s
+  pub bytes : (r : Rebuilt) (s : ℕ) → IsLeft c before r s
       → (section_at after s).raw ≡ (section_at before s).raw
-  pub name : c.remove ≡ [] → (r : Rebuilt) → rebuilt_for c before ≡ Ok r → (s : ℕ) → IsLeft c before r.object s
+  pub name : (r : Rebuilt) (s : ℕ) → IsLeft c before r s
       → is_among (chosen_for_bytes r.object c.update) before.header.shstrndx ≡ false
       → section_name after s ≡ kept_name (renews_names before []) (section_name before s)
 
--- a section that is given bytes has those of the last change that chooses it, and a new section has its own
+-- the last change of bytes that chooses a section
+pub record IsLastUpdate (c : Changes) (before : Object) (r : Rebuilt) (s : ℕ) (bytes : List ℕ) : Type 0 where
+  pub rebuilt : rebuilt_for c before ≡ Ok r
+  pub earlier : List (List ℕ × List ℕ)
+  pub later : List (List ℕ × List ℕ)
+  pub name : List ℕ
+  pub change : c.update ≡ earlier ++ (name, bytes) ∷ later
+  pub old : Object
+  pub is_old : in_turn with_bytes r.object earlier ≡ Ok old
+  pub chooses : section_named (names_in old) name ≡ Ok s
+  pub new : Object
+  pub is_new : with_bytes old (name, bytes) ≡ Ok new
+  pub last : is_among (chosen_for_bytes new later) s ≡ false
+
+-- a section that is given bytes has those of the last change that chooses it, and a new section
+-- has its own
 pub record BytesAreGiven (c : Changes) (before after : Object) : Type 0 where
-  pub updated : (r : Rebuilt) → rebuilt_for c before ≡ Ok r → (earlier later : List (List ℕ × List ℕ)) (name bytes : List ℕ)
-      → c.update ≡ earlier ++ (name, bytes) ∷ later → (o new : Object) → in_turn with_bytes r.object earlier ≡ Ok o
-      → (s : ℕ) → section_named (names_in o) name ≡ Ok s → with_bytes o (name, bytes) ≡ Ok new
-      → is_among (chosen_for_bytes new later) s ≡ false → s ≢ r.object.header.shstrndx → (section_at after s).raw ≡ bytes
-  pub added : (r : Rebuilt) → rebuilt_for c before ≡ Ok r → (i : ℕ) (name bytes : List ℕ)
-      → slice_get c.add i ≡ Some (name, bytes) → (section_at after (length r.object.sections + i)).raw ≡ bytes
+  pub updated :
+      (r : Rebuilt) (s : ℕ) (bytes : List ℕ) → IsLastUpdate c before r s bytes
+      → s ≢ r.object.header.shstrndx → (section_at after s).raw ≡ bytes
+  pub added :
+      (r : Rebuilt) (i : ℕ) (name bytes : List ℕ) → rebuilt_for c before ≡ Ok r
+      → slice_get c.add i ≡ Some (name, bytes)
+      → (section_at after (length r.object.sections + i)).raw ≡ bytes
 
 abbrev pub CopyLaw : Type 0
 CopyLaw =
@@ -115,14 +137,14 @@ CopyLaw =
 -- ---- Split and combine
 
 -- an image and its two halves, as they are opened again
-pub record IsSplit (debug_only : Bool) (names : List (List ℕ)) (whole stripped debug : Object) : Type 0 where
+pub record IsSplit (removed : List ℕ) (whole stripped debug : Object) : Type 0 where
   pub image : List ℕ
   pub bytes : AreBytes image
   pub is_whole : opened image ≡ Ok whole
   pub first : record (header_at whole 0) { size = 0; link = 0; info = 0 } ≡ zero_shdr
-  pub allocated_stay : removed_allocated whole (removed_sections debug_only names whole) ≡ None
+  pub allocated_stay : removed_allocated whole removed ≡ None
   pub made : Rebuilt
-  pub is_made : rebuilt whole (removed_sections debug_only names whole) ≡ Ok made
+  pub is_made : rebuilt whole removed ≡ Ok made
   pub half : Object
   pub is_half : debug_of whole ≡ Ok half
   pub out : List ℕ
@@ -159,16 +181,22 @@ pub record SameButPlaces (a b : Object) : Type 0 where
   pub phdrs : a.phdrs ≡ b.phdrs
   pub count : length a.sections ≡ length b.sections
   pub first : record (header_at b 0) { size = 0; link = 0; info = 0 } ≡ zero_shdr
-  pub sections : (s : ℕ) → 1 ≤ s → s < length a.sections → SameSection (not (length a.phdrs == 0)) (section_at a s) (section_at b s)
+  pub sections :
+      (s : ℕ) → 1 ≤ s → s < length a.sections
+      → SameSection (is_program a) (section_at a s) (section_at b s)
 
 -- no refusal but that of a place that is too large; and else the same object but for places
 pub record CombinesAgain (whole stripped debug : Object) : Type 0 where
-  pub refused : (fault : UnstripFault) → unstripped stripped debug ≡ Err fault → fault ≡ Elf TooLarge
-  pub updated : (r : Rebuilt) (e : ElfError) → unstripped stripped debug ≡ Ok r → refusal r.object ≡ Some e → e ≡ TooLarge
+  pub refused :
+      (fault : UnstripFault) → unstripped stripped debug ≡ Err fault → fault ≡ Elf TooLarge
+  pub updated :
+      (r : Rebuilt) (e : ElfError) → unstripped stripped debug ≡ Ok r → refusal r.object ≡ Some e
+      → e ≡ TooLarge
   pub same : (r : Rebuilt) (out : List ℕ) (o : Object) → unstripped stripped debug ≡ Ok r → file_of r.object ≡ Ok out
       → opened out ≡ Ok o → SameButPlaces whole o
 
 abbrev pub SplitLaw : Type 0
 SplitLaw =
     (debug_only : Bool) (names : List (List ℕ)) (whole stripped debug : Object)
-    → IsSplit debug_only names whole stripped debug → CombinesAgain whole stripped debug
+    → IsSplit (removed_sections debug_only names whole) whole stripped debug
+    → CombinesAgain whole stripped debug

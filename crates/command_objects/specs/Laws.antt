@@ -1,4 +1,5 @@
--- What strip and rehash keep, as laws over the definitions. They are stated here, and not proved yet.
+-- What strip and rehash keep, as laws over the definitions. They are stated here, and not proved
+-- yet.
 use Rattle.std.specs.Prelude.{◌≡◌, ℕ, ◌+◌, ◌<◌, ◌≤◌, ◌^◌, Bool, true, false, ◌&&◌, nat_le, nat_lt, List, [], ◌∷◌, length, slice_get, slice_index, All, Option, Some, None, Result, Ok, Err}
 use Rattle.std.proofs.Math.ListN.{replicate}
 use Rattle.std.specs.List.{list_any}
@@ -44,16 +45,23 @@ pub record AreChanges (c : Changes) : Type 0 where
   pub add : All (λ change. AreBytes change.0 × AreBytes change.1) c.add
 
 pub record MadeAreObjects : Type 0 where
-  pub rebuilt : (o : Object) (removed : List ℕ) (r : Rebuilt) → IsOpened o → rebuilt o removed ≡ Ok r → IsObject r.object
-  pub copied : (o : Object) (c : Changes) (r : Rebuilt) → IsOpened o → AreChanges c → copied c o ≡ Ok r → IsObject r.object
+  pub rebuilt :
+      (o : Object) (removed : List ℕ) (r : Rebuilt) → IsOpened o → rebuilt o removed ≡ Ok r
+      → IsObject r.object
+  pub copied :
+      (o : Object) (c : Changes) (r : Rebuilt) → IsOpened o → AreChanges c → copied c o ≡ Ok r
+      → IsObject r.object
   pub rehashed : (o p : Object) → IsOpened o → rehashed o ≡ Ok p → IsObject p
   pub debug : (o p : Object) → IsOpened o → debug_of o ≡ Ok p → IsObject p
-  pub combined : (o d : Object) (r : Rebuilt) → IsOpened o → IsOpened d → unstripped o d ≡ Ok r → IsObject r.object
+  pub combined :
+      (o d : Object) (r : Rebuilt) → IsOpened o → IsOpened d → unstripped o d ≡ Ok r
+      → IsObject r.object
   pub generated : (n : ℕ) → 1 ≤ n → n ≤ 60000 → IsObject (generated n)
 
 -- ---- Loadable bytes stay
 
--- a header as linkers write it: nothing in bytes 9 to 15, the sizes of its class, and each count in its own field
+-- a header as linkers write it: nothing in bytes 9 to 15, the sizes of its class, and each count
+-- in its own field
 pub record IsUsual (f : Front) : Type 0 where
   pub pad : f.pad ≡ replicate 7 0
   pub ehsize : f.ehdr.ehsize ≡ ehdr_size f.ehdr.class
@@ -68,7 +76,8 @@ unfoldable pub changing_fields : List Field
 changing_fields = field (32, 4) (40, 8) ∷ field (48, 2) (60, 2) ∷ field (50, 2) (62, 2) ∷ []
 
 abbrev pub is_in_field : Class → ℕ → Field → Bool
-is_in_field class k f = nat_le (place_in class f).0 k && nat_lt k ((place_in class f).0 + (place_in class f).1)
+is_in_field class k f =
+    nat_le (place_in class f).0 k && nat_lt k ((place_in class f).0 + (place_in class f).1)
 
 unfoldable pub may_change : Class → ℕ → Bool
 may_change class k = list_any (is_in_field class k) changing_fields
@@ -85,16 +94,26 @@ pub record IsLoaded (phdrs : List Phdr) (k : ℕ) : Type 0 where
 -- each byte that is loaded is the same in what strip writes
 abbrev pub LoadableBytesStay : Type 0
 LoadableBytesStay =
-    (image : List ℕ) (f : Front) (debug_only : Bool) (names : List (List ℕ)) (out : List ℕ) → AreBytes image
-    → front image ≡ Ok f → IsUsual f → file_made (stripped debug_only names (begun f image)) ≡ Ok out
+    (image : List ℕ) (f : Front) (debug_only : Bool) (names : List (List ℕ)) (out : List ℕ)
+    → AreBytes image → front image ≡ Ok f → IsUsual f
+    → file_made (stripped debug_only names (begun f image)) ≡ Ok out
     → (k : ℕ) → IsLoaded f.phdrs k → k < length image → may_change f.ehdr.class k ≡ false
     → (k < length out) × (slice_index out k ≡ slice_index image k)
 
 -- ---- Hash sections
 
+-- a shape that a section can have
+pub record IsShape (shape : GnuShape) : Type 0 where
+  pub some_buckets : 0 < shape.nbuckets
+  pub nbuckets : shape.nbuckets < 2 ^ 32
+  pub some_bloom : 0 < shape.bloom
+  pub bloom : shape.bloom < 2 ^ 32
+  pub shift : shape.shift < 32
+
 -- those that are built are whole
 pub record BuiltHashesAreWhole : Type 0 where
-  pub sysv : (o : Object) (s nbucket : ℕ) (words : List ℕ) → 0 < nbucket → nbucket < 2 ^ 32
+  pub sysv :
+      (o : Object) (s nbucket : ℕ) (words : List ℕ) → 0 < nbucket → nbucket < 2 ^ 32
       → build_sysv_answer o s nbucket ≡ Ok words → is_whole_sysv words (listed_names o s) ≡ true
   pub gnu : (o : Object) (s : ℕ) (shape : GnuShape) (bytes : List ℕ) → 0 < shape.nbuckets → shape.nbuckets < 2 ^ 32
       → 0 < shape.bloom → shape.bloom < 2 ^ 32 → shape.shift < 32 → build_gnu_answer o s shape ≡ Ok bytes
@@ -118,7 +137,8 @@ abbrev pub symbol_at : Object → ℕ → ℕ → Option Sym
 symbol_at o s i = slice_get (syms_of (items_at o s 0)) i
 
 -- two lookups found equal symbols, or both none
-abbrev pub FoundAlike : Object → Object → ℕ → Result (Option ℕ) ElfError → Result (Option ℕ) ElfError → Type 0
+abbrev pub FoundAlike :
+    Object → Object → ℕ → Result (Option ℕ) ElfError → Result (Option ℕ) ElfError → Type 0
 FoundAlike before after s (Ok (Some i)) (Ok (Some j)) = symbol_at before s i ≡ symbol_at after s j
 FoundAlike before after s (Ok None) (Ok None) = Unit {0}
 FoundAlike before after s (Err e) (Err d) = e ≡ d
@@ -132,17 +152,22 @@ NamesAlike before after s None None = Unit {0}
 NamesAlike before after s a b = ⊥
 
 abbrev pub rel_symbol : Object → ℕ → ℕ → Option ℕ
-rel_symbol o n i = elim (slice_get (rels_of (items_at o n 0)) i) [ None ↦ None | Some r ↦ Some r.sym ]
+rel_symbol o n i =
+    elim (slice_get (rels_of (items_at o n 0)) i) [ None ↦ None | Some r ↦ Some r.sym ]
 
 abbrev pub rela_symbol : Object → ℕ → ℕ → Option ℕ
-rela_symbol o n i = elim (slice_get (relas_of (items_at o n 0)) i) [ None ↦ None | Some r ↦ Some r.sym ]
+rela_symbol o n i =
+    elim (slice_get (relas_of (items_at o n 0)) i) [ None ↦ None | Some r ↦ Some r.sym ]
 
 pub record RehashKeepsLookup (before after : Object) (s : ℕ) : Type 0 where
-  pub lookups : (name : List ℕ) → FoundAlike before after s (find_linear_answer before s name) (find_linear_answer after s name)
+  pub lookups :
+      (name : List ℕ)
+      → FoundAlike before after s (find_linear_answer before s name) (find_linear_answer after s name)
   pub rels : (n i : ℕ) → (header_at before n).stype ≡ SHT_REL → (header_at before n).link ≡ s
       → NamesAlike before after s (rel_symbol before n i) (rel_symbol after n i)
   pub relas : (n i : ℕ) → (header_at before n).stype ≡ SHT_RELA → (header_at before n).link ≡ s
       → NamesAlike before after s (rela_symbol before n i) (rela_symbol after n i)
 
 abbrev pub RehashLaw : Type 0
-RehashLaw = (before after : Object) (s : ℕ) → IsRehashed before after s → RehashKeepsLookup before after s
+RehashLaw =
+    (before after : Object) (s : ℕ) → IsRehashed before after s → RehashKeepsLookup before after s

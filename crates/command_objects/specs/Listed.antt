@@ -1,5 +1,6 @@
--- The symbols that a hash section lists, which are those that a lookup by name can find: global or weak ones that are
--- defined and have a name (gABI chapter 5, "Hash Table"; chapter 4, "Symbol Table").
+-- The symbols that a hash section lists, which are those that a lookup by name can find: global
+-- or weak ones that are defined and have a name (gABI chapter 5, "Hash Table"; chapter 4,
+-- "Symbol Table").
 use Rattle.std.specs.Prelude.{ℕ, ◌/◌, Bool, not, ◌==◌, ◌&&◌, List, [], ◌∷◌, map, if◌then◌else◌, Option, Some, None, Result}
 use Rattle.std.specs.List.{position, enumerate_from}
 use Rattle.elf_types.specs.Answers.{answered}
@@ -23,12 +24,15 @@ is_defined_global x = not (x.info / 16 == STB_LOCAL) && not (x.shndx == SHN_UNDE
 
 -- the name of symbol i of section s where it is listed; symbol 0 never is
 unfoldable pub listed_name : Object → ℕ → ℕ → Sym → Option (List ℕ)
-listed_name o s i x = if not (i == 0) && is_defined_global x then not_empty (symbol_name o s x) else None
+listed_name o s i x =
+    if not (i == 0) && is_defined_global x then not_empty (symbol_name o s x) else None
 
 -- for each symbol in piece 0 of a section its name where it is listed
 unfoldable pub listed_names : Object → ℕ → List (Option (List ℕ))
-listed_names o s = map (λ row. listed_name o s row.0 row.1) (enumerate_from 0 (syms_of (items_at o s 0)))
+listed_names o s =
+    map (λ row. listed_name o s row.0 row.1) (enumerate_from 0 (syms_of (items_at o s 0)))
 
 -- the least index of a listed symbol with that name
 unfoldable pub find_linear_answer : Object → ℕ → List ℕ → Result (Option ℕ) ElfError
-find_linear_answer o s name = answered (lend_refusal o kinds.Sym s 0) (position (is_name name) (listed_names o s))
+find_linear_answer o s name =
+    answered (lend_refusal o kinds.Sym s 0) (position (is_name name) (listed_names o s))

@@ -32,7 +32,8 @@ has_names_alone o removed s =
 -- whether the string index names such a section: it is then made anew
 unfoldable pub renews_names : Object → List ℕ → Bool
 renews_names o removed =
-    is_among (kept_from_1 o removed) o.header.shstrndx && has_names_alone o removed o.header.shstrndx
+    is_among (kept_from_1 o removed) o.header.shstrndx
+    && has_names_alone o removed o.header.shstrndx
 
 -- the names of the kept sections from 1 on
 unfoldable pub kept_names : Object → List ℕ → List (List ℕ)
@@ -40,7 +41,8 @@ kept_names o removed = map (λ s. or_empty_name (section_name o s)) (kept_from_1
 
 -- ---- A section of the new image
 
--- an object's section, which elf_newscn and elf_newdata made: with its bytes where it has any in the file
+-- an object's section, which elf_newscn and elf_newdata made: with its bytes where it has any in
+-- the file
 unfoldable pub made_section : Shdr → Items → Section
 made_section h items = record {
   header = h;
@@ -63,29 +65,37 @@ kept_items o removed s =
 -- the table of the names where it is made anew
 unfoldable pub rebuilt_items : Object → List ℕ → ℕ → Items
 rebuilt_items o removed s =
-    if renews_names o removed && s == o.header.shstrndx then items.Bytes (table (kept_names o removed))
+    if renews_names o removed && s == o.header.shstrndx
+    then items.Bytes (table (kept_names o removed))
     else kept_items o removed s
 
 unfoldable pub rebuilt_name : Object → List ℕ → ℕ → ℕ
 rebuilt_name o removed s =
-    if renews_names o removed then place_of (or_empty_name (section_name o s)) (kept_names o removed)
+    if renews_names o removed
+    then place_of (or_empty_name (section_name o s)) (kept_names o removed)
     else (header_at o s).name
 
 unfoldable pub rebuilt_header : Object → List ℕ → ℕ → Shdr
 rebuilt_header o removed s =
-    record (followed_header (renumbering o removed) (header_at o s)) { name = rebuilt_name o removed s }
+    record (followed_header (renumbering o removed) (header_at o s)) {
+      name = rebuilt_name o removed s;
+    }
 
 -- section 0 has a header of zeros
 unfoldable pub rebuilt_section : Object → List ℕ → ℕ → Section
 rebuilt_section o removed s =
-    if s == 0 then new_section else made_section (rebuilt_header o removed s) (rebuilt_items o removed s)
+    if s == 0 then new_section
+    else made_section (rebuilt_header o removed s) (rebuilt_items o removed s)
 
 -- ---- The new image
 
--- an object with the stored fields of a header, another string index, the program headers and these sections
+-- an object with the stored fields of a header, another string index, the program headers and
+-- these sections
 unfoldable pub assembled : Object → Object → ℕ → List Section → Object
 assembled empty o index sections =
-    with_ehdr (with_phdrs (with_sections empty sections) o.phdrs) (record o.header { shstrndx = index })
+    with_ehdr
+    (with_phdrs (with_sections empty sections) o.phdrs)
+    (record o.header { shstrndx = index })
 
 unfoldable pub rebuilt_sections : Object → List ℕ → List Section
 rebuilt_sections o removed = map (rebuilt_section o removed) (kept_sections o removed)
@@ -94,19 +104,27 @@ unfoldable pub rebuilt_index : Object → List ℕ → ℕ
 rebuilt_index o removed = followed (renumbering o removed) o.header.shstrndx
 
 unfoldable pub rebuilt_tail : Object → List ℕ → Option ℕ
-rebuilt_tail o removed = tail_of o (map (section_at o) (kept_from_1 o removed))
+rebuilt_tail o removed = tail_of o (map (section_at o) (kept_sections o removed))
 
 unfoldable pub rebuilt_object : Object → List ℕ → Object
 rebuilt_object o removed =
-    assembled (over_base o (rebuilt_tail o removed)) o (rebuilt_index o removed) (rebuilt_sections o removed)
+    assembled
+    (over_base o (rebuilt_tail o removed))
+    o
+    (rebuilt_index o removed)
+    (rebuilt_sections o removed)
 
 -- ---- Refusals
+
+-- its items follow
+abbrev pub items_follow : Object → List ℕ → ℕ → Bool
+items_follow o removed s = symbols_follow o s || members_follow o s || indexes_follow o removed s
 
 -- of a kept section: its raw bytes, and then its items where they follow
 unfoldable pub kept_refusal : Object → List ℕ → ℕ → Option ElfError
 kept_refusal o removed s = first_refusal
     (raw_refusal o s
-    ∷ (if symbols_follow o s || members_follow o s || indexes_follow o removed s then data_refusal o s 0 else None)
+    ∷ (if items_follow o removed s then data_refusal o s 0 else None)
     ∷ [])
 
 -- a table of so many bytes that four of them do not hold their number
@@ -115,7 +133,8 @@ table_refusal names = refused_if (nat_lt (2 ^ 32 - 1) (length (table names))) To
 
 -- of the string index of an object with so many sections, as gelf_update_ehdr refuses it
 unfoldable pub index_refusal : Object → List Section → ℕ → Option ElfError
-index_refusal o sections index = update_ehdr_refusal (record o { sections = sections }) (record o.header { shstrndx = index })
+index_refusal o sections index =
+    update_ehdr_refusal (record o { sections = sections }) (record o.header { shstrndx = index })
 
 unfoldable pub rebuild_refusal : Object → List ℕ → Option ElfError
 rebuild_refusal o removed = first_refusal
@@ -128,7 +147,10 @@ rebuild_refusal o removed = first_refusal
 -- the object without the removed sections, or the first refusal; the last one is that of its places
 unfoldable pub rebuilt : Object → List ℕ → Result Rebuilt ElfError
 rebuilt o removed =
-    answered (rebuild_refusal o removed) (record { object = rebuilt_object o removed; tail = rebuilt_tail o removed }) >>= arranged
+    answered
+    (rebuild_refusal o removed)
+    (record { object = rebuilt_object o removed; tail = rebuilt_tail o removed })
+    >>= arranged
 
 -- what strip makes of an object
 unfoldable pub stripped : Bool → List (List ℕ) → Object → Result Rebuilt ElfError

@@ -13,7 +13,7 @@ use Rattle.elf_object.specs.Object.{Object}
 use Rattle.elf_object.specs.Answers.{bytes_of, words_of}
 use Rattle.elf_object.specs.Steps.{with_layout}
 use Rattle.elf_object.specs.Calls.{data_answer, replace}
-use Rattle.command_objects.specs.Words.{is_of, edited}
+use Rattle.command_objects.specs.Words.{is_of, is_program, edited}
 use Rattle.command_objects.specs.HashSections.{gnu_head}
 use Rattle.command_objects.specs.BuiltHashes.{GnuShape, gnu_order_answer, build_gnu_answer, build_sysv_answer}
 use Rattle.command_objects.specs.Reordered.{reordered, reorder_refusal}
@@ -30,7 +30,8 @@ gnu_section o s = position (λ c. c.header.stype == SHT_GNU_HASH && c.header.lin
 
 -- the first hash section of words that links to it
 unfoldable pub sysv_section : Object → ℕ → Option ℕ
-sysv_section o s = position (λ c. is_of SHT_HASH kinds.Word c.header && c.header.link == s) o.sections
+sysv_section o s =
+    position (λ c. is_of SHT_HASH kinds.Word c.header && c.header.link == s) o.sections
 
 -- ---- The shape
 
@@ -44,7 +45,12 @@ smallest_shape C32 = record { nbuckets = 1; bloom = 1; shift = 5 }
 smallest_shape C64 = record { nbuckets = 1; bloom = 1; shift = 6 }
 
 abbrev pub shape_at : Order → List ℕ → GnuShape
-shape_at order bytes = record { nbuckets = gnu_head order bytes 0; bloom = gnu_head order bytes 2; shift = gnu_head order bytes 3 }
+shape_at order bytes =
+    record {
+      nbuckets = gnu_head order bytes 0;
+      bloom = gnu_head order bytes 2;
+      shift = gnu_head order bytes 3;
+    }
 
 abbrev pub is_usable : GnuShape → Bool
 is_usable shape = is_moderate shape.nbuckets && is_moderate shape.bloom && nat_lt shape.shift 32
@@ -52,7 +58,9 @@ is_usable shape = is_moderate shape.nbuckets && is_moderate shape.bloom && nat_l
 -- that of the section as it is, where it is there and moderate
 unfoldable pub shape_of : Class → Order → List ℕ → GnuShape
 shape_of class order bytes =
-    if nat_le 16 (length bytes) && is_usable (shape_at order bytes) then shape_at order bytes else smallest_shape class
+    if nat_le 16 (length bytes) && is_usable (shape_at order bytes)
+    then shape_at order bytes
+    else smallest_shape class
 
 -- the number of buckets of the section as it is, where it is there and moderate
 unfoldable pub nbucket_of : List ℕ → ℕ
@@ -77,13 +85,14 @@ with_sysv o s h =
     build_sysv_answer o s (nbucket_of (words_of old)) >>= λ words.
     edited (replace h 0 (items.Word words)) o
 
-abbrev pub where_there : (Object → ℕ → Result Object ElfError) → Option ℕ → Object → Result Object ElfError
+abbrev pub where_there :
+    (Object → ℕ → Result Object ElfError) → Option ℕ → Object → Result Object ElfError
 where_there change None o = Ok o
 where_there change (Some n) o = change o n
 
 -- ELF_F_LAYOUT for a program
 abbrev pub laid_out : Object → Object
-laid_out o = if length o.phdrs == 0 then o else with_layout o true
+laid_out o = if is_program o then with_layout o true else o
 
 pub data RehashFault : Type 0 where
   NoDynamicHash : RehashFault  -- no table of dynamic symbols, or neither hash section

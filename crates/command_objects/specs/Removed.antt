@@ -1,5 +1,5 @@
--- Which sections strip removes (strip(1) of the development tools). Section 0 and the section of the names stay. Each
--- step looks at what the steps before it removed.
+-- Which sections strip removes (strip(1) of the development tools). Section 0 and the section of
+-- the names stay. Each step looks at what the steps before it removed.
 use Rattle.std.specs.Prelude.{ℕ, Bool, false, not, ◌==◌, ◌&&◌, ◌||◌, nat_eq, List, [], ◌∷◌, length, filter, codes, if◌then◌else◌, Option, Some, None}
 use Rattle.std.specs.List.{list_any, list_all, starts_with}
 use Rattle.std.specs.Str.{bytes_eq}
@@ -40,7 +40,9 @@ is_debug_data o s = not (is_allocated (header_at o s)) && has_debug_name (sectio
 
 unfoldable pub relocates_removed : Object → List ℕ → ℕ → Bool
 relocates_removed o removed s =
-    is_relocations (header_at o s) && not (is_allocated (header_at o s)) && is_among removed (header_at o s).info
+    is_relocations (header_at o s)
+    && not (is_allocated (header_at o s))
+    && is_among removed (header_at o s).info
 
 -- ---- Step 3: symbol tables that nothing needs
 
@@ -60,7 +62,8 @@ is_unneeded_symtab o removed s =
 -- ---- Step 4: extended indexes of a removed symbol table
 
 unfoldable pub indexes_removed : Object → List ℕ → ℕ → Bool
-indexes_removed o removed s = (header_at o s).stype == SHT_SYMTAB_SHNDX && is_among removed (header_at o s).link
+indexes_removed o removed s =
+    (header_at o s).stype == SHT_SYMTAB_SHNDX && is_among removed (header_at o s).link
 
 -- ---- Step 5: string tables of removed sections alone
 
@@ -81,13 +84,17 @@ has_removed_users o removed s =
 unfoldable pub with_followers : Object → Bool → List ℕ → List ℕ
 with_followers o symbols_too removed =
     let relocations = with_found o (relocates_removed o) removed in
-    let tables = if symbols_too then with_found o (is_unneeded_symtab o) relocations else relocations in
+    let tables =
+    if symbols_too then with_found o (is_unneeded_symtab o) relocations else relocations in
     with_found o (has_removed_users o) (with_found o (indexes_removed o) tables)
 
 -- what strip removes, ascending: with debug_only symbol tables stay
 unfoldable pub removed_sections : Bool → List (List ℕ) → Object → List ℕ
 removed_sections debug_only names o =
-    with_followers o (not debug_only) (with_found o (λ before s. is_named names o s || is_debug_data o s) [])
+    with_followers
+    o
+    (not debug_only)
+    (with_found o (λ before s. is_named names o s || is_debug_data o s) [])
 
 -- what copy removes: the sections of these names, and what goes with them
 unfoldable pub removed_by_name : List (List ℕ) → Object → List ℕ

@@ -1,5 +1,6 @@
--- A symbol table in another order, and what goes by the indexes of its symbols: extended indexes, versions, relocations
--- and the signatures of groups (gABI chapter 4, "Sections", sh_link and sh_info).
+-- A symbol table in another order, and what goes by the indexes of its symbols: extended
+-- indexes, versions, relocations and the signatures of groups (gABI chapter 4, "Sections",
+-- sh_link and sh_info).
 use Rattle.std.specs.Prelude.{ℕ, ◌-◌, not, ◌==◌, ◌&&◌, ◌||◌, Bool, nat_lt, nat_eq, List, [], ◌∷◌, ◌++◌, length, drop, map, slice_get, if◌then◌else◌, Option, Some, None}
 use Rattle.std.specs.List.{position, flat_map, fold}
 use Rattle.elf_types.specs.Answers.{refused_if, first_refusal}
@@ -87,7 +88,9 @@ reordered o s order = fold
 -- fewer items than there are symbols
 abbrev pub too_few_items : Object → ℕ → ℕ → Option ElfError
 too_few_items o count n =
-    refused_if (has_item_each (header_at o n).stype && nat_lt (count_at o n 0) count) (NoEntry (count - 1) (count_at o n 0))
+    refused_if
+    (has_item_each (header_at o n).stype && nat_lt (count_at o n 0) count)
+    (NoEntry (count - 1) (count_at o n 0))
 
 -- of a section that goes by the symbols of section s: as the lend of its items
 unfoldable pub reorder_refusal_of : Object → ℕ → ℕ → Option ElfError
@@ -95,9 +98,11 @@ reorder_refusal_of o s n =
     if not ((header_at o n).link == s) then None
     else (elim (kind_by_symbols (header_at o n).stype) [
       | None ↦ None
-      | Some kind ↦ first_refusal (lend_refusal o kind n 0 ∷ too_few_items o (count_at o s 0) n ∷ [])
+      | Some kind ↦
+          first_refusal (lend_refusal o kind n 0 ∷ too_few_items o (count_at o s 0) n ∷ [])
     ])
 
 -- the symbol table first, and then the sections by number
 unfoldable pub reorder_refusal : Object → ℕ → Option ElfError
-reorder_refusal o s = first_refusal (lend_refusal o kinds.Sym s 0 ∷ map (reorder_refusal_of o s) (all_sections o))
+reorder_refusal o s =
+    first_refusal (lend_refusal o kinds.Sym s 0 ∷ map (reorder_refusal_of o s) (all_sections o))

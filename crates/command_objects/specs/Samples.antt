@@ -1,9 +1,12 @@
 -- Small images on which the definitions are computed, and forms of answers that the tests compare.
-use Rattle.std.specs.Prelude.{ℕ, List, [], ◌∷◌, codes, Result, Ok, Err}
+use Rattle.std.specs.Prelude.{ℕ, List, [], ◌∷◌, codes, false, Result, Ok, Err}
 use Rattle.elf_object.specs.Object.{Object}
-use Rattle.elf_object.specs.Samples.{small64, with_number, object_in}
+use Rattle.elf_object.specs.Samples.{small64, symbols64, with_number, object_in}
 use Rattle.command_objects.specs.Arranged.{Rebuilt}
-use Rattle.command_objects.specs.Files.{file_of}
+use Rattle.command_objects.specs.Files.{file_of, file_made}
+use Rattle.command_objects.specs.Rebuilt.{stripped}
+use Rattle.command_objects.specs.Split.{debug_half}
+use Rattle.command_objects.specs.Generated.{generated_and_shifted}
 use Rattle.command_objects.specs.Copied.{Changes, copied}
 
 -- an answer's value, or the empty one
@@ -30,6 +33,32 @@ made_or_none (Err e) = []
 abbrev pub two_letters : List ℕ
 two_letters = 0x68 ∷ 0x69 ∷ []
 
+-- the symbols' image stripped, opened again, and the other image stripped, opened again
+abbrev pub stripped64 : Object
+stripped64 = object_in (bytes_or_none (file_made (stripped false [] symbols64)))
+
+abbrev pub stripped_unnamed64 : Object
+stripped_unnamed64 = object_in (bytes_or_none (file_made (stripped false [] unnamed64)))
+
+-- the debug half of the symbols' image, opened again
+abbrev pub debug64 : Object
+debug64 = object_in (bytes_or_none (file_of (debug_half symbols64)))
+
+-- a string index that is no section's
+abbrev pub misnamed64 : Object
+misnamed64 = object_in (with_number 62 2 7 small64)
+
+-- new bytes for a section that is not there
+abbrev pub updating_none : Changes
+updating_none = record no_changes { update = (codes ".q", two_letters) ∷ [] }
+
+abbrev pub adding : Changes
+adding = record no_changes { add = (codes ".x", two_letters) ∷ [] }
+
+-- the self test's image, opened again
+abbrev pub selftest_again : ℕ → Object
+selftest_again n = object_in (bytes_or_none (file_of (generated_and_shifted n)))
+
 -- the image with a section .x of two bytes more
 abbrev pub with_new_section : Object → List ℕ
-with_new_section o = made_or_none (copied (record no_changes { add = (codes ".x", two_letters) ∷ [] }) o)
+with_new_section o = made_or_none (copied adding o)

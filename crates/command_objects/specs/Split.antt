@@ -1,5 +1,5 @@
--- The debug half of a program, whose allocated sections have no bytes, and what combines it with the stripped half again
--- (eu-strip(1) with -f, eu-unstrip(1)).
+-- The debug half of a program, whose allocated sections have no bytes, and what combines it with
+-- the stripped half again (eu-strip(1) with -f, eu-unstrip(1)).
 use Rattle.std.specs.Prelude.{ℕ, Bool, true, false, not, ◌==◌, ◌&&◌, nat_eq, List, [], ◌∷◌, length, map, filter, slice_get, if◌then◌else◌, Option, Some, None, Result, Ok, Err}
 use Rattle.std.specs.Cmp.Lexicographic.{pointwise}
 use Rattle.std.specs.List.{position}
@@ -42,7 +42,8 @@ debug_sections o = map (debug_section o) (all_sections o)
 
 -- all sections under their numbers, with the header and the program headers, without ELF_F_LAYOUT
 unfoldable pub debug_half : Object → Object
-debug_half o = assembled (created o.header.class o.header.order) o o.header.shstrndx (debug_sections o)
+debug_half o =
+    assembled (created o.header.class o.header.order) o o.header.shstrndx (debug_sections o)
 
 -- of a section that keeps its bytes
 abbrev pub debug_raw_refusal : Object → ℕ → Option ElfError
@@ -109,11 +110,14 @@ same_loaded a b =
 unfoldable pub allocated : Object → List ℕ
 allocated o = filter (λ s. is_allocated (header_at o s)) (section_numbers o)
 
+abbrev pub allocated_headers : Object → List Shdr
+allocated_headers o = map (header_at o) (allocated o)
+
 unfoldable pub matches : Object → Object → Bool
 matches stripped debug =
     same_header stripped.header debug.header
     && pointwise same_phdr stripped.phdrs debug.phdrs
-    && pointwise same_loaded (map (header_at stripped) (allocated stripped)) (map (header_at debug) (allocated debug))
+    && pointwise same_loaded (allocated_headers stripped) (allocated_headers debug)
 
 -- ---- The two combined
 
@@ -125,7 +129,10 @@ pub data UnstripFault : Type 0 where
 -- the allocated section of the stripped half that stands at the place of one of the debug half
 unfoldable pub counterpart : Object → Object → ℕ → Option ℕ
 counterpart stripped debug s =
-    elim (position (nat_eq s) (allocated debug)) [ None ↦ None | Some i ↦ slice_get (allocated stripped) i ]
+    elim (position (nat_eq s) (allocated debug)) [
+      | None ↦ None
+      | Some i ↦ slice_get (allocated stripped) i
+    ]
 
 -- the header of the debug half, with type and place of the stripped half
 abbrev pub loaded_header : Shdr → Shdr → Shdr
@@ -146,7 +153,7 @@ combined_sections stripped debug = map (combined_section stripped debug) (all_se
 
 -- all sections of the stripped half count for the base
 abbrev pub combined_tail : Object → Option ℕ
-combined_tail stripped = tail_of stripped (map (section_at stripped) (section_numbers stripped))
+combined_tail stripped = tail_of stripped stripped.sections
 
 unfoldable pub combined_object : Object → Object → Object
 combined_object stripped debug = assembled
@@ -167,7 +174,9 @@ combine_fault stripped debug = first_refusal
     (refused_if (not (matches stripped debug)) Mismatch
     ∷ option_map Elf (newphdr_refusal (length stripped.phdrs))
     ∷ first_refusal (map (combined_raw_refusal stripped debug) (section_numbers debug))
-    ∷ option_map Debug (index_refusal stripped (combined_sections stripped debug) debug.header.shstrndx)
+    ∷ option_map
+    Debug
+    (index_refusal stripped (combined_sections stripped debug) debug.header.shstrndx)
     ∷ [])
 
 abbrev pub or_elf : {A : Type 0} → Result A ElfError → Result A UnstripFault
@@ -177,5 +186,7 @@ or_elf (Err e) = Err (Elf e)
 -- what unstrip makes of the two halves
 unfoldable pub unstripped : Object → Object → Result Rebuilt UnstripFault
 unstripped stripped debug =
-    answered (combine_fault stripped debug) (record { object = combined_object stripped debug; tail = combined_tail stripped })
+    answered
+    (combine_fault stripped debug)
+    (record { object = combined_object stripped debug; tail = combined_tail stripped })
     >>= λ r. or_elf (arranged r)

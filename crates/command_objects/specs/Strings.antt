@@ -1,5 +1,5 @@
--- The string at an offset of a section's pieces, and the names that are such strings (gABI chapter 4, "String Table",
--- sh_name and st_name; elf_strptr).
+-- The string at an offset of a section's pieces, and the names that are such strings (gABI
+-- chapter 4, "String Table", sh_name and st_name; elf_strptr).
 use Rattle.std.specs.Prelude.{ℕ, ◌-◌, ◌^◌, min, Bool, false, not, ◌==◌, ◌&&◌, List, [], ◌∷◌, drop, filter, slice_get, if◌then◌else◌, Option, Some, None, is_none, Result, Ok, Err}
 use Rattle.std.specs.List.{list_any, list_all}
 use Rattle.std.specs.Str.{bytes_eq}
@@ -25,7 +25,8 @@ piece_kind c p = elim (p.own) [ None ↦ c.home.kind | Some items ↦ items_kind
 
 -- a section of type SHT_STRTAB, each piece of which holds bytes
 unfoldable pub holds_strings : Section → Bool
-holds_strings c = c.header.stype == SHT_STRTAB && list_all (λ p. same_kind (piece_kind c p) kinds.Bytes) c.pieces
+holds_strings c =
+    c.header.stype == SHT_STRTAB && list_all (λ p. same_kind (piece_kind c p) kinds.Bytes) c.pieces
 
 -- the first piece that covers an offset of the section
 unfoldable pub piece_over : Object → ℕ → ℕ → Option Block
@@ -38,14 +39,21 @@ has_nul bytes = list_any (λ b. b == 0) bytes
 abbrev pub bytes_from : Block → ℕ → List ℕ
 bytes_from b offset = drop (offset - b.at) b.bytes
 
--- no piece covers the offset; the size that it carries is at most the greatest number of eight bytes
+-- no piece covers the offset; the size that it carries is at most the greatest number of eight
+-- bytes
 abbrev pub no_string : Object → ℕ → ℕ → Option ElfError
-no_string o s offset = refused_if (is_none (piece_over o s offset)) (NoString offset (min (pieces_end o s) (2 ^ 64 - 1)))
+no_string o s offset =
+    refused_if
+    (is_none (piece_over o s offset))
+    (NoString offset (min (pieces_end o s) (2 ^ 64 - 1)))
 
 -- no NUL follows in the piece
 abbrev pub unended : Object → ℕ → ℕ → Option ElfError
 unended o s offset =
-    elim (piece_over o s offset) [ None ↦ None | Some b ↦ refused_if (not (has_nul (bytes_from b offset))) (Unended offset) ]
+    elim (piece_over o s offset) [
+      | None ↦ None
+      | Some b ↦ refused_if (not (has_nul (bytes_from b offset))) (Unended offset)
+    ]
 
 unfoldable pub string_refusal : Object → ℕ → ℕ → Option ElfError
 string_refusal o s offset = first_refusal
@@ -58,7 +66,8 @@ string_refusal o s offset = first_refusal
 
 -- the bytes from the offset up to the first NUL
 abbrev pub string_in : Object → ℕ → ℕ → List ℕ
-string_in o s offset = elim (piece_over o s offset) [ None ↦ [] | Some b ↦ string_at b.bytes (offset - b.at) ]
+string_in o s offset =
+    elim (piece_over o s offset) [ None ↦ [] | Some b ↦ string_at b.bytes (offset - b.at) ]
 
 -- elf_strptr
 unfoldable pub string_answer : Object → ℕ → ℕ → Result (List ℕ) ElfError
@@ -71,7 +80,8 @@ abbrev pub readable : Result (List ℕ) ElfError → Option (List ℕ)
 readable (Ok name) = Some name
 readable (Err e) = None
 
--- a section's name: the string at its sh_name in the section of the names. Without such a section it is none.
+-- a section's name: the string at its sh_name in the section of the names. Without such a
+-- section it is none.
 unfoldable pub section_name : Object → ℕ → Option (List ℕ)
 section_name o s =
     if o.header.shstrndx == 0 then None

@@ -31,6 +31,10 @@ is_of stype kind h = h.stype == stype && same_kind (section_kind h) kind
 unfoldable pub is_loose : ℕ → Kind → Shdr → Bool
 is_loose stype kind h = is_of stype kind h && not (is_allocated h)
 
+-- a program has program headers
+abbrev pub is_program : Object → Bool
+is_program o = not (length o.phdrs == 0)
+
 -- the present header of a section
 abbrev pub header_at : Object → ℕ → Shdr
 header_at o s = (section_at o s).header

@@ -1,16 +1,14 @@
-//! The hash sections of a small symbol table, computed by proof. The values were worked out by hand from the gABI.
+//! The hash sections of a small symbol table, computed by proof. The values were worked out by
+//! hand from the gABI.
 #![tactic(auto, unfolding(crate::proofs::Computing::all_words))]
 
-ghost use Rattle.std.specs.Prelude.{◌≡◌, [], ◌∷◌, ◌++◌, map, codes, true, false, Ok, Err, Some, None};
+ghost use Rattle.std.specs.Prelude.{◌≡◌, [], ◌∷◌, map, codes, true, false, Ok, Err, Some, None};
 ghost use Rattle.elf_object.specs.Samples.{symbols64, hex};
 ghost use Rattle.elf_object.specs.Answers.{items_at, bytes_of, halves_of, words_of, relas_of};
-ghost use Rattle.elf_types.specs.declared.records.Class.TheVariants.{C64};
-ghost use Rattle.elf_types.specs.declared.records.Order.TheVariants.{Least};
 ghost use Rattle.elf_types.specs.declared.errors.ElfError.TheVariants.{Unsorted};
-ghost use Rattle.command_objects.specs.Programs.{a_shared_object, rehashed_again};
+ghost use Rattle.command_objects.specs.Programs.{a_shared_object, rehashed_again, small_shape, small_hash, two_buckets, two_buckets_hash, has_whole_sysv, has_whole_gnu};
 ghost use Rattle.command_objects.specs.Hashes.{elf_hash, gnu_hash};
 ghost use Rattle.command_objects.specs.Listed.{listed_names, find_linear_answer};
-ghost use Rattle.command_objects.specs.HashSections.{is_whole_sysv, is_whole_gnu};
 ghost use Rattle.command_objects.specs.BuiltHashes.{build_sysv_answer, build_gnu_answer, gnu_order_answer};
 ghost use Rattle.command_objects.specs.Reordered.{reordered, reorder_refusal};
 ghost use Rattle.command_objects.specs.Rehashed.{rehashed};
@@ -32,7 +30,7 @@ fn hash_sections_are_built()
     ensures found { find_linear_answer symbols64 2 (codes "a") ≡ Ok (Some 1) }
     ensures not_found { find_linear_answer symbols64 2 (codes "b") ≡ Ok None }
     ensures sysv { build_sysv_answer symbols64 2 1 ≡ Ok (1 ∷ 2 ∷ 1 ∷ 0 ∷ 0 ∷ []) }
-    ensures gnu { build_gnu_answer symbols64 2 (record { nbuckets = 1; bloom = 1; shift = 6 }) ≡ Ok (hex (codes "0100000001000000010000000600000040000001000000000100000007b60200")) }
+    ensures gnu { build_gnu_answer symbols64 2 small_shape ≡ Ok (hex small_hash) }
     ensures order { gnu_order_answer symbols64 2 1 ≡ Ok (0 ∷ 1 ∷ []) }
     ensures reorder { reorder_refusal symbols64 2 ≡ None }
     ensures reordered { items_at (reordered symbols64 2 (0 ∷ 1 ∷ [])) 2 0 ≡ items_at symbols64 2 0 }
@@ -42,21 +40,22 @@ fn hash_sections_are_built()
 /// Symbols come in the order that the GNU section needs, and what goes by them moves along.
 fn symbols_are_reordered()
     ensures order { gnu_order_answer a_shared_object 1 2 ≡ Ok (0 ∷ 2 ∷ 3 ∷ 1 ∷ []) }
-    ensures unsorted { build_gnu_answer a_shared_object 1 (record { nbuckets = 2; bloom = 1; shift = 6 }) ≡ Err (Unsorted 2) }
-    ensures names { listed_names rehashed_again 1 ≡ None ∷ None ∷ Some (codes "a") ∷ Some (codes "b") ∷ [] }
+    ensures unsorted { build_gnu_answer a_shared_object 1 two_buckets ≡ Err (Unsorted 2) }
+    ensures names { listed_names rehashed_again 1
+        ≡ None ∷ None ∷ Some (codes "a") ∷ Some (codes "b") ∷ [] }
     ensures versions { halves_of (items_at rehashed_again 3 0) ≡ 0 ∷ 12 ∷ 13 ∷ 11 ∷ 14 ∷ [] }
     ensures relocations { map (λ r. r.sym) (relas_of (items_at rehashed_again 4 0)) ≡ 3 ∷ 9 ∷ [] }
-    ensures gnu { bytes_of (items_at rehashed_again 5 0) ≡ hex (codes "02000000020000000100000006000000c0000001000000000200000003000000") ++ hex (codes "07b6020007b60200") }
+    ensures gnu { bytes_of (items_at rehashed_again 5 0) ≡ hex two_buckets_hash }
     ensures sysv { words_of (items_at rehashed_again 6 0) ≡ 2 ∷ 4 ∷ 3 ∷ 2 ∷ 0 ∷ 0 ∷ 0 ∷ 0 ∷ [] }
     ensures found { find_linear_answer rehashed_again 1 (codes "b") ≡ Ok (Some 3) }
 {}
 
 /// The sections were not whole, and those that were built are.
 fn built_sections_are_whole()
-    ensures sysv_before { is_whole_sysv (words_of (items_at a_shared_object 6 0)) (listed_names a_shared_object 1) ≡ false }
-    ensures gnu_before { is_whole_gnu C64 Least (bytes_of (items_at a_shared_object 5 0)) (listed_names a_shared_object 1) ≡ false }
-    ensures sysv { is_whole_sysv (words_of (items_at rehashed_again 6 0)) (listed_names rehashed_again 1) ≡ true }
-    ensures gnu { is_whole_gnu C64 Least (bytes_of (items_at rehashed_again 5 0)) (listed_names rehashed_again 1) ≡ true }
+    ensures sysv_before { has_whole_sysv a_shared_object ≡ false }
+    ensures gnu_before { has_whole_gnu a_shared_object ≡ false }
+    ensures sysv { has_whole_sysv rehashed_again ≡ true }
+    ensures gnu { has_whole_gnu rehashed_again ≡ true }
 {}
 
 #[test]

@@ -1,5 +1,5 @@
-//! What the commands that write mean: strip, copy, rehash, the debug half, joining and the self test, as definitions
-//! over the plain object. They stand in `specs/`.
+//! What the commands that write mean: strip, copy, rehash, the debug half, joining and the self
+//! test, as definitions over the plain object. They stand in `specs/`.
 #![tactic(auto)]
 
 #[cfg(test)]

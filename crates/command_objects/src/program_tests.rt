@@ -1,4 +1,5 @@
-//! What the commands make of a small program, computed by proof. The values were worked out by hand.
+//! What the commands make of a small program, computed by proof. The values were worked out by
+//! hand.
 #![tactic(auto, unfolding(crate::proofs::Computing::all_words))]
 
 ghost use Rattle.std.specs.Prelude.{◌≡◌, [], ◌∷◌, take, drop, length, map, codes, true, false, Ok, Err, None, Some};
@@ -11,14 +12,14 @@ ghost use Rattle.command_objects.specs.Copied.{copied};
 ghost use Rattle.command_objects.specs.Copied.CopyFault.{Allocated, Fixed, NoBytes};
 ghost use Rattle.command_objects.specs.Split.{removed_allocated, unstripped};
 ghost use Rattle.command_objects.specs.Samples.{made_or_none, no_changes};
-ghost use Rattle.command_objects.specs.Programs.{a_program, a_grouped, again, stripped_program, debug_only_program, debug_program, updating, flagging, renaming, copied_again, small_file, a_small_program, small_stripped, small_debug};
+ghost use Rattle.command_objects.specs.Programs.{a_program, a_grouped, again, stripped_program, debug_only_program, debug_program, updating, flagging, renaming, copied_again, small_file, a_small_program, small_stripped, small_debug, two_names, text_name, bss_name, note_name, grouped_again};
 
 /// Each step removes by what the steps before it removed; a group keeps its symbol table.
 fn steps_remove_what_nothing_needs()
     ensures all { removed_sections false [] a_program ≡ 3 ∷ 4 ∷ 6 ∷ 7 ∷ 9 ∷ [] }
     ensures debug_only { removed_sections true [] a_program ≡ 3 ∷ 4 ∷ [] }
     ensures grouped { removed_sections false [] a_grouped ≡ 3 ∷ 4 ∷ [] }
-    ensures named { removed_sections true (codes ".text" ∷ codes ".shstr" ∷ []) a_program ≡ 1 ∷ 3 ∷ 4 ∷ [] }
+    ensures named { removed_sections true two_names a_program ≡ 1 ∷ 3 ∷ 4 ∷ [] }
     ensures by_name { removed_by_name (codes ".tab" ∷ []) a_program ≡ 6 ∷ 7 ∷ 9 ∷ [] }
     ensures allocated { removed_allocated a_program (1 ∷ 3 ∷ 4 ∷ []) ≡ Some 1 }
     ensures not_allocated { removed_allocated a_program (3 ∷ 4 ∷ []) ≡ None }
@@ -39,12 +40,14 @@ fn programs_keep_what_is_loaded()
 
 /// Links, symbols and extended indexes follow the new numbers.
 fn numbers_follow()
-    ensures sections { map (λ x. x.shndx) (syms_of (items_at debug_only_program 4 0)) ≡ 0 ∷ 1 ∷ 0 ∷ 3 ∷ 0 ∷ 3 ∷ 0xfff1 ∷ [] }
-    ensures values { map (λ x. x.value) (syms_of (items_at debug_only_program 4 0)) ≡ 0 ∷ 7 ∷ 0 ∷ 7 ∷ 0 ∷ 7 ∷ 7 ∷ [] }
+    ensures sections { map (λ x. x.shndx) (syms_of (items_at debug_only_program 4 0))
+        ≡ 0 ∷ 1 ∷ 0 ∷ 3 ∷ 0 ∷ 3 ∷ 0xfff1 ∷ [] }
+    ensures values { map (λ x. x.value) (syms_of (items_at debug_only_program 4 0))
+        ≡ 0 ∷ 7 ∷ 0 ∷ 7 ∷ 0 ∷ 7 ∷ 7 ∷ [] }
     ensures words { words_of (items_at debug_only_program 7 0) ≡ 0 ∷ 0 ∷ 0 ∷ 0 ∷ 0 ∷ 0 ∷ 0 ∷ [] }
     ensures strings { (section_at debug_only_program 4).header.link ≡ 5 }
     ensures symbols { (section_at debug_only_program 7).header.link ≡ 4 }
-    ensures members { words_of (items_at (again (stripped false [] a_grouped)) 8 0) ≡ 1 ∷ 1 ∷ 3 ∷ 99 ∷ [] }
+    ensures members { words_of (items_at grouped_again 8 0) ≡ 1 ∷ 1 ∷ 3 ∷ 99 ∷ [] }
 {}
 
 /// The two halves of a program combine to what it was.
@@ -57,9 +60,10 @@ fn programs_are_combined()
 
 /// Changes that a program refuses.
 fn programs_refuse_changes()
-    ensures allocated { copied (updating (codes ".text") (1 ∷ [])) a_small_program ≡ Err (Allocated (codes ".text")) }
-    ensures no_bytes { copied (updating (codes ".bss") []) a_small_program ≡ Err (NoBytes (codes ".bss")) }
-    ensures fixed { copied (flagging (codes ".note") 2) a_small_program ≡ Err (Fixed (codes ".note")) }
+    ensures allocated { copied (updating text_name (1 ∷ [])) a_small_program
+        ≡ Err (Allocated text_name) }
+    ensures no_bytes { copied (updating bss_name []) a_small_program ≡ Err (NoBytes bss_name) }
+    ensures fixed { copied (flagging note_name 2) a_small_program ≡ Err (Fixed note_name) }
 {}
 
 /// A new name counts for the changes after it.

@@ -1,5 +1,5 @@
 -- copy and rehash.
-use Rattle.std.specs.Prelude.{ℕ, List, [], ◌∷◌, ◌++◌, map, Result, Ok, Err, codes}
+use Rattle.std.specs.Prelude.{ℕ, List, ◌++◌, map, Result, Ok, codes}
 use Rattle.elf_types.specs.Answers.{◌>>=◌}
 use Rattle.elf_types.specs.Text.{error_text}
 use Rattle.tool_text.specs.declared.commands.CopyChanges.{CopyChanges}
@@ -38,7 +38,8 @@ copy_done c named out file =
     bytes_of_each named c.update >>= λ update.
     bytes_of_each named c.add >>= λ add.
     object_named named file >>= λ o.
-    or_complaint (λ fault. complaint file (copy_text fault)) (copied (changes_with c update add) o) >>= λ r.
+    let changes = changes_with c update add in
+    or_complaint (λ fault. complaint file (copy_text fault)) (copied changes o) >>= λ r.
     of_file file (file_of r.object) >>= λ bytes.
     Ok (made out bytes)
 

@@ -1,5 +1,5 @@
 -- The files that a command reads whole: each is there, or ends the command.
-use Rattle.std.specs.Prelude.{ℕ, List, [], ◌∷◌, Option, Some, None, Result, Ok, Err, codes}
+use Rattle.std.specs.Prelude.{ℕ, List, [], ◌∷◌, Option, Result, Ok, Err, codes}
 use Rattle.elf_types.specs.Answers.{or_refused, ◌>>=◌}
 use Rattle.elf_types.specs.declared.errors.ElfError.{ElfError}
 use Rattle.elf_types.specs.declared.errors.ElfError.TheVariants.{Magic}
@@ -25,7 +25,8 @@ opened_as Elf image = opened image
 opened_as Other image = opened image
 
 unfoldable pub object_named : Named → List ℕ → Result Object Complaint
-object_named named file = bytes_named named file >>= λ image. of_file file (opened_as (file_kind image) image)
+object_named named file =
+    bytes_named named file >>= λ image. of_file file (opened_as (file_kind image) image)
 
 -- the bytes of files, each with the name of a section, in their order
 unfoldable pub bytes_of_each : Named → List NamedFile → Result (List (List ℕ × List ℕ)) Complaint

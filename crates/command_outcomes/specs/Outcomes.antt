@@ -1,5 +1,6 @@
--- What a command gives: the bytes that it writes on both outputs, in their order, its status, and the files that it makes.
-use Rattle.std.specs.Prelude.{ℕ, List, [], ◌∷◌, map, Option, Some, None, Result, Ok, Err, codes}
+-- What a command gives: the bytes that it writes on both outputs, in their order, its status,
+-- and the files that it makes.
+use Rattle.std.specs.Prelude.{ℕ, List, [], ◌∷◌, map, Result, Ok, Err}
 use Rattle.elf_types.specs.declared.errors.ElfError.{ElfError}
 use Rattle.elf_types.specs.Text.{error_text}
 use Rattle.tool_text.specs.Messages.{message}
@@ -41,8 +42,10 @@ pub record Complaint : Type 0 where
 
 -- status 1 and one message where something is refused
 unfoldable pub outcome_of : List ℕ → Result Done Complaint → Outcome
-outcome_of command (Ok done) = record { marks = said Out done.shown; status = 0; writes = done.writes }
-outcome_of command (Err c) = record { marks = said Error (message command c.file c.text); status = 1; writes = [] }
+outcome_of command (Ok done) =
+    record { marks = said Out done.shown; status = 0; writes = done.writes }
+outcome_of command (Err c) =
+    record { marks = said Error (message command c.file c.text); status = 1; writes = [] }
 
 -- a file alone, with nothing shown
 abbrev pub made : List ℕ → List ℕ → Done

@@ -1,12 +1,13 @@
 -- Files by their names, and options, on which the outcomes are computed.
-use Rattle.std.specs.Prelude.{ℕ, Bool, true, false, List, [], ◌∷◌, codes, map, length, if◌then◌else◌, Option, Some, None}
+use Rattle.std.specs.Prelude.{ℕ, Bool, List, [], ◌∷◌, codes, map, length, if◌then◌else◌, Option, Some, None}
 use Rattle.std.specs.Str.{bytes_eq}
 use Rattle.tool_text.specs.declared.commands.StripOptions.{StripOptions}
 use Rattle.tool_text.specs.declared.commands.CopyChanges.{CopyChanges}
 use Rattle.elf_object.specs.Samples.{small64, header64}
-use Rattle.command_outcomes.specs.Outcomes.{Outcome, FileWrite, Side, Mark, said}
-use Rattle.command_outcomes.specs.Outcomes.Side.{Out, Error}
+use Rattle.command_outcomes.specs.Outcomes.{Outcome, FileWrite, said}
+use Rattle.command_outcomes.specs.Outcomes.Side.{Error}
 use Rattle.command_outcomes.specs.Files.{Named}
+use Rattle.command_outcomes.specs.Strip.{strip_outcome}
 
 -- the bytes of the first row with the name
 abbrev pub file_in : List (List ℕ × List ℕ) → Named
@@ -23,7 +24,8 @@ some_files = file_in
     ∷ [])
 
 abbrev pub stripping : Bool → Option (List ℕ) → StripOptions
-stripping debug_only debug = record { debug_only = debug_only; names = []; debug = debug; out = codes "O" }
+stripping debug_only debug =
+    record { debug_only = debug_only; names = []; debug = debug; out = codes "O" }
 
 abbrev pub no_changes : CopyChanges
 no_changes = record { remove = []; update = []; rename = []; flags = []; add = [] }
@@ -39,3 +41,18 @@ written files = record { marks = []; status = 0; writes = files }
 -- the names of the files that are made, with their lengths
 abbrev pub lengths : Outcome → List (List ℕ × ℕ)
 lengths outcome = map (λ w. (w.name, length w.bytes)) outcome.writes
+
+-- bytes of a file for a section that is not there, a section of a file that is not there, and a
+-- new section
+abbrev pub updating_none : CopyChanges
+updating_none = record no_changes { update = record { name = codes ".q"; file = codes "G" } ∷ [] }
+
+abbrev pub adding_missing : CopyChanges
+adding_missing = record no_changes { add = record { name = codes ".q"; file = codes "N" } ∷ [] }
+
+abbrev pub adding : CopyChanges
+adding = record no_changes { add = record { name = codes ".x"; file = codes "G" } ∷ [] }
+
+-- what strip gives of a file
+abbrev pub strip_of : Bool → Option (List ℕ) → List ℕ → Outcome
+strip_of debug_only debug file = strip_outcome (stripping debug_only debug) some_files file

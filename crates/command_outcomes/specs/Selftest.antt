@@ -1,5 +1,5 @@
 -- The self test: an image that is generated, written, opened again, and told of in five lines.
-use Rattle.std.specs.Prelude.{ℕ, List, [], ◌∷◌, Result, Ok, Err, codes}
+use Rattle.std.specs.Prelude.{ℕ, List, [], ◌∷◌, Result, Ok, codes}
 use Rattle.elf_types.specs.Answers.{◌>>=◌}
 use Rattle.elf_object.specs.Open.{opened}
 use Rattle.command_objects.specs.Generated.{generated_and_shifted, five_lines}

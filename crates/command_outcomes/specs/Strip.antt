@@ -21,10 +21,13 @@ strip_alone o removed out file =
     of_file file (rebuilt o removed >>= λ r. file_of r.object) >>= λ bytes.
     Ok (made out bytes)
 
+abbrev pub allocated_text : ℕ → List ℕ
+allocated_text s = numbered (codes "section ") s (codes " is allocated")
+
 -- a removed section that is allocated
 abbrev pub allocated_complaint : Object → List ℕ → List ℕ → Option Complaint
 allocated_complaint o removed file =
-    option_map (λ s. complaint file (numbered (codes "section ") s (codes " is allocated"))) (removed_allocated o removed)
+    option_map (λ s. complaint file (allocated_text s)) (removed_allocated o removed)
 
 -- with -f: that image first, and then the debug half
 unfoldable pub strip_split : Object → List ℕ → List ℕ → List ℕ → List ℕ → Result Done Complaint
@@ -36,7 +39,10 @@ strip_split o removed out debug file =
     of_file file (file_of half) >>= λ debug_bytes.
     Ok (record {
       shown = [];
-      writes = record { name = out; bytes = stripped_bytes } ∷ record { name = debug; bytes = debug_bytes } ∷ [];
+      writes =
+          record { name = out; bytes = stripped_bytes }
+          ∷ record { name = debug; bytes = debug_bytes }
+          ∷ [];
     })
 
 unfoldable pub strip_done : StripOptions → Named → List ℕ → Result Done Complaint
@@ -72,4 +78,5 @@ unstrip_done named out stripped debug =
     Ok (made out bytes)
 
 unfoldable pub unstrip_outcome : Named → List ℕ → List ℕ → List ℕ → Outcome
-unstrip_outcome named out stripped debug = outcome_of (codes "unstrip") (unstrip_done named out stripped debug)
+unstrip_outcome named out stripped debug =
+    outcome_of (codes "unstrip") (unstrip_done named out stripped debug)

@@ -1,4 +1,5 @@
-//! What the commands that write give, as definitions in `specs/`: their texts, their status and their files.
+//! What the commands that write give, as definitions in `specs/`: their texts, their status and
+//! their files.
 #![tactic(auto)]
 
 #[cfg(test)]

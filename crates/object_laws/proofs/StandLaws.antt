@@ -86,7 +86,7 @@ blocks_apart b c p q first second apart k here there =
     let clash : false ≡ true = sym apart ∙ met in cc
 
 -- the blocks of a list of parts
-pub AreBlocksOf : List Block → List PartAt → Type 0
+unfoldable pub AreBlocksOf : List Block → List PartAt → Type 0
 AreBlocksOf [] [] = Unit {0}
 AreBlocksOf [] (p ∷ ps) = ⊥
 AreBlocksOf (b ∷ bs) [] = ⊥

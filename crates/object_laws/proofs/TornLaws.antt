@@ -271,7 +271,7 @@ torn_base o bytes dirty is lay =
     ⊎_elim (λ len. len) (λ len. omega arith) is.len
 
 -- where no part stands, the torn base has the byte that the base had
-image_uncovered : (o : Object) (k : ℕ) → is_dirty o ≡ true → k < image_length o → is_covered (part_blocks (placed o)) k ≡ false → get_or (image o) k 0 ≡ uncovered_byte o k
+pub image_uncovered : (o : Object) (k : ℕ) → is_dirty o ≡ true → k < image_length o → is_covered (part_blocks (placed o)) k ≡ false → get_or (image o) k 0 ≡ uncovered_byte o k
 image_uncovered o k dirty h none =
     ap (λ (l : List ℕ). get_or l k 0) (image-dirty o dirty)
     ∙ get_or-spread (image_length o) (uncovered_byte o) (part_blocks (placed o)) k h

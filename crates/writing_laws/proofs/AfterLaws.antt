@@ -15,7 +15,7 @@ use Rattle.elf_object.specs.Image.{image_length, image, is_fill_place}
 use Rattle.elf_object.specs.Refusal.{refusal}
 use Rattle.elf_object.specs.Settled.{settled_section, settled_over, settle}
 use Rattle.elf_object.proofs.ChangedLaws.{is_moved-dirty, torn-dirty}
-use Rattle.elf_object.specs.Changed.{changed_blocks, fill_places, is_disturbed, section_changed, is_moved, marked_piece, torn_section, torn_over, torn}
+use Rattle.elf_object.specs.Changed.{torn_over, changed_blocks, fill_places, is_disturbed, section_changed, is_moved, marked_piece, torn_section, torn}
 use Rattle.elf_object.specs.Valid.{IsObject}
 use Rattle.object_laws.specs.Laws.{IsTornImage}
 use Rattle.object_laws.proofs.ImageLaws.{length-image, placed-dirty, section_at-placed}
@@ -23,19 +23,17 @@ use Rattle.object_laws.proofs.KeepLaws.{section_at_is}
 use Rattle.object_laws.proofs.PlacedLaws.{each_row, placed_is}
 use Rattle.object_laws.proofs.SettledLaws.{settle-dirty, settle-clean, section_raw}
 use Rattle.object_laws.proofs.StandLaws.{covered_from, section_count-placed}
+use Rattle.writing_laws.proofs.Tests.{neither, second_false}
 use Rattle.writing_laws.specs.Lines.{HoldsBlock}
 use Rattle.writing_laws.specs.Based.{some_unmarked, HomeStands, IsBased, UpdatesKeepBased}
-use Rattle.writing_laws.specs.Writing.{IsReady, UndisturbedStays}
+use Rattle.writing_laws.specs.Ready.{IsReady}
+use Rattle.writing_laws.specs.Writing.{UndisturbedStays}
 use Rattle.writing_laws.proofs.BasedSteps.{placed_kept}
 use Rattle.writing_laws.proofs.PlanLaws.{parts_hold}
 use Rattle.writing_laws.proofs.LeftPlaces.{left_stands}
 use Rattle.writing_laws.proofs.WriteLaws.{each_part}
 
 -- ---- A home that is not disturbed
-
-neither : (a b : Bool) → (a || b) ≡ false → (a ≡ false) × (b ≡ false)
-neither true b h = cc
-neither false b h = (refl, h)
 
 meet_at : (a m b n k : ℕ) → a ≤ k → k < a + m → b ≤ k → k < b + n → extents_meet a m b n ≡ true
 unfolding extents_meet
@@ -96,10 +94,6 @@ left_alone o home dirty undisturbed =
       unchanged = λ k from below. unmet_block home.at home.len (changed_blocks o) k second.0 from below;
       unfilled = λ k from below. let end = within (omega arith) in unmet_place home.at home.len (is_fill_place o) 0 (image_length o) k fills from below (omega arith) (omega arith);
     }
-  where
-    second_false : (a b : Bool) → (a && b) ≡ false → a ≡ true → b ≡ false
-    second_false true b h e = h
-    second_false false b h e = cc
 
 pub undisturbed_stays : (o : Object) → UndisturbedStays o
 undisturbed_stays o bytes home ready is between undisturbed inside =
@@ -235,5 +229,5 @@ settle_based o ok is passed = by_test (is_dirty o) refl
 pub updates_keep_based : (o : Object) → UpdatesKeepBased o
 updates_keep_based o = record {
   settled = settle_based o;
-  torn = λ bytes ok is dirty passed between. torn_based o bytes (record { object = ok; dirty = dirty; passed = passed }) is between;
+  torn = λ bytes ready is between. torn_based o bytes ready is between;
 }

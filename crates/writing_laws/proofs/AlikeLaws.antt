@@ -10,7 +10,7 @@ use Rattle.elf_object.specs.Layout.{places_of, placed_by, placed}
 use Rattle.elf_object.specs.Image.{front_blocks, image}
 use Rattle.elf_object.specs.Refusal.{refusal}
 use Rattle.elf_object.specs.Settled.{settled_section, settled_over, settle}
-use Rattle.elf_object.specs.Changed.{is_moved, torn_over, torn}
+use Rattle.elf_object.specs.Changed.{torn_over, is_moved, torn}
 use Rattle.elf_object.specs.Valid.{IsObject}
 use Rattle.object_laws.specs.Laws.{IsTornImage}
 use Rattle.object_laws.proofs.ImageLaws.{placed-dirty, placed-clean}
@@ -18,7 +18,8 @@ use Rattle.object_laws.proofs.SettledLaws.{settle-dirty}
 use Rattle.object_laws.proofs.StandLaws.{section_count-placed, joined-placed}
 use Rattle.object_laws.proofs.AgainLaws.{SameFront, header_again, headers_again, front_again}
 use Rattle.object_laws.proofs.TornLaws.{dirty-placed, placed_stays, torn-is, torn_front, torn_dirty, torn_law}
-use Rattle.writing_laws.specs.Writing.{IsReady, SettlesAlike}
+use Rattle.writing_laws.specs.Ready.{IsReady}
+use Rattle.writing_laws.specs.Writing.{SettlesAlike}
 
 -- ---- Objects that settle alike
 

@@ -28,6 +28,7 @@ use Rattle.elf_object.specs.Refusal.{refusal}
 use Rattle.elf_object.specs.Calls.{step, update_ehdr_refusal, update_phdr_refusal, newphdr_refusal, update_shdr_refusal, newscn_refusal, newdata_refusal, set_fill, replace_refusal, flag, flag_refusal, lend, update_item, update_item_refusal}
 use Rattle.elf_object.specs.Runs.{addall, added, or_same}
 use Rattle.elf_object.proofs.PassedLaws.{answered_keeps, edit_keeps}
+use Rattle.std.proofs.Math.Bool.{or-true}
 use Rattle.writing_laws.specs.Based.{some_unmarked, HomeStands, IsBased, KeepsBased, EveryStepKeepsBased}
 
 -- ---- Homes
@@ -72,11 +73,7 @@ any_set : {X : Type 0} (test : X → Bool) (l : List X) (i : ℕ) (x : X) → te
 any_set test [] i x fails h = h
 any_set test (y ∷ l) zero x fails h =
     let rest : list_any test l ≡ true = sym (ap (λ (b : Bool). b || list_any test l) fails) ∙ h in
-    rw rest (or_true (test y))
-  where
-    or_true : (b : Bool) → (b || true) ≡ true
-    or_true true = refl
-    or_true false = refl
+    rw rest (or-true (test y))
 any_set test (y ∷ l) (suc i) x fails h = by_test (test y) h (any_set test l i x fails)
   where
     by_test : (b : Bool) → (b || list_any test (set l i x)) ≡ true → (list_any test (set l i x) ≡ true → list_any test l ≡ true) → (b || list_any test l) ≡ true

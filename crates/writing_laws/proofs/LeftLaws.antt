@@ -26,26 +26,20 @@ use Rattle.object_laws.proofs.ItemLaws.{alone_spread, row_none}
 use Rattle.object_laws.proofs.PlacedLaws.{update_passes}
 use Rattle.object_laws.proofs.SettledLaws.{unrefused}
 use Rattle.object_laws.proofs.StandLaws.{joined-placed}
+use Rattle.writing_laws.proofs.Tests.{neither}
+use Rattle.std.proofs.lemmas.Bool.{not-false}
 use Rattle.writing_laws.specs.Lines.{HoldsBlock}
 use Rattle.writing_laws.specs.Based.{some_unmarked, HomeStands, IsBased}
-use Rattle.writing_laws.specs.Writing.{IsReady}
+use Rattle.writing_laws.specs.Ready.{IsReady}
 use Rattle.writing_laws.proofs.HeldLaws.{same_holds, same_extent_is, empty_holds}
 
 -- ---- The front
-
-neither : (a b : Bool) → (a || b) ≡ false → (a ≡ false) × (b ≡ false)
-neither true b h = cc
-neither false b h = (refl, h)
-
-is_not : (b : Bool) → not b ≡ false → b ≡ true
-is_not true h = refl
-is_not false h = cc
 
 -- the place and the bytes of a part of the front that does not differ are those that were last written
 front_stands : (o : Object) (p : Part) → is_dirty o ≡ true → front_differs (places_of o) o p ≡ false → HoldsBlock o.base (block_of p o.written) → HoldsBlock o.base (block_of p (front_blocks (placed o)))
 unfolding front_differs
 front_stands o p dirty same stands =
-    let holds = same_holds o.base (block_of p (front_blocks (placed_by (places_of o) o))) (block_of p o.written) (is_not _ same) stands in
+    let holds = same_holds o.base (block_of p (front_blocks (placed_by (places_of o) o))) (block_of p o.written) (not-false _ same) stands in
     subst (λ (q : Object). HoldsBlock o.base (block_of p (front_blocks q))) (sym (placed-dirty o dirty)) holds
 
 pub header_stands : (o : Object) → is_dirty o ≡ true → IsBased o → header_changed o ≡ false → HoldsBlock o.base (front_blocks (placed o)).header

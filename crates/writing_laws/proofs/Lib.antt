@@ -1,3 +1,4 @@
+pub mod Tests
 pub mod LineLaws
 pub mod GapLaws
 pub mod SortLaws
@@ -8,5 +9,10 @@ pub mod LeftPlaces
 pub mod WriteLaws
 pub mod AfterLaws
 pub mod AlikeLaws
+pub mod PieceLaws
+pub mod DisturbedLaws
+pub mod MarkLaws
+pub mod UnderWayLaws
+pub mod RankLaws
 pub mod BasedSteps
 pub mod BasedBeginnings

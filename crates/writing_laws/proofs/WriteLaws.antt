@@ -15,13 +15,16 @@ use Rattle.elf_object.specs.Changed.{header_changed, segments_changed, table_cha
 use Rattle.object_laws.proofs.BlockLaws.{byte_over-uncovered}
 use Rattle.object_laws.proofs.ImageLaws.{length-image, placed-dirty}
 use Rattle.object_laws.proofs.StandLaws.{section_count-placed}
+use Rattle.object_laws.proofs.TornLaws.{image_uncovered}
+use Rattle.writing_laws.proofs.Tests.{neither}
 use Rattle.writing_laws.specs.Lines.{HoldsBlock, AreInLine, patched}
 use Rattle.writing_laws.specs.Plan.{plan, fill_block, fill_between, fill_blocks, written_blocks}
-use Rattle.writing_laws.specs.Writing.{IsReady, WrittenStands, InPlace, TornDevice}
+use Rattle.writing_laws.specs.Ready.{IsReady}
+use Rattle.writing_laws.specs.Writing.{WrittenStands, InPlace, TornDevice}
 use Rattle.writing_laws.proofs.LineLaws.{end_is, line_within, not_covered}
 use Rattle.writing_laws.proofs.GapLaws.{before_first, length-fill_between, fill_covers}
 use Rattle.writing_laws.proofs.HeldLaws.{stands_from, covered_byte, spread_is}
-use Rattle.writing_laws.proofs.PlanLaws.{parts_hold, plan_line, covered-plan, image_uncovered, fill_place_is, fill_places_are}
+use Rattle.writing_laws.proofs.PlanLaws.{parts_hold, plan_line, covered-plan, fill_place_is, fill_places_are}
 use Rattle.writing_laws.proofs.LeftPlaces.{when_block, changed_are, left_stands}
 
 -- ---- The parts that change stand in the image
@@ -149,10 +152,6 @@ unwritten o k ready inside none =
     let tests = neither (is_covered (changed_blocks o) k) (is_covered (fill_blocks o) k) (sym (list_any-append (λ b. covers b k) (changed_blocks o) (fill_blocks o)) ∙ none) in
     (tests.0, fill_place_is o k inside ∙ by_test (is_covered (plan o) k) (nat_lt k (kept_base o)) refl refl tests.1)
   where
-    neither : (a b : Bool) → (a || b) ≡ false → (a ≡ false) × (b ≡ false)
-    neither true b h = cc
-    neither false b h = (refl, h)
-
     by_test : (a b : Bool) → is_covered (plan o) k ≡ a → nat_lt k (kept_base o) ≡ b → is_covered (fill_blocks o) k ≡ false → (not a && not b) ≡ false
     by_test true b e f g = refl
     by_test false true e f g = refl

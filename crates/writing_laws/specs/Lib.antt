@@ -1,4 +1,6 @@
 pub mod Lines
 pub mod Plan
+pub mod Marks
+pub mod Ready
 pub mod Based
 pub mod Writing

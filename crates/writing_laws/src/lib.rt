@@ -1,5 +1,6 @@
-//! Laws for those who write images: what a write may leave alone, in what order bytes stand, and what a
-//! write that failed leaves. Their statements stand in `specs/`, and the lemmas that prove them in `proofs/`.
+//! Laws for those who write images: what a write may leave alone, in what order bytes stand, and
+//! what a write that failed leaves. Their statements stand in `specs/`, and the lemmas that prove
+//! them in `proofs/`.
 #![tactic(auto)]
 
 pub mod based;
