@@ -14,6 +14,7 @@ pub mod sources;
 #[cfg(test)]
 pub(crate) mod steps;
 pub mod window;
+pub mod writes;
 
 pub use device_sink::DeviceSink;
 pub use devices::Device;

@@ -1,45 +1,39 @@
 -- After an update in place, or one that failed: what is not marked stands in the base, and both settle alike.
-use Rattle.std.proofs.Common.{◌≡◌, ℕ, zero, suc, ◌+◌, ◌-◌, ◌<◌, ◌≤◌, min, Bool, true, false, not, ◌&&◌, ◌||◌, List, [], ◌∷◌, ◌++◌, length, take, drop, get_or, None, refl, sym, ap, ◌∙◌, subst, arith, ⊎_elim, ◌⊎◌, inl, inr}
-use Rattle.std.specs.Prelude.{All, nat_lt, if◌then◌else◌, map, ◌==◌}
-use Rattle.std.specs.List.{range_with_len, enumerate_from, list_any, filter, AllByRecursion}
-use Rattle.std.proofs.lemmas.Bool.{cases_lt, lt-ltb, ltb-true, ltb-false, le-ltb}
-use Rattle.std.proofs.lemmas.List.{length-take, length-take-le, length-drop, get_or-take, get_or-drop, ext_get_or, length-map}
-use Rattle.std.proofs.lemmas.List.FromFn.{length-enumerate_from}
+use Rattle.std.proofs.Common.{◌≡◌, ℕ, zero, suc, ◌+◌, ◌<◌, ◌≤◌, Bool, true, false, not, ◌&&◌, ◌||◌, List, [], ◌∷◌, length, take, drop, get_or, None, refl, sym, ap, ◌∙◌, subst, arith, ⊎_elim}
+use Rattle.std.specs.Prelude.{nat_lt, if◌then◌else◌, map}
+use Rattle.std.specs.List.{range_with_len, enumerate_from, list_any, filter}
+use Rattle.std.proofs.lemmas.Bool.{cases_lt, lt-ltb, ltb-false}
+use Rattle.std.proofs.lemmas.List.{length-take, length-take-le, length-drop, get_or-take, get_or-drop, ext_get_or}
 use Rattle.std.proofs.lemmas.List.Elements.{All-map}
-use Rattle.elf_types.specs.declared.records.Ehdr.{Ehdr}
-use Rattle.elf_types.specs.declared.records.Phdr.{Phdr}
 use Rattle.elf_types.specs.declared.records.Shdr.{Shdr}
 use Rattle.elf_object.specs.Blocks.{Block, covers, is_covered, extents_meet}
-use Rattle.elf_object.specs.Object.{Object, Section, Piece, Home, WrittenFront, new_section, section_at, is_dirty}
-use Rattle.elf_object.specs.Open.{home_of, home_bytes, written_front}
+use Rattle.elf_object.specs.Object.{Object, Section, Piece, Home, absent_section, section_at, is_dirty}
+use Rattle.elf_object.specs.Open.{home_of, home_bytes}
 use Rattle.elf_object.specs.Joined.{joined}
 use Rattle.elf_object.specs.Layout.{places_of, placed_by, placed, placed_section}
-use Rattle.elf_object.specs.Image.{front_blocks, image_length, image, is_fill_place}
+use Rattle.elf_object.specs.Image.{image_length, image, is_fill_place}
 use Rattle.elf_object.specs.Refusal.{refusal}
 use Rattle.elf_object.specs.Settled.{settled_section, settled_over, settle}
-use Rattle.elf_object.specs.Changed.{changed_blocks, fill_places, is_disturbed, section_changed, is_moved, marked_piece, torn_section, torn}
+use Rattle.elf_object.proofs.ChangedLaws.{is_moved-dirty, torn-dirty}
+use Rattle.elf_object.specs.Changed.{torn_over, changed_blocks, fill_places, is_disturbed, section_changed, is_moved, marked_piece, torn_section, torn}
 use Rattle.elf_object.specs.Valid.{IsObject}
 use Rattle.object_laws.specs.Laws.{IsTornImage}
-use Rattle.object_laws.proofs.ImageLaws.{length-image, placed-dirty, placed-clean, section_at-placed}
+use Rattle.object_laws.proofs.ImageLaws.{length-image, placed-dirty, section_at-placed}
 use Rattle.object_laws.proofs.KeepLaws.{section_at_is}
 use Rattle.object_laws.proofs.PlacedLaws.{each_row, placed_is}
 use Rattle.object_laws.proofs.SettledLaws.{settle-dirty, settle-clean, section_raw}
-use Rattle.object_laws.proofs.StandLaws.{IsCovered, covered_from, section_count-placed, joined-placed}
-use Rattle.object_laws.proofs.AgainLaws.{SameFront, header_again, headers_again, front_again}
-use Rattle.object_laws.proofs.TornLaws.{dirty-placed, placed_stays, torn_of, torn-is, torn_front, torn_dirty, torn_law}
+use Rattle.object_laws.proofs.StandLaws.{covered_from, section_count-placed}
+use Rattle.writing_laws.proofs.Bools.{neither, second_false}
 use Rattle.writing_laws.specs.Lines.{HoldsBlock}
 use Rattle.writing_laws.specs.Based.{some_unmarked, HomeStands, IsBased, UpdatesKeepBased}
-use Rattle.writing_laws.specs.Writing.{IsReady, UndisturbedStays, SettlesAlike}
+use Rattle.writing_laws.specs.Ready.{IsReady}
+use Rattle.writing_laws.specs.Writing.{UndisturbedStays}
 use Rattle.writing_laws.proofs.BasedSteps.{placed_kept}
 use Rattle.writing_laws.proofs.PlanLaws.{parts_hold}
 use Rattle.writing_laws.proofs.LeftPlaces.{left_stands}
-use Rattle.writing_laws.proofs.WriteLaws.{EachPart, each_part}
+use Rattle.writing_laws.proofs.WriteLaws.{each_part}
 
 -- ---- A home that is not disturbed
-
-neither : (a b : Bool) → (a || b) ≡ false → (a ≡ false) × (b ≡ false)
-neither true b h = cc
-neither false b h = (refl, h)
 
 meet_at : (a m b n k : ℕ) → a ≤ k → k < a + m → b ≤ k → k < b + n → extents_meet a m b n ≡ true
 unfolding extents_meet
@@ -100,10 +94,6 @@ left_alone o home dirty undisturbed =
       unchanged = λ k from below. unmet_block home.at home.len (changed_blocks o) k second.0 from below;
       unfilled = λ k from below. let end = within (omega arith) in unmet_place home.at home.len (is_fill_place o) 0 (image_length o) k fills from below (omega arith) (omega arith);
     }
-  where
-    second_false : (a b : Bool) → (a && b) ≡ false → a ≡ true → b ≡ false
-    second_false true b h e = h
-    second_false false b h e = cc
 
 pub undisturbed_stays : (o : Object) → UndisturbedStays o
 undisturbed_stays o bytes home ready is between undisturbed inside =
@@ -160,14 +150,13 @@ unfolding section_at
 home_of_placed o s ready is inside =
     let kept = placed_kept o is in
     let base = placed_base o ready.dirty in
-    subst (λ (l : List ℕ). HomeStands l (get_or (placed o).sections s new_section)) base (kept.homes s new_section inside)
+    subst (λ (l : List ℕ). HomeStands l (get_or (placed o).sections s absent_section)) base (kept.homes s absent_section inside)
 
 -- of a section that does not move
 still_home : (o : Object) (bytes : List ℕ) (s : ℕ) → IsReady o → IsBased o → IsTornImage o bytes → s < length (placed o).sections → is_moved o s ≡ false → HomeStands bytes (section_at (placed o) s)
-unfolding is_moved
 still_home o bytes s ready is between inside still some out =
     let count : length (placed o).sections ≡ length o.sections = ap (λ (q : Object). length q.sections) (placed-dirty o ready.dirty) ∙ section_count-placed (places_of o) o in
-    let tests = neither (section_changed o s) (is_disturbed o (section_at o s).home) still in
+    let tests = neither (section_changed o s) (is_disturbed o (section_at o s).home) (sym (is_moved-dirty o s ready.dirty) ∙ still) in
     let same = placed_home o s (omega arith) ready.dirty in
     let home = (section_at (placed o) s).home in
     let undisturbed : is_disturbed o (section_at (placed o) s).home ≡ false = ap (is_disturbed o) same ∙ tests.1 in
@@ -187,15 +176,18 @@ torn_home o bytes s ready is between inside = by_test (is_moved o s) refl
     by_test true e = λ some out. let none = unmarked_none (section_at (placed o) s) in let clash : false ≡ true = sym none ∙ some in cc
     by_test false e = still_home o bytes s ready is between inside e
 
-torn_based : (o : Object) (bytes : List ℕ) → IsReady o → IsBased o → IsTornImage o bytes → IsBased (torn o bytes)
-unfolding torn section_at
-torn_based o bytes ready is between = record {
+torn_over_based : (o : Object) (bytes : List ℕ) → IsReady o → IsBased o → IsTornImage o bytes → IsBased (torn_over (is_moved o) bytes (placed o))
+unfolding torn_over section_at
+torn_over_based o bytes ready is between = record {
   header = λ clean. let clash : true ≡ false = clean in cc;
   segments = λ clean. let clash : true ≡ false = clean in cc;
   table = λ clean. let clash : true ≡ false = clean in cc;
   homes = All-map (HomeStands bytes) (λ row. torn_section (is_moved o row.0) row.1) (enumerate_from 0 (placed o).sections)
-      (each_row (λ row. HomeStands bytes (torn_section (is_moved o row.0) row.1)) (placed o).sections new_section (λ s inside. torn_home o bytes s ready is between inside));
+      (each_row (λ row. HomeStands bytes (torn_section (is_moved o row.0) row.1)) (placed o).sections absent_section (λ s inside. torn_home o bytes s ready is between inside));
 }
+
+torn_based : (o : Object) (bytes : List ℕ) → IsReady o → IsBased o → IsTornImage o bytes → IsBased (torn o bytes)
+torn_based o bytes ready is between = subst IsBased (sym (torn-dirty o bytes ready.dirty)) (torn_over_based o bytes ready is between)
 
 -- ---- An update in place
 
@@ -223,8 +215,8 @@ over_based o ready =
       segments = λ clean. parts.segments;
       table = λ clean. parts.table;
       homes = All-map (HomeStands (image o)) (λ row. settled_section (length (image o)) (joined (placed o) row.0) row.1.header) (enumerate_from 0 (placed o).sections)
-          (each_row (λ row. HomeStands (image o) (settled_section (length (image o)) (joined (placed o) row.0) row.1.header)) (placed o).sections new_section (λ s inside.
-          settled_home (image o) (joined (placed o) s) (get_or (placed o).sections s new_section).header (raw_of o s ready (omega arith))));
+          (each_row (λ row. HomeStands (image o) (settled_section (length (image o)) (joined (placed o) row.0) row.1.header)) (placed o).sections absent_section (λ s inside.
+          settled_home (image o) (joined (placed o) s) (get_or (placed o).sections s absent_section).header (raw_of o s ready (omega arith))));
     }
 
 settle_based : (o : Object) → IsObject o → IsBased o → refusal o ≡ None → IsBased (settle o)
@@ -237,5 +229,5 @@ settle_based o ok is passed = by_test (is_dirty o) refl
 pub updates_keep_based : (o : Object) → UpdatesKeepBased o
 updates_keep_based o = record {
   settled = settle_based o;
-  torn = λ bytes ok is dirty passed between. torn_based o bytes (record { object = ok; dirty = dirty; passed = passed }) is between;
+  torn = λ bytes ready is between. torn_based o bytes ready is between;
 }

@@ -19,15 +19,16 @@ use Rattle.elf_xlate.specs.declared.content.Items.TheVariants as items
 use Rattle.elf_xlate.specs.Fields.{fits}
 use Rattle.elf_xlate.specs.Items.{sym_fits, rel_fits, rela_fits, dyn_fits}
 use Rattle.elf_xlate.specs.Translation.{items_count, items_kind}
-use Rattle.elf_object.specs.Object.{Object, Section, Piece, section_at, piece_at, new_section, no_phdr, is_dirty}
+use Rattle.elf_object.specs.Object.{Object, Section, Piece, section_at, piece_at, absent_section, new_section, no_phdr, is_dirty}
 use Rattle.elf_object.specs.Answers.{kind_at, items_at, piece_count, flags_of, has_dirty, has_layout, lend_refusal, halves_of, words_of, addrs_of, syms_of, rels_of, relas_of, dyns_of}
-use Rattle.elf_object.specs.Steps.{new_number, with_section, with_piece_at, with_ehdr, with_phdrs, with_phdr, with_new_phdrs, with_shdr, with_new_section, with_null_section, with_new_piece, own_piece, with_own, with_mark, with_layout, with_flags, is_whole, with_fill}
+use Rattle.elf_object.specs.Steps.{with_sections as other_sections, new_number, with_section, with_piece_at, with_ehdr, with_phdrs, with_phdr, with_new_phdrs, with_shdr, with_new_section, with_null_section, with_new_piece, own_piece, with_own, with_mark, with_layout, with_flags, is_whole, with_fill}
 use Rattle.elf_object.specs.Layout.{places_of, placed_by, placed, placed_section}
 use Rattle.elf_object.specs.Image.{image_length}
 use Rattle.elf_object.specs.Refusal.{refusal}
 use Rattle.elf_object.specs.Calls.{step, update_ehdr_refusal, update_phdr_refusal, newphdr_refusal, update_shdr_refusal, newscn_refusal, newdata_refusal, set_fill, replace_refusal, flag, flag_refusal, lend, update_item, update_item_refusal}
 use Rattle.elf_object.specs.Runs.{addall, added, or_same}
 use Rattle.elf_object.proofs.PassedLaws.{answered_keeps, edit_keeps}
+use Rattle.std.proofs.Math.Bool.{or-true}
 use Rattle.writing_laws.specs.Based.{some_unmarked, HomeStands, IsBased, KeepsBased, EveryStepKeepsBased}
 
 -- ---- Homes
@@ -60,7 +61,7 @@ section_kept o s c kept is = record {
   segments = is.segments;
   table = is.table;
   homes = ⊎_elim
-      (λ h. All-set (HomeStands o.base) o.sections s c (kept h (is.homes s new_section h)) is.homes)
+      (λ h. All-set (HomeStands o.base) o.sections s c (kept h (is.homes s absent_section h)) is.homes)
       (λ h. subst (All (HomeStands o.base)) (sym (set_past o.sections s c h)) is.homes)
       (cases_lt s (length o.sections));
 }
@@ -72,11 +73,7 @@ any_set : {X : Type 0} (test : X → Bool) (l : List X) (i : ℕ) (x : X) → te
 any_set test [] i x fails h = h
 any_set test (y ∷ l) zero x fails h =
     let rest : list_any test l ≡ true = sym (ap (λ (b : Bool). b || list_any test l) fails) ∙ h in
-    rw rest (or_true (test y))
-  where
-    or_true : (b : Bool) → (b || true) ≡ true
-    or_true true = refl
-    or_true false = refl
+    rw rest (or-true (test y))
 any_set test (y ∷ l) (suc i) x fails h = by_test (test y) h (any_set test l i x fails)
   where
     by_test : (b : Bool) → (b || list_any test (set l i x)) ≡ true → (list_any test (set l i x) ≡ true → list_any test l ≡ true) → (b || list_any test l) ≡ true
@@ -121,7 +118,7 @@ ehdr_kept o h is = with_sections o (with_ehdr o h) (λ e. e) refl refl is.homes 
 
 phdrs_kept : (o : Object) (phdrs : List Phdr) → IsBased o → IsBased (with_phdrs o phdrs)
 unfolding with_phdrs
-phdrs_kept o phdrs is = with_sections o (record o { phdrs = phdrs; segments_marked = true }) (λ e. e) refl refl is.homes is
+phdrs_kept o phdrs is = with_sections o (record o { header = record o.header { phnum = length phdrs }; phdrs = phdrs; segments_marked = true }) (λ e. e) refl refl is.homes is
 
 -- ---- Sections
 
@@ -137,8 +134,8 @@ new_section_kept o is =
     by_test true new = All-cons (HomeStands o.base) new_section (new_section ∷ []) new (All-cons (HomeStands o.base) new_section [] new (All-nil (HomeStands o.base)))
     by_test false new = All-cons (HomeStands o.base) new_section [] new (All-nil (HomeStands o.base))
 
-null_kept : (b : Bool) (o : Object) → IsBased o → IsBased (if b then (record o { sections = new_section ∷ [] }) else o)
-null_kept true o is = with_sections o (record o { sections = new_section ∷ [] }) (λ e. e) refl refl (All-cons (HomeStands o.base) new_section [] (new_stands o.base) (All-nil (HomeStands o.base))) is
+null_kept : (b : Bool) (o : Object) → IsBased o → IsBased (if b then other_sections o (new_section ∷ []) else o)
+null_kept true o is = with_sections o (other_sections o (new_section ∷ [])) (λ e. e) refl refl (All-cons (HomeStands o.base) new_section [] (new_stands o.base) (All-nil (HomeStands o.base))) is
 null_kept false o is = is
 
 -- ---- Items

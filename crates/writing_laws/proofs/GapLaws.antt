@@ -7,6 +7,8 @@ use Rattle.std.proofs.lemmas.List.{length-append, length-replicate}
 use Rattle.std.proofs.lemmas.List.Elements.{filter-append}
 use Rattle.std.proofs.lemmas.List.Sums.{sum_by-cons}
 use Rattle.elf_object.specs.Blocks.{Block, block_end, covers, is_covered}
+use Rattle.std.proofs.Math.Bool.{or-true}
+use Rattle.writing_laws.proofs.Bools.{neither}
 use Rattle.writing_laws.specs.Lines.{AreInLine, gap_places}
 use Rattle.writing_laws.specs.Plan.{places_below, base_gaps, fill_block, fill_between}
 use Rattle.writing_laws.proofs.LineLaws.{covers_from, not_covered, end_is, line_within, before_line}
@@ -172,13 +174,5 @@ fill_covers kept fill end from (b ∷ bs) k line a below c none =
     (λ behind.
     let past : block_end b ≤ k = ⊎_elim (λ h. absurd (let over = covers_from b k behind h in let clash : false ≡ true = sym both.0 ∙ over in cc)) (λ h. omega arith) (cases_lt k (b.at + length b.bytes)) in
     ap (λ (t : Bool). covers (fill_block kept fill from b.at) k || t) (fill_covers kept fill end (block_end b) bs k line.1 past below c both.1)
-    ∙ or_true (covers (fill_block kept fill from b.at) k))
+    ∙ or-true (covers (fill_block kept fill from b.at) k))
     (cases_lt k b.at)
-  where
-    neither : (x y : Bool) → (x || y) ≡ false → (x ≡ false) × (y ≡ false)
-    neither true y h = cc
-    neither false y h = (refl, h)
-
-    or_true : (x : Bool) → (x || true) ≡ true
-    or_true true = refl
-    or_true false = refl

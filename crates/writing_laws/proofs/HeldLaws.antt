@@ -9,6 +9,7 @@ use Rattle.std.proofs.lemmas.Slice.Eq.{bytes_eq-Decides}
 use Rattle.elf_object.specs.Blocks.{Block, covers, is_covered, byte_over, spread, same_extent, same_block}
 use Rattle.object_laws.proofs.BlockLaws.{length-spread, get_or-spread}
 use Rattle.object_laws.proofs.StandLaws.{covered_from}
+use Rattle.writing_laws.proofs.Bools.{both_true}
 use Rattle.writing_laws.specs.Lines.{StandsAt, HoldsBlock}
 
 -- ---- Byte by byte
@@ -93,10 +94,6 @@ spread_is n f bs bytes len same =
     get_or-spread n f bs k below ∙ same k below)
 
 -- ---- Blocks that are alike
-
-both_true : (a b : Bool) → (a && b) ≡ true → (a ≡ true) × (b ≡ true)
-both_true true b h = (refl, h)
-both_true false b h = cc
 
 -- extents that are alike are the same, or both are empty
 pub same_extent_is : (a m b n : ℕ) → same_extent a m b n ≡ true → ((a ≡ b) × (m ≡ n)) ⊎ ((m ≡ 0) × (n ≡ 0))

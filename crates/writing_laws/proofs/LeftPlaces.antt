@@ -10,17 +10,20 @@ use Rattle.elf_types.specs.declared.records.Part.{Part}
 use Rattle.elf_types.specs.declared.records.Part.TheVariants as part
 use Rattle.elf_object.specs.Blocks.{Block, covers, is_covered}
 use Rattle.elf_object.specs.Object.{Object, is_dirty}
-use Rattle.elf_object.specs.Layout.{section_numbers, places_of, placed_by, placed}
-use Rattle.elf_object.specs.Image.{front_blocks, section_block, part_blocks, kept_base, uncovered_byte, image_length, image, is_fill_place}
+use Rattle.elf_object.specs.Layout.{section_numbers, places_of, placed}
+use Rattle.elf_object.specs.Image.{front_blocks, section_block, part_blocks, kept_base, uncovered_byte, image}
 use Rattle.elf_object.specs.Changed.{header_changed, segments_changed, table_changed, section_changed, when, changed_parts, changed_blocks}
 use Rattle.object_laws.proofs.ImageLaws.{placed-dirty}
 use Rattle.object_laws.proofs.StandLaws.{section_count-placed}
+use Rattle.std.proofs.Math.Bool.{or-true}
+use Rattle.object_laws.proofs.TornLaws.{image_uncovered}
 use Rattle.writing_laws.specs.Lines.{HoldsBlock}
 use Rattle.writing_laws.specs.Based.{IsBased}
 use Rattle.writing_laws.specs.Plan.{plan}
-use Rattle.writing_laws.specs.Writing.{IsReady, LeftStands}
+use Rattle.writing_laws.specs.Ready.{IsReady}
+use Rattle.writing_laws.specs.Writing.{LeftStands}
 use Rattle.writing_laws.proofs.HeldLaws.{held_byte, held_within}
-use Rattle.writing_laws.proofs.PlanLaws.{parts_hold, image_uncovered, fill_place_is, covered-plan}
+use Rattle.writing_laws.proofs.PlanLaws.{parts_hold, fill_place_is, covered-plan}
 use Rattle.writing_laws.proofs.LeftLaws.{header_stands, segments_stand, table_stands, section_stands}
 
 -- ---- The blocks that change
@@ -65,24 +68,18 @@ changed_are o dirty =
     let segments : List (Part × Block) = when (segments_changed o) (part.Segments, (front_blocks (placed o)).segments) in
     let sections : List (Part × Block) = map (λ s. (part.Section s, section_block (placed o) s)) (filter (section_changed o) (section_numbers o)) in
     let table : List (Part × Block) = when (table_changed o) (part.Table, (front_blocks (placed o)).table) in
-    let same : map snd (header ++ segments ++ sections ++ table) ≡ changed_of o =
     map_four header segments sections table
     ∙ four_same (map snd header) (map snd segments) (map snd sections) (map snd table) _ _ _ _
     (map_when (header_changed o) part.Header (front_blocks (placed o)).header)
     (map_when (segments_changed o) part.Segments (front_blocks (placed o)).segments)
     (map_sections (section_block (placed o)) (filter (section_changed o) (section_numbers o)))
-    (map_when (table_changed o) part.Table (front_blocks (placed o)).table) in
-    ap (λ (b : Bool). map snd (if b then header ++ segments ++ sections ++ table else [])) dirty ∙ same
+    (map_when (table_changed o) part.Table (front_blocks (placed o)).table)
 
 -- ---- Among blocks
 
 -- the places of a block are covered by others
 abbrev pub IsAmong : Block → List Block → Type 0
 IsAmong b bs = (k : ℕ) → covers b k ≡ true → is_covered bs k ≡ true
-
-or_true : (a : Bool) → (a || true) ≡ true
-or_true true = refl
-or_true false = refl
 
 pub among_left : (b : Block) (bs cs : List Block) → IsAmong b bs → IsAmong b (bs ++ cs)
 unfolding is_covered
@@ -92,7 +89,7 @@ among_left b bs cs among k over =
 pub among_right : (b : Block) (bs cs : List Block) → IsAmong b cs → IsAmong b (bs ++ cs)
 unfolding is_covered
 among_right b bs cs among k over =
-    list_any-append (λ x. covers x k) bs cs ∙ ap (λ (t : Bool). is_covered bs k || t) (among k over) ∙ or_true (is_covered bs k)
+    list_any-append (λ x. covers x k) bs cs ∙ ap (λ (t : Bool). is_covered bs k || t) (among k over) ∙ or-true (is_covered bs k)
 
 among_first : (b : Block) (bs : List Block) → IsAmong b (b ∷ bs)
 unfolding is_covered
@@ -118,7 +115,7 @@ among_sections f test a (suc n) s from below passes k over = ⊎_elim
     (cases_lt a s)
   where
     by_test : (t : Bool) → list_any (λ x. covers x k) (map f (filter test (range_with_len (a + 1) n))) ≡ true → list_any (λ x. covers x k) (map f (cond t (a ∷ filter test (range_with_len (a + 1) n)) (filter test (range_with_len (a + 1) n)))) ≡ true
-    by_test true rest = rw rest (or_true (covers (f a) k))
+    by_test true rest = rw rest (or-true (covers (f a) k))
     by_test false rest = rest
 
 -- ---- Parts that are left alone

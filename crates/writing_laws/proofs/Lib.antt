@@ -1,3 +1,5 @@
+pub mod Bools
+pub mod Computed
 pub mod LineLaws
 pub mod GapLaws
 pub mod SortLaws
@@ -8,5 +10,11 @@ pub mod LeftPlaces
 pub mod WriteLaws
 pub mod AfterLaws
 pub mod AlikeLaws
+pub mod PieceLaws
+pub mod DisturbedLaws
+pub mod MarkLaws
+pub mod UnderWayLaws
+pub mod RankLaws
+pub mod DeviceLaws
 pub mod BasedSteps
 pub mod BasedBeginnings

@@ -1,5 +1,5 @@
 -- The parts of an image, and its plan.
-use Rattle.std.proofs.Common.{◌≡◌, ℕ, zero, suc, ◌+◌, ◌-◌, ◌<◌, ◌≤◌, Bool, true, false, not, ◌&&◌, List, [], ◌∷◌, ◌++◌, length, get_or, Some, refl, sym, ap, ◌∙◌, subst, arith}
+use Rattle.std.proofs.Common.{◌≡◌, ℕ, suc, ◌+◌, ◌-◌, ◌<◌, ◌≤◌, Bool, true, false, not, ◌&&◌, List, [], ◌∷◌, ◌++◌, length, Some, refl, sym, ap, ◌∙◌, arith}
 use Rattle.std.specs.Prelude.{nat_lt, if◌then◌else◌, slice_get, count_by}
 use Rattle.std.specs.List.{range_with_len, filter, AllByRecursion}
 use Rattle.std.proofs.lemmas.Bool.{lt-ltb, le-ltb}
@@ -12,13 +12,14 @@ use Rattle.elf_object.specs.Object.{Object, is_dirty}
 use Rattle.elf_object.specs.Layout.{parts_of, places_of, placed}
 use Rattle.elf_object.specs.Image.{part_blocks, kept_base, uncovered_byte, image_length, image, is_fill_place}
 use Rattle.elf_object.specs.Changed.{fill_places}
-use Rattle.object_laws.proofs.BlockLaws.{AreApart, AllApart, get_or-spread, byte_over-uncovered}
 use Rattle.object_laws.proofs.ImageLaws.{image-dirty}
 use Rattle.object_laws.proofs.PlaceLaws.{length_from-ge}
 use Rattle.object_laws.proofs.StandLaws as stand
+use Rattle.object_laws.proofs.ReopenLaws.{pairs_apart}
 use Rattle.writing_laws.specs.Lines.{HoldsBlock, AreInLine, gap_places}
 use Rattle.writing_laws.specs.Plan.{in_order, plan, base_gaps}
-use Rattle.writing_laws.specs.Writing.{IsReady, PartsAreApart, PlanIsImage, GapsAreFill}
+use Rattle.writing_laws.specs.Ready.{IsReady}
+use Rattle.writing_laws.specs.Writing.{PartsAreApart, PlanIsImage, GapsAreFill}
 use Rattle.writing_laws.proofs.LineLaws.{drop-spread}
 use Rattle.writing_laws.proofs.GapLaws.{filter_range, filter_gaps, split_range, filter_range_none, length-base_gaps}
 use Rattle.writing_laws.proofs.SortLaws.{byte_over-in_order, covered-in_order, in_order_line}
@@ -36,15 +37,6 @@ parts_hold o ready = each (part_blocks (placed o)) (λ i b at. stand.part_in_ima
     each : (bs : List Block) → ((i : ℕ) (b : Block) → slice_get bs i ≡ Some b → HoldsBlock (image o) b) → AllByRecursion (HoldsBlock (image o)) bs
     each [] holds = tt
     each (b ∷ bs) holds = (holds 0 b refl, each bs (λ i c at. holds (suc i) c at))
-
-pairs_apart : (bs : List Block) (i j : ℕ) (a b : Block) → AllApart bs → i < j → slice_get bs i ≡ Some a → slice_get bs j ≡ Some b → AreApart a b
-pairs_apart [] i j a b apart below first second = cc
-pairs_apart (c ∷ bs) i zero a b apart below first second = absurd (omega arith)
-pairs_apart (c ∷ bs) zero (suc j) a b apart below first second =
-    let same : c ≡ a = cc in
-    let R : Block → Type 0 = λ x. AreApart x b in
-    subst R same (stand.get_each (AreApart c) bs j b apart.0 second)
-pairs_apart (c ∷ bs) (suc i) (suc j) a b apart below first second = pairs_apart bs i j a b apart.1 (omega arith) first second
 
 pub parts_are_apart : (o : Object) → PartsAreApart o
 parts_are_apart o = record {
@@ -76,13 +68,7 @@ plan_is_image o = record {
   bytes = λ ready. plan_spread o ready ∙ drop-spread (image_length o) (uncovered_byte o) 0 (plan o) (plan_line o ready);
 }
 
--- ---- A place that no part covers
-
-pub image_uncovered : (o : Object) (k : ℕ) → is_dirty o ≡ true → k < image_length o → is_covered (part_blocks (placed o)) k ≡ false → get_or (image o) k 0 ≡ uncovered_byte o k
-image_uncovered o k dirty h none =
-    ap (λ (l : List ℕ). get_or l k 0) (image-dirty o dirty)
-    ∙ get_or-spread (image_length o) (uncovered_byte o) (part_blocks (placed o)) k h
-    ∙ byte_over-uncovered (uncovered_byte o) (part_blocks (placed o)) k none
+-- ---- The base
 
 -- the base that counts is within the image
 pub kept_within : (o : Object) → is_dirty o ≡ true → kept_base o ≤ image_length o

@@ -63,7 +63,7 @@ each_inserted key P x (y ∷ ys) here rest = by_test (nat_le (key x) (key y)) (e
     by_test true more = (here, rest)
     by_test false more = (rest.0, more)
 
-each_sorted : {X : Type 0} (key : X → ℕ) (P : X → Type 0) (xs : List X) → AllByRecursion P xs → AllByRecursion P (sorted_by key xs)
+pub each_sorted : {X : Type 0} (key : X → ℕ) (P : X → Type 0) (xs : List X) → AllByRecursion P xs → AllByRecursion P (sorted_by key xs)
 each_sorted key P [] each = tt
 each_sorted key P (x ∷ xs) each = each_inserted key P x (sorted_by key xs) each.0 (each_sorted key P xs each.1)
 

@@ -1,30 +1,32 @@
 -- What an update in place writes: it stands in the image, and over the base it gives the image.
-use Rattle.std.proofs.Common.{◌≡◌, ℕ, zero, suc, ◌+◌, ◌-◌, ◌<◌, ◌≤◌, min, max, Bool, true, false, not, ◌&&◌, ◌||◌, List, [], ◌∷◌, ◌++◌, length, take, drop, replicate, get_or, refl, sym, ap, ◌∙◌, subst, arith, ⊎_elim, ◌⊎◌, inl, inr}
-use Rattle.std.specs.Prelude.{All, nat_lt, if◌then◌else◌, map, sum_by, cond}
+use Rattle.std.proofs.Common.{◌≡◌, ℕ, zero, suc, ◌+◌, ◌-◌, ◌<◌, ◌≤◌, max, Bool, true, false, not, ◌&&◌, ◌||◌, List, [], ◌∷◌, ◌++◌, length, take, replicate, get_or, refl, sym, ap, ◌∙◌, subst, arith, ⊎_elim, inl, inr}
+use Rattle.std.specs.Prelude.{nat_lt, map, sum_by, cond}
 use Rattle.std.specs.List.{range_with_len, list_any, filter, AllByRecursion}
 use Rattle.std.proofs.lemmas.Bool.{cases_lt, le-ltb, ltb-false}
 use Rattle.std.proofs.lemmas.List.{length-replicate, get_or-replicate, length-take, get_or-take}
 use Rattle.std.proofs.lemmas.List.Elements.{All-from_recursion, recursion_from_All}
 use Rattle.std.proofs.lemmas.List.Folds.{list_any-append}
 use Rattle.std.proofs.lemmas.List.Sums.{sum_by-append}
-use Rattle.elf_object.specs.Blocks.{Block, block_end, covers, is_covered, byte_over, spread}
+use Rattle.elf_object.specs.Blocks.{Block, block_end, covers, is_covered, byte_over}
 use Rattle.elf_object.specs.Object.{Object}
-use Rattle.elf_object.specs.Layout.{section_numbers, places_of, placed}
+use Rattle.elf_object.specs.Layout.{places_of, placed}
 use Rattle.elf_object.specs.Image.{front_blocks, section_block, part_blocks, kept_base, uncovered_byte, image_length, image, is_fill_place}
-use Rattle.elf_object.specs.Changed.{header_changed, segments_changed, table_changed, section_changed, changed_blocks, fill_places, changed_bytes}
+use Rattle.elf_object.specs.Changed.{header_changed, segments_changed, table_changed, section_changed, changed_blocks, changed_bytes}
 use Rattle.object_laws.proofs.BlockLaws.{byte_over-uncovered}
 use Rattle.object_laws.proofs.ImageLaws.{length-image, placed-dirty}
 use Rattle.object_laws.proofs.StandLaws.{section_count-placed}
-use Rattle.object_laws.specs.Laws.{IsTornImage}
-use Rattle.writing_laws.specs.Lines.{HoldsBlock, AreInLine, gap_places, patched, AreBetween, IsTornPatch}
+use Rattle.object_laws.proofs.TornLaws.{image_uncovered}
+use Rattle.writing_laws.proofs.Bools.{neither}
+use Rattle.writing_laws.specs.Lines.{HoldsBlock, AreInLine, patched}
 use Rattle.writing_laws.specs.Plan.{plan, fill_block, fill_between, fill_blocks, written_blocks}
+use Rattle.writing_laws.specs.Ready.{IsReady}
 use Rattle.writing_laws.specs.Based.{IsBased}
-use Rattle.writing_laws.specs.Writing.{IsReady, WrittenStands, InPlace, TornDevice}
+use Rattle.writing_laws.specs.Writing.{WrittenStands, InPlace, TornDevice}
 use Rattle.writing_laws.proofs.LineLaws.{end_is, line_within, not_covered}
 use Rattle.writing_laws.proofs.GapLaws.{before_first, length-fill_between, fill_covers}
 use Rattle.writing_laws.proofs.HeldLaws.{stands_from, covered_byte, spread_is}
-use Rattle.writing_laws.proofs.PlanLaws.{parts_hold, plan_line, covered-plan, image_uncovered, fill_place_is, fill_places_are}
-use Rattle.writing_laws.proofs.LeftPlaces.{when_block, changed_of, changed_are, left_stands}
+use Rattle.writing_laws.proofs.PlanLaws.{parts_hold, plan_line, covered-plan, fill_place_is, fill_places_are}
+use Rattle.writing_laws.proofs.LeftPlaces.{when_block, changed_are, left_stands}
 
 -- ---- The parts that change stand in the image
 
@@ -151,10 +153,6 @@ unwritten o k ready inside none =
     let tests = neither (is_covered (changed_blocks o) k) (is_covered (fill_blocks o) k) (sym (list_any-append (λ b. covers b k) (changed_blocks o) (fill_blocks o)) ∙ none) in
     (tests.0, fill_place_is o k inside ∙ by_test (is_covered (plan o) k) (nat_lt k (kept_base o)) refl refl tests.1)
   where
-    neither : (a b : Bool) → (a || b) ≡ false → (a ≡ false) × (b ≡ false)
-    neither true b h = cc
-    neither false b h = (refl, h)
-
     by_test : (a b : Bool) → is_covered (plan o) k ≡ a → nat_lt k (kept_base o) ≡ b → is_covered (fill_blocks o) k ≡ false → (not a && not b) ≡ false
     by_test true b e f g = refl
     by_test false true e f g = refl
@@ -167,21 +165,26 @@ begins : (base held : List ℕ) (k : ℕ) → take (length base) held ≡ base �
 begins base held k same below =
     sym (get_or-take (length base) held k 0 below) ∙ ap (λ (l : List ℕ). get_or l k 0) same
 
+-- a place in no block, where all that is to be written is among them, has its byte already
+pub unwritten_same : (o : Object) (blocks : List Block) (held : List ℕ) (k : ℕ) → IsReady o → IsBased o → ((j : ℕ) → is_covered (written_blocks o) j ≡ true → is_covered blocks j ≡ true) → take (length o.base) held ≡ o.base → k < image_length o → is_covered blocks k ≡ false → get_or held k 0 ≡ get_or (image o) k 0
+unwritten_same o blocks held k ready is all starts inside none =
+    let tests = unwritten o k ready inside (missing (is_covered (written_blocks o) k) refl) in
+    let left = left_stands o k ready is inside tests.0 tests.1 in
+    begins o.base held k starts left.0 ∙ sym left.1
+  where
+    missing : (c : Bool) → is_covered (written_blocks o) k ≡ c → c ≡ false
+    missing true e = let clash : false ≡ true = sym none ∙ all k e in cc
+    missing false e = refl
+
 pub in_place : (o : Object) → InPlace o
 unfolding patched
 in_place o blocks held ready is holds all starts =
     spread_is (image_length o) (λ k. get_or held k 0) blocks (image o) (length-image o) (λ k inside. by_test k inside (is_covered blocks k) refl)
   where
-    missing : (k : ℕ) (c : Bool) → is_covered (written_blocks o) k ≡ c → is_covered blocks k ≡ false → c ≡ false
-    missing k true e none = let clash : false ≡ true = sym none ∙ all k e in cc
-    missing k false e none = refl
-
     by_test : (k : ℕ) → k < image_length o → (c : Bool) → is_covered blocks k ≡ c → byte_over (λ j. get_or held j 0) blocks k ≡ get_or (image o) k 0
     by_test k inside true over = covered_byte (image o) (λ j. get_or held j 0) blocks k (recursion_from_All (HoldsBlock (image o)) blocks holds) over
     by_test k inside false none =
-        let tests = unwritten o k ready inside (missing k (is_covered (written_blocks o) k) refl none) in
-        let left = left_stands o k ready is inside tests.0 tests.1 in
-        byte_over-uncovered (λ j. get_or held j 0) blocks k none ∙ begins o.base held k starts left.0 ∙ sym left.1
+        byte_over-uncovered (λ j. get_or held j 0) blocks k none ∙ unwritten_same o blocks held k ready is all starts inside none
 
 -- ---- A device on which it failed
 

@@ -1,5 +1,5 @@
--- What ties the base to an object in which something is dirty: what is not marked stands in the base as it stood in the
--- image that was opened or last written (elf_update, ELF_F_DIRTY).
+-- What ties the base to an object in which something is dirty: what is not marked stands in the
+-- base as it stood in the image that was opened or last written (elf_update, ELF_F_DIRTY).
 use Rattle.std.specs.Prelude.{◌≡◌, ℕ, Bool, true, false, not, List, take, drop, All, None, Ok}
 use Rattle.std.specs.List.{list_any}
 use Rattle.elf_types.specs.declared.records.Class.{Class}
@@ -13,7 +13,7 @@ use Rattle.elf_types.specs.declared.records.Rela.{Rela}
 use Rattle.elf_types.specs.declared.records.Dyn.{Dyn}
 use Rattle.elf_types.specs.declared.records.Part.{Part}
 use Rattle.elf_xlate.specs.declared.content.Items.{Items}
-use Rattle.elf_object.specs.Object.{Object, Section, is_dirty}
+use Rattle.elf_object.specs.Object.{Object, Section}
 use Rattle.elf_object.specs.Open.{opened, created_over}
 use Rattle.elf_object.specs.Refusal.{refusal}
 use Rattle.elf_object.specs.Settled.{settle}
@@ -24,6 +24,7 @@ use Rattle.elf_object.specs.Runs as runs
 use Rattle.elf_object.specs.Valid.{AreBytes, IsObject}
 use Rattle.object_laws.specs.Laws.{IsTornImage}
 use Rattle.writing_laws.specs.Lines.{HoldsBlock}
+use Rattle.writing_laws.specs.Ready.{IsReady}
 
 -- ---- The invariant
 
@@ -31,12 +32,15 @@ use Rattle.writing_laws.specs.Lines.{HoldsBlock}
 unfoldable pub some_unmarked : Section → Bool
 some_unmarked c = list_any (λ p. not p.marked) c.pieces
 
--- where some piece of a section is not marked and its home lies in the file, the bytes of the home are those of the base
+-- where some piece of a section is not marked and its home lies in the file, the bytes of the home
+-- are those of the base
 abbrev pub HomeStands : List ℕ → Section → Type 0
-HomeStands base c = some_unmarked c ≡ true → c.home.out ≡ false → take c.home.len (drop c.home.at base) ≡ c.raw
+HomeStands base c =
+    some_unmarked c ≡ true → c.home.out ≡ false → take c.home.len (drop c.home.at base) ≡ c.raw
 
--- what is not written has its bytes in the base: the ELF header, the program header table and the section header table as
--- they were last written, where the object is not marked as a whole; and each home that a piece still stands for
+-- what is not written has its bytes in the base: the ELF header, the program header table and the
+-- section header table as they were last written, where the object is not marked as a whole; and
+-- each home that a piece still stands for
 pub record IsBased (o : Object) : Type 0 where
   pub header : o.marked ≡ false → HoldsBlock o.base o.written.header
   pub segments : o.marked ≡ false → HoldsBlock o.base o.written.segments
@@ -52,7 +56,8 @@ KeepsBased c = (o : Object) → IsBased o → IsBased (step c o)
 -- an image of bytes that is opened has it, and so does an object that is created over any base
 pub record BeginningsAreBased : Type 0 where
   pub from_image : (image : List ℕ) (o : Object) → AreBytes image → opened image ≡ Ok o → IsBased o
-  pub from_nothing : (class : Class) (order : Order) (base : List ℕ) → IsBased (created_over class order base)
+  pub from_nothing : (class : Class) (order : Order) (base : List ℕ)
+      → IsBased (created_over class order base)
 
 -- every step keeps it
 pub record EveryStepKeepsBased : Type 0 where
@@ -63,7 +68,8 @@ pub record EveryStepKeepsBased : Type 0 where
   pub update_shdr : (s : ℕ) (h : Shdr) → KeepsBased (calls.update_shdr s h)
   pub newscn : KeepsBased calls.newscn
   pub newnull : KeepsBased calls.newnull
-  pub newdata : (s : ℕ) (items : Items) (align : ℕ) → KeepsBased (calls.newdata_aligned s items align)
+  pub newdata : (s : ℕ) (items : Items) (align : ℕ)
+      → KeepsBased (calls.newdata_aligned s items align)
   pub set_fill : (byte : ℕ) → KeepsBased (calls.set_fill byte)
   pub replace : (s p : ℕ) (items : Items) → KeepsBased (calls.replace s p items)
   pub flag : (p : Part) (set : Bool) (bits : ℕ) → KeepsBased (calls.flag p set bits)
@@ -81,4 +87,4 @@ pub record EveryStepKeepsBased : Type 0 where
 -- where it is not refused, an update in place leaves it, and so does one that failed
 pub record UpdatesKeepBased (o : Object) : Type 0 where
   pub settled : IsObject o → IsBased o → refusal o ≡ None → IsBased (settle o)
-  pub torn : (bytes : List ℕ) → IsObject o → IsBased o → is_dirty o ≡ true → refusal o ≡ None → IsTornImage o bytes → IsBased (torn o bytes)
+  pub torn : (bytes : List ℕ) → IsReady o → IsBased o → IsTornImage o bytes → IsBased (torn o bytes)

@@ -1,11 +1,12 @@
--- The plan of a write (elf_update): the parts of an image that are not empty, in the order of their places, and the gaps
--- between them.
-use Rattle.std.specs.Prelude.{ℕ, ◌+◌, ◌-◌, Bool, nat_lt, min, max, List, [], ◌∷◌, ◌++◌, length}
-use Rattle.std.specs.List.{filter}
+-- The plan of a write (elf_update): the parts of an image that are not empty, in the order of their
+-- places, and the gaps between them.
+use Rattle.std.specs.Prelude.{slice_index_or, ℕ, ◌+◌, ◌-◌, Bool, nat_lt, min, max, List, [], ◌∷◌, ◌++◌, length}
+use Rattle.std.specs.List.{filter, list_any}
 use Rattle.std.proofs.Math.ListN.{replicate}
 use Rattle.elf_layout.specs.Meeting.{sorted_by}
-use Rattle.elf_object.specs.Blocks.{Block, block_end}
-use Rattle.elf_object.specs.Object.{Object}
+use Rattle.elf_object.specs.Blocks.{Block, block_end, extents_meet}
+use Rattle.elf_object.specs.Object.{Object, Home}
+use Rattle.elf_object.specs.Open.{no_block}
 use Rattle.elf_object.specs.Layout.{placed}
 use Rattle.elf_object.specs.Image.{part_blocks, kept_base, image_length}
 use Rattle.elf_object.specs.Changed.{changed_blocks}
@@ -20,6 +21,10 @@ in_order blocks = sorted_by (λ b. b.at) (filter block_has_bytes blocks)
 -- the parts of the image that are not empty, by place
 unfoldable pub plan : Object → List Block
 plan o = in_order (part_blocks (placed o))
+
+-- the part with that rank, its place in the order of the parts
+unfoldable pub block_of_rank : Object → ℕ → Block
+block_of_rank o rank = slice_index_or (part_blocks (placed o)) rank no_block
 
 -- ---- Gaps: base bytes below the end of those that count, and then the fill byte
 
@@ -52,3 +57,7 @@ fill_blocks o = fill_between (kept_base o) o.fill (image_length o) 0 (plan o)
 -- what an update in place writes: the parts that change, and the fill
 unfoldable pub written_blocks : Object → List Block
 written_blocks o = changed_blocks o ++ fill_blocks o
+
+-- whether a home shares a place with one of some blocks
+unfoldable pub meets_some : Home → List Block → Bool
+meets_some home blocks = list_any (λ b. extents_meet home.at home.len b.at (length b.bytes)) blocks

@@ -44,7 +44,8 @@ impl<R: rt::Files<File = File>> RealFiles<R> {
     fn hand_out(&mut self, alloc: Global, name: &str, writes: bool) -> Result<RealFile, OpenFault>
         ensures own_faults { IfOk result (λ f. (f.faults ≡ 0) × (f.inner.write_faults ≡ 0)) }
         ensures own_numbers { IfOk result (λ f. (f.taken ≡ 0) × (f.inner.given ≡ 0)) }
-        ensures failed { IsErrOf result OpenFault.Failed → Rose self.old.read_faults self.new.read_faults }
+        ensures failed { IsErrOf result OpenFault.Failed →
+            Rose self.old.read_faults self.new.read_faults }
         ensures read_faults { self.old.read_faults ≤ self.new.read_faults }
         ensures write_faults { self.new.write_faults ≡ self.old.write_faults }
         ensures numbers { (self.new.taken ≡ self.old.taken) × (self.new.given ≡ self.old.given) }
