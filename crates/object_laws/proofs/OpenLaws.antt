@@ -2,9 +2,9 @@
 use Rattle.std.proofs.Common.{◌≡◌, ℕ, ◌+◌, ◌*◌, ◌^◌, ◌<◌, ◌≤◌, Bool, true, false, not, ◌&&◌, ◌||◌, List, [], ◌∷◌, length, take, drop, get_or, None, Result, Ok, Err, refl, sym, ap, ◌∙◌, subst, arith, lit<, lit≤}
 use Rattle.std.specs.Prelude.{All, IsSome, IsTrue, nat_lt, if◌then◌else◌, ◌==◌}
 use Rattle.std.proofs.lemmas.Bool.{ltb-false, lt-ltb, eqb-true}
-use Rattle.std.proofs.lemmas.List.{length-take, length-drop, length-map, length-replicate, length-take-le}
+use Rattle.std.proofs.lemmas.List.{length-take, length-drop, length-map, length-replicate, length-take-le, nil_from_length}
 use Rattle.std.proofs.lemmas.List.FromFn.{length-map-range_with_len}
-use Rattle.std.proofs.lemmas.List.Elements.{All-nil, All-cons, All-take, All-drop, All-map, All-weaker, All-replicate}
+use Rattle.std.proofs.lemmas.List.Elements.{All-nil, All-cons, All-take, All-drop, All-map, All-replicate}
 use Rattle.elf_types.specs.Kinds.{section_kind, kind_of_type, kinds_of_types, kind_in, is_compressed}
 use Rattle.elf_types.specs.declared.records.Class.{Class}
 use Rattle.elf_types.specs.declared.records.Class.TheVariants.{C32, C64}
@@ -12,11 +12,12 @@ use Rattle.elf_types.specs.declared.records.Order.{Order}
 use Rattle.elf_types.specs.declared.records.Kind.{Kind}
 use Rattle.elf_types.specs.declared.records.Kind.TheVariants as kinds
 use Rattle.elf_types.specs.declared.records.Ehdr.{Ehdr}
+use Rattle.elf_types.specs.declared.records.Phdr.{Phdr}
 use Rattle.elf_types.specs.declared.records.Shdr.{Shdr}
 use Rattle.elf_types.specs.declared.errors.ElfError.{ElfError}
 use Rattle.elf_types.specs.declared.errors.ElfError.TheVariants as error
 use Rattle.elf_xlate.specs.Fields.{Field, number_in, fits}
-use Rattle.elf_xlate.specs.Headers.{ehdr_size, ehdr_fields, ehdr_of, ehdr_fits, IsEhdr, HasNarrowCounts, phdr_size, phdr_fields, phdr_of, IsPhdr, shdr_size, shdr_fields, shdr_of, shdr_fits, IsShdr}
+use Rattle.elf_xlate.specs.Headers.{ehdr_size, ehdr_fields, ehdr_of, ehdr_fits, IsEhdr, HasNarrowCounts, phdr_size, phdr_fields, phdr_of, phdr_fits, IsPhdr, shdr_size, shdr_fields, shdr_of, shdr_fits, IsShdr}
 use Rattle.elf_xlate.specs.Translation.{items_of}
 use Rattle.elf_ident.specs.declared.counts.Counts.{Counts}
 use Rattle.elf_ident.specs.declared.fronts.Head.{Head}
@@ -27,7 +28,9 @@ use Rattle.elf_object.specs.Open.{extent_of, home_of, home_bytes, opened_section
 use Rattle.elf_types.specs.Answers.{refused_if, answered, ◌>>=◌}
 use Rattle.elf_types.specs.declared.constants.TheConstants.{EV_CURRENT, PN_XNUM, MAX_IMAGE, MAX_SECTIONS, MAX_SEGMENTS}
 use Rattle.elf_ident.proofs.Refusals.{answered_ok, bind_ok, last_passed}
-use Rattle.elf_object.proofs.PassedLaws.{not_refused, passed_one}
+use Rattle.elf_ident.specs.Reading.{IsFittingFront, IsCounted}
+use Rattle.object_laws.specs.Laws.{BegunFits}
+use Rattle.elf_object.proofs.PassedLaws.{not_refused, not_not, passed_one}
 use Rattle.elf_object.specs.Valid.{AreBytes, IsHome, IsPiece, IsSection, IsObject}
 use Rattle.object_laws.proofs.KeepLaws.{home_piece_is, zero_shdr_is}
 use Rattle.object_laws.proofs.RangeLaws.{no_field, native_range, field_range, number_in_below, items_range}
@@ -73,18 +76,31 @@ ehdr_range class order bytes are =
       record { phnum = phnum; shnum = shnum; shstrndx = shstrndx },
     )
 
-pub phdr_range : (class : Class) (order : Order) (bytes : List ℕ) → AreBytes bytes → IsPhdr (phdr_of class order bytes)
+phdr_fits_all : (class : Class) (p : Phdr) → IsTrue (fits class p.offset) → IsTrue (fits class p.vaddr) → IsTrue (fits class p.paddr) → IsTrue (fits class p.filesz) → IsTrue (fits class p.memsz) → IsTrue (fits class p.align) → IsTrue (phdr_fits class p)
+unfolding phdr_fits
+phdr_fits_all class p a b c d e f = rw (a, b, c, d, e, f) refl
+
+pub phdr_range : (class : Class) (order : Order) (bytes : List ℕ) → AreBytes bytes → IsPhdr (phdr_of class order bytes) × IsTrue (phdr_fits class (phdr_of class order bytes))
 unfolding phdr_of phdr_fields
-phdr_range class order bytes are = record {
-  ptype = field_range class order bytes (get_or phdr_fields 0 no_field) 4 refl refl are;
-  flags = field_range class order bytes (get_or phdr_fields 1 no_field) 4 refl refl are;
-  offset = native_range class order bytes (get_or phdr_fields 2 no_field) refl refl are;
-  vaddr = native_range class order bytes (get_or phdr_fields 3 no_field) refl refl are;
-  paddr = native_range class order bytes (get_or phdr_fields 4 no_field) refl refl are;
-  filesz = native_range class order bytes (get_or phdr_fields 5 no_field) refl refl are;
-  memsz = native_range class order bytes (get_or phdr_fields 6 no_field) refl refl are;
-  align = native_range class order bytes (get_or phdr_fields 7 no_field) refl refl are;
-}
+phdr_range class order bytes are = (
+  record {
+    ptype = field_range class order bytes (get_or phdr_fields 0 no_field) 4 refl refl are;
+    flags = field_range class order bytes (get_or phdr_fields 1 no_field) 4 refl refl are;
+    offset = native_range class order bytes (get_or phdr_fields 2 no_field) refl refl are;
+    vaddr = native_range class order bytes (get_or phdr_fields 3 no_field) refl refl are;
+    paddr = native_range class order bytes (get_or phdr_fields 4 no_field) refl refl are;
+    filesz = native_range class order bytes (get_or phdr_fields 5 no_field) refl refl are;
+    memsz = native_range class order bytes (get_or phdr_fields 6 no_field) refl refl are;
+    align = native_range class order bytes (get_or phdr_fields 7 no_field) refl refl are;
+  },
+  phdr_fits_all class (phdr_of class order bytes)
+      (native_fits class order bytes (get_or phdr_fields 2 no_field) refl are)
+      (native_fits class order bytes (get_or phdr_fields 3 no_field) refl are)
+      (native_fits class order bytes (get_or phdr_fields 4 no_field) refl are)
+      (native_fits class order bytes (get_or phdr_fields 5 no_field) refl are)
+      (native_fits class order bytes (get_or phdr_fields 6 no_field) refl are)
+      (native_fits class order bytes (get_or phdr_fields 7 no_field) refl are),
+)
 
 pub shdr_range : (class : Class) (order : Order) (bytes : List ℕ) → AreBytes bytes → IsShdr (shdr_of class order bytes) × IsTrue (shdr_fits class (shdr_of class order bytes))
 unfolding shdr_of shdr_fields
@@ -299,53 +315,92 @@ image_small h len early =
     let size = passed_one (nat_lt MAX_IMAGE len) error.TooLarge _ later.1 in
     ltb-false (2 ^ 40) len size.0
 
--- the object of a header and its counts
-front_is : (image : List ℕ) (head : Head) → AreBytes image → IsEhdr head.header → IsTrue (ehdr_fits head.header) → length head.pad ≡ 7 → AreBytes head.pad → head.counts ≡ true_counts head.header (first_section head.header image) → header_refusal head.header (length image) ≡ None → count_refusal head.header head.counts (length image) ≡ None → IsObject (begun (front_at head image) image)
-unfolding begun front_at phdrs_at shdrs_at ehdr_fits
+version_is : (h : Ehdr) (len : ℕ) → header_refusal h len ≡ None → h.version ≡ EV_CURRENT
+unfolding header_refusal
+version_is h len early =
+    let first = passed_one (not (h.version == EV_CURRENT)) error.Version _ early in
+    eqb-true h.version EV_CURRENT (not_not (h.version == EV_CURRENT) first.0)
+
+-- the front of a header and its counts
+front_is : (image : List ℕ) (head : Head) → AreBytes image → IsEhdr head.header → IsTrue (ehdr_fits head.header) → length head.pad ≡ 7 → AreBytes head.pad
+    → head.counts ≡ true_counts head.header (first_section head.header image) → header_refusal head.header (length image) ≡ None
+    → count_refusal head.header head.counts (length image) ≡ None → IsFittingFront (front_at head image) × IsCounted (front_at head image)
+unfolding front_at phdrs_at shdrs_at ehdr_fits
 front_is image head are is fitting seven pad counts early late =
+    let class : Class = head.header.class in
+    let order : Order = head.header.order in
     let small = counts_small head.header head.counts (length image) late in
-    let len = image_small head.header (length image) early in
+    let version = version_is head.header (length image) early in
     let index = index_small head.header (first_section head.header image) is.shstrndx (first_is head.header image are).link in
     let same : head.counts.shstrndx ≡ true_shstrndx head.header (first_section head.header image) = ap (λ (x : Counts). x.shstrndx) counts in
-    let shdrs = items_of (shdr_of head.header.class head.header.order) (shdr_size head.header.class) head.counts.shnum (take (head.counts.shnum * shdr_size head.header.class) (drop head.header.shoff image)) in
-    let each = items_range (λ x. IsShdr x × IsTrue (shdr_fits head.header.class x)) (shdr_of head.header.class head.header.order) (shdr_size head.header.class) head.counts.shnum (take (head.counts.shnum * shdr_size head.header.class) (drop head.header.shoff image)) (shdr_range head.header.class head.header.order) (table_is image head.header.shoff (head.counts.shnum * shdr_size head.header.class) are) in
+    let phdr_bytes = take (head.counts.phnum * phdr_size class) (drop head.header.phoff image) in
+    let shdr_bytes = take (head.counts.shnum * shdr_size class) (drop head.header.shoff image) in
+    let phdrs_are = table_is image head.header.phoff (head.counts.phnum * phdr_size class) are in
+    let shdrs_are = table_is image head.header.shoff (head.counts.shnum * shdr_size class) are in
+    let phdr_count = length-items_of (phdr_of class order) (phdr_size class) head.counts.phnum phdr_bytes in
+    let shdr_count = length-items_of (shdr_of class order) (shdr_size class) head.counts.shnum shdr_bytes in (
+      record {
+        header = record {
+          osabi = is.osabi;
+          abiversion = is.abiversion;
+          etype = is.etype;
+          machine = is.machine;
+          version = is.version;
+          entry = is.entry;
+          phoff = is.phoff;
+          shoff = is.shoff;
+          flags = is.flags;
+          ehsize = is.ehsize;
+          phentsize = is.phentsize;
+          phnum = omega arith;
+          shentsize = is.shentsize;
+          shnum = omega arith;
+          shstrndx = omega arith;
+        };
+        fitting = fitting;
+        version = version;
+        phdrs = items_range IsPhdr (phdr_of class order) (phdr_size class) head.counts.phnum phdr_bytes (λ bytes each. (phdr_range class order bytes each).0) phdrs_are;
+        fitting_phdrs = items_range (λ p. IsTrue (phdr_fits class p)) (phdr_of class order) (phdr_size class) head.counts.phnum phdr_bytes (λ bytes each. (phdr_range class order bytes each).1) phdrs_are;
+        shdrs = items_range IsShdr (shdr_of class order) (shdr_size class) head.counts.shnum shdr_bytes (λ bytes each. (shdr_range class order bytes each).0) shdrs_are;
+        fitting_shdrs = items_range (λ h. IsTrue (shdr_fits class h)) (shdr_of class order) (shdr_size class) head.counts.shnum shdr_bytes (λ bytes each. (shdr_range class order bytes each).1) shdrs_are;
+        string_index = λ none.
+            let zero_count : true_shnum head.header (first_section head.header image) ≡ 0 = sym (ap (λ (x : Counts). x.shnum) counts) ∙ sym shdr_count ∙ ap length none in
+            same ∙ index_none head.header (first_section head.header image) zero_count;
+        pad = seven;
+        pad_bytes = pad;
+      },
+      record { phnum = phdr_count; shnum = shdr_count; few_phdrs = small.1; few_shdrs = small.0 },
+    )
+
+-- an object begun over a front that has the shape of one, and over any bytes of that length
+pub begun_fits : BegunFits
+unfolding begun
+begun_fits f image fits counted are small =
+    let phdrs = counted.phnum in
+    let few_phdrs = counted.few_phdrs in
+    let shdrs = counted.shnum in
+    let few_shdrs = counted.few_shdrs in
+    let count = length-map f.shdrs (opened_section image) in
     record {
-      header = record {
-        osabi = is.osabi;
-        abiversion = is.abiversion;
-        etype = is.etype;
-        machine = is.machine;
-        version = is.version;
-        entry = is.entry;
-        phoff = is.phoff;
-        shoff = is.shoff;
-        flags = is.flags;
-        ehsize = is.ehsize;
-        phentsize = is.phentsize;
-        phnum = omega arith;
-        shentsize = is.shentsize;
-        shnum = omega arith;
-        shstrndx = omega arith;
-      };
-      fitting = fitting;
-      phnum = sym (length-items_of (phdr_of head.header.class head.header.order) (phdr_size head.header.class) head.counts.phnum (take (head.counts.phnum * phdr_size head.header.class) (drop head.header.phoff image)));
-      shnum = sym (length-map shdrs (opened_section image) ∙ length-items_of (shdr_of head.header.class head.header.order) (shdr_size head.header.class) head.counts.shnum (take (head.counts.shnum * shdr_size head.header.class) (drop head.header.shoff image)));
-      pad = seven;
-      pad_bytes = pad;
-      phdr_count = rw length-items_of (small.1);
-      sections = All-map (IsSection head.header.class) (opened_section image) shdrs (All-weaker (λ x. IsShdr x × IsTrue (shdr_fits head.header.class x)) (λ x. IsSection head.header.class (opened_section image x)) (λ x both. opened_section_is head.header.class image x are both.0 both.1) shdrs each);
-      section_count = rw (length-map, length-items_of) (small.0);
-      string_index = λ none.
-          let empty : head.counts.shnum ≡ 0 = sym (length-map shdrs (opened_section image) ∙ length-items_of (shdr_of head.header.class head.header.order) (shdr_size head.header.class) head.counts.shnum (take (head.counts.shnum * shdr_size head.header.class) (drop head.header.shoff image))) ∙ ap length none in
-          let zero_count : true_shnum head.header (first_section head.header image) ≡ 0 = sym (ap (λ (x : Counts). x.shnum) counts) ∙ empty in
-          same ∙ index_none head.header (first_section head.header image) zero_count;
+      header = fits.header;
+      fitting = fits.fitting;
+      phnum = sym counted.phnum;
+      shnum = sym counted.shnum ∙ sym count;
+      pad = fits.pad;
+      pad_bytes = fits.pad_bytes;
+      phdr_count = omega arith;
+      sections = All-map (IsSection f.ehdr.class) (opened_section image) f.shdrs
+          (λ k d h. opened_section_is f.ehdr.class image (get_or f.shdrs k d) are (fits.shdrs k d h) (fits.fitting_shdrs k d h));
+      section_count = omega arith;
+      string_index = λ none. fits.string_index (nil_from_length f.shdrs (sym count ∙ ap length none));
       base = are;
-      base_length = omega arith;
+      base_length = small;
       fill = lit< tt;
     }
 
-pub begun_is : (image : List ℕ) (f : Front) → AreBytes image → IsFrontOf image f → IsObject (begun f image)
-begun_is image f are known =
+-- the front of an image has the shape of one
+pub known_fits : (image : List ℕ) (f : Front) → AreBytes image → IsFrontOf image f → IsFittingFront f × IsCounted f
+known_fits image f are known =
     let bytes = All-take (λ n. n < 2 ^ 8) (ehdr_size known.class) image are in
     let range = ehdr_range known.class known.order (take (ehdr_size known.class) image) bytes in
     let is : IsEhdr known.head.header = subst IsEhdr (sym known.header) range.0 in
@@ -355,7 +410,7 @@ begun_is image f are known =
     let rest = length-drop 9 image in
     let seven : length known.head.pad ≡ 7 = ap length known.pad ∙ length-take-le 7 (drop 9 image) (omega arith) in
     let pad : AreBytes known.head.pad = subst AreBytes (sym known.pad) (table_is image 9 7 are) in
-    let P : Front → Type 0 = λ x. IsObject (begun x image) in
+    let P : Front → Type 0 = λ x. IsFittingFront x × IsCounted x in
     subst P (sym known.whole) (front_is image known.head are is fitting seven pad known.counts known.early known.late)
   where
     size_long : (class : Class) → 16 ≤ ehdr_size class
@@ -370,19 +425,18 @@ pub opened_is : (image : List ℕ) (o : Object) → AreBytes image → opened im
 unfolding opened
 opened_is image o are h =
     let found = opened_front (front image) image o h in
-    subst IsObject found.2 (begun_is image found.0 are (front_known image found.0 found.1))
+    let known = front_known image found.0 found.1 in
+    let fits = known_fits image found.0 are known in
+    let len = image_small known.head.header (length image) known.early in
+    subst IsObject found.2 (begun_fits found.0 image fits.0 fits.1 are (omega arith))
 
 -- its program headers are in range
 pub opened_phdrs : (image : List ℕ) (o : Object) → AreBytes image → opened image ≡ Ok o → All IsPhdr o.phdrs
-unfolding opened begun front_at phdrs_at
+unfolding opened begun
 opened_phdrs image o are h =
     let found = opened_front (front image) image o h in
-    let known = front_known image found.0 found.1 in
-    let class : Class = known.head.header.class in
-    let order : Order = known.head.header.order in
-    let part = take (known.head.counts.phnum * phdr_size class) (drop known.head.header.phoff image) in
-    let each = items_range IsPhdr (phdr_of class order) (phdr_size class) known.head.counts.phnum part (phdr_range class order) (table_is image known.head.header.phoff (known.head.counts.phnum * phdr_size class) are) in
-    subst (λ (q : Object). All IsPhdr q.phdrs) found.2 (subst (λ (x : Front). All IsPhdr x.phdrs) (sym known.whole) each)
+    let fits = known_fits image found.0 are (front_known image found.0 found.1) in
+    subst (λ (q : Object). All IsPhdr q.phdrs) found.2 fits.0.phdrs
 
 -- ---- Create
 

@@ -16,11 +16,13 @@ use Rattle.elf_xlate.specs.declared.content.Items.{Items}
 use Rattle.elf_types.specs.declared.constants.TheConstants.{MAX_SEGMENTS}
 use Rattle.elf_xlate.specs.Headers.{IsEhdr, IsPhdr, IsShdr}
 use Rattle.elf_xlate.specs.Translation.{AreItems, items_kind}
+use Rattle.elf_ident.specs.declared.fronts.Front.{Front}
+use Rattle.elf_ident.specs.Reading.{IsFittingFront, IsCounted}
 use Rattle.elf_layout.specs.declared.parts.PartAt.{PartAt}
 use Rattle.elf_layout.specs.Meeting.{meets}
 use Rattle.elf_object.specs.Blocks.{Block}
 use Rattle.elf_object.specs.Object.{Object, Piece, section_at, has_file_bytes, is_dirty}
-use Rattle.elf_object.specs.Open.{opened, created_over}
+use Rattle.elf_object.specs.Open.{begun, opened, created_over}
 use Rattle.elf_object.specs.Answers.{content}
 use Rattle.elf_object.specs.Joined.{joined, pieces_end}
 use Rattle.elf_object.specs.Layout.{placed, placed_parts}
@@ -111,6 +113,13 @@ pub record EveryStepKeepsTied : Type 0 where
   pub set_rel : (s p i : ℕ) (change : Rel → Rel) → KeepsTied (runs.set_item (calls.rel s p i) (calls.update_rel s p i) change)
   pub set_rela : (s p i : ℕ) (change : Rela → Rela) → KeepsTied (runs.set_item (calls.rela s p i) (calls.update_rela s p i) change)
   pub set_dynent : (s p i : ℕ) (change : Dyn → Dyn) → KeepsTied (runs.set_item (calls.dynent s p i) (calls.update_dynent s p i) change)
+
+-- an object begun over a front that has the shape of one, and over any bytes of its length, also over a file on disk, which
+-- counts as zeros
+abbrev pub BegunFits : Type 0
+BegunFits =
+    (f : Front) (image : List ℕ) → IsFittingFront f → IsCounted f → AreBytes image → length image < 2 ^ 64
+    → IsObject (begun f image)
 
 -- an image that is opened gives an object, whose program headers are in the range of their types, and so does creating
 -- one

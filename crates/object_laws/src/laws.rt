@@ -1,7 +1,7 @@
 //! Laws over the definitions. Each is the contract of a function that does nothing: what it ensures
 //! holds of every object, and is proved.
 
-ghost use Rattle.object_laws.specs.Laws.{BeginningsAre, BeginningsAreTied, CleanStays, EveryStepKeeps, EveryStepKeepsTied, PartsDoNotMeet, PartsStand, PlacedStays, RefusedStays, ReopenLaw, SettlingKeepsItems, SizesAreLengths, TornLaw, UpdatesKeep, UpdatesTie};
+ghost use Rattle.object_laws.specs.Laws.{BegunFits, BeginningsAre, BeginningsAreTied, CleanStays, EveryStepKeeps, EveryStepKeepsTied, PartsDoNotMeet, PartsStand, PlacedStays, RefusedStays, ReopenLaw, SettlingKeepsItems, SizesAreLengths, TornLaw, UpdatesKeep, UpdatesTie};
 ghost use Rattle.elf_object.specs.Object.{Object};
 
 use elf_xlate::{decodes_as_encoded, ehdr_both_ways, phdr_both_ways, shdr_both_ways};
@@ -15,6 +15,13 @@ pub fn clean_stays()
 /// A refused call leaves the object, whatever it would have answered.
 pub fn refused_stays<T>()
     ensures { RefusedStays T }
+{}
+
+/// An object begun over a front that has the shape of one is an object, whatever bytes of that length it is
+/// over: a file on disk, which does not tell its bytes, counts as zeros.
+#[tactic(auto, using(crate::proofs::OpenLaws::begun_fits))]
+pub fn begun_fits()
+    ensures { BegunFits }
 {}
 
 /// An image of bytes that is opened gives an object, whose program headers are in the range of their types, and
