@@ -19,7 +19,8 @@ sorted_extents_of ps = map extent_of (ranked_listed ps)
 -- the second of two extents, if there is one, begins before the first ends
 unfoldable pub first_close_or : Extent → Option Extent → Option (ℕ × ℕ) → Option (ℕ × ℕ)
 first_close_or a None later = later
-first_close_or a (Some b) later = if nat_lt (b.at - a.at) a.len then Some (a.rank, b.rank) else later
+first_close_or a (Some b) later =
+    if nat_lt (b.at - a.at) a.len then Some (a.rank, b.rank) else later
 
 -- the first neighbours that do so, by their ranks
 unfoldable pub first_close : List Extent → Option (ℕ × ℕ)

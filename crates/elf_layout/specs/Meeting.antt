@@ -59,7 +59,8 @@ listed ps = sorted_by (λ p. p.at) (filter has_bytes ps)
 unfoldable pub first_met : List PartAt → Option (Part × Part)
 first_met [] = None
 first_met (a ∷ ps) =
-    if list_any (meets a) ps then option_map (λ b. (a.part, b.part)) (slice_get ps 0) else first_met ps
+    if list_any (meets a) ps then option_map (λ b. (a.part, b.part)) (slice_get ps 0)
+    else first_met ps
 
 -- two parts that share a byte
 unfoldable pub overlap_of : List PartAt → Option (Part × Part)

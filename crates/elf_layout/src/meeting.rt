@@ -17,9 +17,9 @@ struct Extent {
     len: u64,
 }
 
-/// Two parts that share a byte at the positions `at`, if there are any: of the parts that are filled
-/// and not empty, in the order by position, then by rank, the first that a later one meets, and the
-/// one next after it. A part's rank is its place in the list. It refuses `Memory` alone.
+/// Two parts that share a byte at the positions `at`, if there are any: of the parts that are
+/// filled and not empty, in the order by position, then by rank, the first that a later one meets,
+/// and the one next after it. A part's rank is its place in the list. It refuses `Memory` alone.
 ///
 /// A part that meets a later one meets the next one too, which begins no later. So neighbours alone
 /// are compared, after a sort.
@@ -34,8 +34,8 @@ pub fn overlap(alloc: Global, parts: &[PartAt]) -> Result<Option<(Part, Part)>, 
     Ok(Some((parts[a].part, parts[b].part)))
 }
 
-/// The ranks of the parts that are not empty, by position and then by rank. A part's rank is its place in
-/// the list. It refuses `Memory` alone.
+/// The ranks of the parts that are not empty, by position and then by rank. A part's rank is its
+/// place in the list. It refuses `Memory` alone.
 pub fn ranks_by_position(alloc: Global, parts: &[PartAt]) -> Result<List<usize>, ElfError>
     ensures ok { IfOk result (λ ranks. ranks ≡ ranks_by_position parts.now) }
     ensures inside { IfOk result (λ ranks. All (λ rank. rank < length parts.now) ranks) }
@@ -54,8 +54,8 @@ fn ranks_of(alloc: Global, extents: &[Extent]) -> Result<List<usize>, ElfError>
     Ok(List::from_vec(ranks))
 }
 
-/// The parts that are not empty, with their ranks, by position and then by rank. It refuses `Memory`
-/// alone.
+/// The parts that are not empty, with their ranks, by position and then by rank. It refuses
+/// `Memory` alone.
 fn sorted_extents(alloc: Global, parts: &[PartAt]) -> Result<Vec<Extent>, ElfError>
     ensures ok { IfOk result (λ extents. extents.items ≡ sorted_extents_of parts.now) }
     ensures err { IfErr result (λ e. e ≡ Memory) }

@@ -216,7 +216,8 @@ fn ranks_go_by_position(rt: HostRuntime) -> Result<(), Fail> {
 fn images_have_limits(rt: HostRuntime) {
     for (class, limit) in [(Class::C32, (1 << 32) - 1), (Class::C64, 1 << 40)] {
         for (most, want) in [(limit, None), (limit + 1, Some(ElfError::TooLarge))] {
-            // by a part, by the bytes that are there already, by a position that is not the caller's
+            // by a part, by the bytes that are there already, by a position that is not the
+            // caller's
             let long = [filled(Part::Header, 0, most, 1)];
             assert_eq!(rt; placed(rt.alloc(), &long, false, 0, class).err(), want);
             assert_eq!(rt; placed(rt.alloc(), &long, true, 0, class).err(), want);

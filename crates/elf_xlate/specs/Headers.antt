@@ -1,6 +1,6 @@
--- The three headers (gABI chapter 4, "ELF Header" and "Section Header", chapter 5, "Program Header"). Each
--- has one table for both classes, by which it is read and written: place and width of each field in
--- class 32, and then in class 64.
+-- The three headers (gABI chapter 4, "ELF Header" and "Section Header", chapter 5, "Program
+-- Header"). Each has one table for both classes, by which it is read and written: place and width
+-- of each field in class 32, and then in class 64.
 use Rattle.std.specs.Prelude.{ℕ, ◌-◌, ◌^◌, ◌<◌, List, [], ◌∷◌, ◌++◌, length, take, drop, slice_index, Bool, ◌&&◌, ◌≡◌}
 use Rattle.std.proofs.Math.ListN.{replicate}
 use Rattle.elf_types.specs.declared.constants.TheConstants.{EI_OSABI, EI_ABIVERSION, EI_NIDENT, ELFMAG, ELFCLASS32, ELFCLASS64, ELFDATA2LSB, ELFDATA2MSB, EV_CURRENT}
@@ -152,7 +152,8 @@ phdr_from ns = record {
 }
 
 abbrev pub phdr_numbers : Phdr → List ℕ
-phdr_numbers p = p.ptype ∷ p.flags ∷ p.offset ∷ p.vaddr ∷ p.paddr ∷ p.filesz ∷ p.memsz ∷ p.align ∷ []
+phdr_numbers p =
+    p.ptype ∷ p.flags ∷ p.offset ∷ p.vaddr ∷ p.paddr ∷ p.filesz ∷ p.memsz ∷ p.align ∷ []
 
 -- the program header that bytes hold
 unfoldable pub phdr_of : Class → Order → List ℕ → Phdr
@@ -213,7 +214,8 @@ shdr_from ns = record {
 
 abbrev pub shdr_numbers : Shdr → List ℕ
 shdr_numbers h =
-    h.name ∷ h.stype ∷ h.flags ∷ h.addr ∷ h.offset ∷ h.size ∷ h.link ∷ h.info ∷ h.addralign ∷ h.entsize ∷ []
+    h.name ∷ h.stype ∷ h.flags ∷ h.addr ∷ h.offset ∷ h.size
+    ∷ h.link ∷ h.info ∷ h.addralign ∷ h.entsize ∷ []
 
 -- the section header that bytes hold
 unfoldable pub shdr_of : Class → Order → List ℕ → Shdr

@@ -20,7 +20,8 @@ file_size kind class count = item_size kind class * count
 
 -- that many items of a size: item i is what stands at the place i * size
 unfoldable pub items_of : {X : Type 0} → (List ℕ → X) → ℕ → ℕ → List ℕ → List X
-items_of item size count bytes = map (λ i. item (take size (drop (i * size) bytes))) (range_with_len 0 count)
+items_of item size count bytes =
+    map (λ i. item (take size (drop (i * size) bytes))) (range_with_len 0 count)
 
 -- the items that bytes hold, or None where the size does not divide their number
 unfoldable pub listed : {X : Type 0} → (List ℕ → X) → ℕ → List ℕ → Option (List X)

@@ -18,9 +18,9 @@ use byteorder::{BigEndian, LittleEndian};
 use elf_types::{Class, Dyn, ElfError, Kind, List, Order, Rel, Rela, Sym};
 use std::alloc::Global;
 
-/// The items of a section's data that bytes hold. It refuses in this order: `Ragged` exactly where the
-/// size of the kind's item does not divide the number of bytes, then `Memory`. The kind `Empty` gives
-/// `Items::Empty`, whatever the bytes are.
+/// The items of a section's data that bytes hold. It refuses in this order: `Ragged` exactly where
+/// the size of the kind's item does not divide the number of bytes, then `Memory`. The kind `Empty`
+/// gives `Items::Empty`, whatever the bytes are.
 ///
 /// Source: gelf_xlatetom of gelf(3E).
 #[tactic(auto, using(crate::proofs::Decoded::decoded_kind, crate::proofs::Decoded::counted))]
@@ -35,7 +35,8 @@ pub fn to_memory(
         (to_memory_answer kind class order bytes.now) }
     ensures memory { IfErr result (λ e. e ≡ Memory → IsSome (decoded kind class order bytes.now)) }
 
-    // What the items are good for: they are of the kind, have all the bytes, and can be written back.
+    // What the items are good for: they are of the kind, have all the bytes, and can be written
+    // back.
     ensures kind { IfOk result (λ items. items_kind items ≡ kind) }
     ensures count { kind ≢ kinds.Empty → IfOk result (λ items.
         items_count items * item_size kind class ≡ length bytes.now) }
@@ -51,14 +52,14 @@ pub fn to_memory(
     }
 }
 
-// Whether so many bytes are whole items of a kind.
+/// Whether so many bytes are whole items of a kind.
 fn is_whole(kind: Kind, class: Class, len: usize) -> bool
     ensures { result ≡ is_whole kind class len }
 {
     kind == Kind::Empty || len as u64 % item_size(kind, class) == 0
 }
 
-// The items of whole bytes in a byte order and a class that are types.
+/// The items of whole bytes in a byte order and a class that are types.
 #[tactic(auto, unfolding(crate::specs::Translation::decoded, crate::specs::Translation::first_unfit), using(crate::proofs::Decoded::listed_whole, crate::proofs::Pieces::all_pass))]
 fn decode_items<T: Endian, const WIDE: bool>(
     alloc: Global,
@@ -66,7 +67,8 @@ fn decode_items<T: Endian, const WIDE: bool>(
     bytes: &[u8],
 ) -> Result<Items, ElfError>
     requires { IsTrue (is_whole kind (class_of WIDE) (length bytes.now)) }
-    ensures value { IfOk result (λ items. decoded kind (class_of WIDE) T.order bytes.now ≡ Some items) }
+    ensures value { IfOk result (λ items.
+        decoded kind (class_of WIDE) T.order bytes.now ≡ Some items) }
     ensures ranged { IfOk result AreItems }
     ensures fits { IfOk result (λ items. first_unfit (class_of WIDE) items ≡ None) }
 {

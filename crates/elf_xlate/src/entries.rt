@@ -62,7 +62,7 @@ impl<T: Endian, const WIDE: bool> Codec<Sym> for Form<T, WIDE> {
     }
 }
 
-// The symbol's index in `r_info`, `ELF32_R_SYM` or `ELF64_R_SYM` (gABI, "Relocation").
+/// The symbol's index in `r_info`, `ELF32_R_SYM` or `ELF64_R_SYM` (gABI, "Relocation").
 fn info_sym<const WIDE: bool>(info: u64) -> u32
     requires { IsTrue (fits (class_of WIDE) info) }
     ensures { result ≡ info / type_range (class_of WIDE) }
@@ -74,7 +74,7 @@ fn info_sym<const WIDE: bool>(info: u64) -> u32
     }
 }
 
-// The type in `r_info`, `ELF32_R_TYPE` or `ELF64_R_TYPE`.
+/// The type in `r_info`, `ELF32_R_TYPE` or `ELF64_R_TYPE`.
 fn info_type<const WIDE: bool>(info: u64) -> u32
     ensures { result ≡ info % type_range (class_of WIDE) }
 {
@@ -85,7 +85,7 @@ fn info_type<const WIDE: bool>(info: u64) -> u32
     }
 }
 
-// The `r_info` of a symbol's index and a type, `ELF32_R_INFO` or `ELF64_R_INFO`.
+/// The `r_info` of a symbol's index and a type, `ELF32_R_INFO` or `ELF64_R_INFO`.
 fn info_of<const WIDE: bool>(sym: u32, rtype: u32) -> u64
     requires { IsTrue (info_fits (class_of WIDE) sym rtype) }
     ensures fits { IsTrue (fits (class_of WIDE) result) }

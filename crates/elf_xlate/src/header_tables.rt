@@ -125,8 +125,8 @@ impl<T: Endian, const WIDE: bool> Codec<Shdr> for Form<T, WIDE> {
     }
 }
 
-/// The program header that bytes hold. There are as many bytes as the header has: 32 in class 32, 56
-/// in class 64. It refuses nothing and takes no memory.
+/// The program header that bytes hold. There are as many bytes as the header has: 32 in class 32,
+/// 56 in class 64. It refuses nothing and takes no memory.
 ///
 /// Source: gABI chapter 5, "Program Header"; gelf_getphdr of gelf(3E).
 pub fn get_phdr(class: Class, order: Order, bytes: &[u8]) -> Phdr
@@ -138,8 +138,8 @@ pub fn get_phdr(class: Class, order: Order, bytes: &[u8]) -> Phdr
     in_form!(class, order, decode_one::<Phdr>(bytes))
 }
 
-/// The section header that bytes hold. There are as many bytes as the header has: 40 in class 32, 64
-/// in class 64. It refuses nothing and takes no memory.
+/// The section header that bytes hold. There are as many bytes as the header has: 40 in class 32,
+/// 64 in class 64. It refuses nothing and takes no memory.
 ///
 /// Source: gABI chapter 4, "Sections"; gelf_getshdr of gelf(3E).
 pub fn get_shdr(class: Class, order: Order, bytes: &[u8]) -> Shdr
@@ -183,8 +183,8 @@ pub fn get_shdrs(alloc: Global, class: Class, order: Order, bytes: &[u8]) -> Res
     in_form!(class, order, decode_list::<Shdr>(alloc, bytes))
 }
 
-/// Writes a program header. `out` has just the header's size, and the header fits the class. It refuses
-/// nothing and takes no memory.
+/// Writes a program header. `out` has just the header's size, and the header fits the class. It
+/// refuses nothing and takes no memory.
 ///
 /// Source: gABI chapter 5, "Program Header"; gelf_update_phdr of gelf(3E).
 pub fn put_phdr(class: Class, order: Order, p: &Phdr, out: &mut [u8])
@@ -195,8 +195,8 @@ pub fn put_phdr(class: Class, order: Order, p: &Phdr, out: &mut [u8])
     in_form!(class, order, encode_one::<Phdr>(p, out))
 }
 
-/// Writes a section header. `out` has just the header's size, and the header fits the class. It refuses
-/// nothing and takes no memory.
+/// Writes a section header. `out` has just the header's size, and the header fits the class. It
+/// refuses nothing and takes no memory.
 ///
 /// Source: gABI chapter 4, "Sections"; gelf_update_shdr of gelf(3E).
 pub fn put_shdr(class: Class, order: Order, h: &Shdr, out: &mut [u8])

@@ -16,7 +16,7 @@ use elf_types::constants::{
 };
 use elf_types::{Class, Ehdr, Order};
 
-// The ELF header, of class 64 or of class 32.
+/// The ELF header, of class 64 or of class 32.
 #[tactic(auto, unfolding(crate::specs::Headers::ehdr_of, crate::specs::Headers::ehdr_fields, crate::specs::Headers::ehdr_fits))]
 fn decode_ehdr<T: Endian, const WIDE: bool>(class: Class, order: Order, bytes: &[u8]) -> Ehdr
     requires size { length bytes.now ≡ ehdr_size (class_of WIDE) }
@@ -48,7 +48,7 @@ fn decode_ehdr<T: Endian, const WIDE: bool>(class: Class, order: Order, bytes: &
     }
 }
 
-// Writes the identification, in which osabi and abiversion are 0.
+/// Writes the identification, in which osabi and abiversion are 0.
 #[tactic(auto, unfolding(crate::specs::Headers::ident))]
 fn encode_ident(class: Class, order: Order, pad: [u8; 7], out: &mut [u8])
     requires { 16 ≤ length out.old }
@@ -62,7 +62,7 @@ fn encode_ident(class: Class, order: Order, pad: [u8; 7], out: &mut [u8])
     back.copy_from_slice(&pad);
 }
 
-// e_ident[EI_CLASS].
+/// e_ident[EI_CLASS].
 fn class_byte(class: Class) -> u8
     ensures { result ≡ class_code class }
 {
@@ -72,7 +72,7 @@ fn class_byte(class: Class) -> u8
     }
 }
 
-// e_ident[EI_DATA].
+/// e_ident[EI_DATA].
 fn order_byte(order: Order) -> u8
     ensures { result ≡ order_code order }
 {
@@ -82,7 +82,7 @@ fn order_byte(order: Order) -> u8
     }
 }
 
-// Writes the ELF header, of class 64 or of class 32.
+/// Writes the ELF header, of class 64 or of class 32.
 #[tactic(auto, using(crate::proofs::Tables::ehdr_laid), unfolding(crate::specs::Headers::ehdr_fits, crate::specs::Headers::ehdr_fields))]
 fn encode_ehdr<T: Endian, const WIDE: bool>(h: &Ehdr, pad: [u8; 7], out: &mut [u8])
     requires class { h.now.class ≡ class_of WIDE }
@@ -126,8 +126,8 @@ pub fn get_ehdr(class: Class, order: Order, bytes: &[u8]) -> Ehdr
 }
 
 /// Writes an ELF header in the class and the order that it names; `pad` is the bytes 9 to 15 of its
-/// identification. `out` has just the header's size, the header fits its class, and its two counts and
-/// its string index are below 2^16. It refuses nothing and takes no memory.
+/// identification. `out` has just the header's size, the header fits its class, and its two counts
+/// and its string index are below 2^16. It refuses nothing and takes no memory.
 ///
 /// Source: gABI chapter 4, "ELF Header"; gelf_update_ehdr of gelf(3E).
 pub fn put_ehdr(h: &Ehdr, pad: [u8; 7], out: &mut [u8])

@@ -10,8 +10,8 @@ use crate::records::{Form, decode_one};
 use byteorder::{BigEndian, LittleEndian};
 use elf_types::{Class, Dyn, Order, Rel, Rela, Sym};
 
-/// The two-byte number that bytes hold. There are as many bytes as an item has. It refuses nothing and takes no
-/// memory.
+/// The two-byte number that bytes hold. There are as many bytes as an item has. It refuses nothing
+/// and takes no memory.
 ///
 /// Source: gABI chapter 4, "Data Representation".
 pub fn get_half(class: Class, order: Order, bytes: &[u8]) -> u16
@@ -21,8 +21,8 @@ pub fn get_half(class: Class, order: Order, bytes: &[u8]) -> u16
     in_form!(class, order, decode_one::<u16>(bytes))
 }
 
-/// The four-byte number that bytes hold. There are as many bytes as an item has. It refuses nothing and takes no
-/// memory.
+/// The four-byte number that bytes hold. There are as many bytes as an item has. It refuses nothing
+/// and takes no memory.
 ///
 /// Source: gABI chapter 4, "Data Representation".
 pub fn get_word(class: Class, order: Order, bytes: &[u8]) -> u32
@@ -32,8 +32,8 @@ pub fn get_word(class: Class, order: Order, bytes: &[u8]) -> u32
     in_form!(class, order, decode_one::<u32>(bytes))
 }
 
-/// The address that bytes hold. There are as many bytes as an item has. It refuses nothing and takes no
-/// memory.
+/// The address that bytes hold. There are as many bytes as an item has. It refuses nothing and
+/// takes no memory.
 ///
 /// Source: gABI chapter 4, "Data Representation".
 pub fn get_addr(class: Class, order: Order, bytes: &[u8]) -> u64
@@ -44,8 +44,8 @@ pub fn get_addr(class: Class, order: Order, bytes: &[u8]) -> u64
     in_form!(class, order, decode_one::<u64>(bytes))
 }
 
-/// The symbol that bytes hold. There are as many bytes as an item has. It refuses nothing and takes no
-/// memory.
+/// The symbol that bytes hold. There are as many bytes as an item has. It refuses nothing and takes
+/// no memory.
 ///
 /// Source: gABI chapter 4, "Symbol Table"; gelf_getsym of gelf(3E).
 pub fn get_sym(class: Class, order: Order, bytes: &[u8]) -> Sym
@@ -57,8 +57,8 @@ pub fn get_sym(class: Class, order: Order, bytes: &[u8]) -> Sym
     in_form!(class, order, decode_one::<Sym>(bytes))
 }
 
-/// The relocation that bytes hold. There are as many bytes as an item has. It refuses nothing and takes no
-/// memory.
+/// The relocation that bytes hold. There are as many bytes as an item has. It refuses nothing and
+/// takes no memory.
 ///
 /// Source: gABI chapter 4, "Relocation"; gelf_getrel of gelf(3E).
 pub fn get_rel(class: Class, order: Order, bytes: &[u8]) -> Rel
@@ -70,8 +70,8 @@ pub fn get_rel(class: Class, order: Order, bytes: &[u8]) -> Rel
     in_form!(class, order, decode_one::<Rel>(bytes))
 }
 
-/// The relocation with an addend that bytes hold. There are as many bytes as an item has. It refuses nothing and takes no
-/// memory.
+/// The relocation with an addend that bytes hold. There are as many bytes as an item has. It
+/// refuses nothing and takes no memory.
 ///
 /// Source: gABI chapter 4, "Relocation"; gelf_getrela of gelf(3E).
 pub fn get_rela(class: Class, order: Order, bytes: &[u8]) -> Rela
@@ -83,8 +83,8 @@ pub fn get_rela(class: Class, order: Order, bytes: &[u8]) -> Rela
     in_form!(class, order, decode_one::<Rela>(bytes))
 }
 
-/// The entry of the dynamic section that bytes hold. There are as many bytes as an item has. It refuses nothing and takes no
-/// memory.
+/// The entry of the dynamic section that bytes hold. There are as many bytes as an item has. It
+/// refuses nothing and takes no memory.
 ///
 /// Source: gABI chapter 5, "Dynamic Section"; gelf_getdyn of gelf(3E).
 pub fn get_dyn(class: Class, order: Order, bytes: &[u8]) -> Dyn

@@ -44,8 +44,8 @@ pub fn shdr_size(class: Class) -> usize
     }
 }
 
-/// The number of bytes that an item of a kind takes in the file of a class. `Empty` takes none. It takes
-/// no memory.
+/// The number of bytes that an item of a kind takes in the file of a class. `Empty` takes none. It
+/// takes no memory.
 ///
 /// Source: gABI chapter 4, "Data Representation".
 pub fn item_size(kind: Kind, class: Class) -> u64
@@ -63,8 +63,8 @@ pub fn item_size(kind: Kind, class: Class) -> u64
     }
 }
 
-/// The number of bytes that so many items of a kind take in the file of a class, or None exactly where
-/// it passes 2^64 - 1. `Empty` takes none. It takes no memory.
+/// The number of bytes that so many items of a kind take in the file of a class, or None exactly
+/// where it passes 2^64 - 1. `Empty` takes none. It takes no memory.
 ///
 /// Source: gelf_fsize of gelf(3E).
 pub fn fsize(kind: Kind, class: Class, count: u64) -> Option<u64>

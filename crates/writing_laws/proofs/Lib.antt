@@ -14,5 +14,6 @@ pub mod DisturbedLaws
 pub mod MarkLaws
 pub mod UnderWayLaws
 pub mod RankLaws
+pub mod DeviceLaws
 pub mod BasedSteps
 pub mod BasedBeginnings
