@@ -19,9 +19,9 @@ use Rattle.elf_xlate.specs.declared.content.Items.TheVariants as items
 use Rattle.elf_xlate.specs.Fields.{fits}
 use Rattle.elf_xlate.specs.Items.{sym_fits, rel_fits, rela_fits, dyn_fits}
 use Rattle.elf_xlate.specs.Translation.{items_count, items_kind}
-use Rattle.elf_object.specs.Object.{Object, Section, Piece, section_at, piece_at, new_section, no_phdr, is_dirty}
+use Rattle.elf_object.specs.Object.{Object, Section, Piece, section_at, piece_at, absent_section, new_section, no_phdr, is_dirty}
 use Rattle.elf_object.specs.Answers.{kind_at, items_at, piece_count, flags_of, has_dirty, has_layout, lend_refusal, halves_of, words_of, addrs_of, syms_of, rels_of, relas_of, dyns_of}
-use Rattle.elf_object.specs.Steps.{new_number, with_section, with_piece_at, with_ehdr, with_phdrs, with_phdr, with_new_phdrs, with_shdr, with_new_section, with_null_section, with_new_piece, own_piece, with_own, with_mark, with_layout, with_flags, is_whole, with_fill}
+use Rattle.elf_object.specs.Steps.{with_sections as other_sections, new_number, with_section, with_piece_at, with_ehdr, with_phdrs, with_phdr, with_new_phdrs, with_shdr, with_new_section, with_null_section, with_new_piece, own_piece, with_own, with_mark, with_layout, with_flags, is_whole, with_fill}
 use Rattle.elf_object.specs.Layout.{places_of, placed_by, placed, placed_section}
 use Rattle.elf_object.specs.Image.{image_length}
 use Rattle.elf_object.specs.Refusal.{refusal}
@@ -61,7 +61,7 @@ section_kept o s c kept is = record {
   segments = is.segments;
   table = is.table;
   homes = ⊎_elim
-      (λ h. All-set (HomeStands o.base) o.sections s c (kept h (is.homes s new_section h)) is.homes)
+      (λ h. All-set (HomeStands o.base) o.sections s c (kept h (is.homes s absent_section h)) is.homes)
       (λ h. subst (All (HomeStands o.base)) (sym (set_past o.sections s c h)) is.homes)
       (cases_lt s (length o.sections));
 }
@@ -118,7 +118,7 @@ ehdr_kept o h is = with_sections o (with_ehdr o h) (λ e. e) refl refl is.homes 
 
 phdrs_kept : (o : Object) (phdrs : List Phdr) → IsBased o → IsBased (with_phdrs o phdrs)
 unfolding with_phdrs
-phdrs_kept o phdrs is = with_sections o (record o { phdrs = phdrs; segments_marked = true }) (λ e. e) refl refl is.homes is
+phdrs_kept o phdrs is = with_sections o (record o { header = record o.header { phnum = length phdrs }; phdrs = phdrs; segments_marked = true }) (λ e. e) refl refl is.homes is
 
 -- ---- Sections
 
@@ -134,8 +134,8 @@ new_section_kept o is =
     by_test true new = All-cons (HomeStands o.base) new_section (new_section ∷ []) new (All-cons (HomeStands o.base) new_section [] new (All-nil (HomeStands o.base)))
     by_test false new = All-cons (HomeStands o.base) new_section [] new (All-nil (HomeStands o.base))
 
-null_kept : (b : Bool) (o : Object) → IsBased o → IsBased (if b then (record o { sections = new_section ∷ [] }) else o)
-null_kept true o is = with_sections o (record o { sections = new_section ∷ [] }) (λ e. e) refl refl (All-cons (HomeStands o.base) new_section [] (new_stands o.base) (All-nil (HomeStands o.base))) is
+null_kept : (b : Bool) (o : Object) → IsBased o → IsBased (if b then other_sections o (new_section ∷ []) else o)
+null_kept true o is = with_sections o (other_sections o (new_section ∷ [])) (λ e. e) refl refl (All-cons (HomeStands o.base) new_section [] (new_stands o.base) (All-nil (HomeStands o.base))) is
 null_kept false o is = is
 
 -- ---- Items

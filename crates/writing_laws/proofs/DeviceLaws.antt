@@ -6,7 +6,7 @@ use Rattle.std.proofs.lemmas.List.{length-append, length-take, length-take-le, l
 use Rattle.elf_outside.specs.Writes.{written_over, resized, IsTorn}
 use Rattle.elf_object.specs.Blocks.{Block, block_end, covers, is_covered}
 use Rattle.writing_laws.specs.Lines.{HoldsBlock, patched, IsTornPatch, IsUnderWay}
-use Rattle.writing_laws.proofs.Tests.{neither}
+use Rattle.writing_laws.proofs.Bools.{neither}
 use Rattle.writing_laws.proofs.LineLaws.{covers_from, not_covered, end_is}
 use Rattle.writing_laws.proofs.HeldLaws.{stands_from, stands_byte, stands_within}
 use Rattle.writing_laws.proofs.UnderWayLaws.{length-patched, patched_byte, one_over, under_way_step, under_way_done}

@@ -1,4 +1,5 @@
-pub mod Tests
+pub mod Bools
+pub mod Computed
 pub mod LineLaws
 pub mod GapLaws
 pub mod SortLaws

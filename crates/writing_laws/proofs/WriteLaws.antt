@@ -16,7 +16,7 @@ use Rattle.object_laws.proofs.BlockLaws.{byte_over-uncovered}
 use Rattle.object_laws.proofs.ImageLaws.{length-image, placed-dirty}
 use Rattle.object_laws.proofs.StandLaws.{section_count-placed}
 use Rattle.object_laws.proofs.TornLaws.{image_uncovered}
-use Rattle.writing_laws.proofs.Tests.{neither}
+use Rattle.writing_laws.proofs.Bools.{neither}
 use Rattle.writing_laws.specs.Lines.{HoldsBlock, AreInLine, patched}
 use Rattle.writing_laws.specs.Plan.{plan, fill_block, fill_between, fill_blocks, written_blocks}
 use Rattle.writing_laws.specs.Ready.{IsReady}
