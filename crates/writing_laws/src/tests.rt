@@ -11,7 +11,8 @@ ghost use Rattle.elf_object.specs.Samples.{shifted32};
 fn blocks_stand_in_a_line()
     ensures order { in_order three_blocks ≡ two_in_order }
     ensures gaps { gap_places 9 0 two_in_order ≡ 0 ∷ 2 ∷ 3 ∷ 4 ∷ 5 ∷ 8 ∷ [] }
-    ensures bytes { in_line 9 (λ k. 10 + k) 0 two_in_order ≡ 10 ∷ 9 ∷ 12 ∷ 13 ∷ 14 ∷ 15 ∷ 1 ∷ 2 ∷ 18 ∷ [] }
+    ensures bytes { in_line 9 (λ k. 10 + k) 0 two_in_order
+        ≡ 10 ∷ 9 ∷ 12 ∷ 13 ∷ 14 ∷ 15 ∷ 1 ∷ 2 ∷ 18 ∷ [] }
 {}
 
 /// Of the gaps, what is below 3 is the base's, and the rest is filled.
