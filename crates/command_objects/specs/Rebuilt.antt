@@ -134,7 +134,7 @@ table_refusal names = refused_if (nat_lt (2 ^ 32 - 1) (length (table names))) To
 -- of the string index of an object with so many sections, as gelf_update_ehdr refuses it
 unfoldable pub index_refusal : Object → List Section → ℕ → Option ElfError
 index_refusal o sections index =
-    update_ehdr_refusal (record o { sections = sections }) (record o.header { shstrndx = index })
+    update_ehdr_refusal (with_sections o sections) (record o.header { shstrndx = index })
 
 unfoldable pub rebuild_refusal : Object → List ℕ → Option ElfError
 rebuild_refusal o removed = first_refusal

@@ -38,7 +38,8 @@ fn programs_keep_what_is_loaded()
     ensures bytes { take 4 (drop 120 stripped_program.base) ≡ 1 ∷ 2 ∷ 3 ∷ 4 ∷ [] }
     ensures before_e_shoff { take 40 stripped_program.base ≡ take 40 program_file }
     ensures between { take 12 (drop 48 stripped_program.base) ≡ take 12 (drop 48 program_file) }
-    ensures behind_header { take 60 (drop 64 stripped_program.base) ≡ take 60 (drop 64 program_file) }
+    ensures behind_header { take 60 (drop 64 stripped_program.base)
+        ≡ take 60 (drop 64 program_file) }
 {}
 
 /// Links, symbols and extended indexes follow the new numbers.

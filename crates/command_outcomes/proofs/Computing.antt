@@ -13,5 +13,9 @@ use Rattle.command_outcomes.specs.Selftest.{selftest_done, selftest_outcome}
 
 -- its value says nothing: what counts is that a proof that unfolds it unfolds the others
 unfoldable pub all_words : Bool
-unfolding objects_words numbered numbered_twice kind_text part_text unfit_text overlap_text held_text error_text file_kind message said outcome_of bytes_named object_named bytes_of_each strip_alone strip_split strip_done strip_outcome unstrip_complaint unstrip_done unstrip_outcome copy_text copy_done copy_outcome rehash_text rehash_done rehash_outcome selftest_done selftest_outcome
+unfolding objects_words numbered numbered_twice kind_text part_text unfit_text overlap_text
+    held_text error_text file_kind message said outcome_of bytes_named object_named bytes_of_each
+    strip_alone strip_split strip_done strip_outcome unstrip_complaint unstrip_done
+    unstrip_outcome copy_text copy_done copy_outcome rehash_text rehash_done rehash_outcome
+    selftest_done selftest_outcome
 all_words = true

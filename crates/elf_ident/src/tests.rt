@@ -215,22 +215,27 @@ const EXTENDED_CHANGES: [Change; 5] = [
     (FIRST_INFO, 99, ElfError::PhTable),
 ];
 
-/// Whether an image that is changed is refused as stated.
-fn is_refused(alloc: Global, image: Image, change: &Change) -> Result<bool, ElfError> {
-    let (field, value, refusal) = *change;
+/// What is refused of an image with these changes, of which a source has a length and tells nothing.
+fn refusal(alloc: Global, image: Image, changes: &[Change], len: u64) -> Option<ElfError> {
     let mut image = image;
-    image.put_field(field, value);
-    Ok(read(alloc, image).err() == Some(refusal))
+    for (field, value, _) in changes {
+        image.put_field(*field, *value);
+    }
+    read_front(alloc, &mut Sparse::new(image.bytes, len)).err()
 }
 
-/// Whether each change of an image in one form is refused as stated.
+/// Whether each change of an image is refused as stated.
 fn changes_are_refused(alloc: Global, class: Class, order: Order) -> Result<bool, ElfError> {
     let mut refused = true;
     for change in CHANGES.iter() {
-        refused &= is_refused(alloc, two_tables(alloc, class, order)?, change)?;
+        let image = two_tables(alloc, class, order)?;
+        let len = image.bytes.len();
+        refused &= refusal(alloc, image, &[*change], len) == Some(change.2);
     }
     for change in EXTENDED_CHANGES.iter() {
-        refused &= is_refused(alloc, numbers_in_section_0(alloc, class, order)?, change)?;
+        let image = numbers_in_section_0(alloc, class, order)?;
+        let len = image.bytes.len();
+        refused &= refusal(alloc, image, &[*change], len) == Some(change.2);
     }
     Ok(refused)
 }
@@ -255,28 +260,13 @@ const FAULTS: [Change; 8] = [
     (FIRST_SIZE, MAX_SECTIONS + 1, ElfError::TooMany),
 ];
 
-/// What is refused of an image of a length that has the faults from one on.
-fn refusal(
-    alloc: Global,
-    class: Class,
-    order: Order,
-    first: usize,
-    len: u64,
-) -> Result<Option<ElfError>, ElfError> {
-    let mut image = numbers_in_section_0(alloc, class, order)?;
-    for (i, (field, value, _)) in FAULTS.iter().enumerate() {
-        if first <= i {
-            image.put_field(*field, *value);
-        }
-    }
-    Ok(read_front(alloc, &mut Sparse::new(image.bytes, len)).err())
-}
-
 /// Whether each fault is refused before those behind it, and an image without faults is read.
 fn faults_come_in_order(alloc: Global, class: Class, order: Order) -> Result<bool, ElfError> {
-    let mut ordered = refusal(alloc, class, order, FAULTS.len(), MAX_IMAGE)?.is_none();
+    let sound = numbers_in_section_0(alloc, class, order)?;
+    let mut ordered = refusal(alloc, sound, &[], MAX_IMAGE).is_none();
     for (i, fault) in FAULTS.iter().enumerate() {
-        ordered &= refusal(alloc, class, order, i, MAX_IMAGE)? == Some(fault.2);
+        let image = numbers_in_section_0(alloc, class, order)?;
+        ordered &= refusal(alloc, image, &FAULTS[i..], MAX_IMAGE) == Some(fault.2);
     }
     Ok(ordered)
 }
@@ -284,13 +274,18 @@ fn faults_come_in_order(alloc: Global, class: Class, order: Order) -> Result<boo
 /// Whether the length is looked at before the identification, before `e_version`, and behind it.
 fn lengths_come_in_order(alloc: Global, class: Class, order: Order) -> Result<bool, ElfError> {
     let cut = ehdr_size(class) as u64 - 1;
-    Ok(
-        refusal(alloc, class, order, 0, 15)? == Some(ElfError::Short)
-            && refusal(alloc, class, order, 3, cut)? == Some(ElfError::Version)
-            && refusal(alloc, class, order, 4, cut)? == Some(ElfError::Short)
-            && refusal(alloc, class, order, 4, MAX_IMAGE + 1)? == Some(ElfError::Version)
-            && refusal(alloc, class, order, 5, MAX_IMAGE + 1)? == Some(ElfError::TooLarge),
-    )
+    let mut ordered = true;
+    for (len, first, stated) in [
+        (15, 0, ElfError::Short),
+        (cut, 3, ElfError::Version),
+        (cut, 4, ElfError::Short),
+        (MAX_IMAGE + 1, 4, ElfError::Version),
+        (MAX_IMAGE + 1, 5, ElfError::TooLarge),
+    ] {
+        let image = numbers_in_section_0(alloc, class, order)?;
+        ordered &= refusal(alloc, image, &FAULTS[first..], len) == Some(stated);
+    }
+    Ok(ordered)
 }
 
 #[test]
@@ -302,35 +297,33 @@ fn the_first_refusal_is_the_answer(rt: HostRuntime) -> Result<(), Fail> {
     Ok(())
 }
 
-/// What is refused of an image of a length whose section 0 has a count.
-fn refusal_of_count(
+/// Whether a table of too many entries is refused as such only where it lies in the image.
+fn table_lies_first(
     alloc: Global,
     form: (Class, Order),
-    field: Field,
-    len: u64,
-) -> Result<Option<ElfError>, ElfError> {
-    let mut image = numbers_in_section_0(alloc, form.0, form.1)?;
-    image.put_field(field, MAX_SECTIONS + 1);
-    Ok(read_front(alloc, &mut Sparse::new(image.bytes, len)).err())
+    many: Change,
+    end: u64,
+) -> Result<bool, ElfError> {
+    let whole = numbers_in_section_0(alloc, form.0, form.1)?;
+    let cut = numbers_in_section_0(alloc, form.0, form.1)?;
+    let past = refusal(alloc, cut, &[many], end.saturating_sub(1));
+    Ok(past == Some(many.2) && refusal(alloc, whole, &[many], end) == Some(ElfError::TooMany))
 }
 
-/// Whether a table of too many entries is refused as such only where it lies in the image.
-fn table_lies_first(alloc: Global, class: Class, order: Order) -> Result<bool, ElfError> {
-    let shdrs_end = 192 + (MAX_SECTIONS + 1) * shdr_size(class) as u64;
-    let phdrs_end = 64 + (MAX_SECTIONS + 1) * phdr_size(class) as u64;
-    let form = (class, order);
-    Ok(
-        refusal_of_count(alloc, form, FIRST_SIZE, shdrs_end)? == Some(ElfError::TooMany)
-            && refusal_of_count(alloc, form, FIRST_SIZE, shdrs_end - 1)? == Some(ElfError::ShTable)
-            && refusal_of_count(alloc, form, FIRST_INFO, phdrs_end)? == Some(ElfError::TooMany)
-            && refusal_of_count(alloc, form, FIRST_INFO, phdrs_end - 1)? == Some(ElfError::PhTable),
-    )
+/// The bytes up to the end of a table from a place on that has an entry too many.
+fn end_of(at: u64, entry_size: u16) -> u64 {
+    at.saturating_add((MAX_SECTIONS + 1) * u64::from(entry_size))
 }
 
 #[test]
 fn a_table_of_too_many_entries_lies_in_the_image(rt: HostRuntime) -> Result<(), Fail> {
     for (class, order) in FORMS {
-        assert!(rt; table_lies_first(rt.alloc(), class, order)?);
+        let segments = (FIRST_INFO, MAX_SECTIONS + 1, ElfError::PhTable);
+        let end = end_of(64, phdr_size(class) as u16);
+        assert!(rt; table_lies_first(rt.alloc(), (class, order), segments, end)?);
+        let sections = (FIRST_SIZE, MAX_SECTIONS + 1, ElfError::ShTable);
+        let end = end_of(192, shdr_size(class) as u16);
+        assert!(rt; table_lies_first(rt.alloc(), (class, order), sections, end)?);
     }
     Ok(())
 }

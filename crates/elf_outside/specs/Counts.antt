@@ -34,10 +34,10 @@ pub record RisesWith (before now own : ℕ) : Type 0 where
   pub rose : 0 < own → Rose before now
 
 -- a count after one more, which stops at its last value
-abbrev pub one_more : ℕ → ℕ
-one_more n = min (n + 1) (2 ^ 64 - 1)
+abbrev pub next_count : ℕ → ℕ
+next_count n = min (n + 1) (2 ^ 64 - 1)
 
 -- a count of faults after a call: one more where it failed
 abbrev pub faults_after : {T E : Type 0} → Result T E → ℕ → ℕ
 faults_after (Ok x) n = n
-faults_after (Err e) n = one_more n
+faults_after (Err e) n = next_count n

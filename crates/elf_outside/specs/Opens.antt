@@ -1,6 +1,6 @@
 -- What a call that hands out a file does, over any set of files.
 use Rattle.std.specs.Prelude.{◌≡◌, ◌↔◌, ◌≤◌, ℕ, Bool, List, None, Result, IfOk, OnOk, OnErr, IsTrue, IsErrOf}
-use Rattle.elf_outside.specs.Counts.{Rose, one_more}
+use Rattle.elf_outside.specs.Counts.{Rose, next_count}
 use Rattle.elf_outside.specs.Names.{Map, SameNames}
 use Rattle.elf_outside.specs.declared.file_sets.OpenFault.{OpenFault}
 use Rattle.elf_outside.specs.declared.file_sets.OpenFault.TheVariants.{NotThere, Failed}
@@ -45,7 +45,7 @@ pub record HandsOver {F D : Type 0} (f : Meanings F) (s : SourceGhosts D) (d : D
   pub write_faults : f.write_faults old ≤ f.write_faults new
   pub taken : f.taken new ≡ f.taken old
   pub given : f.given new ≡ f.given old
-  pub live : OnOk result (f.live new ≡ one_more (f.live old))
+  pub live : OnOk result (f.live new ≡ next_count (f.live old))
   pub not_live : OnErr result (f.live new ≡ f.live old)
 
 -- a call of `open` or `edit`: what it answers, and what it leaves

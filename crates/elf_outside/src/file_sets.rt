@@ -1,7 +1,7 @@
 //! Files by name.
 
 ghost use Rattle.std.specs.Prelude.{◌≡◌, ◌⊎◌, ◌↔◌, ℕ, ◌-◌, ◌≤◌, [], Bool, List, Option, Some, None, IfOk, OnOk, OnErr, IsTrue, IsErrOf};
-ghost use Rattle.elf_outside.specs.Counts.{Rose, RaisedBy, RisesWith, one_more};
+ghost use Rattle.elf_outside.specs.Counts.{Rose, RaisedBy, RisesWith, next_count};
 ghost use Rattle.elf_outside.specs.Opens.{meanings, Opens, HandsOver};
 ghost use Rattle.elf_outside.specs.Names.{SameNames, SameOthers, Closes};
 

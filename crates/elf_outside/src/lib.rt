@@ -7,6 +7,7 @@ pub mod devices;
 pub mod file_sets;
 pub mod memory;
 pub mod no_source;
+pub(crate) mod ranges;
 pub mod reads;
 pub mod real;
 pub mod sinks;

@@ -8,7 +8,7 @@ use Rattle.line_table.specs.declared.operations.Operation.{Operation}
 use Rattle.line_table.specs.declared.operations.Operation.TheVariants.{Special, Copy, AdvancePc, AdvanceLine, SetFile, SetColumn, NegateStmt, ConstAddPc, FixedAdvancePc, EndSequence, SetAddress, DefineFile, Nothing}
 use Rattle.line_table.specs.declared.rows.Registers.{Registers}
 use Rattle.line_table.specs.declared.rows.Row.{Row}
-use Rattle.line_table.specs.Reading.{◌>>=◌}
+use Rattle.elf_types.specs.Answers.{◌>>=◌}
 use Rattle.line_table.specs.Header.{UnitHeader}
 use Rattle.line_table.specs.Program.{Instruction, blamed}
 
@@ -43,7 +43,14 @@ ranged u x = if u.line_range == 0 then Err Range else Ok x
 
 -- the row that the registers make
 abbrev pub row_of : Bool → Registers → Row
-row_of end r = record { address = r.address; file = r.file; line = r.line; column = r.column; stmt = r.stmt; end = end }
+row_of end r = record {
+  address = r.address;
+  file = r.file;
+  line = r.line;
+  column = r.column;
+  stmt = r.stmt;
+  end = end;
+}
 
 -- what an instruction does: the registers after it, and its row
 pub record Effect : Type 0 where

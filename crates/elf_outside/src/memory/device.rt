@@ -2,11 +2,12 @@
 
 ghost use Rattle.std.specs.Prelude.{refl, ◌≡◌, ◌⊎◌, ◌↔◌, ◌+◌, ◌≤◌, ◌<◌, ◌++◌, ◌∷◌, [], Some, Contains, IsErr, length, take, drop, vec_len, vec_capacity, OnOk, OnErr, IfOk, IfErr};
 ghost use Rattle.std.proofs.Common.{rules};
-ghost use Rattle.elf_outside.specs.Counts.{HasCause, RaisedBy, one_more, faults_after};
+ghost use Rattle.elf_outside.specs.Counts.{HasCause, RaisedBy, next_count, faults_after};
 ghost use Rattle.elf_outside.specs.Writes.{written_over, resized};
 
 use crate::devices::Device;
 use crate::memory::calls::Calls;
+use crate::ranges::{copy_range, put_over};
 use crate::sources::{Failed, Source};
 use elf_types::{Addrs, ElfError, Octets};
 use std::alloc::Global;
@@ -107,7 +108,7 @@ impl Source for MemDevice {
         ensures taken { RaisedBy self.old.taken self.new.taken (length buf.old) }
 
         // which reads fail, and what such a read changes
-        ensures number { self.new.reads.made ≡ one_more self.old.reads.made }
+        ensures number { self.new.reads.made ≡ next_count self.old.reads.made }
         ensures fails { IsErr result ↔ Contains self.old.reads.bad self.new.reads.made }
         ensures counted { self.new.faults ≡ faults_after result self.old.faults }
         ensures untouched { OnErr result (buf.new ≡ buf.old) }
@@ -117,9 +118,7 @@ impl Source for MemDevice {
             self.faults = self.faults.saturating_add(1);
             return Err(Failed);
         }
-        let (_, from_place) = self.bytes.as_slice().split_at(at as usize);
-        let (wanted, _) = from_place.split_at(buf.len());
-        buf.copy_from_slice(wanted);
+        copy_range(self.bytes.as_slice(), at as usize, buf);
         Ok(())
     }
 
@@ -144,7 +143,7 @@ impl Device for MemDevice {
             × (self.new.taken ≡ self.old.taken) × (self.new.room ≡ self.old.room) }
 
         // which writes fail
-        ensures number { self.new.writes.made ≡ one_more self.old.writes.made }
+        ensures number { self.new.writes.made ≡ next_count self.old.writes.made }
         ensures bad { self.new.writes.bad ≡ self.old.writes.bad }
         ensures fails { IsErr result ↔ Contains self.old.writes.bad self.new.writes.made }
         ensures counted { self.new.write_faults ≡ faults_after result self.old.write_faults }
@@ -167,7 +166,7 @@ impl Device for MemDevice {
             × (self.new.taken ≡ self.old.taken) × (self.new.room ≡ self.old.room) }
 
         // which writes fail
-        ensures number { self.new.writes.made ≡ one_more self.old.writes.made }
+        ensures number { self.new.writes.made ≡ next_count self.old.writes.made }
         ensures bad { self.new.writes.bad ≡ self.old.writes.bad }
         ensures fails { IsErr result
             ↔ (Contains self.old.writes.bad self.new.writes.made ⊎ self.old.room < n) }
@@ -190,7 +189,7 @@ impl Device for MemDevice {
             × (self.new.taken ≡ self.old.taken) × (self.new.room ≡ self.old.room) }
 
         // which writes fail
-        ensures number { self.new.writes.made ≡ one_more self.old.writes.made }
+        ensures number { self.new.writes.made ≡ next_count self.old.writes.made }
         ensures bad { self.new.writes.bad ≡ self.old.writes.bad }
         ensures fails { IsErr result
             ↔ (Contains self.old.writes.bad self.new.writes.made
@@ -208,14 +207,6 @@ impl Device for MemDevice {
     }
 
     ghost rest_begins = { λ _. refl };
-}
-
-/// Puts a piece over the bytes from a place on.
-fn put_over(bytes: &mut [u8], at: usize, piece: &[u8])
-    requires { at + length piece.now ≤ length bytes.old }
-    ensures { bytes.new ≡ written_over bytes.old at piece.now }
-{
-    bytes[at..at + piece.len()].copy_from_slice(piece);
 }
 
 #[cfg(test)]

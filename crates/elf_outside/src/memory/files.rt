@@ -2,7 +2,7 @@
 
 ghost use Rattle.std.specs.Prelude.{◌≡◌, ℕ, [], true, List, Some, None, IfOk, IfErr, OnOk, OnErr};
 ghost use Rattle.std.specs.Option.{option_copied};
-ghost use Rattle.elf_outside.specs.Kept.{kept, bytes_named, SameKept, SetsKept};
+ghost use Rattle.elf_outside.specs.Kept.{kept, bytes_kept, SameKept, SetsKept};
 ghost use Rattle.elf_outside.specs.MemFiles.{SameSettings, IsFileOf, IsUntouched, HandsOut, Creates, TakesBack, emptied};
 
 use crate::file_sets::{Files, OpenFault};
@@ -99,7 +99,7 @@ impl MemFiles {
 
     /// The bytes of a name, or None exactly where the name is not there. It takes no memory.
     pub fn bytes(&self, name: &str) -> Option<&[u8]>
-        ensures { option_copied result ≡ bytes_named self.now.names name.now }
+        ensures { option_copied result ≡ bytes_kept self.now.names name.now }
     {
         match self.names.get(name) {
             Some(kept) => Some(kept.bytes.as_slice()),
@@ -132,7 +132,7 @@ impl Files for MemFiles {
 
     ghost tells = { λ _. true };
 
-    ghost named = { λ f. bytes_named f.names };
+    ghost named = { λ f. bytes_kept f.names };
 
     ghost read_faults = { λ f. f.read_faults };
 

@@ -1,7 +1,7 @@
 //! The files of the system.
 
 ghost use Rattle.std.specs.Prelude.{◌≡◌, ◌≤◌, false, None, IsErrOf, IfOk, OnOk, OnErr};
-ghost use Rattle.elf_outside.specs.Counts.{Rose, one_more};
+ghost use Rattle.elf_outside.specs.Counts.{Rose, next_count};
 
 use crate::file_sets::{Files, OpenFault};
 use crate::real::RealFile;
@@ -49,7 +49,7 @@ impl<R: rt::Files<File = File>> RealFiles<R> {
         ensures read_faults { self.old.read_faults ≤ self.new.read_faults }
         ensures write_faults { self.new.write_faults ≡ self.old.write_faults }
         ensures numbers { (self.new.taken ≡ self.old.taken) × (self.new.given ≡ self.old.given) }
-        ensures live { OnOk result (self.new.live ≡ one_more self.old.live) }
+        ensures live { OnOk result (self.new.live ≡ next_count self.old.live) }
         ensures not_live { OnErr result (self.new.live ≡ self.old.live) }
     {
         let mut how = OpenOptions::new();

@@ -5,6 +5,7 @@ ghost use Rattle.std.specs.Option.{ForSome, IfSome};
 ghost use Rattle.elf_outside.specs.Leaves.{LeavesBy};
 
 use crate::devices::Device;
+use crate::ranges::copy_range;
 use crate::sources::{Failed, Source};
 use std::alloc::Global;
 
@@ -116,9 +117,7 @@ impl<S: Source> ReadAhead<S> {
         ensures { IfSome (S.holds self.now.inner)
             (λ bytes. buf.new ≡ take (length buf.old) (drop at bytes)) }
     {
-        let (_, from_place) = self.held.as_slice().split_at((at - self.start) as usize);
-        let (wanted, _) = from_place.split_at(buf.len());
-        buf.copy_from_slice(wanted);
+        copy_range(self.held.as_slice(), (at - self.start) as usize, buf);
     }
 }
 
