@@ -1,5 +1,6 @@
--- Each call on an object: what it answers, the object that an Ok leaves, and the sections whose homes it may read
--- (elf(3E), gelf(3E)). Refusals stand in their order. Further calls are stated in the same form where they are made.
+-- Each call on an object: what it answers, the object that an Ok leaves, and the sections whose
+-- homes it may read (elf(3E), gelf(3E)). Refusals stand in their order. Further calls are stated in
+-- the same form where they are made.
 use Rattle.std.specs.Prelude.{ℕ, Bool, true, false, not, ◌==◌, ◌&&◌, nat_lt, nat_le, List, [], ◌∷◌, length, slice_set, Option, Some, None, Result, Ok, Err}
 use Rattle.std.specs.Int.{is_power_of_two}
 use Rattle.elf_types.specs.declared.records.Class.{Class}
@@ -33,8 +34,9 @@ use Rattle.elf_object.specs.Image.{image_length}
 use Rattle.elf_object.specs.Refusal.{refusal}
 use Rattle.elf_object.specs.Due.{is_loaded, holds_items, homes_due, unless_refused, when_piece_clean}
 
--- a call that answers an A: its answer, the object that an Ok leaves, the sections whose homes it may read, and whether
--- it may want memory, by which sections are loaded and which home pieces hold their items
+-- a call that answers an A: its answer, the object that an Ok leaves, the sections whose homes it
+-- may read, and whether it may want memory, by which sections are loaded and which home pieces hold
+-- their items
 pub record Call (A : Type 0) : Type 0 where
   pub answer : Object → Result A ElfError
   pub after : Object → Object
@@ -69,7 +71,8 @@ some_memory o loaded held = true
 abbrev pub unless_held : ℕ → ℕ → Object → List Bool → List Bool → Bool
 unless_held s p o loaded held = not (holds_items o held s p)
 
--- the home that a call on a piece may read: none where it is refused before it reads, or where the piece is own
+-- the home that a call on a piece may read: none where it is refused before it reads, or where the
+-- piece is own
 abbrev pub piece_reads : {A : Type 0} → ℕ → ℕ → Object → Result A ElfError → List ℕ
 piece_reads s p o answer = unless_refused (err_of answer) (when_piece_clean o s p)
 
@@ -216,7 +219,8 @@ dynent s p i = reader s p (λ o. dyn_answer o s p i)
 
 -- ---- Edits that read nothing
 
-abbrev pub edit_with : {A : Type 0} → (Object → List Bool → List Bool → Bool) → (Object → Option ElfError) → (Object → A) → (Object → Object) → Call A
+abbrev pub edit_with : {A : Type 0} → (Object → List Bool → List Bool → Bool)
+    → (Object → Option ElfError) → (Object → A) → (Object → Object) → Call A
 edit_with memory refusal value after = record {
   answer = λ o. answered (refusal o) (value o);
   after = after;
@@ -225,11 +229,13 @@ edit_with memory refusal value after = record {
 }
 
 -- one that takes no memory
-abbrev pub edit : {A : Type 0} → (Object → Option ElfError) → (Object → A) → (Object → Object) → Call A
+abbrev pub edit : {A : Type 0} → (Object → Option ElfError) → (Object → A) → (Object → Object)
+    → Call A
 edit refusal value after = edit_with no_memory refusal value after
 
 -- one that makes a list longer
-abbrev pub growth : {A : Type 0} → (Object → Option ElfError) → (Object → A) → (Object → Object) → Call A
+abbrev pub growth : {A : Type 0} → (Object → Option ElfError) → (Object → A) → (Object → Object)
+    → Call A
 growth refusal value after = edit_with some_memory refusal value after
 
 abbrev pub done : Object → Unit {0}
@@ -238,7 +244,9 @@ done o = tt
 -- gelf_update_ehdr: the string index is 0 or below the section count
 unfoldable pub update_ehdr_refusal : Object → Ehdr → Option ElfError
 update_ehdr_refusal o h = first_refusal
-    (refused_if (not (h.shstrndx == 0) && nat_le (length o.sections) h.shstrndx) (NoSection h.shstrndx (length o.sections))
+    (refused_if
+    (not (h.shstrndx == 0) && nat_le (length o.sections) h.shstrndx)
+    (NoSection h.shstrndx (length o.sections))
     ∷ refused_if (not (ehdr_fits (stored_ehdr o.header h))) (Unfit part.Header 0)
     ∷ [])
 
@@ -248,7 +256,9 @@ update_ehdr h = edit (λ o. update_ehdr_refusal o h) done (λ o. with_ehdr o h)
 -- gelf_update_phdr
 unfoldable pub update_phdr_refusal : Object → ℕ → Phdr → Option ElfError
 update_phdr_refusal o i p = first_refusal
-    (no_entry i (length o.phdrs) ∷ refused_if (not (phdr_fits o.header.class p)) (Unfit part.Segments i) ∷ [])
+    (no_entry i (length o.phdrs)
+    ∷ refused_if (not (phdr_fits o.header.class p)) (Unfit part.Segments i)
+    ∷ [])
 
 abbrev pub update_phdr : ℕ → Phdr → Call (Unit {0})
 update_phdr i p = edit (λ o. update_phdr_refusal o i p) done (λ o. with_phdr o i p)
@@ -267,7 +277,10 @@ phdrs_mut left = edit (λ o. None) done (λ o. with_phdrs o left)
 -- gelf_update_shdr
 unfoldable pub update_shdr_refusal : Object → ℕ → Shdr → Option ElfError
 update_shdr_refusal o s h = first_refusal
-    (no_section o s ∷ reserved s ∷ refused_if (not (shdr_fits o.header.class h)) (Unfit (part.Section s) 0) ∷ [])
+    (no_section o s
+    ∷ reserved s
+    ∷ refused_if (not (shdr_fits o.header.class h)) (Unfit (part.Section s) 0)
+    ∷ [])
 
 abbrev pub update_shdr : ℕ → Shdr → Call (Unit {0})
 update_shdr s h = edit (λ o. update_shdr_refusal o s h) done (λ o. with_shdr o s h)
@@ -288,7 +301,11 @@ is_piece_align align = is_power_of_two align && nat_le align MAX_PIECE_ALIGN
 
 -- items that do not fit, as the piece with that number
 abbrev pub unfit_items : Object → ℕ → ℕ → Items → Option ElfError
-unfit_items o s p items = elim (first_unfit o.header.class items) [ None ↦ None | Some i ↦ Some (Unfit (part.Piece s p) i) ]
+unfit_items o s p items =
+    elim (first_unfit o.header.class items) [
+      | None ↦ None
+      | Some i ↦ Some (Unfit (part.Piece s p) i)
+    ]
 
 -- elf_newdata: at most 2^20 pieces
 unfoldable pub newdata_refusal : Object → ℕ → Items → ℕ → Option ElfError
@@ -303,7 +320,10 @@ newdata_refusal o s items align = first_refusal
 -- the section and the number of the new piece
 abbrev pub newdata_aligned : ℕ → Items → ℕ → Call (ℕ × ℕ)
 newdata_aligned s items align =
-    growth (λ o. newdata_refusal o s items align) (λ o. (s, piece_count o s)) (λ o. with_new_piece o s items align)
+    growth
+    (λ o. newdata_refusal o s items align)
+    (λ o. (s, piece_count o s))
+    (λ o. with_new_piece o s items align)
 
 abbrev pub newdata : ℕ → Items → Call (ℕ × ℕ)
 newdata s items = newdata_aligned s items 1
@@ -312,19 +332,24 @@ abbrev pub set_fill : ℕ → Call (Unit {0})
 set_fill byte = edit (λ o. None) done (λ o. with_fill o byte)
 
 unfoldable pub replace_refusal : Object → ℕ → ℕ → Items → Option ElfError
-replace_refusal o s p items = first_refusal (no_section o s ∷ reserved s ∷ no_data o s p ∷ unfit_items o s p items ∷ [])
+replace_refusal o s p items =
+    first_refusal (no_section o s ∷ reserved s ∷ no_data o s p ∷ unfit_items o s p items ∷ [])
 
 abbrev pub replace : ℕ → ℕ → Items → Call (Unit {0})
 replace s p items = edit (λ o. replace_refusal o s p items) done (λ o. with_own o s p items)
 
 -- elf_flagelf and its like: a dirty mark is not cleared
 unfoldable pub flag_refusal : Object → Part → Bool → ℕ → Option ElfError
-flag_refusal o part set bits = first_refusal (part_refusal o part ∷ refused_if (not set && has_dirty bits) FlagKept ∷ [])
+flag_refusal o part set bits =
+    first_refusal (part_refusal o part ∷ refused_if (not set && has_dirty bits) FlagKept ∷ [])
 
 -- it answers the flags that the part has then
 abbrev pub flag : Part → Bool → ℕ → Call ℕ
 flag part set bits =
-    edit (λ o. flag_refusal o part set bits) (λ o. flags_of (with_flags o part set bits) part) (λ o. with_flags o part set bits)
+    edit
+    (λ o. flag_refusal o part set bits)
+    (λ o. flags_of (with_flags o part set bits) part)
+    (λ o. with_flags o part set bits)
 
 -- elf_update with ELF_C_NULL: the length of the image
 abbrev pub update_null : Call ℕ
@@ -341,10 +366,12 @@ lend s p left = record {
   memory = unless_held s p;
 }
 
--- gelf_update_sym and its like: the item's kind, whether the value fits the class, and the items with the value stored
+-- gelf_update_sym and its like: the item's kind, whether the value fits the class, and the items
+-- with the value stored
 unfoldable pub update_item_refusal : Object → Kind → ℕ → ℕ → ℕ → Bool → Option ElfError
 update_item_refusal o kind s p i fitting =
-    first_refusal (item_refusal o kind s p i ∷ refused_if (not fitting) (Unfit (part.Piece s p) i) ∷ [])
+    first_refusal
+    (item_refusal o kind s p i ∷ refused_if (not fitting) (Unfit (part.Piece s p) i) ∷ [])
 
 abbrev pub update_item : Kind → ℕ → ℕ → ℕ → (Class → Bool) → (Items → Items) → Call (Unit {0})
 update_item kind s p i fitting stored = record {
@@ -355,22 +382,29 @@ update_item kind s p i fitting stored = record {
 }
 
 abbrev pub update_half : ℕ → ℕ → ℕ → ℕ → Call (Unit {0})
-update_half s p i v = update_item kinds.Half s p i (λ c. true) (λ l. items.Half (slice_set (halves_of l) i v))
+update_half s p i v =
+    update_item kinds.Half s p i (λ c. true) (λ l. items.Half (slice_set (halves_of l) i v))
 
 abbrev pub update_word : ℕ → ℕ → ℕ → ℕ → Call (Unit {0})
-update_word s p i v = update_item kinds.Word s p i (λ c. true) (λ l. items.Word (slice_set (words_of l) i v))
+update_word s p i v =
+    update_item kinds.Word s p i (λ c. true) (λ l. items.Word (slice_set (words_of l) i v))
 
 abbrev pub update_addr : ℕ → ℕ → ℕ → ℕ → Call (Unit {0})
-update_addr s p i v = update_item kinds.Addr s p i (λ c. fits c v) (λ l. items.Addr (slice_set (addrs_of l) i v))
+update_addr s p i v =
+    update_item kinds.Addr s p i (λ c. fits c v) (λ l. items.Addr (slice_set (addrs_of l) i v))
 
 abbrev pub update_sym : ℕ → ℕ → ℕ → Sym → Call (Unit {0})
-update_sym s p i v = update_item kinds.Sym s p i (λ c. sym_fits c v) (λ l. items.Sym (slice_set (syms_of l) i v))
+update_sym s p i v =
+    update_item kinds.Sym s p i (λ c. sym_fits c v) (λ l. items.Sym (slice_set (syms_of l) i v))
 
 abbrev pub update_rel : ℕ → ℕ → ℕ → Rel → Call (Unit {0})
-update_rel s p i v = update_item kinds.Rel s p i (λ c. rel_fits c v) (λ l. items.Rel (slice_set (rels_of l) i v))
+update_rel s p i v =
+    update_item kinds.Rel s p i (λ c. rel_fits c v) (λ l. items.Rel (slice_set (rels_of l) i v))
 
 abbrev pub update_rela : ℕ → ℕ → ℕ → Rela → Call (Unit {0})
-update_rela s p i v = update_item kinds.Rela s p i (λ c. rela_fits c v) (λ l. items.Rela (slice_set (relas_of l) i v))
+update_rela s p i v =
+    update_item kinds.Rela s p i (λ c. rela_fits c v) (λ l. items.Rela (slice_set (relas_of l) i v))
 
 abbrev pub update_dynent : ℕ → ℕ → ℕ → Dyn → Call (Unit {0})
-update_dynent s p i v = update_item kinds.Dyn s p i (λ c. dyn_fits c v) (λ l. items.Dyn (slice_set (dyns_of l) i v))
+update_dynent s p i v =
+    update_item kinds.Dyn s p i (λ c. dyn_fits c v) (λ l. items.Dyn (slice_set (dyns_of l) i v))

@@ -1,5 +1,6 @@
--- Header values that follow from the lists, and the numbers that the header's two-byte fields cannot hold (gABI
--- chapter 4, "ELF Header", e_phnum, e_shnum and e_shstrndx; "Section Header", the entry at index 0).
+-- Header values that follow from the lists, and the numbers that the header's two-byte fields
+-- cannot hold (gABI chapter 4, "ELF Header", e_phnum, e_shnum and e_shstrndx; "Section Header", the
+-- entry at index 0).
 use Rattle.std.specs.Prelude.{ℕ, ◌==◌, nat_lt, if◌then◌else◌}
 use Rattle.elf_types.specs.declared.records.Ehdr.{Ehdr}
 use Rattle.elf_types.specs.declared.records.Shdr.{Shdr}
@@ -10,7 +11,8 @@ use Rattle.elf_xlate.specs.Headers.{ehdr_size, phdr_size, shdr_size}
 abbrev pub where_any : ℕ → ℕ → ℕ
 where_any count n = if count == 0 then 0 else n
 
--- a header that has the true counts, with what follows from them, and with the two tables at these places
+-- a header that has the true counts, with what follows from them, and with the two tables at these
+-- places
 unfoldable pub derived_header : ℕ → ℕ → Ehdr → Ehdr
 derived_header phoff shoff h = record h {
   version = EV_CURRENT;
@@ -42,7 +44,8 @@ written_header h = record h {
   shstrndx = written_shstrndx h.shstrndx;
 }
 
--- section 0's header, which holds in sh_size, sh_link and sh_info what e_shnum, e_shstrndx and e_phnum do not
+-- section 0's header, which holds in sh_size, sh_link and sh_info what e_shnum, e_shstrndx and
+-- e_phnum do not
 unfoldable pub numbered_shdr : Ehdr → Shdr → Shdr
 numbered_shdr h first = record first {
   size = if nat_lt h.shnum SHN_LORESERVE then 0 else h.shnum;

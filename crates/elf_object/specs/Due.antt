@@ -1,5 +1,6 @@
--- What is held of an object, and how many bytes a call may ask its source for. A section is loaded where its home's
--- bytes are held; its home piece holds its items where they are held in memory form.
+-- What is held of an object, and how many bytes a call may ask its source for. A section is loaded
+-- where its home's bytes are held; its home piece holds its items where they are held in memory
+-- form.
 use Rattle.std.specs.Prelude.{ℕ, ◌+◌, Bool, true, false, not, ◌==◌, ◌&&◌, ◌||◌, List, [], ◌∷◌, ◌++◌, length, sum_by, count_by, filter, slice_get, Option, Some, is_some, is_none, unwrap_or, if◌then◌else◌}
 use Rattle.std.specs.List.{range_with_len, list_any}
 use Rattle.elf_types.specs.declared.errors.ElfError.{ElfError}
@@ -17,7 +18,8 @@ use Rattle.elf_object.specs.Changed.{is_moved}
 unfoldable pub is_loaded : List Bool → ℕ → Bool
 is_loaded loaded s = unwrap_or (slice_get loaded s) false
 
--- whether a piece holds its items: an own one does; the clean home piece does where a list says so of its section
+-- whether a piece holds its items: an own one does; the clean home piece does where a list says so
+-- of its section
 unfoldable pub holds_items : Object → List Bool → ℕ → ℕ → Bool
 holds_items o held s p = is_some (piece_at o s p).own || unwrap_or (slice_get held s) false
 
@@ -61,22 +63,31 @@ with_others sections others = sections ++ filter (λ s. not (list_any (λ t. t =
 abbrev pub all_sections : Object → List ℕ
 all_sections o = range_with_len 0 (length o.sections)
 
--- of an update of a dirty object, which is due so many bytes: none where it is refused as a home that is not in the
--- file, which is seen before a read
+-- of an update of a dirty object, which is due so many bytes: none where it is refused as a home
+-- that is not in the file, which is seen before a read
 abbrev pub unless_unread : Object → ℕ → ℕ
 unless_unread o bytes = if is_refused_unread (refusal o) then 0 else bytes
 
--- of an update that hands the image to a sink: the base where nothing is dirty, else the homes of clean pieces and
--- with ELF_F_LAYOUT what stays of the base
+-- the sections whose homes an update hands on as they are
+abbrev pub clean_homes : Object → List ℕ
+clean_homes o =
+    filter
+    (λ s. has_file_bytes s (section_at o s) && home_is_clean (section_at o s))
+    (all_sections o)
+
+-- of an update that hands the image to a sink: the base where nothing is dirty, else the homes of
+-- clean pieces and with ELF_F_LAYOUT what stays of the base
 unfoldable pub update_to_due : Object → List Bool → ℕ
 update_to_due o loaded =
     if is_dirty o
     then unless_unread o
-    (homes_due o loaded (filter (λ s. has_file_bytes s (section_at o s) && home_is_clean (section_at o s)) (all_sections o))
+    (homes_due o loaded (clean_homes o)
     + count_by (λ k. not (is_covered (part_blocks (placed o)) k)) (range_with_len 0 (kept_base o)))
     else length o.base
 
 -- of an update in place: the homes of the sections that move
 unfoldable pub update_in_place_due : Object → List Bool → ℕ
 update_in_place_due o loaded =
-    if is_dirty o then unless_unread o (homes_due o loaded (filter (is_moved o) (all_sections o))) else 0
+    if is_dirty o
+    then unless_unread o (homes_due o loaded (filter (is_moved o) (all_sections o)))
+    else 0

@@ -1,5 +1,6 @@
--- The plain object: an ELF image as lists of headers and sections (gABI chapter 4, "Object Files"). Each
--- section has what the image held of it when it was opened, and pieces of data, which edits change.
+-- The plain object: an ELF image as lists of headers and sections (gABI chapter 4, "Object Files").
+-- Each section has what the image held of it when it was opened, and pieces of data, which edits
+-- change.
 use Rattle.std.specs.Prelude.{ℕ, Bool, true, false, not, ◌==◌, ◌&&◌, ◌||◌, List, [], length, slice_get, slice_index_or, Option, Some, None, is_none}
 use Rattle.std.specs.List.{list_any}
 use Rattle.elf_types.specs.declared.records.Kind.{Kind}
@@ -12,22 +13,23 @@ use Rattle.elf_xlate.specs.declared.content.Items.{Items}
 use Rattle.elf_ident.specs.Front.{zero_shdr}
 use Rattle.elf_object.specs.Blocks.{Block}
 
--- a section's home: the extent that its header, as opened, gives it in the image, the kind of its items,
--- and whether it passes the image's end
+-- a section's home: the extent that its header, as opened, gives it in the image, the kind of its
+-- items, and whether it passes the image's end
 pub record Home : Type 0 where
   pub at : ℕ
   pub len : ℕ
   pub kind : Kind
   pub out : Bool
 
--- a piece of a section's data (elf_getdata): its own items, or None for the clean home piece, which is
--- what the home holds; its alignment in the section; whether it is marked dirty
+-- a piece of a section's data (elf_getdata): its own items, or None for the clean home piece, which
+-- is what the home holds; its alignment in the section; whether it is marked dirty
 pub record Piece : Type 0 where
   pub own : Option Items
   pub align : ℕ
   pub marked : Bool
 
--- a section: its present header, its home, the home's bytes as they were opened, and its pieces in order
+-- a section: its present header, its home, the home's bytes as they were opened, and its pieces in
+-- order
 pub record Section : Type 0 where
   pub header : Shdr
   pub home : Home
@@ -35,8 +37,8 @@ pub record Section : Type 0 where
   pub pieces : List Piece
   pub marked : Bool
 
--- the front of the image as opened or last settled: place and bytes of the ELF header, the program header
--- table and the section header table
+-- the front of the image as opened or last settled: place and bytes of the ELF header, the program
+-- header table and the section header table
 pub record WrittenFront : Type 0 where
   pub header : Block
   pub segments : Block
@@ -59,7 +61,16 @@ pub record Object : Type 0 where
 -- ---- What stands at an index
 
 abbrev pub no_phdr : Phdr
-no_phdr = record { ptype = 0; flags = 0; offset = 0; vaddr = 0; paddr = 0; filesz = 0; memsz = 0; align = 0 }
+no_phdr = record {
+  ptype = 0;
+  flags = 0;
+  offset = 0;
+  vaddr = 0;
+  paddr = 0;
+  filesz = 0;
+  memsz = 0;
+  align = 0;
+}
 
 abbrev pub no_home : Home
 no_home = record { at = 0; len = 0; kind = kinds.Empty; out = false }

@@ -1,5 +1,5 @@
--- The object of an image, with each section as its header, as opened, gives it (elf_begin; gABI chapter 4,
--- "Section Header").
+-- The object of an image, with each section as its header, as opened, gives it (elf_begin; gABI
+-- chapter 4, "Section Header").
 use Rattle.std.specs.Prelude.{ℕ, ◌+◌, true, false, not, ◌==◌, ◌&&◌, nat_lt, List, [], ◌∷◌, length, take, drop, map, flat_map, slice_index, if◌then◌else◌, Result, Ok, Err}
 use Rattle.elf_types.specs.Kinds.{section_kind}
 use Rattle.elf_types.specs.declared.records.Class.{Class}

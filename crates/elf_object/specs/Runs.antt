@@ -39,7 +39,12 @@ runs cs o = (answers_to cs o, left_by cs o)
 -- ---- A call with another form of its answer
 
 abbrev pub mapped : {A B : Type 0} → (A → B) → Call A → Call B
-mapped f c = record { answer = λ o. result_map f (c.answer o); after = c.after; reads = c.reads; memory = c.memory }
+mapped f c = record {
+  answer = λ o. result_map f (c.answer o);
+  after = c.after;
+  reads = c.reads;
+  memory = c.memory;
+}
 
 -- ---- A call that is made with what a getter answers
 
@@ -53,9 +58,11 @@ abbrev pub looked : {A B : Type 0} → Call A → (A → Call B) → Call B
 looked first second = record {
   answer = λ o. first.answer o >>= λ x. (second x).answer o;
   after = λ o. after_look (first.answer o) (λ x. (second x).after o) o;
-  reads = λ o. with_others (first.reads o) (after_look (first.answer o) (λ x. (second x).reads o) []);
+  reads = λ o.
+      with_others (first.reads o) (after_look (first.answer o) (λ x. (second x).reads o) []);
   memory = λ o loaded held.
-      first.memory o loaded held || after_look (first.answer o) (λ x. (second x).memory o loaded held) false;
+      first.memory o loaded held
+      || after_look (first.answer o) (λ x. (second x).memory o loaded held) false;
 }
 
 -- one field of a header: the header as it is, and the update with the changed one
@@ -76,7 +83,8 @@ set_item get update change = looked get (λ x. update (change x))
 
 -- item i of a piece of any kind, in a form of the caller's: the data, and then the entry
 abbrev pub entry_of : {A : Type 0} → (Items → ℕ → Option A) → ℕ → Items → Result A ElfError
-entry_of form i items = elim (form items i) [ None ↦ Err (NoEntry i (items_count items)) | Some x ↦ Ok x ]
+entry_of form i items =
+    elim (form items i) [ None ↦ Err (NoEntry i (items_count items)) | Some x ↦ Ok x ]
 
 abbrev pub item : {A : Type 0} → (Items → ℕ → Option A) → ℕ → ℕ → ℕ → Call A
 item form s p i = reader s p (λ o. data_answer o s p >>= entry_of form i)
@@ -114,8 +122,9 @@ abbrev pub or_same : Kind → Object → Object → Object
 or_same kinds.Empty old stepped = old
 or_same _ old stepped = stepped
 
--- by the lend of the kind that the piece holds; it answers the number of items. A piece of kind Empty can not be lent: it
--- answers 0 and marks nothing. A piece of another kind is marked, also where it has no items.
+-- by the lend of the kind that the piece holds; it answers the number of items. A piece of kind
+-- Empty can not be lent: it answers 0 and marks nothing. A piece of another kind is marked, also
+-- where it has no items.
 abbrev pub addall : ℕ → ℕ → ℕ → Call ℕ
 addall s p n = record {
   answer = λ o. answered (lend_refusal o (kind_at o s p) s p) (items_count (items_at o s p));

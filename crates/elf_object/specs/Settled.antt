@@ -18,11 +18,13 @@ settled_section len bytes h = record {
   marked = false;
 }
 
--- the object whose places are stored, over the image of it: one clean piece for each section, no marks.
--- ELF_F_LAYOUT and the fill byte stay.
+-- the object whose places are stored, over the image of it: one clean piece for each section, no
+-- marks. ELF_F_LAYOUT and the fill byte stay.
 unfoldable pub settled_over : List ℕ → Object → Object
 settled_over bytes o = record o {
-  sections = map (λ row. settled_section (length bytes) (file_bytes o row.0) row.1.header) (enumerate_from 0 o.sections);
+  sections = map
+      (λ row. settled_section (length bytes) (file_bytes o row.0) row.1.header)
+      (enumerate_from 0 o.sections);
   base = bytes;
   written_front = front_blocks o;
   marked = false;

@@ -1,6 +1,7 @@
--- What makes an object: header and section headers are in the range of their types and fit, the lists are within their
--- limits, and the home piece fits its home. Every step keeps it. Nothing is said of the numbers in program headers and
--- in own items, which a borrower may have left: a file form takes their lowest bytes.
+-- What makes an object: header and section headers are in the range of their types and fit, the
+-- lists are within their limits, and the home piece fits its home. Every step keeps it. Nothing is
+-- said of the numbers in program headers and in own items, which a borrower may have left: a file
+-- form takes their lowest bytes.
 use Rattle.std.specs.Prelude.{◌≡◌, ℕ, ◌^◌, ◌<◌, ◌≤◌, true, false, List, [], ◌∷◌, length, All, IfSome, IsSome, IsTrue, Ok}
 use Rattle.elf_types.specs.declared.records.Class.{Class}
 use Rattle.elf_types.specs.declared.records.Kind.TheVariants as kinds
@@ -13,8 +14,8 @@ use Rattle.elf_object.specs.Calls.{Call, step, is_piece_align}
 abbrev pub AreBytes : List ℕ → Type 0
 AreBytes l = All (λ n. n < 2 ^ 8) l
 
--- a home: where it lies in the file its bytes are as many as it is long, where it does not there are none, and a home of
--- no kind is empty
+-- a home: where it lies in the file its bytes are as many as it is long, where it does not there
+-- are none, and a home of no kind is empty
 pub record IsHome (home : Home) (raw : List ℕ) : Type 0 where
   pub at : home.at < 2 ^ 64
   pub len : home.len < 2 ^ 64
@@ -64,7 +65,8 @@ KeepsObject c = (o : Object) → IsObject o → IsObject (step c o)
 abbrev pub as_opened : Object → Object
 as_opened o = record o { layout = false; fill = 0 }
 
--- an object in which nothing is dirty is that of its base. It holds of an object over a source that tells its bytes.
+-- an object in which nothing is dirty is that of its base. It holds of an object over a source that
+-- tells its bytes.
 abbrev pub IsTied : Object → Type 0
 IsTied o = is_dirty o ≡ false → opened o.base ≡ Ok (as_opened o)
 

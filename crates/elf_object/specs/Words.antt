@@ -1,8 +1,9 @@
--- How the answer that came meets the stated one: one family of words. docs/OBJECT.md has the table of which call uses
--- which.
+-- How the answer that came meets the stated one: one family of words. docs/OBJECT.md has the table
+-- of which call uses which.
 --
--- Memory, want of memory, is tied to nothing, and the cause of Read is a count of the outside. Both leave the object.
--- Each word says where they may come. Every other refusal comes exactly where it is stated.
+-- Memory, want of memory, is tied to nothing, and the cause of Read is a count of the outside. Both
+-- leave the object. Each word says where they may come. Every other refusal comes exactly where it
+-- is stated.
 use Rattle.std.specs.Prelude.{◌≡◌, ℕ, Bool, true, false, IsTrue, List, length, Option, Some, None, Result, Ok, Err, IsOk, ◌⊎◌}
 use Rattle.std.specs.Borrow.{Bor}
 use Rattle.elf_types.specs.declared.errors.ElfError.{ElfError}
@@ -17,8 +18,8 @@ pub record Wants : Type 0 where
   pub memory : Bool
   pub read : Bool
 
--- a refusal that is found in the items of a home: no such item, a value that does not fit, a record or a string that
--- does not end in its piece
+-- a refusal that is found in the items of a home: no such item, a value that does not fit, a record
+-- or a string that does not end in its piece
 abbrev pub is_late : ElfError → Bool
 is_late (NoEntry i n) = true
 is_late (Unfit p i) = true
@@ -40,8 +41,9 @@ MayWantMemory (Err e) = ⊥
 
 -- ---- Calls that read
 
--- of a call whose refusals rest on index, kind, flag, type, extent and size: over every source a value comes exactly
--- where one is stated, and a refusal is the stated one. The value is the stated one where the source tells its bytes.
+-- of a call whose refusals rest on index, kind, flag, type, extent and size: over every source a
+-- value comes exactly where one is stated, and a refusal is the stated one. The value is the stated
+-- one where the source tells its bytes.
 abbrev pub Answers : {A : Type 0} → Bool → Wants → Result A ElfError → Result A ElfError → Type 0
 Answers told wants (Ok x) stated = IsOk stated × (IsTrue told → stated ≡ Ok x)
 Answers told wants (Err Memory) stated = IsTrue wants.memory × MayWant stated
@@ -58,14 +60,16 @@ pub record Refusals : Type 1 where
 abbrev pub late_after : Option ElfError → Refusals
 late_after early = record { unread = early; early = early; met = λ e. IsTrue (is_late e) }
 
--- of such a call: an early refusal comes exactly where it is stated, over every source; a value, and a refusal that is
--- met in the bytes, are the stated ones where the source tells them
-abbrev pub AnswersRead : {A : Type 0} → Bool → Wants → Refusals → Result A ElfError → Result A ElfError → Type 0
+-- of such a call: an early refusal comes exactly where it is stated, over every source; a value,
+-- and a refusal that is met in the bytes, are the stated ones where the source tells them
+abbrev pub AnswersRead : {A : Type 0} → Bool → Wants → Refusals → Result A ElfError
+    → Result A ElfError → Type 0
 AnswersRead told wants r (Ok x) stated = (r.early ≡ None) × (IsTrue told → stated ≡ Ok x)
 AnswersRead told wants r (Err Memory) stated = (r.unread ≡ None) × IsTrue wants.memory
 AnswersRead told wants r (Err Read) stated = (r.unread ≡ None) × IsTrue wants.read
 AnswersRead told wants r (Err e) stated =
-    ((r.early ≡ Some e) × (stated ≡ Err e)) ⊎ ((r.early ≡ None) × r.met e × (IsTrue told → stated ≡ Err e))
+    ((r.early ≡ Some e) × (stated ≡ Err e))
+    ⊎ ((r.early ≡ None) × r.met e × (IsTrue told → stated ≡ Err e))
 
 -- ---- What an answer shares with the stated one, whatever the source tells
 
@@ -100,17 +104,20 @@ handing_back items (Err e) = Err (items, e)
 
 -- ---- Edits
 
--- of an edit that reads nothing: it answers as stated and leaves the stepped state, or wants memory where it is not
--- refused; each refusal leaves the state as it was. No refusal that is stated is Read, so it never answers that.
+-- of an edit that reads nothing: it answers as stated and leaves the stepped state, or wants memory
+-- where it is not refused; each refusal leaves the state as it was. No refusal that is stated is
+-- Read, so it never answers that.
 abbrev pub Edits : {A S : Type 0} → Result A ElfError → S → S → Result A ElfError → S → Type 0
 Edits (Ok x) old new stated stepped = (stated ≡ Ok x) × (new ≡ stepped)
 Edits (Err Memory) old new stated stepped = IsOk stated × (new ≡ old)
 Edits (Err e) old new stated stepped = (stated ≡ Err e) × (new ≡ old)
 
 -- of one that hands back what was handed in
-abbrev pub EditsWith : {A B S : Type 0} → Result A (B × ElfError) → B → S → S → Result A ElfError → S → Type 0
+abbrev pub EditsWith : {A B S : Type 0} → Result A (B × ElfError) → B → S → S → Result A ElfError
+    → S → Type 0
 EditsWith (Ok x) items old new stated stepped = (stated ≡ Ok x) × (new ≡ stepped)
-EditsWith (Err (back, e)) items old new stated stepped = (back ≡ items) × Edits (Err e) old new stated stepped
+EditsWith (Err (back, e)) items old new stated stepped =
+    (back ≡ items) × Edits (Err e) old new stated stepped
 
 -- of an update that reads nothing
 abbrev pub Updates : {A S : Type 0} → Result A ElfError → S → S → Result A ElfError → S → Type 0

@@ -1,5 +1,5 @@
-//! What the library means: the plain object of an ELF image, its calls, its layout and its image. The
-//! definitions stand in `specs/`; here are small functions that compute some of them.
+//! What the library means: the plain object of an ELF image, its calls, its layout and its image.
+//! The definitions stand in `specs/`; here are small functions that compute some of them.
 #![tactic(auto)]
 
 pub mod derived;
