@@ -87,7 +87,8 @@ with_bits bits h = record h { flags = bits }
 -- a program's sections stay allocated or not
 abbrev pub flags_fault : Object → ℕ → List ℕ → ℕ → Option CopyFault
 flags_fault o s name bits = refused_if
-    (is_program o && differ (is_allocated (header_at o s)) (is_allocated (with_bits bits (header_at o s))))
+    (is_program o
+    && differ (is_allocated (header_at o s)) (is_allocated (with_bits bits (header_at o s))))
     (Fixed name)
 
 unfoldable pub with_section_flags :

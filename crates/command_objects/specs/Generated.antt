@@ -13,7 +13,7 @@ use Rattle.elf_ident.specs.Front.{zero_shdr}
 use Rattle.strtab_build.specs.Table.{table, place_of}
 use Rattle.elf_object.specs.Object.{Object, Section, new_section}
 use Rattle.elf_object.specs.Open.{created, new_ehdr}
-use Rattle.elf_object.specs.Steps.{with_ehdr}
+use Rattle.elf_object.specs.Steps.{with_ehdr, with_sections}
 use Rattle.elf_object.specs.Calls.{step}
 use Rattle.elf_object.specs.Runs.{addall}
 use Rattle.elf_object.specs.Answers.{items_at, syms_of}
@@ -96,7 +96,7 @@ generated_sections n =
 -- class 64, least byte first, ET_REL (1), EM_X86_64 (62)
 unfoldable pub generated : ℕ → Object
 generated n = with_ehdr
-    (record (created C64 Least) { sections = generated_sections n })
+    (with_sections (created C64 Least) (generated_sections n))
     (record (new_ehdr C64 Least) { etype = 1; machine = 62; shstrndx = n + 3 })
 
 -- with n added to the value of each symbol

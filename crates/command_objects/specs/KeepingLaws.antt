@@ -77,8 +77,8 @@ without_places h = record h { name = 0; offset = 0 }
 abbrev pub rebuilt_for : Changes → Object → Result Rebuilt ElfError
 rebuilt_for c before = rebuilt before (removed_by_name c.remove before)
 
--- without -R, a section from 1 on that stays: it is not the table of the names, and no option chooses
--- it
+-- without -R, a section from 1 on that stays: it is not the table of the names, and no option
+-- chooses it
 pub record IsLeft (c : Changes) (before : Object) (r : Rebuilt) (s : ℕ) : Type 0 where
   pub none_removed : c.remove ≡ []
   pub rebuilt : rebuilt_for c before ≡ Ok r
@@ -105,17 +105,17 @@ pub record SectionsAreKept (c : Changes) (before after : Object) : Type 0 where
       → section_name after s ≡ kept_name (renews_names before []) (section_name before s)
 
 -- the last change of bytes that chooses a section
-pub record IsLastUpdate (c : Changes) (before : Object) (r : Rebuilt) (s : ℕ) (bytes : List ℕ) : Type 0 where
-  pub rebuilt : rebuilt_for c before ≡ Ok r
+pub record IsLastUpdate (c : Changes) (o : Object) (r : Rebuilt) (s : ℕ) (b : List ℕ) : Type 0 where
+  pub rebuilt : rebuilt_for c o ≡ Ok r
   pub earlier : List (List ℕ × List ℕ)
   pub later : List (List ℕ × List ℕ)
   pub name : List ℕ
-  pub change : c.update ≡ earlier ++ (name, bytes) ∷ later
+  pub change : c.update ≡ earlier ++ (name, b) ∷ later
   pub old : Object
   pub is_old : in_turn with_bytes r.object earlier ≡ Ok old
   pub chooses : section_named (names_in old) name ≡ Ok s
   pub new : Object
-  pub is_new : with_bytes old (name, bytes) ≡ Ok new
+  pub is_new : with_bytes old (name, b) ≡ Ok new
   pub last : is_among (chosen_for_bytes new later) s ≡ false
 
 -- a section that is given bytes has those of the last change that chooses it, and a new section
@@ -192,8 +192,9 @@ pub record CombinesAgain (whole stripped debug : Object) : Type 0 where
   pub updated :
       (r : Rebuilt) (e : ElfError) → unstripped stripped debug ≡ Ok r → refusal r.object ≡ Some e
       → e ≡ TooLarge
-  pub same : (r : Rebuilt) (out : List ℕ) (o : Object) → unstripped stripped debug ≡ Ok r → file_of r.object ≡ Ok out
-      → opened out ≡ Ok o → SameButPlaces whole o
+  pub same :
+      (r : Rebuilt) (out : List ℕ) (o : Object) → unstripped stripped debug ≡ Ok r
+      → file_of r.object ≡ Ok out → opened out ≡ Ok o → SameButPlaces whole o
 
 abbrev pub SplitLaw : Type 0
 SplitLaw =

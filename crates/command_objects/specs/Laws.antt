@@ -115,8 +115,9 @@ pub record BuiltHashesAreWhole : Type 0 where
   pub sysv :
       (o : Object) (s nbucket : ℕ) (words : List ℕ) → 0 < nbucket → nbucket < 2 ^ 32
       → build_sysv_answer o s nbucket ≡ Ok words → is_whole_sysv words (listed_names o s) ≡ true
-  pub gnu : (o : Object) (s : ℕ) (shape : GnuShape) (bytes : List ℕ) → 0 < shape.nbuckets → shape.nbuckets < 2 ^ 32
-      → 0 < shape.bloom → shape.bloom < 2 ^ 32 → shape.shift < 32 → build_gnu_answer o s shape ≡ Ok bytes
+  pub gnu :
+      (o : Object) (s : ℕ) (shape : GnuShape) (bytes : List ℕ) → IsShape shape
+      → build_gnu_answer o s shape ≡ Ok bytes
       → is_whole_gnu o.header.class o.header.order bytes (listed_names o s) ≡ true
 
 -- ---- Rehash keeps lookup
@@ -144,6 +145,16 @@ FoundAlike before after s (Ok None) (Ok None) = Unit {0}
 FoundAlike before after s (Err e) (Err d) = e ≡ d
 FoundAlike before after s a b = ⊥
 
+-- a lookup of a name finds the same in both
+abbrev pub LooksUpAlike : Object → Object → ℕ → List ℕ → Type 0
+LooksUpAlike before after s name =
+    FoundAlike
+    before
+    after
+    s
+    (find_linear_answer before s name)
+    (find_linear_answer after s name)
+
 -- a relocation that named a symbol names an equal one
 abbrev pub NamesAlike : Object → Object → ℕ → Option ℕ → Option ℕ → Type 0
 NamesAlike before after s (Some i) (Some j) =
@@ -160,9 +171,7 @@ rela_symbol o n i =
     elim (slice_get (relas_of (items_at o n 0)) i) [ None ↦ None | Some r ↦ Some r.sym ]
 
 pub record RehashKeepsLookup (before after : Object) (s : ℕ) : Type 0 where
-  pub lookups :
-      (name : List ℕ)
-      → FoundAlike before after s (find_linear_answer before s name) (find_linear_answer after s name)
+  pub lookups : (name : List ℕ) → LooksUpAlike before after s name
   pub rels : (n i : ℕ) → (header_at before n).stype ≡ SHT_REL → (header_at before n).link ≡ s
       → NamesAlike before after s (rel_symbol before n i) (rel_symbol after n i)
   pub relas : (n i : ℕ) → (header_at before n).stype ≡ SHT_RELA → (header_at before n).link ≡ s

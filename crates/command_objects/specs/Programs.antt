@@ -1,8 +1,8 @@
 -- A small program and a small shared object, made of sections, on which the definitions are
 -- computed.
 use Rattle.std.specs.Prelude.{ℕ, Bool, List, [], ◌∷◌, ◌++◌, codes, map, true, false, Result, Ok, Err, pos}
-use Rattle.elf_types.specs.declared.records.Class.TheVariants.{C64}
-use Rattle.elf_types.specs.declared.records.Order.TheVariants.{Least}
+use Rattle.elf_types.specs.declared.records.Class.TheVariants.{C32, C64}
+use Rattle.elf_types.specs.declared.records.Order.TheVariants.{Least, Greatest}
 use Rattle.elf_types.specs.declared.records.Phdr.{Phdr}
 use Rattle.elf_types.specs.declared.records.Shdr.{Shdr}
 use Rattle.elf_types.specs.declared.records.Sym.{Sym}
@@ -15,15 +15,17 @@ use Rattle.elf_ident.specs.Front.{zero_shdr}
 use Rattle.strtab_build.specs.Table.{table, place_of}
 use Rattle.elf_object.specs.Object.{Object, Section, new_section, no_phdr}
 use Rattle.elf_object.specs.Open.{created, new_ehdr}
-use Rattle.elf_object.specs.Samples.{object_in, hex}
+use Rattle.elf_object.specs.Samples.{object_in, hex, symbols32}
 use Rattle.command_objects.specs.Arranged.{Rebuilt}
 use Rattle.command_objects.specs.Rebuilt.{made_section, assembled, stripped}
 use Rattle.command_objects.specs.Copied.{Changes, copied}
 use Rattle.command_objects.specs.Split.{debug_half}
-use Rattle.command_objects.specs.Rehashed.{rehashed}
+use Rattle.command_objects.specs.Followed.{Renumbering}
+use Rattle.std.specs.List.{range_with_len}
+use Rattle.command_objects.specs.Rehashed.{rehashed, smallest_shape}
 use Rattle.command_objects.specs.Listed.{listed_names}
 use Rattle.command_objects.specs.HashSections.{is_whole_sysv, is_whole_gnu}
-use Rattle.command_objects.specs.BuiltHashes.{GnuShape}
+use Rattle.command_objects.specs.BuiltHashes.{GnuShape, build_sysv_answer, build_gnu_answer}
 use Rattle.elf_object.specs.Answers.{items_at, words_of, bytes_of}
 use Rattle.command_objects.specs.Files.{file_of, file_made}
 use Rattle.command_objects.specs.Generated.{zero_sym}
@@ -267,3 +269,16 @@ has_whole_sysv o = is_whole_sysv (words_of (items_at o 6 0)) (listed_names o 1)
 
 abbrev pub has_whole_gnu : Object → Bool
 has_whole_gnu o = is_whole_gnu C64 Least (bytes_of (items_at o 5 0)) (listed_names o 1)
+
+-- 65,536 sections, of which section 2 is removed
+abbrev pub many_but_2 : Renumbering
+many_but_2 = record { count = 0x10000; kept = 0 ∷ 1 ∷ range_with_len 3 0xfffd }
+
+-- hash sections of the symbols in class 32, greatest byte first
+abbrev pub words_32 : List ℕ
+words_32 = bytes_or_none (build_sysv_answer symbols32 2 3)
+
+abbrev pub has_whole_gnu_32 : Bool
+has_whole_gnu_32 =
+    let bytes = bytes_or_none (build_gnu_answer symbols32 2 (smallest_shape C32)) in
+    is_whole_gnu C32 Greatest bytes (listed_names symbols32 2)

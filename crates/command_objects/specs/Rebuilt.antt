@@ -11,7 +11,7 @@ use Rattle.elf_xlate.specs.declared.content.Items.TheVariants as items
 use Rattle.strtab_build.specs.Table.{table, place_of}
 use Rattle.elf_object.specs.Object.{Object, Section, section_at, new_section, no_home, occupies_file}
 use Rattle.elf_object.specs.Answers.{items_at, words_of, raw_refusal, data_refusal}
-use Rattle.elf_object.specs.Steps.{with_ehdr, with_phdrs, own_piece}
+use Rattle.elf_object.specs.Steps.{with_ehdr, with_phdrs, with_sections, own_piece}
 use Rattle.elf_object.specs.Calls.{newphdr_refusal, update_ehdr_refusal}
 use Rattle.command_objects.specs.Strings.{section_name, or_empty_name}
 use Rattle.command_objects.specs.Words.{is_allocated, header_at, is_among}
@@ -94,7 +94,7 @@ rebuilt_section o removed s =
 unfoldable pub assembled : Object → Object → ℕ → List Section → Object
 assembled empty o index sections =
     with_ehdr
-    (with_phdrs (record empty { sections = sections }) o.phdrs)
+    (with_phdrs (with_sections empty sections) o.phdrs)
     (record o.header { shstrndx = index })
 
 unfoldable pub rebuilt_sections : Object → List ℕ → List Section

@@ -1,7 +1,7 @@
 -- Small images on which the definitions are computed, and forms of answers that the tests compare.
 use Rattle.std.specs.Prelude.{ℕ, List, [], ◌∷◌, codes, false, Result, Ok, Err}
 use Rattle.elf_object.specs.Object.{Object}
-use Rattle.elf_object.specs.Samples.{small64, symbols64, with_number, object_in}
+use Rattle.elf_object.specs.Samples.{small64, symbols32, symbols64, with_number, object_in}
 use Rattle.command_objects.specs.Arranged.{Rebuilt}
 use Rattle.command_objects.specs.Files.{file_of, file_made}
 use Rattle.command_objects.specs.Rebuilt.{stripped}
@@ -36,6 +36,9 @@ two_letters = 0x68 ∷ 0x69 ∷ []
 -- the symbols' image stripped, opened again, and the other image stripped, opened again
 abbrev pub stripped64 : Object
 stripped64 = object_in (bytes_or_none (file_made (stripped false [] symbols64)))
+
+abbrev pub stripped32 : Object
+stripped32 = object_in (bytes_or_none (file_made (stripped false [] symbols32)))
 
 abbrev pub stripped_unnamed64 : Object
 stripped_unnamed64 = object_in (bytes_or_none (file_made (stripped false [] unnamed64)))

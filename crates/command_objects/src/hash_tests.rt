@@ -3,10 +3,11 @@
 #![tactic(auto, unfolding(crate::proofs::Computing::all_words))]
 
 ghost use Rattle.std.specs.Prelude.{◌≡◌, [], ◌∷◌, map, codes, true, false, Ok, Err, Some, None};
-ghost use Rattle.elf_object.specs.Samples.{symbols64, hex};
+ghost use Rattle.elf_object.specs.Samples.{symbols32, symbols64, hex};
 ghost use Rattle.elf_object.specs.Answers.{items_at, bytes_of, halves_of, words_of, relas_of};
 ghost use Rattle.elf_types.specs.declared.errors.ElfError.TheVariants.{Unsorted};
-ghost use Rattle.command_objects.specs.Programs.{a_shared_object, rehashed_again, small_shape, small_hash, two_buckets, two_buckets_hash, has_whole_sysv, has_whole_gnu};
+ghost use Rattle.command_objects.specs.Programs.{a_shared_object, rehashed_again, small_shape, small_hash, two_buckets, two_buckets_hash, has_whole_sysv, has_whole_gnu, has_whole_gnu_32, words_32};
+ghost use Rattle.command_objects.specs.HashSections.{is_whole_sysv};
 ghost use Rattle.command_objects.specs.Hashes.{elf_hash, gnu_hash};
 ghost use Rattle.command_objects.specs.Listed.{listed_names, find_linear_answer};
 ghost use Rattle.command_objects.specs.BuiltHashes.{build_sysv_answer, build_gnu_answer, gnu_order_answer};
@@ -56,6 +57,8 @@ fn built_sections_are_whole()
     ensures gnu_before { has_whole_gnu a_shared_object ≡ false }
     ensures sysv { has_whole_sysv rehashed_again ≡ true }
     ensures gnu { has_whole_gnu rehashed_again ≡ true }
+    ensures gnu_32 { has_whole_gnu_32 ≡ true }
+    ensures sysv_32 { is_whole_sysv words_32 (listed_names symbols32 2) ≡ true }
 {}
 
 #[test]

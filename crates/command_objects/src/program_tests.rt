@@ -7,12 +7,12 @@ ghost use Rattle.elf_object.specs.Object.{header_of, section_at};
 ghost use Rattle.elf_object.specs.Answers.{items_at, words_of, syms_of};
 ghost use Rattle.command_objects.specs.Strings.{section_name};
 ghost use Rattle.command_objects.specs.Removed.{removed_sections, removed_by_name};
-ghost use Rattle.command_objects.specs.Rebuilt.{stripped};
+ghost use Rattle.command_objects.specs.Followed.{followed_word, followed_extended};
 ghost use Rattle.command_objects.specs.Copied.{copied};
 ghost use Rattle.command_objects.specs.Copied.CopyFault.{Allocated, Fixed, NoBytes};
 ghost use Rattle.command_objects.specs.Split.{removed_allocated, unstripped};
 ghost use Rattle.command_objects.specs.Samples.{made_or_none, no_changes};
-ghost use Rattle.command_objects.specs.Programs.{a_program, a_grouped, again, stripped_program, debug_only_program, debug_program, updating, flagging, renaming, copied_again, small_file, a_small_program, small_stripped, small_debug, two_names, text_name, bss_name, note_name, grouped_again};
+ghost use Rattle.command_objects.specs.Programs.{program_file, many_but_2, symbol_in, a_program, a_grouped, again, stripped_program, debug_only_program, debug_program, updating, flagging, renaming, copied_again, small_file, a_small_program, small_stripped, small_debug, two_names, text_name, bss_name, note_name, grouped_again};
 
 /// Each step removes by what the steps before it removed; a group keeps its symbol table.
 fn steps_remove_what_nothing_needs()
@@ -36,6 +36,9 @@ fn programs_keep_what_is_loaded()
     ensures index { (header_of stripped_program).shstrndx ≡ 4 }
     ensures name { section_name stripped_program 3 ≡ Some (codes ".note") }
     ensures bytes { take 4 (drop 120 stripped_program.base) ≡ 1 ∷ 2 ∷ 3 ∷ 4 ∷ [] }
+    ensures before_e_shoff { take 40 stripped_program.base ≡ take 40 program_file }
+    ensures between { take 12 (drop 48 stripped_program.base) ≡ take 12 (drop 48 program_file) }
+    ensures behind_header { take 60 (drop 64 stripped_program.base) ≡ take 60 (drop 64 program_file) }
 {}
 
 /// Links, symbols and extended indexes follow the new numbers.
@@ -48,6 +51,20 @@ fn numbers_follow()
     ensures strings { (section_at debug_only_program 4).header.link ≡ 5 }
     ensures symbols { (section_at debug_only_program 7).header.link ≡ 4 }
     ensures members { words_of (items_at grouped_again 8 0) ≡ 1 ∷ 1 ∷ 3 ∷ 99 ∷ [] }
+{}
+
+/// Section 2 of so many is removed. An extended index that need not change stays; a number that
+/// fits now stands in the symbol, and another one in the word.
+fn extended_indexes_follow()
+    ensures same_word { followed_word many_but_2 1 ≡ 1 }
+    ensures same_symbol { followed_extended many_but_2 1 (symbol_in 0xffff) ≡ symbol_in 0xffff }
+    ensures removed_word { followed_word many_but_2 2 ≡ 0 }
+    ensures fitting_word { followed_word many_but_2 0xff00 ≡ 0 }
+    ensures fitting_symbol { followed_extended many_but_2 0xff00 (symbol_in 0xffff)
+        ≡ symbol_in 0xfeff }
+    ensures great_word { followed_word many_but_2 0xff01 ≡ 0xff00 }
+    ensures great_symbol { followed_extended many_but_2 0xff01 (symbol_in 0xffff)
+        ≡ symbol_in 0xffff }
 {}
 
 /// The two halves of a program combine to what it was.
@@ -82,6 +99,7 @@ fn commands_compute_on_a_program() {
     steps_remove_what_nothing_needs();
     programs_keep_what_is_loaded();
     numbers_follow();
+    extended_indexes_follow();
     programs_are_combined();
     programs_refuse_changes();
     programs_take_changes();

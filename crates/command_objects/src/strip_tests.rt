@@ -7,11 +7,11 @@ ghost use Rattle.elf_types.specs.declared.errors.ElfError.TheVariants.{OutOfFile
 ghost use Rattle.elf_object.specs.Object.{header_of, section_at};
 ghost use Rattle.elf_object.specs.Calls.{step};
 ghost use Rattle.elf_object.specs.Runs.{set_shdr};
-ghost use Rattle.elf_object.specs.Samples.{small64, symbols64, missing, ragged, addralign_set};
+ghost use Rattle.elf_object.specs.Samples.{small64, small32, symbols64, symbols32, missing, ragged, addralign_set};
 ghost use Rattle.command_objects.specs.Removed.{removed_sections};
 ghost use Rattle.command_objects.specs.Rebuilt.{rebuilt, stripped};
 ghost use Rattle.command_objects.specs.Files.{file_made};
-ghost use Rattle.command_objects.specs.Samples.{unnamed64, misnamed64, stripped64, stripped_unnamed64};
+ghost use Rattle.command_objects.specs.Samples.{unnamed64, misnamed64, stripped32, stripped64, stripped_unnamed64};
 ghost use Rattle.command_objects.specs.Programs.{a_small_program};
 
 /// Strip removes the symbol table; the table of the names is made anew, and stands alone.
@@ -30,6 +30,14 @@ fn symbols_are_removed()
 fn symbols_stay_with_debug_only()
     ensures removed { removed_sections true [] symbols64 ≡ [] }
     ensures image { file_made (stripped true [] symbols64) ≡ Ok small64 }
+{}
+
+/// The same in class 32, greatest byte first.
+fn symbols_are_removed_in_class_32()
+    ensures size { length stripped32.base ≡ 136 }
+    ensures names { take 1 (drop 52 stripped32.base) ≡ 0 ∷ [] }
+    ensures table { (header_of stripped32).shoff ≡ 56 }
+    ensures image { file_made (stripped true [] symbols32) ≡ Ok small32 }
 {}
 
 /// Without a section of names both sections go, and section 0 stays alone.
@@ -56,6 +64,7 @@ fn strip_is_refused()
 fn strip_computes_on_small_images() {
     symbols_are_removed();
     symbols_stay_with_debug_only();
+    symbols_are_removed_in_class_32();
     section_0_stays_alone();
     strip_is_refused();
 }

@@ -1,4 +1,5 @@
--- All words of this crate, of the objects of commands and of texts at once, for proofs by computation.
+-- All words of this crate, of the objects of commands and of texts at once, for proofs by
+-- computation.
 use Rattle.std.specs.Prelude.{Bool, true}
 use Rattle.elf_types.specs.Text.{numbered, numbered_twice, kind_text, part_text, unfit_text, overlap_text, held_text, error_text}
 use Rattle.elf_ident.specs.FileKinds.{file_kind}

@@ -4,7 +4,7 @@ use Rattle.std.specs.Str.{bytes_eq}
 use Rattle.tool_text.specs.declared.commands.StripOptions.{StripOptions}
 use Rattle.tool_text.specs.declared.commands.CopyChanges.{CopyChanges}
 use Rattle.elf_object.specs.Samples.{small64, header64}
-use Rattle.command_outcomes.specs.Outcomes.{Outcome, FileWrite, said}
+use Rattle.command_outcomes.specs.Outcomes.{Outcome, FileWrite, outcome_with, said}
 use Rattle.command_outcomes.specs.Outcomes.Side.{Error}
 use Rattle.command_outcomes.specs.Files.{Named}
 use Rattle.command_outcomes.specs.Strip.{strip_outcome}
@@ -32,11 +32,11 @@ no_changes = record { remove = []; update = []; rename = []; flags = []; add = [
 
 -- a message alone, with status 1
 abbrev pub refused_with : List ℕ → Outcome
-refused_with line = record { marks = said Error line; status = 1; writes = [] }
+refused_with line = outcome_with (said Error line) 1 []
 
 -- files alone, with status 0
 abbrev pub written : List FileWrite → Outcome
-written files = record { marks = []; status = 0; writes = files }
+written files = outcome_with [] 0 files
 
 -- the names of the files that are made, with their lengths
 abbrev pub lengths : Outcome → List (List ℕ × ℕ)

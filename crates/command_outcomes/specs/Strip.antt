@@ -10,7 +10,7 @@ use Rattle.command_objects.specs.Rebuilt.{rebuilt}
 use Rattle.command_objects.specs.Split.{debug_of, removed_allocated, unstripped, UnstripFault}
 use Rattle.command_objects.specs.Split.UnstripFault.{Elf, Debug, Mismatch}
 use Rattle.command_objects.specs.Files.{file_of}
-use Rattle.command_outcomes.specs.Outcomes.{Outcome, Done, Complaint, outcome_of, made, complaint, of_file}
+use Rattle.command_outcomes.specs.Outcomes.{Outcome, Done, Complaint, outcome_of, made, made_file, complaint, of_file}
 use Rattle.command_outcomes.specs.Files.{Named, object_named}
 
 -- ---- strip
@@ -39,10 +39,7 @@ strip_split o removed out debug file =
     of_file file (file_of half) >>= λ debug_bytes.
     Ok (record {
       shown = [];
-      writes =
-          record { name = out; bytes = stripped_bytes }
-          ∷ record { name = debug; bytes = debug_bytes }
-          ∷ [];
+      writes = made_file out stripped_bytes ∷ made_file debug debug_bytes ∷ [];
     })
 
 unfoldable pub strip_done : StripOptions → Named → List ℕ → Result Done Complaint

@@ -4,7 +4,7 @@
 
 ghost use Rattle.std.specs.Prelude.{◌≡◌, [], ◌∷◌, codes, true, false, None, Some};
 ghost use Rattle.elf_object.specs.Samples.{small64};
-ghost use Rattle.command_outcomes.specs.Outcomes.{said};
+ghost use Rattle.command_outcomes.specs.Outcomes.{said, made_file};
 ghost use Rattle.command_outcomes.specs.Outcomes.Side.{Out};
 ghost use Rattle.command_outcomes.specs.Strip.{unstrip_outcome};
 ghost use Rattle.command_outcomes.specs.Copy.{copy_outcome, rehash_outcome};
@@ -15,10 +15,11 @@ ghost use Rattle.command_outcomes.specs.Samples.{some_files, strip_of, updating_
 fn strip_gives_files_or_a_message()
     ensures all { lengths (strip_of false None (codes "J")) ≡ (codes "O", 200) ∷ [] }
     ensures debug_only { strip_of true None (codes "J")
-        ≡ written (record { name = codes "O"; bytes = small64 } ∷ []) }
+        ≡ written (made_file (codes "O") small64 ∷ []) }
     ensures split { lengths (strip_of false (Some (codes "D")) (codes "J"))
         ≡ (codes "O", 200) ∷ (codes "D", 312) ∷ [] }
-    ensures missing { strip_of false None (codes "N") ≡ refused_with (codes "strip: N: not found\n") }
+    ensures missing { strip_of false None (codes "N")
+        ≡ refused_with (codes "strip: N: not found\n") }
     ensures archive { strip_of false None (codes "A")
         ≡ refused_with (codes "strip: A: not an ELF image\n") }
     ensures short { strip_of false None (codes "G") ≡ refused_with (codes "strip: G: too short\n") }

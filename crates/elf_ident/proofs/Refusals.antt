@@ -2,16 +2,6 @@
 use Rattle.std.proofs.Common.{◌≡◌, ◌++◌, Bool, true, false, List, [], ◌∷◌, Option, Some, None, Result, Ok, Err, refl}
 use Rattle.elf_types.specs.Answers.{refused_if, first_refusal, answered, or_refused, ◌>>=◌}
 
--- where nothing is refused, the value is the answer
-pub answered_passed : {A B E : Type 0} (refusal : Option E) (x : A) (y : B) → answered refusal x ≡ Ok x → answered refusal y ≡ Ok y
-answered_passed None x y h = refl
-answered_passed (Some e) x y h = cc
-
--- where something is, it is so with any value
-pub answered_refused : {A B E : Type 0} (refusal : Option E) (x : A) (y : B) (e : E) → answered refusal x ≡ Err e → answered refusal y ≡ Err e
-answered_refused None x y e h = cc
-answered_refused (Some d) x y e h = cc
-
 pub answered_ok : {A E : Type 0} (refusal : Option E) (x y : A) → answered refusal x ≡ Ok y → (refusal ≡ None) × (x ≡ y)
 answered_ok None x y h = (refl, cc)
 answered_ok (Some e) x y h = cc

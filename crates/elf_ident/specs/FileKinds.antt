@@ -1,4 +1,5 @@
--- What a file is, by its first bytes (gABI chapter 4, "ELF Identification", and chapter 7's archives).
+-- What a file is, by its first bytes (gABI chapter 4, "ELF Identification", and chapter 7, "Archive
+-- File").
 use Rattle.std.specs.Prelude.{List, ℕ, nat_eq, if◌then◌else◌}
 use Rattle.std.specs.List.{starts_with}
 use Rattle.elf_types.specs.declared.constants.TheConstants.{ARMAG, ELFMAG}

@@ -33,6 +33,10 @@ abbrev pub order_named : ℕ → Option Order
 order_named n =
     if n == ELFDATA2LSB then Some Least else (if n == ELFDATA2MSB then Some Greatest else None)
 
+-- a version that is not the current one, e_ident[EI_VERSION] or e_version
+abbrev pub other_version : ℕ → Option ElfError
+other_version n = refused_if (not (n == EV_CURRENT)) error.Version
+
 -- the bytes do not begin with an identification
 unfoldable pub no_ident : List ℕ → Option ElfError
 no_ident image = first_refusal (
@@ -45,23 +49,31 @@ ident_in image = do
   ident ← answered (no_ident image) image
   class ← or_refused (class_named (slice_index ident EI_CLASS)) error.Class
   order ← or_refused (order_named (slice_index ident EI_DATA)) error.Order
-  answered (refused_if (not (slice_index ident EI_VERSION == EV_CURRENT)) error.Version) (class, order)
+  answered (other_version (slice_index ident EI_VERSION)) (class, order)
 
--- the header as it stands, and the bytes of the identification from EI_PAD on
+-- the bytes of the identification from EI_PAD on
+abbrev pub pad_in : List ℕ → List ℕ
+pad_in image = take (EI_NIDENT - EI_PAD) (drop EI_PAD image)
+
+-- the header as it stands, and those bytes
 unfoldable pub header_at : Class → Order → List ℕ → Ehdr × List ℕ
-header_at class order image =
-    (ehdr_of class order (take (ehdr_size class) image), take (EI_NIDENT - EI_PAD) (drop EI_PAD image))
+header_at class order image = (ehdr_of class order (take (ehdr_size class) image), pad_in image)
+
+-- the image is shorter than its header
+abbrev pub no_header : Class → List ℕ → Option ElfError
+no_header class image = refused_if (nat_lt (length image) (ehdr_size class)) error.Short
 
 unfoldable pub header_in : List ℕ → Result (Ehdr × List ℕ) ElfError
 header_in image = do
   id ← ident_in image
-  answered (refused_if (nat_lt (length image) (ehdr_size id.0)) error.Short) (header_at id.0 id.1 image)
+  answered (no_header id.0 image) (header_at id.0 id.1 image)
 
 -- ---- The counts (extended numbering)
 
 -- whether a count or the index stands in section 0
 abbrev pub needs_first : Ehdr → Bool
-needs_first h = not (h.shoff == 0) && (h.shnum == 0 || h.shstrndx == SHN_XINDEX || h.phnum == PN_XNUM)
+needs_first h =
+    not (h.shoff == 0) && (h.shnum == 0 || h.shstrndx == SHN_XINDEX || h.phnum == PN_XNUM)
 
 -- a section header of zeros
 unfoldable pub zero_shdr : Shdr
@@ -108,22 +120,33 @@ true_counts h first = record {
 abbrev pub lies_in : ℕ → ℕ → ℕ → ℕ → Bool
 lies_in len at count size = nat_le (at + count * size) len
 
+-- whether the header of section 0 lies in an image of `len` bytes
+abbrev pub first_lies_in : Ehdr → ℕ → Bool
+first_lies_in h len = lies_in len h.shoff 1 (shdr_size h.class)
+
 -- what is refused before section 0 is looked at
 unfoldable pub header_refusal : Ehdr → ℕ → Option ElfError
 header_refusal h len = first_refusal (
-    refused_if (not (h.version == EV_CURRENT)) error.Version ∷
+    other_version h.version ∷
     refused_if (nat_lt MAX_IMAGE len) error.TooLarge ∷
     refused_if (h.shoff == 0 && not (h.shnum == 0)) error.ShTable ∷
     refused_if (not (h.shoff == 0) && not (h.shentsize == shdr_size h.class)) error.ShTable ∷
-    refused_if (needs_first h && not (lies_in len h.shoff 1 (shdr_size h.class))) error.ShTable ∷ [])
+    refused_if (needs_first h && not (first_lies_in h len)) error.ShTable ∷ [])
+
+-- whether the tables with their true counts lie in an image of `len` bytes
+abbrev pub shdrs_lie_in : Ehdr → Counts → ℕ → Bool
+shdrs_lie_in h c len = lies_in len h.shoff c.shnum (shdr_size h.class)
+
+abbrev pub phdrs_lie_in : Ehdr → Counts → ℕ → Bool
+phdrs_lie_in h c len = lies_in len h.phoff c.phnum (phdr_size h.class)
 
 -- what is refused by the true counts
 unfoldable pub count_refusal : Ehdr → Counts → ℕ → Option ElfError
 count_refusal h c len = first_refusal (
-    refused_if (not (lies_in len h.shoff c.shnum (shdr_size h.class))) error.ShTable ∷
+    refused_if (not (shdrs_lie_in h c len)) error.ShTable ∷
     refused_if (not (h.phnum == 0) && not (h.phentsize == phdr_size h.class)) error.PhTable ∷
     refused_if (h.phnum == PN_XNUM && h.shoff == 0) error.PhTable ∷
-    refused_if (not (h.phnum == 0) && not (lies_in len h.phoff c.phnum (phdr_size h.class))) error.PhTable ∷
+    refused_if (not (h.phnum == 0) && not (phdrs_lie_in h c len)) error.PhTable ∷
     refused_if (nat_lt MAX_SECTIONS c.shnum || nat_lt MAX_SEGMENTS c.phnum) error.TooMany ∷ [])
 
 -- the true counts by the header of section 0, or what is refused by them
@@ -204,3 +227,8 @@ unfoldable pub front_bytes : List ℕ → ℕ
 front_bytes image =
     (header_bytes image + first_bytes image)
     + elim (head_in image) [ Ok head ↦ table_bytes head.header head.counts | Err e ↦ 0 ]
+
+-- the same for any image
+abbrev pub most_front_bytes : ℕ
+most_front_bytes =
+    (ehdr_size C64 + shdr_size C64) + (MAX_SEGMENTS * phdr_size C64 + MAX_SECTIONS * shdr_size C64)

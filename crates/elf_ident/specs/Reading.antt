@@ -1,5 +1,5 @@
--- What is known of the parts of a front that were read. But for HasStart and HasHeader all of it holds
--- whatever the source tells.
+-- What is known of the parts of a front that were read. What is said of bytes holds where the source
+-- tells them, and all else for every source.
 use Rattle.std.specs.Prelude.{◌≡◌, ◌≢◌, ◌+◌, ◌*◌, ◌^◌, ◌-◌, ◌<◌, ◌≤◌, ◌⊎◌, List, [], ℕ, length, take, drop, IsTrue, Result, Ok, Err}
 use Rattle.std.specs.List.{All}
 use Rattle.elf_types.specs.declared.constants.TheConstants.{EI_NIDENT, EI_PAD, EV_CURRENT, MAX_IMAGE, MAX_SECTIONS, MAX_SEGMENTS}
@@ -46,8 +46,8 @@ pub record IsStored (h : Ehdr) (pad : List ℕ) : Type 0 where
   pub pad_size : length pad ≡ EI_NIDENT - EI_PAD
   pub pad_bytes : All (λ n. n < 2 ^ 8) pad
 
--- the tables of a header with its true counts lie in an image of `len` bytes; where there are no program
--- headers, e_phoff is not looked at
+-- the tables of a header with its true counts lie in an image of `len` bytes; where there are no
+-- program headers, e_phoff is not looked at
 pub record HasTables (h : Ehdr) (len : ℕ) : Type 0 where
   pub shdrs : h.shoff + h.shnum * shdr_size h.class ≤ len
   pub phdrs : h.phnum ≢ 0 → h.phoff + h.phnum * phdr_size h.class ≤ len
@@ -81,8 +81,8 @@ pub record IsShdrTable (class : Class) (count : ℕ) (shdrs : List Shdr) : Type 
 
 -- ---- The front
 
--- each number of a front is in the range of its type and fits the class; the version is the current one,
--- and without sections the string index is 0
+-- each number of a front is in the range of its type and fits the class; the version is the current
+-- one, and without sections the string index is 0
 pub record IsFittingFront (f : Front) : Type 0 where
   pub header : IsEhdr f.ehdr
   pub fitting : IsTrue (ehdr_fits f.ehdr)

@@ -1,7 +1,8 @@
 //! The true counts of an image's tables.
 
 ghost use Rattle.std.specs.Prelude.{◌≡◌, ◌+◌, ◌^◌, ◌<◌, ◌≤◌, length, take, drop, IsTrue, IfOk, OnOk, IfErr, IfSome, Ok};
-ghost use Rattle.elf_types.specs.Answers.{Follows, IsRefusal, answered};
+ghost use Rattle.elf_types.specs.Answers.{Follows, IsRefusal, err_of};
+ghost use Rattle.elf_types.specs.declared.records.Class.TheVariants.{C64};
 ghost use Rattle.elf_types.specs.declared.constants.TheConstants.{EV_CURRENT, MAX_IMAGE, MAX_SECTIONS, MAX_SEGMENTS};
 ghost use Rattle.elf_outside.specs.Asks.{Asks};
 ghost use Rattle.elf_xlate.specs.Headers.{phdr_size, shdr_size, shdr_of};
@@ -28,6 +29,9 @@ pub struct Counts {
     pub shstrndx: u32,
 }
 
+/// The bytes of the longest section header, that of class 64.
+const MAX_SHDR_SIZE: usize = 64;
+
 /// Whether a count or the string index stands in section 0.
 fn needs_first(h: &Ehdr) -> bool
     ensures { result ≡ needs_first h.now }
@@ -43,11 +47,11 @@ fn lies_in(len: u64, at: u64, count: u64, size: u64) -> bool
     at <= len && count <= (len - at) / size
 }
 
-/// What a header is refused by before section 0 is looked at: `Version`, `TooLarge`, `ShTable`, in this
-/// order.
+/// What a header is refused by before section 0 is looked at: `Version`, `TooLarge`, `ShTable`, in
+/// this order.
 #[tactic(auto, unfolding(crate::specs::Front::header_refusal))]
 fn check_header(h: &Ehdr, len: u64) -> Result<(), ElfError>
-    ensures refusal { result ≡ answered (header_refusal h.now len) tt }
+    ensures refusal { err_of result ≡ header_refusal h.now len }
     ensures version { OnOk result (h.now.version ≡ EV_CURRENT) }
     ensures small { OnOk result (len ≤ MAX_IMAGE) }
     ensures err { IfErr result IsRefusal }
@@ -76,7 +80,7 @@ fn check_header(h: &Ehdr, len: u64) -> Result<(), ElfError>
 #[tactic(auto, unfolding(crate::specs::Front::count_refusal))]
 fn check_counts(h: &Ehdr, c: &Counts, len: u64) -> Result<(), ElfError>
     requires { h.now.phnum ≡ 0 → c.now.phnum ≡ 0 }
-    ensures refusal { result ≡ answered (count_refusal h.now c.now len) tt }
+    ensures refusal { err_of result ≡ count_refusal h.now c.now len }
     ensures tables { OnOk result (HasTables (counted h.now c.now) len) }
     ensures few { OnOk result ((c.now.shnum ≤ MAX_SECTIONS) × (c.now.phnum ≤ MAX_SEGMENTS)) }
     ensures err { IfErr result IsRefusal }
@@ -101,6 +105,7 @@ fn check_counts(h: &Ehdr, c: &Counts, len: u64) -> Result<(), ElfError>
     Ok(())
 }
 
+/// The number of program headers, by the header of section 0.
 #[tactic(auto, unfolding(crate::specs::Front::true_phnum))]
 fn true_phnum(h: &Ehdr, first: &Shdr) -> u32
     ensures phnum { result ≡ true_phnum h.now first.now }
@@ -113,6 +118,7 @@ fn true_phnum(h: &Ehdr, first: &Shdr) -> u32
     }
 }
 
+/// The number of section headers, by the header of section 0.
 #[tactic(auto, unfolding(crate::specs::Front::true_shnum))]
 fn true_shnum(h: &Ehdr, first: &Shdr) -> u64
     ensures { result ≡ true_shnum h.now first.now }
@@ -124,6 +130,7 @@ fn true_shnum(h: &Ehdr, first: &Shdr) -> u64
     }
 }
 
+/// The string index, by the header of section 0; without sections it is 0.
 #[tactic(auto, unfolding(crate::specs::Front::true_shstrndx))]
 fn true_shstrndx(h: &Ehdr, first: &Shdr) -> u32
     ensures shstrndx { result ≡ true_shstrndx h.now first.now }
@@ -139,7 +146,7 @@ fn true_shstrndx(h: &Ehdr, first: &Shdr) -> u32
 }
 
 /// The true counts, by the header of section 0, or the first refusal by them.
-#[tactic(auto, using(crate::proofs::Refusals::answered_passed, crate::proofs::Refusals::answered_refused), unfolding(crate::specs::Front::counts_by))]
+#[tactic(auto, unfolding(crate::specs::Front::counts_by))]
 fn counts_by(h: &Ehdr, first: &Shdr, len: u64) -> Result<Counts, ElfError>
     ensures counts { result ≡ counts_by h.now first.now len }
     ensures sound { IfOk result (AreCounts h.now len) }
@@ -174,26 +181,28 @@ fn zero_section_header() -> Shdr
     }
 }
 
-/// Reads the header of section 0 where it is needed; a header of zeros stands for it else. It refuses
-/// `Read` alone.
+/// Reads the header of section 0 where it is needed; a header of zeros stands for it else. It
+/// refuses `Read` alone.
 fn read_first_section<S: Source>(src: &mut S, h: &Ehdr) -> Result<Shdr, ElfError>
     requires { IsTrue (needs_first h.now) → h.now.shoff + shdr_size h.now.class ≤ S.size src.old }
-    ensures first { IfSome (S.holds src.old) (λ image. Follows result (Ok (first_section h.now image))) }
+    ensures first { IfSome (S.holds src.old) (λ image.
+        Follows result (Ok (first_section h.now image))) }
     ensures asks { Asks S.Source result src.old src.new (shdr_size h.now.class) }
     ensures err { IfErr result (λ e. e ≡ ElfError.Read) }
 {
     if !needs_first(h) {
         return Ok(zero_section_header());
     }
-    let mut bytes = [0u8; 64];
-    read_section_header(src, h, &mut bytes)
+    let mut bytes = [0u8; MAX_SHDR_SIZE];
+    read_shdr_by(src, h, &mut bytes)
 }
 
-fn read_section_header<S: Source>(src: &mut S, h: &Ehdr, bytes: &mut [u8]) -> Result<Shdr, ElfError>
-    requires len { length bytes.old ≡ 64 }
+/// Reads the header of section 0 by a buffer.
+fn read_shdr_by<S: Source>(src: &mut S, h: &Ehdr, bytes: &mut [u8]) -> Result<Shdr, ElfError>
+    requires len { length bytes.old ≡ shdr_size C64 }
     requires within { h.now.shoff + shdr_size h.now.class ≤ S.size src.old }
-    ensures header { IfSome (S.holds src.old) (λ image. Follows result
-        (Ok (shdr_of h.now.class h.now.order (take (shdr_size h.now.class) (drop h.now.shoff image))))) }
+    ensures header { IfSome (S.holds src.old) (λ image. Follows result (Ok (shdr_of h.now.class
+        h.now.order (take (shdr_size h.now.class) (drop h.now.shoff image))))) }
     ensures asks { Asks S.Source result src.old src.new (shdr_size h.now.class) }
     ensures err { IfErr result (λ e. e ≡ ElfError.Read) }
 {
@@ -203,10 +212,10 @@ fn read_section_header<S: Source>(src: &mut S, h: &Ehdr, bytes: &mut [u8]) -> Re
 }
 
 /// The true counts of an image with the header `h`, or the first refusal, in this order: `Version`
-/// (`e_version`), `TooLarge` (more than 2^40 bytes), `ShTable` (of the header's own fields, and where
-/// section 0 is needed and does not lie in the image), `Read` (of section 0), `ShTable` (the table does
-/// not lie in the image), `PhTable`, `TooMany` (more than 2^20 entries of a table). It asks for at most
-/// one section header, where section 0 is needed, and takes no memory.
+/// (`e_version`), `TooLarge` (more than 2^40 bytes), `ShTable` (of the header's own fields, and
+/// where section 0 is needed and does not lie in the image), `Read` (of section 0), `ShTable` (the
+/// table does not lie in the image), `PhTable`, `TooMany` (more than 2^20 entries of a table). It
+/// asks for at most one section header, where section 0 is needed, and takes no memory.
 pub fn read_counts<S: Source>(src: &mut S, h: &Ehdr) -> Result<Counts, ElfError>
     ensures counts { IfSome (S.holds src.old) (λ image. Follows result (counts_in h.now image)) }
     ensures sound { IfOk result (AreCounts h.now (S.size src.old)) }

@@ -2,6 +2,7 @@
 
 ghost use Rattle.std.specs.Prelude.{◌≡◌, ℕ, ◌+◌, ◌*◌, ◌<◌, ◌≤◌, ◌⊎◌, IfOk, IfErr, IfSome};
 ghost use Rattle.elf_types.specs.declared.constants.TheConstants.{MAX_SECTIONS, MAX_SEGMENTS};
+ghost use Rattle.elf_types.specs.declared.records.Class.TheVariants.{C64};
 ghost use Rattle.elf_types.specs.declared.errors.ElfError.TheVariants.{Memory, Read};
 ghost use Rattle.elf_outside.specs.Asks.{Asks};
 ghost use Rattle.elf_xlate.specs.Headers.{phdr_size, shdr_size};
@@ -17,14 +18,14 @@ use std::alloc::Global;
 /// The number of bytes of a table of so many entries.
 fn table_size(count: u64, entry_size: usize) -> u64
     requires few { count ≤ MAX_SECTIONS }
-    requires small { entry_size ≤ 64 }
+    requires small { entry_size ≤ shdr_size C64 }
     ensures { result ≡ count * entry_size }
 {
     count * entry_size as u64
 }
 
-/// The table of `count` program headers. It takes one read, and none where there are none. It refuses
-/// `Memory` and `Read` alone.
+/// The table of `count` program headers. It takes one read, and none where there are none. It
+/// refuses `Memory` and `Read` alone.
 ///
 /// Source: gABI chapter 5, "Program Header".
 pub fn read_phdrs<S: Source>(
@@ -46,8 +47,8 @@ pub fn read_phdrs<S: Source>(
     get_phdrs(alloc, h.class, h.order, bytes.as_slice())
 }
 
-/// The table of `count` section headers. It takes one read, and none where there are none. It refuses
-/// `Memory` and `Read` alone.
+/// The table of `count` section headers. It takes one read, and none where there are none. It
+/// refuses `Memory` and `Read` alone.
 ///
 /// Source: gABI chapter 4, "Sections".
 pub fn read_shdrs<S: Source>(

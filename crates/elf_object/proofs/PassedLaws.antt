@@ -1,10 +1,11 @@
 -- Refusals that did not come: the tests that an edit has passed, and what holds of the object that it leaves.
-use Rattle.std.proofs.Common.{◌≡◌, Bool, true, false, not, List, [], ◌∷◌, Option, Some, None, refl}
+use Rattle.std.proofs.Common.{◌≡◌, Bool, true, false, not, List, [], ◌∷◌, Option, Some, None, Result, Ok, Err, refl}
 use Rattle.std.specs.Prelude.{IsTrue}
 use Rattle.elf_types.specs.declared.errors.ElfError.{ElfError}
-use Rattle.elf_types.specs.Answers.{refused_if, first_refusal, answered}
+use Rattle.elf_types.specs.Answers.{refused_if, first_refusal, answered, ◌>>=◌}
 use Rattle.elf_object.specs.Object.{Object}
-use Rattle.elf_object.specs.Calls.{step, after_answer, edit_with}
+use Rattle.elf_object.specs.Calls.{Call, step, after_answer, edit_with}
+use Rattle.elf_object.specs.Runs.{after_look, looked}
 
 pub none_first : (r : Option ElfError) (rs : List (Option ElfError)) → first_refusal (r ∷ rs) ≡ None → r ≡ None
 none_first None rs h = refl
@@ -36,6 +37,15 @@ passed_three true b c x y z h = cc
 pub passed_one : (a : Bool) (x : ElfError) (rs : List (Option ElfError)) → first_refusal (refused_if a x ∷ rs) ≡ None → (a ≡ false) × (first_refusal rs ≡ None)
 passed_one false x rs h = (refl, h)
 passed_one true x rs h = cc
+
+-- a call that looks first is as it was, or the second one
+pub looked_keeps : {A B : Type 0} (P : Object → Type 0) (first : Call A) (second : A → Call B) → ((x : A) (o : Object) → P o → first.answer o ≡ Ok x → P (step (second x) o)) → (o : Object) → P o → P (step (looked first second) o)
+unfolding step
+looked_keeps {A} {B} P first second k o h = by_answer (first.answer o) refl
+  where
+    by_answer : (r : Result A ElfError) → first.answer o ≡ r → P (after_answer (r >>= λ x. (second x).answer o) o (after_look r (λ x. (second x).after o) o))
+    by_answer (Ok x) e = k x o h e
+    by_answer (Err d) e = h
 
 -- an edit is as it was, or stepped where nothing was refused
 pub answered_keeps : {A : Type 0} (P : Object → Type 0) (r : Option ElfError) (v : A) (old stepped : Object) → P old → (r ≡ None → P stepped) → P (after_answer (answered r v) old stepped)

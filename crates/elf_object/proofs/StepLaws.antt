@@ -12,7 +12,7 @@ use Rattle.elf_types.specs.declared.errors.ElfError.{ElfError}
 use Rattle.elf_xlate.specs.declared.content.Items.{Items}
 use Rattle.elf_xlate.specs.Translation.{items_kind}
 use Rattle.elf_types.specs.Answers.{first_refusal}
-use Rattle.elf_object.specs.Object.{Object, Section, Piece, section_at, piece_at, new_section, home_piece, is_dirty, some_section_marked, some_piece_marked}
+use Rattle.elf_object.specs.Object.{Object, Section, Piece, section_at, piece_at, absent_section, home_piece, is_dirty, some_section_marked, some_piece_marked}
 use Rattle.elf_object.specs.Answers.{content, or_empty, items_at, kind_at, piece_count, kind_code, same_kind}
 use Rattle.elf_object.specs.Steps.{with_section, with_piece_at, with_own, own_piece, with_shdr}
 
@@ -63,11 +63,11 @@ section_count-with_section o s c = length-set o.sections s c
 
 pub section_at-with_section : (o : Object) (s : ℕ) (c : Section) → s < length o.sections → section_at (with_section o s c) s ≡ c
 unfolding with_section section_at
-section_at-with_section o s c h = get_or-set_same o.sections s c new_section h
+section_at-with_section o s c h = get_or-set_same o.sections s c absent_section h
 
 pub section_at-with_section_other : (o : Object) (s t : ℕ) (c : Section) → t ≢ s → section_at (with_section o s c) t ≡ section_at o t
 unfolding with_section section_at
-section_at-with_section_other o s t c h = get_or-set_other o.sections s t c new_section h
+section_at-with_section_other o s t c h = get_or-set_other o.sections s t c absent_section h
 
 -- ---- A piece that becomes own
 
@@ -148,7 +148,7 @@ last_true false = refl
 pub dirty_by_section : (o : Object) (s : ℕ) → s < length o.sections → ((section_at o s).marked || some_piece_marked (section_at o s)) ≡ true → is_dirty o ≡ true
 unfolding is_dirty some_section_marked section_at
 dirty_by_section o s h e =
-    rw (some_true (λ c. c.marked || some_piece_marked c) o.sections s new_section h e) (last_true (o.marked || o.header_marked || o.segments_marked))
+    rw (some_true (λ c. c.marked || some_piece_marked c) o.sections s absent_section h e) (last_true (o.marked || o.header_marked || o.segments_marked))
 
 -- a marked piece marks its section
 pub marked_by_piece : (c : Section) (p : ℕ) → p < length c.pieces → (get_or c.pieces p home_piece).marked ≡ true → (c.marked || some_piece_marked c) ≡ true

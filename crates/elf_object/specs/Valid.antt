@@ -44,6 +44,8 @@ pub record IsSection (class : Class) (s : Section) : Type 0 where
 pub record IsObject (o : Object) : Type 0 where
   pub header : IsEhdr o.header
   pub fitting : IsTrue (ehdr_fits o.header)
+  pub phnum : o.header.phnum ≡ length o.phdrs
+  pub shnum : o.header.shnum ≡ length o.sections
   pub pad : length o.pad ≡ 7
   pub pad_bytes : AreBytes o.pad
   pub phdr_count : length o.phdrs ≤ MAX_SEGMENTS

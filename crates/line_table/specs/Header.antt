@@ -1,4 +1,5 @@
--- The header of a unit (DWARF 4, 6.2.4): its fields by their places, and why a unit is refused before its program.
+-- The header of a unit (DWARF 4, 6.2.4): its fields by their places, and why a unit is refused
+-- before its program.
 use Rattle.std.specs.Prelude.{ℕ, ◌+◌, ◌-◌, ◌^◌, ◌==◌, ◌||◌, Bool, not, List, [], ◌∷◌, length, take, drop, slice_index, Option, Some, None, Result, Ok, Err, if◌then◌else◌, nat_lt, nat_le}
 use Rattle.std.specs.Int.{Width, w16, w32, byte_len}
 use Rattle.elf_types.specs.declared.records.Class.{Class}
@@ -29,7 +30,8 @@ field order w place bytes = number order w (take (byte_len w) (drop place bytes)
 abbrev pub signed_byte : ℕ → ℕ
 signed_byte b = if nat_lt b 128 then b else (2 ^ 32 - 256) + b
 
--- unit_length, the first field of a unit, does not count itself: its four bytes stand before the unit's body
+-- unit_length, the first field of a unit, does not count itself: its four bytes stand before the
+-- unit's body
 unfoldable pub unit_length : Order → List ℕ → ℕ
 unit_length order unit = field order w32 0 unit
 
@@ -45,7 +47,10 @@ one_more version = if version == 4 then 1 else 0
 abbrev pub operations_at : ℕ → List ℕ → Result (ℕ × List ℕ) LineWhy
 operations_at version bytes = if version == 4 then byte_at bytes else Ok (1, bytes)
 
--- The fields, by their places in the unit's body: version 0, header_length 2, minimum_instruction_length 6, maximum_operations_per_instruction 7 in version 4 alone, and behind it default_is_stmt, line_base, line_range, opcode_base and the operand counts, standard_opcode_lengths
+-- The fields, by their places in the unit's body: version 0, header_length 2,
+-- minimum_instruction_length 6, maximum_operations_per_instruction 7 in version 4 alone, and behind
+-- it default_is_stmt, line_base, line_range, opcode_base and the operand counts,
+-- standard_opcode_lengths
 unfoldable pub header_of : Class → Order → List ℕ → UnitHeader
 header_of class order body =
     let version = field order w16 0 body in
@@ -65,7 +70,8 @@ header_of class order body =
       operand_counts = take (opcode_base - 1) (drop (11 + more) body);
     }
 
--- the directories stand after the operand counts, of which there is one for each opcode from 1 up to opcode_base
+-- the directories stand after the operand counts, of which there is one for each opcode from 1 up
+-- to opcode_base
 abbrev pub tables_of : UnitHeader → ℕ
 tables_of u = 11 + one_more u.version + (u.opcode_base - 1)
 
@@ -78,14 +84,16 @@ abbrev pub checked : {A : Type 0} → List (Bool × LineWhy) → A → Result A 
 checked [] x = Ok x
 checked (cause ∷ causes) x = if cause.0 then Err cause.1 else checked causes x
 
--- unit_length passes the section, stands for another format, or counts more bytes than the section has
+-- unit_length passes the section, stands for another format, or counts more bytes than the section
+-- has
 unfoldable pub length_causes : Order → List ℕ → List (Bool × LineWhy)
 length_causes order unit =
     (nat_lt (length unit) 4, Cut) ∷
     (nat_le 0xfffffff0 (unit_length order unit), Form) ∷
     (nat_lt (length unit) (4 + unit_length order unit), Cut) ∷ []
 
--- the body ends before its version, or before the end of its fields, of which the operand counts are the last
+-- the body ends before its version, or before the end of its fields, of which the operand counts
+-- are the last
 unfoldable pub field_causes : UnitHeader → List ℕ → List (Bool × LineWhy)
 field_causes u body =
     (nat_lt (length body) 2, Cut) ∷
@@ -93,7 +101,8 @@ field_causes u body =
     (nat_lt (length body) (tables_of u), Cut) ∷
     (not (u.maximum_operations == 1), Ops) ∷ []
 
--- opcode_base is 0, or the program begins past the unit's end, or the files end past the program's begin
+-- opcode_base is 0, or the program begins past the unit's end, or the files end past the program's
+-- begin
 unfoldable pub program_causes : UnitHeader → List ℕ → List ℕ → List (Bool × LineWhy)
 program_causes u body after_files =
     (u.opcode_base == 0, Header) ∷
@@ -118,7 +127,8 @@ named_file_at (b ∷ bytes) = if b == 0 then Ok (None, bytes) else file_at (b �
 unfoldable pub files_at : List ℕ → Result (List (List ℕ) × List ℕ) LineWhy
 files_at bytes = (list_at named_file_at bytes).after >>= λ after. Ok ((list_at named_file_at bytes).items, after)
 
--- the names of the files, which stand behind the directories, and what stands after them; it is Cut where a string or a file passes the unit
+-- the names of the files, which stand behind the directories, and what stands after them; it is Cut
+-- where a string or a file passes the unit
 unfoldable pub tables_at : List ℕ → Result (List (List ℕ) × List ℕ) LineWhy
 tables_at bytes = (list_at directory_at bytes).after >>= files_at
 
@@ -142,7 +152,8 @@ pub record Opened : Type 0 where
   pub files : List (List ℕ)
   pub program : List ℕ
 
--- the unit at the front of bytes, or the first cause for which it is refused before its program is executed
+-- the unit at the front of bytes, or the first cause for which it is refused before its program is
+-- executed
 unfoldable pub opened : Class → Order → List ℕ → Result Opened LineWhy
 opened class order unit = do
   inside ← body_at order unit

@@ -1,4 +1,5 @@
--- The grammar of a line number program (DWARF 4, 6.2.5): its instructions, each with its place and its operand.
+-- The grammar of a line number program (DWARF 4, 6.2.5): its instructions, each with its place and
+-- its operand.
 use Rattle.std.specs.Prelude.{ℕ, zero, suc, ◌+◌, ◌-◌, ◌==◌, true, false, List, [], ◌∷◌, length, slice_index, Option, Some, None, Result, Ok, Err, if◌then◌else◌, nat_le}
 use Rattle.std.specs.Int.{Width, w16, w32, w64, byte_len}
 use Rattle.elf_types.specs.declared.records.Class.{Class}
@@ -19,7 +20,8 @@ pub data Operand : Type 0 where
   signed : (ℕ → Operation) → Operand
   half : (ℕ → Operation) → Operand
 
--- the standard opcodes (DWARF 4, 6.2.5.2); basic blocks, prologues, epilogues and instruction sets are in no row of the table
+-- the standard opcodes (DWARF 4, 6.2.5.2); basic blocks, prologues, epilogues and instruction sets
+-- are in no row of the table
 unfoldable pub standard_opcodes : List (ℕ × Operand)
 standard_opcodes =
     (1, none Copy) ∷
@@ -82,7 +84,8 @@ extended_at u bytes = do
   operation ← extended_in u inside.0
   Ok (operation, inside.1)
 
--- an instruction: an opcode from opcode_base on is a special one, which is adjusted by opcode_base; 0 is an extended one, and the others are standard ones
+-- an instruction: an opcode from opcode_base on is a special one, which is adjusted by opcode_base;
+-- 0 is an extended one, and the others are standard ones
 unfoldable pub operation_at : UnitHeader → List ℕ → Result (Operation × List ℕ) LineWhy
 operation_at u bytes = do
   opcode ← byte_at bytes
@@ -106,6 +109,7 @@ instruction_at u end (b ∷ bytes) = do
   operation ← blamed (end - length (b ∷ bytes)) (operation_at u (b ∷ bytes))
   Ok (Some (record { place = end - length (b ∷ bytes); operation = operation.0 }), operation.1)
 
--- the instructions of a program, which begins at a place of the section, up to its end or to the first that is refused
+-- the instructions of a program, which begins at a place of the section, up to its end or to the
+-- first that is refused
 unfoldable pub ops : UnitHeader → ℕ → List ℕ → Listed Instruction LineFault
 ops u at program = list_at (instruction_at u (at + length program)) program

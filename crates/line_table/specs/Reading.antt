@@ -1,4 +1,5 @@
--- What stands at the front of bytes: a value, and the bytes after it. It is Cut where the bytes end before it does.
+-- What stands at the front of bytes: a value, and the bytes after it. It is Cut where the bytes end
+-- before it does.
 use Rattle.std.specs.Prelude.{ℕ, suc, zero, ◌+◌, ◌-◌, ◌*◌, ◌%◌, ◌^◌, ◌==◌, ◌&&◌, Bool, false, List, [], ◌∷◌, length, take, drop, Option, Some, None, Result, Ok, Err, if◌then◌else◌, nat_lt, nat_le, position}
 use Rattle.std.specs.Int.{Width, byte_len, from_le_bytes, from_be_bytes}
 use Rattle.elf_types.specs.declared.records.Order.{Order}
@@ -21,7 +22,8 @@ byte_at (b ∷ bytes) = Ok (b, bytes)
 unfoldable pub bytes_at : ℕ → List ℕ → Result (List ℕ × List ℕ) LineWhy
 bytes_at n bytes = if nat_lt (length bytes) n then Err Cut else Ok (take n bytes, drop n bytes)
 
--- what bytes stand for as a number: the sum of each byte times 256 to the power of its distance from the least
+-- what bytes stand for as a number: the sum of each byte times 256 to the power of its distance
+-- from the least
 unfoldable pub number : Order → Width → List ℕ → ℕ
 number Least w bytes = from_le_bytes w bytes
 number Greatest w bytes = from_be_bytes w bytes
@@ -30,11 +32,13 @@ number Greatest w bytes = from_be_bytes w bytes
 unfoldable pub number_at : Order → Width → List ℕ → Result (ℕ × List ℕ) LineWhy
 number_at order w bytes = bytes_at (byte_len w) bytes >>= λ front. Ok (number order w front.0, front.1)
 
--- what a byte of a LEB128 number stands for: its low seven bits. In the last byte of a signed number, which is the one below 128, bit 6 is the sign, and 128 is taken off; kept modulo 2 ^ 64
+-- what a byte of a LEB128 number stands for: its low seven bits. In the last byte of a signed
+-- number, which is the one below 128, bit 6 is the sign, and 128 is taken off; kept modulo 2 ^ 64
 abbrev pub digit : Bool → ℕ → ℕ
 digit signed b = if signed && nat_le 64 b && nat_lt b 128 then (2 ^ 64 - 128) + b else b % 128
 
--- LEB128 (DWARF 4, 7.6): seven bits of the number in each byte, the least first. A byte below 128 is the last one
+-- LEB128 (DWARF 4, 7.6): seven bits of the number in each byte, the least first. A byte below 128
+-- is the last one
 abbrev pub leb128 : Bool → List ℕ → Result (ℕ × List ℕ) LineWhy
 leb128 signed [] = Err Cut
 leb128 signed (b ∷ bytes) = if nat_lt b 128 then Ok (digit signed b, bytes) else leb128 signed bytes >>= λ high. Ok (digit signed b + 128 * high.0, high.1)
@@ -51,7 +55,8 @@ ended_at (Some n) bytes = Ok (take n bytes, drop (n + 1) bytes)
 unfoldable pub string_at : List ℕ → Result (List ℕ × List ℕ) LineWhy
 string_at bytes = ended_at (position (λ b. b == 0) bytes) bytes
 
--- a file (DWARF 4, 6.2.4, item 12): its name, which is a string, and the numbers of its directory, its time and its length
+-- a file (DWARF 4, 6.2.4, item 12): its name, which is a string, and the numbers of its directory,
+-- its time and its length
 unfoldable pub file_at : List ℕ → Result (List ℕ × List ℕ) LineWhy
 file_at bytes = do
   name ← string_at bytes
@@ -60,7 +65,8 @@ file_at bytes = do
   size ← leb128_at false time.1
   Ok (name.0, size.1)
 
--- items one after the other, up to the end of their list or to the first that is refused, and what stands after the list
+-- items one after the other, up to the end of their list or to the first that is refused, and what
+-- stands after the list
 pub record Listed (X E : Type 0) : Type 0 where
   pub items : List X
   pub after : Result (List ℕ) E

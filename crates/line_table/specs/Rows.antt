@@ -1,4 +1,5 @@
--- The fold of a line number program (DWARF 4, 6.2.2 and 6.2.5): what each instruction does to the registers, and the rows of the table.
+-- The fold of a line number program (DWARF 4, 6.2.2 and 6.2.5): what each instruction does to the
+-- registers, and the rows of the table.
 use Rattle.std.specs.Prelude.{ℕ, ◌+◌, ◌-◌, ◌*◌, ◌/◌, ◌%◌, ◌^◌, ◌==◌, Bool, true, false, not, List, [], ◌∷◌, ◌++◌, Option, Some, None, option_to_list, Result, Ok, Err, if◌then◌else◌}
 use Rattle.line_table.specs.declared.faults.LineWhy.{LineWhy}
 use Rattle.line_table.specs.declared.faults.LineWhy.TheVariants.{Range}
@@ -15,7 +16,8 @@ use Rattle.line_table.specs.Program.{Instruction, blamed}
 abbrev pub start : UnitHeader → Registers
 start u = record { address = 0; file = 1; line = 1; column = 0; stmt = u.default_is_stmt }
 
--- further in addresses, by a count of instructions of the least length; addresses are kept modulo 2 ^ 64
+-- further in addresses, by a count of instructions of the least length; addresses are kept modulo 2
+-- ^ 64
 abbrev pub advanced : UnitHeader → ℕ → Registers → Registers
 advanced u n r = record r { address = (r.address + u.minimum_instruction_length * n) % 2 ^ 64 }
 

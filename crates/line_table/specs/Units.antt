@@ -10,7 +10,9 @@ use Rattle.line_table.specs.Header.{UnitHeader, unit_length, program_of, opened}
 use Rattle.line_table.specs.Program.{blamed, ops}
 use Rattle.line_table.specs.Rows.{rows, all_names_added}
 
--- the files and the rows of a unit whose program begins at a place, or the first place where the fold or the grammar stops: the grammar gives the instructions before the place where it stops, so a place where the fold stops is before that one
+-- the files and the rows of a unit whose program begins at a place, or the first place where the
+-- fold or the grammar stops: the grammar gives the instructions before the place where it stops, so
+-- a place where the fold stops is before that one
 unfoldable pub executed : UnitHeader → ℕ → List (List ℕ) → List ℕ → Result (List (List ℕ) × List Row) LineFault
 executed u at files program =
     let instructions = ops u at program in do

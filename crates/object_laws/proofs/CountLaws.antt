@@ -13,7 +13,7 @@ use Rattle.elf_types.specs.declared.errors.ElfError.{ElfError}
 use Rattle.elf_types.specs.declared.errors.ElfError.TheVariants as error
 use Rattle.elf_types.specs.Answers.{refused_if, first_refusal, answered, ◌>>=◌}
 use Rattle.elf_ident.specs.Front.{needs_first, first_section, true_shnum, true_shstrndx, true_phnum, true_counts, lies_in, header_refusal, count_refusal, counts_by, counts_in}
-use Rattle.elf_object.specs.Object.{Object, Section, new_section, section_at}
+use Rattle.elf_object.specs.Object.{Object, Section, absent_section, section_at}
 use Rattle.elf_object.specs.Derived.{written_header}
 use Rattle.elf_layout.specs.Layout.{limit_of}
 use Rattle.elf_object.specs.Open.{table_bytes}
@@ -165,7 +165,7 @@ headers_of q = map (λ c. c.header) q.sections
 
 header_at_index : (q : Object) (s : ℕ) (d : Shdr) → s < length q.sections → get_or (headers_of q) s d ≡ (section_at q s).header
 unfolding section_at
-header_at_index q s d h = get_or-map (λ (c : Section). c.header) q.sections s new_section d h
+header_at_index q s d h = get_or-map (λ (c : Section). c.header) q.sections s absent_section d h
 
 some_sections : (q : Object) → IsDerived q → needs_first (written_header q.header) ≡ true → 0 < length q.sections
 some_sections q is needed = ⊎_elim (λ some. some)

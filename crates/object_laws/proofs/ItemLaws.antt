@@ -25,7 +25,7 @@ use Rattle.elf_layout.specs.Layout.{rounded_up}
 use Rattle.elf_types.specs.Answers.{first_refusal}
 use Rattle.elf_object.specs.Blocks.{block_end, stacked, last_end, spread}
 use Rattle.object_laws.proofs.BlockLaws.{length-spread, take-drop-spread}
-use Rattle.elf_object.specs.Object.{Object, Section, Piece, new_section, section_at, header_of, has_file_bytes, occupies_file, is_null, is_dirty, some_piece_marked, some_section_marked}
+use Rattle.elf_object.specs.Object.{Object, Section, Piece, absent_section, section_at, header_of, has_file_bytes, occupies_file, is_null, is_dirty, some_piece_marked, some_section_marked}
 use Rattle.elf_object.specs.Open.{extent_of, home_of, home_bytes}
 use Rattle.elf_object.specs.Answers.{content}
 use Rattle.elf_object.specs.Joined.{piece_bytes, aligned_pieces, piece_blocks, pieces_end, joined}
@@ -162,11 +162,11 @@ section_at-settled : (image : List ℕ) (q : Object) (s : ℕ) → s < length q.
 unfolding section_at settled_over
 section_at-settled image q s h =
     let count = length-enumerate_from 0 q.sections in
-    let row : get_or (enumerate_from 0 q.sections) s (0, new_section) ≡ (0 + s, get_or q.sections s new_section) = get_or-enumerate_from 0 q.sections s (0, new_section) h in
+    let row : get_or (enumerate_from 0 q.sections) s (0, absent_section) ≡ (0 + s, get_or q.sections s absent_section) = get_or-enumerate_from 0 q.sections s (0, absent_section) h in
     let number : 0 + s ≡ s = omega arith in
-    get_or-map (λ (r : ℕ × Section). settled_section (length image) (joined q r.0) r.1.header) (enumerate_from 0 q.sections) s (0, new_section) new_section (omega arith)
+    get_or-map (λ (r : ℕ × Section). settled_section (length image) (joined q r.0) r.1.header) (enumerate_from 0 q.sections) s (0, absent_section) absent_section (omega arith)
     ∙ ap (λ (r : ℕ × Section). settled_section (length image) (joined q r.0) r.1.header) row
-    ∙ ap (λ (k : ℕ). settled_section (length image) (joined q k) (get_or q.sections s new_section).header) number
+    ∙ ap (λ (k : ℕ). settled_section (length image) (joined q k) (get_or q.sections s absent_section).header) number
 
 content_settled : (image : List ℕ) (q : Object) (s : ℕ) → content (settled_over image q) s ≡ content_of q.header.class q.header.order s (section_at (settled_over image q) s)
 unfolding content content_of settled_over
@@ -185,7 +185,7 @@ item_fits : (o : Object) (s : ℕ) → unfit_item o ≡ None → s < length o.se
 unfolding unfit_item section_at
 item_fits o s h inside =
     let at : 0 + s ≡ s = omega arith in
-    sym (ap (λ (k : ℕ). unfit_in_section o.header.class k (get_or o.sections s new_section)) at) ∙ row_none (unfit_in_section o.header.class) 0 o.sections s new_section h inside
+    sym (ap (λ (k : ℕ). unfit_in_section o.header.class k (get_or o.sections s absent_section)) at) ∙ row_none (unfit_in_section o.header.class) 0 o.sections s absent_section h inside
 
 own_marked : (p : Piece) (items : Items) → p.own ≡ Some items → IsPiece p → p.marked ≡ true
 own_marked p items own is =
@@ -198,7 +198,7 @@ unfolding is_dirty some_section_marked some_piece_marked section_at
 dirty_alone o s p inside alone marked =
     let pieces : list_any (λ x. x.marked) (section_at o s).pieces ≡ true = ap (λ (l : List Piece). list_any (λ x. x.marked) l) alone ∙ or_any p.marked (list_any (λ (x : Piece). x.marked) []) marked in
     let here : ((section_at o s).marked || list_any (λ x. x.marked) (section_at o s).pieces) ≡ true = ap (λ (b : Bool). (section_at o s).marked || b) pieces ∙ or_true (section_at o s).marked in
-    let all = list_any_at (λ c. c.marked || list_any (λ x. x.marked) c.pieces) o.sections s new_section inside here in
+    let all = list_any_at (λ c. c.marked || list_any (λ x. x.marked) c.pieces) o.sections s absent_section inside here in
     ap (λ (b : Bool). o.marked || o.header_marked || o.segments_marked || b) all ∙ three o.marked o.header_marked o.segments_marked
   where
     or_true : (a : Bool) → (a || true) ≡ true

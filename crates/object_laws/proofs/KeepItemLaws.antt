@@ -1,6 +1,9 @@
 -- Each step on items keeps what makes an object (`IsObject`).
-use Rattle.std.proofs.Common.{ℕ, Bool, true, set}
+use Rattle.std.proofs.Common.{◌≡◌, ℕ, Bool, true, length, set, sym, subst, arith}
 use Rattle.elf_types.specs.declared.records.Class.{Class}
+use Rattle.elf_types.specs.declared.records.Ehdr.{Ehdr}
+use Rattle.elf_types.specs.declared.records.Phdr.{Phdr}
+use Rattle.elf_types.specs.declared.records.Shdr.{Shdr}
 use Rattle.elf_types.specs.declared.records.Sym.{Sym}
 use Rattle.elf_types.specs.declared.records.Rel.{Rel}
 use Rattle.elf_types.specs.declared.records.Rela.{Rela}
@@ -10,16 +13,18 @@ use Rattle.elf_types.specs.declared.records.Kind.TheVariants as kinds
 use Rattle.elf_xlate.specs.declared.content.Items.{Items}
 use Rattle.elf_xlate.specs.declared.content.Items.TheVariants as items
 use Rattle.elf_xlate.specs.Fields.{fits}
+use Rattle.elf_xlate.specs.Headers.{IsEhdr, IsShdr}
 use Rattle.elf_xlate.specs.Items.{sym_fits, rel_fits, rela_fits, dyn_fits}
 use Rattle.elf_xlate.specs.Translation.{items_count}
-use Rattle.elf_object.specs.Runs.{addall, added, or_same}
-use Rattle.elf_object.specs.Object.{Object}
+use Rattle.elf_object.specs.Runs.{addall, set_ehdr, set_phdr, set_shdr, set_item, added, or_same}
+use Rattle.elf_object.specs.Object.{Object, header_of}
 use Rattle.elf_object.specs.Steps.{with_own}
-use Rattle.elf_object.specs.Calls.{step, update_item, update_item_refusal, update_half, update_word, update_addr, update_sym, update_rel, update_rela, update_dynent}
+use Rattle.elf_object.specs.Calls.{Call, step, ehdr, phdr, shdr, update_ehdr, update_phdr, update_shdr, update_item, update_item_refusal, update_half, update_word, update_addr, update_sym, update_rel, update_rela, update_dynent}
 use Rattle.elf_object.specs.Answers.{kind_at, halves_of, words_of, addrs_of, syms_of, rels_of, relas_of, dyns_of, lend_refusal, items_at}
 use Rattle.elf_object.specs.Valid.{IsObject, KeepsObject}
-use Rattle.elf_object.proofs.PassedLaws.{answered_keeps}
-use Rattle.object_laws.proofs.KeepLaws.{with_own_is}
+use Rattle.elf_object.proofs.PassedLaws.{answered_keeps, looked_keeps}
+use Rattle.elf_object.proofs.AnswerLaws.{shdr_value}
+use Rattle.object_laws.proofs.KeepLaws.{counted_is, section_at_is, with_own_is, update_ehdr_keeps, update_phdr_keeps, update_shdr_keeps}
 
 -- ---- Items
 
@@ -61,3 +66,28 @@ unfolding step
 addall_keeps s p n o ok =
     answered_keeps IsObject (lend_refusal o (kind_at o s p) s p) (items_count (items_at o s p)) o (or_same (kind_at o s p) o (with_own o s p (added n (items_at o s p)))) ok
     (λ passed. or_same_is (kind_at o s p) o (with_own o s p (added n (items_at o s p))) ok (with_own_is o s p (added n (items_at o s p)) ok))
+
+-- ---- A look and an edit
+
+header_of_is : (o : Object) → IsObject o → IsEhdr (header_of o)
+unfolding header_of
+header_of_is o ok =
+    let phdrs = ok.phdr_count in
+    let sections = ok.section_count in
+    counted_is o.header (length o.phdrs) (length o.sections) ok.header (omega arith) (omega arith)
+
+pub set_ehdr_keeps : (change : Ehdr → Ehdr) → ((h : Ehdr) → IsEhdr h → IsEhdr (change h)) → KeepsObject (set_ehdr change)
+set_ehdr_keeps change holds = looked_keeps IsObject ehdr (λ h. update_ehdr (change h)) (λ h o ok e.
+    let same : header_of o ≡ h = cc in
+    update_ehdr_keeps (change h) (holds h (subst IsEhdr same (header_of_is o ok))) o ok)
+
+pub set_phdr_keeps : (i : ℕ) (change : Phdr → Phdr) → KeepsObject (set_phdr i change)
+set_phdr_keeps i change = looked_keeps IsObject (phdr i) (λ p. update_phdr i (change p)) (λ p o ok e. update_phdr_keeps i (change p) o ok)
+
+pub set_shdr_keeps : (s : ℕ) (change : Shdr → Shdr) → ((h : Shdr) → IsShdr h → IsShdr (change h)) → KeepsObject (set_shdr s change)
+set_shdr_keeps s change holds = looked_keeps IsObject (shdr s) (λ h. update_shdr s (change h)) (λ h o ok e.
+    let value = shdr_value o s h e in
+    update_shdr_keeps s (change h) (holds h (subst IsShdr (sym value.1) (section_at_is o s ok).header)) o ok)
+
+pub set_item_keeps : {A : Type 0} (get : Call A) (update : A → Call (Unit {0})) (change : A → A) → ((x : A) → KeepsObject (update x)) → KeepsObject (set_item get update change)
+set_item_keeps get update change keeps = looked_keeps IsObject get (λ x. update (change x)) (λ x o ok e. keeps (change x) o ok)

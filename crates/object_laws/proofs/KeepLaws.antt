@@ -18,8 +18,8 @@ use Rattle.elf_xlate.specs.Headers.{IsEhdr, IsShdr, ehdr_fits, shdr_fits}
 use Rattle.elf_xlate.specs.Translation.{items_kind}
 use Rattle.elf_types.specs.Answers.{refused_if}
 use Rattle.elf_ident.specs.Front.{zero_shdr}
-use Rattle.elf_object.specs.Object.{Object, Section, Piece, section_at, piece_at, new_section, home_piece, no_phdr, no_home}
-use Rattle.elf_object.specs.Steps.{new_number, with_section, with_piece_at, with_ehdr, stored_ehdr, with_phdrs, with_phdr, with_new_phdrs, with_shdr, with_new_section, with_null_section, with_new_piece, own_piece, with_own, with_mark, with_layout, with_flags, is_whole, with_fill}
+use Rattle.elf_object.specs.Object.{Object, Section, Piece, section_at, piece_at, absent_section, new_section, home_piece, no_phdr, no_home}
+use Rattle.elf_object.specs.Steps.{with_sections, new_number, with_section, with_piece_at, with_ehdr, stored_ehdr, with_phdrs, with_phdr, with_new_phdrs, with_shdr, with_new_section, with_null_section, with_new_piece, own_piece, with_own, with_mark, with_layout, with_flags, is_whole, with_fill}
 use Rattle.elf_object.specs.Calls.{step, update_ehdr, update_ehdr_refusal, update_phdr, update_phdr_refusal, newphdr, newphdr_refusal, phdrs_mut, update_shdr, update_shdr_refusal, newscn, newscn_refusal, newnull, newdata_aligned, newdata_refusal, unfit_items, flag_refusal, set_fill, replace, replace_refusal, flag, lend, is_piece_align}
 use Rattle.elf_object.specs.Answers.{lend_refusal, items_at, piece_count, flags_of, has_dirty, has_layout}
 use Rattle.elf_object.specs.Valid.{IsHome, IsPiece, OthersOwn, IsSection, IsObject, KeepsObject}
@@ -65,6 +65,8 @@ ehdr_stored o h ok is passed =
     record {
       header = stored_ehdr_is o.header h ok.header is;
       fitting = not_not (ehdr_fits (stored_ehdr o.header h)) tests.1;
+      phnum = ok.phnum;
+      shnum = ok.shnum;
       pad = ok.pad;
       pad_bytes = ok.pad_bytes;
       phdr_count = ok.phdr_count;
@@ -81,11 +83,37 @@ update_ehdr_keeps h is = edit_keeps IsObject _ (λ o. update_ehdr_refusal o h) (
 
 -- ---- Program headers
 
+-- a header with other counts
+pub counted_is : (h : Ehdr) (m n : ℕ) → IsEhdr h → m < 2 ^ 32 → n < 2 ^ 32 → IsEhdr (record h { phnum = m; shnum = n })
+counted_is h m n is phnum shnum = record {
+  osabi = is.osabi;
+  abiversion = is.abiversion;
+  etype = is.etype;
+  machine = is.machine;
+  version = is.version;
+  entry = is.entry;
+  phoff = is.phoff;
+  shoff = is.shoff;
+  flags = is.flags;
+  ehsize = is.ehsize;
+  phentsize = is.phentsize;
+  phnum = phnum;
+  shentsize = is.shentsize;
+  shnum = shnum;
+  shstrndx = is.shstrndx;
+}
+
+counted_fits : (h : Ehdr) (m n : ℕ) → IsTrue (ehdr_fits h) → IsTrue (ehdr_fits (record h { phnum = m; shnum = n }))
+unfolding ehdr_fits
+counted_fits h m n fitting = fitting
+
 phdrs_kept : (o : Object) (l : List Phdr) → IsObject o → length l ≤ 2 ^ 20 → IsObject (with_phdrs o l)
 unfolding with_phdrs
 phdrs_kept o l ok count = record {
-  header = ok.header;
-  fitting = ok.fitting;
+  header = counted_is o.header (length l) o.header.shnum ok.header (omega arith) ok.header.shnum;
+  fitting = counted_fits o.header (length l) o.header.shnum ok.fitting;
+  phnum = refl;
+  shnum = ok.shnum;
   pad = ok.pad;
   pad_bytes = ok.pad_bytes;
   phdr_count = count;
@@ -123,6 +151,8 @@ unfolding with_section
 section_kept o s c ok is = record {
   header = ok.header;
   fitting = ok.fitting;
+  phnum = ok.phnum;
+  shnum = ok.shnum ∙ sym (length-set o.sections s c);
   pad = ok.pad;
   pad_bytes = ok.pad_bytes;
   phdr_count = ok.phdr_count;
@@ -174,10 +204,16 @@ new_section_is class = record {
   piece_count = lit≤ tt;
 }
 
--- a section of an object, and a new one where there is none
+-- nor does its mark count
+absent_section_is : (class : Class) → IsSection class absent_section
+absent_section_is class =
+    let is = new_section_is class in
+    record { header = is.header; fitting = is.fitting; home = is.home; pieces = is.pieces; others = is.others; piece_count = is.piece_count }
+
+-- a section of an object, and what stands where there is none
 pub section_at_is : (o : Object) (s : ℕ) → IsObject o → IsSection o.header.class (section_at o s)
 unfolding section_at
-section_at_is o s ok = at_or (IsSection o.header.class) o.sections s new_section ok.sections (new_section_is o.header.class)
+section_at_is o s ok = at_or (IsSection o.header.class) o.sections s absent_section ok.sections (absent_section_is o.header.class)
 
 pub update_shdr_keeps : (s : ℕ) (h : Shdr) → IsShdr h → KeepsObject (update_shdr s h)
 unfolding update_shdr_refusal with_shdr
@@ -193,17 +229,19 @@ update_shdr_keeps s h is = edit_keeps IsObject _ (λ o. update_shdr_refusal o s 
       piece_count = old.piece_count;
     }))
 
--- sections at the end
-sections_more : (o : Object) (l : List Section) → IsObject o → All (IsSection o.header.class) l → length o.sections + length l ≤ 2 ^ 20 → (o.sections ++ l ≡ [] → o.sections ≡ []) → IsObject (record o { sections = o.sections ++ l })
-sections_more o l ok each count back = record {
-  header = ok.header;
-  fitting = ok.fitting;
+-- other sections
+sections_more : (o : Object) (l : List Section) → IsObject o → All (IsSection o.header.class) l → length l ≤ 2 ^ 20 → (l ≡ [] → o.header.shstrndx ≡ 0) → IsObject (with_sections o l)
+sections_more o l ok each count index = record {
+  header = counted_is o.header o.header.phnum (length l) ok.header ok.header.phnum (omega arith);
+  fitting = counted_fits o.header o.header.phnum (length l) ok.fitting;
+  phnum = ok.phnum;
+  shnum = refl;
   pad = ok.pad;
   pad_bytes = ok.pad_bytes;
   phdr_count = ok.phdr_count;
-  sections = All-append (IsSection o.header.class) o.sections l ok.sections each;
-  section_count = rw length-append count;
-  string_index = λ none. ok.string_index (back none);
+  sections = each;
+  section_count = count;
+  string_index = index;
   base = ok.base;
   base_length = ok.base_length;
   fill = ok.fill;
@@ -232,29 +270,20 @@ pub newscn_keeps : KeepsObject newscn
 unfolding with_new_section
 newscn_keeps = edit_keeps IsObject _ newscn_refusal new_number with_new_section (λ o ok passed.
     let room = leb-false (2 ^ 20) (length o.sections) (not_refused (nat_le (2 ^ 20) (length o.sections)) TooMany passed) in
-    sections_more o (added_sections (length o.sections)) ok (added_are o.header.class (length o.sections == 0)) (added_count (length o.sections) room)
-    (nil_front o.sections (added_sections (length o.sections))))
+    let added = added_are o.header.class (length o.sections == 0) in
+    sections_more o (o.sections ++ added_sections (length o.sections)) ok
+    (All-append (IsSection o.header.class) o.sections (added_sections (length o.sections)) ok.sections added)
+    (rw length-append (added_count (length o.sections) room))
+    (λ none. ok.string_index (nil_front o.sections (added_sections (length o.sections)) none)))
 
-null_keeps : (b : Bool) (o : Object) → IsObject o → (b ≡ true → o.sections ≡ []) → IsObject (if b then (record o { sections = new_section ∷ [] }) else o)
-null_keeps true o ok none = record {
-  header = ok.header;
-  fitting = ok.fitting;
-  pad = ok.pad;
-  pad_bytes = ok.pad_bytes;
-  phdr_count = ok.phdr_count;
-  sections = All-cons (IsSection o.header.class) new_section [] (new_section_is o.header.class) (All-nil (IsSection o.header.class));
-  section_count = lit≤ tt;
-  string_index = λ h. cc;
-  base = ok.base;
-  base_length = ok.base_length;
-  fill = ok.fill;
-}
-null_keeps false o ok none = ok
+null_keeps : (b : Bool) (o : Object) → IsObject o → IsObject (if b then with_sections o (new_section ∷ []) else o)
+null_keeps true o ok =
+    sections_more o (new_section ∷ []) ok (All-cons (IsSection o.header.class) new_section [] (new_section_is o.header.class) (All-nil (IsSection o.header.class))) (lit≤ tt) (λ h. cc)
+null_keeps false o ok = ok
 
 pub newnull_keeps : KeepsObject newnull
 unfolding with_null_section
-newnull_keeps = edit_keeps IsObject _ (λ o. None) (λ o. tt) with_null_section (λ o ok passed.
-    null_keeps (length o.sections == 0) o ok (λ h. nil_from_length o.sections (eqb-true (length o.sections) 0 h)))
+newnull_keeps = edit_keeps IsObject _ (λ o. None) (λ o. tt) with_null_section (λ o ok passed. null_keeps (length o.sections == 0) o ok)
 
 -- ---- Pieces
 
@@ -358,6 +387,8 @@ marks_kept : (o : Object) (header segments whole : Bool) → IsObject o → IsOb
 marks_kept o header segments whole ok = record {
   header = ok.header;
   fitting = ok.fitting;
+  phnum = ok.phnum;
+  shnum = ok.shnum;
   pad = ok.pad;
   pad_bytes = ok.pad_bytes;
   phdr_count = ok.phdr_count;
@@ -373,6 +404,8 @@ layout_kept : (o : Object) (layout : Bool) → IsObject o → IsObject (with_lay
 layout_kept o layout ok = record {
   header = ok.header;
   fitting = ok.fitting;
+  phnum = ok.phnum;
+  shnum = ok.shnum;
   pad = ok.pad;
   pad_bytes = ok.pad_bytes;
   phdr_count = ok.phdr_count;
@@ -424,6 +457,8 @@ unfolding with_fill
 set_fill_keeps byte small = edit_keeps IsObject _ (λ o. None) (λ o. tt) (λ o. with_fill o byte) (λ o ok passed. record {
   header = ok.header;
   fitting = ok.fitting;
+  phnum = ok.phnum;
+  shnum = ok.shnum;
   pad = ok.pad;
   pad_bytes = ok.pad_bytes;
   phdr_count = ok.phdr_count;

@@ -328,6 +328,8 @@ front_is image head are is fitting seven pad counts early late =
         shstrndx = omega arith;
       };
       fitting = fitting;
+      phnum = sym (length-items_of (phdr_of head.header.class head.header.order) (phdr_size head.header.class) head.counts.phnum (take (head.counts.phnum * phdr_size head.header.class) (drop head.header.phoff image)));
+      shnum = sym (length-map shdrs (opened_section image) ∙ length-items_of (shdr_of head.header.class head.header.order) (shdr_size head.header.class) head.counts.shnum (take (head.counts.shnum * shdr_size head.header.class) (drop head.header.shoff image)));
       pad = seven;
       pad_bytes = pad;
       phdr_count = rw length-items_of (small.1);
@@ -415,6 +417,8 @@ created_is class order base are small =
     record {
       header = header.0;
       fitting = header.1;
+      phnum = refl;
+      shnum = refl;
       pad = length-replicate {A = ℕ} 7 0;
       pad_bytes = All-replicate (λ n. n < 2 ^ 8) 7 0 (lit< tt);
       phdr_count = lit≤ tt;

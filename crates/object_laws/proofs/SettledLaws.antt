@@ -19,7 +19,7 @@ use Rattle.elf_xlate.specs.Headers.{phdr_size, shdr_size, ehdr_fits, IsEhdr, Has
 use Rattle.elf_ident.specs.declared.fronts.Front.{Front}
 use Rattle.elf_types.specs.Answers.{refused_if}
 use Rattle.elf_object.specs.Blocks.{Block, block_end}
-use Rattle.elf_object.specs.Object.{Object, Section, home_piece, new_section, section_at, header_of, has_file_bytes, occupies_file, is_dirty}
+use Rattle.elf_object.specs.Object.{Object, Section, home_piece, absent_section, section_at, header_of, has_file_bytes, occupies_file, is_dirty}
 use Rattle.elf_object.specs.Open.{extent_of, home_of, home_bytes, opened_section, written_front, standing_header, begun, begun_or_refused, opened}
 use Rattle.elf_object.specs.Joined.{joined}
 use Rattle.elf_object.specs.Derived.{where_any, derived_header, written_header, numbered_shdr}
@@ -373,16 +373,16 @@ sections_settle image q raws =
     let headers = length-map q.sections (λ (c : Section). c.header) in
     let right = length-map (enumerate_from 0 q.sections) (λ (row : ℕ × Section). settled_section (length image) (joined q row.0) row.1.header) in
     let count = length-enumerate_from 0 q.sections in
-    ext_get_or new_section (map (opened_section image) (headers_of q)) (map (λ row. settled_section (length image) (joined q row.0) row.1.header) (enumerate_from 0 q.sections)) (omega arith) (λ s h.
+    ext_get_or absent_section (map (opened_section image) (headers_of q)) (map (λ row. settled_section (length image) (joined q row.0) row.1.header) (enumerate_from 0 q.sections)) (omega arith) (λ s h.
     let inside : s < length q.sections = omega arith in
-    let row : get_or (enumerate_from 0 q.sections) s (0, new_section) ≡ (0 + s, get_or q.sections s new_section) = get_or-enumerate_from 0 q.sections s (0, new_section) inside in
+    let row : get_or (enumerate_from 0 q.sections) s (0, absent_section) ≡ (0 + s, get_or q.sections s absent_section) = get_or-enumerate_from 0 q.sections s (0, absent_section) inside in
     let number : 0 + s ≡ s = omega arith in
-    get_or-map (opened_section image) (headers_of q) s new_section.header new_section (omega arith)
-    ∙ ap (opened_section image) (get_or-map (λ (c : Section). c.header) q.sections s new_section new_section.header inside)
-    ∙ opened_is_settled image (joined q s) (get_or q.sections s new_section).header (raws s inside)
-    ∙ sym (get_or-map (λ (r : ℕ × Section). settled_section (length image) (joined q r.0) r.1.header) (enumerate_from 0 q.sections) s (0, new_section) new_section (omega arith)
+    get_or-map (opened_section image) (headers_of q) s absent_section.header absent_section (omega arith)
+    ∙ ap (opened_section image) (get_or-map (λ (c : Section). c.header) q.sections s absent_section absent_section.header inside)
+    ∙ opened_is_settled image (joined q s) (get_or q.sections s absent_section).header (raws s inside)
+    ∙ sym (get_or-map (λ (r : ℕ × Section). settled_section (length image) (joined q r.0) r.1.header) (enumerate_from 0 q.sections) s (0, absent_section) absent_section (omega arith)
     ∙ ap (λ (r : ℕ × Section). settled_section (length image) (joined q r.0) r.1.header) row
-    ∙ ap (λ (k : ℕ). settled_section (length image) (joined q k) (get_or q.sections s new_section).header) number))
+    ∙ ap (λ (k : ℕ). settled_section (length image) (joined q k) (get_or q.sections s absent_section).header) number))
 
 begun_settles : (image : List ℕ) (q : Object) → map (opened_section image) (headers_of q) ≡ map (λ row. settled_section (length image) (joined q row.0) row.1.header) (enumerate_from 0 q.sections) → begun (front_of q) image ≡ as_opened (settled_over image q)
 unfolding begun front_of settled_over front_blocks standing_header written_header

@@ -1,6 +1,6 @@
 -- An update in place leaves an object, and so does one that failed (`IsObject`).
 use Rattle.std.proofs.Common.{◌≡◌, ℕ, ◌^◌, ◌<◌, Bool, true, false, List, [], ◌∷◌, length, get_or, None, refl, arith, sym, ap, ◌∙◌, subst}
-use Rattle.std.specs.Prelude.{All, IsSome, IsTrue, map}
+use Rattle.std.specs.Prelude.{All, IsSome, IsTrue, map, if◌then◌else◌}
 use Rattle.std.specs.List.{enumerate_from}
 use Rattle.std.proofs.lemmas.List.{length-map, nil_from_length}
 use Rattle.std.proofs.lemmas.List.FromFn.{length-enumerate_from}
@@ -8,14 +8,14 @@ use Rattle.std.proofs.lemmas.List.Elements.{All-map, All-weaker}
 use Rattle.elf_types.specs.declared.records.Class.{Class}
 use Rattle.elf_types.specs.declared.records.Shdr.{Shdr}
 use Rattle.elf_xlate.specs.Headers.{IsShdr, shdr_fits}
-use Rattle.elf_object.specs.Object.{Object, Section, Piece, new_section, section_at, is_dirty}
+use Rattle.elf_object.specs.Object.{Object, Section, Piece, absent_section, section_at, is_dirty}
 use Rattle.elf_object.specs.Layout.{places_of, placed_by, placed}
 use Rattle.elf_object.specs.Joined.{joined}
 use Rattle.elf_object.specs.Open.{opened_section}
 use Rattle.elf_object.specs.Image.{image}
 use Rattle.elf_object.specs.Refusal.{refusal}
 use Rattle.elf_object.specs.Settled.{settled_section, settled_over, settle}
-use Rattle.elf_object.specs.Changed.{is_moved, marked_piece, torn_section, torn}
+use Rattle.elf_object.specs.Changed.{is_moved, marked_piece, torn_section, torn_over, torn}
 use Rattle.elf_object.specs.Valid.{AreBytes, IsPiece, OthersOwn, IsSection, IsObject}
 use Rattle.object_laws.specs.Laws.{UpdatesKeep}
 use Rattle.object_laws.proofs.ByteLaws.{image_are}
@@ -58,6 +58,8 @@ unfolding settled_over
 settled_over_is image q is are small each = record {
   header = is.header;
   fitting = is.fitting;
+  phnum = is.phnum;
+  shnum = is.shnum ∙ sym (length-map (enumerate_from 0 q.sections) (λ (row : ℕ × Section). settled_section (length image) (joined q row.0) row.1.header) ∙ length-enumerate_from 0 q.sections);
   pad = is.pad;
   pad_bytes = is.pad_bytes;
   phdr_count = is.phdr_count;
@@ -101,27 +103,35 @@ torn_section_is class true c is =
     (rw length-map (is.piece_count))
 torn_section_is class false c is = is
 
-torn_is : (o : Object) (bytes : List ℕ) → IsObject o → refusal o ≡ None → AreBytes bytes → length bytes < 2 ^ 64 → IsObject (torn o bytes)
-unfolding torn section_at
-torn_is o bytes ok passed are small =
-    let q = placed o in
-    let is = placed_is o ok passed in
-    let row : (i : ℕ) → i < length q.sections → IsSection q.header.class (torn_section (is_moved o i) (get_or q.sections i new_section)) = λ i h.
-    torn_section_is q.header.class (is_moved o i) (get_or q.sections i new_section) (section_at_is q i is) in
+torn_over_is : (moved : ℕ → Bool) (bytes : List ℕ) (q : Object) → IsObject q → AreBytes bytes → length bytes < 2 ^ 64 → IsObject (torn_over moved bytes q)
+unfolding torn_over section_at
+torn_over_is moved bytes q is are small =
+    let row : (i : ℕ) → i < length q.sections → IsSection q.header.class (torn_section (moved i) (get_or q.sections i absent_section)) = λ i h.
+    torn_section_is q.header.class (moved i) (get_or q.sections i absent_section) (section_at_is q i is) in
     record {
       header = is.header;
       fitting = is.fitting;
+      phnum = is.phnum;
+      shnum = is.shnum ∙ sym (length-map (enumerate_from 0 q.sections) (λ (r : ℕ × Section). torn_section (moved r.0) r.1) ∙ length-enumerate_from 0 q.sections);
       pad = is.pad;
       pad_bytes = is.pad_bytes;
       phdr_count = is.phdr_count;
-      sections = All-map (IsSection q.header.class) (λ r. torn_section (is_moved o r.0) r.1) (enumerate_from 0 q.sections)
-          (each_row (λ r. IsSection q.header.class (torn_section (is_moved o r.0) r.1)) q.sections new_section row);
+      sections = All-map (IsSection q.header.class) (λ r. torn_section (moved r.0) r.1) (enumerate_from 0 q.sections)
+          (each_row (λ r. IsSection q.header.class (torn_section (moved r.0) r.1)) q.sections absent_section row);
       section_count = rw (length-map, length-enumerate_from) (is.section_count);
-      string_index = λ none. is.string_index (nil_from_length q.sections (sym (length-map (enumerate_from 0 q.sections) (λ (r : ℕ × Section). torn_section (is_moved o r.0) r.1) ∙ length-enumerate_from 0 q.sections) ∙ ap length none));
+      string_index = λ none. is.string_index (nil_from_length q.sections (sym (length-map (enumerate_from 0 q.sections) (λ (r : ℕ × Section). torn_section (moved r.0) r.1) ∙ length-enumerate_from 0 q.sections) ∙ ap length none));
       base = are;
       base_length = small;
       fill = is.fill;
     }
+
+torn_is : (o : Object) (bytes : List ℕ) → IsObject o → refusal o ≡ None → AreBytes bytes → length bytes < 2 ^ 64 → IsObject (torn o bytes)
+unfolding torn
+torn_is o bytes ok passed are small = by_test (is_dirty o)
+  where
+    by_test : (b : Bool) → IsObject (if b then torn_over (is_moved o) bytes (placed o) else o)
+    by_test true = torn_over_is (is_moved o) bytes (placed o) (placed_is o ok passed) are small
+    by_test false = ok
 
 -- ---- The law
 

@@ -43,7 +43,8 @@ pub record CleanStays : Type 0 where
 abbrev pub RefusedStays : Type 0 → Type 0
 RefusedStays A = (c : Call A) (o : Object) → IsErr (c.answer o) → step c o ≡ o
 
--- every step keeps what makes an object; what is handed in is in the range of its type
+-- every step keeps what makes an object; a header that is handed in is in the range of its type, and so is one that a
+-- change makes of one that is
 pub record EveryStepKeeps : Type 0 where
   pub update_ehdr : (h : Ehdr) → IsEhdr h → KeepsObject (calls.update_ehdr h)
   pub update_phdr : (i : ℕ) (p : Phdr) → KeepsObject (calls.update_phdr i p)
@@ -66,6 +67,16 @@ pub record EveryStepKeeps : Type 0 where
   pub update_rela : (s p i : ℕ) (v : Rela) → KeepsObject (calls.update_rela s p i v)
   pub update_dynent : (s p i : ℕ) (v : Dyn) → KeepsObject (calls.update_dynent s p i v)
   pub addall : (s p n : ℕ) → KeepsObject (runs.addall s p n)
+  pub set_ehdr : (change : Ehdr → Ehdr) → ((h : Ehdr) → IsEhdr h → IsEhdr (change h)) → KeepsObject (runs.set_ehdr change)
+  pub set_phdr : (i : ℕ) (change : Phdr → Phdr) → KeepsObject (runs.set_phdr i change)
+  pub set_shdr : (s : ℕ) (change : Shdr → Shdr) → ((h : Shdr) → IsShdr h → IsShdr (change h)) → KeepsObject (runs.set_shdr s change)
+  pub set_half : (s p i : ℕ) (change : ℕ → ℕ) → KeepsObject (runs.set_item (calls.half s p i) (calls.update_half s p i) change)
+  pub set_word : (s p i : ℕ) (change : ℕ → ℕ) → KeepsObject (runs.set_item (calls.word s p i) (calls.update_word s p i) change)
+  pub set_addr : (s p i : ℕ) (change : ℕ → ℕ) → KeepsObject (runs.set_item (calls.addr s p i) (calls.update_addr s p i) change)
+  pub set_sym : (s p i : ℕ) (change : Sym → Sym) → KeepsObject (runs.set_item (calls.sym s p i) (calls.update_sym s p i) change)
+  pub set_rel : (s p i : ℕ) (change : Rel → Rel) → KeepsObject (runs.set_item (calls.rel s p i) (calls.update_rel s p i) change)
+  pub set_rela : (s p i : ℕ) (change : Rela → Rela) → KeepsObject (runs.set_item (calls.rela s p i) (calls.update_rela s p i) change)
+  pub set_dynent : (s p i : ℕ) (change : Dyn → Dyn) → KeepsObject (runs.set_item (calls.dynent s p i) (calls.update_dynent s p i) change)
 
 -- every step keeps that an object in which nothing is dirty is that of its base
 pub record EveryStepKeepsTied : Type 0 where
@@ -90,6 +101,16 @@ pub record EveryStepKeepsTied : Type 0 where
   pub update_rela : (s p i : ℕ) (v : Rela) → KeepsTied (calls.update_rela s p i v)
   pub update_dynent : (s p i : ℕ) (v : Dyn) → KeepsTied (calls.update_dynent s p i v)
   pub addall : (s p n : ℕ) → KeepsTied (runs.addall s p n)
+  pub set_ehdr : (change : Ehdr → Ehdr) → KeepsTied (runs.set_ehdr change)
+  pub set_phdr : (i : ℕ) (change : Phdr → Phdr) → KeepsTied (runs.set_phdr i change)
+  pub set_shdr : (s : ℕ) (change : Shdr → Shdr) → KeepsTied (runs.set_shdr s change)
+  pub set_half : (s p i : ℕ) (change : ℕ → ℕ) → KeepsTied (runs.set_item (calls.half s p i) (calls.update_half s p i) change)
+  pub set_word : (s p i : ℕ) (change : ℕ → ℕ) → KeepsTied (runs.set_item (calls.word s p i) (calls.update_word s p i) change)
+  pub set_addr : (s p i : ℕ) (change : ℕ → ℕ) → KeepsTied (runs.set_item (calls.addr s p i) (calls.update_addr s p i) change)
+  pub set_sym : (s p i : ℕ) (change : Sym → Sym) → KeepsTied (runs.set_item (calls.sym s p i) (calls.update_sym s p i) change)
+  pub set_rel : (s p i : ℕ) (change : Rel → Rel) → KeepsTied (runs.set_item (calls.rel s p i) (calls.update_rel s p i) change)
+  pub set_rela : (s p i : ℕ) (change : Rela → Rela) → KeepsTied (runs.set_item (calls.rela s p i) (calls.update_rela s p i) change)
+  pub set_dynent : (s p i : ℕ) (change : Dyn → Dyn) → KeepsTied (runs.set_item (calls.dynent s p i) (calls.update_dynent s p i) change)
 
 -- an image that is opened gives an object, whose program headers are in the range of their types, and so does creating
 -- one
@@ -150,10 +171,11 @@ pub record UpdatesKeep (o : Object) : Type 0 where
   pub settled : IsObject o → refusal o ≡ None → IsObject (settle o)
   pub torn : (bytes : List ℕ) → IsObject o → refusal o ≡ None → AreBytes bytes → length bytes < 2 ^ 64 → IsObject (torn o bytes)
 
--- where it is not refused, an update in place leaves an object that is that of its base; one that failed always does
+-- where it is not refused, an update in place leaves an object that is that of its base; one that failed does too, since
+-- it leaves a mark
 pub record UpdatesTie (o : Object) : Type 0 where
   pub settled : IsObject o → All IsPhdr o.phdrs → IsTied o → refusal o ≡ None → IsTied (settle o)
-  pub torn : (bytes : List ℕ) → IsTied (torn o bytes)
+  pub torn : (bytes : List ℕ) → IsTied o → IsTied (torn o bytes)
 
 -- where the update is not refused, settling keeps the items of an own piece that stands alone in a section from 1 on and
 -- is of the kind of its present header, which has items

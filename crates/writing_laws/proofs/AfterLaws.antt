@@ -7,14 +7,15 @@ use Rattle.std.proofs.lemmas.List.{length-take, length-take-le, length-drop, get
 use Rattle.std.proofs.lemmas.List.Elements.{All-map}
 use Rattle.elf_types.specs.declared.records.Shdr.{Shdr}
 use Rattle.elf_object.specs.Blocks.{Block, covers, is_covered, extents_meet}
-use Rattle.elf_object.specs.Object.{Object, Section, Piece, Home, new_section, section_at, is_dirty}
+use Rattle.elf_object.specs.Object.{Object, Section, Piece, Home, absent_section, section_at, is_dirty}
 use Rattle.elf_object.specs.Open.{home_of, home_bytes}
 use Rattle.elf_object.specs.Joined.{joined}
 use Rattle.elf_object.specs.Layout.{places_of, placed_by, placed, placed_section}
 use Rattle.elf_object.specs.Image.{image_length, image, is_fill_place}
 use Rattle.elf_object.specs.Refusal.{refusal}
 use Rattle.elf_object.specs.Settled.{settled_section, settled_over, settle}
-use Rattle.elf_object.specs.Changed.{changed_blocks, fill_places, is_disturbed, section_changed, is_moved, marked_piece, torn_section, torn}
+use Rattle.elf_object.proofs.ChangedLaws.{is_moved-dirty, torn-dirty}
+use Rattle.elf_object.specs.Changed.{torn_over, changed_blocks, fill_places, is_disturbed, section_changed, is_moved, marked_piece, torn_section, torn}
 use Rattle.elf_object.specs.Valid.{IsObject}
 use Rattle.object_laws.specs.Laws.{IsTornImage}
 use Rattle.object_laws.proofs.ImageLaws.{length-image, placed-dirty, section_at-placed}
@@ -22,7 +23,7 @@ use Rattle.object_laws.proofs.KeepLaws.{section_at_is}
 use Rattle.object_laws.proofs.PlacedLaws.{each_row, placed_is}
 use Rattle.object_laws.proofs.SettledLaws.{settle-dirty, settle-clean, section_raw}
 use Rattle.object_laws.proofs.StandLaws.{covered_from, section_count-placed}
-use Rattle.writing_laws.proofs.Tests.{neither, second_false}
+use Rattle.writing_laws.proofs.Bools.{neither, second_false}
 use Rattle.writing_laws.specs.Lines.{HoldsBlock}
 use Rattle.writing_laws.specs.Based.{some_unmarked, HomeStands, IsBased, UpdatesKeepBased}
 use Rattle.writing_laws.specs.Ready.{IsReady}
@@ -149,14 +150,13 @@ unfolding section_at
 home_of_placed o s ready is inside =
     let kept = placed_kept o is in
     let base = placed_base o ready.dirty in
-    subst (λ (l : List ℕ). HomeStands l (get_or (placed o).sections s new_section)) base (kept.homes s new_section inside)
+    subst (λ (l : List ℕ). HomeStands l (get_or (placed o).sections s absent_section)) base (kept.homes s absent_section inside)
 
 -- of a section that does not move
 still_home : (o : Object) (bytes : List ℕ) (s : ℕ) → IsReady o → IsBased o → IsTornImage o bytes → s < length (placed o).sections → is_moved o s ≡ false → HomeStands bytes (section_at (placed o) s)
-unfolding is_moved
 still_home o bytes s ready is between inside still some out =
     let count : length (placed o).sections ≡ length o.sections = ap (λ (q : Object). length q.sections) (placed-dirty o ready.dirty) ∙ section_count-placed (places_of o) o in
-    let tests = neither (section_changed o s) (is_disturbed o (section_at o s).home) still in
+    let tests = neither (section_changed o s) (is_disturbed o (section_at o s).home) (sym (is_moved-dirty o s ready.dirty) ∙ still) in
     let same = placed_home o s (omega arith) ready.dirty in
     let home = (section_at (placed o) s).home in
     let undisturbed : is_disturbed o (section_at (placed o) s).home ≡ false = ap (is_disturbed o) same ∙ tests.1 in
@@ -176,15 +176,18 @@ torn_home o bytes s ready is between inside = by_test (is_moved o s) refl
     by_test true e = λ some out. let none = unmarked_none (section_at (placed o) s) in let clash : false ≡ true = sym none ∙ some in cc
     by_test false e = still_home o bytes s ready is between inside e
 
-torn_based : (o : Object) (bytes : List ℕ) → IsReady o → IsBased o → IsTornImage o bytes → IsBased (torn o bytes)
-unfolding torn section_at
-torn_based o bytes ready is between = record {
+torn_over_based : (o : Object) (bytes : List ℕ) → IsReady o → IsBased o → IsTornImage o bytes → IsBased (torn_over (is_moved o) bytes (placed o))
+unfolding torn_over section_at
+torn_over_based o bytes ready is between = record {
   header = λ clean. let clash : true ≡ false = clean in cc;
   segments = λ clean. let clash : true ≡ false = clean in cc;
   table = λ clean. let clash : true ≡ false = clean in cc;
   homes = All-map (HomeStands bytes) (λ row. torn_section (is_moved o row.0) row.1) (enumerate_from 0 (placed o).sections)
-      (each_row (λ row. HomeStands bytes (torn_section (is_moved o row.0) row.1)) (placed o).sections new_section (λ s inside. torn_home o bytes s ready is between inside));
+      (each_row (λ row. HomeStands bytes (torn_section (is_moved o row.0) row.1)) (placed o).sections absent_section (λ s inside. torn_home o bytes s ready is between inside));
 }
+
+torn_based : (o : Object) (bytes : List ℕ) → IsReady o → IsBased o → IsTornImage o bytes → IsBased (torn o bytes)
+torn_based o bytes ready is between = subst IsBased (sym (torn-dirty o bytes ready.dirty)) (torn_over_based o bytes ready is between)
 
 -- ---- An update in place
 
@@ -212,8 +215,8 @@ over_based o ready =
       segments = λ clean. parts.segments;
       table = λ clean. parts.table;
       homes = All-map (HomeStands (image o)) (λ row. settled_section (length (image o)) (joined (placed o) row.0) row.1.header) (enumerate_from 0 (placed o).sections)
-          (each_row (λ row. HomeStands (image o) (settled_section (length (image o)) (joined (placed o) row.0) row.1.header)) (placed o).sections new_section (λ s inside.
-          settled_home (image o) (joined (placed o) s) (get_or (placed o).sections s new_section).header (raw_of o s ready (omega arith))));
+          (each_row (λ row. HomeStands (image o) (settled_section (length (image o)) (joined (placed o) row.0) row.1.header)) (placed o).sections absent_section (λ s inside.
+          settled_home (image o) (joined (placed o) s) (get_or (placed o).sections s absent_section).header (raw_of o s ready (omega arith))));
     }
 
 settle_based : (o : Object) → IsObject o → IsBased o → refusal o ≡ None → IsBased (settle o)

@@ -4,20 +4,20 @@ use Rattle.std.specs.Prelude.{map}
 use Rattle.std.specs.List.{enumerate_from}
 use Rattle.std.proofs.lemmas.List.{length-map, get_or-map, ext_get_or}
 use Rattle.std.proofs.lemmas.List.FromFn.{length-enumerate_from, get_or-enumerate_from}
-use Rattle.elf_object.specs.Object.{Object, Section, new_section, section_at, is_dirty}
+use Rattle.elf_object.specs.Object.{Object, Section, absent_section, section_at, is_dirty}
 use Rattle.elf_object.specs.Joined.{joined}
 use Rattle.elf_object.specs.Layout.{places_of, placed_by, placed}
 use Rattle.elf_object.specs.Image.{front_blocks, image}
 use Rattle.elf_object.specs.Refusal.{refusal}
 use Rattle.elf_object.specs.Settled.{settled_section, settled_over, settle}
-use Rattle.elf_object.specs.Changed.{is_moved, torn}
+use Rattle.elf_object.specs.Changed.{torn_over, is_moved, torn}
 use Rattle.elf_object.specs.Valid.{IsObject}
 use Rattle.object_laws.specs.Laws.{IsTornImage}
 use Rattle.object_laws.proofs.ImageLaws.{placed-dirty, placed-clean}
 use Rattle.object_laws.proofs.SettledLaws.{settle-dirty}
 use Rattle.object_laws.proofs.StandLaws.{section_count-placed, joined-placed}
 use Rattle.object_laws.proofs.AgainLaws.{SameFront, header_again, headers_again, front_again}
-use Rattle.object_laws.proofs.TornLaws.{dirty-placed, placed_stays, torn_of, torn-is, torn_front, torn_dirty, torn_law}
+use Rattle.object_laws.proofs.TornLaws.{dirty-placed, placed_stays, torn-is, torn_front, torn_dirty, torn_law}
 use Rattle.writing_laws.specs.Ready.{IsReady}
 use Rattle.writing_laws.specs.Writing.{SettlesAlike}
 
@@ -35,15 +35,15 @@ record SameSettled (p q : Object) : Type 0 where
   bytes : (s : ℕ) → joined p s ≡ joined q s
   front : front_blocks p ≡ front_blocks q
 
-settled_at : (n : ℕ) (q : Object) (s : ℕ) → s < length q.sections → get_or (map (λ row. settled_section n (joined q row.0) row.1.header) (enumerate_from 0 q.sections)) s new_section ≡ settled_section n (joined q s) (section_at q s).header
+settled_at : (n : ℕ) (q : Object) (s : ℕ) → s < length q.sections → get_or (map (λ row. settled_section n (joined q row.0) row.1.header) (enumerate_from 0 q.sections)) s absent_section ≡ settled_section n (joined q s) (section_at q s).header
 unfolding section_at
 settled_at n q s h =
     let count = length-enumerate_from 0 q.sections in
-    let row : get_or (enumerate_from 0 q.sections) s (0, new_section) ≡ (0 + s, get_or q.sections s new_section) = get_or-enumerate_from 0 q.sections s (0, new_section) h in
+    let row : get_or (enumerate_from 0 q.sections) s (0, absent_section) ≡ (0 + s, get_or q.sections s absent_section) = get_or-enumerate_from 0 q.sections s (0, absent_section) h in
     let number : 0 + s ≡ s = omega arith in
-    get_or-map (λ (r : ℕ × Section). settled_section n (joined q r.0) r.1.header) (enumerate_from 0 q.sections) s (0, new_section) new_section (omega arith)
+    get_or-map (λ (r : ℕ × Section). settled_section n (joined q r.0) r.1.header) (enumerate_from 0 q.sections) s (0, absent_section) absent_section (omega arith)
     ∙ ap (λ (r : ℕ × Section). settled_section n (joined q r.0) r.1.header) row
-    ∙ ap (λ (k : ℕ). settled_section n (joined q k) (get_or q.sections s new_section).header) number
+    ∙ ap (λ (k : ℕ). settled_section n (joined q k) (get_or q.sections s absent_section).header) number
 
 settled_sections : (n : ℕ) (p q : Object) → SameSettled p q → map (λ row. settled_section n (joined p row.0) row.1.header) (enumerate_from 0 p.sections) ≡ map (λ row. settled_section n (joined q row.0) row.1.header) (enumerate_from 0 q.sections)
 settled_sections n p q same =
@@ -52,7 +52,7 @@ settled_sections n p q same =
     let left_count = length-enumerate_from 0 p.sections in
     let right_count = length-enumerate_from 0 q.sections in
     let count = same.count in
-    ext_get_or new_section (map (λ row. settled_section n (joined p row.0) row.1.header) (enumerate_from 0 p.sections)) (map (λ row. settled_section n (joined q row.0) row.1.header) (enumerate_from 0 q.sections)) (omega arith) (λ s h.
+    ext_get_or absent_section (map (λ row. settled_section n (joined p row.0) row.1.header) (enumerate_from 0 p.sections)) (map (λ row. settled_section n (joined q row.0) row.1.header) (enumerate_from 0 q.sections)) (omega arith) (λ s h.
     settled_at n p s (omega arith)
     ∙ ap (λ (l : List ℕ). settled_section n l (section_at p s).header) (same.bytes s)
     ∙ ap (settled_section n (joined q s)) (same.headers s)
@@ -97,22 +97,22 @@ front_settles t o same fill =
 
 -- ---- A failed write
 
-fill_torn : (moved : ℕ → Bool) (bytes : List ℕ) (o : Object) → (torn_of moved bytes (placed_by (places_of o) o)).fill ≡ o.fill
-unfolding torn_of placed_by
+fill_torn : (moved : ℕ → Bool) (bytes : List ℕ) (o : Object) → (torn_over moved bytes (placed_by (places_of o) o)).fill ≡ o.fill
+unfolding torn_over placed_by
 fill_torn moved bytes o = refl
 
 torn_alike : (o : Object) (bytes : List ℕ) → IsReady o → IsTornImage o bytes → settle (torn o bytes) ≡ settle o
 torn_alike o bytes ready between =
-    let t = torn_of (is_moved o) bytes (placed_by (places_of o) o) in
+    let t = torn_over (is_moved o) bytes (placed_by (places_of o) o) in
     let is = torn-is o bytes ready.dirty in
     let marked = torn_dirty (is_moved o) bytes (placed_by (places_of o) o) in
     let alike = torn_law o bytes ready.object ready.dirty ready.passed between in
-    let picture : image (torn_of (is_moved o) bytes (placed_by (places_of o) o)) ≡ image o = sym (ap image is) ∙ alike.1 in
+    let picture : image (torn_over (is_moved o) bytes (placed_by (places_of o) o)) ≡ image o = sym (ap image is) ∙ alike.1 in
     ap settle is
-    ∙ settle-dirty (torn_of (is_moved o) bytes (placed_by (places_of o) o)) marked
-    ∙ ap (settled_over (image (torn_of (is_moved o) bytes (placed_by (places_of o) o)))) (placed-dirty (torn_of (is_moved o) bytes (placed_by (places_of o) o)) marked)
-    ∙ settled_same (image (torn_of (is_moved o) bytes (placed_by (places_of o) o))) (placed_by (places_of (torn_of (is_moved o) bytes (placed_by (places_of o) o))) (torn_of (is_moved o) bytes (placed_by (places_of o) o))) (placed_by (places_of o) o)
-    (front_settles (torn_of (is_moved o) bytes (placed_by (places_of o) o)) o (torn_front o (is_moved o) bytes) (fill_torn (is_moved o) bytes o))
+    ∙ settle-dirty (torn_over (is_moved o) bytes (placed_by (places_of o) o)) marked
+    ∙ ap (settled_over (image (torn_over (is_moved o) bytes (placed_by (places_of o) o)))) (placed-dirty (torn_over (is_moved o) bytes (placed_by (places_of o) o)) marked)
+    ∙ settled_same (image (torn_over (is_moved o) bytes (placed_by (places_of o) o))) (placed_by (places_of (torn_over (is_moved o) bytes (placed_by (places_of o) o))) (torn_over (is_moved o) bytes (placed_by (places_of o) o))) (placed_by (places_of o) o)
+    (front_settles (torn_over (is_moved o) bytes (placed_by (places_of o) o)) o (torn_front o (is_moved o) bytes) (fill_torn (is_moved o) bytes o))
     ∙ ap (λ (l : List ℕ). settled_over l (placed_by (places_of o) o)) picture
     ∙ ap (settled_over (image o)) (sym (placed-dirty o ready.dirty))
     ∙ sym (settle-dirty o ready.dirty)

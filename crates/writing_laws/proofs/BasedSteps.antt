@@ -12,6 +12,10 @@ use Rattle.elf_types.specs.declared.records.Kind.TheVariants as kinds
 use Rattle.elf_types.specs.declared.records.Ehdr.{Ehdr}
 use Rattle.elf_types.specs.declared.records.Shdr.{Shdr}
 use Rattle.elf_types.specs.declared.records.Phdr.{Phdr}
+use Rattle.elf_types.specs.declared.records.Sym.{Sym}
+use Rattle.elf_types.specs.declared.records.Rel.{Rel}
+use Rattle.elf_types.specs.declared.records.Rela.{Rela}
+use Rattle.elf_types.specs.declared.records.Dyn.{Dyn}
 use Rattle.elf_types.specs.declared.records.Part.{Part}
 use Rattle.elf_types.specs.declared.records.Part.TheVariants as part
 use Rattle.elf_xlate.specs.declared.content.Items.{Items}
@@ -19,15 +23,16 @@ use Rattle.elf_xlate.specs.declared.content.Items.TheVariants as items
 use Rattle.elf_xlate.specs.Fields.{fits}
 use Rattle.elf_xlate.specs.Items.{sym_fits, rel_fits, rela_fits, dyn_fits}
 use Rattle.elf_xlate.specs.Translation.{items_count, items_kind}
-use Rattle.elf_object.specs.Object.{Object, Section, Piece, section_at, piece_at, new_section, no_phdr, is_dirty}
+use Rattle.elf_object.specs.Object.{Object, Section, Piece, section_at, piece_at, absent_section, new_section, no_phdr, is_dirty}
 use Rattle.elf_object.specs.Answers.{kind_at, items_at, piece_count, flags_of, has_dirty, has_layout, lend_refusal, halves_of, words_of, addrs_of, syms_of, rels_of, relas_of, dyns_of}
-use Rattle.elf_object.specs.Steps.{new_number, with_section, with_piece_at, with_ehdr, with_phdrs, with_phdr, with_new_phdrs, with_shdr, with_new_section, with_null_section, with_new_piece, own_piece, with_own, with_mark, with_layout, with_flags, is_whole, with_fill}
+use Rattle.elf_object.specs.Steps.{with_sections as other_sections, new_number, with_section, with_piece_at, with_ehdr, with_phdrs, with_phdr, with_new_phdrs, with_shdr, with_new_section, with_null_section, with_new_piece, own_piece, with_own, with_mark, with_layout, with_flags, is_whole, with_fill}
 use Rattle.elf_object.specs.Layout.{places_of, placed_by, placed, placed_section}
 use Rattle.elf_object.specs.Image.{image_length}
 use Rattle.elf_object.specs.Refusal.{refusal}
-use Rattle.elf_object.specs.Calls.{step, update_ehdr_refusal, update_phdr_refusal, newphdr_refusal, update_shdr_refusal, newscn_refusal, newdata_refusal, set_fill, replace_refusal, flag, flag_refusal, lend, update_item, update_item_refusal}
-use Rattle.elf_object.specs.Runs.{addall, added, or_same}
-use Rattle.elf_object.proofs.PassedLaws.{answered_keeps, edit_keeps}
+use Rattle.elf_object.specs.Calls as calls
+use Rattle.elf_object.specs.Calls.{Call, update_ehdr, update_phdr, update_shdr, step, update_ehdr_refusal, update_phdr_refusal, newphdr_refusal, update_shdr_refusal, newscn_refusal, newdata_refusal, set_fill, replace_refusal, flag, flag_refusal, lend, update_item, update_item_refusal}
+use Rattle.elf_object.specs.Runs.{set_item, addall, added, or_same}
+use Rattle.elf_object.proofs.PassedLaws.{answered_keeps, edit_keeps, looked_keeps}
 use Rattle.std.proofs.Math.Bool.{or-true}
 use Rattle.writing_laws.specs.Based.{some_unmarked, HomeStands, IsBased, KeepsBased, EveryStepKeepsBased}
 
@@ -61,7 +66,7 @@ section_kept o s c kept is = record {
   segments = is.segments;
   table = is.table;
   homes = ⊎_elim
-      (λ h. All-set (HomeStands o.base) o.sections s c (kept h (is.homes s new_section h)) is.homes)
+      (λ h. All-set (HomeStands o.base) o.sections s c (kept h (is.homes s absent_section h)) is.homes)
       (λ h. subst (All (HomeStands o.base)) (sym (set_past o.sections s c h)) is.homes)
       (cases_lt s (length o.sections));
 }
@@ -118,7 +123,7 @@ ehdr_kept o h is = with_sections o (with_ehdr o h) (λ e. e) refl refl is.homes 
 
 phdrs_kept : (o : Object) (phdrs : List Phdr) → IsBased o → IsBased (with_phdrs o phdrs)
 unfolding with_phdrs
-phdrs_kept o phdrs is = with_sections o (record o { phdrs = phdrs; segments_marked = true }) (λ e. e) refl refl is.homes is
+phdrs_kept o phdrs is = with_sections o (record o { header = record o.header { phnum = length phdrs }; phdrs = phdrs; segments_marked = true }) (λ e. e) refl refl is.homes is
 
 -- ---- Sections
 
@@ -134,8 +139,8 @@ new_section_kept o is =
     by_test true new = All-cons (HomeStands o.base) new_section (new_section ∷ []) new (All-cons (HomeStands o.base) new_section [] new (All-nil (HomeStands o.base)))
     by_test false new = All-cons (HomeStands o.base) new_section [] new (All-nil (HomeStands o.base))
 
-null_kept : (b : Bool) (o : Object) → IsBased o → IsBased (if b then (record o { sections = new_section ∷ [] }) else o)
-null_kept true o is = with_sections o (record o { sections = new_section ∷ [] }) (λ e. e) refl refl (All-cons (HomeStands o.base) new_section [] (new_stands o.base) (All-nil (HomeStands o.base))) is
+null_kept : (b : Bool) (o : Object) → IsBased o → IsBased (if b then other_sections o (new_section ∷ []) else o)
+null_kept true o is = with_sections o (other_sections o (new_section ∷ [])) (λ e. e) refl refl (All-cons (HomeStands o.base) new_section [] (new_stands o.base) (All-nil (HomeStands o.base))) is
 null_kept false o is = is
 
 -- ---- Items
@@ -208,16 +213,52 @@ placed_kept o is = by_test (is_dirty o)
         (rows_kept o.base (placed_section (places_of o) o) (λ i c stands. home_kept o.base c (placed_section (places_of o) o i c) refl refl (λ some. some) stands) 0 o.sections is.homes) is
     by_test false = is
 
+-- ---- Steps that look first
+
+update_ehdr_based : (h : Ehdr) → KeepsBased (update_ehdr h)
+update_ehdr_based h = edit_keeps IsBased _ (λ o. update_ehdr_refusal o h) (λ o. tt) (λ o. with_ehdr o h) (λ o is passed. ehdr_kept o h is)
+
+update_phdr_based : (i : ℕ) (p : Phdr) → KeepsBased (update_phdr i p)
+unfolding with_phdr
+update_phdr_based i p = edit_keeps IsBased _ (λ o. update_phdr_refusal o i p) (λ o. tt) (λ o. with_phdr o i p) (λ o is passed. phdrs_kept o (set o.phdrs i p) is)
+
+update_shdr_based : (s : ℕ) (h : Shdr) → KeepsBased (update_shdr s h)
+update_shdr_based s h = edit_keeps IsBased _ (λ o. update_shdr_refusal o s h) (λ o. tt) (λ o. with_shdr o s h) (λ o is passed. header_kept o s h is)
+
+set_item_based : {A : Type 0} (get : Call A) (update : A → Call (Unit {0})) (change : A → A) → ((x : A) → KeepsBased (update x)) → KeepsBased (set_item get update change)
+set_item_based get update change keeps = looked_keeps IsBased get (λ x. update (change x)) (λ x o is e. keeps (change x) o is)
+
+update_half_based : (s p i v : ℕ) → KeepsBased (calls.update_half s p i v)
+update_half_based s p i v = update_item_based kinds.Half s p i (λ c. true) (λ l. items.Half (set (halves_of l) i v))
+
+update_word_based : (s p i v : ℕ) → KeepsBased (calls.update_word s p i v)
+update_word_based s p i v = update_item_based kinds.Word s p i (λ c. true) (λ l. items.Word (set (words_of l) i v))
+
+update_addr_based : (s p i v : ℕ) → KeepsBased (calls.update_addr s p i v)
+update_addr_based s p i v = update_item_based kinds.Addr s p i (λ c. fits c v) (λ l. items.Addr (set (addrs_of l) i v))
+
+update_sym_based : (s p i : ℕ) (v : Sym) → KeepsBased (calls.update_sym s p i v)
+update_sym_based s p i v = update_item_based kinds.Sym s p i (λ c. sym_fits c v) (λ l. items.Sym (set (syms_of l) i v))
+
+update_rel_based : (s p i : ℕ) (v : Rel) → KeepsBased (calls.update_rel s p i v)
+update_rel_based s p i v = update_item_based kinds.Rel s p i (λ c. rel_fits c v) (λ l. items.Rel (set (rels_of l) i v))
+
+update_rela_based : (s p i : ℕ) (v : Rela) → KeepsBased (calls.update_rela s p i v)
+update_rela_based s p i v = update_item_based kinds.Rela s p i (λ c. rela_fits c v) (λ l. items.Rela (set (relas_of l) i v))
+
+update_dynent_based : (s p i : ℕ) (v : Dyn) → KeepsBased (calls.update_dynent s p i v)
+update_dynent_based s p i v = update_item_based kinds.Dyn s p i (λ c. dyn_fits c v) (λ l. items.Dyn (set (dyns_of l) i v))
+
 -- ---- The law
 
 pub every_step_keeps_based : EveryStepKeepsBased
 unfolding with_phdr with_new_phdrs with_null_section
 every_step_keeps_based = record {
-  update_ehdr = λ h. edit_keeps IsBased _ (λ o. update_ehdr_refusal o h) (λ o. tt) (λ o. with_ehdr o h) (λ o is passed. ehdr_kept o h is);
-  update_phdr = λ i p. edit_keeps IsBased _ (λ o. update_phdr_refusal o i p) (λ o. tt) (λ o. with_phdr o i p) (λ o is passed. phdrs_kept o (set o.phdrs i p) is);
+  update_ehdr = update_ehdr_based;
+  update_phdr = update_phdr_based;
   newphdr = λ n. edit_keeps IsBased _ (λ o. newphdr_refusal n) (λ o. tt) (λ o. with_new_phdrs o n) (λ o is passed. phdrs_kept o (replicate n no_phdr) is);
   phdrs_mut = λ left. edit_keeps IsBased _ (λ o. None) (λ o. tt) (λ o. with_phdrs o left) (λ o is passed. phdrs_kept o left is);
-  update_shdr = λ s h. edit_keeps IsBased _ (λ o. update_shdr_refusal o s h) (λ o. tt) (λ o. with_shdr o s h) (λ o is passed. header_kept o s h is);
+  update_shdr = update_shdr_based;
   newscn = edit_keeps IsBased _ newscn_refusal new_number with_new_section (λ o is passed. new_section_kept o is);
   newnull = edit_keeps IsBased _ (λ o. None) (λ o. tt) with_null_section (λ o is passed. null_kept (length o.sections == 0) o is);
   newdata = λ s items align. edit_keeps IsBased _ (λ o. newdata_refusal o s items align) (λ o. (s, piece_count o s)) (λ o. with_new_piece o s items align) (λ o is passed. new_piece_kept o s items align is);
@@ -226,12 +267,22 @@ every_step_keeps_based = record {
   flag = flag_based;
   update_null = edit_keeps IsBased _ refusal image_length placed (λ o is passed. placed_kept o is);
   lend = lend_based;
-  update_half = λ s p i v. update_item_based kinds.Half s p i (λ c. true) (λ l. items.Half (set (halves_of l) i v));
-  update_word = λ s p i v. update_item_based kinds.Word s p i (λ c. true) (λ l. items.Word (set (words_of l) i v));
-  update_addr = λ s p i v. update_item_based kinds.Addr s p i (λ c. fits c v) (λ l. items.Addr (set (addrs_of l) i v));
-  update_sym = λ s p i v. update_item_based kinds.Sym s p i (λ c. sym_fits c v) (λ l. items.Sym (set (syms_of l) i v));
-  update_rel = λ s p i v. update_item_based kinds.Rel s p i (λ c. rel_fits c v) (λ l. items.Rel (set (rels_of l) i v));
-  update_rela = λ s p i v. update_item_based kinds.Rela s p i (λ c. rela_fits c v) (λ l. items.Rela (set (relas_of l) i v));
-  update_dynent = λ s p i v. update_item_based kinds.Dyn s p i (λ c. dyn_fits c v) (λ l. items.Dyn (set (dyns_of l) i v));
+  update_half = update_half_based;
+  update_word = update_word_based;
+  update_addr = update_addr_based;
+  update_sym = update_sym_based;
+  update_rel = update_rel_based;
+  update_rela = update_rela_based;
+  update_dynent = update_dynent_based;
   addall = addall_based;
+  set_ehdr = λ change. looked_keeps IsBased calls.ehdr (λ h. update_ehdr (change h)) (λ h o is e. update_ehdr_based (change h) o is);
+  set_phdr = λ i change. looked_keeps IsBased (calls.phdr i) (λ p. update_phdr i (change p)) (λ p o is e. update_phdr_based i (change p) o is);
+  set_shdr = λ s change. looked_keeps IsBased (calls.shdr s) (λ h. update_shdr s (change h)) (λ h o is e. update_shdr_based s (change h) o is);
+  set_half = λ s p i change. set_item_based (calls.half s p i) (calls.update_half s p i) change (update_half_based s p i);
+  set_word = λ s p i change. set_item_based (calls.word s p i) (calls.update_word s p i) change (update_word_based s p i);
+  set_addr = λ s p i change. set_item_based (calls.addr s p i) (calls.update_addr s p i) change (update_addr_based s p i);
+  set_sym = λ s p i change. set_item_based (calls.sym s p i) (calls.update_sym s p i) change (update_sym_based s p i);
+  set_rel = λ s p i change. set_item_based (calls.rel s p i) (calls.update_rel s p i) change (update_rel_based s p i);
+  set_rela = λ s p i change. set_item_based (calls.rela s p i) (calls.update_rela s p i) change (update_rela_based s p i);
+  set_dynent = λ s p i change. set_item_based (calls.dynent s p i) (calls.update_dynent s p i) change (update_dynent_based s p i);
 }

@@ -10,7 +10,7 @@ use Rattle.elf_object.specs.Blocks.{Block, block_end, extents_meet}
 use Rattle.elf_object.specs.Object.{Object}
 use Rattle.elf_object.specs.Image.{kept_base, image_length}
 use Rattle.elf_object.specs.Changed.{changed_blocks, is_disturbed}
-use Rattle.writing_laws.proofs.Tests.{both_true}
+use Rattle.writing_laws.proofs.Bools.{both_true}
 use Rattle.writing_laws.specs.Lines.{AreInLine, gap_places}
 use Rattle.writing_laws.specs.Plan.{plan, fill_block, fill_between, fill_blocks, written_blocks, meets_some}
 use Rattle.writing_laws.specs.Writing.{DisturbedByWrites}

@@ -8,7 +8,7 @@ use Rattle.std.proofs.lemmas.List.Elements.{filter-append}
 use Rattle.std.proofs.lemmas.List.Sums.{sum_by-cons}
 use Rattle.elf_object.specs.Blocks.{Block, block_end, covers, is_covered}
 use Rattle.std.proofs.Math.Bool.{or-true}
-use Rattle.writing_laws.proofs.Tests.{neither}
+use Rattle.writing_laws.proofs.Bools.{neither}
 use Rattle.writing_laws.specs.Lines.{AreInLine, gap_places}
 use Rattle.writing_laws.specs.Plan.{places_below, base_gaps, fill_block, fill_between}
 use Rattle.writing_laws.proofs.LineLaws.{covers_from, not_covered, end_is, line_within, before_line}

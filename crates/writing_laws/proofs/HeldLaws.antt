@@ -9,7 +9,7 @@ use Rattle.std.proofs.lemmas.Slice.Eq.{bytes_eq-Decides}
 use Rattle.elf_object.specs.Blocks.{Block, covers, is_covered, byte_over, spread, same_extent, same_block}
 use Rattle.object_laws.proofs.BlockLaws.{length-spread, get_or-spread}
 use Rattle.object_laws.proofs.StandLaws.{covered_from}
-use Rattle.writing_laws.proofs.Tests.{both_true}
+use Rattle.writing_laws.proofs.Bools.{both_true}
 use Rattle.writing_laws.specs.Lines.{StandsAt, HoldsBlock}
 
 -- ---- Byte by byte

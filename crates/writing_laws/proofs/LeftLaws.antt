@@ -12,11 +12,12 @@ use Rattle.elf_xlate.specs.declared.content.Items.{Items}
 use Rattle.elf_xlate.specs.Translation.{encoded}
 use Rattle.elf_types.specs.Answers.{refused_if}
 use Rattle.elf_object.specs.Blocks.{stacked, last_end, spread}
-use Rattle.elf_object.specs.Object.{Object, Section, Piece, new_section, section_at, has_file_bytes, home_is_clean, some_piece_marked, is_dirty}
+use Rattle.elf_object.specs.Object.{Object, Section, Piece, absent_section, section_at, has_file_bytes, home_is_clean, some_piece_marked, is_dirty}
 use Rattle.elf_object.specs.Joined.{piece_bytes, aligned_pieces, piece_blocks, pieces_end, joined}
 use Rattle.elf_object.specs.Layout.{places_of, placed_by, placed}
 use Rattle.elf_object.specs.Image.{front_blocks, section_block}
 use Rattle.elf_object.specs.Refusal.{missing_in_section, missing_home}
+use Rattle.elf_object.proofs.ChangedLaws.{header_changed-dirty, segments_changed-dirty, table_changed-dirty, section_changed-dirty}
 use Rattle.elf_object.specs.Changed.{block_of, front_differs, header_changed, segments_changed, table_changed, is_at_home, section_changed}
 use Rattle.elf_object.specs.Valid.{IsPiece, OthersOwn}
 use Rattle.object_laws.proofs.KeepLaws.{section_at_is}
@@ -25,7 +26,7 @@ use Rattle.object_laws.proofs.ItemLaws.{alone_spread, row_none}
 use Rattle.object_laws.proofs.PlacedLaws.{update_passes}
 use Rattle.object_laws.proofs.SettledLaws.{unrefused}
 use Rattle.object_laws.proofs.StandLaws.{joined-placed}
-use Rattle.writing_laws.proofs.Tests.{neither}
+use Rattle.writing_laws.proofs.Bools.{neither}
 use Rattle.std.proofs.lemmas.Bool.{not-false}
 use Rattle.writing_laws.specs.Lines.{HoldsBlock}
 use Rattle.writing_laws.specs.Based.{some_unmarked, HomeStands, IsBased}
@@ -42,23 +43,20 @@ front_stands o p dirty same stands =
     subst (λ (q : Object). HoldsBlock o.base (block_of p (front_blocks q))) (sym (placed-dirty o dirty)) holds
 
 pub header_stands : (o : Object) → is_dirty o ≡ true → IsBased o → header_changed o ≡ false → HoldsBlock o.base (front_blocks (placed o)).header
-unfolding header_changed
 header_stands o dirty is same =
-    let tests = neither (o.marked || o.header_marked) (front_differs (places_of o) o part.Header) same in
+    let tests = neither (o.marked || o.header_marked) (front_differs (places_of o) o part.Header) (sym (header_changed-dirty o dirty) ∙ same) in
     let marks = neither o.marked o.header_marked tests.0 in
     front_stands o part.Header dirty tests.1 (is.header marks.0)
 
 pub segments_stand : (o : Object) → is_dirty o ≡ true → IsBased o → segments_changed o ≡ false → HoldsBlock o.base (front_blocks (placed o)).segments
-unfolding segments_changed
 segments_stand o dirty is same =
-    let tests = neither (o.marked || o.segments_marked) (front_differs (places_of o) o part.Segments) same in
+    let tests = neither (o.marked || o.segments_marked) (front_differs (places_of o) o part.Segments) (sym (segments_changed-dirty o dirty) ∙ same) in
     let marks = neither o.marked o.segments_marked tests.0 in
     front_stands o part.Segments dirty tests.1 (is.segments marks.0)
 
 pub table_stands : (o : Object) → is_dirty o ≡ true → IsBased o → table_changed o ≡ false → HoldsBlock o.base (front_blocks (placed o)).table
-unfolding table_changed
 table_stands o dirty is same =
-    let tests = neither (o.marked || list_any (λ s. s.marked) o.sections) (front_differs (places_of o) o part.Table) same in
+    let tests = neither (o.marked || list_any (λ s. s.marked) o.sections) (front_differs (places_of o) o part.Table) (sym (table_changed-dirty o dirty) ∙ same) in
     let marks = neither o.marked (list_any (λ s. s.marked) o.sections) tests.0 in
     front_stands o part.Table dirty tests.1 (is.table marks.0)
 
@@ -114,9 +112,9 @@ unfolding missing_home missing_in_section section_at home_is_clean
 home_inside o s p ready inside filled alone =
     let un = unrefused o (update_passes o ready.dirty ready.passed).0 in
     let at : 0 + s ≡ s = omega arith in
-    let here : missing_in_section s (get_or o.sections s new_section) ≡ None = ap (λ (k : ℕ). missing_in_section k (get_or o.sections s new_section)) (sym at) ∙ row_none missing_in_section 0 o.sections s new_section un.missing inside in
-    let clean : elim (slice_get (get_or o.sections s new_section).pieces 0) [ None ↦ false | Some q ↦ is_none q.own ] ≡ true = ap (λ (l : List Piece). elim (slice_get l 0) [ None ↦ false | Some q ↦ is_none q.own ]) alone.pieces ∙ ap (λ (x : Option Items). is_none x) alone.clean in
-    refused_not (has_file_bytes s (get_or o.sections s new_section)) _ (get_or o.sections s new_section).home.out (OutOfFile s) here filled clean
+    let here : missing_in_section s (get_or o.sections s absent_section) ≡ None = ap (λ (k : ℕ). missing_in_section k (get_or o.sections s absent_section)) (sym at) ∙ row_none missing_in_section 0 o.sections s absent_section un.missing inside in
+    let clean : elim (slice_get (get_or o.sections s absent_section).pieces 0) [ None ↦ false | Some q ↦ is_none q.own ] ≡ true = ap (λ (l : List Piece). elim (slice_get l 0) [ None ↦ false | Some q ↦ is_none q.own ]) alone.pieces ∙ ap (λ (x : Option Items). is_none x) alone.clean in
+    refused_not (has_file_bytes s (get_or o.sections s absent_section)) _ (get_or o.sections s absent_section).home.out (OutOfFile s) here filled clean
   where
     refused_not : (a b c : Bool) (e : ElfError) → refused_if (a && b && c) e ≡ None → a ≡ true → b ≡ true → c ≡ false
     refused_not true true true e h x y = cc
@@ -145,10 +143,10 @@ placed_joined o s dirty = ap (λ (q : Object). joined q s) (placed-dirty o dirty
 
 pub home_at : (o : Object) (s : ℕ) → IsBased o → s < length o.sections → HomeStands o.base (section_at o s)
 unfolding section_at
-home_at o s is inside = is.homes s new_section inside
+home_at o s is inside = is.homes s absent_section inside
 
 pub section_stands : (o : Object) (s : ℕ) → IsReady o → IsBased o → s < length o.sections → section_changed o s ≡ false → HoldsBlock o.base (section_block (placed o) s)
-unfolding section_changed is_at_home some_piece_marked
+unfolding is_at_home some_piece_marked
 section_stands o s ready is inside same = by_bytes (has_file_bytes s (section_at o s)) refl
   where
     bytes : (section_block (placed o) s).bytes ≡ joined o s
@@ -157,7 +155,7 @@ section_stands o s ready is inside same = by_bytes (has_file_bytes s (section_at
     by_bytes : (b : Bool) → has_file_bytes s (section_at o s) ≡ b → HoldsBlock o.base (section_block (placed o) s)
     by_bytes false e = empty_holds o.base (section_block (placed o) s) (bytes ∙ joined-none o s e)
     by_bytes true filled =
-        let tests = unchanged_tests (has_file_bytes s (section_at o s)) (list_any (λ p. p.marked) (section_at o s).pieces) _ same filled in
+        let tests = unchanged_tests (has_file_bytes s (section_at o s)) (list_any (λ p. p.marked) (section_at o s).pieces) _ (sym (section_changed-dirty o s ready.dirty) ∙ same) filled in
         let c = section_at_is o s ready.object in
         ⊎_elim
         (λ none. empty_holds o.base (section_block (placed o) s) (bytes ∙ joined_empty o s none))

@@ -68,14 +68,12 @@ changed_are o dirty =
     let segments : List (Part × Block) = when (segments_changed o) (part.Segments, (front_blocks (placed o)).segments) in
     let sections : List (Part × Block) = map (λ s. (part.Section s, section_block (placed o) s)) (filter (section_changed o) (section_numbers o)) in
     let table : List (Part × Block) = when (table_changed o) (part.Table, (front_blocks (placed o)).table) in
-    let same : map snd (header ++ segments ++ sections ++ table) ≡ changed_of o =
     map_four header segments sections table
     ∙ four_same (map snd header) (map snd segments) (map snd sections) (map snd table) _ _ _ _
     (map_when (header_changed o) part.Header (front_blocks (placed o)).header)
     (map_when (segments_changed o) part.Segments (front_blocks (placed o)).segments)
     (map_sections (section_block (placed o)) (filter (section_changed o) (section_numbers o)))
-    (map_when (table_changed o) part.Table (front_blocks (placed o)).table) in
-    ap (λ (b : Bool). map snd (if b then header ++ segments ++ sections ++ table else [])) dirty ∙ same
+    (map_when (table_changed o) part.Table (front_blocks (placed o)).table)
 
 -- ---- Among blocks
 

@@ -1,4 +1,5 @@
-pub mod Tests
+pub mod Bools
+pub mod Computed
 pub mod LineLaws
 pub mod GapLaws
 pub mod SortLaws
@@ -14,5 +15,6 @@ pub mod DisturbedLaws
 pub mod MarkLaws
 pub mod UnderWayLaws
 pub mod RankLaws
+pub mod DeviceLaws
 pub mod BasedSteps
 pub mod BasedBeginnings

@@ -7,10 +7,11 @@ use Rattle.std.proofs.lemmas.List.{length-map, length-set, set-set, set-get_or, 
 use Rattle.std.proofs.lemmas.List.FromFn.{length-enumerate_from, get_or-enumerate_from}
 use Rattle.elf_types.specs.declared.records.Part.{Part}
 use Rattle.elf_types.specs.declared.records.Part.TheVariants as part
-use Rattle.elf_object.specs.Object.{Object, Section, Piece, new_section, home_piece, section_at, piece_at, is_dirty}
+use Rattle.elf_object.specs.Object.{Object, Section, Piece, absent_section, home_piece, section_at, piece_at, is_dirty}
 use Rattle.elf_object.specs.Steps.{with_section, with_piece_at, with_mark}
 use Rattle.elf_object.specs.Layout.{places_of, placed_by, placed}
-use Rattle.elf_object.specs.Changed.{is_moved, marked_piece, torn_section, torn}
+use Rattle.elf_object.proofs.ChangedLaws.{torn-dirty}
+use Rattle.elf_object.specs.Changed.{torn_over, is_moved, marked_piece, torn_section}
 use Rattle.elf_object.proofs.StepLaws.{section_count-with_section, section_at-with_section}
 use Rattle.writing_laws.specs.Marks.{marked_all, pieces_of, moved_pieces}
 use Rattle.writing_laws.specs.Writing.{MarksAreTorn}
@@ -75,7 +76,7 @@ mark_at i p = marked_piece p
 
 same_section : (o : Object) (s : ℕ) → with_section o s (section_at o s) ≡ o
 unfolding with_section section_at
-same_section o s = ap (λ (l : List Section). record o { sections = l }) (set-get_or o.sections s new_section)
+same_section o s = ap (λ (l : List Section). record o { sections = l }) (set-get_or o.sections s absent_section)
 
 section_twice : (o : Object) (s : ℕ) (c d : Section) → with_section (with_section o s c) s d ≡ with_section o s d
 unfolding with_section
@@ -122,7 +123,7 @@ with_sections o l = record o { sections = l }
 
 other_section : (o : Object) (s k : ℕ) (c : Section) → s + 1 ≤ k → section_at (with_section o s c) k ≡ section_at o k
 unfolding with_section section_at
-other_section o s k c later = get_or-set_other o.sections s k c new_section (λ e. omega arith)
+other_section o s k c later = get_or-set_other o.sections s k c absent_section (λ e. omega arith)
 
 -- a section that moves
 section_marked : (q o : Object) (moved : ℕ → Bool) (a : ℕ) → a < length o.sections → section_at o a ≡ section_at q a → moved a ≡ true → marked_all o (pieces_of q a) ≡ with_section o a (torn_at moved a (section_at o a))
@@ -132,23 +133,23 @@ section_marked q o moved a inside same e =
     ∙ marked_pieces o a 0 (length (section_at o a).pieces) inside
     ∙ ap (with_section o a) (torn_pieces moved a (section_at o a) e)
 
-sections_folded : (o : Object) (moved : ℕ → Bool) (a n : ℕ) → with_sections (with_section o a (torn_at moved a (section_at o a))) (changed_from (torn_at moved) new_section (a + 1) n (with_section o a (torn_at moved a (section_at o a))).sections) ≡ with_sections o (changed_from (torn_at moved) new_section a (suc n) o.sections)
+sections_folded : (o : Object) (moved : ℕ → Bool) (a n : ℕ) → with_sections (with_section o a (torn_at moved a (section_at o a))) (changed_from (torn_at moved) absent_section (a + 1) n (with_section o a (torn_at moved a (section_at o a))).sections) ≡ with_sections o (changed_from (torn_at moved) absent_section a (suc n) o.sections)
 unfolding with_section section_at
 sections_folded o moved a n = refl
 
-sections_still : (o : Object) (moved : ℕ → Bool) (a n : ℕ) → moved a ≡ false → with_sections o (changed_from (torn_at moved) new_section (a + 1) n o.sections) ≡ with_sections o (changed_from (torn_at moved) new_section a (suc n) o.sections)
+sections_still : (o : Object) (moved : ℕ → Bool) (a n : ℕ) → moved a ≡ false → with_sections o (changed_from (torn_at moved) absent_section (a + 1) n o.sections) ≡ with_sections o (changed_from (torn_at moved) absent_section a (suc n) o.sections)
 sections_still o moved a n e =
-    let here : set o.sections a (torn_at moved a (get_or o.sections a new_section)) ≡ o.sections = ap (set o.sections a) (still_at moved a (get_or o.sections a new_section) e) ∙ set-get_or o.sections a new_section in
-    ap (λ (l : List Section). with_sections o (changed_from (torn_at moved) new_section (a + 1) n l)) (sym here)
+    let here : set o.sections a (torn_at moved a (get_or o.sections a absent_section)) ≡ o.sections = ap (set o.sections a) (still_at moved a (get_or o.sections a absent_section) e) ∙ set-get_or o.sections a absent_section in
+    ap (λ (l : List Section). with_sections o (changed_from (torn_at moved) absent_section (a + 1) n l)) (sym here)
 
 -- what is marked of the sections from one on, the sections behind it being as they were
-marked_sections : (q o : Object) (moved : ℕ → Bool) (a n : ℕ) → a + n ≤ length o.sections → ((k : ℕ) → a ≤ k → section_at o k ≡ section_at q k) → marked_all o (flat_map (pieces_of q) (filter moved (range_with_len a n))) ≡ with_sections o (changed_from (torn_at moved) new_section a n o.sections)
+marked_sections : (q o : Object) (moved : ℕ → Bool) (a n : ℕ) → a + n ≤ length o.sections → ((k : ℕ) → a ≤ k → section_at o k ≡ section_at q k) → marked_all o (flat_map (pieces_of q) (filter moved (range_with_len a n))) ≡ with_sections o (changed_from (torn_at moved) absent_section a n o.sections)
 marked_sections q o moved a zero fits same = refl
 marked_sections q o moved a (suc n) fits same =
     let inside : a < length o.sections = omega arith in
     by_test (moved a) refl inside (λ p count later. marked_sections q p moved (a + 1) n (omega arith) later)
   where
-    by_test : (b : Bool) → moved a ≡ b → a < length o.sections → ((p : Object) → length p.sections ≡ length o.sections → ((k : ℕ) → a + 1 ≤ k → section_at p k ≡ section_at q k) → marked_all p (flat_map (pieces_of q) (filter moved (range_with_len (a + 1) n))) ≡ with_sections p (changed_from (torn_at moved) new_section (a + 1) n p.sections)) → marked_all o (flat_map (pieces_of q) (cond b (a ∷ filter moved (range_with_len (a + 1) n)) (filter moved (range_with_len (a + 1) n)))) ≡ with_sections o (changed_from (torn_at moved) new_section a (suc n) o.sections)
+    by_test : (b : Bool) → moved a ≡ b → a < length o.sections → ((p : Object) → length p.sections ≡ length o.sections → ((k : ℕ) → a + 1 ≤ k → section_at p k ≡ section_at q k) → marked_all p (flat_map (pieces_of q) (filter moved (range_with_len (a + 1) n))) ≡ with_sections p (changed_from (torn_at moved) absent_section (a + 1) n p.sections)) → marked_all o (flat_map (pieces_of q) (cond b (a ∷ filter moved (range_with_len (a + 1) n)) (filter moved (range_with_len (a + 1) n)))) ≡ with_sections o (changed_from (torn_at moved) absent_section a (suc n) o.sections)
     by_test true e inside rest =
         marked_append o (pieces_of q a) (flat_map (pieces_of q) (filter moved (range_with_len (a + 1) n)))
         ∙ ap (λ (p : Object). marked_all p (flat_map (pieces_of q) (filter moved (range_with_len (a + 1) n)))) (section_marked q o moved a inside (same a (omega arith)) e)
@@ -167,10 +168,11 @@ base_placed o = by_test (is_dirty o)
     by_test false = refl
 
 pub marks_are_torn : (o : Object) → MarksAreTorn o
-unfolding moved_pieces with_mark torn torn_at
-marks_are_torn o =
+unfolding moved_pieces with_mark torn_over torn_at
+marks_are_torn o dirty =
     let q = placed o in
     let start : Object = record (placed o) { marked = true } in
     marked_sections (placed o) start (is_moved o) 0 (length (placed o).sections) (omega arith) (λ k from. marked_same (placed o) k)
-    ∙ ap (with_sections start) (all_changed (torn_at (is_moved o)) new_section (placed o).sections)
+    ∙ ap (with_sections start) (all_changed (torn_at (is_moved o)) absent_section (placed o).sections)
     ∙ ap (λ (bytes : List ℕ). record (placed o) { base = bytes; marked = true; sections = map (λ row. torn_section (is_moved o row.0) row.1) (enumerate_from 0 (placed o).sections) }) (base_placed o)
+    ∙ sym (torn-dirty o o.base dirty)

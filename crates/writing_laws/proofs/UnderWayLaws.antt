@@ -43,15 +43,15 @@ left_next end otherwise bytes from b blocks is =
 
 -- ---- Over a device
 
-length-patched : (n : ℕ) (blocks : List Block) (bytes : List ℕ) → length (patched n blocks bytes) ≡ n
+pub length-patched : (n : ℕ) (blocks : List Block) (bytes : List ℕ) → length (patched n blocks bytes) ≡ n
 unfolding patched
 length-patched n blocks bytes = length-spread n (λ k. get_or bytes k 0) blocks
 
-patched_byte : (n : ℕ) (blocks : List Block) (bytes : List ℕ) (k : ℕ) → k < n → get_or (patched n blocks bytes) k 0 ≡ byte_over (λ j. get_or bytes j 0) blocks k
+pub patched_byte : (n : ℕ) (blocks : List Block) (bytes : List ℕ) (k : ℕ) → k < n → get_or (patched n blocks bytes) k 0 ≡ byte_over (λ j. get_or bytes j 0) blocks k
 unfolding patched
 patched_byte n blocks bytes k h = get_or-spread n (λ j. get_or bytes j 0) blocks k h
 
-one_over : (otherwise : ℕ → ℕ) (b : Block) (k : ℕ) (c : Bool) → covers b k ≡ c → byte_over otherwise (b ∷ []) k ≡ (if c then get_or b.bytes (k - b.at) 0 else otherwise k)
+pub one_over : (otherwise : ℕ → ℕ) (b : Block) (k : ℕ) (c : Bool) → covers b k ≡ c → byte_over otherwise (b ∷ []) k ≡ (if c then get_or b.bytes (k - b.at) 0 else otherwise k)
 unfolding byte_over
 one_over otherwise b k c e = ap (λ (t : Bool). if t then get_or b.bytes (k - b.at) 0 else otherwise k) e
 

@@ -16,10 +16,11 @@ use Rattle.object_laws.proofs.BlockLaws.{byte_over-uncovered}
 use Rattle.object_laws.proofs.ImageLaws.{length-image, placed-dirty}
 use Rattle.object_laws.proofs.StandLaws.{section_count-placed}
 use Rattle.object_laws.proofs.TornLaws.{image_uncovered}
-use Rattle.writing_laws.proofs.Tests.{neither}
+use Rattle.writing_laws.proofs.Bools.{neither}
 use Rattle.writing_laws.specs.Lines.{HoldsBlock, AreInLine, patched}
 use Rattle.writing_laws.specs.Plan.{plan, fill_block, fill_between, fill_blocks, written_blocks}
 use Rattle.writing_laws.specs.Ready.{IsReady}
+use Rattle.writing_laws.specs.Based.{IsBased}
 use Rattle.writing_laws.specs.Writing.{WrittenStands, InPlace, TornDevice}
 use Rattle.writing_laws.proofs.LineLaws.{end_is, line_within, not_covered}
 use Rattle.writing_laws.proofs.GapLaws.{before_first, length-fill_between, fill_covers}
@@ -164,21 +165,26 @@ begins : (base held : List ℕ) (k : ℕ) → take (length base) held ≡ base �
 begins base held k same below =
     sym (get_or-take (length base) held k 0 below) ∙ ap (λ (l : List ℕ). get_or l k 0) same
 
+-- a place in no block, where all that is to be written is among them, has its byte already
+pub unwritten_same : (o : Object) (blocks : List Block) (held : List ℕ) (k : ℕ) → IsReady o → IsBased o → ((j : ℕ) → is_covered (written_blocks o) j ≡ true → is_covered blocks j ≡ true) → take (length o.base) held ≡ o.base → k < image_length o → is_covered blocks k ≡ false → get_or held k 0 ≡ get_or (image o) k 0
+unwritten_same o blocks held k ready is all starts inside none =
+    let tests = unwritten o k ready inside (missing (is_covered (written_blocks o) k) refl) in
+    let left = left_stands o k ready is inside tests.0 tests.1 in
+    begins o.base held k starts left.0 ∙ sym left.1
+  where
+    missing : (c : Bool) → is_covered (written_blocks o) k ≡ c → c ≡ false
+    missing true e = let clash : false ≡ true = sym none ∙ all k e in cc
+    missing false e = refl
+
 pub in_place : (o : Object) → InPlace o
 unfolding patched
 in_place o blocks held ready is holds all starts =
     spread_is (image_length o) (λ k. get_or held k 0) blocks (image o) (length-image o) (λ k inside. by_test k inside (is_covered blocks k) refl)
   where
-    missing : (k : ℕ) (c : Bool) → is_covered (written_blocks o) k ≡ c → is_covered blocks k ≡ false → c ≡ false
-    missing k true e none = let clash : false ≡ true = sym none ∙ all k e in cc
-    missing k false e none = refl
-
     by_test : (k : ℕ) → k < image_length o → (c : Bool) → is_covered blocks k ≡ c → byte_over (λ j. get_or held j 0) blocks k ≡ get_or (image o) k 0
     by_test k inside true over = covered_byte (image o) (λ j. get_or held j 0) blocks k (recursion_from_All (HoldsBlock (image o)) blocks holds) over
     by_test k inside false none =
-        let tests = unwritten o k ready inside (missing k (is_covered (written_blocks o) k) refl none) in
-        let left = left_stands o k ready is inside tests.0 tests.1 in
-        byte_over-uncovered (λ j. get_or held j 0) blocks k none ∙ begins o.base held k starts left.0 ∙ sym left.1
+        byte_over-uncovered (λ j. get_or held j 0) blocks k none ∙ unwritten_same o blocks held k ready is all starts inside none
 
 -- ---- A device on which it failed
 

@@ -83,6 +83,23 @@ pub record EveryStepKeepsBased : Type 0 where
   pub update_rela : (s p i : ℕ) (v : Rela) → KeepsBased (calls.update_rela s p i v)
   pub update_dynent : (s p i : ℕ) (v : Dyn) → KeepsBased (calls.update_dynent s p i v)
   pub addall : (s p n : ℕ) → KeepsBased (runs.addall s p n)
+  pub set_ehdr : (change : Ehdr → Ehdr) → KeepsBased (runs.set_ehdr change)
+  pub set_phdr : (i : ℕ) (change : Phdr → Phdr) → KeepsBased (runs.set_phdr i change)
+  pub set_shdr : (s : ℕ) (change : Shdr → Shdr) → KeepsBased (runs.set_shdr s change)
+  pub set_half : (s p i : ℕ) (change : ℕ → ℕ)
+      → KeepsBased (runs.set_item (calls.half s p i) (calls.update_half s p i) change)
+  pub set_word : (s p i : ℕ) (change : ℕ → ℕ)
+      → KeepsBased (runs.set_item (calls.word s p i) (calls.update_word s p i) change)
+  pub set_addr : (s p i : ℕ) (change : ℕ → ℕ)
+      → KeepsBased (runs.set_item (calls.addr s p i) (calls.update_addr s p i) change)
+  pub set_sym : (s p i : ℕ) (change : Sym → Sym)
+      → KeepsBased (runs.set_item (calls.sym s p i) (calls.update_sym s p i) change)
+  pub set_rel : (s p i : ℕ) (change : Rel → Rel)
+      → KeepsBased (runs.set_item (calls.rel s p i) (calls.update_rel s p i) change)
+  pub set_rela : (s p i : ℕ) (change : Rela → Rela)
+      → KeepsBased (runs.set_item (calls.rela s p i) (calls.update_rela s p i) change)
+  pub set_dynent : (s p i : ℕ) (change : Dyn → Dyn)
+      → KeepsBased (runs.set_item (calls.dynent s p i) (calls.update_dynent s p i) change)
 
 -- where it is not refused, an update in place leaves it, and so does one that failed
 pub record UpdatesKeepBased (o : Object) : Type 0 where

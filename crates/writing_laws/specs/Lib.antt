@@ -4,3 +4,4 @@ pub mod Marks
 pub mod Ready
 pub mod Based
 pub mod Writing
+pub mod Examples

@@ -5,7 +5,7 @@ use Rattle.std.proofs.Math.ListN.{replicate}
 use Rattle.std.specs.List.{range_with_len}
 use Rattle.elf_types.specs.declared.records.Part.TheVariants as part
 use Rattle.elf_object.specs.Blocks.{Block, block_end, covers, is_covered, spread}
-use Rattle.elf_object.specs.Object.{Object, Home, section_at, has_file_bytes}
+use Rattle.elf_object.specs.Object.{is_dirty, Object, Home, section_at, has_file_bytes}
 use Rattle.elf_object.specs.Joined.{piece_blocks, pieces_end, joined}
 use Rattle.elf_layout.specs.Meeting.{ranks_by_position}
 use Rattle.elf_object.specs.Layout.{placed_parts, placed}
@@ -108,10 +108,11 @@ pub record SettlesAlike (o : Object) : Type 0 where
   pub placed : IsObject o → refusal o ≡ None → settle (placed o) ≡ settle o
   pub torn : (bytes : List ℕ) → IsReady o → IsTornImage o bytes → settle (torn o bytes) ≡ settle o
 
--- after places are stored, the object marked, and each piece of each section that moves marked, an
--- object is torn over its own base
+-- where something is dirty, after places are stored, the object marked, and each piece of each section
+-- that moves marked, an object is torn over its own base
 abbrev pub MarksAreTorn : Object → Type 0
-MarksAreTorn o = marked_all (placed o) (part.Object ∷ moved_pieces o) ≡ torn o o.base
+MarksAreTorn o =
+    is_dirty o ≡ true → marked_all (placed o) (part.Object ∷ moved_pieces o) ≡ torn o o.base
 
 -- ---- Gaps and pieces, of every object
 

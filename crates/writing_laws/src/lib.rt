@@ -7,3 +7,5 @@ pub mod based;
 pub mod failed;
 pub mod in_place;
 pub mod plans;
+#[cfg(test)]
+mod tests;

@@ -18,8 +18,8 @@ pub fn plan_is_image()
     ensures { (o : Object) → PlanIsImage o }
 {}
 
-/// There the plan is the parts by the ranks that elf_layout sorts: by position, and then in the order of the
-/// parts.
+/// There the plan is the parts by the ranks that elf_layout sorts: by position, and then in the
+/// order of the parts.
 #[tactic(auto, using(crate::proofs::RankLaws::plan_by_rank))]
 pub fn plan_by_rank()
     ensures { (o : Object) → PlanByRank o }
