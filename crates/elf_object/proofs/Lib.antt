@@ -1,1 +1,5 @@
+pub mod PassedLaws
+pub mod StepLaws
+pub mod AnswerLaws
+pub mod ChangedLaws
 pub mod Computing

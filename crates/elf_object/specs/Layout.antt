@@ -80,9 +80,9 @@ segments_place places = slice_index places.at 1
 abbrev pub section_place : Places → ℕ → ℕ
 section_place places s = slice_index places.at (s + 1)
 
--- of an object with so many sections
+-- of an object with so many sections: behind the header, the program headers and the sections from 1 on
 abbrev pub table_place : Places → ℕ → ℕ
-table_place places count = slice_index places.at (count + 1)
+table_place places count = slice_index places.at (count - 1 + 2)
 
 -- the header with its true counts, the derived values and the places of the tables
 unfoldable pub placed_header : Places → Object → Ehdr

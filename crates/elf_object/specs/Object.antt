@@ -42,7 +42,7 @@ pub record WrittenFront : Type 0 where
   pub segments : Block
   pub table : Block
 
--- an object. The counts in its header are not looked at: those that count are the lengths of the lists.
+-- an object. The two counts in its header are the lengths of the lists: every step keeps them so.
 pub record Object : Type 0 where
   pub header : Ehdr
   pub pad : List ℕ  -- bytes 9 to 15 of the identification
@@ -68,11 +68,15 @@ no_home = record { at = 0; len = 0; kind = kinds.Empty; out = false }
 abbrev pub new_section : Section
 new_section = record { header = zero_shdr; home = no_home; raw = []; pieces = []; marked = true }
 
+-- what stands at an index that no section has
+abbrev pub absent_section : Section
+absent_section = record new_section { marked = false }
+
 abbrev pub home_piece : Piece
 home_piece = record { own = None; align = 1; marked = false }
 
 unfoldable pub section_at : Object → ℕ → Section
-section_at o s = slice_index_or o.sections s new_section
+section_at o s = slice_index_or o.sections s absent_section
 
 unfoldable pub piece_at : Object → ℕ → ℕ → Piece
 piece_at o s p = slice_index_or (section_at o s).pieces p home_piece

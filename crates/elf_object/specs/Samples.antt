@@ -11,6 +11,7 @@ use Rattle.elf_xlate.specs.declared.content.Items.{Items}
 use Rattle.elf_xlate.specs.Numbers.{octets}
 use Rattle.elf_xlate.specs.Fields.{written}
 use Rattle.elf_ident.specs.Front.{zero_shdr}
+use Rattle.elf_object.specs.Words.{Wants}
 use Rattle.elf_object.specs.Object.{Object, Section, new_section}
 use Rattle.elf_object.specs.Open.{opened, created}
 use Rattle.elf_object.specs.Answers.{bytes_of, syms_of}
@@ -130,7 +131,7 @@ sym_in items i = slice_get (syms_of items) i
 
 -- the section of symbol i: whether the index is a section's number, and the index
 abbrev pub section_of : ℕ → ℕ → ℕ → Call (Bool × ℕ)
-section_of s p i = symshndx (λ n. (false, n)) (λ n. (true, n)) s p i
+section_of s p i = symshndx true (λ n. (false, n)) (λ n. (true, n)) s p i
 
 -- ---- Objects
 
@@ -210,3 +211,11 @@ extended = step (newphdr 1) (step (newdata 3 two_bytes) typed)
 -- one byte more in section 1, aligned to eight, over another fill byte
 abbrev pub spaced : Object
 spaced = step (newdata_aligned 1 (Bytes (0x62 ∷ [])) 8) (step (set_fill 0xaa) symbols64)
+
+-- a list that tells something of the third section
+abbrev pub third : List Bool
+third = false ∷ false ∷ true ∷ []
+
+-- a call that may want memory and may fail to read
+abbrev pub wanting : Wants
+wanting = record { memory = true; read = true }

@@ -39,8 +39,13 @@ stored_ehdr old h = record old {
 unfoldable pub with_ehdr : Object → Ehdr → Object
 with_ehdr o h = record o { header = stored_ehdr o.header h; header_marked = true }
 
+-- other program headers; the header has their number
 unfoldable pub with_phdrs : Object → List Phdr → Object
-with_phdrs o phdrs = record o { phdrs = phdrs; segments_marked = true }
+with_phdrs o phdrs = record o {
+  header = record o.header { phnum = length phdrs };
+  phdrs = phdrs;
+  segments_marked = true;
+}
 
 -- gelf_update_phdr
 unfoldable pub with_phdr : Object → ℕ → Phdr → Object
@@ -56,11 +61,15 @@ with_shdr o s h = with_section o s (record (section_at o s) { header = h; marked
 
 -- ---- Sections
 
+-- other sections; the header has their number
+abbrev pub with_sections : Object → List Section → Object
+with_sections o sections = record o { header = record o.header { shnum = length sections }; sections = sections }
+
 -- elf_newscn: one section, and section 0 before it where there is none
 unfoldable pub with_new_section : Object → Object
-with_new_section o = record o {
-  sections = o.sections ++ (if length o.sections == 0 then new_section ∷ new_section ∷ [] else new_section ∷ []);
-}
+with_new_section o =
+    let added = if length o.sections == 0 then new_section ∷ new_section ∷ [] else new_section ∷ [] in
+    with_sections o (o.sections ++ added)
 
 -- the number of the section that elf_newscn makes
 abbrev pub new_number : Object → ℕ
@@ -68,7 +77,7 @@ new_number o = if length o.sections == 0 then 1 else length o.sections
 
 -- section 0 alone, where there is none
 unfoldable pub with_null_section : Object → Object
-with_null_section o = if length o.sections == 0 then (record o { sections = new_section ∷ [] }) else o
+with_null_section o = if length o.sections == 0 then with_sections o (new_section ∷ []) else o
 
 -- ---- Pieces
 

@@ -12,7 +12,7 @@ ghost use Rattle.elf_types.specs.declared.records.Order.TheVariants.{Least};
 ghost use Rattle.elf_ident.specs.Front.{first_section, header_at, true_counts, true_phnum, true_shnum, true_shstrndx, zero_shdr};
 ghost use Rattle.elf_xlate.specs.Headers.{ehdr_bytes, shdr_bytes};
 ghost use Rattle.elf_xlate.specs.declared.content.Items.TheVariants.{Bytes, Sym};
-ghost use Rattle.elf_object.specs.Object.{header_of, section_at};
+ghost use Rattle.elf_object.specs.Object.{header_of, section_at, some_piece_marked};
 ghost use Rattle.elf_object.specs.Open.{opened};
 ghost use Rattle.elf_object.specs.Answers.{count_at, kind_at};
 ghost use Rattle.elf_object.specs.Blocks.{is_covered};
@@ -21,7 +21,7 @@ ghost use Rattle.elf_object.specs.Layout.{placed};
 ghost use Rattle.elf_object.specs.Derived.{numbered_shdr, written_header};
 ghost use Rattle.elf_object.specs.Image.{image};
 ghost use Rattle.elf_object.specs.Settled.{settle};
-ghost use Rattle.elf_object.specs.Changed.{changed, changed_bytes, fill_places, torn};
+ghost use Rattle.elf_object.specs.Changed.{changed, changed_bytes, fill_places, is_moved, torn};
 ghost use Rattle.elf_object.specs.Due.{update_in_place_due, update_to_due};
 ghost use Rattle.elf_object.specs.Calls.{step, data_answer, raw_answer, shdr_answer, sym_answer, sym, update_sym, newdata, newdata_aligned, newphdr, newscn, replace, flag, set_fill, update_null};
 ghost use Rattle.elf_object.specs.Runs.{answers_to, left_by, addall, item, set_item, set_shdr};
@@ -152,9 +152,13 @@ fn grown_objects_settle()
     ensures { opened (image grown) ≡ Ok (settle grown) }
 {}
 
-/// The object that a write leaves which failed after the first 96 bytes has the same image.
-fn torn_objects_keep_their_image()
-    ensures { image (torn grown (take 96 (image grown) ++ drop 96 five64)) ≡ image grown }
+/// A failed write leaves a mark, and one on each piece of a section that moves; nothing where nothing is dirty.
+fn torn_objects_are_marked()
+    ensures marked { (torn grown []).marked ≡ true }
+    ensures stays { some_piece_marked (section_at (torn grown []) 2) ≡ false }
+    ensures moves { some_piece_marked (section_at (torn grown []) 5) ≡ true }
+    ensures clean { torn symbols64 [] ≡ symbols64 }
+    ensures missing { is_moved missing 2 ≡ false }
 {}
 
 /// `ELF_F_LAYOUT` keeps the bytes of the base that no part covers; without it they go. A dirty mark stays.
@@ -217,7 +221,7 @@ fn definitions_compute_on_small_images() {
     parts_may_not_share_a_byte();
     grown_sections_move_others();
     grown_objects_settle();
-    torn_objects_keep_their_image();
+    torn_objects_are_marked();
     flags_are_set_and_cleared();
     new_sections_are_placed();
     raw_bytes_stay();

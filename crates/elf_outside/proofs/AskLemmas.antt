@@ -12,6 +12,11 @@ read_rose_before (Ok x) a b c h k = tt
 read_rose_before (Err Read) a b c h k = omega arith
 read_rose_before (Err e) a b c h k = tt
 
+-- a refusal that is passed on has the same cause
+pub read_rose_on : (T U : Type 0) (e : ElfError) (a b : ℕ) → ReadRose {T = T} (Err e) a b → ReadRose {T = U} (Err e) a b
+read_rose_on T U Read a b k = k
+read_rose_on T U e a b k = tt
+
 -- two calls in a row, of which the second answers
 pub asks_both : {S T U : Type 0} (g : Ghosts S) (r : Result T ElfError) (q : Result U ElfError) (s t u : S) (n m : ℕ)
     → Asks g r s t n → Asks g q t u m → Asks g q s u (n + m)

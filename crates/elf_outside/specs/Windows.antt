@@ -8,13 +8,13 @@ abbrev pub range_of : ℕ → ℕ → Option (List ℕ) → Option (List ℕ)
 range_of at len inner = option_map (λ bytes. take len (drop at bytes)) inner
 
 -- the bytes of the inner source after their number, and nothing where it does not tell them
-abbrev pub told : Option (List ℕ) → List ℕ
-told None = []
-told (Some bytes) = length bytes ∷ bytes
+abbrev pub counted_bytes : Option (List ℕ) → List ℕ
+counted_bytes None = []
+counted_bytes (Some bytes) = length bytes ∷ bytes
 
 -- the place in the inner source and its length, its bytes, and its own rest
 abbrev pub window_rest : ℕ → ℕ → Option (List ℕ) → List (List ℕ) → List (List ℕ)
-window_rest at size bytes rest = (at ∷ size ∷ []) ∷ told bytes ∷ rest
+window_rest at size bytes rest = (at ∷ size ∷ []) ∷ counted_bytes bytes ∷ rest
 
 -- a range that lies in the whole has its length: the law of a window's length
 pub range_sized : (inner : Option (List ℕ)) (at len size : ℕ) → at + len ≤ size

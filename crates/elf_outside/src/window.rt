@@ -14,7 +14,8 @@ pub struct Window<S: Source> {
     len: u64,
     pub ghost in_range: { at + len ≤ S.size inner },
     pub ghost addressable: { at + len < 2 ^ 64 },
-    pub ghost ranged: { ForSome (range_of at len (S.holds inner)) (λ bytes. All (λ n. n < 2 ^ 8) bytes) },
+    pub ghost ranged: { ForSome (range_of at len (S.holds inner))
+        (λ bytes. All (λ n. n < 2 ^ 8) bytes) },
 }
 
 impl<S: Source> Window<S> {
@@ -56,7 +57,8 @@ impl<S: Source> Source for Window<S> {
         self.inner.read_at(self.at + at, buf)
     }
 
-    ghost sized = { λ w. range_sized (S.holds w.inner) w.at w.len (S.size w.inner) w.in_range (S.sized w.inner) };
+    ghost sized = { λ w. range_sized
+        (S.holds w.inner) w.at w.len (S.size w.inner) w.in_range (S.sized w.inner) };
 }
 
 #[cfg(test)]

@@ -1,8 +1,9 @@
 //! The texts of kinds, parts and errors, appended to a list of bytes.
 //!
-//! Each call refuses `Memory` alone; what the list holds after that is not stated.
+//! Each call refuses `Memory` alone; what the list held then still stands, some bytes behind it.
 
 ghost use Rattle.std.specs.Prelude.{◌≡◌, ◌++◌, [], OnOk, IfOk, IfErr};
+ghost use Rattle.elf_types.specs.Writers.{WantsMemory};
 ghost use Rattle.elf_types.specs.Text.{numbered, numbered_twice, kind_text, part_text, unfit_text, overlap_text, held_text, error_text};
 
 use crate::errors::ElfError;
@@ -12,10 +13,10 @@ use crate::texts::{put_decimal, put_text};
 use std::alloc::Global;
 
 /// Appends a number between two texts.
-#[tactic(auto, unfolding(crate::specs::Text::numbered))]
+#[tactic(auto, using(crate::proofs::Writers::stays), unfolding(crate::specs::Text::numbered))]
 pub fn put_numbered(out: &mut Octets, before: &str, n: u64, after: &str) -> Result<(), ElfError>
     ensures ok { OnOk result (out.new ≡ out.old ++ numbered before.now n after.now) }
-    ensures err { IfErr result (λ e. e ≡ ElfError.Memory) }
+    ensures err { IfErr result (WantsMemory out.old out.new) }
 {
     put_text(out, before)?;
     put_decimal(out, n)?;
@@ -23,7 +24,7 @@ pub fn put_numbered(out: &mut Octets, before: &str, n: u64, after: &str) -> Resu
 }
 
 /// Appends two numbers, each after a text.
-#[tactic(auto, unfolding(crate::specs::Text::numbered_twice))]
+#[tactic(auto, using(crate::proofs::Writers::stays), unfolding(crate::specs::Text::numbered_twice))]
 pub fn put_numbered_twice(
     out: &mut Octets,
     before: &str,
@@ -32,7 +33,7 @@ pub fn put_numbered_twice(
     b: u64,
 ) -> Result<(), ElfError>
     ensures ok { OnOk result (out.new ≡ out.old ++ numbered_twice before.now a between.now b) }
-    ensures err { IfErr result (λ e. e ≡ ElfError.Memory) }
+    ensures err { IfErr result (WantsMemory out.old out.new) }
 {
     put_text(out, before)?;
     put_decimal(out, a)?;
@@ -62,7 +63,7 @@ pub fn kind_name(kind: Kind) -> &'static str
 #[tactic(auto, unfolding(crate::specs::Text::part_text))]
 pub fn put_part(out: &mut Octets, part: Part) -> Result<(), ElfError>
     ensures ok { OnOk result (out.new ≡ out.old ++ part_text part) }
-    ensures err { IfErr result (λ e. e ≡ ElfError.Memory) }
+    ensures err { IfErr result (WantsMemory out.old out.new) }
 {
     match part {
         Part::Object => put_text(out, "object"),
@@ -74,20 +75,20 @@ pub fn put_part(out: &mut Octets, part: Part) -> Result<(), ElfError>
     }
 }
 
-#[tactic(auto, unfolding(crate::specs::Text::unfit_text))]
+#[tactic(auto, using(crate::proofs::Writers::stays), unfolding(crate::specs::Text::unfit_text))]
 fn put_unfit(out: &mut Octets, part: Part, index: u64) -> Result<(), ElfError>
     ensures ok { OnOk result (out.new ≡ out.old ++ unfit_text part index) }
-    ensures err { IfErr result (λ e. e ≡ ElfError.Memory) }
+    ensures err { IfErr result (WantsMemory out.old out.new) }
 {
     put_text(out, "unfit ")?;
     put_part(out, part)?;
     put_numbered(out, " index ", index, "")
 }
 
-#[tactic(auto, unfolding(crate::specs::Text::overlap_text))]
+#[tactic(auto, using(crate::proofs::Writers::stays), unfolding(crate::specs::Text::overlap_text))]
 fn put_overlap(out: &mut Octets, a: Part, b: Part) -> Result<(), ElfError>
     ensures ok { OnOk result (out.new ≡ out.old ++ overlap_text a b) }
-    ensures err { IfErr result (λ e. e ≡ ElfError.Memory) }
+    ensures err { IfErr result (WantsMemory out.old out.new) }
 {
     put_text(out, "overlap ")?;
     put_part(out, a)?;
@@ -95,10 +96,10 @@ fn put_overlap(out: &mut Octets, a: Part, b: Part) -> Result<(), ElfError>
     put_part(out, b)
 }
 
-#[tactic(auto, unfolding(crate::specs::Text::held_text))]
+#[tactic(auto, using(crate::proofs::Writers::stays), unfolding(crate::specs::Text::held_text))]
 fn put_held(out: &mut Octets, kind: Kind) -> Result<(), ElfError>
     ensures ok { OnOk result (out.new ≡ out.old ++ held_text kind) }
-    ensures err { IfErr result (λ e. e ≡ ElfError.Memory) }
+    ensures err { IfErr result (WantsMemory out.old out.new) }
 {
     put_text(out, "held kind ")?;
     put_text(out, kind_name(kind))
@@ -108,7 +109,7 @@ fn put_held(out: &mut Octets, kind: Kind) -> Result<(), ElfError>
 #[tactic(auto, unfolding(crate::specs::Text::error_text))]
 pub fn put_error(out: &mut Octets, e: &ElfError) -> Result<(), ElfError>
     ensures ok { OnOk result (out.new ≡ out.old ++ error_text e.now) }
-    ensures err { IfErr result (λ e. e ≡ ElfError.Memory) }
+    ensures err { IfErr result (WantsMemory out.old out.new) }
 {
     match *e {
         ElfError::Memory => put_text(out, "out of memory"),

@@ -26,4 +26,4 @@ pub use records::{
     Class, DIRTY, DataId, Dyn, Ehdr, Kind, LAYOUT, Order, Part, Phdr, Rel, Rela, ScnId, Shdr, Sym,
 };
 pub use symbols::{bind, stt, vis};
-pub use texts::{put_decimal, put_hex, put_signed, put_text};
+pub use texts::{put_bytes, put_decimal, put_hex, put_signed, put_text};

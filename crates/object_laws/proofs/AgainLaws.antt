@@ -10,7 +10,7 @@ use Rattle.elf_types.specs.declared.records.Shdr.{Shdr}
 use Rattle.elf_layout.specs.declared.parts.PartAt.{PartAt}
 use Rattle.elf_layout.specs.declared.parts.Places.{Places}
 use Rattle.elf_layout.specs.Layout.{in_order_from, standing, length_of, positions, places_of as parts_places, refusal_of}
-use Rattle.elf_object.specs.Object.{Object, Section, new_section, section_at, header_of, is_null, is_dirty}
+use Rattle.elf_object.specs.Object.{Object, Section, absent_section, section_at, header_of, is_null, is_dirty}
 use Rattle.elf_object.specs.Joined.{joined}
 use Rattle.elf_object.specs.Derived.{where_any, derived_header, numbered_shdr}
 use Rattle.elf_object.specs.Layout.{header_part, segments_part, section_part, table_part, section_numbers, parts_of, places_of, segments_place, section_place, table_place, size_in_file, placed_header, placed_shdr, placed_section, placed_by, placed}
@@ -30,10 +30,10 @@ caller_place o i d lay h =
     ap (λ (b : Bool). get_or (map (λ p. p.at) (if b then parts_of o else in_order_from 0 (parts_of o))) i 0) lay
     ∙ get_or-map (λ (p : PartAt). p.at) (parts_of o) i d 0 h
 
-get_table : (o : Object) (d : PartAt) → 0 < length o.sections → get_or (parts_of o) (length o.sections + 1) d ≡ table_part o
+get_table : (o : Object) (d : PartAt) → get_or (parts_of o) (length o.sections - 1 + 2) d ≡ table_part o
 unfolding parts_of
-get_table o d some =
-    let index : length o.sections + 1 ≡ suc (suc (length o.sections - 1)) = omega arith in
+get_table o d =
+    let index : length o.sections - 1 + 2 ≡ suc (suc (length o.sections - 1)) = omega arith in
     ap (λ (i : ℕ). get_or (header_part o ∷ segments_part o ∷ map (section_part o) (section_numbers o) ++ table_part o ∷ []) i d) index
     ∙ row_last (section_part o) (length o.sections - 1) (table_part o) (length o.sections - 1) d refl
 
@@ -107,7 +107,7 @@ plan-placed o =
           ∙ ap (λ (p : PartAt). p.at) (get_segments o (header_part o));
       table = λ lay some.
           shoff-placed (places_of o) o ∙ where_some (length o.sections) (table_place (places_of o) (length o.sections)) some
-          ∙ caller_place o (length o.sections + 1) (header_part o) lay (omega arith) ∙ ap (λ (p : PartAt). p.at) (get_table o (header_part o) some);
+          ∙ caller_place o (length o.sections - 1 + 2) (header_part o) lay (omega arith) ∙ ap (λ (p : PartAt). p.at) (get_table o (header_part o));
       offset = λ lay s positive inside filled.
           offset-placed (places_of o) o s inside filled ∙ caller_place o (s + 1) (header_part o) lay (omega arith)
           ∙ ap (λ (p : PartAt). p.at) (get_section o s (header_part o) positive inside) ∙ part_offset o s;
@@ -182,13 +182,13 @@ table_again : (t o : Object) → SameFront t o → where_any (length o.sections)
 table_again t o same = by_test o.layout refl
   where
     by_test : (b : Bool) → o.layout ≡ b → where_any (length o.sections) (table_place (places_of t) (length t.sections)) ≡ where_any (length o.sections) (table_place (places_of o) (length o.sections))
-    by_test false plain = ap (where_any (length o.sections)) (ordered_place t o (length t.sections + 1) same plain ∙ ap (λ (n : ℕ). get_or (places_of o).at (n + 1) 0) same.count)
+    by_test false plain = ap (where_any (length o.sections)) (ordered_place t o (length t.sections - 1 + 2) same plain ∙ ap (λ (n : ℕ). get_or (places_of o).at (n - 1 + 2) 0) same.count)
     by_test true lay =
         let stored : t.header.shoff ≡ where_any (length o.sections) (table_place (places_of o) (length o.sections)) = ap (λ (h : Ehdr). h.shoff) same.header ∙ shoff-placed (places_of o) o in
         where_same (length o.sections) (table_place (places_of t) (length t.sections)) t.header.shoff (λ some.
         let parts = length-parts_of t in
         let count = same.count in
-        caller_place t (length t.sections + 1) (header_part t) (same.layout ∙ lay) (omega arith) ∙ ap (λ (p : PartAt). p.at) (get_table t (header_part t) (omega arith)))
+        caller_place t (length t.sections - 1 + 2) (header_part t) (same.layout ∙ lay) (omega arith) ∙ ap (λ (p : PartAt). p.at) (get_table t (header_part t)))
         ∙ ap (where_any (length o.sections)) stored ∙ where_twice (length o.sections) (table_place (places_of o) (length o.sections))
 
 -- derived values that are derived again
@@ -300,11 +300,11 @@ pad_placed : (places : Places) (o : Object) → (placed_by places o).pad ≡ o.p
 unfolding placed_by
 pad_placed places o = refl
 
-section_headers : (t o : Object) (s : ℕ) → SameFront t o → (get_or (placed_by (places_of t) t).sections s new_section).header ≡ (get_or (placed_by (places_of o) o).sections s new_section).header
+section_headers : (t o : Object) (s : ℕ) → SameFront t o → (get_or (placed_by (places_of t) t).sections s absent_section).header ≡ (get_or (placed_by (places_of o) o).sections s absent_section).header
 unfolding section_at
 section_headers t o s same = headers_again t o s same
 
-front_again : (t o : Object) → SameFront t o → front_blocks (placed_by (places_of t) t) ≡ front_blocks (placed_by (places_of o) o)
+pub front_again : (t o : Object) → SameFront t o → front_blocks (placed_by (places_of t) t) ≡ front_blocks (placed_by (places_of o) o)
 unfolding front_blocks
 front_again t o same =
     let left = section_count-placed (places_of t) t in
@@ -313,7 +313,7 @@ front_again t o same =
     let header : (placed_by (places_of t) t).header ≡ (placed_by (places_of o) o).header = header_placed (places_of t) t ∙ header_again t o same in
     let pad : (placed_by (places_of t) t).pad ≡ (placed_by (places_of o) o).pad = pad_placed (places_of t) t ∙ same.pad ∙ sym (pad_placed (places_of o) o) in
     let phdrs : (placed_by (places_of t) t).phdrs ≡ (placed_by (places_of o) o).phdrs = phdrs-placed (places_of t) t ∙ same.phdrs ∙ sym (phdrs-placed (places_of o) o) in
-    let shdrs = headers_same (placed_by (places_of t) t).sections (placed_by (places_of o) o).sections new_section (omega arith) (λ s. section_headers t o s same) in
+    let shdrs = headers_same (placed_by (places_of t) t).sections (placed_by (places_of o) o).sections absent_section (omega arith) (λ s. section_headers t o s same) in
     cc
 
 section_again : (t o : Object) (s : ℕ) → SameFront t o → section_block (placed_by (places_of t) t) s ≡ section_block (placed_by (places_of o) o) s

@@ -1,10 +1,9 @@
 -- Each number of an image is a byte: what is encoded is, and what is spread from bytes.
-use Rattle.std.proofs.Common.{◌≡◌, ℕ, zero, suc, ◌+◌, ◌-◌, ◌/◌, ◌%◌, ◌^◌, ◌<◌, Bool, true, false, ◌&&◌, List, [], ◌∷◌, ◌++◌, length, take, drop, replicate, Option, Some, None, refl, lit<}
-use Rattle.std.specs.Prelude.{All, IfSome, IsTrue, nat_lt, if◌then◌else◌, flat_map, map, slice_index}
+use Rattle.std.proofs.Common.{◌≡◌, ℕ, ◌+◌, ◌-◌, ◌^◌, ◌<◌, Bool, true, false, ◌&&◌, List, [], ◌∷◌, ◌++◌, length, replicate, Option, Some, None, refl, lit<}
+use Rattle.std.specs.Prelude.{All, nat_lt, if◌then◌else◌, map, slice_index}
 use Rattle.std.specs.List.{range_with_len, list_all}
 use Rattle.std.proofs.lemmas.Bool.{ltb-true}
-use Rattle.std.proofs.Math.Nat.{mod-lt}
-use Rattle.std.proofs.lemmas.List.Elements.{All-nil, All-cons, All-head, All-tail, All-take, All-drop, All-append, All-replicate}
+use Rattle.std.proofs.lemmas.List.Elements.{All-nil, All-cons, All-head, All-tail, All-append, All-replicate}
 use Rattle.elf_types.specs.declared.records.Class.{Class}
 use Rattle.elf_types.specs.declared.records.Class.TheVariants.{C32, C64}
 use Rattle.elf_types.specs.declared.records.Order.{Order}
@@ -13,12 +12,9 @@ use Rattle.elf_types.specs.declared.records.Ehdr.{Ehdr}
 use Rattle.elf_types.specs.declared.records.Phdr.{Phdr}
 use Rattle.elf_types.specs.declared.records.Shdr.{Shdr}
 use Rattle.elf_xlate.specs.declared.content.Items.{Items}
-use Rattle.elf_xlate.specs.declared.content.Items.TheVariants as items
-use Rattle.elf_xlate.specs.Numbers.{by_weight, lowest_bytes, octets}
-use Rattle.elf_xlate.specs.Fields.{Field, place_in, written, written_in, laid, record_bytes}
-use Rattle.elf_xlate.specs.Headers.{ehdr_size, ehdr_fields, ehdr_numbers, class_code, order_code, ident, ehdr_bytes, phdr_size, phdr_fields, phdr_numbers, phdr_bytes, shdr_size, shdr_fields, shdr_numbers, shdr_bytes}
-use Rattle.elf_xlate.specs.Items.{half_bytes, word_bytes, addr_bytes, sym_bytes, rel_bytes, rela_bytes, dyn_bytes}
-use Rattle.elf_xlate.specs.Translation.{AreItems, encoded}
+use Rattle.elf_xlate.specs.Headers.{ehdr_size, ehdr_fields, ehdr_numbers, class_code, order_code, ident, ehdr_bytes, phdr_bytes, shdr_bytes}
+use Rattle.elf_xlate.specs.Translation.{encoded}
+use Rattle.elf_xlate.proofs.ByteRanges.{laid_are, phdr_are, shdr_are, each_are, encoded_are}
 use Rattle.elf_layout.specs.Layout.{rounded_up}
 use Rattle.elf_object.specs.Blocks.{Block, covers, byte_over, spread, stacked}
 use Rattle.elf_object.specs.Object.{Object, Piece, section_at, has_file_bytes, is_dirty}
@@ -28,8 +24,8 @@ use Rattle.elf_object.specs.Derived.{written_header}
 use Rattle.elf_object.specs.Layout.{section_numbers, placed}
 use Rattle.elf_object.specs.Image.{front_blocks, section_block, part_blocks, kept_base, uncovered_byte, image_length, image}
 use Rattle.elf_object.specs.Refusal.{refusal}
-use Rattle.elf_object.specs.Valid.{AreBytes, IsPiece, IsSection, IsObject}
-use Rattle.object_laws.proofs.RangeLaws.{bytes_reverse, each_made}
+use Rattle.elf_object.specs.Valid.{AreBytes, IsSection, IsObject}
+use Rattle.object_laws.proofs.RangeLaws.{each_made}
 use Rattle.object_laws.proofs.KeepLaws.{at_or, section_at_is}
 use Rattle.object_laws.proofs.PlacedLaws.{placed_is}
 
@@ -37,34 +33,6 @@ abbrev IsByte : ℕ → Type 0
 IsByte n = n < 2 ^ 8
 
 -- ---- What is encoded
-
-lowest_are : (width n : ℕ) → AreBytes (lowest_bytes width n)
-unfolding lowest_bytes
-lowest_are zero n = All-nil IsByte
-lowest_are (suc width) n = All-cons IsByte (n % 256) (lowest_bytes width (n / 256)) (mod-lt n (lit< tt)) (lowest_are width (n / 256))
-
-octets_are : (order : Order) (width n : ℕ) → AreBytes (octets order width n)
-unfolding octets by_weight
-octets_are Least width n = lowest_are width n
-octets_are Greatest width n = bytes_reverse (lowest_bytes width n) (lowest_are width n)
-
-written_are : (place : ℕ) (new bytes : List ℕ) → AreBytes new → AreBytes bytes → AreBytes (written place new bytes)
-unfolding written
-written_are place new bytes a b =
-    All-append IsByte (take place bytes) (new ++ drop (place + length new) bytes) (All-take IsByte place bytes b)
-    (All-append IsByte new (drop (place + length new) bytes) a (All-drop IsByte (place + length new) bytes b))
-
-laid_are : (class : Class) (order : Order) (fields : List Field) (numbers bytes : List ℕ) → AreBytes bytes → AreBytes (laid class order fields numbers bytes)
-unfolding written_in
-laid_are class order [] numbers bytes are = are
-laid_are class order (f ∷ fields) [] bytes are = are
-laid_are class order (f ∷ fields) (n ∷ numbers) bytes are =
-    laid_are class order fields numbers (written (place_in class f).0 (octets order (place_in class f).1 n) bytes)
-    (written_are (place_in class f).0 (octets order (place_in class f).1 n) bytes (octets_are order (place_in class f).1 n) are)
-
-record_are : (class : Class) (order : Order) (size : ℕ) (fields : List Field) (numbers : List ℕ) → AreBytes (record_bytes class order size fields numbers)
-unfolding record_bytes
-record_are class order size fields numbers = laid_are class order fields numbers (replicate size 0) (All-replicate IsByte size 0 (lit< tt))
 
 each_small : (l : List ℕ) → list_all (λ n. nat_lt n (2 ^ 8)) l ≡ true → AreBytes l
 each_small [] h = All-nil IsByte
@@ -96,29 +64,13 @@ ehdr_are h pad are =
     laid_are h.class h.order ehdr_fields (ehdr_numbers h) (ident h.class h.order pad ++ replicate (ehdr_size h.class - 16) 0)
     (All-append IsByte (ident h.class h.order pad) (replicate (ehdr_size h.class - 16) 0) (ident_are h.class h.order pad are) (All-replicate IsByte (ehdr_size h.class - 16) 0 (lit< tt)))
 
-flat_are : {X : Type 0} (enc : X → List ℕ) → ((x : X) → AreBytes (enc x)) → (l : List X) → AreBytes (flat_map enc l)
-flat_are enc each [] = All-nil IsByte
-flat_are enc each (x ∷ l) = All-append IsByte (enc x) (flat_map enc l) (each x) (flat_are enc each l)
-
-encoded_are : (class : Class) (order : Order) (l : Items) → AreItems l → AreBytes (encoded class order l)
-unfolding encoded half_bytes word_bytes addr_bytes sym_bytes rel_bytes rela_bytes dyn_bytes
-encoded_are class order items.Empty are = All-nil IsByte
-encoded_are class order (items.Bytes l) are = are
-encoded_are class order (items.Half l) are = flat_are (half_bytes class order) (λ x. record_are class order _ _ _) l
-encoded_are class order (items.Word l) are = flat_are (word_bytes class order) (λ x. record_are class order _ _ _) l
-encoded_are class order (items.Addr l) are = flat_are (addr_bytes class order) (λ x. record_are class order _ _ _) l
-encoded_are class order (items.Sym l) are = flat_are (sym_bytes class order) (λ x. record_are class order _ _ _) l
-encoded_are class order (items.Rel l) are = flat_are (rel_bytes class order) (λ x. record_are class order _ _ _) l
-encoded_are class order (items.Rela l) are = flat_are (rela_bytes class order) (λ x. record_are class order _ _ _) l
-encoded_are class order (items.Dyn l) are = flat_are (dyn_bytes class order) (λ x. record_are class order _ _ _) l
-
 segments_are : (class : Class) (order : Order) (phdrs : List Phdr) → AreBytes (segments_bytes class order phdrs)
-unfolding segments_bytes phdr_bytes
-segments_are class order phdrs = flat_are (phdr_bytes class order) (λ p. record_are class order (phdr_size class) phdr_fields (phdr_numbers p)) phdrs
+unfolding segments_bytes
+segments_are class order phdrs = each_are (phdr_bytes class order) (phdr_are class order) phdrs
 
 table_are : (class : Class) (order : Order) (shdrs : List Shdr) → AreBytes (table_bytes class order shdrs)
-unfolding table_bytes shdr_bytes
-table_are class order shdrs = flat_are (shdr_bytes class order) (λ h. record_are class order (shdr_size class) shdr_fields (shdr_numbers h)) shdrs
+unfolding table_bytes
+table_are class order shdrs = each_are (shdr_bytes class order) (shdr_are class order) shdrs
 
 -- ---- What is spread
 
@@ -145,22 +97,22 @@ spread_are n otherwise blocks other each =
 
 -- ---- The bytes of a section
 
-piece_are : (class : Class) (order : Order) (raw : List ℕ) (p : Piece) → AreBytes raw → IsPiece p → AreBytes (piece_bytes class order raw p)
+piece_are : (class : Class) (order : Order) (raw : List ℕ) (p : Piece) → AreBytes raw → AreBytes (piece_bytes class order raw p)
 unfolding piece_bytes
-piece_are class order raw p are is = by_own p.own is.own
+piece_are class order raw p are = by_own p.own
   where
-    by_own : (own : Option Items) → IfSome own (λ items. AreItems items × IsTrue p.marked) → AreBytes (elim own [ None ↦ raw | Some items ↦ encoded class order items ])
-    by_own None h = are
-    by_own (Some items) h = encoded_are class order items h.0
+    by_own : (own : Option Items) → AreBytes (elim own [ None ↦ raw | Some items ↦ encoded class order items ])
+    by_own None = are
+    by_own (Some items) = encoded_are class order items
 
-stacked_are : (class : Class) (order : Order) (raw : List ℕ) (end : ℕ) (l : List Piece) → AreBytes raw → All IsPiece l → All HasBytes (stacked end (map (λ p. (p.align, piece_bytes class order raw p)) l))
+stacked_are : (class : Class) (order : Order) (raw : List ℕ) (end : ℕ) (l : List Piece) → AreBytes raw → All HasBytes (stacked end (map (λ p. (p.align, piece_bytes class order raw p)) l))
 unfolding stacked
-stacked_are class order raw end [] are each = All-nil HasBytes
-stacked_are class order raw end (p ∷ l) are each =
+stacked_are class order raw end [] are = All-nil HasBytes
+stacked_are class order raw end (p ∷ l) are =
     let bytes = piece_bytes class order raw p in
     All-cons HasBytes (record { at = rounded_up end p.align; bytes = bytes }) (stacked (rounded_up end p.align + length bytes) (map (λ q. (q.align, piece_bytes class order raw q)) l))
-    (piece_are class order raw p are (All-head IsPiece p l each))
-    (stacked_are class order raw (rounded_up end p.align + length bytes) l are (All-tail IsPiece p l each))
+    (piece_are class order raw p are)
+    (stacked_are class order raw (rounded_up end p.align + length bytes) l are)
 
 joined_are : (o : Object) (s : ℕ) → IsObject o → AreBytes (joined o s)
 unfolding joined piece_blocks aligned_pieces
@@ -171,7 +123,7 @@ joined_are o s ok = by_test (has_file_bytes s (section_at o s))
 
     by_test : (b : Bool) → AreBytes (if b then spread (pieces_end o s) (λ _. o.fill) (stacked 0 (map (λ p. (p.align, piece_bytes o.header.class o.header.order (section_at o s).raw p)) (section_at o s).pieces)) else [])
     by_test true = spread_are (pieces_end o s) (λ _. o.fill) (stacked 0 (map (λ p. (p.align, piece_bytes o.header.class o.header.order (section_at o s).raw p)) (section_at o s).pieces)) (λ _. ok.fill)
-        (stacked_are o.header.class o.header.order (section_at o s).raw 0 (section_at o s).pieces is.home.bytes is.pieces)
+        (stacked_are o.header.class o.header.order (section_at o s).raw 0 (section_at o s).pieces is.home.bytes)
     by_test false = All-nil IsByte
 
 -- ---- The image

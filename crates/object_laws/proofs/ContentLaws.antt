@@ -6,7 +6,7 @@ use Rattle.std.specs.Option.{option_map}
 use Rattle.elf_types.specs.declared.records.Class.{Class}
 use Rattle.elf_types.specs.declared.errors.ElfError.{ElfError}
 use Rattle.elf_types.specs.declared.errors.ElfError.TheVariants.{OutOfFile, TooMany, Unfit}
-use Rattle.elf_object.specs.Object.{Object, Section, Piece, home_is_clean, new_section, section_at, has_file_bytes}
+use Rattle.elf_object.specs.Object.{Object, Section, Piece, home_is_clean, absent_section, section_at, has_file_bytes}
 use Rattle.elf_types.specs.Answers.{refused_if, first_refusal}
 use Rattle.elf_object.specs.Refusal.{too_many, unfit_segment, unfit_in_piece, unfit_in_section, unfit_item, missing_in_section, missing_home, content_refusal}
 use Rattle.elf_types.specs.declared.records.Part.TheVariants as part
@@ -99,21 +99,21 @@ content-again t o same =
     let count = same.count in
     let first = same.stype 0 in
     let many : too_many t ≡ too_many o =
-    ap (λ (n : ℕ). refused_if (nat_le 0xffff n && length t.sections == 0 || nat_le 0xff00 (length t.sections) && not ((get_or t.sections 0 new_section).header.stype == 0 || (get_or t.sections 0 new_section).header.stype == 8)) TooMany) (ap length phdrs)
-    ∙ ap (λ (n : ℕ). refused_if (nat_le 0xffff (length o.phdrs) && n == 0 || nat_le 0xff00 n && not ((get_or t.sections 0 new_section).header.stype == 0 || (get_or t.sections 0 new_section).header.stype == 8)) TooMany) count
+    ap (λ (n : ℕ). refused_if (nat_le 0xffff n && length t.sections == 0 || nat_le 0xff00 (length t.sections) && not ((get_or t.sections 0 absent_section).header.stype == 0 || (get_or t.sections 0 absent_section).header.stype == 8)) TooMany) (ap length phdrs)
+    ∙ ap (λ (n : ℕ). refused_if (nat_le 0xffff (length o.phdrs) && n == 0 || nat_le 0xff00 n && not ((get_or t.sections 0 absent_section).header.stype == 0 || (get_or t.sections 0 absent_section).header.stype == 8)) TooMany) count
     ∙ ap (λ (k : ℕ). refused_if (nat_le 0xffff (length o.phdrs) && length o.sections == 0 || nat_le 0xff00 (length o.sections) && not (k == 0 || k == 8)) TooMany) first in
     let segment : unfit_segment t ≡ unfit_segment o =
     ap (λ (c : Class). option_map (Unfit part.Segments) (position (λ p. not (phdr_fits c p)) t.phdrs)) class
     ∙ ap (λ (l : List Phdr). option_map (Unfit part.Segments) (position (λ p. not (phdr_fits o.header.class p)) l)) phdrs in
     let items : unfit_item t ≡ unfit_item o =
     ap (λ (c : Class). first_refusal (map (λ row. unfit_in_section c row.0 row.1) (enumerate_from 0 t.sections))) class
-    ∙ ap first_refusal (rows_same (unfit_in_section o.header.class) 0 t.sections o.sections new_section count (λ i.
+    ∙ ap first_refusal (rows_same (unfit_in_section o.header.class) 0 t.sections o.sections absent_section count (λ i.
     let at : 0 + i ≡ i = omega arith in
-    rw at (unfit-same o.header.class i (get_or t.sections i new_section) (get_or o.sections i new_section) (same.stype i) (same.pieces i)))) in
+    rw at (unfit-same o.header.class i (get_or t.sections i absent_section) (get_or o.sections i absent_section) (same.stype i) (same.pieces i)))) in
     let missing : missing_home t ≡ missing_home o =
-    ap first_refusal (rows_same missing_in_section 0 t.sections o.sections new_section count (λ i.
+    ap first_refusal (rows_same missing_in_section 0 t.sections o.sections absent_section count (λ i.
     let at : 0 + i ≡ i = omega arith in
-    rw at (missing-same i (get_or t.sections i new_section) (get_or o.sections i new_section) (same.stype i) (same.pieces i) (same.out i)))) in
+    rw at (missing-same i (get_or t.sections i absent_section) (get_or o.sections i absent_section) (same.stype i) (same.pieces i) (same.out i)))) in
     ap (λ (r : Option ElfError). first_refusal (r ∷ unfit_segment t ∷ unfit_item t ∷ missing_home t ∷ [])) many
     ∙ ap (λ (r : Option ElfError). first_refusal (too_many o ∷ r ∷ unfit_item t ∷ missing_home t ∷ [])) segment
     ∙ ap (λ (r : Option ElfError). first_refusal (too_many o ∷ unfit_segment o ∷ r ∷ missing_home t ∷ [])) items

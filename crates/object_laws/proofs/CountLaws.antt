@@ -1,5 +1,5 @@
 -- The counts that the header of an image gives are those of the object, and none of them is refused.
-use Rattle.std.proofs.Common.{◌≡◌, ℕ, zero, suc, ◌+◌, ◌*◌, ◌^◌, ◌<◌, ◌≤◌, Bool, true, false, not, ◌&&◌, ◌||◌, List, length, take, drop, get_or, Ok, refl, sym, ap, ◌∙◌, arith, lit≤, ⊎_elim, inl, inr}
+use Rattle.std.proofs.Common.{◌≡◌, ℕ, zero, suc, ◌+◌, ◌*◌, ◌^◌, ◌<◌, ◌≤◌, Bool, true, false, not, ◌&&◌, ◌||◌, List, [], ◌∷◌, length, take, drop, get_or, Option, None, Ok, refl, sym, ap, ◌∙◌, arith, lit≤, ⊎_elim, inl, inr}
 use Rattle.std.specs.Prelude.{◌⊎◌, flat_map, IsTrue, nat_lt, if◌then◌else◌, ◌==◌, map}
 use Rattle.std.proofs.lemmas.Bool.{cases_lt, eq-eqb, ne_eqb, lt-ltb, le-ltb, le-leb}
 use Rattle.std.proofs.lemmas.List.{length-map, get_or-map, take-take}
@@ -9,15 +9,17 @@ use Rattle.elf_types.specs.declared.records.Ehdr.{Ehdr}
 use Rattle.elf_types.specs.declared.records.Shdr.{Shdr}
 use Rattle.elf_xlate.specs.Headers.{phdr_size, shdr_size, shdr_of, shdr_bytes, shdr_fits, IsShdr}
 use Rattle.elf_ident.specs.declared.counts.Counts.{Counts}
-use Rattle.elf_ident.specs.Front.{unless, known, needs_first, first_section, true_shnum, true_shstrndx, true_phnum, true_counts, lies_in, header_refusals, count_refusals, counts_by, counts_in}
-use Rattle.elf_object.specs.Object.{Object, Section, new_section, section_at}
+use Rattle.elf_types.specs.declared.errors.ElfError.{ElfError}
+use Rattle.elf_types.specs.declared.errors.ElfError.TheVariants as error
+use Rattle.elf_types.specs.Answers.{refused_if, first_refusal, answered, ◌>>=◌}
+use Rattle.elf_ident.specs.Front.{needs_first, first_section, true_shnum, true_shstrndx, true_phnum, true_counts, lies_in, header_refusal, count_refusal, counts_by, counts_in}
+use Rattle.elf_object.specs.Object.{Object, Section, absent_section, section_at}
 use Rattle.elf_object.specs.Derived.{written_header}
-use Rattle.object_laws.proofs.OpenLaws.{AllPass}
 use Rattle.elf_layout.specs.Layout.{limit_of}
 use Rattle.elf_object.specs.Open.{table_bytes}
 use Rattle.object_laws.proofs.LengthLaws.{length-shdr_bytes}
 use Rattle.object_laws.proofs.ReopenLaws.{ReadsBack, StandsIn, entry_bytes}
-use Rattle.object_laws.proofs.HeaderLaws.{unless_pass, written_kept}
+use Rattle.object_laws.proofs.HeaderLaws.{written_kept}
 
 -- ---- The counts
 
@@ -163,7 +165,7 @@ headers_of q = map (λ c. c.header) q.sections
 
 header_at_index : (q : Object) (s : ℕ) (d : Shdr) → s < length q.sections → get_or (headers_of q) s d ≡ (section_at q s).header
 unfolding section_at
-header_at_index q s d h = get_or-map (λ (c : Section). c.header) q.sections s new_section d h
+header_at_index q s d h = get_or-map (λ (c : Section). c.header) q.sections s absent_section d h
 
 some_sections : (q : Object) → IsDerived q → needs_first (written_header q.header) ≡ true → 0 < length q.sections
 some_sections q is needed = ⊎_elim (λ some. some)
@@ -224,7 +226,7 @@ left_without a b count none some = ⊎_elim (λ h. and_false_right a b (some h))
 left_with : (a b : Bool) (count : ℕ) → (count ≡ 0 → b ≡ false) → (0 < count → a ≡ false) → (a && b) ≡ false
 left_with a b count none some = ⊎_elim (λ h. and_false_left a b (some h)) (λ h. and_false_right a b (none (omega arith))) (cases_lt 0 count)
 
-limit_small : (class : Class) → limit_of class ≤ 2 ^ 40
+pub limit_small : (class : Class) → limit_of class ≤ 2 ^ 40
 unfolding limit_of
 limit_small C32 = lit≤ tt
 limit_small C64 = lit≤ tt
@@ -252,15 +254,19 @@ one_entry : (count size : ℕ) → 0 < count → size ≤ count * size
 one_entry zero size some = absurd (omega arith)
 one_entry (suc count) size some = omega arith
 
-header_rows : (image : List ℕ) (q : Object) → StandsIn image q → IsDerived q → AllPass (header_refusals (written_header q.header) (length image))
-unfolding header_refusals
+five_pass : (a b c d e : Bool) (v w x y z : ElfError) → (a ≡ false) × ((b ≡ false) × ((c ≡ false) × ((d ≡ false) × (e ≡ false))))
+    → first_refusal (refused_if a v ∷ refused_if b w ∷ refused_if c x ∷ refused_if d y ∷ refused_if e z ∷ []) ≡ None
+five_pass a b c d e v w x y z h = rw (h.0, h.1.0, h.1.1.0, h.1.1.1.0, h.1.1.1.1) refl
+
+header_rows : (image : List ℕ) (q : Object) → StandsIn image q → IsDerived q → header_refusal (written_header q.header) (length image) ≡ None
+unfolding header_refusal
 header_rows image q stands is =
     let h = written_header q.header in
     let small = stands.small in
     let limit = limit_small q.header.class in
     let class = (written_kept q.header).0 in
     let shoff = (places_written q.header).1 in
-    let version : (written_header q.header).version ≡ 1 = version_written q.header ∙ is.version in (
+    let version : (written_header q.header).version ≡ 1 = version_written q.header ∙ is.version in five_pass _ _ _ _ _ error.Version error.TooLarge error.ShTable error.ShTable error.ShTable (
       not_true ((written_header q.header).version == 1) (eq-eqb (written_header q.header).version 1 version),
       (
         le-ltb (2 ^ 40) (length image) (omega arith),
@@ -272,16 +278,13 @@ header_rows image q stands is =
             left_without (not ((written_header q.header).shoff == 0)) (not ((written_header q.header).shentsize == shdr_size (written_header q.header).class)) (length q.sections)
                 (λ none. not_true ((written_header q.header).shoff == 0) (shoff_none q is none))
                 (λ some. not_true ((written_header q.header).shentsize == shdr_size (written_header q.header).class) (eq-eqb (written_header q.header).shentsize (shdr_size (written_header q.header).class) (shentsize_written q.header ∙ is.shentsize some ∙ sym (ap shdr_size class)))),
-            (
-              left_without (needs_first (written_header q.header)) (not (lies_in (length image) (written_header q.header).shoff 1 (shdr_size (written_header q.header).class))) (length q.sections)
-                  (λ none. no_need q is none)
-                  (λ some.
-                  let end = stands.table_end some in
-                  let entry = one_entry (length q.sections) (shdr_size q.header.class) some in
-                  let size = ap shdr_size class in
-                  not_true (lies_in (length image) (written_header q.header).shoff 1 (shdr_size (written_header q.header).class)) (le-leb ((written_header q.header).shoff + 1 * shdr_size (written_header q.header).class) (length image) (omega arith))),
-              tt,
-            ),
+            left_without (needs_first (written_header q.header)) (not (lies_in (length image) (written_header q.header).shoff 1 (shdr_size (written_header q.header).class))) (length q.sections)
+                (λ none. no_need q is none)
+                (λ some.
+                let end = stands.table_end some in
+                let entry = one_entry (length q.sections) (shdr_size q.header.class) some in
+                let size = ap shdr_size class in
+                not_true (lies_in (length image) (written_header q.header).shoff 1 (shdr_size (written_header q.header).class)) (le-leb ((written_header q.header).shoff + 1 * shdr_size (written_header q.header).class) (length image) (omega arith))),
           ),
         ),
       ),
@@ -294,8 +297,8 @@ counts_of q = record { phnum = length q.phdrs; shnum = length q.sections; shstrn
 phnum_written_none : (q : Object) → IsDerived q → length q.phdrs ≡ 0 → (written_header q.header).phnum ≡ 0
 phnum_written_none q is none = phnum_small q is (omega arith) ∙ none
 
-count_rows : (image : List ℕ) (q : Object) → StandsIn image q → IsDerived q → AllPass (count_refusals (written_header q.header) (counts_of q) (length image))
-unfolding count_refusals counts_of
+count_rows : (image : List ℕ) (q : Object) → StandsIn image q → IsDerived q → count_refusal (written_header q.header) (counts_of q) (length image) ≡ None
+unfolding count_refusal counts_of
 count_rows image q stands is =
     let class = (written_kept q.header).0 in
     let phoff = (places_written q.header).0 in
@@ -303,7 +306,7 @@ count_rows image q stands is =
     let shdr = ap shdr_size class in
     let phdr = ap phdr_size class in
     let phdr_count = is.phdr_count in
-    let section_count = is.section_count in (
+    let section_count = is.section_count in five_pass _ _ _ _ _ error.ShTable error.PhTable error.PhTable error.PhTable error.TooMany (
       not_true (lies_in (length image) (written_header q.header).shoff (length q.sections) (shdr_size (written_header q.header).class))
           (⊎_elim
           (λ some.
@@ -334,10 +337,7 @@ count_rows image q stands is =
                 let end = stands.segments_end some in
                 let size : length q.phdrs * phdr_size (written_header q.header).class ≡ length q.phdrs * phdr_size q.header.class = ap (λ (n : ℕ). length q.phdrs * n) phdr in
                 not_true (lies_in (length image) (written_header q.header).phoff (length q.phdrs) (phdr_size (written_header q.header).class)) (le-leb ((written_header q.header).phoff + length q.phdrs * phdr_size (written_header q.header).class) (length image) (omega arith))),
-            (
-              or_both (nat_lt (2 ^ 20) (length q.sections)) (nat_lt (2 ^ 20) (length q.phdrs)) (le-ltb (2 ^ 20) (length q.sections) section_count) (le-ltb (2 ^ 20) (length q.phdrs) phdr_count),
-              tt,
-            ),
+            or_both (nat_lt (2 ^ 20) (length q.sections)) (nat_lt (2 ^ 20) (length q.phdrs)) (le-ltb (2 ^ 20) (length q.sections) section_count) (le-ltb (2 ^ 20) (length q.phdrs) phdr_count),
           ),
         ),
       ),
@@ -360,6 +360,6 @@ unfolding counts_in counts_by
 counts_read reads image q stands is fitting =
     let known : IsFirst q (first_section (written_header q.header) image) = record { same = first_read reads image q stands is fitting } in
     let counts = counts_are image q (first_section (written_header q.header) image) stands is known in
-    unless_pass (header_refusals (written_header q.header) (length image)) (unless (count_refusals (written_header q.header) (true_counts (written_header q.header) (first_section (written_header q.header) image)) (length image)) (Ok (true_counts (written_header q.header) (first_section (written_header q.header) image)))) (header_rows image q stands is)
-    ∙ ap (λ (c : Counts). unless (count_refusals (written_header q.header) c (length image)) (Ok c)) counts
-    ∙ unless_pass (count_refusals (written_header q.header) (counts_of q) (length image)) (Ok (counts_of q)) (count_rows image q stands is)
+    ap (λ (r : Option ElfError). answered r (first_section (written_header q.header) image) >>= λ first. counts_by (written_header q.header) first (length image)) (header_rows image q stands is)
+    ∙ ap (λ (c : Counts). answered (count_refusal (written_header q.header) c (length image)) c) counts
+    ∙ ap (λ (r : Option ElfError). answered r (counts_of q)) (count_rows image q stands is)

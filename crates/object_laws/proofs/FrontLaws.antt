@@ -11,7 +11,8 @@ use Rattle.elf_xlate.specs.Translation.{items_of}
 use Rattle.elf_ident.specs.declared.counts.Counts.{Counts}
 use Rattle.elf_ident.specs.declared.fronts.Head.{Head}
 use Rattle.elf_ident.specs.declared.fronts.Front.{Front}
-use Rattle.elf_ident.specs.Front.{and_then, counts_in, counted, phdrs_at, shdrs_at, front_with, front_at, head_in, front}
+use Rattle.elf_types.specs.Answers.{◌>>=◌}
+use Rattle.elf_ident.specs.Front.{counts_in, counted, phdrs_at, shdrs_at, front_with, front_at, head_in, front}
 use Rattle.elf_object.specs.Object.{Object, Section}
 use Rattle.elf_object.specs.Derived.{written_header}
 use Rattle.elf_object.specs.Open.{table_bytes, segments_bytes}
@@ -77,12 +78,12 @@ front_read reads image q stands is =
     let header = header_read reads image q stands is.written in
     let counts = counts_read reads image q stands is.derived is.each in
     let head : head_in image ≡ Ok (head_of q) =
-    ap (λ (r : Result (Ehdr × List ℕ) ElfError). and_then r (λ x. and_then (counts_in x.0 image) (λ c. Ok (record { header = x.0; pad = x.1; counts = c })))) header
-    ∙ ap (λ (r : Result Counts ElfError). and_then r (λ c. Ok (record { header = written_header q.header; pad = q.pad; counts = c }))) counts in
+    ap (λ (r : Result (Ehdr × List ℕ) ElfError). r >>= λ x. counts_in x.0 image >>= λ c. Ok (record { header = x.0; pad = x.1; counts = c })) header
+    ∙ ap (λ (r : Result Counts ElfError). r >>= λ c. Ok (record { header = written_header q.header; pad = q.pad; counts = c })) counts in
     let phdrs = phdrs_read reads image q stands is.phdrs in
     let shdrs = shdrs_read reads image q stands is.shdrs in
     let ehdr = counted_back q is.derived in
-    ap (λ (r : Result Head ElfError). and_then r (λ h. Ok (front_at h image))) head
+    ap (λ (r : Result Head ElfError). r >>= λ h. Ok (front_at h image)) head
     ∙ ap (λ (l : List Phdr). Ok (front_with (head_of q) l (shdrs_at (written_header q.header) (length q.sections) image))) phdrs
     ∙ ap (λ (l : List Shdr). Ok (front_with (head_of q) q.phdrs l)) shdrs
     ∙ ap (λ (h : Ehdr). Ok (record { ehdr = h; pad = q.pad; written = (written_header q.header).phnum ∷ (written_header q.header).shnum ∷ (written_header q.header).shstrndx ∷ []; phdrs = q.phdrs; shdrs = headers_of q })) ehdr

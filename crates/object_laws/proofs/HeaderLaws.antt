@@ -11,23 +11,18 @@ use Rattle.elf_types.specs.declared.records.Ehdr.{Ehdr}
 use Rattle.elf_types.specs.declared.errors.ElfError.{ElfError}
 use Rattle.elf_types.specs.declared.errors.ElfError.TheVariants as error
 use Rattle.elf_xlate.specs.Headers.{class_code, order_code, ident, ehdr_size, ehdr_of, ehdr_bytes, ehdr_fits, IsEhdr, HasNarrowCounts}
-use Rattle.elf_ident.specs.FileKinds.{elf_magic}
-use Rattle.elf_ident.specs.Front.{unless, and_then, ident_in, header_at, header_in}
+use Rattle.elf_types.specs.Answers.{refused_if, answered, ◌>>=◌}
+use Rattle.elf_ident.specs.Front.{no_ident, ident_in, header_at, header_in}
 use Rattle.elf_object.specs.Object.{Object}
 use Rattle.elf_object.specs.Derived.{written_header}
-use Rattle.object_laws.proofs.OpenLaws.{AllPass}
 use Rattle.object_laws.proofs.ReopenLaws.{ReadsBack, StandsIn}
 use Rattle.object_laws.proofs.LengthLaws.{size_long}
-
-pub unless_pass : {T : Type 0} (rows : List (Bool × ElfError)) (follows : Result T ElfError) → AllPass rows → unless rows follows ≡ follows
-unless_pass [] follows all = refl
-unless_pass (row ∷ rows) follows all = rw (all.0) (unless_pass rows follows all.1)
 
 -- ---- The identification
 
 -- an image that begins with an identification
 ident_read : (class : Class) (order : Order) (rest : List ℕ) → 9 ≤ length rest → ident_in (0x7f ∷ 0x45 ∷ 0x4c ∷ 0x46 ∷ class_code class ∷ order_code order ∷ 1 ∷ rest) ≡ Ok (class, order)
-unfolding ident_in elf_magic
+unfolding ident_in no_ident
 ident_read C32 Least rest long = let short : nat_lt (suc (suc (suc (suc (suc (suc (suc (length rest)))))))) 16 ≡ false = le-ltb (suc (suc (suc (suc (suc (suc (suc (length rest)))))))) 16 (omega arith) in rw short refl
 ident_read C32 Greatest rest long = let short : nat_lt (suc (suc (suc (suc (suc (suc (suc (length rest)))))))) 16 ≡ false = le-ltb (suc (suc (suc (suc (suc (suc (suc (length rest)))))))) 16 (omega arith) in rw short refl
 ident_read C64 Least rest long = let short : nat_lt (suc (suc (suc (suc (suc (suc (suc (length rest)))))))) 16 ≡ false = le-ltb (suc (suc (suc (suc (suc (suc (suc (length rest)))))))) 16 (omega arith) in rw short refl
@@ -84,6 +79,6 @@ header_read reads image q stands is =
     ∙ sym (ap (λ (r : Order). ehdr_of (written_header q.header).class r (ehdr_bytes (written_header q.header) q.pad)) kept.1)
     ∙ holds.value in
     let rest : take 7 (drop 9 (take (ehdr_size q.header.class) image)) ≡ q.pad = ap (λ (l : List ℕ). take 7 (drop 9 l)) stands.header ∙ holds.pad_is in
-    ap (λ (r : Result (Class × Order) ElfError). and_then r (λ id. unless ((nat_lt (length image) (ehdr_size id.0), error.Short) ∷ []) (Ok (header_at id.0 id.1 image)))) found
-    ∙ unless_pass ((nat_lt (length image) (ehdr_size q.header.class), error.Short) ∷ []) (Ok (header_at q.header.class q.header.order image)) (le-ltb (length image) (ehdr_size q.header.class) long, tt)
+    ap (λ (r : Result (Class × Order) ElfError). r >>= λ id. answered (refused_if (nat_lt (length image) (ehdr_size id.0)) error.Short) (header_at id.0 id.1 image)) found
+    ∙ ap (λ (b : Bool). answered (refused_if b error.Short) (header_at q.header.class q.header.order image)) (le-ltb (length image) (ehdr_size q.header.class) long)
     ∙ ap Ok (header_at_is image q.header.class q.header.order (written_header q.header) q.pad value rest)

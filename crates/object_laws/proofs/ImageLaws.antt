@@ -12,7 +12,7 @@ use Rattle.elf_layout.specs.Layout.{standing, in_order_from}
 use Rattle.elf_layout.specs.Meeting.{meets}
 use Rattle.elf_object.specs.Blocks.{spread}
 use Rattle.object_laws.proofs.BlockLaws.{length-spread}
-use Rattle.elf_object.specs.Object.{Object, Section, new_section, section_at, has_file_bytes, occupies_file, is_null, is_dirty}
+use Rattle.elf_object.specs.Object.{Object, Section, absent_section, section_at, has_file_bytes, occupies_file, is_null, is_dirty}
 use Rattle.elf_object.specs.Joined.{piece_blocks, pieces_end, joined}
 use Rattle.elf_object.specs.Layout.{parts_of, placed_parts, places_of, placed_by, placed, placed_section, placed_shdr, placed_header, section_place}
 use Rattle.elf_object.specs.Derived.{numbered_shdr}
@@ -77,11 +77,11 @@ pub section_at-placed : (places : Places) (o : Object) (s : ℕ) → s < length 
 unfolding section_at placed_by
 section_at-placed places o s h =
     let count = length-enumerate_from 0 o.sections in
-    let row : get_or (enumerate_from 0 o.sections) s (0, new_section) ≡ (0 + s, get_or o.sections s new_section) = get_or-enumerate_from 0 o.sections s (0, new_section) h in
+    let row : get_or (enumerate_from 0 o.sections) s (0, absent_section) ≡ (0 + s, get_or o.sections s absent_section) = get_or-enumerate_from 0 o.sections s (0, absent_section) h in
     let number : 0 + s ≡ s = omega arith in
-    get_or-map (λ r. placed_section places o r.0 r.1) (enumerate_from 0 o.sections) s (0, new_section) new_section (omega arith)
+    get_or-map (λ r. placed_section places o r.0 r.1) (enumerate_from 0 o.sections) s (0, absent_section) absent_section (omega arith)
     ∙ ap (λ (r : ℕ × Section). placed_section places o r.0 r.1) row
-    ∙ ap (λ (k : ℕ). placed_section places o k (get_or o.sections s new_section)) number
+    ∙ ap (λ (k : ℕ). placed_section places o k (get_or o.sections s absent_section)) number
 
 pub file_bytes_from : (s : ℕ) (c : Section) → has_file_bytes s c ≡ true → (s == 0 ≡ false) × (occupies_file c.header ≡ true)
 unfolding has_file_bytes

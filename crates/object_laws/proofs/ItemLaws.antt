@@ -19,13 +19,13 @@ use Rattle.elf_types.specs.declared.records.Part.TheVariants as part
 use Rattle.elf_types.specs.declared.errors.ElfError.{ElfError}
 use Rattle.elf_types.specs.declared.errors.ElfError.TheVariants.{OutOfFile, Ragged, Unfit}
 use Rattle.elf_xlate.specs.declared.content.Items.{Items}
-use Rattle.elf_xlate.specs.Translation.{AreItems, DecodesAsEncoded, decoded, encoded, first_unfit, items_kind}
+use Rattle.elf_xlate.specs.Translation.{DecodesAsEncoded, decoded, encoded, first_unfit, items_kind}
 use Rattle.elf_layout.specs.declared.parts.Places.{Places}
 use Rattle.elf_layout.specs.Layout.{rounded_up}
 use Rattle.elf_types.specs.Answers.{first_refusal}
 use Rattle.elf_object.specs.Blocks.{block_end, stacked, last_end, spread}
 use Rattle.object_laws.proofs.BlockLaws.{length-spread, take-drop-spread}
-use Rattle.elf_object.specs.Object.{Object, Section, Piece, new_section, section_at, header_of, has_file_bytes, occupies_file, is_null, is_dirty, some_piece_marked, some_section_marked}
+use Rattle.elf_object.specs.Object.{Object, Section, Piece, absent_section, section_at, header_of, has_file_bytes, occupies_file, is_null, is_dirty, some_piece_marked, some_section_marked}
 use Rattle.elf_object.specs.Open.{extent_of, home_of, home_bytes}
 use Rattle.elf_object.specs.Answers.{content}
 use Rattle.elf_object.specs.Joined.{piece_bytes, aligned_pieces, piece_blocks, pieces_end, joined}
@@ -36,7 +36,7 @@ use Rattle.elf_object.specs.Refusal.{unfit_in_piece, unfit_in_section, unfit_ite
 use Rattle.elf_object.specs.Settled.{settled_section, settled_over}
 use Rattle.elf_object.specs.Valid.{IsPiece}
 use Rattle.object_laws.proofs.ImageLaws.{section_at-placed, placed-dirty}
-use Rattle.object_laws.proofs.PassedLaws.{none_first, none_rest}
+use Rattle.elf_object.proofs.PassedLaws.{none_first, none_rest}
 use Rattle.object_laws.proofs.KeepLaws.{section_at_is}
 use Rattle.object_laws.proofs.PlacedLaws.{update_passes}
 use Rattle.object_laws.proofs.StandLaws.{section_count-placed, joined-placed}
@@ -64,7 +64,7 @@ whole_spread bytes fill =
     sym (take_all (length bytes) (spread (0 + length bytes) (λ _. fill) (record { at = 0; bytes = bytes } ∷ [])) (omega arith))
     ∙ take-drop-spread (0 + length bytes) (λ _. fill) (record { at = 0; bytes = bytes } ∷ []) 0 (record { at = 0; bytes = bytes }) (tt, tt) refl (omega arith)
 
-alone_spread : (align : ℕ) (bytes : List ℕ) (fill : ℕ) → spread (last_end 0 (stacked 0 ((align, bytes) ∷ []))) (λ _. fill) (stacked 0 ((align, bytes) ∷ [])) ≡ bytes
+pub alone_spread : (align : ℕ) (bytes : List ℕ) (fill : ℕ) → spread (last_end 0 (stacked 0 ((align, bytes) ∷ []))) (λ _. fill) (stacked 0 ((align, bytes) ∷ [])) ≡ bytes
 unfolding stacked last_end block_end
 alone_spread align bytes fill =
     let place = first_place align in
@@ -110,7 +110,7 @@ positive_bytes s c positive filled = let test : (s == 0) ≡ false = ne_eqb s 0 
 
 -- ---- Its items fit
 
-row_none : (f : ℕ → Section → Option ElfError) (n : ℕ) (l : List Section) (i : ℕ) (d : Section) → first_refusal (map (λ row. f row.0 row.1) (enumerate_from n l)) ≡ None → i < length l → f (n + i) (get_or l i d) ≡ None
+pub row_none : (f : ℕ → Section → Option ElfError) (n : ℕ) (l : List Section) (i : ℕ) (d : Section) → first_refusal (map (λ row. f row.0 row.1) (enumerate_from n l)) ≡ None → i < length l → f (n + i) (get_or l i d) ≡ None
 row_none f n [] i d h below = absurd (omega arith)
 row_none f n (c ∷ l) zero d h below =
     let at : n + 0 ≡ n = omega arith in
@@ -162,11 +162,11 @@ section_at-settled : (image : List ℕ) (q : Object) (s : ℕ) → s < length q.
 unfolding section_at settled_over
 section_at-settled image q s h =
     let count = length-enumerate_from 0 q.sections in
-    let row : get_or (enumerate_from 0 q.sections) s (0, new_section) ≡ (0 + s, get_or q.sections s new_section) = get_or-enumerate_from 0 q.sections s (0, new_section) h in
+    let row : get_or (enumerate_from 0 q.sections) s (0, absent_section) ≡ (0 + s, get_or q.sections s absent_section) = get_or-enumerate_from 0 q.sections s (0, absent_section) h in
     let number : 0 + s ≡ s = omega arith in
-    get_or-map (λ (r : ℕ × Section). settled_section (length image) (joined q r.0) r.1.header) (enumerate_from 0 q.sections) s (0, new_section) new_section (omega arith)
+    get_or-map (λ (r : ℕ × Section). settled_section (length image) (joined q r.0) r.1.header) (enumerate_from 0 q.sections) s (0, absent_section) absent_section (omega arith)
     ∙ ap (λ (r : ℕ × Section). settled_section (length image) (joined q r.0) r.1.header) row
-    ∙ ap (λ (k : ℕ). settled_section (length image) (joined q k) (get_or q.sections s new_section).header) number
+    ∙ ap (λ (k : ℕ). settled_section (length image) (joined q k) (get_or q.sections s absent_section).header) number
 
 content_settled : (image : List ℕ) (q : Object) (s : ℕ) → content (settled_over image q) s ≡ content_of q.header.class q.header.order s (section_at (settled_over image q) s)
 unfolding content content_of settled_over
@@ -185,17 +185,12 @@ item_fits : (o : Object) (s : ℕ) → unfit_item o ≡ None → s < length o.se
 unfolding unfit_item section_at
 item_fits o s h inside =
     let at : 0 + s ≡ s = omega arith in
-    sym (ap (λ (k : ℕ). unfit_in_section o.header.class k (get_or o.sections s new_section)) at) ∙ row_none (unfit_in_section o.header.class) 0 o.sections s new_section h inside
-
-own_is : (p : Piece) (items : Items) → p.own ≡ Some items → IsPiece p → AreItems items
-own_is p items own is =
-    let R : Option Items → Type 0 = λ x. IfSome x (λ l. AreItems l × IsTrue p.marked) in
-    (subst R own is.own).0
+    sym (ap (λ (k : ℕ). unfit_in_section o.header.class k (get_or o.sections s absent_section)) at) ∙ row_none (unfit_in_section o.header.class) 0 o.sections s absent_section h inside
 
 own_marked : (p : Piece) (items : Items) → p.own ≡ Some items → IsPiece p → p.marked ≡ true
 own_marked p items own is =
-    let R : Option Items → Type 0 = λ x. IfSome x (λ l. AreItems l × IsTrue p.marked) in
-    (subst R own is.own).1
+    let R : Option Items → Type 0 = λ x. IfSome x (λ l. IsTrue p.marked) in
+    subst R own is.own
 
 -- an object with a marked piece that stands alone in its section is dirty
 dirty_alone : (o : Object) (s : ℕ) (p : Piece) → s < length o.sections → (section_at o s).pieces ≡ p ∷ [] → p.marked ≡ true → is_dirty o ≡ true
@@ -203,7 +198,7 @@ unfolding is_dirty some_section_marked some_piece_marked section_at
 dirty_alone o s p inside alone marked =
     let pieces : list_any (λ x. x.marked) (section_at o s).pieces ≡ true = ap (λ (l : List Piece). list_any (λ x. x.marked) l) alone ∙ or_any p.marked (list_any (λ (x : Piece). x.marked) []) marked in
     let here : ((section_at o s).marked || list_any (λ x. x.marked) (section_at o s).pieces) ≡ true = ap (λ (b : Bool). (section_at o s).marked || b) pieces ∙ or_true (section_at o s).marked in
-    let all = list_any_at (λ c. c.marked || list_any (λ x. x.marked) c.pieces) o.sections s new_section inside here in
+    let all = list_any_at (λ c. c.marked || list_any (λ x. x.marked) c.pieces) o.sections s absent_section inside here in
     ap (λ (b : Bool). o.marked || o.header_marked || o.segments_marked || b) all ∙ three o.marked o.header_marked o.segments_marked
   where
     or_true : (a : Bool) → (a || true) ≡ true
@@ -220,7 +215,7 @@ dirty_alone o s p inside alone marked =
     three false false c = or_true c
 
 pub settling_keeps_items : (back : (class : Class) (order : Order) (items : Items) → DecodesAsEncoded class order items) (o : Object) → SettlingKeepsItems o
-settling_keeps_items back o s p items ok passed positive inside alone own kind some =
+settling_keeps_items back o s p items ok passed positive inside alone own are kind some =
     let here = section_at_is o s ok in
     let piece : IsPiece p = All-head IsPiece p [] (subst (All IsPiece) alone here.pieces) in
     let dirty = dirty_alone o s p inside alone (own_marked p items own piece) in
@@ -238,7 +233,7 @@ settling_keeps_items back o s p items ok passed positive inside alone own kind s
     let made = settled_fields (length (image o)) (joined (placed_by (places_of o) o) s) (section_at (placed_by (places_of o) o) s).header in
     let out : (home_of (length (image o)) (section_at (placed_by (places_of o) o) s).header).out ≡ false = out_false (image o) (joined (placed_by (places_of o) o) s) (section_at (placed_by (places_of o) o) s).header (section_extent o s inside first) (section_raw o s ok dirty passed inside) in
     let fitting = fits_alone o.header.class s (section_at o s) p items filled alone own (item_fits o s un.item inside) in
-    let read : decoded (items_kind items) o.header.class o.header.order (encoded o.header.class o.header.order items) ≡ Some items = back o.header.class o.header.order items (own_is p items own piece) fitting in
+    let read : decoded (items_kind items) o.header.class o.header.order (encoded o.header.class o.header.order items) ≡ Some items = back o.header.class o.header.order items are fitting in
     let settled = settle-dirty o dirty ∙ ap (settled_over (image o)) (placed-dirty o dirty) in
     let codes = codes_placed o in
     ap (λ (x : Object). content x s) settled

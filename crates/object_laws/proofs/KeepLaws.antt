@@ -4,27 +4,26 @@ use Rattle.std.specs.Prelude.{All, IfSome, IsSome, IsTrue, nat_le, nat_lt, if◌
 use lib.Count.{ones}
 use Rattle.std.proofs.lemmas.Bool.{le-leb, leb-false, ltb-false, eqb-true, cases_lt}
 use Rattle.std.proofs.lemmas.List.{length-set, length-append, length-replicate, get_or_past, set_past, nil_from_length, length_push}
-use Rattle.std.proofs.lemmas.List.Elements.{All-nil, All-cons, All-set, All-append, All-replicate, All-push, All-get_or}
+use Rattle.std.proofs.lemmas.List.Elements.{All-nil, All-cons, All-set, All-append, All-push, All-get_or}
 use Rattle.elf_types.specs.declared.records.Class.{Class}
 use Rattle.elf_types.specs.declared.records.Class.TheVariants.{C32, C64}
 use Rattle.elf_types.specs.declared.records.Ehdr.{Ehdr}
 use Rattle.elf_types.specs.declared.records.Phdr.{Phdr}
 use Rattle.elf_types.specs.declared.records.Shdr.{Shdr}
-use Rattle.elf_types.specs.declared.records.Kind.{Kind}
 use Rattle.elf_types.specs.declared.records.Part.{Part}
 use Rattle.elf_types.specs.declared.records.Part.TheVariants as part
 use Rattle.elf_types.specs.declared.errors.ElfError.TheVariants.{BadAlign, NoSection, Reserved, TooMany, Unfit}
 use Rattle.elf_xlate.specs.declared.content.Items.{Items}
-use Rattle.elf_xlate.specs.Headers.{IsEhdr, IsPhdr, IsShdr, ehdr_fits, shdr_fits}
-use Rattle.elf_xlate.specs.Translation.{AreItems}
+use Rattle.elf_xlate.specs.Headers.{IsEhdr, IsShdr, ehdr_fits, shdr_fits}
+use Rattle.elf_xlate.specs.Translation.{items_kind}
 use Rattle.elf_types.specs.Answers.{refused_if}
 use Rattle.elf_ident.specs.Front.{zero_shdr}
-use Rattle.elf_object.specs.Object.{Object, Section, Piece, section_at, piece_at, new_section, home_piece, no_phdr, no_home}
-use Rattle.elf_object.specs.Steps.{new_number, with_section, with_piece_at, with_ehdr, stored_ehdr, with_phdrs, with_phdr, with_new_phdrs, with_shdr, with_new_section, with_null_section, with_new_piece, own_piece, with_own, with_mark, with_layout, with_flags, is_whole, with_fill}
+use Rattle.elf_object.specs.Object.{Object, Section, Piece, section_at, piece_at, absent_section, new_section, home_piece, no_phdr, no_home}
+use Rattle.elf_object.specs.Steps.{with_sections, new_number, with_section, with_piece_at, with_ehdr, stored_ehdr, with_phdrs, with_phdr, with_new_phdrs, with_shdr, with_new_section, with_null_section, with_new_piece, own_piece, with_own, with_mark, with_layout, with_flags, is_whole, with_fill}
 use Rattle.elf_object.specs.Calls.{step, update_ehdr, update_ehdr_refusal, update_phdr, update_phdr_refusal, newphdr, newphdr_refusal, phdrs_mut, update_shdr, update_shdr_refusal, newscn, newscn_refusal, newnull, newdata_aligned, newdata_refusal, unfit_items, flag_refusal, set_fill, replace, replace_refusal, flag, lend, is_piece_align}
 use Rattle.elf_object.specs.Answers.{lend_refusal, items_at, piece_count, flags_of, has_dirty, has_layout}
 use Rattle.elf_object.specs.Valid.{IsHome, IsPiece, OthersOwn, IsSection, IsObject, KeepsObject}
-use Rattle.object_laws.proofs.PassedLaws.{not_refused, not_not, passed_two, passed_three, passed_one, answered_keeps, edit_keeps}
+use Rattle.elf_object.proofs.PassedLaws.{not_refused, not_not, passed_two, passed_three, passed_one, answered_keeps, edit_keeps}
 
 -- what holds of each item, and of what stands for none, holds of the item at any index
 pub at_or : {X : Type 0} (P : X → Type 0) (l : List X) (i : ℕ) (d : X) → All P l → P d → P (get_or l i d)
@@ -66,9 +65,10 @@ ehdr_stored o h ok is passed =
     record {
       header = stored_ehdr_is o.header h ok.header is;
       fitting = not_not (ehdr_fits (stored_ehdr o.header h)) tests.1;
+      phnum = ok.phnum;
+      shnum = ok.shnum;
       pad = ok.pad;
       pad_bytes = ok.pad_bytes;
-      phdrs = ok.phdrs;
       phdr_count = ok.phdr_count;
       sections = ok.sections;
       section_count = ok.section_count;
@@ -79,18 +79,43 @@ ehdr_stored o h ok is passed =
     }
 
 pub update_ehdr_keeps : (h : Ehdr) → IsEhdr h → KeepsObject (update_ehdr h)
-update_ehdr_keeps h is = edit_keeps IsObject (λ o. update_ehdr_refusal o h) (λ o. tt) (λ o. with_ehdr o h) (λ o ok passed. ehdr_stored o h ok is passed)
+update_ehdr_keeps h is = edit_keeps IsObject _ (λ o. update_ehdr_refusal o h) (λ o. tt) (λ o. with_ehdr o h) (λ o ok passed. ehdr_stored o h ok is passed)
 
 -- ---- Program headers
 
-phdrs_kept : (o : Object) (l : List Phdr) → IsObject o → All IsPhdr l → length l ≤ 2 ^ 20 → IsObject (with_phdrs o l)
+-- a header with other counts
+pub counted_is : (h : Ehdr) (m n : ℕ) → IsEhdr h → m < 2 ^ 32 → n < 2 ^ 32 → IsEhdr (record h { phnum = m; shnum = n })
+counted_is h m n is phnum shnum = record {
+  osabi = is.osabi;
+  abiversion = is.abiversion;
+  etype = is.etype;
+  machine = is.machine;
+  version = is.version;
+  entry = is.entry;
+  phoff = is.phoff;
+  shoff = is.shoff;
+  flags = is.flags;
+  ehsize = is.ehsize;
+  phentsize = is.phentsize;
+  phnum = phnum;
+  shentsize = is.shentsize;
+  shnum = shnum;
+  shstrndx = is.shstrndx;
+}
+
+counted_fits : (h : Ehdr) (m n : ℕ) → IsTrue (ehdr_fits h) → IsTrue (ehdr_fits (record h { phnum = m; shnum = n }))
+unfolding ehdr_fits
+counted_fits h m n fitting = fitting
+
+phdrs_kept : (o : Object) (l : List Phdr) → IsObject o → length l ≤ 2 ^ 20 → IsObject (with_phdrs o l)
 unfolding with_phdrs
-phdrs_kept o l ok each count = record {
-  header = ok.header;
-  fitting = ok.fitting;
+phdrs_kept o l ok count = record {
+  header = counted_is o.header (length l) o.header.shnum ok.header (omega arith) ok.header.shnum;
+  fitting = counted_fits o.header (length l) o.header.shnum ok.fitting;
+  phnum = refl;
+  shnum = ok.shnum;
   pad = ok.pad;
   pad_bytes = ok.pad_bytes;
-  phdrs = each;
   phdr_count = count;
   sections = ok.sections;
   section_count = ok.section_count;
@@ -100,33 +125,21 @@ phdrs_kept o l ok each count = record {
   fill = ok.fill;
 }
 
-pub update_phdr_keeps : (i : ℕ) (p : Phdr) → IsPhdr p → KeepsObject (update_phdr i p)
+pub update_phdr_keeps : (i : ℕ) (p : Phdr) → KeepsObject (update_phdr i p)
 unfolding with_phdr
-update_phdr_keeps i p is = edit_keeps IsObject (λ o. update_phdr_refusal o i p) (λ o. tt) (λ o. with_phdr o i p) (λ o ok passed.
+update_phdr_keeps i p = edit_keeps IsObject _ (λ o. update_phdr_refusal o i p) (λ o. tt) (λ o. with_phdr o i p) (λ o ok passed.
     let count : length (set o.phdrs i p) ≤ 2 ^ 20 = rw length-set (ok.phdr_count) in
-    phdrs_kept o (set o.phdrs i p) ok (All-set IsPhdr o.phdrs i p is ok.phdrs) count)
+    phdrs_kept o (set o.phdrs i p) ok count)
 
-pub phdrs_mut_keeps : (left : List Phdr) → All IsPhdr left → length left ≤ 2 ^ 20 → KeepsObject (phdrs_mut left)
-phdrs_mut_keeps left each count = edit_keeps IsObject (λ o. None) (λ o. tt) (λ o. with_phdrs o left) (λ o ok passed. phdrs_kept o left ok each count)
-
-no_phdr_is : IsPhdr no_phdr
-no_phdr_is = record {
-  ptype = lit< tt;
-  flags = lit< tt;
-  offset = lit< tt;
-  vaddr = lit< tt;
-  paddr = lit< tt;
-  filesz = lit< tt;
-  memsz = lit< tt;
-  align = lit< tt;
-}
+pub phdrs_mut_keeps : (left : List Phdr) → length left ≤ 2 ^ 20 → KeepsObject (phdrs_mut left)
+phdrs_mut_keeps left count = edit_keeps IsObject _ (λ o. None) (λ o. tt) (λ o. with_phdrs o left) (λ o ok passed. phdrs_kept o left ok count)
 
 pub newphdr_keeps : (n : ℕ) → KeepsObject (newphdr n)
 unfolding with_new_phdrs
-newphdr_keeps n = edit_keeps IsObject (λ o. newphdr_refusal n) (λ o. tt) (λ o. with_new_phdrs o n) (λ o ok passed.
+newphdr_keeps n = edit_keeps IsObject _ (λ o. newphdr_refusal n) (λ o. tt) (λ o. with_new_phdrs o n) (λ o ok passed.
     let small = ltb-false 65534 n (not_refused (nat_lt 65534 n) TooMany passed) in
     let count : length (replicate n no_phdr) ≤ 2 ^ 20 = rw length-replicate (omega arith) in
-    phdrs_kept o (replicate n no_phdr) ok (All-replicate IsPhdr n no_phdr no_phdr_is) count)
+    phdrs_kept o (replicate n no_phdr) ok count)
 
 -- ---- Sections
 
@@ -138,9 +151,10 @@ unfolding with_section
 section_kept o s c ok is = record {
   header = ok.header;
   fitting = ok.fitting;
+  phnum = ok.phnum;
+  shnum = ok.shnum ∙ sym (length-set o.sections s c);
   pad = ok.pad;
   pad_bytes = ok.pad_bytes;
-  phdrs = ok.phdrs;
   phdr_count = ok.phdr_count;
   sections = All-set (IsSection o.header.class) o.sections s c is ok.sections;
   section_count = rw length-set (ok.section_count);
@@ -190,14 +204,20 @@ new_section_is class = record {
   piece_count = lit≤ tt;
 }
 
--- a section of an object, and a new one where there is none
+-- nor does its mark count
+absent_section_is : (class : Class) → IsSection class absent_section
+absent_section_is class =
+    let is = new_section_is class in
+    record { header = is.header; fitting = is.fitting; home = is.home; pieces = is.pieces; others = is.others; piece_count = is.piece_count }
+
+-- a section of an object, and what stands where there is none
 pub section_at_is : (o : Object) (s : ℕ) → IsObject o → IsSection o.header.class (section_at o s)
 unfolding section_at
-section_at_is o s ok = at_or (IsSection o.header.class) o.sections s new_section ok.sections (new_section_is o.header.class)
+section_at_is o s ok = at_or (IsSection o.header.class) o.sections s absent_section ok.sections (absent_section_is o.header.class)
 
 pub update_shdr_keeps : (s : ℕ) (h : Shdr) → IsShdr h → KeepsObject (update_shdr s h)
 unfolding update_shdr_refusal with_shdr
-update_shdr_keeps s h is = edit_keeps IsObject (λ o. update_shdr_refusal o s h) (λ o. tt) (λ o. with_shdr o s h) (λ o ok passed.
+update_shdr_keeps s h is = edit_keeps IsObject _ (λ o. update_shdr_refusal o s h) (λ o. tt) (λ o. with_shdr o s h) (λ o ok passed.
     let tests = passed_three (nat_le (length o.sections) s) (s == 0) (not (shdr_fits o.header.class h)) (NoSection s (length o.sections)) Reserved (Unfit (part.Section s) 0) passed in
     let old = section_at_is o s ok in
     section_kept o s (record (section_at o s) { header = h; marked = true }) ok (record {
@@ -209,18 +229,19 @@ update_shdr_keeps s h is = edit_keeps IsObject (λ o. update_shdr_refusal o s h)
       piece_count = old.piece_count;
     }))
 
--- sections at the end
-sections_more : (o : Object) (l : List Section) → IsObject o → All (IsSection o.header.class) l → length o.sections + length l ≤ 2 ^ 20 → (o.sections ++ l ≡ [] → o.sections ≡ []) → IsObject (record o { sections = o.sections ++ l })
-sections_more o l ok each count back = record {
-  header = ok.header;
-  fitting = ok.fitting;
+-- other sections
+sections_more : (o : Object) (l : List Section) → IsObject o → All (IsSection o.header.class) l → length l ≤ 2 ^ 20 → (l ≡ [] → o.header.shstrndx ≡ 0) → IsObject (with_sections o l)
+sections_more o l ok each count index = record {
+  header = counted_is o.header o.header.phnum (length l) ok.header ok.header.phnum (omega arith);
+  fitting = counted_fits o.header o.header.phnum (length l) ok.fitting;
+  phnum = ok.phnum;
+  shnum = refl;
   pad = ok.pad;
   pad_bytes = ok.pad_bytes;
-  phdrs = ok.phdrs;
   phdr_count = ok.phdr_count;
-  sections = All-append (IsSection o.header.class) o.sections l ok.sections each;
-  section_count = rw length-append count;
-  string_index = λ none. ok.string_index (back none);
+  sections = each;
+  section_count = count;
+  string_index = index;
   base = ok.base;
   base_length = ok.base_length;
   fill = ok.fill;
@@ -247,32 +268,22 @@ added_are class false = All-cons (IsSection class) new_section [] (new_section_i
 
 pub newscn_keeps : KeepsObject newscn
 unfolding with_new_section
-newscn_keeps = edit_keeps IsObject newscn_refusal new_number with_new_section (λ o ok passed.
+newscn_keeps = edit_keeps IsObject _ newscn_refusal new_number with_new_section (λ o ok passed.
     let room = leb-false (2 ^ 20) (length o.sections) (not_refused (nat_le (2 ^ 20) (length o.sections)) TooMany passed) in
-    sections_more o (added_sections (length o.sections)) ok (added_are o.header.class (length o.sections == 0)) (added_count (length o.sections) room)
-    (nil_front o.sections (added_sections (length o.sections))))
+    let added = added_are o.header.class (length o.sections == 0) in
+    sections_more o (o.sections ++ added_sections (length o.sections)) ok
+    (All-append (IsSection o.header.class) o.sections (added_sections (length o.sections)) ok.sections added)
+    (rw length-append (added_count (length o.sections) room))
+    (λ none. ok.string_index (nil_front o.sections (added_sections (length o.sections)) none)))
 
-null_keeps : (b : Bool) (o : Object) → IsObject o → (b ≡ true → o.sections ≡ []) → IsObject (if b then (record o { sections = new_section ∷ [] }) else o)
-null_keeps true o ok none = record {
-  header = ok.header;
-  fitting = ok.fitting;
-  pad = ok.pad;
-  pad_bytes = ok.pad_bytes;
-  phdrs = ok.phdrs;
-  phdr_count = ok.phdr_count;
-  sections = All-cons (IsSection o.header.class) new_section [] (new_section_is o.header.class) (All-nil (IsSection o.header.class));
-  section_count = lit≤ tt;
-  string_index = λ h. cc;
-  base = ok.base;
-  base_length = ok.base_length;
-  fill = ok.fill;
-}
-null_keeps false o ok none = ok
+null_keeps : (b : Bool) (o : Object) → IsObject o → IsObject (if b then with_sections o (new_section ∷ []) else o)
+null_keeps true o ok =
+    sections_more o (new_section ∷ []) ok (All-cons (IsSection o.header.class) new_section [] (new_section_is o.header.class) (All-nil (IsSection o.header.class))) (lit≤ tt) (λ h. cc)
+null_keeps false o ok = ok
 
 pub newnull_keeps : KeepsObject newnull
 unfolding with_null_section
-newnull_keeps = edit_keeps IsObject (λ o. None) (λ o. tt) with_null_section (λ o ok passed.
-    null_keeps (length o.sections == 0) o ok (λ h. nil_from_length o.sections (eqb-true (length o.sections) 0 h)))
+newnull_keeps = edit_keeps IsObject _ (λ o. None) (λ o. tt) with_null_section (λ o ok passed. null_keeps (length o.sections == 0) o ok)
 
 -- ---- Pieces
 
@@ -299,8 +310,8 @@ others_push : (l : List Piece) (p : Piece) → OthersOwn l → IsOwn p → Other
 others_push [] p others own = All-nil IsOwn
 others_push (x ∷ l) p others own = All-push IsOwn l p others own
 
-own_piece_is : (items : Items) (align : ℕ) → AreItems items → IsTrue (is_piece_align align) → IsPiece (own_piece items align)
-own_piece_is items align are aligned = record { align = aligned; own = (are, refl) }
+own_piece_is : (items : Items) (align : ℕ) → IsTrue (is_piece_align align) → IsPiece (own_piece items align)
+own_piece_is items align aligned = record { align = aligned; own = refl }
 
 pub home_piece_is : IsPiece home_piece
 unfolding is_piece_align ones
@@ -311,39 +322,39 @@ pub piece_at_is : (o : Object) (s p : ℕ) → IsObject o → IsPiece (piece_at 
 unfolding piece_at
 piece_at_is o s p ok = at_or IsPiece (section_at o s).pieces p home_piece (section_at_is o s ok).pieces home_piece_is
 
-pub with_own_is : (o : Object) (s p : ℕ) (items : Items) → IsObject o → AreItems items → IsObject (with_own o s p items)
+pub with_own_is : (o : Object) (s p : ℕ) (items : Items) → IsObject o → IsObject (with_own o s p items)
 unfolding with_own with_piece_at
-with_own_is o s p items ok are =
+with_own_is o s p items ok =
     let old = section_at_is o s ok in
-    let piece = own_piece_is items (piece_at o s p).align are (piece_at_is o s p ok).align in
+    let piece = own_piece_is items (piece_at o s p).align (piece_at_is o s p ok).align in
     section_kept o s (record (section_at o s) { pieces = set (section_at o s).pieces p (own_piece items (piece_at o s p).align) }) ok
     (pieces_kept o.header.class (section_at o s) (set (section_at o s).pieces p (own_piece items (piece_at o s p).align)) old
     (All-set IsPiece (section_at o s).pieces p (own_piece items (piece_at o s p).align) piece old.pieces)
     (others_set (section_at o s).pieces p (own_piece items (piece_at o s p).align) old.others refl)
     (rw length-set (old.piece_count)))
 
-pub replace_keeps : (s p : ℕ) (items : Items) → AreItems items → KeepsObject (replace s p items)
-replace_keeps s p items are = edit_keeps IsObject (λ o. replace_refusal o s p items) (λ o. tt) (λ o. with_own o s p items) (λ o ok passed. with_own_is o s p items ok are)
+pub replace_keeps : (s p : ℕ) (items : Items) → KeepsObject (replace s p items)
+replace_keeps s p items = edit_keeps IsObject _ (λ o. replace_refusal o s p items) (λ o. tt) (λ o. with_own o s p items) (λ o ok passed. with_own_is o s p items ok)
 
-pub lend_keeps : (kind : Kind) (s p : ℕ) (left : Items) → AreItems left → KeepsObject (lend kind s p left)
+pub lend_keeps : (s p : ℕ) (left : Items) → KeepsObject (lend s p left)
 unfolding step
-lend_keeps kind s p left are o ok = answered_keeps IsObject (lend_refusal o kind s p) (items_at o s p) o (with_own o s p left) ok (λ passed. with_own_is o s p left ok are)
+lend_keeps s p left o ok = answered_keeps IsObject (lend_refusal o (items_kind left) s p) (items_at o s p) o (with_own o s p left) ok (λ passed. with_own_is o s p left ok)
 
-with_new_piece_is : (o : Object) (s : ℕ) (items : Items) (align : ℕ) → IsObject o → AreItems items → IsTrue (is_piece_align align) → piece_count o s < 2 ^ 20 → IsObject (with_new_piece o s items align)
+with_new_piece_is : (o : Object) (s : ℕ) (items : Items) (align : ℕ) → IsObject o → IsTrue (is_piece_align align) → piece_count o s < 2 ^ 20 → IsObject (with_new_piece o s items align)
 unfolding with_new_piece piece_count
-with_new_piece_is o s items align ok are aligned room =
+with_new_piece_is o s items align ok aligned room =
     let old = section_at_is o s ok in
-    let piece = own_piece_is items align are aligned in
+    let piece = own_piece_is items align aligned in
     section_kept o s (record (section_at o s) { pieces = (section_at o s).pieces ++ own_piece items align ∷ [] }) ok
     (pieces_kept o.header.class (section_at o s) ((section_at o s).pieces ++ own_piece items align ∷ []) old
     (All-push IsPiece (section_at o s).pieces (own_piece items align) old.pieces piece)
     (others_push (section_at o s).pieces (own_piece items align) old.others refl)
     (rw length_push (omega arith)))
 
-pub newdata_keeps : (s : ℕ) (items : Items) (align : ℕ) → AreItems items → KeepsObject (newdata_aligned s items align)
+pub newdata_keeps : (s : ℕ) (items : Items) (align : ℕ) → KeepsObject (newdata_aligned s items align)
 unfolding newdata_refusal
-newdata_keeps s items align are =
-    edit_keeps IsObject (λ o. newdata_refusal o s items align) (λ o. (s, piece_count o s)) (λ o. with_new_piece o s items align) (λ o ok passed.
+newdata_keeps s items align =
+    edit_keeps IsObject _ (λ o. newdata_refusal o s items align) (λ o. (s, piece_count o s)) (λ o. with_new_piece o s items align) (λ o ok passed.
     let fits = unfit_items o s (piece_count o s) items ∷ [] in
     let fourth = refused_if (not (is_piece_align align)) (BadAlign align) ∷ fits in
     let third = refused_if (nat_le (2 ^ 20) (piece_count o s)) TooMany ∷ fourth in
@@ -352,16 +363,16 @@ newdata_keeps s items align are =
     let free = passed_one (s == 0) Reserved third there.1 in
     let room = passed_one (nat_le (2 ^ 20) (piece_count o s)) TooMany fourth free.1 in
     let aligned = passed_one (not (is_piece_align align)) (BadAlign align) fits room.1 in
-    with_new_piece_is o s items align ok are (not_not (is_piece_align align) aligned.0) (leb-false (2 ^ 20) (piece_count o s) room.0))
+    with_new_piece_is o s items align ok (not_not (is_piece_align align) aligned.0) (leb-false (2 ^ 20) (piece_count o s) room.0))
 
 -- ---- Flags and fill
 
-marked_own : (own : Option Items) (b : Bool) → IfSome own (λ items. AreItems items × IsTrue b) → IfSome own (λ items. AreItems items × IsTrue true)
-marked_own None b h = tt
-marked_own (Some items) b h = (h.0, refl)
+marked_own : (own : Option Items) → IfSome own (λ items. IsTrue true)
+marked_own None = tt
+marked_own (Some items) = refl
 
 pub marked_is : (p : Piece) → IsPiece p → IsPiece (record p { marked = true })
-marked_is p is = record { align = is.align; own = marked_own p.own p.marked is.own }
+marked_is p is = record { align = is.align; own = marked_own p.own }
 
 others_marked : (l : List Piece) (i : ℕ) → OthersOwn l → OthersOwn (set l i (record (get_or l i home_piece) { marked = true }))
 others_marked [] i others = tt
@@ -376,9 +387,10 @@ marks_kept : (o : Object) (header segments whole : Bool) → IsObject o → IsOb
 marks_kept o header segments whole ok = record {
   header = ok.header;
   fitting = ok.fitting;
+  phnum = ok.phnum;
+  shnum = ok.shnum;
   pad = ok.pad;
   pad_bytes = ok.pad_bytes;
-  phdrs = ok.phdrs;
   phdr_count = ok.phdr_count;
   sections = ok.sections;
   section_count = ok.section_count;
@@ -392,9 +404,10 @@ layout_kept : (o : Object) (layout : Bool) → IsObject o → IsObject (with_lay
 layout_kept o layout ok = record {
   header = ok.header;
   fitting = ok.fitting;
+  phnum = ok.phnum;
+  shnum = ok.shnum;
   pad = ok.pad;
   pad_bytes = ok.pad_bytes;
-  phdrs = ok.phdrs;
   phdr_count = ok.phdr_count;
   sections = ok.sections;
   section_count = ok.section_count;
@@ -436,17 +449,18 @@ flagged false false set o p ok = ok
 
 pub flag_keeps : (p : Part) (set : Bool) (bits : ℕ) → KeepsObject (flag p set bits)
 unfolding with_flags
-flag_keeps p set bits = edit_keeps IsObject (λ o. flag_refusal o p set bits) (λ o. flags_of (with_flags o p set bits) p) (λ o. with_flags o p set bits)
+flag_keeps p set bits = edit_keeps IsObject _ (λ o. flag_refusal o p set bits) (λ o. flags_of (with_flags o p set bits) p) (λ o. with_flags o p set bits)
     (λ o ok passed. flagged (set && has_dirty bits) (is_whole p && has_layout bits) set o p ok)
 
 pub set_fill_keeps : (byte : ℕ) → byte < 2 ^ 8 → KeepsObject (set_fill byte)
 unfolding with_fill
-set_fill_keeps byte small = edit_keeps IsObject (λ o. None) (λ o. tt) (λ o. with_fill o byte) (λ o ok passed. record {
+set_fill_keeps byte small = edit_keeps IsObject _ (λ o. None) (λ o. tt) (λ o. with_fill o byte) (λ o ok passed. record {
   header = ok.header;
   fitting = ok.fitting;
+  phnum = ok.phnum;
+  shnum = ok.shnum;
   pad = ok.pad;
   pad_bytes = ok.pad_bytes;
-  phdrs = ok.phdrs;
   phdr_count = ok.phdr_count;
   sections = ok.sections;
   section_count = ok.section_count;

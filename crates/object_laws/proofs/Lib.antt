@@ -1,13 +1,11 @@
 pub mod BlockLaws
 pub mod RangeLaws
 pub mod PlaceLaws
-pub mod PassedLaws
 pub mod KeepLaws
 pub mod KeepItemLaws
 pub mod PlacedLaws
 pub mod ByteLaws
 pub mod ImageLaws
-pub mod StepLaws
 pub mod LengthLaws
 pub mod StandLaws
 pub mod PartLaws

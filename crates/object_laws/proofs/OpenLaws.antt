@@ -1,10 +1,10 @@
 -- An image that is opened gives an object, and so does creating one.
-use Rattle.std.proofs.Common.{◌≡◌, ℕ, ◌+◌, ◌*◌, ◌^◌, ◌<◌, ◌≤◌, Bool, true, false, not, ◌&&◌, ◌||◌, List, [], ◌∷◌, length, take, drop, get_or, Result, Ok, Err, refl, sym, ap, ◌∙◌, subst, arith, lit<, lit≤}
-use Rattle.std.specs.Prelude.{IsSome, IsTrue, nat_lt, if◌then◌else◌, ◌==◌}
+use Rattle.std.proofs.Common.{◌≡◌, ℕ, ◌+◌, ◌*◌, ◌^◌, ◌<◌, ◌≤◌, Bool, true, false, not, ◌&&◌, ◌||◌, List, [], ◌∷◌, length, take, drop, get_or, None, Result, Ok, Err, refl, sym, ap, ◌∙◌, subst, arith, lit<, lit≤}
+use Rattle.std.specs.Prelude.{All, IsSome, IsTrue, nat_lt, if◌then◌else◌, ◌==◌}
 use Rattle.std.proofs.lemmas.Bool.{ltb-false, lt-ltb, eqb-true}
-use Rattle.std.proofs.lemmas.List.{length-take, length-drop, length-map, length-replicate, length-take-le}
+use Rattle.std.proofs.lemmas.List.{length-take, length-drop, length-map, length-replicate, length-take-le, nil_from_length}
 use Rattle.std.proofs.lemmas.List.FromFn.{length-map-range_with_len}
-use Rattle.std.proofs.lemmas.List.Elements.{All-nil, All-cons, All-take, All-drop, All-map, All-weaker, All-replicate}
+use Rattle.std.proofs.lemmas.List.Elements.{All-nil, All-cons, All-take, All-drop, All-map, All-replicate}
 use Rattle.elf_types.specs.Kinds.{section_kind, kind_of_type, kinds_of_types, kind_in, is_compressed}
 use Rattle.elf_types.specs.declared.records.Class.{Class}
 use Rattle.elf_types.specs.declared.records.Class.TheVariants.{C32, C64}
@@ -12,18 +12,25 @@ use Rattle.elf_types.specs.declared.records.Order.{Order}
 use Rattle.elf_types.specs.declared.records.Kind.{Kind}
 use Rattle.elf_types.specs.declared.records.Kind.TheVariants as kinds
 use Rattle.elf_types.specs.declared.records.Ehdr.{Ehdr}
+use Rattle.elf_types.specs.declared.records.Phdr.{Phdr}
 use Rattle.elf_types.specs.declared.records.Shdr.{Shdr}
 use Rattle.elf_types.specs.declared.errors.ElfError.{ElfError}
 use Rattle.elf_types.specs.declared.errors.ElfError.TheVariants as error
 use Rattle.elf_xlate.specs.Fields.{Field, number_in, fits}
-use Rattle.elf_xlate.specs.Headers.{ehdr_size, ehdr_fields, ehdr_of, ehdr_fits, IsEhdr, HasNarrowCounts, phdr_size, phdr_fields, phdr_of, IsPhdr, shdr_size, shdr_fields, shdr_of, shdr_fits, IsShdr}
+use Rattle.elf_xlate.specs.Headers.{ehdr_size, ehdr_fields, ehdr_of, ehdr_fits, IsEhdr, HasNarrowCounts, phdr_size, phdr_fields, phdr_of, phdr_fits, IsPhdr, shdr_size, shdr_fields, shdr_of, shdr_fits, IsShdr}
 use Rattle.elf_xlate.specs.Translation.{items_of}
 use Rattle.elf_ident.specs.declared.counts.Counts.{Counts}
 use Rattle.elf_ident.specs.declared.fronts.Head.{Head}
 use Rattle.elf_ident.specs.declared.fronts.Front.{Front}
-use Rattle.elf_ident.specs.Front.{unless, and_then, ident_in, header_at, header_in, zero_shdr, needs_first, first_section, true_shnum, true_shstrndx, true_counts, phdrs_at, shdrs_at, header_refusals, count_refusals, counts_by, counts_in, front_at, head_in, front}
+use Rattle.elf_ident.specs.Front.{ident_in, header_at, header_in, zero_shdr, needs_first, first_section, true_shnum, true_shstrndx, true_counts, lies_in, phdrs_at, shdrs_at, header_refusal, count_refusal, counts_by, counts_in, front_at, head_in, front}
 use Rattle.elf_object.specs.Object.{Object, home_piece, occupies_file}
 use Rattle.elf_object.specs.Open.{extent_of, home_of, home_bytes, opened_section, begun, begun_or_refused, opened, created_over, new_ehdr}
+use Rattle.elf_types.specs.Answers.{refused_if, answered, ◌>>=◌}
+use Rattle.elf_types.specs.declared.constants.TheConstants.{EV_CURRENT, PN_XNUM, MAX_IMAGE, MAX_SECTIONS, MAX_SEGMENTS}
+use Rattle.elf_ident.proofs.Refusals.{answered_ok, bind_ok, last_passed}
+use Rattle.elf_ident.specs.Reading.{IsFittingFront, IsCounted}
+use Rattle.object_laws.specs.Laws.{BegunFits}
+use Rattle.elf_object.proofs.PassedLaws.{not_refused, not_not, passed_one}
 use Rattle.elf_object.specs.Valid.{AreBytes, IsHome, IsPiece, IsSection, IsObject}
 use Rattle.object_laws.proofs.KeepLaws.{home_piece_is, zero_shdr_is}
 use Rattle.object_laws.proofs.RangeLaws.{no_field, native_range, field_range, number_in_below, items_range}
@@ -69,18 +76,31 @@ ehdr_range class order bytes are =
       record { phnum = phnum; shnum = shnum; shstrndx = shstrndx },
     )
 
-pub phdr_range : (class : Class) (order : Order) (bytes : List ℕ) → AreBytes bytes → IsPhdr (phdr_of class order bytes)
+phdr_fits_all : (class : Class) (p : Phdr) → IsTrue (fits class p.offset) → IsTrue (fits class p.vaddr) → IsTrue (fits class p.paddr) → IsTrue (fits class p.filesz) → IsTrue (fits class p.memsz) → IsTrue (fits class p.align) → IsTrue (phdr_fits class p)
+unfolding phdr_fits
+phdr_fits_all class p a b c d e f = rw (a, b, c, d, e, f) refl
+
+pub phdr_range : (class : Class) (order : Order) (bytes : List ℕ) → AreBytes bytes → IsPhdr (phdr_of class order bytes) × IsTrue (phdr_fits class (phdr_of class order bytes))
 unfolding phdr_of phdr_fields
-phdr_range class order bytes are = record {
-  ptype = field_range class order bytes (get_or phdr_fields 0 no_field) 4 refl refl are;
-  flags = field_range class order bytes (get_or phdr_fields 1 no_field) 4 refl refl are;
-  offset = native_range class order bytes (get_or phdr_fields 2 no_field) refl refl are;
-  vaddr = native_range class order bytes (get_or phdr_fields 3 no_field) refl refl are;
-  paddr = native_range class order bytes (get_or phdr_fields 4 no_field) refl refl are;
-  filesz = native_range class order bytes (get_or phdr_fields 5 no_field) refl refl are;
-  memsz = native_range class order bytes (get_or phdr_fields 6 no_field) refl refl are;
-  align = native_range class order bytes (get_or phdr_fields 7 no_field) refl refl are;
-}
+phdr_range class order bytes are = (
+  record {
+    ptype = field_range class order bytes (get_or phdr_fields 0 no_field) 4 refl refl are;
+    flags = field_range class order bytes (get_or phdr_fields 1 no_field) 4 refl refl are;
+    offset = native_range class order bytes (get_or phdr_fields 2 no_field) refl refl are;
+    vaddr = native_range class order bytes (get_or phdr_fields 3 no_field) refl refl are;
+    paddr = native_range class order bytes (get_or phdr_fields 4 no_field) refl refl are;
+    filesz = native_range class order bytes (get_or phdr_fields 5 no_field) refl refl are;
+    memsz = native_range class order bytes (get_or phdr_fields 6 no_field) refl refl are;
+    align = native_range class order bytes (get_or phdr_fields 7 no_field) refl refl are;
+  },
+  phdr_fits_all class (phdr_of class order bytes)
+      (native_fits class order bytes (get_or phdr_fields 2 no_field) refl are)
+      (native_fits class order bytes (get_or phdr_fields 3 no_field) refl are)
+      (native_fits class order bytes (get_or phdr_fields 4 no_field) refl are)
+      (native_fits class order bytes (get_or phdr_fields 5 no_field) refl are)
+      (native_fits class order bytes (get_or phdr_fields 6 no_field) refl are)
+      (native_fits class order bytes (get_or phdr_fields 7 no_field) refl are),
+)
 
 pub shdr_range : (class : Class) (order : Order) (bytes : List ℕ) → AreBytes bytes → IsShdr (shdr_of class order bytes) × IsTrue (shdr_fits class (shdr_of class order bytes))
 unfolding shdr_of shdr_fields
@@ -194,69 +214,52 @@ opened_section_is class image h are is fitting = record {
 
 -- ---- A front that is not refused
 
--- each test of the rows failed
-abbrev pub AllPass : List (Bool × ElfError) → Type 0
-AllPass [] = Unit {0}
-AllPass (row ∷ rows) = (row.0 ≡ false) × AllPass rows
-
-row_failed : {T : Type 0} (b : Bool) (e : ElfError) (follows : Result T ElfError) (x : T) → (if b then Err e else follows) ≡ Ok x → (b ≡ false) × (follows ≡ Ok x)
-row_failed true e follows x h = cc
-row_failed false e follows x h = (refl, h)
-
-unless_ok : {T : Type 0} (rows : List (Bool × ElfError)) (follows : Result T ElfError) (x : T) → unless rows follows ≡ Ok x → AllPass rows × (follows ≡ Ok x)
-unless_ok [] follows x h = (tt, h)
-unless_ok (row ∷ rows) follows x h =
-    let first = row_failed row.0 row.1 (unless rows follows) x h in
-    let rest = unless_ok rows follows x first.1 in
-    ((first.0, rest.0), rest.1)
-
-and_then_ok : {A B : Type 0} (r : Result A ElfError) (f : A → Result B ElfError) (y : B) → and_then r f ≡ Ok y → (x : A) × (r ≡ Ok x) × (f x ≡ Ok y)
-and_then_ok (Err e) f y h = cc
-and_then_ok (Ok x) f y h = (x, refl, h)
-
 -- what is known of a front that is not refused
 pub record IsFrontOf (image : List ℕ) (f : Front) : Type 0 where
   pub class : Class
   pub order : Order
+  pub ident : ident_in image ≡ Ok (class, order)
   pub long : ehdr_size class ≤ length image
   pub head : Head
   pub header : head.header ≡ ehdr_of class order (take (ehdr_size class) image)
   pub pad : head.pad ≡ take 7 (drop 9 image)
   pub counts : head.counts ≡ true_counts head.header (first_section head.header image)
-  pub early : AllPass (header_refusals head.header (length image))
-  pub late : AllPass (count_refusals head.header head.counts (length image))
+  pub early : header_refusal head.header (length image) ≡ None
+  pub late : count_refusal head.header head.counts (length image) ≡ None
   pub whole : f ≡ front_at head image
 
 head_known : (image : List ℕ) (head : Head) → head_in image ≡ Ok head → IsFrontOf image (front_at head image)
 unfolding head_in header_in counts_in counts_by header_at
 head_known image head h =
-    let outer = and_then_ok (header_in image) (λ x. and_then (counts_in x.0 image) (λ c. Ok (record { header = x.0; pad = x.1; counts = c }))) head h in
-    let id = and_then_ok (ident_in image) (λ i. unless ((nat_lt (length image) (ehdr_size i.0), error.Short) ∷ []) (Ok (header_at i.0 i.1 image))) outer.0 outer.1 in
-    let long = unless_ok ((nat_lt (length image) (ehdr_size id.0.0), error.Short) ∷ []) (Ok (header_at id.0.0 id.0.1 image)) outer.0 id.2 in
-    let inner = and_then_ok (counts_in outer.0.0 image) (λ c. Ok (record { header = outer.0.0; pad = outer.0.1; counts = c })) head outer.2 in
-    let early = unless_ok (header_refusals outer.0.0 (length image)) (counts_by outer.0.0 (first_section outer.0.0 image) (length image)) inner.0 inner.1 in
-    let late = unless_ok (count_refusals outer.0.0 (true_counts outer.0.0 (first_section outer.0.0 image)) (length image)) (Ok (true_counts outer.0.0 (first_section outer.0.0 image))) inner.0 early.1 in
+    let outer = bind_ok (header_in image) (λ x. counts_in x.0 image >>= λ c. Ok (record { header = x.0; pad = x.1; counts = c })) head h in
+    let id = bind_ok (ident_in image) (λ i. answered (refused_if (nat_lt (length image) (ehdr_size i.0)) error.Short) (header_at i.0 i.1 image)) outer.0 outer.1 in
+    let long = answered_ok (refused_if (nat_lt (length image) (ehdr_size id.0.0)) error.Short) (header_at id.0.0 id.0.1 image) outer.0 id.2 in
+    let inner = bind_ok (counts_in outer.0.0 image) (λ c. Ok (record { header = outer.0.0; pad = outer.0.1; counts = c })) head outer.2 in
+    let first = bind_ok (answered (header_refusal outer.0.0 (length image)) (first_section outer.0.0 image)) (λ first. counts_by outer.0.0 first (length image)) inner.0 inner.1 in
+    let early = answered_ok (header_refusal outer.0.0 (length image)) (first_section outer.0.0 image) first.0 first.1 in
+    let late = answered_ok (count_refusal outer.0.0 (true_counts outer.0.0 first.0) (length image)) (true_counts outer.0.0 first.0) inner.0 first.2 in
     let made : head ≡ record { header = outer.0.0; pad = outer.0.1; counts = inner.0 } = cc in
-    let parts : outer.0 ≡ (ehdr_of id.0.0 id.0.1 (take (ehdr_size id.0.0) image), take 7 (drop 9 image)) = cc in
-    let counts : inner.0 ≡ true_counts outer.0.0 (first_section outer.0.0 image) = cc in
+    let parts : outer.0 ≡ (ehdr_of id.0.0 id.0.1 (take (ehdr_size id.0.0) image), take 7 (drop 9 image)) = sym long.1 in
+    let counts : inner.0 ≡ true_counts outer.0.0 (first_section outer.0.0 image) = sym (ap (true_counts outer.0.0) early.1 ∙ late.1) in
     let P : Head → Type 0 = λ x. IsFrontOf image (front_at x image) in
     subst P (sym made) (record {
       class = id.0.0;
       order = id.0.1;
-      long = ltb-false (length image) (ehdr_size id.0.0) long.0.0;
+      ident = id.1;
+      long = ltb-false (length image) (ehdr_size id.0.0) (not_refused (nat_lt (length image) (ehdr_size id.0.0)) error.Short long.0);
       head = record { header = outer.0.0; pad = outer.0.1; counts = inner.0 };
       header = ap (λ (x : Ehdr × List ℕ). x.0) parts;
       pad = ap (λ (x : Ehdr × List ℕ). x.1) parts;
       counts = counts;
       early = early.0;
-      late = let Q : Counts → Type 0 = λ c. AllPass (count_refusals outer.0.0 c (length image)) in subst Q (sym counts) late.0;
+      late = let Q : Counts → Type 0 = λ c. count_refusal outer.0.0 c (length image) ≡ None in subst Q late.1 late.0;
       whole = refl;
     })
 
 pub front_known : (image : List ℕ) (f : Front) → front image ≡ Ok f → IsFrontOf image f
 unfolding front
 front_known image f h =
-    let whole = and_then_ok (head_in image) (λ head. Ok (front_at head image)) f h in
+    let whole = bind_ok (head_in image) (λ head. Ok (front_at head image)) f h in
     let same : front_at whole.0 image ≡ f = cc in
     subst (IsFrontOf image) same (head_known image whole.0 whole.1)
 
@@ -290,66 +293,114 @@ length-items_of item size count bytes = length-map-range_with_len (λ i. item (t
 table_is : (image : List ℕ) (at n : ℕ) → AreBytes image → AreBytes (take n (drop at image))
 table_is image at n are = All-take (λ b. b < 2 ^ 8) n (drop at image) (All-drop (λ b. b < 2 ^ 8) at image are)
 
-counts_small : (h : Ehdr) (c : Counts) (len : ℕ) → AllPass (count_refusals h c len) → (c.shnum ≤ 2 ^ 20) × (c.phnum ≤ 2 ^ 20)
-unfolding count_refusals
+counts_small : (h : Ehdr) (c : Counts) (len : ℕ) → count_refusal h c len ≡ None → (c.shnum ≤ 2 ^ 20) × (c.phnum ≤ 2 ^ 20)
+unfolding count_refusal
 counts_small h c len late =
-    let both = neither (nat_lt (2 ^ 20) c.shnum) (nat_lt (2 ^ 20) c.phnum) late.1.1.1.1.0 in
+    let both = neither (nat_lt MAX_SECTIONS c.shnum) (nat_lt MAX_SEGMENTS c.phnum)
+    (last_passed (refused_if (not (lies_in len h.shoff c.shnum (shdr_size h.class))) error.ShTable
+    ∷ refused_if (not (h.phnum == 0) && not (h.phentsize == phdr_size h.class)) error.PhTable
+    ∷ refused_if (h.phnum == PN_XNUM && h.shoff == 0) error.PhTable
+    ∷ refused_if (not (h.phnum == 0) && not (lies_in len h.phoff c.phnum (phdr_size h.class))) error.PhTable ∷ [])
+    (nat_lt MAX_SECTIONS c.shnum || nat_lt MAX_SEGMENTS c.phnum) error.TooMany late) in
     (ltb-false (2 ^ 20) c.shnum both.0, ltb-false (2 ^ 20) c.phnum both.1)
   where
     neither : (a b : Bool) → (a || b) ≡ false → (a ≡ false) × (b ≡ false)
     neither true b e = cc
     neither false b e = (refl, e)
 
-image_small : (h : Ehdr) (len : ℕ) → AllPass (header_refusals h len) → len ≤ 2 ^ 40
-unfolding header_refusals
-image_small h len early = ltb-false (2 ^ 40) len early.1.0
+image_small : (h : Ehdr) (len : ℕ) → header_refusal h len ≡ None → len ≤ 2 ^ 40
+unfolding header_refusal
+image_small h len early =
+    let later = passed_one (not (h.version == EV_CURRENT)) error.Version _ early in
+    let size = passed_one (nat_lt MAX_IMAGE len) error.TooLarge _ later.1 in
+    ltb-false (2 ^ 40) len size.0
 
--- the object of a header and its counts
-front_is : (image : List ℕ) (head : Head) → AreBytes image → IsEhdr head.header → IsTrue (ehdr_fits head.header) → length head.pad ≡ 7 → AreBytes head.pad → head.counts ≡ true_counts head.header (first_section head.header image) → AllPass (header_refusals head.header (length image)) → AllPass (count_refusals head.header head.counts (length image)) → IsObject (begun (front_at head image) image)
-unfolding begun front_at phdrs_at shdrs_at ehdr_fits
+version_is : (h : Ehdr) (len : ℕ) → header_refusal h len ≡ None → h.version ≡ EV_CURRENT
+unfolding header_refusal
+version_is h len early =
+    let first = passed_one (not (h.version == EV_CURRENT)) error.Version _ early in
+    eqb-true h.version EV_CURRENT (not_not (h.version == EV_CURRENT) first.0)
+
+-- the front of a header and its counts
+front_is : (image : List ℕ) (head : Head) → AreBytes image → IsEhdr head.header → IsTrue (ehdr_fits head.header) → length head.pad ≡ 7 → AreBytes head.pad
+    → head.counts ≡ true_counts head.header (first_section head.header image) → header_refusal head.header (length image) ≡ None
+    → count_refusal head.header head.counts (length image) ≡ None → IsFittingFront (front_at head image) × IsCounted (front_at head image)
+unfolding front_at phdrs_at shdrs_at ehdr_fits
 front_is image head are is fitting seven pad counts early late =
+    let class : Class = head.header.class in
+    let order : Order = head.header.order in
     let small = counts_small head.header head.counts (length image) late in
-    let len = image_small head.header (length image) early in
+    let version = version_is head.header (length image) early in
     let index = index_small head.header (first_section head.header image) is.shstrndx (first_is head.header image are).link in
     let same : head.counts.shstrndx ≡ true_shstrndx head.header (first_section head.header image) = ap (λ (x : Counts). x.shstrndx) counts in
-    let shdrs = items_of (shdr_of head.header.class head.header.order) (shdr_size head.header.class) head.counts.shnum (take (head.counts.shnum * shdr_size head.header.class) (drop head.header.shoff image)) in
-    let each = items_range (λ x. IsShdr x × IsTrue (shdr_fits head.header.class x)) (shdr_of head.header.class head.header.order) (shdr_size head.header.class) head.counts.shnum (take (head.counts.shnum * shdr_size head.header.class) (drop head.header.shoff image)) (shdr_range head.header.class head.header.order) (table_is image head.header.shoff (head.counts.shnum * shdr_size head.header.class) are) in
+    let phdr_bytes = take (head.counts.phnum * phdr_size class) (drop head.header.phoff image) in
+    let shdr_bytes = take (head.counts.shnum * shdr_size class) (drop head.header.shoff image) in
+    let phdrs_are = table_is image head.header.phoff (head.counts.phnum * phdr_size class) are in
+    let shdrs_are = table_is image head.header.shoff (head.counts.shnum * shdr_size class) are in
+    let phdr_count = length-items_of (phdr_of class order) (phdr_size class) head.counts.phnum phdr_bytes in
+    let shdr_count = length-items_of (shdr_of class order) (shdr_size class) head.counts.shnum shdr_bytes in (
+      record {
+        header = record {
+          osabi = is.osabi;
+          abiversion = is.abiversion;
+          etype = is.etype;
+          machine = is.machine;
+          version = is.version;
+          entry = is.entry;
+          phoff = is.phoff;
+          shoff = is.shoff;
+          flags = is.flags;
+          ehsize = is.ehsize;
+          phentsize = is.phentsize;
+          phnum = omega arith;
+          shentsize = is.shentsize;
+          shnum = omega arith;
+          shstrndx = omega arith;
+        };
+        fitting = fitting;
+        version = version;
+        phdrs = items_range IsPhdr (phdr_of class order) (phdr_size class) head.counts.phnum phdr_bytes (λ bytes each. (phdr_range class order bytes each).0) phdrs_are;
+        fitting_phdrs = items_range (λ p. IsTrue (phdr_fits class p)) (phdr_of class order) (phdr_size class) head.counts.phnum phdr_bytes (λ bytes each. (phdr_range class order bytes each).1) phdrs_are;
+        shdrs = items_range IsShdr (shdr_of class order) (shdr_size class) head.counts.shnum shdr_bytes (λ bytes each. (shdr_range class order bytes each).0) shdrs_are;
+        fitting_shdrs = items_range (λ h. IsTrue (shdr_fits class h)) (shdr_of class order) (shdr_size class) head.counts.shnum shdr_bytes (λ bytes each. (shdr_range class order bytes each).1) shdrs_are;
+        string_index = λ none.
+            let zero_count : true_shnum head.header (first_section head.header image) ≡ 0 = sym (ap (λ (x : Counts). x.shnum) counts) ∙ sym shdr_count ∙ ap length none in
+            same ∙ index_none head.header (first_section head.header image) zero_count;
+        pad = seven;
+        pad_bytes = pad;
+      },
+      record { phnum = phdr_count; shnum = shdr_count; few_phdrs = small.1; few_shdrs = small.0 },
+    )
+
+-- an object begun over a front that has the shape of one, and over any bytes of that length
+pub begun_fits : BegunFits
+unfolding begun
+begun_fits f image fits counted are small =
+    let phdrs = counted.phnum in
+    let few_phdrs = counted.few_phdrs in
+    let shdrs = counted.shnum in
+    let few_shdrs = counted.few_shdrs in
+    let count = length-map f.shdrs (opened_section image) in
     record {
-      header = record {
-        osabi = is.osabi;
-        abiversion = is.abiversion;
-        etype = is.etype;
-        machine = is.machine;
-        version = is.version;
-        entry = is.entry;
-        phoff = is.phoff;
-        shoff = is.shoff;
-        flags = is.flags;
-        ehsize = is.ehsize;
-        phentsize = is.phentsize;
-        phnum = omega arith;
-        shentsize = is.shentsize;
-        shnum = omega arith;
-        shstrndx = omega arith;
-      };
-      fitting = fitting;
-      pad = seven;
-      pad_bytes = pad;
-      phdrs = items_range IsPhdr (phdr_of head.header.class head.header.order) (phdr_size head.header.class) head.counts.phnum (take (head.counts.phnum * phdr_size head.header.class) (drop head.header.phoff image)) (phdr_range head.header.class head.header.order) (table_is image head.header.phoff (head.counts.phnum * phdr_size head.header.class) are);
-      phdr_count = rw length-items_of (small.1);
-      sections = All-map (IsSection head.header.class) (opened_section image) shdrs (All-weaker (λ x. IsShdr x × IsTrue (shdr_fits head.header.class x)) (λ x. IsSection head.header.class (opened_section image x)) (λ x both. opened_section_is head.header.class image x are both.0 both.1) shdrs each);
-      section_count = rw (length-map, length-items_of) (small.0);
-      string_index = λ none.
-          let empty : head.counts.shnum ≡ 0 = sym (length-map shdrs (opened_section image) ∙ length-items_of (shdr_of head.header.class head.header.order) (shdr_size head.header.class) head.counts.shnum (take (head.counts.shnum * shdr_size head.header.class) (drop head.header.shoff image))) ∙ ap length none in
-          let zero_count : true_shnum head.header (first_section head.header image) ≡ 0 = sym (ap (λ (x : Counts). x.shnum) counts) ∙ empty in
-          same ∙ index_none head.header (first_section head.header image) zero_count;
+      header = fits.header;
+      fitting = fits.fitting;
+      phnum = sym counted.phnum;
+      shnum = sym counted.shnum ∙ sym count;
+      pad = fits.pad;
+      pad_bytes = fits.pad_bytes;
+      phdr_count = omega arith;
+      sections = All-map (IsSection f.ehdr.class) (opened_section image) f.shdrs
+          (λ k d h. opened_section_is f.ehdr.class image (get_or f.shdrs k d) are (fits.shdrs k d h) (fits.fitting_shdrs k d h));
+      section_count = omega arith;
+      string_index = λ none. fits.string_index (nil_from_length f.shdrs (sym count ∙ ap length none));
       base = are;
-      base_length = omega arith;
+      base_length = small;
       fill = lit< tt;
     }
 
-pub begun_is : (image : List ℕ) (f : Front) → AreBytes image → IsFrontOf image f → IsObject (begun f image)
-begun_is image f are known =
+-- the front of an image has the shape of one
+pub known_fits : (image : List ℕ) (f : Front) → AreBytes image → IsFrontOf image f → IsFittingFront f × IsCounted f
+known_fits image f are known =
     let bytes = All-take (λ n. n < 2 ^ 8) (ehdr_size known.class) image are in
     let range = ehdr_range known.class known.order (take (ehdr_size known.class) image) bytes in
     let is : IsEhdr known.head.header = subst IsEhdr (sym known.header) range.0 in
@@ -359,7 +410,7 @@ begun_is image f are known =
     let rest = length-drop 9 image in
     let seven : length known.head.pad ≡ 7 = ap length known.pad ∙ length-take-le 7 (drop 9 image) (omega arith) in
     let pad : AreBytes known.head.pad = subst AreBytes (sym known.pad) (table_is image 9 7 are) in
-    let P : Front → Type 0 = λ x. IsObject (begun x image) in
+    let P : Front → Type 0 = λ x. IsFittingFront x × IsCounted x in
     subst P (sym known.whole) (front_is image known.head are is fitting seven pad known.counts known.early known.late)
   where
     size_long : (class : Class) → 16 ≤ ehdr_size class
@@ -374,7 +425,18 @@ pub opened_is : (image : List ℕ) (o : Object) → AreBytes image → opened im
 unfolding opened
 opened_is image o are h =
     let found = opened_front (front image) image o h in
-    subst IsObject found.2 (begun_is image found.0 are (front_known image found.0 found.1))
+    let known = front_known image found.0 found.1 in
+    let fits = known_fits image found.0 are known in
+    let len = image_small known.head.header (length image) known.early in
+    subst IsObject found.2 (begun_fits found.0 image fits.0 fits.1 are (omega arith))
+
+-- its program headers are in range
+pub opened_phdrs : (image : List ℕ) (o : Object) → AreBytes image → opened image ≡ Ok o → All IsPhdr o.phdrs
+unfolding opened begun
+opened_phdrs image o are h =
+    let found = opened_front (front image) image o h in
+    let fits = known_fits image found.0 are (front_known image found.0 found.1) in
+    subst (λ (q : Object). All IsPhdr q.phdrs) found.2 fits.0.phdrs
 
 -- ---- Create
 
@@ -409,9 +471,10 @@ created_is class order base are small =
     record {
       header = header.0;
       fitting = header.1;
+      phnum = refl;
+      shnum = refl;
       pad = length-replicate {A = ℕ} 7 0;
       pad_bytes = All-replicate (λ n. n < 2 ^ 8) 7 0 (lit< tt);
-      phdrs = All-nil IsPhdr;
       phdr_count = lit≤ tt;
       sections = All-nil (IsSection class);
       section_count = lit≤ tt;

@@ -17,7 +17,7 @@ use Rattle.elf_layout.specs.declared.parts.PartAt.{PartAt}
 use Rattle.elf_layout.specs.declared.parts.Places.{Places}
 use Rattle.elf_layout.specs.Layout.{standing, positions, limit_of, places_of as parts_places}
 use Rattle.elf_types.specs.Answers.{first_refusal}
-use Rattle.elf_object.specs.Object.{Object, Section, section_at, new_section, header_of, is_null, occupies_file, is_dirty}
+use Rattle.elf_object.specs.Object.{Object, Section, section_at, absent_section, header_of, is_null, occupies_file, is_dirty}
 use Rattle.elf_object.specs.Joined.{joined}
 use Rattle.elf_object.specs.Derived.{where_any, derived_header, numbered_shdr}
 use Rattle.elf_object.specs.Layout.{header_part, segments_part, section_part, table_part, parts_of, section_numbers, places_of, segments_place, table_place, section_place, placed_header, placed_shdr, placed_section, placed_by, placed}
@@ -27,7 +27,7 @@ use Rattle.elf_object.specs.Image.{image_length}
 use Rattle.elf_object.specs.Valid.{IsSection, IsObject, KeepsObject}
 use Rattle.object_laws.proofs.PlaceLaws.{AreNotTooLarge, IsFitting, not_too_large, within_limit, zero_fits, lens_limited}
 use Rattle.object_laws.proofs.RangeLaws.{each_made}
-use Rattle.object_laws.proofs.PassedLaws.{edit_keeps, none_first, none_rest}
+use Rattle.elf_object.proofs.PassedLaws.{edit_keeps, none_first, none_rest}
 use Rattle.object_laws.proofs.KeepLaws.{section_at_is, at_or}
 
 -- ---- Fits of headers
@@ -292,21 +292,22 @@ unfolding placed_by section_at placed_section placed_header derived_header heade
 placed_by_is o ok small =
     let places = places_of o in
     let segments = place_fits o 1 ok small in
-    let table = place_fits o (length o.sections + 1) ok small in
+    let table = place_fits o (length o.sections - 1 + 2) ok small in
     let header = placed_header_is o places ok segments table in
-    let row : (i : ℕ) → i < length o.sections → IsSection o.header.class (placed_section places o i (get_or o.sections i new_section)) = λ i h.
+    let row : (i : ℕ) → i < length o.sections → IsSection o.header.class (placed_section places o i (get_or o.sections i absent_section)) = λ i h.
     let is = section_at_is o i ok in
     let each = placed_shdr_is o places i (section_at o i).header header.0 is.header is.fitting (place_fits o (i + 1) ok small) (λ positive filled. size_fits o i small positive h filled) in
     with_header_is o.header.class (section_at o i) (placed_shdr places o i (section_at o i).header) is each.0 each.1 in
     record {
       header = header.0;
       fitting = header.1;
+      phnum = refl;
+      shnum = sym (length-map (enumerate_from 0 o.sections) (λ r. placed_section places o r.0 r.1) ∙ length-enumerate_from 0 o.sections);
       pad = ok.pad;
       pad_bytes = ok.pad_bytes;
-      phdrs = ok.phdrs;
       phdr_count = ok.phdr_count;
       sections = All-map (IsSection o.header.class) (λ r. placed_section places o r.0 r.1) (enumerate_from 0 o.sections)
-          (each_row (λ r. IsSection o.header.class (placed_section places o r.0 r.1)) o.sections new_section row);
+          (each_row (λ r. IsSection o.header.class (placed_section places o r.0 r.1)) o.sections absent_section row);
       section_count = rw (length-map, length-enumerate_from) (ok.section_count);
       string_index = λ none. no_index o places (nil_from_length o.sections (sym (length-map (enumerate_from 0 o.sections) (λ r. placed_section places o r.0 r.1) ∙ length-enumerate_from 0 o.sections) ∙ ap length none));
       base = ok.base;
@@ -335,4 +336,4 @@ placed_is o ok passed = by_test (is_dirty o) refl
     by_test false e = ok
 
 pub update_null_keeps : KeepsObject update_null
-update_null_keeps = edit_keeps IsObject refusal image_length placed (λ o ok passed. placed_is o ok passed)
+update_null_keeps = edit_keeps IsObject _ refusal image_length placed (λ o ok passed. placed_is o ok passed)

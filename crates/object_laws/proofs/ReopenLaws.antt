@@ -121,7 +121,7 @@ unfolding written_header
 written_class h = refl
 
 -- two blocks that are apart, at their indexes
-pairs_apart : (bs : List Block) (i j : ℕ) (b c : Block) → AllApart bs → i < j → slice_get bs i ≡ Some b → slice_get bs j ≡ Some c → AreApart b c
+pub pairs_apart : (bs : List Block) (i j : ℕ) (b c : Block) → AllApart bs → i < j → slice_get bs i ≡ Some b → slice_get bs j ≡ Some c → AreApart b c
 pairs_apart [] i j b c apart below first second = cc
 pairs_apart (x ∷ bs) i zero b c apart below first second = absurd (omega arith)
 pairs_apart (x ∷ bs) zero (suc j) b c apart below first second =

@@ -19,7 +19,7 @@ use Rattle.elf_xlate.specs.Headers.{phdr_size, shdr_size, ehdr_fits, IsEhdr, Has
 use Rattle.elf_ident.specs.declared.fronts.Front.{Front}
 use Rattle.elf_types.specs.Answers.{refused_if}
 use Rattle.elf_object.specs.Blocks.{Block, block_end}
-use Rattle.elf_object.specs.Object.{Object, Section, home_piece, new_section, section_at, header_of, has_file_bytes, occupies_file, is_dirty}
+use Rattle.elf_object.specs.Object.{Object, Section, home_piece, absent_section, section_at, header_of, has_file_bytes, occupies_file, is_dirty}
 use Rattle.elf_object.specs.Open.{extent_of, home_of, home_bytes, opened_section, written_front, standing_header, begun, begun_or_refused, opened}
 use Rattle.elf_object.specs.Joined.{joined}
 use Rattle.elf_object.specs.Derived.{where_any, derived_header, written_header, numbered_shdr}
@@ -29,7 +29,7 @@ use Rattle.elf_object.specs.Refusal.{too_many, unfit_segment, unfit_item, missin
 use Rattle.elf_object.specs.Settled.{settled_section, settled_over, settle}
 use Rattle.elf_object.specs.Valid.{IsSection, IsObject, as_opened}
 use Rattle.object_laws.proofs.ImageLaws.{section_at-placed, joined-none, length-image, image-clean, placed-dirty, size-placed}
-use Rattle.object_laws.proofs.PassedLaws.{none_first, none_rest, not_not}
+use Rattle.elf_object.proofs.PassedLaws.{none_first, none_rest, not_not}
 use Rattle.object_laws.proofs.KeepLaws.{section_at_is}
 use Rattle.object_laws.proofs.PlacedLaws.{ehdr_fits_each, ehdr_fits_all, placed_is, update_passes}
 use Rattle.object_laws.proofs.StandLaws.{parts_are_apart, part_in_image, get_each, section_count-placed, joined-placed, where_some}
@@ -142,12 +142,12 @@ both_each : {X : Type 0} (P Q R : X → Type 0) → ((x : X) → P x → Q x →
 both_each P Q R join [] a b = tt
 both_each P Q R join (x ∷ l) a b = (join x a.0 b.0, both_each P Q R join l a.1 b.1)
 
-phdrs_fit : (o : Object) → IsObject o → unfit_segment o ≡ None → All (λ p. IsPhdr p × IsTrue (phdr_fits o.header.class p)) o.phdrs
+phdrs_fit : (o : Object) → All IsPhdr o.phdrs → unfit_segment o ≡ None → All (λ p. IsPhdr p × IsTrue (phdr_fits o.header.class p)) o.phdrs
 unfolding unfit_segment
-phdrs_fit o ok h =
+phdrs_fit o ranged h =
     let none = some_mapped (Unfit part.Segments) (position (λ p. not (phdr_fits o.header.class p)) o.phdrs) h in
     let fitting = none_at (λ p. not (phdr_fits o.header.class p)) o.phdrs none in
-    let are = recursion_from_All IsPhdr o.phdrs ok.phdrs in
+    let are = recursion_from_All IsPhdr o.phdrs ranged in
     All-from_recursion (λ p. IsPhdr p × IsTrue (phdr_fits o.header.class p)) o.phdrs
     (both_each IsPhdr (λ p. not (phdr_fits o.header.class p) ≡ false) (λ p. IsPhdr p × IsTrue (phdr_fits o.header.class p)) (λ p a b. (a, not_not (phdr_fits o.header.class p) b)) o.phdrs are fitting)
 
@@ -204,9 +204,9 @@ derived_is o ok un =
       section_count = omega arith;
     }
 
-pub placed_readable : (o : Object) → IsObject o → is_dirty o ≡ true → refusal o ≡ None → IsReadable (placed_by (places_of o) o)
+pub placed_readable : (o : Object) → IsObject o → All IsPhdr o.phdrs → is_dirty o ≡ true → refusal o ≡ None → IsReadable (placed_by (places_of o) o)
 unfolding ArePhdrs AreShdrs AreFitting
-placed_readable o ok dirty passed =
+placed_readable o ok ranged dirty passed =
     let both = update_passes o dirty passed in
     let un = unrefused o both.0 in
     let is : IsObject (placed_by (places_of o) o) = subst IsObject (placed-dirty o dirty) (placed_is o ok passed) in
@@ -216,7 +216,7 @@ placed_readable o ok dirty passed =
       written = record { is = narrow.0; narrow = narrow.2; fitting = narrow.1; pad = is.pad };
       derived = derived_is o ok un;
       phdrs = subst (λ (c : Class). All (λ p. IsPhdr p × IsTrue (phdr_fits c p)) (placed_by (places_of o) o).phdrs) (sym class)
-          (subst (λ (l : List Phdr). All (λ p. IsPhdr p × IsTrue (phdr_fits o.header.class p)) l) (sym (placed_parts_of o).1) (phdrs_fit o ok un.segment));
+          (subst (λ (l : List Phdr). All (λ p. IsPhdr p × IsTrue (phdr_fits o.header.class p)) l) (sym (placed_parts_of o).1) (phdrs_fit o ranged un.segment));
       shdrs = All-map (λ h. IsShdr h × IsTrue (shdr_fits (placed_by (places_of o) o).header.class h)) (λ c. c.header) (placed_by (places_of o) o).sections
           (All-weaker (IsSection (placed_by (places_of o) o).header.class) (λ c. IsShdr c.header × IsTrue (shdr_fits (placed_by (places_of o) o).header.class c.header)) (λ c x. (x.header, x.fitting)) (placed_by (places_of o) o).sections is.sections);
       each = λ s h. let x = section_at_is (placed_by (places_of o) o) s is in (x.header, x.fitting);
@@ -366,23 +366,23 @@ unfolding opened_section settled_section
 opened_is_settled image bytes h e =
     ap (λ (raw : List ℕ). record { header = h; home = home_of (length image) h; raw = raw; pieces = home_piece ∷ []; marked = false }) e
 
-sections_settle : (image : List ℕ) (q : Object) → ((s : ℕ) → s < length q.sections → home_bytes (home_of (length image) (section_at q s).header) image ≡ joined q s) → map (opened_section image) (headers_of q) ≡ map (λ row. settled_section (length image) (joined q row.0) row.1.header) (enumerate_from 0 q.sections)
+pub sections_settle : (image : List ℕ) (q : Object) → ((s : ℕ) → s < length q.sections → home_bytes (home_of (length image) (section_at q s).header) image ≡ joined q s) → map (opened_section image) (headers_of q) ≡ map (λ row. settled_section (length image) (joined q row.0) row.1.header) (enumerate_from 0 q.sections)
 unfolding section_at
 sections_settle image q raws =
     let left = length-map (headers_of q) (opened_section image) in
     let headers = length-map q.sections (λ (c : Section). c.header) in
     let right = length-map (enumerate_from 0 q.sections) (λ (row : ℕ × Section). settled_section (length image) (joined q row.0) row.1.header) in
     let count = length-enumerate_from 0 q.sections in
-    ext_get_or new_section (map (opened_section image) (headers_of q)) (map (λ row. settled_section (length image) (joined q row.0) row.1.header) (enumerate_from 0 q.sections)) (omega arith) (λ s h.
+    ext_get_or absent_section (map (opened_section image) (headers_of q)) (map (λ row. settled_section (length image) (joined q row.0) row.1.header) (enumerate_from 0 q.sections)) (omega arith) (λ s h.
     let inside : s < length q.sections = omega arith in
-    let row : get_or (enumerate_from 0 q.sections) s (0, new_section) ≡ (0 + s, get_or q.sections s new_section) = get_or-enumerate_from 0 q.sections s (0, new_section) inside in
+    let row : get_or (enumerate_from 0 q.sections) s (0, absent_section) ≡ (0 + s, get_or q.sections s absent_section) = get_or-enumerate_from 0 q.sections s (0, absent_section) inside in
     let number : 0 + s ≡ s = omega arith in
-    get_or-map (opened_section image) (headers_of q) s new_section.header new_section (omega arith)
-    ∙ ap (opened_section image) (get_or-map (λ (c : Section). c.header) q.sections s new_section new_section.header inside)
-    ∙ opened_is_settled image (joined q s) (get_or q.sections s new_section).header (raws s inside)
-    ∙ sym (get_or-map (λ (r : ℕ × Section). settled_section (length image) (joined q r.0) r.1.header) (enumerate_from 0 q.sections) s (0, new_section) new_section (omega arith)
+    get_or-map (opened_section image) (headers_of q) s absent_section.header absent_section (omega arith)
+    ∙ ap (opened_section image) (get_or-map (λ (c : Section). c.header) q.sections s absent_section absent_section.header inside)
+    ∙ opened_is_settled image (joined q s) (get_or q.sections s absent_section).header (raws s inside)
+    ∙ sym (get_or-map (λ (r : ℕ × Section). settled_section (length image) (joined q r.0) r.1.header) (enumerate_from 0 q.sections) s (0, absent_section) absent_section (omega arith)
     ∙ ap (λ (r : ℕ × Section). settled_section (length image) (joined q r.0) r.1.header) row
-    ∙ ap (λ (k : ℕ). settled_section (length image) (joined q k) (get_or q.sections s new_section).header) number))
+    ∙ ap (λ (k : ℕ). settled_section (length image) (joined q k) (get_or q.sections s absent_section).header) number))
 
 begun_settles : (image : List ℕ) (q : Object) → map (opened_section image) (headers_of q) ≡ map (λ row. settled_section (length image) (joined q row.0) row.1.header) (enumerate_from 0 q.sections) → begun (front_of q) image ≡ as_opened (settled_over image q)
 unfolding begun front_of settled_over front_blocks standing_header written_header
@@ -412,13 +412,13 @@ settle-clean o clean = rw clean refl
 -- the image of an object, opened again, is that object settled
 pub reopen_law : (reads : ReadsBack) (o : Object) → ReopenLaw o
 unfolding opened
-reopen_law reads o ok tied passed = by_test (is_dirty o) refl
+reopen_law reads o ok ranged tied passed = by_test (is_dirty o) refl
   where
     by_test : (b : Bool) → is_dirty o ≡ b → opened (image o) ≡ Ok (as_opened (settle o))
     by_test true dirty =
         let same = placed-dirty o dirty in
         let stands : StandsIn (image o) (placed_by (places_of o) o) = subst (StandsIn (image o)) same (image_stands o ok dirty passed) in
-        let read = front_read reads (image o) (placed_by (places_of o) o) stands (placed_readable o ok dirty passed) in
+        let read = front_read reads (image o) (placed_by (places_of o) o) stands (placed_readable o ok ranged dirty passed) in
         let count = section_count-placed (places_of o) o in
         let sections = sections_settle (image o) (placed_by (places_of o) o) (λ s h. section_raw o s ok dirty passed (omega arith)) in
         let settled = settle-dirty o dirty ∙ ap (settled_over (image o)) same in

@@ -15,7 +15,7 @@ use Rattle.elf_layout.specs.Layout.{rounded_up, place_of, end_after, standing, i
 use Rattle.elf_layout.specs.Meeting.{has_bytes, end_of, meets}
 use Rattle.elf_object.specs.Blocks.{Block, block_end, covers, spread, stacked, last_end}
 use Rattle.object_laws.proofs.BlockLaws.{AreApart, AllApart, take-drop-spread}
-use Rattle.elf_object.specs.Object.{Object, Section, new_section, section_at, header_of, has_file_bytes, occupies_file, is_null, is_dirty}
+use Rattle.elf_object.specs.Object.{Object, Section, absent_section, section_at, header_of, has_file_bytes, occupies_file, is_null, is_dirty}
 use Rattle.elf_object.specs.Open.{written_front, no_block}
 use Rattle.elf_object.specs.Joined.{aligned_pieces, piece_blocks, pieces_end, joined}
 use Rattle.elf_object.specs.Derived.{where_any, derived_header, written_header, numbered_shdr}
@@ -86,7 +86,7 @@ blocks_apart b c p q first second apart k here there =
     let clash : false ≡ true = sym apart ∙ met in cc
 
 -- the blocks of a list of parts
-pub AreBlocksOf : List Block → List PartAt → Type 0
+unfoldable pub AreBlocksOf : List Block → List PartAt → Type 0
 AreBlocksOf [] [] = Unit {0}
 AreBlocksOf [] (p ∷ ps) = ⊥
 AreBlocksOf (b ∷ bs) [] = ⊥
@@ -200,7 +200,7 @@ segments_stand o =
       at = λ some. where_some (length o.phdrs) (PlacesOf o 1) (some_of (length o.phdrs) (phdr_size o.header.class) (omega arith));
     }
 
-table_stands : (o : Object) → IsBlockAt (front_blocks (placed_by (places_of o) o)).table (table_part o) (PlacesOf o (length o.sections + 1))
+table_stands : (o : Object) → IsBlockAt (front_blocks (placed_by (places_of o) o)).table (table_part o) (PlacesOf o (length o.sections - 1 + 2))
 unfolding front_blocks written_front placed_by written_header placed_header derived_header header_of
 table_stands o =
     let sections = map (λ r. placed_section (places_of o) o r.0 r.1) (enumerate_from 0 o.sections) in
@@ -209,7 +209,7 @@ table_stands o =
     let size : length (map (λ c. c.header) sections) * shdr_size o.header.class ≡ length o.sections * shdr_size o.header.class = ap (λ (n : ℕ). n * shdr_size o.header.class) count in
     record {
       len = len ∙ size;
-      at = λ some. where_some (length o.sections) (PlacesOf o (length o.sections + 1)) (some_of (length o.sections) (shdr_size o.header.class) (omega arith));
+      at = λ some. where_some (length o.sections) (PlacesOf o (length o.sections - 1 + 2)) (some_of (length o.sections) (shdr_size o.header.class) (omega arith));
     }
 
 -- ---- Sections of the placed object
@@ -237,9 +237,9 @@ type-placed places o s h = by_test (s == 0) (is_null h)
     by_test false false = refl
 
 -- an index past the sections
-pub section_at-past : (o : Object) (s : ℕ) → length o.sections ≤ s → section_at o s ≡ new_section
+pub section_at-past : (o : Object) (s : ℕ) → length o.sections ≤ s → section_at o s ≡ absent_section
 unfolding section_at
-section_at-past o s h = get_or_past o.sections s new_section h
+section_at-past o s h = get_or_past o.sections s absent_section h
 
 pub section_count-placed : (places : Places) (o : Object) → length (placed_by places o).sections ≡ length o.sections
 unfolding placed_by
@@ -322,10 +322,10 @@ row_last f m last j d h =
 pub length-row : {X : Type 0} (f : ℕ → X) (m : ℕ) (last : X) → length (map f (range_with_len 1 m) ++ last ∷ []) ≡ m + 1
 length-row f m last = let count = length-map-range_with_len f 1 m in length-append (map f (range_with_len 1 m)) (last ∷ []) ∙ omega arith
 
-table_place_is : (o : Object) (b : Block) (p : PartAt) (j : ℕ) → IsBlockAt b p (PlacesOf o (length o.sections + 1)) → j ≡ length o.sections - 1 → (0 < length b.bytes → 0 < length o.sections) → IsBlockAt b p (PlacesOf o (suc (suc j)))
-table_place_is o b p j of e some = record {
+table_place_is : (o : Object) (b : Block) (p : PartAt) (j : ℕ) → IsBlockAt b p (PlacesOf o (length o.sections - 1 + 2)) → j ≡ length o.sections - 1 → IsBlockAt b p (PlacesOf o (suc (suc j)))
+table_place_is o b p j of e = record {
   len = of.len;
-  at = λ full. let any = some full in let index : length o.sections + 1 ≡ suc (suc j) = omega arith in of.at full ∙ ap (PlacesOf o) index;
+  at = λ full. let index : length o.sections - 1 + 2 ≡ suc (suc j) = omega arith in of.at full ∙ ap (PlacesOf o) index;
 }
 
 part_stands : (o : Object) (i : ℕ) (b : Block) (d : PartAt) → length o.pad ≡ 7 → i < length (parts_of o) → IsBlockAt (get_or (part_blocks (placed_by (places_of o) o)) i b) (get_or (parts_of o) i d) (PlacesOf o i)
@@ -352,7 +352,7 @@ part_stands o (suc (suc j)) b d seven h =
     let last : j ≡ length o.sections - 1 = omega arith in
     let left = row_last (section_block (placed_by (places_of o) o)) (length o.sections - 1) (front_blocks (placed_by (places_of o) o)).table j b last in
     let right = row_last (section_part o) (length o.sections - 1) (table_part o) j d last in
-    let stands = table_place_is o (front_blocks (placed_by (places_of o) o)).table (table_part o) j (table_stands o) last (λ full. some_of (length o.sections) (shdr_size o.header.class) (let len = (table_stands o).len in omega arith)) in
+    let stands = table_place_is o (front_blocks (placed_by (places_of o) o)).table (table_part o) j (table_stands o) last in
     subst (λ (x : Block). IsBlockAt x (get_or (map (section_part o) (range_with_len 1 (length o.sections - 1)) ++ table_part o ∷ []) j d) (PlacesOf o (suc (suc j)))) (sym left)
     (subst (λ (x : PartAt). IsBlockAt (front_blocks (placed_by (places_of o) o)).table x (PlacesOf o (suc (suc j)))) (sym right) stands))
     (cases_lt j (length o.sections - 1)))

@@ -1,7 +1,7 @@
 -- Each step keeps that an object in which nothing is dirty is that of its base (`IsTied`): it marks what it changes, or it
 -- changes nothing that opening gives.
 use Rattle.std.proofs.Common.{◌≡◌, ℕ, ◌<◌, Bool, true, false, not, ◌&&◌, ◌||◌, List, [], ◌∷◌, ◌++◌, length, set, Option, None, Ok, Err, refl, sym, ap, ◌∙◌, subst, arith}
-use Rattle.std.specs.Prelude.{if◌then◌else◌, ◌==◌, nat_le, Result}
+use Rattle.std.specs.Prelude.{All, if◌then◌else◌, ◌==◌, nat_le, Result}
 use Rattle.std.specs.List.{list_any}
 use Rattle.std.proofs.lemmas.Bool.{leb-false}
 use Rattle.std.proofs.lemmas.List.{length-set, get_or-set_same}
@@ -9,6 +9,8 @@ use Rattle.elf_types.specs.declared.records.Class.{Class}
 use Rattle.elf_types.specs.declared.records.Order.{Order}
 use Rattle.elf_types.specs.declared.records.Kind.{Kind}
 use Rattle.elf_types.specs.declared.records.Kind.TheVariants as kinds
+use Rattle.elf_types.specs.declared.records.Ehdr.{Ehdr}
+use Rattle.elf_types.specs.declared.records.Phdr.{Phdr}
 use Rattle.elf_types.specs.declared.records.Shdr.{Shdr}
 use Rattle.elf_types.specs.declared.records.Sym.{Sym}
 use Rattle.elf_types.specs.declared.records.Rel.{Rel}
@@ -23,25 +25,27 @@ use Rattle.elf_xlate.specs.declared.content.Items.TheVariants as items
 use Rattle.elf_xlate.specs.Fields.{fits}
 use Rattle.elf_xlate.specs.Headers.{shdr_fits}
 use Rattle.elf_xlate.specs.Items.{sym_fits, rel_fits, rela_fits, dyn_fits}
-use Rattle.elf_xlate.specs.Translation.{items_count}
+use Rattle.elf_xlate.specs.Headers.{IsPhdr}
+use Rattle.elf_xlate.specs.Translation.{items_count, items_kind}
 use Rattle.elf_ident.specs.declared.fronts.Front.{Front}
 use Rattle.elf_ident.specs.Front.{front}
 use Rattle.elf_types.specs.Answers.{refused_if, first_refusal}
 use Rattle.elf_object.specs.Object.{Object, Section, Piece, section_at, piece_at, new_section, home_piece, is_dirty, some_section_marked, some_piece_marked}
 use Rattle.elf_object.specs.Open.{begun, begun_or_refused, opened, created_over}
 use Rattle.elf_object.specs.Answers.{no_section, no_data, wrong_kind, no_content, no_entry, count_at, kind_at, items_at, piece_count, flags_of, has_dirty, has_layout, piece_refusal, part_refusal, lend_refusal, item_refusal, halves_of, words_of, addrs_of, syms_of, rels_of, relas_of, dyns_of}
-use Rattle.elf_object.specs.Steps.{new_number, with_section, with_piece_at, with_ehdr, with_phdrs, with_phdr, with_new_phdrs, with_shdr, with_new_section, with_null_section, with_new_piece, own_piece, with_own, with_mark, with_layout, with_flags, is_whole, with_fill}
+use Rattle.elf_object.specs.Steps.{with_sections, new_number, with_section, with_piece_at, with_ehdr, with_phdrs, with_phdr, with_new_phdrs, with_shdr, with_new_section, with_null_section, with_new_piece, own_piece, with_own, with_mark, with_layout, with_flags, is_whole, with_fill}
 use Rattle.elf_object.specs.Layout.{places_of, placed_by, placed}
 use Rattle.elf_object.specs.Image.{image, image_length}
 use Rattle.elf_object.specs.Refusal.{refusal}
 use Rattle.elf_object.specs.Settled.{settled_over, settle}
-use Rattle.elf_object.specs.Changed.{torn}
-use Rattle.elf_object.specs.Calls.{step, edit, update_ehdr_refusal, update_phdr_refusal, newphdr_refusal, update_shdr, update_shdr_refusal, newscn, newscn_refusal, newnull, newdata_aligned, newdata_refusal, unfit_items, set_fill, replace, replace_refusal, flag, flag_refusal, update_null, lend, update_item, update_item_refusal, update_half, update_word, update_addr, update_sym, update_rel, update_rela, update_dynent}
-use Rattle.elf_object.specs.Runs.{addall, added, or_same}
+use Rattle.elf_object.specs.Changed.{is_moved, torn_over, torn}
+use Rattle.elf_object.specs.Calls as calls
+use Rattle.elf_object.specs.Calls.{Call, ehdr, phdr, shdr, update_ehdr, update_phdr, newphdr, phdrs_mut, step, edit_with, update_ehdr_refusal, update_phdr_refusal, newphdr_refusal, update_shdr, update_shdr_refusal, newscn, newscn_refusal, newnull, newdata_aligned, newdata_refusal, unfit_items, set_fill, replace, replace_refusal, flag, flag_refusal, update_null, lend, update_item, update_item_refusal, update_half, update_word, update_addr, update_sym, update_rel, update_rela, update_dynent}
+use Rattle.elf_object.specs.Runs.{addall, set_item, added, or_same}
 use Rattle.elf_object.specs.Valid.{IsObject, IsTied, KeepsTied, as_opened}
 use Rattle.object_laws.specs.Laws.{BeginningsAreTied, EveryStepKeepsTied, ReopenLaw, UpdatesTie}
-use Rattle.object_laws.proofs.PassedLaws.{none_first, none_rest, not_refused, answered_keeps, edit_keeps}
-use Rattle.object_laws.proofs.StepLaws.{last_true, section_count-with_section, section_at-with_section, dirty_by_section, marked_by_piece, dirty-with_own, dirty-with_shdr}
+use Rattle.elf_object.proofs.PassedLaws.{none_first, none_rest, not_refused, answered_keeps, edit_keeps, looked_keeps}
+use Rattle.elf_object.proofs.StepLaws.{last_true, section_count-with_section, section_at-with_section, dirty_by_section, marked_by_piece, dirty-with_own, dirty-with_shdr}
 use Rattle.object_laws.proofs.ImageLaws.{image-clean}
 use Rattle.object_laws.proofs.TornLaws.{dirty-placed}
 use Rattle.object_laws.proofs.SettledLaws.{settle-dirty, settle-clean}
@@ -57,8 +61,8 @@ tied_same : (o q : Object) → is_dirty q ≡ is_dirty o → q.base ≡ o.base �
 tied_same o q marks base same tied clean = ap opened base ∙ tied (sym marks ∙ clean) ∙ ap Ok (sym same)
 
 -- an edit that marks something
-marking_ties : {A : Type 0} (refusal : Object → Option ElfError) (value : Object → A) (after : Object → Object) → ((o : Object) → is_dirty (after o) ≡ true) → KeepsTied (edit refusal value after)
-marking_ties refusal value after marks = edit_keeps IsTied refusal value after (λ o tied passed. tied_dirty (after o) (marks o))
+marking_ties : {A : Type 0} (memory : Object → List Bool → List Bool → Bool) (refusal : Object → Option ElfError) (value : Object → A) (after : Object → Object) → ((o : Object) → is_dirty (after o) ≡ true) → KeepsTied (edit_with memory refusal value after)
+marking_ties memory refusal value after marks = edit_keeps IsTied memory refusal value after (λ o tied passed. tied_dirty (after o) (marks o))
 
 -- ---- Marks
 
@@ -81,7 +85,7 @@ dirty-with_section o s c inside marked =
     dirty_by_section (with_section o s c) s (omega arith) (ap (λ (x : Section). x.marked || some_piece_marked x) (section_at-with_section o s c inside) ∙ marked)
 
 -- sections that are appended are marked
-dirty-with_sections : (o : Object) (l : List Section) → list_any (λ c. c.marked || some_piece_marked c) l ≡ true → is_dirty (record o { sections = o.sections ++ l }) ≡ true
+dirty-with_sections : (o : Object) (l : List Section) → list_any (λ c. c.marked || some_piece_marked c) l ≡ true → is_dirty (with_sections o (o.sections ++ l)) ≡ true
 unfolding is_dirty some_section_marked
 dirty-with_sections o l marked =
     rw (any_behind (λ c. c.marked || some_piece_marked c) o.sections l marked) (last_true (o.marked || o.header_marked || o.segments_marked))
@@ -117,7 +121,7 @@ piece_inside o s p rs passed =
 
 update_shdr_ties : (s : ℕ) (h : Shdr) → KeepsTied (update_shdr s h)
 unfolding update_shdr_refusal
-update_shdr_ties s h = edit_keeps IsTied (λ o. update_shdr_refusal o s h) (λ o. tt) (λ o. with_shdr o s h) (λ o tied passed.
+update_shdr_ties s h = edit_keeps IsTied _ (λ o. update_shdr_refusal o s h) (λ o. tt) (λ o. with_shdr o s h) (λ o tied passed.
     let inside = section_inside o s (refused_if (s == 0) Reserved ∷ refused_if (not (shdr_fits o.header.class h)) (Unfit (part.Section s) 0) ∷ []) passed in
     tied_dirty (with_shdr o s h) (dirty-with_shdr o s h inside))
 
@@ -127,30 +131,30 @@ new_marked false = refl
 
 newscn_ties : KeepsTied newscn
 unfolding with_new_section
-newscn_ties = edit_keeps IsTied newscn_refusal new_number with_new_section (λ o tied passed.
+newscn_ties = edit_keeps IsTied _ newscn_refusal new_number with_new_section (λ o tied passed.
     tied_dirty (with_new_section o) (dirty-with_sections o (if length o.sections == 0 then new_section ∷ new_section ∷ [] else new_section ∷ []) (new_marked (length o.sections == 0))))
 
-null_ties : (b : Bool) (o : Object) → IsTied o → IsTied (if b then (record o { sections = new_section ∷ [] }) else o)
+null_ties : (b : Bool) (o : Object) → IsTied o → IsTied (if b then with_sections o (new_section ∷ []) else o)
 unfolding is_dirty some_section_marked
-null_ties true o tied = tied_dirty (record o { sections = new_section ∷ [] }) (last_true (o.marked || o.header_marked || o.segments_marked))
+null_ties true o tied = tied_dirty (with_sections o (new_section ∷ [])) (last_true (o.marked || o.header_marked || o.segments_marked))
 null_ties false o tied = tied
 
 newnull_ties : KeepsTied newnull
 unfolding with_null_section
-newnull_ties = edit_keeps IsTied (λ o. None) (λ o. tt) with_null_section (λ o tied passed. null_ties (length o.sections == 0) o tied)
+newnull_ties = edit_keeps IsTied _ (λ o. None) (λ o. tt) with_null_section (λ o tied passed. null_ties (length o.sections == 0) o tied)
 
 -- ---- Pieces and items
 
 newdata_ties : (s : ℕ) (items : Items) (align : ℕ) → KeepsTied (newdata_aligned s items align)
 unfolding newdata_refusal
 newdata_ties s items align =
-    edit_keeps IsTied (λ o. newdata_refusal o s items align) (λ o. (s, piece_count o s)) (λ o. with_new_piece o s items align) (λ o tied passed.
+    edit_keeps IsTied _ (λ o. newdata_refusal o s items align) (λ o. (s, piece_count o s)) (λ o. with_new_piece o s items align) (λ o tied passed.
     let inside = section_inside o s _ passed in
     tied_dirty (with_new_piece o s items align) (dirty-with_new_piece o s items align inside))
 
 replace_ties : (s p : ℕ) (items : Items) → KeepsTied (replace s p items)
 unfolding replace_refusal
-replace_ties s p items = edit_keeps IsTied (λ o. replace_refusal o s p items) (λ o. tt) (λ o. with_own o s p items) (λ o tied passed.
+replace_ties s p items = edit_keeps IsTied _ (λ o. replace_refusal o s p items) (λ o. tt) (λ o. with_own o s p items) (λ o tied passed.
     let third = unfit_items o s p items ∷ [] in
     let second = no_data o s p ∷ third in
     let inside = section_inside o s (refused_if (s == 0) Reserved ∷ second) passed in
@@ -166,9 +170,9 @@ own_ties o kind s p left passed =
     let below = piece_inside o s p second (none_rest (no_section o s) (no_data o s p ∷ second) passed) in
     tied_dirty (with_own o s p left) (dirty-with_own o s p left inside below)
 
-lend_ties : (kind : Kind) (s p : ℕ) (left : Items) → KeepsTied (lend kind s p left)
+lend_ties : (s p : ℕ) (left : Items) → KeepsTied (lend s p left)
 unfolding step
-lend_ties kind s p left o tied = answered_keeps IsTied (lend_refusal o kind s p) (items_at o s p) o (with_own o s p left) tied (λ passed. own_ties o kind s p left passed)
+lend_ties s p left o tied = answered_keeps IsTied (lend_refusal o (items_kind left) s p) (items_at o s p) o (with_own o s p left) tied (λ passed. own_ties o (items_kind left) s p left passed)
 
 update_item_ties : (kind : Kind) (s p i : ℕ) (fitting : Class → Bool) (stored : Items → Items) → KeepsTied (update_item kind s p i fitting stored)
 unfolding step update_item_refusal item_refusal
@@ -237,12 +241,12 @@ flagged_ties false false set o p passed tied = tied
 
 flag_ties : (p : Part) (set : Bool) (bits : ℕ) → KeepsTied (flag p set bits)
 unfolding with_flags flag_refusal
-flag_ties p set bits = edit_keeps IsTied (λ o. flag_refusal o p set bits) (λ o. flags_of (with_flags o p set bits) p) (λ o. with_flags o p set bits)
+flag_ties p set bits = edit_keeps IsTied _ (λ o. flag_refusal o p set bits) (λ o. flags_of (with_flags o p set bits) p) (λ o. with_flags o p set bits)
     (λ o tied passed. flagged_ties (set && has_dirty bits) (is_whole p && has_layout bits) set o p (none_first (part_refusal o p) _ passed) tied)
 
 set_fill_ties : (byte : ℕ) → KeepsTied (set_fill byte)
 unfolding with_fill is_dirty some_section_marked
-set_fill_ties byte = edit_keeps IsTied (λ o. None) (λ o. tt) (λ o. with_fill o byte) (λ o tied passed. tied_same o (record o { fill = byte }) refl refl refl tied)
+set_fill_ties byte = edit_keeps IsTied _ (λ o. None) (λ o. tt) (λ o. with_fill o byte) (λ o tied passed. tied_same o (record o { fill = byte }) refl refl refl tied)
 
 placed_ties : (o : Object) → IsTied o → IsTied (placed o)
 unfolding placed
@@ -253,7 +257,7 @@ placed_ties o tied = by_test (is_dirty o) refl
     by_test false clean = tied
 
 update_null_ties : KeepsTied update_null
-update_null_ties = edit_keeps IsTied refusal image_length placed (λ o tied passed. placed_ties o tied)
+update_null_ties = edit_keeps IsTied _ refusal image_length placed (λ o tied passed. placed_ties o tied)
 
 -- ---- Beginnings, and updates in place
 
@@ -277,31 +281,56 @@ base_over : (bytes : List ℕ) (q : Object) → (settled_over bytes q).base ≡ 
 unfolding settled_over
 base_over bytes q = refl
 
-settle_ties : (o : Object) → ReopenLaw o → IsObject o → IsTied o → refusal o ≡ None → IsTied (settle o)
-settle_ties o reopens ok tied passed clean = ap opened (base_settled (is_dirty o) refl) ∙ reopens ok tied passed
+settle_ties : (o : Object) → ReopenLaw o → IsObject o → All IsPhdr o.phdrs → IsTied o → refusal o ≡ None → IsTied (settle o)
+settle_ties o reopens ok ranged tied passed clean = ap opened (base_settled (is_dirty o) refl) ∙ reopens ok ranged tied passed
   where
     base_settled : (b : Bool) → is_dirty o ≡ b → (settle o).base ≡ image o
     base_settled true dirty = ap (λ (q : Object). q.base) (settle-dirty o dirty) ∙ base_over (image o) (placed o)
     base_settled false still = ap (λ (q : Object). q.base) (settle-clean o still) ∙ sym (image-clean o still)
 
-torn_ties : (o : Object) (bytes : List ℕ) → IsTied (torn o bytes)
-unfolding torn is_dirty
-torn_ties o bytes = tied_dirty (torn o bytes) refl
+torn_over_ties : (moved : ℕ → Bool) (bytes : List ℕ) (q : Object) → IsTied (torn_over moved bytes q)
+unfolding torn_over is_dirty
+torn_over_ties moved bytes q = tied_dirty (torn_over moved bytes q) refl
+
+torn_ties : (o : Object) (bytes : List ℕ) → IsTied o → IsTied (torn o bytes)
+unfolding torn
+torn_ties o bytes tied = by_test (is_dirty o)
+  where
+    by_test : (b : Bool) → IsTied (if b then torn_over (is_moved o) bytes (placed o) else o)
+    by_test true = torn_over_ties (is_moved o) bytes (placed o)
+    by_test false = tied
 
 -- ---- The laws
 
--- the marks of the headers are shown in the law itself, so that it is what refuses a step that forgets one
+update_ehdr_ties : (h : Ehdr) → KeepsTied (update_ehdr h)
+unfolding is_dirty with_ehdr
+update_ehdr_ties h = marking_ties _ (λ o. update_ehdr_refusal o h) (λ o. tt) (λ o. with_ehdr o h)
+    (λ o. second_true o.marked o.segments_marked (some_section_marked (with_ehdr o h)))
+
+update_phdr_ties : (i : ℕ) (p : Phdr) → KeepsTied (update_phdr i p)
+unfolding is_dirty with_phdr with_phdrs
+update_phdr_ties i p = marking_ties _ (λ o. update_phdr_refusal o i p) (λ o. tt) (λ o. with_phdr o i p)
+    (λ o. third_true o.marked o.header_marked (some_section_marked (with_phdr o i p)))
+
+newphdr_ties : (n : ℕ) → KeepsTied (newphdr n)
+unfolding is_dirty with_new_phdrs with_phdrs
+newphdr_ties n = marking_ties _ (λ o. newphdr_refusal n) (λ o. tt) (λ o. with_new_phdrs o n)
+    (λ o. third_true o.marked o.header_marked (some_section_marked (with_new_phdrs o n)))
+
+phdrs_mut_ties : (left : List Phdr) → KeepsTied (phdrs_mut left)
+unfolding is_dirty with_phdrs
+phdrs_mut_ties left = marking_ties _ (λ o. None) (λ o. tt) (λ o. with_phdrs o left)
+    (λ o. third_true o.marked o.header_marked (some_section_marked (with_phdrs o left)))
+
+set_item_ties : {A : Type 0} (get : Call A) (update : A → Call (Unit {0})) (change : A → A) → ((x : A) → KeepsTied (update x)) → KeepsTied (set_item get update change)
+set_item_ties get update change keeps = looked_keeps IsTied get (λ x. update (change x)) (λ x o tied e. keeps (change x) o tied)
+
 pub every_step_keeps_tied : EveryStepKeepsTied
-unfolding is_dirty with_ehdr with_phdrs with_phdr with_new_phdrs
 every_step_keeps_tied = record {
-  update_ehdr = λ h. marking_ties (λ o. update_ehdr_refusal o h) (λ o. tt) (λ o. with_ehdr o h)
-      (λ o. second_true o.marked o.segments_marked (some_section_marked (with_ehdr o h)));
-  update_phdr = λ i p. marking_ties (λ o. update_phdr_refusal o i p) (λ o. tt) (λ o. with_phdr o i p)
-      (λ o. third_true o.marked o.header_marked (some_section_marked (with_phdr o i p)));
-  newphdr = λ n. marking_ties (λ o. newphdr_refusal n) (λ o. tt) (λ o. with_new_phdrs o n)
-      (λ o. third_true o.marked o.header_marked (some_section_marked (with_new_phdrs o n)));
-  phdrs_mut = λ left. marking_ties (λ o. None) (λ o. tt) (λ o. with_phdrs o left)
-      (λ o. third_true o.marked o.header_marked (some_section_marked (with_phdrs o left)));
+  update_ehdr = update_ehdr_ties;
+  update_phdr = update_phdr_ties;
+  newphdr = newphdr_ties;
+  phdrs_mut = phdrs_mut_ties;
   update_shdr = update_shdr_ties;
   newscn = newscn_ties;
   newnull = newnull_ties;
@@ -319,6 +348,16 @@ every_step_keeps_tied = record {
   update_rela = update_rela_ties;
   update_dynent = update_dynent_ties;
   addall = addall_ties;
+  set_ehdr = λ change. looked_keeps IsTied ehdr (λ h. update_ehdr (change h)) (λ h o tied e. update_ehdr_ties (change h) o tied);
+  set_phdr = λ i change. looked_keeps IsTied (phdr i) (λ p. update_phdr i (change p)) (λ p o tied e. update_phdr_ties i (change p) o tied);
+  set_shdr = λ s change. looked_keeps IsTied (shdr s) (λ h. update_shdr s (change h)) (λ h o tied e. update_shdr_ties s (change h) o tied);
+  set_half = λ s p i change. set_item_ties (calls.half s p i) (calls.update_half s p i) change (λ x. update_half_ties s p i x);
+  set_word = λ s p i change. set_item_ties (calls.word s p i) (calls.update_word s p i) change (λ x. update_word_ties s p i x);
+  set_addr = λ s p i change. set_item_ties (calls.addr s p i) (calls.update_addr s p i) change (λ x. update_addr_ties s p i x);
+  set_sym = λ s p i change. set_item_ties (calls.sym s p i) (calls.update_sym s p i) change (λ x. update_sym_ties s p i x);
+  set_rel = λ s p i change. set_item_ties (calls.rel s p i) (calls.update_rel s p i) change (λ x. update_rel_ties s p i x);
+  set_rela = λ s p i change. set_item_ties (calls.rela s p i) (calls.update_rela s p i) change (λ x. update_rela_ties s p i x);
+  set_dynent = λ s p i change. set_item_ties (calls.dynent s p i) (calls.update_dynent s p i) change (λ x. update_dynent_ties s p i x);
 }
 
 pub beginnings_are_tied : BeginningsAreTied

@@ -16,12 +16,12 @@ use Rattle.elf_layout.specs.Layout.{length_from, length_of, standing, places_of 
 use Rattle.elf_types.specs.Answers.{first_refusal}
 use Rattle.elf_object.specs.Blocks.{spread, is_covered, stacked, last_end}
 use Rattle.object_laws.proofs.BlockLaws.{get_or-spread, byte_over-uncovered}
-use Rattle.elf_object.specs.Object.{Object, Home, Section, new_section, section_at, has_file_bytes, is_dirty, some_section_marked, some_piece_marked}
+use Rattle.elf_object.specs.Object.{Object, Home, Section, absent_section, section_at, has_file_bytes, is_dirty, some_section_marked, some_piece_marked}
 use Rattle.elf_object.specs.Joined.{piece_bytes, aligned_pieces, piece_blocks, pieces_end, joined}
 use Rattle.elf_object.specs.Layout.{parts_of, places_of, placed_header, placed_shdr, placed_section, placed_by, placed}
 use Rattle.elf_object.specs.Image.{part_blocks, uncovered_byte, kept_base, image_length, image}
 use Rattle.elf_object.specs.Refusal.{content_refusal, placing_refusal, refusal}
-use Rattle.elf_object.specs.Changed.{is_moved, marked_piece, torn_section, torn}
+use Rattle.elf_object.specs.Changed.{is_moved, marked_piece, torn_section, torn_over, torn}
 use Rattle.object_laws.proofs.ImageLaws.{section_at-placed, placed-dirty, placed-clean, image-dirty, length-image}
 use Rattle.object_laws.proofs.PlaceLaws.{length_from-ge}
 use Rattle.object_laws.proofs.StandLaws.{section_count-placed, joined-placed, section_at-past}
@@ -113,7 +113,7 @@ sections_stay : (o : Object) → map (λ r. placed_section (places_of (placed_by
 unfolding section_at
 sections_stay o =
     let count = section_count-placed (places_of o) o in
-    rows_stay (placed_section (places_of (placed_by (places_of o) o)) (placed_by (places_of o) o)) (placed_by (places_of o) o).sections new_section (λ i h. section_stays o i (omega arith))
+    rows_stay (placed_section (places_of (placed_by (places_of o) o)) (placed_by (places_of o) o)) (placed_by (places_of o) o).sections absent_section (λ i h. section_stays o i (omega arith))
 
 stored : (places : Places) (q : Object) → placed_header places q ≡ q.header → map (λ r. placed_section places q r.0 r.1) (enumerate_from 0 q.sections) ≡ q.sections → placed_by places q ≡ q
 unfolding placed_by
@@ -158,37 +158,29 @@ placed_stays o ok passed = by_test (is_dirty o) refl
 
 -- ---- A failed write
 
--- the placed object with another base and further marks
-torn_of : (ℕ → Bool) → List ℕ → Object → Object
-torn_of moved bytes q = record q {
-  base = bytes;
-  marked = true;
-  sections = map (λ row. torn_section (moved row.0) row.1) (enumerate_from 0 q.sections);
-}
+pub torn-is : (o : Object) (bytes : List ℕ) → is_dirty o ≡ true → torn o bytes ≡ torn_over (is_moved o) bytes (placed_by (places_of o) o)
+unfolding torn
+torn-is o bytes dirty = rw dirty (ap (torn_over (is_moved o) bytes) (placed-dirty o dirty))
 
-torn-is : (o : Object) (bytes : List ℕ) → is_dirty o ≡ true → torn o bytes ≡ torn_of (is_moved o) bytes (placed_by (places_of o) o)
-unfolding torn torn_of
-torn-is o bytes dirty = ap (torn_of (is_moved o) bytes) (placed-dirty o dirty)
-
-section_count-torn : (moved : ℕ → Bool) (bytes : List ℕ) (q : Object) → length (torn_of moved bytes q).sections ≡ length q.sections
-unfolding torn_of
+section_count-torn : (moved : ℕ → Bool) (bytes : List ℕ) (q : Object) → length (torn_over moved bytes q).sections ≡ length q.sections
+unfolding torn_over
 section_count-torn moved bytes q = length-map (enumerate_from 0 q.sections) (λ row. torn_section (moved row.0) row.1) ∙ length-enumerate_from 0 q.sections
 
-section_at-torn : (moved : ℕ → Bool) (bytes : List ℕ) (q : Object) (s : ℕ) → s < length q.sections → section_at (torn_of moved bytes q) s ≡ torn_section (moved s) (section_at q s)
-unfolding torn_of section_at
+section_at-torn : (moved : ℕ → Bool) (bytes : List ℕ) (q : Object) (s : ℕ) → s < length q.sections → section_at (torn_over moved bytes q) s ≡ torn_section (moved s) (section_at q s)
+unfolding torn_over section_at
 section_at-torn moved bytes q s h =
     let count = length-enumerate_from 0 q.sections in
-    let row : get_or (enumerate_from 0 q.sections) s (0, new_section) ≡ (0 + s, get_or q.sections s new_section) = get_or-enumerate_from 0 q.sections s (0, new_section) h in
+    let row : get_or (enumerate_from 0 q.sections) s (0, absent_section) ≡ (0 + s, get_or q.sections s absent_section) = get_or-enumerate_from 0 q.sections s (0, absent_section) h in
     let number : 0 + s ≡ s = omega arith in
-    get_or-map (λ (r : ℕ × Section). torn_section (moved r.0) r.1) (enumerate_from 0 q.sections) s (0, new_section) new_section (omega arith)
+    get_or-map (λ (r : ℕ × Section). torn_section (moved r.0) r.1) (enumerate_from 0 q.sections) s (0, absent_section) absent_section (omega arith)
     ∙ ap (λ (r : ℕ × Section). torn_section (moved r.0) r.1) row
-    ∙ ap (λ (k : ℕ). torn_section (moved k) (get_or q.sections s new_section)) number
+    ∙ ap (λ (k : ℕ). torn_section (moved k) (get_or q.sections s absent_section)) number
 
 -- what marks do not change
-torn_facts : {A : Type 0} (f : Section → A) (moved : ℕ → Bool) (bytes : List ℕ) (q : Object) (s : ℕ) → ((b : Bool) (c : Section) → f (torn_section b c) ≡ f c) → f (section_at (torn_of moved bytes q) s) ≡ f (section_at q s)
+torn_facts : {A : Type 0} (f : Section → A) (moved : ℕ → Bool) (bytes : List ℕ) (q : Object) (s : ℕ) → ((b : Bool) (c : Section) → f (torn_section b c) ≡ f c) → f (section_at (torn_over moved bytes q) s) ≡ f (section_at q s)
 torn_facts f moved bytes q s same = ⊎_elim
     (λ h. ap f (section_at-torn moved bytes q s h) ∙ same (moved s) (section_at q s))
-    (λ h. let count = section_count-torn moved bytes q in ap f (section_at-past (torn_of moved bytes q) s (omega arith) ∙ sym (section_at-past q s h)))
+    (λ h. let count = section_count-torn moved bytes q in ap f (section_at-past (torn_over moved bytes q) s (omega arith) ∙ sym (section_at-past q s h)))
     (cases_lt s (length q.sections))
 
 header-torn : (b : Bool) (c : Section) → (torn_section b c).header ≡ c.header
@@ -229,12 +221,12 @@ joined-torn class order fill s b c =
     ap (λ (h : Shdr). if not (s == 0) && not (h.stype == 0 || h.stype == 8) then spread (last_end 0 (stacked 0 (aligned_pieces class order (torn_section b c)))) (λ _. fill) (stacked 0 (aligned_pieces class order (torn_section b c))) else []) header
     ∙ ap (λ (l : List (ℕ × List ℕ)). if not (s == 0) && not (c.header.stype == 0 || c.header.stype == 8) then spread (last_end 0 (stacked 0 l)) (λ _. fill) (stacked 0 l) else []) (aligned-torn class order b c)
 
-joined-torn_of : (moved : ℕ → Bool) (bytes : List ℕ) (q : Object) (s : ℕ) → joined (torn_of moved bytes q) s ≡ joined q s
-unfolding joined pieces_end piece_blocks torn_of joined_from
+joined-torn_of : (moved : ℕ → Bool) (bytes : List ℕ) (q : Object) (s : ℕ) → joined (torn_over moved bytes q) s ≡ joined q s
+unfolding joined pieces_end piece_blocks torn_over joined_from
 joined-torn_of moved bytes q s = torn_facts (joined_from q.header.class q.header.order q.fill s) moved bytes q s (joined-torn q.header.class q.header.order q.fill s)
 
-torn_front : (o : Object) (moved : ℕ → Bool) (bytes : List ℕ) → SameFront (torn_of moved bytes (placed_by (places_of o) o)) o
-unfolding torn_of placed_by
+pub torn_front : (o : Object) (moved : ℕ → Bool) (bytes : List ℕ) → SameFront (torn_over moved bytes (placed_by (places_of o) o)) o
+unfolding torn_over placed_by
 torn_front o moved bytes = record {
   layout = refl;
   header = refl;
@@ -245,8 +237,8 @@ torn_front o moved bytes = record {
   bytes = λ s. joined-torn_of moved bytes (placed_by (places_of o) o) s ∙ joined-placed (places_of o) o s;
 }
 
-torn_content : (o : Object) (moved : ℕ → Bool) (bytes : List ℕ) → SameContent (torn_of moved bytes (placed_by (places_of o) o)) o
-unfolding torn_of
+torn_content : (o : Object) (moved : ℕ → Bool) (bytes : List ℕ) → SameContent (torn_over moved bytes (placed_by (places_of o) o)) o
+unfolding torn_over
 torn_content o moved bytes =
     let content = content_placed o in
     record {
@@ -258,8 +250,8 @@ torn_content o moved bytes =
       out = λ s. torn_facts (λ c. c.home.out) moved bytes (placed_by (places_of o) o) s (λ b c. ap (λ (h : Home). h.out) (home-torn b c)) ∙ content.out s;
     }
 
-torn_dirty : (moved : ℕ → Bool) (bytes : List ℕ) (q : Object) → is_dirty (torn_of moved bytes q) ≡ true
-unfolding torn_of is_dirty
+pub torn_dirty : (moved : ℕ → Bool) (bytes : List ℕ) (q : Object) → is_dirty (torn_over moved bytes q) ≡ true
+unfolding torn_over is_dirty
 torn_dirty moved bytes q = refl
 
 -- the image is at least as long as the base that counts
@@ -279,14 +271,14 @@ torn_base o bytes dirty is lay =
     ⊎_elim (λ len. len) (λ len. omega arith) is.len
 
 -- where no part stands, the torn base has the byte that the base had
-image_uncovered : (o : Object) (k : ℕ) → is_dirty o ≡ true → k < image_length o → is_covered (part_blocks (placed o)) k ≡ false → get_or (image o) k 0 ≡ uncovered_byte o k
+pub image_uncovered : (o : Object) (k : ℕ) → is_dirty o ≡ true → k < image_length o → is_covered (part_blocks (placed o)) k ≡ false → get_or (image o) k 0 ≡ uncovered_byte o k
 image_uncovered o k dirty h none =
     ap (λ (l : List ℕ). get_or l k 0) (image-dirty o dirty)
     ∙ get_or-spread (image_length o) (uncovered_byte o) (part_blocks (placed o)) k h
     ∙ byte_over-uncovered (uncovered_byte o) (part_blocks (placed o)) k none
 
-torn_uncovered : (o : Object) (moved : ℕ → Bool) (bytes : List ℕ) (k : ℕ) → is_dirty o ≡ true → IsTornImage o bytes → k < image_length o → is_covered (part_blocks (placed o)) k ≡ false → uncovered_byte (torn_of moved bytes (placed_by (places_of o) o)) k ≡ uncovered_byte o k
-unfolding uncovered_byte kept_base torn_of placed_by
+torn_uncovered : (o : Object) (moved : ℕ → Bool) (bytes : List ℕ) (k : ℕ) → is_dirty o ≡ true → IsTornImage o bytes → k < image_length o → is_covered (part_blocks (placed o)) k ≡ false → uncovered_byte (torn_over moved bytes (placed_by (places_of o) o)) k ≡ uncovered_byte o k
+unfolding uncovered_byte kept_base torn_over placed_by
 torn_uncovered o moved bytes k dirty is h none = by_test o.layout refl
   where
     by_test : (b : Bool) → o.layout ≡ b → (if nat_lt k (if o.layout then length bytes else 0) then get_or bytes k 0 else o.fill) ≡ (if nat_lt k (if o.layout then length o.base else 0) then get_or o.base k 0 else o.fill)
@@ -304,15 +296,15 @@ torn_uncovered o moved bytes k dirty is h none = by_test o.layout refl
 
 -- a torn object is not refused and has the same image
 pub torn_law : (o : Object) → TornLaw o
-unfolding torn_of
+unfolding torn_over
 torn_law o bytes ok dirty passed is =
-    let t = torn_of (is_moved o) bytes (placed_by (places_of o) o) in
+    let t = torn_over (is_moved o) bytes (placed_by (places_of o) o) in
     let same = torn-is o bytes dirty in
     let front = torn_front o (is_moved o) bytes in
     let marked = torn_dirty (is_moved o) bytes (placed_by (places_of o) o) in
     let base = torn_base o bytes dirty is in (
-      ap refusal same ∙ refusal_again (torn_of (is_moved o) bytes (placed_by (places_of o) o)) o marked dirty front (torn_content o (is_moved o) bytes) base ∙ passed,
-      ap image same ∙ image-again (torn_of (is_moved o) bytes (placed_by (places_of o) o)) o front (record {
+      ap refusal same ∙ refusal_again (torn_over (is_moved o) bytes (placed_by (places_of o) o)) o marked dirty front (torn_content o (is_moved o) bytes) base ∙ passed,
+      ap image same ∙ image-again (torn_over (is_moved o) bytes (placed_by (places_of o) o)) o front (record {
         dirty = marked;
         other_dirty = dirty;
         base = base;

@@ -1,7 +1,7 @@
 //! Laws over the definitions. Each is the contract of a function that does nothing: what it ensures
 //! holds of every object, and is proved.
 
-ghost use Rattle.object_laws.specs.Laws.{BeginningsAre, BeginningsAreTied, CleanStays, EveryStepKeeps, EveryStepKeepsTied, PartsDoNotMeet, PartsStand, PlacedStays, RefusedStays, ReopenLaw, SettlingKeepsItems, SizesAreLengths, TornLaw, UpdatesKeep, UpdatesTie};
+ghost use Rattle.object_laws.specs.Laws.{BegunFits, BeginningsAre, BeginningsAreTied, CleanStays, EveryStepKeeps, EveryStepKeepsTied, PartsDoNotMeet, PartsStand, PlacedStays, RefusedStays, ReopenLaw, SettlingKeepsItems, SizesAreLengths, TornLaw, UpdatesKeep, UpdatesTie};
 ghost use Rattle.elf_object.specs.Object.{Object};
 
 use elf_xlate::{decodes_as_encoded, ehdr_both_ways, phdr_both_ways, shdr_both_ways};
@@ -17,14 +17,22 @@ pub fn refused_stays<T>()
     ensures { RefusedStays T }
 {}
 
-/// An image of bytes that is opened gives an object, and so does creating one.
+/// An object begun over a front that has the shape of one is an object, whatever bytes of that length it is
+/// over: a file on disk, which does not tell its bytes, counts as zeros.
+#[tactic(auto, using(crate::proofs::OpenLaws::begun_fits))]
+pub fn begun_fits()
+    ensures { BegunFits }
+{}
+
+/// An image of bytes that is opened gives an object, whose program headers are in the range of their types, and
+/// so does creating one.
 #[tactic(auto, using(crate::proofs::LawsHold::beginnings_are))]
 pub fn beginnings_are()
     ensures { BeginningsAre }
 {}
 
-/// Every edit keeps what makes an object: the ranges of its numbers, the limits of its lists, and the
-/// pieces that fit their homes.
+/// Every edit keeps what makes an object: headers that fit, the limits of its lists, and the pieces that fit
+/// their homes. A borrower may leave any items.
 #[tactic(auto, using(crate::proofs::LawsHold::every_step_keeps))]
 pub fn every_step_keeps()
     ensures { EveryStepKeeps }
@@ -75,8 +83,9 @@ pub fn torn_law()
     ensures { (o : Object) → TornLaw o }
 {}
 
-/// Where an update is not refused, the image of an object, opened again, is that object settled, but for
-/// `ELF_F_LAYOUT` and the fill byte, which are clear and 0 in an image that is opened.
+/// Where an update is not refused, the image of an object whose program headers are in the range of their types,
+/// opened again, is that object settled, but for `ELF_F_LAYOUT` and the fill byte, which are clear and 0 in an
+/// image that is opened.
 pub fn reopen_law()
     ensures { (o : Object) → ReopenLaw o }
 {
@@ -89,9 +98,7 @@ pub fn reopen_law()
 /// object, and so does one that failed and left bytes.
 pub fn updates_keep()
     ensures { (o : Object) → UpdatesKeep o }
-{
-    reopen_law();
-}
+{}
 
 /// Where it is not refused, an update in place leaves an object that is that of its base. One that failed
 /// always does, since it leaves marks.
@@ -101,8 +108,9 @@ pub fn updates_tie()
     reopen_law();
 }
 
-/// Where an update is not refused, and an own piece stands alone in a section from 1 on and is of the
-/// kind of the section's present header, which has items, settling keeps its items.
+/// Where an update is not refused, and an own piece stands alone in a section from 1 on, has items in the
+/// range of their types and is of the kind of the section's present header, which has items, settling keeps
+/// them.
 pub fn settling_keeps_items()
     ensures { (o : Object) → SettlingKeepsItems o }
 {

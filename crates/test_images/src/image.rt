@@ -2,12 +2,12 @@
 
 ghost use Rattle.std.specs.Prelude.{◌≡◌, IfErr};
 ghost use Rattle.elf_types.specs.declared.errors.ElfError.TheVariants.{Memory};
-ghost use Rattle.elf_xlate.specs.Headers.{ehdr_size, phdr_size, shdr_size};
 
 use crate::fields::{Extent, Field, in_header, in_section, in_segment};
-use elf_types::{Class, Ehdr, ElfError, Octets, Order, Part, Phdr, Shdr};
+use elf_types::{Ehdr, ElfError, Octets, Order, Part, Phdr, Shdr};
 use elf_xlate::{
-    Items, XlateError, ehdr_fits, phdr_fits, put_ehdr, put_phdr, put_shdr, shdr_fits, to_file,
+    Items, XlateError, ehdr_fits, ehdr_size, phdr_fits, phdr_size, put_ehdr, put_phdr, put_shdr,
+    shdr_fits, shdr_size, to_file,
 };
 use std::alloc::Global;
 
@@ -19,36 +19,6 @@ pub struct Image {
     pub header: Ehdr,
     /// The bytes.
     pub bytes: Octets,
-}
-
-/// The number of bytes of an ELF header.
-fn ehdr_size(class: Class) -> usize
-    ensures { result ≡ ehdr_size class }
-{
-    match class {
-        Class::C32 => 52,
-        Class::C64 => 64,
-    }
-}
-
-/// The number of bytes of a program header.
-fn phdr_size(class: Class) -> usize
-    ensures { result ≡ phdr_size class }
-{
-    match class {
-        Class::C32 => 32,
-        Class::C64 => 56,
-    }
-}
-
-/// The number of bytes of a section header.
-fn shdr_size(class: Class) -> usize
-    ensures { result ≡ shdr_size class }
-{
-    match class {
-        Class::C32 => 40,
-        Class::C64 => 64,
-    }
 }
 
 /// The place of an entry of a table.

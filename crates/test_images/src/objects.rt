@@ -5,8 +5,8 @@ use crate::image::{Image, unfit};
 use elf_types::constants::{
     EV_CURRENT, PN_XNUM, SHN_ABS, SHN_XINDEX, SHT_PROGBITS, SHT_STRTAB, SHT_SYMTAB, STB_GLOBAL,
 };
-use elf_types::{Class, Ehdr, ElfError, Order, Part, Phdr, Shdr, Sym, Syms};
-use elf_xlate::Items;
+use elf_types::{Class, Ehdr, ElfError, Kind, Order, Part, Phdr, Shdr, Sym, Syms};
+use elf_xlate::{Items, ehdr_size, item_size, phdr_size, shdr_size};
 use std::alloc::Global;
 
 /// The two classes, each in both orders.
@@ -53,37 +53,6 @@ const NULL_SEGMENT: Phdr = Phdr {
     align: 0,
 };
 
-/// The numbers of bytes by which classes differ.
-#[derive(Clone, Copy)]
-struct ClassSizes {
-    header: u16,
-    segment: u16,
-    section: u16,
-    symbol: u16,
-    /// The alignment of symbols.
-    word: u16,
-}
-
-/// The sizes of a class.
-fn sizes(class: Class) -> ClassSizes {
-    match class {
-        Class::C32 => ClassSizes {
-            header: 52,
-            segment: 32,
-            section: 40,
-            symbol: 16,
-            word: 4,
-        },
-        Class::C64 => ClassSizes {
-            header: 64,
-            segment: 56,
-            section: 64,
-            symbol: 24,
-            word: 8,
-        },
-    }
-}
-
 /// The header of an x86-64 object that has no table.
 pub fn header_of(class: Class, order: Order) -> Ehdr {
     Ehdr {
@@ -98,7 +67,7 @@ pub fn header_of(class: Class, order: Order) -> Ehdr {
         phoff: 0,
         shoff: 0,
         flags: 0,
-        ehsize: sizes(class).header,
+        ehsize: ehdr_size(class) as u16,
         phentsize: 0,
         phnum: 0,
         shentsize: 0,
@@ -111,7 +80,7 @@ pub fn header_of(class: Class, order: Order) -> Ehdr {
 fn with_table(class: Class, order: Order, shoff: u64, shnum: u32) -> Ehdr {
     Ehdr {
         shoff,
-        shentsize: sizes(class).section,
+        shentsize: shdr_size(class) as u16,
         shnum,
         ..header_of(class, order)
     }
@@ -140,8 +109,8 @@ pub fn with_segments(
     };
     let header = Ehdr {
         etype: ET_EXEC,
-        phoff: u64::from(sizes(class).header),
-        phentsize: sizes(class).segment,
+        phoff: ehdr_size(class) as u64,
+        phentsize: phdr_size(class) as u16,
         phnum: u32::from(phnum),
         ..header_of(class, order)
     };
@@ -178,13 +147,9 @@ fn two_symbols(alloc: Global) -> Result<Items, ElfError> {
 /// sections' names, and a symbol table of two symbols, section 2. Its table of section headers ends
 /// the image.
 pub fn symbol_object(alloc: Global, class: Class, order: Order) -> Result<Image, ElfError> {
-    let ClassSizes {
-        header,
-        symbol,
-        word,
-        ..
-    } = sizes(class);
-    let (start, size, align) = (u64::from(header), u64::from(symbol), u64::from(word));
+    let start = ehdr_size(class) as u64;
+    let size = item_size(Kind::Sym, class);
+    let align = item_size(Kind::Addr, class);
     let strings = Shdr {
         stype: SHT_STRTAB,
         offset: start,
@@ -218,7 +183,7 @@ pub fn symbol_object(alloc: Global, class: Class, order: Order) -> Result<Image,
 /// An object with sections 1 to 5, each of eight bytes that are the section's number, one behind the
 /// other at multiples of 8. Its table of section headers ends the image, and no section holds names.
 pub fn five_sections(alloc: Global, class: Class, order: Order) -> Result<Image, ElfError> {
-    let start = u64::from(sizes(class).header).next_multiple_of(8);
+    let start = (ehdr_size(class) as u64).next_multiple_of(8);
     let header = with_table(class, order, start + 40, 6);
     let mut image = Image::new(alloc, header, [0; 7])?;
     image.put_section(0, &NULL_SECTION)?;
@@ -243,7 +208,7 @@ pub fn two_tables(alloc: Global, class: Class, order: Order) -> Result<Image, El
         osabi: 3,
         abiversion: 1,
         phoff: 64,
-        phentsize: sizes(class).segment,
+        phentsize: phdr_size(class) as u16,
         phnum: 2,
         shstrndx: 1,
         ..with_table(class, order, 192, 3)
