@@ -12,7 +12,7 @@ use Rattle.elf_types.specs.declared.constants.TheConstants.{SHT_STRTAB}
 use Rattle.elf_types.specs.Answers.{refused_if, first_refusal, answered}
 use Rattle.elf_xlate.specs.Translation.{items_kind}
 use Rattle.strtab_build.specs.Table.{string_at}
-use Rattle.elf_object.specs.Blocks.{Block, covers}
+use Rattle.elf_object.specs.Blocks.{Block, block_covers}
 use Rattle.elf_object.specs.Object.{Object, Section, Piece, section_at, home_is_clean}
 use Rattle.elf_object.specs.Answers.{no_section, same_kind}
 use Rattle.elf_object.specs.Joined.{piece_blocks, pieces_end}
@@ -28,9 +28,9 @@ unfoldable pub holds_strings : Section → Bool
 holds_strings c =
     c.header.stype == SHT_STRTAB && list_all (λ p. same_kind (piece_kind c p) kinds.Bytes) c.pieces
 
--- the first piece that covers an offset of the section
+-- the first piece that block_covers an offset of the section
 unfoldable pub piece_over : Object → ℕ → ℕ → Option Block
-piece_over o s offset = slice_get (filter (λ b. covers b offset) (piece_blocks o s)) 0
+piece_over o s offset = slice_get (filter (λ b. block_covers b offset) (piece_blocks o s)) 0
 
 abbrev pub has_nul : List ℕ → Bool
 has_nul bytes = list_any (λ b. b == 0) bytes
@@ -39,7 +39,7 @@ has_nul bytes = list_any (λ b. b == 0) bytes
 abbrev pub bytes_from : Block → ℕ → List ℕ
 bytes_from b offset = drop (offset - b.at) b.bytes
 
--- no piece covers the offset; the size that it carries is at most the greatest number of eight
+-- no piece block_covers the offset; the size that it carries is at most the greatest number of eight
 -- bytes
 abbrev pub no_string : Object → ℕ → ℕ → Option ElfError
 no_string o s offset =

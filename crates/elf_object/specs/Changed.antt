@@ -6,7 +6,7 @@ use Rattle.elf_types.specs.declared.records.Part.{Part}
 use Rattle.elf_types.specs.declared.records.Part.TheVariants as part
 use Rattle.elf_object.specs.Blocks.{Block, same_block, same_extent, extents_meet}
 use Rattle.elf_object.specs.Object.{Object, Section, Piece, Home, WrittenFront, section_at, has_file_bytes, some_piece_marked, is_dirty}
-use Rattle.elf_object.specs.Joined.{joined}
+use Rattle.elf_object.specs.Joined.{file_bytes}
 use Rattle.elf_layout.specs.declared.parts.Places.{Places}
 use Rattle.elf_object.specs.Layout.{places_of, placed_by, placed, section_numbers}
 use Rattle.elf_object.specs.Image.{front_blocks, section_block, image_length, is_fill_place}
@@ -23,7 +23,7 @@ block_of _ front = front.header
 -- places and the derived values are stored
 unfoldable pub front_differs : Places → Object → Part → Bool
 front_differs places o part =
-    not (same_block (block_of part (front_blocks (placed_by places o))) (block_of part o.written))
+    not (same_block (block_of part (front_blocks (placed_by places o))) (block_of part o.written_front))
 
 -- a part of the front changes where it is marked or differs; nothing changes where nothing is dirty
 unfoldable pub header_changed : Object → Bool
@@ -40,7 +40,7 @@ table_changed o =
 -- whether a section stands at its home
 unfoldable pub is_at_home : Object → ℕ → Bool
 is_at_home o s =
-    same_extent (section_block (placed o) s).at (length (joined o s)) (section_at o s).home.at (section_at o s).home.len
+    same_extent (section_block (placed o) s).at (length (file_bytes o s)) (section_at o s).home.at (section_at o s).home.len
 
 -- a section with file bytes changes where one of its pieces is marked or its place is not its home
 unfoldable pub section_changed : Object → ℕ → Bool

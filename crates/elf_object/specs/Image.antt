@@ -2,18 +2,18 @@
 use Rattle.std.specs.Prelude.{ℕ, Bool, not, ◌&&◌, nat_lt, List, ◌∷◌, ◌++◌, [], length, map, slice_index, if◌then◌else◌}
 use Rattle.elf_object.specs.Blocks.{Block, spread, is_covered}
 use Rattle.elf_object.specs.Object.{Object, WrittenFront, section_at, is_dirty}
-use Rattle.elf_object.specs.Open.{written_front}
-use Rattle.elf_object.specs.Joined.{joined}
+use Rattle.elf_object.specs.Open.{front_in_image}
+use Rattle.elf_object.specs.Joined.{file_bytes}
 use Rattle.elf_object.specs.Derived.{written_header}
 use Rattle.elf_object.specs.Layout.{placed, places_of, section_numbers}
 
 -- header and tables of an object whose places are stored
 unfoldable pub front_blocks : Object → WrittenFront
-front_blocks o = written_front (written_header o.header) o.pad o.phdrs (map (λ s. s.header) o.sections)
+front_blocks o = front_in_image (written_header o.header) o.pad o.phdrs (map (λ s. s.header) o.sections)
 
 -- a section of it
 unfoldable pub section_block : Object → ℕ → Block
-section_block o s = record { at = (section_at o s).header.offset; bytes = joined o s }
+section_block o s = record { at = (section_at o s).header.offset; bytes = file_bytes o s }
 
 -- its parts, in their order
 unfoldable pub part_blocks : Object → List Block

@@ -23,7 +23,8 @@ piece_blocks o s = stacked 0 (aligned_pieces o.header.class o.header.order (sect
 unfoldable pub pieces_end : Object → ℕ → ℕ
 pieces_end o s = last_end 0 (piece_blocks o s)
 
--- the bytes of a section in the file; SHT_NULL, SHT_NOBITS and section 0 have none
-unfoldable pub joined : Object → ℕ → List ℕ
-joined o s =
+-- the bytes of a section in the file: SHT_NULL, SHT_NOBITS and section 0 have none, whatever their pieces are. Strings
+-- are looked up in the pieces (`piece_blocks`, `pieces_end`), which section 0 may have too.
+unfoldable pub file_bytes : Object → ℕ → List ℕ
+file_bytes o s =
     if has_file_bytes s (section_at o s) then spread (pieces_end o s) (λ _. o.fill) (piece_blocks o s) else []

@@ -12,7 +12,7 @@ use Rattle.elf_layout.specs.declared.parts.PartAt.{PartAt}
 use Rattle.elf_layout.specs.declared.parts.Places.{Places}
 use Rattle.elf_layout.specs.Layout.{standing, places_of as parts_places}
 use Rattle.elf_object.specs.Object.{Object, Section, section_at, header_of, is_null, occupies_file, is_dirty}
-use Rattle.elf_object.specs.Joined.{joined}
+use Rattle.elf_object.specs.Joined.{file_bytes}
 use Rattle.elf_object.specs.Derived.{derived_header, numbered_shdr}
 
 -- ---- The parts, in their order: header, program header table, sections from 1 on, section header table
@@ -37,7 +37,7 @@ unfoldable pub section_part : Object → ℕ → PartAt
 section_part o s = record {
   part = part.Section s;
   at = (section_at o s).header.offset;
-  len = length (joined o s);
+  len = length (file_bytes o s);
   align = alignment_of (section_at o s).header;
   filled = occupies_file (section_at o s).header;
 }
@@ -91,7 +91,7 @@ placed_header places o =
 
 -- sh_size: the number of a section's bytes in the file; the caller's where it has none
 abbrev pub size_in_file : Object → ℕ → Shdr → ℕ
-size_in_file o s h = if occupies_file h then length (joined o s) else h.size
+size_in_file o s h = if occupies_file h then length (file_bytes o s) else h.size
 
 -- a section header with its place and its size; that of SHT_NULL is the caller's, and section 0's has the numbers
 -- that the header does not hold

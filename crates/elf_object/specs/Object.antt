@@ -49,7 +49,7 @@ pub record Object : Type 0 where
   pub phdrs : List Phdr
   pub sections : List Section
   pub base : List ℕ  -- the bytes of the image that it was opened from
-  pub written : WrittenFront
+  pub written_front : WrittenFront
   pub layout : Bool  -- ELF_F_LAYOUT
   pub fill : ℕ  -- the byte of gaps
   pub marked : Bool

@@ -6,7 +6,7 @@ ghost use Rattle.std.proofs.Math.ListN.{replicate};
 ghost use Rattle.elf_types.specs.declared.errors.ElfError.TheVariants.{OutOfFile, TooLarge, TooMany};
 ghost use Rattle.elf_types.specs.declared.records.Part.TheVariants as part;
 ghost use Rattle.elf_object.specs.Object.{no_phdr, new_section};
-ghost use Rattle.elf_object.specs.Joined.{joined};
+ghost use Rattle.elf_object.specs.Joined.{file_bytes};
 ghost use Rattle.elf_object.specs.Layout.{placed};
 ghost use Rattle.elf_object.specs.Image.{image};
 ghost use Rattle.elf_object.specs.Refusal.{refusal, too_many};
@@ -22,7 +22,7 @@ fn sections_without_bytes_take_no_room()
     ensures nobits { shdr_answer (step update_null hollow) 4 ≡ Ok (record { name = 0; stype = 8; flags = 0; addr = 0; offset = 80; size = 8; link = 0; info = 0; addralign = 8; entsize = 0 }) }
     ensures next { shdr_answer (step update_null hollow) 5 ≡ Ok (record { name = 0; stype = 1; flags = 0; addr = 0; offset = 80; size = 8; link = 0; info = 0; addralign = 8; entsize = 0 }) }
     ensures table { (placed hollow).header.shoff ≡ 88 }
-    ensures bytes { joined hollow 3 ≡ [] }
+    ensures bytes { file_bytes hollow 3 ≡ [] }
 {}
 
 /// The image of class 32, greatest byte first: 16 added to each symbol's value changes one byte of each.

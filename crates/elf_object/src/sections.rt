@@ -2,7 +2,7 @@
 
 ghost use Rattle.std.specs.Prelude.{◌≡◌};
 ghost use Rattle.elf_object.specs.Object.{occupies_file};
-ghost use Rattle.elf_object.specs.Open.{extent_of};
+ghost use Rattle.elf_object.specs.Open.{home_len};
 ghost use Rattle.elf_object.specs.Calls.{is_piece_align};
 
 use elf_types::Shdr;
@@ -16,9 +16,9 @@ pub fn occupies_file(h: &Shdr) -> bool
 }
 
 /// How many bytes of the file a section with this header has.
-#[tactic(auto, unfolding(crate::specs::Open::extent_of))]
-pub fn extent(h: &Shdr) -> u64
-    ensures { result ≡ extent_of h.now }
+#[tactic(auto, unfolding(crate::specs::Open::home_len))]
+pub fn home_len(h: &Shdr) -> u64
+    ensures { result ≡ home_len h.now }
 {
     if occupies_file(h) { h.size } else { 0 }
 }

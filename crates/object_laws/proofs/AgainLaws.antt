@@ -11,7 +11,7 @@ use Rattle.elf_layout.specs.declared.parts.PartAt.{PartAt}
 use Rattle.elf_layout.specs.declared.parts.Places.{Places}
 use Rattle.elf_layout.specs.Layout.{in_order_from, standing, length_of, positions, places_of as parts_places, refusal_of}
 use Rattle.elf_object.specs.Object.{Object, Section, absent_section, section_at, header_of, is_null, is_dirty}
-use Rattle.elf_object.specs.Joined.{joined}
+use Rattle.elf_object.specs.Joined.{file_bytes}
 use Rattle.elf_object.specs.Derived.{where_any, derived_header, numbered_shdr}
 use Rattle.elf_object.specs.Layout.{header_part, segments_part, section_part, table_part, section_numbers, parts_of, places_of, segments_place, section_place, table_place, size_in_file, placed_header, placed_shdr, placed_section, placed_by, placed}
 use Rattle.elf_object.specs.Image.{front_blocks, section_block, part_blocks, uncovered_byte, image_length, image}
@@ -126,7 +126,7 @@ pub record SameFront (t o : Object) : Type 0 where
   pub phdrs : t.phdrs ≡ o.phdrs
   pub count : length t.sections ≡ length o.sections
   pub headers : (s : ℕ) → (section_at t s).header ≡ (section_at (placed_by (places_of o) o) s).header
-  pub bytes : (s : ℕ) → joined t s ≡ joined o s
+  pub bytes : (s : ℕ) → file_bytes t s ≡ file_bytes o s
 
 -- it has the same parts
 pub plan-front : (t o : Object) → SameFront t o → SamePlan o.layout t o
@@ -223,9 +223,9 @@ offset_of true empty filled h before a m e f = cc
 offset_of false true filled h before a m e f = cc
 
 -- by the type of the header before
-retyped : (places : Places) (t : Object) (s : ℕ) (x : Shdr) (stype : ℕ) → x.stype ≡ stype → placed_shdr places t s x ≡ (if s == 0 then numbered_shdr (placed_header places t) x else (if stype == 0 then x else (record x { offset = section_place places s; size = if not (stype == 0 || stype == 8) then length (joined t s) else x.size })))
+retyped : (places : Places) (t : Object) (s : ℕ) (x : Shdr) (stype : ℕ) → x.stype ≡ stype → placed_shdr places t s x ≡ (if s == 0 then numbered_shdr (placed_header places t) x else (if stype == 0 then x else (record x { offset = section_place places s; size = if not (stype == 0 || stype == 8) then length (file_bytes t s) else x.size })))
 unfolding placed_shdr
-retyped places t s x stype e = ap (λ (k : ℕ). if s == 0 then numbered_shdr (placed_header places t) x else (if k == 0 then x else (record x { offset = section_place places s; size = if not (k == 0 || k == 8) then length (joined t s) else x.size }))) e
+retyped places t s x stype e = ap (λ (k : ℕ). if s == 0 then numbered_shdr (placed_header places t) x else (if k == 0 then x else (record x { offset = section_place places s; size = if not (k == 0 || k == 8) then length (file_bytes t s) else x.size }))) e
 
 caller_offset : (t : Object) (s : ℕ) → (section_part t s).at ≡ (section_at t s).header.offset
 unfolding section_part
@@ -242,7 +242,7 @@ section_again_at t o s same inside =
     let x = placed_shdr (places_of o) o s (section_at o s).header in
     let type_same = type-placed (places_of o) o s (section_at o s).header in
     retyped (places_of t) t s (placed_shdr (places_of o) o s (section_at o s).header) (section_at o s).header.stype type_same
-    ∙ shdr_again (s == 0) ((section_at o s).header.stype == 0) (not ((section_at o s).header.stype == 0 || (section_at o s).header.stype == 8)) (section_at o s).header (placed_header (places_of o) o) (placed_header (places_of t) t) (section_place (places_of o) s) (section_place (places_of t) s) (length (joined o s)) (length (joined t s)) (header_again t o same) (ap length (same.bytes s)) (place o.layout refl)
+    ∙ shdr_again (s == 0) ((section_at o s).header.stype == 0) (not ((section_at o s).header.stype == 0 || (section_at o s).header.stype == 8)) (section_at o s).header (placed_header (places_of o) o) (placed_header (places_of t) t) (section_place (places_of o) s) (section_place (places_of t) s) (length (file_bytes o s)) (length (file_bytes t s)) (header_again t o same) (ap length (same.bytes s)) (place o.layout refl)
   where
     place : (b : Bool) → o.layout ≡ b → (s == 0) ≡ false → ((section_at o s).header.stype == 0) ≡ false → section_place (places_of t) s ≡ section_place (places_of o) s
     place false plain first full = ordered_place t o (s + 1) same plain
@@ -256,7 +256,7 @@ section_again_at t o s same inside =
         ∙ ap (λ (c : Shdr). c.offset) (same.headers s)
         ∙ ap (λ (c : Section). c.header.offset) (section_at-placed (places_of o) o s inside)
         ∙ placed_section_offset (places_of o) o s (section_at o s)
-        ∙ offset_of (s == 0) ((section_at o s).header.stype == 0) (not ((section_at o s).header.stype == 0 || (section_at o s).header.stype == 8)) (section_at o s).header (placed_header (places_of o) o) (section_place (places_of o) s) (length (joined o s)) first full
+        ∙ offset_of (s == 0) ((section_at o s).header.stype == 0) (not ((section_at o s).header.stype == 0 || (section_at o s).header.stype == 8)) (section_at o s).header (placed_header (places_of o) o) (section_place (places_of o) s) (length (file_bytes o s)) first full
 
 pub placed_section_header : (places : Places) (o : Object) (s : ℕ) (c : Section) → (placed_section places o s c).header ≡ placed_shdr places o s c.header
 unfolding placed_section
@@ -320,7 +320,7 @@ section_again : (t o : Object) (s : ℕ) → SameFront t o → section_block (pl
 unfolding section_block
 section_again t o s same =
     let header = headers_again t o s same in
-    let bytes : joined (placed_by (places_of t) t) s ≡ joined (placed_by (places_of o) o) s = joined-placed (places_of t) t s ∙ same.bytes s ∙ sym (joined-placed (places_of o) o s) in
+    let bytes : file_bytes (placed_by (places_of t) t) s ≡ file_bytes (placed_by (places_of o) o) s = joined-placed (places_of t) t s ∙ same.bytes s ∙ sym (joined-placed (places_of o) o s) in
     cc
 
 pub part_blocks-again : (t o : Object) → SameFront t o → part_blocks (placed_by (places_of t) t) ≡ part_blocks (placed_by (places_of o) o)

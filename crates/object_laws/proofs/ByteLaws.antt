@@ -16,10 +16,10 @@ use Rattle.elf_xlate.specs.Headers.{ehdr_size, ehdr_fields, ehdr_numbers, class_
 use Rattle.elf_xlate.specs.Translation.{encoded}
 use Rattle.elf_xlate.proofs.ByteRanges.{laid_are, phdr_are, shdr_are, each_are, encoded_are}
 use Rattle.elf_layout.specs.Layout.{rounded_up}
-use Rattle.elf_object.specs.Blocks.{Block, covers, byte_over, spread, stacked}
+use Rattle.elf_object.specs.Blocks.{Block, block_covers, byte_over, spread, stacked}
 use Rattle.elf_object.specs.Object.{Object, Piece, section_at, has_file_bytes, is_dirty}
-use Rattle.elf_object.specs.Open.{written_front, segments_bytes, table_bytes}
-use Rattle.elf_object.specs.Joined.{piece_bytes, aligned_pieces, piece_blocks, pieces_end, joined}
+use Rattle.elf_object.specs.Open.{front_in_image, phdrs_bytes, shdrs_bytes}
+use Rattle.elf_object.specs.Joined.{piece_bytes, aligned_pieces, piece_blocks, pieces_end, file_bytes}
 use Rattle.elf_object.specs.Derived.{written_header}
 use Rattle.elf_object.specs.Layout.{section_numbers, placed}
 use Rattle.elf_object.specs.Image.{front_blocks, section_block, part_blocks, kept_base, uncovered_byte, image_length, image}
@@ -64,12 +64,12 @@ ehdr_are h pad are =
     laid_are h.class h.order ehdr_fields (ehdr_numbers h) (ident h.class h.order pad ++ replicate (ehdr_size h.class - 16) 0)
     (All-append IsByte (ident h.class h.order pad) (replicate (ehdr_size h.class - 16) 0) (ident_are h.class h.order pad are) (All-replicate IsByte (ehdr_size h.class - 16) 0 (lit< tt)))
 
-segments_are : (class : Class) (order : Order) (phdrs : List Phdr) → AreBytes (segments_bytes class order phdrs)
-unfolding segments_bytes
+segments_are : (class : Class) (order : Order) (phdrs : List Phdr) → AreBytes (phdrs_bytes class order phdrs)
+unfolding phdrs_bytes
 segments_are class order phdrs = each_are (phdr_bytes class order) (phdr_are class order) phdrs
 
-table_are : (class : Class) (order : Order) (shdrs : List Shdr) → AreBytes (table_bytes class order shdrs)
-unfolding table_bytes
+table_are : (class : Class) (order : Order) (shdrs : List Shdr) → AreBytes (shdrs_bytes class order shdrs)
+unfolding shdrs_bytes
 table_are class order shdrs = each_are (shdr_bytes class order) (shdr_are class order) shdrs
 
 -- ---- What is spread
@@ -84,7 +84,7 @@ byte_over_is : (otherwise : ℕ → ℕ) (blocks : List Block) (k : ℕ) → ((i
 unfolding byte_over
 byte_over_is otherwise [] k other each = other k
 byte_over_is otherwise (b ∷ bs) k other each =
-    by_test (covers b k) (byte_at b.bytes (k - b.at) (All-head HasBytes b bs each)) (byte_over_is otherwise bs k other (All-tail HasBytes b bs each))
+    by_test (block_covers b k) (byte_at b.bytes (k - b.at) (All-head HasBytes b bs each)) (byte_over_is otherwise bs k other (All-tail HasBytes b bs each))
   where
     by_test : (t : Bool) {m n : ℕ} → m < 2 ^ 8 → n < 2 ^ 8 → (if t then m else n) < 2 ^ 8
     by_test true x y = x
@@ -114,8 +114,8 @@ stacked_are class order raw end (p ∷ l) are =
     (piece_are class order raw p are)
     (stacked_are class order raw (rounded_up end p.align + length bytes) l are)
 
-joined_are : (o : Object) (s : ℕ) → IsObject o → AreBytes (joined o s)
-unfolding joined piece_blocks aligned_pieces
+joined_are : (o : Object) (s : ℕ) → IsObject o → AreBytes (file_bytes o s)
+unfolding file_bytes piece_blocks aligned_pieces
 joined_are o s ok = by_test (has_file_bytes s (section_at o s))
   where
     is : IsSection o.header.class (section_at o s)
@@ -129,7 +129,7 @@ joined_are o s ok = by_test (has_file_bytes s (section_at o s))
 -- ---- The image
 
 front_are : (q : Object) → IsObject q → HasBytes (front_blocks q).header × HasBytes (front_blocks q).segments × HasBytes (front_blocks q).table
-unfolding front_blocks written_front
+unfolding front_blocks front_in_image
 front_are q ok =
     (ehdr_are (written_header q.header) q.pad ok.pad_bytes, segments_are (written_header q.header).class (written_header q.header).order q.phdrs, table_are (written_header q.header).class (written_header q.header).order (map (λ s. s.header) q.sections))
 

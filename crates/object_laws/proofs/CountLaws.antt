@@ -16,7 +16,7 @@ use Rattle.elf_ident.specs.Front.{needs_first, first_section, true_shnum, true_s
 use Rattle.elf_object.specs.Object.{Object, Section, absent_section, section_at}
 use Rattle.elf_object.specs.Derived.{written_header}
 use Rattle.elf_layout.specs.Layout.{limit_of}
-use Rattle.elf_object.specs.Open.{table_bytes}
+use Rattle.elf_object.specs.Open.{shdrs_bytes}
 use Rattle.object_laws.proofs.LengthLaws.{length-shdr_bytes}
 use Rattle.object_laws.proofs.ReopenLaws.{ReadsBack, StandsIn, entry_bytes}
 use Rattle.object_laws.proofs.HeaderLaws.{written_kept}
@@ -185,7 +185,7 @@ first_of_table size zero l whole some same = absurd (omega arith)
 first_of_table size (suc count) l whole some same = sym (take-take size (suc count * size) l (omega arith)) ∙ ap (take size) same
 
 first_bytes : (image : List ℕ) (q : Object) → StandsIn image q → 0 < length q.sections → take (shdr_size q.header.class) (drop q.header.shoff image) ≡ shdr_bytes q.header.class q.header.order (section_at q 0).header
-unfolding table_bytes
+unfolding shdrs_bytes
 first_bytes image q stands some =
     let count = length-map q.sections (λ (c : Section). c.header) in
     let first = first_of_table (shdr_size q.header.class) (length q.sections) (drop q.header.shoff image) (flat_map (shdr_bytes q.header.class q.header.order) (headers_of q)) some stands.table in

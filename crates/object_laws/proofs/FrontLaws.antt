@@ -15,7 +15,7 @@ use Rattle.elf_types.specs.Answers.{◌>>=◌}
 use Rattle.elf_ident.specs.Front.{counts_in, counted, phdrs_at, shdrs_at, front_with, front_at, head_in, front}
 use Rattle.elf_object.specs.Object.{Object, Section}
 use Rattle.elf_object.specs.Derived.{written_header}
-use Rattle.elf_object.specs.Open.{table_bytes, segments_bytes}
+use Rattle.elf_object.specs.Open.{shdrs_bytes, phdrs_bytes}
 use Rattle.object_laws.proofs.LengthLaws.{length-shdr_bytes, length-phdr_bytes}
 use Rattle.object_laws.proofs.ReopenLaws.{ReadsBack, StandsIn, table_read}
 use Rattle.object_laws.proofs.HeaderLaws.{IsWritten, header_read}
@@ -27,7 +27,7 @@ unfoldable pub ArePhdrs : Object → Type 0
 ArePhdrs q = All (λ p. IsPhdr p × IsTrue (phdr_fits q.header.class p)) q.phdrs
 
 phdrs_read : (reads : ReadsBack) (image : List ℕ) (q : Object) → StandsIn image q → ArePhdrs q → phdrs_at (written_header q.header) (length q.phdrs) image ≡ q.phdrs
-unfolding phdrs_at written_header ArePhdrs segments_bytes
+unfolding phdrs_at written_header ArePhdrs phdrs_bytes
 phdrs_read reads image q stands are =
     ap (items_of (phdr_of q.header.class q.header.order) (phdr_size q.header.class) (length q.phdrs)) stands.segments
     ∙ table_read (phdr_of q.header.class q.header.order) (phdr_bytes q.header.class q.header.order) (phdr_size q.header.class) (λ p. IsPhdr p × IsTrue (phdr_fits q.header.class p)) (length-phdr_bytes q.header.class q.header.order) (λ p both. reads.phdr q.header.class q.header.order p both.0 both.1) q.phdrs are
@@ -36,7 +36,7 @@ unfoldable pub AreShdrs : Object → Type 0
 AreShdrs q = All (λ h. IsShdr h × IsTrue (shdr_fits q.header.class h)) (headers_of q)
 
 shdrs_read : (reads : ReadsBack) (image : List ℕ) (q : Object) → StandsIn image q → AreShdrs q → shdrs_at (written_header q.header) (length q.sections) image ≡ headers_of q
-unfolding shdrs_at written_header AreShdrs table_bytes
+unfolding shdrs_at written_header AreShdrs shdrs_bytes
 shdrs_read reads image q stands are =
     let count = length-map q.sections (λ (c : Section). c.header) in
     ap (items_of (shdr_of q.header.class q.header.order) (shdr_size q.header.class) (length q.sections)) stands.table

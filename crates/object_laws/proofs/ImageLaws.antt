@@ -13,7 +13,7 @@ use Rattle.elf_layout.specs.Meeting.{meets}
 use Rattle.elf_object.specs.Blocks.{spread}
 use Rattle.object_laws.proofs.BlockLaws.{length-spread}
 use Rattle.elf_object.specs.Object.{Object, Section, absent_section, section_at, has_file_bytes, occupies_file, is_null, is_dirty}
-use Rattle.elf_object.specs.Joined.{piece_blocks, pieces_end, joined}
+use Rattle.elf_object.specs.Joined.{piece_blocks, pieces_end, file_bytes}
 use Rattle.elf_object.specs.Layout.{parts_of, placed_parts, places_of, placed_by, placed, placed_section, placed_shdr, placed_header, section_place}
 use Rattle.elf_object.specs.Derived.{numbered_shdr}
 use Rattle.elf_object.specs.Image.{image, image_length, uncovered_byte, part_blocks}
@@ -64,12 +64,12 @@ length-image o = by_test (is_dirty o)
 
 -- ---- The bytes of a section
 
-pub length-joined : (o : Object) (s : ℕ) → has_file_bytes s (section_at o s) ≡ true → length (joined o s) ≡ pieces_end o s
-unfolding joined
+pub length-joined : (o : Object) (s : ℕ) → has_file_bytes s (section_at o s) ≡ true → length (file_bytes o s) ≡ pieces_end o s
+unfolding file_bytes
 length-joined o s h = rw h (length-spread (pieces_end o s) (λ _. o.fill) (piece_blocks o s))
 
-pub joined-none : (o : Object) (s : ℕ) → has_file_bytes s (section_at o s) ≡ false → joined o s ≡ []
-unfolding joined
+pub joined-none : (o : Object) (s : ℕ) → has_file_bytes s (section_at o s) ≡ false → file_bytes o s ≡ []
+unfolding file_bytes
 joined-none o s h = rw h refl
 
 -- a section of the placed object
@@ -106,13 +106,13 @@ sized false true filled numbered h offset n a b c = cc
 sized false false false numbered h offset n a b c = cc
 
 -- sh_size is stored as the number of the section's bytes
-pub size-placed : (places : Places) (o : Object) (s : ℕ) → s < length o.sections → has_file_bytes s (section_at o s) ≡ true → (section_at (placed_by places o) s).header.size ≡ length (joined o s)
+pub size-placed : (places : Places) (o : Object) (s : ℕ) → s < length o.sections → has_file_bytes s (section_at o s) ≡ true → (section_at (placed_by places o) s).header.size ≡ length (file_bytes o s)
 unfolding placed_section placed_shdr
 size-placed places o s inside filled =
     let parts = file_bytes_from s (section_at o s) filled in
     let full = not_null (section_at o s).header parts.1 in
     ap (λ (c : Section). c.header.size) (section_at-placed places o s inside)
-    ∙ sized (s == 0) (is_null (section_at o s).header) (occupies_file (section_at o s).header) (numbered_shdr (placed_header places o) (section_at o s).header) (section_at o s).header (section_place places s) (length (joined o s)) parts.0 full parts.1
+    ∙ sized (s == 0) (is_null (section_at o s).header) (occupies_file (section_at o s).header) (numbered_shdr (placed_header places o) (section_at o s).header) (section_at o s).header (section_place places s) (length (file_bytes o s)) parts.0 full parts.1
 
 -- ---- Parts
 

@@ -26,9 +26,9 @@ use Rattle.elf_types.specs.Answers.{first_refusal}
 use Rattle.elf_object.specs.Blocks.{block_end, stacked, last_end, spread}
 use Rattle.object_laws.proofs.BlockLaws.{length-spread, take-drop-spread}
 use Rattle.elf_object.specs.Object.{Object, Section, Piece, absent_section, section_at, header_of, has_file_bytes, occupies_file, is_null, is_dirty, some_piece_marked, some_section_marked}
-use Rattle.elf_object.specs.Open.{extent_of, home_of, home_bytes}
+use Rattle.elf_object.specs.Open.{home_len, home_of, home_bytes}
 use Rattle.elf_object.specs.Answers.{content}
-use Rattle.elf_object.specs.Joined.{piece_bytes, aligned_pieces, piece_blocks, pieces_end, joined}
+use Rattle.elf_object.specs.Joined.{piece_bytes, aligned_pieces, piece_blocks, pieces_end, file_bytes}
 use Rattle.elf_object.specs.Derived.{derived_header, numbered_shdr}
 use Rattle.elf_object.specs.Layout.{places_of, section_place, size_in_file, placed_header, placed_shdr, placed_by}
 use Rattle.elf_object.specs.Image.{image}
@@ -72,8 +72,8 @@ alone_spread align bytes fill =
     ∙ whole_spread bytes fill
 
 -- the bytes of one piece
-joined_alone : (o : Object) (s : ℕ) (p : Piece) (items : Items) → has_file_bytes s (section_at o s) ≡ true → (section_at o s).pieces ≡ p ∷ [] → p.own ≡ Some items → joined o s ≡ encoded o.header.class o.header.order items
-unfolding joined pieces_end piece_blocks aligned_pieces piece_bytes stacked last_end block_end
+joined_alone : (o : Object) (s : ℕ) (p : Piece) (items : Items) → has_file_bytes s (section_at o s) ≡ true → (section_at o s).pieces ≡ p ∷ [] → p.own ≡ Some items → file_bytes o s ≡ encoded o.header.class o.header.order items
+unfolding file_bytes pieces_end piece_blocks aligned_pieces piece_bytes stacked last_end block_end
 joined_alone o s p items filled alone own =
     let bytes : elim (p.own) [ None ↦ (section_at o s).raw | Some l ↦ encoded o.header.class o.header.order l ] ≡ encoded o.header.class o.header.order items = ap (λ (x : Option Items). elim x [ None ↦ (section_at o s).raw | Some l ↦ encoded o.header.class o.header.order l ]) own in
     let one : map (λ q. (q.align, elim (q.own) [ None ↦ (section_at o s).raw | Some l ↦ encoded o.header.class o.header.order l ])) (section_at o s).pieces ≡ (p.align, encoded o.header.class o.header.order items) ∷ [] =
@@ -134,15 +134,15 @@ fits_alone class s c p items filled alone own h =
 
 -- ---- A settled section
 
-out_false : (image bytes : List ℕ) (h : Shdr) → extent_of h ≡ length bytes → home_bytes (home_of (length image) h) image ≡ bytes → (home_of (length image) h).out ≡ false
+out_false : (image bytes : List ℕ) (h : Shdr) → home_len h ≡ length bytes → home_bytes (home_of (length image) h) image ≡ bytes → (home_of (length image) h).out ≡ false
 unfolding home_of home_bytes
-out_false image bytes h extent e = by_test (not (extent_of h == 0) && nat_lt (length image) (h.offset + extent_of h)) refl e
+out_false image bytes h extent e = by_test (not (home_len h == 0) && nat_lt (length image) (h.offset + home_len h)) refl e
   where
-    by_test : (b : Bool) → (not (extent_of h == 0) && nat_lt (length image) (h.offset + extent_of h)) ≡ b → (if b then [] else take (extent_of h) (drop h.offset image)) ≡ bytes → b ≡ false
+    by_test : (b : Bool) → (not (home_len h == 0) && nat_lt (length image) (h.offset + home_len h)) ≡ b → (if b then [] else take (home_len h) (drop h.offset image)) ≡ bytes → b ≡ false
     by_test false f g = refl
     by_test true f g =
-        let empty : extent_of h ≡ 0 = extent ∙ sym (ap length g) in
-        let none : (extent_of h == 0) ≡ true = eq-eqb (extent_of h) 0 empty in
+        let empty : home_len h ≡ 0 = extent ∙ sym (ap length g) in
+        let none : (home_len h == 0) ≡ true = eq-eqb (home_len h) 0 empty in
         sym f ∙ rw none refl
 
 -- the content of a section by what it is made of
@@ -158,15 +158,15 @@ content_made class order s c kind bytes items out same raw read =
     ∙ ap (λ (l : List ℕ). elim (decoded kind class order l) [ None ↦ Err (Ragged s) | Some l ↦ Ok l ]) raw
     ∙ ap (λ (x : Option Items). elim x [ None ↦ Err (Ragged s) | Some l ↦ Ok l ]) read
 
-section_at-settled : (image : List ℕ) (q : Object) (s : ℕ) → s < length q.sections → section_at (settled_over image q) s ≡ settled_section (length image) (joined q s) (section_at q s).header
+section_at-settled : (image : List ℕ) (q : Object) (s : ℕ) → s < length q.sections → section_at (settled_over image q) s ≡ settled_section (length image) (file_bytes q s) (section_at q s).header
 unfolding section_at settled_over
 section_at-settled image q s h =
     let count = length-enumerate_from 0 q.sections in
     let row : get_or (enumerate_from 0 q.sections) s (0, absent_section) ≡ (0 + s, get_or q.sections s absent_section) = get_or-enumerate_from 0 q.sections s (0, absent_section) h in
     let number : 0 + s ≡ s = omega arith in
-    get_or-map (λ (r : ℕ × Section). settled_section (length image) (joined q r.0) r.1.header) (enumerate_from 0 q.sections) s (0, absent_section) absent_section (omega arith)
-    ∙ ap (λ (r : ℕ × Section). settled_section (length image) (joined q r.0) r.1.header) row
-    ∙ ap (λ (k : ℕ). settled_section (length image) (joined q k) (get_or q.sections s absent_section).header) number
+    get_or-map (λ (r : ℕ × Section). settled_section (length image) (file_bytes q r.0) r.1.header) (enumerate_from 0 q.sections) s (0, absent_section) absent_section (omega arith)
+    ∙ ap (λ (r : ℕ × Section). settled_section (length image) (file_bytes q r.0) r.1.header) row
+    ∙ ap (λ (k : ℕ). settled_section (length image) (file_bytes q k) (get_or q.sections s absent_section).header) number
 
 content_settled : (image : List ℕ) (q : Object) (s : ℕ) → content (settled_over image q) s ≡ content_of q.header.class q.header.order s (section_at (settled_over image q) s)
 unfolding content content_of settled_over
@@ -226,12 +226,12 @@ settling_keeps_items back o s p items ok passed positive inside alone own are ki
     let count = section_count-placed (places_of o) o in
     let filled : has_file_bytes s (section_at o s) ≡ true = positive_bytes s (section_at o s) positive (kind_occupies (section_at o s).header (λ e. some (kind ∙ e))) in
     let first : (s == 0) ≡ false = ne_eqb s 0 (λ h. omega arith) in
-    let bytes : joined (placed_by (places_of o) o) s ≡ encoded o.header.class o.header.order items = joined-placed (places_of o) o s ∙ joined_alone o s p items filled alone own in
+    let bytes : file_bytes (placed_by (places_of o) o) s ≡ encoded o.header.class o.header.order items = joined-placed (places_of o) o s ∙ joined_alone o s p items filled alone own in
     let at : (section_at (placed_by (places_of o) o) s).header ≡ placed_shdr (places_of o) o s (section_at o s).header = ap (λ (c : Section). c.header) (section_at-placed (places_of o) o s inside) ∙ placed_section_header (places_of o) o s (section_at o s) in
     let fields = kind_placed (places_of o) o s (section_at o s).header in
     let same_kind : section_kind (section_at (placed_by (places_of o) o) s).header ≡ items_kind items = ap section_kind at ∙ kind_same (placed_shdr (places_of o) o s (section_at o s).header) (section_at o s).header fields.0 fields.1 fields.2 ∙ sym kind in
-    let made = settled_fields (length (image o)) (joined (placed_by (places_of o) o) s) (section_at (placed_by (places_of o) o) s).header in
-    let out : (home_of (length (image o)) (section_at (placed_by (places_of o) o) s).header).out ≡ false = out_false (image o) (joined (placed_by (places_of o) o) s) (section_at (placed_by (places_of o) o) s).header (section_extent o s inside first) (section_raw o s ok dirty passed inside) in
+    let made = settled_fields (length (image o)) (file_bytes (placed_by (places_of o) o) s) (section_at (placed_by (places_of o) o) s).header in
+    let out : (home_of (length (image o)) (section_at (placed_by (places_of o) o) s).header).out ≡ false = out_false (image o) (file_bytes (placed_by (places_of o) o) s) (section_at (placed_by (places_of o) o) s).header (section_extent o s inside first) (section_raw o s ok dirty passed inside) in
     let fitting = fits_alone o.header.class s (section_at o s) p items filled alone own (item_fits o s un.item inside) in
     let read : decoded (items_kind items) o.header.class o.header.order (encoded o.header.class o.header.order items) ≡ Some items = back o.header.class o.header.order items are fitting in
     let settled = settle-dirty o dirty ∙ ap (settled_over (image o)) (placed-dirty o dirty) in
@@ -241,4 +241,4 @@ settling_keeps_items back o s p items ok passed positive inside alone own are ki
     ∙ ap (λ (c : Class). content_of c (placed_by (places_of o) o).header.order s (section_at (settled_over (image o) (placed_by (places_of o) o)) s)) codes.0
     ∙ ap (λ (r : Order). content_of o.header.class r s (section_at (settled_over (image o) (placed_by (places_of o) o)) s)) codes.1
     ∙ ap (content_of o.header.class o.header.order s) (section_at-settled (image o) (placed_by (places_of o) o) s (omega arith))
-    ∙ content_made o.header.class o.header.order s (settled_section (length (image o)) (joined (placed_by (places_of o) o) s) (section_at (placed_by (places_of o) o) s).header) (items_kind items) (encoded o.header.class o.header.order items) items (made.0 ∙ out) (made.1 ∙ same_kind) (made.2 ∙ bytes) read
+    ∙ content_made o.header.class o.header.order s (settled_section (length (image o)) (file_bytes (placed_by (places_of o) o) s) (section_at (placed_by (places_of o) o) s).header) (items_kind items) (encoded o.header.class o.header.order items) items (made.0 ∙ out) (made.1 ∙ same_kind) (made.2 ∙ bytes) read

@@ -15,7 +15,7 @@ use Rattle.elf_types.specs.declared.records.Shdr.{Shdr}
 use Rattle.elf_xlate.specs.Numbers.{by_weight, lowest_bytes, octets}
 use Rattle.elf_xlate.specs.Fields.{Field, place_in, written, written_in, laid, record_bytes}
 use Rattle.elf_xlate.specs.Headers.{ehdr_size, ehdr_fields, ehdr_numbers, ident, ehdr_bytes, phdr_size, phdr_fields, phdr_numbers, phdr_bytes, shdr_size, shdr_fields, shdr_numbers, shdr_bytes}
-use Rattle.elf_object.specs.Open.{segments_bytes, table_bytes}
+use Rattle.elf_object.specs.Open.{phdrs_bytes, shdrs_bytes}
 
 length-lowest_bytes : (width n : ℕ) → length (lowest_bytes width n) ≡ width
 unfolding lowest_bytes
@@ -94,10 +94,10 @@ length-flat_map f size each (x ∷ l) =
     let rest = length-flat_map f size each l in
     rw (length-append, here, rest) (omega arith)
 
-pub length-segments_bytes : (class : Class) (order : Order) (phdrs : List Phdr) → length (segments_bytes class order phdrs) ≡ length phdrs * phdr_size class
-unfolding segments_bytes
-length-segments_bytes class order phdrs = length-flat_map (phdr_bytes class order) (phdr_size class) (length-phdr_bytes class order) phdrs
+pub length-phdrs_bytes : (class : Class) (order : Order) (phdrs : List Phdr) → length (phdrs_bytes class order phdrs) ≡ length phdrs * phdr_size class
+unfolding phdrs_bytes
+length-phdrs_bytes class order phdrs = length-flat_map (phdr_bytes class order) (phdr_size class) (length-phdr_bytes class order) phdrs
 
-pub length-table_bytes : (class : Class) (order : Order) (shdrs : List Shdr) → length (table_bytes class order shdrs) ≡ length shdrs * shdr_size class
-unfolding table_bytes
-length-table_bytes class order shdrs = length-flat_map (shdr_bytes class order) (shdr_size class) (length-shdr_bytes class order) shdrs
+pub length-shdrs_bytes : (class : Class) (order : Order) (shdrs : List Shdr) → length (shdrs_bytes class order shdrs) ≡ length shdrs * shdr_size class
+unfolding shdrs_bytes
+length-shdrs_bytes class order shdrs = length-flat_map (shdr_bytes class order) (shdr_size class) (length-shdr_bytes class order) shdrs

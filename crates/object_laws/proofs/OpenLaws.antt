@@ -24,7 +24,7 @@ use Rattle.elf_ident.specs.declared.fronts.Head.{Head}
 use Rattle.elf_ident.specs.declared.fronts.Front.{Front}
 use Rattle.elf_ident.specs.Front.{ident_in, header_at, header_in, zero_shdr, needs_first, first_section, true_shnum, true_shstrndx, true_counts, lies_in, phdrs_at, shdrs_at, header_refusal, count_refusal, counts_by, counts_in, front_at, head_in, front}
 use Rattle.elf_object.specs.Object.{Object, home_piece, occupies_file}
-use Rattle.elf_object.specs.Open.{extent_of, home_of, home_bytes, opened_section, begun, begun_or_refused, opened, created_over, new_ehdr}
+use Rattle.elf_object.specs.Open.{home_len, home_of, home_bytes, opened_section, begun, begun_or_refused, opened, created_over, new_ehdr}
 use Rattle.elf_types.specs.Answers.{refused_if, answered, ◌>>=◌}
 use Rattle.elf_types.specs.declared.constants.TheConstants.{EV_CURRENT, PN_XNUM, MAX_IMAGE, MAX_SECTIONS, MAX_SEGMENTS}
 use Rattle.elf_ident.proofs.Refusals.{answered_ok, bind_ok, last_passed}
@@ -154,16 +154,16 @@ typed_kind stype entsize =
     kind_of_rows (kinds_of_types entsize) stype
     ((λ h. cc), ((λ h. cc), ((λ h. cc), ((λ h. cc), ((λ h. cc), (hash, ((λ h. cc), ((λ h. cc), ((λ h. cc), ((λ h. cc), ((λ h. cc), ((λ h. cc), tt))))))))))))
 
-pub extent_of_no_kind : (h : Shdr) → section_kind h ≡ kinds.Empty → extent_of h ≡ 0
-unfolding section_kind extent_of IsKind
+pub extent_of_no_kind : (h : Shdr) → section_kind h ≡ kinds.Empty → home_len h ≡ 0
+unfolding section_kind home_len IsKind
 extent_of_no_kind h e = by_test (h.stype == 0 || h.stype == 8) e
   where
     by_test : (b : Bool) → (if b then kinds.Empty else (if is_compressed h.flags then kinds.Bytes else kind_of_type h.stype h.entsize)) ≡ kinds.Empty → (if not b then h.size else 0) ≡ 0
     by_test true e = refl
     by_test false e = absurd (either_kind (is_compressed h.flags) kinds.Bytes (kind_of_type h.stype h.entsize) (λ h. cc) (typed_kind h.stype h.entsize) e)
 
-extent_small : (h : Shdr) → IsShdr h → extent_of h < 2 ^ 64
-unfolding extent_of
+extent_small : (h : Shdr) → IsShdr h → home_len h < 2 ^ 64
+unfolding home_len
 extent_small h is = by_test (occupies_file h)
   where
     by_test : (b : Bool) → (if b then h.size else 0) < 2 ^ 64
@@ -186,19 +186,19 @@ unfolding home_of home_bytes
 home_is image h are is = record {
   at = is.offset;
   len = extent_small h is;
-  inside = λ e. inside (not (extent_of h == 0) && nat_lt (length image) (h.offset + extent_of h)) e refl;
+  inside = λ e. inside (not (home_len h == 0) && nat_lt (length image) (h.offset + home_len h)) e refl;
   outside = λ e. rw e refl;
   empty = extent_of_no_kind h;
-  bytes = bytes (not (extent_of h == 0) && nat_lt (length image) (h.offset + extent_of h));
+  bytes = bytes (not (home_len h == 0) && nat_lt (length image) (h.offset + home_len h));
 }
   where
-    inside : (b : Bool) → b ≡ false → (not (extent_of h == 0) && nat_lt (length image) (h.offset + extent_of h)) ≡ b → length (if b then [] else take (extent_of h) (drop h.offset image)) ≡ extent_of h
+    inside : (b : Bool) → b ≡ false → (not (home_len h == 0) && nat_lt (length image) (h.offset + home_len h)) ≡ b → length (if b then [] else take (home_len h) (drop h.offset image)) ≡ home_len h
     inside true e same = cc
-    inside false e same = home_inside image h.offset (extent_of h) same
+    inside false e same = home_inside image h.offset (home_len h) same
 
-    bytes : (b : Bool) → AreBytes (if b then [] else take (extent_of h) (drop h.offset image))
+    bytes : (b : Bool) → AreBytes (if b then [] else take (home_len h) (drop h.offset image))
     bytes true = All-nil (λ n. n < 2 ^ 8)
-    bytes false = All-take (λ n. n < 2 ^ 8) (extent_of h) (drop h.offset image) (All-drop (λ n. n < 2 ^ 8) h.offset image are)
+    bytes false = All-take (λ n. n < 2 ^ 8) (home_len h) (drop h.offset image) (All-drop (λ n. n < 2 ^ 8) h.offset image are)
 
 -- a section as it is opened
 pub opened_section_is : (class : Class) (image : List ℕ) (h : Shdr) → AreBytes image → IsShdr h → IsTrue (shdr_fits class h) → IsSection class (opened_section image h)

@@ -13,7 +13,7 @@ use Rattle.elf_layout.specs.declared.parts.PartAt.{PartAt}
 use Rattle.elf_layout.specs.Layout.{some_above, place_of, end_after, in_order_from, standing, length_with, length_from, length_of, positions, limit_of, is_too_large, overlap_refusal, refusal_within, refusal_of}
 use Rattle.elf_layout.specs.Meeting.{has_bytes, end_of, sorted_by, first_met, listed, overlap_of}
 use Rattle.elf_object.specs.Object.{Object, section_at, has_file_bytes}
-use Rattle.elf_object.specs.Joined.{joined}
+use Rattle.elf_object.specs.Joined.{file_bytes}
 use Rattle.elf_object.specs.Layout.{header_part, segments_part, section_part, table_part, table_alignment, parts_of}
 use Rattle.object_laws.proofs.StandLaws.{some_of, row_left, row_last, length-row, file_bytes_when}
 
@@ -162,7 +162,7 @@ pub record SamePlan (layout : Bool) (q o : Object) : Type 0 where
   pub class : q.header.class ≡ o.header.class
   pub phdrs : length q.phdrs ≡ length o.phdrs
   pub count : length q.sections ≡ length o.sections
-  pub bytes : (s : ℕ) → length (joined q s) ≡ length (joined o s)
+  pub bytes : (s : ℕ) → length (file_bytes q s) ≡ length (file_bytes o s)
   pub stype : (s : ℕ) → (section_at q s).header.stype ≡ (section_at o s).header.stype
   pub addralign : (s : ℕ) → (section_at q s).header.addralign ≡ (section_at o s).header.addralign
   pub segments : layout ≡ true → 0 < length o.phdrs → q.header.phoff ≡ o.header.phoff

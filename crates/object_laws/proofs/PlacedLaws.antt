@@ -18,7 +18,7 @@ use Rattle.elf_layout.specs.declared.parts.Places.{Places}
 use Rattle.elf_layout.specs.Layout.{standing, positions, limit_of, places_of as parts_places}
 use Rattle.elf_types.specs.Answers.{first_refusal}
 use Rattle.elf_object.specs.Object.{Object, Section, section_at, absent_section, header_of, is_null, occupies_file, is_dirty}
-use Rattle.elf_object.specs.Joined.{joined}
+use Rattle.elf_object.specs.Joined.{file_bytes}
 use Rattle.elf_object.specs.Derived.{where_any, derived_header, numbered_shdr}
 use Rattle.elf_object.specs.Layout.{header_part, segments_part, section_part, table_part, parts_of, section_numbers, places_of, segments_place, table_place, section_place, placed_header, placed_shdr, placed_section, placed_by, placed}
 use Rattle.elf_object.specs.Refusal.{refusal, content_refusal, placing_refusal}
@@ -121,12 +121,12 @@ part_of_section P o s each positive inside =
     ∙ get_or-map-range_with_len (section_part o) 1 (length o.sections - 1) (s - 1) s (section_part o s) (omega arith) (omega arith) in
     subst P at (rest (s - 1) (section_part o s) among)
 
-pub size_fits : (o : Object) (s : ℕ) → AreNotTooLarge (parts_of o) o.layout (length o.base) o.header.class → 0 < s → s < length o.sections → occupies_file (section_at o s).header ≡ true → IsFitting o.header.class (length (joined o s))
+pub size_fits : (o : Object) (s : ℕ) → AreNotTooLarge (parts_of o) o.layout (length o.base) o.header.class → 0 < s → s < length o.sections → occupies_file (section_at o s).header ≡ true → IsFitting o.header.class (length (file_bytes o s))
 unfolding section_part
 size_fits o s small positive inside filled =
     let limited = lens_limited (parts_of o) o.layout (length o.base) o.header.class small in
     let each = All-from_recursion (λ p. p.filled ≡ true → p.len ≤ limit_of o.header.class) (parts_of o) limited in
-    within_limit o.header.class (length (joined o s))
+    within_limit o.header.class (length (file_bytes o s))
     (part_of_section (λ p. p.filled ≡ true → p.len ≤ limit_of o.header.class) o s each positive inside filled)
 
 -- ---- Headers with places
@@ -251,16 +251,16 @@ numbered_is class h first header is fitting =
 
 -- ---- The placed object
 
-placed_shdr_is : (o : Object) (places : Places) (s : ℕ) (h : Shdr) → IsEhdr (placed_header places o) → IsShdr h → IsTrue (shdr_fits o.header.class h) → IsFitting o.header.class (section_place places s) → (0 < s → occupies_file h ≡ true → IsFitting o.header.class (length (joined o s))) → IsShdr (placed_shdr places o s h) × IsTrue (shdr_fits o.header.class (placed_shdr places o s h))
+placed_shdr_is : (o : Object) (places : Places) (s : ℕ) (h : Shdr) → IsEhdr (placed_header places o) → IsShdr h → IsTrue (shdr_fits o.header.class h) → IsFitting o.header.class (section_place places s) → (0 < s → occupies_file h ≡ true → IsFitting o.header.class (length (file_bytes o s))) → IsShdr (placed_shdr places o s h) × IsTrue (shdr_fits o.header.class (placed_shdr places o s h))
 unfolding placed_shdr
 placed_shdr_is o places s h header is fitting place size = by_test (s == 0) (is_null h) (occupies_file h) refl refl refl
   where
-    by_test : (first empty filled : Bool) → (s == 0) ≡ first → is_null h ≡ empty → occupies_file h ≡ filled → IsShdr (if first then numbered_shdr (placed_header places o) h else (if empty then h else (record h { offset = section_place places s; size = if filled then length (joined o s) else h.size }))) × IsTrue (shdr_fits o.header.class (if first then numbered_shdr (placed_header places o) h else (if empty then h else (record h { offset = section_place places s; size = if filled then length (joined o s) else h.size }))))
+    by_test : (first empty filled : Bool) → (s == 0) ≡ first → is_null h ≡ empty → occupies_file h ≡ filled → IsShdr (if first then numbered_shdr (placed_header places o) h else (if empty then h else (record h { offset = section_place places s; size = if filled then length (file_bytes o s) else h.size }))) × IsTrue (shdr_fits o.header.class (if first then numbered_shdr (placed_header places o) h else (if empty then h else (record h { offset = section_place places s; size = if filled then length (file_bytes o s) else h.size }))))
     by_test true empty filled a b c = numbered_is o.header.class (placed_header places o) h header is fitting
     by_test false true filled a b c = (is, fitting)
     by_test false false true a b c =
         let positive : 0 < s = ⊎_elim (λ h. h) (λ h. let none : (s == 0) ≡ true = eq-eqb s 0 (omega arith) in absurd (let clash : true ≡ false = sym none ∙ a in cc)) (cases_lt 0 s) in
-        resized_is o.header.class h (section_place places s) (length (joined o s)) is fitting place (size positive c)
+        resized_is o.header.class h (section_place places s) (length (file_bytes o s)) is fitting place (size positive c)
     by_test false false false a b c = resized_is o.header.class h (section_place places s) h.size is fitting place (record { range = is.size; fits = (shdr_fits_each o.header.class h fitting).size })
 
 with_header_is : (class : Class) (c : Section) (h : Shdr) → IsSection class c → IsShdr h → IsTrue (shdr_fits class h) → IsSection class (record c { header = h })

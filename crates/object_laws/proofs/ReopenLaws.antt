@@ -17,7 +17,7 @@ use Rattle.elf_layout.specs.Layout.{limit_of, length_of, places_of as parts_plac
 use Rattle.elf_object.specs.Blocks.{Block, block_end}
 use Rattle.object_laws.proofs.BlockLaws.{AreApart, AllApart, covers_at}
 use Rattle.elf_object.specs.Object.{Object, is_dirty}
-use Rattle.elf_object.specs.Open.{written_front, segments_bytes, table_bytes}
+use Rattle.elf_object.specs.Open.{front_in_image, phdrs_bytes, shdrs_bytes}
 use Rattle.elf_object.specs.Derived.{written_header}
 use Rattle.elf_object.specs.Layout.{section_numbers, parts_of, places_of, placed}
 use Rattle.elf_object.specs.Image.{front_blocks, section_block, part_blocks, image_length, image}
@@ -27,7 +27,7 @@ use Rattle.object_laws.proofs.ImageLaws.{length-image, placed-dirty}
 use Rattle.object_laws.proofs.PlaceLaws.{not_too_large}
 use Rattle.object_laws.proofs.PlacedLaws.{update_passes, placed_is}
 use Rattle.object_laws.proofs.AgainLaws.{class-placed}
-use Rattle.object_laws.proofs.LengthLaws.{length-ehdr_bytes, length-segments_bytes, length-table_bytes}
+use Rattle.object_laws.proofs.LengthLaws.{length-ehdr_bytes, length-phdrs_bytes, length-shdrs_bytes}
 use Rattle.object_laws.proofs.StandLaws.{parts_are_apart, part_in_image, get_each}
 
 -- ---- What is taken of the translation of headers
@@ -70,9 +70,9 @@ pub record StandsIn (image : List ℕ) (q : Object) : Type 0 where
   pub long : ehdr_size q.header.class ≤ length image
   pub small : length image ≤ limit_of q.header.class
   pub header : take (ehdr_size q.header.class) image ≡ ehdr_bytes (written_header q.header) q.pad
-  pub segments : take (length q.phdrs * phdr_size q.header.class) (drop q.header.phoff image) ≡ segments_bytes q.header.class q.header.order q.phdrs
+  pub segments : take (length q.phdrs * phdr_size q.header.class) (drop q.header.phoff image) ≡ phdrs_bytes q.header.class q.header.order q.phdrs
   pub segments_end : 0 < length q.phdrs → q.header.phoff + length q.phdrs * phdr_size q.header.class ≤ length image
-  pub table : take (length q.sections * shdr_size q.header.class) (drop q.header.shoff image) ≡ table_bytes q.header.class q.header.order (map (λ c. c.header) q.sections)
+  pub table : take (length q.sections * shdr_size q.header.class) (drop q.header.shoff image) ≡ shdrs_bytes q.header.class q.header.order (map (λ c. c.header) q.sections)
   pub table_end : 0 < length q.sections → q.header.shoff + length q.sections * shdr_size q.header.class ≤ length image
   pub table_behind : 0 < length q.sections → 0 < q.header.shoff
 
@@ -105,15 +105,15 @@ segments_block q = refl
 
 -- what the blocks of the front are
 header_is : (q : Object) → (front_blocks q).header ≡ record { at = 0; bytes = ehdr_bytes (written_header q.header) q.pad }
-unfolding front_blocks written_front
+unfolding front_blocks front_in_image
 header_is q = refl
 
-segments_is : (q : Object) → (front_blocks q).segments ≡ record { at = q.header.phoff; bytes = segments_bytes q.header.class q.header.order q.phdrs }
-unfolding front_blocks written_front written_header
+segments_is : (q : Object) → (front_blocks q).segments ≡ record { at = q.header.phoff; bytes = phdrs_bytes q.header.class q.header.order q.phdrs }
+unfolding front_blocks front_in_image written_header
 segments_is q = refl
 
-table_is : (q : Object) → (front_blocks q).table ≡ record { at = q.header.shoff; bytes = table_bytes q.header.class q.header.order (map (λ c. c.header) q.sections) }
-unfolding front_blocks written_front written_header
+table_is : (q : Object) → (front_blocks q).table ≡ record { at = q.header.shoff; bytes = shdrs_bytes q.header.class q.header.order (map (λ c. c.header) q.sections) }
+unfolding front_blocks front_in_image written_header
 table_is q = refl
 
 written_class : (h : Ehdr) → (written_header h).class ≡ h.class
@@ -167,8 +167,8 @@ image_stands o ok dirty passed =
     let segments_at = segments_block (placed o) ∙ ap Some (segments_is (placed o)) in
     let table_at = last_part (placed o) ∙ ap Some (table_is (placed o)) in
     let header_len : length (ehdr_bytes (written_header (placed o).header) (placed o).pad) ≡ ehdr_size (placed o).header.class = length-ehdr_bytes (written_header (placed o).header) (placed o).pad ok_placed.pad ∙ ap ehdr_size (written_class (placed o).header) in
-    let segments_len = length-segments_bytes (placed o).header.class (placed o).header.order (placed o).phdrs in
-    let table_len : length (table_bytes (placed o).header.class (placed o).header.order (map (λ c. c.header) (placed o).sections)) ≡ length (placed o).sections * shdr_size (placed o).header.class = length-table_bytes (placed o).header.class (placed o).header.order (map (λ c. c.header) (placed o).sections) ∙ ap (λ (n : ℕ). n * shdr_size (placed o).header.class) (length-map (placed o).sections (λ c. c.header)) in
+    let segments_len = length-phdrs_bytes (placed o).header.class (placed o).header.order (placed o).phdrs in
+    let table_len : length (shdrs_bytes (placed o).header.class (placed o).header.order (map (λ c. c.header) (placed o).sections)) ≡ length (placed o).sections * shdr_size (placed o).header.class = length-shdrs_bytes (placed o).header.class (placed o).header.order (map (λ c. c.header) (placed o).sections) ∙ ap (λ (n : ℕ). n * shdr_size (placed o).header.class) (length-map (placed o).sections (λ c. c.header)) in
     let header_end = get_each (λ (b : Block). 0 < length b.bytes → block_end b ≤ image_length o) (part_blocks (placed o)) 0 (record { at = 0; bytes = ehdr_bytes (written_header (placed o).header) (placed o).pad }) parts.within header_at (omega arith) in
     let stands = λ (i : ℕ) (b : Block) (at : slice_get (part_blocks (placed o)) i ≡ Some b). part_in_image o i b ok dirty passed at in
     let small = limit_passed o dirty passed in
@@ -177,18 +177,18 @@ image_stands o ok dirty passed =
       long = omega arith;
       small = let R : Class → Type 0 = λ c. length (image o) ≤ limit_of c in subst R (sym class) small;
       header = ap (λ (n : ℕ). take n (image o)) (sym header_len) ∙ stands 0 (record { at = 0; bytes = ehdr_bytes (written_header (placed o).header) (placed o).pad }) header_at;
-      segments = ap (λ (n : ℕ). take n (drop (placed o).header.phoff (image o))) (sym segments_len) ∙ stands 1 (record { at = (placed o).header.phoff; bytes = segments_bytes (placed o).header.class (placed o).header.order (placed o).phdrs }) segments_at;
+      segments = ap (λ (n : ℕ). take n (drop (placed o).header.phoff (image o))) (sym segments_len) ∙ stands 1 (record { at = (placed o).header.phoff; bytes = phdrs_bytes (placed o).header.class (placed o).header.order (placed o).phdrs }) segments_at;
       segments_end = λ some.
           let full = positive_size (length (placed o).phdrs) (phdr_size (placed o).header.class) some size.1 in
-          let end = get_each (λ (b : Block). 0 < length b.bytes → block_end b ≤ image_length o) (part_blocks (placed o)) 1 (record { at = (placed o).header.phoff; bytes = segments_bytes (placed o).header.class (placed o).header.order (placed o).phdrs }) parts.within segments_at (omega arith) in
+          let end = get_each (λ (b : Block). 0 < length b.bytes → block_end b ≤ image_length o) (part_blocks (placed o)) 1 (record { at = (placed o).header.phoff; bytes = phdrs_bytes (placed o).header.class (placed o).header.order (placed o).phdrs }) parts.within segments_at (omega arith) in
           omega arith;
-      table = ap (λ (n : ℕ). take n (drop (placed o).header.shoff (image o))) (sym table_len) ∙ stands (length (placed o).sections - 1 + 2) (record { at = (placed o).header.shoff; bytes = table_bytes (placed o).header.class (placed o).header.order (map (λ c. c.header) (placed o).sections) }) table_at;
+      table = ap (λ (n : ℕ). take n (drop (placed o).header.shoff (image o))) (sym table_len) ∙ stands (length (placed o).sections - 1 + 2) (record { at = (placed o).header.shoff; bytes = shdrs_bytes (placed o).header.class (placed o).header.order (map (λ c. c.header) (placed o).sections) }) table_at;
       table_end = λ some.
           let full = positive_size (length (placed o).sections) (shdr_size (placed o).header.class) some size.2 in
-          let end = get_each (λ (b : Block). 0 < length b.bytes → block_end b ≤ image_length o) (part_blocks (placed o)) (length (placed o).sections - 1 + 2) (record { at = (placed o).header.shoff; bytes = table_bytes (placed o).header.class (placed o).header.order (map (λ c. c.header) (placed o).sections) }) parts.within table_at (omega arith) in
+          let end = get_each (λ (b : Block). 0 < length b.bytes → block_end b ≤ image_length o) (part_blocks (placed o)) (length (placed o).sections - 1 + 2) (record { at = (placed o).header.shoff; bytes = shdrs_bytes (placed o).header.class (placed o).header.order (map (λ c. c.header) (placed o).sections) }) parts.within table_at (omega arith) in
           omega arith;
       table_behind = λ some.
           let full = positive_size (length (placed o).sections) (shdr_size (placed o).header.class) some size.2 in
-          not_at_start 0 (placed o).header.shoff (ehdr_bytes (written_header (placed o).header) (placed o).pad) (table_bytes (placed o).header.class (placed o).header.order (map (λ c. c.header) (placed o).sections)) (omega arith) (omega arith)
-          (pairs_apart (part_blocks (placed o)) 0 (length (placed o).sections - 1 + 2) (record { at = 0; bytes = ehdr_bytes (written_header (placed o).header) (placed o).pad }) (record { at = (placed o).header.shoff; bytes = table_bytes (placed o).header.class (placed o).header.order (map (λ c. c.header) (placed o).sections) }) parts.apart (omega arith) header_at table_at);
+          not_at_start 0 (placed o).header.shoff (ehdr_bytes (written_header (placed o).header) (placed o).pad) (shdrs_bytes (placed o).header.class (placed o).header.order (map (λ c. c.header) (placed o).sections)) (omega arith) (omega arith)
+          (pairs_apart (part_blocks (placed o)) 0 (length (placed o).sections - 1 + 2) (record { at = 0; bytes = ehdr_bytes (written_header (placed o).header) (placed o).pad }) (record { at = (placed o).header.shoff; bytes = shdrs_bytes (placed o).header.class (placed o).header.order (map (λ c. c.header) (placed o).sections) }) parts.apart (omega arith) header_at table_at);
     }

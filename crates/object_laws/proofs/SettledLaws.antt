@@ -20,8 +20,8 @@ use Rattle.elf_ident.specs.declared.fronts.Front.{Front}
 use Rattle.elf_types.specs.Answers.{refused_if}
 use Rattle.elf_object.specs.Blocks.{Block, block_end}
 use Rattle.elf_object.specs.Object.{Object, Section, home_piece, absent_section, section_at, header_of, has_file_bytes, occupies_file, is_dirty}
-use Rattle.elf_object.specs.Open.{extent_of, home_of, home_bytes, opened_section, written_front, standing_header, begun, begun_or_refused, opened}
-use Rattle.elf_object.specs.Joined.{joined}
+use Rattle.elf_object.specs.Open.{home_len, home_of, home_bytes, opened_section, front_in_image, standing_header, begun, begun_or_refused, opened}
+use Rattle.elf_object.specs.Joined.{file_bytes}
 use Rattle.elf_object.specs.Derived.{where_any, derived_header, written_header, numbered_shdr}
 use Rattle.elf_object.specs.Layout.{section_numbers, places_of, table_place, placed_header, placed_shdr, placed_section, placed_by, placed}
 use Rattle.elf_object.specs.Image.{front_blocks, section_block, part_blocks, image_length, image}
@@ -224,7 +224,7 @@ placed_readable o ok ranged dirty passed =
 
 -- ---- Sections of the image
 
-home_raw : (image : List ℕ) (h : Shdr) (bytes : List ℕ) → extent_of h ≡ length bytes → (0 < length bytes → (h.offset + length bytes ≤ length image) × (take (length bytes) (drop h.offset image) ≡ bytes)) → home_bytes (home_of (length image) h) image ≡ bytes
+home_raw : (image : List ℕ) (h : Shdr) (bytes : List ℕ) → home_len h ≡ length bytes → (0 < length bytes → (h.offset + length bytes ≤ length image) × (take (length bytes) (drop h.offset image) ≡ bytes)) → home_bytes (home_of (length image) h) image ≡ bytes
 unfolding home_of home_bytes
 home_raw image h bytes extent stands = ⊎_elim
     (λ some.
@@ -234,7 +234,7 @@ home_raw image h bytes extent stands = ⊎_elim
     rw extent (rw inside (out_not (length bytes == 0) both.1)))
     (λ none.
     let empty : bytes ≡ [] = nil_from_length bytes (omega arith) in
-    let size : extent_of h ≡ 0 = extent ∙ omega arith in
+    let size : home_len h ≡ 0 = extent ∙ omega arith in
     rw size (sym empty))
     (cases_lt 0 (length bytes))
   where
@@ -257,7 +257,7 @@ section_among q s positive inside =
     in_row f a (suc m) rest zero h = let here : a + 0 ≡ a = omega arith in ap (λ (k : ℕ). Some (f k)) (sym here)
     in_row f a (suc m) rest (suc j) h = let there : a + 1 + j ≡ a + suc j = omega arith in in_row f (a + 1) m rest j (omega arith) ∙ ap (λ (k : ℕ). Some (f k)) there
 
-block_is : (q : Object) (s : ℕ) → section_block q s ≡ record { at = (section_at q s).header.offset; bytes = joined q s }
+block_is : (q : Object) (s : ℕ) → section_block q s ≡ record { at = (section_at q s).header.offset; bytes = file_bytes q s }
 unfolding section_block
 block_is q s = refl
 
@@ -270,8 +270,8 @@ unfolding has_file_bytes
 first_no_bytes c = refl
 
 -- sh_size of section 0 is no extent
-first_extent : (o : Object) → IsUnrefused o → 0 < length o.sections → extent_of (section_at (placed_by (places_of o) o) 0).header ≡ 0
-unfolding extent_of
+first_extent : (o : Object) → IsUnrefused o → 0 < length o.sections → home_len (section_at (placed_by (places_of o) o) 0).header ≡ 0
+unfolding home_len
 first_extent o un some =
     let is = first_is o some in
     let fields = header_fields o in
@@ -305,8 +305,8 @@ unfolding block_end
 block_ends o b h = h
 
 -- sh_size of a section from 1 on is the number of its bytes
-pub section_extent : (o : Object) (s : ℕ) → s < length o.sections → (s == 0) ≡ false → extent_of (section_at (placed_by (places_of o) o) s).header ≡ length (joined (placed_by (places_of o) o) s)
-unfolding extent_of
+pub section_extent : (o : Object) (s : ℕ) → s < length o.sections → (s == 0) ≡ false → home_len (section_at (placed_by (places_of o) o) s).header ≡ length (file_bytes (placed_by (places_of o) o) s)
+unfolding home_len
 section_extent o s inside positive =
     let stype = stype-placed (places_of o) o s in
     let joined_same = joined-placed (places_of o) o s in
@@ -322,12 +322,12 @@ section_extent o s inside positive =
     dropped true n e = cc
     dropped false n e = refl
 
-    by_test : (b : Bool) → occupies_file (section_at (placed_by (places_of o) o) s).header ≡ b → has_file_bytes s (section_at o s) ≡ b → (if occupies_file (section_at (placed_by (places_of o) o) s).header then (section_at (placed_by (places_of o) o) s).header.size else 0) ≡ length (joined o s)
+    by_test : (b : Bool) → occupies_file (section_at (placed_by (places_of o) o) s).header ≡ b → has_file_bytes s (section_at o s) ≡ b → (if occupies_file (section_at (placed_by (places_of o) o) s).header then (section_at (placed_by (places_of o) o) s).header.size else 0) ≡ length (file_bytes o s)
     by_test true e filled = picked (occupies_file (section_at (placed_by (places_of o) o) s).header) (section_at (placed_by (places_of o) o) s).header.size e ∙ size-placed (places_of o) o s inside filled
     by_test false e filled = dropped (occupies_file (section_at (placed_by (places_of o) o) s).header) (section_at (placed_by (places_of o) o) s).header.size e ∙ sym (ap length (joined-none o s filled))
 
--- a section of the image has the bytes that were joined
-pub section_raw : (o : Object) (s : ℕ) → IsObject o → is_dirty o ≡ true → refusal o ≡ None → s < length o.sections → home_bytes (home_of (length (image o)) (section_at (placed_by (places_of o) o) s).header) (image o) ≡ joined (placed_by (places_of o) o) s
+-- a section of the image has the bytes that were file_bytes
+pub section_raw : (o : Object) (s : ℕ) → IsObject o → is_dirty o ≡ true → refusal o ≡ None → s < length o.sections → home_bytes (home_of (length (image o)) (section_at (placed_by (places_of o) o) s).header) (image o) ≡ file_bytes (placed_by (places_of o) o) s
 section_raw o s ok dirty passed inside = by_test (s == 0) refl
   where
     un : IsUnrefused o
@@ -339,25 +339,25 @@ section_raw o s ok dirty passed inside = by_test (s == 0) refl
     count : length (placed_by (places_of o) o).sections ≡ length o.sections
     count = section_count-placed (places_of o) o
 
-    stands : (0 < s) → 0 < length (joined (placed_by (places_of o) o) s) → ((section_at (placed_by (places_of o) o) s).header.offset + length (joined (placed_by (places_of o) o) s) ≤ length (image o)) × (take (length (joined (placed_by (places_of o) o) s)) (drop (section_at (placed_by (places_of o) o) s).header.offset (image o)) ≡ joined (placed_by (places_of o) o) s)
+    stands : (0 < s) → 0 < length (file_bytes (placed_by (places_of o) o) s) → ((section_at (placed_by (places_of o) o) s).header.offset + length (file_bytes (placed_by (places_of o) o) s) ≤ length (image o)) × (take (length (file_bytes (placed_by (places_of o) o) s)) (drop (section_at (placed_by (places_of o) o) s).header.offset (image o)) ≡ file_bytes (placed_by (places_of o) o) s)
     stands positive some =
-        let at : slice_get (part_blocks (placed o)) (s + 1) ≡ Some (record { at = (section_at (placed_by (places_of o) o) s).header.offset; bytes = joined (placed_by (places_of o) o) s }) =
+        let at : slice_get (part_blocks (placed o)) (s + 1) ≡ Some (record { at = (section_at (placed_by (places_of o) o) s).header.offset; bytes = file_bytes (placed_by (places_of o) o) s }) =
         ap (λ (q : Object). slice_get (part_blocks q) (s + 1)) same ∙ section_among (placed_by (places_of o) o) s positive (omega (arith, count)) ∙ ap Some (block_is (placed_by (places_of o) o) s) in
         let parts = parts_are_apart o ok dirty passed in
-        let end = block_ends o (record { at = (section_at (placed_by (places_of o) o) s).header.offset; bytes = joined (placed_by (places_of o) o) s }) (get_each (λ (b : Block). 0 < length b.bytes → block_end b ≤ image_length o) (part_blocks (placed o)) (s + 1) (record { at = (section_at (placed_by (places_of o) o) s).header.offset; bytes = joined (placed_by (places_of o) o) s }) parts.within at some) in
+        let end = block_ends o (record { at = (section_at (placed_by (places_of o) o) s).header.offset; bytes = file_bytes (placed_by (places_of o) o) s }) (get_each (λ (b : Block). 0 < length b.bytes → block_end b ≤ image_length o) (part_blocks (placed o)) (s + 1) (record { at = (section_at (placed_by (places_of o) o) s).header.offset; bytes = file_bytes (placed_by (places_of o) o) s }) parts.within at some) in
         let len = length-image o in
-        (omega arith, part_in_image o (s + 1) (record { at = (section_at (placed_by (places_of o) o) s).header.offset; bytes = joined (placed_by (places_of o) o) s }) ok dirty passed at)
+        (omega arith, part_in_image o (s + 1) (record { at = (section_at (placed_by (places_of o) o) s).header.offset; bytes = file_bytes (placed_by (places_of o) o) s }) ok dirty passed at)
 
-    by_test : (b : Bool) → (s == 0) ≡ b → home_bytes (home_of (length (image o)) (section_at (placed_by (places_of o) o) s).header) (image o) ≡ joined (placed_by (places_of o) o) s
+    by_test : (b : Bool) → (s == 0) ≡ b → home_bytes (home_of (length (image o)) (section_at (placed_by (places_of o) o) s).header) (image o) ≡ file_bytes (placed_by (places_of o) o) s
     by_test true e =
         let none = eqb-true s 0 e in
-        let R : ℕ → Type 0 = λ k. home_bytes (home_of (length (image o)) (section_at (placed_by (places_of o) o) k).header) (image o) ≡ joined (placed_by (places_of o) o) k in
+        let R : ℕ → Type 0 = λ k. home_bytes (home_of (length (image o)) (section_at (placed_by (places_of o) o) k).header) (image o) ≡ file_bytes (placed_by (places_of o) o) k in
         let empty = joined-none (placed_by (places_of o) o) 0 (first_no_bytes (section_at (placed_by (places_of o) o) 0)) in
         let extent = first_extent o un (omega (arith, inside)) in
-        subst R (sym none) (home_raw (image o) (section_at (placed_by (places_of o) o) 0).header (joined (placed_by (places_of o) o) 0) (extent ∙ sym (ap length empty)) (λ some. absurd (let len = ap length empty in omega arith)))
+        subst R (sym none) (home_raw (image o) (section_at (placed_by (places_of o) o) 0).header (file_bytes (placed_by (places_of o) o) 0) (extent ∙ sym (ap length empty)) (λ some. absurd (let len = ap length empty in omega arith)))
     by_test false e =
         let positive : 0 < s = ⊎_elim (λ h. h) (λ h. let none : (s == 0) ≡ true = eq-eqb s 0 (omega arith) in absurd (let clash : true ≡ false = sym none ∙ e in cc)) (cases_lt 0 s) in
-        home_raw (image o) (section_at (placed_by (places_of o) o) s).header (joined (placed_by (places_of o) o) s) (section_extent o s inside e) (stands positive)
+        home_raw (image o) (section_at (placed_by (places_of o) o) s).header (file_bytes (placed_by (places_of o) o) s) (section_extent o s inside e) (stands positive)
 
 -- ---- The law
 
@@ -366,25 +366,25 @@ unfolding opened_section settled_section
 opened_is_settled image bytes h e =
     ap (λ (raw : List ℕ). record { header = h; home = home_of (length image) h; raw = raw; pieces = home_piece ∷ []; marked = false }) e
 
-pub sections_settle : (image : List ℕ) (q : Object) → ((s : ℕ) → s < length q.sections → home_bytes (home_of (length image) (section_at q s).header) image ≡ joined q s) → map (opened_section image) (headers_of q) ≡ map (λ row. settled_section (length image) (joined q row.0) row.1.header) (enumerate_from 0 q.sections)
+pub sections_settle : (image : List ℕ) (q : Object) → ((s : ℕ) → s < length q.sections → home_bytes (home_of (length image) (section_at q s).header) image ≡ file_bytes q s) → map (opened_section image) (headers_of q) ≡ map (λ row. settled_section (length image) (file_bytes q row.0) row.1.header) (enumerate_from 0 q.sections)
 unfolding section_at
 sections_settle image q raws =
     let left = length-map (headers_of q) (opened_section image) in
     let headers = length-map q.sections (λ (c : Section). c.header) in
-    let right = length-map (enumerate_from 0 q.sections) (λ (row : ℕ × Section). settled_section (length image) (joined q row.0) row.1.header) in
+    let right = length-map (enumerate_from 0 q.sections) (λ (row : ℕ × Section). settled_section (length image) (file_bytes q row.0) row.1.header) in
     let count = length-enumerate_from 0 q.sections in
-    ext_get_or absent_section (map (opened_section image) (headers_of q)) (map (λ row. settled_section (length image) (joined q row.0) row.1.header) (enumerate_from 0 q.sections)) (omega arith) (λ s h.
+    ext_get_or absent_section (map (opened_section image) (headers_of q)) (map (λ row. settled_section (length image) (file_bytes q row.0) row.1.header) (enumerate_from 0 q.sections)) (omega arith) (λ s h.
     let inside : s < length q.sections = omega arith in
     let row : get_or (enumerate_from 0 q.sections) s (0, absent_section) ≡ (0 + s, get_or q.sections s absent_section) = get_or-enumerate_from 0 q.sections s (0, absent_section) inside in
     let number : 0 + s ≡ s = omega arith in
     get_or-map (opened_section image) (headers_of q) s absent_section.header absent_section (omega arith)
     ∙ ap (opened_section image) (get_or-map (λ (c : Section). c.header) q.sections s absent_section absent_section.header inside)
-    ∙ opened_is_settled image (joined q s) (get_or q.sections s absent_section).header (raws s inside)
-    ∙ sym (get_or-map (λ (r : ℕ × Section). settled_section (length image) (joined q r.0) r.1.header) (enumerate_from 0 q.sections) s (0, absent_section) absent_section (omega arith)
-    ∙ ap (λ (r : ℕ × Section). settled_section (length image) (joined q r.0) r.1.header) row
-    ∙ ap (λ (k : ℕ). settled_section (length image) (joined q k) (get_or q.sections s absent_section).header) number))
+    ∙ opened_is_settled image (file_bytes q s) (get_or q.sections s absent_section).header (raws s inside)
+    ∙ sym (get_or-map (λ (r : ℕ × Section). settled_section (length image) (file_bytes q r.0) r.1.header) (enumerate_from 0 q.sections) s (0, absent_section) absent_section (omega arith)
+    ∙ ap (λ (r : ℕ × Section). settled_section (length image) (file_bytes q r.0) r.1.header) row
+    ∙ ap (λ (k : ℕ). settled_section (length image) (file_bytes q k) (get_or q.sections s absent_section).header) number))
 
-begun_settles : (image : List ℕ) (q : Object) → map (opened_section image) (headers_of q) ≡ map (λ row. settled_section (length image) (joined q row.0) row.1.header) (enumerate_from 0 q.sections) → begun (front_of q) image ≡ as_opened (settled_over image q)
+begun_settles : (image : List ℕ) (q : Object) → map (opened_section image) (headers_of q) ≡ map (λ row. settled_section (length image) (file_bytes q row.0) row.1.header) (enumerate_from 0 q.sections) → begun (front_of q) image ≡ as_opened (settled_over image q)
 unfolding begun front_of settled_over front_blocks standing_header written_header
 begun_settles image q sections =
     ap (λ (l : List Section). record {
@@ -393,7 +393,7 @@ begun_settles image q sections =
       phdrs = q.phdrs;
       sections = l;
       base = image;
-      written = written_front (written_header q.header) q.pad q.phdrs (headers_of q);
+      written_front = front_in_image (written_header q.header) q.pad q.phdrs (headers_of q);
       layout = false;
       fill = 0;
       marked = false;

@@ -13,11 +13,11 @@ use Rattle.elf_layout.specs.declared.parts.PartAt.{PartAt}
 use Rattle.elf_layout.specs.declared.parts.Places.{Places}
 use Rattle.elf_layout.specs.Layout.{rounded_up, place_of, end_after, standing, in_order_from, length_from, length_of, positions, places_of as parts_places}
 use Rattle.elf_layout.specs.Meeting.{has_bytes, end_of, meets}
-use Rattle.elf_object.specs.Blocks.{Block, block_end, covers, spread, stacked, last_end}
+use Rattle.elf_object.specs.Blocks.{Block, block_end, block_covers, spread, stacked, last_end}
 use Rattle.object_laws.proofs.BlockLaws.{AreApart, AllApart, take-drop-spread}
 use Rattle.elf_object.specs.Object.{Object, Section, absent_section, section_at, header_of, has_file_bytes, occupies_file, is_null, is_dirty}
-use Rattle.elf_object.specs.Open.{written_front, no_block}
-use Rattle.elf_object.specs.Joined.{aligned_pieces, piece_blocks, pieces_end, joined}
+use Rattle.elf_object.specs.Open.{front_in_image, no_block}
+use Rattle.elf_object.specs.Joined.{aligned_pieces, piece_blocks, pieces_end, file_bytes}
 use Rattle.elf_object.specs.Derived.{where_any, derived_header, written_header, numbered_shdr}
 use Rattle.elf_object.specs.Layout.{header_part, segments_part, section_part, table_part, section_numbers, parts_of, places_of, section_place, size_in_file, placed_header, placed_shdr, placed_section, placed_by, placed}
 use Rattle.elf_object.specs.Image.{front_blocks, section_block, part_blocks, uncovered_byte, image_length, image}
@@ -25,7 +25,7 @@ use Rattle.elf_object.specs.Refusal.{refusal, placing_refusal}
 use Rattle.object_laws.proofs.ImageLaws.{section_at-placed, joined-none, not_null, file_bytes_from, image-dirty, placed-dirty}
 use Rattle.object_laws.proofs.PlaceLaws.{Pairs, ends_within, standing_apart}
 use Rattle.object_laws.proofs.PlacedLaws.{update_passes}
-use Rattle.object_laws.proofs.LengthLaws.{length-ehdr_bytes, length-segments_bytes, length-table_bytes}
+use Rattle.object_laws.proofs.LengthLaws.{length-ehdr_bytes, length-phdrs_bytes, length-shdrs_bytes}
 use Rattle.elf_object.specs.Valid.{IsObject}
 
 -- ---- A block and its part
@@ -39,8 +39,8 @@ pub record IsCovered (b : Block) (k : ℕ) : Type 0 where
   pub from : b.at ≤ k
   pub below : k < b.at + length b.bytes
 
-pub covered_from : (b : Block) (k : ℕ) → covers b k ≡ true → IsCovered b k
-unfolding covers block_end
+pub covered_from : (b : Block) (k : ℕ) → block_covers b k ≡ true → IsCovered b k
+unfolding block_covers block_end
 covered_from b k h = by_test (nat_le b.at k) (nat_lt k (b.at + length b.bytes)) refl refl h
   where
     by_test : (x y : Bool) → nat_le b.at k ≡ x → nat_lt k (b.at + length b.bytes) ≡ y → (x && y) ≡ true → IsCovered b k
@@ -174,7 +174,7 @@ PlacesOf o i = get_or (places_of o).at i 0
 
 -- the blocks of the object whose places are stored
 header_stands : (o : Object) (d : PartAt) → length o.pad ≡ 7 → IsBlockAt (front_blocks (placed_by (places_of o) o)).header (header_part o) 0
-unfolding front_blocks written_front placed_by written_header placed_header derived_header header_of
+unfolding front_blocks front_in_image placed_by written_header placed_header derived_header header_of
 header_stands o d seven = record {
   len = length-ehdr_bytes (written_header (placed_header (places_of o) o)) o.pad seven;
   at = λ some. refl;
@@ -192,19 +192,19 @@ some_of zero size h = absurd (omega arith)
 some_of (suc count) size h = omega arith
 
 segments_stand : (o : Object) → IsBlockAt (front_blocks (placed_by (places_of o) o)).segments (segments_part o) (PlacesOf o 1)
-unfolding front_blocks written_front placed_by written_header placed_header derived_header header_of
+unfolding front_blocks front_in_image placed_by written_header placed_header derived_header header_of
 segments_stand o =
-    let len = length-segments_bytes o.header.class o.header.order o.phdrs in
+    let len = length-phdrs_bytes o.header.class o.header.order o.phdrs in
     record {
       len = len;
       at = λ some. where_some (length o.phdrs) (PlacesOf o 1) (some_of (length o.phdrs) (phdr_size o.header.class) (omega arith));
     }
 
 table_stands : (o : Object) → IsBlockAt (front_blocks (placed_by (places_of o) o)).table (table_part o) (PlacesOf o (length o.sections - 1 + 2))
-unfolding front_blocks written_front placed_by written_header placed_header derived_header header_of
+unfolding front_blocks front_in_image placed_by written_header placed_header derived_header header_of
 table_stands o =
     let sections = map (λ r. placed_section (places_of o) o r.0 r.1) (enumerate_from 0 o.sections) in
-    let len = length-table_bytes o.header.class o.header.order (map (λ c. c.header) sections) in
+    let len = length-shdrs_bytes o.header.class o.header.order (map (λ c. c.header) sections) in
     let count : length (map (λ c. c.header) sections) ≡ length o.sections = length-map sections (λ c. c.header) ∙ length-map (enumerate_from 0 o.sections) (λ r. placed_section (places_of o) o r.0 r.1) ∙ length-enumerate_from 0 o.sections in
     let size : length (map (λ c. c.header) sections) * shdr_size o.header.class ≡ length o.sections * shdr_size o.header.class = ap (λ (n : ℕ). n * shdr_size o.header.class) count in
     record {
@@ -246,8 +246,8 @@ unfolding placed_by
 section_count-placed places o = length-map (enumerate_from 0 o.sections) (λ r. placed_section places o r.0 r.1) ∙ length-enumerate_from 0 o.sections
 
 -- the bytes of a section stay when places are stored
-pub joined-placed : (places : Places) (o : Object) (s : ℕ) → joined (placed_by places o) s ≡ joined o s
-unfolding joined pieces_end piece_blocks placed_by placed_header derived_header header_of placed_section joined_of
+pub joined-placed : (places : Places) (o : Object) (s : ℕ) → file_bytes (placed_by places o) s ≡ file_bytes o s
+unfolding file_bytes pieces_end piece_blocks placed_by placed_header derived_header header_of placed_section joined_of
 joined-placed places o s = ⊎_elim
     (λ h. ap (joined_of o.header.class o.header.order o.fill s) (section_at-placed places o s h) ∙ joined_of-header o.header.class o.header.order o.fill s (section_at o s) (placed_shdr places o s (section_at o s).header) (type-placed places o s (section_at o s).header))
     (λ h. let count = section_count-placed places o in
@@ -286,11 +286,11 @@ section_stands o s positive inside =
       at = λ some. by_bytes (has_file_bytes s (section_at o s)) refl (subst (λ (l : List ℕ). 0 < length l) same some);
     }
   where
-    by_test : (b : Bool) → has_file_bytes s (section_at o s) ≡ b → length (joined o s) ≡ (if b then length (joined o s) else 0)
+    by_test : (b : Bool) → has_file_bytes s (section_at o s) ≡ b → length (file_bytes o s) ≡ (if b then length (file_bytes o s) else 0)
     by_test true e = refl
     by_test false e = ap length (joined-none o s e)
 
-    by_bytes : (b : Bool) → has_file_bytes s (section_at o s) ≡ b → 0 < length (joined o s) → (section_at (placed_by (places_of o) o) s).header.offset ≡ PlacesOf o (s + 1)
+    by_bytes : (b : Bool) → has_file_bytes s (section_at o s) ≡ b → 0 < length (file_bytes o s) → (section_at (placed_by (places_of o) o) s).header.offset ≡ PlacesOf o (s + 1)
     by_bytes true e some = offset-placed (places_of o) o s inside e
     by_bytes false e some = let none = ap length (joined-none o s e) in absurd (omega arith)
 

@@ -17,7 +17,7 @@ use Rattle.elf_types.specs.Answers.{first_refusal}
 use Rattle.elf_object.specs.Blocks.{spread, is_covered, stacked, last_end}
 use Rattle.object_laws.proofs.BlockLaws.{get_or-spread, byte_over-uncovered}
 use Rattle.elf_object.specs.Object.{Object, Home, Section, absent_section, section_at, has_file_bytes, is_dirty, some_section_marked, some_piece_marked}
-use Rattle.elf_object.specs.Joined.{piece_bytes, aligned_pieces, piece_blocks, pieces_end, joined}
+use Rattle.elf_object.specs.Joined.{piece_bytes, aligned_pieces, piece_blocks, pieces_end, file_bytes}
 use Rattle.elf_object.specs.Layout.{parts_of, places_of, placed_header, placed_shdr, placed_section, placed_by, placed}
 use Rattle.elf_object.specs.Image.{part_blocks, uncovered_byte, kept_base, image_length, image}
 use Rattle.elf_object.specs.Refusal.{content_refusal, placing_refusal, refusal}
@@ -221,8 +221,8 @@ joined-torn class order fill s b c =
     ap (λ (h : Shdr). if not (s == 0) && not (h.stype == 0 || h.stype == 8) then spread (last_end 0 (stacked 0 (aligned_pieces class order (torn_section b c)))) (λ _. fill) (stacked 0 (aligned_pieces class order (torn_section b c))) else []) header
     ∙ ap (λ (l : List (ℕ × List ℕ)). if not (s == 0) && not (c.header.stype == 0 || c.header.stype == 8) then spread (last_end 0 (stacked 0 l)) (λ _. fill) (stacked 0 l) else []) (aligned-torn class order b c)
 
-joined-torn_of : (moved : ℕ → Bool) (bytes : List ℕ) (q : Object) (s : ℕ) → joined (torn_over moved bytes q) s ≡ joined q s
-unfolding joined pieces_end piece_blocks torn_over joined_from
+joined-torn_of : (moved : ℕ → Bool) (bytes : List ℕ) (q : Object) (s : ℕ) → file_bytes (torn_over moved bytes q) s ≡ file_bytes q s
+unfolding file_bytes pieces_end piece_blocks torn_over joined_from
 joined-torn_of moved bytes q s = torn_facts (joined_from q.header.class q.header.order q.fill s) moved bytes q s (joined-torn q.header.class q.header.order q.fill s)
 
 pub torn_front : (o : Object) (moved : ℕ → Bool) (bytes : List ℕ) → SameFront (torn_over moved bytes (placed_by (places_of o) o)) o

@@ -10,7 +10,7 @@ use Rattle.elf_types.specs.declared.records.Shdr.{Shdr}
 use Rattle.elf_xlate.specs.Headers.{IsShdr, shdr_fits}
 use Rattle.elf_object.specs.Object.{Object, Section, Piece, absent_section, section_at, is_dirty}
 use Rattle.elf_object.specs.Layout.{places_of, placed_by, placed}
-use Rattle.elf_object.specs.Joined.{joined}
+use Rattle.elf_object.specs.Joined.{file_bytes}
 use Rattle.elf_object.specs.Open.{opened_section}
 use Rattle.elf_object.specs.Image.{image}
 use Rattle.elf_object.specs.Refusal.{refusal}
@@ -52,20 +52,20 @@ sections_are o ok dirty passed =
     (All-weaker (IsSection (placed_by (places_of o) o).header.class) (λ c. IsShdr c.header × IsTrue (shdr_fits (placed_by (places_of o) o).header.class c.header)) (λ c x. (x.header, x.fitting)) (placed_by (places_of o) o).sections is.sections)))
 
 settled_over_is : (image : List ℕ) (q : Object) → IsObject q → AreBytes image → length image < 2 ^ 64
-    → All (IsSection q.header.class) (map (λ row. settled_section (length image) (joined q row.0) row.1.header) (enumerate_from 0 q.sections))
+    → All (IsSection q.header.class) (map (λ row. settled_section (length image) (file_bytes q row.0) row.1.header) (enumerate_from 0 q.sections))
     → IsObject (settled_over image q)
 unfolding settled_over
 settled_over_is image q is are small each = record {
   header = is.header;
   fitting = is.fitting;
   phnum = is.phnum;
-  shnum = is.shnum ∙ sym (length-map (enumerate_from 0 q.sections) (λ (row : ℕ × Section). settled_section (length image) (joined q row.0) row.1.header) ∙ length-enumerate_from 0 q.sections);
+  shnum = is.shnum ∙ sym (length-map (enumerate_from 0 q.sections) (λ (row : ℕ × Section). settled_section (length image) (file_bytes q row.0) row.1.header) ∙ length-enumerate_from 0 q.sections);
   pad = is.pad;
   pad_bytes = is.pad_bytes;
   phdr_count = is.phdr_count;
   sections = each;
   section_count = rw (length-map, length-enumerate_from) (is.section_count);
-  string_index = λ none. is.string_index (nil_from_length q.sections (sym (length-map (enumerate_from 0 q.sections) (λ (row : ℕ × Section). settled_section (length image) (joined q row.0) row.1.header) ∙ length-enumerate_from 0 q.sections) ∙ ap length none));
+  string_index = λ none. is.string_index (nil_from_length q.sections (sym (length-map (enumerate_from 0 q.sections) (λ (row : ℕ × Section). settled_section (length image) (file_bytes q row.0) row.1.header) ∙ length-enumerate_from 0 q.sections) ∙ ap length none));
   base = are;
   base_length = small;
   fill = is.fill;

@@ -24,7 +24,7 @@ use Rattle.elf_object.specs.Blocks.{Block}
 use Rattle.elf_object.specs.Object.{Object, Piece, section_at, has_file_bytes, is_dirty}
 use Rattle.elf_object.specs.Open.{begun, opened, created_over}
 use Rattle.elf_object.specs.Answers.{content}
-use Rattle.elf_object.specs.Joined.{joined, pieces_end}
+use Rattle.elf_object.specs.Joined.{file_bytes, pieces_end}
 use Rattle.elf_object.specs.Layout.{placed, placed_parts}
 use Rattle.elf_object.specs.Image.{image, image_length, part_blocks}
 use Rattle.elf_object.specs.Refusal.{refusal}
@@ -136,8 +136,8 @@ pub record BeginningsAreTied : Type 0 where
 -- a section's bytes end with its last piece; where something is dirty sh_size as it is stored is their number; an
 -- image is as long as said
 pub record SizesAreLengths : Type 0 where
-  pub of_pieces : (o : Object) (s : ℕ) → has_file_bytes s (section_at o s) ≡ true → length (joined o s) ≡ pieces_end o s
-  pub as_stored : (o : Object) (s : ℕ) → is_dirty o ≡ true → s < length o.sections → has_file_bytes s (section_at o s) ≡ true → (section_at (placed o) s).header.size ≡ length (joined o s)
+  pub of_pieces : (o : Object) (s : ℕ) → has_file_bytes s (section_at o s) ≡ true → length (file_bytes o s) ≡ pieces_end o s
+  pub as_stored : (o : Object) (s : ℕ) → is_dirty o ≡ true → s < length o.sections → has_file_bytes s (section_at o s) ≡ true → (section_at (placed o) s).header.size ≡ length (file_bytes o s)
   pub of_image : (o : Object) → length (image o) ≡ image_length o
 
 -- without ELF_F_LAYOUT no two parts share a byte

@@ -6,10 +6,10 @@ use Rattle.std.proofs.lemmas.Bool.{cases_lt, lt-ltb, ltb-false}
 use Rattle.std.proofs.lemmas.List.{length-take, length-take-le, length-drop, get_or-take, get_or-drop, ext_get_or}
 use Rattle.std.proofs.lemmas.List.Elements.{All-map}
 use Rattle.elf_types.specs.declared.records.Shdr.{Shdr}
-use Rattle.elf_object.specs.Blocks.{Block, covers, is_covered, extents_meet}
+use Rattle.elf_object.specs.Blocks.{Block, block_covers, is_covered, extents_meet}
 use Rattle.elf_object.specs.Object.{Object, Section, Piece, Home, absent_section, section_at, is_dirty}
 use Rattle.elf_object.specs.Open.{home_of, home_bytes}
-use Rattle.elf_object.specs.Joined.{joined}
+use Rattle.elf_object.specs.Joined.{file_bytes}
 use Rattle.elf_object.specs.Layout.{places_of, placed_by, placed, placed_section}
 use Rattle.elf_object.specs.Image.{image_length, image, is_fill_place}
 use Rattle.elf_object.specs.Refusal.{refusal}
@@ -46,9 +46,9 @@ unfolding is_covered
 unmet_block at len [] k none from below = refl
 unmet_block at len (b ∷ bs) k none from below =
     let tests = neither (extents_meet at len b.at (length b.bytes)) (list_any (λ x. extents_meet at len x.at (length x.bytes)) bs) none in
-    by_test (covers b k) refl tests.0 (unmet_block at len bs k tests.1 from below)
+    by_test (block_covers b k) refl tests.0 (unmet_block at len bs k tests.1 from below)
   where
-    by_test : (c : Bool) → covers b k ≡ c → extents_meet at len b.at (length b.bytes) ≡ false → is_covered bs k ≡ false → (c || is_covered bs k) ≡ false
+    by_test : (c : Bool) → block_covers b k ≡ c → extents_meet at len b.at (length b.bytes) ≡ false → is_covered bs k ≡ false → (c || is_covered bs k) ≡ false
     by_test true e apart rest =
         let is = covered_from b k e in
         let met = meet_at at len b.at (length b.bytes) k from below is.from is.below in
@@ -200,9 +200,9 @@ settled_home bytes raw h same some out =
     by_test true e f = cc
     by_test false e f = f
 
-raw_of : (o : Object) (s : ℕ) → IsReady o → s < length o.sections → home_bytes (home_of (length (image o)) (section_at (placed o) s).header) (image o) ≡ joined (placed o) s
+raw_of : (o : Object) (s : ℕ) → IsReady o → s < length o.sections → home_bytes (home_of (length (image o)) (section_at (placed o) s).header) (image o) ≡ file_bytes (placed o) s
 raw_of o s ready inside =
-    subst (λ (q : Object). home_bytes (home_of (length (image o)) (section_at q s).header) (image o) ≡ joined q s) (sym (placed-dirty o ready.dirty))
+    subst (λ (q : Object). home_bytes (home_of (length (image o)) (section_at q s).header) (image o) ≡ file_bytes q s) (sym (placed-dirty o ready.dirty))
     (section_raw o s ready.object ready.dirty ready.passed inside)
 
 over_based : (o : Object) → IsReady o → IsBased (settled_over (image o) (placed o))
@@ -214,9 +214,9 @@ over_based o ready =
       header = λ clean. parts.header;
       segments = λ clean. parts.segments;
       table = λ clean. parts.table;
-      homes = All-map (HomeStands (image o)) (λ row. settled_section (length (image o)) (joined (placed o) row.0) row.1.header) (enumerate_from 0 (placed o).sections)
-          (each_row (λ row. HomeStands (image o) (settled_section (length (image o)) (joined (placed o) row.0) row.1.header)) (placed o).sections absent_section (λ s inside.
-          settled_home (image o) (joined (placed o) s) (get_or (placed o).sections s absent_section).header (raw_of o s ready (omega arith))));
+      homes = All-map (HomeStands (image o)) (λ row. settled_section (length (image o)) (file_bytes (placed o) row.0) row.1.header) (enumerate_from 0 (placed o).sections)
+          (each_row (λ row. HomeStands (image o) (settled_section (length (image o)) (file_bytes (placed o) row.0) row.1.header)) (placed o).sections absent_section (λ s inside.
+          settled_home (image o) (file_bytes (placed o) s) (get_or (placed o).sections s absent_section).header (raw_of o s ready (omega arith))));
     }
 
 settle_based : (o : Object) → IsObject o → IsBased o → refusal o ≡ None → IsBased (settle o)

@@ -5,7 +5,7 @@ use Rattle.std.specs.List.{enumerate_from}
 use Rattle.std.proofs.lemmas.List.{length-map, get_or-map, ext_get_or}
 use Rattle.std.proofs.lemmas.List.FromFn.{length-enumerate_from, get_or-enumerate_from}
 use Rattle.elf_object.specs.Object.{Object, Section, absent_section, section_at, is_dirty}
-use Rattle.elf_object.specs.Joined.{joined}
+use Rattle.elf_object.specs.Joined.{file_bytes}
 use Rattle.elf_object.specs.Layout.{places_of, placed_by, placed}
 use Rattle.elf_object.specs.Image.{front_blocks, image}
 use Rattle.elf_object.specs.Refusal.{refusal}
@@ -32,30 +32,30 @@ record SameSettled (p q : Object) : Type 0 where
   fill : p.fill ≡ q.fill
   count : length p.sections ≡ length q.sections
   headers : (s : ℕ) → (section_at p s).header ≡ (section_at q s).header
-  bytes : (s : ℕ) → joined p s ≡ joined q s
+  bytes : (s : ℕ) → file_bytes p s ≡ file_bytes q s
   front : front_blocks p ≡ front_blocks q
 
-settled_at : (n : ℕ) (q : Object) (s : ℕ) → s < length q.sections → get_or (map (λ row. settled_section n (joined q row.0) row.1.header) (enumerate_from 0 q.sections)) s absent_section ≡ settled_section n (joined q s) (section_at q s).header
+settled_at : (n : ℕ) (q : Object) (s : ℕ) → s < length q.sections → get_or (map (λ row. settled_section n (file_bytes q row.0) row.1.header) (enumerate_from 0 q.sections)) s absent_section ≡ settled_section n (file_bytes q s) (section_at q s).header
 unfolding section_at
 settled_at n q s h =
     let count = length-enumerate_from 0 q.sections in
     let row : get_or (enumerate_from 0 q.sections) s (0, absent_section) ≡ (0 + s, get_or q.sections s absent_section) = get_or-enumerate_from 0 q.sections s (0, absent_section) h in
     let number : 0 + s ≡ s = omega arith in
-    get_or-map (λ (r : ℕ × Section). settled_section n (joined q r.0) r.1.header) (enumerate_from 0 q.sections) s (0, absent_section) absent_section (omega arith)
-    ∙ ap (λ (r : ℕ × Section). settled_section n (joined q r.0) r.1.header) row
-    ∙ ap (λ (k : ℕ). settled_section n (joined q k) (get_or q.sections s absent_section).header) number
+    get_or-map (λ (r : ℕ × Section). settled_section n (file_bytes q r.0) r.1.header) (enumerate_from 0 q.sections) s (0, absent_section) absent_section (omega arith)
+    ∙ ap (λ (r : ℕ × Section). settled_section n (file_bytes q r.0) r.1.header) row
+    ∙ ap (λ (k : ℕ). settled_section n (file_bytes q k) (get_or q.sections s absent_section).header) number
 
-settled_sections : (n : ℕ) (p q : Object) → SameSettled p q → map (λ row. settled_section n (joined p row.0) row.1.header) (enumerate_from 0 p.sections) ≡ map (λ row. settled_section n (joined q row.0) row.1.header) (enumerate_from 0 q.sections)
+settled_sections : (n : ℕ) (p q : Object) → SameSettled p q → map (λ row. settled_section n (file_bytes p row.0) row.1.header) (enumerate_from 0 p.sections) ≡ map (λ row. settled_section n (file_bytes q row.0) row.1.header) (enumerate_from 0 q.sections)
 settled_sections n p q same =
-    let left = length-map (enumerate_from 0 p.sections) (λ (row : ℕ × Section). settled_section n (joined p row.0) row.1.header) in
-    let right = length-map (enumerate_from 0 q.sections) (λ (row : ℕ × Section). settled_section n (joined q row.0) row.1.header) in
+    let left = length-map (enumerate_from 0 p.sections) (λ (row : ℕ × Section). settled_section n (file_bytes p row.0) row.1.header) in
+    let right = length-map (enumerate_from 0 q.sections) (λ (row : ℕ × Section). settled_section n (file_bytes q row.0) row.1.header) in
     let left_count = length-enumerate_from 0 p.sections in
     let right_count = length-enumerate_from 0 q.sections in
     let count = same.count in
-    ext_get_or absent_section (map (λ row. settled_section n (joined p row.0) row.1.header) (enumerate_from 0 p.sections)) (map (λ row. settled_section n (joined q row.0) row.1.header) (enumerate_from 0 q.sections)) (omega arith) (λ s h.
+    ext_get_or absent_section (map (λ row. settled_section n (file_bytes p row.0) row.1.header) (enumerate_from 0 p.sections)) (map (λ row. settled_section n (file_bytes q row.0) row.1.header) (enumerate_from 0 q.sections)) (omega arith) (λ s h.
     settled_at n p s (omega arith)
     ∙ ap (λ (l : List ℕ). settled_section n l (section_at p s).header) (same.bytes s)
-    ∙ ap (settled_section n (joined q s)) (same.headers s)
+    ∙ ap (settled_section n (file_bytes q s)) (same.headers s)
     ∙ sym (settled_at n q s (omega arith)))
 
 settled_same : (bytes : List ℕ) (p q : Object) → SameSettled p q → settled_over bytes p ≡ settled_over bytes q

@@ -27,7 +27,7 @@ use Rattle.elf_ident.specs.declared.fronts.Head.{Head}
 use Rattle.elf_ident.specs.declared.fronts.Front.{Front}
 use Rattle.elf_ident.specs.Front.{class_named, order_named, no_ident, ident_in, first_section, true_counts, true_phnum, count_refusal, lies_in, phdrs_at, shdrs_at, front_at, front}
 use Rattle.elf_object.specs.Object.{Object}
-use Rattle.elf_object.specs.Open.{home_of, home_bytes, opened_section, written_front, segments_bytes, table_bytes, standing_header, begun, begun_or_refused, opened, created_over}
+use Rattle.elf_object.specs.Open.{home_of, home_bytes, opened_section, front_in_image, phdrs_bytes, shdrs_bytes, standing_header, begun, begun_or_refused, opened, created_over}
 use Rattle.elf_object.specs.Valid.{AreBytes}
 use Rattle.elf_object.proofs.PassedLaws.{not_refused, not_not, passed_one, passed_two}
 use Rattle.elf_ident.proofs.Refusals.{answered_ok, bind_ok}
@@ -244,7 +244,7 @@ home_stands image h some inside =
 -- ---- The laws
 
 made_based : (writes : WritesBack) (image : List ℕ) (f : Front) → AreBytes image → (is : IsFrontOf image f) → IsBased (begun (front_at is.head image) image)
-unfolding begun written_front standing_header front_at phdrs_at shdrs_at segments_bytes table_bytes
+unfolding begun front_in_image standing_header front_at phdrs_at shdrs_at phdrs_bytes shdrs_bytes
 made_based writes image f are is =
     let h = is.head.header in
     let size = sizes is.head.header.class in

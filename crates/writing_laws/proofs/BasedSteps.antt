@@ -51,7 +51,7 @@ home_kept base c d home raw fewer stands some inside =
 
 -- ---- Objects with the same base and written front
 
-with_sections : (o q : Object) → (q.marked ≡ false → o.marked ≡ false) → q.base ≡ o.base → q.written ≡ o.written → All (HomeStands q.base) q.sections → IsBased o → IsBased q
+with_sections : (o q : Object) → (q.marked ≡ false → o.marked ≡ false) → q.base ≡ o.base → q.written_front ≡ o.written_front → All (HomeStands q.base) q.sections → IsBased o → IsBased q
 with_sections o q marks base written homes is = record {
   header = λ clean. let was = is.header (marks clean) in cc;
   segments = λ clean. let was = is.segments (marks clean) in cc;

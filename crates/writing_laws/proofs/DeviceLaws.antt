@@ -4,7 +4,7 @@ use Rattle.std.proofs.Common.{◌≡◌, ℕ, ◌+◌, ◌-◌, ◌<◌, ◌≤�
 use Rattle.std.proofs.lemmas.Bool.{cases_lt}
 use Rattle.std.proofs.lemmas.List.{length-append, length-take, length-take-le, length-drop, length-replicate, get_or-append_right, get_or_append_left, get_or-take, get_or-drop, get_or-replicate, get_or_past, append-nil, ext_get_or}
 use Rattle.elf_outside.specs.Writes.{written_over, resized, IsTorn}
-use Rattle.elf_object.specs.Blocks.{Block, block_end, covers, is_covered}
+use Rattle.elf_object.specs.Blocks.{Block, block_end, block_covers, is_covered}
 use Rattle.writing_laws.specs.Lines.{HoldsBlock, patched, IsTornPatch, IsUnderWay}
 use Rattle.writing_laws.proofs.Bools.{neither}
 use Rattle.writing_laws.proofs.LineLaws.{covers_from, not_covered, end_is}
@@ -77,7 +77,7 @@ front_of n b = record { at = b.at; bytes = take n b.bytes }
 pub rest_of : ℕ → Block → Block
 rest_of n b = record { at = b.at + n; bytes = drop n b.bytes }
 
-neither_covers : (b : Block) (n k : ℕ) → n ≤ length b.bytes → covers (front_of n b) k ≡ false → covers (rest_of n b) k ≡ false → covers b k ≡ false
+neither_covers : (b : Block) (n k : ℕ) → n ≤ length b.bytes → block_covers (front_of n b) k ≡ false → block_covers (rest_of n b) k ≡ false → block_covers b k ≡ false
 unfolding front_of rest_of
 neither_covers b n k within first second = not_covered b k (outside (cases_lt k b.at) (cases_lt k (b.at + length b.bytes)))
   where
@@ -100,9 +100,9 @@ under_way_split old new held size blocks b n left within is = record {
   len = is.len;
   each = is.each;
   done = λ k over none.
-      let first = neither (covers (front_of n b) k) (covers (rest_of n b) k || is_covered left k) none in
-      let second = neither (covers (rest_of n b) k) (is_covered left k) first.1 in
-      is.done k over (both_out (covers b k) (is_covered left k) (neither_covers b n k within first.0 second.0) second.1);
+      let first = neither (block_covers (front_of n b) k) (block_covers (rest_of n b) k || is_covered left k) none in
+      let second = neither (block_covers (rest_of n b) k) (is_covered left k) first.1 in
+      is.done k over (both_out (block_covers b k) (is_covered left k) (neither_covers b n k within first.0 second.0) second.1);
 }
   where
     both_out : (x y : Bool) → x ≡ false → y ≡ false → (x || y) ≡ false

@@ -6,7 +6,7 @@ use Rattle.std.proofs.lemmas.Bool.{cases_lt, lt-ltb, le-ltb}
 use Rattle.std.proofs.lemmas.List.{length-append, length-replicate}
 use Rattle.std.proofs.lemmas.List.Elements.{filter-append}
 use Rattle.std.proofs.lemmas.List.Sums.{sum_by-cons}
-use Rattle.elf_object.specs.Blocks.{Block, block_end, covers, is_covered}
+use Rattle.elf_object.specs.Blocks.{Block, block_end, block_covers, is_covered}
 use Rattle.std.proofs.Math.Bool.{or-true}
 use Rattle.writing_laws.proofs.Bools.{neither}
 use Rattle.writing_laws.specs.Lines.{AreInLine, gap_places}
@@ -40,7 +40,7 @@ filter_range_none p a (suc n) none =
     ap (λ (b : Bool). cond b (a ∷ filter p (range_with_len (a + 1) n)) (filter p (range_with_len (a + 1) n))) here
     ∙ filter_range_none p (a + 1) n (λ k from below. none k (omega arith) (omega arith))
 
--- ---- The places that no block covers
+-- ---- The places that no block block_covers
 
 -- a place behind the first of them is covered by it no more
 behind_first : (b : Block) (bs : List Block) (k : ℕ) → block_end b ≤ k → is_covered (b ∷ bs) k ≡ is_covered bs k
@@ -153,12 +153,12 @@ length-fill_between kept fill end from (b ∷ bs) line =
 
 -- ---- The fill
 
-covers_fill : (kept fill from end k : ℕ) → from ≤ k → kept ≤ k → k < end → covers (fill_block kept fill from end) k ≡ true
+covers_fill : (kept fill from end k : ℕ) → from ≤ k → kept ≤ k → k < end → block_covers (fill_block kept fill from end) k ≡ true
 covers_fill kept fill from end k a b c =
     let count = length-replicate (end - max from kept) fill in
     covers_from (fill_block kept fill from end) k (omega arith) (omega arith)
 
--- it covers the places that no block covers, from the length on
+-- it block_covers the places that no block block_covers, from the length on
 pub fill_covers : (kept fill end from : ℕ) (bs : List Block) (k : ℕ) → AreInLine end from bs → from ≤ k → k < end → kept ≤ k → is_covered bs k ≡ false → is_covered (fill_between kept fill end from bs) k ≡ true
 unfolding is_covered
 fill_covers kept fill end from [] k line a b c none =
@@ -166,13 +166,13 @@ fill_covers kept fill end from [] k line a b c none =
     ap (λ (t : Bool). t || false) over
 fill_covers kept fill end from (b ∷ bs) k line a below c none =
     let last = end_is b in
-    let both = neither (covers b k) (is_covered bs k) none in
+    let both = neither (block_covers b k) (is_covered bs k) none in
     ⊎_elim
     (λ before.
     let over = covers_fill kept fill from b.at k a c before in
     ap (λ (t : Bool). t || is_covered (fill_between kept fill end (block_end b) bs) k) over)
     (λ behind.
     let past : block_end b ≤ k = ⊎_elim (λ h. absurd (let over = covers_from b k behind h in let clash : false ≡ true = sym both.0 ∙ over in cc)) (λ h. omega arith) (cases_lt k (b.at + length b.bytes)) in
-    ap (λ (t : Bool). covers (fill_block kept fill from b.at) k || t) (fill_covers kept fill end (block_end b) bs k line.1 past below c both.1)
-    ∙ or-true (covers (fill_block kept fill from b.at) k))
+    ap (λ (t : Bool). block_covers (fill_block kept fill from b.at) k || t) (fill_covers kept fill end (block_end b) bs k line.1 past below c both.1)
+    ∙ or-true (block_covers (fill_block kept fill from b.at) k))
     (cases_lt k b.at)

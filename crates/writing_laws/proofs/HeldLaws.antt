@@ -6,7 +6,7 @@ use Rattle.std.specs.Str.{bytes_eq}
 use Rattle.std.proofs.lemmas.Bool.{cases_lt, eqb-true}
 use Rattle.std.proofs.lemmas.List.{length-take-le, length-take, length-drop, get_or-take, get_or-drop, ext_get_or, nil_from_length}
 use Rattle.std.proofs.lemmas.Slice.Eq.{bytes_eq-Decides}
-use Rattle.elf_object.specs.Blocks.{Block, covers, is_covered, byte_over, spread, same_extent, same_block}
+use Rattle.elf_object.specs.Blocks.{Block, block_covers, is_covered, byte_over, spread, same_extent, same_block}
 use Rattle.object_laws.proofs.BlockLaws.{length-spread, get_or-spread}
 use Rattle.object_laws.proofs.StandLaws.{covered_from}
 use Rattle.writing_laws.proofs.Bools.{both_true}
@@ -41,7 +41,7 @@ stands_from bytes at piece fits each =
     (cases_lt 0 (length piece))
 
 -- of a block
-pub held_byte : (bytes : List ℕ) (b : Block) (k : ℕ) → HoldsBlock bytes b → covers b k ≡ true → get_or b.bytes (k - b.at) 0 ≡ get_or bytes k 0
+pub held_byte : (bytes : List ℕ) (b : Block) (k : ℕ) → HoldsBlock bytes b → block_covers b k ≡ true → get_or b.bytes (k - b.at) 0 ≡ get_or bytes k 0
 held_byte bytes b k holds over =
     let is = covered_from b k over in
     let from = is.from in
@@ -49,7 +49,7 @@ held_byte bytes b k holds over =
     let place : b.at + (k - b.at) ≡ k = omega arith in
     stands_byte bytes b.at b.bytes (k - b.at) holds (omega arith) ∙ ap (λ (j : ℕ). get_or bytes j 0) place
 
-pub held_within : (bytes : List ℕ) (b : Block) (k : ℕ) → HoldsBlock bytes b → covers b k ≡ true → k < length bytes
+pub held_within : (bytes : List ℕ) (b : Block) (k : ℕ) → HoldsBlock bytes b → block_covers b k ≡ true → k < length bytes
 held_within bytes b k holds over =
     let is = covered_from b k over in
     let from = is.from in
@@ -57,22 +57,22 @@ held_within bytes b k holds over =
     let inside = stands_within bytes b.at b.bytes (k - b.at) holds (omega arith) in
     omega arith
 
--- where each block stands in bytes, a place that one covers has the byte there
+-- where each block stands in bytes, a place that one block_covers has the byte there
 pub covered_byte : (bytes : List ℕ) (otherwise : ℕ → ℕ) (blocks : List Block) (k : ℕ) → AllByRecursion (HoldsBlock bytes) blocks → is_covered blocks k ≡ true → byte_over otherwise blocks k ≡ get_or bytes k 0
 unfolding byte_over is_covered
 covered_byte bytes otherwise [] k holds over = cc
-covered_byte bytes otherwise (b ∷ bs) k holds over = by_test (covers b k) refl over (covered_byte bytes otherwise bs k holds.1)
+covered_byte bytes otherwise (b ∷ bs) k holds over = by_test (block_covers b k) refl over (covered_byte bytes otherwise bs k holds.1)
   where
-    by_test : (c : Bool) → covers b k ≡ c → (c || is_covered bs k) ≡ true → (is_covered bs k ≡ true → byte_over otherwise bs k ≡ get_or bytes k 0) → (if c then get_or b.bytes (k - b.at) 0 else byte_over otherwise bs k) ≡ get_or bytes k 0
+    by_test : (c : Bool) → block_covers b k ≡ c → (c || is_covered bs k) ≡ true → (is_covered bs k ≡ true → byte_over otherwise bs k ≡ get_or bytes k 0) → (if c then get_or b.bytes (k - b.at) 0 else byte_over otherwise bs k) ≡ get_or bytes k 0
     by_test true e any rest = held_byte bytes b k holds.0 e
     by_test false e any rest = rest any
 
 pub covered_within : (bytes : List ℕ) (blocks : List Block) (k : ℕ) → AllByRecursion (HoldsBlock bytes) blocks → is_covered blocks k ≡ true → k < length bytes
 unfolding is_covered
 covered_within bytes [] k holds over = cc
-covered_within bytes (b ∷ bs) k holds over = by_test (covers b k) refl over (covered_within bytes bs k holds.1)
+covered_within bytes (b ∷ bs) k holds over = by_test (block_covers b k) refl over (covered_within bytes bs k holds.1)
   where
-    by_test : (c : Bool) → covers b k ≡ c → (c || is_covered bs k) ≡ true → (is_covered bs k ≡ true → k < length bytes) → k < length bytes
+    by_test : (c : Bool) → block_covers b k ≡ c → (c || is_covered bs k) ≡ true → (is_covered bs k ≡ true → k < length bytes) → k < length bytes
     by_test true e any rest = held_within bytes b k holds.0 e
     by_test false e any rest = rest any
 

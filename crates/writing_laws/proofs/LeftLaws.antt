@@ -13,7 +13,7 @@ use Rattle.elf_xlate.specs.Translation.{encoded}
 use Rattle.elf_types.specs.Answers.{refused_if}
 use Rattle.elf_object.specs.Blocks.{stacked, last_end, spread}
 use Rattle.elf_object.specs.Object.{Object, Section, Piece, absent_section, section_at, has_file_bytes, home_is_clean, some_piece_marked, is_dirty}
-use Rattle.elf_object.specs.Joined.{piece_bytes, aligned_pieces, piece_blocks, pieces_end, joined}
+use Rattle.elf_object.specs.Joined.{piece_bytes, aligned_pieces, piece_blocks, pieces_end, file_bytes}
 use Rattle.elf_object.specs.Layout.{places_of, placed_by, placed}
 use Rattle.elf_object.specs.Image.{front_blocks, section_block}
 use Rattle.elf_object.specs.Refusal.{missing_in_section, missing_home}
@@ -36,10 +36,10 @@ use Rattle.writing_laws.proofs.HeldLaws.{same_holds, same_extent_is, empty_holds
 -- ---- The front
 
 -- the place and the bytes of a part of the front that does not differ are those that were last written
-front_stands : (o : Object) (p : Part) → is_dirty o ≡ true → front_differs (places_of o) o p ≡ false → HoldsBlock o.base (block_of p o.written) → HoldsBlock o.base (block_of p (front_blocks (placed o)))
+front_stands : (o : Object) (p : Part) → is_dirty o ≡ true → front_differs (places_of o) o p ≡ false → HoldsBlock o.base (block_of p o.written_front) → HoldsBlock o.base (block_of p (front_blocks (placed o)))
 unfolding front_differs
 front_stands o p dirty same stands =
-    let holds = same_holds o.base (block_of p (front_blocks (placed_by (places_of o) o))) (block_of p o.written) (not-false _ same) stands in
+    let holds = same_holds o.base (block_of p (front_blocks (placed_by (places_of o) o))) (block_of p o.written_front) (not-false _ same) stands in
     subst (λ (q : Object). HoldsBlock o.base (block_of p (front_blocks q))) (sym (placed-dirty o dirty)) holds
 
 pub header_stands : (o : Object) → is_dirty o ≡ true → IsBased o → header_changed o ≡ false → HoldsBlock o.base (front_blocks (placed o)).header
@@ -89,16 +89,16 @@ alone_of (p ∷ q ∷ l) each others none =
     let no_own = subst (λ (x : Option Items). IsSome x) (not_own q second further.0) own in
     absurd (let clash : false ≡ true = no_own in cc)
 
-joined_empty : (o : Object) (s : ℕ) → (section_at o s).pieces ≡ [] → joined o s ≡ []
-unfolding joined pieces_end piece_blocks aligned_pieces stacked last_end spread
+joined_empty : (o : Object) (s : ℕ) → (section_at o s).pieces ≡ [] → file_bytes o s ≡ []
+unfolding file_bytes pieces_end piece_blocks aligned_pieces stacked last_end spread
 joined_empty o s none = by_test (has_file_bytes s (section_at o s))
   where
     by_test : (b : Bool) → (if b then spread (last_end 0 (stacked 0 (aligned_pieces o.header.class o.header.order (section_at o s)))) (λ _. o.fill) (stacked 0 (aligned_pieces o.header.class o.header.order (section_at o s))) else []) ≡ []
     by_test true = rw none refl
     by_test false = refl
 
-joined_raw : (o : Object) (s : ℕ) (p : Piece) → has_file_bytes s (section_at o s) ≡ true → IsAlone (section_at o s).pieces p → joined o s ≡ (section_at o s).raw
-unfolding joined pieces_end piece_blocks aligned_pieces piece_bytes
+joined_raw : (o : Object) (s : ℕ) (p : Piece) → has_file_bytes s (section_at o s) ≡ true → IsAlone (section_at o s).pieces p → file_bytes o s ≡ (section_at o s).raw
+unfolding file_bytes pieces_end piece_blocks aligned_pieces piece_bytes
 joined_raw o s p filled alone =
     let raw = (section_at o s).raw in
     let bytes : elim (p.own) [ None ↦ (section_at o s).raw | Some l ↦ encoded o.header.class o.header.order l ] ≡ (section_at o s).raw = ap (λ (x : Option Items). elim x [ None ↦ (section_at o s).raw | Some l ↦ encoded o.header.class o.header.order l ]) alone.clean in
@@ -133,13 +133,13 @@ unchanged_tests true false false h e = cc
 unchanged_tests true true c h e = cc
 unchanged_tests false b c h e = cc
 
-block_is : (q : Object) (s : ℕ) → section_block q s ≡ record { at = (section_at q s).header.offset; bytes = joined q s }
+block_is : (q : Object) (s : ℕ) → section_block q s ≡ record { at = (section_at q s).header.offset; bytes = file_bytes q s }
 unfolding section_block
 block_is q s = refl
 
-placed_joined : (o : Object) (s : ℕ) → is_dirty o ≡ true → (section_block (placed o) s).bytes ≡ joined o s
+placed_joined : (o : Object) (s : ℕ) → is_dirty o ≡ true → (section_block (placed o) s).bytes ≡ file_bytes o s
 unfolding section_block
-placed_joined o s dirty = ap (λ (q : Object). joined q s) (placed-dirty o dirty) ∙ joined-placed (places_of o) o s
+placed_joined o s dirty = ap (λ (q : Object). file_bytes q s) (placed-dirty o dirty) ∙ joined-placed (places_of o) o s
 
 pub home_at : (o : Object) (s : ℕ) → IsBased o → s < length o.sections → HomeStands o.base (section_at o s)
 unfolding section_at
@@ -149,7 +149,7 @@ pub section_stands : (o : Object) (s : ℕ) → IsReady o → IsBased o → s < 
 unfolding is_at_home some_piece_marked
 section_stands o s ready is inside same = by_bytes (has_file_bytes s (section_at o s)) refl
   where
-    bytes : (section_block (placed o) s).bytes ≡ joined o s
+    bytes : (section_block (placed o) s).bytes ≡ file_bytes o s
     bytes = placed_joined o s ready.dirty
 
     by_bytes : (b : Bool) → has_file_bytes s (section_at o s) ≡ b → HoldsBlock o.base (section_block (placed o) s)
@@ -171,6 +171,6 @@ section_stands o s ready is inside same = by_bytes (has_file_bytes s (section_at
         ap (λ (n : ℕ). take n (drop (section_block (placed o) s).at o.base)) len
         ∙ ap (λ (a : ℕ). take (section_at o s).home.len (drop a o.base)) at
         ∙ home ∙ sym raw ∙ sym bytes)
-        (λ e. empty_holds o.base (section_block (placed o) s) (bytes ∙ nil_from_length (joined o s) e.0))
-        (same_extent_is (section_block (placed o) s).at (length (joined o s)) (section_at o s).home.at (section_at o s).home.len tests.1))
+        (λ e. empty_holds o.base (section_block (placed o) s) (bytes ∙ nil_from_length (file_bytes o s) e.0))
+        (same_extent_is (section_block (placed o) s).at (length (file_bytes o s)) (section_at o s).home.at (section_at o s).home.len tests.1))
         (alone_of (section_at o s).pieces c.pieces c.others tests.0)

@@ -8,7 +8,7 @@ use Rattle.std.proofs.lemmas.List.{map-append}
 use Rattle.std.proofs.lemmas.List.Folds.{list_any-append}
 use Rattle.elf_types.specs.declared.records.Part.{Part}
 use Rattle.elf_types.specs.declared.records.Part.TheVariants as part
-use Rattle.elf_object.specs.Blocks.{Block, covers, is_covered}
+use Rattle.elf_object.specs.Blocks.{Block, block_covers, is_covered}
 use Rattle.elf_object.specs.Object.{Object, is_dirty}
 use Rattle.elf_object.specs.Layout.{section_numbers, places_of, placed}
 use Rattle.elf_object.specs.Image.{front_blocks, section_block, part_blocks, kept_base, uncovered_byte, image}
@@ -79,17 +79,17 @@ changed_are o dirty =
 
 -- the places of a block are covered by others
 abbrev pub IsAmong : Block → List Block → Type 0
-IsAmong b bs = (k : ℕ) → covers b k ≡ true → is_covered bs k ≡ true
+IsAmong b bs = (k : ℕ) → block_covers b k ≡ true → is_covered bs k ≡ true
 
 pub among_left : (b : Block) (bs cs : List Block) → IsAmong b bs → IsAmong b (bs ++ cs)
 unfolding is_covered
 among_left b bs cs among k over =
-    list_any-append (λ x. covers x k) bs cs ∙ ap (λ (t : Bool). t || is_covered cs k) (among k over)
+    list_any-append (λ x. block_covers x k) bs cs ∙ ap (λ (t : Bool). t || is_covered cs k) (among k over)
 
 pub among_right : (b : Block) (bs cs : List Block) → IsAmong b cs → IsAmong b (bs ++ cs)
 unfolding is_covered
 among_right b bs cs among k over =
-    list_any-append (λ x. covers x k) bs cs ∙ ap (λ (t : Bool). is_covered bs k || t) (among k over) ∙ or-true (is_covered bs k)
+    list_any-append (λ x. block_covers x k) bs cs ∙ ap (λ (t : Bool). is_covered bs k || t) (among k over) ∙ or-true (is_covered bs k)
 
 among_first : (b : Block) (bs : List Block) → IsAmong b (b ∷ bs)
 unfolding is_covered
@@ -110,12 +110,12 @@ among_sections f test a (suc n) s from below passes k over = ⊎_elim
     (λ here.
     let same : s ≡ a = omega arith in
     let first : test a ≡ true = ap test (sym same) ∙ passes in
-    let cover : covers (f a) k ≡ true = ap (λ (x : ℕ). covers (f x) k) (sym same) ∙ over in
+    let cover : block_covers (f a) k ≡ true = ap (λ (x : ℕ). block_covers (f x) k) (sym same) ∙ over in
     rw first (rw cover refl))
     (cases_lt a s)
   where
-    by_test : (t : Bool) → list_any (λ x. covers x k) (map f (filter test (range_with_len (a + 1) n))) ≡ true → list_any (λ x. covers x k) (map f (cond t (a ∷ filter test (range_with_len (a + 1) n)) (filter test (range_with_len (a + 1) n)))) ≡ true
-    by_test true rest = rw rest (or-true (covers (f a) k))
+    by_test : (t : Bool) → list_any (λ x. block_covers x k) (map f (filter test (range_with_len (a + 1) n))) ≡ true → list_any (λ x. block_covers x k) (map f (cond t (a ∷ filter test (range_with_len (a + 1) n)) (filter test (range_with_len (a + 1) n)))) ≡ true
+    by_test true rest = rw rest (or-true (block_covers (f a) k))
     by_test false rest = rest
 
 -- ---- Parts that are left alone
@@ -173,13 +173,13 @@ each_part o ready is =
 
 -- ---- Places
 
--- a place that a part covers, and no part that changes
+-- a place that a part block_covers, and no part that changes
 left_covered : (o : Object) (bs : List Block) (k : ℕ) → AllByRecursion (IsLeftOrWritten o) bs → AllByRecursion (HoldsBlock (image o)) bs → is_covered (changed_blocks o) k ≡ false → is_covered bs k ≡ true → (k < length o.base) × (get_or (image o) k 0 ≡ get_or o.base k 0)
 unfolding is_covered
 left_covered o [] k each holds left over = cc
-left_covered o (b ∷ bs) k each holds left over = by_test (covers b k) refl over (left_covered o bs k each.1 holds.1 left)
+left_covered o (b ∷ bs) k each holds left over = by_test (block_covers b k) refl over (left_covered o bs k each.1 holds.1 left)
   where
-    by_test : (c : Bool) → covers b k ≡ c → (c || is_covered bs k) ≡ true → (is_covered bs k ≡ true → (k < length o.base) × (get_or (image o) k 0 ≡ get_or o.base k 0)) → (k < length o.base) × (get_or (image o) k 0 ≡ get_or o.base k 0)
+    by_test : (c : Bool) → block_covers b k ≡ c → (c || is_covered bs k) ≡ true → (is_covered bs k ≡ true → (k < length o.base) × (get_or (image o) k 0 ≡ get_or o.base k 0)) → (k < length o.base) × (get_or (image o) k 0 ≡ get_or o.base k 0)
     by_test true e any rest = ⊎_elim
         (λ among. let clash : false ≡ true = sym left ∙ among k e in cc)
         (λ stands. (held_within o.base b k stands e, sym (held_byte (image o) b k holds.0 e) ∙ held_byte o.base b k stands e))

@@ -5,22 +5,22 @@ use Rattle.std.specs.List.{range_with_len}
 use Rattle.std.proofs.lemmas.Bool.{cases_lt, lt-ltb, le-leb}
 use Rattle.std.proofs.lemmas.List.{length-append, get_or_append_left, get_or-append_right, length-drop, get_or-drop, ext_get_or}
 use Rattle.std.proofs.lemmas.List.FromFn.{length-map-range_with_len, get_or-map-range_with_len}
-use Rattle.elf_object.specs.Blocks.{Block, block_end, covers, is_covered, byte_over, spread}
+use Rattle.elf_object.specs.Blocks.{Block, block_end, block_covers, is_covered, byte_over, spread}
 use Rattle.object_laws.proofs.BlockLaws.{length-spread, get_or-spread, byte_over-uncovered}
 use Rattle.object_laws.proofs.StandLaws.{covered_from}
 use Rattle.writing_laws.specs.Lines.{AreInLine, in_line}
 
--- ---- What a block covers
+-- ---- What a block block_covers
 
-pub covers_from : (b : Block) (k : ℕ) → b.at ≤ k → k < b.at + length b.bytes → covers b k ≡ true
-unfolding covers block_end
+pub covers_from : (b : Block) (k : ℕ) → b.at ≤ k → k < b.at + length b.bytes → block_covers b k ≡ true
+unfolding block_covers block_end
 covers_from b k from below =
     rw (le-leb b.at k from, lt-ltb k (b.at + length b.bytes) below) refl
 
-pub not_covered : (b : Block) (k : ℕ) → k < b.at ⊎ b.at + length b.bytes ≤ k → covers b k ≡ false
-not_covered b k outside = by_test (covers b k) refl
+pub not_covered : (b : Block) (k : ℕ) → k < b.at ⊎ b.at + length b.bytes ≤ k → block_covers b k ≡ false
+not_covered b k outside = by_test (block_covers b k) refl
   where
-    by_test : (c : Bool) → covers b k ≡ c → c ≡ false
+    by_test : (c : Bool) → block_covers b k ≡ c → c ≡ false
     by_test false e = refl
     by_test true e =
         let is = covered_from b k e in
@@ -82,7 +82,7 @@ get_or-in_line end otherwise from (b ∷ bs) k line h =
     get_or_append_left (map otherwise (range_with_len from (b.at - from))) (b.bytes ++ in_line end otherwise (block_end b) bs) 0 k (omega arith)
     ∙ get_or-map-range_with_len otherwise from (b.at - from) k (from + k) 0 before refl
     ∙ sym (byte_over-uncovered otherwise bs (from + k) none)
-    ∙ sym (outside (covers b (from + k)) (get_or b.bytes (from + k - b.at) 0) (byte_over otherwise bs (from + k)) out))
+    ∙ sym (outside (block_covers b (from + k)) (get_or b.bytes (from + k - b.at) 0) (byte_over otherwise bs (from + k)) out))
     (λ behind.
     get_or-append_right (map otherwise (range_with_len from (b.at - from))) (b.bytes ++ in_line end otherwise (block_end b) bs) (b.at - from) k 0 gap behind
     ∙ ⊎_elim
@@ -91,14 +91,14 @@ get_or-in_line end otherwise from (b ∷ bs) k line h =
     let place : k - (b.at - from) ≡ from + k - b.at = omega arith in
     get_or_append_left b.bytes (in_line end otherwise (block_end b) bs) 0 (k - (b.at - from)) within
     ∙ ap (λ (j : ℕ). get_or b.bytes j 0) place
-    ∙ sym (inside (covers b (from + k)) (get_or b.bytes (from + k - b.at) 0) (byte_over otherwise bs (from + k)) over))
+    ∙ sym (inside (block_covers b (from + k)) (get_or b.bytes (from + k - b.at) 0) (byte_over otherwise bs (from + k)) over))
     (λ past.
     let out = not_covered b (from + k) (inr (omega arith)) in
     let place : block_end b + (k - (b.at - from) - length b.bytes) ≡ from + k = omega arith in
     get_or-append_right b.bytes (in_line end otherwise (block_end b) bs) (length b.bytes) (k - (b.at - from)) 0 refl past
     ∙ get_or-in_line end otherwise (block_end b) bs (k - (b.at - from) - length b.bytes) line.1 (omega arith)
     ∙ ap (byte_over otherwise bs) place
-    ∙ sym (outside (covers b (from + k)) (get_or b.bytes (from + k - b.at) 0) (byte_over otherwise bs (from + k)) out))
+    ∙ sym (outside (block_covers b (from + k)) (get_or b.bytes (from + k - b.at) 0) (byte_over otherwise bs (from + k)) out))
     (cases_lt (k - (b.at - from)) (length b.bytes)))
     (cases_lt k (b.at - from))
   where

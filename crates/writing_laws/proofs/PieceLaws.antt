@@ -8,7 +8,7 @@ use Rattle.std.proofs.lemmas.List.FromFn.{length-map-range_with_len, get_or-map-
 use Rattle.elf_layout.specs.Layout.{rounded_up}
 use Rattle.elf_object.specs.Blocks.{block_end, stacked, last_end}
 use Rattle.elf_object.specs.Object.{Object, section_at, has_file_bytes}
-use Rattle.elf_object.specs.Joined.{aligned_pieces, piece_blocks, pieces_end, joined}
+use Rattle.elf_object.specs.Joined.{aligned_pieces, piece_blocks, pieces_end, file_bytes}
 use Rattle.elf_object.specs.Image.{kept_base, uncovered_byte}
 use Rattle.object_laws.proofs.PlaceLaws.{rounded_up-ge}
 use Rattle.writing_laws.specs.Lines.{AreInLine, in_line}
@@ -69,8 +69,8 @@ pieces_line : (o : Object) (s : ℕ) → AreInLine (pieces_end o s) 0 (piece_blo
 unfolding pieces_end piece_blocks
 pieces_line o s = stacked_line 0 (aligned_pieces o.header.class o.header.order (section_at o s))
 
-pieces_bytes : (o : Object) (s : ℕ) → has_file_bytes s (section_at o s) ≡ true → joined o s ≡ in_line (pieces_end o s) (λ _. o.fill) 0 (piece_blocks o s)
-unfolding joined
+pieces_bytes : (o : Object) (s : ℕ) → has_file_bytes s (section_at o s) ≡ true → file_bytes o s ≡ in_line (pieces_end o s) (λ _. o.fill) 0 (piece_blocks o s)
+unfolding file_bytes
 pieces_bytes o s filled = rw filled (drop-spread (pieces_end o s) (λ _. o.fill) 0 (piece_blocks o s) (pieces_line o s))
 
 pub pieces_in_line : (o : Object) → PiecesInLine o

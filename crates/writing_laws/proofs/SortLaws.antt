@@ -4,7 +4,7 @@ use Rattle.std.specs.Prelude.{nat_le, cond, if◌then◌else◌}
 use Rattle.std.specs.List.{filter, AllByRecursion}
 use Rattle.std.proofs.lemmas.Bool.{cases_lt, ltb-true, ltb-false, leb-true, leb-false}
 use Rattle.elf_layout.specs.Meeting.{inserted_by, sorted_by}
-use Rattle.elf_object.specs.Blocks.{Block, block_end, covers, is_covered, byte_over}
+use Rattle.elf_object.specs.Blocks.{Block, block_end, block_covers, is_covered, byte_over}
 use Rattle.object_laws.proofs.BlockLaws.{AreApart, AllApart}
 use Rattle.writing_laws.specs.Lines.{AreInLine}
 use Rattle.writing_laws.specs.Plan.{block_has_bytes, in_order}
@@ -13,12 +13,12 @@ use Rattle.writing_laws.proofs.LineLaws.{covers_from, not_covered, end_is}
 abbrev place : Block → ℕ
 place b = b.at
 
--- ---- What covers a place
+-- ---- What block_covers a place
 
-not_both : (b c : Block) (k : ℕ) → AreApart b c → covers b k ≡ true → covers c k ≡ false
-not_both b c k apart here = by_test (covers c k) refl
+not_both : (b c : Block) (k : ℕ) → AreApart b c → block_covers b k ≡ true → block_covers c k ≡ false
+not_both b c k apart here = by_test (block_covers c k) refl
   where
-    by_test : (t : Bool) → covers c k ≡ t → t ≡ false
+    by_test : (t : Bool) → block_covers c k ≡ t → t ≡ false
     by_test false e = refl
     by_test true e = absurd (apart k here e)
 
@@ -36,8 +36,8 @@ byte_over-inserted otherwise b (c ∷ bs) k apart = by_test (nat_le b.at c.at) (
     by_test : (t : Bool) → byte_over otherwise (inserted_by place b bs) k ≡ byte_over otherwise (b ∷ bs) k → byte_over otherwise (if t then b ∷ c ∷ bs else c ∷ inserted_by place b bs) k ≡ byte_over otherwise (b ∷ c ∷ bs) k
     by_test true rest = refl
     by_test false rest =
-        ap (λ (n : ℕ). if covers c k then get_or c.bytes (k - c.at) 0 else n) rest
-        ∙ turned (covers b k) (covers c k) (get_or b.bytes (k - b.at) 0) (get_or c.bytes (k - c.at) 0) (byte_over otherwise bs k) (λ h. not_both b c k apart.0 h)
+        ap (λ (n : ℕ). if block_covers c k then get_or c.bytes (k - c.at) 0 else n) rest
+        ∙ turned (block_covers b k) (block_covers c k) (get_or b.bytes (k - b.at) 0) (get_or c.bytes (k - c.at) 0) (byte_over otherwise bs k) (λ h. not_both b c k apart.0 h)
 
 covered-inserted : (b : Block) (bs : List Block) (k : ℕ) → is_covered (inserted_by place b bs) k ≡ is_covered (b ∷ bs) k
 unfolding is_covered
@@ -51,7 +51,7 @@ covered-inserted b (c ∷ bs) k = by_test (nat_le b.at c.at) (covered-inserted b
 
     by_test : (t : Bool) → is_covered (inserted_by place b bs) k ≡ is_covered (b ∷ bs) k → is_covered (if t then b ∷ c ∷ bs else c ∷ inserted_by place b bs) k ≡ is_covered (b ∷ c ∷ bs) k
     by_test true rest = refl
-    by_test false rest = ap (λ (t : Bool). covers c k || t) rest ∙ swap (covers b k) (covers c k) (is_covered bs k)
+    by_test false rest = ap (λ (t : Bool). block_covers c k || t) rest ∙ swap (block_covers b k) (block_covers c k) (is_covered bs k)
 
 -- ---- Facts of each block
 
@@ -96,16 +96,16 @@ unfolding byte_over
 byte_over-sorted otherwise [] k apart = refl
 byte_over-sorted otherwise (b ∷ bs) k apart =
     byte_over-inserted otherwise b (sorted_by place bs) k (each_sorted place (AreApart b) bs apart.0)
-    ∙ ap (λ (n : ℕ). if covers b k then get_or b.bytes (k - b.at) 0 else n) (byte_over-sorted otherwise bs k apart.1)
+    ∙ ap (λ (n : ℕ). if block_covers b k then get_or b.bytes (k - b.at) 0 else n) (byte_over-sorted otherwise bs k apart.1)
 
 covered-sorted : (bs : List Block) (k : ℕ) → is_covered (sorted_by place bs) k ≡ is_covered bs k
 unfolding is_covered
 covered-sorted [] k = refl
-covered-sorted (b ∷ bs) k = covered-inserted b (sorted_by place bs) k ∙ ap (λ (t : Bool). covers b k || t) (covered-sorted bs k)
+covered-sorted (b ∷ bs) k = covered-inserted b (sorted_by place bs) k ∙ ap (λ (t : Bool). block_covers b k || t) (covered-sorted bs k)
 
 -- ---- Empty blocks
 
-empty_covers : (b : Block) (k : ℕ) → block_has_bytes b ≡ false → covers b k ≡ false
+empty_covers : (b : Block) (k : ℕ) → block_has_bytes b ≡ false → block_covers b k ≡ false
 empty_covers b k none = let empty = ltb-false 0 (length b.bytes) none in not_covered b k (outside (cases_lt k b.at) (omega arith))
   where
     outside : (k < b.at) ⊎ (b.at ≤ k) → length b.bytes ≡ 0 → (k < b.at) ⊎ (b.at + length b.bytes ≤ k)
@@ -117,7 +117,7 @@ byte_over-filled otherwise [] k = refl
 byte_over-filled otherwise (b ∷ bs) k = by_test (block_has_bytes b) refl (byte_over-filled otherwise bs k)
   where
     by_test : (t : Bool) → block_has_bytes b ≡ t → byte_over otherwise (filter block_has_bytes bs) k ≡ byte_over otherwise bs k → byte_over otherwise (cond t (b ∷ filter block_has_bytes bs) (filter block_has_bytes bs)) k ≡ byte_over otherwise (b ∷ bs) k
-    by_test true e rest = ap (λ (n : ℕ). if covers b k then get_or b.bytes (k - b.at) 0 else n) rest
+    by_test true e rest = ap (λ (n : ℕ). if block_covers b k then get_or b.bytes (k - b.at) 0 else n) rest
     by_test false e rest = rest ∙ sym (ap (λ (t : Bool). if t then get_or b.bytes (k - b.at) 0 else byte_over otherwise bs k) (empty_covers b k e))
 
 covered-filled : (bs : List Block) (k : ℕ) → is_covered (filter block_has_bytes bs) k ≡ is_covered bs k
@@ -126,7 +126,7 @@ covered-filled [] k = refl
 covered-filled (b ∷ bs) k = by_test (block_has_bytes b) refl (covered-filled bs k)
   where
     by_test : (t : Bool) → block_has_bytes b ≡ t → is_covered (filter block_has_bytes bs) k ≡ is_covered bs k → is_covered (cond t (b ∷ filter block_has_bytes bs) (filter block_has_bytes bs)) k ≡ is_covered (b ∷ bs) k
-    by_test true e rest = ap (λ (t : Bool). covers b k || t) rest
+    by_test true e rest = ap (λ (t : Bool). block_covers b k || t) rest
     by_test false e rest = rest ∙ sym (ap (λ (t : Bool). t || is_covered bs k) (empty_covers b k e))
 
 pub byte_over-in_order : (otherwise : ℕ → ℕ) (bs : List Block) (k : ℕ) → AllApart bs → byte_over otherwise (in_order bs) k ≡ byte_over otherwise bs k

@@ -5,7 +5,7 @@ use Rattle.std.specs.List.{range_with_len}
 use Rattle.std.proofs.lemmas.Bool.{cases_lt}
 use Rattle.std.proofs.lemmas.List.{drop-drop, take_at, drop_at, get_or-take, get_or_past, length-take-le, ext_get_or}
 use Rattle.std.proofs.lemmas.List.FromFn.{length-map-range_with_len}
-use Rattle.elf_object.specs.Blocks.{Block, block_end, covers, is_covered, byte_over, spread}
+use Rattle.elf_object.specs.Blocks.{Block, block_end, block_covers, is_covered, byte_over, spread}
 use Rattle.object_laws.proofs.BlockLaws.{length-spread, get_or-spread}
 use Rattle.object_laws.proofs.StandLaws.{covered_from}
 use Rattle.writing_laws.specs.Lines.{StandsAt, HoldsBlock, AreInLine, in_line, IsLeft, patched, IsTornPatch, IsUnderWay}
@@ -51,18 +51,18 @@ pub patched_byte : (n : ℕ) (blocks : List Block) (bytes : List ℕ) (k : ℕ) 
 unfolding patched
 patched_byte n blocks bytes k h = get_or-spread n (λ j. get_or bytes j 0) blocks k h
 
-pub one_over : (otherwise : ℕ → ℕ) (b : Block) (k : ℕ) (c : Bool) → covers b k ≡ c → byte_over otherwise (b ∷ []) k ≡ (if c then get_or b.bytes (k - b.at) 0 else otherwise k)
+pub one_over : (otherwise : ℕ → ℕ) (b : Block) (k : ℕ) (c : Bool) → block_covers b k ≡ c → byte_over otherwise (b ∷ []) k ≡ (if c then get_or b.bytes (k - b.at) 0 else otherwise k)
 unfolding byte_over
 one_over otherwise b k c e = ap (λ (t : Bool). if t then get_or b.bytes (k - b.at) 0 else otherwise k) e
 
-covered_below : (b : Block) (k n : ℕ) → covers b k ≡ true → block_end b ≤ n → k < n
+covered_below : (b : Block) (k n : ℕ) → block_covers b k ≡ true → block_end b ≤ n → k < n
 covered_below b k n over fits =
     let is = covered_from b k over in
     let below = is.below in
     let last = end_is b in
     omega arith
 
-not_first : (b : Block) (bs : List Block) (k : ℕ) → covers b k ≡ false → is_covered bs k ≡ false → is_covered (b ∷ bs) k ≡ false
+not_first : (b : Block) (bs : List Block) (k : ℕ) → block_covers b k ≡ false → is_covered bs k ≡ false → is_covered (b ∷ bs) k ≡ false
 unfolding is_covered
 not_first b bs k out none = rw (out, none) refl
 
@@ -78,11 +78,11 @@ under_way_start old new held blocks same = record {
 pub under_way_step : (old new held : List ℕ) (size : ℕ) (blocks : List Block) (b : Block) (left : List Block) → IsUnderWay old new held size blocks (b ∷ left) → HoldsBlock new b → block_end b ≤ size → IsUnderWay old new (patched size (b ∷ []) held) size blocks left
 under_way_step old new held size blocks b left is stands fits = record {
   len = length-patched size (b ∷ []) held;
-  each = λ k. each k (covers b k) refl;
-  done = λ k over none. done k (covers b k) refl over none;
+  each = λ k. each k (block_covers b k) refl;
+  done = λ k over none. done k (block_covers b k) refl over none;
 }
   where
-    same : (k : ℕ) → covers b k ≡ false → get_or (patched size (b ∷ []) held) k 0 ≡ get_or held k 0
+    same : (k : ℕ) → block_covers b k ≡ false → get_or (patched size (b ∷ []) held) k 0 ≡ get_or held k 0
     same k e = ⊎_elim
         (λ below. patched_byte size (b ∷ []) held k below ∙ one_over (λ j. get_or held j 0) b k false e)
         (λ past.
@@ -90,16 +90,16 @@ under_way_step old new held size blocks b left is stands fits = record {
         get_or_past (patched size (b ∷ []) held) k 0 (omega (arith, count, past)) ∙ sym (get_or_past held k 0 (omega (arith, is.len, past))))
         (cases_lt k size)
 
-    written : (k : ℕ) → covers b k ≡ true → get_or (patched size (b ∷ []) held) k 0 ≡ get_or new k 0
+    written : (k : ℕ) → block_covers b k ≡ true → get_or (patched size (b ∷ []) held) k 0 ≡ get_or new k 0
     written k e =
         let below = covered_below b k size e fits in
         patched_byte size (b ∷ []) held k below ∙ one_over (λ j. get_or held j 0) b k true e ∙ held_byte new b k stands e
 
-    each : (k : ℕ) (c : Bool) → covers b k ≡ c → (get_or (patched size (b ∷ []) held) k 0 ≡ get_or old k 0) ⊎ (get_or (patched size (b ∷ []) held) k 0 ≡ get_or new k 0)
+    each : (k : ℕ) (c : Bool) → block_covers b k ≡ c → (get_or (patched size (b ∷ []) held) k 0 ≡ get_or old k 0) ⊎ (get_or (patched size (b ∷ []) held) k 0 ≡ get_or new k 0)
     each k true e = inr (written k e)
     each k false e = ⊎_elim (λ was. inl (same k e ∙ was)) (λ now. inr (same k e ∙ now)) (is.each k)
 
-    done : (k : ℕ) (c : Bool) → covers b k ≡ c → is_covered blocks k ≡ true → is_covered left k ≡ false → get_or (patched size (b ∷ []) held) k 0 ≡ get_or new k 0
+    done : (k : ℕ) (c : Bool) → block_covers b k ≡ c → is_covered blocks k ≡ true → is_covered left k ≡ false → get_or (patched size (b ∷ []) held) k 0 ≡ get_or new k 0
     done k true e over none = written k e
     done k false e over none = same k e ∙ is.done k over (not_first b left k e none)
 

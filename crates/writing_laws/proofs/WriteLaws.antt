@@ -7,7 +7,7 @@ use Rattle.std.proofs.lemmas.List.{length-replicate, get_or-replicate, length-ta
 use Rattle.std.proofs.lemmas.List.Elements.{All-from_recursion, recursion_from_All}
 use Rattle.std.proofs.lemmas.List.Folds.{list_any-append}
 use Rattle.std.proofs.lemmas.List.Sums.{sum_by-append}
-use Rattle.elf_object.specs.Blocks.{Block, block_end, covers, is_covered, byte_over}
+use Rattle.elf_object.specs.Blocks.{Block, block_end, block_covers, is_covered, byte_over}
 use Rattle.elf_object.specs.Object.{Object}
 use Rattle.elf_object.specs.Layout.{places_of, placed}
 use Rattle.elf_object.specs.Image.{front_blocks, section_block, part_blocks, kept_base, uncovered_byte, image_length, image, is_fill_place}
@@ -110,7 +110,7 @@ fills_hold bytes kept fill end from (b ∷ bs) line fits each =
       fills_hold bytes kept fill end (block_end b) bs line.1 fits (λ k a below c none. each k (omega arith) below c (behind b bs k a none)),
     )
   where
-    behind : (b : Block) (bs : List Block) (k : ℕ) → block_end b ≤ k → list_any (λ x. covers x k) bs ≡ false → (covers b k || list_any (λ x. covers x k) bs) ≡ false
+    behind : (b : Block) (bs : List Block) (k : ℕ) → block_end b ≤ k → list_any (λ x. block_covers x k) bs ≡ false → (block_covers b k || list_any (λ x. block_covers x k) bs) ≡ false
     behind b bs k past none =
         let last = end_is b in
         let out = not_covered b k (inr (omega arith)) in
@@ -150,7 +150,7 @@ written_stands o = record {
 pub unwritten : (o : Object) (k : ℕ) → IsReady o → k < image_length o → is_covered (written_blocks o) k ≡ false → (is_covered (changed_blocks o) k ≡ false) × (is_fill_place o k ≡ false)
 unfolding written_blocks is_covered fill_blocks
 unwritten o k ready inside none =
-    let tests = neither (is_covered (changed_blocks o) k) (is_covered (fill_blocks o) k) (sym (list_any-append (λ b. covers b k) (changed_blocks o) (fill_blocks o)) ∙ none) in
+    let tests = neither (is_covered (changed_blocks o) k) (is_covered (fill_blocks o) k) (sym (list_any-append (λ b. block_covers b k) (changed_blocks o) (fill_blocks o)) ∙ none) in
     (tests.0, fill_place_is o k inside ∙ by_test (is_covered (plan o) k) (nat_lt k (kept_base o)) refl refl tests.1)
   where
     by_test : (a b : Bool) → is_covered (plan o) k ≡ a → nat_lt k (kept_base o) ≡ b → is_covered (fill_blocks o) k ≡ false → (not a && not b) ≡ false

@@ -42,9 +42,9 @@ HomeStands base c =
 -- section header table as they were last written, where the object is not marked as a whole; and
 -- each home that a piece still stands for
 pub record IsBased (o : Object) : Type 0 where
-  pub header : o.marked ≡ false → HoldsBlock o.base o.written.header
-  pub segments : o.marked ≡ false → HoldsBlock o.base o.written.segments
-  pub table : o.marked ≡ false → HoldsBlock o.base o.written.table
+  pub header : o.marked ≡ false → HoldsBlock o.base o.written_front.header
+  pub segments : o.marked ≡ false → HoldsBlock o.base o.written_front.segments
+  pub table : o.marked ≡ false → HoldsBlock o.base o.written_front.table
   pub homes : All (HomeStands o.base) o.sections
 
 -- a call keeps it

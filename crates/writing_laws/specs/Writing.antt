@@ -4,9 +4,9 @@ use Rattle.std.specs.Prelude.{◌≡◌, ℕ, ◌+◌, ◌-◌, ◌<◌, ◌≤�
 use Rattle.std.proofs.Math.ListN.{replicate}
 use Rattle.std.specs.List.{range_with_len}
 use Rattle.elf_types.specs.declared.records.Part.TheVariants as part
-use Rattle.elf_object.specs.Blocks.{Block, block_end, covers, is_covered, spread}
+use Rattle.elf_object.specs.Blocks.{Block, block_end, block_covers, is_covered, spread}
 use Rattle.elf_object.specs.Object.{is_dirty, Object, Home, section_at, has_file_bytes}
-use Rattle.elf_object.specs.Joined.{piece_blocks, pieces_end, joined}
+use Rattle.elf_object.specs.Joined.{piece_blocks, pieces_end, file_bytes}
 use Rattle.elf_layout.specs.Meeting.{ranks_by_position}
 use Rattle.elf_object.specs.Layout.{placed_parts, placed}
 use Rattle.elf_object.specs.Image.{part_blocks, kept_base, uncovered_byte, image_length, image, is_fill_place}
@@ -28,7 +28,7 @@ pub record PartsAreApart (o : Object) : Type 0 where
   pub apart : (i j k : ℕ) (a b : Block) → IsReady o → i < j
       → slice_get (part_blocks (placed o)) i ≡ Some a
       → slice_get (part_blocks (placed o)) j ≡ Some b
-      → covers a k ≡ true → covers b k ≡ true → ⊥
+      → block_covers a k ≡ true → block_covers b k ≡ true → ⊥
   pub within : (i : ℕ) (b : Block) → IsReady o → slice_get (part_blocks (placed o)) i ≡ Some b
       → 0 < length b.bytes → block_end b ≤ image_length o
 
@@ -128,4 +128,4 @@ GapBytes o =
 pub record PiecesInLine (o : Object) : Type 0 where
   pub line : (s : ℕ) → AreInLine (pieces_end o s) 0 (piece_blocks o s)
   pub bytes : (s : ℕ) → has_file_bytes s (section_at o s) ≡ true
-      → joined o s ≡ in_line (pieces_end o s) (λ _. o.fill) 0 (piece_blocks o s)
+      → file_bytes o s ≡ in_line (pieces_end o s) (λ _. o.fill) 0 (piece_blocks o s)
