@@ -7,7 +7,7 @@ use Rattle.line_table.specs.declared.faults.LineWhy.{LineWhy}
 use Rattle.line_table.specs.declared.faults.Stop.{Stop}
 use Rattle.line_table.specs.declared.faults.Stop.TheVariants.{Memory, Why}
 use Rattle.elf_types.specs.Answers.{◌>>=◌}
-use Rattle.line_table.specs.Reading.{byte_at, digit, leb128, leb128_at}
+use Rattle.line_table.specs.Reading.{byte_at, digit, leb128}
 use Rattle.line_table.specs.Outcomes.{why_of}
 
 abbrev read : {A : Type 0} → A → Result A LineWhy
@@ -25,14 +25,6 @@ byte_read (x ∷ bytes) rest b e = ap (λ (p : ℕ × List ℕ). p.0 ∷ p.1) (s
 -- what a number so far and the digits to come make
 abbrev pub raised : ℕ → ℕ → Result (ℕ × List ℕ) LineWhy → Result (ℕ × List ℕ) LineWhy
 raised number worth high = high >>= λ x. Ok ((number + worth * x.0) % 2 ^ 64, x.1)
-
-raised_nothing : (high : Result (ℕ × List ℕ) LineWhy) → raised 0 1 high ≡ (high >>= λ x. Ok (x.0 % 2 ^ 64, x.1))
-raised_nothing (Ok x) = ap (λ (n : ℕ). read (n % 2 ^ 64, x.1)) (omega arith)
-raised_nothing (Err e) = refl
-
-pub raised_none : (signed : Bool) (bytes : List ℕ) → raised 0 1 (leb128 signed bytes) ≡ leb128_at signed bytes
-unfolding leb128_at
-raised_none signed bytes = raised_nothing (leb128 signed bytes)
 
 -- one more digit, modulo m
 one_digit : (number worth d high m : ℕ) → ((number + (d * worth) % m) % m + ((worth * 128) % m) * high) % m ≡ (number + worth * (d + 128 * high)) % m

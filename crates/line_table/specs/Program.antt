@@ -73,13 +73,17 @@ address_in u bytes =
     let width = address_width u.class in
     if length bytes == byte_len width then Ok (number u.order width bytes) else Err Address
 
--- the instruction in the bytes of an extended opcode (DWARF 4, 6.2.5.3)
+-- the instruction of an extended opcode (DWARF 4, 6.2.5.3), which stands before these bytes
+abbrev pub extended_by : UnitHeader → ℕ → List ℕ → Result Operation LineWhy
+extended_by u opcode bytes =
+    if opcode == DW_LNE_END_SEQUENCE then Ok EndSequence
+    else if opcode == DW_LNE_SET_ADDRESS then (address_in u bytes >>= λ n. Ok (SetAddress n))
+    else if opcode == DW_LNE_DEFINE_FILE then (file_at bytes >>= λ file. Ok (DefineFile file.0))
+    else Ok Nothing
+
+-- the instruction in these bytes
 unfoldable pub extended_in : UnitHeader → List ℕ → Result Operation LineWhy
-extended_in u bytes = do
-  opcode ← byte_at bytes
-  if opcode.0 == DW_LNE_END_SEQUENCE then Ok EndSequence else
-      (if opcode.0 == DW_LNE_SET_ADDRESS then (address_in u opcode.1 >>= λ address. Ok (SetAddress address)) else
-      (if opcode.0 == DW_LNE_DEFINE_FILE then (file_at opcode.1 >>= λ file. Ok (DefineFile file.0)) else Ok Nothing))
+extended_in u bytes = byte_at bytes >>= λ opcode. extended_by u opcode.0 opcode.1
 
 -- the instruction behind the 0 of an extended opcode: a count of bytes, and these bytes
 unfoldable pub extended_at : UnitHeader → List ℕ → Front Operation LineWhy

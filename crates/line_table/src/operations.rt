@@ -8,7 +8,12 @@ ghost use Rattle.line_table.specs.Views.{seen};
 
 use crate::faults::{LineWhy, Stop};
 use crate::header::Header;
-use crate::opcodes::*;
+use crate::opcodes::{
+    DW_LNE_DEFINE_FILE, DW_LNE_END_SEQUENCE, DW_LNE_SET_ADDRESS, DW_LNS_ADVANCE_LINE,
+    DW_LNS_ADVANCE_PC, DW_LNS_CONST_ADD_PC, DW_LNS_COPY, DW_LNS_FIXED_ADVANCE_PC,
+    DW_LNS_NEGATE_STMT, DW_LNS_SET_BASIC_BLOCK, DW_LNS_SET_COLUMN, DW_LNS_SET_EPILOGUE_BEGIN,
+    DW_LNS_SET_FILE, DW_LNS_SET_ISA, DW_LNS_SET_PROLOGUE_END, EXTENDED,
+};
 use crate::reader::Reader;
 use elf_types::{Class, Octets};
 use std::alloc::Global;
@@ -52,7 +57,8 @@ pub fn read_operation(
     header: &Header,
     reader: &mut Reader,
 ) -> Result<Operation, Stop>
-    ensures value { FollowsBy (λ o. (o, reader.new)) why_of result (operation_at (seen header.now) reader.old) }
+    ensures value { FollowsBy (λ o. (o, reader.new)) why_of result
+        (operation_at (seen header.now) reader.old) }
     ensures shorter { OnOk result (length reader.new < length reader.old) }
 {
     let opcode = reader.read_u8()?;
@@ -112,7 +118,8 @@ fn pass_operands(count: u8, reader: &mut Reader) -> Result<(), Stop>
 /// holds.
 #[tactic(auto, unfolding(crate::specs::Program::extended_at))]
 fn read_extended(alloc: Global, header: &Header, reader: &mut Reader) -> Result<Operation, Stop>
-    ensures value { FollowsBy (λ o. (o, reader.new)) why_of result (extended_at (seen header.now) reader.old) }
+    ensures value { FollowsBy (λ o. (o, reader.new)) why_of result
+        (extended_at (seen header.now) reader.old) }
     ensures no_longer { OnOk result (length reader.new ≤ length reader.old) }
 {
     let size = reader.read_leb128(false)?;

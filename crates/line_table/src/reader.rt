@@ -82,7 +82,8 @@ impl<'a> Reader<'a> {
     /// A number of two bytes.
     #[tactic(auto, unfolding(crate::specs::Reading::number_at, crate::specs::Reading::bytes_at, crate::specs::Reading::number))]
     pub fn read_u16(&mut self, order: Order) -> Result<u16, Stop>
-        ensures value { FollowsBy (λ n. (n, self.new)) why_of result (number_at order w16 self.old) }
+        ensures value { FollowsBy (λ n. (n, self.new)) why_of result
+            (number_at order w16 self.old) }
         ensures no_longer { OnOk result (length self.new ≤ length self.old) }
     {
         let Some((front, rest)) = self.rest.split_first_chunk::<2>() else {
@@ -98,7 +99,8 @@ impl<'a> Reader<'a> {
     /// A number of four bytes.
     #[tactic(auto, unfolding(crate::specs::Reading::number_at, crate::specs::Reading::bytes_at, crate::specs::Reading::number))]
     pub fn read_u32(&mut self, order: Order) -> Result<u32, Stop>
-        ensures value { FollowsBy (λ n. (n, self.new)) why_of result (number_at order w32 self.old) }
+        ensures value { FollowsBy (λ n. (n, self.new)) why_of result
+            (number_at order w32 self.old) }
         ensures no_longer { OnOk result (length self.new ≤ length self.old) }
     {
         let Some((front, rest)) = self.rest.split_first_chunk::<4>() else {
@@ -114,7 +116,8 @@ impl<'a> Reader<'a> {
     /// A number of eight bytes.
     #[tactic(auto, unfolding(crate::specs::Reading::number_at, crate::specs::Reading::bytes_at, crate::specs::Reading::number))]
     pub fn read_u64(&mut self, order: Order) -> Result<u64, Stop>
-        ensures value { FollowsBy (λ n. (n, self.new)) why_of result (number_at order w64 self.old) }
+        ensures value { FollowsBy (λ n. (n, self.new)) why_of result
+            (number_at order w64 self.old) }
         ensures no_longer { OnOk result (length self.new ≤ length self.old) }
     {
         let Some((front, rest)) = self.rest.split_first_chunk::<8>() else {
@@ -149,7 +152,8 @@ impl<'a> Reader<'a> {
     /// A string, which a byte 0 ends.
     #[tactic(auto, unfolding(crate::specs::Reading::string_at))]
     pub fn read_string(&mut self) -> Result<&'a [u8], Stop>
-        ensures value { FollowsBy (λ text. (text.now, self.new)) why_of result (string_at self.old) }
+        ensures value { FollowsBy (λ text. (text.now, self.new)) why_of result
+            (string_at self.old) }
         ensures shorter { OnOk result (length self.new < length self.old) }
     {
         let Some(end) = first_zero(self.rest) else {
@@ -178,7 +182,8 @@ impl<'a> Reader<'a> {
     /// The name of a file in a list of files, or None where a byte 0 ends the list.
     #[tactic(auto, unfolding(crate::specs::Header::named_file_at))]
     pub fn read_named_file(&mut self) -> Result<Option<&'a [u8]>, Stop>
-        ensures value { FollowsBy (λ o. (option_copied o, self.new)) why_of result (named_file_at self.old) }
+        ensures value { FollowsBy (λ o. (option_copied o, self.new)) why_of result
+            (named_file_at self.old) }
         ensures shorter { OnOk result (length self.new < length self.old) }
     {
         match self.rest {

@@ -148,7 +148,8 @@ impl Table {
     /// Executes an instruction. It refuses `Range` where it would divide by a `line_range` of 0.
     #[tactic(auto, unfolding(crate::specs::Rows::effect))]
     pub fn execute(&mut self, header: &Header, operation: Operation) -> Result<(), Stop>
-        ensures { FollowsBy (λ _. self.new) why_of result (stepped (seen header.now) self.old operation) }
+        ensures { FollowsBy (λ _. self.new) why_of result
+            (stepped (seen header.now) self.old operation) }
     {
         match operation {
             Operation::Special(adjusted) => {

@@ -45,7 +45,8 @@ pub fn unit_at(
     order: Order,
 ) -> Result<Option<Unit>, LineFault>
     requires { at ≤ length bytes.now }
-    ensures value { FollowsBy (λ unit. unit) stated_fault result (unit_at class order bytes.now at) }
+    ensures value { FollowsBy (λ unit. unit) stated_fault result
+        (unit_at class order bytes.now at) }
     ensures none { (result ≡ Ok None) ↔ (at ≡ length bytes.now) }
     ensures next { IfOk result
         (λ found. IfSome found (λ unit. (at < unit.next) × (unit.next ≤ length bytes.now))) }
@@ -66,7 +67,8 @@ fn read_unit(
     order: Order,
 ) -> Result<Unit, LineFault>
     requires { at ≤ length bytes.now }
-    ensures value { FollowsBy (λ unit. unit) stated_fault result (unit_of class order bytes.now at) }
+    ensures value { FollowsBy (λ unit. unit) stated_fault result
+        (unit_of class order bytes.now at) }
     ensures next { IfOk result (λ unit. (at < unit.next) × (unit.next ≤ length bytes.now)) }
 {
     let (_, unit) = bytes.split_at(at as usize);
