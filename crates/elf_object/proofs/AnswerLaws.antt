@@ -12,7 +12,8 @@ use Rattle.elf_types.specs.declared.records.Rela.{Rela}
 use Rattle.elf_types.specs.declared.records.Dyn.{Dyn}
 use Rattle.elf_types.specs.declared.errors.ElfError.{ElfError}
 use Rattle.elf_types.specs.declared.errors.ElfError.TheVariants.{Memory, Read, NoEntry, OutOfFile, Ragged}
-use Rattle.elf_types.specs.Answers.{answered, err_of, IsRefusal}
+use Rattle.elf_object.specs.SymbolSections.{symshndx, place_of_symbol}
+use Rattle.elf_types.specs.Answers.{◌>>=◌, answered, err_of, IsRefusal}
 use Rattle.elf_xlate.specs.declared.content.Items.{Items}
 use Rattle.elf_xlate.specs.Translation.{decoded, items_kind}
 use Rattle.elf_xlate.proofs.Decoded.{decoded_kind}
@@ -108,6 +109,15 @@ rela_value o s p i x e = entry_value (lend_refusal o kinds.Rela s p) (relas_of (
 pub dyn_value : (o : Object) (s p i : ℕ) (x : Dyn) → dyn_answer o s p i ≡ Ok x → (lend_refusal o kinds.Dyn s p ≡ None) × (slice_get (dyns_of (items_at o s p)) i ≡ Some x)
 unfolding dyn_answer
 dyn_value o s p i x e = entry_value (lend_refusal o kinds.Dyn s p) (dyns_of (items_at o s p)) i x e
+
+-- the section of a symbol is found by the symbol
+pub symshndx_value : {A : Type 0} (told : Bool) (special numbered : ℕ → A) (o : Object) (s p i : ℕ) (x : A) → (symshndx told special numbered s p i).answer o ≡ Ok x
+    → (y : Sym) × (sym_answer o s p i ≡ Ok y) × (place_of_symbol special numbered o s i y ≡ Ok x)
+symshndx_value {A} told special numbered o s p i x e = by_answer (sym_answer o s p i) refl e
+  where
+    by_answer : (r : Result Sym ElfError) → sym_answer o s p i ≡ r → (r >>= λ y. place_of_symbol special numbered o s i y) ≡ Ok x → (y : Sym) × (sym_answer o s p i ≡ Ok y) × (place_of_symbol special numbered o s i y ≡ Ok x)
+    by_answer (Ok y) known e = (y, known, e)
+    by_answer (Err d) known e = cc
 
 -- ---- What is lent is of the kind
 

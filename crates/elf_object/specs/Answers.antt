@@ -11,6 +11,7 @@ use Rattle.elf_types.specs.declared.records.Rela.{Rela}
 use Rattle.elf_types.specs.declared.records.Dyn.{Dyn}
 use Rattle.elf_types.specs.declared.errors.ElfError.{ElfError}
 use Rattle.elf_types.specs.declared.errors.ElfError.TheVariants.{NoSection, NoData, NoEntry, WrongKind, OutOfFile, Ragged, Reserved}
+use Rattle.elf_types.specs.declared.records.TheConstants.{DIRTY, LAYOUT}
 use Rattle.elf_xlate.specs.declared.content.Items.{Items}
 use Rattle.elf_xlate.specs.declared.content.Items.TheVariants as items
 use Rattle.elf_xlate.specs.Translation.{decoded, items_kind, items_count}
@@ -162,15 +163,15 @@ entry_answer (Some e) l i = Err e
 
 -- ---- Flags (elf_flagelf and its like)
 
--- whether the bits have ELF_F_DIRTY, 1, and ELF_F_LAYOUT, 4
+-- whether the bits have ELF_F_DIRTY and ELF_F_LAYOUT
 abbrev pub has_dirty : ℕ → Bool
-has_dirty bits = bits % 2 == 1
+has_dirty bits = bits / DIRTY % 2 == 1
 
 abbrev pub has_layout : ℕ → Bool
-has_layout bits = bits / 4 % 2 == 1
+has_layout bits = bits / LAYOUT % 2 == 1
 
 abbrev pub flag_bits : Bool → Bool → ℕ
-flag_bits dirty layout = (if dirty then 1 else 0) + (if layout then 4 else 0)
+flag_bits dirty layout = (if dirty then DIRTY else 0) + (if layout then LAYOUT else 0)
 
 -- the flags of a part; the section header table has those of the object
 unfoldable pub flags_of : Object → Part → ℕ

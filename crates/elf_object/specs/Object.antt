@@ -47,7 +47,7 @@ pub record WrittenFront : Type 0 where
 -- an object. The two counts in its header are the lengths of the lists: every step keeps them so.
 pub record Object : Type 0 where
   pub header : Ehdr
-  pub pad : List ℕ  -- bytes 9 to 15 of the identification
+  pub pad : List ℕ  -- the bytes of the identification from EI_PAD on
   pub phdrs : List Phdr
   pub sections : List Section
   pub base : List ℕ  -- the bytes of the image that it was opened from

@@ -1,6 +1,6 @@
 -- The object of an image, with each section as its header, as opened, gives it (elf_begin; gABI
 -- chapter 4, "Section Header").
-use Rattle.std.specs.Prelude.{ℕ, ◌+◌, true, false, not, ◌==◌, ◌&&◌, nat_lt, List, [], ◌∷◌, length, take, drop, map, flat_map, slice_index, if◌then◌else◌, Result, Ok, Err}
+use Rattle.std.specs.Prelude.{ℕ, ◌+◌, ◌-◌, true, false, not, ◌==◌, ◌&&◌, nat_lt, List, [], ◌∷◌, length, take, drop, map, flat_map, slice_index, if◌then◌else◌, Result, Ok, Err}
 use Rattle.elf_types.specs.Kinds.{section_kind}
 use Rattle.elf_types.specs.declared.records.Class.{Class}
 use Rattle.elf_types.specs.declared.records.Order.{Order}
@@ -8,6 +8,7 @@ use Rattle.elf_types.specs.declared.records.Ehdr.{Ehdr}
 use Rattle.elf_types.specs.declared.records.Phdr.{Phdr}
 use Rattle.elf_types.specs.declared.records.Shdr.{Shdr}
 use Rattle.elf_types.specs.declared.errors.ElfError.{ElfError}
+use Rattle.elf_types.specs.declared.constants.TheConstants.{EI_NIDENT, EI_PAD, EV_CURRENT}
 use Rattle.elf_xlate.specs.Headers.{ehdr_bytes, phdr_bytes, shdr_bytes}
 use Rattle.elf_ident.specs.declared.fronts.Front.{Front}
 use Rattle.elf_ident.specs.Front.{front}
@@ -113,7 +114,7 @@ new_ehdr class order = record {
   abiversion = 0;
   etype = 0;
   machine = 0;
-  version = 1;
+  version = EV_CURRENT;
   entry = 0;
   phoff = 0;
   shoff = 0;
@@ -130,7 +131,7 @@ new_ehdr class order = record {
 unfoldable pub created_over : Class → Order → List ℕ → Object
 created_over class order base = record {
   header = new_ehdr class order;
-  pad = replicate 7 0;
+  pad = replicate (EI_NIDENT - EI_PAD) 0;
   phdrs = [];
   sections = [];
   base = base;

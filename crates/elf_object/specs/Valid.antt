@@ -2,10 +2,10 @@
 -- lists are within their limits, and the home piece fits its home. Every step keeps it. Nothing is
 -- said of the numbers in program headers and in own items, which a borrower may have left: a file
 -- form takes their lowest bytes.
-use Rattle.std.specs.Prelude.{◌≡◌, ℕ, ◌^◌, ◌<◌, ◌≤◌, true, false, List, [], ◌∷◌, length, All, IfSome, IsSome, IsTrue, Ok}
+use Rattle.std.specs.Prelude.{◌≡◌, ℕ, ◌-◌, ◌^◌, ◌<◌, ◌≤◌, true, false, List, [], ◌∷◌, length, All, IfSome, IsSome, IsTrue, Ok}
 use Rattle.elf_types.specs.declared.records.Class.{Class}
 use Rattle.elf_types.specs.declared.records.Kind.TheVariants as kinds
-use Rattle.elf_types.specs.declared.constants.TheConstants.{MAX_SECTIONS, MAX_SEGMENTS, MAX_PIECES}
+use Rattle.elf_types.specs.declared.constants.TheConstants.{EI_NIDENT, EI_PAD, MAX_SECTIONS, MAX_SEGMENTS, MAX_PIECES}
 use Rattle.elf_xlate.specs.Headers.{IsEhdr, IsShdr, ehdr_fits, shdr_fits}
 use Rattle.elf_object.specs.Object.{Object, Section, Piece, Home, is_dirty}
 use Rattle.elf_object.specs.Open.{opened}
@@ -47,7 +47,7 @@ pub record IsObject (o : Object) : Type 0 where
   pub fitting : IsTrue (ehdr_fits o.header)
   pub phnum : o.header.phnum ≡ length o.phdrs
   pub shnum : o.header.shnum ≡ length o.sections
-  pub pad : length o.pad ≡ 7
+  pub pad : length o.pad ≡ EI_NIDENT - EI_PAD
   pub pad_bytes : AreBytes o.pad
   pub phdr_count : length o.phdrs ≤ MAX_SEGMENTS
   pub sections : All (IsSection o.header.class) o.sections
