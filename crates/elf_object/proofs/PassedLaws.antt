@@ -38,6 +38,24 @@ pub passed_one : (a : Bool) (x : ElfError) (rs : List (Option ElfError)) → fir
 passed_one false x rs h = (refl, h)
 passed_one true x rs h = cc
 
+-- the object after a call that answered a value, and after one that was refused
+pub step_ok : {A : Type 0} (c : Call A) (o : Object) (x : A) → c.answer o ≡ Ok x → step c o ≡ c.after o
+unfolding step
+step_ok c o x e = rw e refl
+
+pub step_err : {A : Type 0} (c : Call A) (o : Object) (e : ElfError) → c.answer o ≡ Err e → step c o ≡ o
+unfolding step
+step_err c o e h = rw h refl
+
+-- a call that changes nothing
+pub step_same : {A : Type 0} (c : Call A) (o : Object) → c.after o ≡ o → step c o ≡ o
+unfolding step
+step_same {A} c o same = by_answer (c.answer o)
+  where
+    by_answer : (r : Result A ElfError) → after_answer r o (c.after o) ≡ o
+    by_answer (Ok x) = same
+    by_answer (Err e) = refl
+
 -- a call that looks first is as it was, or the second one
 pub looked_keeps : {A B : Type 0} (P : Object → Type 0) (first : Call A) (second : A → Call B) → ((x : A) (o : Object) → P o → first.answer o ≡ Ok x → P (step (second x) o)) → (o : Object) → P o → P (step (looked first second) o)
 unfolding step
