@@ -1,0 +1,7 @@
+pub mod Files
+pub mod Marks
+pub mod Messages
+pub mod Outcomes
+pub mod Reports
+pub mod Steps
+pub mod Stops
