@@ -1,5 +1,5 @@
 -- What a step of a tool does to the two outputs.
-use Rattle.std.specs.Prelude.{◌≡◌, ◌++◌, ◌⊎◌, ◌≤◌, ℕ, List, [], Result, Ok, Err, OnOk, IfOk}
+use Rattle.std.specs.Prelude.{◌≡◌, ◌++◌, ◌⊎◌, ◌≤◌, ℕ, List, [], Option, Result, Ok, Err, OnOk, OnErr, IfOk}
 use Rattle.elf_outside.specs.Counts.{Rose}
 use Rattle.elf_outside.specs.declared.sinks.Sink.{Ghosts}
 use Rattle.tool_output.specs.declared.stops.Stop.{Stop}
@@ -131,3 +131,11 @@ pub record Ends {O E T : Type 0} (o : Ghosts O) (e : Ghosts E) (ended result : R
   pub unput : old.page.now ≡ [] → (out_new ≡ old.out.now) × (err_new ≡ old.err.now)
   pub leaves : LeavesSinks o e old.out.now out_new old.err.now err_new
   pub cause : OnWrite result (OnKept ended (SinkRose o e old.out.now out_new old.err.now err_new))
+
+-- a call over two sinks is over: they gained all the marks, and the answer is the value; or they gained a front
+-- of the marks
+pub record Ended {T : Type 0} (result : Result T Stop) (out_old out_new err_old err_new : Option (List ℕ))
+    (marks : List Mark) (value : T) : Type 0 where
+  pub whole : OnOk result (Gained out_old out_new err_old err_new marks)
+  pub stopped : OnErr result (GainedFront out_old out_new err_old err_new marks)
+  pub value_is : IfOk result (λ v. v ≡ value)

@@ -4,7 +4,7 @@
 
 ghost use Rattle.std.specs.Prelude.{◌≡◌, ◌++◌, ◌+◌, ◌<◌, [], length, OnOk, OnErr};
 ghost use Rattle.tool_output.specs.Marks.{said, Gained, GainedFront};
-ghost use Rattle.tool_output.specs.Reports.{Reports, refusal};
+ghost use Rattle.tool_output.specs.Reports.{Reports, refusal, shown};
 ghost use Rattle.tool_output.specs.Steps.{Writes, LeavesSinks, SinkRose, LeavesOutputs, Waits, Ends, page_size};
 
 use crate::lines::Line;
@@ -141,6 +141,15 @@ impl<'a, O: Sink, E: Sink> Outputs<'a, O, E> {
             return Err(Stop::want_of(e));
         }
         self.turn()
+    }
+
+    /// Writes a line on standard output. Nothing is refused.
+    pub fn show<L: Line>(&mut self, line: &L) -> Result<bool, Stop>
+        ensures reports { Reports O.Sink E.Sink result self.old self.new (shown (L.text line.now)) }
+        ensures leaves { LeavesOutputs O.Sink E.Sink ⊥ result self.old self.new }
+    {
+        self.put(Side::Out, line)?;
+        Ok(false)
     }
 
     /// Refuses a file, by its message.
