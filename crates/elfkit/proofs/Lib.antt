@@ -1,4 +1,1 @@
-pub mod EndLemmas
-pub mod FileLemmas
-pub mod ReportLemmas
-pub mod RunLemmas
+pub mod FrontLemmas

@@ -34,7 +34,7 @@ module _ {O E : Type 0} (o : Ghosts O) (e : Ghosts E) (s t : Outputs O E) (out :
   all_put marks h k = subst (λ (m : List Mark). All m) (sym h.all ∙ none_waits marks) (after h.put (waiting t) h.gained k)
 
   front_put : (marks : List Mark) → WentFront o e s t marks → Given (waiting t) → Front marks
-  front_put marks h k = record { put = h.front; rest = h.rest; all = h.all; gained = all_put h.front h.went k; }
+  front_put marks h k = record { put = h.front; rest = h.rest; all = h.all; gained = all_put h.front h.went k }
 
   -- a front of what waited was put
   all_failed : (marks : List Mark) → Went o e s t marks → GivenFront (waiting t) → Front marks
@@ -58,7 +58,7 @@ module _ {O E : Type 0} (o : Ghosts O) (e : Ghosts E) (s t : Outputs O E) (out :
 
   over : {T : Type 0} (result : Result T Stop) (marks : List Mark) (value : T) → OnOk result (All marks) → OnErr result (Front marks) → IfOk result (λ v. v ≡ value)
       → Ended result (o.wrote s.out.now) (o.wrote out) (e.wrote s.err.now) (e.wrote err) marks value
-  over result marks value whole stopped is = record { whole = whole; stopped = stopped; value_is = is; }
+  over result marks value whole stopped is = record { whole = whole; stopped = stopped; value_is = is }
 
   pub ended : {T : Type 0} (r result : Result T Stop) (marks : List Mark) (value : T) → Performs o e r s t marks value → Ends o e r result t out err
       → Ended result (o.wrote s.out.now) (o.wrote out) (e.wrote s.err.now) (e.wrote err) marks value
@@ -76,8 +76,8 @@ module _ {O E : Type 0} (o : Ghosts O) (e : Ghosts E) (s t : Outputs O E) (out :
   ended (Err Memory) (Err Memory) marks value h k = over (Err Memory) marks value tt (front_put marks h.writes.stopped k.put.1) tt
   ended (Err Write) result marks value h k =
       let lost : Front marks = subst (λ (x : O). GainedFront (o.wrote s.out.now) (o.wrote x) (e.wrote s.err.now) (e.wrote err) marks) (sym k.lost.1)
-        (subst (λ (x : E). GainedFront (o.wrote s.out.now) (o.wrote t.out.now) (e.wrote s.err.now) (e.wrote x) marks) (sym k.lost.2)
-        (subst (λ (m : List Mark). GainedFront (o.wrote s.out.now) (o.wrote t.out.now) (e.wrote s.err.now) (e.wrote t.err.now) m) (none_waits marks) h.writes.lost)) in
+      (subst (λ (x : E). GainedFront (o.wrote s.out.now) (o.wrote t.out.now) (e.wrote s.err.now) (e.wrote x) marks) (sym k.lost.2)
+      (subst (λ (m : List Mark). GainedFront (o.wrote s.out.now) (o.wrote t.out.now) (e.wrote s.err.now) (e.wrote t.err.now) m) (none_waits marks) h.writes.lost)) in
       rw k.lost.0 (over (Err Write) marks value tt lost tt)
 
 -- the same of the sinks that a caller handed in, before and after

@@ -1,4 +1,5 @@
 pub mod EndLemmas
+pub mod FileLemmas
 pub mod LineLemmas
 pub mod MarkLemmas
 pub mod ReportLemmas

@@ -67,10 +67,10 @@ module _ {X : Type 0} (line : ℕ → X → List ℕ) where
         let done = numbered_lines line 0 (take i xs) in
         let left = numbered_lines line (i + 1) (drop (i + 1) xs) in
         let whole : (done ++ line i x) ++ left ≡ numbered_lines line 0 xs =
-          ap (λ (f : List ℕ). f ++ left) (sym (lines_more xs i x lt is)) ∙ lines_left xs (i + 1) (omega arith) in
+        ap (λ (f : List ℕ). f ++ left) (sym (lines_more xs i x lt is)) ∙ lines_left xs (i + 1) (omega arith) in
         let marks : (said Out done ++ said Out (line i x)) ++ said Out left ≡ said Out (numbered_lines line 0 xs) =
-          ap (λ (m : List Mark). m ++ said Out left) (sym (said_append Out done (line i x))) ∙ sym (said_append Out (done ++ line i x) left)
-          ∙ ap (said Out) whole in
+        ap (λ (m : List Mark). m ++ said Out left) (sym (said_append Out done (line i x))) ∙ sym (said_append Out (done ++ line i x) left)
+        ∙ ap (said Out) whole in
         performs_stop o e {T = Bool} stop false s u (said Out (numbered_lines line 0 xs))
         (subst (λ (m : List Mark). Writes {T = Bool} o e (Err stop) s u m) marks
         (writes_stop o e {T = T} stop s u (said Out done ++ said Out (line i x)) (said Out left)

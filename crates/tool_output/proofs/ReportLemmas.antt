@@ -8,7 +8,7 @@ use Rattle.tool_output.specs.declared.outputs.Side.TheVariants.{Out}
 use Rattle.tool_output.specs.Marks.{Mark, said}
 use Rattle.tool_output.specs.Steps.{Writes, Performs}
 use Rattle.tool_output.specs.Reports.{Report, Reports, no_report, shown, joined, all_joined, reports_of}
-use Rattle.tool_output.proofs.StepLemmas.{went_none, went_then, writes_went, writes_then, writes_stop, stops_as}
+use Rattle.tool_output.proofs.StepLemmas.{went_none, went_then, writes_went, writes_then, writes_stop, writes_nothing}
 
 or_assoc : (a b c : Bool) → ((a || b) || c) ≡ (a || (b || c))
 or_assoc true b c = refl
@@ -36,7 +36,11 @@ joined_none a = both _ _ (append-nil a.marks) (or_false a.refused)
 module _ {O E : Type 0} (o : Ghosts O) (e : Ghosts E) where
   pub reports_none : (s : Outputs O E) → Reports o e (Ok false) s s no_report
   unfolding no_report
-  reports_none s = record { writes = writes_went o e false s s [] (went_none o e s); value_is = refl; }
+  reports_none s = record { writes = writes_went o e false s s [] (went_none o e s); value_is = refl }
+
+  -- a step that stops before it writes
+  pub reports_nothing : (s : Outputs O E) (stop : Stop) (a : Report) → Reports o e (Err stop) s s a
+  reports_nothing s stop a = record { writes = writes_nothing o e stop s a.marks; value_is = tt; }
 
   module _ (s t u : Outputs O E) (a b : Report) where
     -- two reports
@@ -58,7 +62,7 @@ module _ {O E : Type 0} (o : Ghosts O) (e : Ghosts E) where
   -- the first of two stops
   pub reports_stop : (s t : Outputs O E) (a b : Report) (stop : Stop) → Reports o e (Err stop) s t a → Reports o e (Err stop) s t (joined a b)
   unfolding joined
-  reports_stop s t a b stop h = record { writes = writes_stop o e stop s t a.marks b.marks h.writes; value_is = tt; }
+  reports_stop s t a b stop h = record { writes = writes_stop o e stop s t a.marks b.marks h.writes; value_is = tt }
 
   -- text on standard output, and then a report
   pub shown_then : (r : Result Bool Stop) (s t u : Outputs O E) (text : List ℕ) (x : Bool) (b : Report)

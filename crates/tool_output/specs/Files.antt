@@ -1,7 +1,7 @@
 -- What a step over a set of files leaves.
 use Rattle.std.specs.Prelude.{◌≡◌, ◌⊎◌, ◌≤◌, ◌<◌, ◌^◌, ◌-◌, ◌+◌, ℕ, List, [], ◌∷◌, Option, Some, None, IfSome, Result, IsTrue, codes}
 use Rattle.elf_outside.specs.Counts.{Rose}
-use Rattle.elf_outside.specs.Names.{SameNames}
+use Rattle.elf_outside.specs.Names.{Map, SameNames}
 use Rattle.elf_outside.specs.declared.sinks.Sink.{Ghosts as SinkGhosts}
 use Rattle.elf_outside.specs.declared.file_sets.Files.{Ghosts as FilesGhosts}
 use Rattle.tool_output.specs.declared.stops.Stop.{Stop}
@@ -9,10 +9,23 @@ use Rattle.tool_output.specs.declared.outputs.Outputs.{Outputs}
 use Rattle.tool_output.specs.Reports.{Report, refusal}
 use Rattle.tool_output.specs.Steps.{KeepsSinks, OnRead, OnWrite, SinkRose}
 
+-- ---- What is said of names
+
 -- the report on a name: the one on its bytes, or that it is not there
-unfoldable pub report_on : List ℕ → (List ℕ → Report) → List ℕ → Option (List ℕ) → Report
-report_on command report name (Some bytes) = report bytes
-report_on command report name None = refusal command name (codes "not found")
+unfoldable pub report_on : List ℕ → (List ℕ → List ℕ → Report) → Map → List ℕ → Report
+report_on command report named name = on_held (named name)
+  where
+    on_held : Option (List ℕ) → Report
+    on_held (Some bytes) = report name bytes
+    on_held None = refusal command name (codes "not found")
+
+-- how many bytes are asked for at most to give it, where that is promised
+unfoldable pub asks_on : (List ℕ → Option ℕ) → Map → List ℕ → Option ℕ
+asks_on asks named name = of_held (named name)
+  where
+    of_held : Option (List ℕ) → Option ℕ
+    of_held (Some bytes) = asks bytes
+    of_held None = Some 0
 
 -- no total of a set of files falls, each file that was opened is closed again, and the set tells its map
 -- as before

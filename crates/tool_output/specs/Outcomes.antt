@@ -1,5 +1,5 @@
 -- How a run ends: what it writes, its status, the files afterwards, and how much it reads and writes.
-use Rattle.std.specs.Prelude.{◌≡◌, ◌⊎◌, ◌≤◌, ◌<◌, ℕ, List, [], ◌∷◌, Bool, true, false, Option, Some, None, IfSome, Result, Ok, Err, bytes_eq, length, take, slice_index, if◌then◌else◌}
+use Rattle.std.specs.Prelude.{◌≡◌, ◌⊎◌, ◌≤◌, ◌<◌, ℕ, List, [], ◌∷◌, Bool, true, false, Option, Some, None, IfSome, Result, Ok, Err, OnOk, IfErr, bytes_eq, length, take, slice_index, if◌then◌else◌}
 use Rattle.elf_outside.specs.Counts.{Rose}
 use Rattle.elf_outside.specs.Names.{Map}
 use Rattle.elf_outside.specs.declared.sinks.Sink.{Ghosts as SinkGhosts}
@@ -7,7 +7,9 @@ use Rattle.elf_outside.specs.declared.file_sets.Files.{Ghosts as FilesGhosts}
 use Rattle.tool_output.specs.declared.stops.Stop.{Stop}
 use Rattle.tool_output.specs.declared.stops.Stop.TheVariants.{Read, Write, Memory}
 use Rattle.tool_output.specs.Marks.{Mark, Gained, GainedFront}
-use Rattle.tool_output.specs.Steps.{LeavesSinks, SinkRose}
+use Rattle.tool_output.specs.declared.outputs.Outputs.{Outputs}
+use Rattle.tool_output.specs.Reports.{Report}
+use Rattle.tool_output.specs.Steps.{Performs, LeavesSinks, SinkRose}
 use Rattle.tool_output.specs.Files.{Totals, IsWithin}
 
 -- ---- Stated
@@ -26,6 +28,16 @@ pub record Outcome : Type 0 where
   pub writes : List FileWrite
   pub asks : Option ℕ
   pub gives : Option ℕ
+
+-- the outcome of a report on files that are only read: status 1 where something was refused
+unfoldable pub outcome_of : Report → Option ℕ → Outcome
+outcome_of report asks = record {
+  marks = report.marks;
+  status = if report.refused then 1 else 0;
+  writes = [];
+  asks = asks;
+  gives = Some 0;
+}
 
 -- the write of a name
 unfoldable pub write_of : List FileWrite → List ℕ → Option FileWrite
@@ -63,6 +75,31 @@ abbrev pub MayHold : ℕ → Option FileWrite → Option (List ℕ) → Option (
 MayHold status None old held = held ≡ old
 MayHold status (Some w) old held = MayHoldBytes w.in_place status w.bytes old held
 
+-- ---- The status
+
+-- the status of a run that stops, and of one that is over
+abbrev pub stop_status : Stop → ℕ
+stop_status Read = 3
+stop_status Write = 4
+stop_status Memory = 5
+
+abbrev pub ended_status : Result ℕ Stop → ℕ
+ended_status (Ok status) = status
+ended_status (Err stop) = stop_status stop
+
+-- ---- A step that does it
+
+-- A step does what is stated, or stops on the way.
+pub record Does {F D O E : Type 0} (f : FilesGhosts F D) (o : SinkGhosts O) (e : SinkGhosts E) (stated : Outcome)
+    (result : Result ℕ Stop) (files_old files_new : F) (old new : Outputs O E) : Type 0 where
+  pub performs : Performs o e result old new stated.marks stated.status
+  pub files : OnOk result ((name : List ℕ)
+      → f.named files_new name ≡ held_after (write_of stated.writes name) (f.named files_old name))
+  pub left : IfErr result (λ stop. (name : List ℕ)
+      → MayHold (stop_status stop) (write_of stated.writes name) (f.named files_old name) (f.named files_new name))
+  pub asks : OnOk result (IsWithin stated.asks (f.taken files_old) (f.taken files_new))
+  pub gives : IsWithin stated.gives (f.given files_old) (f.given files_new)
+
 -- ---- Delivered
 
 -- below status 3 a run does all that is stated, and from 3 on it has stopped on the way
@@ -80,16 +117,6 @@ pub record Delivers (stated : Outcome) (status : ℕ) (out_old out_new err_old e
 pub record Costs (stated : Outcome) (status taken_old taken_new given_old given_new : ℕ) : Type 0 where
   pub asks : status < 2 → IsWithin stated.asks taken_old taken_new
   pub gives : IsWithin stated.gives given_old given_new
-
--- the status of a run that stops, and of one that is over
-abbrev pub stop_status : Stop → ℕ
-stop_status Read = 3
-stop_status Write = 4
-stop_status Memory = 5
-
-abbrev pub ended_status : Result ℕ Stop → ℕ
-ended_status (Ok status) = status
-ended_status (Err stop) = stop_status stop
 
 -- What a run leaves, and the causes of its status: of 3 a failed read of a file, of 4 a failed write of a
 -- file or a failed put.

@@ -2,16 +2,18 @@
 //! full, when the other output has its turn, and at the end. So both outputs get few large pieces, in the
 //! order of writing, and no more than a page and a line is held.
 
-ghost use Rattle.std.specs.Prelude.{◌≡◌, ◌++◌, ◌+◌, ◌<◌, [], length, OnOk, OnErr};
+ghost use Rattle.std.specs.Prelude.{◌≡◌, ◌++◌, ◌+◌, ◌<◌, [], length, OnOk, OnErr, IfSome, IfNone};
+ghost use Rattle.elf_types.specs.Text.{error_text};
 ghost use Rattle.tool_output.specs.Marks.{said, Gained, GainedFront};
 ghost use Rattle.tool_output.specs.Reports.{Reports, refusal, shown};
+ghost use Rattle.tool_output.specs.Stops.{stop_of};
 ghost use Rattle.tool_output.specs.Steps.{Writes, LeavesSinks, SinkRose, LeavesOutputs, Waits, Ends, page_size};
 
 use crate::lines::Line;
 use crate::messages::Message;
 use crate::stops::Stop;
 use elf_outside::{Failed, Sink};
-use elf_types::Octets;
+use elf_types::{ElfError, Octets};
 
 /// How many bytes fill a page.
 pub const PAGE_SIZE: u64 = 65536;
@@ -160,6 +162,23 @@ impl<'a, O: Sink, E: Sink> Outputs<'a, O, E> {
     {
         self.put(Side::Error, message)?;
         Ok(true)
+    }
+
+    /// Refuses a file by an error of the library, or stops where the error is no refusal.
+    pub fn refuse_by(&mut self, command: &str, file: &[u8], e: ElfError) -> Result<bool, Stop>
+        ensures reports { IfNone (stop_of e) (Reports O.Sink E.Sink result self.old self.new
+            (refusal command.now file.now (error_text e))) }
+        ensures stops { IfSome (stop_of e) (λ stop. (result ≡ Err stop) × (self.new ≡ self.old)) }
+        ensures leaves { IfNone (stop_of e) (LeavesOutputs O.Sink E.Sink ⊥ result self.old self.new) }
+    {
+        match Stop::of(&e) {
+            Some(stop) => Err(stop),
+            None => self.refuse(&Message {
+                command,
+                file,
+                text: e,
+            }),
+        }
     }
 
     /// Ends the writing: puts what waits, but after a failed write, and answers what the last step

@@ -1,0 +1,98 @@
+//! readelf: the parts of each file that it names.
+
+ghost use Rattle.std.specs.Prelude.{◌≡◌, ◌≢◌, ◌≤◌, ◌+◌, ◌*◌, ◌^◌, Some, codes, IfSome, IfErr};
+ghost use Rattle.elf_types.specs.Answers.{Follows};
+ghost use Rattle.elf_outside.specs.Asks.{Asks};
+ghost use Rattle.tool_output.specs.Reports.{Reports};
+ghost use Rattle.tool_output.specs.Steps.{LeavesOutputs};
+ghost use Rattle.elfkit.specs.Readelf.{file_front, title_report, front_report, file_report, file_asks};
+
+use crate::files::FileTool;
+use crate::lines::Title;
+use elf_ident::{FileKind, Front, kind_of_source, read_front};
+use elf_outside::{Sink, Source};
+use elf_types::ElfError;
+use readelf_tool::show_parts;
+use std::alloc::Global;
+use tool_output::{Outputs, Stop};
+use tool_text::ReadelfParts;
+
+/// The front of what a source holds; an archive is refused as `Magic`.
+fn front_of<S: Source>(alloc: Global, src: &mut S) -> Result<Front, ElfError>
+    ensures front { IfSome (S.holds src.old) (λ image. Follows result (file_front image)) }
+    ensures asks { Asks S.Source result src.old src.new (8 + (128 + 2 ^ 20 * 120)) }
+    ensures bound { IfSome (S.holds src.old) (λ image. S.taken src.new ≤ S.taken src.old + file_asks image) }
+    ensures err { IfErr result (λ e. e ≢ ElfError.Write) }
+{
+    match kind_of_source(src)? {
+        FileKind::Archive => Err(ElfError::Magic),
+        FileKind::Elf => read_front(alloc, src),
+        FileKind::Other => read_front(alloc, src),
+    }
+}
+
+/// What readelf shows of each file: these parts, with a title where there is more than one file.
+#[derive(Clone, Copy)]
+struct Readelf<'a> {
+    /// The parts.
+    parts: &'a ReadelfParts,
+    /// Whether more than one file is named.
+    many: bool,
+}
+
+/// Shows the title of a file, where there is more than one.
+fn show_title<O: Sink, E: Sink>(
+    many: bool,
+    name: &[u8],
+    outputs: &mut Outputs<'_, O, E>,
+) -> Result<bool, Stop>
+    ensures reports { Reports O.Sink E.Sink result outputs.old outputs.new (title_report many name.now) }
+    ensures leaves { LeavesOutputs O.Sink E.Sink ⊥ result outputs.old outputs.new }
+{
+    if many {
+        outputs.show(&Title { file: name })
+    } else {
+        Ok(false)
+    }
+}
+
+/// Shows the parts of one image.
+fn show_front<O: Sink, E: Sink>(
+    tool: &Readelf<'_>,
+    name: &[u8],
+    front: &Front,
+    outputs: &mut Outputs<'_, O, E>,
+) -> Result<bool, Stop>
+    ensures reports { Reports O.Sink E.Sink result outputs.old outputs.new
+        (front_report tool.now.parts.now tool.now.many name.now (Ok front.now)) }
+    ensures leaves { LeavesOutputs O.Sink E.Sink ⊥ result outputs.old outputs.new }
+{
+    let title = show_title(tool.many, name, outputs)?;
+    let parts = show_parts(front, tool.parts, outputs)?;
+    Ok(title | parts)
+}
+
+impl FileTool for Readelf<'_> {
+    ghost command = { λ _. codes "readelf" };
+
+    ghost report = { λ t. file_report t.parts.now t.many };
+
+    ghost asks = { λ _ image. Some (file_asks image) };
+
+    fn command(&self) -> &'static str {
+        "readelf"
+    }
+
+    fn show<S: Source, O: Sink, E: Sink>(
+        &self,
+        alloc: Global,
+        src: &mut S,
+        name: &[u8],
+        outputs: &mut Outputs<'_, O, E>,
+    ) -> Result<bool, Stop> {
+        match front_of(alloc, src) {
+            Ok(front) => show_front(self, name, &front, outputs),
+            Err(e) => outputs.refuse_by(self.command(), name, e),
+        }
+    }
+}

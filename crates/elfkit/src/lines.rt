@@ -1,0 +1,42 @@
+//! The lines that the program writes of its own.
+
+ghost use Rattle.std.specs.Prelude.{◌≡◌, ◌++◌};
+ghost use Rattle.elfkit.specs.Lines.{title, line_of};
+
+use elf_types::{ElfError, Octets, put_bytes, put_text};
+use tool_output::Line;
+
+/// `File: FILE`, the line before what is shown of a file.
+#[derive(Clone, Copy)]
+pub struct Title<'a> {
+    /// The file.
+    pub file: &'a [u8],
+}
+
+impl Line for Title<'_> {
+    ghost text = { λ t. title t.file.now };
+
+    #[tactic(auto, using(elf_types::proofs::Writers::stays), unfolding(crate::specs::Lines::title))]
+    fn put(&self, page: &mut Octets) -> Result<(), ElfError> {
+        put_text(page, "File: ")?;
+        put_bytes(page, self.file)?;
+        put_text(page, "\n")
+    }
+}
+
+/// A text on a line of its own.
+#[derive(Clone, Copy)]
+pub struct Sentence<'a> {
+    /// The text.
+    pub text: &'a str,
+}
+
+impl Line for Sentence<'_> {
+    ghost text = { λ s. line_of s.text.now };
+
+    #[tactic(auto, using(elf_types::proofs::Writers::stays), unfolding(crate::specs::Lines::line_of))]
+    fn put(&self, page: &mut Octets) -> Result<(), ElfError> {
+        put_text(page, self.text)?;
+        put_text(page, "\n")
+    }
+}
