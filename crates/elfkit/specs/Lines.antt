@@ -1,8 +1,8 @@
 -- The lines that the program writes of its own.
-use Rattle.std.specs.Prelude.{◌++◌, ℕ, List, [], codes, Some}
+use Rattle.std.specs.Prelude.{◌++◌, ℕ, List, codes}
 use Rattle.tool_output.specs.declared.outputs.Side.TheVariants.{Error}
 use Rattle.tool_output.specs.Marks.{said}
-use Rattle.tool_output.specs.Outcomes.{Outcome}
+use Rattle.tool_output.specs.Outcomes.{Outcome, only_says}
 
 -- `File: FILE`
 unfoldable pub title : List ℕ → List ℕ
@@ -12,9 +12,9 @@ title name = codes "File: " ++ name ++ codes "\n"
 unfoldable pub line_of : List ℕ → List ℕ
 line_of text = text ++ codes "\n"
 
--- a line on standard error and a status, and no file is opened
+-- a line on standard error and a status
 unfoldable pub says : List ℕ → ℕ → Outcome
-says text status = record { marks = said Error (line_of text); status = status; writes = []; asks = Some 0; gives = Some 0 }
+says text status = only_says (said Error (line_of text)) status
 
 -- words that are read, for a form that is not built yet
 unfoldable pub not_built : Outcome

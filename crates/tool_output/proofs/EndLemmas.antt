@@ -62,18 +62,18 @@ module _ {O E : Type 0} (o : Ghosts O) (e : Ghosts E) (s t : Outputs O E) (out :
 
   pub ended : {T : Type 0} (r result : Result T Stop) (marks : List Mark) (value : T) → Performs o e r s t marks value → Ends o e r result t out err
       → Ended result (o.wrote s.out.now) (o.wrote out) (e.wrote s.err.now) (e.wrote err) marks value
-  ended (Ok x) (Ok y) marks value h k = over (Ok y) marks value (all_put marks h.writes.ok k.put.1) tt (let same = k.put.0 in let is = h.value_is in cc)
+  ended (Ok x) (Ok y) marks value h k = over (Ok y) marks value (all_put marks h.writes.ok k.put) tt (let same = k.answer in let is = h.value_is in cc)
   ended (Ok x) (Err Write) marks value h k = over (Err Write) marks value tt (all_failed marks h.writes.ok k.failed) tt
-  ended (Ok x) (Err Read) marks value h k = let no = k.put.0 in cc
-  ended (Ok x) (Err Memory) marks value h k = let no = k.put.0 in cc
-  ended (Err Read) (Ok y) marks value h k = let no = k.put.0 in cc
-  ended (Err Read) (Err Read) marks value h k = over (Err Read) marks value tt (front_put marks h.writes.stopped k.put.1) tt
+  ended (Ok x) (Err Read) marks value h k = let no = k.answer in cc
+  ended (Ok x) (Err Memory) marks value h k = let no = k.answer in cc
+  ended (Err Read) (Ok y) marks value h k = let no = k.answer in cc
+  ended (Err Read) (Err Read) marks value h k = over (Err Read) marks value tt (front_put marks h.writes.stopped k.put) tt
   ended (Err Read) (Err Write) marks value h k = over (Err Write) marks value tt (front_failed marks h.writes.stopped k.failed) tt
-  ended (Err Read) (Err Memory) marks value h k = let no = k.put.0 in cc
-  ended (Err Memory) (Ok y) marks value h k = let no = k.put.0 in cc
-  ended (Err Memory) (Err Read) marks value h k = let no = k.put.0 in cc
+  ended (Err Read) (Err Memory) marks value h k = let no = k.answer in cc
+  ended (Err Memory) (Ok y) marks value h k = let no = k.answer in cc
+  ended (Err Memory) (Err Read) marks value h k = let no = k.answer in cc
   ended (Err Memory) (Err Write) marks value h k = over (Err Write) marks value tt (front_failed marks h.writes.stopped k.failed) tt
-  ended (Err Memory) (Err Memory) marks value h k = over (Err Memory) marks value tt (front_put marks h.writes.stopped k.put.1) tt
+  ended (Err Memory) (Err Memory) marks value h k = over (Err Memory) marks value tt (front_put marks h.writes.stopped k.put) tt
   ended (Err Write) result marks value h k =
       let lost : Front marks = subst (λ (x : O). GainedFront (o.wrote s.out.now) (o.wrote x) (e.wrote s.err.now) (e.wrote err) marks) (sym k.lost.1)
       (subst (λ (x : E). GainedFront (o.wrote s.out.now) (o.wrote t.out.now) (e.wrote s.err.now) (e.wrote x) marks) (sym k.lost.2)

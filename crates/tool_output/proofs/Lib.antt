@@ -2,5 +2,6 @@ pub mod EndLemmas
 pub mod FileLemmas
 pub mod LineLemmas
 pub mod MarkLemmas
+pub mod OutcomeLemmas
 pub mod ReportLemmas
 pub mod StepLemmas

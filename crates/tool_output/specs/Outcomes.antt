@@ -39,6 +39,10 @@ outcome_of report asks = record {
   gives = Some 0;
 }
 
+-- the outcome of marks and a status, where no file is opened
+unfoldable pub only_says : List Mark → ℕ → Outcome
+only_says marks status = record { marks = marks; status = status; writes = []; asks = Some 0; gives = Some 0 }
+
 -- the write of a name
 unfoldable pub write_of : List FileWrite → List ℕ → Option FileWrite
 write_of [] name = None

@@ -123,8 +123,9 @@ pub record Waits {O E : Type 0} (old new : Outputs O E) (page : List ℕ) : Type
 pub record Ends {O E T : Type 0} (o : Ghosts O) (e : Ghosts E) (ended result : Result T Stop)
     (old : Outputs O E) (out_new : O) (err_new : E) : Type 0 where
   pub lost : OnWrite ended ((result ≡ ended) × (out_new ≡ old.out.now) × (err_new ≡ old.err.now))
-  pub put : OnKept result ((result ≡ ended)
-      × Gained (o.wrote old.out.now) (o.wrote out_new) (e.wrote old.err.now) (e.wrote err_new) (waiting old))
+  pub answer : OnKept result (result ≡ ended)
+  pub put : OnKept result
+      (Gained (o.wrote old.out.now) (o.wrote out_new) (e.wrote old.err.now) (e.wrote err_new) (waiting old))
   pub failed : OnKept ended (OnWrite result
       (GainedFront (o.wrote old.out.now) (o.wrote out_new) (e.wrote old.err.now) (e.wrote err_new)
       (waiting old)))
