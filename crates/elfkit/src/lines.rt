@@ -1,10 +1,13 @@
 //! The lines that the program writes of its own.
 
 ghost use Rattle.std.specs.Prelude.{◌≡◌, ◌++◌};
+ghost use Rattle.tool_output.specs.Marks.{said};
+ghost use Rattle.tool_output.specs.Steps.{Performs, LeavesOutputs};
 ghost use Rattle.elfkit.specs.Lines.{title, line_of};
 
 use elf_types::{ElfError, Octets, put_bytes, put_text};
-use tool_output::Line;
+use elf_outside::Sink;
+use tool_output::{Line, Outputs, Side, Stop};
 
 /// `File: FILE`, the line before what is shown of a file.
 #[derive(Clone, Copy)]
@@ -39,4 +42,17 @@ impl Line for Sentence<'_> {
         put_text(page, self.text)?;
         put_text(page, "\n")
     }
+}
+
+/// Says a sentence on standard error, and answers a status.
+pub fn say<O: Sink, E: Sink>(
+    outputs: &mut Outputs<'_, O, E>,
+    text: &str,
+    status: u8,
+) -> Result<u8, Stop>
+    ensures performs { Performs O.Sink E.Sink result outputs.old outputs.new (said Side.Error (line_of text.now)) status }
+    ensures leaves { LeavesOutputs O.Sink E.Sink ⊥ result outputs.old outputs.new }
+{
+    outputs.put(Side::Error, &Sentence { text })?;
+    Ok(status)
 }

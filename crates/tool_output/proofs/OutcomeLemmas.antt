@@ -13,7 +13,7 @@ use Rattle.tool_output.specs.Reports.{Report, Reports}
 use Rattle.tool_output.specs.Files.{OnlyReads, LeavesFiles, IsWithin}
 use Rattle.tool_output.specs.Outcomes.{FileWrite, Outcome, outcome_of, only_says, write_of, held_after, IsMixed, MayHoldInPlace, MayHoldBytes, MayHold, stop_status, ended_status, Does, Delivers, Costs, RunLeaves}
 use Rattle.tool_output.proofs.EndLemmas.{ended_over}
-use Rattle.tool_output.proofs.StepLemmas.{stops_as}
+use Rattle.tool_output.proofs.StepLemmas.{stops_as, writes_nothing}
 
 module _ {F D O E : Type 0} (f : FilesGhosts F D) (o : SinkGhosts O) (e : SinkGhosts E) (a b : F) (s t : Outputs O E) where
   -- ---- Steps that only read files
@@ -103,6 +103,29 @@ stated_at_four : (w : Option FileWrite) (old held : Option (List ℕ)) → held 
 stated_at_four None old held h = h
 stated_at_four (Some w) old held h = subst (MayHoldBytes w.in_place 4 w.bytes old) (sym h) (whole_at_four w.in_place w.bytes old)
 
+may_hold_same : (status : ℕ) (w : Option FileWrite) (old : Option (List ℕ)) → MayHold status w old old
+may_hold_same status None old = refl
+may_hold_same status (Some w) old = bytes_same w.in_place
+  where
+    bytes_same : (in_place : Bool) → MayHoldBytes in_place status w.bytes old old
+    bytes_same true = record { unread = λ three. refl; unwritten = λ four. written_old w.bytes old; wanting = λ five. inl refl; }
+    bytes_same false = inl refl
+
+within_same : (bound : Option ℕ) (a : ℕ) → IsWithin bound a a
+within_same None a = tt
+within_same (Some n) a = omega arith
+
+-- a step that stops before it does anything
+pub nothing_done : {F D O E : Type 0} (f : FilesGhosts F D) (o : SinkGhosts O) (e : SinkGhosts E) (stated : Outcome) (stop : Stop) (a : F) (s : Outputs O E)
+    → Does f o e stated (Err stop) a a s s
+nothing_done f o e stated stop a s = record {
+  performs = record { writes = writes_nothing o e stop s stated.marks; value_is = tt; };
+  files = tt;
+  left = λ name. may_hold_same (stop_status stop) (write_of stated.writes name) (f.named a name);
+  asks = tt;
+  gives = within_same stated.gives (f.given a);
+}
+
 -- ---- The end
 
 late : (stop : Stop) → 3 ≤ stop_status stop
@@ -170,12 +193,13 @@ module _ {F D O E : Type 0} (f : FilesGhosts F D) (o : SinkGhosts O) (e : SinkGh
   module _ (r result : Result ℕ Stop) (s t : Outputs O E) (out_old out_new out : O) (err_old err_new err : E)
       (is_out : s.out.now ≡ out_old) (is_err : s.err.now ≡ err_old) (ends_out : out ≡ out_new) (ends_err : err ≡ err_new)
       (h : Ends o e r result t out err) (small : IfOk r (λ v. v < 3)) where
-    pub run_delivers : s.page.now ≡ [] → Does f o e stated r a b s t
-        → Delivers stated (ended_status result) (o.wrote out_old) (o.wrote out_new) (e.wrote err_old) (e.wrote err_new) (f.named a) (f.named b)
-    run_delivers empty d =
-        delivers_by result (o.wrote out_old) (o.wrote out_new) (e.wrote err_old) (e.wrote err_new)
+    pub run_delivers : (status : ℕ) → status ≡ ended_status result → s.page.now ≡ [] → Does f o e stated r a b s t
+        → Delivers stated status (o.wrote out_old) (o.wrote out_new) (e.wrote err_old) (e.wrote err_new) (f.named a) (f.named b)
+    run_delivers status is empty d =
+        subst (λ (n : ℕ). Delivers stated n (o.wrote out_old) (o.wrote out_new) (e.wrote err_old) (e.wrote err_new) (f.named a) (f.named b)) (sym is)
+        (delivers_by result (o.wrote out_old) (o.wrote out_new) (e.wrote err_old) (e.wrote err_new)
         (ended_over o e s t out_old out_new out err_old err_new err empty is_out is_err ends_out ends_err r result stated.marks stated.status d.performs h)
-        (small_at r result h.answer small) (done_at r result HasFiles h.answer d.files) (left_at r result h.answer d.files d.left)
+        (small_at r result h.answer small) (done_at r result HasFiles h.answer d.files) (left_at r result h.answer d.files d.left))
 
     pub run_costs : Does f o e stated r a b s t → Costs stated (ended_status result) (f.taken a) (f.taken b) (f.given a) (f.given b)
     run_costs d = record {

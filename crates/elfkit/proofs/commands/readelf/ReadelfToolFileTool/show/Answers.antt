@@ -1,5 +1,5 @@
 use Rattle.elfkit.proofs.FrontLemmas.{shown_front, refused_front}
-use Rattle.elfkit.proofs.commands.readelf.ReadelfFileTool.show.Goals as goal
+use Rattle.elfkit.proofs.commands.readelf.ReadelfToolFileTool.show.Goals as goal
 
 pub returns-in-Ok-clause-reports : goal.returns-in-Ok-clause-reports
 returns-in-Ok-clause-reports g c =
