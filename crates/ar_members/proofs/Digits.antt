@@ -1,9 +1,9 @@
 -- The number of a field, read digit by digit.
-use Rattle.std.proofs.Common.{◌≡◌, ℕ, ◌+◌, ◌-◌, ◌*◌, ◌^◌, ◌<◌, ◌≤◌, Bool, true, false, List, length, get_or, take, drop, Some, refl, sym, ap, ◌∙◌, arith, add-one, below_more}
+use Rattle.std.proofs.Common.{◌≡◌, ℕ, ◌+◌, ◌-◌, ◌*◌, ◌^◌, ◌<◌, ◌≤◌, Bool, true, false, List, length, get_or, take, drop, Some, refl, sym, ap, ◌∙◌, arith, add-one}
 use Rattle.std.specs.List.{list_all, prefix_len}
 use Rattle.std.specs.Bool.{then_some}
 use Rattle.std.proofs.lemmas.List.{length-take-le, drop_all, take_rest}
-use Rattle.std.proofs.lemmas.List.Sums.{prefix_len_is, fold_more}
+use Rattle.std.proofs.lemmas.List.Sums.{prefix_len_is}
 use Rattle.std.proofs.lemmas.Bool.Decides.{nat_tests}
 use Rattle.std.proofs.Math.Nat.{pow-suc, pow-le-pow_right, mul-le-mul_left}
 use Rattle.ar_members.specs.Numbers.{is_digit, is_space, value_of, number_of}
@@ -13,9 +13,6 @@ pub record ReadsDigits (base : ℕ) (field : List ℕ) (i value : ℕ) : Type 0 
   pub digits : (k : ℕ) → k < i → is_digit base (get_or field k 0) ≡ true
   pub value_is : value ≡ value_of base (take i field)
   pub small : value < 10 ^ i
-
-pub reads_none : (base : ℕ) (field : List ℕ) → ReadsDigits base field 0 0
-reads_none base field = record { digits = λ k h. absurd (omega (arith, h)); value_is = refl; small = omega arith }
 
 -- a digit is at most base - 1 above the code of 0
 pub digit_within : (base b : ℕ) → is_digit base b ≡ true → (48 ≤ b) × (b < 48 + base)
@@ -27,15 +24,6 @@ small_more base value d i low digit below =
     let times : value * base ≤ value * 10 = mul-le-mul_left value low in
     let power : 10 ^ (i + 1) ≡ 10 ^ i * 10 = rw add-one (pow-suc 10 i) in
     omega arith
-
-pub reads_more : (base : ℕ) (field : List ℕ) (i value : ℕ) → base ≤ 10 → i < length field → is_digit base (get_or field i 0) ≡ true → ReadsDigits base field i value → ReadsDigits base field (i + 1) (value * base + (get_or field i 0 - 48))
-reads_more base field i value low within digit so_far =
-    let range = digit_within base (get_or field i 0) digit in
-    record {
-      digits = below_more _ _ so_far.digits digit;
-      value_is = ap (λ n. n * base + (get_or field i 0 - 48)) so_far.value_is ∙ sym (fold_more (λ n b. n * base + (b - 48)) 0 field i 0 within);
-      small = small_more base value (get_or field i 0 - 48) i low (omega (arith, range)) so_far.small;
-    }
 
 -- a number of at most n digits is below the power
 pub small_within : (value i n : ℕ) → i ≤ n → value < 10 ^ i → value < 10 ^ n

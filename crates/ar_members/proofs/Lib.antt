@@ -1,9 +1,12 @@
+pub mod BodyLemmas
 pub mod Digits
-pub mod NameLemmas
-pub mod Told
-pub mod HeaderLemmas
-pub mod StepLemmas
 pub mod EntryLemmas
-pub mod WalkLemmas
+pub mod HeaderLemmas
 pub mod MagicLemmas
+pub mod NameLemmas
+pub mod Refused
+pub mod RestLemmas
+pub mod StepLemmas
 pub mod SymbolLemmas
+pub mod Told
+pub mod WalkLemmas

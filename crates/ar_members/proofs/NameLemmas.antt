@@ -2,7 +2,7 @@
 use Rattle.std.proofs.Common.{◌≡◌, ℕ, ◌+◌, ◌<◌, ◌≤◌, Bool, true, false, cond, ltb, position, nat_eq, ◌==◌, codes, List, [], ◌∷◌, ◌++◌, length, get_or, take, drop, Option, Some, None, refl, sym, ap, ◌∙◌, append_assoc}
 use Rattle.std.specs.Option.{option_map}
 use Rattle.std.specs.List.{position_or_len, before_first, starts_with}
-use Rattle.std.proofs.lemmas.List.{append-nil, drop_more, drop_all, take_more, take_all}
+use Rattle.std.proofs.lemmas.List.{drop_more, take_more, take_all}
 use Rattle.std.proofs.lemmas.Bool.{ltb-false}
 use Rattle.std.proofs.lemmas.Option.{none-some}
 use Rattle.ar_members.specs.Names.{ends_name, up_to_end, short_of_text}
@@ -19,9 +19,6 @@ map_cons : (front : List ℕ) (b : ℕ) (o : Option (List ℕ)) → option_map (
 map_cons front b None = refl
 map_cons front b (Some name) = ap Some (sym (append_assoc front (b ∷ []) name))
 
-pub ends_from_none : (text : List ℕ) → EndsFrom text 0
-ends_from_none text = record { split = map_same (up_to_end text) }
-
 -- what a text without an end at the place gives from it on
 step : (text : List ℕ) (i : ℕ) → i < length text → ends_name (drop i text) ≡ false → up_to_end (drop i text) ≡ option_map (λ name. get_or text i 0 ∷ name) (up_to_end (drop (i + 1) text))
 step text i within not_here =
@@ -36,19 +33,6 @@ ends_from_more text i within not_here so_far = record {
       ∙ map_cons (take i text) (get_or text i 0) (up_to_end (drop (i + 1) text))
       ∙ ap (λ front. option_map (λ name. front ++ name) (up_to_end (drop (i + 1) text))) (sym (take_more text i 0 within));
 }
-
--- an end at the place
-pub ends_here : (text : List ℕ) (i : ℕ) → i < length text → ends_name (drop i text) ≡ true → EndsFrom text i → up_to_end text ≡ Some (take i text)
-ends_here text i within here so_far =
-    let cons = drop_more text i 0 within in
-    let at_cons : ends_name (get_or text i 0 ∷ drop (i + 1) text) ≡ true = ap ends_name (sym cons) ∙ here in
-    let ended : up_to_end (drop i text) ≡ Some [] = ap up_to_end cons ∙ ap (λ b. cond b (Some []) (option_map (λ name. get_or text i 0 ∷ name) (up_to_end (drop (i + 1) text)))) at_cons in
-    so_far.split ∙ ap (option_map (λ name. take i text ++ name)) ended ∙ ap Some (append-nil (take i text))
-
--- no end at all
-pub ends_nowhere : (text : List ℕ) (i : ℕ) → length text ≤ i → EndsFrom text i → up_to_end text ≡ None
-ends_nowhere text i past so_far =
-    so_far.split ∙ ap (λ rest. option_map (λ name. take i text ++ name) (up_to_end rest)) (drop_all i text past)
 
 -- where no element passes, all stand before the first that does
 pub whole_without_first : {X : Type 0} (p : X → Bool) (xs : List X) → None ≡ position p xs → before_first p xs ≡ xs

@@ -1,30 +1,28 @@
 -- The line that tells the format of an archive, and its size.
-use Rattle.std.specs.Prelude.{◌≡◌, ◌^◌, ℕ, Bool, List, length, Option, Some, None, Result, Ok, Err, codes, nat_eq, nat_lt, if◌then◌else◌}
+use Rattle.std.specs.Prelude.{◌<◌, ◌≤◌, ℕ, Bool, not, List, [], ◌∷◌, length, Option, nat_eq, nat_lt}
 use Rattle.std.specs.List.{starts_with}
+use Rattle.elf_types.specs.declared.constants.TheConstants.{ARMAG, MAX_IMAGE}
 use Rattle.elf_types.specs.declared.errors.ElfError.{ElfError}
 use Rattle.elf_types.specs.declared.errors.ElfError.TheVariants.{Read, Short, Magic, TooLarge}
+use Rattle.elf_types.specs.Answers.{refused_if, first_refusal}
+use Rattle.ar_members.specs.declared.headers.TheConstants.{FIRST}
 
--- the first line of an archive, `ARMAG` of ar.h
+-- the first line of an archive
 unfoldable pub is_archive : List ℕ → Bool
-is_archive bytes = starts_with nat_eq bytes (codes "!<arch>\n")
+is_archive bytes = starts_with nat_eq bytes ARMAG
 
--- why an archive is refused, or None where it is not
-unfoldable pub refusal_of : List ℕ → Option ElfError
-refusal_of bytes =
-    if nat_lt (length bytes) 8 then Some Short
-    else if is_archive bytes then (if nat_lt (2 ^ 40) (length bytes) then Some TooLarge else None)
-    else Some Magic
+-- an archive is shorter than its first line, or begins with another, or is too large
+unfoldable pub archive_refusal : List ℕ → Option ElfError
+archive_refusal bytes =
+    first_refusal (refused_if (nat_lt (length bytes) FIRST) Short
+    ∷ refused_if (not (is_archive bytes)) Magic
+    ∷ refused_if (nat_lt MAX_IMAGE (length bytes)) TooLarge
+    ∷ [])
 
--- an archive is refused as stated, but that Read may come at any read
-abbrev pub Begins : {T : Type 0} → Result T ElfError → Option ElfError → Type 0
-Begins (Ok x) stated = stated ≡ None
-Begins (Err Read) stated = Unit {0}
-Begins (Err e) stated = stated ≡ Some e
-
--- the refusals of begin
-abbrev pub RefusesArchive : ElfError → Type 0
-RefusesArchive Short = Unit {0}
-RefusesArchive Magic = Unit {0}
-RefusesArchive TooLarge = Unit {0}
-RefusesArchive Read = Unit {0}
-RefusesArchive _ = ⊥
+-- what is so of the length where an archive is refused, whatever bytes were read
+abbrev pub RefusesBySize : ℕ → ElfError → Type 0
+RefusesBySize size Short = size < FIRST
+RefusesBySize size Magic = FIRST ≤ size
+RefusesBySize size TooLarge = MAX_IMAGE < size
+RefusesBySize size Read = FIRST ≤ size
+RefusesBySize size _ = ⊥

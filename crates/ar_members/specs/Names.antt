@@ -1,5 +1,5 @@
--- The name field of a member's header, 16 bytes, in the form of System V and GNU: a short name, one of
--- the three special names, or a place in the table of long names.
+-- The name field of a member's header, 16 bytes, in the form of System V and GNU: a short name, one
+-- of the three special names, or a place in the table of long names.
 use Rattle.std.specs.Prelude.{ℕ, ◌-◌, ◌==◌, Bool, List, [], ◌∷◌, length, take, drop, Option, Some, None, codes, nat_eq, if◌then◌else◌}
 use Rattle.std.specs.List.{suffix_len, before_first, starts_with}
 use Rattle.std.specs.Option.{option_map}
@@ -40,7 +40,8 @@ ends_name text = starts_with nat_eq text (codes "/\n")
 -- what stands before the first end of a name, or None where there is none
 abbrev pub up_to_end : List ℕ → Option (List ℕ)
 up_to_end [] = None
-up_to_end (b ∷ bs) = if ends_name (b ∷ bs) then Some [] else option_map (λ name. b ∷ name) (up_to_end bs)
+up_to_end (b ∷ bs) =
+    if ends_name (b ∷ bs) then Some [] else option_map (λ name. b ∷ name) (up_to_end bs)
 
 -- the long name at an offset in the table of long names, or None where it does not end in it
 unfoldable pub long_name_of : List ℕ → ℕ → Option (List ℕ)

@@ -1,9 +1,12 @@
--- The number fields of a member's header (ar.h, `struct ar_hdr`): digits, then spaces up to the end of
--- the field. A blank field is 0.
-use Rattle.std.specs.Prelude.{ℕ, ◌+◌, ◌-◌, ◌*◌, ◌==◌, Bool, ◌&&◌, List, length, take, drop, Option, Some, None, codes, fold, take_while, nat_eq, nat_le, nat_lt, if◌then◌else◌}
+-- The number fields of a member's header (ar.h, `struct ar_hdr`): digits, then spaces up to the end
+-- of the field. A blank field is 0.
+use Rattle.std.specs.Prelude.{ℕ, ◌+◌, ◌-◌, ◌*◌, ◌==◌, Bool, ◌&&◌, List, length, take, drop, Option, Result, Ok, Err, fold, take_while, nat_eq, nat_le, nat_lt, if◌then◌else◌}
 use Rattle.std.specs.Bool.{then_some}
 use Rattle.std.specs.List.{list_all, ends_with}
-use Rattle.std.specs.Option.{option_and_then}
+use Rattle.elf_types.specs.declared.errors.ElfError.{ElfError}
+use Rattle.elf_types.specs.declared.errors.ElfError.TheVariants.{BadMember}
+use Rattle.elf_types.specs.Answers.{or_refused, ◌>>=◌}
+use Rattle.ar_members.specs.declared.numbers.TheConstants.{ARFMAG}
 use Rattle.ar_members.specs.declared.numbers.Numbers.{Numbers}
 
 -- the byte is a digit of the base
@@ -24,24 +27,25 @@ number_of base field =
     let digits = take_while (is_digit base) field in
     then_some (list_all is_space (drop (length digits) field)) (value_of base digits)
 
-infixl 10 ◌>>=◌
-abbrev pub ◌>>=◌ : {A B : Type 0} → Option A → (A → Option B) → Option B
-o >>= f = option_and_then f o
+-- the number of a field of the header at a place, which is bad where it has none
+abbrev pub field_of : ℕ → ℕ → List ℕ → Result ℕ ElfError
+field_of at base field = or_refused (number_of base field) (BadMember at)
 
 -- the bytes of a header from a place on
 abbrev pub part : ℕ → ℕ → List ℕ → List ℕ
 part from width header = take width (drop from header)
 
--- the numbers of a header, field by field
-unfoldable pub fields_of : List ℕ → Option Numbers
-fields_of header = do
-  date ← number_of 10 (part 16 12 header)
-  uid ← number_of 10 (part 28 6 header)
-  gid ← number_of 10 (part 34 6 header)
-  mode ← number_of 8 (part 40 8 header)
-  size ← number_of 10 (part 48 10 header)
-  Some (record { date = date; uid = uid; gid = gid; mode = mode; size = size })
+-- the numbers of the header at a place, field by field
+unfoldable pub fields_of : ℕ → List ℕ → Result Numbers ElfError
+fields_of at header = do
+  date ← field_of at 10 (part 16 12 header)
+  uid ← field_of at 10 (part 28 6 header)
+  gid ← field_of at 10 (part 34 6 header)
+  mode ← field_of at 8 (part 40 8 header)
+  size ← field_of at 10 (part 48 10 header)
+  Ok (record { date = date; uid = uid; gid = gid; mode = mode; size = size })
 
--- the numbers of a header of 60 bytes, which ends with a backquote and a newline
-unfoldable pub numbers_of : List ℕ → Option Numbers
-numbers_of header = if ends_with nat_eq header (codes "`\n") then fields_of header else None
+-- the numbers of the header at a place, which ends with a backquote and a newline
+unfoldable pub numbers_of : ℕ → List ℕ → Result Numbers ElfError
+numbers_of at header =
+    if ends_with nat_eq header ARFMAG then fields_of at header else Err (BadMember at)

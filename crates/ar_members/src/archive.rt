@@ -1,25 +1,21 @@
 //! An archive over a source.
 
-ghost use Rattle.std.specs.Prelude.{◌≡◌, ◌+◌, ◌-◌, ◌^◌, ◌≤◌, true, length, IfSome, IfOk, IfErr, OnOk};
+ghost use Rattle.std.specs.Prelude.{◌≡◌, ◌⊎◌, ◌+◌, ◌-◌, ◌^◌, ◌≤◌, true, false, [], Ok, Err, None, IfSome, IfOk, IfErr, OnOk};
+ghost use Rattle.elf_types.specs.Answers.{Follows, FollowsBy, stated_refusal};
 ghost use Rattle.elf_outside.specs.Asks.{Asks};
-ghost use Rattle.ar_members.specs.Magic.{refusal_of, Begins, RefusesArchive};
+ghost use Rattle.ar_members.specs.Magic.{RefusesBySize};
+ghost use Rattle.ar_members.specs.Archives.{first_walk, begun_walk};
 
-use crate::headers::{ArHdr, read_header};
-use crate::numbers::HEADER_LEN;
-use crate::reads::read_into;
-use crate::symbols::{ArSyms, FIRST, read_symbols};
+use crate::headers::{ArHdr, FIRST, HEADER_LEN, read_header};
+use crate::symbols::{ArSyms, read_symbols};
 use crate::walk::{Found, walk};
+use elf_outside::reads::read_array;
 use elf_outside::{Failed, Source, Window};
+use elf_types::constants::{ARMAG, MAX_IMAGE};
 use elf_types::{ElfError, Octets};
 use std::alloc::Global;
 use std::marker::Model;
 use std::mem;
-
-/// The first line of an archive, `ARMAG` of ar.h.
-const MAGIC: &[u8] = b"!<arch>\n";
-
-/// The most bytes that an archive has.
-const MAX_SIZE: u64 = 1 << 40;
 
 /// An archive, and a walk over its members.
 #[derive(Drop)]
@@ -32,58 +28,63 @@ pub struct Ar<S: Source> {
 }
 
 impl<S: Source> Model for Ar<S> {
-    ghost use Rattle.std.specs.Prelude.{◌^◌, ◌≤◌};
+    ghost use Rattle.std.specs.Prelude.{◌≡◌, ◌^◌, ◌<◌, ◌≤◌, true};
     ghost use Rattle.ar_members.specs.Archives.{Archive};
 
     ghost Value = { Archive S };
 
-    ghost view = { λ a. record { source = a.src; walk = record { place = a.place; names = a.names; stopped = a.stopped } } };
+    ghost view = { λ a. record {
+      source = a.src;
+      walk = record { place = a.place; names = a.names; stopped = a.stopped };
+    } };
 
-    ghost invariant = { λ a. S.size a.src ≤ 2 ^ 40 };
+    ghost invariant = { λ a.
+        (S.size a.src ≤ 2 ^ 40) × (a.stopped ≡ true → a.place < S.size a.src) };
 }
 
-/// Whether a source is an archive, with a buffer of 8 bytes for the first line.
-fn check<S: Source>(src: &mut S, line: &mut [u8]) -> Result<(), ElfError>
-    requires { length line.old ≡ 8 }
-    ensures refusal { IfSome (S.holds src.old) (λ image. Begins result (refusal_of image)) }
-    ensures refusals { IfErr result RefusesArchive }
-    ensures small { OnOk result (S.size src.old ≤ 2 ^ 40) }
+/// Whether a source is an archive.
+fn check<S: Source>(src: &mut S) -> Result<(), ElfError>
+    ensures begun { IfSome (S.holds src.old)
+        (λ image. FollowsBy (λ _. first_walk) stated_refusal result (begun_walk image)) }
+    ensures size { OnOk result ((8 ≤ S.size src.old) × (S.size src.old ≤ 2 ^ 40)) }
+    ensures refusals { IfErr result (RefusesBySize (S.size src.old)) }
     ensures asks { Asks S.Source result src.old src.new 8 }
 {
     let size = src.len();
     if size < FIRST {
         return Err(ElfError::Short);
     }
-    read_into(src, 0, line)?;
-    if !line.starts_with(MAGIC) {
+    let line: [u8; 8] = read_array(src, 0)?;
+    if !line.starts_with(&ARMAG) {
         return Err(ElfError::Magic);
     }
-    if size > MAX_SIZE {
+    if size > MAX_IMAGE {
         return Err(ElfError::TooLarge);
     }
     Ok(())
 }
 
 impl<S: Source> Ar<S> {
-    ghost use Rattle.ar_members.specs.Archives.{first_walk, answer_of, source_of};
-    ghost use Rattle.ar_members.specs.Headers.{member_at, header_asks, Gives, GivesBy, RefusesHeader, RefusesMember};
+    ghost use Rattle.ar_members.specs.Archives.{answer_of, source_of, handed_back};
+    ghost use Rattle.ar_members.specs.Archives.{members_left, Moves, NextLies, next_asks, next_due};
+    ghost use Rattle.ar_members.specs.Members.{next_of};
+    ghost use Rattle.ar_members.specs.Headers.{member_at, header_asks, HasBody, IsBadAt};
     ghost use Rattle.ar_members.specs.Symbols.{arsyms, symbols_due};
-    ghost use Rattle.ar_members.specs.Archives.{handed_back, members_left, Takes, Moves, GivenLies, next_asks, next_due};
 
     /// Begins a walk over an archive. It asks for 8 bytes at most, and takes no memory.
     ///
     /// It refuses `Short` where there are fewer than 8 bytes, `Magic` where the first 8 are not
-    /// `!<arch>` and a newline, and `TooLarge` above 2^40 bytes, in this order, and hands the source
-    /// back. `Read` may come before the last two.
+    /// `!<arch>` and a newline, and `TooLarge` above 2^40 bytes, in this order, and hands the
+    /// source back. `Read` may come before the last two.
     pub fn begin(alloc: Global, mut src: S) -> Result<Ar<S>, (S, ElfError)>
-        ensures refusal { IfSome (S.holds src) (λ image. Begins (answer_of result) (refusal_of image)) }
-        ensures refusals { IfErr result (λ back. RefusesArchive back.1) }
+        ensures begun { IfSome (S.holds src) (λ image.
+            FollowsBy (λ archive. archive.walk) stated_refusal (answer_of result) (begun_walk image)) }
         ensures walk { IfOk result (λ archive. archive.walk ≡ first_walk) }
-        ensures small { IfOk result (λ archive. S.size src ≤ 2 ^ 40) }
+        ensures size { IfOk result (λ archive. (8 ≤ S.size src) × (S.size src ≤ 2 ^ 40)) }
+        ensures refusals { IfErr result (λ back. RefusesBySize (S.size src) back.1) }
         ensures asks { Asks S.Source (answer_of result) src (source_of result) 8 }
     {
-        let mut line = [0u8; FIRST as usize];
-        if let Err(e) = check(&mut src, &mut line) {
+        if let Err(e) = check(&mut src) {
             return Err((src, e));
         }
         Ok(Ar {
@@ -99,18 +100,26 @@ impl<S: Source> Ar<S> {
     /// header of 60 bytes after another, and the tables of long names.
     ///
     /// `BadMember` comes exactly where the header at that place is cut, has other end bytes, a bad
-    /// number, a bad name, or a body past the end; every later call then answers the same, and reads
-    /// nothing. After `Memory` or `Read`, which may come at any step, the walk stands where it stood.
+    /// number, a bad name, or a body past the end; every later call then answers the same, and
+    /// reads nothing. After `Memory` or `Read`, which may come at any step, the walk stands where
+    /// it stood.
     pub fn next(&mut self) -> Result<Option<ArHdr>, ElfError>
-        ensures members { IfSome (S.holds self.old.source)
-            (λ image. Takes result (members_left image self.old.walk) (members_left image self.new.walk)) }
+        ensures members { IfSome (S.holds self.old.source) (λ image.
+            FollowsBy (λ member. (member, members_left image self.new.walk)) stated_refusal result
+            (next_of (members_left image self.old.walk))) }
+        ensures bodies { IfSome (S.holds self.old.source)
+            (λ image. IfOk result (λ member. IfSome member (HasBody image))) }
         ensures walk { Moves result self.old.walk self.new.walk }
+        ensures lies { NextLies (S.size self.old.source) self.old.walk self.new.walk result }
+        ensures ended { self.old.walk.stopped ≡ false
+            → S.size self.old.source ≤ self.old.walk.place
+            → (result ≡ Ok None) × (self.new ≡ self.old) }
         ensures repeats { self.old.walk.stopped ≡ true
             → (result ≡ Err (ElfError.BadMember self.old.walk.place)) × (self.new ≡ self.old) }
-        ensures lies { IfOk result (GivenLies (S.size self.old.source) self.old.walk self.new.walk) }
-        ensures asks { Asks S.Source result self.old.source self.new.source (next_asks (S.size self.old.source) self.old.walk result) }
-        ensures due { IfSome (S.holds self.old.source)
-            (λ image. S.taken self.new.source ≤ S.taken self.old.source + next_due image self.old.walk) }
+        ensures asks { Asks S.Source result self.old.source self.new.source
+            (next_asks (S.size self.old.source) self.old.walk result) }
+        ensures due { IfSome (S.holds self.old.source) (λ image.
+            S.taken self.new.source ≤ S.taken self.old.source + next_due image self.old.walk) }
     {
         if self.stopped {
             return Err(ElfError::BadMember { at: self.place });
@@ -139,38 +148,45 @@ impl<S: Source> Ar<S> {
     /// The symbols of the first member, where that is the table of symbols; else the empty list. It
     /// reads the first header and that table. The walk stands where it stood.
     ///
-    /// `BadMember { at: 8 }` comes exactly where there is a byte at place 8 and the header there is bad,
-    /// or where the table does not begin with a big-endian count of four bytes, so many big-endian
-    /// offsets of four bytes and so many NUL-ended names. More bytes may follow, since the usual tool
-    /// pads the table. `Memory` and `Read` may come at any step.
+    /// `BadMember { at: 8 }` comes exactly where there is a byte at place 8 and the header there is
+    /// bad, or where the table does not begin with a big-endian count of four bytes, so many
+    /// big-endian offsets of four bytes and so many NUL-ended names. More bytes may follow, since
+    /// the usual tool pads the table. `Memory` and `Read` may come at any step.
     pub fn arsym(&mut self) -> Result<ArSyms, ElfError>
-        ensures symbols { IfSome (S.holds self.old.source) (λ image. Gives 8 result (arsyms image)) }
-        ensures refusals { IfErr result (RefusesMember 8) }
+        ensures symbols { IfSome (S.holds self.old.source)
+            (λ image. Follows result (arsyms image)) }
+        ensures none { S.size self.old.source ≤ 8 → result ≡ Ok [] }
+        ensures refusals { IfErr result (IsBadAt 8) }
         ensures walk { self.new.walk ≡ self.old.walk }
-        ensures asks { Asks S.Source result self.old.source self.new.source (S.size self.old.source - 8) }
+        ensures asks { Asks S.Source result self.old.source self.new.source
+            (S.size self.old.source - 8) }
         ensures due { IfSome (S.holds self.old.source)
             (λ image. S.taken self.new.source ≤ S.taken self.old.source + symbols_due image) }
     {
         read_symbols(self.alloc, &mut self.src)
     }
 
-    /// A source over the body of the member whose header is at a place. It does not look at the name,
-    /// asks for 60 bytes at most, and takes no memory. The walk stands where it stood.
+    /// A source over the body of the member whose header is at a place. It does not look at the
+    /// name, asks for 60 bytes at most, and takes no memory. The walk stands where it stood.
     ///
-    /// `BadMember` comes exactly where the header is cut, has other end bytes, a bad number, or a body
-    /// past the end; it and `Read` hand the archive back.
+    /// `BadMember` comes exactly where the header is cut, has other end bytes, a bad number, or a
+    /// body past the end; it and `Read` hand the archive back.
     pub fn member(mut self, at: u64) -> Result<Window<Ar<S>>, (Ar<S>, ElfError)>
-        ensures body { IfSome (S.holds self.source)
-            (λ image. GivesBy (λ w. (w.at, w.len)) at (answer_of result) (member_at image at)) }
-        ensures place { IfOk result (λ w. w.at ≡ at + 60) }
-        ensures refusals { IfErr result (λ back. RefusesHeader at back.1) }
+        ensures body { IfSome (S.holds self.source) (λ image.
+            FollowsBy (λ w. (w.at, w.len)) stated_refusal (answer_of result) (member_at image at)) }
+        ensures range { IfOk result
+            (λ w. (w.at ≡ at + 60) × (at + 60 + w.len ≤ S.size self.source)) }
+        ensures refusals { IfErr result
+            (λ back. (back.1 ≡ ElfError.BadMember at) ⊎ (back.1 ≡ ElfError.Read)) }
         ensures walk { (handed_back (λ w. w.inner) result).walk ≡ self.walk }
         ensures asks { Asks S.Source (answer_of result) self.source
             (handed_back (λ w. w.inner) result).source (header_asks (S.size self.source) at) }
     {
-        let mut header = [0u8; HEADER_LEN];
-        match read_header(&mut self.src, at, &mut header) {
-            Ok(numbers) => Ok(Window::new(self, at + HEADER_LEN as u64, numbers.size)),
+        match read_header(&mut self.src, at) {
+            Ok(header) => {
+                let body = at + HEADER_LEN as u64;
+                Ok(Window::new(self, body, header.numbers.size))
+            }
             Err(e) => Err((self, e)),
         }
     }
@@ -203,4 +219,6 @@ impl<S: Source> Source for Ar<S> {
     fn read_at(&mut self, at: u64, buf: &mut [u8]) -> Result<(), Failed> {
         self.src.read_at(at, buf)
     }
+
+    ghost sized = { λ a. S.sized a.source };
 }

@@ -1,17 +1,17 @@
 //! One step of the walk over an archive.
 
-ghost use Rattle.std.specs.Prelude.{◌≡◌, ℕ, ◌+◌, ◌-◌, ◌^◌, ◌<◌, ◌≤◌, Option, length, take, drop, IfSome, IfOk, OnErr, IfErr};
-ghost use Rattle.elf_outside.specs.Asks.{Asks, Leaves};
+ghost use Rattle.std.specs.Prelude.{◌≡◌, ◌+◌, ◌^◌, ◌≤◌, IfSome, IfOk, IfErr};
+ghost use Rattle.elf_types.specs.Answers.{FollowsBy, stated_refusal};
+ghost use Rattle.elf_outside.specs.Asks.{Asks};
 ghost use Rattle.ar_members.specs.Names.{kind_of_name};
-ghost use Rattle.ar_members.specs.Headers.{next_at, GivesBy, RefusesMember};
-ghost use Rattle.ar_members.specs.Members.{Entry as Stated, named_entry, entry_at};
+ghost use Rattle.ar_members.specs.Headers.{next_at, name_field, IsBadAt};
+ghost use Rattle.ar_members.specs.Members.{named_entry, entry_at};
 ghost use Rattle.ar_members.specs.Steps.{entry_of, step_entry, asked_of, asked_by, IsShaped, StepLies, step_asks, step_due};
 
-use crate::headers::{ArHdr, next_place, read_header, shown_header};
+use crate::headers::{ArHdr, HEADER_LEN, Header, next_place, read_header, shown_header};
 use crate::names::{NameKind, long_name, name_kind, short_name};
-use crate::numbers::{HEADER_LEN, Numbers};
-use crate::reads::read_octets;
 use elf_outside::Source;
+use elf_outside::reads::read_range;
 use elf_types::{ElfError, Octets};
 use std::alloc::Global;
 
@@ -41,68 +41,49 @@ fn named_entry<S: Source>(
     src: &mut S,
     names: &[u8],
     at: u64,
-    field: &[u8],
-    numbers: &Numbers,
+    header: &Header,
 ) -> Result<Entry, ElfError>
-    requires field { length field.now ≤ 16 }
-    requires body { at + 60 + numbers.now.size ≤ S.size src.old }
+    requires body { at + 60 + header.now.numbers.size ≤ S.size src.old }
     requires size { S.size src.old ≤ 2 ^ 40 }
     ensures entry { IfSome (S.holds src.old) (λ image.
-        GivesBy (entry_of names.now (next_at at numbers.now.size)) at result (named_entry image names.now at numbers.now field.now)) }
-    ensures refusal { IfErr result (RefusesMember at) }
-    ensures shape { IfOk result (IsShaped at numbers.now) }
-    ensures read { IfOk result (λ entry. asked_of entry ≡ asked_by (kind_of_name field.now) numbers.now.size) }
-    ensures asks { Asks S.Source result src.old src.new (asked_by (kind_of_name field.now) numbers.now.size) }
+        FollowsBy (entry_of names.now (next_at at header.now.numbers.size)) stated_refusal result
+        (named_entry image names.now at header.now)) }
+    ensures refusals { IfErr result (IsBadAt at) }
+    ensures shape { IfOk result (IsShaped at header.now.numbers) }
+    ensures read { IfOk result (λ entry. asked_of entry
+        ≡ asked_by (kind_of_name (name_field header.now)) header.now.numbers.size) }
+    ensures asks { Asks S.Source result src.old src.new
+        (asked_by (kind_of_name (name_field header.now)) header.now.numbers.size) }
 {
+    let field = header.name_field();
     match name_kind(field) {
         None => Err(ElfError::BadMember { at }),
         Some(NameKind::Symbols) => Ok(Entry::Passed),
         Some(NameKind::Symbols64) => Ok(Entry::Passed),
         Some(NameKind::LongNames) => {
             let body = at + HEADER_LEN as u64;
-            let more = read_octets(alloc, src, body, numbers.size)?;
+            let more = read_range(alloc, src, body, header.numbers.size)?;
             Ok(Entry::LongNames(more))
         }
         Some(NameKind::Long(from)) => match long_name(names, from) {
             None => Err(ElfError::BadMember { at }),
-            Some(name) => Ok(Entry::Member(shown_header(alloc, at, numbers, name)?)),
+            Some(name) => {
+                let shown = shown_header(alloc, at, &header.numbers, name)?;
+                Ok(Entry::Member(shown))
+            }
         },
         Some(NameKind::Short) => {
-            let header = shown_header(alloc, at, numbers, short_name(field))?;
-            Ok(Entry::Member(header))
+            let shown = shown_header(alloc, at, &header.numbers, short_name(field))?;
+            Ok(Entry::Member(shown))
         }
     }
 }
 
-/// The step at a place, with a buffer of 60 bytes for the header.
-fn step_into<S: Source>(
-    alloc: Global,
-    src: &mut S,
-    names: &[u8],
-    at: u64,
-    header: &mut [u8],
-) -> Result<Step, ElfError>
-    requires header { length header.old ≡ 60 }
-    requires size { S.size src.old ≤ 2 ^ 40 }
-    ensures entry { IfSome (S.holds src.old)
-        (λ image. GivesBy (step_entry names.now) at result (entry_at image names.now at)) }
-    ensures refusal { IfErr result (RefusesMember at) }
-    ensures lies { IfOk result (StepLies at (S.size src.old)) }
-    ensures asks { Asks S.Source result src.old src.new (step_asks at (S.size src.old) result) }
-    ensures due { IfSome (S.holds src.old)
-        (λ image. S.taken src.new ≤ S.taken src.old + step_due (entry_at image names.now at)) }
-{
-    let numbers = read_header(src, at, header)?;
-    let next = next_place(at, numbers.size);
-    let entry = named_entry(alloc, src, names, at, &header[..16], &numbers)?;
-    Ok(Step { entry, next })
-}
-
-/// The step at a place, after the long names before it. It asks for one header and for the body of a
-/// table of long names.
+/// The step at a place, after the long names before it. It asks for one header and for the body of
+/// a table of long names.
 ///
-/// `BadMember` comes exactly where the header is cut, has other end bytes, a bad number, a bad name or a
-/// body past the end.
+/// `BadMember` comes exactly where the header is cut, has other end bytes, a bad number, a bad name
+/// or a body past the end.
 pub fn step_at<S: Source>(
     alloc: Global,
     src: &mut S,
@@ -110,14 +91,16 @@ pub fn step_at<S: Source>(
     at: u64,
 ) -> Result<Step, ElfError>
     requires { S.size src.old ≤ 2 ^ 40 }
-    ensures entry { IfSome (S.holds src.old)
-        (λ image. GivesBy (step_entry names.now) at result (entry_at image names.now at)) }
-    ensures refusal { IfErr result (RefusesMember at) }
+    ensures entry { IfSome (S.holds src.old) (λ image.
+        FollowsBy (step_entry names.now) stated_refusal result (entry_at image names.now at)) }
+    ensures refusals { IfErr result (IsBadAt at) }
     ensures lies { IfOk result (StepLies at (S.size src.old)) }
     ensures asks { Asks S.Source result src.old src.new (step_asks at (S.size src.old) result) }
-    ensures due { IfSome (S.holds src.old)
-        (λ image. S.taken src.new ≤ S.taken src.old + step_due (entry_at image names.now at)) }
+    ensures due { IfSome (S.holds src.old) (λ image.
+        S.taken src.new ≤ S.taken src.old + step_due (entry_at image names.now at)) }
 {
-    let mut header = [0u8; HEADER_LEN];
-    step_into(alloc, src, names, at, &mut header)
+    let header = read_header(src, at)?;
+    let next = next_place(at, header.numbers.size);
+    let entry = named_entry(alloc, src, names, at, &header)?;
+    Ok(Step { entry, next })
 }

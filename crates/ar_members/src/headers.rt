@@ -1,16 +1,40 @@
 //! The header of a member.
 
-ghost use Rattle.std.specs.Prelude.{◌≡◌, ◌+◌, ◌^◌, ◌<◌, ◌≤◌, nat_le, length, take, drop, IfSome, IfOk, OnOk, IfErr};
+ghost use Rattle.std.specs.Prelude.{◌≡◌, ◌⊎◌, ◌+◌, ◌^◌, ◌<◌, ◌≤◌, nat_le, take, IfSome, IfOk, IfErr};
+ghost use Rattle.elf_types.specs.Answers.{Follows};
 ghost use Rattle.elf_outside.specs.Asks.{Asks};
-ghost use Rattle.ar_members.specs.Headers.{next_at, numbers_in, header_asks, header_at, Gives, RefusesHeader};
+ghost use Rattle.ar_members.specs.Headers.{next_at, name_field, header_in, header_asks, header_at};
 ghost use Rattle.ar_members.specs.Members.{shown_header};
 
-use crate::names::owned;
-use crate::numbers::{HEADER_LEN, Numbers, header_numbers};
-use crate::reads::read_into;
+use crate::numbers::{Numbers, header_numbers};
 use elf_outside::Source;
+use elf_outside::reads::read_array;
 use elf_types::{ElfError, Octets};
 use std::alloc::Global;
+
+/// The bytes of a header.
+pub const HEADER_LEN: usize = 60;
+
+/// The place of the first header: what stands before it is `ARMAG`.
+pub const FIRST: u64 = 8;
+
+/// A header as it was read: its bytes, and its numbers.
+#[derive(Clone, Copy)]
+pub struct Header {
+    /// The bytes.
+    pub bytes: [u8; HEADER_LEN],
+    /// The numbers.
+    pub numbers: Numbers,
+}
+
+impl Header {
+    /// The field of the name.
+    pub fn name_field(&self) -> &[u8]
+        ensures { result.now ≡ name_field self.now }
+    {
+        &self.bytes[..16]
+    }
+}
 
 /// The header of a member (ar.h, `struct ar_hdr`).
 #[derive(Drop)]
@@ -44,7 +68,7 @@ pub fn shown_header(
     ensures ok { IfOk result (λ header. header ≡ shown_header at numbers.now name.now) }
     ensures err { IfErr result (λ e. e ≡ ElfError.Memory) }
 {
-    let name = owned(alloc, name)?;
+    let name = Octets::from_slice(alloc, name)?;
     Ok(ArHdr {
         at,
         body: at + HEADER_LEN as u64,
@@ -73,37 +97,36 @@ fn is_whole(size: u64, at: u64) -> bool
     size >= HEADER_LEN as u64 && at <= size - HEADER_LEN as u64
 }
 
-/// The numbers of a header after which `room` bytes follow. None where they are none, or where the
-/// body is longer.
-#[tactic(auto, unfolding(crate::specs::Headers::numbers_in))]
-fn numbers_in(header: &[u8], room: u64) -> Option<Numbers>
-    requires { length header.now ≡ 60 }
-    ensures value { result ≡ numbers_in header.now room }
-    ensures room { IfSome result (λ numbers. numbers.size ≤ room) }
+/// The header at a place, of these bytes and with `room` bytes after it. It is bad where it has
+/// other end bytes, a bad number, or a body that is longer.
+#[tactic(auto, unfolding(crate::specs::Headers::header_in))]
+fn header_in(at: u64, bytes: [u8; HEADER_LEN], room: u64) -> Result<Header, ElfError>
+    ensures value { result ≡ header_in at bytes room }
+    ensures room { IfOk result (λ header. header.numbers.size ≤ room) }
+    ensures refusals { IfErr result (λ e. e ≡ ElfError.BadMember at) }
 {
-    let numbers = header_numbers(header)?;
-    (numbers.size <= room).then_some(numbers)
+    let numbers = header_numbers(at, &bytes)?;
+    if numbers.size > room {
+        return Err(ElfError::BadMember { at });
+    }
+    Ok(Header { bytes, numbers })
 }
 
-/// Reads the header at a place into a buffer of 60 bytes, and gives its numbers. It does not look at
-/// the name. It asks for 60 bytes, or for none where the header is cut, and takes no memory.
+/// Reads the header at a place. It does not look at the name. It asks for 60 bytes, or for none
+/// where the header is cut, and takes no memory.
 ///
 /// `BadMember` comes where the header is cut, has other end bytes, a bad number, or a body past the
 /// end.
-pub fn read_header<S: Source>(src: &mut S, at: u64, header: &mut [u8]) -> Result<Numbers, ElfError>
-    requires { length header.old ≡ 60 }
-    ensures numbers { IfSome (S.holds src.old) (λ image. Gives at result (header_at image at)) }
-    ensures bytes { IfSome (S.holds src.old)
-        (λ image. OnOk result (header.new ≡ take 60 (drop at image))) }
-    ensures body { IfOk result (λ numbers. at + 60 + numbers.size ≤ S.size src.old) }
-    ensures refusal { IfErr result (RefusesHeader at) }
+pub fn read_header<S: Source>(src: &mut S, at: u64) -> Result<Header, ElfError>
+    ensures header { IfSome (S.holds src.old) (λ image. Follows result (header_at image at)) }
+    ensures body { IfOk result (λ header. at + 60 + header.numbers.size ≤ S.size src.old) }
+    ensures refusals { IfErr result (λ e. (e ≡ ElfError.BadMember at) ⊎ (e ≡ ElfError.Read)) }
     ensures asks { Asks S.Source result src.old src.new (header_asks (S.size src.old) at) }
 {
     let size = src.len();
     if !is_whole(size, at) {
         return Err(ElfError::BadMember { at });
     }
-    read_into(src, at, header)?;
-    let room = size - HEADER_LEN as u64 - at;
-    numbers_in(header, room).ok_or(ElfError::BadMember { at })
+    let bytes: [u8; HEADER_LEN] = read_array(src, at)?;
+    header_in(at, bytes, size - HEADER_LEN as u64 - at)
 }

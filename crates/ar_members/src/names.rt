@@ -1,12 +1,10 @@
 //! The name of a member.
 
-ghost use Rattle.std.specs.Prelude.{◌≡◌, ◌==◌, ◌≤◌, length, position, IfOk, IfErr};
+ghost use Rattle.std.specs.Prelude.{◌≡◌, ◌==◌, ◌≤◌, length, position};
 ghost use Rattle.std.specs.Option.{option_copied};
 ghost use Rattle.ar_members.specs.Names.{trimmed_of, up_to_end, kind_of_name, short_name_of, long_name_of};
 
 use crate::numbers::number;
-use elf_types::{ElfError, Octets};
-use std::alloc::Global;
 
 /// The name of the table of symbols.
 const SYMBOLS: &[u8] = b"/";
@@ -33,16 +31,6 @@ pub enum NameKind {
     Long(u64),
     /// The name stands in the field.
     Short,
-}
-
-/// A copy of a name. It refuses `Memory` alone.
-pub fn owned(alloc: Global, name: &[u8]) -> Result<Octets, ElfError>
-    ensures ok { IfOk result (λ octets. octets ≡ name.now) }
-    ensures err { IfErr result (λ e. e ≡ ElfError.Memory) }
-{
-    let mut octets = Octets::with_capacity(alloc, name.len() as u64)?;
-    octets.extend(name)?;
-    Ok(octets)
 }
 
 /// The first place of a byte, or None where it is not there.
@@ -87,8 +75,8 @@ pub fn name_kind(field: &[u8]) -> Option<NameKind>
     Some(NameKind::Short)
 }
 
-/// The name that stands in a field: up to its first slash, or without trailing spaces where there is
-/// none. One that begins with `#1/`, which says where BSD keeps the name, is whole.
+/// The name that stands in a field: up to its first slash, or without trailing spaces where there
+/// is none. One that begins with `#1/`, which says where BSD keeps the name, is whole.
 #[tactic(auto, unfolding(crate::specs::Names::short_name_of))]
 pub fn short_name(field: &[u8]) -> &[u8]
     ensures { result.now ≡ short_name_of field.now }

@@ -1,14 +1,13 @@
 //! The numbers of a member's header.
 
-ghost use Rattle.std.specs.Prelude.{◌≡◌, ◌^◌, ◌<◌, ◌≤◌, length, IfSome};
+ghost use Rattle.std.specs.Prelude.{◌≡◌, ◌^◌, ◌<◌, ◌≤◌, length, IfSome, IfOk, IfErr};
 ghost use Rattle.std.specs.List.{list_all};
-ghost use Rattle.ar_members.specs.Numbers.{is_digit, is_space, number_of, fields_of, numbers_of};
+ghost use Rattle.ar_members.specs.Numbers.{is_digit, is_space, number_of, field_of, fields_of, numbers_of};
 
-/// The bytes of a header.
-pub const HEADER_LEN: usize = 60;
+use elf_types::ElfError;
 
-/// The two bytes that end a header, `ARFMAG` of ar.h.
-const HEADER_END: [u8; 2] = *b"`\n";
+/// The bytes that end a header (ar.h).
+pub const ARFMAG: [u8; 2] = *b"`\n";
 
 /// The numbers of a header (ar.h, `struct ar_hdr`).
 #[derive(Clone, Copy, Debug, PartialEq, Eq)]
@@ -58,18 +57,31 @@ pub fn number(field: &[u8], base: u8) -> Option<u64>
     Some(value)
 }
 
-/// The numbers of a header, field by field. None where one is no number.
-#[tactic(auto, unfolding(crate::specs::Numbers::fields_of))]
-fn fields(header: &[u8]) -> Option<Numbers>
-    requires { length header.now ≡ 60 }
-    ensures { result ≡ fields_of header.now }
+/// The number of a field of the header at a place, which is bad where it has none.
+#[tactic(auto, using(crate::proofs::Refused::ok_or_is, crate::proofs::Refused::small_or))]
+fn field(at: u64, bytes: &[u8], base: u8) -> Result<u64, ElfError>
+    requires short { length bytes.now ≤ 15 }
+    requires base { base ≤ 10 }
+    ensures value { result ≡ field_of at base bytes.now }
+    ensures refusals { IfErr result (λ e. e ≡ ElfError.BadMember at) }
+    ensures small { length bytes.now ≤ 8 → IfOk result (λ n. n < 2 ^ 32) }
 {
-    let date = number(&header[16..28], 10)?;
-    let uid = number(&header[28..34], 10)?;
-    let gid = number(&header[34..40], 10)?;
-    let mode = number(&header[40..48], 8)?;
-    let size = number(&header[48..58], 10)?;
-    Some(Numbers {
+    number(bytes, base).ok_or(ElfError::BadMember { at })
+}
+
+/// The numbers of the header at a place, field by field. It is bad where one is no number.
+#[tactic(auto, unfolding(crate::specs::Numbers::fields_of))]
+fn fields(at: u64, header: &[u8]) -> Result<Numbers, ElfError>
+    requires { length header.now ≡ 60 }
+    ensures value { result ≡ fields_of at header.now }
+    ensures refusals { IfErr result (λ e. e ≡ ElfError.BadMember at) }
+{
+    let date = field(at, &header[16..28], 10)?;
+    let uid = field(at, &header[28..34], 10)?;
+    let gid = field(at, &header[34..40], 10)?;
+    let mode = field(at, &header[40..48], 8)?;
+    let size = field(at, &header[48..58], 10)?;
+    Ok(Numbers {
         date,
         uid: uid as u32,
         gid: gid as u32,
@@ -78,15 +90,16 @@ fn fields(header: &[u8]) -> Option<Numbers>
     })
 }
 
-/// The numbers of a header. None where one is no number, or where the header does not end as one.
+/// The numbers of the header at a place. It is bad where one is no number, or where the header does
+/// not end as one.
 #[tactic(auto, unfolding(crate::specs::Numbers::numbers_of))]
-pub fn header_numbers(header: &[u8]) -> Option<Numbers>
+pub fn header_numbers(at: u64, header: &[u8]) -> Result<Numbers, ElfError>
     requires { length header.now ≡ 60 }
-    ensures { result ≡ numbers_of header.now }
+    ensures value { result ≡ numbers_of at header.now }
+    ensures refusals { IfErr result (λ e. e ≡ ElfError.BadMember at) }
 {
-    if header.ends_with(&HEADER_END) {
-        fields(header)
-    } else {
-        None
+    if !header.ends_with(&ARFMAG) {
+        return Err(ElfError::BadMember { at });
     }
+    fields(at, header)
 }

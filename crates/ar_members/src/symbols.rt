@@ -1,21 +1,18 @@
 //! The table of symbols.
 
-ghost use Rattle.std.specs.Prelude.{◌≡◌, ◌+◌, ◌-◌, ◌*◌, ◌^◌, ◌<◌, ◌≤◌, length, IfSome, IfErr};
+ghost use Rattle.std.specs.Prelude.{◌≡◌, ◌⊎◌, ◌+◌, ◌-◌, ◌*◌, ◌≤◌, [], Ok, length, IfSome, IfErr};
+ghost use Rattle.elf_types.specs.Answers.{Follows};
 ghost use Rattle.elf_outside.specs.Asks.{Asks};
 ghost use Rattle.ar_members.specs.Names.{kind_of_name};
-ghost use Rattle.ar_members.specs.Headers.{body_at, Gives, RefusesMember};
-ghost use Rattle.ar_members.specs.Symbols.{word_of, symbols_from, symbols_of, symbols_by, arsyms, table_asks, symbols_due, RefusesTable};
+ghost use Rattle.ar_members.specs.Headers.{name_field, IsBadAt};
+ghost use Rattle.ar_members.specs.Symbols.{be_word, symbols_from, symbols_of, first_symbols, arsyms, table_asks, symbols_due};
 
-use crate::headers::read_header;
-use crate::names::{NameKind, name_kind, owned, place_of};
-use crate::numbers::HEADER_LEN;
-use crate::reads::read_octets;
+use crate::headers::{FIRST, HEADER_LEN, Header, read_header};
+use crate::names::{NameKind, name_kind, place_of};
 use elf_outside::Source;
+use elf_outside::reads::read_range;
 use elf_types::{ElfError, List, Octets};
 use std::alloc::Global;
-
-/// The place of the first header.
-pub const FIRST: u64 = 8;
 
 /// What a bad table is refused as: it is the first member.
 const BAD_TABLE: ElfError = ElfError::BadMember { at: FIRST };
@@ -33,10 +30,10 @@ pub struct ArSym {
 pub type ArSyms = List<ArSym>;
 
 /// The big-endian number of the first four bytes.
-#[tactic(auto, unfolding(crate::specs::Symbols::word_of))]
+#[tactic(auto, unfolding(crate::specs::Symbols::be_word))]
 fn word(bytes: &[u8]) -> u32
     requires { 4 ≤ length bytes.now }
-    ensures { result ≡ word_of bytes.now }
+    ensures { result ≡ be_word bytes.now }
 {
     match bytes.first_chunk::<4>() {
         Some(first) => u32::from_be_bytes(*first),
@@ -52,8 +49,8 @@ fn named_symbols(
     names: &[u8],
 ) -> Result<ArSyms, ElfError>
     requires { length offsets.now ≡ 4 * count }
-    ensures symbols { Gives 8 result (symbols_from count offsets.now names.now) }
-    ensures refusals { IfErr result RefusesTable }
+    ensures symbols { Follows result (symbols_from count offsets.now names.now) }
+    ensures refusals { IfErr result (λ e. (e ≡ ElfError.BadMember 8) ⊎ (e ≡ ElfError.Memory)) }
 {
     let mut symbols = ArSyms::with_capacity(alloc, u64::from(count))?;
     let mut rest = names;
@@ -62,19 +59,19 @@ fn named_symbols(
             return Err(BAD_TABLE);
         };
         let at = u64::from(word(&offsets[4 * i..]));
-        let name = owned(alloc, &rest[..end])?;
+        let name = Octets::from_slice(alloc, &rest[..end])?;
         symbols.push(ArSym { at, name })?;
         rest = &rest[end + 1..];
     }
     Ok(symbols)
 }
 
-/// The symbols of a table. `BadMember` comes where it does not begin with a count, so many offsets and
-/// so many names.
+/// The symbols of a table. `BadMember` comes where it does not begin with a count, so many offsets
+/// and so many names.
 #[tactic(auto, unfolding(crate::specs::Symbols::symbols_of))]
 fn table_symbols(alloc: Global, table: &[u8]) -> Result<ArSyms, ElfError>
-    ensures symbols { Gives 8 result (symbols_of table.now) }
-    ensures refusals { IfErr result RefusesTable }
+    ensures symbols { Follows result (symbols_of table.now) }
+    ensures refusals { IfErr result (λ e. (e ≡ ElfError.BadMember 8) ⊎ (e ≡ ElfError.Memory)) }
 {
     if table.len() < 4 {
         return Err(BAD_TABLE);
@@ -89,24 +86,20 @@ fn table_symbols(alloc: Global, table: &[u8]) -> Result<ArSyms, ElfError>
     named_symbols(alloc, count, offsets, names)
 }
 
-/// The symbols of the first member by its name. It reads the body of a table of symbols alone.
-fn symbols_by_name<S: Source>(
-    alloc: Global,
-    src: &mut S,
-    field: &[u8],
-    size: u64,
-) -> Result<ArSyms, ElfError>
-    requires field { length field.now ≤ 16 }
-    requires body { 68 + size ≤ S.size src.old }
+/// The symbols of the first member, by its header. It reads the body of a table of symbols alone.
+fn first_symbols<S: Source>(alloc: Global, src: &mut S, header: &Header) -> Result<ArSyms, ElfError>
+    requires { 68 + header.now.numbers.size ≤ S.size src.old }
     ensures symbols { IfSome (S.holds src.old)
-        (λ image. Gives 8 result (symbols_by (body_at image 8 size) (kind_of_name field.now))) }
-    ensures refusals { IfErr result (RefusesMember 8) }
-    ensures asks { Asks S.Source result src.old src.new (table_asks (kind_of_name field.now) size) }
+        (λ image. Follows result (first_symbols image header.now)) }
+    ensures refusals { IfErr result (IsBadAt 8) }
+    ensures asks { Asks S.Source result src.old src.new
+        (table_asks (kind_of_name (name_field header.now)) header.now.numbers.size) }
 {
-    match name_kind(field) {
+    match name_kind(header.name_field()) {
         None => Err(BAD_TABLE),
         Some(NameKind::Symbols) => {
-            let table = read_octets(alloc, src, FIRST + HEADER_LEN as u64, size)?;
+            let body = FIRST + HEADER_LEN as u64;
+            let table = read_range(alloc, src, body, header.numbers.size)?;
             table_symbols(alloc, table.as_slice())
         }
         Some(NameKind::LongNames) => Ok(ArSyms::new(alloc)),
@@ -116,33 +109,18 @@ fn symbols_by_name<S: Source>(
     }
 }
 
-/// The symbols of an archive with a first member, with a buffer of 60 bytes for its header.
-fn first_symbols<S: Source>(
-    alloc: Global,
-    src: &mut S,
-    header: &mut [u8],
-) -> Result<ArSyms, ElfError>
-    requires header { length header.old ≡ 60 }
-    requires first { IfSome (S.holds src.old) (λ image. 8 < length image) }
-    ensures symbols { IfSome (S.holds src.old) (λ image. Gives 8 result (arsyms image)) }
-    ensures refusals { IfErr result (RefusesMember 8) }
-    ensures asks { Asks S.Source result src.old src.new (S.size src.old - 8) }
-    ensures due { IfSome (S.holds src.old) (λ image. S.taken src.new ≤ S.taken src.old + symbols_due image) }
-{
-    let numbers = read_header(src, FIRST, header)?;
-    symbols_by_name(alloc, src, &header[..16], numbers.size)
-}
-
 /// The symbols of the first member, where that is a table of symbols; else the empty list.
 pub fn read_symbols<S: Source>(alloc: Global, src: &mut S) -> Result<ArSyms, ElfError>
-    ensures symbols { IfSome (S.holds src.old) (λ image. Gives 8 result (arsyms image)) }
-    ensures refusals { IfErr result (RefusesMember 8) }
+    ensures symbols { IfSome (S.holds src.old) (λ image. Follows result (arsyms image)) }
+    ensures none { S.size src.old ≤ 8 → result ≡ Ok [] }
+    ensures refusals { IfErr result (IsBadAt 8) }
     ensures asks { Asks S.Source result src.old src.new (S.size src.old - 8) }
-    ensures due { IfSome (S.holds src.old) (λ image. S.taken src.new ≤ S.taken src.old + symbols_due image) }
+    ensures due { IfSome (S.holds src.old)
+        (λ image. S.taken src.new ≤ S.taken src.old + symbols_due image) }
 {
     if src.len() <= FIRST {
         return Ok(ArSyms::new(alloc));
     }
-    let mut header = [0u8; HEADER_LEN];
-    first_symbols(alloc, src, &mut header)
+    let header = read_header(src, FIRST)?;
+    first_symbols(alloc, src, &header)
 }

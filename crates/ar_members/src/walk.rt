@@ -1,9 +1,10 @@
 //! The walk from one member to the next.
 
-ghost use Rattle.std.specs.Prelude.{◌≡◌, ◌+◌, ◌^◌, ◌≤◌, unwrap_or, IfSome, IfOk, IfErr};
+ghost use Rattle.std.specs.Prelude.{◌≡◌, ◌+◌, ◌^◌, ◌≤◌, unwrap_or, None, Ok, IfSome, IfOk, IfErr};
+ghost use Rattle.elf_types.specs.Answers.{FollowsBy, stated_refusal};
 ghost use Rattle.elf_outside.specs.Asks.{Asks};
-ghost use Rattle.ar_members.specs.Members.{due_from};
-ghost use Rattle.ar_members.specs.Walks.{Walks, RefusesWalk, MemberLies, found_asks};
+ghost use Rattle.ar_members.specs.Members.{members_from, next_of, due_from};
+ghost use Rattle.ar_members.specs.Walks.{MemberLies, RefusalLies, found_asks, found_left};
 
 use crate::entries::{Entry, Step, step_at};
 use crate::headers::ArHdr;
@@ -32,11 +33,11 @@ fn known<'a>(met: &'a Option<Octets>, before: &'a [u8]) -> &'a [u8]
     }
 }
 
-/// Walks from the header at `place` to the next member that is not one of the three special ones, or
-/// to the end. It reads one header of 60 bytes after another, and the tables of long names.
+/// Walks from the header at `place` to the next member that is not one of the three special ones,
+/// or to the end. It reads one header of 60 bytes after another, and the tables of long names.
 ///
-/// `BadMember` comes at the first bad header, `Memory` for a name or a table of names, and `Read` at
-/// any read.
+/// `BadMember` comes at the first bad header, `Memory` for a name or a table of names, and `Read`
+/// at any read.
 pub fn walk<S: Source>(
     alloc: Global,
     src: &mut S,
@@ -44,12 +45,19 @@ pub fn walk<S: Source>(
     place: u64,
 ) -> Result<Found, ElfError>
     requires { S.size src.old ≤ 2 ^ 40 }
-    ensures members { IfSome (S.holds src.old) (λ image. Walks image names.now place result) }
-    ensures lies { IfOk result (λ found. MemberLies place (S.size src.old) found.place found.member) }
-    ensures refusal { IfErr result RefusesWalk }
-    ensures asks { Asks S.Source result src.old src.new (found_asks place (S.size src.old) result) }
-    ensures due { IfSome (S.holds src.old)
-        (λ image. S.taken src.new ≤ S.taken src.old + due_from image names.now place) }
+    ensures members { IfSome (S.holds src.old) (λ image.
+        FollowsBy (found_left image names.now) stated_refusal result
+        (next_of (members_from image names.now place))) }
+    ensures ended { S.size src.old ≤ place
+        → (result ≡ Ok (record { member = None; place = place; names = None }))
+        × (src.new ≡ src.old) }
+    ensures lies { IfOk result
+        (λ found. MemberLies place (S.size src.old) found.place found.member) }
+    ensures refusals { IfErr result (RefusalLies place (S.size src.old)) }
+    ensures asks { Asks S.Source result src.old src.new
+        (found_asks place (S.size src.old) result) }
+    ensures due { IfSome (S.holds src.old) (λ image.
+        S.taken src.new ≤ S.taken src.old + due_from image names.now place) }
 {
     let size = src.len();
     let mut at = place;

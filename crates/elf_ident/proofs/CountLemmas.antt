@@ -5,13 +5,14 @@ use Rattle.std.proofs.lemmas.Bool.{leb-true}
 use Rattle.elf_types.specs.declared.records.Ehdr.{Ehdr}
 use Rattle.elf_types.specs.declared.records.Shdr.{Shdr}
 use Rattle.elf_types.specs.declared.errors.ElfError.{ElfError}
-use Rattle.elf_types.specs.declared.errors.ElfError.TheVariants.{ShTable, Version, TooLarge}
-use Rattle.elf_types.specs.Answers.{Follows}
+use Rattle.elf_types.specs.declared.errors.ElfError.TheVariants.{ShTable, TooLarge}
+use Rattle.elf_types.specs.Answers.{refused_if, answered, Follows}
+use Rattle.elf_types.specs.declared.constants.TheConstants.{MAX_IMAGE}
 use Rattle.elf_types.proofs.AnswerLemmas.{follows_same}
 use Rattle.elf_xlate.specs.Headers.{shdr_size, shdr_of}
 use Rattle.elf_ident.specs.declared.counts.Counts.{Counts}
-use Rattle.elf_ident.specs.Front.{unless, is_current, needs_first, lies_in, zero_shdr, first_section, header_refusals, counts_by, counts_in}
-use Rattle.elf_ident.proofs.Refusals.{unless_passed, unless_refused}
+use Rattle.elf_ident.specs.Front.{other_version, needs_first, first_lies_in, zero_shdr, first_section, header_refusal, counts_by, counts_in}
+use Rattle.elf_ident.proofs.Refusals.{last_passed}
 
 -- section 0 that is not needed counts as zeros
 pub first_not_needed : (holds : Option (List ℕ)) (h : Ehdr) → needs_first h ≡ false
@@ -28,55 +29,42 @@ unfolding first_section
 first_needed None h r t f = tt
 first_needed (Some image) h r t f = rw t f
 
--- the last test of a list that is passed does not hold
-last_test : (rows : List (Bool × ElfError)) (t : Bool) (e : ElfError) → unless {T = Unit {0}} (rows ++ (t, e) ∷ []) (Ok tt) ≡ Ok tt → t ≡ false
-last_test [] true e h = cc
-last_test [] false e h = refl
-last_test ((true, d) ∷ rows) t e h = cc
-last_test ((false, d) ∷ rows) t e h = last_test rows t e h
-
 both_false : (a b : Bool) → a && not b ≡ false → a ≡ true → b ≡ true
 both_false true true h t = refl
 both_false true false h t = cc
 both_false false b h t = cc
 
 -- section 0 lies in the image where it is needed
-pub first_lies : (h : Ehdr) (len : ℕ) → unless {T = Unit {0}} (header_refusals h len) (Ok tt) ≡ Ok tt → needs_first h ≡ true → h.shoff + shdr_size h.class ≤ len
-unfolding header_refusals
+pub first_lies : (h : Ehdr) (len : ℕ) → header_refusal h len ≡ None → needs_first h ≡ true → h.shoff + shdr_size h.class ≤ len
+unfolding header_refusal
 first_lies h len passed needed =
-    let last : needs_first h && not (lies_in len h.shoff 1 (shdr_size h.class)) ≡ false =
-    last_test ((not (is_current h.version), Version)
-    ∷ (nat_lt (2 ^ 40) len, TooLarge)
-    ∷ (h.shoff == 0 && not (h.shnum == 0), ShTable)
-    ∷ (not (h.shoff == 0) && not (h.shentsize == shdr_size h.class), ShTable) ∷ []) _ ShTable passed in
+    let last : needs_first h && not (first_lies_in h len) ≡ false =
+    last_passed (other_version h.version
+    ∷ refused_if (nat_lt MAX_IMAGE len) TooLarge
+    ∷ refused_if (h.shoff == 0 && not (h.shnum == 0)) ShTable
+    ∷ refused_if (not (h.shoff == 0) && not (h.shentsize == shdr_size h.class)) ShTable ∷ [])
+    (needs_first h && not (first_lies_in h len)) ShTable passed in
     let lies = leb-true (h.shoff + 1 * shdr_size h.class) len (both_false _ _ last needed) in
     omega (arith, lies)
 
 -- a header that is refused
 pub counts_refused : (holds : Option (List ℕ)) (h : Ehdr) (len : ℕ) (e : ElfError) → IfSome holds (λ image. length image ≡ len)
-    → ◌≡◌ {A = Result (Unit {0}) ElfError} (Err e) (unless (header_refusals h len) (Ok tt))
-    → IfSome holds (λ image. Follows {T = Counts} (Err e) (counts_in h image))
+    → Some e ≡ header_refusal h len → IfSome holds (λ image. Follows {T = Counts} (Err e) (counts_in h image))
 unfolding counts_in
 counts_refused None h len e sized is = tt
 counts_refused (Some image) h len e sized is =
-    follows_same {T = Counts} (Err e) (counts_in h image)
-    (unless_refused (header_refusals h (length image)) (counts_by h (first_section h image) (length image)) e
-    (ap (λ (n : ℕ). unless (header_refusals h n) (Ok tt)) sized ∙ sym is))
+    follows_same {T = Counts} (Err e) (counts_in h image) (rw (sized, ← is) refl)
 
 ok_same : {T : Type 0} (a b : T) → ◌≡◌ {A = Result T ElfError} (Ok a) (Ok b) → a ≡ b
 ok_same a b h = cc
 
 -- the counts, and what is refused by them
 pub counts_done : (holds : Option (List ℕ)) (h : Ehdr) (first : Shdr) (len : ℕ) (r : Result Counts ElfError) → IfSome holds (λ image. length image ≡ len)
-    → ◌≡◌ {A = Result (Unit {0}) ElfError} (Ok tt) (unless (header_refusals h len) (Ok tt))
+    → None ≡ header_refusal h len
     → IfSome holds (λ image. Follows (Ok first) (Ok (first_section h image))) → r ≡ counts_by h first len
     → IfSome holds (λ image. Follows r (counts_in h image))
 unfolding counts_in
 counts_done None h first len r sized passed is got = tt
 counts_done (Some image) h first len r sized passed is got =
     follows_same r (counts_in h image)
-    (unless_passed (header_refusals h (length image)) (counts_by h (first_section h image) (length image))
-    (ap (λ (n : ℕ). unless (header_refusals h n) (Ok tt)) sized ∙ sym passed)
-    ∙ ap (λ (n : ℕ). counts_by h (first_section h image) n) sized
-    ∙ ap (λ (f : Shdr). counts_by h f len) (ok_same (first_section h image) first is)
-    ∙ sym got)
+    (rw (sized, ← passed) (ap (λ (f : Shdr). counts_by h f len) (ok_same (first_section h image) first is) ∙ sym got))

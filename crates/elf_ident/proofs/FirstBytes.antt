@@ -3,13 +3,13 @@ use Rattle.std.proofs.Common.{◌≡◌, ℕ, List, length, take, drop, min, Opt
 use Rattle.std.proofs.lemmas.List.{take-take, take_min}
 use Rattle.elf_types.specs.declared.errors.ElfError.{ElfError}
 use Rattle.elf_ident.specs.declared.file_kinds.FileKind.{FileKind}
-use Rattle.elf_ident.specs.FileKinds.{file_kind, archive_magic, elf_magic}
+use Rattle.elf_ident.specs.FileKinds.{file_kind}
 
 first_eight : (xs : List ℕ) (n : ℕ) → n ≡ min (length xs) 8 → take n xs ≡ take 8 xs
 first_eight xs n e = ap (λ (k : ℕ). take k xs) (let s : n ≡ min 8 (length xs) = omega arith in s) ∙ take_min 8 xs
 
 pub file_kind-take : (xs : List ℕ) (n : ℕ) → n ≡ min (length xs) 8 → file_kind (take n xs) ≡ file_kind xs
-unfolding file_kind archive_magic elf_magic
+unfolding file_kind
 file_kind-take xs n e = rw (first_eight xs n e) (rw (take-take 8 8 xs (lit≤ tt), take-take 4 8 xs (lit≤ tt)) refl)
 
 pub kind_of_start : (holds : Option (List ℕ)) (head : List ℕ) (n count len : ℕ) (k : FileKind)

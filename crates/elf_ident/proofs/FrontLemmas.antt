@@ -10,15 +10,17 @@ use Rattle.elf_types.specs.declared.records.Phdr.{Phdr}
 use Rattle.elf_types.specs.declared.records.Shdr.{Shdr}
 use Rattle.elf_types.specs.declared.errors.ElfError.{ElfError}
 use Rattle.elf_types.specs.declared.errors.ElfError.TheVariants.{Memory, Read, Short}
-use Rattle.elf_types.specs.Answers.{Follows}
-use Rattle.elf_xlate.specs.Headers.{ehdr_size, phdr_size, shdr_size, ehdr_of}
+use Rattle.elf_types.specs.Answers.{refused_if, answered, Follows}
+use Rattle.elf_types.specs.declared.constants.TheConstants.{EI_CLASS}
+use Rattle.elf_xlate.specs.Headers.{ehdr_size, ehdr_fits, phdr_size, shdr_size, ehdr_of, IsEhdr}
 use Rattle.elf_ident.specs.declared.counts.Counts.{Counts}
 use Rattle.elf_ident.specs.declared.fronts.Head.{Head}
 use Rattle.elf_ident.specs.declared.fronts.Front.{Front}
-use Rattle.elf_ident.specs.Reading.{IsSound}
-use Rattle.elf_ident.specs.Front.{phdrs_at, shdrs_at, front, front_at, front_with, front_bytes, table_bytes, unless, class_named, ident_in, header_at, header_in, counts_in, head_in, header_bytes, first_bytes}
-use Rattle.elf_ident.proofs.Refusals.{unless_ok, and_then_first}
+use Rattle.elf_ident.specs.Reading.{IsSound, IsPhdrTable, IsShdrTable, IsFittingFront}
+use Rattle.elf_ident.specs.Front.{counted, phdrs_at, shdrs_at, front, front_at, front_with, front_bytes, table_bytes, class_named, class_or_longer, ident_in, header_at, header_in, counts_in, head_in, header_bytes, first_bytes}
+use Rattle.elf_ident.proofs.Refusals.{answered_ok, bind_ok}
 use Rattle.elf_ident.proofs.HeaderLemmas.{class_is}
+use Rattle.elf_ident.proofs.TableLemmas.{phdr_size_most, shdr_size_most}
 
 -- a refusal of the header is one of the image
 refused_by_header : (image : List ℕ) (e : ElfError) → Follows {T = Ehdr × List ℕ} (Err e) (header_in image) → Follows {T = Head} (Err e) (head_in image)
@@ -60,31 +62,23 @@ head_done (Some image) left header pad c same is h =
     head_by image header pad c is (subst (λ (o : Option (List ℕ)). IfSome o (λ i. counts_in header i ≡ Ok c)) same h)
 
 -- the class of the header is that of the identification
-ok_pair : {A B : Type 0} (a c : A) (b d : B) → ◌≡◌ {A = Result (A × B) ElfError} (Ok (a, b)) (Ok (c, d)) → a ≡ c
-ok_pair {A} {B} a c b d h = ap (λ (r : Result (A × B) ElfError). elim r as (λ _. A) [ Ok p ↦ p.0 | Err _ ↦ a ]) h
-
 ehdr_class : (class : Class) (order : Order) (bytes : List ℕ) → (ehdr_of class order bytes).class ≡ class
 unfolding ehdr_of
 ehdr_class class order bytes = refl
 
-class_of_header : (image : List ℕ) (header : Ehdr) (pad : List ℕ) → header_in image ≡ Ok (header, pad) → class_named (slice_index image 4) ≡ Some header.class
+class_of_header : (image : List ℕ) (header : Ehdr) (pad : List ℕ) → header_in image ≡ Ok (header, pad) → class_named (slice_index image EI_CLASS) ≡ Some header.class
 unfolding header_in header_at
 class_of_header image header pad h =
-    let checked : Class × Order → Result (Ehdr × List ℕ) ElfError =
-    λ id. unless ((nat_lt (length image) (ehdr_size id.0), Short) ∷ []) (Ok (header_at id.0 id.1 image)) in
-    let one = and_then_first (ident_in image) checked (header, pad) h in
-    let two = unless_ok ((nat_lt (length image) (ehdr_size one.0.0), Short) ∷ []) (Ok (header_at one.0.0 one.0.1 image)) (header, pad) one.2 in
-    let same = ok_pair (ehdr_of one.0.0 one.0.1 (take (ehdr_size one.0.0) image)) header (take 7 (drop 9 image)) pad two in
-    class_is image one.0.0 one.0.1 one.1 ∙ ap Some (sym (ehdr_class one.0.0 one.0.1 (take (ehdr_size one.0.0) image)) ∙ ap (λ (x : Ehdr). x.class) same)
-
-by_test : (one two : Bool) (class : Class) → cond one (Some C32) (cond two (Some C64) None) ≡ Some class → cond one 40 64 ≡ shdr_size class
-by_test true two class h = let is : C32 ≡ class = cc in subst (λ (k : Class). 40 ≡ shdr_size k) is refl
-by_test false true class h = let is : C64 ≡ class = cc in subst (λ (k : Class). 64 ≡ shdr_size k) is refl
-by_test false false class h = cc
+    let long : Class × Order → Result (Ehdr × List ℕ) ElfError =
+    λ id. answered (refused_if (nat_lt (length image) (ehdr_size id.0)) Short) (header_at id.0 id.1 image) in
+    let one = bind_ok (ident_in image) long (header, pad) h in
+    let two = answered_ok (refused_if (nat_lt (length image) (ehdr_size one.0.0)) Short) (header_at one.0.0 one.0.1 image) (header, pad) one.2 in
+    let same = ap (λ (p : Ehdr × List ℕ). p.0.class) two.1 in
+    class_is image one.0.0 one.0.1 one.1 ∙ ap Some (sym (ehdr_class one.0.0 one.0.1 (take (ehdr_size one.0.0) image)) ∙ same)
 
 first_bytes_is : (image : List ℕ) (header : Ehdr) (pad : List ℕ) → header_in image ≡ Ok (header, pad) → first_bytes image ≡ shdr_size header.class
 unfolding first_bytes
-first_bytes_is image header pad h = by_test (slice_index image 4 == 1) (slice_index image 4 == 2) header.class (class_of_header image header pad h)
+first_bytes_is image header pad h = ap (λ (o : Option Class). shdr_size (class_or_longer o)) (class_of_header image header pad h)
 
 -- what was asked for is at most one header and one section header
 pub bound_counts : (holds : Option (List ℕ)) (header : Ehdr) (pad : List ℕ) (old mid new : ℕ)
@@ -142,16 +136,26 @@ unfolding front_bytes
 bound_front None head old mid new is h n = tt
 bound_front (Some image) head old mid new is h n = rw is (omega (arith, h))
 
-phdr_size_most : (class : Class) → phdr_size class ≤ 56
-phdr_size_most C32 = lit≤ tt
-phdr_size_most C64 = lit≤ tt
-
-shdr_size_most : (class : Class) → shdr_size class ≤ 64
-shdr_size_most C32 = lit≤ tt
-shdr_size_most C64 = lit≤ tt
-
 pub table_bytes_most : (head : Head) (len : ℕ) → IsSound head len → table_bytes head.header head.counts ≤ 2 ^ 20 * 120
 table_bytes_most head len s =
-    let p = mul-le-mul s.tables.few_phdrs (phdr_size_most head.header.class) in
-    let q = mul-le-mul s.tables.few_shdrs (shdr_size_most head.header.class) in
+    let p = mul-le-mul s.counts.few_phdrs (phdr_size_most head.header.class) in
+    let q = mul-le-mul s.counts.few_shdrs (shdr_size_most head.header.class) in
     omega (arith, p, q)
+
+-- a front is fitting
+pub front_fits : (head : Head) (len : ℕ) (phdrs : List Phdr) (shdrs : List Shdr) → IsSound head len → IsEhdr (counted head.header head.counts)
+    → IsPhdrTable head.header.class head.counts.phnum phdrs → IsShdrTable head.header.class head.counts.shnum shdrs
+    → IsFittingFront (front_with head phdrs shdrs)
+unfolding ehdr_fits
+front_fits head len phdrs shdrs s range p t = record {
+  header = range;
+  fitting = s.header.fitting;
+  version = s.version;
+  phdrs = p.range;
+  fitting_phdrs = p.fitting;
+  shdrs = t.range;
+  fitting_shdrs = t.fitting;
+  string_index = λ none. s.counts.string_index (sym t.counted ∙ ap length none);
+  pad = s.header.pad_size;
+  pad_bytes = s.header.pad_bytes;
+}

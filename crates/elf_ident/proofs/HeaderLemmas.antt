@@ -10,26 +10,51 @@ use Rattle.elf_types.specs.declared.records.Order.{Order}
 use Rattle.elf_types.specs.declared.errors.ElfError.{ElfError}
 use Rattle.elf_types.specs.declared.errors.ElfError.TheVariants.{Memory, Read, Short, Magic, Version}
 use Rattle.elf_types.specs.declared.errors.ElfError.TheVariants.{Class as Class_error, Order as Order_error}
-use Rattle.elf_types.specs.Answers.{Follows}
+use Rattle.elf_types.specs.Answers.{refused_if, answered, or_refused, ◌>>=◌, Follows}
 use Rattle.elf_types.proofs.AnswerLemmas.{follows_same}
 use Rattle.elf_xlate.specs.Headers.{ehdr_size, ehdr_of}
-use Rattle.elf_ident.specs.FileKinds.{elf_magic}
-use Rattle.elf_ident.specs.Front.{unless, and_then, known, class_named, order_named, is_current, ident_in, header_in, header_at, header_bytes}
+use Rattle.elf_types.specs.declared.constants.TheConstants.{EI_CLASS, EI_DATA, EI_VERSION, EV_CURRENT}
+use Rattle.elf_ident.specs.Front.{class_named, order_named, no_ident, ident_in, header_in, header_at, class_or_longer, header_bytes}
 use Rattle.elf_ident.specs.Reading.{HasStart, HasHeader, HasRest}
-use Rattle.elf_ident.proofs.Refusals.{unless_ok, and_then_first, known_some}
+use Rattle.elf_ident.proofs.Refusals.{answered_ok, answered_then, bind_ok, or_refused_ok}
 
 -- an image shorter than its identification
 pub short_ident : (holds : Option (List ℕ)) (len : ℕ) → IfSome holds (λ image. length image ≡ len) → len < 16
     → IfSome holds (λ image. ident_in image ≡ Err Short)
-unfolding ident_in
+unfolding ident_in no_ident
 short_ident None len sized small = tt
 short_ident (Some image) len sized small = rw (lt-ltb (length image) 16 (rw sized small)) refl
 
+-- the class and the order that three bytes name
+abbrev versioned : ℕ → Class → Order → Result (Class × Order) ElfError
+versioned version class order = answered (refused_if (not (version == EV_CURRENT)) Version) (class, order)
+
+abbrev ordered : ℕ → ℕ → Class → Result (Class × Order) ElfError
+ordered byte_order version class = or_refused (order_named byte_order) Order_error >>= versioned version class
+
+abbrev named : ℕ → ℕ → ℕ → Result (Class × Order) ElfError
+named class byte_order version = or_refused (class_named class) Class_error >>= ordered byte_order version
+
+abbrev classed : List ℕ → Result (Class × Order) ElfError
+classed ident = named (slice_index ident EI_CLASS) (slice_index ident EI_DATA) (slice_index ident EI_VERSION)
+
 -- the identification is that of the first sixteen bytes
+no_ident-take : (image : List ℕ) → 16 ≤ length image → no_ident (take 16 image) ≡ no_ident image
+unfolding no_ident
+no_ident-take image long =
+    rw (length-take-le 16 image long, le-ltb (length image) 16 long, take-take 4 16 image (lit≤ tt)) refl
+
+classed-take : (image : List ℕ) → classed (take 16 image) ≡ classed image
+classed-take image =
+    ap (λ (c : ℕ). named c (slice_index (take 16 image) EI_DATA) (slice_index (take 16 image) EI_VERSION)) (get_or-take 16 image 4 0 (lit< tt))
+    ∙ ap (λ (d : ℕ). named (slice_index image EI_CLASS) d (slice_index (take 16 image) EI_VERSION)) (get_or-take 16 image 5 0 (lit< tt))
+    ∙ ap (named (slice_index image EI_CLASS) (slice_index image EI_DATA)) (get_or-take 16 image 6 0 (lit< tt))
+
 ident_in-take : (image : List ℕ) → 16 ≤ length image → ident_in (take 16 image) ≡ ident_in image
-unfolding ident_in elf_magic
+unfolding ident_in
 ident_in-take image long =
-    rw (length-take-le 16 image long, le-ltb (length image) 16 long, take-take 4 16 image (lit≤ tt), get_or-take 16 image 4 0 (lit< tt), get_or-take 16 image 5 0 (lit< tt), get_or-take 16 image 6 0 (lit< tt)) refl
+    ap (λ (r : Option ElfError). answered r (take 16 image) >>= classed) (no_ident-take image long)
+    ∙ answered_then (no_ident image) (take 16 image) image classed (classed-take image)
 
 pub ident_of_start : (holds : Option (List ℕ)) (start : List ℕ) (n len : ℕ) (r : Result (Class × Order) ElfError)
     → IfSome holds (λ image. length image ≡ len) → 16 ≤ len → n ≡ 16
@@ -122,41 +147,31 @@ ok_first : {A B : Type 0} (a c : A) (b d : B) → ◌≡◌ {A = Result (A × B)
 ok_first {A} {B} a c b d h =
     ap (λ (r : Result (A × B) ElfError). elim r as (λ _. A) [ Ok p ↦ p.0 | Err _ ↦ a ]) h
 
--- the header has as many bytes as its class says
-pub class_is : (image : List ℕ) (class : Class) (order : Order) → ident_in image ≡ Ok (class, order) → class_named (slice_index image 4) ≡ Some class
+class_of_named : (code byte_order version : ℕ) (class : Class) (order : Order) → named code byte_order version ≡ Ok (class, order) → class_named code ≡ Some class
+class_of_named code byte_order version class order h =
+    let one = bind_ok (or_refused (class_named code) Class_error) (ordered byte_order version) (class, order) h in
+    let two = bind_ok (or_refused (order_named byte_order) Order_error) (versioned version one.0) (class, order) one.2 in
+    let three = answered_ok (refused_if (not (version == EV_CURRENT)) Version) (one.0, two.0) (class, order) two.2 in
+    let same : one.0 ≡ class = ap (λ (p : Class × Order). p.0) three.1 in
+    or_refused_ok (class_named code) Class_error one.0 one.1 ∙ ap Some same
+
+-- the class is that of the identification
+pub class_is : (image : List ℕ) (class : Class) (order : Order) → ident_in image ≡ Ok (class, order) → class_named (slice_index image EI_CLASS) ≡ Some class
 unfolding ident_in
 class_is image class order h =
-    let byte_order : Class → Result (Class × Order) ElfError = λ c.
-    and_then (known (order_named (slice_index image 5)) Order_error) (λ o. unless ((not (is_current (slice_index image 6)), Version) ∷ []) (Ok (c, o))) in
-    let named : Result Class ElfError = known (class_named (slice_index image 4)) Class_error in
-    let inner : and_then named byte_order ≡ Ok (class, order) =
-    unless_ok ((nat_lt (length image) 16, Short) ∷ (not (starts_with nat_eq image elf_magic), Magic) ∷ []) (and_then named byte_order) (class, order) h in
-    let one = and_then_first named byte_order (class, order) inner in
-    let two = and_then_first (known (order_named (slice_index image 5)) Order_error) (λ o. unless ((not (is_current (slice_index image 6)), Version) ∷ []) (Ok (one.0, o))) (class, order) one.2 in
-    let three : ◌≡◌ {A = Result (Class × Order) ElfError} (Ok (one.0, two.0)) (Ok (class, order)) =
-    unless_ok ((not (is_current (slice_index image 6)), Version) ∷ []) (Ok (one.0, two.0)) (class, order) two.2 in
-    let same : one.0 ≡ class = ok_first one.0 class two.0 order three in
-    known_some (class_named (slice_index image 4)) Class_error one.0 one.1 ∙ ap Some same
+    let start = bind_ok (answered (no_ident image) image) classed (class, order) h in
+    let same = (answered_ok (no_ident image) image start.0 start.1).1 in
+    class_of_named (slice_index image EI_CLASS) (slice_index image EI_DATA) (slice_index image EI_VERSION) class order
+    (ap classed same ∙ start.2)
 
-by_test : (one two : Bool) (class : Class) → cond one (Some C32) (cond two (Some C64) None) ≡ Some class → cond one 52 64 ≡ ehdr_size class
-by_test true two class h = let is : C32 ≡ class = cc in subst (λ (k : Class). 52 ≡ ehdr_size k) is refl
-by_test false true class h = let is : C64 ≡ class = cc in subst (λ (k : Class). 64 ≡ ehdr_size k) is refl
-by_test false false class h = cc
-
-bytes_by_class : (b : ℕ) (class : Class) → class_named b ≡ Some class → cond (b == 1) 52 64 ≡ ehdr_size class
-bytes_by_class b class h = by_test (b == 1) (b == 2) class h
-
+-- the header has as many bytes as its class says
 header_bytes_class : (image : List ℕ) (class : Class) (order : Order) → ident_in image ≡ Ok (class, order) → header_bytes image ≡ ehdr_size class
 unfolding header_bytes
-header_bytes_class image class order h = bytes_by_class (slice_index image 4) class (class_is image class order h)
-
-cond_least : (b : Bool) → 16 ≤ cond b 52 64
-cond_least true = lit≤ tt
-cond_least false = lit≤ tt
+header_bytes_class image class order h = ap (λ (o : Option Class). ehdr_size (class_or_longer o)) (class_is image class order h)
 
 header_bytes_least : (image : List ℕ) → 16 ≤ header_bytes image
 unfolding header_bytes
-header_bytes_least image = cond_least (slice_index image 4 == 1)
+header_bytes_least image = size_big (class_or_longer (class_named (slice_index image EI_CLASS)))
 
 -- what was asked for is at most one header
 pub bound_ident : (holds : Option (List ℕ)) (old new : ℕ) → new ≤ old + 16 → IfSome holds (λ image. new ≤ old + header_bytes image)

@@ -1,5 +1,5 @@
 pub mod CountLemmas
-pub mod EntryLemmas
+pub mod TableLemmas
 pub mod FirstBytes
 pub mod FrontLemmas
 pub mod HeaderLemmas

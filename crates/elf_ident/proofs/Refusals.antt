@@ -1,30 +1,27 @@
--- A list of refusals that is passed, and one that is not.
-use Rattle.std.proofs.Common.{◌≡◌, Bool, true, false, List, [], ◌∷◌, Option, Some, None, Result, Ok, Err, refl}
-use Rattle.elf_types.specs.declared.errors.ElfError.{ElfError}
-use Rattle.elf_ident.specs.Front.{unless, and_then, known}
+-- What an answer by refusals tells of them.
+use Rattle.std.proofs.Common.{◌≡◌, ◌++◌, Bool, true, false, List, [], ◌∷◌, Option, Some, None, Result, Ok, Err, refl}
+use Rattle.elf_types.specs.Answers.{refused_if, first_refusal, answered, or_refused, ◌>>=◌}
 
--- where no test holds, what follows is the answer
-pub unless_passed : {T : Type 0} (rows : List (Bool × ElfError)) (follows : Result T ElfError) → unless {T = Unit {0}} rows (Ok tt) ≡ Ok tt → unless rows follows ≡ follows
-unless_passed [] follows h = refl
-unless_passed ((true, e) ∷ rows) follows h = cc
-unless_passed ((false, e) ∷ rows) follows h = unless_passed rows follows h
+pub answered_ok : {A E : Type 0} (refusal : Option E) (x y : A) → answered refusal x ≡ Ok y → (refusal ≡ None) × (x ≡ y)
+answered_ok None x y h = (refl, cc)
+answered_ok (Some e) x y h = cc
 
--- where one holds, what follows is not looked at
-pub unless_refused : {T : Type 0} (rows : List (Bool × ElfError)) (follows : Result T ElfError) (e : ElfError) → unless {T = Unit {0}} rows (Ok tt) ≡ Err e → unless rows follows ≡ Err e
-unless_refused [] follows e h = cc
-unless_refused ((true, d) ∷ rows) follows e h = cc
-unless_refused ((false, d) ∷ rows) follows e h = unless_refused rows follows e h
+-- the last test of a list of which none refuses does not hold
+pub last_passed : {E : Type 0} (tests : List (Option E)) (test : Bool) (e : E) → first_refusal (tests ++ refused_if test e ∷ []) ≡ None → test ≡ false
+last_passed [] true e h = cc
+last_passed [] false e h = refl
+last_passed (Some d ∷ tests) test e h = cc
+last_passed (None ∷ tests) test e h = last_passed tests test e h
 
--- an Ok is that of what follows
-pub unless_ok : {T : Type 0} (rows : List (Bool × ElfError)) (follows : Result T ElfError) (x : T) → unless rows follows ≡ Ok x → follows ≡ Ok x
-unless_ok [] follows x h = h
-unless_ok ((true, e) ∷ rows) follows x h = cc
-unless_ok ((false, e) ∷ rows) follows x h = unless_ok rows follows x h
+pub bind_ok : {A B E : Type 0} (r : Result A E) (next : A → Result B E) (y : B) → (r >>= next) ≡ Ok y → (x : A) × (r ≡ Ok x) × (next x ≡ Ok y)
+bind_ok (Ok x) next y h = (x, refl, h)
+bind_ok (Err e) next y h = cc
 
-pub and_then_first : {A B : Type 0} (r : Result A ElfError) (f : A → Result B ElfError) (x : B) → and_then r f ≡ Ok x → (y : A) × (r ≡ Ok y) × (f y ≡ Ok x)
-and_then_first (Ok y) f x h = (y, refl, h)
-and_then_first (Err e) f x h = cc
+pub or_refused_ok : {A E : Type 0} (o : Option A) (e : E) (x : A) → or_refused o e ≡ Ok x → o ≡ Some x
+or_refused_ok None e x h = cc
+or_refused_ok (Some y) e x h = cc
 
-pub known_some : {T : Type 0} (o : Option T) (e : ElfError) (x : T) → known o e ≡ Ok x → o ≡ Some x
-known_some None e x h = cc
-known_some (Some y) e x h = cc
+-- what follows a passed answer looks at its value alone
+pub answered_then : {A B E : Type 0} (refusal : Option E) (x y : A) (next : A → Result B E) → next x ≡ next y → (answered refusal x >>= next) ≡ (answered refusal y >>= next)
+answered_then None x y next h = h
+answered_then (Some e) x y next h = refl

@@ -3,11 +3,12 @@
 ghost use Rattle.std.specs.Prelude.{◌≡◌, length, IfSome, IfErr};
 ghost use Rattle.elf_types.specs.Answers.{Follows};
 ghost use Rattle.elf_outside.specs.Asks.{Asks};
-ghost use Rattle.elf_ident.specs.FileKinds.{file_kind, archive_magic, elf_magic};
+ghost use Rattle.elf_ident.specs.FileKinds.{file_kind};
 
-use crate::reads::read;
 use elf_outside::Source;
+use elf_outside::reads::read;
 use elf_types::ElfError;
+use elf_types::constants::{ARMAG, ELFMAG};
 
 /// What a file is, `elf_kind` of elf(3E).
 #[derive(Clone, Copy, Debug, PartialEq, Eq)]
@@ -20,29 +21,23 @@ pub enum FileKind {
     Other,
 }
 
-/// The first bytes of an ELF image.
-pub const ELF_MAGIC: [u8; 4] = [0x7f, b'E', b'L', b'F'];
-
-/// The first bytes of an archive.
-pub const ARCHIVE_MAGIC: [u8; 8] = *b"!<arch>\n";
-
 /// What the first bytes of a file, at most eight, say that it is.
-#[tactic(auto, unfolding(crate::specs::FileKinds::file_kind, crate::specs::FileKinds::archive_magic, crate::specs::FileKinds::elf_magic))]
+#[tactic(auto, unfolding(crate::specs::FileKinds::file_kind))]
 fn kind_by(head: &[u8]) -> FileKind
     ensures { result ≡ file_kind head.now }
 {
-    if head.starts_with(&ARCHIVE_MAGIC) {
+    if head.starts_with(&ARMAG) {
         FileKind::Archive
-    } else if head.starts_with(&ELF_MAGIC) {
+    } else if head.starts_with(&ELFMAG) {
         FileKind::Elf
     } else {
         FileKind::Other
     }
 }
 
-/// What a source holds, `elf_kind` of elf(3E): an archive, an ELF image, or something else, also where
-/// it is shorter than eight bytes. It asks for at most eight bytes, takes no memory and refuses `Read`
-/// alone.
+/// What a source holds, `elf_kind` of elf(3E): an archive, an ELF image, or something else, also
+/// where it is shorter than eight bytes. It asks for at most eight bytes, takes no memory and
+/// refuses `Read` alone.
 ///
 /// Source: gABI chapter 4, "ELF Identification", and chapter 7, "Archive File".
 pub fn kind_of_source<S: Source>(src: &mut S) -> Result<FileKind, ElfError>
@@ -54,6 +49,7 @@ pub fn kind_of_source<S: Source>(src: &mut S) -> Result<FileKind, ElfError>
     kind_with(src, &mut head)
 }
 
+/// The same by a buffer of eight bytes.
 fn kind_with<S: Source>(src: &mut S, head: &mut [u8]) -> Result<FileKind, ElfError>
     requires { length head.old ≡ 8 }
     ensures kind { IfSome (S.holds src.old) (λ image. Follows result (Ok (file_kind image))) }

@@ -1,15 +1,17 @@
 //! The header and the two tables of an image.
 
-ghost use Rattle.std.specs.Prelude.{◌≡◌, ◌+◌, ◌*◌, ◌^◌, ◌<◌, ◌≤◌, ◌⊎◌, length, OnOk, IfOk, IfErr, IfSome, Err};
+ghost use Rattle.std.specs.Prelude.{◌≡◌, ◌+◌, ◌<◌, ◌≤◌, ◌⊎◌, OnOk, IfOk, IfErr, IfSome, Err};
 ghost use Rattle.elf_types.specs.Answers.{Follows};
+ghost use Rattle.elf_types.specs.declared.records.Class.TheVariants.{C64};
+ghost use Rattle.elf_types.specs.declared.constants.TheConstants.{EI_NIDENT, MAX_IMAGE, MAX_SECTIONS};
 ghost use Rattle.elf_outside.specs.Asks.{Asks};
-ghost use Rattle.elf_xlate.specs.Headers.{HasNarrowCounts, phdr_size, shdr_size};
-ghost use Rattle.elf_ident.specs.Reading.{HasTables, IsSound, IsCounted, IsFrontRefusal};
-ghost use Rattle.elf_ident.specs.Front.{head_in, front, front_with, phdrs_at, shdrs_at, counted, table_bytes, header_bytes, first_bytes, front_bytes};
+ghost use Rattle.elf_xlate.specs.Headers.{ehdr_size, shdr_size, HasNarrowCounts, IsEhdr};
+ghost use Rattle.elf_ident.specs.Reading.{HasTables, IsSound, IsPhdrTable, IsShdrTable, IsFittingFront, IsCounted, IsFrontRefusal};
+ghost use Rattle.elf_ident.specs.Front.{head_in, front, front_with, phdrs_at, shdrs_at, table_bytes, header_bytes, first_bytes, front_bytes, most_front_bytes};
 
 use crate::counts::{Counts, read_counts};
-use crate::entries::read_entries;
 use crate::headers::read_header;
+use crate::tables::{read_phdrs, read_shdrs};
 use elf_outside::Source;
 use elf_types::{Ehdr, ElfError, Phdrs, Shdrs};
 use std::alloc::Global;
@@ -40,17 +42,17 @@ pub struct Front {
     pub shdrs: Shdrs,
 }
 
-/// Reads the header, and section 0 where a count stands there. Its refusals are those of the header,
-/// then those of the counts.
+/// Reads the header, and section 0 where a count stands there. Its refusals are those of the
+/// header, then those of the counts.
 fn read_head<S: Source>(src: &mut S) -> Result<Head, ElfError>
     ensures head { IfSome (S.holds src.old) (λ image. Follows result (head_in image)) }
     ensures sound { IfOk result (λ head. IsSound head (S.size src.old)) }
-    ensures asks { Asks S.Source result src.old src.new 128 }
+    ensures asks { Asks S.Source result src.old src.new (ehdr_size C64 + shdr_size C64) }
     ensures bound { IfSome (S.holds src.old) (λ image.
         S.taken src.new ≤ S.taken src.old + (header_bytes image + first_bytes image)) }
     ensures err { IfErr result (IsFrontRefusal (S.size src.old)) }
-    ensures short { S.size src.old < 16 → result ≡ Err ElfError.Short }
-    ensures small { OnOk result (S.size src.old ≤ 2 ^ 40) }
+    ensures short { S.size src.old < EI_NIDENT → result ≡ Err ElfError.Short }
+    ensures small { OnOk result (S.size src.old ≤ MAX_IMAGE) }
 {
     let (header, pad) = read_header(src)?;
     let counts = read_counts(src, &header)?;
@@ -72,21 +74,24 @@ fn read_tables<S: Source>(
         t.0 ≡ phdrs_at head.now.header head.now.counts.phnum image)) }
     ensures shdrs { IfOk result (λ t. IfSome (S.holds src.old) (λ image.
         t.1 ≡ shdrs_at head.now.header head.now.counts.shnum image)) }
-    ensures phnum { IfOk result (λ t. length t.0 ≡ head.now.counts.phnum) }
-    ensures shnum { IfOk result (λ t. length t.1 ≡ head.now.counts.shnum) }
-    ensures asks { Asks S.Source result src.old src.new (table_bytes head.now.header head.now.counts) }
+    ensures tables { IfOk result (λ t. IsPhdrTable head.now.header.class head.now.counts.phnum t.0
+        × IsShdrTable head.now.header.class head.now.counts.shnum t.1) }
+    ensures asks { Asks S.Source result src.old src.new
+        (table_bytes head.now.header head.now.counts) }
     ensures err { IfErr result (λ e. (e ≡ ElfError.Memory) ⊎ (e ≡ ElfError.Read)) }
 {
     let h = &head.header;
-    let phdrs = read_entries(alloc, src, h, h.phoff, u64::from(head.counts.phnum))?;
-    let shdrs = read_entries(alloc, src, h, h.shoff, head.counts.shnum)?;
+    let phdrs = read_phdrs(alloc, src, h, u64::from(head.counts.phnum))?;
+    let shdrs = read_shdrs(alloc, src, h, head.counts.shnum)?;
     Ok((phdrs, shdrs))
 }
 
+/// The front with a head and its tables.
 fn front_of(head: Head, phdrs: Phdrs, shdrs: Shdrs) -> Front
     requires narrow { HasNarrowCounts head.header }
-    requires few { head.counts.shnum ≤ 2 ^ 20 }
-    ensures { result ≡ front_with head phdrs shdrs }
+    requires few { head.counts.shnum ≤ MAX_SECTIONS }
+    ensures front { result ≡ front_with head phdrs shdrs }
+    ensures range { IsEhdr result.ehdr }
 {
     let written = [
         head.header.phnum as u16,
@@ -109,15 +114,17 @@ fn front_of(head: Head, phdrs: Phdrs, shdrs: Shdrs) -> Front
     }
 }
 
-/// Reads the front of an image, as elf_begin of elf(3E) does: the header with its true counts (after
-/// extended numbering), the bytes 9 to 15 of the identification, and the two tables.
+/// Reads the front of an image, as elf_begin of elf(3E) does: the header with its true counts
+/// (after extended numbering), the bytes 9 to 15 of the identification, and the two tables. Also
+/// where the source does not tell its bytes, all numbers of a front fit the class, and both tables
+/// lie in the image.
 ///
-/// The first refusal of these is the answer: `Short` (fewer than 16 bytes), `Magic`, `Class`, `Order`,
-/// `Version` (of the identification), `Short` (fewer bytes than the class's header), `Version`
-/// (`e_version`), `TooLarge` (more than 2^40 bytes), `ShTable`, `PhTable` (a table that is not well
-/// formed or does not lie in the image), `TooMany` (more than 2^20 entries of a table). `Read` and
-/// `Memory` may come at any read before. No other refusal comes, also where the source does not tell
-/// its bytes.
+/// The first refusal of these is the answer: `Short` (fewer than 16 bytes), `Magic`, `Class`,
+/// `Order`, `Version` (of the identification), `Short` (fewer bytes than the class's header),
+/// `Version` (`e_version`), `TooLarge` (more than 2^40 bytes), `ShTable`, `PhTable` (a table that
+/// is not well formed or does not lie in the image), `TooMany` (more than 2^20 entries of a table).
+/// `Read` and `Memory` may come at any read before. No other refusal comes, also where the source
+/// does not tell its bytes.
 ///
 /// It asks for at most one header and one section header, and for the two tables where nothing is
 /// refused; each table takes one read.
@@ -125,12 +132,15 @@ fn front_of(head: Head, phdrs: Phdrs, shdrs: Shdrs) -> Front
 /// Source: gABI chapter 4, "ELF Header" and "Sections", chapter 5, "Program Header".
 pub fn read_front<S: Source>(alloc: Global, src: &mut S) -> Result<Front, ElfError>
     ensures front { IfSome (S.holds src.old) (λ image. Follows result (front image)) }
+    ensures fitting { IfOk result IsFittingFront }
     ensures counted { IfOk result IsCounted }
-    ensures asks { Asks S.Source result src.old src.new (128 + 2 ^ 20 * 120) }
-    ensures bound { IfSome (S.holds src.old) (λ image. S.taken src.new ≤ S.taken src.old + front_bytes image) }
+    ensures tables { IfOk result (λ f. HasTables f.ehdr (S.size src.old)) }
+    ensures asks { Asks S.Source result src.old src.new most_front_bytes }
+    ensures bound { IfSome (S.holds src.old) (λ image.
+        S.taken src.new ≤ S.taken src.old + front_bytes image) }
     ensures err { IfErr result (IsFrontRefusal (S.size src.old)) }
-    ensures short { S.size src.old < 16 → result ≡ Err ElfError.Short }
-    ensures small { OnOk result (S.size src.old ≤ 2 ^ 40) }
+    ensures short { S.size src.old < EI_NIDENT → result ≡ Err ElfError.Short }
+    ensures small { OnOk result (S.size src.old ≤ MAX_IMAGE) }
 {
     let head = read_head(src)?;
     let (phdrs, shdrs) = read_tables(alloc, src, &head)?;

@@ -1,16 +1,15 @@
 -- Parts that share a byte, as neighbours in the order by position and rank.
 use Rattle.std.proofs.Common.{◌≡◌, ℕ, ◌+◌, ◌-◌, ◌<◌, ◌≤◌, List, [], ◌∷◌, length, get_or, drop, map, Bool, true, false, cond, ◌||◌, nat_lt, Option, Some, None, MatchOption, sym, ◌∙◌, ap, refl, subst, ⊎_elim, arith}
-use Rattle.std.specs.List.{AllByRecursion, filter, list_any}
-use Rattle.std.specs.List.Sorted.{IsSorted, IsPermutation}
+use Rattle.std.specs.List.{All, AllByRecursion, filter, list_any}
+use Rattle.std.proofs.lemmas.List.Elements.{All-map, All-from_recursion}
 use Rattle.std.proofs.lemmas.Bool.{cases_lt, lt-ltb, le-ltb, ltb-true, and_parts, and_from, and_right}
 use Rattle.std.proofs.lemmas.List.{get_or-drop, drop-drop, length-drop}
 use Rattle.elf_types.specs.declared.records.Part.{Part}
 use Rattle.elf_layout.specs.declared.parts.PartAt.{PartAt}
 use Rattle.elf_layout.specs.declared.meeting.Extent.{Extent}
-use Rattle.elf_layout.specs.Meeting.{has_bytes, end_of, meets, sorted_by, listed, first_met, overlap_of}
-use Rattle.elf_layout.specs.Extents.{ranked_from, extent_of, extents_of, first_close, first_close_or}
-use Rattle.elf_layout.proofs.Sorting.{all_map, all-sorted_by, map-sorted_by, Climbs, climbs-sorted_by}
-use Rattle.elf_layout.proofs.Ranks.{extent_cmp, ranked_listed, sorted_extents}
+use Rattle.elf_layout.specs.Meeting.{has_bytes, end_of, meets, sorted_by, ranked_from, ranked_listed, ranks_by_position, listed, first_met, overlap_of}
+use Rattle.elf_layout.specs.Extents.{extent_of, sorted_extents_of, first_close, first_close_or}
+use Rattle.elf_layout.proofs.Sorting.{all_weaker, all_map, all-sorted_by, map-sorted_by, Climbs, climbs-sorted_by}
 
 pub has_bytes-len : (p : PartAt) → has_bytes p ≡ true → 0 < p.len
 unfolding has_bytes
@@ -115,22 +114,28 @@ listed_is : (ps : List PartAt) → listed ps ≡ map (λ x. x.1) (ranked_listed 
 unfolding listed
 listed_is ps = ap (λ qs. sorted_by (λ p. p.at) qs) (full_parts 0 ps) ∙ sym (map-sorted_by (λ (x : ℕ × PartAt). x.1) (λ p. p.at) (ranked_from 0 ps))
 
+ranked_all : (ps : List PartAt) → AllByRecursion (IsRanked ps) (ranked_listed ps)
+ranked_all ps = all-sorted_by (λ (x : ℕ × PartAt). x.1.at) (IsRanked ps) (ranked_from 0 ps) (ranked_from_all ps ps 0 refl)
+
+-- each rank is that of a part
+pub ranks_inside : (ps : List PartAt) → All (λ r. r < length ps) (ranks_by_position ps)
+unfolding ranks_by_position
+ranks_inside ps =
+    All-map (λ (r : ℕ). r < length ps) (λ (x : ℕ × PartAt). x.0) (ranked_listed ps)
+    (All-from_recursion (λ (x : ℕ × PartAt). x.0 < length ps) (ranked_listed ps) (all_weaker (IsRanked ps) (λ x. x.0 < length ps) (λ x is. is.inside) (ranked_listed ps) (ranked_all ps)))
+
 -- what the search finds among the extents that the sort leaves
-pub overlap_is : (ps : List PartAt) (es : List Extent) → IsPermutation (extents_of ps) es → IsSorted extent_cmp es → IsPairOf ps (first_close es) (overlap_of ps)
-unfolding overlap_of
-overlap_is ps es moved sorted =
-    let ranked = all-sorted_by (λ (x : ℕ × PartAt). x.1.at) (IsRanked ps) (ranked_from 0 ps) (ranked_from_all ps ps 0 refl) in
-    let found = first_met_is ps (ranked_listed ps) ranked (climbs-sorted_by (λ (x : ℕ × PartAt). x.1.at) (ranked_from 0 ps)) in
-    subst (λ (l : List Extent). IsPairOf ps (first_close l) (overlap_of ps)) (sym (sorted_extents ps es moved sorted))
-    (subst (λ (l : List PartAt). IsPairOf ps (first_close (map extent_of (ranked_listed ps))) (first_met l)) (sym (listed_is ps)) found)
+overlap_is : (ps : List PartAt) → IsPairOf ps (first_close (sorted_extents_of ps)) (overlap_of ps)
+unfolding overlap_of sorted_extents_of
+overlap_is ps =
+    let found = first_met_is ps (ranked_listed ps) (ranked_all ps) (climbs-sorted_by (λ (x : ℕ × PartAt). x.1.at) (ranked_from 0 ps)) in
+    subst (λ (l : List PartAt). IsPairOf ps (first_close (map extent_of (ranked_listed ps))) (first_met l)) (sym (listed_is ps)) found
 
 -- the same as the code calls it
-pub overlap_named : (ps : List PartAt) (given es : List Extent) (a b : ℕ) → given ≡ extents_of ps → IsPermutation given es → IsSorted extent_cmp es → ◌≡◌ {A = Option (ℕ × ℕ)} (Some (a, b)) (first_close es) → Names ps (a, b) (overlap_of ps)
-overlap_named ps given es a b given_is moved sorted found =
-    let moved' = subst (λ (l : List Extent). IsPermutation l es) given_is moved in
-    subst (λ (ranks : Option (ℕ × ℕ)). IsPairOf ps ranks (overlap_of ps)) (sym found) (overlap_is ps es moved' sorted)
+pub overlap_named : (ps : List PartAt) (es : List Extent) (a b : ℕ) → es ≡ sorted_extents_of ps → ◌≡◌ {A = Option (ℕ × ℕ)} (Some (a, b)) (first_close es) → Names ps (a, b) (overlap_of ps)
+overlap_named ps es a b es_is found =
+    subst (λ (ranks : Option (ℕ × ℕ)). IsPairOf ps ranks (overlap_of ps)) (sym (found ∙ ap first_close es_is)) (overlap_is ps)
 
-pub overlap_none : (ps : List PartAt) (given es : List Extent) → given ≡ extents_of ps → IsPermutation given es → IsSorted extent_cmp es → ◌≡◌ {A = Option (ℕ × ℕ)} None (first_close es) → ◌≡◌ {A = Option (Part × Part)} None (overlap_of ps)
-overlap_none ps given es given_is moved sorted found =
-    let moved' = subst (λ (l : List Extent). IsPermutation l es) given_is moved in
-    sym (subst (λ (ranks : Option (ℕ × ℕ)). IsPairOf ps ranks (overlap_of ps)) (sym found) (overlap_is ps es moved' sorted))
+pub overlap_none : (ps : List PartAt) (es : List Extent) → es ≡ sorted_extents_of ps → ◌≡◌ {A = Option (ℕ × ℕ)} None (first_close es) → ◌≡◌ {A = Option (Part × Part)} None (overlap_of ps)
+overlap_none ps es es_is found =
+    sym (subst (λ (ranks : Option (ℕ × ℕ)). IsPairOf ps ranks (overlap_of ps)) (sym (found ∙ ap first_close es_is)) (overlap_is ps))

@@ -13,18 +13,30 @@ use Rattle.elf_types.specs.declared.errors.ElfError.TheVariants.{Overlap, TooLar
 use Rattle.elf_layout.specs.declared.parts.PartAt.{PartAt}
 use Rattle.elf_layout.specs.declared.parts.Places.{Places}
 use Rattle.elf_layout.specs.Meeting.{IsApart, LiesWithin, overlap_of}
-use Rattle.elf_layout.specs.Layout.{rounded_up, place_of, end_after, in_order_from, standing, length_of, places_of, positions, limit_of, some_above, is_too_large, overlap_refusal, refusal_within, refusal_of, placed, placing_within, placing}
+use Rattle.elf_types.specs.Answers.{answered}
+use Rattle.elf_layout.specs.Layout.{rounded_up, place_of, end_after, in_order_from, standing, length_of, places_of, positions, limit_of, some_above, is_too_large, overlap_refusal, refusal_within, refusal_of, placing_within, placing, MayWantMemory}
 use Rattle.elf_layout.proofs.Apart.{apart_by_caller, apart_in_order, lies_within}
 
-ok_from : (refusal : Option ElfError) (stated places : Places) → placed refusal stated ≡ Ok places → (refusal ≡ None) × (places ≡ stated)
-unfolding placed
+ok_from : (refusal : Option ElfError) (stated places : Places) → answered refusal stated ≡ Ok places → (refusal ≡ None) × (places ≡ stated)
 ok_from None stated places e = (refl, cc)
 ok_from (Some error) stated places e = cc
 
-err_from : (refusal : Option ElfError) (stated : Places) (error : ElfError) → placed refusal stated ≡ Err error → refusal ≡ Some error
-unfolding placed
+err_from : (refusal : Option ElfError) (stated : Places) (error : ElfError) → answered refusal stated ≡ Err error → refusal ≡ Some error
 err_from None stated error e = cc
 err_from (Some given) stated error e = cc
+
+-- no other refusal is stated of a layout
+may_want_from : (layout : Bool) (met : Option (Part × Part)) (too_large : Bool) (places : Places)
+    → MayWantMemory (answered (option_or (cond layout (option_map (λ pair. Overlap pair.0 pair.1) met) None) (cond too_large (Some TooLarge) None)) places)
+may_want_from true (Some pair) too_large places = tt
+may_want_from true None true places = tt
+may_want_from true None false places = tt
+may_want_from false met true places = tt
+may_want_from false met false places = tt
+
+pub may_want : (parts : List PartAt) (layout : Bool) (base : ℕ) (class : Class) → MayWantMemory (placing parts layout base class)
+unfolding placing placing_within refusal_within overlap_refusal
+may_want parts layout base class = may_want_from layout (overlap_of parts) (is_too_large parts layout base (limit_of class)) (places_of parts layout base)
 
 -- an Ok: nothing is refused, and the places are those of the definition
 pub placing_ok : (parts : List PartAt) (layout : Bool) (base : ℕ) (class : Class) (places : Places) → placing parts layout base class ≡ Ok places → (refusal_of parts layout base class ≡ None) × (places ≡ places_of parts layout base)

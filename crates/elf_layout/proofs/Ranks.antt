@@ -1,5 +1,5 @@
 -- The extents of an image's parts, sorted by position and rank.
-use Rattle.std.proofs.Common.{◌≡◌, ℕ, ◌+◌, ◌<◌, ◌≤◌, List, [], ◌∷◌, ◌++◌, length, get_or, drop, map, Bool, true, false, cond, nat_cmp, Ordering, nat_le, sym, ◌∙◌, ap, refl, arith}
+use Rattle.std.proofs.Common.{◌≡◌, ℕ, ◌+◌, ◌<◌, ◌≤◌, List, [], ◌∷◌, ◌++◌, length, get_or, drop, map, Bool, true, false, cond, nat_cmp, Ordering, nat_le, sym, ◌∙◌, ap, refl, subst, arith}
 use Rattle.std.specs.Bool.{⊤}
 use Rattle.std.specs.Ordering.{is_lt, ordering_then}
 use Rattle.std.specs.declared.cmp.Ordering.TheVariants.{Less, Equal, Greater}
@@ -10,12 +10,13 @@ use Rattle.std.proofs.lemmas.Cmp.{nat_cmp_total, then_total, on_total}
 use Rattle.std.proofs.lemmas.Map.Lookups.{exact_unsigned}
 use Rattle.std.proofs.lemmas.List.Sorted.{sum_by-IsPermutation}
 use Rattle.std.proofs.lemmas.List.{append_assoc, append-nil, at_drop_more, at_drop_all}
+use Rattle.std.proofs.lemmas.Simd.{map-map}
 use Rattle.std.proofs.lemmas.Bool.{leb-true, leb-false}
 use Rattle.std.proofs.lemmas.Bool.Decides.{nat_tests}
 use Rattle.elf_layout.specs.declared.parts.PartAt.{PartAt}
 use Rattle.elf_layout.specs.declared.meeting.Extent.{Extent}
-use Rattle.elf_layout.specs.Meeting.{has_bytes, inserted_by, sorted_by}
-use Rattle.elf_layout.specs.Extents.{ranked_from, extent_of, extents_of}
+use Rattle.elf_layout.specs.Meeting.{has_bytes, inserted_by, sorted_by, ranked_from, ranked_listed, ranks_by_position}
+use Rattle.elf_layout.specs.Extents.{extent_of, extents_of, sorted_extents_of}
 use Rattle.elf_layout.proofs.Sorting.{all_weaker, all_both, all-inserted_by, all-sorted_by, sum_by-sorted_by, map-sorted_by}
 use Rattle.elf_layout.proofs.Unique.{Rises, Rises-from_sorted, unique}
 
@@ -99,19 +100,28 @@ ascends-ranked_from rank (p ∷ ps) =
       | false ↦ ascends-ranked_from (rank + 1) ps
     ]
 
--- the parts that are not empty, with their ranks, by position and then by rank
-abbrev pub ranked_listed : List PartAt → List (ℕ × PartAt)
-ranked_listed ps = sorted_by (λ x. x.1.at) (ranked_from 0 ps)
-
 -- what the sort leaves
-pub sorted_extents : (ps : List PartAt) (es : List Extent) → IsPermutation (extents_of ps) es → IsSorted extent_cmp es → es ≡ map extent_of (ranked_listed ps)
-unfolding extents_of extent_of
+pub sorted_extents : (ps : List PartAt) (es : List Extent) → IsPermutation (extents_of ps) es → IsSorted extent_cmp es → es ≡ sorted_extents_of ps
+unfolding extents_of extent_of sorted_extents_of
 sorted_extents ps es moved sorted =
     unique extent_cmp extent_cmp_total extent_cmp_exact es (sorted_by (λ e. e.at) (extents_of ps))
     (Rises-from_sorted extent_cmp extent_cmp_total es sorted)
     (rises-sorted_by (extents_of ps) (ascends-ranked_from 0 ps))
     (λ f. sum_by-IsPermutation f (extents_of ps) es moved ∙ sym (sum_by-sorted_by (λ e. e.at) f (extents_of ps)))
     ∙ sym (map-sorted_by extent_of (λ e. e.at) (ranked_from 0 ps))
+
+-- the same as the code calls it
+pub sorted_given : (ps : List PartAt) (given es : List Extent) → given ≡ extents_of ps → IsPermutation given es → IsSorted extent_cmp es → es ≡ sorted_extents_of ps
+sorted_given ps given es given_is moved sorted = sorted_extents ps es (subst (λ (l : List Extent). IsPermutation l es) given_is moved) sorted
+
+-- the ranks of the sorted extents
+pub ranks_are : (ps : List PartAt) → map (λ (e : Extent). e.rank) (sorted_extents_of ps) ≡ ranks_by_position ps
+unfolding sorted_extents_of ranks_by_position extent_of
+ranks_are ps = map-map (λ (e : Extent). e.rank) extent_of (ranked_listed ps)
+
+-- the same as the code calls it
+pub ranks_given : (ps : List PartAt) (es : List Extent) (ranks : List ℕ) → es ≡ sorted_extents_of ps → ranks ≡ map (λ (e : Extent). e.rank) es → ranks ≡ ranks_by_position ps
+ranks_given ps es ranks es_is is = is ∙ ap (map (λ (e : Extent). e.rank)) es_is ∙ ranks_are ps
 
 -- the extents of the parts from the rank on, as a loop makes them
 rest_more : (ps : List PartAt) (rank : ℕ) (d : PartAt) (b : Bool) → rank < length ps → has_bytes (get_or ps rank d) ≡ b → map extent_of (ranked_from rank (drop rank ps)) ≡ map extent_of (cond b ((rank, get_or ps rank d) ∷ ranked_from (rank + 1) (drop (rank + 1) ps)) (ranked_from (rank + 1) (drop (rank + 1) ps)))

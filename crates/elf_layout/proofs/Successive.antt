@@ -5,7 +5,8 @@ use Rattle.std.proofs.lemmas.Bool.{le-ltb, lt-ltb, or_left, or_right, or_from, c
 use Rattle.elf_types.specs.declared.errors.ElfError.TheVariants.{TooLarge}
 use Rattle.elf_layout.specs.declared.parts.PartAt.{PartAt}
 use Rattle.elf_layout.specs.declared.parts.Places.{Places}
-use Rattle.elf_layout.specs.Layout.{place_of, end_after, in_order_from, length_from, length_with, some_above, positions, standing, length_of, places_of, is_too_large, overlap_refusal, refusal_within, placed, placing_within, rounded_up}
+use Rattle.elf_types.specs.Answers.{answered}
+use Rattle.elf_layout.specs.Layout.{place_of, end_after, in_order_from, length_from, length_with, some_above, positions, standing, length_of, places_of, is_too_large, overlap_refusal, refusal_within, placing_within, rounded_up}
 use Rattle.elf_layout.specs.Meeting.{has_bytes, end_of}
 use Rattle.elf_layout.proofs.Lengths.{length_from_ge}
 
@@ -74,8 +75,7 @@ length_above place len end length limit true end_fits place_fits above =
     rw some (omega arith)
 length_above place len end length limit false end_fits place_fits above = absurd (omega arith)
 
-refuses : (too_large : Bool) (places : Places) → too_large ≡ true → placed (cond too_large (Some TooLarge) None) places ≡ Err TooLarge
-unfolding placed
+refuses : (too_large : Bool) (places : Places) → too_large ≡ true → answered (cond too_large (Some TooLarge) None) places ≡ Err TooLarge
 refuses true places e = refl
 refuses false places e = cc
 
@@ -105,8 +105,7 @@ placed_above limit parts p rest at end length so_far above =
         let long = length_with_above limit end length p so_far.end_fits fits (above_from _ _ _ fits above) in
         omega (arith, long, length_from_ge (length_with length (record p { at = place_of end p })) (in_order_from (end_after end p) rest))
 
-placed_at : (too_large : Bool) (at at' : List ℕ) (end end' : ℕ) → too_large ≡ false → at ≡ at' → end ≡ end' → placed (cond too_large (Some TooLarge) None) (record { at = at; end = end }) ≡ Ok (record { at = at'; end = end' })
-unfolding placed
+placed_at : (too_large : Bool) (at at' : List ℕ) (end end' : ℕ) → too_large ≡ false → at ≡ at' → end ≡ end' → answered {A = Places} (cond too_large (Some TooLarge) None) (record { at = at; end = end }) ≡ Ok (record { at = at'; end = end' })
 placed_at true at at' end end' e same_at same_end = cc
 placed_at false at at' end end' e same_at same_end = cc
 

@@ -1,13 +1,8 @@
 -- What the search for parts that share a byte sorts and finds.
 use Rattle.std.specs.Prelude.{ℕ, ◌-◌, nat_lt, List, [], ◌∷◌, map, if◌then◌else◌, Option, Some, None, slice_get}
-use Rattle.std.specs.List.{filter, enumerate_from}
 use Rattle.elf_layout.specs.declared.parts.PartAt.{PartAt}
 use Rattle.elf_layout.specs.declared.meeting.Extent.{Extent}
-use Rattle.elf_layout.specs.Meeting.{has_bytes}
-
--- the parts that are not empty, with their ranks, which count up from one
-unfoldable pub ranked_from : ℕ → List PartAt → List (ℕ × PartAt)
-ranked_from rank ps = filter (λ x. has_bytes x.1) (enumerate_from rank ps)
+use Rattle.elf_layout.specs.Meeting.{ranked_from, ranked_listed}
 
 -- a ranked part as it is sorted
 unfoldable pub extent_of : ℕ × PartAt → Extent
@@ -17,10 +12,15 @@ extent_of x = record { at = x.1.at; rank = x.0; len = x.1.len }
 unfoldable pub extents_of : List PartAt → List Extent
 extents_of ps = map extent_of (ranked_from 0 ps)
 
+-- the same by position, then by rank
+unfoldable pub sorted_extents_of : List PartAt → List Extent
+sorted_extents_of ps = map extent_of (ranked_listed ps)
+
 -- the second of two extents, if there is one, begins before the first ends
 unfoldable pub first_close_or : Extent → Option Extent → Option (ℕ × ℕ) → Option (ℕ × ℕ)
 first_close_or a None later = later
-first_close_or a (Some b) later = if nat_lt (b.at - a.at) a.len then Some (a.rank, b.rank) else later
+first_close_or a (Some b) later =
+    if nat_lt (b.at - a.at) a.len then Some (a.rank, b.rank) else later
 
 -- the first neighbours that do so, by their ranks
 unfoldable pub first_close : List Extent → Option (ℕ × ℕ)

@@ -1,6 +1,6 @@
 -- Which parts of an image share a byte.
-use Rattle.std.specs.Prelude.{ℕ, ◌+◌, ◌<◌, nat_lt, nat_le, List, [], ◌∷◌, Bool, IsTrue, ◌&&◌, if◌then◌else◌, Option, None, slice_get, All}
-use Rattle.std.specs.List.{list_any, filter, AllPairs}
+use Rattle.std.specs.Prelude.{ℕ, ◌+◌, ◌<◌, nat_lt, nat_le, List, [], ◌∷◌, map, Bool, IsTrue, ◌&&◌, if◌then◌else◌, Option, None, slice_get, All}
+use Rattle.std.specs.List.{list_any, filter, enumerate_from, AllPairs}
 use Rattle.std.specs.Option.{option_map}
 use Rattle.elf_types.specs.declared.records.Part.{Part}
 use Rattle.elf_layout.specs.declared.parts.PartAt.{PartAt}
@@ -39,14 +39,28 @@ abbrev pub sorted_by : {X : Type 0} → (X → ℕ) → List X → List X
 sorted_by key [] = []
 sorted_by key (x ∷ xs) = inserted_by key x (sorted_by key xs)
 
--- the parts that are not empty, by position and then by rank, their order in the list
+-- the parts that are not empty with their ranks, which count up from one on
+unfoldable pub ranked_from : ℕ → List PartAt → List (ℕ × PartAt)
+ranked_from rank ps = filter (λ x. has_bytes x.1) (enumerate_from rank ps)
+
+-- the same by position and then by rank. A part's rank is its place in the list.
+abbrev pub ranked_listed : List PartAt → List (ℕ × PartAt)
+ranked_listed ps = sorted_by (λ x. x.1.at) (ranked_from 0 ps)
+
+-- their ranks alone
+unfoldable pub ranks_by_position : List PartAt → List ℕ
+ranks_by_position ps = map (λ x. x.0) (ranked_listed ps)
+
+-- the parts that are not empty, by position and then by rank
 unfoldable pub listed : List PartAt → List PartAt
 listed ps = sorted_by (λ p. p.at) (filter has_bytes ps)
 
 -- the first that a later one meets, and the one next after it
 unfoldable pub first_met : List PartAt → Option (Part × Part)
 first_met [] = None
-first_met (a ∷ ps) = if list_any (meets a) ps then option_map (λ b. (a.part, b.part)) (slice_get ps 0) else first_met ps
+first_met (a ∷ ps) =
+    if list_any (meets a) ps then option_map (λ b. (a.part, b.part)) (slice_get ps 0)
+    else first_met ps
 
 -- two parts that share a byte
 unfoldable pub overlap_of : List PartAt → Option (Part × Part)

@@ -22,7 +22,8 @@ pub fn place_by_caller(
     limit: u64,
 ) -> Result<Places, ElfError>
     ensures ok { IfOk result (λ places. placing_within parts.now true base limit ≡ Ok places) }
-    ensures err { IfErr result (λ e. (e ≡ Memory) ⊎ (placing_within parts.now true base limit ≡ Err e)) }
+    ensures err { IfErr result (λ e.
+        (e ≡ Memory) ⊎ (placing_within parts.now true base limit ≡ Err e)) }
 {
     if let Some((a, b)) = overlap(alloc, parts)? {
         return Err(ElfError::Overlap { a, b });

@@ -9,7 +9,7 @@ mod parts;
 mod placing;
 mod rounding;
 
-pub use meeting::overlap;
+pub use meeting::{overlap, ranks_by_position};
 pub use parts::{PartAt, Parts, Places};
 pub use placing::place;
 pub use rounding::rounded_within;

@@ -1,12 +1,12 @@
 //! Parts that share a byte.
 
-ghost use Rattle.std.specs.Prelude.{◌≡◌, IfOk, IfErr};
+ghost use Rattle.std.specs.Prelude.{◌≡◌, ◌<◌, All, length, map, IfOk, IfErr};
 ghost use Rattle.elf_types.specs.declared.errors.ElfError.TheVariants.{Memory};
-ghost use Rattle.elf_layout.specs.Extents.{extents_of, first_close};
-ghost use Rattle.elf_layout.specs.Meeting.{overlap_of};
+ghost use Rattle.elf_layout.specs.Extents.{extents_of, sorted_extents_of, first_close};
+ghost use Rattle.elf_layout.specs.Meeting.{overlap_of, ranks_by_position};
 
 use crate::parts::PartAt;
-use elf_types::{ElfError, Part};
+use elf_types::{ElfError, List, Part};
 use std::alloc::Global;
 
 /// A part that is not empty, as it is sorted: by position, then by rank.
@@ -17,9 +17,9 @@ struct Extent {
     len: u64,
 }
 
-/// Two parts that share a byte at the positions `at`, if there are any: of the parts that are filled
-/// and not empty, in the order by position, then by rank, the first that a later one meets, and the
-/// one next after it. A part's rank is its place in the list. It refuses `Memory` alone.
+/// Two parts that share a byte at the positions `at`, if there are any: of the parts that are
+/// filled and not empty, in the order by position, then by rank, the first that a later one meets,
+/// and the one next after it. A part's rank is its place in the list. It refuses `Memory` alone.
 ///
 /// A part that meets a later one meets the next one too, which begins no later. So neighbours alone
 /// are compared, after a sort.
@@ -27,12 +27,42 @@ pub fn overlap(alloc: Global, parts: &[PartAt]) -> Result<Option<(Part, Part)>, 
     ensures ok { IfOk result (λ pair. pair ≡ overlap_of parts.now) }
     ensures err { IfErr result (λ e. e ≡ Memory) }
 {
-    let mut extents = extents(alloc, parts)?;
-    extents.sort_unstable();
+    let extents = sorted_extents(alloc, parts)?;
     let Some((a, b)) = first_close(&extents) else {
         return Ok(None);
     };
     Ok(Some((parts[a].part, parts[b].part)))
+}
+
+/// The ranks of the parts that are not empty, by position and then by rank. A part's rank is its
+/// place in the list. It refuses `Memory` alone.
+pub fn ranks_by_position(alloc: Global, parts: &[PartAt]) -> Result<List<usize>, ElfError>
+    ensures ok { IfOk result (λ ranks. ranks ≡ ranks_by_position parts.now) }
+    ensures inside { IfOk result (λ ranks. All (λ rank. rank < length parts.now) ranks) }
+    ensures err { IfErr result (λ e. e ≡ Memory) }
+{
+    let extents = sorted_extents(alloc, parts)?;
+    ranks_of(alloc, &extents)
+}
+
+/// The ranks of extents. It refuses `Memory` alone.
+fn ranks_of(alloc: Global, extents: &[Extent]) -> Result<List<usize>, ElfError>
+    ensures ok { IfOk result (λ ranks. ranks ≡ map (λ e. e.rank) extents.now) }
+    ensures err { IfErr result (λ e. e ≡ Memory) }
+{
+    let ranks = extents.iter().map(|extent| extent.rank).collect(alloc)?;
+    Ok(List::from_vec(ranks))
+}
+
+/// The parts that are not empty, with their ranks, by position and then by rank. It refuses
+/// `Memory` alone.
+fn sorted_extents(alloc: Global, parts: &[PartAt]) -> Result<Vec<Extent>, ElfError>
+    ensures ok { IfOk result (λ extents. extents.items ≡ sorted_extents_of parts.now) }
+    ensures err { IfErr result (λ e. e ≡ Memory) }
+{
+    let mut extents = extents(alloc, parts)?;
+    extents.sort_unstable();
+    Ok(extents)
 }
 
 /// The parts that are not empty, with their ranks, in the order of the parts. It refuses `Memory`

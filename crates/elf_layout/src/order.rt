@@ -16,7 +16,8 @@ use std::alloc::Global;
 /// It refuses `TooLarge` where a position or the image's length is above `limit`, and `Memory`.
 pub fn place_in_order(alloc: Global, parts: &[PartAt], limit: u64) -> Result<Places, ElfError>
     ensures ok { IfOk result (λ places. placing_within parts.now false 0 limit ≡ Ok places) }
-    ensures err { IfErr result (λ e. (e ≡ Memory) ⊎ (placing_within parts.now false 0 limit ≡ Err e)) }
+    ensures err { IfErr result (λ e.
+        (e ≡ Memory) ⊎ (placing_within parts.now false 0 limit ≡ Err e)) }
 {
     let mut at = Addrs::with_capacity(alloc, parts.len() as u64)?;
     let mut end = 0;

@@ -33,8 +33,8 @@ impl PartAt {
     }
 }
 
-/// The parts of an image: the ELF header, the program header table, the sections from 1 on by number,
-/// and the section header table. A part's rank is its place in this list.
+/// The parts of an image: the ELF header, the program header table, the sections from 1 on by
+/// number, and the section header table. A part's rank is its place in this list.
 pub type Parts = List<PartAt>;
 
 /// Where the parts of an image stand.

@@ -2,8 +2,9 @@
 
 ghost use Rattle.std.specs.Prelude.{◌≡◌, ◌≤◌, ◌⊎◌, IfOk, IfErr, Ok, Err, All, length};
 ghost use Rattle.std.specs.Bool.{OnFalse};
+ghost use Rattle.elf_types.specs.Answers.{FollowsBy};
 ghost use Rattle.elf_types.specs.declared.errors.ElfError.TheVariants.{Memory};
-ghost use Rattle.elf_layout.specs.Layout.{placing, placing_within, standing, limit_of};
+ghost use Rattle.elf_layout.specs.Layout.{placing, placing_within, standing, limit_of, layout_refusal, MayWantMemory};
 ghost use Rattle.elf_layout.specs.Meeting.{IsApart, LiesWithin};
 
 use crate::caller::place_by_caller;
@@ -16,15 +17,16 @@ use std::alloc::Global;
 ///
 /// Without `layout` each part stands at the end so far, rounded up to its alignment, from 0 on;
 /// `at` and `base` do not count, and a part that is not filled leaves the end where it is. With
-/// `layout` (`ELF_F_LAYOUT` of elf(3E)) each part stands at its `at`, and the image keeps the `base`
-/// bytes that it has already. The length is the greatest end of a part that is filled and not empty,
-/// and with `layout` at least `base`.
+/// `layout` (`ELF_F_LAYOUT` of elf(3E)) each part stands at its `at`, and the image keeps the
+/// `base` bytes that it has already. The length is the greatest end of a part that is filled and
+/// not empty, and with `layout` at least `base`.
 ///
 /// It refuses, in this order: `Overlap`, with `layout`, where two such parts share a byte; of the
 /// parts in the order by position, then by rank, it names the first that a later one meets, and the
 /// one next after it. Then `TooLarge`, where the length, or without `layout` a position, is above
-/// 2^40 in class 64 and 2^32 - 1 in class 32. `Memory` may come in place of any answer.
-#[tactic(auto, unfolding(crate::specs::Layout::placing))]
+/// 2^40 in class 64 and 2^32 - 1 in class 32. `Memory` may come in place of a value and of these
+/// two.
+#[tactic(auto, unfolding(crate::specs::Layout::placing), using(crate::proofs::Placed::may_want))]
 pub fn place(
     alloc: Global,
     parts: &Parts,
@@ -32,8 +34,10 @@ pub fn place(
     base: u64,
     class: Class,
 ) -> Result<Places, ElfError>
-    ensures ok { IfOk result (λ places. placing parts.now layout base class ≡ Ok places) }
-    ensures err { IfErr result (λ e. (e ≡ Memory) ⊎ (placing parts.now layout base class ≡ Err e)) }
+    ensures answer { FollowsBy (λ places. places) layout_refusal result
+        (placing parts.now layout base class) }
+    ensures memory { IfErr result (λ e. e ≡ Memory →
+        MayWantMemory (placing parts.now layout base class)) }
 
     // What the places are good for: no byte of the image is one of two parts, and none lies past
     // the end.
@@ -57,7 +61,8 @@ fn place_within(
     limit: u64,
 ) -> Result<Places, ElfError>
     ensures ok { IfOk result (λ places. placing_within parts.now layout base limit ≡ Ok places) }
-    ensures err { IfErr result (λ e. (e ≡ Memory) ⊎ (placing_within parts.now layout base limit ≡ Err e)) }
+    ensures err { IfErr result (λ e.
+        (e ≡ Memory) ⊎ (placing_within parts.now layout base limit ≡ Err e)) }
 {
     if layout {
         place_by_caller(alloc, parts, base, limit)

@@ -1,6 +1,6 @@
 //! That calls succeed with ample memory, and the places of worked images.
 
-use crate::{PartAt, Parts, Places, overlap, place, rounded_within};
+use crate::{PartAt, Parts, Places, overlap, place, ranks_by_position, rounded_within};
 use elf_types::{Class, ElfError, Part};
 use std::alloc::Global;
 use std::test::Fail;
@@ -197,10 +197,27 @@ fn parts_share_no_byte(rt: HostRuntime) -> Result<(), Fail> {
 }
 
 #[test]
+fn ranks_go_by_position(rt: HostRuntime) -> Result<(), Fail> {
+    let cases = [
+        ([(40, 2, 1), (0, 50, 1), (20, 5, 1)], [1, 2, 0].as_slice()),
+        // at one position the rank decides
+        ([(8, 4, 1), (8, 4, 1), (0, 8, 1)], [2, 0, 1].as_slice()),
+        // an empty part has none
+        ([(5, 1, 1), (0, 0, 1), (4, 9, 1)], [2, 0].as_slice()),
+    ];
+    for (rows, want) in cases {
+        let ranks = ranks_by_position(rt.alloc(), &three(rows))?;
+        assert_eq!(rt; ranks.as_slice(), want);
+    }
+    Ok(())
+}
+
+#[test]
 fn images_have_limits(rt: HostRuntime) {
     for (class, limit) in [(Class::C32, (1 << 32) - 1), (Class::C64, 1 << 40)] {
         for (most, want) in [(limit, None), (limit + 1, Some(ElfError::TooLarge))] {
-            // by a part, by the bytes that are there already, by a position that is not the caller's
+            // by a part, by the bytes that are there already, by a position that is not the
+            // caller's
             let long = [filled(Part::Header, 0, most, 1)];
             assert_eq!(rt; placed(rt.alloc(), &long, false, 0, class).err(), want);
             assert_eq!(rt; placed(rt.alloc(), &long, true, 0, class).err(), want);

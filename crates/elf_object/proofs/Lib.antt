@@ -1,1 +1,6 @@
+pub mod PassedLaws
+pub mod StepLaws
+pub mod AnswerLaws
+pub mod ChangedLaws
+pub mod Sizes
 pub mod Computing

@@ -1,5 +1,5 @@
--- What stands in an object for each call to read (elf(3E), gelf(3E)): items, flags, and the refusals by index,
--- kind and home, each of which carries what shows it.
+-- What stands in an object for each call to read (elf(3E), gelf(3E)): items, flags, and the
+-- refusals by index, kind and home, each of which carries what shows it.
 use Rattle.std.specs.Prelude.{ℕ, ◌+◌, ◌/◌, ◌%◌, Bool, false, not, ◌==◌, nat_le, List, [], ◌∷◌, length, slice_get, Option, Some, None, if◌then◌else◌, Result, Ok, Err}
 use Rattle.elf_types.specs.declared.records.Kind.{Kind}
 use Rattle.elf_types.specs.declared.records.Kind.TheVariants as kinds
@@ -14,7 +14,7 @@ use Rattle.elf_types.specs.declared.errors.ElfError.TheVariants.{NoSection, NoDa
 use Rattle.elf_xlate.specs.declared.content.Items.{Items}
 use Rattle.elf_xlate.specs.declared.content.Items.TheVariants as items
 use Rattle.elf_xlate.specs.Translation.{decoded, items_kind, items_count}
-use Rattle.elf_object.specs.Words.{refused_if, first_refusal}
+use Rattle.elf_types.specs.Answers.{refused_if, first_refusal, err_of}
 use Rattle.elf_object.specs.Object.{Object, section_at, piece_at}
 
 -- ---- Content
@@ -24,15 +24,14 @@ unfoldable pub content : Object → ℕ → Result Items ElfError
 content o s =
     let c = section_at o s in
     if c.home.out then Err (OutOfFile s)
-    else (elim (decoded c.home.kind o.header.class o.header.order c.raw) [ None ↦ Err (Ragged s) | Some items ↦ Ok items ])
+    else (elim (decoded c.home.kind o.header.class o.header.order c.raw) [
+      | None ↦ Err (Ragged s)
+      | Some items ↦ Ok items
+    ])
 
 abbrev pub or_empty : Result Items ElfError → Items
 or_empty (Ok items) = items
 or_empty (Err e) = items.Empty
-
-abbrev pub err_of : {A : Type 0} → Result A ElfError → Option ElfError
-err_of (Ok x) = None
-err_of (Err e) = Some e
 
 -- the items of a piece: its own, or for the clean home piece the content
 unfoldable pub items_at : Object → ℕ → ℕ → Items
@@ -40,7 +39,11 @@ items_at o s p = elim ((piece_at o s p).own) [ None ↦ or_empty (content o s) |
 
 -- the kind that a piece holds
 unfoldable pub kind_at : Object → ℕ → ℕ → Kind
-kind_at o s p = elim ((piece_at o s p).own) [ None ↦ (section_at o s).home.kind | Some items ↦ items_kind items ]
+kind_at o s p =
+    elim ((piece_at o s p).own) [
+      | None ↦ (section_at o s).home.kind
+      | Some items ↦ items_kind items
+    ]
 
 -- the number of its items
 unfoldable pub count_at : Object → ℕ → ℕ → ℕ
@@ -80,7 +83,8 @@ abbrev pub same_kind : Kind → Kind → Bool
 same_kind a b = kind_code a == kind_code b
 
 abbrev pub wrong_kind : Object → Kind → ℕ → ℕ → Option ElfError
-wrong_kind o kind s p = refused_if (not (same_kind (kind_at o s p) kind)) (WrongKind (kind_at o s p))
+wrong_kind o kind s p =
+    refused_if (not (same_kind (kind_at o s p) kind)) (WrongKind (kind_at o s p))
 
 -- the home is out of the file
 abbrev pub out_of_file : Object → ℕ → Option ElfError
@@ -104,11 +108,13 @@ raw_refusal o s = first_refusal (no_section o s ∷ out_of_file o s ∷ [])
 
 -- of the calls that hand out the items of a kind
 unfoldable pub lend_refusal : Object → Kind → ℕ → ℕ → Option ElfError
-lend_refusal o kind s p = first_refusal (no_section o s ∷ no_data o s p ∷ wrong_kind o kind s p ∷ no_content o s p ∷ [])
+lend_refusal o kind s p =
+    first_refusal (no_section o s ∷ no_data o s p ∷ wrong_kind o kind s p ∷ no_content o s p ∷ [])
 
 -- of the calls that give an item of a kind
 unfoldable pub item_refusal : Object → Kind → ℕ → ℕ → ℕ → Option ElfError
-item_refusal o kind s p i = first_refusal (lend_refusal o kind s p ∷ no_entry i (count_at o s p) ∷ [])
+item_refusal o kind s p i =
+    first_refusal (lend_refusal o kind s p ∷ no_entry i (count_at o s p) ∷ [])
 
 -- ---- Items
 

@@ -1,5 +1,5 @@
--- Bytes at places: an image and the data of a section are spread from blocks, each of which stands at
--- its place, whatever the order in which they are written.
+-- Bytes at places: an image and the data of a section are spread from blocks, each of which stands
+-- at its place, whatever the order in which they are written.
 use Rattle.std.specs.Prelude.{ℕ, ◌+◌, ◌-◌, List, [], ◌∷◌, length, map, slice_index, Bool, ◌&&◌, ◌||◌, ◌==◌, nat_lt, nat_le, if◌then◌else◌}
 use Rattle.std.specs.List.{range_with_len, list_any}
 use Rattle.std.specs.Str.{bytes_eq}
@@ -15,16 +15,17 @@ unfoldable pub block_end : Block → ℕ
 block_end b = b.at + length b.bytes
 
 -- whether one of its bytes stands at the place
-unfoldable pub covers : Block → ℕ → Bool
-covers b k = nat_le b.at k && nat_lt k (block_end b)
+unfoldable pub block_covers : Block → ℕ → Bool
+block_covers b k = nat_le b.at k && nat_lt k (block_end b)
 
 unfoldable pub is_covered : List Block → ℕ → Bool
-is_covered blocks k = list_any (λ b. covers b k) blocks
+is_covered blocks k = list_any (λ b. block_covers b k) blocks
 
--- the byte at a place: that of the block that covers it, or else another
+-- the byte at a place: that of the block that block_covers it, or else another
 unfoldable pub byte_over : (ℕ → ℕ) → List Block → ℕ → ℕ
 byte_over otherwise [] k = otherwise k
-byte_over otherwise (b ∷ bs) k = if covers b k then slice_index b.bytes (k - b.at) else byte_over otherwise bs k
+byte_over otherwise (b ∷ bs) k =
+    if block_covers b k then slice_index b.bytes (k - b.at) else byte_over otherwise bs k
 
 -- so many bytes, with the blocks at their places
 unfoldable pub spread : ℕ → (ℕ → ℕ) → List Block → List ℕ

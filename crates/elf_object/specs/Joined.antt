@@ -1,5 +1,5 @@
--- The bytes of a section in the file (gABI chapter 4, "Sections"): its pieces in order, each at a place that its
--- alignment divides, with the fill byte between them.
+-- The bytes of a section in the file (gABI chapter 4, "Sections"): its pieces in order, each at a
+-- place that its alignment divides, with the fill byte between them.
 use Rattle.std.specs.Prelude.{ℕ, List, [], map, if◌then◌else◌, None, Some}
 use Rattle.elf_types.specs.declared.records.Class.{Class}
 use Rattle.elf_types.specs.declared.records.Order.{Order}
@@ -23,7 +23,11 @@ piece_blocks o s = stacked 0 (aligned_pieces o.header.class o.header.order (sect
 unfoldable pub pieces_end : Object → ℕ → ℕ
 pieces_end o s = last_end 0 (piece_blocks o s)
 
--- the bytes of a section in the file; SHT_NULL, SHT_NOBITS and section 0 have none
-unfoldable pub joined : Object → ℕ → List ℕ
-joined o s =
-    if has_file_bytes s (section_at o s) then spread (pieces_end o s) (λ _. o.fill) (piece_blocks o s) else []
+-- the bytes of a section in the file: SHT_NULL, SHT_NOBITS and section 0 have none, whatever their
+-- pieces are. Strings are looked up in the pieces (`piece_blocks`, `pieces_end`), which section 0
+-- may have too.
+unfoldable pub file_bytes : Object → ℕ → List ℕ
+file_bytes o s =
+    if has_file_bytes s (section_at o s)
+    then spread (pieces_end o s) (λ _. o.fill) (piece_blocks o s)
+    else []

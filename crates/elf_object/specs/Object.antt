@@ -1,5 +1,6 @@
--- The plain object: an ELF image as lists of headers and sections (gABI chapter 4, "Object Files"). Each
--- section has what the image held of it when it was opened, and pieces of data, which edits change.
+-- The plain object: an ELF image as lists of headers and sections (gABI chapter 4, "Object Files").
+-- Each section has what the image held of it when it was opened, and pieces of data, which edits
+-- change.
 use Rattle.std.specs.Prelude.{ℕ, Bool, true, false, not, ◌==◌, ◌&&◌, ◌||◌, List, [], length, slice_get, slice_index_or, Option, Some, None, is_none}
 use Rattle.std.specs.List.{list_any}
 use Rattle.elf_types.specs.declared.records.Kind.{Kind}
@@ -7,26 +8,28 @@ use Rattle.elf_types.specs.declared.records.Kind.TheVariants as kinds
 use Rattle.elf_types.specs.declared.records.Ehdr.{Ehdr}
 use Rattle.elf_types.specs.declared.records.Phdr.{Phdr}
 use Rattle.elf_types.specs.declared.records.Shdr.{Shdr}
+use Rattle.elf_types.specs.declared.constants.TheConstants.{SHT_NULL, SHT_NOBITS}
 use Rattle.elf_xlate.specs.declared.content.Items.{Items}
 use Rattle.elf_ident.specs.Front.{zero_shdr}
 use Rattle.elf_object.specs.Blocks.{Block}
 
--- a section's home: the extent that its header, as opened, gives it in the image, the kind of its items,
--- and whether it passes the image's end
+-- a section's home: the extent that its header, as opened, gives it in the image, the kind of its
+-- items, and whether it passes the image's end
 pub record Home : Type 0 where
   pub at : ℕ
   pub len : ℕ
   pub kind : Kind
   pub out : Bool
 
--- a piece of a section's data (elf_getdata): its own items, or None for the clean home piece, which is
--- what the home holds; its alignment in the section; whether it is marked dirty
+-- a piece of a section's data (elf_getdata): its own items, or None for the clean home piece, which
+-- is what the home holds; its alignment in the section; whether it is marked dirty
 pub record Piece : Type 0 where
   pub own : Option Items
   pub align : ℕ
   pub marked : Bool
 
--- a section: its present header, its home, the home's bytes as they were opened, and its pieces in order
+-- a section: its present header, its home, the home's bytes as they were opened, and its pieces in
+-- order
 pub record Section : Type 0 where
   pub header : Shdr
   pub home : Home
@@ -34,21 +37,21 @@ pub record Section : Type 0 where
   pub pieces : List Piece
   pub marked : Bool
 
--- the front of the image as opened or last settled: place and bytes of the ELF header, the program header
--- table and the section header table
+-- the front of the image as opened or last settled: place and bytes of the ELF header, the program
+-- header table and the section header table
 pub record WrittenFront : Type 0 where
   pub header : Block
   pub segments : Block
   pub table : Block
 
--- an object. The counts in its header are not looked at: those that count are the lengths of the lists.
+-- an object. The two counts in its header are the lengths of the lists: every step keeps them so.
 pub record Object : Type 0 where
   pub header : Ehdr
   pub pad : List ℕ  -- bytes 9 to 15 of the identification
   pub phdrs : List Phdr
   pub sections : List Section
   pub base : List ℕ  -- the bytes of the image that it was opened from
-  pub written : WrittenFront
+  pub written_front : WrittenFront
   pub layout : Bool  -- ELF_F_LAYOUT
   pub fill : ℕ  -- the byte of gaps
   pub marked : Bool
@@ -58,7 +61,16 @@ pub record Object : Type 0 where
 -- ---- What stands at an index
 
 abbrev pub no_phdr : Phdr
-no_phdr = record { ptype = 0; flags = 0; offset = 0; vaddr = 0; paddr = 0; filesz = 0; memsz = 0; align = 0 }
+no_phdr = record {
+  ptype = 0;
+  flags = 0;
+  offset = 0;
+  vaddr = 0;
+  paddr = 0;
+  filesz = 0;
+  memsz = 0;
+  align = 0;
+}
 
 abbrev pub no_home : Home
 no_home = record { at = 0; len = 0; kind = kinds.Empty; out = false }
@@ -67,11 +79,15 @@ no_home = record { at = 0; len = 0; kind = kinds.Empty; out = false }
 abbrev pub new_section : Section
 new_section = record { header = zero_shdr; home = no_home; raw = []; pieces = []; marked = true }
 
+-- what stands at an index that no section has
+abbrev pub absent_section : Section
+absent_section = record new_section { marked = false }
+
 abbrev pub home_piece : Piece
 home_piece = record { own = None; align = 1; marked = false }
 
 unfoldable pub section_at : Object → ℕ → Section
-section_at o s = slice_index_or o.sections s new_section
+section_at o s = slice_index_or o.sections s absent_section
 
 unfoldable pub piece_at : Object → ℕ → ℕ → Piece
 piece_at o s p = slice_index_or (section_at o s).pieces p home_piece
@@ -84,11 +100,11 @@ header_of o = record o.header { phnum = length o.phdrs; shnum = length o.section
 
 -- SHT_NULL, an inactive header (gABI chapter 4, "Sections")
 abbrev pub is_null : Shdr → Bool
-is_null h = h.stype == 0
+is_null h = h.stype == SHT_NULL
 
 -- a section of type SHT_NULL or SHT_NOBITS occupies no space in the file
 abbrev pub occupies_file : Shdr → Bool
-occupies_file h = not (h.stype == 0 || h.stype == 8)
+occupies_file h = not (h.stype == SHT_NULL || h.stype == SHT_NOBITS)
 
 -- whether the image holds bytes of the section with this number, empty or not
 unfoldable pub has_file_bytes : ℕ → Section → Bool

@@ -1,5 +1,5 @@
--- The object of an image, with each section as its header, as opened, gives it (elf_begin; gABI chapter 4,
--- "Section Header").
+-- The object of an image, with each section as its header, as opened, gives it (elf_begin; gABI
+-- chapter 4, "Section Header").
 use Rattle.std.specs.Prelude.{ℕ, ◌+◌, true, false, not, ◌==◌, ◌&&◌, nat_lt, List, [], ◌∷◌, length, take, drop, map, flat_map, slice_index, if◌then◌else◌, Result, Ok, Err}
 use Rattle.elf_types.specs.Kinds.{section_kind}
 use Rattle.elf_types.specs.declared.records.Class.{Class}
@@ -18,16 +18,16 @@ use Rattle.std.proofs.Math.ListN.{replicate}
 -- ---- Home and content
 
 -- the bytes that the section has in the file: sh_size of them, none for SHT_NULL and SHT_NOBITS
-unfoldable pub extent_of : Shdr → ℕ
-extent_of h = if occupies_file h then h.size else 0
+unfoldable pub home_len : Shdr → ℕ
+home_len h = if occupies_file h then h.size else 0
 
 -- the home that a header gives a section in an image of a length
 unfoldable pub home_of : ℕ → Shdr → Home
 home_of len h = record {
   at = h.offset;
-  len = extent_of h;
+  len = home_len h;
   kind = section_kind h;
-  out = not (extent_of h == 0) && nat_lt len (h.offset + extent_of h);
+  out = not (home_len h == 0) && nat_lt len (h.offset + home_len h);
 }
 
 -- the home's bytes; a home that passes the image's end has none
@@ -47,19 +47,19 @@ opened_section image h = record {
 -- ---- The front as it stands in an image
 
 -- the bytes of the two tables
-unfoldable pub segments_bytes : Class → Order → List Phdr → List ℕ
-segments_bytes class order phdrs = flat_map (phdr_bytes class order) phdrs
+unfoldable pub phdrs_bytes : Class → Order → List Phdr → List ℕ
+phdrs_bytes class order phdrs = flat_map (phdr_bytes class order) phdrs
 
-unfoldable pub table_bytes : Class → Order → List Shdr → List ℕ
-table_bytes class order shdrs = flat_map (shdr_bytes class order) shdrs
+unfoldable pub shdrs_bytes : Class → Order → List Shdr → List ℕ
+shdrs_bytes class order shdrs = flat_map (shdr_bytes class order) shdrs
 
 -- the front of an image with that header, which has the two counts and the string index as they are
 -- written, and with those tables
-unfoldable pub written_front : Ehdr → List ℕ → List Phdr → List Shdr → WrittenFront
-written_front h pad phdrs shdrs = record {
+unfoldable pub front_in_image : Ehdr → List ℕ → List Phdr → List Shdr → WrittenFront
+front_in_image h pad phdrs shdrs = record {
   header = record { at = 0; bytes = ehdr_bytes h pad };
-  segments = record { at = h.phoff; bytes = segments_bytes h.class h.order phdrs };
-  table = record { at = h.shoff; bytes = table_bytes h.class h.order shdrs };
+  segments = record { at = h.phoff; bytes = phdrs_bytes h.class h.order phdrs };
+  table = record { at = h.shoff; bytes = shdrs_bytes h.class h.order shdrs };
 }
 
 -- the header as it stands in the image
@@ -81,7 +81,7 @@ begun f image = record {
   phdrs = f.phdrs;
   sections = map (opened_section image) f.shdrs;
   base = image;
-  written = written_front (standing_header f) f.pad f.phdrs f.shdrs;
+  written_front = front_in_image (standing_header f) f.pad f.phdrs f.shdrs;
   layout = false;
   fill = 0;
   marked = false;
@@ -134,7 +134,7 @@ created_over class order base = record {
   phdrs = [];
   sections = [];
   base = base;
-  written = no_front;
+  written_front = no_front;
   layout = false;
   fill = 0;
   marked = false;

@@ -1,5 +1,5 @@
 -- Calls one after the other, and calls that are made of several.
-use Rattle.std.specs.Prelude.{ℕ, ◌+◌, ◌%◌, ◌^◌, List, [], ◌∷◌, map, Option, Some, None, Result, Ok, Err}
+use Rattle.std.specs.Prelude.{ℕ, ◌+◌, ◌%◌, ◌^◌, false, ◌||◌, List, [], ◌∷◌, map, Option, Some, None, Result, Ok, Err}
 use Rattle.elf_types.specs.declared.records.Kind.{Kind}
 use Rattle.elf_types.specs.declared.records.Kind.TheVariants as kinds
 use Rattle.elf_types.specs.declared.records.Ehdr.{Ehdr}
@@ -16,10 +16,11 @@ use Rattle.elf_xlate.specs.declared.content.Items.TheVariants as items
 use Rattle.elf_xlate.specs.Translation.{items_count}
 use Rattle.elf_object.specs.Object.{Object}
 use Rattle.elf_object.specs.Answers.{items_at, kind_at, lend_refusal}
-use Rattle.elf_object.specs.Words.{answered}
+use Rattle.elf_types.specs.Answers.{answered, ◌>>=◌}
 use Rattle.elf_object.specs.Steps.{with_own}
-use Rattle.elf_object.specs.Due.{when_clean}
-use Rattle.elf_object.specs.Calls.{Call, step, reader, ehdr, phdr, shdr, update_ehdr, update_phdr, update_shdr, data_answer}
+use Rattle.elf_object.specs.Due.{unless_refused, when_piece_clean, with_others}
+use Rattle.elf_object.specs.Words.{result_map}
+use Rattle.elf_object.specs.Calls.{Call, step, reader, unless_held, ehdr, phdr, shdr, update_ehdr, update_phdr, update_shdr, data_answer}
 
 -- ---- Runs
 
@@ -37,29 +38,31 @@ runs cs o = (answers_to cs o, left_by cs o)
 
 -- ---- A call with another form of its answer
 
-abbrev pub result_map : {A B : Type 0} → (A → B) → Result A ElfError → Result B ElfError
-result_map f (Ok x) = Ok (f x)
-result_map f (Err e) = Err e
-
 abbrev pub mapped : {A B : Type 0} → (A → B) → Call A → Call B
-mapped f c = record { answer = λ o. result_map f (c.answer o); after = c.after; reads = c.reads }
+mapped f c = record {
+  answer = λ o. result_map f (c.answer o);
+  after = c.after;
+  reads = c.reads;
+  memory = c.memory;
+}
 
 -- ---- A call that is made with what a getter answers
 
-abbrev pub after_look : {A B : Type 0} → Result A ElfError → (A → Result B ElfError) → Result B ElfError
-after_look (Ok x) follows = follows x
-after_look (Err e) follows = Err e
-
-abbrev pub left_after_look : {A : Type 0} → Result A ElfError → (A → Object) → Object → Object
-left_after_look (Ok x) follows o = follows x
-left_after_look (Err e) follows o = o
+-- what follows a value, or else another
+abbrev pub after_look : {A B : Type 0} → Result A ElfError → (A → B) → B → B
+after_look (Ok x) follows otherwise = follows x
+after_look (Err e) follows otherwise = otherwise
 
 -- a getter, and then a call on the same object
 abbrev pub looked : {A B : Type 0} → Call A → (A → Call B) → Call B
 looked first second = record {
-  answer = λ o. after_look (first.answer o) (λ x. (second x).answer o);
-  after = λ o. left_after_look (first.answer o) (λ x. (second x).after o) o;
-  reads = first.reads;
+  answer = λ o. first.answer o >>= λ x. (second x).answer o;
+  after = λ o. after_look (first.answer o) (λ x. (second x).after o) o;
+  reads = λ o.
+      with_others (first.reads o) (after_look (first.answer o) (λ x. (second x).reads o) []);
+  memory = λ o loaded held.
+      first.memory o loaded held
+      || after_look (first.answer o) (λ x. (second x).memory o loaded held) false;
 }
 
 -- one field of a header: the header as it is, and the update with the changed one
@@ -80,10 +83,11 @@ set_item get update change = looked get (λ x. update (change x))
 
 -- item i of a piece of any kind, in a form of the caller's: the data, and then the entry
 abbrev pub entry_of : {A : Type 0} → (Items → ℕ → Option A) → ℕ → Items → Result A ElfError
-entry_of form i items = elim (form items i) [ None ↦ Err (NoEntry i (items_count items)) | Some x ↦ Ok x ]
+entry_of form i items =
+    elim (form items i) [ None ↦ Err (NoEntry i (items_count items)) | Some x ↦ Ok x ]
 
 abbrev pub item : {A : Type 0} → (Items → ℕ → Option A) → ℕ → ℕ → ℕ → Call A
-item form s p i = reader s (λ o. after_look (data_answer o s p) (entry_of form i))
+item form s p i = reader s p (λ o. data_answer o s p >>= entry_of form i)
 
 -- ---- A number added to each item
 
@@ -118,11 +122,13 @@ abbrev pub or_same : Kind → Object → Object → Object
 or_same kinds.Empty old stepped = old
 or_same _ old stepped = stepped
 
--- by the lend of the kind that the piece holds; it answers the number of items. A piece of kind Empty can not be lent: it
--- answers 0 and marks nothing. A piece of another kind is marked, also where it has no items.
+-- by the lend of the kind that the piece holds; it answers the number of items. A piece of kind
+-- Empty can not be lent: it answers 0 and marks nothing. A piece of another kind is marked, also
+-- where it has no items.
 abbrev pub addall : ℕ → ℕ → ℕ → Call ℕ
 addall s p n = record {
   answer = λ o. answered (lend_refusal o (kind_at o s p) s p) (items_count (items_at o s p));
   after = λ o. or_same (kind_at o s p) o (with_own o s p (added n (items_at o s p)));
-  reads = λ o. when_clean o s;
+  reads = λ o. unless_refused (lend_refusal o (kind_at o s p) s p) (when_piece_clean o s p);
+  memory = unless_held s p;
 }

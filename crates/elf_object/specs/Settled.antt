@@ -4,7 +4,7 @@ use Rattle.std.specs.List.{enumerate_from}
 use Rattle.elf_types.specs.declared.records.Shdr.{Shdr}
 use Rattle.elf_object.specs.Object.{Object, Section, home_piece, is_dirty}
 use Rattle.elf_object.specs.Open.{home_of}
-use Rattle.elf_object.specs.Joined.{joined}
+use Rattle.elf_object.specs.Joined.{file_bytes}
 use Rattle.elf_object.specs.Layout.{placed}
 use Rattle.elf_object.specs.Image.{image, front_blocks}
 
@@ -18,13 +18,15 @@ settled_section len bytes h = record {
   marked = false;
 }
 
--- the object whose places are stored, over the image of it: one clean piece for each section, no marks.
--- ELF_F_LAYOUT and the fill byte stay.
+-- the object whose places are stored, over the image of it: one clean piece for each section, no
+-- marks. ELF_F_LAYOUT and the fill byte stay.
 unfoldable pub settled_over : List ℕ → Object → Object
 settled_over bytes o = record o {
-  sections = map (λ row. settled_section (length bytes) (joined o row.0) row.1.header) (enumerate_from 0 o.sections);
+  sections = map
+      (λ row. settled_section (length bytes) (file_bytes o row.0) row.1.header)
+      (enumerate_from 0 o.sections);
   base = bytes;
-  written = front_blocks o;
+  written_front = front_blocks o;
   marked = false;
   header_marked = false;
   segments_marked = false;

@@ -1,4 +1,5 @@
--- What an object is after an edit: each one changes lists and marks the part (elf_update, ELF_F_DIRTY).
+-- What an object is after an edit: each one changes lists and marks the part (elf_update,
+-- ELF_F_DIRTY).
 use Rattle.std.specs.Prelude.{◌≡◌, ℕ, IsTrue, Bool, true, false, ◌==◌, ◌&&◌, List, [], ◌∷◌, ◌++◌, length, slice_set, if◌then◌else◌, Some}
 use Rattle.std.proofs.Math.ListN.{replicate}
 use Rattle.elf_types.specs.declared.records.Ehdr.{Ehdr}
@@ -18,7 +19,8 @@ with_section o s section = record o { sections = slice_set o.sections s section 
 
 unfoldable pub with_piece_at : Object → ℕ → ℕ → Piece → Object
 with_piece_at o s p piece =
-    with_section o s (record (section_at o s) { pieces = slice_set (section_at o s).pieces p piece })
+    let c = section_at o s in
+    with_section o s (record c { pieces = slice_set c.pieces p piece })
 
 -- ---- Headers
 
@@ -39,8 +41,13 @@ stored_ehdr old h = record old {
 unfoldable pub with_ehdr : Object → Ehdr → Object
 with_ehdr o h = record o { header = stored_ehdr o.header h; header_marked = true }
 
+-- other program headers; the header has their number
 unfoldable pub with_phdrs : Object → List Phdr → Object
-with_phdrs o phdrs = record o { phdrs = phdrs; segments_marked = true }
+with_phdrs o phdrs = record o {
+  header = record o.header { phnum = length phdrs };
+  phdrs = phdrs;
+  segments_marked = true;
+}
 
 -- gelf_update_phdr
 unfoldable pub with_phdr : Object → ℕ → Phdr → Object
@@ -56,11 +63,18 @@ with_shdr o s h = with_section o s (record (section_at o s) { header = h; marked
 
 -- ---- Sections
 
+-- other sections; the header has their number
+abbrev pub with_sections : Object → List Section → Object
+with_sections o sections =
+    record o { header = record o.header { shnum = length sections }; sections = sections }
+
 -- elf_newscn: one section, and section 0 before it where there is none
 unfoldable pub with_new_section : Object → Object
-with_new_section o = record o {
-  sections = o.sections ++ (if length o.sections == 0 then new_section ∷ new_section ∷ [] else new_section ∷ []);
-}
+with_new_section o =
+    with_sections
+    o
+    (o.sections
+    ++ (if length o.sections == 0 then new_section ∷ new_section ∷ [] else new_section ∷ []))
 
 -- the number of the section that elf_newscn makes
 abbrev pub new_number : Object → ℕ
@@ -68,7 +82,7 @@ new_number o = if length o.sections == 0 then 1 else length o.sections
 
 -- section 0 alone, where there is none
 unfoldable pub with_null_section : Object → Object
-with_null_section o = if length o.sections == 0 then (record o { sections = new_section ∷ [] }) else o
+with_null_section o = if length o.sections == 0 then with_sections o (new_section ∷ []) else o
 
 -- ---- Pieces
 
@@ -78,14 +92,15 @@ own_piece items align = record { own = Some items; align = align; marked = true 
 -- elf_newdata
 unfoldable pub with_new_piece : Object → ℕ → Items → ℕ → Object
 with_new_piece o s items align =
-    with_section o s (record (section_at o s) { pieces = (section_at o s).pieces ++ own_piece items align ∷ [] })
+    let c = section_at o s in
+    with_section o s (record c { pieces = c.pieces ++ own_piece items align ∷ [] })
 
 -- a piece becomes own with these items; it keeps its alignment
 unfoldable pub with_own : Object → ℕ → ℕ → Items → Object
 with_own o s p items = with_piece_at o s p (own_piece items (piece_at o s p).align)
 
--- a piece became own over a source that may not tell its bytes: with items of the stated kind, as many as stated, and
--- with the stated ones where the source tells
+-- a piece became own over a source that may not tell its bytes: with items of the stated kind, as
+-- many as stated, and with the stated ones where the source tells
 pub record BecomesOwn (told : Bool) (old new : Object) (s p : ℕ) (stated : Items) : Type 0 where
   pub left : Items
   pub object : new ≡ with_own old s p left

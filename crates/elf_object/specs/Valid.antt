@@ -1,10 +1,12 @@
--- What makes an object: each number is in the range of its type, the lists are within their limits, and the home piece
--- fits its home. Every step keeps it.
+-- What makes an object: header and section headers are in the range of their types and fit, the
+-- lists are within their limits, and the home piece fits its home. Every step keeps it. Nothing is
+-- said of the numbers in program headers and in own items, which a borrower may have left: a file
+-- form takes their lowest bytes.
 use Rattle.std.specs.Prelude.{◌≡◌, ℕ, ◌^◌, ◌<◌, ◌≤◌, true, false, List, [], ◌∷◌, length, All, IfSome, IsSome, IsTrue, Ok}
 use Rattle.elf_types.specs.declared.records.Class.{Class}
 use Rattle.elf_types.specs.declared.records.Kind.TheVariants as kinds
-use Rattle.elf_xlate.specs.Headers.{IsEhdr, IsPhdr, IsShdr, ehdr_fits, shdr_fits}
-use Rattle.elf_xlate.specs.Translation.{AreItems}
+use Rattle.elf_types.specs.declared.constants.TheConstants.{MAX_SECTIONS, MAX_SEGMENTS, MAX_PIECES}
+use Rattle.elf_xlate.specs.Headers.{IsEhdr, IsShdr, ehdr_fits, shdr_fits}
 use Rattle.elf_object.specs.Object.{Object, Section, Piece, Home, is_dirty}
 use Rattle.elf_object.specs.Open.{opened}
 use Rattle.elf_object.specs.Calls.{Call, step, is_piece_align}
@@ -12,8 +14,8 @@ use Rattle.elf_object.specs.Calls.{Call, step, is_piece_align}
 abbrev pub AreBytes : List ℕ → Type 0
 AreBytes l = All (λ n. n < 2 ^ 8) l
 
--- a home: where it lies in the file its bytes are as many as it is long, where it does not there are none, and a home of
--- no kind is empty
+-- a home: where it lies in the file its bytes are as many as it is long, where it does not there
+-- are none, and a home of no kind is empty
 pub record IsHome (home : Home) (raw : List ℕ) : Type 0 where
   pub at : home.at < 2 ^ 64
   pub len : home.len < 2 ^ 64
@@ -25,7 +27,7 @@ pub record IsHome (home : Home) (raw : List ℕ) : Type 0 where
 -- a piece: an own one is marked
 pub record IsPiece (p : Piece) : Type 0 where
   pub align : IsTrue (is_piece_align p.align)
-  pub own : IfSome p.own (λ items. AreItems items × IsTrue p.marked)
+  pub own : IfSome p.own (λ items. IsTrue p.marked)
 
 -- a piece after the first is own: the home piece stands first
 abbrev pub OthersOwn : List Piece → Type 0
@@ -38,17 +40,18 @@ pub record IsSection (class : Class) (s : Section) : Type 0 where
   pub home : IsHome s.home s.raw
   pub pieces : All IsPiece s.pieces
   pub others : OthersOwn s.pieces
-  pub piece_count : length s.pieces ≤ 2 ^ 20
+  pub piece_count : length s.pieces ≤ MAX_PIECES
 
 pub record IsObject (o : Object) : Type 0 where
   pub header : IsEhdr o.header
   pub fitting : IsTrue (ehdr_fits o.header)
+  pub phnum : o.header.phnum ≡ length o.phdrs
+  pub shnum : o.header.shnum ≡ length o.sections
   pub pad : length o.pad ≡ 7
   pub pad_bytes : AreBytes o.pad
-  pub phdrs : All IsPhdr o.phdrs
-  pub phdr_count : length o.phdrs ≤ 2 ^ 20
+  pub phdr_count : length o.phdrs ≤ MAX_SEGMENTS
   pub sections : All (IsSection o.header.class) o.sections
-  pub section_count : length o.sections ≤ 2 ^ 20
+  pub section_count : length o.sections ≤ MAX_SECTIONS
   pub string_index : o.sections ≡ [] → o.header.shstrndx ≡ 0
   pub base : AreBytes o.base
   pub base_length : length o.base < 2 ^ 64
@@ -62,7 +65,8 @@ KeepsObject c = (o : Object) → IsObject o → IsObject (step c o)
 abbrev pub as_opened : Object → Object
 as_opened o = record o { layout = false; fill = 0 }
 
--- an object in which nothing is dirty is that of its base. It holds of an object over a source that tells its bytes.
+-- an object in which nothing is dirty is that of its base. It holds of an object over a source that
+-- tells its bytes.
 abbrev pub IsTied : Object → Type 0
 IsTied o = is_dirty o ≡ false → opened o.base ≡ Ok (as_opened o)
 

@@ -1,35 +1,26 @@
-//! Header values that follow from the counts of an object, and the numbers that the two-byte fields of
-//! the ELF header cannot hold (gABI chapter 4, "ELF Header" and "Section Header").
+//! Header values that follow from the counts of an object, and the numbers that the two-byte fields
+//! of the ELF header cannot hold (gABI chapter 4, "ELF Header" and "Section Header").
 
 ghost use Rattle.std.specs.Prelude.{◌≡◌};
 ghost use Rattle.elf_xlate.specs.Headers.{HasNarrowCounts, ehdr_size, phdr_size, shdr_size};
 ghost use Rattle.elf_object.specs.Derived.{derived_header, numbered_shdr, where_any, written_header};
 ghost use Rattle.elf_object.specs.Steps.{stored_ehdr};
 
+use elf_types::constants::{EV_CURRENT, PN_XNUM, SHN_LORESERVE, SHN_XINDEX};
 use elf_types::{Class, Ehdr, Shdr};
-
-/// The first count of sections that `e_shnum` does not hold, and the first string index that
-/// `e_shstrndx` does not (gABI, `SHN_LORESERVE`).
-pub const SHN_LORESERVE: u32 = 0xff00;
-
-/// What stands in `e_shstrndx` where section 0 holds the string index.
-pub const SHN_XINDEX: u32 = 0xffff;
-
-/// What stands in `e_phnum` where section 0 holds the number of program headers, and the first such
-/// number.
-pub const PN_XNUM: u32 = 0xffff;
+use elf_xlate::{ehdr_size, phdr_size, shdr_size};
 
 /// A header that has the true counts, with what follows from them: the version, the sizes of the
-/// header and of the tables' entries, and, where they have entries, the places of the two tables, in
-/// bytes from the start of the image. Where a table has none, its place and its entries' size are 0,
-/// and without sections so is the string index.
+/// header and of the tables' entries, and, where they have entries, the places of the two tables,
+/// in bytes from the start of the image. Where a table has none, its place and its entries' size
+/// are 0, and without sections so is the string index.
 #[tactic(auto, unfolding(crate::specs::Derived::derived_header))]
 pub fn derived_header(phoff: u64, shoff: u64, h: &Ehdr) -> Ehdr
     ensures { result ≡ derived_header phoff shoff h.now }
 {
     let sizes = entry_sizes(h.class);
     Ehdr {
-        version: 1,
+        version: EV_CURRENT,
         ehsize: sizes.ehsize,
         phoff: where_any(h.phnum, phoff),
         phentsize: size_where_any(h.phnum, sizes.phentsize),
@@ -48,20 +39,20 @@ struct EntrySizes {
     shentsize: u16,
 }
 
+/// The sizes of a class.
+#[tactic(auto, using(crate::proofs::Sizes::sizes_are_small))]
 fn entry_sizes(class: Class) -> EntrySizes
-    ensures { result ≡ record { ehsize = ehdr_size class; phentsize = phdr_size class; shentsize = shdr_size class } }
+    ensures { result
+        ≡ record {
+          ehsize = ehdr_size class;
+          phentsize = phdr_size class;
+          shentsize = shdr_size class;
+        } }
 {
-    match class {
-        Class::C32 => EntrySizes {
-            ehsize: 52,
-            phentsize: 32,
-            shentsize: 40,
-        },
-        Class::C64 => EntrySizes {
-            ehsize: 64,
-            phentsize: 56,
-            shentsize: 64,
-        },
+    EntrySizes {
+        ehsize: ehdr_size(class) as u16,
+        phentsize: phdr_size(class) as u16,
+        shentsize: shdr_size(class) as u16,
     }
 }
 
@@ -126,8 +117,8 @@ pub fn numbered_shdr(h: &Ehdr, first: &Shdr) -> Shdr
     }
 }
 
-/// The header `old` with the fields of `h` that an update stores (gelf_update_ehdr): osabi, abiversion,
-/// type, machine, entry, the places of the two tables, flags and the string index.
+/// The header `old` with the fields of `h` that an update stores (gelf_update_ehdr): osabi,
+/// abiversion, type, machine, entry, the places of the two tables, flags and the string index.
 #[tactic(auto, unfolding(crate::specs::Steps::stored_ehdr))]
 pub fn stored_ehdr(old: &Ehdr, h: &Ehdr) -> Ehdr
     ensures { result ≡ stored_ehdr old.now h.now }

@@ -1,15 +1,12 @@
-//! What the library means: the plain object of an ELF image, its calls, its layout and its image. The
-//! definitions stand in `specs/`; here are their laws, and small functions that compute some of them.
+//! What the library means: the plain object of an ELF image, its calls, its layout and its image.
+//! The definitions stand in `specs/`; here are small functions that compute some of them.
 #![tactic(auto)]
 
 pub mod derived;
-pub mod laws;
 pub mod sections;
 
-pub use derived::{
-    PN_XNUM, SHN_LORESERVE, SHN_XINDEX, derived_header, numbered_shdr, stored_ehdr, written_header,
-};
-pub use sections::{MAX_PIECE_ALIGN, SHT_NOBITS, SHT_NULL, extent, is_piece_align, occupies_file};
+pub use derived::{derived_header, numbered_shdr, stored_ehdr, written_header};
+pub use sections::{home_len, is_piece_align, occupies_file};
 
 #[cfg(test)]
 mod call_tests;

@@ -2,19 +2,11 @@
 
 ghost use Rattle.std.specs.Prelude.{◌≡◌};
 ghost use Rattle.elf_object.specs.Object.{occupies_file};
-ghost use Rattle.elf_object.specs.Open.{extent_of};
+ghost use Rattle.elf_object.specs.Open.{home_len};
 ghost use Rattle.elf_object.specs.Calls.{is_piece_align};
 
 use elf_types::Shdr;
-
-/// The type of a header that is not in use (gABI chapter 4, "Sections").
-pub const SHT_NULL: u32 = 0;
-
-/// The type of a section that occupies no space in the file.
-pub const SHT_NOBITS: u32 = 8;
-
-/// The greatest alignment of a piece of data, in bytes.
-pub const MAX_PIECE_ALIGN: u64 = 1 << 20;
+use elf_types::constants::{MAX_PIECE_ALIGN, SHT_NOBITS, SHT_NULL};
 
 /// Whether a section with this header occupies space in the file, be it 0 bytes.
 pub fn occupies_file(h: &Shdr) -> bool
@@ -24,9 +16,9 @@ pub fn occupies_file(h: &Shdr) -> bool
 }
 
 /// How many bytes of the file a section with this header has.
-#[tactic(auto, unfolding(crate::specs::Open::extent_of))]
-pub fn extent(h: &Shdr) -> u64
-    ensures { result ≡ extent_of h.now }
+#[tactic(auto, unfolding(crate::specs::Open::home_len))]
+pub fn home_len(h: &Shdr) -> u64
+    ensures { result ≡ home_len h.now }
 {
     if occupies_file(h) { h.size } else { 0 }
 }

@@ -3,9 +3,7 @@ use Rattle.std.proofs.Common.{◌+◌, ◌≤◌, ℕ, Result, Ok, Err, ◌∙�
 use Rattle.elf_types.specs.declared.errors.ElfError.{ElfError}
 use Rattle.elf_types.specs.declared.errors.ElfError.TheVariants.{Memory, Read}
 use Rattle.elf_types.specs.Answers.{IsRefusal}
-use Rattle.elf_outside.specs.Counts.{Rose, RaisedAtMost}
-use Rattle.elf_outside.specs.Leaves.{LeavesBy}
-use Rattle.elf_outside.specs.Asks.{Leaves, ReadRose, Asks}
+use Rattle.elf_outside.specs.Asks.{ReadRose, Asks}
 use Rattle.elf_outside.specs.declared.sources.Source.{Ghosts}
 
 -- a count that rose from a later value on rose from the first
@@ -13,6 +11,11 @@ pub read_rose_before : {T : Type 0} (r : Result T ElfError) (a b c : ℕ) → a 
 read_rose_before (Ok x) a b c h k = tt
 read_rose_before (Err Read) a b c h k = omega arith
 read_rose_before (Err e) a b c h k = tt
+
+-- a refusal that is passed on has the same cause
+pub read_rose_on : (T U : Type 0) (e : ElfError) (a b : ℕ) → ReadRose {T = T} (Err e) a b → ReadRose {T = U} (Err e) a b
+read_rose_on T U Read a b k = k
+read_rose_on T U e a b k = tt
 
 -- two calls in a row, of which the second answers
 pub asks_both : {S T U : Type 0} (g : Ghosts S) (r : Result T ElfError) (q : Result U ElfError) (s t u : S) (n m : ℕ)

@@ -16,7 +16,8 @@ ReadRose (Err Read) before now = Rose before now
 ReadRose _ before now = Unit {0}
 
 -- a call that reads: what it leaves, how its faults show, and that it asks for at most n bytes
-pub record Asks {S T : Type 0} (g : Ghosts S) (result : Result T ElfError) (old new : S) (n : ℕ) : Type 0 where
+pub record Asks {S T : Type 0} (g : Ghosts S)
+    (result : Result T ElfError) (old new : S) (n : ℕ) : Type 0 where
   pub leaves : Leaves g old new
   pub later : g.faults old ≤ g.faults new
   pub read : ReadRose result (g.faults old) (g.faults new)

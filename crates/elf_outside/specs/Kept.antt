@@ -13,8 +13,8 @@ abbrev pub kept : Names → List ℕ → Option Kept
 kept names name = get_by_text names name
 
 -- the bytes of a name, or None where it is not there
-abbrev pub bytes_named : Names → List ℕ → Option (List ℕ)
-bytes_named names name = option_map (λ k. k.bytes) (kept names name)
+abbrev pub bytes_kept : Names → List ℕ → Option (List ℕ)
+bytes_kept names name = option_map (λ k. k.bytes) (kept names name)
 
 -- what is kept of a name once a file was closed under it: the bytes, where the name is there
 abbrev pub closed : List ℕ → Option Kept → Option Kept

@@ -3,6 +3,9 @@ pub mod Leaves
 pub mod Writes
 pub mod Names
 pub mod Asks
+pub mod Puts
+pub mod Patches
 pub mod Kept
 pub mod MemFiles
 pub mod Windows
+pub mod Opens

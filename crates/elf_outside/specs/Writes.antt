@@ -33,7 +33,8 @@ pub record IsTorn (old new : List ℕ) (at : ℕ) (piece : List ℕ) : Type 0 wh
 -- some bytes of the piece may have been put over the bytes at a place
 abbrev pub TearsOver : Option (List ℕ) → Option (List ℕ) → ℕ → List ℕ → Type 0
 TearsOver old new at piece =
-    (torn : List ℕ) × (new ≡ option_map (λ _. torn) old) × IfSome old (λ bytes. IsTorn bytes torn at piece)
+    (torn : List ℕ) × (new ≡ option_map (λ _. torn) old)
+    × IfSome old (λ bytes. IsTorn bytes torn at piece)
 
 -- the file has the length n
 pub record Resizes (size_old size_new : ℕ) (old new : Option (List ℕ)) (n : ℕ) : Type 0 where
@@ -46,7 +47,8 @@ ResizesOrNot size_old size_new old new n =
     ((size_new ≡ size_old) × (new ≡ old)) ⊎ Resizes size_old size_new old new n
 
 -- the first n bytes of the piece stand after the last byte of the file
-pub record Lengthens (size_old size_new : ℕ) (old new : Option (List ℕ)) (piece : List ℕ) : Type 0 where
+pub record Lengthens (size_old size_new : ℕ) (old new : Option (List ℕ))
+    (piece : List ℕ) : Type 0 where
   pub len : size_new ≡ size_old + length piece
   pub bytes : Appends old new piece
 

@@ -8,56 +8,64 @@ use crate::sources::{Failed, Source};
 
 /// A source that can be written.
 ///
-/// - `write_faults` counts the writes that failed, and `given` the bytes handed to writes so far, as
-///   `faults` and `taken` of [`Source`] do for reads.
-/// - `kept` is what the device's `rest` holds besides these two numbers.
+/// - `write_faults` counts the writes that failed, and `given` the bytes handed to writes, by the
+///   rules by which `faults` and `taken` of [`Source`] count for reads.
+/// - `rest_after` is what the device's `rest` holds after the list of these two numbers.
 ///
-/// The writes leave `faults`, `taken` and `kept`; a read leaves `given` and `write_faults`, since
-/// they stand in `rest`.
+/// The writes leave `faults`, `taken` and `rest_after`; a read leaves `given` and `write_faults`,
+/// since they stand in `rest`.
 pub trait Device: Source {
     ghost write_faults: { Self → ℕ };
 
     ghost given: { Self → ℕ };
 
-    ghost kept: { Self → List (List ℕ) };
+    ghost rest_after: { Self → List (List ℕ) };
 
     /// Puts `buf` over the bytes from the place `at` on. The range lies in the device.
-    /// `Failed` comes only where the count of failed writes rose; then each byte of the range is the
-    /// old one or the new one, and all else is as before.
+    /// `Failed` comes only where the count of failed writes rose; then each byte of the range is
+    /// the old one or the new one, and all else is as before.
     fn write_at(&mut self, at: u64, buf: &[u8]) -> Result<(), Failed>
         requires { at + length buf.now ≤ Self.size self.old }
         ensures len { Self.size self.new ≡ Self.size self.old }
-        ensures ok { OnOk result (WritesOver (Self.holds self.old) (Self.holds self.new) at buf.now) }
-        ensures err { OnErr result (TearsOver (Self.holds self.old) (Self.holds self.new) at buf.now) }
+        ensures ok { OnOk result
+            (WritesOver (Self.holds self.old) (Self.holds self.new) at buf.now) }
+        ensures err { OnErr result
+            (TearsOver (Self.holds self.old) (Self.holds self.new) at buf.now) }
         ensures cause { HasCause (write_faults self.old) (write_faults self.new) result }
         ensures given { RaisedBy (given self.old) (given self.new) (length buf.now) }
         ensures faults { Self.faults self.new ≡ Self.faults self.old }
         ensures taken { Self.taken self.new ≡ Self.taken self.old }
-        ensures kept { kept self.new ≡ kept self.old };
+        ensures rest_after { rest_after self.new ≡ rest_after self.old };
 
     /// Cuts the device to `n` bytes, or lengthens it to `n` by zero bytes.
     /// `Failed` comes only where the count of failed writes rose; then the length is the old one or
     /// the new one, and the bytes are those that belong to it.
     fn set_len(&mut self, n: u64) -> Result<(), Failed>
-        ensures ok { OnOk result (Resizes (Self.size self.old) (Self.size self.new) (Self.holds self.old) (Self.holds self.new) n) }
-        ensures err { OnErr result (ResizesOrNot (Self.size self.old) (Self.size self.new) (Self.holds self.old) (Self.holds self.new) n) }
+        ensures ok { OnOk result (Resizes (Self.size self.old) (Self.size self.new)
+            (Self.holds self.old) (Self.holds self.new) n) }
+        ensures err { OnErr result (ResizesOrNot (Self.size self.old) (Self.size self.new)
+            (Self.holds self.old) (Self.holds self.new) n) }
         ensures cause { HasCause (write_faults self.old) (write_faults self.new) result }
         ensures given { given self.new ≡ given self.old }
         ensures faults { Self.faults self.new ≡ Self.faults self.old }
         ensures taken { Self.taken self.new ≡ Self.taken self.old }
-        ensures kept { kept self.new ≡ kept self.old };
+        ensures rest_after { rest_after self.new ≡ rest_after self.old };
 
     /// Puts `buf` after the last byte.
-    /// `Failed` comes only where the count of failed writes rose; then a front of `buf` stands there,
-    /// and all else is as before.
+    /// `Failed` comes only where the count of failed writes rose; then a front of `buf` stands
+    /// there, and all else is as before.
     fn append(&mut self, buf: &[u8]) -> Result<(), Failed>
-        ensures ok { OnOk result (Lengthens (Self.size self.old) (Self.size self.new) (Self.holds self.old) (Self.holds self.new) buf.now) }
-        ensures err { OnErr result (LengthensByFront (Self.size self.old) (Self.size self.new) (Self.holds self.old) (Self.holds self.new) buf.now) }
+        ensures ok { OnOk result (Lengthens (Self.size self.old) (Self.size self.new)
+            (Self.holds self.old) (Self.holds self.new) buf.now) }
+        ensures err { OnErr result (LengthensByFront (Self.size self.old) (Self.size self.new)
+            (Self.holds self.old) (Self.holds self.new) buf.now) }
         ensures cause { HasCause (write_faults self.old) (write_faults self.new) result }
         ensures given { RaisedBy (given self.old) (given self.new) (length buf.now) }
         ensures faults { Self.faults self.new ≡ Self.faults self.old }
         ensures taken { Self.taken self.new ≡ Self.taken self.old }
-        ensures kept { kept self.new ≡ kept self.old };
+        ensures rest_after { rest_after self.new ≡ rest_after self.old };
 
-    ghost rest_begins: { (d : Self) → Self.rest d ≡ (given d ∷ write_faults d ∷ []) ∷ kept d };
+    /// The rest begins with the list of `given` and `write_faults`.
+    ghost rest_begins: { (d : Self) →
+        Self.rest d ≡ (given d ∷ write_faults d ∷ []) ∷ rest_after d };
 }

@@ -7,12 +7,15 @@ pub mod devices;
 pub mod file_sets;
 pub mod memory;
 pub mod no_source;
+pub(crate) mod ranges;
+pub mod reads;
 pub mod real;
 pub mod sinks;
 pub mod sources;
 #[cfg(test)]
 pub(crate) mod steps;
 pub mod window;
+pub mod writes;
 
 pub use device_sink::DeviceSink;
 pub use devices::Device;

@@ -1,6 +1,6 @@
 //! The source of an object that was not read.
 
-ghost use Rattle.std.specs.Prelude.{[], Some};
+ghost use Rattle.std.specs.Prelude.{refl, [], Some};
 
 use crate::sources::{Failed, Source};
 
@@ -26,4 +26,6 @@ impl Source for NoSource {
     fn read_at(&mut self, _at: u64, _buf: &mut [u8]) -> Result<(), Failed> {
         Ok(())
     }
+
+    ghost sized = { λ _. refl };
 }

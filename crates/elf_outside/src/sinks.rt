@@ -9,7 +9,8 @@ use crate::sources::Failed;
 /// A sequence of bytes that only grows at its end.
 ///
 /// - `wrote` is the bytes so far, where the sink tells them.
-/// - `faults` counts the puts that failed: it never falls, and stops at 2^64 - 1.
+/// - `faults` counts the puts that failed: it never falls, and a put fails only where it rose, or
+///   stands at 2^64 - 1.
 /// - `rest` is what the object keeps besides; it is empty where nothing else is said.
 pub trait Sink {
     ghost wrote: { Self → Option (List ℕ) };

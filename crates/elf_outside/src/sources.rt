@@ -1,6 +1,6 @@
 //! What is read.
 
-ghost use Rattle.std.specs.Prelude.{◌≡◌, ℕ, ◌+◌, ◌≤◌, List, Option, length, take, drop, IfSome, OnOk};
+ghost use Rattle.std.specs.Prelude.{◌≡◌, ℕ, ◌+◌, ◌^◌, ◌<◌, ◌≤◌, List, Option, All, length, take, drop, IfSome, OnOk};
 ghost use Rattle.elf_outside.specs.Counts.{HasCause, RaisedBy};
 ghost use Rattle.elf_outside.specs.Leaves.{LeavesBy};
 
@@ -13,8 +13,10 @@ pub struct Failed;
 /// - `size` is the number of bytes; every source tells it.
 /// - `holds` is the bytes, where the source tells them: a source in memory does, a file does not.
 /// - `rest` is what the object keeps besides; it is empty where nothing else is said.
-/// - `faults` counts the reads that failed, and `taken` the bytes that were asked for so far. Neither
-///   falls, and both stop at 2^64 - 1.
+/// - `faults` counts the reads that failed: it never falls, and a read fails only where it rose, or
+///   stands at 2^64 - 1.
+/// - `taken` counts the bytes that were asked for: a read raises it by the length of its buffer, by
+///   exactly that while the sum stays below 2^64, and never by more.
 ///
 /// A read leaves `size`, `holds` and `rest`.
 pub trait Source {
@@ -28,10 +30,10 @@ pub trait Source {
 
     ghost taken: { Self → ℕ };
 
-    /// The number of bytes.
+    /// The number of bytes. What the source tells is bytes, each below 2^8.
     fn len(&self) -> u64
         ensures size { result ≡ size self.now }
-        ensures bytes { IfSome (holds self.now) (λ bytes. length bytes ≡ result) };
+        ensures ranged { IfSome (holds self.now) (λ bytes. All (λ n. n < 2 ^ 8) bytes) };
 
     /// Reads the bytes from the place `at` into the whole of `buf`. The range lies in the source.
     /// `Failed` comes only where the count of faults rose; the buffer then holds anything.
@@ -42,4 +44,7 @@ pub trait Source {
             (IfSome (holds self.old) (λ bytes. buf.new ≡ take (length buf.old) (drop at bytes))) }
         ensures cause { HasCause (faults self.old) (faults self.new) result }
         ensures taken { RaisedBy (taken self.old) (taken self.new) (length buf.old) };
+
+    /// Where the bytes are told, there are `size` many.
+    ghost sized: { (s : Self) → IfSome (holds s) (λ bytes. length bytes ≡ size s) };
 }

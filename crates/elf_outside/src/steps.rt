@@ -1,4 +1,4 @@
-//! Steps over sources, devices and sets of files, for the tests: what each call answers, row by row.
+//! Steps over sources, devices and sets of files, for the tests: what each call answers.
 
 use crate::{Device, Files, OpenFault, Source};
 use elf_types::{Addrs, Octets};
@@ -19,10 +19,12 @@ pub enum Step {
     Append(&'static [u8], bool),
 }
 
+/// A list of bytes.
 pub fn octets(alloc: Global, bytes: &[u8]) -> Result<Octets, Fail> {
     Ok(Octets::from_vec(Vec::from_slice(alloc, bytes)?))
 }
 
+/// A list of numbers, as of calls that are to fail.
 pub fn numbers(alloc: Global, numbers: &[u64]) -> Result<Addrs, Fail> {
     Ok(Addrs::from_vec(Vec::from_slice(alloc, numbers)?))
 }
@@ -86,11 +88,15 @@ pub fn check_steps<D: Device>(
 /// A call that hands out a file.
 #[derive(Clone, Copy, Debug)]
 pub enum Way {
+    /// To read.
     Open,
+    /// To read and write.
     Edit,
+    /// Made empty.
     Create,
 }
 
+/// Asks for a file.
 pub fn hand_out<F: Files>(
     alloc: Global,
     files: &mut F,

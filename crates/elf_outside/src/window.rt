@@ -1,7 +1,8 @@
 //! A range of a source, as a source.
 
-ghost use Rattle.std.specs.Prelude.{◌≡◌, ◌+◌, ◌≤◌};
-ghost use Rattle.elf_outside.specs.Windows.{range_of, window_rest};
+ghost use Rattle.std.specs.Prelude.{◌≡◌, ◌+◌, ◌^◌, ◌<◌, ◌≤◌, All};
+ghost use Rattle.std.specs.Option.{ForSome};
+ghost use Rattle.elf_outside.specs.Windows.{range_of, window_rest, range_sized};
 
 use crate::sources::{Failed, Source};
 
@@ -12,6 +13,9 @@ pub struct Window<S: Source> {
     at: u64,
     len: u64,
     pub ghost in_range: { at + len ≤ S.size inner },
+    pub ghost addressable: { at + len < 2 ^ 64 },
+    pub ghost ranged: { ForSome (range_of at len (S.holds inner))
+        (λ bytes. All (λ n. n < 2 ^ 8) bytes) },
 }
 
 impl<S: Source> Window<S> {
@@ -22,6 +26,7 @@ impl<S: Source> Window<S> {
         ensures inner { result.inner ≡ inner }
         ensures range { (result.at ≡ at) × (result.len ≡ len) }
     {
+        let _inner_len = inner.len();
         Window { inner, at, len }
     }
 
@@ -45,15 +50,15 @@ impl<S: Source> Source for Window<S> {
     ghost taken = { λ w. S.taken w.inner };
 
     fn len(&self) -> u64 {
-        // The inner source's number of bytes is known once it was asked for.
-        let _inner_len = self.inner.len();
         self.len
     }
 
     fn read_at(&mut self, at: u64, buf: &mut [u8]) -> Result<(), Failed> {
-        let _inner_len = self.inner.len();
         self.inner.read_at(self.at + at, buf)
     }
+
+    ghost sized = { λ w. range_sized
+        (S.holds w.inner) w.at w.len (S.size w.inner) w.in_range (S.sized w.inner) };
 }
 
 #[cfg(test)]

@@ -1,5 +1,8 @@
 -- Numbers of few bytes.
-use Rattle.std.proofs.Common.{◌≡◌, ℕ, ◌<◌, List, [], ◌∷◌, length, take, get_or, refl, ap, arith}
+use Rattle.std.proofs.Common.{◌≡◌, ℕ, ◌<◌, ◌%◌, ◌^◌, ◌∙◌, List, [], ◌∷◌, length, take, get_or, map, refl, ap, arith}
+use Rattle.std.specs.List.{All}
+use Rattle.std.proofs.Math.Nat.{mod-eq_of_lt}
+use Rattle.std.proofs.lemmas.List.Elements.{All-head, All-tail}
 use Rattle.std.proofs.lemmas.List.{drop_more, take_all}
 use Rattle.elf_types.specs.declared.records.Order.{Order}
 use Rattle.elf_types.specs.declared.records.Order.TheVariants.{Least, Greatest}
@@ -27,3 +30,10 @@ number_of_none order (b ∷ bytes) h = absurd (omega arith)
 -- the number of all bytes
 pub number_of_all : (order : Order) (bytes : List ℕ) → number_of order (take (length bytes) bytes) ≡ number_of order bytes
 number_of_all order bytes = ap (number_of order) (take_all (length bytes) bytes (omega arith))
+
+-- bytes are their own lowest bytes
+pub lowest_same : (l : List ℕ) → All (λ n. n < 2 ^ 8) l → map (λ n. n % 256) l ≡ l
+lowest_same [] small = refl
+lowest_same (n ∷ l) small =
+    ap (λ (m : ℕ). m ∷ map (λ k. k % 256) l) (mod-eq_of_lt (All-head (λ k. k < 2 ^ 8) n l small))
+    ∙ ap (λ (bytes : List ℕ). n ∷ bytes) (lowest_same l (All-tail (λ k. k < 2 ^ 8) n l small))

@@ -1,11 +1,11 @@
 -- Lists of items of one size.
 use Rattle.std.proofs.Common.{◌≡◌, ℕ, ◌+◌, ◌*◌, ◌<◌, length, get_or, List, [], ◌∷◌, ◌++◌, take, drop, refl, sym, ap, subst, ◌∙◌, inl, inr, ◌≤◌, arith}
-use Rattle.std.proofs.lemmas.List.{take_all}
-use Rattle.std.proofs.lemmas.List.FromFn.{map-range_with_len_more}
-use Rattle.std.specs.Prelude.{Some, None, Bool, true, false, not, cond, nat_lt}
+use Rattle.std.proofs.lemmas.List.{take_all, get_or_default}
+use Rattle.std.proofs.lemmas.List.FromFn.{map-range_with_len_more, length-map-range_with_len}
+use Rattle.std.specs.Prelude.{Some, None, Bool, true, false, not, cond, nat_lt, IsTrue}
 use Rattle.std.specs.List.{All, position_or_len}
 use Rattle.std.proofs.lemmas.List.Sums.{position_or_len_is, fails_before_first}
-use Rattle.std.proofs.lemmas.List.Elements.{All-get_or}
+use Rattle.std.proofs.lemmas.List.Elements.{All-get_or, All-nil, All-cons, All-append, All-take, All-drop}
 use Rattle.std.proofs.lemmas.Bool.{cases_lt, le-ltb, lt-ltb, not-false}
 use Rattle.elf_xlate.specs.Translation.{items_of, first_not}
 
@@ -19,6 +19,42 @@ items_of_more item size i bytes = map-range_with_len_more (λ k. item (take size
 pub items_of_none : {X : Type 0} (item : List ℕ → X) (size : ℕ) (bytes : List ℕ) → items_of item size 0 bytes ≡ []
 unfolding items_of
 items_of_none item size bytes = refl
+
+-- their number
+pub length_items_of : {X : Type 0} (item : List ℕ → X) (size count : ℕ) (bytes : List ℕ) → length (items_of item size count bytes) ≡ count
+unfolding items_of
+length_items_of item size count bytes = length-map-range_with_len (λ i. item (take size (drop (i * size) bytes))) 0 count
+
+-- one item more of which something holds
+pub one_more : {X : Type 0} (P : X → Type 0) (l : List X) (x : X) → All P l → P x → All P (l ++ x ∷ [])
+one_more P l x all is = All-append P l (x ∷ []) all (All-cons P x [] is (All-nil P))
+
+-- The items so far, each in its range and fitting.
+pub record AreRead {X : Type 0} (item : List ℕ → X) (InRange : X → Type 0) (fitting : X → Bool) (size i : ℕ) (bytes : List ℕ) (l : List X) : Type 0 where
+  pub value : l ≡ items_of item size i bytes
+  pub ranged : All InRange l
+  pub fits : All (λ x. IsTrue (fitting x)) l
+
+-- none at first
+pub none_read : {X : Type 0} (item : List ℕ → X) (InRange : X → Type 0) (fitting : X → Bool) (size : ℕ) (bytes : List ℕ) (l : List X) → l ≡ []
+    → AreRead item InRange fitting size 0 bytes l
+none_read item InRange fitting size bytes [] empty =
+    record { value = sym (items_of_none item size bytes); ranged = All-nil InRange; fits = All-nil (λ x. IsTrue (fitting x)) }
+none_read item InRange fitting size bytes (x ∷ l) empty = cc
+
+-- and one more
+pub one_read : {X : Type 0} (item : List ℕ → X) (InRange : X → Type 0) (fitting : X → Bool) (size i w : ℕ) (bytes : List ℕ) (l new : List X) (x : X)
+    → AreRead item InRange fitting size i bytes l → new ≡ l ++ x ∷ [] → w ≡ size → x ≡ item (take w (drop (i * size) bytes)) → InRange x → IsTrue (fitting x)
+    → AreRead item InRange fitting size (i + 1) bytes new
+one_read {X} item InRange fitting size i w bytes l new x so_far is width value ranged fits =
+    subst (AreRead item InRange fitting size (i + 1) bytes) (sym is) (record {
+      value =
+          ap (λ (m : List X). m ++ x ∷ []) so_far.value
+          ∙ ap (λ (y : X). items_of item size i bytes ++ y ∷ []) (value ∙ ap (λ (n : ℕ). item (take n (drop (i * size) bytes))) width)
+          ∙ sym (items_of_more item size i bytes);
+      ranged = one_more InRange l x so_far.ranged ranged;
+      fits = one_more (λ y. IsTrue (fitting y)) l x so_far.fits fits;
+    })
 
 -- where all pass, none is the first that does not
 pub all_pass : {X : Type 0} (passes : X → Bool) (l : List X) → All (λ x. passes x ≡ true) l → first_not passes l ≡ None
@@ -52,3 +88,9 @@ each_passes {X} passes l i x none low at =
     let past : length l ≤ position_or_len (λ y. not (passes y)) l = no_place _ l none in
     let here : not (passes (get_or l i x)) ≡ false = fails_before_first fails l i x (omega (arith, past)) in
     ap passes at ∙ not-false (passes (get_or l i x)) here
+
+-- the same of a range
+pub range_passes : {X : Type 0} (passes : X → Bool) (l : List X) (place count : ℕ) → first_not passes l ≡ None → All (λ x. passes x ≡ true) (take count (drop place l))
+range_passes {X} passes l place count none =
+    All-take (λ x. passes x ≡ true) count (drop place l)
+    (All-drop (λ x. passes x ≡ true) place l (λ k d low. each_passes passes l k (get_or l k d) none low (get_or_default l k d (get_or l k d) low)))

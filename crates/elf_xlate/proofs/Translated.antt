@@ -1,5 +1,5 @@
 -- The two laws of translation.
-use Rattle.std.proofs.Common.{◌≡◌, ℕ, ◌<◌, ◌^◌, List, [], ◌∷◌, length, get_or, refl, ap, arith}
+use Rattle.std.proofs.Common.{◌≡◌, ℕ, ◌<◌, ◌^◌, List, get_or, refl, ap, arith}
 use Rattle.std.specs.Prelude.{Option, Some, None, IfSome, Bool, true, ◌≢◌}
 use Rattle.std.specs.Option.{option_map}
 use Rattle.std.specs.List.{All, AllByRecursion}
@@ -10,20 +10,17 @@ use Rattle.elf_types.specs.declared.records.Class.TheVariants.{C32, C64}
 use Rattle.elf_types.specs.declared.records.Order.{Order}
 use Rattle.elf_types.specs.declared.records.Kind.{Kind}
 use Rattle.elf_types.specs.declared.records.Kind.TheVariants as kinds
-use Rattle.elf_types.specs.declared.records.Sym.{Sym as Symbol}
-use Rattle.elf_types.specs.declared.records.Rel.{Rel as Relocation}
-use Rattle.elf_types.specs.declared.records.Rela.{Rela as RelocationWithAddend}
-use Rattle.elf_types.specs.declared.records.Dyn.{Dyn as Entry}
 use Rattle.elf_xlate.specs.declared.content.Items.{Items}
 use Rattle.elf_xlate.specs.declared.content.Items.TheVariants.{Empty, Bytes, Half, Word, Addr, Sym, Rel, Rela, Dyn}
 use Rattle.elf_xlate.specs.Fields.{fits}
-use Rattle.elf_xlate.specs.Items.{item_size, half_fields, half_of, half_bytes, word_fields, word_of, word_bytes, addr_fields, addr_of, addr_bytes, sym_fields, sym_numbers, sym_of, sym_bytes, sym_fits, IsSym, rel_fields, rel_numbers, rel_of, rel_bytes, rel_fits, IsRel, rela_fields, rela_numbers, rela_of, rela_bytes, rela_fits, IsRela, dyn_fields, dyn_numbers, dyn_of, dyn_bytes, dyn_fits, IsDyn}
+use Rattle.elf_xlate.specs.Items.{item_size, half_of, half_bytes, word_of, word_bytes, addr_of, addr_bytes, sym_of, sym_bytes, sym_fits, IsSym, rel_of, rel_bytes, rel_fits, IsRel, rela_of, rela_bytes, rela_fits, IsRela, dyn_of, dyn_bytes, dyn_fits, IsDyn}
 use Rattle.elf_xlate.specs.Translation.{decoded, encoded, listed, first_not, first_unfit, EncodesAsDecoded, DecodesAsEncoded}
+use Rattle.elf_xlate.proofs.Bytes.{lowest_same}
 use Rattle.elf_xlate.proofs.Digits.{are_bytes}
 use Rattle.elf_xlate.proofs.Pieces.{each_passes}
 use Rattle.elf_xlate.proofs.BothWays.{written_all, listed_again}
-use Rattle.elf_xlate.proofs.Tables.{half_table, word_table, addr_table, sym_table, rel_table, rela_table, dyn_table}
-use Rattle.elf_xlate.proofs.EachItem.{length_record, half_read, half_written, word_read, word_written, addr_read, addr_written, sym_read, sym_written, rel_read, rel_written, rela_read, rela_written, dyn_read, dyn_written}
+use Rattle.elf_xlate.proofs.Lengths.{length_half, length_word, length_addr, length_sym, length_rel, length_rela, length_dyn}
+use Rattle.elf_xlate.proofs.EachItem.{half_read, half_written, word_read, word_written, addr_read, addr_written, sym_read, sym_written, rel_read, rel_written, rela_read, rela_written, dyn_read, dyn_written}
 
 -- what is said of a list that was read is said of the items
 of_listed : {X : Type 0} (variant : List X → Items) (o : Option (List X)) (P : Items → Type 0) → ((l : List X) → o ≡ Some l → P (variant l)) → IfSome (option_map variant o) P
@@ -50,7 +47,7 @@ size_is_some kinds.Dyn C64 h = omega arith
 pub encodes_as_decoded : (kind : Kind) (class : Class) (order : Order) (bytes : List ℕ) → EncodesAsDecoded kind class order bytes
 unfolding decoded encoded
 encodes_as_decoded kinds.Empty class order bytes some bs = absurd (some refl)
-encodes_as_decoded kinds.Bytes class order bytes some bs = refl
+encodes_as_decoded kinds.Bytes class order bytes some bs = lowest_same bytes bs
 encodes_as_decoded kinds.Half class order bytes some bs =
     of_listed Half (listed (half_of class order) (item_size kinds.Half class) bytes) (λ items. encoded class order items ≡ bytes)
     (λ l given. written_all (half_of class order) (half_bytes class order) (item_size kinds.Half class) bytes l (half_written class order) (are_bytes bytes bs) given)
@@ -75,34 +72,6 @@ encodes_as_decoded kinds.Dyn class order bytes some bs =
 
 -- ---- The other way
 
-length_half : (class : Class) (order : Order) (x : ℕ) → length (half_bytes class order x) ≡ item_size kinds.Half class
-unfolding half_bytes
-length_half class order x = length_record class order (item_size kinds.Half class) half_fields (x ∷ []) (half_table class)
-
-length_word : (class : Class) (order : Order) (x : ℕ) → length (word_bytes class order x) ≡ item_size kinds.Word class
-unfolding word_bytes
-length_word class order x = length_record class order (item_size kinds.Word class) word_fields (x ∷ []) (word_table class)
-
-length_addr : (class : Class) (order : Order) (x : ℕ) → length (addr_bytes class order x) ≡ item_size kinds.Addr class
-unfolding addr_bytes
-length_addr class order x = length_record class order (item_size kinds.Addr class) addr_fields (x ∷ []) (addr_table class)
-
-length_sym : (class : Class) (order : Order) (x : Symbol) → length (sym_bytes class order x) ≡ item_size kinds.Sym class
-unfolding sym_bytes
-length_sym class order x = length_record class order (item_size kinds.Sym class) sym_fields (sym_numbers x) (sym_table class)
-
-length_rel : (class : Class) (order : Order) (x : Relocation) → length (rel_bytes class order x) ≡ item_size kinds.Rel class
-unfolding rel_bytes
-length_rel class order x = length_record class order (item_size kinds.Rel class) rel_fields (rel_numbers class x) (rel_table class)
-
-length_rela : (class : Class) (order : Order) (x : RelocationWithAddend) → length (rela_bytes class order x) ≡ item_size kinds.Rela class
-unfolding rela_bytes
-length_rela class order x = length_record class order (item_size kinds.Rela class) rela_fields (rela_numbers class x) (rela_table class)
-
-length_dyn : (class : Class) (order : Order) (x : Entry) → length (dyn_bytes class order x) ≡ item_size kinds.Dyn class
-unfolding dyn_bytes
-length_dyn class order x = length_record class order (item_size kinds.Dyn class) dyn_fields (dyn_numbers class x) (dyn_table class)
-
 -- in range and passing
 pub record IsGood {X : Type 0} (InRange : X → Type 0) (passes : X → Bool) (x : X) : Type 0 where
   pub in_range : InRange x
@@ -117,7 +86,7 @@ all_good InRange passes l in_range none =
 pub decodes_as_encoded : (class : Class) (order : Order) (items : Items) → DecodesAsEncoded class order items
 unfolding decoded encoded first_unfit
 decodes_as_encoded class order Empty is none = refl
-decodes_as_encoded class order (Bytes l) is none = refl
+decodes_as_encoded class order (Bytes l) is none = ap (λ (bytes : List ℕ). Some (Bytes bytes)) (lowest_same l is)
 decodes_as_encoded class order (Half l) is none =
     ap (option_map Half) (listed_again (half_of class order) (half_bytes class order) (λ n. n < 2 ^ 16) (item_size kinds.Half class) l (size_is_some kinds.Half class (λ e. cc))
     (λ x good. length_half class order x) (λ x good. half_read class order x good) (recursion_from_All (λ n. n < 2 ^ 16) l is))

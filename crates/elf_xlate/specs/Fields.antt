@@ -39,13 +39,15 @@ written place new bytes = take place bytes ++ (new ++ drop (place + length new) 
 
 -- bytes with a number written into a field
 unfoldable pub written_in : Class → Order → Field → ℕ → List ℕ → List ℕ
-written_in class order f n bytes = written (place_in class f).0 (octets order (place_in class f).1 n) bytes
+written_in class order f n bytes =
+    written (place_in class f).0 (octets order (place_in class f).1 n) bytes
 
 -- bytes with numbers written into the fields of a table
 abbrev pub laid : Class → Order → List Field → List ℕ → List ℕ → List ℕ
 laid class order [] numbers bytes = bytes
 laid class order (f ∷ fields) [] bytes = bytes
-laid class order (f ∷ fields) (n ∷ numbers) bytes = laid class order fields numbers (written_in class order f n bytes)
+laid class order (f ∷ fields) (n ∷ numbers) bytes =
+    laid class order fields numbers (written_in class order f n bytes)
 
 -- the bytes of a record whose fields cover all of them
 unfoldable pub record_bytes : Class → Order → ℕ → List Field → List ℕ → List ℕ

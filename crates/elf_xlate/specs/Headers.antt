@@ -1,8 +1,9 @@
--- The three headers (gABI chapter 4, "ELF Header" and "Section Header", chapter 5, "Program Header"). Each
--- has one table for both classes, by which it is read and written: place and width of each field in
--- class 32, and then in class 64.
+-- The three headers (gABI chapter 4, "ELF Header" and "Section Header", chapter 5, "Program
+-- Header"). Each has one table for both classes, by which it is read and written: place and width
+-- of each field in class 32, and then in class 64.
 use Rattle.std.specs.Prelude.{ℕ, ◌-◌, ◌^◌, ◌<◌, List, [], ◌∷◌, ◌++◌, length, take, drop, slice_index, Bool, ◌&&◌, ◌≡◌}
 use Rattle.std.proofs.Math.ListN.{replicate}
+use Rattle.elf_types.specs.declared.constants.TheConstants.{EI_OSABI, EI_ABIVERSION, EI_NIDENT, ELFMAG, ELFCLASS32, ELFCLASS64, ELFDATA2LSB, ELFDATA2MSB, EV_CURRENT}
 use Rattle.elf_types.specs.declared.records.Class.{Class}
 use Rattle.elf_types.specs.declared.records.Class.TheVariants.{C32, C64}
 use Rattle.elf_types.specs.declared.records.Order.{Order}
@@ -20,8 +21,8 @@ ehdr_size C64 = 64
 
 unfoldable pub ehdr_fields : List Field
 ehdr_fields =
-    field (7, 1) (7, 1) ∷  -- e_ident[EI_OSABI]
-    field (8, 1) (8, 1) ∷  -- e_ident[EI_ABIVERSION]
+    field (EI_OSABI, 1) (EI_OSABI, 1) ∷  -- e_ident[EI_OSABI]
+    field (EI_ABIVERSION, 1) (EI_ABIVERSION, 1) ∷  -- e_ident[EI_ABIVERSION]
     field (16, 2) (16, 2) ∷  -- e_type
     field (18, 2) (18, 2) ∷  -- e_machine
     field (20, 4) (20, 4) ∷  -- e_version
@@ -59,7 +60,8 @@ ehdr_from class order ns = record {
 
 abbrev pub ehdr_numbers : Ehdr → List ℕ
 ehdr_numbers h =
-    h.osabi ∷ h.abiversion ∷ h.etype ∷ h.machine ∷ h.version ∷ h.entry ∷ h.phoff ∷ h.shoff ∷ h.flags ∷ h.ehsize ∷ h.phentsize ∷ h.phnum ∷ h.shentsize ∷ h.shnum ∷ h.shstrndx ∷ []
+    h.osabi ∷ h.abiversion ∷ h.etype ∷ h.machine ∷ h.version ∷ h.entry ∷ h.phoff ∷ h.shoff ∷ h.flags
+    ∷ h.ehsize ∷ h.phentsize ∷ h.phnum ∷ h.shentsize ∷ h.shnum ∷ h.shstrndx ∷ []
 
 -- the header that bytes hold, with the counts and the string index as they stand there
 unfoldable pub ehdr_of : Class → Order → List ℕ → Ehdr
@@ -67,23 +69,24 @@ ehdr_of class order bytes = ehdr_from class order (numbers_in class order bytes 
 
 -- e_ident[EI_CLASS]
 abbrev pub class_code : Class → ℕ
-class_code C32 = 1
-class_code C64 = 2
+class_code C32 = ELFCLASS32
+class_code C64 = ELFCLASS64
 
 -- e_ident[EI_DATA]
 abbrev pub order_code : Order → ℕ
-order_code Least = 1
-order_code Greatest = 2
+order_code Least = ELFDATA2LSB
+order_code Greatest = ELFDATA2MSB
 
 -- the identification but for osabi and abiversion, which are 0 in it; `pad` is its bytes 9 to 15
 -- ("ELF Identification")
 unfoldable pub ident : Class → Order → List ℕ → List ℕ
-ident class order pad = 0x7f ∷ 0x45 ∷ 0x4c ∷ 0x46 ∷ class_code class ∷ order_code order ∷ 1 ∷ 0 ∷ 0 ∷ pad
+ident class order pad = ELFMAG ++ (class_code class ∷ order_code order ∷ EV_CURRENT ∷ 0 ∷ 0 ∷ pad)
 
 -- the bytes of a header
 unfoldable pub ehdr_bytes : Ehdr → List ℕ → List ℕ
 ehdr_bytes h pad =
-    laid h.class h.order ehdr_fields (ehdr_numbers h) (ident h.class h.order pad ++ replicate (ehdr_size h.class - 16) 0)
+    laid h.class h.order ehdr_fields (ehdr_numbers h)
+    (ident h.class h.order pad ++ replicate (ehdr_size h.class - EI_NIDENT) 0)
 
 unfoldable pub ehdr_fits : Ehdr → Bool
 ehdr_fits h = fits h.class h.entry && fits h.class h.phoff && fits h.class h.shoff
@@ -149,7 +152,8 @@ phdr_from ns = record {
 }
 
 abbrev pub phdr_numbers : Phdr → List ℕ
-phdr_numbers p = p.ptype ∷ p.flags ∷ p.offset ∷ p.vaddr ∷ p.paddr ∷ p.filesz ∷ p.memsz ∷ p.align ∷ []
+phdr_numbers p =
+    p.ptype ∷ p.flags ∷ p.offset ∷ p.vaddr ∷ p.paddr ∷ p.filesz ∷ p.memsz ∷ p.align ∷ []
 
 -- the program header that bytes hold
 unfoldable pub phdr_of : Class → Order → List ℕ → Phdr
@@ -161,7 +165,8 @@ phdr_bytes class order p = record_bytes class order (phdr_size class) phdr_field
 
 unfoldable pub phdr_fits : Class → Phdr → Bool
 phdr_fits class p =
-    fits class p.offset && fits class p.vaddr && fits class p.paddr && fits class p.filesz && fits class p.memsz && fits class p.align
+    fits class p.offset && fits class p.vaddr && fits class p.paddr && fits class p.filesz
+    && fits class p.memsz && fits class p.align
 
 -- each field is in the range of its type
 pub record IsPhdr (p : Phdr) : Type 0 where
@@ -209,7 +214,8 @@ shdr_from ns = record {
 
 abbrev pub shdr_numbers : Shdr → List ℕ
 shdr_numbers h =
-    h.name ∷ h.stype ∷ h.flags ∷ h.addr ∷ h.offset ∷ h.size ∷ h.link ∷ h.info ∷ h.addralign ∷ h.entsize ∷ []
+    h.name ∷ h.stype ∷ h.flags ∷ h.addr ∷ h.offset ∷ h.size
+    ∷ h.link ∷ h.info ∷ h.addralign ∷ h.entsize ∷ []
 
 -- the section header that bytes hold
 unfoldable pub shdr_of : Class → Order → List ℕ → Shdr
@@ -221,7 +227,8 @@ shdr_bytes class order h = record_bytes class order (shdr_size class) shdr_field
 
 unfoldable pub shdr_fits : Class → Shdr → Bool
 shdr_fits class h =
-    fits class h.flags && fits class h.addr && fits class h.offset && fits class h.size && fits class h.addralign && fits class h.entsize
+    fits class h.flags && fits class h.addr && fits class h.offset && fits class h.size
+    && fits class h.addralign && fits class h.entsize
 
 -- each field is in the range of its type
 pub record IsShdr (h : Shdr) : Type 0 where

@@ -1,6 +1,6 @@
--- The items of a section's data (gABI chapter 4, "Data Representation", "Symbol Table" and "Relocation",
--- chapter 5, "Dynamic Section"). Each has one table for both classes, by which it is read and written:
--- place and width of each field in class 32, and then in class 64.
+-- The items of a section's data (gABI chapter 4, "Data Representation", "Symbol Table" and
+-- "Relocation", chapter 5, "Dynamic Section"). Each has one table for both classes, by which it is
+-- read and written: place and width of each field in class 32, and then in class 64.
 use Rattle.std.specs.Prelude.{ℕ, ◌+◌, ◌*◌, ◌/◌, ◌%◌, ◌^◌, ◌<◌, List, [], ◌∷◌, slice_index, Bool, true, ◌&&◌, nat_lt}
 use Rattle.elf_types.specs.declared.records.Class.{Class}
 use Rattle.elf_types.specs.declared.records.Class.TheVariants.{C32, C64}
@@ -40,7 +40,8 @@ unfoldable pub half_of : Class → Order → List ℕ → ℕ
 half_of class order bytes = slice_index (numbers_in class order bytes half_fields) 0
 
 unfoldable pub half_bytes : Class → Order → ℕ → List ℕ
-half_bytes class order n = record_bytes class order (item_size kinds.Half class) half_fields (n ∷ [])
+half_bytes class order n =
+    record_bytes class order (item_size kinds.Half class) half_fields (n ∷ [])
 
 unfoldable pub word_fields : List Field
 word_fields = field (0, 4) (0, 4) ∷ []
@@ -49,7 +50,8 @@ unfoldable pub word_of : Class → Order → List ℕ → ℕ
 word_of class order bytes = slice_index (numbers_in class order bytes word_fields) 0
 
 unfoldable pub word_bytes : Class → Order → ℕ → List ℕ
-word_bytes class order n = record_bytes class order (item_size kinds.Word class) word_fields (n ∷ [])
+word_bytes class order n =
+    record_bytes class order (item_size kinds.Word class) word_fields (n ∷ [])
 
 unfoldable pub addr_fields : List Field
 addr_fields = field (0, 4) (0, 8) ∷ []
@@ -58,7 +60,8 @@ unfoldable pub addr_of : Class → Order → List ℕ → ℕ
 addr_of class order bytes = slice_index (numbers_in class order bytes addr_fields) 0
 
 unfoldable pub addr_bytes : Class → Order → ℕ → List ℕ
-addr_bytes class order n = record_bytes class order (item_size kinds.Addr class) addr_fields (n ∷ [])
+addr_bytes class order n =
+    record_bytes class order (item_size kinds.Addr class) addr_fields (n ∷ [])
 
 -- ---- Symbols ("Symbol Table")
 
@@ -88,7 +91,8 @@ unfoldable pub sym_of : Class → Order → List ℕ → Sym
 sym_of class order bytes = sym_from (numbers_in class order bytes sym_fields)
 
 unfoldable pub sym_bytes : Class → Order → Sym → List ℕ
-sym_bytes class order s = record_bytes class order (item_size kinds.Sym class) sym_fields (sym_numbers s)
+sym_bytes class order s =
+    record_bytes class order (item_size kinds.Sym class) sym_fields (sym_numbers s)
 
 unfoldable pub sym_fits : Class → Sym → Bool
 sym_fits class s = fits class s.value && fits class s.size
@@ -128,7 +132,8 @@ unfoldable pub rel_of : Class → Order → List ℕ → Rel
 rel_of class order bytes = rel_from class (numbers_in class order bytes rel_fields)
 
 unfoldable pub rel_bytes : Class → Order → Rel → List ℕ
-rel_bytes class order r = record_bytes class order (item_size kinds.Rel class) rel_fields (rel_numbers class r)
+rel_bytes class order r =
+    record_bytes class order (item_size kinds.Rel class) rel_fields (rel_numbers class r)
 
 -- whether the symbol's index and the type fit r_info
 abbrev pub info_fits : Class → ℕ → ℕ → Bool
@@ -164,16 +169,19 @@ rela_from class ns = record {
 }
 
 abbrev pub rela_numbers : Class → Rela → List ℕ
-rela_numbers class r = r.offset ∷ (r.sym * type_range class + r.rtype) ∷ unsigned_of (signed_width class) r.addend ∷ []
+rela_numbers class r =
+    r.offset ∷ (r.sym * type_range class + r.rtype) ∷ unsigned_of (signed_width class) r.addend ∷ []
 
 unfoldable pub rela_of : Class → Order → List ℕ → Rela
 rela_of class order bytes = rela_from class (numbers_in class order bytes rela_fields)
 
 unfoldable pub rela_bytes : Class → Order → Rela → List ℕ
-rela_bytes class order r = record_bytes class order (item_size kinds.Rela class) rela_fields (rela_numbers class r)
+rela_bytes class order r =
+    record_bytes class order (item_size kinds.Rela class) rela_fields (rela_numbers class r)
 
 unfoldable pub rela_fits : Class → Rela → Bool
-rela_fits class r = fits class r.offset && info_fits class r.sym r.rtype && fits_signed class r.addend
+rela_fits class r =
+    fits class r.offset && info_fits class r.sym r.rtype && fits_signed class r.addend
 
 -- each field is in the range of its type
 pub record IsRela (r : Rela) : Type 0 where
@@ -202,7 +210,8 @@ unfoldable pub dyn_of : Class → Order → List ℕ → Dyn
 dyn_of class order bytes = dyn_from class (numbers_in class order bytes dyn_fields)
 
 unfoldable pub dyn_bytes : Class → Order → Dyn → List ℕ
-dyn_bytes class order d = record_bytes class order (item_size kinds.Dyn class) dyn_fields (dyn_numbers class d)
+dyn_bytes class order d =
+    record_bytes class order (item_size kinds.Dyn class) dyn_fields (dyn_numbers class d)
 
 unfoldable pub dyn_fits : Class → Dyn → Bool
 dyn_fits class d = fits_signed class d.tag && fits class d.val

@@ -1,4 +1,5 @@
--- Numbers as bytes (gABI chapter 4, "ELF Identification", Data Encoding). A byte is a number below 256.
+-- Numbers as bytes (gABI chapter 4, "ELF Identification", Data Encoding). A byte is a number below
+-- 256.
 use Rattle.std.specs.Prelude.{ℕ, zero, suc, ◌+◌, ◌*◌, ◌-◌, ◌/◌, ◌%◌, ◌^◌, List, [], ◌∷◌, take, drop, reverse, nat_lt, if◌then◌else◌, ℤ, pos, negsuc, ◌-ℤ◌}
 use Rattle.elf_types.specs.declared.records.Order.{Order}
 use Rattle.elf_types.specs.declared.records.Order.TheVariants.{Least, Greatest}

@@ -14,7 +14,8 @@ pub trait Endian: ByteOrder {
     ghost order: { Order };
 
     // What it reads is the number of the bytes in that order.
-    ghost reads: { (width : ℕ) (bytes : List ℕ) → width ≤ length bytes → Self.number_of width bytes ≡ number order (take width bytes) };
+    ghost reads: { (width : ℕ) (bytes : List ℕ) → width ≤ length bytes
+        → Self.number_of width bytes ≡ number order (take width bytes) };
 
     // What it writes are the bytes of the number in that order.
     ghost writes: { (width n : ℕ) → Self.bytes_of width n ≡ octets order width n };
@@ -36,8 +37,9 @@ impl Endian for BigEndian {
     ghost writes = { big_writes };
 }
 
-/// Calls a function at the byte order and the class that are given as values. The choice is made once,
-/// outside the function.
+/// Calls a function at the byte order and the class that are given as values; one that is named
+/// with a record, at the form of both and that record. The choice is made once, outside the
+/// function.
 macro_rules! in_form {
     ($class:expr, $order:expr, $function:ident($($argument:expr),*)) => {
         match ($class, $order) {
@@ -45,6 +47,22 @@ macro_rules! in_form {
             (Class::C32, Order::Greatest) => $function::<BigEndian, false>($($argument),*),
             (Class::C64, Order::Least) => $function::<LittleEndian, true>($($argument),*),
             (Class::C64, Order::Greatest) => $function::<BigEndian, true>($($argument),*),
+        }
+    };
+    ($class:expr, $order:expr, $function:ident::<$record:ty>($($argument:expr),*)) => {
+        match ($class, $order) {
+            (Class::C32, Order::Least) => {
+                $function::<Form<LittleEndian, false>, $record>($($argument),*)
+            }
+            (Class::C32, Order::Greatest) => {
+                $function::<Form<BigEndian, false>, $record>($($argument),*)
+            }
+            (Class::C64, Order::Least) => {
+                $function::<Form<LittleEndian, true>, $record>($($argument),*)
+            }
+            (Class::C64, Order::Greatest) => {
+                $function::<Form<BigEndian, true>, $record>($($argument),*)
+            }
         }
     };
 }

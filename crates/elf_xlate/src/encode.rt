@@ -1,10 +1,11 @@
 //! From the memory form to the file form.
 
-ghost use Rattle.std.specs.Prelude.{◌≡◌, ◌++◌, length, take, IsTrue, OnOk, OnErr, None};
-ghost use Rattle.std.specs.List.{flat_map};
-ghost use Rattle.elf_types.specs.declared.errors.ElfError.TheVariants.{Memory};
+ghost use Rattle.std.specs.Prelude.{◌≡◌, ◌≤◌, ◌-◌, ◌*◌, ◌%◌, ◌++◌, length, map, take, IsTrue, OnOk, OnErr, IfErr, None};
+ghost use Rattle.std.specs.List.{All, flat_map};
+ghost use Rattle.elf_types.specs.Answers.{answered, FollowsBy};
+ghost use Rattle.elf_xlate.specs.declared.failure.XlateError.TheVariants.{Memory};
 ghost use Rattle.elf_xlate.specs.Fields.{class_of};
-ghost use Rattle.elf_xlate.specs.Translation.{encoded, first_unfit, first_not, RefusesUnfit};
+ghost use Rattle.elf_xlate.specs.Translation.{encoded, first_unfit, first_not, between, items_between, items_kind, items_count, file_size, to_file_refusal, xlate_refusal};
 
 use crate::byte_order::{Endian, in_form};
 use crate::content::Items;
@@ -14,9 +15,9 @@ use crate::records::{Codec, Form};
 use byteorder::{BigEndian, LittleEndian};
 use elf_types::{Class, Dyn, ElfError, Octets, Order, Rel, Rela, Sym};
 
-/// Appends the file form of items. It refuses in this order: `Unfit` with the index of the first item
-/// that does not fit the class, exactly where there is one, then `Memory`. After a refusal `out` is as
-/// before.
+/// Appends the file form of items. It refuses in this order: `Unfit` with the index of the first
+/// item that does not fit the class, exactly where there is one, then `Memory`. After a refusal
+/// `out` is as before.
 ///
 /// Source: gelf_xlatetof of gelf(3E).
 pub fn to_file(
@@ -27,7 +28,9 @@ pub fn to_file(
 ) -> Result<(), XlateError>
     ensures ok { OnOk result (out.new ≡ out.old ++ encoded class order items.now) }
     ensures unchanged { OnErr result (out.new ≡ out.old) }
-    ensures cause { RefusesUnfit result (first_unfit class items.now) }
+    ensures answer { FollowsBy (λ done. done) xlate_refusal result
+        (answered (to_file_refusal class items.now) tt) }
+    ensures memory { IfErr result (λ e. e ≡ Memory → first_unfit class items.now ≡ None) }
 {
     let length = out.len();
     if in_form!(class, order, encode_items(items, out)) {
@@ -40,8 +43,8 @@ pub fn to_file(
     }
 }
 
-// Appends the bytes of items, each of which is tested as it is written, in one pass. Where it answers false,
-// one does not fit or there is no memory, and there may be bytes of some.
+/// Appends the bytes of items, each of which is tested as it is written, in one pass. Where it
+/// answers false, one does not fit or there is no memory, and there may be bytes of some.
 #[tactic(auto, unfolding(crate::specs::Translation::encoded, crate::specs::Translation::first_unfit))]
 fn encode_items<T: Endian, const WIDE: bool>(items: &Items, out: &mut Octets) -> bool
     ensures fits { IsTrue result → first_unfit (class_of WIDE) items.now ≡ None }
@@ -50,7 +53,7 @@ fn encode_items<T: Endian, const WIDE: bool>(items: &Items, out: &mut Octets) ->
 {
     match items {
         Items::Empty => true,
-        Items::Bytes(l) => out.extend(l.as_slice()).is_ok(),
+        Items::Bytes(l) => append_bytes(l.as_slice(), out),
         Items::Half(l) => encode_list::<Form<T, WIDE>, u16>(l.as_slice(), out),
         Items::Word(l) => encode_list::<Form<T, WIDE>, u32>(l.as_slice(), out),
         Items::Addr(l) => encode_list::<Form<T, WIDE>, u64>(l.as_slice(), out),
@@ -61,7 +64,16 @@ fn encode_items<T: Endian, const WIDE: bool>(items: &Items, out: &mut Octets) ->
     }
 }
 
-// Appends the bytes of a list.
+/// Appends bytes as they are.
+#[tactic(auto, using(crate::proofs::Bytes::lowest_same))]
+fn append_bytes(bytes: &[u8], out: &mut Octets) -> bool
+    ensures bytes { IsTrue result → out.new ≡ out.old ++ map (λ n. n % 256) bytes.now }
+    ensures front { take (length out.old) out.new ≡ out.old }
+{
+    out.extend(bytes).is_ok()
+}
+
+/// Appends the bytes of a list.
 fn encode_list<C: Codec<R>, R: Copy>(items: &[R], out: &mut Octets) -> bool
     ensures fits { IsTrue result → first_not C.fitting items.now ≡ None }
     ensures bytes { IsTrue result → out.new ≡ out.old ++ flat_map C.bytes_of items.now }
@@ -71,12 +83,13 @@ fn encode_list<C: Codec<R>, R: Copy>(items: &[R], out: &mut Octets) -> bool
     if let Err(_) = out.reserve((items.len() as u64).saturating_mul(size as u64)) {
         return false;
     }
-    let zeros = [0; 24];
+    let zeros = [0; 64];
     encode_each::<C, R>(items, &zeros[..size], out)
 }
 
-// Appends the bytes of each item of a list. An item is read whole before anything is written, so that the
-// compiler, which can't tell that the two do not overlap, needn't keep the order of reads and writes.
+/// Appends the bytes of each item of a list. An item is read whole before anything is written, so
+/// that the compiler, which can't tell that the two do not overlap, needn't keep the order of reads
+/// and writes.
 fn encode_each<C: Codec<R>, R: Copy>(items: &[R], zeros: &[u8], out: &mut Octets) -> bool
     requires { length zeros.now ≡ C.size }
     ensures fits { IsTrue result → first_not C.fitting items.now ≡ None }
@@ -95,9 +108,10 @@ fn encode_each<C: Codec<R>, R: Copy>(items: &[R], zeros: &[u8], out: &mut Octets
     true
 }
 
-// Appends the bytes of an item. They are written where they stay, over as many zeros: what is written to a
-// buffer in narrow pieces and copied from it in broad ones makes the processor wait. The place is found from
-// the end, where the compiler sees that it is that of the zeros, and writes none.
+/// Appends the bytes of an item. They are written where they stay, over as many zeros: what is
+/// written to a buffer in narrow pieces and copied from it in broad ones makes the processor wait.
+/// The place is found from the end, where the compiler sees that it is that of the zeros, and
+/// writes none.
 fn append_item<C: Codec<R>, R>(item: &R, zeros: &[u8], out: &mut Octets) -> Result<(), ElfError>
     requires size { length zeros.now ≡ C.size }
     requires fits { IsTrue (C.fitting item.now) }
@@ -109,4 +123,68 @@ fn append_item<C: Codec<R>, R>(item: &R, zeros: &[u8], out: &mut Octets) -> Resu
     let (_, room) = out.as_mut_slice().split_at_mut(place);
     C::encode(item, room);
     Ok(())
+}
+
+/// Writes the file form of the items from the index `from` on and before the index `to`. They are
+/// items of the list, all items fit the class, and `out` has just as many bytes as the form. It
+/// refuses nothing and takes no memory.
+///
+/// Source: gelf_xlatetof of gelf(3E).
+pub fn put_items(items: &Items, class: Class, order: Order, from: u64, to: u64, out: &mut [u8])
+    requires order { from ≤ to }
+    requires inside { to ≤ items_count items.now }
+    requires room { length out.old ≡ file_size (items_kind items.now) class (to - from) }
+    requires fits { first_unfit class items.now ≡ None }
+    ensures { out.new ≡ encoded class order (items_between from to items.now) }
+{
+    in_form!(
+        class,
+        order,
+        encode_range(items, from as usize, to as usize, out)
+    )
+}
+
+/// The same in a byte order and a class that are types.
+#[tactic(auto, unfolding(crate::specs::Translation::encoded, crate::specs::Translation::first_unfit), using(crate::proofs::Pieces::range_passes))]
+fn encode_range<T: Endian, const WIDE: bool>(items: &Items, from: usize, to: usize, out: &mut [u8])
+    requires order { from ≤ to }
+    requires inside { to ≤ items_count items.now }
+    requires room { length out.old ≡ file_size (items_kind items.now) (class_of WIDE) (to - from) }
+    requires fits { first_unfit (class_of WIDE) items.now ≡ None }
+    ensures { out.new ≡ encoded (class_of WIDE) T.order (items_between from to items.now) }
+{
+    match items {
+        Items::Empty => {}
+        Items::Bytes(l) => put_bytes(&l.as_slice()[from..to], out),
+        Items::Half(l) => put_list::<Form<T, WIDE>, u16>(&l.as_slice()[from..to], out),
+        Items::Word(l) => put_list::<Form<T, WIDE>, u32>(&l.as_slice()[from..to], out),
+        Items::Addr(l) => put_list::<Form<T, WIDE>, u64>(&l.as_slice()[from..to], out),
+        Items::Sym(l) => put_list::<Form<T, WIDE>, Sym>(&l.as_slice()[from..to], out),
+        Items::Rel(l) => put_list::<Form<T, WIDE>, Rel>(&l.as_slice()[from..to], out),
+        Items::Rela(l) => put_list::<Form<T, WIDE>, Rela>(&l.as_slice()[from..to], out),
+        Items::Dyn(l) => put_list::<Form<T, WIDE>, Dyn>(&l.as_slice()[from..to], out),
+    }
+}
+
+/// Writes bytes as they are.
+#[tactic(auto, using(crate::proofs::Bytes::lowest_same))]
+fn put_bytes(bytes: &[u8], out: &mut [u8])
+    requires { length out.old ≡ length bytes.now }
+    ensures { out.new ≡ map (λ n. n % 256) bytes.now }
+{
+    out.copy_from_slice(bytes);
+}
+
+/// Writes the bytes of each item of a list.
+fn put_list<C: Codec<R>, R: Copy>(items: &[R], out: &mut [u8])
+    requires room { length out.old ≡ C.size * length items.now }
+    requires fits { All (λ x. IsTrue (C.fitting x)) items.now }
+    ensures { out.new ≡ flat_map C.bytes_of items.now }
+{
+    let size = C::file_size();
+    for (i, item) in items.iter().enumerate() {
+        let item = *item;
+        let at = i * size;
+        C::encode(&item, &mut out[at..at + size]);
+    }
 }

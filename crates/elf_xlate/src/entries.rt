@@ -3,7 +3,7 @@
 ghost use Rattle.std.specs.Prelude.{◌≡◌, ◌+◌, ◌*◌, ◌/◌, ◌%◌, IsTrue};
 ghost use Rattle.elf_types.specs.declared.records.Kind.TheVariants as kinds;
 ghost use Rattle.elf_xlate.specs.Fields.{class_of, fits};
-ghost use Rattle.elf_xlate.specs.Items.{item_size, type_range, info_fits, sym_of, sym_bytes, sym_fits, rel_of, rel_bytes, rel_fits, rela_of, rela_bytes, rela_fits, dyn_of, dyn_bytes, dyn_fits};
+ghost use Rattle.elf_xlate.specs.Items.{item_size, type_range, info_fits, sym_of, sym_bytes, sym_fits, IsSym, rel_of, rel_bytes, rel_fits, IsRel, rela_of, rela_bytes, rela_fits, IsRela, dyn_of, dyn_bytes, dyn_fits, IsDyn};
 
 use crate::byte_order::Endian;
 use crate::fields::{
@@ -23,6 +23,8 @@ impl<T: Endian, const WIDE: bool> Codec<Sym> for Form<T, WIDE> {
 
     ghost bytes_of = { sym_bytes (class_of WIDE) T.order };
 
+    ghost in_range = { IsSym };
+
     ghost fitting = { sym_fits (class_of WIDE) };
 
     ghost is_some = { Prim.search rules };
@@ -33,7 +35,7 @@ impl<T: Endian, const WIDE: bool> Codec<Sym> for Form<T, WIDE> {
         if WIDE { 24 } else { 16 }
     }
 
-    #[tactic(auto, unfolding(crate::specs::Items::sym_of, crate::specs::Items::sym_fields))]
+    #[tactic(auto, unfolding(crate::specs::Items::sym_of, crate::specs::Items::sym_fields, crate::specs::Items::sym_fits))]
     fn decode(bytes: &[u8]) -> Sym {
         Sym {
             name: get_field!(T, WIDE, bytes, 0:4, 0:4),
@@ -60,7 +62,7 @@ impl<T: Endian, const WIDE: bool> Codec<Sym> for Form<T, WIDE> {
     }
 }
 
-// The symbol's index in `r_info`, `ELF32_R_SYM` or `ELF64_R_SYM` (gABI, "Relocation").
+/// The symbol's index in `r_info`, `ELF32_R_SYM` or `ELF64_R_SYM` (gABI, "Relocation").
 fn info_sym<const WIDE: bool>(info: u64) -> u32
     requires { IsTrue (fits (class_of WIDE) info) }
     ensures { result ≡ info / type_range (class_of WIDE) }
@@ -72,7 +74,7 @@ fn info_sym<const WIDE: bool>(info: u64) -> u32
     }
 }
 
-// The type in `r_info`, `ELF32_R_TYPE` or `ELF64_R_TYPE`.
+/// The type in `r_info`, `ELF32_R_TYPE` or `ELF64_R_TYPE`.
 fn info_type<const WIDE: bool>(info: u64) -> u32
     ensures { result ≡ info % type_range (class_of WIDE) }
 {
@@ -83,7 +85,7 @@ fn info_type<const WIDE: bool>(info: u64) -> u32
     }
 }
 
-// The `r_info` of a symbol's index and a type, `ELF32_R_INFO` or `ELF64_R_INFO`.
+/// The `r_info` of a symbol's index and a type, `ELF32_R_INFO` or `ELF64_R_INFO`.
 fn info_of<const WIDE: bool>(sym: u32, rtype: u32) -> u64
     requires { IsTrue (info_fits (class_of WIDE) sym rtype) }
     ensures fits { IsTrue (fits (class_of WIDE) result) }
@@ -105,6 +107,8 @@ impl<T: Endian, const WIDE: bool> Codec<Rel> for Form<T, WIDE> {
 
     ghost bytes_of = { rel_bytes (class_of WIDE) T.order };
 
+    ghost in_range = { IsRel };
+
     ghost fitting = { rel_fits (class_of WIDE) };
 
     ghost is_some = { Prim.search rules };
@@ -115,7 +119,7 @@ impl<T: Endian, const WIDE: bool> Codec<Rel> for Form<T, WIDE> {
         if WIDE { 16 } else { 8 }
     }
 
-    #[tactic(auto, unfolding(crate::specs::Items::rel_of, crate::specs::Items::rel_fields))]
+    #[tactic(auto, unfolding(crate::specs::Items::rel_of, crate::specs::Items::rel_fields, crate::specs::Items::rel_fits))]
     fn decode(bytes: &[u8]) -> Rel {
         let info = get_field!(T, WIDE, bytes, 4:4, 8:8);
         Rel {
@@ -146,6 +150,8 @@ impl<T: Endian, const WIDE: bool> Codec<Rela> for Form<T, WIDE> {
 
     ghost bytes_of = { rela_bytes (class_of WIDE) T.order };
 
+    ghost in_range = { IsRela };
+
     ghost fitting = { rela_fits (class_of WIDE) };
 
     ghost is_some = { Prim.search rules };
@@ -156,7 +162,7 @@ impl<T: Endian, const WIDE: bool> Codec<Rela> for Form<T, WIDE> {
         if WIDE { 24 } else { 12 }
     }
 
-    #[tactic(auto, unfolding(crate::specs::Items::rela_of, crate::specs::Items::rela_fields))]
+    #[tactic(auto, unfolding(crate::specs::Items::rela_of, crate::specs::Items::rela_fields, crate::specs::Items::rela_fits))]
     fn decode(bytes: &[u8]) -> Rela {
         let info = get_field!(T, WIDE, bytes, 4:4, 8:8);
         Rela {
@@ -189,6 +195,8 @@ impl<T: Endian, const WIDE: bool> Codec<Dyn> for Form<T, WIDE> {
 
     ghost bytes_of = { dyn_bytes (class_of WIDE) T.order };
 
+    ghost in_range = { IsDyn };
+
     ghost fitting = { dyn_fits (class_of WIDE) };
 
     ghost is_some = { Prim.search rules };
@@ -199,7 +207,7 @@ impl<T: Endian, const WIDE: bool> Codec<Dyn> for Form<T, WIDE> {
         if WIDE { 16 } else { 8 }
     }
 
-    #[tactic(auto, unfolding(crate::specs::Items::dyn_of, crate::specs::Items::dyn_fields))]
+    #[tactic(auto, unfolding(crate::specs::Items::dyn_of, crate::specs::Items::dyn_fields, crate::specs::Items::dyn_fits))]
     fn decode(bytes: &[u8]) -> Dyn {
         Dyn {
             tag: get_field!(T, WIDE, bytes, 0:4 s, 0:8 s),

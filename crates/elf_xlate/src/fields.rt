@@ -51,7 +51,8 @@ pub fn get_four<T: Endian, const WIDE: bool>(bytes: &[u8], narrow: usize, broad:
 pub fn get_native<T: Endian, const WIDE: bool>(bytes: &[u8], narrow: usize, broad: usize) -> u64
     requires { (if WIDE then broad + 8 else narrow + 4) ≤ length bytes.now }
     ensures fits { IsTrue (fits (class_of WIDE) result) }
-    ensures value { result ≡ number_in (class_of WIDE) T.order bytes.now (field (narrow, 4) (broad, 8)) }
+    ensures value { result ≡ number_in (class_of WIDE) T.order bytes.now
+        (field (narrow, 4) (broad, 8)) }
 {
     if WIDE {
         T::read_u64(&bytes[broad..])
@@ -65,7 +66,9 @@ pub fn get_native<T: Endian, const WIDE: bool>(bytes: &[u8], narrow: usize, broa
 #[tactic(auto, unfolding(crate::specs::Fields::number_in, crate::specs::Numbers::number_at, crate::specs::Numbers::signed_of))]
 pub fn get_signed<T: Endian, const WIDE: bool>(bytes: &[u8], narrow: usize, broad: usize) -> i64
     requires { (if WIDE then broad + 8 else narrow + 4) ≤ length bytes.now }
-    ensures { result ≡ signed_of (signed_width (class_of WIDE)) (number_in (class_of WIDE) T.order bytes.now (field (narrow, 4) (broad, 8))) }
+    ensures fits { IsTrue (fits_signed (class_of WIDE) result) }
+    ensures value { result ≡ signed_of (signed_width (class_of WIDE))
+        (number_in (class_of WIDE) T.order bytes.now (field (narrow, 4) (broad, 8))) }
 {
     if WIDE {
         T::read_i64(&bytes[broad..])
@@ -74,7 +77,7 @@ pub fn get_signed<T: Endian, const WIDE: bool>(bytes: &[u8], narrow: usize, broa
     }
 }
 
-// Writes a two-byte number at a place.
+/// Writes a two-byte number at a place.
 #[inline(always)]
 fn write_two<T: Endian>(out: &mut [u8], place: usize, n: u16)
     requires { place + 2 ≤ length out.old }
@@ -83,7 +86,7 @@ fn write_two<T: Endian>(out: &mut [u8], place: usize, n: u16)
     T::write_u16(&mut out[place..], n);
 }
 
-// Writes a four-byte number at a place.
+/// Writes a four-byte number at a place.
 #[inline(always)]
 fn write_four<T: Endian>(out: &mut [u8], place: usize, n: u32)
     requires { place + 4 ≤ length out.old }
@@ -92,7 +95,7 @@ fn write_four<T: Endian>(out: &mut [u8], place: usize, n: u32)
     T::write_u32(&mut out[place..], n);
 }
 
-// Writes an eight-byte number at a place.
+/// Writes an eight-byte number at a place.
 #[inline(always)]
 fn write_eight<T: Endian>(out: &mut [u8], place: usize, n: u64)
     requires { place + 8 ≤ length out.old }
@@ -106,7 +109,8 @@ fn write_eight<T: Endian>(out: &mut [u8], place: usize, n: u64)
 #[tactic(auto, using(crate::proofs::Written::set_is_written), unfolding(crate::specs::Fields::written_in))]
 pub fn put_one<T: Endian, const WIDE: bool>(out: &mut [u8], narrow: usize, broad: usize, n: u8)
     requires { (if WIDE then broad else narrow) + 1 ≤ length out.old }
-    ensures { out.new ≡ written_in (class_of WIDE) T.order (field (narrow, 1) (broad, 1)) n out.old }
+    ensures { out.new ≡ written_in (class_of WIDE) T.order (field (narrow, 1) (broad, 1)) n
+        out.old }
 {
     if WIDE {
         out[broad] = n;
@@ -120,7 +124,8 @@ pub fn put_one<T: Endian, const WIDE: bool>(out: &mut [u8], narrow: usize, broad
 #[tactic(auto, unfolding(crate::specs::Fields::written_in))]
 pub fn put_two<T: Endian, const WIDE: bool>(out: &mut [u8], narrow: usize, broad: usize, n: u16)
     requires { (if WIDE then broad else narrow) + 2 ≤ length out.old }
-    ensures { out.new ≡ written_in (class_of WIDE) T.order (field (narrow, 2) (broad, 2)) n out.old }
+    ensures { out.new ≡ written_in (class_of WIDE) T.order (field (narrow, 2) (broad, 2)) n
+        out.old }
 {
     if WIDE {
         write_two::<T>(out, broad, n);
@@ -134,7 +139,8 @@ pub fn put_two<T: Endian, const WIDE: bool>(out: &mut [u8], narrow: usize, broad
 #[tactic(auto, unfolding(crate::specs::Fields::written_in))]
 pub fn put_four<T: Endian, const WIDE: bool>(out: &mut [u8], narrow: usize, broad: usize, n: u32)
     requires { (if WIDE then broad else narrow) + 4 ≤ length out.old }
-    ensures { out.new ≡ written_in (class_of WIDE) T.order (field (narrow, 4) (broad, 4)) n out.old }
+    ensures { out.new ≡ written_in (class_of WIDE) T.order (field (narrow, 4) (broad, 4)) n
+        out.old }
 {
     if WIDE {
         write_four::<T>(out, broad, n);
@@ -149,7 +155,8 @@ pub fn put_four<T: Endian, const WIDE: bool>(out: &mut [u8], narrow: usize, broa
 pub fn put_native<T: Endian, const WIDE: bool>(out: &mut [u8], narrow: usize, broad: usize, n: u64)
     requires room { (if WIDE then broad + 8 else narrow + 4) ≤ length out.old }
     requires fits { IsTrue (fits (class_of WIDE) n) }
-    ensures { out.new ≡ written_in (class_of WIDE) T.order (field (narrow, 4) (broad, 8)) n out.old }
+    ensures { out.new ≡ written_in (class_of WIDE) T.order (field (narrow, 4) (broad, 8)) n
+        out.old }
 {
     if WIDE {
         write_eight::<T>(out, broad, n);
@@ -164,7 +171,8 @@ pub fn put_native<T: Endian, const WIDE: bool>(out: &mut [u8], narrow: usize, br
 pub fn put_signed<T: Endian, const WIDE: bool>(out: &mut [u8], narrow: usize, broad: usize, n: i64)
     requires room { (if WIDE then broad + 8 else narrow + 4) ≤ length out.old }
     requires fits { IsTrue (fits_signed (class_of WIDE) n) }
-    ensures { out.new ≡ written_in (class_of WIDE) T.order (field (narrow, 4) (broad, 8)) (unsigned_of (signed_width (class_of WIDE)) n) out.old }
+    ensures { out.new ≡ written_in (class_of WIDE) T.order (field (narrow, 4) (broad, 8))
+        (unsigned_of (signed_width (class_of WIDE)) n) out.old }
 {
     if WIDE {
         write_eight::<T>(out, broad, n.cast_unsigned());
@@ -173,22 +181,22 @@ pub fn put_signed<T: Endian, const WIDE: bool>(out: &mut [u8], narrow: usize, br
     }
 }
 
-/// The number in the field at these places and widths, in class 32 and then in class 64; `s` marks a
-/// signed one.
+/// The number in the field at these places and widths, in class 32 and then in class 64; `s` marks
+/// a signed one.
 macro_rules! get_field {
-    ($order:ident, $wide:ident, $bytes:ident, $narrow:literal : 1, $broad:literal : 1) => {
+    ($order:ident, $wide:ident, $bytes:ident, $narrow:tt : 1, $broad:tt : 1) => {
         get_one::<$order, $wide>($bytes, $narrow, $broad)
     };
-    ($order:ident, $wide:ident, $bytes:ident, $narrow:literal : 2, $broad:literal : 2) => {
+    ($order:ident, $wide:ident, $bytes:ident, $narrow:tt : 2, $broad:tt : 2) => {
         get_two::<$order, $wide>($bytes, $narrow, $broad)
     };
-    ($order:ident, $wide:ident, $bytes:ident, $narrow:literal : 4, $broad:literal : 4) => {
+    ($order:ident, $wide:ident, $bytes:ident, $narrow:tt : 4, $broad:tt : 4) => {
         get_four::<$order, $wide>($bytes, $narrow, $broad)
     };
-    ($order:ident, $wide:ident, $bytes:ident, $narrow:literal : 4, $broad:literal : 8) => {
+    ($order:ident, $wide:ident, $bytes:ident, $narrow:tt : 4, $broad:tt : 8) => {
         get_native::<$order, $wide>($bytes, $narrow, $broad)
     };
-    ($order:ident, $wide:ident, $bytes:ident, $narrow:literal : 4 s, $broad:literal : 8 s) => {
+    ($order:ident, $wide:ident, $bytes:ident, $narrow:tt : 4 s, $broad:tt : 8 s) => {
         get_signed::<$order, $wide>($bytes, $narrow, $broad)
     };
 }
@@ -198,19 +206,19 @@ pub(crate) use get_field;
 /// Writes a number into the field at these places and widths, in class 32 and then in class 64; `s`
 /// marks a signed one.
 macro_rules! put_field {
-    ($order:ident, $wide:ident, $out:ident, $narrow:literal : 1, $broad:literal : 1, $n:expr) => {
+    ($order:ident, $wide:ident, $out:ident, $narrow:tt : 1, $broad:tt : 1, $n:expr) => {
         put_one::<$order, $wide>($out, $narrow, $broad, $n)
     };
-    ($order:ident, $wide:ident, $out:ident, $narrow:literal : 2, $broad:literal : 2, $n:expr) => {
+    ($order:ident, $wide:ident, $out:ident, $narrow:tt : 2, $broad:tt : 2, $n:expr) => {
         put_two::<$order, $wide>($out, $narrow, $broad, $n)
     };
-    ($order:ident, $wide:ident, $out:ident, $narrow:literal : 4, $broad:literal : 4, $n:expr) => {
+    ($order:ident, $wide:ident, $out:ident, $narrow:tt : 4, $broad:tt : 4, $n:expr) => {
         put_four::<$order, $wide>($out, $narrow, $broad, $n)
     };
-    ($order:ident, $wide:ident, $out:ident, $narrow:literal : 4, $broad:literal : 8, $n:expr) => {
+    ($order:ident, $wide:ident, $out:ident, $narrow:tt : 4, $broad:tt : 8, $n:expr) => {
         put_native::<$order, $wide>($out, $narrow, $broad, $n)
     };
-    ($order:ident, $wide:ident, $out:ident, $narrow:literal : 4 s, $broad:literal : 8 s, $n:expr) => {
+    ($order:ident, $wide:ident, $out:ident, $narrow:tt : 4 s, $broad:tt : 8 s, $n:expr) => {
         put_signed::<$order, $wide>($out, $narrow, $broad, $n)
     };
 }

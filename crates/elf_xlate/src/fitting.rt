@@ -41,8 +41,8 @@ pub fn relocation_fits(class: Class, sym: u32, rtype: u32) -> bool
     }
 }
 
-/// Whether a header's fields fit its class: in class 32 the entry and the places of the two tables are
-/// below 2^32. The two counts and the string index are not looked at. It takes no memory.
+/// Whether a header's fields fit its class: in class 32 the entry and the places of the two tables
+/// are below 2^32. The two counts and the string index are not looked at. It takes no memory.
 ///
 /// Source: gABI chapter 4, "ELF Header".
 #[tactic(auto, unfolding(crate::specs::Headers::ehdr_fits))]
@@ -52,7 +52,8 @@ pub fn ehdr_fits(h: &Ehdr) -> bool
     number_fits(h.class, h.entry) && number_fits(h.class, h.phoff) && number_fits(h.class, h.shoff)
 }
 
-/// Whether a program header's fields fit a class: in class 32 all are below 2^32. It takes no memory.
+/// Whether a program header's fields fit a class: in class 32 all are below 2^32. It takes no
+/// memory.
 ///
 /// Source: gABI chapter 5, "Program Header".
 #[tactic(auto, unfolding(crate::specs::Headers::phdr_fits))]
@@ -67,7 +68,8 @@ pub fn phdr_fits(p: &Phdr, class: Class) -> bool
         && number_fits(class, p.align)
 }
 
-/// Whether a section header's fields fit a class: in class 32 all are below 2^32. It takes no memory.
+/// Whether a section header's fields fit a class: in class 32 all are below 2^32. It takes no
+/// memory.
 ///
 /// Source: gABI chapter 4, "Sections".
 #[tactic(auto, unfolding(crate::specs::Headers::shdr_fits))]
@@ -82,9 +84,9 @@ pub fn shdr_fits(h: &Shdr, class: Class) -> bool
         && number_fits(class, h.entsize)
 }
 
-/// The index of the first item that does not fit its fields in a class, or None exactly where all fit.
-/// In class 32 a number of four bytes is below 2^32 and a signed one from -2^31 to 2^31 - 1, the index
-/// of a relocation's symbol is below 2^24 and its type below 2^8. It takes no memory.
+/// The index of the first item that does not fit its fields in a class, or None exactly where all
+/// fit. In class 32 a number of four bytes is below 2^32 and a signed one from -2^31 to 2^31 - 1,
+/// the index of a relocation's symbol is below 2^24 and its type below 2^8. It takes no memory.
 ///
 /// Source: gABI chapter 4, "Data Representation" and "Relocation".
 #[tactic(auto, using(crate::proofs::Broad::none_unfit))]
@@ -97,7 +99,7 @@ pub fn unfit(items: &Items, class: Class) -> Option<u64>
     }
 }
 
-// The same in class 32.
+/// The same in class 32.
 #[tactic(auto, unfolding(crate::specs::Translation::first_unfit))]
 fn narrow_unfit(items: &Items) -> Option<u64>
     ensures { result ≡ first_unfit C32 items.now }
@@ -112,14 +114,14 @@ fn narrow_unfit(items: &Items) -> Option<u64>
     }
 }
 
-// The same of a list.
+/// The same of a list.
 fn first_not_narrow<T: Fit>(items: &[T]) -> Option<usize>
     ensures { result ≡ first_not (T.fitting C32) items.now }
 {
     items.iter().position(|item| !item.fits_class(Class::C32))
 }
 
-// An index as a number of 64 bits.
+/// An index as a number of 64 bits.
 fn index_of(index: Option<usize>) -> Option<u64>
     ensures { result ≡ index }
 {

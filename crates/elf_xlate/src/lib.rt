@@ -3,34 +3,38 @@
 #![tactic(auto)]
 
 mod byte_order;
-pub mod content;
+mod content;
 mod decode;
 mod encode;
 mod entries;
-pub mod failure;
+mod failure;
 mod fields;
-pub mod fitting;
-pub mod headers;
+mod fitting;
+mod header_tables;
+mod headers;
 mod laws;
-pub mod numbers;
+mod numbers;
 mod records;
+mod single;
 mod sizes;
 
 pub use content::Items;
 pub use decode::to_memory;
-pub use encode::to_file;
+pub use encode::{put_items, to_file};
 pub use failure::XlateError;
 pub use fitting::{ehdr_fits, phdr_fits, shdr_fits, unfit};
-pub use headers::{get_ehdr, get_phdr, get_shdr, put_ehdr, put_phdr, put_shdr};
+pub use header_tables::{get_phdr, get_phdrs, get_shdr, get_shdrs, put_phdr, put_shdr};
+pub use headers::{get_ehdr, put_ehdr};
 pub use laws::{
     decodes_as_encoded, ehdr_both_ways, encodes_as_decoded, phdr_both_ways, shdr_both_ways,
 };
 pub use numbers::number;
-pub use sizes::fsize;
+pub use single::{get_addr, get_dyn, get_half, get_rel, get_rela, get_sym, get_word};
+pub use sizes::{ehdr_size, fsize, item_size, phdr_size, shdr_size};
 
 #[cfg(test)]
-mod extreme_tests;
-#[cfg(test)]
 mod header_tests;
+#[cfg(test)]
+mod test_forms;
 #[cfg(test)]
 mod tests;

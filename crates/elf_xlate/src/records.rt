@@ -1,6 +1,6 @@
 //! Items as records: how one item is read and written in a byte order and a class.
 
-ghost use Rattle.std.specs.Prelude.{ℕ, List, Bool, true, length, IsTrue, ◌≡◌, ◌≤◌, ◌<◌};
+ghost use Rattle.std.specs.Prelude.{ℕ, List, Bool, true, length, IsTrue, ◌≡◌, ◌≤◌, ◌<◌, ◌^◌};
 ghost use Rattle.elf_types.specs.declared.records.Kind.TheVariants as kinds;
 ghost use Rattle.elf_xlate.specs.Fields.{class_of, fits};
 ghost use Rattle.elf_xlate.specs.Items.{item_size, half_of, half_bytes, word_of, word_bytes, addr_of, addr_bytes};
@@ -28,6 +28,9 @@ pub trait Codec<R> {
     // The bytes of an item.
     ghost bytes_of: { R → List ℕ };
 
+    // Each field of an item is in the range of its type.
+    ghost in_range: { R → Type 0 };
+
     // Whether an item fits its fields.
     ghost fitting: { R → Bool };
 
@@ -38,7 +41,9 @@ pub trait Codec<R> {
     /// The item that bytes hold.
     fn decode(bytes: &[u8]) -> R
         requires { length bytes.now ≡ size }
-        ensures { result ≡ item_of bytes.now };
+        ensures value { result ≡ item_of bytes.now }
+        ensures ranged { in_range result }
+        ensures fits { IsTrue (fitting result) };
 
     /// Whether the item fits its fields.
     fn fits(item: &R) -> bool
@@ -53,8 +58,27 @@ pub trait Codec<R> {
     // An item has a byte.
     ghost is_some: { 0 < size };
 
-    // An item has at most 24 bytes.
-    ghost is_small: { size ≤ 24 };
+    // An item has at most 64 bytes.
+    ghost is_small: { size ≤ 64 };
+}
+
+/// The item that bytes hold.
+pub fn decode_one<C: Codec<R>, R>(bytes: &[u8]) -> R
+    requires { length bytes.now ≡ C.size }
+    ensures value { result ≡ C.item_of bytes.now }
+    ensures ranged { C.in_range result }
+    ensures fits { IsTrue (C.fitting result) }
+{
+    C::decode(bytes)
+}
+
+/// Writes an item's bytes.
+pub fn encode_one<C: Codec<R>, R>(item: &R, out: &mut [u8])
+    requires room { length out.old ≡ C.size }
+    requires fits { IsTrue (C.fitting item.now) }
+    ensures { out.new ≡ C.bytes_of item.now }
+{
+    C::encode(item, out);
 }
 
 impl<T: Endian, const WIDE: bool> Codec<u16> for Form<T, WIDE> {
@@ -65,6 +89,8 @@ impl<T: Endian, const WIDE: bool> Codec<u16> for Form<T, WIDE> {
     ghost item_of = { half_of (class_of WIDE) T.order };
 
     ghost bytes_of = { half_bytes (class_of WIDE) T.order };
+
+    ghost in_range = { λ n. n < 2 ^ 16 };
 
     ghost fitting = { λ _. true };
 
@@ -100,6 +126,8 @@ impl<T: Endian, const WIDE: bool> Codec<u32> for Form<T, WIDE> {
 
     ghost bytes_of = { word_bytes (class_of WIDE) T.order };
 
+    ghost in_range = { λ n. n < 2 ^ 32 };
+
     ghost fitting = { λ _. true };
 
     ghost is_some = { Prim.search rules };
@@ -133,6 +161,8 @@ impl<T: Endian, const WIDE: bool> Codec<u64> for Form<T, WIDE> {
     ghost item_of = { addr_of (class_of WIDE) T.order };
 
     ghost bytes_of = { addr_bytes (class_of WIDE) T.order };
+
+    ghost in_range = { λ n. n < 2 ^ 64 };
 
     ghost fitting = { fits (class_of WIDE) };
 

@@ -1,13 +1,14 @@
 -- Reading from the front of bytes, one byte after the other.
-use Rattle.std.proofs.Common.{◌≡◌, ℕ, ◌+◌, ◌*◌, ◌%◌, ◌^◌, ◌<◌, ◌≤◌, Bool, List, [], ◌∷◌, Result, Ok, Err, refl, sym, ap, ◌∙◌, arith}
+use Rattle.std.proofs.Common.{◌≡◌, ℕ, ◌+◌, ◌*◌, ◌%◌, ◌^◌, ◌<◌, ◌≤◌, Bool, List, [], ◌∷◌, Result, Ok, Err, IfSome, refl, sym, ap, ◌∙◌, arith}
 use Rattle.std.proofs.Math.Nat.{add-mod-mod, mod-add-mod}
 use Rattle.std.proofs.lemmas.Nat.{mul-mod_first}
 use Rattle.std.proofs.lemmas.Bool.{lt-ltb, le-ltb}
 use Rattle.line_table.specs.declared.faults.LineWhy.{LineWhy}
 use Rattle.line_table.specs.declared.faults.Stop.{Stop}
 use Rattle.line_table.specs.declared.faults.Stop.TheVariants.{Memory, Why}
-use Rattle.line_table.specs.Reading.{◌>>=◌, byte_at, digit, leb128, leb128_at}
-use Rattle.line_table.specs.Outcomes.{Refuses}
+use Rattle.elf_types.specs.Answers.{◌>>=◌}
+use Rattle.line_table.specs.Reading.{byte_at, digit, leb128}
+use Rattle.line_table.specs.Outcomes.{why_of}
 
 abbrev read : {A : Type 0} → A → Result A LineWhy
 read x = Ok x
@@ -24,14 +25,6 @@ byte_read (x ∷ bytes) rest b e = ap (λ (p : ℕ × List ℕ). p.0 ∷ p.1) (s
 -- what a number so far and the digits to come make
 abbrev pub raised : ℕ → ℕ → Result (ℕ × List ℕ) LineWhy → Result (ℕ × List ℕ) LineWhy
 raised number worth high = high >>= λ x. Ok ((number + worth * x.0) % 2 ^ 64, x.1)
-
-raised_nothing : (high : Result (ℕ × List ℕ) LineWhy) → raised 0 1 high ≡ (high >>= λ x. Ok (x.0 % 2 ^ 64, x.1))
-raised_nothing (Ok x) = ap (λ (n : ℕ). read (n % 2 ^ 64, x.1)) (omega arith)
-raised_nothing (Err e) = refl
-
-pub raised_none : (signed : Bool) (bytes : List ℕ) → raised 0 1 (leb128 signed bytes) ≡ leb128_at signed bytes
-unfolding leb128_at
-raised_none signed bytes = raised_nothing (leb128 signed bytes)
 
 -- one more digit, modulo m
 one_digit : (number worth d high m : ℕ) → ((number + (d * worth) % m) % m + ((worth * 128) % m) * high) % m ≡ (number + worth * (d + 128 * high)) % m
@@ -77,7 +70,7 @@ raised_last signed number worth b bytes rest lt e =
     last_digit number worth d m = ap (λ (k : ℕ). (number + k) % m) (omega arith) ∙ sym (add-mod-mod number (d * worth) m)
 
 -- no byte is left
-pub raised_refused : (e : Stop) (signed : Bool) (number worth : ℕ) (bytes : List ℕ) (total : Result (ℕ × List ℕ) LineWhy) → Refuses e (byte_at bytes) → raised number worth (leb128 signed bytes) ≡ total → Refuses e total
+pub raised_refused : (e : Stop) (signed : Bool) (number worth : ℕ) (bytes : List ℕ) (total : Result (ℕ × List ℕ) LineWhy) → IfSome (why_of e) (λ w. byte_at bytes ≡ Err w) → raised number worth (leb128 signed bytes) ≡ total → IfSome (why_of e) (λ w. total ≡ Err w)
 unfolding byte_at
 raised_refused Memory signed number worth bytes total h same = tt
 raised_refused (Why why) signed number worth [] total h same = sym same ∙ h

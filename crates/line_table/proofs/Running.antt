@@ -1,5 +1,5 @@
 -- Executing instructions, one after the other, makes the rows of the list of all of them.
-use Rattle.std.proofs.Common.{◌≡◌, ℕ, ◌+◌, ◌-◌, ◌<◌, false, eqb, List, [], ◌∷◌, ◌++◌, length, Some, None, Result, Ok, Err, refl, sym, ap, subst, ◌∙◌, append_assoc, arith}
+use Rattle.std.proofs.Common.{◌≡◌, ℕ, ◌+◌, ◌-◌, ◌<◌, false, eqb, List, [], ◌∷◌, ◌++◌, length, Some, None, Result, Ok, Err, IfSome, refl, sym, ap, subst, ◌∙◌, append_assoc, arith}
 use Rattle.std.specs.Prelude.{option_to_list}
 use Rattle.std.proofs.lemmas.List.{append-nil}
 use Rattle.line_table.specs.declared.faults.LineWhy.{LineWhy}
@@ -10,13 +10,14 @@ use Rattle.line_table.specs.declared.faults.Stop.TheVariants as Stops
 use Rattle.line_table.specs.declared.operations.Operation.{Operation}
 use Rattle.line_table.specs.declared.rows.Row.{Row}
 use Rattle.line_table.specs.declared.rows.Table.{Table}
-use Rattle.line_table.specs.Reading.{◌>>=◌, Listed}
+use Rattle.elf_types.specs.Answers.{◌>>=◌}
+use Rattle.line_table.specs.Reading.{Listed}
 use Rattle.line_table.specs.Header.{UnitHeader}
 use Rattle.line_table.specs.Program.{Instruction, operation_at, instruction_at, ops}
 use Rattle.line_table.specs.Rows.{Effect, start, effect, rows_from, rows, names_added, all_names_added}
 use Rattle.line_table.specs.Table.{stepped, turn}
 use Rattle.line_table.specs.Units.{executed}
-use Rattle.line_table.specs.Outcomes.{Refuses, Faults, fault_at}
+use Rattle.line_table.specs.Outcomes.{why_of, stated_fault, fault_at}
 use Rattle.line_table.proofs.Lists.{Left, left_all, left_more, left_end, left_refused, left_item}
 
 pub some_left : (bytes : List ℕ) → eqb (length bytes) 0 ≡ false → 0 < length bytes
@@ -184,7 +185,7 @@ module _ (u : UnitHeader) (end : ℕ) where
       no_row bytes t operation later why h = rw h refl
 
   pub running_stopped : (e : Stop) (at : ℕ) (files : List (List ℕ)) (program bytes : List ℕ) (t : Table) → Running u end files (ops u at program) bytes t → 0 < length bytes
-      → Refuses e (turn u t bytes) → Faults (fault_at e (end - length bytes)) (executed u at files program)
+      → IfSome (why_of e) (λ w. turn u t bytes ≡ Err w) → IfSome (stated_fault (fault_at e (end - length bytes))) (λ f. executed u at files program ≡ Err f)
   unfolding turn
   running_stopped Stops.Memory at files program bytes t r lt h = tt
   running_stopped (Stops.Why why) at files program bytes t r lt h = stopped (operation_at u bytes) refl

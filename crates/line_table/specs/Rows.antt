@@ -1,4 +1,5 @@
--- The fold of a line number program (DWARF 4, 6.2.2 and 6.2.5): what each instruction does to the registers, and the rows of the table.
+-- The fold of a line number program (DWARF 4, 6.2.2 and 6.2.5): what each instruction does to the
+-- registers, and the rows of the table.
 use Rattle.std.specs.Prelude.{ℕ, ◌+◌, ◌-◌, ◌*◌, ◌/◌, ◌%◌, ◌^◌, ◌==◌, Bool, true, false, not, List, [], ◌∷◌, ◌++◌, Option, Some, None, option_to_list, Result, Ok, Err, if◌then◌else◌}
 use Rattle.line_table.specs.declared.faults.LineWhy.{LineWhy}
 use Rattle.line_table.specs.declared.faults.LineWhy.TheVariants.{Range}
@@ -7,7 +8,7 @@ use Rattle.line_table.specs.declared.operations.Operation.{Operation}
 use Rattle.line_table.specs.declared.operations.Operation.TheVariants.{Special, Copy, AdvancePc, AdvanceLine, SetFile, SetColumn, NegateStmt, ConstAddPc, FixedAdvancePc, EndSequence, SetAddress, DefineFile, Nothing}
 use Rattle.line_table.specs.declared.rows.Registers.{Registers}
 use Rattle.line_table.specs.declared.rows.Row.{Row}
-use Rattle.line_table.specs.Reading.{◌>>=◌}
+use Rattle.elf_types.specs.Answers.{◌>>=◌}
 use Rattle.line_table.specs.Header.{UnitHeader}
 use Rattle.line_table.specs.Program.{Instruction, blamed}
 
@@ -15,7 +16,8 @@ use Rattle.line_table.specs.Program.{Instruction, blamed}
 abbrev pub start : UnitHeader → Registers
 start u = record { address = 0; file = 1; line = 1; column = 0; stmt = u.default_is_stmt }
 
--- further in addresses, by a count of instructions of the least length; addresses are kept modulo 2 ^ 64
+-- further in addresses, by a count of instructions of the least length; addresses are kept modulo 2
+-- ^ 64
 abbrev pub advanced : UnitHeader → ℕ → Registers → Registers
 advanced u n r = record r { address = (r.address + u.minimum_instruction_length * n) % 2 ^ 64 }
 
@@ -41,7 +43,14 @@ ranged u x = if u.line_range == 0 then Err Range else Ok x
 
 -- the row that the registers make
 abbrev pub row_of : Bool → Registers → Row
-row_of end r = record { address = r.address; file = r.file; line = r.line; column = r.column; stmt = r.stmt; end = end }
+row_of end r = record {
+  address = r.address;
+  file = r.file;
+  line = r.line;
+  column = r.column;
+  stmt = r.stmt;
+  end = end;
+}
 
 -- what an instruction does: the registers after it, and its row
 pub record Effect : Type 0 where

@@ -3,7 +3,8 @@ use Rattle.std.specs.Prelude.{◌++◌, ◌∷◌, [], ℕ, List, Bool, option_t
 use Rattle.line_table.specs.declared.faults.LineWhy.{LineWhy}
 use Rattle.line_table.specs.declared.operations.Operation.{Operation}
 use Rattle.line_table.specs.declared.rows.Table.{Table}
-use Rattle.line_table.specs.Reading.{◌>>=◌}
+use Rattle.elf_types.specs.Answers.{◌>>=◌}
+use Rattle.line_table.specs.Reading.{Front}
 use Rattle.line_table.specs.Header.{UnitHeader}
 use Rattle.line_table.specs.Program.{operation_at}
 use Rattle.line_table.specs.Rows.{effect, row_of, names_added}
@@ -21,7 +22,7 @@ stepped u t operation = effect u t.registers operation >>= λ e. Ok (record {
 })
 
 -- one turn of a program: the next instruction, and what it makes of the table
-unfoldable pub turn : UnitHeader → Table → List ℕ → Result (Table × List ℕ) LineWhy
+unfoldable pub turn : UnitHeader → Table → List ℕ → Front Table LineWhy
 turn u t bytes = do
   operation ← operation_at u bytes
   table ← stepped u t operation.0

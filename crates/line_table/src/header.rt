@@ -1,12 +1,16 @@
 //! The header of a unit (DWARF 4, 6.2.4).
 
 ghost use Rattle.std.specs.Prelude.{◌≡◌, ◌+◌, ◌-◌, ◌≤◌, length, IfOk};
-ghost use Rattle.line_table.specs.Header.{body_at, unit_length, signed_byte, operations_at, header_at};
-ghost use Rattle.line_table.specs.Outcomes.{Gives, Reads};
+ghost use Rattle.elf_types.specs.Answers.{FollowsBy};
+ghost use Rattle.line_table.specs.Header.{unit_body_at, unit_length, signed_byte, operations_at, unit_header_at};
+ghost use Rattle.line_table.specs.Outcomes.{why_of};
 
 use crate::faults::{LineWhy, Stop};
 use crate::reader::Reader;
 use elf_types::{Class, Order};
+
+/// The first length that stands for another format than the 32-bit one (DWARF 4, 7.4).
+pub const FIRST_RESERVED_LENGTH: u32 = 0xffff_fff0;
 
 /// The fields of a unit's header.
 #[derive(Drop)]
@@ -21,8 +25,6 @@ pub struct Header<'a> {
     pub header_length: u32,
     /// `minimum_instruction_length`, in bytes.
     pub minimum_instruction_length: u8,
-    /// `maximum_operations_per_instruction`, which is 1 before version 4.
-    pub maximum_operations: u8,
     /// Whether `default_is_stmt` is not 0.
     pub default_is_stmt: bool,
     /// `line_base`, a signed byte, modulo 2 to the power of 32.
@@ -39,15 +41,16 @@ pub struct Header<'a> {
 
 /// The body of the unit at the front of bytes, which is what `unit_length` counts. It refuses `Cut`
 /// where that field passes the bytes, then `Form`, and then `Cut` where the body passes them.
-#[tactic(auto, unfolding(crate::specs::Header::body_at, crate::specs::Header::length_causes, crate::specs::Header::unit_length, crate::specs::Header::body, crate::specs::Header::field, crate::specs::Reading::number_at, crate::specs::Reading::bytes_at))]
+#[tactic(auto, unfolding(crate::specs::Header::unit_body_at, crate::specs::Header::length_refusal, crate::specs::Header::unit_length, crate::specs::Header::unit_body, crate::specs::Header::field, crate::specs::Reading::number_at, crate::specs::Reading::bytes_at))]
 pub fn read_body(bytes: &[u8], order: Order) -> Result<&[u8], Stop>
-    ensures value { Gives (λ b. b.now) result (body_at order bytes.now) }
+    ensures value { FollowsBy (λ b. b.now) why_of result (unit_body_at order bytes.now) }
     ensures size { IfOk result
-        (λ b. (length b.now ≡ unit_length order bytes.now) × (4 + length b.now ≤ length bytes.now)) }
+        (λ b. (length b.now ≡ unit_length order bytes.now)
+        × (4 + length b.now ≤ length bytes.now)) }
 {
     let mut reader = Reader::new(bytes);
     let length = reader.read_u32(order)?;
-    if length >= 0xffff_fff0 {
+    if length >= FIRST_RESERVED_LENGTH {
         return Err(Stop::Why(LineWhy::Form));
     }
     reader.read_bytes(u64::from(length))
@@ -66,7 +69,8 @@ fn signed(byte: u8) -> u32
 
 /// `maximum_operations_per_instruction`, which version 4 has alone; 1 stands for it elsewhere.
 fn read_maximum_operations(version: u16, reader: &mut Reader) -> Result<u8, Stop>
-    ensures value { Reads (λ n. n) result reader.new (operations_at version reader.old) }
+    ensures value { FollowsBy (λ n. (n, reader.new)) why_of result
+        (operations_at version reader.old) }
 {
     if version == 4 {
         return reader.read_u8();
@@ -86,7 +90,8 @@ impl<'a> Header<'a> {
         class: Class,
         order: Order,
     ) -> Result<(Header<'a>, Reader<'a>), Stop>
-        ensures { Gives (λ x. (seen x.0, x.1)) result (header_at class order body.now) }
+        ensures { FollowsBy (λ x. (seen x.0, x.1)) why_of result
+            (unit_header_at class order body.now) }
     {
         let mut reader = Reader::new(body);
         let version = reader.read_u16(order)?;
@@ -110,7 +115,6 @@ impl<'a> Header<'a> {
             version,
             header_length,
             minimum_instruction_length,
-            maximum_operations,
             default_is_stmt,
             line_base,
             line_range,

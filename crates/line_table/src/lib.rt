@@ -8,6 +8,7 @@
 
 mod faults;
 mod header;
+mod opcodes;
 mod opening;
 mod operations;
 mod program;

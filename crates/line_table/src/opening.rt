@@ -1,8 +1,9 @@
 //! Opening a unit: what stands before its program (DWARF 4, 6.2.4).
 
 ghost use Rattle.std.specs.Prelude.{◌≡◌, ◌+◌, length, IfOk};
-ghost use Rattle.line_table.specs.Header.{unit_length, program_of, program_at, opened};
-ghost use Rattle.line_table.specs.Outcomes.{Gives};
+ghost use Rattle.elf_types.specs.Answers.{FollowsBy};
+ghost use Rattle.line_table.specs.Header.{unit_length, program_of, program_at, opened_unit};
+ghost use Rattle.line_table.specs.Outcomes.{why_of};
 ghost use Rattle.line_table.specs.Views.{seen, seen_opened, IsPlaced};
 
 use crate::faults::{LineWhy, Stop};
@@ -29,15 +30,16 @@ pub struct Opened<'a> {
 /// The unit at the front of bytes. It refuses `Form`, then `Cut` of the length, then `Version`,
 /// then `Cut` of the header's fields, then `Ops`, then `Cut` of the directories and the files, and
 /// then `Header`.
-#[tactic(auto, unfolding(crate::specs::Header::opened))]
+#[tactic(auto, unfolding(crate::specs::Header::opened_unit))]
 pub fn open<'a>(
     alloc: Global,
     bytes: &'a [u8],
     class: Class,
     order: Order,
 ) -> Result<Opened<'a>, Stop>
-    ensures value { Gives seen_opened result (opened class order bytes.now) }
-    ensures placed { IfOk result (λ o. IsPlaced o (unit_length order bytes.now) (length bytes.now)) }
+    ensures value { FollowsBy seen_opened why_of result (opened_unit class order bytes.now) }
+    ensures placed { IfOk result
+        (λ o. IsPlaced o (unit_length order bytes.now) (length bytes.now)) }
 {
     let body = read_body(bytes, order)?;
     let (header, mut reader) = Header::read(body, class, order)?;
@@ -52,9 +54,9 @@ pub fn open<'a>(
 }
 
 /// The program in a unit's body, where a reader stands behind the files.
-#[tactic(auto, unfolding(crate::specs::Header::program_at, crate::specs::Header::program_causes))]
+#[tactic(auto, unfolding(crate::specs::Header::program_at, crate::specs::Header::program_refusal))]
 fn find_program<'a>(header: &Header, body: &'a [u8], after_files: &Reader) -> Result<&'a [u8], Stop>
-    ensures value { Gives (λ p. p.now) result
+    ensures value { FollowsBy (λ p. p.now) why_of result
         (program_at (seen header.now) body.now after_files.now) }
     ensures size { IfOk result
         (λ p. program_of (seen header.now) + length p.now ≡ length body.now) }

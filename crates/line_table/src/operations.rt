@@ -1,14 +1,21 @@
 //! The instructions of a line number program (DWARF 4, 6.2.5), read one at a time.
 
-ghost use Rattle.std.specs.Prelude.{◌≡◌, ◌<◌, ◌≤◌, length, OnOk, IfOk, IfErr};
+ghost use Rattle.std.specs.Prelude.{◌≡◌, ◌<◌, ◌≤◌, length, OnOk};
+ghost use Rattle.elf_types.specs.Answers.{FollowsBy};
 ghost use Rattle.line_table.specs.Program.{operation_at, extended_at, extended_in, standard_at, address_in, passed};
-ghost use Rattle.line_table.specs.Outcomes.{Reads, Gives, Passes};
+ghost use Rattle.line_table.specs.Outcomes.{why_of};
 ghost use Rattle.line_table.specs.Views.{seen};
 
 use crate::faults::{LineWhy, Stop};
 use crate::header::Header;
+use crate::opcodes::{
+    DW_LNE_DEFINE_FILE, DW_LNE_END_SEQUENCE, DW_LNE_SET_ADDRESS, DW_LNS_ADVANCE_LINE,
+    DW_LNS_ADVANCE_PC, DW_LNS_CONST_ADD_PC, DW_LNS_COPY, DW_LNS_FIXED_ADVANCE_PC,
+    DW_LNS_NEGATE_STMT, DW_LNS_SET_BASIC_BLOCK, DW_LNS_SET_COLUMN, DW_LNS_SET_EPILOGUE_BEGIN,
+    DW_LNS_SET_FILE, DW_LNS_SET_ISA, DW_LNS_SET_PROLOGUE_END, EXTENDED,
+};
 use crate::reader::Reader;
-use elf_types::{Class, ElfError, Octets};
+use elf_types::{Class, Octets};
 use std::alloc::Global;
 
 /// What an instruction does, with its operand.
@@ -50,14 +57,15 @@ pub fn read_operation(
     header: &Header,
     reader: &mut Reader,
 ) -> Result<Operation, Stop>
-    ensures value { Reads (λ o. o) result reader.new (operation_at (seen header.now) reader.old) }
+    ensures value { FollowsBy (λ o. (o, reader.new)) why_of result
+        (operation_at (seen header.now) reader.old) }
     ensures shorter { OnOk result (length reader.new < length reader.old) }
 {
     let opcode = reader.read_u8()?;
     if opcode >= header.opcode_base {
         return Ok(Operation::Special(opcode - header.opcode_base));
     }
-    if opcode == 0 {
+    if opcode == EXTENDED {
         return read_extended(alloc, header, reader);
     }
     read_standard(header, opcode, reader)
@@ -68,21 +76,23 @@ pub fn read_operation(
 fn read_standard(header: &Header, opcode: u8, reader: &mut Reader) -> Result<Operation, Stop>
     requires above { 0 < opcode }
     requires below { opcode < header.now.opcode_base }
-    ensures value { Reads (λ o. o) result reader.new
+    ensures value { FollowsBy (λ o. (o, reader.new)) why_of result
         (standard_at (seen header.now) opcode reader.old) }
     ensures no_longer { OnOk result (length reader.new ≤ length reader.old) }
 {
     match opcode {
-        1 => Ok(Operation::Copy),
-        2 => Ok(Operation::AdvancePc(reader.read_leb128(false)?)),
-        3 => Ok(Operation::AdvanceLine(reader.read_leb128(true)?)),
-        4 => Ok(Operation::SetFile(reader.read_leb128(false)?)),
-        5 => Ok(Operation::SetColumn(reader.read_leb128(false)?)),
-        6 => Ok(Operation::NegateStmt),
-        7 | 10 | 11 => Ok(Operation::Nothing),
-        8 => Ok(Operation::ConstAddPc),
-        9 => Ok(Operation::FixedAdvancePc(reader.read_u16(header.order)?)),
-        12 => {
+        DW_LNS_COPY => Ok(Operation::Copy),
+        DW_LNS_ADVANCE_PC => Ok(Operation::AdvancePc(reader.read_leb128(false)?)),
+        DW_LNS_ADVANCE_LINE => Ok(Operation::AdvanceLine(reader.read_leb128(true)?)),
+        DW_LNS_SET_FILE => Ok(Operation::SetFile(reader.read_leb128(false)?)),
+        DW_LNS_SET_COLUMN => Ok(Operation::SetColumn(reader.read_leb128(false)?)),
+        DW_LNS_NEGATE_STMT => Ok(Operation::NegateStmt),
+        DW_LNS_SET_BASIC_BLOCK => Ok(Operation::Nothing),
+        DW_LNS_CONST_ADD_PC => Ok(Operation::ConstAddPc),
+        DW_LNS_FIXED_ADVANCE_PC => Ok(Operation::FixedAdvancePc(reader.read_u16(header.order)?)),
+        DW_LNS_SET_PROLOGUE_END => Ok(Operation::Nothing),
+        DW_LNS_SET_EPILOGUE_BEGIN => Ok(Operation::Nothing),
+        DW_LNS_SET_ISA => {
             let _isa = reader.read_leb128(false)?;
             Ok(Operation::Nothing)
         }
@@ -95,7 +105,7 @@ fn read_standard(header: &Header, opcode: u8, reader: &mut Reader) -> Result<Ope
 
 /// Passes over the operands of an opcode that has no meaning here.
 fn pass_operands(count: u8, reader: &mut Reader) -> Result<(), Stop>
-    ensures value { Passes result reader.new (passed count reader.old) }
+    ensures value { FollowsBy (λ _. reader.new) why_of result (passed count reader.old) }
     ensures no_longer { OnOk result (length reader.new ≤ length reader.old) }
 {
     for _ in 0..count {
@@ -108,7 +118,8 @@ fn pass_operands(count: u8, reader: &mut Reader) -> Result<(), Stop>
 /// holds.
 #[tactic(auto, unfolding(crate::specs::Program::extended_at))]
 fn read_extended(alloc: Global, header: &Header, reader: &mut Reader) -> Result<Operation, Stop>
-    ensures value { Reads (λ o. o) result reader.new (extended_at (seen header.now) reader.old) }
+    ensures value { FollowsBy (λ o. (o, reader.new)) why_of result
+        (extended_at (seen header.now) reader.old) }
     ensures no_longer { OnOk result (length reader.new ≤ length reader.old) }
 {
     let size = reader.read_leb128(false)?;
@@ -119,14 +130,14 @@ fn read_extended(alloc: Global, header: &Header, reader: &mut Reader) -> Result<
 /// The instruction in the bytes of an extended opcode.
 #[tactic(auto, unfolding(crate::specs::Program::extended_in))]
 fn extended_operation(alloc: Global, header: &Header, bytes: &[u8]) -> Result<Operation, Stop>
-    ensures value { Gives (λ o. o) result (extended_in (seen header.now) bytes.now) }
+    ensures value { FollowsBy (λ o. o) why_of result (extended_in (seen header.now) bytes.now) }
 {
     let mut reader = Reader::new(bytes);
     match reader.read_u8()? {
-        1 => Ok(Operation::EndSequence),
-        2 => Ok(Operation::SetAddress(read_address(header, &mut reader)?)),
-        3 => {
-            let name = owned(alloc, reader.read_file()?)?;
+        DW_LNE_END_SEQUENCE => Ok(Operation::EndSequence),
+        DW_LNE_SET_ADDRESS => Ok(Operation::SetAddress(read_address(header, &mut reader)?)),
+        DW_LNE_DEFINE_FILE => {
+            let name = Octets::from_slice(alloc, reader.read_file()?)?;
             Ok(Operation::DefineFile(name))
         }
         _ => Ok(Operation::Nothing),
@@ -136,21 +147,11 @@ fn extended_operation(alloc: Global, header: &Header, bytes: &[u8]) -> Result<Op
 /// The address that is all of what is left.
 #[tactic(auto, unfolding(crate::specs::Program::address_in, crate::specs::Reading::number_at, crate::specs::Reading::bytes_at))]
 fn read_address(header: &Header, reader: &mut Reader) -> Result<u64, Stop>
-    ensures value { Gives (λ n. n) result (address_in (seen header.now) reader.old) }
+    ensures value { FollowsBy (λ n. n) why_of result (address_in (seen header.now) reader.old) }
 {
     match header.class {
         Class::C32 if reader.len() == 4 => Ok(u64::from(reader.read_u32(header.order)?)),
         Class::C64 if reader.len() == 8 => reader.read_u64(header.order),
         _ => Err(Stop::Why(LineWhy::Address)),
     }
-}
-
-/// A copy of a text. It refuses `Memory` alone.
-pub fn owned(alloc: Global, text: &[u8]) -> Result<Octets, ElfError>
-    ensures ok { IfOk result (λ copy. copy ≡ text.now) }
-    ensures err { IfErr result (λ e. e ≡ ElfError.Memory) }
-{
-    let mut copy = Octets::with_capacity(alloc, text.len() as u64)?;
-    copy.extend(text)?;
-    Ok(copy)
 }

@@ -1,9 +1,10 @@
 //! Executing a line number program (DWARF 4, 6.2.5), instruction by instruction.
 
 ghost use Rattle.std.specs.Prelude.{◌+◌, ◌<◌, ◌^◌, length, OnOk};
+ghost use Rattle.elf_types.specs.Answers.{FollowsBy};
 ghost use Rattle.line_table.specs.Table.{turn};
 ghost use Rattle.line_table.specs.Units.{executed};
-ghost use Rattle.line_table.specs.Outcomes.{Passes, Follows};
+ghost use Rattle.line_table.specs.Outcomes.{why_of, stated_fault};
 ghost use Rattle.line_table.specs.Views.{seen};
 
 use crate::faults::{LineFault, Stop};
@@ -25,7 +26,7 @@ pub fn execute(
     files: FileNames,
 ) -> Result<Table, LineFault>
     requires { at + length program.now < 2 ^ 64 }
-    ensures { Follows (λ t. (t.files, t.rows)) result
+    ensures { FollowsBy (λ t. (t.files, t.rows)) stated_fault result
         (executed (seen header.now) at files program.now) }
 {
     let end = at + program.len() as u64;
@@ -52,7 +53,7 @@ fn execute_next(
     reader: &mut Reader,
     table: &mut Table,
 ) -> Result<(), Stop>
-    ensures value { Passes result (table.new, reader.new)
+    ensures value { FollowsBy (λ _. (table.new, reader.new)) why_of result
         (turn (seen header.now) table.old reader.old) }
     ensures shorter { OnOk result (length reader.new < length reader.old) }
 {

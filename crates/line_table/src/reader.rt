@@ -3,9 +3,10 @@
 ghost use Rattle.std.specs.Prelude.{◌≡◌, ◌≤◌, ◌<◌, length, OnOk, ◌==◌, position};
 ghost use Rattle.std.specs.Int.{w16, w32, w64};
 ghost use Rattle.std.specs.Option.{option_copied};
+ghost use Rattle.elf_types.specs.Answers.{FollowsBy};
 ghost use Rattle.line_table.specs.Reading.{byte_at, bytes_at, number_at, leb128_at, string_at, digit, file_at};
 ghost use Rattle.line_table.specs.Header.{named_file_at};
-ghost use Rattle.line_table.specs.Outcomes.{Reads};
+ghost use Rattle.line_table.specs.Outcomes.{why_of};
 
 use crate::faults::{LineWhy, Stop};
 use elf_types::Order;
@@ -52,7 +53,7 @@ impl<'a> Reader<'a> {
     /// A byte.
     #[tactic(auto, unfolding(crate::specs::Reading::byte_at))]
     pub fn read_u8(&mut self) -> Result<u8, Stop>
-        ensures value { Reads (λ b. b) result self.new (byte_at self.old) }
+        ensures value { FollowsBy (λ b. (b, self.new)) why_of result (byte_at self.old) }
         ensures shorter { OnOk result (length self.new < length self.old) }
     {
         match self.rest {
@@ -67,7 +68,7 @@ impl<'a> Reader<'a> {
     /// A number of bytes.
     #[tactic(auto, unfolding(crate::specs::Reading::bytes_at))]
     pub fn read_bytes(&mut self, count: u64) -> Result<&'a [u8], Stop>
-        ensures value { Reads (λ b. b.now) result self.new (bytes_at count self.old) }
+        ensures value { FollowsBy (λ b. (b.now, self.new)) why_of result (bytes_at count self.old) }
         ensures no_longer { OnOk result (length self.new ≤ length self.old) }
     {
         if (self.rest.len() as u64) < count {
@@ -81,7 +82,8 @@ impl<'a> Reader<'a> {
     /// A number of two bytes.
     #[tactic(auto, unfolding(crate::specs::Reading::number_at, crate::specs::Reading::bytes_at, crate::specs::Reading::number))]
     pub fn read_u16(&mut self, order: Order) -> Result<u16, Stop>
-        ensures value { Reads (λ n. n) result self.new (number_at order w16 self.old) }
+        ensures value { FollowsBy (λ n. (n, self.new)) why_of result
+            (number_at order w16 self.old) }
         ensures no_longer { OnOk result (length self.new ≤ length self.old) }
     {
         let Some((front, rest)) = self.rest.split_first_chunk::<2>() else {
@@ -97,7 +99,8 @@ impl<'a> Reader<'a> {
     /// A number of four bytes.
     #[tactic(auto, unfolding(crate::specs::Reading::number_at, crate::specs::Reading::bytes_at, crate::specs::Reading::number))]
     pub fn read_u32(&mut self, order: Order) -> Result<u32, Stop>
-        ensures value { Reads (λ n. n) result self.new (number_at order w32 self.old) }
+        ensures value { FollowsBy (λ n. (n, self.new)) why_of result
+            (number_at order w32 self.old) }
         ensures no_longer { OnOk result (length self.new ≤ length self.old) }
     {
         let Some((front, rest)) = self.rest.split_first_chunk::<4>() else {
@@ -113,7 +116,8 @@ impl<'a> Reader<'a> {
     /// A number of eight bytes.
     #[tactic(auto, unfolding(crate::specs::Reading::number_at, crate::specs::Reading::bytes_at, crate::specs::Reading::number))]
     pub fn read_u64(&mut self, order: Order) -> Result<u64, Stop>
-        ensures value { Reads (λ n. n) result self.new (number_at order w64 self.old) }
+        ensures value { FollowsBy (λ n. (n, self.new)) why_of result
+            (number_at order w64 self.old) }
         ensures no_longer { OnOk result (length self.new ≤ length self.old) }
     {
         let Some((front, rest)) = self.rest.split_first_chunk::<8>() else {
@@ -129,7 +133,7 @@ impl<'a> Reader<'a> {
     /// A LEB128 number, signed or not, modulo 2 to the power of 64 and of any length.
     #[tactic(auto, unfolding(crate::specs::Reading::leb128_at))]
     pub fn read_leb128(&mut self, signed: bool) -> Result<u64, Stop>
-        ensures value { Reads (λ n. n) result self.new (leb128_at signed self.old) }
+        ensures value { FollowsBy (λ n. (n, self.new)) why_of result (leb128_at signed self.old) }
         ensures no_longer { OnOk result (length self.new ≤ length self.old) }
     {
         let mut number = 0u64;
@@ -148,7 +152,8 @@ impl<'a> Reader<'a> {
     /// A string, which a byte 0 ends.
     #[tactic(auto, unfolding(crate::specs::Reading::string_at))]
     pub fn read_string(&mut self) -> Result<&'a [u8], Stop>
-        ensures value { Reads (λ text. text.now) result self.new (string_at self.old) }
+        ensures value { FollowsBy (λ text. (text.now, self.new)) why_of result
+            (string_at self.old) }
         ensures shorter { OnOk result (length self.new < length self.old) }
     {
         let Some(end) = first_zero(self.rest) else {
@@ -164,7 +169,7 @@ impl<'a> Reader<'a> {
     /// Source: DWARF 4, 6.2.4, item 12, and `DW_LNE_define_file` of 6.2.5.3.
     #[tactic(auto, unfolding(crate::specs::Reading::file_at))]
     pub fn read_file(&mut self) -> Result<&'a [u8], Stop>
-        ensures value { Reads (λ name. name.now) result self.new (file_at self.old) }
+        ensures value { FollowsBy (λ name. (name.now, self.new)) why_of result (file_at self.old) }
         ensures shorter { OnOk result (length self.new < length self.old) }
     {
         let name = self.read_string()?;
@@ -177,7 +182,8 @@ impl<'a> Reader<'a> {
     /// The name of a file in a list of files, or None where a byte 0 ends the list.
     #[tactic(auto, unfolding(crate::specs::Header::named_file_at))]
     pub fn read_named_file(&mut self) -> Result<Option<&'a [u8]>, Stop>
-        ensures value { Reads option_copied result self.new (named_file_at self.old) }
+        ensures value { FollowsBy (λ o. (option_copied o, self.new)) why_of result
+            (named_file_at self.old) }
         ensures shorter { OnOk result (length self.new < length self.old) }
     {
         match self.rest {

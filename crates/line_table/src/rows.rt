@@ -1,7 +1,8 @@
 //! The rows of a line table, and the registers that make them (DWARF 4, 6.2.2).
 
 ghost use Rattle.std.specs.Prelude.{◌≡◌, Ok};
-ghost use Rattle.line_table.specs.Outcomes.{Passes};
+ghost use Rattle.elf_types.specs.Answers.{FollowsBy};
+ghost use Rattle.line_table.specs.Outcomes.{why_of};
 ghost use Rattle.line_table.specs.Views.{seen};
 
 use crate::faults::{LineWhy, Stop};
@@ -104,7 +105,7 @@ impl Registers {
     /// Goes on in addresses and in lines, by a special opcode less `opcode_base`. It refuses
     /// `Range` where `line_range` is 0.
     fn advance_special(&mut self, header: &Header, adjusted: u8) -> Result<(), Stop>
-        ensures { Passes result self.new
+        ensures { FollowsBy (λ _. self.new) why_of result
             (ranged (seen header.now) (advanced_special (seen header.now) adjusted self.old)) }
     {
         if header.line_range == 0 {
@@ -118,7 +119,7 @@ impl Registers {
     /// Goes on in addresses as the special opcode 255 does. It refuses `Range` where `line_range`
     /// is 0.
     fn const_add_pc(&mut self, header: &Header) -> Result<(), Stop>
-        ensures { Passes result self.new
+        ensures { FollowsBy (λ _. self.new) why_of result
             (ranged (seen header.now) (const_added (seen header.now) self.old)) }
     {
         if header.line_range == 0 {
@@ -147,7 +148,8 @@ impl Table {
     /// Executes an instruction. It refuses `Range` where it would divide by a `line_range` of 0.
     #[tactic(auto, unfolding(crate::specs::Rows::effect))]
     pub fn execute(&mut self, header: &Header, operation: Operation) -> Result<(), Stop>
-        ensures { Passes result self.new (stepped (seen header.now) self.old operation) }
+        ensures { FollowsBy (λ _. self.new) why_of result
+            (stepped (seen header.now) self.old operation) }
     {
         match operation {
             Operation::Special(adjusted) => {
@@ -175,7 +177,7 @@ impl Table {
 
     /// Appends the row that the registers make. It refuses `Memory` alone.
     fn append_row(&mut self, end: bool) -> Result<(), Stop>
-        ensures { Passes result self.new (Ok (shown_in end self.old)) }
+        ensures { FollowsBy (λ _. self.new) why_of result (Ok (shown_in end self.old)) }
     {
         self.rows.push(self.registers.row(end))?;
         Ok(())

@@ -1,20 +1,20 @@
 //! The tables of directories and files behind a unit's header (DWARF 4, 6.2.4, items 11 and 12).
 
+ghost use Rattle.elf_types.specs.Answers.{FollowsBy};
 ghost use Rattle.line_table.specs.Reading.{list_at};
 ghost use Rattle.line_table.specs.Header.{directory_at, files_at, tables_at};
-ghost use Rattle.line_table.specs.Outcomes.{Passes, Reads};
+ghost use Rattle.line_table.specs.Outcomes.{why_of};
 
 use crate::faults::Stop;
-use crate::operations::owned;
 use crate::reader::Reader;
 use crate::rows::FileNames;
-use elf_types::List;
+use elf_types::{List, Octets};
 use std::alloc::Global;
 
 /// The names of the files. It refuses `Cut` where a string or a file passes the unit.
 #[tactic(auto, unfolding(crate::specs::Header::tables_at))]
 pub fn read_tables(alloc: Global, reader: &mut Reader) -> Result<FileNames, Stop>
-    ensures { Reads (λ names. names) result reader.new (tables_at reader.old) }
+    ensures { FollowsBy (λ names. (names, reader.new)) why_of result (tables_at reader.old) }
 {
     pass_directories(reader)?;
     read_files(alloc, reader)
@@ -22,7 +22,7 @@ pub fn read_tables(alloc: Global, reader: &mut Reader) -> Result<FileNames, Stop
 
 /// Passes over the directories, which are strings that an empty one ends.
 fn pass_directories(reader: &mut Reader) -> Result<(), Stop>
-    ensures { Passes result reader.new (list_at directory_at reader.old).after }
+    ensures { FollowsBy (λ _. reader.new) why_of result (list_at directory_at reader.old).after }
 {
     loop {
         let directory = reader.read_string()?;
@@ -34,12 +34,12 @@ fn pass_directories(reader: &mut Reader) -> Result<(), Stop>
 
 /// The names of the files, which a byte 0 ends.
 fn read_files(alloc: Global, reader: &mut Reader) -> Result<FileNames, Stop>
-    ensures { Reads (λ names. names) result reader.new (files_at reader.old) }
+    ensures { FollowsBy (λ names. (names, reader.new)) why_of result (files_at reader.old) }
 {
     let mut names = List::new(alloc);
     loop {
         match reader.read_named_file()? {
-            Some(name) => names.push(owned(alloc, name)?)?,
+            Some(name) => names.push(Octets::from_slice(alloc, name)?)?,
             None => return Ok(names),
         }
     }

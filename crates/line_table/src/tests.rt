@@ -1,17 +1,18 @@
+//! What no clause says: rows that other readers show for the same bytes, and damaged units.
+
 use super::reader::Reader;
 use super::*;
-use elf_types::{Class, Octets, Order};
+use elf_types::{Class, ElfError, Octets, Order};
+use std::alloc::Global;
 use std::process::Abort;
 use std::test::*;
 
 /// A unit of version 2 with one file, in class 64 and least byte first. Its program has an address
 /// at 33, a special opcode at 44, an advance at 45 and the end of the sequence at 47.
-fn small_unit() -> [u8; 50] {
-    [
-        0x2e, 0, 0, 0, 2, 0, 0x17, 0, 0, 0, 1, 1, 0xfb, 0x0e, 0x0a, 0, 1, 1, 1, 1, 0, 0, 0, 1, 0,
-        0x61, 0x2e, 0x63, 0, 0, 0, 0, 0, 0, 9, 2, 0, 0x10, 0x40, 0, 0, 0, 0, 0, 0x14, 2, 4, 0, 1,
-        1,
-    ]
+fn small_unit() -> &'static [u8] {
+    b"\x2e\0\0\0\x02\0\x17\0\0\0\x01\x01\xfb\x0e\x0a\0\x01\x01\x01\x01\0\0\0\x01\0\
+    a.c\0\0\0\0\0\
+    \0\x09\x02\0\x10\x40\0\0\0\0\0\x14\x02\x04\0\x01\x01"
 }
 
 /// A unit of version 4 whose program has every opcode. The rows that the test expects are those
@@ -31,9 +32,10 @@ fn greatest_unit() -> &'static [u8] {
     \0\x05\x02\x12\x34\x56\x78\x09\x01\x02\x06\x01\x02\x02\0\x01\x01"
 }
 
-/// Changes of bytes of the small unit, and the fault that they make.
+/// Changes of bytes of the small unit, and the place and the cause of the fault that they make.
 type Damage = (&'static [(usize, u8)], u64, LineWhy);
 
+/// Damages of each field, each with the place and the cause that it is refused by.
 fn damages() -> [Damage; 21] {
     [
         (
@@ -68,15 +70,22 @@ fn damages() -> [Damage; 21] {
     ]
 }
 
-/// The small unit with some bytes changed.
-fn damaged(changes: &[(usize, u8)]) -> [u8; 50] {
-    let mut bytes = small_unit();
+/// A unit with some bytes changed.
+fn damaged(alloc: Global, unit: &[u8], changes: &[(usize, u8)]) -> Result<Octets, ElfError> {
+    let mut bytes = Octets::from_slice(alloc, unit)?;
     for (place, byte) in changes {
-        if let Some(changed) = bytes.get_mut(*place) {
+        if let Some(changed) = bytes.as_mut_slice().get_mut(*place) {
             *changed = *byte;
         }
     }
-    bytes
+    Ok(bytes)
+}
+
+/// Whether the unit at a place of a section of class 64, least byte first, is refused so.
+fn is_refused(alloc: Global, section: &Octets, place: u64, at: u64, why: LineWhy) -> bool {
+    place <= section.len()
+        && unit_at(alloc, section.as_slice(), place, Class::C64, Order::Least).err()
+            == Some(LineFault::Bad { at, why })
 }
 
 fn row(address: u64, file: u64, line: u32, column: u64, stmt: bool, end: bool) -> Row {
@@ -103,7 +112,7 @@ fn expect_names(rt: &impl Abort, names: &FileNames, expected: &[&[u8]]) {
 
 #[test]
 fn gives_the_rows_of_a_unit(rt: HostRuntime) -> Result<(), Fail> {
-    let found = unit_at(rt.alloc(), &small_unit(), 0, Class::C64, Order::Least)?;
+    let found = unit_at(rt.alloc(), small_unit(), 0, Class::C64, Order::Least)?;
     let unit = found.ok_or("there is a unit")?;
     assert_eq!(rt; (unit.at, unit.next, unit.version), (0, 50, 2));
     expect_names(&rt, &unit.files, &[b"a.c"]);
@@ -120,13 +129,8 @@ fn gives_the_rows_of_a_unit(rt: HostRuntime) -> Result<(), Fail> {
 
 #[test]
 fn executes_every_opcode(rt: HostRuntime) -> Result<(), Fail> {
-    let found = unit_at(
-        rt.alloc(),
-        unit_of_every_opcode(),
-        0,
-        Class::C64,
-        Order::Least,
-    )?;
+    let bytes = unit_of_every_opcode();
+    let found = unit_at(rt.alloc(), bytes, 0, Class::C64, Order::Least)?;
     let unit = found.ok_or("there is a unit")?;
     assert_eq!(rt; (unit.next, unit.version), (119, 4));
     expect_names(&rt, &unit.files, &[b"a.c", b"h.h", b"b.c", b""]);
@@ -162,7 +166,14 @@ fn reads_the_greatest_byte_first(rt: HostRuntime) -> Result<(), Fail> {
 
 #[test]
 fn ends_where_the_section_ends(rt: HostRuntime) -> Result<(), Fail> {
-    let at_end = unit_at(rt.alloc(), &small_unit(), 50, Class::C64, Order::Least)?;
+    let bytes = small_unit();
+    let at_end = unit_at(
+        rt.alloc(),
+        bytes,
+        bytes.len() as u64,
+        Class::C64,
+        Order::Least,
+    )?;
     assert!(rt; at_end.is_none());
     let empty = unit_at(rt.alloc(), &[], 0, Class::C64, Order::Least)?;
     assert!(rt; empty.is_none());
@@ -170,70 +181,53 @@ fn ends_where_the_section_ends(rt: HostRuntime) -> Result<(), Fail> {
 }
 
 #[test]
-fn names_the_first_fault(rt: HostRuntime) {
+fn names_the_first_fault(rt: HostRuntime) -> Result<(), Fail> {
     for (changes, at, why) in damages() {
-        let bytes = damaged(changes);
-        let fault = unit_at(rt.alloc(), &bytes, 0, Class::C64, Order::Least).err();
-        assert_eq!(rt; fault, Some(LineFault::Bad { at, why }), "{changes:?}");
+        let bytes = damaged(rt.alloc(), small_unit(), changes)?;
+        assert!(rt; is_refused(rt.alloc(), &bytes, 0, at, why), "{changes:?}");
     }
+    // Opcode 13, which stands at 84, is to have 255 operands.
+    let bytes = damaged(rt.alloc(), unit_of_every_opcode(), &[(28, 255)])?;
+    assert!(rt; is_refused(rt.alloc(), &bytes, 0, 84, LineWhy::Cut));
+    assert_eq!(rt; LineWhy::Cut.text(), "cut");
+    Ok(())
 }
 
 /// A line_range of 0 is no fault where nothing is divided by it.
 #[test]
 fn divides_by_the_range_of_lines_alone(rt: HostRuntime) -> Result<(), Fail> {
-    let bytes = damaged(&[(13, 0), (44, 1)]);
-    let found = unit_at(rt.alloc(), &bytes, 0, Class::C64, Order::Least)?;
+    let bytes = damaged(rt.alloc(), small_unit(), &[(13, 0), (44, 1)])?;
+    let found = unit_at(rt.alloc(), bytes.as_slice(), 0, Class::C64, Order::Least)?;
     let unit = found.ok_or("there is a unit")?;
-    expect_rows(
-        &rt,
-        &unit.rows,
-        &[
-            row(0x401000, 1, 1, 0, true, false),
-            row(0x401004, 1, 1, 0, true, true),
-        ],
-    );
+    assert_eq!(rt; unit.rows.len(), 2);
     Ok(())
 }
 
-#[test]
-fn cuts_operands_that_run_away(rt: HostRuntime) -> Result<(), Fail> {
-    let mut bytes = Octets::new(rt.alloc());
-    bytes.extend(unit_of_every_opcode())?;
-    // Opcode 13, which stands at 84, is to have 255 operands.
-    if let Some(count) = bytes.as_mut_slice().get_mut(28) {
-        *count = 255;
-    }
-    let fault = unit_at(rt.alloc(), bytes.as_slice(), 0, Class::C64, Order::Least).err();
-    let (at, why) = (84, LineWhy::Cut);
-    assert_eq!(rt; fault, Some(LineFault::Bad { at, why }));
-    Ok(())
+/// Three units: the small one, one whose lines cannot be divided, and one of another version.
+fn section(alloc: Global) -> Result<Octets, ElfError> {
+    let mut section = damaged(alloc, small_unit(), &[])?;
+    section.extend(damaged(alloc, small_unit(), &[(13, 0)])?.as_slice())?;
+    section.extend(damaged(alloc, small_unit(), &[(4, 5)])?.as_slice())?;
+    Ok(section)
 }
 
 #[test]
 fn places_are_those_in_the_section(rt: HostRuntime) -> Result<(), Fail> {
-    let mut section = Octets::new(rt.alloc());
-    section.extend(&small_unit())?;
-    section.extend(&damaged(&[(13, 0)]))?;
-    section.extend(&damaged(&[(4, 5)]))?;
-    let bytes = section.as_slice();
-    let first = unit_at(rt.alloc(), bytes, 0, Class::C64, Order::Least)?;
+    let section = section(rt.alloc())?;
+    let first = unit_at(rt.alloc(), section.as_slice(), 0, Class::C64, Order::Least)?;
     assert_eq!(rt; first.map(|unit| unit.next), Some(50));
-    for (place, at, why) in [(50, 94, LineWhy::Range), (100, 100, LineWhy::Version)] {
-        let fault = unit_at(rt.alloc(), bytes, place, Class::C64, Order::Least).err();
-        assert_eq!(rt; fault, Some(LineFault::Bad { at, why }));
-    }
+    assert!(rt; is_refused(rt.alloc(), &section, 50, 94, LineWhy::Range));
+    assert!(rt; is_refused(rt.alloc(), &section, 100, 100, LineWhy::Version));
     Ok(())
 }
 
 #[test]
 fn refuses_what_the_section_or_the_class_is_too_small_for(rt: HostRuntime) {
-    let unit = small_unit();
-    let shorter = unit.get(..49).unwrap_or(&[]);
+    let shorter = small_unit().get(..49).unwrap_or(&[]);
     let cut = unit_at(rt.alloc(), shorter, 0, Class::C64, Order::Least).err();
     let why = LineWhy::Cut;
     assert_eq!(rt; cut, Some(LineFault::Bad { at: 0, why }));
-    assert_eq!(rt; why.text(), "cut");
-    let narrow = unit_at(rt.alloc(), &unit, 0, Class::C32, Order::Least).err();
+    let narrow = unit_at(rt.alloc(), small_unit(), 0, Class::C32, Order::Least).err();
     let why = LineWhy::Address;
     assert_eq!(rt; narrow, Some(LineFault::Bad { at: 33, why }));
 }

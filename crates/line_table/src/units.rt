@@ -1,8 +1,9 @@
 //! A unit of a line table.
 
 ghost use Rattle.std.specs.Prelude.{◌≡◌, ◌<◌, ◌≤◌, ◌↔◌, length, IfOk, IfSome, Ok, None};
+ghost use Rattle.elf_types.specs.Answers.{FollowsBy};
 ghost use Rattle.line_table.specs.Units.{unit_of, unit_at};
-ghost use Rattle.line_table.specs.Outcomes.{Follows};
+ghost use Rattle.line_table.specs.Outcomes.{stated_fault};
 
 use crate::faults::LineFault;
 use crate::opening::{Opened, open};
@@ -44,7 +45,8 @@ pub fn unit_at(
     order: Order,
 ) -> Result<Option<Unit>, LineFault>
     requires { at ≤ length bytes.now }
-    ensures value { Follows (λ unit. unit) result (unit_at class order bytes.now at) }
+    ensures value { FollowsBy (λ unit. unit) stated_fault result
+        (unit_at class order bytes.now at) }
     ensures none { (result ≡ Ok None) ↔ (at ≡ length bytes.now) }
     ensures next { IfOk result
         (λ found. IfSome found (λ unit. (at < unit.next) × (unit.next ≤ length bytes.now))) }
@@ -65,7 +67,8 @@ fn read_unit(
     order: Order,
 ) -> Result<Unit, LineFault>
     requires { at ≤ length bytes.now }
-    ensures value { Follows (λ unit. unit) result (unit_of class order bytes.now at) }
+    ensures value { FollowsBy (λ unit. unit) stated_fault result
+        (unit_of class order bytes.now at) }
     ensures next { IfOk result (λ unit. (at < unit.next) × (unit.next ≤ length bytes.now)) }
 {
     let (_, unit) = bytes.split_at(at as usize);

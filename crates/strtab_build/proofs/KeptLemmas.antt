@@ -5,16 +5,16 @@ use Rattle.std.specs.Str.{bytes_eq}
 use Rattle.std.proofs.lemmas.Bool.{cases_lt, eqb-true, true≢false}
 use Rattle.std.proofs.lemmas.List.{get_or_append_left, get_or_push, get_or-map, take-append-le, take_at, length_push}
 use Rattle.std.proofs.lemmas.List.Folds.{list_any_at}
-use Rattle.strtab_build.specs.Names.{opened, entry_after, entries_after, hash_of, name_in, names_in, newest_of, IsHeld, IsNew, IsTable, IsKept}
+use Rattle.strtab_build.specs.Names.{unclosed, entry_after, entries_after, hash_of, name_in, names_in, newest_of, IsHeld, IsNew, IsTable, IsKept}
 use Rattle.strtab_build.specs.Table.{distinct, table, place_of}
 use Rattle.strtab_build.specs.declared.entries.Entry.{Entry}
 use Rattle.strtab_build.proofs.DistinctLemmas.{distinct-push, same_refl, same_true, with_name}
 use Rattle.strtab_build.proofs.NamesLemmas.{entries_after-push, get_or-entries_after, length-entries_after, names_in_is, newest_of-push, Seeks, Seeks-within}
-use Rattle.strtab_build.proofs.TableLemmas.{opened-push, length-opened-push, length-table, opened-through, table_is, table_same, place_of-append, place_of-push}
+use Rattle.strtab_build.proofs.TableLemmas.{unclosed-push, length-unclosed-push, length-table, unclosed-through, table_is, table_same, place_of-append, place_of-push}
 
 -- no name
 pub IsTable-nil : IsTable []
-unfolding distinct opened
+unfolding distinct unclosed
 IsTable-nil = record { once = refl; places = λ i h. absurd (omega arith); small = omega arith }
 
 -- a new name goes last
@@ -22,43 +22,43 @@ pub distinct-new : (names : List (List ℕ)) (n : List ℕ) → distinct names �
 distinct-new names [] once new = absurd (true≢false new.not_empty)
 distinct-new names (b ∷ bs) once new = distinct-push names (b ∷ bs) ∙ ap (λ d. with_name d (b ∷ bs)) once ∙ ap (λ u. cond u names (names ++ (b ∷ bs) ∷ [])) new.unused
 
-pub place_of-new : (names : List (List ℕ)) (n : List ℕ) → distinct names ≡ names → IsNew n names → place_of n (names ++ n ∷ []) ≡ length (opened names) + 1
+pub place_of-new : (names : List (List ℕ)) (n : List ℕ) → distinct names ≡ names → IsNew n names → place_of n (names ++ n ∷ []) ≡ length (unclosed names) + 1
 place_of-new names [] once new = absurd (true≢false new.not_empty)
 place_of-new names (b ∷ bs) once new = place_of-push b bs names new.unused ∙ length-table names once
 
-places-push : (names : List (List ℕ)) (n : List ℕ) → IsTable names → IsNew n names → (i : ℕ) → i < length (names ++ n ∷ []) → place_of (get_or (names ++ n ∷ []) i []) (names ++ n ∷ []) ≡ length (opened (take i (names ++ n ∷ []))) + 1
+places-push : (names : List (List ℕ)) (n : List ℕ) → IsTable names → IsNew n names → (i : ℕ) → i < length (names ++ n ∷ []) → place_of (get_or (names ++ n ∷ []) i []) (names ++ n ∷ []) ≡ length (unclosed (take i (names ++ n ∷ []))) + 1
 places-push names n t new i h = ⊎_elim (by_old) by_new (cases_lt i (length names))
   where
-    by_old : i < length names → place_of (get_or (names ++ n ∷ []) i []) (names ++ n ∷ []) ≡ length (opened (take i (names ++ n ∷ []))) + 1
+    by_old : i < length names → place_of (get_or (names ++ n ∷ []) i []) (names ++ n ∷ []) ≡ length (unclosed (take i (names ++ n ∷ []))) + 1
     by_old lt =
         let name = get_or names i [] in
         ap (λ d. place_of d (names ++ n ∷ [])) (get_or_append_left names (n ∷ []) [] i lt) ∙ place_of-append name names (n ∷ []) (list_any_at (bytes_eq name) names i [] lt (same_refl name))
-        ∙ t.places i lt ∙ ap (λ d. length (opened d) + 1) (sym (take-append-le i names (n ∷ []) (omega arith)))
+        ∙ t.places i lt ∙ ap (λ d. length (unclosed d) + 1) (sym (take-append-le i names (n ∷ []) (omega arith)))
 
-    by_new : length names ≤ i → place_of (get_or (names ++ n ∷ []) i []) (names ++ n ∷ []) ≡ length (opened (take i (names ++ n ∷ []))) + 1
+    by_new : length names ≤ i → place_of (get_or (names ++ n ∷ []) i []) (names ++ n ∷ []) ≡ length (unclosed (take i (names ++ n ∷ []))) + 1
     by_new ge =
         let last : length names ≡ i = omega (arith, length_push names n) in
-        ap (λ d. place_of d (names ++ n ∷ [])) (get_or_push names n [] i last) ∙ place_of-new names n t.once new ∙ ap (λ d. length (opened d) + 1) (sym (take_at names (n ∷ []) i last))
+        ap (λ d. place_of d (names ++ n ∷ [])) (get_or_push names n [] i last) ∙ place_of-new names n t.once new ∙ ap (λ d. length (unclosed d) + 1) (sym (take_at names (n ∷ []) i last))
 
-pub IsTable-push : (names : List (List ℕ)) (n : List ℕ) → IsTable names → IsNew n names → length (opened names) + length n + 2 < 2 ^ 32 → IsTable (names ++ n ∷ [])
+pub IsTable-push : (names : List (List ℕ)) (n : List ℕ) → IsTable names → IsNew n names → length (unclosed names) + length n + 2 < 2 ^ 32 → IsTable (names ++ n ∷ [])
 IsTable-push names n t new fits = record {
   once = distinct-new names n t.once new;
   places = places-push names n t new;
-  small = omega (arith, length-opened-push names n);
+  small = omega (arith, length-unclosed-push names n);
 }
 
 -- the names that are kept
-pub names_in_kept : (bytes : List ℕ) (entries : List Entry) (names : List (List ℕ)) → bytes ≡ opened names → entries ≡ entries_after [] names → names_in bytes entries ≡ names
+pub names_in_kept : (bytes : List ℕ) (entries : List Entry) (names : List (List ℕ)) → bytes ≡ unclosed names → entries ≡ entries_after [] names → names_in bytes entries ≡ names
 names_in_kept bytes entries names b e = ap (names_in bytes) e ∙ ap (λ d. names_in d (entries_after [] names)) b ∙ names_in_is names
 
 -- what is kept with a new name
 pub IsKept-push : (bytes : List ℕ) (entries : List Entry) (newest now : ℕ → Option ℕ) (names : List (List ℕ)) (n : List ℕ) → IsKept bytes entries newest names → IsNew n names
-    → length (opened names) + length n + 2 < 2 ^ 32
+    → length (unclosed names) + length n + 2 < 2 ^ 32
     → ((hash : ℕ) → now hash ≡ cond (eqb (hash_of n) hash) (Some (length names)) (newest hash))
     → IsKept (bytes ++ 0 ∷ n) (entries ++ entry_after names n ∷ []) now (names ++ n ∷ [])
 IsKept-push bytes entries newest now names n k new fits heads = record {
   names_are = IsTable-push names n k.names_are new fits;
-  bytes_are = ap (λ d. d ++ 0 ∷ n) k.bytes_are ∙ sym (opened-push names n);
+  bytes_are = ap (λ d. d ++ 0 ∷ n) k.bytes_are ∙ sym (unclosed-push names n);
   entries_are = ap (λ d. d ++ entry_after names n ∷ []) k.entries_are ∙ sym (entries_after-push [] names n);
   newest_are = λ hash. heads hash ∙ ap (cond (eqb (hash_of n) hash) (Some (length names))) (k.newest_are hash) ∙ sym (newest_of-push hash names n);
 }
@@ -73,7 +73,7 @@ IsKept-as bytes bytes' entries entries' newest names b e k =
 
 -- nothing is kept of no name
 pub IsKept-nil : (newest : ℕ → Option ℕ) → ((hash : ℕ) → newest hash ≡ None) → IsKept [] [] newest []
-unfolding opened entries_after newest_of
+unfolding unclosed entries_after newest_of
 IsKept-nil newest none = record { names_are = IsTable-nil; bytes_are = refl; entries_are = refl; newest_are = none }
 
 -- the last NUL makes the bytes the table
@@ -85,7 +85,7 @@ pub length-table-new : (bytes : List ℕ) (entries : List Entry) (newest : ℕ �
     → length (table (names ++ n ∷ [])) ≡ length bytes + length n + 2
 length-table-new bytes entries newest names n k new =
     let once = distinct-new names n k.names_are.once new in
-    omega (arith, length-table (names ++ n ∷ []) once, length-opened-push names n, ap length k.bytes_are)
+    omega (arith, length-table (names ++ n ∷ []) once, length-unclosed-push names n, ap length k.bytes_are)
 
 -- what the entry at an index says of the name there
 record IsEntryOf (bytes : List ℕ) (names : List (List ℕ)) (i : ℕ) (entry : Entry) : Type 0 where
@@ -100,7 +100,7 @@ unfolding names_in
 entry_kept bytes entries newest names i entry k h read =
     let whole = length-entries_after [] names in
     let same : entry ≡ entry_after (take i names) (get_or names i []) = read ∙ ap (λ d. get_or d i entry) k.entries_are ∙ get_or-entries_after [] names i entry h in
-    let far = opened-through names i h in
+    let far = unclosed-through names i h in
     record {
       within = omega (arith, far, ap (λ e. e.start) same, ap (λ e. e.len) same, ap length k.bytes_are);
       name = ap (name_in bytes) read ∙ sym (get_or-map (name_in bytes) entries i entry [] (omega (arith, whole, ap length k.entries_are))) ∙ ap (λ d. get_or d i []) (names_in_kept bytes entries names k.bytes_are k.entries_are);
@@ -168,7 +168,7 @@ IsHeld-empty names [] t h =
 IsHeld-empty names (b ∷ bs) t h = absurd (omega (arith, eqb-true (length (b ∷ bs)) 0 h))
 
 -- the entry of a new name
-pub entry_after_is : (names : List (List ℕ)) (n : List ℕ) (start : ℕ) (older : Option ℕ) → start ≡ length (opened names) + 1 → older ≡ newest_of (hash_of n) names
+pub entry_after_is : (names : List (List ℕ)) (n : List ℕ) (start : ℕ) (older : Option ℕ) → start ≡ length (unclosed names) + 1 → older ≡ newest_of (hash_of n) names
     → record { start = start; len = length n; older = older } ≡ entry_after names n
 entry_after_is names n start older s o = λ j. record { start = s j; len = length n; older = o j }
 
@@ -176,4 +176,4 @@ entry_after_is names n start older s o = λ j. record { start = s j; len = lengt
 pub names_in-push : (bytes bytes' : List ℕ) (entries entries' : List Entry) (newest : ℕ → Option ℕ) (names : List (List ℕ)) (n : List ℕ) → IsKept bytes entries newest names
     → bytes' ≡ bytes ++ 0 ∷ n → entries' ≡ entries ++ entry_after names n ∷ [] → names_in bytes' entries' ≡ names ++ n ∷ []
 names_in-push bytes bytes' entries entries' newest names n k b e =
-    names_in_kept bytes' entries' (names ++ n ∷ []) (b ∙ ap (λ d. d ++ 0 ∷ n) k.bytes_are ∙ sym (opened-push names n)) (e ∙ ap (λ d. d ++ entry_after names n ∷ []) k.entries_are ∙ sym (entries_after-push [] names n))
+    names_in_kept bytes' entries' (names ++ n ∷ []) (b ∙ ap (λ d. d ++ 0 ∷ n) k.bytes_are ∙ sym (unclosed-push names n)) (e ∙ ap (λ d. d ++ entry_after names n ∷ []) k.entries_are ∙ sym (entries_after-push [] names n))

@@ -6,10 +6,10 @@ use Rattle.std.specs.Str.{bytes_eq}
 use Rattle.std.proofs.lemmas.Bool.{eqb-true, eqb-false, false_from_ne_true, or_from}
 use Rattle.std.proofs.lemmas.List.{drop-drop, drop_at, take_at, take_all, drop_all, drop-append-le, take-append-drop, get_or-take, length-take}
 use Rattle.std.proofs.lemmas.List.Folds.{list_any-append}
-use Rattle.strtab_build.specs.Names.{opened, entry_after, entries_after, hash_of, later, name_in, names_in, newest_of}
+use Rattle.strtab_build.specs.Names.{unclosed, entry_after, entries_after, hash_of, later, name_in, names_in, newest_of}
 use Rattle.strtab_build.specs.declared.entries.Entry.{Entry}
 use Rattle.strtab_build.proofs.DistinctLemmas.{same_true}
-use Rattle.strtab_build.proofs.TableLemmas.{opened-push}
+use Rattle.strtab_build.proofs.TableLemmas.{unclosed-push}
 
 -- one more name has one more entry
 pub entries_after-push : (earlier names : List (List ℕ)) (n : List ℕ) → entries_after earlier (names ++ n ∷ []) ≡ entries_after earlier names ++ entry_after (earlier ++ names) n ∷ []
@@ -36,22 +36,22 @@ name_behind : (front n more : List ℕ) → take (length n) (drop (length front 
 name_behind front n more =
     ap (take (length n)) (sym (drop-drop 1 (length front) (front ++ 0 ∷ (n ++ more))) ∙ ap (drop 1) (drop_at front (0 ∷ (n ++ more)) (length front) refl)) ∙ take_at n more (length n) refl
 
-names_in-after : (earlier names : List (List ℕ)) (more : List ℕ) → map (name_in (opened earlier ++ (opened names ++ more))) (entries_after earlier names) ≡ names
-unfolding opened entries_after
+names_in-after : (earlier names : List (List ℕ)) (more : List ℕ) → map (name_in (unclosed earlier ++ (unclosed names ++ more))) (entries_after earlier names) ≡ names
+unfolding unclosed entries_after
 names_in-after earlier [] more = refl
 names_in-after earlier (n ∷ names) more =
-    let rest = opened names ++ more in
-    let whole : opened earlier ++ (0 ∷ (n ++ opened names) ++ more) ≡ opened earlier ++ (0 ∷ (n ++ rest)) = ap (λ d. opened earlier ++ 0 ∷ d) (append_assoc n (opened names) more) in
-    let moved : opened earlier ++ (0 ∷ (n ++ opened names) ++ more) ≡ opened (earlier ++ n ∷ []) ++ rest =
-    whole ∙ sym (append_assoc (opened earlier) (0 ∷ n) rest) ∙ ap (λ d. d ++ rest) (sym (opened-push earlier n)) in
-    let first = ap (λ b. name_in b (entry_after earlier n)) whole ∙ name_behind (opened earlier) n rest in
+    let rest = unclosed names ++ more in
+    let whole : unclosed earlier ++ (0 ∷ (n ++ unclosed names) ++ more) ≡ unclosed earlier ++ (0 ∷ (n ++ rest)) = ap (λ d. unclosed earlier ++ 0 ∷ d) (append_assoc n (unclosed names) more) in
+    let moved : unclosed earlier ++ (0 ∷ (n ++ unclosed names) ++ more) ≡ unclosed (earlier ++ n ∷ []) ++ rest =
+    whole ∙ sym (append_assoc (unclosed earlier) (0 ∷ n) rest) ∙ ap (λ d. d ++ rest) (sym (unclosed-push earlier n)) in
+    let first = ap (λ b. name_in b (entry_after earlier n)) whole ∙ name_behind (unclosed earlier) n rest in
     let others = ap (λ b. map (name_in b) (entries_after (earlier ++ n ∷ []) names)) moved ∙ names_in-after (earlier ++ n ∷ []) names more in
     λ j. first j ∷ others j
 
 -- the bytes and the entries of names stand for them
-pub names_in_is : (names : List (List ℕ)) → names_in (opened names) (entries_after [] names) ≡ names
-unfolding names_in opened
-names_in_is names = ap (λ d. map (name_in d) (entries_after [] names)) (sym (append-nil (opened names))) ∙ names_in-after [] names []
+pub names_in_is : (names : List (List ℕ)) → names_in (unclosed names) (entries_after [] names) ≡ names
+unfolding names_in unclosed
+names_in_is names = ap (λ d. map (name_in d) (entries_after [] names)) (sym (append-nil (unclosed names))) ∙ names_in-after [] names []
 
 pub newest_of-push : (hash : ℕ) (names : List (List ℕ)) (n : List ℕ) → newest_of hash (names ++ n ∷ []) ≡ cond (eqb (hash_of n) hash) (Some (length names)) (newest_of hash names)
 unfolding newest_of

@@ -10,51 +10,47 @@ use Rattle.std.proofs.lemmas.List.Elements.{All-head, All-tail, Contains-push}
 use Rattle.std.proofs.lemmas.List.Sums.{take_while-cons}
 use Rattle.std.proofs.lemmas.Map.Views.{list_any-from_Contains}
 use Rattle.strtab_build.specs.Table.{before, distinct, strings, table, place_of, string_at}
-use Rattle.strtab_build.specs.Names.{opened}
+use Rattle.strtab_build.specs.Names.{unclosed}
 use Rattle.strtab_build.proofs.DistinctLemmas.{before-append, before-distinct, before-push, distinct-at, distinct-distinct}
 
-pub opened-push : (names : List (List ℕ)) (n : List ℕ) → opened (names ++ n ∷ []) ≡ opened names ++ 0 ∷ n
-unfolding opened
-opened-push names n = flat_map-append (λ d. 0 ∷ d) names (n ∷ []) ∙ ap (λ d. opened names ++ 0 ∷ d) (append-nil n)
-
-pub opened-append : (names more : List (List ℕ)) → opened (names ++ more) ≡ opened names ++ opened more
-unfolding opened
-opened-append names more = flat_map-append (λ d. 0 ∷ d) names more
+pub unclosed-push : (names : List (List ℕ)) (n : List ℕ) → unclosed (names ++ n ∷ []) ≡ unclosed names ++ 0 ∷ n
+unfolding unclosed
+unclosed-push names n = flat_map-append (λ d. 0 ∷ d) names (n ∷ []) ∙ ap (λ d. unclosed names ++ 0 ∷ d) (append-nil n)
 
 -- the bytes up to the end of a name stand among those of all
-pub opened-through : (names : List (List ℕ)) (i : ℕ) → i < length names → length (opened (take i names)) + 1 + length (get_or names i []) ≤ length (opened names)
-unfolding opened
-opened-through [] i h = absurd (omega arith)
-opened-through (n ∷ names) zero h = omega (arith, length-append n (opened names))
-opened-through (n ∷ names) (suc i) h = omega (arith, length-append n (opened names), length-append n (opened (take i names)), opened-through names i (omega arith))
+pub unclosed-through : (names : List (List ℕ)) (i : ℕ) → i < length names → length (unclosed (take i names)) + 1 + length (get_or names i []) ≤ length (unclosed names)
+unfolding unclosed
+unclosed-through [] i h = absurd (omega arith)
+unclosed-through (n ∷ names) zero h = omega (arith, length-append n (unclosed names))
+unclosed-through (n ∷ names) (suc i) h = omega (arith, length-append n (unclosed names), length-append n (unclosed (take i names)), unclosed-through names i (omega arith))
 
-pub length-opened-push : (names : List (List ℕ)) (n : List ℕ) → length (opened (names ++ n ∷ [])) ≡ length (opened names) + length n + 1
-length-opened-push names n = omega (arith, ap length (opened-push names n) ∙ length-append (opened names) (0 ∷ n))
+pub length-unclosed-push : (names : List (List ℕ)) (n : List ℕ) → length (unclosed (names ++ n ∷ [])) ≡ length (unclosed names) + length n + 1
+length-unclosed-push names n = omega (arith, ap length (unclosed-push names n) ∙ length-append (unclosed names) (0 ∷ n))
 
 -- the last NUL makes it the table
-pub opened-closed : (names : List (List ℕ)) → opened names ++ 0 ∷ [] ≡ 0 ∷ strings names
-unfolding opened strings
-opened-closed [] = refl
-opened-closed (n ∷ names) =
-    ap (λ d. 0 ∷ d) (append_assoc n (opened names) (0 ∷ []) ∙ ap (λ d. n ++ d) (opened-closed names) ∙ sym (append_assoc n (0 ∷ []) (strings names)))
+pub unclosed-closed : (names : List (List ℕ)) → unclosed names ++ 0 ∷ [] ≡ 0 ∷ strings names
+unfolding unclosed strings
+unclosed-closed [] = refl
+unclosed-closed (n ∷ names) =
+    ap (λ d. 0 ∷ d) (append_assoc n (unclosed names) (0 ∷ []) ∙ ap (λ d. n ++ d) (unclosed-closed names) ∙ sym (append_assoc n (0 ∷ []) (strings names)))
 
-pub table_is : (names : List (List ℕ)) → distinct names ≡ names → table names ≡ opened names ++ 0 ∷ []
+pub table_is : (names : List (List ℕ)) → distinct names ≡ names → table names ≡ unclosed names ++ 0 ∷ []
 unfolding table
-table_is names once = ap (λ d. 0 ∷ strings d) once ∙ sym (opened-closed names)
+table_is names once = ap (λ d. 0 ∷ strings d) once ∙ sym (unclosed-closed names)
 
 -- names that are alike once each have one table
 pub table_same : (names more : List (List ℕ)) → distinct names ≡ distinct more → table names ≡ table more
 unfolding table
 table_same names more h = ap (λ d. 0 ∷ strings d) h
 
-pub length-table : (names : List (List ℕ)) → distinct names ≡ names → length (table names) ≡ length (opened names) + 1
-length-table names once = ap length (table_is names once) ∙ length_push (opened names) 0
+pub length-table : (names : List (List ℕ)) → distinct names ≡ names → length (table names) ≡ length (unclosed names) + 1
+length-table names once = ap length (table_is names once) ∙ length_push (unclosed names) 0
 
 -- there are no more names than bytes
-pub length_le-opened : (names : List (List ℕ)) → length names ≤ length (opened names)
-unfolding opened
-length_le-opened [] = omega arith
-length_le-opened (n ∷ names) = omega (arith, length-append n (opened names), length_le-opened names)
+pub length_le-unclosed : (names : List (List ℕ)) → length names ≤ length (unclosed names)
+unfolding unclosed
+length_le-unclosed [] = omega arith
+length_le-unclosed (n ∷ names) = omega (arith, length-append n (unclosed names), length_le-unclosed names)
 
 -- a name that is there keeps its place
 pub place_of-append : (n : List ℕ) (names more : List (List ℕ)) → list_any (bytes_eq n) names ≡ true → place_of n (names ++ more) ≡ place_of n names

@@ -1,5 +1,6 @@
--- A string table (gABI chapter 4, "String Table"): its first byte is a NUL, and each string in it ends with a NUL. A string
--- is named by its offset from the table's first byte, and offset 0 names the empty string.
+-- A string table (gABI chapter 4, "String Table"): its first byte is a NUL, and each string in it
+-- ends with a NUL. A string is named by its offset from the table's first byte, and offset 0 names
+-- the empty string.
 use Rattle.std.specs.Prelude.{ℕ, List, [], ◌∷◌, ◌++◌, length, drop, filter, take_while, not, ◌==◌}
 use Rattle.std.specs.List.{flat_map}
 use Rattle.std.specs.Str.{bytes_eq}
@@ -26,8 +27,8 @@ table names = 0 ∷ strings (distinct names)
 abbrev pub before : List ℕ → List (List ℕ) → List (List ℕ)
 before name names = take_while (λ other. not (bytes_eq name other)) names
 
--- the place of a name in the table: that of the first NUL for the empty name, and else the end of the strings that are
--- first used before it
+-- the place of a name in the table: that of the first NUL for the empty name, and else the end of
+-- the strings that are first used before it
 unfoldable pub place_of : List ℕ → List (List ℕ) → ℕ
 place_of [] names = 0
 place_of (b ∷ bs) names = length (table (before (b ∷ bs) names))

@@ -3,12 +3,13 @@
 ghost use Rattle.std.specs.Prelude.{◌≡◌, ◌≢◌, ℕ, List, ◌++◌, All, Contains};
 ghost use Rattle.strtab_build.specs.Table.{distinct, table, place_of, string_at};
 
-/// What a table means for a caller that keeps all the names that it used, repeats and the empty name
-/// among them, while `Strings` keeps each once. The call does nothing: its contract is the law.
+/// What a table means for a caller that keeps all the names that it used, repeats and the empty
+/// name among them, while `Strings` keeps each once. The call does nothing: its contract is the
+/// law.
 ///
 /// The distinct names have the table and the places of all that were used, and with more names they
-/// become the distinct names of all. A name keeps its place while more are used, and the string at its
-/// place in the table is the name (gABI chapter 4, "String Table").
+/// become the distinct names of all. A name keeps its place while more are used, and the string at
+/// its place in the table is the name (gABI chapter 4, "String Table").
 pub fn uses_have_places()
     ensures names { (used more : List (List ℕ))
         → distinct (distinct used ++ more) ≡ distinct (used ++ more) }

@@ -15,11 +15,12 @@ use std::marker::Model;
 /// and `st_name`).
 const LIMIT: usize = u32::MAX as usize;
 
-/// The names of a string table in the making, which contracts see as their list: each name that is not
-/// empty once, in order of first use.
+/// The names of a string table in the making, which contracts see as their list: each name that is
+/// not empty once, in order of first use.
 ///
-/// A name's bytes stand once, in the table, where a map by hash finds them. The hash has a fixed seed, so
-/// whoever picks the names can make them collide, and each of these is then compared with those before.
+/// A name's bytes stand once, in the table, where a map by hash finds them. The hash has a fixed
+/// seed, so whoever picks the names can make them collide, and each of these is then compared with
+/// those before.
 #[derive(Drop)]
 pub struct Strings {
     /// The table without its last NUL, so that a name follows its NUL, and no name takes no memory.
@@ -66,11 +67,11 @@ impl Strings {
         }
     }
 
-    /// The offset of a name in the table. An equal name has one offset, the empty name has 0, and a new
-    /// name goes last.
+    /// The offset of a name in the table. An equal name has one offset, the empty name has 0, and a
+    /// new name goes last.
     ///
-    /// It refuses `TooLarge` exactly where the table would pass 2^32 - 1 bytes, and else `Memory` where
-    /// there is none. Then nothing changed.
+    /// It refuses `TooLarge` exactly where the table would pass 2^32 - 1 bytes, and else `Memory`
+    /// where there is none. Then nothing changed.
     pub fn add(&mut self, bytes: &[u8]) -> Result<u32, ElfError>
         requires { All (λ b. b ≢ 0) bytes.now }
         ensures names { OnOk result (self.new ≡ distinct (self.old ++ bytes.now ∷ [])) }
@@ -92,8 +93,8 @@ impl Strings {
         Ok(offset)
     }
 
-    /// The table: a NUL and the names in order of first use, each with its NUL (gABI chapter 4, "String
-    /// Table"). It refuses `Memory` alone.
+    /// The table: a NUL and the names in order of first use, each with its NUL (gABI chapter 4,
+    /// "String Table"). It refuses `Memory` alone.
     pub fn finish(self) -> Result<Octets, ElfError>
         ensures ok { IfOk result (λ bytes. bytes ≡ table self) }
         ensures err { IfErr result (λ e. e ≡ ElfError.Memory) }

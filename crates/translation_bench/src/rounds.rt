@@ -12,8 +12,8 @@ use elf_types::{Kind, Octets};
 use elf_xlate::{Items, fsize, to_file, to_memory};
 use std::alloc::Global;
 
-/// The sum of what all rounds made, or None for want of memory. The whole of a translation before the
-/// rounds counts, and of each round one symbol or byte.
+/// The sum of what all rounds made, or None for want of memory. The whole of a translation before
+/// the rounds counts, and of each round one symbol or byte.
 pub fn total(alloc: Global, work: &Work) -> Option<u64> {
     let size = fsize(Kind::Sym, work.class, u64::from(work.symbols))?;
     let bytes = made_bytes(alloc, size)?;
@@ -24,10 +24,11 @@ pub fn total(alloc: Global, work: &Work) -> Option<u64> {
     }
 }
 
-// The sum after all rounds of decoding.
+/// The sum after all rounds of decoding.
 #[tactic(auto, unfolding(crate::specs::Sums::decode_sum), using(crate::proofs::Sums::with_no_symbol, crate::proofs::Places::decoded_round))]
 fn decode_rounds(alloc: Global, work: &Work, bytes: &[u8], first: u64) -> Option<u64>
-    ensures { IfSome result (λ sum. sum ≡ decode_sum first work.now.rounds (symbols_in (decoded kinds.Sym work.now.class work.now.order bytes.now))) }
+    ensures { IfSome result (λ sum. sum ≡ decode_sum first work.now.rounds
+        (symbols_in (decoded kinds.Sym work.now.class work.now.order bytes.now))) }
 {
     let mut sum = first;
     for round in 0..work.rounds {
@@ -37,7 +38,7 @@ fn decode_rounds(alloc: Global, work: &Work, bytes: &[u8], first: u64) -> Option
     Some(sum)
 }
 
-// The sum with the symbol at a place more, where there is one.
+/// The sum with the symbol at a place more, where there is one.
 #[tactic(auto, unfolding(crate::specs::Sums::symbols_in), using(crate::proofs::Places::symbol_there, crate::proofs::Places::symbol_past, crate::proofs::Sums::with_no_symbol))]
 fn with_symbol_at(sum: u64, items: &Items, place: u64) -> u64
     ensures { result ≡ with_symbols sum (take 1 (drop place (symbols_in (Some items.now)))) }
@@ -51,10 +52,11 @@ fn with_symbol_at(sum: u64, items: &Items, place: u64) -> u64
     }
 }
 
-// The sum of what encoding makes, and after all rounds of it.
+/// The sum of what encoding makes, and after all rounds of it.
 #[tactic(auto, unfolding(crate::specs::Sums::encode_sum), using(crate::proofs::Sums::with_none, crate::proofs::Places::encoded_round))]
 fn encode_rounds(alloc: Global, work: &Work, items: &Items) -> Option<u64>
-    ensures { IfSome result (λ sum. sum ≡ encode_sum work.now.rounds (encoded work.now.class work.now.order items.now)) }
+    ensures { IfSome result (λ sum. sum ≡ encode_sum work.now.rounds
+        (encoded work.now.class work.now.order items.now)) }
 {
     let mut out = Octets::new(alloc);
     to_file(items, work.class, work.order, &mut out).ok()?;
@@ -67,7 +69,7 @@ fn encode_rounds(alloc: Global, work: &Work, items: &Items) -> Option<u64>
     Some(sum)
 }
 
-// The sum with the byte at a place more, where there is one.
+/// The sum with the byte at a place more, where there is one.
 #[tactic(auto, using(crate::proofs::Places::byte_there, crate::proofs::Places::byte_past))]
 fn with_byte_at(sum: u64, bytes: &Octets, place: u64) -> u64
     ensures { result ≡ with_all sum (take 1 (drop place bytes.now)) }

@@ -50,7 +50,7 @@ pub fn sum_of_symbols(items: &Items) -> u64
     }
 }
 
-// The sum of a list of symbols.
+/// The sum of a list of symbols.
 #[tactic(auto, using(crate::proofs::Sums::with_no_symbol, crate::proofs::Sums::with_next_symbol))]
 fn sum_of_list(symbols: &[Sym]) -> u64
     ensures { result ≡ sums.with_symbols 0 symbols.now }

@@ -33,7 +33,8 @@ pub struct Work {
     pub rounds: u32,
 }
 
-/// What the words after the program's name ask for, or None where they are not of the form of `USAGE`.
+/// What the words after the program's name ask for, or None where they are not of the form of
+/// `USAGE`.
 pub fn read_work(mut words: Args) -> Option<Work> {
     let _program = words.next()?;
     let way = read_way(words.next()?.as_str())?;
@@ -53,7 +54,7 @@ pub fn read_work(mut words: Args) -> Option<Work> {
     })
 }
 
-// The way that a word names.
+/// The way that a word names.
 #[tactic(auto, unfolding(crate::specs::Words::way_of))]
 fn read_way(word: &str) -> Option<Way>
     ensures { result ≡ way_of word.now }
@@ -65,7 +66,7 @@ fn read_way(word: &str) -> Option<Way>
     }
 }
 
-// The class that a word names.
+/// The class that a word names.
 #[tactic(auto, unfolding(crate::specs::Words::class_of))]
 fn read_class(word: &str) -> Option<Class>
     ensures { result ≡ class_of word.now }
@@ -77,7 +78,7 @@ fn read_class(word: &str) -> Option<Class>
     }
 }
 
-// The byte order that a word names.
+/// The byte order that a word names.
 #[tactic(auto, unfolding(crate::specs::Words::order_of))]
 fn read_order(word: &str) -> Option<Order>
     ensures { result ≡ order_of word.now }

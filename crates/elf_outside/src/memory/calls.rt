@@ -1,7 +1,7 @@
 //! The calls of an object in memory that are to fail.
 
 ghost use Rattle.std.specs.Prelude.{◌≡◌, ◌↔◌, Contains, IsTrue};
-ghost use Rattle.elf_outside.specs.Counts.{one_more};
+ghost use Rattle.elf_outside.specs.Counts.{next_count};
 
 use elf_types::Addrs;
 
@@ -23,7 +23,7 @@ impl Calls {
 
     /// Counts a call, and says whether it is to fail.
     pub fn next_fails(&mut self) -> bool
-        ensures number { self.new.made ≡ one_more self.old.made }
+        ensures number { self.new.made ≡ next_count self.old.made }
         ensures same { self.new.bad ≡ self.old.bad }
         ensures fails { IsTrue result ↔ Contains self.old.bad self.new.made }
     {

@@ -1,11 +1,13 @@
 //! A device in memory.
 
-ghost use Rattle.std.specs.Prelude.{refl, ◌≡◌, ◌⊎◌, ◌↔◌, ◌+◌, ◌≤◌, ◌<◌, ◌++◌, ◌∷◌, [], Some, Contains, IsErr, is_err, if◌then◌else◌, length, take, drop, vec_len, vec_capacity, OnOk, OnErr, IfOk, IfErr};
-ghost use Rattle.elf_outside.specs.Counts.{HasCause, RaisedBy, one_more};
+ghost use Rattle.std.specs.Prelude.{refl, ◌≡◌, ◌⊎◌, ◌↔◌, ◌+◌, ◌≤◌, ◌<◌, ◌++◌, ◌∷◌, [], Some, Contains, IsErr, length, take, drop, vec_len, vec_capacity, OnOk, OnErr, IfOk, IfErr};
+ghost use Rattle.std.proofs.Common.{rules};
+ghost use Rattle.elf_outside.specs.Counts.{HasCause, RaisedBy, next_count, faults_after};
 ghost use Rattle.elf_outside.specs.Writes.{written_over, resized};
 
 use crate::devices::Device;
 use crate::memory::calls::Calls;
+use crate::ranges::{copy_range, put_over};
 use crate::sources::{Failed, Source};
 use elf_types::{Addrs, ElfError, Octets};
 use std::alloc::Global;
@@ -89,21 +91,26 @@ impl Source for MemDevice {
     ghost taken = { λ d. d.taken };
 
     fn len(&self) -> u64 {
-        self.bytes.len() as u64
+        let bytes = self.bytes.as_slice();
+        bytes.len() as u64
     }
 
     fn read_at(&mut self, at: u64, buf: &mut [u8]) -> Result<(), Failed>
         requires { at + length buf.old ≤ vec_len self.old.bytes }
-        ensures leaves { (self.new.bytes ≡ self.old.bytes) × (self.new.reads.bad ≡ self.old.reads.bad) }
-        ensures leaves_writes { (self.new.given ≡ self.old.given) × (self.new.write_faults ≡ self.old.write_faults) × (self.new.writes ≡ self.old.writes) × (self.new.room ≡ self.old.room) }
-        ensures bytes { OnOk result (buf.new ≡ take (length buf.old) (drop at self.old.bytes.items)) }
+        ensures leaves { (self.new.bytes ≡ self.old.bytes)
+            × (self.new.reads.bad ≡ self.old.reads.bad) }
+        ensures leaves_writes { (self.new.given ≡ self.old.given)
+            × (self.new.write_faults ≡ self.old.write_faults)
+            × (self.new.writes ≡ self.old.writes) × (self.new.room ≡ self.old.room) }
+        ensures bytes { OnOk result
+            (buf.new ≡ take (length buf.old) (drop at self.old.bytes.items)) }
         ensures cause { HasCause self.old.faults self.new.faults result }
         ensures taken { RaisedBy self.old.taken self.new.taken (length buf.old) }
 
         // which reads fail, and what such a read changes
-        ensures number { self.new.reads.made ≡ one_more self.old.reads.made }
+        ensures number { self.new.reads.made ≡ next_count self.old.reads.made }
         ensures fails { IsErr result ↔ Contains self.old.reads.bad self.new.reads.made }
-        ensures counted { self.new.faults ≡ (if is_err result then one_more self.old.faults else self.old.faults) }
+        ensures counted { self.new.faults ≡ faults_after result self.old.faults }
         ensures untouched { OnErr result (buf.new ≡ buf.old) }
     {
         self.taken = self.taken.saturating_add(buf.len() as u64);
@@ -111,11 +118,11 @@ impl Source for MemDevice {
             self.faults = self.faults.saturating_add(1);
             return Err(Failed);
         }
-        let (_, from_place) = self.bytes.as_slice().split_at(at as usize);
-        let (wanted, _) = from_place.split_at(buf.len());
-        buf.copy_from_slice(wanted);
+        copy_range(self.bytes.as_slice(), at as usize, buf);
         Ok(())
     }
+
+    ghost sized = { Prim.search rules };
 }
 
 impl Device for MemDevice {
@@ -123,21 +130,23 @@ impl Device for MemDevice {
 
     ghost given = { λ d. d.given };
 
-    ghost kept = { λ d. d.reads.bad ∷ [] };
+    ghost rest_after = { λ d. d.reads.bad ∷ [] };
 
     fn write_at(&mut self, at: u64, buf: &[u8]) -> Result<(), Failed>
         requires { at + length buf.now ≤ vec_len self.old.bytes }
-        ensures ok { OnOk result (self.new.bytes.items ≡ written_over self.old.bytes.items at buf.now) }
+        ensures ok { OnOk result
+            (self.new.bytes.items ≡ written_over self.old.bytes.items at buf.now) }
         ensures err { OnErr result (self.new.bytes.items ≡ self.old.bytes.items) }
         ensures cause { HasCause self.old.write_faults self.new.write_faults result }
         ensures given { RaisedBy self.old.given self.new.given (length buf.now) }
-        ensures leaves { (self.new.reads ≡ self.old.reads) × (self.new.faults ≡ self.old.faults) × (self.new.taken ≡ self.old.taken) × (self.new.room ≡ self.old.room) }
+        ensures leaves { (self.new.reads ≡ self.old.reads) × (self.new.faults ≡ self.old.faults)
+            × (self.new.taken ≡ self.old.taken) × (self.new.room ≡ self.old.room) }
 
         // which writes fail
-        ensures number { self.new.writes.made ≡ one_more self.old.writes.made }
+        ensures number { self.new.writes.made ≡ next_count self.old.writes.made }
         ensures bad { self.new.writes.bad ≡ self.old.writes.bad }
         ensures fails { IsErr result ↔ Contains self.old.writes.bad self.new.writes.made }
-        ensures counted { self.new.write_faults ≡ (if is_err result then one_more self.old.write_faults else self.old.write_faults) }
+        ensures counted { self.new.write_faults ≡ faults_after result self.old.write_faults }
     {
         self.given = self.given.saturating_add(buf.len() as u64);
         if self.writes.next_fails() {
@@ -153,13 +162,15 @@ impl Device for MemDevice {
         ensures err { OnErr result (self.new.bytes.items ≡ self.old.bytes.items) }
         ensures cause { HasCause self.old.write_faults self.new.write_faults result }
         ensures given { self.new.given ≡ self.old.given }
-        ensures leaves { (self.new.reads ≡ self.old.reads) × (self.new.faults ≡ self.old.faults) × (self.new.taken ≡ self.old.taken) × (self.new.room ≡ self.old.room) }
+        ensures leaves { (self.new.reads ≡ self.old.reads) × (self.new.faults ≡ self.old.faults)
+            × (self.new.taken ≡ self.old.taken) × (self.new.room ≡ self.old.room) }
 
         // which writes fail
-        ensures number { self.new.writes.made ≡ one_more self.old.writes.made }
+        ensures number { self.new.writes.made ≡ next_count self.old.writes.made }
         ensures bad { self.new.writes.bad ≡ self.old.writes.bad }
-        ensures fails { IsErr result ↔ (Contains self.old.writes.bad self.new.writes.made ⊎ self.old.room < n) }
-        ensures counted { self.new.write_faults ≡ (if is_err result then one_more self.old.write_faults else self.old.write_faults) }
+        ensures fails { IsErr result
+            ↔ (Contains self.old.writes.bad self.new.writes.made ⊎ self.old.room < n) }
+        ensures counted { self.new.write_faults ≡ faults_after result self.old.write_faults }
     {
         if self.writes.next_fails() || self.room < n {
             self.write_faults = self.write_faults.saturating_add(1);
@@ -174,14 +185,16 @@ impl Device for MemDevice {
         ensures err { OnErr result (self.new.bytes.items ≡ self.old.bytes.items) }
         ensures cause { HasCause self.old.write_faults self.new.write_faults result }
         ensures given { RaisedBy self.old.given self.new.given (length buf.now) }
-        ensures leaves { (self.new.reads ≡ self.old.reads) × (self.new.faults ≡ self.old.faults) × (self.new.taken ≡ self.old.taken) × (self.new.room ≡ self.old.room) }
+        ensures leaves { (self.new.reads ≡ self.old.reads) × (self.new.faults ≡ self.old.faults)
+            × (self.new.taken ≡ self.old.taken) × (self.new.room ≡ self.old.room) }
 
         // which writes fail
-        ensures number { self.new.writes.made ≡ one_more self.old.writes.made }
+        ensures number { self.new.writes.made ≡ next_count self.old.writes.made }
         ensures bad { self.new.writes.bad ≡ self.old.writes.bad }
         ensures fails { IsErr result
-            ↔ (Contains self.old.writes.bad self.new.writes.made ⊎ self.old.room < vec_len self.old.bytes + length buf.now) }
-        ensures counted { self.new.write_faults ≡ (if is_err result then one_more self.old.write_faults else self.old.write_faults) }
+            ↔ (Contains self.old.writes.bad self.new.writes.made
+            ⊎ self.old.room < vec_len self.old.bytes + length buf.now) }
+        ensures counted { self.new.write_faults ≡ faults_after result self.old.write_faults }
     {
         self.given = self.given.saturating_add(buf.len() as u64);
         let room_left = self.room - self.bytes.len() as u64;
@@ -194,14 +207,6 @@ impl Device for MemDevice {
     }
 
     ghost rest_begins = { λ _. refl };
-}
-
-/// Puts a piece over the bytes from a place on.
-fn put_over(bytes: &mut [u8], at: usize, piece: &[u8])
-    requires { at + length piece.now ≤ length bytes.old }
-    ensures { bytes.new ≡ written_over bytes.old at piece.now }
-{
-    bytes[at..at + piece.len()].copy_from_slice(piece);
 }
 
 #[cfg(test)]

@@ -1,10 +1,9 @@
 //! A set of files in memory.
 
-ghost use Rattle.std.specs.Prelude.{◌≡◌, ℕ, ◌-◌, [], true, List, Some, None, IfOk, IfErr, OnOk, OnErr};
+ghost use Rattle.std.specs.Prelude.{◌≡◌, ℕ, [], true, List, Some, None, IfOk, IfErr, OnOk, OnErr};
 ghost use Rattle.std.specs.Option.{option_copied};
-ghost use Rattle.elf_outside.specs.Counts.{RaisedBy, Passes};
-ghost use Rattle.elf_outside.specs.Kept.{kept, bytes_named, closed, SameKept, SetsKept};
-ghost use Rattle.elf_outside.specs.MemFiles.{SameSettings, IsFileOf, IsUntouched, HandsOut, Creates, emptied};
+ghost use Rattle.elf_outside.specs.Kept.{kept, bytes_kept, SameKept, SetsKept};
+ghost use Rattle.elf_outside.specs.MemFiles.{SameSettings, IsFileOf, IsUntouched, HandsOut, Creates, TakesBack, emptied};
 
 use crate::file_sets::{Files, OpenFault};
 use crate::memory::calls::Calls;
@@ -81,8 +80,10 @@ impl MemFiles {
             (Some (record { bytes = bytes; bad_reads = bad_reads; bad_writes = bad_writes }))) }
         ensures unchanged { OnErr result (SameKept self.old.names self.new.names) }
         ensures err { IfErr result (λ e. e ≡ ElfError.Memory) }
-        ensures leaves { (self.new.room ≡ self.old.room) × (self.new.opens ≡ self.old.opens) × (self.new.bad_writes ≡ self.old.bad_writes) }
-        ensures faults { (self.new.read_faults ≡ self.old.read_faults) × (self.new.write_faults ≡ self.old.write_faults) }
+        ensures leaves { (self.new.room ≡ self.old.room) × (self.new.opens ≡ self.old.opens)
+            × (self.new.bad_writes ≡ self.old.bad_writes) }
+        ensures faults { (self.new.read_faults ≡ self.old.read_faults)
+            × (self.new.write_faults ≡ self.old.write_faults) }
         ensures numbers { (self.new.taken ≡ self.old.taken) × (self.new.given ≡ self.old.given) }
         ensures live { self.new.live ≡ self.old.live }
     {
@@ -98,7 +99,7 @@ impl MemFiles {
 
     /// The bytes of a name, or None exactly where the name is not there. It takes no memory.
     pub fn bytes(&self, name: &str) -> Option<&[u8]>
-        ensures { option_copied result ≡ bytes_named self.now.names name.now }
+        ensures { option_copied result ≡ bytes_kept self.now.names name.now }
     {
         match self.names.get(name) {
             Some(kept) => Some(kept.bytes.as_slice()),
@@ -131,7 +132,7 @@ impl Files for MemFiles {
 
     ghost tells = { λ _. true };
 
-    ghost named = { λ f. bytes_named f.names };
+    ghost named = { λ f. bytes_kept f.names };
 
     ghost read_faults = { λ f. f.read_faults };
 
@@ -169,14 +170,7 @@ impl Files for MemFiles {
     }
 
     fn close(&mut self, name: &str, file: MemDevice)
-        ensures set { SetsKept self.old.names self.new.names name.now (closed file.bytes.items (kept self.old.names name.now)) }
-        ensures settings { SameSettings self.old self.new }
-        ensures number { self.new.opens.made ≡ self.old.opens.made }
-        ensures read_faults { Passes self.old.read_faults self.new.read_faults file.faults }
-        ensures write_faults { Passes self.old.write_faults self.new.write_faults file.write_faults }
-        ensures taken { RaisedBy self.old.taken self.new.taken file.taken }
-        ensures given { RaisedBy self.old.given self.new.given file.given }
-        ensures live { self.new.live ≡ self.old.live - 1 }
+        ensures call { TakesBack self.old self.new name.now file }
     {
         self.read_faults = self.read_faults.saturating_add(file.faults);
         self.write_faults = self.write_faults.saturating_add(file.write_faults);
@@ -232,7 +226,8 @@ fn new_file(alloc: Global, room: u64, bad_writes: &Addrs) -> Result<MemDevice, O
 /// Sets a name to the empty text, and leaves the failing calls of a name that is there. It refuses
 /// `Memory` alone, and then every name is as before.
 fn set_empty(names: &mut BTreeMap<String, Kept>, alloc: Global, name: &str) -> Result<(), OpenFault>
-    ensures ok { OnOk result (SetsKept names.old names.new name.now (Some (emptied (kept names.old name.now)))) }
+    ensures ok { OnOk result
+        (SetsKept names.old names.new name.now (Some (emptied (kept names.old name.now)))) }
     ensures unchanged { OnErr result (SameKept names.old names.new) }
     ensures err { IfErr result (λ e. e ≡ OpenFault.Memory) }
 {

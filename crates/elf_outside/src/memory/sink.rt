@@ -1,7 +1,7 @@
 //! A sink in memory.
 
-ghost use Rattle.std.specs.Prelude.{◌≡◌, ◌⊎◌, ◌↔◌, ◌+◌, ◌≤◌, ◌<◌, ◌++◌, [], Some, Contains, IsErr, is_err, if◌then◌else◌, length, vec_len, vec_capacity, OnOk, OnErr, IfOk, IfErr};
-ghost use Rattle.elf_outside.specs.Counts.{HasCause, one_more};
+ghost use Rattle.std.specs.Prelude.{◌≡◌, ◌⊎◌, ◌↔◌, ◌+◌, ◌≤◌, ◌<◌, ◌++◌, [], Some, Contains, IsErr, length, vec_len, vec_capacity, OnOk, OnErr, IfOk, IfErr};
+ghost use Rattle.elf_outside.specs.Counts.{HasCause, next_count, faults_after};
 
 use crate::memory::calls::Calls;
 use crate::sinks::Sink;
@@ -62,10 +62,11 @@ impl Sink for MemSink {
         ensures cause { HasCause self.old.faults self.new.faults result }
 
         // which puts fail
-        ensures number { self.new.puts.made ≡ one_more self.old.puts.made }
+        ensures number { self.new.puts.made ≡ next_count self.old.puts.made }
         ensures fails { IsErr result
-            ↔ (Contains self.old.puts.bad self.new.puts.made ⊎ self.old.room < vec_len self.old.bytes + length buf.now) }
-        ensures counted { self.new.faults ≡ (if is_err result then one_more self.old.faults else self.old.faults) }
+            ↔ (Contains self.old.puts.bad self.new.puts.made
+            ⊎ self.old.room < vec_len self.old.bytes + length buf.now) }
+        ensures counted { self.new.faults ≡ faults_after result self.old.faults }
     {
         let room_left = self.room - self.bytes.len() as u64;
         if self.puts.next_fails() || room_left < buf.len() as u64 {

@@ -1,9 +1,10 @@
 //! A source in memory.
 
-ghost use Rattle.std.specs.Prelude.{◌≡◌, ◌↔◌, ◌+◌, ◌≤◌, ◌∷◌, [], Some, Contains, IsErr, is_err, if◌then◌else◌, length, take, drop, OnOk, OnErr};
-ghost use Rattle.elf_outside.specs.Counts.{HasCause, RaisedBy, one_more};
+ghost use Rattle.std.specs.Prelude.{refl, ◌≡◌, ◌↔◌, ◌+◌, ◌≤◌, ◌∷◌, [], Some, Contains, IsErr, length, take, drop, OnOk, OnErr};
+ghost use Rattle.elf_outside.specs.Counts.{HasCause, RaisedBy, next_count, faults_after};
 
 use crate::memory::calls::Calls;
+use crate::ranges::copy_range;
 use crate::sources::{Failed, Source};
 use elf_types::{Addrs, Octets};
 
@@ -61,20 +62,22 @@ impl Source for MemSource {
     ghost taken = { λ s. s.taken };
 
     fn len(&self) -> u64 {
-        self.bytes.len()
+        let bytes = self.bytes.as_slice();
+        bytes.len() as u64
     }
 
     fn read_at(&mut self, at: u64, buf: &mut [u8]) -> Result<(), Failed>
         requires { at + length buf.old ≤ length self.old.bytes }
-        ensures leaves { (self.new.bytes ≡ self.old.bytes) × (self.new.reads.bad ≡ self.old.reads.bad) }
+        ensures leaves { (self.new.bytes ≡ self.old.bytes)
+            × (self.new.reads.bad ≡ self.old.reads.bad) }
         ensures bytes { OnOk result (buf.new ≡ take (length buf.old) (drop at self.old.bytes)) }
         ensures cause { HasCause self.old.faults self.new.faults result }
         ensures taken { RaisedBy self.old.taken self.new.taken (length buf.old) }
 
         // which reads fail, and what such a read changes
-        ensures number { self.new.reads.made ≡ one_more self.old.reads.made }
+        ensures number { self.new.reads.made ≡ next_count self.old.reads.made }
         ensures fails { IsErr result ↔ Contains self.old.reads.bad self.new.reads.made }
-        ensures counted { self.new.faults ≡ (if is_err result then one_more self.old.faults else self.old.faults) }
+        ensures counted { self.new.faults ≡ faults_after result self.old.faults }
         ensures untouched { OnErr result (buf.new ≡ buf.old) }
     {
         self.taken = self.taken.saturating_add(buf.len() as u64);
@@ -82,11 +85,11 @@ impl Source for MemSource {
             self.faults = self.faults.saturating_add(1);
             return Err(Failed);
         }
-        let (_, from_place) = self.bytes.as_slice().split_at(at as usize);
-        let (wanted, _) = from_place.split_at(buf.len());
-        buf.copy_from_slice(wanted);
+        copy_range(self.bytes.as_slice(), at as usize, buf);
         Ok(())
     }
+
+    ghost sized = { λ _. refl };
 }
 
 #[cfg(test)]

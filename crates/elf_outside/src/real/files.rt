@@ -1,7 +1,7 @@
 //! The files of the system.
 
 ghost use Rattle.std.specs.Prelude.{◌≡◌, ◌≤◌, false, None, IsErrOf, IfOk, OnOk, OnErr};
-ghost use Rattle.elf_outside.specs.Counts.{Rose, one_more};
+ghost use Rattle.elf_outside.specs.Counts.{Rose, next_count};
 
 use crate::file_sets::{Files, OpenFault};
 use crate::real::RealFile;
@@ -44,11 +44,12 @@ impl<R: rt::Files<File = File>> RealFiles<R> {
     fn hand_out(&mut self, alloc: Global, name: &str, writes: bool) -> Result<RealFile, OpenFault>
         ensures own_faults { IfOk result (λ f. (f.faults ≡ 0) × (f.inner.write_faults ≡ 0)) }
         ensures own_numbers { IfOk result (λ f. (f.taken ≡ 0) × (f.inner.given ≡ 0)) }
-        ensures failed { IsErrOf result OpenFault.Failed → Rose self.old.read_faults self.new.read_faults }
+        ensures failed { IsErrOf result OpenFault.Failed →
+            Rose self.old.read_faults self.new.read_faults }
         ensures read_faults { self.old.read_faults ≤ self.new.read_faults }
         ensures write_faults { self.new.write_faults ≡ self.old.write_faults }
         ensures numbers { (self.new.taken ≡ self.old.taken) × (self.new.given ≡ self.old.given) }
-        ensures live { OnOk result (self.new.live ≡ one_more self.old.live) }
+        ensures live { OnOk result (self.new.live ≡ next_count self.old.live) }
         ensures not_live { OnErr result (self.new.live ≡ self.old.live) }
     {
         let mut how = OpenOptions::new();

@@ -5,6 +5,7 @@ ghost use Rattle.std.specs.Option.{ForSome, IfSome};
 ghost use Rattle.elf_outside.specs.Leaves.{LeavesBy};
 
 use crate::devices::Device;
+use crate::ranges::copy_range;
 use crate::sources::{Failed, Source};
 use std::alloc::Global;
 
@@ -13,9 +14,9 @@ const FIRST: u64 = 4096;
 /// The most bytes that a window holds.
 const WINDOW: u64 = 65536;
 
-/// An inner source with a window of its bytes, from which small reads are served. A read outside the
-/// window moves it there, by one read of the inner source; one of as many bytes as the window would
-/// hold goes straight to the inner source. A write drops the window.
+/// An inner source with a window of its bytes, from which small reads are served. A read outside
+/// the window moves it there, by one read of the inner source; one of as many bytes as the window
+/// would hold goes straight to the inner source. A write drops the window.
 ///
 /// It counts the bytes that its callers asked for and the reads of theirs that failed, and not the
 /// reads of the window: where the window can't be filled, for want of memory or since the inner
@@ -28,7 +29,8 @@ pub struct ReadAhead<S: Source> {
     pub(super) faults: u64,
     pub(super) taken: u64,
     ghost in_range: { start + vec_len held ≤ S.size inner },
-    ghost as_inner: { ForSome (S.holds inner) (λ bytes. held.items ≡ take (vec_len held) (drop start bytes)) },
+    ghost as_inner: { ForSome (S.holds inner)
+        (λ bytes. held.items ≡ take (vec_len held) (drop start bytes)) },
 }
 
 impl<S: Source> ReadAhead<S> {
@@ -58,15 +60,16 @@ impl<S: Source> ReadAhead<S> {
 
     /// Whether the window holds the range.
     fn has(&self, at: u64, n: usize) -> bool
-        ensures { IsTrue result → (self.now.start ≤ at) × (at + n ≤ self.now.start + vec_len self.now.held) }
+        ensures { IsTrue result →
+            (self.now.start ≤ at) × (at + n ≤ self.now.start + vec_len self.now.held) }
     {
         self.start <= at
             && at - self.start <= self.held.len() as u64
             && n <= self.held.len() - (at - self.start) as usize
     }
 
-    /// The size of a window from a place on: small at first, and twice that of the last window where
-    /// it begins near that one's end, as in a walk over the source.
+    /// The size of a window from a place on: small at first, and twice that of the last window
+    /// where it begins near that one's end, as in a walk over the source.
     fn next_size(&self, at: u64) -> u64 {
         let doubled = (self.held.len() as u64).saturating_mul(2);
         if at >= self.start && at - self.start <= doubled {
@@ -81,7 +84,8 @@ impl<S: Source> ReadAhead<S> {
         requires { at + n ≤ S.size self.old.inner }
         ensures leaves { LeavesBy S.size S.holds S.rest self.old.inner self.new.inner }
         ensures counts { (self.new.faults ≡ self.old.faults) × (self.new.taken ≡ self.old.taken) }
-        ensures here { IsTrue result → (self.new.start ≤ at) × (at + n ≤ self.new.start + vec_len self.new.held) }
+        ensures here { IsTrue result →
+            (self.new.start ≤ at) × (at + n ≤ self.new.start + vec_len self.new.held) }
     {
         let size = self.next_size(at).min(self.inner.len() - at) as usize;
         if size <= n || self.held.resize(size, 0).is_err() {
@@ -100,7 +104,8 @@ impl<S: Source> ReadAhead<S> {
         requires { at + n ≤ S.size self.old.inner }
         ensures leaves { LeavesBy S.size S.holds S.rest self.old.inner self.new.inner }
         ensures counts { (self.new.faults ≡ self.old.faults) × (self.new.taken ≡ self.old.taken) }
-        ensures here { IsTrue result → (self.new.start ≤ at) × (at + n ≤ self.new.start + vec_len self.new.held) }
+        ensures here { IsTrue result →
+            (self.new.start ≤ at) × (at + n ≤ self.new.start + vec_len self.new.held) }
     {
         self.has(at, n) || self.refill(at, n)
     }
@@ -109,11 +114,10 @@ impl<S: Source> ReadAhead<S> {
     fn serve(&self, at: u64, buf: &mut [u8])
         requires from { self.now.start ≤ at }
         requires to { at + length buf.old ≤ self.now.start + vec_len self.now.held }
-        ensures { IfSome (S.holds self.now.inner) (λ bytes. buf.new ≡ take (length buf.old) (drop at bytes)) }
+        ensures { IfSome (S.holds self.now.inner)
+            (λ bytes. buf.new ≡ take (length buf.old) (drop at bytes)) }
     {
-        let (_, from_place) = self.held.as_slice().split_at((at - self.start) as usize);
-        let (wanted, _) = from_place.split_at(buf.len());
-        buf.copy_from_slice(wanted);
+        copy_range(self.held.as_slice(), (at - self.start) as usize, buf);
     }
 }
 
@@ -144,6 +148,8 @@ impl<S: Source> Source for ReadAhead<S> {
         }
         outcome
     }
+
+    ghost sized = { λ r. S.sized r.inner };
 }
 
 impl<D: Device> Device for ReadAhead<D> {
@@ -151,7 +157,7 @@ impl<D: Device> Device for ReadAhead<D> {
 
     ghost given = { λ r. D.given r.inner };
 
-    ghost kept = { λ r. D.kept r.inner };
+    ghost rest_after = { λ r. D.rest_after r.inner };
 
     fn write_at(&mut self, at: u64, buf: &[u8]) -> Result<(), Failed> {
         self.forget();

@@ -37,9 +37,10 @@ impl<W: Write> Sink for RealSink<W> {
         ensures cause { HasCause self.old.faults self.new.faults result }
 
         // what a stream that holds its bytes has got
-        ensures stream { OnOk result (BytesAppend (W.contents self.old.stream) (W.contents self.new.stream) buf.now) }
-        ensures front { OnErr result
-            ((n : ℕ) × BytesAppend (W.contents self.old.stream) (W.contents self.new.stream) (take n buf.now)) }
+        ensures stream { OnOk result
+            (BytesAppend (W.contents self.old.stream) (W.contents self.new.stream) buf.now) }
+        ensures front { OnErr result ((n : ℕ) × BytesAppend (W.contents self.old.stream)
+            (W.contents self.new.stream) (take n buf.now)) }
     {
         if write_to(&mut self.stream, buf) < buf.len() {
             self.faults = self.faults.saturating_add(1);

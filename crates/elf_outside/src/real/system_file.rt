@@ -62,6 +62,8 @@ impl Source for SystemFile {
         }
         Ok(())
     }
+
+    ghost sized = { λ _. tt };
 }
 
 impl Device for SystemFile {
@@ -69,7 +71,7 @@ impl Device for SystemFile {
 
     ghost given = { λ f. f.given };
 
-    ghost kept = { λ _. [] };
+    ghost rest_after = { λ _. [] };
 
     fn write_at(&mut self, at: u64, buf: &[u8]) -> Result<(), Failed> {
         self.given = self.given.saturating_add(buf.len() as u64);

@@ -53,7 +53,8 @@ pub(crate) fn write_from<F: FileExt>(file: &F, at: u64, piece: &[u8]) -> usize
 /// stream fails or takes nothing.
 pub(crate) fn write_to<W: Write>(stream: &mut W, piece: &[u8]) -> usize
     ensures bound { result ≤ length piece.now }
-    ensures bytes { BytesAppend (W.contents stream.old) (W.contents stream.new) (take result piece.now) }
+    ensures bytes { BytesAppend (W.contents stream.old) (W.contents stream.new)
+        (take result piece.now) }
 {
     let mut done = 0;
     for _ in 0..u64::MAX {

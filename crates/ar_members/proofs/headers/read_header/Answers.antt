@@ -1,28 +1,21 @@
-use Rattle.std.proofs.Common.{◌≡◌, length, take, drop, refl, sym, ap, ◌∙◌, arith}
-use Rattle.std.proofs.lemmas.Bool.{leb-true}
-use Rattle.ar_members.specs.Headers.{header_at}
-use Rattle.ar_members.proofs.Told.{told_by, told_at}
-use Rattle.ar_members.proofs.HeaderLemmas.{header_cut, header_whole, gives_or_bad, if_ok_or}
+use Rattle.std.proofs.Common.{sym, ◌∙◌, arith}
+use Rattle.std.proofs.lemmas.Bool.{leb-true, leb-false}
+use Rattle.std.proofs.lemmas.Option.{IfSome_then}
+use Rattle.elf_types.proofs.AnswerLemmas.{follows_same}
+use Rattle.ar_members.proofs.Told.{told_both}
+use Rattle.ar_members.proofs.HeaderLemmas.{header_cut, header_whole}
 use Rattle.ar_members.proofs.headers.read_header.Goals as goal
 
-pub returns-then-not-is_whole-clause-numbers : goal.returns-then-not-is_whole-clause-numbers
-returns-then-not-is_whole-clause-numbers g c =
-    told_by (g.S.Source.holds c.args.src.now) (λ image is. (
-      refl,
-      header_cut image c.args.at c.len-size.result (told_at (λ bytes. length bytes ≡ c.len-size.result) _ image is c.len-size.ensures.bytes) (sym c.is_whole.ensures ∙ c.if-not-is_whole.true),
-    ))
+pub returns-then-not-is_whole-clause-header : goal.returns-then-not-is_whole-clause-header
+returns-then-not-is_whole-clause-header g c =
+    let cut = leb-false _ _ (sym c.is_whole.ensures ∙ c.if-not-is_whole.true) in
+    IfSome_then _ (g.met.S.Source.sized c.args.src.now)
+    (λ image len. header_cut image c.args.at (omega (arith, len, c.len-size.ensures.size, cut)))
 
-pub returns-clause-numbers : goal.returns-clause-numbers
-returns-clause-numbers g c =
-    told_by (g.S.Source.holds c.args.src.now) (λ image is.
-    let len = told_at (λ bytes. length bytes ≡ c.len-size.result) _ image is c.len-size.ensures.bytes in
-    let read = told_at (λ bytes. c.read_into.new.buf ≡ take (length c.args.header.now) (drop c.args.at bytes)) _ image is c.in_ok-read_into.ensures.bytes in
-    let header = read ∙ ap (λ n. take n (drop c.args.at image)) c.requires in
-    let found = header_whole image c.read_into.new.buf c.args.at c.len-size.result len (sym c.is_whole.ensures ∙ c.if-not-is_whole.false) header in
-    rw c.ok_or.ensures.value (gives_or_bad c.args.at (header_at image c.args.at) c.numbers_in.result (found ∙ sym c.numbers_in.ensures.value)))
-
-pub returns-clause-body : goal.returns-clause-body
-returns-clause-body g c =
+pub returns-clause-header : goal.returns-clause-header
+returns-clause-header g c =
     let whole = leb-true _ _ (sym c.is_whole.ensures ∙ c.if-not-is_whole.false) in
-    let size = c.len-size.ensures.size in
-    rw c.ok_or.ensures.value (if_ok_or c.numbers_in.result _ (λ numbers fits. omega (arith, whole, size, fits)) c.numbers_in.ensures.room)
+    told_both _ _ (g.S.Source.holds c.args.src.now) (g.met.S.Source.sized c.args.src.now) c.in_ok-bytes.ensures.bytes
+    (λ image len is. follows_same c.header_in.result _
+    (header_whole image _ c.args.at _ (omega (arith, len, c.len-size.ensures.size, whole)) is
+    (omega (arith, len, c.len-size.ensures.size)) ∙ sym c.header_in.ensures.value))

@@ -8,4 +8,4 @@ returns-then-not-needs_first-clause-first g c =
 
 pub returns-clause-first : goal.returns-clause-first
 returns-clause-first g c =
-    first_needed (g.S.Source.holds c.args.src.now) c.args.h.now _ (sym c.if-not-needs_first.ensures) c.read_section_header.ensures.header
+    first_needed (g.S.Source.holds c.args.src.now) c.args.h.now _ (sym c.if-not-needs_first.ensures) c.read_shdr_by.ensures.header

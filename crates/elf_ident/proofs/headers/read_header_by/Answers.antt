@@ -24,7 +24,7 @@ returns-in_err-read_rest-clause-bound g c =
 
 pub returns-clause-header : goal.returns-clause-header
 returns-clause-header g c =
-    rw (c.get_ehdr-header.ensures.value, c.header_size.ensures, c.pad_of.ensures) (header_done (g.S.Source.holds c.args.src.now) _ _ _ c.in_ok-class.class c.in_ok-class.order
+    rw (c.get_ehdr-header.ensures.value, c.ehdr_size.ensures, c.pad_of.ensures.pad) (header_done (g.S.Source.holds c.args.src.now) _ _ _ c.in_ok-class.class c.in_ok-class.order
     c.in_ok-class.ensures.asks.leaves.same_bytes c.in_ok-class.ensures.ident c.in_ok-class.ensures.start c.in_ok-read_rest.ensures.rest)
 
 pub returns-clause-bound : goal.returns-clause-bound

@@ -1,5 +1,6 @@
 use Rattle.std.proofs.Common.{◌≡◌, ◌++◌, drop, map}
-use Rattle.elf_layout.specs.Extents.{extent_of, extents_of, ranked_from}
+use Rattle.elf_layout.specs.Extents.{extent_of, extents_of}
+use Rattle.elf_layout.specs.Meeting.{ranked_from}
 use Rattle.elf_layout.proofs.meeting.extents.Given as goal
 
 abbrev pub invariant-loop-rank : goal.invariant-loop-rank

@@ -1,5 +1,5 @@
 use Rattle.std.proofs.Common.{arith}
-use Rattle.elf_outside.proofs.Ranges.{range_reads}
+use Rattle.elf_outside.proofs.RangeLemmas.{range_reads}
 use Rattle.elf_outside.proofs.window.WindowSource.read_at.Goals as goal
 
 pub returns-clause-bytes : goal.returns-clause-bytes

@@ -1,9 +1,9 @@
 use Rattle.std.proofs.Common.{ℕ, ◌≡◌, ◌+◌, ◌<◌, ◌^◌, ◌++◌, ◌∷◌, [], length, Some, cond, eqb, nat_eq, sym, subst, ap, ◌∙◌, arith}
-use Rattle.strtab_build.specs.Names.{IsKept, entry_after, hash_of, names_in, newest_of, opened}
+use Rattle.strtab_build.specs.Names.{IsKept, entry_after, hash_of, names_in, newest_of, unclosed}
 use Rattle.strtab_build.proofs.KeptLemmas.{IsKept-as, IsKept-push, distinct-new, entry_after_is, length-entries, length-table-new, names_in-push, place_of-new}
 use Rattle.strtab_build.proofs.strings.Strings.append.Goals as goal
 use Rattle.strtab_build.specs.Table.{place_of}
-use Rattle.strtab_build.proofs.TableLemmas.{length_le-opened}
+use Rattle.strtab_build.proofs.TableLemmas.{length_le-unclosed}
 use Rattle.std.specs.HashMap.{get}
 use Rattle.std.proofs.lemmas.Grind.{common_steps}
 
@@ -12,13 +12,13 @@ overflow_cast-len c =
     let kept = subst (IsKept _ _ _) c.self.view_is c.self.invariant in
     let many = length-entries _ _ _ _ kept in
     let len = c.self.inside.entries.ok.0 in
-    omega (arith, length_le-opened c.args.self.now, kept.names_are.small, c.in_ok-reserve-2.ensures.len)
+    omega (arith, length_le-unclosed c.args.self.now, kept.names_are.small, c.in_ok-reserve-2.ensures.len)
 
 pub overflow_cast-name : goal.overflow_cast-name
 overflow_cast-name c =
     let kept = subst (IsKept _ _ _) c.self.view_is c.self.invariant in
     let long = length-table-new _ _ _ c.args.self.now c.args.name.now kept c.requires.new in
-    let fits : length (opened c.args.self.now) + length c.args.name.now + 2 < 2 ^ 32 = omega (arith, long, ap length kept.bytes_are, c.requires.fits) in
+    let fits : length (unclosed c.args.self.now) + length c.args.name.now + 2 < 2 ^ 32 = omega (arith, long, ap length kept.bytes_are, c.requires.fits) in
     omega arith
 
 -- what the writes leave
@@ -29,7 +29,7 @@ entries_after : (c : goal.After-unwrap-3) → c.push-2.new.self.items ≡ c.self
 entries_after c =
     let kept = subst (IsKept _ _ _) c.self.view_is c.self.invariant in
     let len = c.self.inside.bytes.ok.0 in
-    let start : c.len.result + 1 ≡ length (opened c.args.self.now) + 1 = omega (arith, ap length kept.bytes_are) in
+    let start : c.len.result + 1 ≡ length (unclosed c.args.self.now) + 1 = omega (arith, ap length kept.bytes_are) in
     let older : c.in_ok-older.older ≡ newest_of (hash_of c.args.name.now) c.args.self.now = c.in_ok-older.ensures.old ∙ kept.newest_are c.args.hash ∙ ap (λ h. newest_of h c.args.self.now) c.requires.hash in
     let entry = entry_after_is c.args.self.now c.args.name.now (c.len.result + 1) c.in_ok-older.older start older in
     let pushed : c.push-2.new.self.items ≡ c.self.inside.entries.items ++ record { start = c.len.result + 1; len = length c.args.name.now; older = c.in_ok-older.older } ∷ [] = grind (arith, common_steps) in
@@ -39,7 +39,7 @@ pub invariant_of-self-2 : goal.invariant_of-self-2
 invariant_of-self-2 c =
     let kept = subst (IsKept _ _ _) c.self.view_is c.self.invariant in
     let long = length-table-new _ _ _ c.args.self.now c.args.name.now kept c.requires.new in
-    let fits : length (opened c.args.self.now) + length c.args.name.now + 2 < 2 ^ 32 = omega (arith, long, ap length kept.bytes_are, c.requires.fits) in
+    let fits : length (unclosed c.args.self.now) + length c.args.name.now + 2 < 2 ^ 32 = omega (arith, long, ap length kept.bytes_are, c.requires.fits) in
     let many = length-entries _ _ _ _ kept in
     let len = c.self.inside.entries.ok.0 in
     let count : c.len-2.result ≡ length c.args.self.now = omega (arith, c.in_ok-reserve-2.ensures.len) in

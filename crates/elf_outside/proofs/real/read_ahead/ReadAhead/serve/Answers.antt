@@ -1,4 +1,4 @@
-use Rattle.elf_outside.proofs.Ranges.{served}
+use Rattle.elf_outside.proofs.RangeLemmas.{served}
 use Rattle.elf_outside.proofs.real.read_ahead.ReadAhead.serve.Goals as goal
 
 pub returns : goal.returns

@@ -1,0 +1,16 @@
+-- The bytes that a command writes, or why it writes none.
+use Rattle.std.specs.Prelude.{ℕ, List, Result}
+use Rattle.elf_types.specs.Answers.{answered, ◌>>=◌}
+use Rattle.elf_types.specs.declared.errors.ElfError.{ElfError}
+use Rattle.elf_object.specs.Object.{Object}
+use Rattle.elf_object.specs.Image.{image}
+use Rattle.elf_object.specs.Refusal.{refusal}
+use Rattle.command_objects.specs.Arranged.{Rebuilt}
+
+-- what an update writes of an object
+unfoldable pub file_of : Object → Result (List ℕ) ElfError
+file_of o = answered (refusal o) (image o)
+
+-- the same of what was made anew
+abbrev pub file_made : Result Rebuilt ElfError → Result (List ℕ) ElfError
+file_made made = made >>= λ r. file_of r.object

@@ -1,0 +1,67 @@
+-- Small images on which the definitions are computed, and forms of answers that the tests compare.
+use Rattle.std.specs.Prelude.{ℕ, List, [], ◌∷◌, codes, false, Result, Ok, Err}
+use Rattle.elf_object.specs.Object.{Object}
+use Rattle.elf_object.specs.Samples.{small64, symbols32, symbols64, with_number, object_in}
+use Rattle.command_objects.specs.Arranged.{Rebuilt}
+use Rattle.command_objects.specs.Files.{file_of, file_made}
+use Rattle.command_objects.specs.Rebuilt.{stripped}
+use Rattle.command_objects.specs.Split.{debug_half}
+use Rattle.command_objects.specs.Generated.{generated_and_shifted}
+use Rattle.command_objects.specs.Copied.{Changes, copied}
+
+-- an answer's value, or the empty one
+abbrev pub bytes_or_none : {E : Type 0} → Result (List ℕ) E → List ℕ
+bytes_or_none (Ok bytes) = bytes
+bytes_or_none (Err e) = []
+
+-- the symbols' image without a section of names
+abbrev pub unnamed64 : Object
+unnamed64 = object_in (with_number 62 2 0 small64)
+
+-- the symbols' image with a symbol table that links to nothing
+abbrev pub unlinked64 : Object
+unlinked64 = object_in (with_number 288 4 0 small64)
+
+abbrev pub no_changes : Changes
+no_changes = record { remove = []; update = []; rename = []; flags = []; add = [] }
+
+abbrev pub made_or_none : {E : Type 0} → Result Rebuilt E → List ℕ
+made_or_none (Ok r) = bytes_or_none (file_of r.object)
+made_or_none (Err e) = []
+
+-- the bytes of the letters h and i
+abbrev pub two_letters : List ℕ
+two_letters = 0x68 ∷ 0x69 ∷ []
+
+-- the symbols' image stripped, opened again, and the other image stripped, opened again
+abbrev pub stripped64 : Object
+stripped64 = object_in (bytes_or_none (file_made (stripped false [] symbols64)))
+
+abbrev pub stripped32 : Object
+stripped32 = object_in (bytes_or_none (file_made (stripped false [] symbols32)))
+
+abbrev pub stripped_unnamed64 : Object
+stripped_unnamed64 = object_in (bytes_or_none (file_made (stripped false [] unnamed64)))
+
+-- the debug half of the symbols' image, opened again
+abbrev pub debug64 : Object
+debug64 = object_in (bytes_or_none (file_of (debug_half symbols64)))
+
+-- a string index that is no section's
+abbrev pub misnamed64 : Object
+misnamed64 = object_in (with_number 62 2 7 small64)
+
+-- new bytes for a section that is not there
+abbrev pub updating_none : Changes
+updating_none = record no_changes { update = (codes ".q", two_letters) ∷ [] }
+
+abbrev pub adding : Changes
+adding = record no_changes { add = (codes ".x", two_letters) ∷ [] }
+
+-- the self test's image, opened again
+abbrev pub selftest_again : ℕ → Object
+selftest_again n = object_in (bytes_or_none (file_of (generated_and_shifted n)))
+
+-- the image with a section .x of two bytes more
+abbrev pub with_new_section : Object → List ℕ
+with_new_section o = made_or_none (copied adding o)

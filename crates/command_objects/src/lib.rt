@@ -1,0 +1,12 @@
+//! What the commands that write mean: strip, copy, rehash, the debug half, joining and the self
+//! test, as definitions over the plain object. They stand in `specs/`.
+#![tactic(auto)]
+
+#[cfg(test)]
+mod copy_tests;
+#[cfg(test)]
+mod hash_tests;
+#[cfg(test)]
+mod program_tests;
+#[cfg(test)]
+mod strip_tests;

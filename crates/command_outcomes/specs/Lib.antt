@@ -1,0 +1,6 @@
+pub mod Outcomes
+pub mod Files
+pub mod Strip
+pub mod Copy
+pub mod Selftest
+pub mod Samples

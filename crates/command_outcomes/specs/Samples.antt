@@ -1,0 +1,58 @@
+-- Files by their names, and options, on which the outcomes are computed.
+use Rattle.std.specs.Prelude.{ℕ, Bool, List, [], ◌∷◌, codes, map, length, if◌then◌else◌, Option, Some, None}
+use Rattle.std.specs.Str.{bytes_eq}
+use Rattle.tool_text.specs.declared.commands.StripOptions.{StripOptions}
+use Rattle.tool_text.specs.declared.commands.CopyChanges.{CopyChanges}
+use Rattle.elf_object.specs.Samples.{small64, header64}
+use Rattle.command_outcomes.specs.Outcomes.{Outcome, FileWrite, outcome_with, said}
+use Rattle.command_outcomes.specs.Outcomes.Side.{Error}
+use Rattle.command_outcomes.specs.Files.{Named}
+use Rattle.command_outcomes.specs.Strip.{strip_outcome}
+
+-- the bytes of the first row with the name
+abbrev pub file_in : List (List ℕ × List ℕ) → Named
+file_in [] name = None
+file_in (row ∷ rows) name = if bytes_eq name row.0 then Some row.1 else file_in rows name
+
+-- an image, another one, an archive, and a file of two bytes
+abbrev pub some_files : Named
+some_files = file_in
+    ((codes "J", small64)
+    ∷ (codes "H", header64)
+    ∷ (codes "A", codes "!<arch>\n")
+    ∷ (codes "G", codes "hi")
+    ∷ [])
+
+abbrev pub stripping : Bool → Option (List ℕ) → StripOptions
+stripping debug_only debug =
+    record { debug_only = debug_only; names = []; debug = debug; out = codes "O" }
+
+abbrev pub no_changes : CopyChanges
+no_changes = record { remove = []; update = []; rename = []; flags = []; add = [] }
+
+-- a message alone, with status 1
+abbrev pub refused_with : List ℕ → Outcome
+refused_with line = outcome_with (said Error line) 1 []
+
+-- files alone, with status 0
+abbrev pub written : List FileWrite → Outcome
+written files = outcome_with [] 0 files
+
+-- the names of the files that are made, with their lengths
+abbrev pub lengths : Outcome → List (List ℕ × ℕ)
+lengths outcome = map (λ w. (w.name, length w.bytes)) outcome.writes
+
+-- bytes of a file for a section that is not there, a section of a file that is not there, and a
+-- new section
+abbrev pub updating_none : CopyChanges
+updating_none = record no_changes { update = record { name = codes ".q"; file = codes "G" } ∷ [] }
+
+abbrev pub adding_missing : CopyChanges
+adding_missing = record no_changes { add = record { name = codes ".q"; file = codes "N" } ∷ [] }
+
+abbrev pub adding : CopyChanges
+adding = record no_changes { add = record { name = codes ".x"; file = codes "G" } ∷ [] }
+
+-- what strip gives of a file
+abbrev pub strip_of : Bool → Option (List ℕ) → List ℕ → Outcome
+strip_of debug_only debug file = strip_outcome (stripping debug_only debug) some_files file

@@ -1,0 +1,16 @@
+-- The self test: an image that is generated, written, opened again, and told of in five lines.
+use Rattle.std.specs.Prelude.{ℕ, List, [], ◌∷◌, Result, Ok, codes}
+use Rattle.elf_types.specs.Answers.{◌>>=◌}
+use Rattle.elf_object.specs.Open.{opened}
+use Rattle.command_objects.specs.Generated.{generated_and_shifted, five_lines}
+use Rattle.command_objects.specs.Files.{file_of}
+use Rattle.command_outcomes.specs.Outcomes.{Outcome, Done, Complaint, outcome_of, made_file, of_file}
+
+unfoldable pub selftest_done : List ℕ → ℕ → Result Done Complaint
+selftest_done out n =
+    of_file out (file_of (generated_and_shifted n)) >>= λ bytes.
+    of_file out (opened bytes) >>= λ o.
+    Ok (record { shown = five_lines n o; writes = made_file out bytes ∷ [] })
+
+unfoldable pub selftest_outcome : List ℕ → ℕ → Outcome
+selftest_outcome out n = outcome_of (codes "selftest") (selftest_done out n)

@@ -1,0 +1,6 @@
+//! What the commands that write give, as definitions in `specs/`: their texts, their status and
+//! their files.
+#![tactic(auto)]
+
+#[cfg(test)]
+mod tests;

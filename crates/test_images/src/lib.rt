@@ -1,0 +1,13 @@
+//! ELF images for the tests of all crates, built from records, and their fields by name.
+#![tactic(auto)]
+
+mod fields;
+mod image;
+mod objects;
+
+pub use fields::{Field, HeaderField, SectionField, SegmentField};
+pub use image::Image;
+pub use objects::{
+    EM_X86_64, ET_EXEC, ET_REL, FORMS, NULL_SECTION, five_sections, header_alone, header_of,
+    numbers_in_section_0, symbol_object, two_tables, with_segments,
+};

@@ -1,0 +1,10 @@
+-- The words for writers at once, for proofs by computation, with those of the plain object.
+use Rattle.std.specs.Prelude.{Bool, true}
+use Rattle.elf_object.proofs.Computing.{all_words}
+use Rattle.writing_laws.specs.Lines.{patched}
+use Rattle.writing_laws.specs.Plan.{in_order, plan, fill_blocks, written_blocks, block_of_rank, meets_some}
+
+-- its value says nothing: what counts is that a proof that unfolds it unfolds the others
+unfoldable pub words : Bool
+unfolding all_words patched in_order plan fill_blocks written_blocks block_of_rank meets_some
+words = true

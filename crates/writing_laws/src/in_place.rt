@@ -1,0 +1,31 @@
+//! What an update in place writes, and what it may leave alone. Each law is the contract of a
+//! function that does nothing.
+
+ghost use Rattle.elf_object.specs.Object.{Object};
+ghost use Rattle.writing_laws.specs.Writing.{DisturbedByWrites, InPlace, LeftStands, WrittenStands};
+
+/// Where something is dirty, an update is not refused, and what is not marked stands in the base, a
+/// place of the image in no part that changes and no gap that is filled has the base's byte.
+pub fn left_stands()
+    ensures { (o : Object) → LeftStands o }
+{}
+
+/// The parts that change and the fill stand in the image, and are as many bytes as said.
+#[tactic(auto, using(crate::proofs::WriteLaws::written_stands))]
+pub fn written_stands()
+    ensures { (o : Object) → WrittenStands o }
+{}
+
+/// A device that begins with the base is the image, once it has the image's length and the parts
+/// that change and the fill are written over it, in whatever order.
+#[tactic(auto, using(crate::proofs::WriteLaws::in_place))]
+pub fn in_place()
+    ensures { (o : Object) → InPlace o }
+{}
+
+/// A home is disturbed where it shares a place with a part that changes or with the fill of a gap,
+/// or passes the new end.
+#[tactic(auto, using(crate::proofs::DisturbedLaws::disturbed_by_writes))]
+pub fn disturbed_by_writes()
+    ensures { (o : Object) → DisturbedByWrites o }
+{}
