@@ -1,0 +1,7 @@
+pub mod EndLemmas
+pub mod FileLemmas
+pub mod LineLemmas
+pub mod MarkLemmas
+pub mod OutcomeLemmas
+pub mod ReportLemmas
+pub mod StepLemmas
