@@ -25,8 +25,3 @@ and_implied false false h = refl
 -- a list that begins with two others, one after another, begins with the first
 pub stays : (new old a : List ℕ) → begins_with new (old ++ a) ≡ (begins_with new old && begins_with new (old ++ a))
 stays new old a = and_implied (begins_with new old) (begins_with new (old ++ a)) (front_begins new old a)
-
--- what a list begins with is had again by cutting the rest off
-pub restored : (new old : List ℕ) → begins_with new old ≡ true → take (length old) new ≡ old
-unfolding begins_with
-restored new old h = (bytes_eq-Decides (take (length old) new) old).0 h

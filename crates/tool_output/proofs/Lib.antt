@@ -3,5 +3,6 @@ pub mod FileLemmas
 pub mod LineLemmas
 pub mod MarkLemmas
 pub mod OutcomeLemmas
+pub mod PageLemmas
 pub mod ReportLemmas
 pub mod StepLemmas
