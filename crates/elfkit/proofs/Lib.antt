@@ -1,4 +1,2 @@
-pub mod EndLemmas
-pub mod FileLemmas
-pub mod ReportLemmas
-pub mod RunLemmas
+pub mod CommandLemmas
+pub mod FrontLemmas

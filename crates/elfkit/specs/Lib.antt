@@ -1,3 +1,3 @@
-pub mod Reports
+pub mod Lines
 pub mod Program
-pub mod Runs
+pub mod Readelf

@@ -1,12 +1,10 @@
 //! elfkit: shows, checks and changes ELF images.
 #![tactic(auto)]
 
-mod fronts;
-mod messages;
+mod commands;
+mod files;
+mod lines;
 mod program;
-mod readelf;
-#[cfg(test)]
-mod tests;
 
 ghost use Rattle.std.specs.Prelude.{◌≡◌, ◌≤◌, ◌⊎◌, IfErr};
 

@@ -1,2 +1,0 @@
-pub mod SegmentLemmas
-pub mod Written

@@ -9,11 +9,11 @@ name_or_hex None n = codes "0x" ++ hex n
 
 -- `  NAME: `
 unfoldable pub field_title : List ℕ → List ℕ
-field_title name = (codes "  " ++ name) ++ codes ": "
+field_title name = codes "  " ++ name ++ codes ": "
 
 -- a line `  NAME: VALUE`
 unfoldable pub field_line : List ℕ → List ℕ → List ℕ
-field_line name value = (field_title name ++ value) ++ codes "\n"
+field_line name value = field_title name ++ value ++ codes "\n"
 
 -- its value is a decimal number
 unfoldable pub decimal_line : List ℕ → ℕ → List ℕ

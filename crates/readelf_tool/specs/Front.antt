@@ -1,18 +1,16 @@
--- The parts that a front shows, in their order.
-use Rattle.std.specs.Prelude.{◌++◌, ℕ, List, [], Bool, true, false}
+-- What readelf shows of an image: the parts that are asked for, in their order.
+use Rattle.std.specs.Prelude.{Bool, true, false}
 use Rattle.elf_ident.specs.declared.fronts.Front.{Front}
 use Rattle.tool_text.specs.declared.options.ReadelfParts.{ReadelfParts}
-use Rattle.readelf_tool.specs.Header.{header_lines}
-use Rattle.readelf_tool.specs.Segments.{segments_text}
+use Rattle.tool_output.specs.Reports.{Report, no_report, joined}
+use Rattle.readelf_tool.specs.Header.{header_report}
+use Rattle.readelf_tool.specs.Segments.{segments_report}
 
-abbrev pub header_part : Bool → Front → List ℕ
-header_part true front = header_lines front.ehdr
-header_part false front = []
+-- a part, where it is asked for
+abbrev pub if_asked : Bool → Report → Report
+if_asked true part = part
+if_asked false part = no_report
 
-abbrev pub segments_part : Bool → Front → List ℕ
-segments_part true front = segments_text front.phdrs
-segments_part false front = []
-
--- what is shown of a front
-unfoldable pub front_text : ReadelfParts → Front → List ℕ
-front_text parts front = header_part parts.header front ++ segments_part parts.segments front
+unfoldable pub readelf_report : ReadelfParts → Front → Report
+readelf_report parts front =
+    joined (if_asked parts.header (header_report front.ehdr)) (if_asked parts.segments (segments_report front.phdrs))

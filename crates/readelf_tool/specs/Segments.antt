@@ -1,32 +1,41 @@
 -- The lines of the program headers (the part `l`).
-use Rattle.std.specs.Prelude.{◌++◌, ◌+◌, ◌-◌, ◌/◌, ◌%◌, ◌==◌, ℕ, List, [], ◌∷◌, length, codes, decimal, if◌then◌else◌}
+use Rattle.std.specs.Prelude.{◌++◌, ◌-◌, ◌%◌, ◌==◌, ℕ, List, [], ◌∷◌, length, bit_and, codes, decimal, if◌then◌else◌}
+use Rattle.std.specs.Str.{byte}
 use Rattle.elf_types.specs.declared.records.Phdr.{Phdr}
+use Rattle.elf_types.specs.declared.constants.TheConstants.{PF_R, PF_W, PF_X}
 use Rattle.elf_types.specs.Names.{segment_type_name_of}
 use Rattle.elf_types.specs.Text.{hex}
+use Rattle.tool_output.specs.Lines.{numbered_lines}
+use Rattle.tool_output.specs.Reports.{Report, shown, joined}
 use Rattle.readelf_tool.specs.Fields.{name_or_hex}
 
--- a letter where the bit of that weight is set, and `-` where it is not
+-- a letter where its bit is set, and `-` where it is not
 unfoldable pub flag_letter : ℕ → ℕ → ℕ → ℕ
-flag_letter flags weight letter = if flags / weight % 2 == 1 then letter else 45
+flag_letter flags bit letter = if bit_and flags bit == 0 then byte "-" else letter
 
--- the bits that have no letter
+-- the bits that have no letter, all but the three lowest
 unfoldable pub other_flags : ℕ → List ℕ
-other_flags flags = if flags / 8 == 0 then [] else codes "+0x" ++ hex (flags - flags % 8)
+other_flags flags = if flags - flags % 8 == 0 then [] else codes "+0x" ++ hex (flags - flags % 8)
 
--- PF_R, PF_W and PF_X, and the other bits (gABI chapter 5, "Segment Permissions")
+-- the three letters, and the other bits (gABI chapter 5, "Segment Permissions")
 unfoldable pub flags_text : ℕ → List ℕ
-flags_text flags = (flag_letter flags 4 82 ∷ flag_letter flags 2 87 ∷ flag_letter flags 1 88 ∷ []) ++ other_flags flags
+flags_text flags =
+    (flag_letter flags PF_R (byte "R") ∷ flag_letter flags PF_W (byte "W") ∷ flag_letter flags PF_X (byte "X") ∷ [])
+    ++ other_flags flags
 
 -- ` NAME 0xN`
 unfoldable pub hex_column : List ℕ → ℕ → List ℕ
-hex_column name n = ((codes " " ++ name) ++ codes " 0x") ++ hex n
+hex_column name n = codes " " ++ name ++ codes " 0x" ++ hex n
 
 -- `  I TYPE`
 unfoldable pub segment_start : ℕ → Phdr → List ℕ
-segment_start i p = ((codes "  " ++ decimal i) ++ codes " ") ++ name_or_hex (segment_type_name_of p.ptype) p.ptype
+segment_start i p = codes "  " ++ decimal i ++ codes " " ++ name_or_hex (segment_type_name_of p.ptype) p.ptype
 
 unfoldable pub segment_places : Phdr → List ℕ
-segment_places p = (hex_column (codes "offset") p.offset ++ hex_column (codes "vaddr") p.vaddr) ++ hex_column (codes "paddr") p.paddr
+segment_places p =
+    hex_column (codes "offset") p.offset
+    ++ hex_column (codes "vaddr") p.vaddr
+    ++ hex_column (codes "paddr") p.paddr
 
 unfoldable pub segment_sizes : Phdr → List ℕ
 segment_sizes p = hex_column (codes "filesz") p.filesz ++ hex_column (codes "memsz") p.memsz
@@ -35,19 +44,15 @@ unfoldable pub flags_column : ℕ → List ℕ
 flags_column flags = codes " flags " ++ flags_text flags
 
 unfoldable pub segment_end : Phdr → List ℕ
-segment_end p = (flags_column p.flags ++ hex_column (codes "align") p.align) ++ codes "\n"
+segment_end p = flags_column p.flags ++ hex_column (codes "align") p.align ++ codes "\n"
 
--- the line of one program header
+-- the line of one program header, by its number
 unfoldable pub segment_line : ℕ → Phdr → List ℕ
-segment_line i p = ((segment_start i p ++ segment_places p) ++ segment_sizes p) ++ segment_end p
-
--- the lines from number i on
-unfoldable pub segment_lines : ℕ → List Phdr → List ℕ
-segment_lines i [] = []
-segment_lines i (p ∷ ps) = segment_line i p ++ segment_lines (i + 1) ps
+segment_line i p = segment_start i p ++ segment_places p ++ segment_sizes p ++ segment_end p
 
 unfoldable pub segments_title : ℕ → List ℕ
-segments_title count = (codes "Program headers: " ++ decimal count) ++ codes "\n"
+segments_title count = codes "Program headers: " ++ decimal count ++ codes "\n"
 
-unfoldable pub segments_text : List Phdr → List ℕ
-segments_text phdrs = segments_title (length phdrs) ++ segment_lines 0 phdrs
+-- their number, and a line for each
+unfoldable pub segments_report : List Phdr → Report
+segments_report phdrs = joined (shown (segments_title (length phdrs))) (shown (numbered_lines segment_line 0 phdrs))

@@ -1,22 +1,22 @@
-//! Lines of one field, and numbers with names. Each call refuses `Memory` alone; nothing is then said
-//! of what the page gained.
+//! Lines of one field, and numbers with names. Each call refuses `Memory` alone; what the page held then
+//! still stands, some bytes behind it.
 
 ghost use Rattle.std.specs.Prelude.{◌≡◌, ◌++◌, OnOk, IfErr};
 ghost use Rattle.std.specs.Option.{option_copied};
-ghost use Rattle.elf_types.specs.declared.errors.ElfError.TheVariants.{Memory};
+ghost use Rattle.elf_types.specs.Writers.{WantsMemory};
 ghost use Rattle.readelf_tool.specs.Fields.{name_or_hex, field_title, field_line, decimal_line, hex_line, name_line};
 
 use elf_types::{ElfError, Octets, put_decimal, put_hex, put_text};
 
 /// Appends a name, or in hexadecimal a number that has none.
-#[tactic(auto, unfolding(crate::specs::Fields::name_or_hex))]
+#[tactic(auto, using(elf_types::proofs::Writers::stays), unfolding(crate::specs::Fields::name_or_hex))]
 pub fn put_name_or_hex(
     page: &mut Octets,
     name: Option<&'static str>,
     n: u64,
 ) -> Result<(), ElfError>
     ensures ok { OnOk result (page.new ≡ page.old ++ name_or_hex (option_copied name.entry) n) }
-    ensures err { IfErr result (λ e. e ≡ Memory) }
+    ensures err { IfErr result (WantsMemory page.old page.new) }
 {
     match name {
         Some(name) => put_text(page, name),
@@ -27,10 +27,11 @@ pub fn put_name_or_hex(
     }
 }
 
-#[tactic(auto, unfolding(crate::specs::Fields::field_title))]
+/// Appends `  NAME: `.
+#[tactic(auto, using(elf_types::proofs::Writers::stays), unfolding(crate::specs::Fields::field_title))]
 fn put_title(page: &mut Octets, name: &str) -> Result<(), ElfError>
     ensures ok { OnOk result (page.new ≡ page.old ++ field_title name.now) }
-    ensures err { IfErr result (λ e. e ≡ Memory) }
+    ensures err { IfErr result (WantsMemory page.old page.new) }
 {
     put_text(page, "  ")?;
     put_text(page, name)?;
@@ -38,10 +39,10 @@ fn put_title(page: &mut Octets, name: &str) -> Result<(), ElfError>
 }
 
 /// Appends the line `  NAME: VALUE`.
-#[tactic(auto, unfolding(crate::specs::Fields::field_line))]
+#[tactic(auto, using(elf_types::proofs::Writers::stays), unfolding(crate::specs::Fields::field_line))]
 pub fn put_field(page: &mut Octets, name: &str, value: &str) -> Result<(), ElfError>
     ensures ok { OnOk result (page.new ≡ page.old ++ field_line name.now value.now) }
-    ensures err { IfErr result (λ e. e ≡ Memory) }
+    ensures err { IfErr result (WantsMemory page.old page.new) }
 {
     put_title(page, name)?;
     put_text(page, value)?;
@@ -49,10 +50,10 @@ pub fn put_field(page: &mut Octets, name: &str, value: &str) -> Result<(), ElfEr
 }
 
 /// Appends the line `  NAME: N`, the number in decimal.
-#[tactic(auto, unfolding(crate::specs::Fields::field_line, crate::specs::Fields::decimal_line))]
+#[tactic(auto, using(elf_types::proofs::Writers::stays), unfolding(crate::specs::Fields::field_line, crate::specs::Fields::decimal_line))]
 pub fn put_decimal_field(page: &mut Octets, name: &str, n: u64) -> Result<(), ElfError>
     ensures ok { OnOk result (page.new ≡ page.old ++ decimal_line name.now n) }
-    ensures err { IfErr result (λ e. e ≡ Memory) }
+    ensures err { IfErr result (WantsMemory page.old page.new) }
 {
     put_title(page, name)?;
     put_decimal(page, n)?;
@@ -60,10 +61,10 @@ pub fn put_decimal_field(page: &mut Octets, name: &str, n: u64) -> Result<(), El
 }
 
 /// Appends the line `  NAME: 0xN`, the number in hexadecimal.
-#[tactic(auto, unfolding(crate::specs::Fields::field_line, crate::specs::Fields::hex_line))]
+#[tactic(auto, using(elf_types::proofs::Writers::stays), unfolding(crate::specs::Fields::field_line, crate::specs::Fields::hex_line))]
 pub fn put_hex_field(page: &mut Octets, name: &str, n: u64) -> Result<(), ElfError>
     ensures ok { OnOk result (page.new ≡ page.old ++ hex_line name.now n) }
-    ensures err { IfErr result (λ e. e ≡ Memory) }
+    ensures err { IfErr result (WantsMemory page.old page.new) }
 {
     put_title(page, name)?;
     put_text(page, "0x")?;
@@ -72,7 +73,7 @@ pub fn put_hex_field(page: &mut Octets, name: &str, n: u64) -> Result<(), ElfErr
 }
 
 /// Appends the line `  TITLE: NAME`, the name of a number or the number in hexadecimal.
-#[tactic(auto, unfolding(crate::specs::Fields::field_line, crate::specs::Fields::name_line))]
+#[tactic(auto, using(elf_types::proofs::Writers::stays), unfolding(crate::specs::Fields::field_line, crate::specs::Fields::name_line))]
 pub fn put_name_field(
     page: &mut Octets,
     title: &str,
@@ -80,7 +81,7 @@ pub fn put_name_field(
     n: u64,
 ) -> Result<(), ElfError>
     ensures ok { OnOk result (page.new ≡ page.old ++ name_line title.now (option_copied name.entry) n) }
-    ensures err { IfErr result (λ e. e ≡ Memory) }
+    ensures err { IfErr result (WantsMemory page.old page.new) }
 {
     put_title(page, title)?;
     put_name_or_hex(page, name, n)?;

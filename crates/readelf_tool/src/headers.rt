@@ -1,12 +1,17 @@
 //! The lines of an ELF header.
 
 ghost use Rattle.std.specs.Prelude.{◌≡◌, ◌++◌, OnOk, IfErr};
-ghost use Rattle.elf_types.specs.declared.errors.ElfError.TheVariants.{Memory};
-ghost use Rattle.readelf_tool.specs.Header.{class_bits, order_text, header_title, ident_lines, type_lines, place_lines, table_lines, header_lines};
+ghost use Rattle.elf_types.specs.Writers.{WantsMemory};
+ghost use Rattle.tool_output.specs.Reports.{Reports};
+ghost use Rattle.tool_output.specs.Steps.{LeavesOutputs};
+ghost use Rattle.readelf_tool.specs.Header.{class_bits, order_text, header_title, ident_lines, type_lines, place_lines, table_lines, header_lines, header_report};
 
 use crate::fields::{put_decimal_field, put_field, put_hex_field, put_name_field};
+use elf_outside::Sink;
 use elf_types::{Class, Ehdr, ElfError, Octets, Order, etype_name, machine_name, put_text};
+use tool_output::{Line, Outputs, Stop};
 
+/// The bits of a class.
 #[tactic(auto, unfolding(crate::specs::Header::class_bits))]
 fn class_bits(class: Class) -> u64
     ensures { result ≡ class_bits class }
@@ -17,6 +22,7 @@ fn class_bits(class: Class) -> u64
     }
 }
 
+/// Which byte comes first.
 #[tactic(auto, unfolding(crate::specs::Header::order_text))]
 fn order_text(order: Order) -> &'static str
     ensures { result.now ≡ order_text order }
@@ -27,18 +33,20 @@ fn order_text(order: Order) -> &'static str
     }
 }
 
-#[tactic(auto, unfolding(crate::specs::Header::header_title))]
+/// Appends the first line.
+#[tactic(auto, using(elf_types::proofs::Writers::stays), unfolding(crate::specs::Header::header_title))]
 fn put_title(page: &mut Octets) -> Result<(), ElfError>
     ensures ok { OnOk result (page.new ≡ page.old ++ header_title) }
-    ensures err { IfErr result (λ e. e ≡ Memory) }
+    ensures err { IfErr result (WantsMemory page.old page.new) }
 {
     put_text(page, "ELF header\n")
 }
 
-#[tactic(auto, unfolding(crate::specs::Header::ident_lines))]
+/// Appends the class, the order and the other fields of the identification.
+#[tactic(auto, using(elf_types::proofs::Writers::stays), unfolding(crate::specs::Header::ident_lines))]
 fn put_ident(page: &mut Octets, h: &Ehdr) -> Result<(), ElfError>
     ensures ok { OnOk result (page.new ≡ page.old ++ ident_lines h.now) }
-    ensures err { IfErr result (λ e. e ≡ Memory) }
+    ensures err { IfErr result (WantsMemory page.old page.new) }
 {
     put_decimal_field(page, "class", class_bits(h.class))?;
     put_field(page, "order", order_text(h.order))?;
@@ -46,10 +54,11 @@ fn put_ident(page: &mut Octets, h: &Ehdr) -> Result<(), ElfError>
     put_decimal_field(page, "abiversion", u64::from(h.abiversion))
 }
 
-#[tactic(auto, unfolding(crate::specs::Header::type_lines))]
+/// Appends the type, the machine and the version.
+#[tactic(auto, using(elf_types::proofs::Writers::stays), unfolding(crate::specs::Header::type_lines))]
 fn put_type(page: &mut Octets, h: &Ehdr) -> Result<(), ElfError>
     ensures ok { OnOk result (page.new ≡ page.old ++ type_lines h.now) }
-    ensures err { IfErr result (λ e. e ≡ Memory) }
+    ensures err { IfErr result (WantsMemory page.old page.new) }
 {
     put_name_field(page, "type", etype_name(h.etype), u64::from(h.etype))?;
     put_name_field(
@@ -61,10 +70,11 @@ fn put_type(page: &mut Octets, h: &Ehdr) -> Result<(), ElfError>
     put_decimal_field(page, "version", u64::from(h.version))
 }
 
-#[tactic(auto, unfolding(crate::specs::Header::place_lines))]
+/// Appends the entry, the places of the tables, and the flags.
+#[tactic(auto, using(elf_types::proofs::Writers::stays), unfolding(crate::specs::Header::place_lines))]
 fn put_places(page: &mut Octets, h: &Ehdr) -> Result<(), ElfError>
     ensures ok { OnOk result (page.new ≡ page.old ++ place_lines h.now) }
-    ensures err { IfErr result (λ e. e ≡ Memory) }
+    ensures err { IfErr result (WantsMemory page.old page.new) }
 {
     put_hex_field(page, "entry", h.entry)?;
     put_decimal_field(page, "phoff", h.phoff)?;
@@ -72,10 +82,11 @@ fn put_places(page: &mut Octets, h: &Ehdr) -> Result<(), ElfError>
     put_hex_field(page, "flags", u64::from(h.flags))
 }
 
-#[tactic(auto, unfolding(crate::specs::Header::table_lines))]
+/// Appends the sizes and the counts of the tables.
+#[tactic(auto, using(elf_types::proofs::Writers::stays), unfolding(crate::specs::Header::table_lines))]
 fn put_tables(page: &mut Octets, h: &Ehdr) -> Result<(), ElfError>
     ensures ok { OnOk result (page.new ≡ page.old ++ table_lines h.now) }
-    ensures err { IfErr result (λ e. e ≡ Memory) }
+    ensures err { IfErr result (WantsMemory page.old page.new) }
 {
     put_decimal_field(page, "ehsize", u64::from(h.ehsize))?;
     put_decimal_field(page, "phentsize", u64::from(h.phentsize))?;
@@ -85,16 +96,35 @@ fn put_tables(page: &mut Octets, h: &Ehdr) -> Result<(), ElfError>
     put_decimal_field(page, "shstrndx", u64::from(h.shstrndx))
 }
 
-/// Appends the lines of a header. It refuses `Memory` alone; nothing is then said of what the page
-/// gained.
-#[tactic(auto, unfolding(crate::specs::Header::header_lines))]
-pub fn put_header(page: &mut Octets, h: &Ehdr) -> Result<(), ElfError>
-    ensures ok { OnOk result (page.new ≡ page.old ++ header_lines h.now) }
-    ensures err { IfErr result (λ e. e ≡ Memory) }
+/// The lines of a header.
+#[derive(Clone, Copy)]
+struct HeaderLines<'a> {
+    /// The header.
+    header: &'a Ehdr,
+}
+
+impl Line for HeaderLines<'_> {
+    ghost text = { λ l. header_lines l.header.now };
+
+    #[tactic(auto, using(elf_types::proofs::Writers::stays), unfolding(crate::specs::Header::header_lines))]
+    fn put(&self, page: &mut Octets) -> Result<(), ElfError> {
+        let h = self.header;
+        put_title(page)?;
+        put_ident(page, h)?;
+        put_type(page, h)?;
+        put_places(page, h)?;
+        put_tables(page, h)
+    }
+}
+
+/// Shows the header. Nothing is refused.
+#[tactic(auto, unfolding(crate::specs::Header::header_report))]
+pub fn show_header<O: Sink, E: Sink>(
+    header: &Ehdr,
+    outputs: &mut Outputs<'_, O, E>,
+) -> Result<bool, Stop>
+    ensures reports { Reports O.Sink E.Sink result outputs.old outputs.new (header_report header.now) }
+    ensures leaves { LeavesOutputs O.Sink E.Sink ⊥ result outputs.old outputs.new }
 {
-    put_title(page)?;
-    put_ident(page, h)?;
-    put_type(page, h)?;
-    put_places(page, h)?;
-    put_tables(page, h)
+    outputs.show(&HeaderLines { header })
 }

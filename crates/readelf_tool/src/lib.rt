@@ -5,7 +5,5 @@ pub mod fields;
 pub mod fronts;
 pub mod headers;
 pub mod segments;
-#[cfg(test)]
-mod tests;
 
-pub use fronts::put_front;
+pub use fronts::show_parts;

@@ -1,66 +1,74 @@
 //! The lines of the program headers.
 
-ghost use Rattle.std.specs.Prelude.{◌≡◌, ◌++◌, ◌<◌, length, OnOk, IfErr};
-ghost use Rattle.elf_types.specs.declared.errors.ElfError.TheVariants.{Memory};
-ghost use Rattle.tool_text.specs.Pages.{Writes, WriteStops};
-ghost use Rattle.readelf_tool.specs.Segments.{flag_letter, other_flags, flags_text, flags_column, hex_column, segment_start, segment_places, segment_sizes, segment_end, segment_line, segment_lines, segments_title, segments_text};
+ghost use Rattle.std.specs.Prelude.{◌≡◌, ◌++◌, length, OnOk, IfErr};
+ghost use Rattle.elf_types.specs.Writers.{WantsMemory};
+ghost use Rattle.tool_output.specs.Lines.{numbered_lines};
+ghost use Rattle.tool_output.specs.Reports.{Reports, shown};
+ghost use Rattle.tool_output.specs.Steps.{LeavesOutputs};
+ghost use Rattle.readelf_tool.specs.Segments.{flag_letter, other_flags, flags_text, flags_column, hex_column, segment_start, segment_places, segment_sizes, segment_end, segment_line, segments_title, segments_report};
 
 use crate::fields::put_name_or_hex;
 use elf_outside::Sink;
-use elf_types::{ElfError, Octets, Phdr, put_decimal, put_hex, put_text, segment_type_name};
-use tool_text::{Stop, turn_after};
+use elf_types::constants::{PF_R, PF_W, PF_X};
+use elf_types::{ElfError, Octets, Phdr, put_bytes, put_decimal, put_hex, put_text, segment_type_name};
+use tool_output::{Line, Outputs, Side, Stop};
 
+/// The letter of a flag's bit, or a dash where it is not set.
 #[tactic(auto, unfolding(crate::specs::Segments::flag_letter))]
-fn flag_letter(flags: u32, weight: u32, letter: u8) -> u8
-    requires { 0 < weight }
-    ensures { result ≡ flag_letter flags weight letter }
+fn flag_letter(flags: u32, bit: u32, letter: u8) -> u8
+    ensures { result ≡ flag_letter flags bit letter }
 {
-    if flags / weight % 2 == 1 {
-        letter
-    } else {
+    if flags & bit == 0 {
         b'-'
+    } else {
+        letter
     }
 }
 
-#[tactic(auto, unfolding(crate::specs::Segments::other_flags))]
+/// Appends the bits that have no letter.
+#[tactic(auto, using(elf_types::proofs::Writers::stays), unfolding(crate::specs::Segments::other_flags))]
 fn put_other_flags(page: &mut Octets, flags: u32) -> Result<(), ElfError>
     ensures ok { OnOk result (page.new ≡ page.old ++ other_flags flags) }
-    ensures err { IfErr result (λ e. e ≡ Memory) }
+    ensures err { IfErr result (WantsMemory page.old page.new) }
 {
-    if flags / 8 == 0 {
+    let others = flags - flags % 8;
+    if others == 0 {
         return Ok(());
     }
     put_text(page, "+0x")?;
-    put_hex(page, u64::from(flags - flags % 8))
+    put_hex(page, u64::from(others))
 }
 
-#[tactic(auto, unfolding(crate::specs::Segments::flags_text))]
+/// Appends the flags: three letters, and the other bits.
+#[tactic(auto, using(elf_types::proofs::Writers::stays), unfolding(crate::specs::Segments::flags_text))]
 fn put_flags(page: &mut Octets, flags: u32) -> Result<(), ElfError>
     ensures ok { OnOk result (page.new ≡ page.old ++ flags_text flags) }
-    ensures err { IfErr result (λ e. e ≡ Memory) }
+    ensures err { IfErr result (WantsMemory page.old page.new) }
 {
     let letters = [
-        flag_letter(flags, 4, b'R'),
-        flag_letter(flags, 2, b'W'),
-        flag_letter(flags, 1, b'X'),
+        flag_letter(flags, PF_R, b'R'),
+        flag_letter(flags, PF_W, b'W'),
+        flag_letter(flags, PF_X, b'X'),
     ];
-    page.extend(&letters)?;
+    put_bytes(page, &letters)?;
     put_other_flags(page, flags)
 }
 
-#[tactic(auto, unfolding(crate::specs::Segments::flags_column))]
+/// Appends ` flags FLAGS`.
+#[tactic(auto, using(elf_types::proofs::Writers::stays), unfolding(crate::specs::Segments::flags_column))]
 fn put_flags_column(page: &mut Octets, flags: u32) -> Result<(), ElfError>
     ensures ok { OnOk result (page.new ≡ page.old ++ flags_column flags) }
-    ensures err { IfErr result (λ e. e ≡ Memory) }
+    ensures err { IfErr result (WantsMemory page.old page.new) }
 {
     put_text(page, " flags ")?;
     put_flags(page, flags)
 }
 
-#[tactic(auto, unfolding(crate::specs::Segments::hex_column))]
+/// Appends ` NAME 0xN`.
+#[tactic(auto, using(elf_types::proofs::Writers::stays), unfolding(crate::specs::Segments::hex_column))]
 fn put_hex_column(page: &mut Octets, name: &str, n: u64) -> Result<(), ElfError>
     ensures ok { OnOk result (page.new ≡ page.old ++ hex_column name.now n) }
-    ensures err { IfErr result (λ e. e ≡ Memory) }
+    ensures err { IfErr result (WantsMemory page.old page.new) }
 {
     put_text(page, " ")?;
     put_text(page, name)?;
@@ -68,10 +76,11 @@ fn put_hex_column(page: &mut Octets, name: &str, n: u64) -> Result<(), ElfError>
     put_hex(page, n)
 }
 
-#[tactic(auto, unfolding(crate::specs::Segments::segment_start))]
+/// Appends `  I TYPE`.
+#[tactic(auto, using(elf_types::proofs::Writers::stays), unfolding(crate::specs::Segments::segment_start))]
 fn put_start(page: &mut Octets, i: u64, p: &Phdr) -> Result<(), ElfError>
     ensures ok { OnOk result (page.new ≡ page.old ++ segment_start i p.now) }
-    ensures err { IfErr result (λ e. e ≡ Memory) }
+    ensures err { IfErr result (WantsMemory page.old page.new) }
 {
     put_text(page, "  ")?;
     put_decimal(page, i)?;
@@ -79,93 +88,102 @@ fn put_start(page: &mut Octets, i: u64, p: &Phdr) -> Result<(), ElfError>
     put_name_or_hex(page, segment_type_name(p.ptype), u64::from(p.ptype))
 }
 
-#[tactic(auto, unfolding(crate::specs::Segments::segment_places))]
+/// Appends the offset and the two addresses.
+#[tactic(auto, using(elf_types::proofs::Writers::stays), unfolding(crate::specs::Segments::segment_places))]
 fn put_places(page: &mut Octets, p: &Phdr) -> Result<(), ElfError>
     ensures ok { OnOk result (page.new ≡ page.old ++ segment_places p.now) }
-    ensures err { IfErr result (λ e. e ≡ Memory) }
+    ensures err { IfErr result (WantsMemory page.old page.new) }
 {
     put_hex_column(page, "offset", p.offset)?;
     put_hex_column(page, "vaddr", p.vaddr)?;
     put_hex_column(page, "paddr", p.paddr)
 }
 
-#[tactic(auto, unfolding(crate::specs::Segments::segment_sizes))]
+/// Appends the two sizes.
+#[tactic(auto, using(elf_types::proofs::Writers::stays), unfolding(crate::specs::Segments::segment_sizes))]
 fn put_sizes(page: &mut Octets, p: &Phdr) -> Result<(), ElfError>
     ensures ok { OnOk result (page.new ≡ page.old ++ segment_sizes p.now) }
-    ensures err { IfErr result (λ e. e ≡ Memory) }
+    ensures err { IfErr result (WantsMemory page.old page.new) }
 {
     put_hex_column(page, "filesz", p.filesz)?;
     put_hex_column(page, "memsz", p.memsz)
 }
 
-#[tactic(auto, unfolding(crate::specs::Segments::segment_end))]
+/// Appends the flags, the alignment and the newline.
+#[tactic(auto, using(elf_types::proofs::Writers::stays), unfolding(crate::specs::Segments::segment_end))]
 fn put_end(page: &mut Octets, p: &Phdr) -> Result<(), ElfError>
     ensures ok { OnOk result (page.new ≡ page.old ++ segment_end p.now) }
-    ensures err { IfErr result (λ e. e ≡ Memory) }
+    ensures err { IfErr result (WantsMemory page.old page.new) }
 {
     put_flags_column(page, p.flags)?;
     put_hex_column(page, "align", p.align)?;
     put_text(page, "\n")
 }
 
-#[tactic(auto, unfolding(crate::specs::Segments::segment_line))]
-fn put_segment(page: &mut Octets, i: u64, p: &Phdr) -> Result<(), ElfError>
-    ensures ok { OnOk result (page.new ≡ page.old ++ segment_line i p.now) }
-    ensures err { IfErr result (λ e. e ≡ Memory) }
-{
-    put_start(page, i, p)?;
-    put_places(page, p)?;
-    put_sizes(page, p)?;
-    put_end(page, p)
+/// The line of a program header.
+#[derive(Clone, Copy)]
+struct SegmentLine<'a> {
+    /// Its number.
+    index: u64,
+    /// The program header.
+    header: &'a Phdr,
 }
 
-#[tactic(auto, unfolding(crate::specs::Segments::segments_title))]
-fn put_title(page: &mut Octets, count: u64) -> Result<(), ElfError>
-    ensures ok { OnOk result (page.new ≡ page.old ++ segments_title count) }
-    ensures err { IfErr result (λ e. e ≡ Memory) }
-{
-    put_text(page, "Program headers: ")?;
-    put_decimal(page, count)?;
-    put_text(page, "\n")
-}
+impl Line for SegmentLine<'_> {
+    ghost text = { λ l. segment_line l.index l.header.now };
 
-/// Writes the line of each program header.
-fn put_segments<K: Sink>(out: &mut K, page: &mut Octets, phdrs: &[Phdr]) -> Result<(), Stop>
-    ensures writes { Writes K.Sink result out.old out.new page.old page.new (segment_lines 0 phdrs.now) }
-    ensures stops { WriteStops result (K.faults out.old) (K.faults out.new) }
-{
-    for (i, p) in phdrs.iter().enumerate() {
-        put_row(out, page, i as u64, p)?;
+    #[tactic(auto, using(elf_types::proofs::Writers::stays), unfolding(crate::specs::Segments::segment_line))]
+    fn put(&self, page: &mut Octets) -> Result<(), ElfError> {
+        put_start(page, self.index, self.header)?;
+        put_places(page, self.header)?;
+        put_sizes(page, self.header)?;
+        put_end(page, self.header)
     }
-    Ok(())
 }
 
-fn put_row<K: Sink>(out: &mut K, page: &mut Octets, i: u64, p: &Phdr) -> Result<(), Stop>
-    ensures writes { Writes K.Sink result out.old out.new page.old page.new (segment_line i p.now) }
-    ensures stops { WriteStops result (K.faults out.old) (K.faults out.new) }
-{
-    let appended = put_segment(page, i, p);
-    turn_after(out, page, appended)
+/// The line before those of the program headers.
+#[derive(Clone, Copy)]
+struct SegmentsTitle {
+    /// How many there are.
+    count: u64,
 }
 
-fn put_title_row<K: Sink>(out: &mut K, page: &mut Octets, count: u64) -> Result<(), Stop>
-    ensures writes { Writes K.Sink result out.old out.new page.old page.new (segments_title count) }
-    ensures stops { WriteStops result (K.faults out.old) (K.faults out.new) }
-{
-    let appended = put_title(page, count);
-    turn_after(out, page, appended)
+impl Line for SegmentsTitle {
+    ghost text = { λ t. segments_title t.count };
+
+    #[tactic(auto, using(elf_types::proofs::Writers::stays), unfolding(crate::specs::Segments::segments_title))]
+    fn put(&self, page: &mut Octets) -> Result<(), ElfError> {
+        put_text(page, "Program headers: ")?;
+        put_decimal(page, self.count)?;
+        put_text(page, "\n")
+    }
 }
 
-/// Writes the program headers: their number, and a line for each. It stops by `Write` and `Memory`.
-#[tactic(auto, unfolding(crate::specs::Segments::segments_text))]
-pub fn put_segment_table<K: Sink>(
-    out: &mut K,
-    page: &mut Octets,
+/// Shows a line for each program header.
+fn show_lines<O: Sink, E: Sink>(
     phdrs: &[Phdr],
-) -> Result<(), Stop>
-    ensures writes { Writes K.Sink result out.old out.new page.old page.new (segments_text phdrs.now) }
-    ensures stops { WriteStops result (K.faults out.old) (K.faults out.new) }
+    outputs: &mut Outputs<'_, O, E>,
+) -> Result<bool, Stop>
+    ensures reports { Reports O.Sink E.Sink result outputs.old outputs.new
+        (shown (numbered_lines segment_line 0 phdrs.now)) }
+    ensures leaves { LeavesOutputs O.Sink E.Sink ⊥ result outputs.old outputs.new }
 {
-    put_title_row(out, page, phdrs.len() as u64)?;
-    put_segments(out, page, phdrs)
+    for (i, header) in phdrs.iter().enumerate() {
+        let index = i as u64;
+        outputs.put(Side::Out, &SegmentLine { index, header })?;
+    }
+    Ok(false)
+}
+
+/// Shows the program headers: their number, and a line for each. Nothing is refused.
+pub fn show_segments<O: Sink, E: Sink>(
+    phdrs: &[Phdr],
+    outputs: &mut Outputs<'_, O, E>,
+) -> Result<bool, Stop>
+    ensures reports { Reports O.Sink E.Sink result outputs.old outputs.new (segments_report phdrs.now) }
+    ensures leaves { LeavesOutputs O.Sink E.Sink ⊥ result outputs.old outputs.new }
+{
+    let count = phdrs.len() as u64;
+    outputs.show(&SegmentsTitle { count })?;
+    show_lines(phdrs, outputs)
 }

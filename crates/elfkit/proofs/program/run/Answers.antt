@@ -1,33 +1,22 @@
-use Rattle.std.proofs.Common.{◌∙◌, refl, sym, lit<}
-use Rattle.elfkit.proofs.EndLemmas.{program_of_command, program_of_usage, says_usage, never_three, opens_of_command, start_of_command}
+use Rattle.std.proofs.Common.{◌≡◌, ◌∙◌, true, false, sym, rules}
+use Rattle.tool_text.specs.Reading.{reading}
+use Rattle.tool_output.proofs.OutcomeLemmas.{run_delivers}
+use Rattle.elfkit.specs.Program.{program}
+use Rattle.elfkit.proofs.CommandLemmas.{on_usage, below_three}
 use Rattle.elfkit.proofs.program.run.Goals as goal
 
-pub returns-in-Ok-clause-delivers : goal.returns-in-Ok-clause-delivers
-returns-in-Ok-clause-delivers g c =
-    λ told. rw (program_of_command c.args.words.now (g.F.Files.named c.args.files.now) _ c.in-Ok.ensures.value) (c.run_command.ensures.delivers told)
+pub returns-clause-delivers : goal.returns-clause-delivers
+returns-clause-delivers g c = λ told.
+    let v = c.new-outputs.ensures.values in
+    run_delivers g.F.Files g.O.Sink g.E.Sink _ c.args.files.now _ _ _ c.new-outputs.result _ _ _ _ _ _ _
+    v.0 v.1 (search rules) (search rules) c.end.ensures (below_three _ _ c.run_words-ended.ensures.status)
+    _ c.ended_status.ensures (v.2 ∙ c.new-page.ensures) (c.run_words-ended.ensures.does (λ opens. told))
 
-pub returns-in-Err-Usage-clause-delivers : goal.returns-in-Err-Usage-clause-delivers
-returns-in-Err-Usage-clause-delivers g c =
-    λ told. rw (program_of_usage c.args.words.now (g.F.Files.named c.args.files.now) _ (rw (c.in-Err-Usage.field-0-is, c.in-Err-Usage.usage-is) at c.in-Err-Usage.ensures.value))
-    (says_usage _ _ _ _ _ _ _ c.line.ensures (c.say.ensures.delivers _))
-
-pub returns-in-Err-Usage-clause-usage : goal.returns-in-Err-Usage-clause-usage
-returns-in-Err-Usage-clause-usage g c =
-    rw (rw (c.in-Err-Usage.field-0-is, c.in-Err-Usage.usage-is) at c.in-Err-Usage.ensures.value) (says_usage _ _ _ _ _ _ _ c.line.ensures (c.say.ensures.delivers _))
-
-pub returns-in-Err-Usage-clause-causes : goal.returns-in-Err-Usage-clause-causes
-returns-in-Err-Usage-clause-causes g c = c.say.ensures.causes _ _
-
-pub returns-in-Ok-clause-untouched : goal.returns-in-Ok-clause-untouched
-returns-in-Ok-clause-untouched g c =
-    λ unopened. c.run_command.ensures.untouched (sym (opens_of_command c.args.words.now _ c.in-Ok.ensures.value) ∙ unopened)
-
-pub returns-in-Err-Usage-clause-untouched : goal.returns-in-Err-Usage-clause-untouched
-returns-in-Err-Usage-clause-untouched g c = λ unopened. (refl, never_three 2 _ (lit< tt) c.say.ensures.answers)
-
-pub returns-in-Ok-clause-unread : goal.returns-in-Ok-clause-unread
-returns-in-Ok-clause-unread g c =
-    λ told three. start_of_command c.args.words.now _ (g.F.Files.named c.args.files.now) _ _ _ _ c.in-Ok.ensures.value (c.run_command.ensures.unread told three)
-
-pub returns-in-Err-Usage-clause-unread : goal.returns-in-Err-Usage-clause-unread
-returns-in-Err-Usage-clause-unread g c = λ told three. absurd (never_three 2 _ (lit< tt) c.say.ensures.answers three)
+pub returns-clause-usage : goal.returns-clause-usage
+unfolding program
+returns-clause-usage g c =
+    let v = c.new-outputs.ensures.values in
+    on_usage (reading c.args.words.now) _ _ _ _ _ (g.F.Files.named c.args.files.now) _
+    (λ unopened. run_delivers g.F.Files g.O.Sink g.E.Sink _ c.args.files.now _ _ _ c.new-outputs.result _ _ _ _ _ _ _
+    v.0 v.1 (search rules) (search rules) c.end.ensures (below_three _ _ c.run_words-ended.ensures.status)
+    _ c.ended_status.ensures (v.2 ∙ c.new-page.ensures) (c.run_words-ended.ensures.does (λ opens. absurd (let no : true ≡ false = sym opens ∙ unopened in cc))))

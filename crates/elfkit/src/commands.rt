@@ -1,0 +1,60 @@
+//! The commands, one file each, and the answer to those that are not built yet.
+
+ghost use Rattle.std.specs.Prelude.{false, ◌≡◌, ◌<◌, codes, IfOk, IsTrue, if◌then◌else◌};
+ghost use Rattle.tool_output.specs.Marks.{said};
+ghost use Rattle.tool_output.specs.Steps.{Performs, OnRead, LeavesOutputs};
+ghost use Rattle.tool_output.specs.Files.{LeavesFiles};
+ghost use Rattle.tool_output.specs.Outcomes.{Does};
+ghost use Rattle.elfkit.specs.Lines.{line_of};
+ghost use Rattle.elfkit.specs.Program.{command_outcome, is_built};
+
+pub mod readelf;
+
+use crate::lines::say;
+use elf_outside::{Files, Sink};
+use readelf::readelf;
+use std::alloc::Global;
+use tool_output::{Outputs, Side, Stop};
+use tool_text::Command;
+
+/// The status where a form is not built, or something was refused.
+const REFUSED: u8 = 1;
+
+/// Says that a form is not built.
+fn not_built<O: Sink, E: Sink>(outputs: &mut Outputs<'_, O, E>) -> Result<u8, Stop>
+    ensures performs { Performs O.Sink E.Sink result outputs.old outputs.new
+        (said Side.Error (line_of (codes "elfkit: form not built"))) 1 }
+    ensures leaves { LeavesOutputs O.Sink E.Sink ⊥ result outputs.old outputs.new }
+{
+    say(outputs, "elfkit: form not built", REFUSED)
+}
+
+/// The status of a command, by whether something was refused.
+fn status_of(refused: bool) -> u8
+    ensures { result ≡ (if refused then 1 else 0) }
+{
+    if refused { REFUSED } else { 0 }
+}
+
+/// Runs a command that was read.
+pub fn run_command<F: Files, O: Sink, E: Sink>(
+    alloc: Global,
+    command: &Command,
+    files: &mut F,
+    outputs: &mut Outputs<'_, O, E>,
+) -> Result<u8, Stop>
+    ensures does { (IsTrue (is_built command.now) → IsTrue (F.tells files.old)) →
+        Does F.Files O.Sink E.Sink (command_outcome command.now (F.named files.old)) result
+            files.old files.new outputs.old outputs.new }
+    ensures status { IfOk result (λ status. status < 2) }
+    ensures untouched { is_built command.now ≡ false → (files.new ≡ files.old) × OnRead result ⊥ }
+    ensures leaves { LeavesFiles F.Files O.Sink E.Sink result files.old files.new outputs.old outputs.new }
+{
+    match command {
+        Command::Readelf {
+            parts,
+            files: names,
+        } => readelf(alloc, parts, names, files, outputs),
+        _ => not_built(outputs),
+    }
+}

@@ -1,0 +1,58 @@
+//! The lines that the program writes of its own.
+
+ghost use Rattle.std.specs.Prelude.{◌≡◌, ◌++◌};
+ghost use Rattle.tool_output.specs.Marks.{said};
+ghost use Rattle.tool_output.specs.Steps.{Performs, LeavesOutputs};
+ghost use Rattle.elfkit.specs.Lines.{title, line_of};
+
+use elf_types::{ElfError, Octets, put_bytes, put_text};
+use elf_outside::Sink;
+use tool_output::{Line, Outputs, Side, Stop};
+
+/// `File: FILE`, the line before what is shown of a file.
+#[derive(Clone, Copy)]
+pub struct Title<'a> {
+    /// The file.
+    pub file: &'a [u8],
+}
+
+impl Line for Title<'_> {
+    ghost text = { λ t. title t.file.now };
+
+    #[tactic(auto, using(elf_types::proofs::Writers::stays), unfolding(crate::specs::Lines::title))]
+    fn put(&self, page: &mut Octets) -> Result<(), ElfError> {
+        put_text(page, "File: ")?;
+        put_bytes(page, self.file)?;
+        put_text(page, "\n")
+    }
+}
+
+/// A text on a line of its own.
+#[derive(Clone, Copy)]
+pub struct Sentence<'a> {
+    /// The text.
+    pub text: &'a str,
+}
+
+impl Line for Sentence<'_> {
+    ghost text = { λ s. line_of s.text.now };
+
+    #[tactic(auto, using(elf_types::proofs::Writers::stays), unfolding(crate::specs::Lines::line_of))]
+    fn put(&self, page: &mut Octets) -> Result<(), ElfError> {
+        put_text(page, self.text)?;
+        put_text(page, "\n")
+    }
+}
+
+/// Says a sentence on standard error, and answers a status.
+pub fn say<O: Sink, E: Sink>(
+    outputs: &mut Outputs<'_, O, E>,
+    text: &str,
+    status: u8,
+) -> Result<u8, Stop>
+    ensures performs { Performs O.Sink E.Sink result outputs.old outputs.new (said Side.Error (line_of text.now)) status }
+    ensures leaves { LeavesOutputs O.Sink E.Sink ⊥ result outputs.old outputs.new }
+{
+    outputs.put(Side::Error, &Sentence { text })?;
+    Ok(status)
+}

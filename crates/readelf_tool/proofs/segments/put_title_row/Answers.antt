@@ -1,7 +1,0 @@
-use Rattle.readelf_tool.proofs.Written.{row_written}
-use Rattle.readelf_tool.proofs.segments.put_title_row.Goals as goal
-
-pub returns-clause-writes : goal.returns-clause-writes
-returns-clause-writes g c =
-    row_written g.K.Sink c.put_title-appended.result _ c.args.out.now _ c.args.page.now _ _ _
-    c.put_title-appended.ensures.ok c.turn_after.ensures.ok c.turn_after.ensures.err c.turn_after.ensures.same

@@ -1,0 +1,199 @@
+-- Steps over a set of files.
+use Rattle.std.proofs.Common.{◌≡◌, ◌≢◌, ◌⊎◌, inl, inr, ◌++◌, ◌+◌, ◌<◌, ◌≤◌, ℕ, Bool, true, false, List, [], ◌∷◌, length, map, take, get_or, codes, Option, Some, None, Result, Ok, Err, IsTrue, IsSome, IsNone, IfSome, refl, sym, ap, ◌∙◌, subst, arith, ◌^◌, ◌-◌}
+use Rattle.std.specs.Str.{bytes_eq}
+use Rattle.std.proofs.lemmas.List.{map-append, take_more, take_all}
+use Rattle.std.proofs.lemmas.Slice.Eq.{bytes_eq-Decides}
+use Rattle.elf_outside.specs.Counts.{Rose, RaisedBy}
+use Rattle.elf_outside.specs.Names.{Map, SameNames, Closes}
+use Rattle.elf_outside.specs.declared.sinks.Sink.{Ghosts as SinkGhosts}
+use Rattle.elf_outside.specs.declared.file_sets.Files.{Ghosts as FilesGhosts}
+use Rattle.tool_output.specs.declared.stops.Stop.{Stop}
+use Rattle.tool_output.specs.declared.stops.Stop.TheVariants.{Read, Write, Memory}
+use Rattle.tool_output.specs.declared.outputs.Outputs.{Outputs}
+use Rattle.tool_output.specs.Messages.{message}
+use Rattle.tool_output.specs.Reports.{Report, Reports, refusal}
+use Rattle.tool_output.specs.Steps.{KeepsSinks, LeavesSinks, SinkRose, OnRead, OnWrite}
+use Rattle.tool_output.specs.Files.{report_on, asks_on, Totals, LeavesFiles, OnlyReads, IsWithin, both_bounds, all_bounds}
+
+-- ---- A file that was opened, read and closed
+
+at_name : (held was now : Option (List ℕ)) → (IsSome was → now ≡ held) → (IsNone was → IsNone now) → held ≡ was → now ≡ was
+at_name held None None set absent same = refl
+at_name held None (Some bytes) set absent same = cc (absent refl)
+at_name held (Some bytes) now set absent same = set refl ∙ same
+
+name_cases : (test : Bool) (m0 m2 : Map) (name other : List ℕ) → (test ≡ true → other ≡ name) → (test ≡ false → other ≢ name)
+    → m2 name ≡ m0 name → ((n : List ℕ) → n ≢ name → m2 n ≡ m0 n) → m2 other ≡ m0 other
+name_cases true m0 m2 name other equal differs here there = ap m2 (equal refl) ∙ here ∙ sym (ap m0 (equal refl))
+name_cases false m0 m2 name other equal differs here there = there other (differs refl)
+
+false_not : (b : Bool) (P : Type 0) → (P → b ≡ true) → b ≡ false → P → ⊥
+false_not true P h e p = cc
+false_not false P h e p = let t : false ≡ true = h p in cc
+
+-- the map from names to bytes, where the file still holds the bytes of its name
+pub closed_same : (t0 t1 t2 : Bool) (m0 m1 m2 : Map) (name : List ℕ) (held : Option (List ℕ)) → IsTrue t0 → SameNames t0 m0 t1 m1
+    → Closes t1 m1 t2 m2 name held → held ≡ m0 name → SameNames t0 m0 t2 m2
+closed_same t0 t1 t2 m0 m1 m2 name held told opened closed same = record {
+  same_tells = closed.others.same_tells ∙ opened.same_tells;
+  same = λ other.
+      name_cases (bytes_eq other name) m0 m2 name other
+      (λ e. (bytes_eq-Decides other name).0 e)
+      (false_not (bytes_eq other name) (other ≡ name) (bytes_eq-Decides other name).1)
+      (at_name held (m1 name) (m2 name) (closed.set (subst (λ (t : Bool). IsTrue t) (sym opened.same_tells) told)) closed.absent
+      (same ∙ sym (opened.same name)) ∙ opened.same name)
+      (λ n ne. closed.others.same n ne ∙ opened.same n);
+}
+
+-- a device's numbers stand in its rest
+pub given_same : (given faults given' faults' : ℕ) (kept kept' : List (List ℕ)) (rest rest' : List (List ℕ))
+    → rest ≡ (given ∷ faults ∷ []) ∷ kept → rest' ≡ (given' ∷ faults' ∷ []) ∷ kept' → rest' ≡ rest → given' ≡ given
+given_same given faults given' faults' kept kept' rest rest' a b same = cc
+
+-- so a total that counts them stays where nothing was given
+pub given_kept : (before opened own after : ℕ) → own ≡ 0 → opened ≡ before → RaisedBy opened after own → after ≡ before
+given_kept before opened own after none first raised = omega (arith, raised.later, raised.no_more)
+
+-- ---- What is said of a name
+
+module _ (command : List ℕ) (report : List ℕ → List ℕ → Report) (asks : List ℕ → Option ℕ) (named : Map) (name : List ℕ) where
+  pub report_absent : named name ≡ None → report_on command report named name ≡ refusal command name (codes "not found")
+  unfolding report_on
+  report_absent is = rw is refl
+
+  report_there : (bytes : List ℕ) → named name ≡ Some bytes → report_on command report named name ≡ report name bytes
+  unfolding report_on
+  report_there bytes is = rw is refl
+
+  asks_there : (bytes : List ℕ) → named name ≡ Some bytes → asks_on asks named name ≡ asks bytes
+  unfolding asks_on
+  asks_there bytes is = rw is refl
+
+  -- the report on an open file is that on its name
+  pub opened_reports : {O E : Type 0} (o : SinkGhosts O) (e : SinkGhosts E) (r : Result Bool Stop) (s t : Outputs O E) (held : Option (List ℕ))
+      → held ≡ named name → named name ≢ None → IfSome held (λ bytes. Reports o e r s t (report name bytes))
+      → Reports o e r s t (report_on command report named name)
+  opened_reports o e r s t None same there h = absurd (there (sym same))
+  opened_reports o e r s t (Some bytes) same there h = rw (report_there bytes (sym same)) h
+
+  -- what was asked of a file counts in the total
+  pub opened_asks : (held : Option (List ℕ)) (before opened read after : ℕ) → held ≡ named name → named name ≢ None
+      → IfSome held (λ bytes. IsWithin (asks bytes) 0 read) → opened ≡ before → after ≤ opened + read
+      → IsWithin (asks_on asks named name) before after
+  opened_asks None before opened read after same there h first last = absurd (there (sym same))
+  opened_asks (Some bytes) before opened read after same there h first last = rw (asks_there bytes (sym same)) (bound (asks bytes) h)
+    where
+      bound : (b : Option ℕ) → IsWithin b 0 read → IsWithin b before after
+      bound None k = tt
+      bound (Some n) k = omega (arith, k, first, last)
+
+-- what is said of a name by one map is said by another that has the same there
+pub report_on_same : {O E : Type 0} (o : SinkGhosts O) (e : SinkGhosts E) (r : Result Bool Stop) (s t : Outputs O E)
+    (command : List ℕ) (report : List ℕ → List ℕ → Report) (m0 m1 : Map) (name shown : List ℕ) → m1 shown ≡ m0 shown → shown ≡ name
+    → Reports o e r s t (report_on command report m1 shown) → Reports o e r s t (report_on command report m0 name)
+unfolding report_on
+report_on_same o e r s t command report m0 m1 name shown same is h = rw (← is) (rw same at h)
+
+pub asks_on_same : (asks : List ℕ → Option ℕ) (m0 m1 : Map) (name shown : List ℕ) (a b : ℕ) → m1 shown ≡ m0 shown → shown ≡ name
+    → IsWithin (asks_on asks m1 shown) a b → IsWithin (asks_on asks m0 name) a b
+unfolding asks_on
+asks_on_same asks m0 m1 name shown a b same is h = rw (← is) (rw same at h)
+
+-- ---- One step after another
+
+module _ {F D O E : Type 0} (f : FilesGhosts F D) (o : SinkGhosts O) (e : SinkGhosts E) where
+  pub told_after : (a b : F) → OnlyReads f a b → IsTrue (f.tells a) → IsTrue (f.tells b)
+  told_after a b h told = (h.names told).same_tells ∙ told
+
+  pub only_reads_none : (a : F) → OnlyReads f a a
+  only_reads_none a = record { names = λ told. record { same_tells = refl; same = λ name. refl; }; given = refl; }
+
+  pub only_reads_then : (a b c : F) → OnlyReads f a b → OnlyReads f b c → OnlyReads f a c
+  only_reads_then a b c h k = record {
+    names = λ told. record {
+      same_tells = (k.names (told_after a b h told)).same_tells ∙ (h.names told).same_tells;
+      same = λ name. (k.names (told_after a b h told)).same name ∙ (h.names told).same name;
+    };
+    given = k.given ∙ h.given;
+  }
+
+  pub totals_none : (a : F) → Totals f a a
+  totals_none a = record {
+    tells = refl;
+    read_faults = omega arith;
+    write_faults = omega arith;
+    taken = omega arith;
+    given = omega arith;
+    live = λ small. refl;
+  }
+
+  pub totals_then : (a b c : F) → Totals f a b → Totals f b c → Totals f a c
+  totals_then a b c h k = record {
+    tells = k.tells ∙ h.tells;
+    read_faults = omega (arith, h.read_faults, k.read_faults);
+    write_faults = omega (arith, h.write_faults, k.write_faults);
+    taken = omega (arith, h.taken, k.taken);
+    given = omega (arith, h.given, k.given);
+    live = λ small. k.live (rw (h.live small) small) ∙ h.live small;
+  }
+
+  pub keeps_none : (s : Outputs O E) → KeepsSinks o e s s
+  keeps_none s = record {
+    same_out = refl;
+    same_err = refl;
+    same_page = refl;
+    leaves = record { out_rest = refl; err_rest = refl; out_later = omega arith; err_later = omega arith; };
+  }
+
+  pub keeps_then : (s t u : Outputs O E) → KeepsSinks o e s t → KeepsSinks o e t u → KeepsSinks o e s u
+  keeps_then s t u h k = record {
+    same_out = k.same_out ∙ h.same_out;
+    same_err = k.same_err ∙ h.same_err;
+    same_page = k.same_page ∙ h.same_page;
+    leaves = record {
+      out_rest = k.leaves.out_rest ∙ h.leaves.out_rest;
+      err_rest = k.leaves.err_rest ∙ h.leaves.err_rest;
+      out_later = omega (arith, h.leaves.out_later, k.leaves.out_later);
+      err_later = omega (arith, h.leaves.err_later, k.leaves.err_later);
+    };
+  }
+
+-- ---- Bounds
+
+both_assoc : (a b c : Option ℕ) → both_bounds (both_bounds a b) c ≡ both_bounds a (both_bounds b c)
+both_assoc None b c = refl
+both_assoc (Some a) None c = refl
+both_assoc (Some a) (Some b) None = refl
+both_assoc (Some a) (Some b) (Some c) = ap Some (omega arith)
+
+both_zero : (b : Option ℕ) → both_bounds b (Some 0) ≡ both_bounds (Some 0) b
+both_zero None = refl
+both_zero (Some b) = ap Some (omega arith)
+
+bounds_append : (bs : List (Option ℕ)) (b : Option ℕ) → all_bounds (bs ++ b ∷ []) ≡ both_bounds (all_bounds bs) b
+unfolding all_bounds
+bounds_append [] b = both_zero b
+bounds_append (a ∷ bs) b = ap (both_bounds a) (bounds_append bs b) ∙ sym (both_assoc a (all_bounds bs) b)
+
+within_both : (p q : Option ℕ) (a b c : ℕ) → IsWithin p a b → IsWithin q b c → IsWithin (both_bounds p q) a c
+within_both None q a b c h k = tt
+within_both (Some p) None a b c h k = tt
+within_both (Some p) (Some q) a b c h k = omega arith
+
+module _ (asks : List ℕ → Option ℕ) (names : List (List ℕ)) where
+  pub asks_none : (a : ℕ) → IsWithin (all_bounds (map asks (take 0 names))) a a
+  unfolding all_bounds
+  asks_none a = omega arith
+
+  pub asks_more : (a b c i : ℕ) (name : List ℕ) → i < length names → name ≡ get_or names i name
+      → IsWithin (all_bounds (map asks (take i names))) a b → IsWithin (asks name) b c
+      → IsWithin (all_bounds (map asks (take (i + 1) names))) a c
+  asks_more a b c i name lt is h k =
+      let one_more : take (i + 1) names ≡ take i names ++ (name ∷ []) = take_more names i name lt ∙ ap (λ (n : List ℕ). take i names ++ (n ∷ [])) (sym is) in
+      subst (λ (o : Option ℕ). IsWithin o a c)
+      (sym (ap (λ (ns : List (List ℕ)). all_bounds (map asks ns)) one_more ∙ ap all_bounds (map-append asks (take i names) (name ∷ []))
+      ∙ bounds_append (map asks (take i names)) (asks name)))
+      (within_both (all_bounds (map asks (take i names))) (asks name) a b c h k)
+
+  pub asks_all : (a b i : ℕ) → length names ≤ i → IsWithin (all_bounds (map asks (take i names))) a b → IsWithin (all_bounds (map asks names)) a b
+  asks_all a b i le h = subst (λ (ns : List (List ℕ)). IsWithin (all_bounds (map asks ns)) a b) (take_all i names le) h

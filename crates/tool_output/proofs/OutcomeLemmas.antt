@@ -1,0 +1,252 @@
+-- The end of a run.
+use Rattle.std.proofs.Common.{◌≡◌, ◌≢◌, ◌⊎◌, inl, inr, ◌++◌, ◌+◌, ◌<◌, ◌≤◌, ℕ, Bool, true, false, List, [], ◌∷◌, length, take, slice_index, Option, Some, None, Result, Ok, Err, OnOk, IfOk, IfErr, IfSome, IsTrue, cond, refl, sym, ap, ◌∙◌, subst, arith, lit<, lit≤}
+use Rattle.std.proofs.lemmas.List.{take_all}
+use Rattle.elf_outside.specs.Counts.{Rose}
+use Rattle.elf_outside.specs.declared.sinks.Sink.{Ghosts as SinkGhosts}
+use Rattle.elf_outside.specs.declared.file_sets.Files.{Ghosts as FilesGhosts}
+use Rattle.tool_output.specs.declared.stops.Stop.{Stop}
+use Rattle.tool_output.specs.declared.stops.Stop.TheVariants.{Read, Write, Memory}
+use Rattle.tool_output.specs.declared.outputs.Outputs.{Outputs}
+use Rattle.tool_output.specs.Marks.{Mark, Gained, GainedFront}
+use Rattle.tool_output.specs.Steps.{Performs, Ends, Ended, LeavesSinks, SinkRose, OnRead, OnWrite, OnKept}
+use Rattle.tool_output.specs.Reports.{Report, Reports}
+use Rattle.tool_output.specs.Files.{OnlyReads, LeavesFiles, IsWithin}
+use Rattle.tool_output.specs.Outcomes.{FileWrite, Outcome, outcome_of, only_says, write_of, held_after, IsMixed, MayHoldInPlace, MayHoldBytes, MayHold, stop_status, ended_status, Does, Delivers, Costs, RunLeaves}
+use Rattle.tool_output.proofs.EndLemmas.{ended_over}
+use Rattle.tool_output.proofs.StepLemmas.{stops_as, writes_nothing}
+
+module _ {F D O E : Type 0} (f : FilesGhosts F D) (o : SinkGhosts O) (e : SinkGhosts E) (a b : F) (s t : Outputs O E) where
+  -- ---- Steps that only read files
+
+  pub reads_done : (report : Report) (bound : Option ℕ) (x : Bool) (status : ℕ) → status ≡ cond x 1 0 → IsTrue (f.tells a)
+      → OnlyReads f a b → IsWithin bound (f.taken a) (f.taken b) → Reports o e (Ok x) s t report
+      → Does f o e (outcome_of report bound) (Ok status) a b s t
+  unfolding outcome_of write_of
+  reads_done report bound x status is told reads within h = record {
+    performs = record {
+      writes = record { ok = h.writes.ok; stopped = tt; lost = tt; };
+      value_is = is ∙ ap (λ (y : Bool). cond y 1 0) h.value_is;
+    };
+    files = (reads.names told).same;
+    left = tt;
+    asks = within;
+    gives = omega (arith, reads.given);
+  }
+
+  pub reads_stopped : (report : Report) (bound : Option ℕ) (stop : Stop) → IsTrue (f.tells a)
+      → OnlyReads f a b → Reports o e (Err stop) s t report
+      → Does f o e (outcome_of report bound) (Err stop) a b s t
+  unfolding outcome_of write_of
+  reads_stopped report bound stop told reads h = record {
+    performs = record { writes = stops_as o e stop s t report.marks h.writes; value_is = tt; };
+    files = tt;
+    left = (reads.names told).same;
+    asks = tt;
+    gives = omega (arith, reads.given);
+  }
+
+  -- marks and a status, where no file is touched
+  pub says_done : (marks : List Mark) (status : ℕ) (result : Result ℕ Stop) → Performs o e result s t marks status
+      → Does f o e (only_says marks status) result a a s t
+  unfolding only_says write_of
+  says_done marks status (Ok x) h = record { performs = h; files = λ name. refl; left = tt; asks = omega arith; gives = omega arith; }
+  says_done marks status (Err stop) h = record { performs = h; files = tt; left = λ name. refl; asks = tt; gives = omega arith; }
+
+-- ---- A file of a run that stopped
+
+mixed_old : (old new : List ℕ) → IsMixed old new old
+mixed_old old new = record { len = inl refl; bytes = λ k lt. inl (lt, refl); }
+
+mixed_new : (old new : List ℕ) → IsMixed old new new
+mixed_new old new = record { len = inr refl; bytes = λ k lt. inr (inl (lt, refl)); }
+
+abbrev HoldsMixed : List ℕ → Option (List ℕ) → Option (List ℕ) → Type 0
+HoldsMixed bytes old held = IfSome old (λ before. (now : List ℕ) × (held ≡ Some now) × IsMixed before bytes now)
+
+written_old : (bytes : List ℕ) (old : Option (List ℕ)) → HoldsMixed bytes old old
+written_old bytes None = tt
+written_old bytes (Some before) = (before, refl, mixed_old before bytes)
+
+written_new : (bytes : List ℕ) (old : Option (List ℕ)) → HoldsMixed bytes old (Some bytes)
+written_new bytes None = tt
+written_new bytes (Some before) = (bytes, refl, mixed_new before bytes)
+
+in_place_at_four : (bytes : List ℕ) (old held : Option (List ℕ)) → HoldsMixed bytes old held → MayHoldInPlace 4 bytes old held
+in_place_at_four bytes old held h = record {
+  unread = λ no. absurd (omega arith);
+  unwritten = λ four. h;
+  wanting = λ no. absurd (omega arith);
+}
+
+old_or_new : (bytes : List ℕ) (old held : Option (List ℕ)) → (held ≡ old) ⊎ (held ≡ Some bytes) → HoldsMixed bytes old held
+old_or_new bytes old held (inl same) = subst (HoldsMixed bytes old) (sym same) (written_old bytes old)
+old_or_new bytes old held (inr whole) = subst (HoldsMixed bytes old) (sym whole) (written_new bytes old)
+
+at_four : (stop : Stop) (in_place : Bool) (bytes : List ℕ) (old held : Option (List ℕ))
+    → MayHoldBytes in_place (stop_status stop) bytes old held → MayHoldBytes in_place 4 bytes old held
+at_four stop false bytes old held h = h
+at_four Read true bytes old held h = in_place_at_four bytes old held (old_or_new bytes old held (inl (h.unread refl)))
+at_four Memory true bytes old held h = in_place_at_four bytes old held (old_or_new bytes old held (h.wanting refl))
+at_four Write true bytes old held h = h
+
+-- what another stop may leave, a failed write may leave
+stopped_at_four : (stop : Stop) (w : Option FileWrite) (old held : Option (List ℕ)) → MayHold (stop_status stop) w old held → MayHold 4 w old held
+stopped_at_four stop None old held h = h
+stopped_at_four stop (Some w) old held h = at_four stop w.in_place w.bytes old held h
+
+whole_at_four : (in_place : Bool) (bytes : List ℕ) (old : Option (List ℕ)) → MayHoldBytes in_place 4 bytes old (Some bytes)
+whole_at_four false bytes old = inr (length bytes, ap Some (sym (take_all (length bytes) bytes (omega arith))))
+whole_at_four true bytes old = in_place_at_four bytes old (Some bytes) (written_new bytes old)
+
+-- and so may be left what is stated
+stated_at_four : (w : Option FileWrite) (old held : Option (List ℕ)) → held ≡ held_after w old → MayHold 4 w old held
+stated_at_four None old held h = h
+stated_at_four (Some w) old held h = subst (MayHoldBytes w.in_place 4 w.bytes old) (sym h) (whole_at_four w.in_place w.bytes old)
+
+may_hold_same : (status : ℕ) (w : Option FileWrite) (old : Option (List ℕ)) → MayHold status w old old
+may_hold_same status None old = refl
+may_hold_same status (Some w) old = bytes_same w.in_place
+  where
+    bytes_same : (in_place : Bool) → MayHoldBytes in_place status w.bytes old old
+    bytes_same true = record { unread = λ three. refl; unwritten = λ four. written_old w.bytes old; wanting = λ five. inl refl; }
+    bytes_same false = inl refl
+
+within_same : (bound : Option ℕ) (a : ℕ) → IsWithin bound a a
+within_same None a = tt
+within_same (Some n) a = omega arith
+
+-- a step that stops before it does anything
+pub nothing_done : {F D O E : Type 0} (f : FilesGhosts F D) (o : SinkGhosts O) (e : SinkGhosts E) (stated : Outcome) (stop : Stop) (a : F) (s : Outputs O E)
+    → Does f o e stated (Err stop) a a s s
+nothing_done f o e stated stop a s = record {
+  performs = record { writes = writes_nothing o e stop s stated.marks; value_is = tt; };
+  files = tt;
+  left = λ name. may_hold_same (stop_status stop) (write_of stated.writes name) (f.named a name);
+  asks = tt;
+  gives = within_same stated.gives (f.given a);
+}
+
+-- ---- The end
+
+late : (stop : Stop) → 3 ≤ stop_status stop
+late Read = lit≤ tt
+late Write = lit≤ tt
+late Memory = lit≤ tt
+
+module _ {F D O E : Type 0} (f : FilesGhosts F D) (o : SinkGhosts O) (e : SinkGhosts E) (stated : Outcome) (a b : F) where
+  abbrev HasFiles : Type 0
+  HasFiles = (name : List ℕ) → f.named b name ≡ held_after (write_of stated.writes name) (f.named a name)
+
+  abbrev HasLeft : Stop → Type 0
+  HasLeft stop = (name : List ℕ) → MayHold (stop_status stop) (write_of stated.writes name) (f.named a name) (f.named b name)
+
+  -- the files are those that the last step left, also where the last put failed
+  left_at : (r result : Result ℕ Stop) → OnKept result (result ≡ r) → OnOk r HasFiles → IfErr r HasLeft → IfErr result HasLeft
+  left_at r (Ok x) same files left = tt
+  left_at r (Err Read) same files left = subst (λ (q : Result ℕ Stop). IfErr q HasLeft) (sym same) left
+  left_at r (Err Memory) same files left = subst (λ (q : Result ℕ Stop). IfErr q HasLeft) (sym same) left
+  left_at (Ok x) (Err Write) same files left = λ name. stated_at_four (write_of stated.writes name) (f.named a name) (f.named b name) (files name)
+  left_at (Err stop) (Err Write) same files left = λ name. stopped_at_four stop (write_of stated.writes name) (f.named a name) (f.named b name) (left name)
+
+  delivers_by : (result : Result ℕ Stop) (c d p q : Option (List ℕ)) → Ended result c d p q stated.marks stated.status
+      → IfOk result (λ v. v < 3) → OnOk result HasFiles → IfErr result HasLeft
+      → Delivers stated (ended_status result) c d p q (f.named a) (f.named b)
+  delivers_by (Ok v) c d p q h small files left = record {
+    status_is = λ early. h.value_is;
+    whole = λ early. h.whole;
+    stopped = λ too_late. absurd (omega arith);
+    files = λ early. files;
+    left = λ too_late. absurd (omega arith);
+  }
+  delivers_by (Err stop) c d p q h small files left = record {
+    status_is = λ early. absurd (let l = late stop in omega (arith, early));
+    whole = λ early. absurd (let l = late stop in omega (arith, early));
+    stopped = λ is_late. h.stopped;
+    files = λ early. absurd (let l = late stop in omega (arith, early));
+    left = λ is_late. left;
+  }
+
+  done_at : (r result : Result ℕ Stop) (P : Type 0) → OnKept result (result ≡ r) → OnOk r P → OnOk result P
+  done_at r (Ok x) P same h = subst (λ (q : Result ℕ Stop). OnOk q P) (sym same) h
+  done_at r (Err stop) P same h = tt
+
+  small_at : (r result : Result ℕ Stop) → OnKept result (result ≡ r) → IfOk r (λ v. v < 3) → IfOk result (λ v. v < 3)
+  small_at r (Ok x) same h = subst (λ (q : Result ℕ Stop). IfOk q (λ v. v < 3)) (sym same) h
+  small_at r (Err stop) same h = tt
+
+  at_status : (result : Result ℕ Stop) (P : Type 0) → OnOk result P → ended_status result < 2 → P
+  at_status (Ok v) P h small = h
+  at_status (Err stop) P h small = absurd (let l = late stop in omega (arith, small))
+
+  at_three : (result : Result ℕ Stop) (P : Type 0) → IfOk result (λ v. v < 3) → OnRead result P → ended_status result ≡ 3 → P
+  at_three (Ok v) P small h is = absurd (omega arith)
+  at_three (Err Read) P small h is = h
+  at_three (Err Write) P small h is = cc
+  at_three (Err Memory) P small h is = cc
+
+  at_four_write : (result : Result ℕ Stop) (P : Type 0) → IfOk result (λ v. v < 3) → OnWrite result P → ended_status result ≡ 4 → P
+  at_four_write (Ok v) P small h is = absurd (omega arith)
+  at_four_write (Err Read) P small h is = cc
+  at_four_write (Err Write) P small h is = h
+  at_four_write (Err Memory) P small h is = cc
+
+  module _ (r result : Result ℕ Stop) (s t : Outputs O E) (out_old out_new out : O) (err_old err_new err : E)
+      (is_out : s.out.now ≡ out_old) (is_err : s.err.now ≡ err_old) (ends_out : out ≡ out_new) (ends_err : err ≡ err_new)
+      (h : Ends o e r result t out err) (small : IfOk r (λ v. v < 3)) where
+    pub run_delivers : (status : ℕ) → status ≡ ended_status result → s.page.now ≡ [] → Does f o e stated r a b s t
+        → Delivers stated status (o.wrote out_old) (o.wrote out_new) (e.wrote err_old) (e.wrote err_new) (f.named a) (f.named b)
+    run_delivers status is empty d =
+        subst (λ (n : ℕ). Delivers stated n (o.wrote out_old) (o.wrote out_new) (e.wrote err_old) (e.wrote err_new) (f.named a) (f.named b)) (sym is)
+        (delivers_by result (o.wrote out_old) (o.wrote out_new) (e.wrote err_old) (e.wrote err_new)
+        (ended_over o e s t out_old out_new out err_old err_new err empty is_out is_err ends_out ends_err r result stated.marks stated.status d.performs h)
+        (small_at r result h.answer small) (done_at r result HasFiles h.answer d.files) (left_at r result h.answer d.files d.left))
+
+    pub run_costs : Does f o e stated r a b s t → Costs stated (ended_status result) (f.taken a) (f.taken b) (f.given a) (f.given b)
+    run_costs d = record {
+      asks = at_status result (IsWithin stated.asks (f.taken a) (f.taken b)) (done_at r result (IsWithin stated.asks (f.taken a) (f.taken b)) h.answer d.asks);
+      gives = d.gives;
+    }
+
+    read_at : (q : Result ℕ Stop) (P : Type 0) → OnKept q (q ≡ r) → OnRead r P → OnRead q P
+    read_at (Err Read) P same k = subst (λ (x : Result ℕ Stop). OnRead x P) (sym same) k
+    read_at (Err Write) P same k = tt
+    read_at (Err Memory) P same k = tt
+    read_at (Ok v) P same k = tt
+
+    sinks : LeavesFiles f o e r a b s t → LeavesSinks o e out_old out_new err_old err_new
+    sinks l = rw (← is_out, ← is_err, ← ends_out, ← ends_err) (record {
+      out_rest = h.leaves.out_rest ∙ l.keeps.leaves.out_rest;
+      err_rest = h.leaves.err_rest ∙ l.keeps.leaves.err_rest;
+      out_later = omega (arith, h.leaves.out_later, l.keeps.leaves.out_later);
+      err_later = omega (arith, h.leaves.err_later, l.keeps.leaves.err_later);
+    })
+
+    abbrev Wrote : Type 0
+    Wrote = Rose (f.write_faults a) (f.write_faults b) ⊎ SinkRose o e s.out.now out s.err.now err
+
+    last_failed : LeavesSinks o e s.out.now t.out.now s.err.now t.err.now → SinkRose o e t.out.now out t.err.now err → Wrote
+    last_failed k (inl rose) = inr (inl (let p = k.out_later in omega arith))
+    last_failed k (inr rose) = inr (inr (let p = k.err_later in omega arith))
+
+    step_failed : Rose (f.write_faults a) (f.write_faults b) ⊎ SinkRose o e s.out.now t.out.now s.err.now t.err.now → Wrote
+    step_failed (inl rose) = inl rose
+    step_failed (inr (inl rose)) = inr (inl (let p = h.leaves.out_later in omega arith))
+    step_failed (inr (inr rose)) = inr (inr (let p = h.leaves.err_later in omega arith))
+
+    wrote_at : (q p : Result ℕ Stop) → LeavesSinks o e s.out.now t.out.now s.err.now t.err.now → OnWrite q (OnKept p (SinkRose o e t.out.now out t.err.now err))
+        → OnWrite p (Rose (f.write_faults a) (f.write_faults b) ⊎ SinkRose o e s.out.now t.out.now s.err.now t.err.now) → OnWrite q Wrote
+    wrote_at (Ok v) p k last step = tt
+    wrote_at (Err Read) p k last step = tt
+    wrote_at (Err Memory) p k last step = tt
+    wrote_at (Err Write) (Ok v) k last step = last_failed k last
+    wrote_at (Err Write) (Err Read) k last step = last_failed k last
+    wrote_at (Err Write) (Err Memory) k last step = last_failed k last
+    wrote_at (Err Write) (Err Write) k last step = step_failed step
+
+    pub run_leaves : LeavesFiles f o e r a b s t → RunLeaves f o e (ended_status result) a b out_old out_new err_old err_new
+    run_leaves l = record {
+      totals = l.totals;
+      sinks = sinks l;
+      read = at_three result (Rose (f.read_faults a) (f.read_faults b)) (small_at r result h.answer small) (read_at result (Rose (f.read_faults a) (f.read_faults b)) h.answer l.read);
+      write = rw (← is_out, ← is_err, ← ends_out, ← ends_err) (at_four_write result Wrote (small_at r result h.answer small) (wrote_at result r l.keeps.leaves h.cause l.write));
+    }

@@ -1,0 +1,68 @@
+-- What a step over a set of files leaves.
+use Rattle.std.specs.Prelude.{◌≡◌, ◌⊎◌, ◌≤◌, ◌<◌, ◌^◌, ◌-◌, ◌+◌, ℕ, List, [], ◌∷◌, Option, Some, None, IfSome, Result, IsTrue, codes}
+use Rattle.elf_outside.specs.Counts.{Rose}
+use Rattle.elf_outside.specs.Names.{Map, SameNames}
+use Rattle.elf_outside.specs.declared.sinks.Sink.{Ghosts as SinkGhosts}
+use Rattle.elf_outside.specs.declared.file_sets.Files.{Ghosts as FilesGhosts}
+use Rattle.tool_output.specs.declared.stops.Stop.{Stop}
+use Rattle.tool_output.specs.declared.outputs.Outputs.{Outputs}
+use Rattle.tool_output.specs.Reports.{Report, refusal}
+use Rattle.tool_output.specs.Steps.{KeepsSinks, OnRead, OnWrite, SinkRose}
+
+-- ---- What is said of names
+
+-- the report on a name: the one on its bytes, or that it is not there
+unfoldable pub report_on : List ℕ → (List ℕ → List ℕ → Report) → Map → List ℕ → Report
+report_on command report named name = on_held (named name)
+  where
+    on_held : Option (List ℕ) → Report
+    on_held (Some bytes) = report name bytes
+    on_held None = refusal command name (codes "not found")
+
+-- how many bytes are asked for at most to give it, where that is promised
+unfoldable pub asks_on : (List ℕ → Option ℕ) → Map → List ℕ → Option ℕ
+asks_on asks named name = of_held (named name)
+  where
+    of_held : Option (List ℕ) → Option ℕ
+    of_held (Some bytes) = asks bytes
+    of_held None = Some 0
+
+-- no total of a set of files falls, each file that was opened is closed again, and the set tells its map
+-- as before
+pub record Totals {F D : Type 0} (f : FilesGhosts F D) (old new : F) : Type 0 where
+  pub tells : f.tells new ≡ f.tells old
+  pub read_faults : f.read_faults old ≤ f.read_faults new
+  pub write_faults : f.write_faults old ≤ f.write_faults new
+  pub taken : f.taken old ≤ f.taken new
+  pub given : f.given old ≤ f.given new
+  pub live : f.live old < 2 ^ 64 - 8 → f.live new ≡ f.live old
+
+-- What a step over files leaves, and the causes of its stops: of Read a failed read of a file, of Write a
+-- failed write of a file or a failed put.
+pub record LeavesFiles {F D O E T : Type 0} (f : FilesGhosts F D) (o : SinkGhosts O) (e : SinkGhosts E)
+    (result : Result T Stop) (files_old files_new : F) (old new : Outputs O E) : Type 0 where
+  pub totals : Totals f files_old files_new
+  pub keeps : KeepsSinks o e old new
+  pub read : OnRead result (Rose (f.read_faults files_old) (f.read_faults files_new))
+  pub write : OnWrite result (Rose (f.write_faults files_old) (f.write_faults files_new)
+      ⊎ SinkRose o e old.out.now new.out.now old.err.now new.err.now)
+
+-- no file is written: every name is as before, and nothing is handed to writes
+pub record OnlyReads {F D : Type 0} (f : FilesGhosts F D) (old new : F) : Type 0 where
+  pub names : IsTrue (f.tells old) → SameNames (f.tells old) (f.named old) (f.tells new) (f.named new)
+  pub given : f.given new ≡ f.given old
+
+-- ---- Bounds on a count of bytes
+
+-- the count rose by no more than the bound, where there is one
+abbrev pub IsWithin : Option ℕ → ℕ → ℕ → Type 0
+IsWithin bound before now = IfSome bound (λ n. now ≤ before + n)
+
+-- the bound of two steps, one after another
+abbrev pub both_bounds : Option ℕ → Option ℕ → Option ℕ
+both_bounds (Some a) (Some b) = Some (a + b)
+both_bounds _ _ = None
+
+unfoldable pub all_bounds : List (Option ℕ) → Option ℕ
+all_bounds [] = Some 0
+all_bounds (b ∷ bs) = both_bounds b (all_bounds bs)

@@ -1,0 +1,15 @@
+//! How the text of a tool goes out: lines and messages, the two outputs and their page, and why a tool
+//! stops. Its definitions say what a tool reports, and how a run of the program ends.
+#![tactic(auto)]
+
+pub mod lines;
+pub mod messages;
+pub mod outputs;
+pub mod stops;
+#[cfg(test)]
+mod tests;
+
+pub use lines::Line;
+pub use messages::Message;
+pub use outputs::{Outputs, PAGE_SIZE, Side};
+pub use stops::Stop;
