@@ -74,7 +74,7 @@ unfolding header_of
 header_of_is o ok =
     let phdrs = ok.phdr_count in
     let sections = ok.section_count in
-    counted_is o.header (length o.phdrs) (length o.sections) ok.header (omega arith) (omega arith)
+    counted_is o.header (length o.phdrs) (length o.sections) o.header.shstrndx ok.header (omega arith) (omega arith) ok.header.shstrndx
 
 pub set_ehdr_keeps : (change : Ehdr → Ehdr) → ((h : Ehdr) → IsEhdr h → IsEhdr (change h)) → KeepsObject (set_ehdr change)
 set_ehdr_keeps change holds = looked_keeps IsObject ehdr (λ h. update_ehdr (change h)) (λ h o ok e.

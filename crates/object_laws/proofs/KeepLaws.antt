@@ -83,9 +83,9 @@ update_ehdr_keeps h is = edit_keeps IsObject _ (λ o. update_ehdr_refusal o h) (
 
 -- ---- Program headers
 
--- a header with other counts
-pub counted_is : (h : Ehdr) (m n : ℕ) → IsEhdr h → m < 2 ^ 32 → n < 2 ^ 32 → IsEhdr (record h { phnum = m; shnum = n })
-counted_is h m n is phnum shnum = record {
+-- a header with other counts and another string index
+pub counted_is : (h : Ehdr) (m n index : ℕ) → IsEhdr h → m < 2 ^ 32 → n < 2 ^ 32 → index < 2 ^ 32 → IsEhdr (record h { phnum = m; shnum = n; shstrndx = index })
+counted_is h m n index is phnum shnum shstrndx = record {
   osabi = is.osabi;
   abiversion = is.abiversion;
   etype = is.etype;
@@ -100,7 +100,7 @@ counted_is h m n is phnum shnum = record {
   phnum = phnum;
   shentsize = is.shentsize;
   shnum = shnum;
-  shstrndx = is.shstrndx;
+  shstrndx = shstrndx;
 }
 
 counted_fits : (h : Ehdr) (m n : ℕ) → IsTrue (ehdr_fits h) → IsTrue (ehdr_fits (record h { phnum = m; shnum = n }))
@@ -110,7 +110,7 @@ counted_fits h m n fitting = fitting
 phdrs_kept : (o : Object) (l : List Phdr) → IsObject o → length l ≤ 2 ^ 20 → IsObject (with_phdrs o l)
 unfolding with_phdrs
 phdrs_kept o l ok count = record {
-  header = counted_is o.header (length l) o.header.shnum ok.header (omega arith) ok.header.shnum;
+  header = counted_is o.header (length l) o.header.shnum o.header.shstrndx ok.header (omega arith) ok.header.shnum ok.header.shstrndx;
   fitting = counted_fits o.header (length l) o.header.shnum ok.fitting;
   phnum = refl;
   shnum = ok.shnum;
@@ -232,7 +232,7 @@ update_shdr_keeps s h is = edit_keeps IsObject _ (λ o. update_shdr_refusal o s 
 -- other sections
 sections_more : (o : Object) (l : List Section) → IsObject o → All (IsSection o.header.class) l → length l ≤ 2 ^ 20 → (l ≡ [] → o.header.shstrndx ≡ 0) → IsObject (with_sections o l)
 sections_more o l ok each count index = record {
-  header = counted_is o.header o.header.phnum (length l) ok.header ok.header.phnum (omega arith);
+  header = counted_is o.header o.header.phnum (length l) o.header.shstrndx ok.header ok.header.phnum (omega arith) ok.header.shstrndx;
   fitting = counted_fits o.header o.header.phnum (length l) ok.fitting;
   phnum = ok.phnum;
   shnum = refl;
@@ -382,9 +382,10 @@ others_marked (x ∷ l) (suc i) others = ⊎_elim
     (λ h. let same = set_past l i (record (get_or l i home_piece) { marked = true }) h in subst (All IsOwn) (sym same) others)
     (cases_lt i (length l))
 
--- an object with other marks, and with another layout
-marks_kept : (o : Object) (header segments whole : Bool) → IsObject o → IsObject (record o { header_marked = header; segments_marked = segments; marked = whole })
-marks_kept o header segments whole ok = record {
+-- an object with other marks, another layout and another fill byte
+marks_kept : (o : Object) (header segments whole layout : Bool) (fill : ℕ) → fill < 2 ^ 8 → IsObject o
+    → IsObject (record o { header_marked = header; segments_marked = segments; marked = whole; layout = layout; fill = fill })
+marks_kept o header segments whole layout fill small ok = record {
   header = ok.header;
   fitting = ok.fitting;
   phnum = ok.phnum;
@@ -397,32 +398,18 @@ marks_kept o header segments whole ok = record {
   string_index = ok.string_index;
   base = ok.base;
   base_length = ok.base_length;
-  fill = ok.fill;
+  fill = small;
 }
 
 layout_kept : (o : Object) (layout : Bool) → IsObject o → IsObject (with_layout o layout)
-layout_kept o layout ok = record {
-  header = ok.header;
-  fitting = ok.fitting;
-  phnum = ok.phnum;
-  shnum = ok.shnum;
-  pad = ok.pad;
-  pad_bytes = ok.pad_bytes;
-  phdr_count = ok.phdr_count;
-  sections = ok.sections;
-  section_count = ok.section_count;
-  string_index = ok.string_index;
-  base = ok.base;
-  base_length = ok.base_length;
-  fill = ok.fill;
-}
+layout_kept o layout ok = marks_kept o o.header_marked o.segments_marked o.marked layout o.fill ok.fill ok
 
 with_mark_is : (o : Object) (p : Part) → IsObject o → IsObject (with_mark o p)
 unfolding with_mark with_piece_at piece_at
-with_mark_is o part.Object ok = marks_kept o o.header_marked o.segments_marked true ok
-with_mark_is o part.Table ok = marks_kept o o.header_marked o.segments_marked true ok
-with_mark_is o part.Header ok = marks_kept o true o.segments_marked o.marked ok
-with_mark_is o part.Segments ok = marks_kept o o.header_marked true o.marked ok
+with_mark_is o part.Object ok = marks_kept o o.header_marked o.segments_marked true o.layout o.fill ok.fill ok
+with_mark_is o part.Table ok = marks_kept o o.header_marked o.segments_marked true o.layout o.fill ok.fill ok
+with_mark_is o part.Header ok = marks_kept o true o.segments_marked o.marked o.layout o.fill ok.fill ok
+with_mark_is o part.Segments ok = marks_kept o o.header_marked true o.marked o.layout o.fill ok.fill ok
 with_mark_is o (part.Section s) ok =
     let old = section_at_is o s ok in
     section_kept o s (record (section_at o s) { marked = true }) ok (record {
@@ -454,18 +441,5 @@ flag_keeps p set bits = edit_keeps IsObject _ (λ o. flag_refusal o p set bits) 
 
 pub set_fill_keeps : (byte : ℕ) → byte < 2 ^ 8 → KeepsObject (set_fill byte)
 unfolding with_fill
-set_fill_keeps byte small = edit_keeps IsObject _ (λ o. None) (λ o. tt) (λ o. with_fill o byte) (λ o ok passed. record {
-  header = ok.header;
-  fitting = ok.fitting;
-  phnum = ok.phnum;
-  shnum = ok.shnum;
-  pad = ok.pad;
-  pad_bytes = ok.pad_bytes;
-  phdr_count = ok.phdr_count;
-  sections = ok.sections;
-  section_count = ok.section_count;
-  string_index = ok.string_index;
-  base = ok.base;
-  base_length = ok.base_length;
-  fill = small;
-})
+set_fill_keeps byte small = edit_keeps IsObject _ (λ o. None) (λ o. tt) (λ o. with_fill o byte)
+    (λ o ok passed. marks_kept o o.header_marked o.segments_marked o.marked o.layout byte small ok)

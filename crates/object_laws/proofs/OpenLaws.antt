@@ -32,7 +32,7 @@ use Rattle.elf_ident.specs.Reading.{IsFittingFront, IsCounted}
 use Rattle.object_laws.specs.Laws.{BegunFits}
 use Rattle.elf_object.proofs.PassedLaws.{not_refused, not_not, passed_one}
 use Rattle.elf_object.specs.Valid.{AreBytes, IsHome, IsPiece, IsSection, IsObject}
-use Rattle.object_laws.proofs.KeepLaws.{home_piece_is, zero_shdr_is}
+use Rattle.object_laws.proofs.KeepLaws.{counted_is, home_piece_is, zero_shdr_is}
 use Rattle.object_laws.proofs.RangeLaws.{no_field, native_range, field_range, number_in_below, items_range}
 use Rattle.object_laws.proofs.PlacedLaws.{ehdr_fits_all, shdr_fits_all}
 
@@ -340,23 +340,7 @@ front_is image head are is fitting seven pad counts early late =
     let phdr_count = length-items_of (phdr_of class order) (phdr_size class) head.counts.phnum phdr_bytes in
     let shdr_count = length-items_of (shdr_of class order) (shdr_size class) head.counts.shnum shdr_bytes in (
       record {
-        header = record {
-          osabi = is.osabi;
-          abiversion = is.abiversion;
-          etype = is.etype;
-          machine = is.machine;
-          version = is.version;
-          entry = is.entry;
-          phoff = is.phoff;
-          shoff = is.shoff;
-          flags = is.flags;
-          ehsize = is.ehsize;
-          phentsize = is.phentsize;
-          phnum = omega arith;
-          shentsize = is.shentsize;
-          shnum = omega arith;
-          shstrndx = omega arith;
-        };
+        header = counted_is head.header head.counts.phnum head.counts.shnum head.counts.shstrndx is (omega arith) (omega arith) (omega arith);
         fitting = fitting;
         version = version;
         phdrs = items_range IsPhdr (phdr_of class order) (phdr_size class) head.counts.phnum phdr_bytes (λ bytes each. (phdr_range class order bytes each).0) phdrs_are;

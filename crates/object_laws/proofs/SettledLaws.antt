@@ -22,7 +22,7 @@ use Rattle.elf_object.specs.Blocks.{Block, block_end}
 use Rattle.elf_object.specs.Object.{Object, Section, home_piece, absent_section, section_at, header_of, has_file_bytes, occupies_file, is_dirty}
 use Rattle.elf_object.specs.Open.{home_len, home_of, home_bytes, opened_section, front_in_image, standing_header, begun, begun_or_refused, opened}
 use Rattle.elf_object.specs.Joined.{file_bytes}
-use Rattle.elf_object.specs.Derived.{where_any, derived_header, written_header, numbered_shdr}
+use Rattle.elf_object.specs.Derived.{where_any, derived_header, written_phnum, written_shnum, written_shstrndx, written_header, numbered_shdr}
 use Rattle.elf_object.specs.Layout.{section_numbers, places_of, table_place, placed_header, placed_shdr, placed_section, placed_by, placed}
 use Rattle.elf_object.specs.Image.{front_blocks, section_block, part_blocks, image_length, image}
 use Rattle.elf_object.specs.Refusal.{too_many, unfit_segment, unfit_item, missing_home, content_refusal, refusal}
@@ -30,7 +30,7 @@ use Rattle.elf_object.specs.Settled.{settled_section, settled_over, settle}
 use Rattle.elf_object.specs.Valid.{IsSection, IsObject, as_opened}
 use Rattle.object_laws.proofs.ImageLaws.{section_at-placed, joined-none, length-image, image-clean, placed-dirty, size-placed}
 use Rattle.elf_object.proofs.PassedLaws.{none_first, none_rest, not_not}
-use Rattle.object_laws.proofs.KeepLaws.{section_at_is}
+use Rattle.object_laws.proofs.KeepLaws.{counted_is, section_at_is}
 use Rattle.object_laws.proofs.PlacedLaws.{ehdr_fits_each, ehdr_fits_all, placed_is, update_passes}
 use Rattle.object_laws.proofs.StandLaws.{parts_are_apart, part_in_image, get_each, section_count-placed, joined-placed, where_some}
 use Rattle.object_laws.proofs.AgainLaws.{stype-placed}
@@ -48,23 +48,7 @@ narrow_is h is fitting =
     let shnum = small (nat_lt h.shnum 0xff00) h.shnum 0 0xff00 refl (λ e. ltb-true h.shnum 0xff00 e) (lit≤ tt) (lit≤ tt) in
     let shstrndx = small (nat_lt h.shstrndx 0xff00) h.shstrndx 0xffff 0xff00 refl (λ e. ltb-true h.shstrndx 0xff00 e) (lit≤ tt) (lit≤ tt) in
     let each = ehdr_fits_each h fitting in (
-      record {
-        osabi = is.osabi;
-        abiversion = is.abiversion;
-        etype = is.etype;
-        machine = is.machine;
-        version = is.version;
-        entry = is.entry;
-        phoff = is.phoff;
-        shoff = is.shoff;
-        flags = is.flags;
-        ehsize = is.ehsize;
-        phentsize = is.phentsize;
-        phnum = omega arith;
-        shentsize = is.shentsize;
-        shnum = omega arith;
-        shstrndx = omega arith;
-      },
+      counted_is h (written_phnum h.phnum) (written_shnum h.shnum) (written_shstrndx h.shstrndx) is (omega arith) (omega arith) (omega arith),
       ehdr_fits_all (written_header h) (record { entry = each.entry; phoff = each.phoff; shoff = each.shoff }),
       record { phnum = phnum; shnum = shnum; shstrndx = shstrndx },
     )
