@@ -45,7 +45,7 @@ pub fn run_command<F: Files, O: Sink, E: Sink>(
 ) -> Result<u8, Stop>
     ensures does { (IsTrue (is_built command.now) → IsTrue (F.tells files.old)) →
         Does F.Files O.Sink E.Sink (command_outcome command.now (F.named files.old)) result
-            files.old files.new outputs.old outputs.new }
+        files.old files.new outputs.old outputs.new }
     ensures status { IfOk result (λ status. status < 2) }
     ensures untouched { is_built command.now ≡ false → (files.new ≡ files.old) × OnRead result ⊥ }
     ensures leaves { LeavesFiles F.Files O.Sink E.Sink result files.old files.new outputs.old outputs.new }

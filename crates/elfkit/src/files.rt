@@ -90,7 +90,7 @@ pub fn each_file<T: FileTool, F: Files, O: Sink, E: Sink>(
         (reports_of (report_on (T.command tool.now) (T.report tool.now) (F.named files.old)) names.now) }
     ensures asks { IsTrue (F.tells files.old) → OnOk result
         (IsWithin (all_bounds (map (asks_on (T.asks tool.now) (F.named files.old)) names.now))
-            (F.taken files.old) (F.taken files.new)) }
+        (F.taken files.old) (F.taken files.new)) }
     ensures reads { OnlyReads F.Files files.old files.new }
     ensures leaves { LeavesFiles F.Files O.Sink E.Sink result files.old files.new outputs.old outputs.new }
 {

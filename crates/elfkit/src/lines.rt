@@ -5,8 +5,8 @@ ghost use Rattle.tool_output.specs.Marks.{said};
 ghost use Rattle.tool_output.specs.Steps.{Performs, LeavesOutputs};
 ghost use Rattle.elfkit.specs.Lines.{title, line_of};
 
-use elf_types::{ElfError, Octets, put_bytes, put_text};
 use elf_outside::Sink;
+use elf_types::{ElfError, Octets, put_bytes, put_text};
 use tool_output::{Line, Outputs, Side, Stop};
 
 /// `File: FILE`, the line before what is shown of a file.

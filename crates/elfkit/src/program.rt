@@ -39,7 +39,7 @@ fn run_words<F: Files, O: Sink, E: Sink>(
 ) -> Result<u8, Stop>
     ensures does { (IsTrue (opens_files (reading words.now)) → IsTrue (F.tells files.old)) →
         Does F.Files O.Sink E.Sink (program words.now (F.named files.old)) result
-            files.old files.new outputs.old outputs.new }
+        files.old files.new outputs.old outputs.new }
     ensures status { IfOk result (IsStatusOf (reading words.now)) }
     ensures untouched { opens_files (reading words.now) ≡ false → (files.new ≡ files.old) × OnRead result ⊥ }
     ensures leaves { LeavesFiles F.Files O.Sink E.Sink result files.old files.new outputs.old outputs.new }

@@ -10,7 +10,9 @@ ghost use Rattle.readelf_tool.specs.Segments.{flag_letter, other_flags, flags_te
 use crate::fields::put_name_or_hex;
 use elf_outside::Sink;
 use elf_types::constants::{PF_R, PF_W, PF_X};
-use elf_types::{ElfError, Octets, Phdr, put_bytes, put_decimal, put_hex, put_text, segment_type_name};
+use elf_types::{
+    ElfError, Octets, Phdr, put_bytes, put_decimal, put_hex, put_text, segment_type_name,
+};
 use tool_output::{Line, Outputs, Side, Stop};
 
 /// The letter of a flag's bit, or a dash where it is not set.
@@ -18,11 +20,7 @@ use tool_output::{Line, Outputs, Side, Stop};
 fn flag_letter(flags: u32, bit: u32, letter: u8) -> u8
     ensures { result ≡ flag_letter flags bit letter }
 {
-    if flags & bit == 0 {
-        b'-'
-    } else {
-        letter
-    }
+    if flags & bit == 0 { b'-' } else { letter }
 }
 
 /// Appends the bits that have no letter.

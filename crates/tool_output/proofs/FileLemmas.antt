@@ -106,7 +106,7 @@ module _ {F D O E : Type 0} (f : FilesGhosts F D) (o : SinkGhosts O) (e : SinkGh
   told_after a b h told = (h.names told).same_tells ∙ told
 
   pub only_reads_none : (a : F) → OnlyReads f a a
-  only_reads_none a = record { names = λ told. record { same_tells = refl; same = λ name. refl; }; given = refl; }
+  only_reads_none a = record { names = λ told. record { same_tells = refl; same = λ name. refl }; given = refl }
 
   pub only_reads_then : (a b c : F) → OnlyReads f a b → OnlyReads f b c → OnlyReads f a c
   only_reads_then a b c h k = record {
@@ -142,7 +142,7 @@ module _ {F D O E : Type 0} (f : FilesGhosts F D) (o : SinkGhosts O) (e : SinkGh
     same_out = refl;
     same_err = refl;
     same_page = refl;
-    leaves = record { out_rest = refl; err_rest = refl; out_later = omega arith; err_later = omega arith; };
+    leaves = record { out_rest = refl; err_rest = refl; out_later = omega arith; err_later = omega arith };
   }
 
   pub keeps_then : (s t u : Outputs O E) → KeepsSinks o e s t → KeepsSinks o e t u → KeepsSinks o e s u

@@ -24,7 +24,7 @@ module _ {F D O E : Type 0} (f : FilesGhosts F D) (o : SinkGhosts O) (e : SinkGh
   unfolding outcome_of write_of
   reads_done report bound x status is told reads within h = record {
     performs = record {
-      writes = record { ok = h.writes.ok; stopped = tt; lost = tt; };
+      writes = record { ok = h.writes.ok; stopped = tt; lost = tt };
       value_is = is ∙ ap (λ (y : Bool). cond y 1 0) h.value_is;
     };
     files = (reads.names told).same;
@@ -38,7 +38,7 @@ module _ {F D O E : Type 0} (f : FilesGhosts F D) (o : SinkGhosts O) (e : SinkGh
       → Does f o e (outcome_of report bound) (Err stop) a b s t
   unfolding outcome_of write_of
   reads_stopped report bound stop told reads h = record {
-    performs = record { writes = stops_as o e stop s t report.marks h.writes; value_is = tt; };
+    performs = record { writes = stops_as o e stop s t report.marks h.writes; value_is = tt };
     files = tt;
     left = (reads.names told).same;
     asks = tt;
@@ -49,16 +49,16 @@ module _ {F D O E : Type 0} (f : FilesGhosts F D) (o : SinkGhosts O) (e : SinkGh
   pub says_done : (marks : List Mark) (status : ℕ) (result : Result ℕ Stop) → Performs o e result s t marks status
       → Does f o e (only_says marks status) result a a s t
   unfolding only_says write_of
-  says_done marks status (Ok x) h = record { performs = h; files = λ name. refl; left = tt; asks = omega arith; gives = omega arith; }
-  says_done marks status (Err stop) h = record { performs = h; files = tt; left = λ name. refl; asks = tt; gives = omega arith; }
+  says_done marks status (Ok x) h = record { performs = h; files = λ name. refl; left = tt; asks = omega arith; gives = omega arith }
+  says_done marks status (Err stop) h = record { performs = h; files = tt; left = λ name. refl; asks = tt; gives = omega arith }
 
 -- ---- A file of a run that stopped
 
 mixed_old : (old new : List ℕ) → IsMixed old new old
-mixed_old old new = record { len = inl refl; bytes = λ k lt. inl (lt, refl); }
+mixed_old old new = record { len = inl refl; bytes = λ k lt. inl (lt, refl) }
 
 mixed_new : (old new : List ℕ) → IsMixed old new new
-mixed_new old new = record { len = inr refl; bytes = λ k lt. inr (inl (lt, refl)); }
+mixed_new old new = record { len = inr refl; bytes = λ k lt. inr (inl (lt, refl)) }
 
 abbrev HoldsMixed : List ℕ → Option (List ℕ) → Option (List ℕ) → Type 0
 HoldsMixed bytes old held = IfSome old (λ before. (now : List ℕ) × (held ≡ Some now) × IsMixed before bytes now)
@@ -108,7 +108,7 @@ may_hold_same status None old = refl
 may_hold_same status (Some w) old = bytes_same w.in_place
   where
     bytes_same : (in_place : Bool) → MayHoldBytes in_place status w.bytes old old
-    bytes_same true = record { unread = λ three. refl; unwritten = λ four. written_old w.bytes old; wanting = λ five. inl refl; }
+    bytes_same true = record { unread = λ three. refl; unwritten = λ four. written_old w.bytes old; wanting = λ five. inl refl }
     bytes_same false = inl refl
 
 within_same : (bound : Option ℕ) (a : ℕ) → IsWithin bound a a
@@ -119,7 +119,7 @@ within_same (Some n) a = omega arith
 pub nothing_done : {F D O E : Type 0} (f : FilesGhosts F D) (o : SinkGhosts O) (e : SinkGhosts E) (stated : Outcome) (stop : Stop) (a : F) (s : Outputs O E)
     → Does f o e stated (Err stop) a a s s
 nothing_done f o e stated stop a s = record {
-  performs = record { writes = writes_nothing o e stop s stated.marks; value_is = tt; };
+  performs = record { writes = writes_nothing o e stop s stated.marks; value_is = tt };
   files = tt;
   left = λ name. may_hold_same (stop_status stop) (write_of stated.writes name) (f.named a name);
   asks = tt;

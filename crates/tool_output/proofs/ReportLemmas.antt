@@ -40,7 +40,7 @@ module _ {O E : Type 0} (o : Ghosts O) (e : Ghosts E) where
 
   -- a step that stops before it writes
   pub reports_nothing : (s : Outputs O E) (stop : Stop) (a : Report) → Reports o e (Err stop) s s a
-  reports_nothing s stop a = record { writes = writes_nothing o e stop s a.marks; value_is = tt; }
+  reports_nothing s stop a = record { writes = writes_nothing o e stop s a.marks; value_is = tt }
 
   module _ (s t u : Outputs O E) (a b : Report) where
     -- two reports

@@ -123,12 +123,18 @@ fn show_files<F: Files, O: Sink, E: Sink>(
 ) -> Result<u8, Stop>
     ensures does { IsTrue (F.tells files.old) →
         Does F.Files O.Sink E.Sink (readelf_files parts.now names.now (F.named files.old)) result
-            files.old files.new outputs.old outputs.new }
+        files.old files.new outputs.old outputs.new }
     ensures status { IfOk result (λ status. status < 2) }
     ensures leaves { LeavesFiles F.Files O.Sink E.Sink result files.old files.new outputs.old outputs.new }
 {
     let many = names.len() > 1;
-    let refused = each_file(alloc, &ReadelfTool { parts, many }, names.as_slice(), files, outputs)?;
+    let refused = each_file(
+        alloc,
+        &ReadelfTool { parts, many },
+        names.as_slice(),
+        files,
+        outputs,
+    )?;
     Ok(status_of(refused))
 }
 
@@ -142,7 +148,7 @@ pub fn readelf<F: Files, O: Sink, E: Sink>(
 ) -> Result<u8, Stop>
     ensures does { (IsTrue (are_built parts.now) → IsTrue (F.tells files.old)) →
         Does F.Files O.Sink E.Sink (readelf_outcome parts.now names.now (F.named files.old)) result
-            files.old files.new outputs.old outputs.new }
+        files.old files.new outputs.old outputs.new }
     ensures status { IfOk result (λ status. status < 2) }
     ensures untouched { are_built parts.now ≡ false → (files.new ≡ files.old) × OnRead result ⊥ }
     ensures leaves { LeavesFiles F.Files O.Sink E.Sink result files.old files.new outputs.old outputs.new }

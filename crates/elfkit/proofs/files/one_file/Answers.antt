@@ -7,8 +7,11 @@ pub returns-in-Err-NotThere-clause-reports : goal.returns-in-Err-NotThere-clause
 returns-in-Err-NotThere-clause-reports g c = λ told.
     let t = g.T.FileTool in
     let absent = (c.in-Err-NotThere.ensures.not_there told).0 (search rules) in
-    rw (report_absent (t.command c.args.tool.now) (t.report c.args.tool.now) (t.asks c.args.tool.now) (g.F.Files.named c.args.files.now) c.args.name.now absent,
-    ← c.command.ensures, ← c.as_bytes.ensures.value) c.refuse.ensures.reports
+    rw (
+      report_absent (t.command c.args.tool.now) (t.report c.args.tool.now) (t.asks c.args.tool.now) (g.F.Files.named c.args.files.now) c.args.name.now absent,
+      ← c.command.ensures,
+      ← c.as_bytes.ensures.value,
+    ) c.refuse.ensures.reports
 
 pub returns-in-Err-Failed-clause-reports : goal.returns-in-Err-Failed-clause-reports
 returns-in-Err-Failed-clause-reports g c = λ told. reports_nothing g.O.Sink g.E.Sink c.args.outputs.now _ _

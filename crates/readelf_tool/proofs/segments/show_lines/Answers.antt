@@ -8,9 +8,11 @@ pub loop-i-init : goal.loop-i-init
 loop-i-init g c = (shown_none segment_line g.O.Sink g.E.Sink c.args.phdrs.now c.args.outputs.now, search rules)
 
 pub loop-i-preserved : goal.loop-i-preserved
-loop-i-preserved g c =
-    (shown_more segment_line g.O.Sink g.E.Sink c.args.phdrs.now _ c.args.outputs.now c.loop-i.outputs _ c.loop-i.i _ c.loop-i-test.true (search rules)
-    c.loop-i.invariant.0 c.in_ok-put.ensures.writes, search rules)
+loop-i-preserved g c = (
+  shown_more segment_line g.O.Sink g.E.Sink c.args.phdrs.now _ c.args.outputs.now c.loop-i.outputs _ c.loop-i.i _ c.loop-i-test.true (search rules)
+      c.loop-i.invariant.0 c.in_ok-put.ensures.writes,
+  search rules,
+)
 
 pub returns-in_err-put-clause-reports : goal.returns-in_err-put-clause-reports
 returns-in_err-put-clause-reports g c =
