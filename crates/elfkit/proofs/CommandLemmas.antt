@@ -1,5 +1,5 @@
 -- Commands by their words.
-use Rattle.std.proofs.Common.{◌≡◌, ◌≢◌, ◌<◌, false, List, ℕ, Option, Result, Ok, Err, IfOk, IfErr, refl, arith}
+use Rattle.std.proofs.Common.{◌≡◌, ◌≢◌, ◌<◌, Bool, true, false, List, ℕ, Option, Result, Ok, Err, IfOk, IfErr, refl, arith, lit<}
 use Rattle.elf_outside.specs.Names.{Map}
 use Rattle.tool_output.specs.declared.stops.Stop.{Stop}
 use Rattle.elf_outside.specs.declared.sinks.Sink.{Ghosts as SinkGhosts}
@@ -7,8 +7,12 @@ use Rattle.elf_outside.specs.declared.file_sets.Files.{Ghosts as FilesGhosts}
 use Rattle.tool_output.specs.declared.outputs.Outputs.{Outputs}
 use Rattle.tool_output.specs.declared.outputs.Side.TheVariants.{Error}
 use Rattle.tool_output.specs.Marks.{said}
-use Rattle.tool_output.specs.Steps.{Performs}
+use Rattle.tool_output.specs.Steps.{Writes}
+use Rattle.tool_output.specs.declared.statuses.Status.{Status}
+use Rattle.tool_output.specs.Statuses.{status_code, refused_status}
 use Rattle.tool_output.specs.Outcomes.{Does, Delivers}
+use Rattle.tool_output.specs.declared.statuses.Status.TheVariants.{BadWords}
+use Rattle.tool_output.proofs.StepLemmas.{stops_as, writes_went}
 use Rattle.tool_output.proofs.OutcomeLemmas.{says_done}
 use Rattle.tool_text.specs.Usages.{usage_line}
 use Rattle.tool_text.specs.declared.usages.Usage.{Usage}
@@ -25,12 +29,27 @@ unfolding command_outcome
 outcome_of_others (Readelf parts names) named other = absurd (other parts names refl)
 outcome_of_others _ named other = refl
 
+-- a form that is not built ends with 1
+pub status_of_refusal : (result : Result Bool Stop) → IfOk result (λ refused. refused ≡ true) → IfOk result (λ refused. refused_status refused ≡ 1)
+status_of_refusal (Ok refused) h = rw h refl
+status_of_refusal (Err stop) h = tt
+
 -- the usage line of words that are refused
-pub usage_done : {F D O E : Type 0} (f : FilesGhosts F D) (o : SinkGhosts O) (e : SinkGhosts E) (words : List (List ℕ)) (usage : Usage) (named : Map) (text : List ℕ)
-    (result : Result ℕ Stop) (a : F) (s t : Outputs O E) → reading words ≡ Err usage → text ≡ usage_line usage
-    → Performs o e result s t (said Error (line_of text)) 2 → Does f o e (program words named) result a a s t
-unfolding program outcome_by usage_outcome says
-usage_done f o e words usage named text result a s t is line h = rw is (says_done f o e a a s t (said Error (line_of (usage_line usage))) 2 result (rw line at h))
+abbrev pub bad_words : {T : Type 0} → Result T Stop → Result Status Stop
+bad_words (Ok said_so) = Ok BadWords
+bad_words (Err stop) = Err stop
+
+module _ {F D O E T : Type 0} (f : FilesGhosts F D) (o : SinkGhosts O) (e : SinkGhosts E) (usage : Usage) (named : Map) (a : F) (s t : Outputs O E) where
+  does_usage : (result : Result T Stop) → Writes o e result s t (said Error (line_of (usage_line usage)))
+      → Does f o e status_code (usage_outcome usage) (bad_words result) a a s t
+  unfolding usage_outcome says
+  does_usage (Ok said_so) h = says_done f o e a a s t status_code _ 2 (Ok BadWords) (writes_went o e BadWords s t _ h.ok) refl
+  does_usage (Err stop) h = says_done f o e a a s t status_code _ 2 (Err stop) (stops_as o e stop s t _ h) tt
+
+  pub usage_done : (words : List (List ℕ)) (text : List ℕ) (result : Result T Stop) → reading words ≡ Err usage → text ≡ usage_line usage
+      → Writes o e result s t (said Error (line_of text)) → Does f o e status_code (program words named) (bad_words result) a a s t
+  unfolding program outcome_by
+  usage_done words text result is line h = rw is (does_usage result (rw line at h))
 
 -- words that are refused open no file
 pub on_usage : (r : Result Command Usage) (status : ℕ) (a b c d : Option (List ℕ)) (old new : Map)
@@ -40,7 +59,7 @@ on_usage (Ok command) status a b c d old new h = tt
 on_usage (Err usage) status a b c d old new h = h refl
 
 -- no status of a step is 3 or more
-pub below_three : (r : Result Command Usage) (answer : Result ℕ Stop) → IfOk answer (IsStatusOf r) → IfOk answer (λ status. status < 3)
+pub below_three : (r : Result Command Usage) (answer : Result Status Stop) → IfOk answer (IsStatusOf r) → IfOk answer (λ status. status_code status < 3)
 below_three (Ok command) (Ok status) h = omega (arith, h)
-below_three (Err usage) (Ok status) h = omega (arith, h)
+below_three (Err usage) (Ok status) h = rw h (lit< tt)
 below_three r (Err stop) h = tt

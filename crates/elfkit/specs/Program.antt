@@ -1,6 +1,9 @@
 -- What the program does, by the words and the bytes of the files.
 use Rattle.std.specs.Prelude.{◌≡◌, ◌<◌, ℕ, List, Bool, true, false, IsTrue, Result, Ok, Err}
 use Rattle.elf_outside.specs.Names.{Map}
+use Rattle.tool_output.specs.declared.statuses.Status.{Status}
+use Rattle.tool_output.specs.declared.statuses.Status.TheVariants.{BadWords}
+use Rattle.tool_output.specs.Statuses.{status_code}
 use Rattle.tool_output.specs.Outcomes.{Outcome}
 use Rattle.tool_text.specs.declared.usages.Usage.{Usage}
 use Rattle.tool_text.specs.declared.commands.Command.{Command}
@@ -38,9 +41,9 @@ unfoldable pub opens_files : Result Command Usage → Bool
 opens_files (Ok command) = is_built command
 opens_files (Err usage) = false
 
--- ---- The statuses below 3
+-- ---- The statuses of a run that comes to its end
 
--- words that are refused end with 2, and those that are read do not
-abbrev pub IsStatusOf : Result Command Usage → ℕ → Type 0
-IsStatusOf (Ok command) status = status < 2
-IsStatusOf (Err usage) status = status ≡ 2
+-- words that are refused end with their own, and those that are read do not
+abbrev pub IsStatusOf : Result Command Usage → Status → Type 0
+IsStatusOf (Ok command) status = status_code status < 2
+IsStatusOf (Err usage) status = status ≡ BadWords

@@ -10,7 +10,7 @@ use Rattle.elf_ident.specs.FileKinds.{file_kind}
 use Rattle.elf_ident.specs.declared.fronts.Front.{Front}
 use Rattle.elf_ident.specs.Front.{front, front_bytes}
 use Rattle.tool_output.specs.Files.{report_on, asks_on, all_bounds}
-use Rattle.tool_output.specs.Outcomes.{Outcome, outcome_of}
+use Rattle.tool_output.specs.Outcomes.{Outcome, report_outcome}
 use Rattle.tool_output.specs.Reports.{Report, no_report, shown, refusal, joined, reports_of}
 use Rattle.tool_text.specs.declared.options.ReadelfParts.{ReadelfParts}
 use Rattle.readelf_tool.specs.Front.{readelf_report}
@@ -49,7 +49,7 @@ are_built parts =
 -- the files in their order
 unfoldable pub readelf_files : ReadelfParts → List (List ℕ) → Map → Outcome
 readelf_files parts names named =
-    outcome_of
+    report_outcome
     (reports_of (report_on (codes "readelf") (file_report parts (nat_lt 1 (length names))) named) names)
     (all_bounds (map (asks_on (λ image. Some (file_asks image)) named) names))
 

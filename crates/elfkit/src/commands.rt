@@ -1,9 +1,10 @@
 //! The commands, one file each, and the answer to those that are not built yet.
 
-ghost use Rattle.std.specs.Prelude.{false, ◌≡◌, ◌<◌, codes, IfOk, IsTrue, if◌then◌else◌};
+ghost use Rattle.std.specs.Prelude.{◌≡◌, true, false, codes, IsTrue};
 ghost use Rattle.tool_output.specs.Marks.{said};
 ghost use Rattle.tool_output.specs.Steps.{Performs, OnRead, LeavesOutputs};
 ghost use Rattle.tool_output.specs.Files.{LeavesFiles};
+ghost use Rattle.tool_output.specs.Statuses.{refused_status};
 ghost use Rattle.tool_output.specs.Outcomes.{Does};
 ghost use Rattle.elfkit.specs.Lines.{line_of};
 ghost use Rattle.elfkit.specs.Program.{command_outcome, is_built};
@@ -17,23 +18,14 @@ use std::alloc::Global;
 use tool_output::{Outputs, Side, Stop};
 use tool_text::Command;
 
-/// The status where a form is not built, or something was refused.
-const REFUSED: u8 = 1;
-
-/// Says that a form is not built.
-fn not_built<O: Sink, E: Sink>(outputs: &mut Outputs<'_, O, E>) -> Result<u8, Stop>
+/// Says that a form is not built, which counts as a refusal.
+fn not_built<O: Sink, E: Sink>(outputs: &mut Outputs<'_, O, E>) -> Result<bool, Stop>
     ensures performs { Performs O.Sink E.Sink result outputs.old outputs.new
-        (said Side.Error (line_of (codes "elfkit: form not built"))) 1 }
+        (said Side.Error (line_of (codes "elfkit: form not built"))) true }
     ensures leaves { LeavesOutputs O.Sink E.Sink ⊥ result outputs.old outputs.new }
 {
-    say(outputs, "elfkit: form not built", REFUSED)
-}
-
-/// The status of a command, by whether something was refused.
-fn status_of(refused: bool) -> u8
-    ensures { result ≡ (if refused then 1 else 0) }
-{
-    if refused { REFUSED } else { 0 }
+    say(outputs, "elfkit: form not built")?;
+    Ok(true)
 }
 
 /// Runs a command that was read.
@@ -42,13 +34,15 @@ pub fn run_command<F: Files, O: Sink, E: Sink>(
     command: &Command,
     files: &mut F,
     outputs: &mut Outputs<'_, O, E>,
-) -> Result<u8, Stop>
+) -> Result<bool, Stop>
     ensures does { (IsTrue (is_built command.now) → IsTrue (F.tells files.old)) →
-        Does F.Files O.Sink E.Sink (command_outcome command.now (F.named files.old)) result
-        files.old files.new outputs.old outputs.new }
-    ensures status { IfOk result (λ status. status < 2) }
-    ensures untouched { is_built command.now ≡ false → (files.new ≡ files.old) × OnRead result ⊥ }
-    ensures leaves { LeavesFiles F.Files O.Sink E.Sink result files.old files.new outputs.old outputs.new }
+        Does F.Files O.Sink E.Sink refused_status
+        (command_outcome command.now (F.named files.old))
+        result files.old files.new outputs.old outputs.new }
+    ensures untouched { is_built command.now ≡ false →
+        (files.new ≡ files.old) × OnRead result ⊥ }
+    ensures leaves { LeavesFiles F.Files O.Sink E.Sink
+        result files.old files.new outputs.old outputs.new }
 {
     match command {
         Command::Readelf {

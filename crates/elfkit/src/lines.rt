@@ -2,7 +2,7 @@
 
 ghost use Rattle.std.specs.Prelude.{◌≡◌, ◌++◌};
 ghost use Rattle.tool_output.specs.Marks.{said};
-ghost use Rattle.tool_output.specs.Steps.{Performs, LeavesOutputs};
+ghost use Rattle.tool_output.specs.Steps.{Writes, LeavesOutputs};
 ghost use Rattle.elfkit.specs.Lines.{title, line_of};
 
 use elf_outside::Sink;
@@ -44,15 +44,11 @@ impl Line for Sentence<'_> {
     }
 }
 
-/// Says a sentence on standard error, and answers a status.
-pub fn say<O: Sink, E: Sink>(
-    outputs: &mut Outputs<'_, O, E>,
-    text: &str,
-    status: u8,
-) -> Result<u8, Stop>
-    ensures performs { Performs O.Sink E.Sink result outputs.old outputs.new (said Side.Error (line_of text.now)) status }
+/// Says a sentence on standard error.
+pub fn say<O: Sink, E: Sink>(outputs: &mut Outputs<'_, O, E>, text: &str) -> Result<(), Stop>
+    ensures writes { Writes O.Sink E.Sink result outputs.old outputs.new
+        (said Side.Error (line_of text.now)) }
     ensures leaves { LeavesOutputs O.Sink E.Sink ⊥ result outputs.old outputs.new }
 {
-    outputs.put(Side::Error, &Sentence { text })?;
-    Ok(status)
+    outputs.put(Side::Error, &Sentence { text })
 }

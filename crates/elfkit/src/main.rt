@@ -6,7 +6,7 @@ mod files;
 mod lines;
 mod program;
 
-ghost use Rattle.std.specs.Prelude.{◌≡◌, ◌≤◌, ◌⊎◌, IfErr};
+ghost use Rattle.std.specs.Prelude.{◌≡◌, ◌⊎◌, IfErr};
 
 use elf_outside::{RealFiles, RealSink};
 use program::run;
@@ -14,42 +14,35 @@ use std::env;
 use std::io::ErrorKind;
 use std::process::ExitCode;
 use std::rt::Env;
+use tool_output::Status;
 use tool_text::Args;
 
-/// The status of an argument that is not text.
-const BAD_WORDS: u8 = 2;
-
-/// The status of want of memory.
-const NO_MEMORY: u8 = 5;
-
 /// The words after the program's name, or the status that ends the program.
-fn read_arguments(rt: &(impl Env + AllocGlobal)) -> Result<Args, u8>
-    ensures { IfErr result (λ status. (status ≡ 2) ⊎ (status ≡ 5)) }
+fn read_arguments(rt: &(impl Env + AllocGlobal)) -> Result<Args, Status>
+    ensures { IfErr result (λ status. (status ≡ Status.BadWords) ⊎ (status ≡ Status.NoMemory)) }
 {
     let all = match env::args(rt) {
         Ok(all) => all,
-        Err(e) if e.kind() == ErrorKind::OutOfMemory => return Err(NO_MEMORY),
-        Err(_) => return Err(BAD_WORDS),
+        Err(e) if e.kind() == ErrorKind::OutOfMemory => return Err(Status::NoMemory),
+        Err(_) => return Err(Status::BadWords),
     };
     let mut words = Args::new(rt.alloc());
     for word in all.skip(1) {
         if words.add(word.as_str()).is_err() {
-            return Err(NO_MEMORY);
+            return Err(Status::NoMemory);
         }
     }
     Ok(words)
 }
 
 /// The status of the program.
-fn start(rt: &HostRuntime) -> u8
-    ensures { result ≤ 5 }
-{
+fn start(rt: &HostRuntime) -> Status {
     let words = match read_arguments(rt) {
         Ok(words) => words,
         Err(status) => return status,
     };
     let Ok(system) = rt.clone() else {
-        return NO_MEMORY;
+        return Status::NoMemory;
     };
     let mut files = RealFiles::new(system);
     let mut out = RealSink::new(rt.stdout());
@@ -58,5 +51,5 @@ fn start(rt: &HostRuntime) -> u8
 }
 
 fn main(rt: HostRuntime) -> ExitCode {
-    ExitCode::from(start(&rt))
+    ExitCode::from(start(&rt).code())
 }

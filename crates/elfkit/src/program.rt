@@ -1,8 +1,9 @@
 //! The program, from its words to its status.
 
-ghost use Rattle.std.specs.Prelude.{false, ◌≡◌, ◌≤◌, ◌<◌, IfOk, IfErr, IsErr, IsTrue};
+ghost use Rattle.std.specs.Prelude.{false, ◌≡◌, IfOk, IfErr, IsErr, IsTrue};
 ghost use Rattle.tool_text.specs.Reading.{reading};
-ghost use Rattle.tool_output.specs.Outcomes.{Does, Delivers, Costs, RunLeaves, ended_status};
+ghost use Rattle.tool_output.specs.Outcomes.{Does, Delivers, Costs, RunLeaves};
+ghost use Rattle.tool_output.specs.Statuses.{status_code};
 ghost use Rattle.tool_output.specs.Steps.{OnRead};
 ghost use Rattle.tool_output.specs.Files.{LeavesFiles};
 ghost use Rattle.elfkit.specs.Program.{opens_files, usage_outcome, program, IsStatusOf};
@@ -12,23 +13,8 @@ use crate::lines::say;
 use elf_outside::{Files, Sink};
 use elf_types::Octets;
 use std::alloc::Global;
-use tool_output::{Outputs, Stop};
+use tool_output::{Outputs, Status, Stop};
 use tool_text::{Args, Refusal, read_words};
-
-/// The status where the words are refused.
-const BAD_WORDS: u8 = 2;
-
-/// The status of a run that is over.
-fn ended_status(ended: Result<u8, Stop>) -> u8
-    ensures { result ≡ ended_status ended }
-{
-    match ended {
-        Ok(status) => status,
-        Err(Stop::Read) => 3,
-        Err(Stop::Write) => 4,
-        Err(Stop::Memory) => 5,
-    }
-}
 
 /// Reads the words and runs their command, or says how they are to be.
 fn run_words<F: Files, O: Sink, E: Sink>(
@@ -36,54 +22,66 @@ fn run_words<F: Files, O: Sink, E: Sink>(
     words: &Args,
     files: &mut F,
     outputs: &mut Outputs<'_, O, E>,
-) -> Result<u8, Stop>
+) -> Result<Status, Stop>
     ensures does { (IsTrue (opens_files (reading words.now)) → IsTrue (F.tells files.old)) →
-        Does F.Files O.Sink E.Sink (program words.now (F.named files.old)) result
-        files.old files.new outputs.old outputs.new }
+        Does F.Files O.Sink E.Sink status_code (program words.now (F.named files.old))
+        result files.old files.new outputs.old outputs.new }
     ensures status { IfOk result (IsStatusOf (reading words.now)) }
-    ensures untouched { opens_files (reading words.now) ≡ false → (files.new ≡ files.old) × OnRead result ⊥ }
-    ensures leaves { LeavesFiles F.Files O.Sink E.Sink result files.old files.new outputs.old outputs.new }
+    ensures untouched { opens_files (reading words.now) ≡ false →
+        (files.new ≡ files.old) × OnRead result ⊥ }
+    ensures leaves { LeavesFiles F.Files O.Sink E.Sink
+        result files.old files.new outputs.old outputs.new }
 {
     match read_words(alloc, words) {
-        Ok(command) => run_command(alloc, &command, files, outputs),
-        Err(Refusal::Usage(usage)) => say(outputs, usage.line(), BAD_WORDS),
+        Ok(command) => {
+            let refused = run_command(alloc, &command, files, outputs)?;
+            Ok(Status::of_refused(refused))
+        }
+        Err(Refusal::Usage(usage)) => {
+            say(outputs, usage.line())?;
+            Ok(Status::BadWords)
+        }
         Err(Refusal::Memory) => Err(Stop::Memory),
     }
 }
 
-/// Runs elfkit on the words after the program's name, over a set of files and the two outputs, and
-/// answers the status:
+/// Runs elfkit on the words after the program's name, over a set of files and the two outputs:
 ///
-/// - 0: done, and nothing was refused;
-/// - 1: a file was refused, or the form is not built yet;
-/// - 2: the words are refused, with their usage line on `err`;
-/// - 3: a read failed; 4: a write of a file, of `out` or of `err` failed; 5: there was no memory.
+/// - `Done`: nothing was refused;
+/// - `Refused`: a file was refused, or the form is not built yet;
+/// - `BadWords`: the words are refused, with their usage line on `err`;
+/// - `ReadFailed`, `WriteFailed`, `NoMemory`: a read failed; a write of a file, of `out` or of `err`
+///   failed; there was no memory.
 ///
-/// From 3 on the run stopped on the way: both outputs have gained what was written up to one point, and
-/// nothing after it. Each file that was opened is closed again. Words that are refused, or of a form that is
-/// not built, open no file.
+/// With the last three the run stopped on the way: both outputs have gained what was written up to
+/// one point, and nothing after it. Each file that was opened is closed again. Words that are
+/// refused, or of a form that is not built, open no file.
 pub fn run<F: Files, O: Sink, E: Sink>(
     alloc: Global,
     words: &Args,
     files: &mut F,
     out: &mut O,
     err: &mut E,
-) -> u8
-    ensures delivers { IsTrue (F.tells files.old) → Delivers (program words.now (F.named files.old)) result
+) -> Status
+    ensures delivers { IsTrue (F.tells files.old) →
+        Delivers (program words.now (F.named files.old)) (status_code result)
         (O.wrote out.old) (O.wrote out.new) (E.wrote err.old) (E.wrote err.new)
         (F.named files.old) (F.named files.new) }
-    ensures costs { IsTrue (F.tells files.old) → Costs (program words.now (F.named files.old)) result
+    ensures costs { IsTrue (F.tells files.old) →
+        Costs (program words.now (F.named files.old)) (status_code result)
         (F.taken files.old) (F.taken files.new) (F.given files.old) (F.given files.new) }
-    ensures usage { IfErr (reading words.now) (λ usage. Delivers (usage_outcome usage) result
+    ensures usage { IfErr (reading words.now) (λ usage.
+        Delivers (usage_outcome usage) (status_code result)
         (O.wrote out.old) (O.wrote out.new) (E.wrote err.old) (E.wrote err.new)
         (F.named files.old) (F.named files.new)) }
-    ensures used { result ≡ 2 → IsErr (reading words.now) }
-    ensures known { result ≤ 5 }
-    ensures untouched { opens_files (reading words.now) ≡ false → (files.new ≡ files.old) × ¬ (result ≡ 3) }
-    ensures leaves { RunLeaves F.Files O.Sink E.Sink result files.old files.new out.old out.new err.old err.new }
+    ensures used { result ≡ Status.BadWords → IsErr (reading words.now) }
+    ensures untouched { opens_files (reading words.now) ≡ false →
+        (files.new ≡ files.old) × ¬ (result ≡ Status.ReadFailed) }
+    ensures leaves { RunLeaves F.Files O.Sink E.Sink (status_code result)
+        files.old files.new out.old out.new err.old err.new }
 {
     let mut page = Octets::new(alloc);
     let mut outputs = Outputs::new(out, err, &mut page);
     let ended = run_words(alloc, words, files, &mut outputs);
-    ended_status(outputs.end(ended))
+    Status::of(outputs.end(ended))
 }

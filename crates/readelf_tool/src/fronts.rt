@@ -1,6 +1,6 @@
 //! What readelf shows of the front of an image.
 
-ghost use Rattle.std.specs.Prelude.{◌≡◌};
+ghost use Rattle.std.specs.Prelude.{◌≡◌, IfOk};
 ghost use Rattle.tool_output.specs.Reports.{Reports};
 ghost use Rattle.tool_output.specs.Steps.{Ended, OnRead, OnWrite, LeavesSinks, SinkRose, LeavesOutputs};
 ghost use Rattle.readelf_tool.specs.Header.{header_report};
@@ -50,14 +50,15 @@ fn show_segments_part<O: Sink, E: Sink>(
     }
 }
 
-/// Shows the parts of a front that are asked for: the header (`h`), then the program headers (`l`). The
-/// answer tells whether something was refused.
+/// Shows the parts of a front that are asked for: the header (`h`), then the program headers (`l`).
+/// The answer tells whether something was refused.
 pub fn show_parts<O: Sink, E: Sink>(
     front: &Front,
     parts: &ReadelfParts,
     outputs: &mut Outputs<'_, O, E>,
 ) -> Result<bool, Stop>
-    ensures reports { Reports O.Sink E.Sink result outputs.old outputs.new (readelf_report parts.now front.now) }
+    ensures reports { Reports O.Sink E.Sink result outputs.old outputs.new
+        (readelf_report parts.now front.now) }
     ensures leaves { LeavesOutputs O.Sink E.Sink ⊥ result outputs.old outputs.new }
 {
     let header = show_header_part(parts.header, front, outputs)?;
@@ -65,8 +66,9 @@ pub fn show_parts<O: Sink, E: Sink>(
     Ok(header | segments)
 }
 
-/// Shows the parts of a front that are asked for, as the command readelf does, on two outputs. The answer
-/// tells whether something was refused. It stops by `Write`, where a put failed, and by `Memory`.
+/// Shows the parts of a front that are asked for, as the command readelf does, on two outputs. The
+/// answer tells whether something was refused. It stops by `Write`, where a put failed, and by
+/// `Memory`.
 pub fn readelf<O: Sink, E: Sink>(
     alloc: Global,
     front: &Front,
@@ -75,7 +77,10 @@ pub fn readelf<O: Sink, E: Sink>(
     err: &mut E,
 ) -> Result<bool, Stop>
     ensures ended { let report = readelf_report parts.now front.now in
-        Ended result (O.wrote out.old) (O.wrote out.new) (E.wrote err.old) (E.wrote err.new) report.marks report.refused }
+        Ended result (O.wrote out.old) (O.wrote out.new)
+        (E.wrote err.old) (E.wrote err.new) report.marks }
+    ensures answer { let report = readelf_report parts.now front.now in
+        IfOk result (λ refused. refused ≡ report.refused) }
     ensures leaves { LeavesSinks O.Sink E.Sink out.old out.new err.old err.new }
     ensures read { OnRead result ⊥ }
     ensures write { OnWrite result (SinkRose O.Sink E.Sink out.old out.new err.old err.new) }

@@ -5,7 +5,7 @@ use Rattle.tool_output.specs.declared.stops.Stop.{Stop}
 use Rattle.tool_output.specs.declared.stops.Stop.TheVariants.{Read, Write, Memory}
 use Rattle.tool_output.specs.declared.outputs.Outputs.{Outputs}
 use Rattle.tool_output.specs.Marks.{Mark, said, Gained, GainedFront}
-use Rattle.tool_output.specs.Steps.{waiting, Went, WentFront, Writes, Performs, Ends, Ended}
+use Rattle.tool_output.specs.Steps.{waiting, Went, WentFront, Writes, OnKept, Ends, Ended}
 use Rattle.tool_output.proofs.MarkLemmas.{said_none, gained_then}
 
 module _ {O E : Type 0} (o : Ghosts O) (e : Ghosts E) (s t : Outputs O E) (out : O) (err : E) (empty : s.page.now ≡ []) where
@@ -56,34 +56,40 @@ module _ {O E : Type 0} (o : Ghosts O) (e : Ghosts E) (s t : Outputs O E) (out :
   front_failed : (marks : List Mark) → WentFront o e s t marks → GivenFront (waiting t) → Front marks
   front_failed marks h k = subst (λ (m : List Mark). Front m) (sym h.all) (longer h.front h.rest (all_failed h.front h.went k))
 
-  over : {T : Type 0} (result : Result T Stop) (marks : List Mark) (value : T) → OnOk result (All marks) → OnErr result (Front marks) → IfOk result (λ v. v ≡ value)
-      → Ended result (o.wrote s.out.now) (o.wrote out) (e.wrote s.err.now) (e.wrote err) marks value
-  over result marks value whole stopped is = record { whole = whole; stopped = stopped; value_is = is }
+  over : {T : Type 0} (result : Result T Stop) (marks : List Mark) → OnOk result (All marks) → OnErr result (Front marks)
+      → Ended result (o.wrote s.out.now) (o.wrote out) (e.wrote s.err.now) (e.wrote err) marks
+  over result marks whole stopped = record { whole = whole; stopped = stopped }
 
-  pub ended : {T : Type 0} (r result : Result T Stop) (marks : List Mark) (value : T) → Performs o e r s t marks value → Ends o e r result t out err
-      → Ended result (o.wrote s.out.now) (o.wrote out) (e.wrote s.err.now) (e.wrote err) marks value
-  ended (Ok x) (Ok y) marks value h k = over (Ok y) marks value (all_put marks h.writes.ok k.put) tt (let same = k.answer in let is = h.value_is in cc)
-  ended (Ok x) (Err Write) marks value h k = over (Err Write) marks value tt (all_failed marks h.writes.ok k.failed) tt
-  ended (Ok x) (Err Read) marks value h k = let no = k.answer in cc
-  ended (Ok x) (Err Memory) marks value h k = let no = k.answer in cc
-  ended (Err Read) (Ok y) marks value h k = let no = k.answer in cc
-  ended (Err Read) (Err Read) marks value h k = over (Err Read) marks value tt (front_put marks h.writes.stopped k.put) tt
-  ended (Err Read) (Err Write) marks value h k = over (Err Write) marks value tt (front_failed marks h.writes.stopped k.failed) tt
-  ended (Err Read) (Err Memory) marks value h k = let no = k.answer in cc
-  ended (Err Memory) (Ok y) marks value h k = let no = k.answer in cc
-  ended (Err Memory) (Err Read) marks value h k = let no = k.answer in cc
-  ended (Err Memory) (Err Write) marks value h k = over (Err Write) marks value tt (front_failed marks h.writes.stopped k.failed) tt
-  ended (Err Memory) (Err Memory) marks value h k = over (Err Memory) marks value tt (front_put marks h.writes.stopped k.put) tt
-  ended (Err Write) result marks value h k =
+  pub ended : {T : Type 0} (r result : Result T Stop) (marks : List Mark) → Writes o e r s t marks → Ends o e r result t out err
+      → Ended result (o.wrote s.out.now) (o.wrote out) (e.wrote s.err.now) (e.wrote err) marks
+  ended (Ok x) (Ok y) marks h k = over (Ok y) marks (all_put marks h.ok k.put) tt
+  ended (Ok x) (Err Write) marks h k = over (Err Write) marks tt (all_failed marks h.ok k.failed)
+  ended (Ok x) (Err Read) marks h k = let no = k.answer in cc
+  ended (Ok x) (Err Memory) marks h k = let no = k.answer in cc
+  ended (Err Read) (Ok y) marks h k = let no = k.answer in cc
+  ended (Err Read) (Err Read) marks h k = over (Err Read) marks tt (front_put marks h.stopped k.put)
+  ended (Err Read) (Err Write) marks h k = over (Err Write) marks tt (front_failed marks h.stopped k.failed)
+  ended (Err Read) (Err Memory) marks h k = let no = k.answer in cc
+  ended (Err Memory) (Ok y) marks h k = let no = k.answer in cc
+  ended (Err Memory) (Err Read) marks h k = let no = k.answer in cc
+  ended (Err Memory) (Err Write) marks h k = over (Err Write) marks tt (front_failed marks h.stopped k.failed)
+  ended (Err Memory) (Err Memory) marks h k = over (Err Memory) marks tt (front_put marks h.stopped k.put)
+  ended (Err Write) result marks h k =
       let lost : Front marks = subst (λ (x : O). GainedFront (o.wrote s.out.now) (o.wrote x) (e.wrote s.err.now) (e.wrote err) marks) (sym k.lost.1)
       (subst (λ (x : E). GainedFront (o.wrote s.out.now) (o.wrote t.out.now) (e.wrote s.err.now) (e.wrote x) marks) (sym k.lost.2)
-      (subst (λ (m : List Mark). GainedFront (o.wrote s.out.now) (o.wrote t.out.now) (e.wrote s.err.now) (e.wrote t.err.now) m) (none_waits marks) h.writes.lost)) in
-      rw k.lost.0 (over (Err Write) marks value tt lost tt)
+      (subst (λ (m : List Mark). GainedFront (o.wrote s.out.now) (o.wrote t.out.now) (e.wrote s.err.now) (e.wrote t.err.now) m) (none_waits marks) h.lost)) in
+      rw k.lost.0 (over (Err Write) marks tt lost)
+
+-- what holds of the answer of the last step holds of the answer at the end
+module _ {T : Type 0} where
+  pub ok_at : (r result : Result T Stop) (P : T → Type 0) → OnKept result (result ≡ r) → IfOk r P → IfOk result P
+  ok_at r (Ok x) P same h = subst (λ (q : Result T Stop). IfOk q P) (sym same) h
+  ok_at r (Err stop) P same h = tt
 
 -- the same of the sinks that a caller handed in, before and after
 pub ended_over : {O E T : Type 0} (o : Ghosts O) (e : Ghosts E) (s t : Outputs O E) (out_old out_new out : O) (err_old err_new err : E)
     → s.page.now ≡ [] → s.out.now ≡ out_old → s.err.now ≡ err_old → out ≡ out_new → err ≡ err_new
-    → (r result : Result T Stop) (marks : List Mark) (value : T) → Performs o e r s t marks value → Ends o e r result t out err
-    → Ended result (o.wrote out_old) (o.wrote out_new) (e.wrote err_old) (e.wrote err_new) marks value
-ended_over o e s t out_old out_new out err_old err_new err empty a b c d r result marks value h k =
-    rw (← a, ← b, ← c, ← d) (ended o e s t out err empty r result marks value h k)
+    → (r result : Result T Stop) (marks : List Mark) → Writes o e r s t marks → Ends o e r result t out err
+    → Ended result (o.wrote out_old) (o.wrote out_new) (e.wrote err_old) (e.wrote err_new) marks
+ended_over o e s t out_old out_new out err_old err_new err empty a b c d r result marks h k =
+    rw (← a, ← b, ← c, ← d) (ended o e s t out err empty r result marks h k)

@@ -7,38 +7,33 @@ use Rattle.elf_outside.specs.declared.file_sets.Files.{Ghosts as FilesGhosts}
 use Rattle.tool_output.specs.declared.stops.Stop.{Stop}
 use Rattle.tool_output.specs.declared.stops.Stop.TheVariants.{Read, Write, Memory}
 use Rattle.tool_output.specs.declared.outputs.Outputs.{Outputs}
+use Rattle.tool_output.specs.Statuses.{refused_status, stop_status, ended_status}
 use Rattle.tool_output.specs.Marks.{Mark, Gained, GainedFront}
-use Rattle.tool_output.specs.Steps.{Performs, Ends, Ended, LeavesSinks, SinkRose, OnRead, OnWrite, OnKept}
+use Rattle.tool_output.specs.Steps.{Writes, Ends, Ended, LeavesSinks, SinkRose, OnRead, OnWrite, OnKept}
 use Rattle.tool_output.specs.Reports.{Report, Reports}
 use Rattle.tool_output.specs.Files.{OnlyReads, LeavesFiles, IsWithin}
-use Rattle.tool_output.specs.Outcomes.{FileWrite, Outcome, outcome_of, only_says, write_of, held_after, IsMixed, MayHoldInPlace, MayHoldBytes, MayHold, stop_status, ended_status, Does, Delivers, Costs, RunLeaves}
-use Rattle.tool_output.proofs.EndLemmas.{ended_over}
+use Rattle.tool_output.specs.Outcomes.{FileWrite, Outcome, report_outcome, only_says, write_of, held_after, IsMixed, MayHoldInPlace, MayHoldBytes, MayHold, Does, Delivers, Costs, RunLeaves}
+use Rattle.tool_output.proofs.EndLemmas.{ended_over, ok_at}
 use Rattle.tool_output.proofs.StepLemmas.{stops_as, writes_nothing}
 
 module _ {F D O E : Type 0} (f : FilesGhosts F D) (o : SinkGhosts O) (e : SinkGhosts E) (a b : F) (s t : Outputs O E) where
   -- ---- Steps that only read files
 
-  pub reads_done : (report : Report) (bound : Option ℕ) (x : Bool) (status : ℕ) → status ≡ cond x 1 0 → IsTrue (f.tells a)
-      → OnlyReads f a b → IsWithin bound (f.taken a) (f.taken b) → Reports o e (Ok x) s t report
-      → Does f o e (outcome_of report bound) (Ok status) a b s t
-  unfolding outcome_of write_of
-  reads_done report bound x status is told reads within h = record {
-    performs = record {
-      writes = record { ok = h.writes.ok; stopped = tt; lost = tt };
-      value_is = is ∙ ap (λ (y : Bool). cond y 1 0) h.value_is;
-    };
+  pub reads_done : (report : Report) (bound : Option ℕ) (result : Result Bool Stop) → IsTrue (f.tells a)
+      → OnlyReads f a b → OnOk result (IsWithin bound (f.taken a) (f.taken b)) → Reports o e result s t report
+      → Does f o e refused_status (report_outcome report bound) result a b s t
+  unfolding report_outcome write_of
+  reads_done report bound (Ok x) told reads within h = record {
+    writes = h.writes;
+    status = ap refused_status h.value_is;
     files = (reads.names told).same;
     left = tt;
     asks = within;
     gives = omega (arith, reads.given);
   }
-
-  pub reads_stopped : (report : Report) (bound : Option ℕ) (stop : Stop) → IsTrue (f.tells a)
-      → OnlyReads f a b → Reports o e (Err stop) s t report
-      → Does f o e (outcome_of report bound) (Err stop) a b s t
-  unfolding outcome_of write_of
-  reads_stopped report bound stop told reads h = record {
-    performs = record { writes = stops_as o e stop s t report.marks h.writes; value_is = tt };
+  reads_done report bound (Err stop) told reads within h = record {
+    writes = h.writes;
+    status = tt;
     files = tt;
     left = (reads.names told).same;
     asks = tt;
@@ -46,11 +41,35 @@ module _ {F D O E : Type 0} (f : FilesGhosts F D) (o : SinkGhosts O) (e : SinkGh
   }
 
   -- marks and a status, where no file is touched
-  pub says_done : (marks : List Mark) (status : ℕ) (result : Result ℕ Stop) → Performs o e result s t marks status
-      → Does f o e (only_says marks status) result a a s t
+  pub says_done : {T : Type 0} (code : T → ℕ) (marks : List Mark) (status : ℕ) (result : Result T Stop)
+      → Writes o e result s t marks → IfOk result (λ answer. code answer ≡ status)
+      → Does f o e code (only_says marks status) result a a s t
   unfolding only_says write_of
-  says_done marks status (Ok x) h = record { performs = h; files = λ name. refl; left = tt; asks = omega arith; gives = omega arith }
-  says_done marks status (Err stop) h = record { performs = h; files = tt; left = λ name. refl; asks = tt; gives = omega arith }
+  says_done code marks status (Ok x) h is = record { writes = h; status = is; files = λ name. refl; left = tt; asks = omega arith; gives = omega arith }
+  says_done code marks status (Err stop) h is = record { writes = h; status = tt; files = tt; left = λ name. refl; asks = tt; gives = omega arith }
+
+  -- another answer for the same status
+  pub does_as : {S T : Type 0} (code : S → ℕ) (other : T → ℕ) (stated : Outcome) (v : S) (w : T) → other w ≡ code v
+      → Does f o e code stated (Ok v) a b s t → Does f o e other stated (Ok w) a b s t
+  does_as code other stated v w same d = record {
+    writes = record { ok = d.writes.ok; stopped = tt; lost = tt };
+    status = same ∙ d.status;
+    files = d.files;
+    left = tt;
+    asks = d.asks;
+    gives = d.gives;
+  }
+
+  pub stops_so : {S T : Type 0} (code : S → ℕ) (other : T → ℕ) (stated : Outcome) (stop : Stop)
+      → Does f o e code stated (Err stop) a b s t → Does f o e other stated (Err stop) a b s t
+  stops_so code other stated stop d = record {
+    writes = stops_as o e stop s t stated.marks d.writes;
+    status = tt;
+    files = tt;
+    left = d.left;
+    asks = tt;
+    gives = d.gives;
+  }
 
 -- ---- A file of a run that stopped
 
@@ -116,10 +135,11 @@ within_same None a = tt
 within_same (Some n) a = omega arith
 
 -- a step that stops before it does anything
-pub nothing_done : {F D O E : Type 0} (f : FilesGhosts F D) (o : SinkGhosts O) (e : SinkGhosts E) (stated : Outcome) (stop : Stop) (a : F) (s : Outputs O E)
-    → Does f o e stated (Err stop) a a s s
-nothing_done f o e stated stop a s = record {
-  performs = record { writes = writes_nothing o e stop s stated.marks; value_is = tt };
+pub nothing_done : {F D O E T : Type 0} (f : FilesGhosts F D) (o : SinkGhosts O) (e : SinkGhosts E) (code : T → ℕ) (stated : Outcome) (stop : Stop) (a : F) (s : Outputs O E)
+    → Does f o e code stated (Err stop) a a s s
+nothing_done f o e code stated stop a s = record {
+  writes = writes_nothing o e stop s stated.marks;
+  status = tt;
   files = tt;
   left = λ name. may_hold_same (stop_status stop) (write_of stated.writes name) (f.named a name);
   asks = tt;
@@ -133,7 +153,8 @@ late Read = lit≤ tt
 late Write = lit≤ tt
 late Memory = lit≤ tt
 
-module _ {F D O E : Type 0} (f : FilesGhosts F D) (o : SinkGhosts O) (e : SinkGhosts E) (stated : Outcome) (a b : F) where
+module _ {F D O E : Type 0} (f : FilesGhosts F D) (o : SinkGhosts O) (e : SinkGhosts E) (stated : Outcome) (a b : F)
+    {T : Type 0} (code : T → ℕ) where
   abbrev HasFiles : Type 0
   HasFiles = (name : List ℕ) → f.named b name ≡ held_after (write_of stated.writes name) (f.named a name)
 
@@ -141,24 +162,24 @@ module _ {F D O E : Type 0} (f : FilesGhosts F D) (o : SinkGhosts O) (e : SinkGh
   HasLeft stop = (name : List ℕ) → MayHold (stop_status stop) (write_of stated.writes name) (f.named a name) (f.named b name)
 
   -- the files are those that the last step left, also where the last put failed
-  left_at : (r result : Result ℕ Stop) → OnKept result (result ≡ r) → OnOk r HasFiles → IfErr r HasLeft → IfErr result HasLeft
+  left_at : (r result : Result T Stop) → OnKept result (result ≡ r) → OnOk r HasFiles → IfErr r HasLeft → IfErr result HasLeft
   left_at r (Ok x) same files left = tt
-  left_at r (Err Read) same files left = subst (λ (q : Result ℕ Stop). IfErr q HasLeft) (sym same) left
-  left_at r (Err Memory) same files left = subst (λ (q : Result ℕ Stop). IfErr q HasLeft) (sym same) left
+  left_at r (Err Read) same files left = subst (λ (q : Result T Stop). IfErr q HasLeft) (sym same) left
+  left_at r (Err Memory) same files left = subst (λ (q : Result T Stop). IfErr q HasLeft) (sym same) left
   left_at (Ok x) (Err Write) same files left = λ name. stated_at_four (write_of stated.writes name) (f.named a name) (f.named b name) (files name)
   left_at (Err stop) (Err Write) same files left = λ name. stopped_at_four stop (write_of stated.writes name) (f.named a name) (f.named b name) (left name)
 
-  delivers_by : (result : Result ℕ Stop) (c d p q : Option (List ℕ)) → Ended result c d p q stated.marks stated.status
-      → IfOk result (λ v. v < 3) → OnOk result HasFiles → IfErr result HasLeft
-      → Delivers stated (ended_status result) c d p q (f.named a) (f.named b)
-  delivers_by (Ok v) c d p q h small files left = record {
-    status_is = λ early. h.value_is;
+  delivers_by : (result : Result T Stop) (c d p q : Option (List ℕ)) → Ended result c d p q stated.marks
+      → IfOk result (λ v. code v ≡ stated.status) → IfOk result (λ v. code v < 3) → OnOk result HasFiles → IfErr result HasLeft
+      → Delivers stated (ended_status code result) c d p q (f.named a) (f.named b)
+  delivers_by (Ok v) c d p q h is small files left = record {
+    status_is = λ early. is;
     whole = λ early. h.whole;
     stopped = λ too_late. absurd (omega arith);
     files = λ early. files;
     left = λ too_late. absurd (omega arith);
   }
-  delivers_by (Err stop) c d p q h small files left = record {
+  delivers_by (Err stop) c d p q h is small files left = record {
     status_is = λ early. absurd (let l = late stop in omega (arith, early));
     whole = λ early. absurd (let l = late stop in omega (arith, early));
     stopped = λ is_late. h.stopped;
@@ -166,49 +187,46 @@ module _ {F D O E : Type 0} (f : FilesGhosts F D) (o : SinkGhosts O) (e : SinkGh
     left = λ is_late. left;
   }
 
-  done_at : (r result : Result ℕ Stop) (P : Type 0) → OnKept result (result ≡ r) → OnOk r P → OnOk result P
-  done_at r (Ok x) P same h = subst (λ (q : Result ℕ Stop). OnOk q P) (sym same) h
+  done_at : (r result : Result T Stop) (P : Type 0) → OnKept result (result ≡ r) → OnOk r P → OnOk result P
+  done_at r (Ok x) P same h = subst (λ (q : Result T Stop). OnOk q P) (sym same) h
   done_at r (Err stop) P same h = tt
 
-  small_at : (r result : Result ℕ Stop) → OnKept result (result ≡ r) → IfOk r (λ v. v < 3) → IfOk result (λ v. v < 3)
-  small_at r (Ok x) same h = subst (λ (q : Result ℕ Stop). IfOk q (λ v. v < 3)) (sym same) h
-  small_at r (Err stop) same h = tt
-
-  at_status : (result : Result ℕ Stop) (P : Type 0) → OnOk result P → ended_status result < 2 → P
+  at_status : (result : Result T Stop) (P : Type 0) → OnOk result P → ended_status code result < 2 → P
   at_status (Ok v) P h small = h
   at_status (Err stop) P h small = absurd (let l = late stop in omega (arith, small))
 
-  at_three : (result : Result ℕ Stop) (P : Type 0) → IfOk result (λ v. v < 3) → OnRead result P → ended_status result ≡ 3 → P
+  at_three : (result : Result T Stop) (P : Type 0) → IfOk result (λ v. code v < 3) → OnRead result P → ended_status code result ≡ 3 → P
   at_three (Ok v) P small h is = absurd (omega arith)
   at_three (Err Read) P small h is = h
   at_three (Err Write) P small h is = cc
   at_three (Err Memory) P small h is = cc
 
-  at_four_write : (result : Result ℕ Stop) (P : Type 0) → IfOk result (λ v. v < 3) → OnWrite result P → ended_status result ≡ 4 → P
+  at_four_write : (result : Result T Stop) (P : Type 0) → IfOk result (λ v. code v < 3) → OnWrite result P → ended_status code result ≡ 4 → P
   at_four_write (Ok v) P small h is = absurd (omega arith)
   at_four_write (Err Read) P small h is = cc
   at_four_write (Err Write) P small h is = h
   at_four_write (Err Memory) P small h is = cc
 
-  module _ (r result : Result ℕ Stop) (s t : Outputs O E) (out_old out_new out : O) (err_old err_new err : E)
+  module _ (r result : Result T Stop) (s t : Outputs O E) (out_old out_new out : O) (err_old err_new err : E)
       (is_out : s.out.now ≡ out_old) (is_err : s.err.now ≡ err_old) (ends_out : out ≡ out_new) (ends_err : err ≡ err_new)
-      (h : Ends o e r result t out err) (small : IfOk r (λ v. v < 3)) where
-    pub run_delivers : (status : ℕ) → status ≡ ended_status result → s.page.now ≡ [] → Does f o e stated r a b s t
+      (h : Ends o e r result t out err) (small : IfOk r (λ v. code v < 3)) where
+    pub run_delivers : (status : ℕ) → status ≡ ended_status code result → s.page.now ≡ [] → Does f o e code stated r a b s t
         → Delivers stated status (o.wrote out_old) (o.wrote out_new) (e.wrote err_old) (e.wrote err_new) (f.named a) (f.named b)
     run_delivers status is empty d =
         subst (λ (n : ℕ). Delivers stated n (o.wrote out_old) (o.wrote out_new) (e.wrote err_old) (e.wrote err_new) (f.named a) (f.named b)) (sym is)
         (delivers_by result (o.wrote out_old) (o.wrote out_new) (e.wrote err_old) (e.wrote err_new)
-        (ended_over o e s t out_old out_new out err_old err_new err empty is_out is_err ends_out ends_err r result stated.marks stated.status d.performs h)
-        (small_at r result h.answer small) (done_at r result HasFiles h.answer d.files) (left_at r result h.answer d.files d.left))
+        (ended_over o e s t out_old out_new out err_old err_new err empty is_out is_err ends_out ends_err r result stated.marks d.writes h)
+        (ok_at r result (λ v. code v ≡ stated.status) h.answer d.status)
+        (ok_at r result (λ v. code v < 3) h.answer small) (done_at r result HasFiles h.answer d.files) (left_at r result h.answer d.files d.left))
 
-    pub run_costs : Does f o e stated r a b s t → Costs stated (ended_status result) (f.taken a) (f.taken b) (f.given a) (f.given b)
+    pub run_costs : Does f o e code stated r a b s t → Costs stated (ended_status code result) (f.taken a) (f.taken b) (f.given a) (f.given b)
     run_costs d = record {
       asks = at_status result (IsWithin stated.asks (f.taken a) (f.taken b)) (done_at r result (IsWithin stated.asks (f.taken a) (f.taken b)) h.answer d.asks);
       gives = d.gives;
     }
 
-    read_at : (q : Result ℕ Stop) (P : Type 0) → OnKept q (q ≡ r) → OnRead r P → OnRead q P
-    read_at (Err Read) P same k = subst (λ (x : Result ℕ Stop). OnRead x P) (sym same) k
+    read_at : (q : Result T Stop) (P : Type 0) → OnKept q (q ≡ r) → OnRead r P → OnRead q P
+    read_at (Err Read) P same k = subst (λ (x : Result T Stop). OnRead x P) (sym same) k
     read_at (Err Write) P same k = tt
     read_at (Err Memory) P same k = tt
     read_at (Ok v) P same k = tt
@@ -233,7 +251,7 @@ module _ {F D O E : Type 0} (f : FilesGhosts F D) (o : SinkGhosts O) (e : SinkGh
     step_failed (inr (inl rose)) = inr (inl (let p = h.leaves.out_later in omega arith))
     step_failed (inr (inr rose)) = inr (inr (let p = h.leaves.err_later in omega arith))
 
-    wrote_at : (q p : Result ℕ Stop) → LeavesSinks o e s.out.now t.out.now s.err.now t.err.now → OnWrite q (OnKept p (SinkRose o e t.out.now out t.err.now err))
+    wrote_at : (q p : Result T Stop) → LeavesSinks o e s.out.now t.out.now s.err.now t.err.now → OnWrite q (OnKept p (SinkRose o e t.out.now out t.err.now err))
         → OnWrite p (Rose (f.write_faults a) (f.write_faults b) ⊎ SinkRose o e s.out.now t.out.now s.err.now t.err.now) → OnWrite q Wrote
     wrote_at (Ok v) p k last step = tt
     wrote_at (Err Read) p k last step = tt
@@ -243,10 +261,10 @@ module _ {F D O E : Type 0} (f : FilesGhosts F D) (o : SinkGhosts O) (e : SinkGh
     wrote_at (Err Write) (Err Memory) k last step = last_failed k last
     wrote_at (Err Write) (Err Write) k last step = step_failed step
 
-    pub run_leaves : LeavesFiles f o e r a b s t → RunLeaves f o e (ended_status result) a b out_old out_new err_old err_new
+    pub run_leaves : LeavesFiles f o e r a b s t → RunLeaves f o e (ended_status code result) a b out_old out_new err_old err_new
     run_leaves l = record {
       totals = l.totals;
       sinks = sinks l;
-      read = at_three result (Rose (f.read_faults a) (f.read_faults b)) (small_at r result h.answer small) (read_at result (Rose (f.read_faults a) (f.read_faults b)) h.answer l.read);
-      write = rw (← is_out, ← is_err, ← ends_out, ← ends_err) (at_four_write result Wrote (small_at r result h.answer small) (wrote_at result r l.keeps.leaves h.cause l.write));
+      read = at_three result (Rose (f.read_faults a) (f.read_faults b)) (ok_at r result (λ v. code v < 3) h.answer small) (read_at result (Rose (f.read_faults a) (f.read_faults b)) h.answer l.read);
+      write = rw (← is_out, ← is_err, ← ends_out, ← ends_err) (at_four_write result Wrote (ok_at r result (λ v. code v < 3) h.answer small) (wrote_at result r l.keeps.leaves h.cause l.write));
     }

@@ -7,7 +7,7 @@ use Rattle.tool_output.specs.declared.stops.Stop.TheVariants.{Read, Write, Memor
 use Rattle.tool_output.specs.declared.outputs.Side.{Side}
 use Rattle.tool_output.specs.declared.outputs.Outputs.{Outputs}
 use Rattle.tool_output.specs.Marks.{Mark, said, Gained}
-use Rattle.tool_output.specs.Steps.{waiting, Gains, GainsFront, Went, WentFront, OnStop, OnWrite, Writes, Performs}
+use Rattle.tool_output.specs.Steps.{waiting, Gains, GainsFront, Went, WentFront, OnStop, OnWrite, Writes, Performs, OnRead}
 use Rattle.tool_output.proofs.MarkLemmas.{said_append, said_none, gained_none, gained_then}
 
 gained_same : (a b p q : Option (List ℕ)) → b ≡ a → q ≡ p → Gained a b p q []
@@ -113,6 +113,11 @@ module _ {O E : Type 0} (o : Ghosts O) (e : Ghosts E) where
   stops_as Read s t a h = record { ok = tt; stopped = h.stopped; lost = tt }
   stops_as Memory s t a h = record { ok = tt; stopped = h.stopped; lost = tt }
   stops_as Write s t a h = record { ok = tt; stopped = tt; lost = h.lost }
+
+  pub read_as : (T U : Type 0) (stop : Stop) (P : Type 0) → OnRead {T = T} (Err stop) P → OnRead {T = U} (Err stop) P
+  read_as T U Read P h = h
+  read_as T U Memory P h = tt
+  read_as T U Write P h = tt
 
   pub performs_ok : {T U : Type 0} (x : T) (value : U) (s t : Outputs O E) (a : List Mark)
       → Writes {T = T} o e (Ok x) s t a → Performs o e (Ok value) s t a value

@@ -5,4 +5,5 @@ pub mod Messages
 pub mod Outcomes
 pub mod Reports
 pub mod Steps
+pub mod Statuses
 pub mod Stops

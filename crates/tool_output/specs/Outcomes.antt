@@ -1,15 +1,15 @@
 -- How a run ends: what it writes, its status, the files afterwards, and how much it reads and writes.
-use Rattle.std.specs.Prelude.{◌≡◌, ◌⊎◌, ◌≤◌, ◌<◌, ℕ, List, [], ◌∷◌, Bool, true, false, Option, Some, None, IfSome, Result, Ok, Err, OnOk, IfErr, bytes_eq, length, take, slice_index, if◌then◌else◌}
+use Rattle.std.specs.Prelude.{◌≡◌, ◌⊎◌, ◌≤◌, ◌<◌, ℕ, List, [], ◌∷◌, Bool, true, false, Option, Some, None, IfSome, Result, OnOk, IfOk, IfErr, bytes_eq, length, take, slice_index, if◌then◌else◌}
 use Rattle.elf_outside.specs.Counts.{Rose}
 use Rattle.elf_outside.specs.Names.{Map}
 use Rattle.elf_outside.specs.declared.sinks.Sink.{Ghosts as SinkGhosts}
 use Rattle.elf_outside.specs.declared.file_sets.Files.{Ghosts as FilesGhosts}
 use Rattle.tool_output.specs.declared.stops.Stop.{Stop}
-use Rattle.tool_output.specs.declared.stops.Stop.TheVariants.{Read, Write, Memory}
+use Rattle.tool_output.specs.Statuses.{refused_status, stop_status}
 use Rattle.tool_output.specs.Marks.{Mark, Gained, GainedFront}
 use Rattle.tool_output.specs.declared.outputs.Outputs.{Outputs}
 use Rattle.tool_output.specs.Reports.{Report}
-use Rattle.tool_output.specs.Steps.{Performs, LeavesSinks, SinkRose}
+use Rattle.tool_output.specs.Steps.{Writes, LeavesSinks, SinkRose}
 use Rattle.tool_output.specs.Files.{Totals, IsWithin}
 
 -- ---- Stated
@@ -29,11 +29,11 @@ pub record Outcome : Type 0 where
   pub asks : Option ℕ
   pub gives : Option ℕ
 
--- the outcome of a report on files that are only read: status 1 where something was refused
-unfoldable pub outcome_of : Report → Option ℕ → Outcome
-outcome_of report asks = record {
+-- the outcome of a report on files that are only read
+unfoldable pub report_outcome : Report → Option ℕ → Outcome
+report_outcome report asks = record {
   marks = report.marks;
-  status = if report.refused then 1 else 0;
+  status = refused_status report.refused;
   writes = [];
   asks = asks;
   gives = Some 0;
@@ -79,24 +79,14 @@ abbrev pub MayHold : ℕ → Option FileWrite → Option (List ℕ) → Option (
 MayHold status None old held = held ≡ old
 MayHold status (Some w) old held = MayHoldBytes w.in_place status w.bytes old held
 
--- ---- The status
-
--- the status of a run that stops, and of one that is over
-abbrev pub stop_status : Stop → ℕ
-stop_status Read = 3
-stop_status Write = 4
-stop_status Memory = 5
-
-abbrev pub ended_status : Result ℕ Stop → ℕ
-ended_status (Ok status) = status
-ended_status (Err stop) = stop_status stop
-
 -- ---- A step that does it
 
--- A step does what is stated, or stops on the way.
-pub record Does {F D O E : Type 0} (f : FilesGhosts F D) (o : SinkGhosts O) (e : SinkGhosts E) (stated : Outcome)
-    (result : Result ℕ Stop) (files_old files_new : F) (old new : Outputs O E) : Type 0 where
-  pub performs : Performs o e result old new stated.marks stated.status
+-- A step does what is stated, or stops on the way. The status of its answer is told by `code`.
+pub record Does {F D O E T : Type 0} (f : FilesGhosts F D) (o : SinkGhosts O) (e : SinkGhosts E)
+    (code : T → ℕ) (stated : Outcome) (result : Result T Stop)
+    (files_old files_new : F) (old new : Outputs O E) : Type 0 where
+  pub writes : Writes o e result old new stated.marks
+  pub status : IfOk result (λ answer. code answer ≡ stated.status)
   pub files : OnOk result ((name : List ℕ)
       → f.named files_new name ≡ held_after (write_of stated.writes name) (f.named files_old name))
   pub left : IfErr result (λ stop. (name : List ℕ)

@@ -133,10 +133,8 @@ pub record Ends {O E T : Type 0} (o : Ghosts O) (e : Ghosts E) (ended result : R
   pub leaves : LeavesSinks o e old.out.now out_new old.err.now err_new
   pub cause : OnWrite result (OnKept ended (SinkRose o e old.out.now out_new old.err.now err_new))
 
--- a call over two sinks is over: they gained all the marks, and the answer is the value; or they gained a front
--- of the marks
+-- a call over two sinks is over: they gained all the marks, or a front of them where it stopped
 pub record Ended {T : Type 0} (result : Result T Stop) (out_old out_new err_old err_new : Option (List ℕ))
-    (marks : List Mark) (value : T) : Type 0 where
+    (marks : List Mark) : Type 0 where
   pub whole : OnOk result (Gained out_old out_new err_old err_new marks)
   pub stopped : OnErr result (GainedFront out_old out_new err_old err_new marks)
-  pub value_is : IfOk result (λ v. v ≡ value)

@@ -5,6 +5,7 @@
 pub mod lines;
 pub mod messages;
 pub mod outputs;
+pub mod statuses;
 pub mod stops;
 #[cfg(test)]
 mod tests;
@@ -12,4 +13,5 @@ mod tests;
 pub use lines::Line;
 pub use messages::Message;
 pub use outputs::{Outputs, PAGE_SIZE, Side};
+pub use statuses::Status;
 pub use stops::Stop;

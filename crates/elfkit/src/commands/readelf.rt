@@ -1,15 +1,16 @@
 //! readelf: the parts of each file that it names.
 
-ghost use Rattle.std.specs.Prelude.{false, ◌≡◌, ◌≢◌, ◌≤◌, ◌<◌, ◌+◌, ◌*◌, ◌^◌, Some, codes, IfOk, IfSome, IfErr, IsTrue};
+ghost use Rattle.std.specs.Prelude.{false, ◌≡◌, ◌≢◌, ◌≤◌, ◌+◌, ◌*◌, ◌^◌, Some, codes, IfSome, IfErr, IsTrue};
 ghost use Rattle.elf_types.specs.Answers.{Follows};
 ghost use Rattle.elf_outside.specs.Asks.{Asks};
 ghost use Rattle.tool_output.specs.Reports.{Reports};
 ghost use Rattle.tool_output.specs.Steps.{OnRead, LeavesOutputs};
 ghost use Rattle.tool_output.specs.Files.{LeavesFiles};
+ghost use Rattle.tool_output.specs.Statuses.{refused_status};
 ghost use Rattle.tool_output.specs.Outcomes.{Does};
-ghost use Rattle.elfkit.specs.Readelf.{file_front, title_report, front_report, file_report, file_asks, are_built, readelf_files, readelf_outcome};
+ghost use Rattle.elfkit.specs.Readelf.{file_front, title_report, front_report, file_report, file_asks, are_built, readelf_outcome};
 
-use crate::commands::{not_built, status_of};
+use crate::commands::not_built;
 use crate::files::{FileTool, each_file};
 use crate::lines::Title;
 use elf_ident::{FileKind, Front, kind_of_source, read_front};
@@ -113,48 +114,33 @@ fn are_built(parts: &ReadelfParts) -> bool
         || parts.versions)
 }
 
-/// The parts of each file, in the order of the names.
-fn show_files<F: Files, O: Sink, E: Sink>(
-    alloc: Global,
-    parts: &ReadelfParts,
-    names: &Args,
-    files: &mut F,
-    outputs: &mut Outputs<'_, O, E>,
-) -> Result<u8, Stop>
-    ensures does { IsTrue (F.tells files.old) →
-        Does F.Files O.Sink E.Sink (readelf_files parts.now names.now (F.named files.old)) result
-        files.old files.new outputs.old outputs.new }
-    ensures status { IfOk result (λ status. status < 2) }
-    ensures leaves { LeavesFiles F.Files O.Sink E.Sink result files.old files.new outputs.old outputs.new }
-{
-    let many = names.len() > 1;
-    let refused = each_file(
-        alloc,
-        &ReadelfTool { parts, many },
-        names.as_slice(),
-        files,
-        outputs,
-    )?;
-    Ok(status_of(refused))
-}
-
-/// The command readelf.
+/// The command readelf: the parts of each file, in the order of the names. The answer tells whether
+/// something was refused.
 pub fn readelf<F: Files, O: Sink, E: Sink>(
     alloc: Global,
     parts: &ReadelfParts,
     names: &Args,
     files: &mut F,
     outputs: &mut Outputs<'_, O, E>,
-) -> Result<u8, Stop>
+) -> Result<bool, Stop>
     ensures does { (IsTrue (are_built parts.now) → IsTrue (F.tells files.old)) →
-        Does F.Files O.Sink E.Sink (readelf_outcome parts.now names.now (F.named files.old)) result
-        files.old files.new outputs.old outputs.new }
-    ensures status { IfOk result (λ status. status < 2) }
-    ensures untouched { are_built parts.now ≡ false → (files.new ≡ files.old) × OnRead result ⊥ }
-    ensures leaves { LeavesFiles F.Files O.Sink E.Sink result files.old files.new outputs.old outputs.new }
+        Does F.Files O.Sink E.Sink refused_status
+        (readelf_outcome parts.now names.now (F.named files.old))
+        result files.old files.new outputs.old outputs.new }
+    ensures untouched { are_built parts.now ≡ false →
+        (files.new ≡ files.old) × OnRead result ⊥ }
+    ensures leaves { LeavesFiles F.Files O.Sink E.Sink
+        result files.old files.new outputs.old outputs.new }
 {
     if !are_built(parts) {
         return not_built(outputs);
     }
-    show_files(alloc, parts, names, files, outputs)
+    let many = names.len() > 1;
+    each_file(
+        alloc,
+        &ReadelfTool { parts, many },
+        names.as_slice(),
+        files,
+        outputs,
+    )
 }

@@ -1,7 +1,7 @@
 use Rattle.tool_output.proofs.OutcomeLemmas.{says_done}
 use Rattle.elfkit.specs.Lines.{says, not_built}
 use Rattle.elfkit.specs.Program.{command_outcome, is_built}
-use Rattle.elfkit.proofs.CommandLemmas.{outcome_of_others}
+use Rattle.elfkit.proofs.CommandLemmas.{outcome_of_others, status_of_refusal}
 use Rattle.elfkit.proofs.commands.run_command.Goals as goal
 
 pub returns-in-Readelf-clause-does : goal.returns-in-Readelf-clause-does
@@ -16,4 +16,5 @@ pub returns-in_default-clause-does : goal.returns-in_default-clause-does
 unfolding not_built says
 returns-in_default-clause-does g c = λ told.
     rw (outcome_of_others c.args.command.now (g.F.Files.named c.args.files.now) c.in_default.not-Readelf)
-    (says_done g.F.Files g.O.Sink g.E.Sink c.args.files.now c.args.files.now c.args.outputs.now _ _ _ _ c.not_built.ensures.performs)
+    (let h = c.not_built.ensures.performs in
+    says_done g.F.Files g.O.Sink g.E.Sink c.args.files.now c.args.files.now c.args.outputs.now _ _ _ _ _ h.writes (status_of_refusal _ h.value_is))

@@ -31,7 +31,7 @@ returns-clause-asks g c = λ told.
     let t = g.T.FileTool in
     opened_asks (t.command c.args.tool.now) (t.report c.args.tool.now) (t.asks c.args.tool.now) (g.F.Files.named c.args.files.now) c.args.name.now
     _ _ _ _ _ (c.in-Ok.ensures.bytes told) (λ none. let h = (c.in-Ok.ensures.not_there told).1 none in cc)
-    (rw c.in-Ok.ensures.numbers.0 at c.show-shown.ensures.asks) c.open.ensures.taken c.close.ensures.taken.no_more
+    (rw c.in-Ok.ensures.hands.fresh.taken at c.show-shown.ensures.asks) c.open.ensures.hands.taken c.close.ensures.taken.no_more
 
 pub returns-clause-reads : goal.returns-clause-reads
 returns-clause-reads g c = record {
@@ -39,6 +39,6 @@ returns-clause-reads g c = record {
       (c.show-shown.ensures.source.0.same_bytes ∙ c.in-Ok.ensures.bytes told);
   given =
       let rest = g.met.F.File.Device.rest_begins in
-      given_kept _ _ _ _ (given_same _ _ _ _ _ _ _ _ (rest c.in-Ok.file) (rest c.show-shown.new.src) c.show-shown.ensures.source.0.same_rest ∙ c.in-Ok.ensures.numbers.1)
-      c.open.ensures.given c.close.ensures.given;
+      given_kept _ _ _ _ (given_same _ _ _ _ _ _ _ _ (rest c.in-Ok.file) (rest c.show-shown.new.src) c.show-shown.ensures.source.0.same_rest ∙ c.in-Ok.ensures.hands.fresh.given)
+      c.open.ensures.hands.given c.close.ensures.given;
 }

@@ -1,15 +1,20 @@
-use Rattle.std.proofs.Common.{sym}
-use Rattle.tool_output.proofs.OutcomeLemmas.{says_done}
+use Rattle.std.proofs.Common.{sym, refl}
+use Rattle.tool_output.proofs.OutcomeLemmas.{says_done, reads_done}
 use Rattle.elfkit.specs.Lines.{says, not_built}
-use Rattle.elfkit.specs.Readelf.{readelf_outcome}
+use Rattle.elfkit.specs.Readelf.{readelf_files, readelf_outcome}
+use Rattle.elfkit.proofs.CommandLemmas.{status_of_refusal}
 use Rattle.elfkit.proofs.commands.readelf.readelf.Goals as goal
 
 pub returns-then-not-are_built-clause-does : goal.returns-then-not-are_built-clause-does
 unfolding readelf_outcome not_built says
 returns-then-not-are_built-clause-does g c = λ told.
-    rw (← c.if-not-are_built.ensures) (says_done g.F.Files g.O.Sink g.E.Sink c.args.files.now c.args.files.now c.args.outputs.now _ _ _ _ c.not_built.ensures.performs)
+    let h = c.not_built.ensures.performs in
+    rw (← c.if-not-are_built.ensures) (says_done g.F.Files g.O.Sink g.E.Sink c.args.files.now c.args.files.now c.args.outputs.now _ _ _ _ _ h.writes
+    (status_of_refusal _ h.value_is))
 
 pub returns-clause-does : goal.returns-clause-does
-unfolding readelf_outcome
+unfolding readelf_outcome readelf_files
 returns-clause-does g c = λ told.
-    rw (← c.if-not-are_built.ensures) (c.show_files.ensures.does (told (sym c.if-not-are_built.ensures)))
+    let t = told (sym c.if-not-are_built.ensures) in
+    rw (← c.if-not-are_built.ensures) (reads_done g.F.Files g.O.Sink g.E.Sink c.args.files.now _ c.args.outputs.now _ _ _ _ t c.each_file.ensures.reads
+    (rw (← c.as_slice.ensures) (c.each_file.ensures.asks t)) (rw (← c.len-many.ensures, ← c.as_slice.ensures) (c.each_file.ensures.reports t)))
