@@ -5,6 +5,8 @@ mod commands;
 mod files;
 mod lines;
 mod program;
+#[cfg(test)]
+mod tests;
 
 ghost use Rattle.std.specs.Prelude.{◌≡◌, ◌⊎◌, IfErr};
 

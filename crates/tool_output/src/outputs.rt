@@ -117,6 +117,7 @@ impl<'a, O: Sink, E: Sink> Outputs<'a, O, E> {
     fn turn(&mut self) -> Result<(), Stop>
         ensures writes { Writes O.Sink E.Sink result self.old self.new [] }
         ensures room { OnOk result (length self.new.page.now < page_size) }
+        ensures side { self.new.side ≡ self.old.side }
         ensures waits { length self.old.page.now < page_size → Waits self.old self.new self.old.page.now }
         ensures leaves { LeavesOutputs O.Sink E.Sink ⊥ result self.old self.new }
     {
@@ -132,6 +133,7 @@ impl<'a, O: Sink, E: Sink> Outputs<'a, O, E> {
     pub fn put<L: Line>(&mut self, side: Side, line: &L) -> Result<(), Stop>
         ensures writes { Writes O.Sink E.Sink result self.old self.new (said side (L.text line.now)) }
         ensures room { OnOk result (length self.new.page.now < page_size) }
+        ensures turned { OnOk result (self.new.side ≡ side) }
         ensures waits { self.old.side ≡ side → length (self.old.page.now ++ L.text line.now) < page_size
             → OnOk result (Waits self.old self.new (self.old.page.now ++ L.text line.now)) }
         ensures leaves { LeavesOutputs O.Sink E.Sink ⊥ result self.old self.new }
