@@ -2,14 +2,16 @@
 use Rattle.std.specs.Prelude.{ℕ, List, ◌++◌, map, Result, Ok, codes}
 use Rattle.elf_types.specs.Answers.{◌>>=◌}
 use Rattle.elf_types.specs.Text.{error_text}
+use Rattle.elf_outside.specs.Names.{Map}
 use Rattle.tool_text.specs.declared.commands.CopyChanges.{CopyChanges}
 use Rattle.command_objects.specs.Copied.{Changes, CopyFault, copied}
 use Rattle.command_objects.specs.Copied.CopyFault.{NoSection, NoBytes, Allocated, Fixed, NoTable, Strip}
 use Rattle.command_objects.specs.Rehashed.{RehashFault, rehashed}
 use Rattle.command_objects.specs.Rehashed.RehashFault.{NoDynamicHash, Refused}
 use Rattle.command_objects.specs.Files.{file_of}
-use Rattle.command_outcomes.specs.Outcomes.{Outcome, Done, Complaint, outcome_of, made, complaint, of_file}
-use Rattle.command_outcomes.specs.Files.{Named, object_named, bytes_of_each}
+use Rattle.tool_output.specs.Outcomes.{Outcome}
+use Rattle.command_outcomes.specs.Outcomes.{Done, Complaint, written_outcome, made, complaint, of_file}
+use Rattle.command_outcomes.specs.Files.{object_named, bytes_of_each}
 use Rattle.command_outcomes.specs.Strip.{or_complaint}
 
 -- ---- copy
@@ -33,7 +35,7 @@ copy_text NoTable = codes "no name table of its own"
 copy_text (Strip e) = error_text e
 
 -- the files of -u and then those of -a are read before the file itself is opened
-unfoldable pub copy_done : CopyChanges → Named → List ℕ → List ℕ → Result Done Complaint
+unfoldable pub copy_done : CopyChanges → Map → List ℕ → List ℕ → Result Done Complaint
 copy_done c named out file =
     bytes_of_each named c.update >>= λ update.
     bytes_of_each named c.add >>= λ add.
@@ -43,8 +45,8 @@ copy_done c named out file =
     of_file file (file_of r.object) >>= λ bytes.
     Ok (made out bytes)
 
-unfoldable pub copy_outcome : CopyChanges → Named → List ℕ → List ℕ → Outcome
-copy_outcome c named out file = outcome_of (codes "copy") (copy_done c named out file)
+unfoldable pub copy_outcome : CopyChanges → Map → List ℕ → List ℕ → Outcome
+copy_outcome c named out file = written_outcome (codes "copy") (copy_done c named out file)
 
 -- ---- rehash
 
@@ -52,12 +54,12 @@ unfoldable pub rehash_text : RehashFault → List ℕ
 rehash_text NoDynamicHash = codes "no dynamic hash"
 rehash_text (Refused e) = error_text e
 
-unfoldable pub rehash_done : Named → List ℕ → List ℕ → Result Done Complaint
+unfoldable pub rehash_done : Map → List ℕ → List ℕ → Result Done Complaint
 rehash_done named out file =
     object_named named file >>= λ o.
     or_complaint (λ fault. complaint file (rehash_text fault)) (rehashed o) >>= λ p.
     of_file file (file_of p) >>= λ bytes.
     Ok (made out bytes)
 
-unfoldable pub rehash_outcome : Named → List ℕ → List ℕ → Outcome
-rehash_outcome named out file = outcome_of (codes "rehash") (rehash_done named out file)
+unfoldable pub rehash_outcome : Map → List ℕ → List ℕ → Outcome
+rehash_outcome named out file = written_outcome (codes "rehash") (rehash_done named out file)

@@ -1,37 +1,12 @@
 -- What a command gives: the bytes that it writes on both outputs, in their order, its status,
 -- and the files that it makes.
-use Rattle.std.specs.Prelude.{ℕ, Bool, false, List, [], ◌∷◌, map, Option, None, Result, Ok, Err}
+use Rattle.std.specs.Prelude.{ℕ, false, List, [], ◌∷◌, None, Result, Ok, Err}
 use Rattle.elf_types.specs.declared.errors.ElfError.{ElfError}
 use Rattle.elf_types.specs.Text.{error_text}
-use Rattle.tool_text.specs.Messages.{message}
-
--- standard output and standard error
-pub data Side : Type 0 where
-  Out : Side
-  Error : Side
-
-pub record Mark : Type 0 where
-  pub side : Side
-  pub byte : ℕ
-
--- a text on one side
-unfoldable pub said : Side → List ℕ → List Mark
-said side text = map (λ b. record { side = side; byte = b }) text
-
--- a file that is written, with its bytes, and whether it is changed in place or made anew
-pub record FileWrite : Type 0 where
-  pub name : List ℕ
-  pub bytes : List ℕ
-  pub in_place : Bool
-
--- what a run is to do; the last two are bounds on the bytes that it asks for and that it hands to
--- writes, None where none is promised
-pub record Outcome : Type 0 where
-  pub marks : List Mark
-  pub status : ℕ
-  pub writes : List FileWrite
-  pub asks : Option ℕ
-  pub gives : Option ℕ
+use Rattle.tool_output.specs.declared.outputs.Side.TheVariants.{Out, Error}
+use Rattle.tool_output.specs.Marks.{Mark, said}
+use Rattle.tool_output.specs.Messages.{message}
+use Rattle.tool_output.specs.Outcomes.{FileWrite, Outcome}
 
 -- ---- Commands that write: they make all their files, or say why they make none
 
@@ -51,9 +26,9 @@ outcome_with marks status writes =
     record { marks = marks; status = status; writes = writes; asks = None; gives = None }
 
 -- status 1 and one message where something is refused
-unfoldable pub outcome_of : List ℕ → Result Done Complaint → Outcome
-outcome_of command (Ok done) = outcome_with (said Out done.shown) 0 done.writes
-outcome_of command (Err c) = outcome_with (said Error (message command c.file c.text)) 1 []
+unfoldable pub written_outcome : List ℕ → Result Done Complaint → Outcome
+written_outcome command (Ok done) = outcome_with (said Out done.shown) 0 done.writes
+written_outcome command (Err c) = outcome_with (said Error (message command c.file c.text)) 1 []
 
 -- a file that is made anew
 abbrev pub made_file : List ℕ → List ℕ → FileWrite

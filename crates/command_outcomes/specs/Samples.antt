@@ -1,21 +1,24 @@
 -- Files by their names, and options, on which the outcomes are computed.
 use Rattle.std.specs.Prelude.{ℕ, Bool, List, [], ◌∷◌, codes, map, length, if◌then◌else◌, Option, Some, None}
 use Rattle.std.specs.Str.{bytes_eq}
+use Rattle.elf_outside.specs.Names.{Map}
 use Rattle.tool_text.specs.declared.commands.StripOptions.{StripOptions}
 use Rattle.tool_text.specs.declared.commands.CopyChanges.{CopyChanges}
 use Rattle.elf_object.specs.Samples.{small64, header64}
-use Rattle.command_outcomes.specs.Outcomes.{Outcome, FileWrite, outcome_with, said}
-use Rattle.command_outcomes.specs.Outcomes.Side.{Error}
-use Rattle.command_outcomes.specs.Files.{Named}
+use Rattle.tool_output.specs.Marks.{said}
+use Rattle.tool_output.specs.Outcomes.{Outcome, FileWrite}
+use Rattle.command_outcomes.specs.Outcomes.{outcome_with}
+use Rattle.tool_output.specs.declared.outputs.Side.TheVariants.{Error}
+use Rattle.command_outcomes.specs.Files.{}
 use Rattle.command_outcomes.specs.Strip.{strip_outcome}
 
 -- the bytes of the first row with the name
-abbrev pub file_in : List (List ℕ × List ℕ) → Named
+abbrev pub file_in : List (List ℕ × List ℕ) → Map
 file_in [] name = None
 file_in (row ∷ rows) name = if bytes_eq name row.0 then Some row.1 else file_in rows name
 
 -- an image, another one, an archive, and a file of two bytes
-abbrev pub some_files : Named
+abbrev pub some_files : Map
 some_files = file_in
     ((codes "J", small64)
     ∷ (codes "H", header64)

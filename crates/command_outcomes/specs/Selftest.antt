@@ -4,7 +4,8 @@ use Rattle.elf_types.specs.Answers.{◌>>=◌}
 use Rattle.elf_object.specs.Open.{opened}
 use Rattle.command_objects.specs.Generated.{generated_and_shifted, five_lines}
 use Rattle.command_objects.specs.Files.{file_of}
-use Rattle.command_outcomes.specs.Outcomes.{Outcome, Done, Complaint, outcome_of, made_file, of_file}
+use Rattle.tool_output.specs.Outcomes.{Outcome}
+use Rattle.command_outcomes.specs.Outcomes.{Done, Complaint, written_outcome, made_file, of_file}
 
 unfoldable pub selftest_done : List ℕ → ℕ → Result Done Complaint
 selftest_done out n =
@@ -13,4 +14,4 @@ selftest_done out n =
     Ok (record { shown = five_lines n o; writes = made_file out bytes ∷ [] })
 
 unfoldable pub selftest_outcome : List ℕ → ℕ → Outcome
-selftest_outcome out n = outcome_of (codes "selftest") (selftest_done out n)
+selftest_outcome out n = written_outcome (codes "selftest") (selftest_done out n)

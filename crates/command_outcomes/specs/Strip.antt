@@ -3,6 +3,7 @@ use Rattle.std.specs.Prelude.{ℕ, List, [], ◌∷◌, Option, Some, None, Resu
 use Rattle.elf_types.specs.Answers.{answered, ◌>>=◌}
 use Rattle.elf_types.specs.Text.{error_text, numbered}
 use Rattle.std.specs.Option.{option_map}
+use Rattle.elf_outside.specs.Names.{Map}
 use Rattle.tool_text.specs.declared.commands.StripOptions.{StripOptions}
 use Rattle.elf_object.specs.Object.{Object}
 use Rattle.command_objects.specs.Removed.{removed_sections}
@@ -10,8 +11,9 @@ use Rattle.command_objects.specs.Rebuilt.{rebuilt}
 use Rattle.command_objects.specs.Split.{debug_of, removed_allocated, unstripped, UnstripFault}
 use Rattle.command_objects.specs.Split.UnstripFault.{Elf, Debug, Mismatch}
 use Rattle.command_objects.specs.Files.{file_of}
-use Rattle.command_outcomes.specs.Outcomes.{Outcome, Done, Complaint, outcome_of, made, made_file, complaint, of_file}
-use Rattle.command_outcomes.specs.Files.{Named, object_named}
+use Rattle.tool_output.specs.Outcomes.{Outcome}
+use Rattle.command_outcomes.specs.Outcomes.{Done, Complaint, written_outcome, made, made_file, complaint, of_file}
+use Rattle.command_outcomes.specs.Files.{object_named}
 
 -- ---- strip
 
@@ -42,7 +44,7 @@ strip_split o removed out debug file =
       writes = made_file out stripped_bytes ∷ made_file debug debug_bytes ∷ [];
     })
 
-unfoldable pub strip_done : StripOptions → Named → List ℕ → Result Done Complaint
+unfoldable pub strip_done : StripOptions → Map → List ℕ → Result Done Complaint
 strip_done options named file =
     object_named named file >>= λ o.
     let removed = removed_sections options.debug_only options.names o in
@@ -51,8 +53,8 @@ strip_done options named file =
       | Some debug ↦ strip_split o removed options.out debug file
     ]
 
-unfoldable pub strip_outcome : StripOptions → Named → List ℕ → Outcome
-strip_outcome options named file = outcome_of (codes "strip") (strip_done options named file)
+unfoldable pub strip_outcome : StripOptions → Map → List ℕ → Outcome
+strip_outcome options named file = written_outcome (codes "strip") (strip_done options named file)
 
 -- ---- unstrip
 
@@ -66,7 +68,7 @@ abbrev pub or_complaint : {A F : Type 0} → (F → Complaint) → Result A F �
 or_complaint complain (Ok x) = Ok x
 or_complaint complain (Err fault) = Err (complain fault)
 
-unfoldable pub unstrip_done : Named → List ℕ → List ℕ → List ℕ → Result Done Complaint
+unfoldable pub unstrip_done : Map → List ℕ → List ℕ → List ℕ → Result Done Complaint
 unstrip_done named out stripped debug =
     object_named named stripped >>= λ s.
     object_named named debug >>= λ d.
@@ -74,6 +76,6 @@ unstrip_done named out stripped debug =
     of_file stripped (file_of r.object) >>= λ bytes.
     Ok (made out bytes)
 
-unfoldable pub unstrip_outcome : Named → List ℕ → List ℕ → List ℕ → Outcome
+unfoldable pub unstrip_outcome : Map → List ℕ → List ℕ → List ℕ → Outcome
 unstrip_outcome named out stripped debug =
-    outcome_of (codes "unstrip") (unstrip_done named out stripped debug)
+    written_outcome (codes "unstrip") (unstrip_done named out stripped debug)

@@ -4,8 +4,9 @@
 
 ghost use Rattle.std.specs.Prelude.{◌≡◌, [], ◌∷◌, codes, true, false, None, Some};
 ghost use Rattle.elf_object.specs.Samples.{small64};
-ghost use Rattle.command_outcomes.specs.Outcomes.{said, made_file};
-ghost use Rattle.command_outcomes.specs.Outcomes.Side.{Out};
+ghost use Rattle.tool_output.specs.Marks.{said};
+ghost use Rattle.command_outcomes.specs.Outcomes.{made_file};
+ghost use Rattle.tool_output.specs.declared.outputs.Side.TheVariants.{Out};
 ghost use Rattle.command_outcomes.specs.Strip.{unstrip_outcome};
 ghost use Rattle.command_outcomes.specs.Copy.{copy_outcome, rehash_outcome};
 ghost use Rattle.command_outcomes.specs.Selftest.{selftest_outcome};
