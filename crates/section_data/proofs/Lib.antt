@@ -1,0 +1,4 @@
+pub mod Pieces
+pub mod Items
+pub mod Loading
+pub mod Edits

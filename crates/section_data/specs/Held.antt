@@ -38,10 +38,18 @@ holds_items c p = is_some (ready c p)
 abbrev pub HeldIs : Class → Order → CellView → Type 0
 HeldIs class order c = IfSome c.held (λ items. option_and_then (decoded c.home.kind class order) c.raw ≡ Some items)
 
+-- no items where there are none
+abbrev pub or_empty : Option Items → Items
+or_empty None = items.Empty
+or_empty (Some items) = items
+
+-- the items of a kind that bytes hold
+abbrev pub items_of_bytes : Kind → Class → Order → List ℕ → Items
+items_of_bytes kind class order bytes = or_empty (decoded kind class order bytes)
+
 -- the items that the raw bytes hold
 abbrev pub raw_items : Class → Order → CellView → Items
-raw_items class order c =
-    elim (option_and_then (decoded c.home.kind class order) c.raw) [ None ↦ items.Empty | Some items ↦ items ]
+raw_items class order c = or_empty (option_and_then (decoded c.home.kind class order) c.raw)
 
 -- the items of a piece: its own, or for the clean home piece those that the raw bytes hold
 unfoldable pub items_in : Class → Order → CellView → ℕ → Items
@@ -54,7 +62,3 @@ is_ragged class c = not (is_whole c.home.kind class c.home.len)
 -- whether each item of a piece can be told: it is own, or the home is loaded and has whole items
 unfoldable pub is_at_hand : Class → CellView → ℕ → Bool
 is_at_hand class c p = is_some (piece_in c p).own || (is_loaded c && not (is_ragged class c))
-
--- the items of a kind that bytes hold
-abbrev pub items_of_bytes : Kind → Class → Order → List ℕ → Items
-items_of_bytes kind class order bytes = elim (decoded kind class order bytes) [ None ↦ items.Empty | Some items ↦ items ]

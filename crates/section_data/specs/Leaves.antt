@@ -5,15 +5,22 @@ use Rattle.elf_object.specs.Object.{Home, Piece}
 use Rattle.elf_object.specs.Open.{home_bytes}
 use Rattle.elf_object.specs.Steps.{own_piece}
 use Rattle.section_data.specs.Views.{CellView}
-use Rattle.section_data.specs.Held.{piece_in, ready}
+use Rattle.section_data.specs.Held.{piece_in, ready, is_loaded}
 
--- raw bytes stay; where there were none they may have been read: as many as the home is long, and those of the home in the
--- image where the source tells it
+-- bytes that were read from a home: as many as it is long, and those of the home in the image where the source tells it
+abbrev pub IsReadFrom : Option (List ℕ) → Home → List ℕ → Type 0
+IsReadFrom image home bytes =
+    (length bytes ≡ home.len) × IfSome image (λ told. bytes ≡ home_bytes home told)
+
+abbrev pub bytes_or_none : Option (List ℕ) → List ℕ
+bytes_or_none None = []
+bytes_or_none (Some bytes) = bytes
+
+-- raw bytes stay; where there were none they may have been read
 abbrev pub RawBecomes : Option (List ℕ) → Home → Option (List ℕ) → Option (List ℕ) → Type 0
 RawBecomes image home (Some bytes) now = now ≡ Some bytes
 RawBecomes image home None None = Unit {0}
-RawBecomes image home None (Some bytes) =
-    (length bytes ≡ home.len) × IfSome image (λ told. bytes ≡ home_bytes home told)
+RawBecomes image home None (Some bytes) = IsReadFrom image home bytes
 
 -- a call that reads and translates at first use: no more than the raw bytes and the held items may come to be there
 pub record Warms (image : Option (List ℕ)) (old new : CellView) : Type 0 where
@@ -49,4 +56,4 @@ marked_piece c p = record c { pieces = slice_set c.pieces p (record (piece_in c 
 -- a home that lies in the image and is not loaded lies in a source of that size
 abbrev pub LiesIn : CellView → ℕ → Type 0
 LiesIn c size =
-    c.raw ≡ None → c.home.out ≡ false → 0 < c.home.len → c.home.at + c.home.len ≤ size
+    is_loaded c ≡ false → c.home.out ≡ false → 0 < c.home.len → c.home.at + c.home.len ≤ size

@@ -73,6 +73,10 @@ abbrev pub due_unless : Option ElfError → ℕ → ℕ
 due_unless None due = due
 due_unless (Some e) due = 0
 
+-- of a call that makes a piece hold its items
+unfoldable pub items_due : Class → CellView → ℕ → ℕ
+items_due class c p = due_unless (items_refused class c p) (piece_due c p)
+
 -- ---- Where Memory and Read may come
 
 -- in a call that only reads: where there is something to read

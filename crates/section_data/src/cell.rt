@@ -138,12 +138,21 @@ impl Cell {
         self.pieces.len() as u32
     }
 
-    /// Whether a piece has items of its own. It takes no memory.
+    /// The piece with that number.
+    fn piece(&self, p: u32) -> &Piece
+        requires { p < length self.now.pieces }
+        ensures { result.now ≡ piece_in self.now p }
+    {
+        &self.pieces[p as usize]
+    }
+
+    /// Whether a piece has items of its own; an own piece is marked. It takes no memory.
     pub fn is_own(&self, p: u32) -> bool
         requires { p < length self.now.pieces }
-        ensures { result ≡ is_some (piece_in self.now p).own }
+        ensures value { result ≡ is_some (piece_in self.now p).own }
+        ensures marked { result ≡ true → (piece_in self.now p).marked ≡ true }
     {
-        self.pieces[p as usize].is_own()
+        self.piece(p).is_own()
     }
 
     /// Whether a piece is marked dirty. It takes no memory.
@@ -151,7 +160,7 @@ impl Cell {
         requires { p < length self.now.pieces }
         ensures { result ≡ (piece_in self.now p).marked }
     {
-        self.pieces[p as usize].is_marked()
+        self.piece(p).is_marked()
     }
 
     /// The alignment of a piece in its section. It takes no memory.
@@ -159,15 +168,16 @@ impl Cell {
         requires { p < length self.now.pieces }
         ensures { result ≡ (piece_in self.now p).align }
     {
-        self.pieces[p as usize].align()
+        self.piece(p).align()
     }
 
     /// The kind that a piece holds: that of its own items, or its home's. It takes no memory.
+    #[tactic(auto, using(crate::proofs::Pieces::kind_own, crate::proofs::Pieces::kind_clean))]
     pub fn piece_kind(&self, p: u32) -> Kind
         requires { p < length self.now.pieces }
         ensures { result ≡ kind_in self.now p }
     {
-        let piece = &self.pieces[p as usize];
+        let piece = self.piece(p);
         if piece.is_own() {
             piece.items().kind()
         } else {

@@ -7,7 +7,7 @@ ghost use Rattle.elf_types.specs.declared.records.Order.{Order as TheOrder};
 ghost use Rattle.elf_xlate.specs.Items.{item_size, half_of, word_of, addr_of, sym_of, rel_of, rela_of, dyn_of};
 ghost use Rattle.elf_xlate.specs.Translation.{decoded, listed, is_whole};
 ghost use Rattle.elf_object.specs.Answers.{entry_at};
-ghost use Rattle.section_data.specs.Entries.{half_decoded, word_decoded, addr_decoded, sym_decoded, rel_decoded, rela_decoded, dyn_decoded};
+ghost use Rattle.section_data.specs.Entries.{half_decoded, half_sized, word_decoded, word_sized, addr_decoded, addr_sized, sym_decoded, sym_sized, rel_decoded, rel_sized, rela_decoded, rela_sized, dyn_decoded, dyn_sized};
 ghost use Rattle.section_data.specs.Held.{items_of_bytes};
 
 use crate::listed::Listed;
@@ -30,6 +30,9 @@ pub trait Item: Listed + Copy + Drop {
 
     // The items that bytes hold are those at each place.
     ghost listed_in: { (class : TheClass) (order : TheOrder) (bytes : List ℕ) → decoded Self.kind class order bytes ≡ option_map Self.variant (listed (item_of class order) (item_size Self.kind class) bytes) };
+
+    // An item has bytes.
+    ghost sized: { (class : TheClass) → 0 < item_size Self.kind class };
 }
 
 impl Item for u16 {
@@ -44,6 +47,8 @@ impl Item for u16 {
     }
 
     ghost listed_in = { half_decoded };
+
+    ghost sized = { half_sized };
 }
 
 impl Item for u32 {
@@ -58,6 +63,8 @@ impl Item for u32 {
     }
 
     ghost listed_in = { word_decoded };
+
+    ghost sized = { word_sized };
 }
 
 impl Item for u64 {
@@ -72,6 +79,8 @@ impl Item for u64 {
     }
 
     ghost listed_in = { addr_decoded };
+
+    ghost sized = { addr_sized };
 }
 
 impl Item for Sym {
@@ -86,6 +95,8 @@ impl Item for Sym {
     }
 
     ghost listed_in = { sym_decoded };
+
+    ghost sized = { sym_sized };
 }
 
 impl Item for Rel {
@@ -100,6 +111,8 @@ impl Item for Rel {
     }
 
     ghost listed_in = { rel_decoded };
+
+    ghost sized = { rel_sized };
 }
 
 impl Item for Rela {
@@ -114,6 +127,8 @@ impl Item for Rela {
     }
 
     ghost listed_in = { rela_decoded };
+
+    ghost sized = { rela_sized };
 }
 
 impl Item for Dyn {
@@ -128,6 +143,8 @@ impl Item for Dyn {
     }
 
     ghost listed_in = { dyn_decoded };
+
+    ghost sized = { dyn_sized };
 }
 
 /// The entry of a list at an index. It refuses `NoEntry` alone and takes no memory.

@@ -1,6 +1,6 @@
 //! A piece of a section's data.
 
-ghost use Rattle.std.specs.Prelude.{◌≡◌, IsTrue, IsSome, IfSome, Some, is_some};
+ghost use Rattle.std.specs.Prelude.{◌≡◌, IsTrue, IsSome, IfSome, Some, is_some, true};
 ghost use Rattle.std.specs.Borrow.{sem};
 ghost use Rattle.elf_xlate.specs.Translation.{items_kind};
 ghost use Rattle.elf_object.specs.Calls.{is_piece_align};
@@ -39,7 +39,6 @@ impl Piece {
     ghost use Rattle.section_data.specs.Lends.{LendsPiece, LendsPieceItems};
 
     /// The clean home piece.
-    #[tactic(auto, unfolding(elf_object::specs::Calls::is_piece_align))]
     pub(crate) fn home() -> Piece
         ensures { result ≡ home_piece }
     {
@@ -66,7 +65,8 @@ impl Piece {
 
     /// Whether the piece has items of its own.
     pub(crate) fn is_own(&self) -> bool
-        ensures { result ≡ is_some self.now.own }
+        ensures value { result ≡ is_some self.now.own }
+        ensures marked { result ≡ true → self.now.marked ≡ true }
     {
         self.own
     }

@@ -1,9 +1,9 @@
 //! Edits of the pieces, which read nothing.
 
-ghost use Rattle.std.specs.Prelude.{◌≡◌, ◌<◌, length, OnOk, IsTrue};
+ghost use Rattle.std.specs.Prelude.{◌≡◌, ◌<◌, length, OnOk, OnErr, IfErr, IsTrue};
 ghost use Rattle.elf_types.specs.declared.constants.TheConstants.{MAX_PIECES};
-ghost use Rattle.elf_types.specs.Answers.{answered};
-ghost use Rattle.elf_object.specs.Calls.{after_answer, is_piece_align};
+ghost use Rattle.elf_types.specs.Answers.{answered, IsRefusal};
+ghost use Rattle.elf_object.specs.Calls.{is_piece_align};
 ghost use Rattle.elf_object.specs.Words.{EditsWith, handing_back};
 ghost use Rattle.section_data.specs.Refused.{no_piece, unfit_piece, replace_refused, append_refused};
 ghost use Rattle.section_data.specs.Leaves.{replaced, appended, marked_piece};
@@ -25,7 +25,8 @@ fn is_piece_align(align: u64) -> bool
 impl Cell {
     /// Whether items fit the class as the piece with that number; else `Unfit`.
     fn check_fit(&self, p: u32, class: Class, items: &Items) -> Result<(), ElfError>
-        ensures { result ≡ answered (unfit_piece class self.now p items.now) tt }
+        ensures answer { result ≡ answered (unfit_piece class self.now p items.now) tt }
+        ensures err { IfErr result IsRefusal }
     {
         match unfit(items, class) {
             None => Ok(()),
@@ -52,6 +53,7 @@ impl Cell {
         ensures answer { result ≡ answered (append_refused class self.now items.now align) tt }
         ensures room { OnOk result (length self.now.pieces < MAX_PIECES) }
         ensures align { OnOk result (IsTrue (is_piece_align align)) }
+        ensures err { IfErr result IsRefusal }
     {
         let count = self.pieces.len() as u32;
         if u64::from(count) >= MAX_PIECES {
@@ -63,6 +65,14 @@ impl Cell {
         self.check_fit(count, class, items)
     }
 
+    /// Gives a piece items of its own.
+    pub(super) fn set_piece(&mut self, p: u32, items: Items)
+        requires { p < length self.old.pieces }
+        ensures { self.new ≡ replaced self.old p items }
+    {
+        self.pieces[p as usize].set(items);
+    }
+
     /// Gives a piece other items, of any kind; it becomes own and marked, and keeps its alignment.
     /// It refuses in this order: `NoData`, `Unfit`, and hands the items back. It takes no memory.
     ///
@@ -70,13 +80,13 @@ impl Cell {
     pub fn replace(&mut self, p: u32, class: Class, items: Items) -> Result<(), (Items, ElfError)>
         ensures answer { result ≡ handing_back items
             (answered (replace_refused class self.old p items) tt) }
-        ensures cell { self.new ≡ after_answer (answered (replace_refused class self.old p items) tt)
-            self.old (replaced self.old p items) }
+        ensures ok { OnOk result (self.new ≡ replaced self.old p items) }
+        ensures unchanged { OnErr result (self.new ≡ self.old) }
     {
         if let Err(e) = self.check_replace(p, class, &items) {
             return Err((items, e));
         }
-        self.pieces[p as usize].set(items);
+        self.set_piece(p, items);
         Ok(())
     }
 

@@ -2,7 +2,7 @@
 
 ghost use Rattle.std.specs.Prelude.{◌≡◌, ◌<◌, length, IsTrue, IsSome, Some};
 ghost use Rattle.elf_object.specs.Answers.{entry_at};
-ghost use Rattle.section_data.specs.Held.{kind_in, items_in, is_at_hand, ready, holds_items};
+ghost use Rattle.section_data.specs.Held.{kind_in, items_in, is_at_hand, ready, home_items, holds_items};
 
 use crate::cell::Cell;
 use crate::cell::loading::is_bytes;
@@ -22,17 +22,11 @@ fn there(slot: &Option<Items>) -> &Items
 }
 
 impl Cell {
-    /// The items of a piece that holds them. It takes no memory.
-    #[tactic(auto, unfolding(crate::specs::Held::ready))]
-    pub fn items(&self, p: u32) -> &Items
-        requires piece { p < length self.now.pieces }
-        requires holds { IsTrue (holds_items self.now p) }
-        ensures { ready self.now p ≡ Some result.now }
+    /// The home's items, which are held.
+    fn home_items(&self) -> &Items
+        requires { IsSome (home_items self.now) }
+        ensures { home_items self.now ≡ Some result.now }
     {
-        let piece = &self.pieces[p as usize];
-        if piece.is_own() {
-            return piece.items();
-        }
         if is_bytes(self.home.kind) {
             there(&self.raw)
         } else {
@@ -40,19 +34,32 @@ impl Cell {
         }
     }
 
+    /// The items of a piece that holds them. It takes no memory.
+    #[tactic(auto, using(crate::proofs::Pieces::ready_own, crate::proofs::Pieces::ready_clean))]
+    pub fn items(&self, p: u32) -> &Items
+        requires piece { p < length self.now.pieces }
+        requires holds { IsTrue (holds_items self.now p) }
+        ensures { ready self.now p ≡ Some result.now }
+    {
+        let piece = self.piece(p);
+        if piece.is_own() {
+            return piece.items();
+        }
+        self.home_items()
+    }
+
     /// Item `i` of a piece of the item's kind that is own, or whose home is loaded and has whole
     /// items: the home is not translated. It refuses `NoEntry` exactly where the index is not below
     /// the number of items, and takes no memory.
     ///
     /// Source: gelf_getsym of gelf(3E) and its like.
-    #[tactic(auto, unfolding(crate::specs::Held::items_in, crate::specs::Held::kind_in, crate::specs::Held::is_at_hand))]
     pub fn item<T: Item>(&self, p: u32, i: u64, class: Class, order: Order) -> Result<T, ElfError>
         requires piece { p < length self.now.pieces }
         requires kind { kind_in self.now p ≡ T.kind }
         requires there { IsTrue (is_at_hand class self.now p) }
         ensures { result ≡ entry_at (T.list_of (items_in class order self.now p)) i }
     {
-        let piece = &self.pieces[p as usize];
+        let piece = self.piece(p);
         if piece.is_own() {
             return entry(T::list(piece.items()), i);
         }

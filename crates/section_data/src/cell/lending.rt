@@ -91,7 +91,7 @@ impl Cell {
             return Ok(());
         }
         let items = self.take_home(alloc)?;
-        self.pieces[p as usize].set(items);
+        self.set_piece(p, items);
         Ok(())
     }
 

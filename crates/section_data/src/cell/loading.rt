@@ -7,9 +7,9 @@ ghost use Rattle.elf_outside.specs.Asks.{Asks};
 ghost use Rattle.elf_xlate.specs.Translation.{decoded, is_whole};
 ghost use Rattle.elf_object.specs.Words.{Answers};
 ghost use Rattle.section_data.specs.Views.{is_bytes};
-ghost use Rattle.section_data.specs.Held.{piece_in, is_ragged, is_loaded, ready, holds_items, HeldIs};
-ghost use Rattle.section_data.specs.Refused.{no_piece, no_home_items, items_refused, home_out, load_due, piece_due, due_unless, reading, preparing};
-ghost use Rattle.section_data.specs.Leaves.{LiesIn, Warms};
+ghost use Rattle.section_data.specs.Held.{piece_in, is_ragged, is_loaded, ready, home_items, holds_items, HeldIs};
+ghost use Rattle.section_data.specs.Refused.{no_piece, no_home_items, items_refused, home_out, load_due, piece_due, items_due, reading, preparing};
+ghost use Rattle.section_data.specs.Leaves.{LiesIn, Warms, IsReadFrom, bytes_or_none};
 
 use crate::cell::Cell;
 use crate::home::Home;
@@ -78,6 +78,24 @@ fn put(slot: &mut Option<Items>, items: Items)
 }
 
 impl Cell {
+    /// Reads the home's bytes, which are not held.
+    fn read_raw<S: Source>(&mut self, alloc: Global, src: &mut S) -> Result<(), ElfError>
+        requires lies { LiesIn self.old (S.size src.old) }
+        requires inside { self.old.home.out ≡ false }
+        requires unread { is_loaded self.old ≡ false }
+        ensures ok { OnOk result (IsSome self.new.raw) }
+        ensures raw { OnOk result (self.new ≡ record self.old { raw = self.new.raw }) }
+        ensures bytes { OnOk result
+            (IsReadFrom (S.holds src.old) self.old.home (bytes_or_none self.new.raw)) }
+        ensures err { IfErr result (λ e. (0 < self.old.home.len) × ((e ≡ Memory) ⊎ (e ≡ Read))) }
+        ensures unchanged { OnErr result (self.new ≡ self.old) }
+        ensures asks { Asks S.Source result src.old src.new self.old.home.len }
+    {
+        let bytes = read_home(alloc, src, self.home)?;
+        put(&mut self.raw, Items::Bytes(bytes));
+        Ok(())
+    }
+
     /// Reads the home's bytes where they are not held. It refuses in this order: `OutOfFile`
     /// exactly where the home passes the end of the image, then `Memory` or `Read`, and then the
     /// cell is as before. It reads nothing where it is refused or the section is loaded.
@@ -90,24 +108,25 @@ impl Cell {
         ensures warms { Warms (S.holds src.old) self.old self.new }
         ensures unchanged { OnErr result (self.new ≡ self.old) }
         ensures asks { Asks S.Source result src.old src.new (load_due self.old) }
+        ensures err { IfErr result (λ e. self.old.home.out ≡ false
+            → (0 < load_due self.old) × ((e ≡ Memory) ⊎ (e ≡ Read))) }
     {
-        if self.raw.is_some() {
+        if self.is_loaded() {
             return Ok(());
         }
-        if self.out {
+        if self.out() {
             return Err(ElfError::OutOfFile {
-                section: self.section,
+                section: self.section(),
             });
         }
-        let bytes = read_home(alloc, src, self.home)?;
-        put(&mut self.raw, Items::Bytes(bytes));
-        Ok(())
+        self.read_raw(alloc, src)
     }
 
     /// The home's bytes, which are held. It takes no memory.
     pub fn bytes(&self) -> &[u8]
         requires { IsSome self.now.raw }
-        ensures { self.now.raw ≡ Some result.now }
+        ensures value { self.now.raw ≡ Some result.now }
+        ensures len { length result.now ≡ self.now.home.len }
     {
         match &self.raw {
             Some(Items::Bytes(bytes)) => bytes.as_slice(),
@@ -151,7 +170,8 @@ impl Cell {
     /// clean home piece `OutOfFile` and `Ragged`. It takes no memory.
     #[tactic(auto, unfolding(crate::specs::Refused::items_refused))]
     pub fn check(&self, p: u32, class: Class) -> Result<(), ElfError>
-        ensures { result ≡ answered (items_refused class self.now p) tt }
+        ensures answer { result ≡ answered (items_refused class self.now p) tt }
+        ensures there { OnOk result (p < length self.now.pieces) }
     {
         self.check_piece(p)?;
         self.check_home(p, class)
@@ -177,7 +197,7 @@ impl Cell {
 
     /// Whether a piece holds its items: an own one does, and the clean home piece once it was
     /// translated, or read where its home is of bytes. It takes no memory.
-    #[tactic(auto, unfolding(crate::specs::Held::ready))]
+    #[tactic(auto, unfolding(crate::specs::Held::ready), using(crate::proofs::Pieces::ready_own, crate::proofs::Pieces::ready_clean))]
     pub fn holds_items(&self, p: u32) -> bool
         requires { p < length self.now.pieces }
         ensures { result ≡ holds_items self.now p }
@@ -207,5 +227,67 @@ impl Cell {
         let items = translated(alloc, self.home.kind, class, order, self.bytes())?;
         put(&mut self.held, items);
         Ok(())
+    }
+
+    /// Reads a home that lies in the file and has whole items, where it is not read, and translates
+    /// it. It refuses `Memory` and `Read`.
+    fn warm<S: Source>(
+        &mut self,
+        alloc: Global,
+        src: &mut S,
+        class: Class,
+        order: Order,
+    ) -> Result<(), ElfError>
+        requires lies { LiesIn self.old (S.size src.old) }
+        requires inside { self.old.home.out ≡ false }
+        requires whole { IsTrue (is_whole self.old.home.kind class self.old.home.len) }
+        requires unheld { self.old.held ≡ None }
+        ensures err { IfErr result (λ e. (e ≡ Memory) ⊎ ((e ≡ Read) × (0 < load_due self.old))) }
+        ensures holds { OnOk result (IsSome (home_items self.new)) }
+        ensures items { HeldIs class order self.new }
+        ensures warms { Warms (S.holds src.old) self.old self.new }
+        ensures same { OnErr result (self.new.held ≡ self.old.held) }
+        ensures unchanged { IfErr result (λ e. e ≢ Memory → self.new ≡ self.old) }
+        ensures asks { Asks S.Source result src.old src.new (load_due self.old) }
+    {
+        self.load(alloc, src)?;
+        if is_bytes(self.home().kind) {
+            return Ok(());
+        }
+        self.translate(alloc, class, order)
+    }
+
+    /// Makes a piece hold its items, so that they can be handed out and claimed: the clean home
+    /// piece is read and translated at the first use. It refuses in this order: `NoData`, and for
+    /// the clean home piece `OutOfFile` and `Ragged`; then `Memory` or `Read` where the piece does
+    /// not hold its items. It reads nothing where it is refused, the piece is own or the section is
+    /// loaded.
+    ///
+    /// Source: elf_getdata of elf(3E).
+    pub fn prepare<S: Source>(
+        &mut self,
+        alloc: Global,
+        src: &mut S,
+        p: u32,
+        class: Class,
+        order: Order,
+    ) -> Result<(), ElfError>
+        requires lies { LiesIn self.old (S.size src.old) }
+        requires items { HeldIs class order self.old }
+        ensures answer { Answers true (preparing self.old p (items_due class self.old p)) result
+            (answered (items_refused class self.old p) tt) }
+        ensures there { OnOk result (p < length self.old.pieces) }
+        ensures holds { OnOk result (IsTrue (holds_items self.new p)) }
+        ensures items { HeldIs class order self.new }
+        ensures warms { Warms (S.holds src.old) self.old self.new }
+        ensures same { OnErr result (self.new.held ≡ self.old.held) }
+        ensures unchanged { IfErr result (λ e. e ≢ Memory → self.new ≡ self.old) }
+        ensures asks { Asks S.Source result src.old src.new (items_due class self.old p) }
+    {
+        self.check(p, class)?;
+        if self.holds_items(p) {
+            return Ok(());
+        }
+        self.warm(alloc, src, class, order)
     }
 }
