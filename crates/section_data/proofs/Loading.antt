@@ -1,6 +1,6 @@
 -- What reading and translating leaves, and how it is refused.
-use Rattle.std.proofs.Common.{◌≡◌, ◌≢◌, ℕ, ◌<◌, Bool, true, false, List, length, take, drop, Option, Some, None, Result, Ok, Err, refl, sym, ap, ◌∙◌, subst}
-use Rattle.std.specs.Prelude.{is_some, IsTrue, IsSome, IfSome, IfErr, OnErr, OnOk, ◌⊎◌, inl, inr}
+use Rattle.std.proofs.Common.{◌≡◌, ◌≢◌, ℕ, ◌<◌, Bool, true, false, List, length, take, drop, Option, Some, None, Result, Ok, Err, refl, sym, ap, ◌∙◌, subst, inl, inr}
+use Rattle.std.specs.Prelude.{is_some, IsTrue, IsSome, IfSome, IfErr, OnErr, OnOk, ◌⊎◌}
 use Rattle.std.proofs.lemmas.Bool.{lt-ltb}
 use Rattle.elf_types.specs.declared.errors.ElfError.{ElfError}
 use Rattle.elf_types.specs.declared.errors.ElfError.TheVariants.{Memory, Read, OutOfFile}
@@ -55,8 +55,8 @@ unfolding load_due
 due_unread c unread inside = rw (load_due, unread, inside) refl
 
 wanted : (due : ℕ) (e : ElfError) → 0 < due → (e ≡ Memory) ⊎ (e ≡ Read) → Answers true (reading due) (Err e) (Ok tt)
-wanted due e some (inl is) = subst (λ (d : ElfError). Answers true (reading due) (Err d) (Ok tt)) (sym is) (lt-ltb 0 due some, tt)
-wanted due e some (inr is) = subst (λ (d : ElfError). Answers true (reading due) (Err d) (Ok tt)) (sym is) (lt-ltb 0 due some, tt)
+wanted due e some (inl is) = subst (λ (d : ElfError). Answers true (reading due) (Err d) (Ok tt)) (sym is) (lt-ltb 0 due some, tt {0})
+wanted due e some (inr is) = subst (λ (d : ElfError). Answers true (reading due) (Err d) (Ok tt)) (sym is) (lt-ltb 0 due some, tt {0})
 
 answers_read : (due : ℕ) (r : Result (Unit {0}) ElfError) → IfErr r (λ e. (0 < due) × ((e ≡ Memory) ⊎ (e ≡ Read))) → Answers true (reading due) r (Ok tt)
 answers_read due (Ok x) h = (refl, λ told. refl)

@@ -6,7 +6,7 @@ ghost use Rattle.elf_types.specs.declared.errors.ElfError.TheVariants.{Memory};
 ghost use Rattle.elf_types.specs.declared.records.Kind.TheVariants as kinds;
 ghost use Rattle.elf_object.specs.Object.{home_piece};
 ghost use Rattle.elf_object.specs.Open.{home_of};
-ghost use Rattle.section_data.specs.Views.{IsCell, home_view, passes_end, new_cell, opened_cell};
+ghost use Rattle.section_data.specs.Views.{IsCell, cell_view, home_view, passes_end, new_cell, opened_cell};
 ghost use Rattle.section_data.specs.Held.{piece_in, kind_in, is_loaded, holds_items};
 
 use crate::home::Home;
@@ -69,18 +69,30 @@ impl Cell {
         ]) }
         ensures err { IfErr result (λ e. e ≡ Memory) }
     {
-        let (home, out, pieces) = match home {
-            Some(home) => (home, home.passes_end(base), home_pieces(alloc)?),
-            None => (Home::none(), false, Vec::new(alloc)),
-        };
-        Ok(Cell {
+        match home {
+            Some(home) => {
+                let pieces = home_pieces(alloc)?;
+                Ok(Cell::over(section, home, home.passes_end(base), pieces))
+            }
+            None => Ok(Cell::over(section, Home::none(), false, Vec::new(alloc))),
+        }
+    }
+
+    /// The cell over a home of which nothing is read.
+    fn over(section: u32, home: Home, out: bool, pieces: Vec<Piece>) -> Cell
+        requires { IsCell (cell_view section (home_view home.at home.len home.kind out) None None
+            pieces.items) }
+        ensures { result ≡ cell_view section (home_view home.at home.len home.kind out) None None
+            pieces.items }
+    {
+        Cell {
             section,
             home,
             out,
             raw: None,
             held: None,
             pieces,
-        })
+        }
     }
 
     /// The cell of a section of an image of `size` bytes, by its number and its header. It refuses

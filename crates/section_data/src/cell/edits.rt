@@ -70,7 +70,8 @@ impl Cell {
         requires { p < length self.old.pieces }
         ensures { self.new ≡ replaced self.old p items }
     {
-        self.pieces[p as usize].set(items);
+        let piece = &mut self.pieces[p as usize];
+        piece.set(items);
     }
 
     /// Gives a piece other items, of any kind; it becomes own and marked, and keeps its alignment.
@@ -123,6 +124,7 @@ impl Cell {
         requires { p < length self.old.pieces }
         ensures { self.new ≡ marked_piece self.old p }
     {
-        self.pieces[p as usize].mark();
+        let piece = &mut self.pieces[p as usize];
+        piece.mark();
     }
 }
