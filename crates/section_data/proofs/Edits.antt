@@ -1,6 +1,6 @@
 -- What edits leave.
 use Rattle.std.proofs.Common.{◌≡◌, ℕ, ◌+◌, ◌<◌, ◌≤◌, Bool, true, false, List, [], ◌∷◌, ◌++◌, length, get_or, set, zero, suc, subst, Option, Some, None, refl, sym, ap, ◌∙◌, arith, length-append}
-use Rattle.std.specs.Prelude.{is_some, IsTrue, IsSome, IfSome, All, slice_set}
+use Rattle.std.specs.Prelude.{is_some, IsTrue, IsSome, IfSome, All, slice_set, if◌then◌else◌}
 use lib.Count.{ones}
 use Rattle.elf_types.specs.declared.records.Kind.TheVariants as kinds
 use Rattle.std.proofs.lemmas.List.{set-get_or, length-set}
@@ -20,7 +20,7 @@ held_kept : (held : Option Items) → IfSome held (λ items. held ≡ Some items
 held_kept None = tt
 held_kept (Some items) = refl
 
-made_of : Option Items → ℕ → Bool → Piece
+abbrev made_of : Option Items → ℕ → Bool → Piece
 made_of own align marked = record { own = own; align = align; marked = marked }
 
 piece_is : (q : Piece) (items : Items) → q.own ≡ Some items → q.marked ≡ true → q ≡ own_piece items q.align
@@ -149,3 +149,13 @@ appended_kept section home raw held l items align kept room good = record {
     empty = kept.cell.empty;
   };
 }
+
+-- an own piece is pushed, or there is no memory for it
+pub pushed_kept : (pushed : Bool) (section : ℕ) (home : Home) (raw held : Option Items) (l now : List Piece) (q : Piece) (items : Items) (align : ℕ)
+    → IsKept section home raw held l → length l < MAX_PIECES → IsTrue (is_piece_align align) → q ≡ own_piece items align
+    → now ≡ (if pushed then l ++ q ∷ [] else l) → IsKept section home raw held now
+pushed_kept true section home raw held l now q items align kept room good is after =
+    subst (λ (l : List Piece). IsKept section home raw held l) (sym (after ∙ ap (λ (q : Piece). l ++ q ∷ []) is))
+    (appended_kept section home raw held l items align kept room good)
+pushed_kept false section home raw held l now q items align kept room good is after =
+    subst (λ (l : List Piece). IsKept section home raw held l) (sym after) kept

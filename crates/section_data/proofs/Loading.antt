@@ -9,7 +9,7 @@ use Rattle.elf_xlate.specs.declared.content.Items.{Items}
 use Rattle.elf_object.specs.Words.{Answers}
 use Rattle.elf_object.specs.Object.{Home}
 use Rattle.elf_object.specs.Open.{home_bytes}
-use Rattle.section_data.specs.Views.{CellView}
+use Rattle.section_data.specs.Views.{CellView, IsCell}
 use Rattle.section_data.specs.Held.{piece_in, is_loaded}
 use Rattle.section_data.specs.Refused.{load_due, piece_due, home_out, reading}
 use Rattle.section_data.specs.Leaves.{IsReadFrom, bytes_or_none, RawBecomes, Warms}
@@ -54,19 +54,19 @@ pub due_unread : (c : CellView) → is_loaded c ≡ false → c.home.out ≡ fal
 unfolding load_due
 due_unread c unread inside = rw (load_due, unread, inside) refl
 
-wanted : (due : ℕ) (e : ElfError) → 0 < due → (e ≡ Memory) ⊎ (e ≡ Read) → Answers true (reading due) (Err e) (Ok tt)
-wanted due e some (inl is) = subst (λ (d : ElfError). Answers true (reading due) (Err d) (Ok tt)) (sym is) (lt-ltb 0 due some, tt {0})
-wanted due e some (inr is) = subst (λ (d : ElfError). Answers true (reading due) (Err d) (Ok tt)) (sym is) (lt-ltb 0 due some, tt {0})
+wanted : (due : ℕ) (e : ElfError) → 0 < due → (e ≡ Memory) ⊎ (e ≡ Read) → Answers true (reading due) (Err e) (Ok (tt {0}))
+wanted due e some (inl is) = subst (λ (d : ElfError). Answers true (reading due) (Err d) (Ok (tt {0}))) (sym is) (lt-ltb 0 due some, tt {0})
+wanted due e some (inr is) = subst (λ (d : ElfError). Answers true (reading due) (Err d) (Ok (tt {0}))) (sym is) (lt-ltb 0 due some, tt {0})
 
-answers_read : (due : ℕ) (r : Result (Unit {0}) ElfError) → IfErr r (λ e. (0 < due) × ((e ≡ Memory) ⊎ (e ≡ Read))) → Answers true (reading due) r (Ok tt)
+answers_read : (due : ℕ) (r : Result (Unit {0}) ElfError) → IfErr r (λ e. (0 < due) × ((e ≡ Memory) ⊎ (e ≡ Read))) → Answers true (reading due) r (Ok (tt {0}))
 answers_read due (Ok x) h = (refl, λ told. refl)
 answers_read due (Err e) h = wanted due e h.0 h.1
 
 pub load_answers : (c : CellView) (r : Result (Unit {0}) ElfError) → is_loaded c ≡ false → c.home.out ≡ false
-    → IfErr r (λ e. (0 < c.home.len) × ((e ≡ Memory) ⊎ (e ≡ Read))) → Answers true (reading (load_due c)) r (answered (home_out c) tt)
+    → IfErr r (λ e. (0 < c.home.len) × ((e ≡ Memory) ⊎ (e ≡ Read))) → Answers true (reading (load_due c)) r (answered (home_out c) (tt {0}))
 load_answers c r unread inside err =
-    subst (λ (due : ℕ). Answers true (reading due) r (answered (home_out c) tt)) (sym (due_unread c unread inside))
-    (subst (λ (out : Bool). Answers true (reading c.home.len) r (answered (refused_if out (OutOfFile c.section)) tt)) (sym inside)
+    subst (λ (due : ℕ). Answers true (reading due) r (answered (home_out c) (tt {0}))) (sym (due_unread c unread inside))
+    (subst (λ (out : Bool). Answers true (reading c.home.len) r (answered (refused_if out (OutOfFile c.section)) (tt {0}))) (sym inside)
     (answers_read c.home.len r err))
 
 pub due_own : (c : CellView) (p : ℕ) → is_some (piece_in c p).own ≡ true → piece_due c p ≡ 0
@@ -76,3 +76,22 @@ due_own c p own = rw (piece_due, own) refl
 pub due_clean : (c : CellView) (p : ℕ) → is_some (piece_in c p).own ≡ false → piece_due c p ≡ load_due c
 unfolding piece_due
 due_clean c p clean = rw (piece_due, clean) refl
+
+-- what is loaded lies in the file
+pub loaded_inside : (c : CellView) → IsCell c → is_loaded c ≡ true → home_out c ≡ None
+loaded_inside c cell loaded = by_out c.home.out refl
+  where
+    by_out : (out : Bool) → c.home.out ≡ out → refused_if out (OutOfFile c.section) ≡ None
+    by_out true is = let none = ap (λ (r : Option (List ℕ)). is_some r) (cell.outside is) in cc
+    by_out false is = refl
+
+pub loaded_answers : (c : CellView) (due : ℕ) → IsCell c → is_loaded c ≡ true → Answers true (reading due) (Ok (tt {0})) (answered (home_out c) (tt {0}))
+loaded_answers c due cell loaded =
+    subst (λ (f : Option ElfError). Answers true (reading due) (Ok (tt {0})) (answered f (tt {0}))) (sym (loaded_inside c cell loaded))
+    (refl, λ told. refl)
+
+pub load_errs : (c : CellView) (r : Result (Unit {0}) ElfError) → is_loaded c ≡ false → c.home.out ≡ false
+    → IfErr r (λ e. (0 < c.home.len) × ((e ≡ Memory) ⊎ (e ≡ Read)))
+    → IfErr r (λ e. c.home.out ≡ false → (0 < load_due c) × ((e ≡ Memory) ⊎ (e ≡ Read)))
+load_errs c (Ok x) unread inside err = tt {0}
+load_errs c (Err e) unread inside err = λ out. (subst (λ (n : ℕ). 0 < n) (sym (due_unread c unread inside)) err.0, err.1)

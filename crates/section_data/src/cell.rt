@@ -137,7 +137,8 @@ impl Cell {
 
     /// Whether the home's bytes are held. It takes no memory.
     pub fn is_loaded(&self) -> bool
-        ensures { result ≡ is_loaded self.now }
+        ensures value { result ≡ is_loaded self.now }
+        ensures cell { IsCell self.now }
     {
         self.raw.is_some()
     }

@@ -1,6 +1,7 @@
 //! Where a section's data stands in the image as it was opened.
 
 ghost use Rattle.std.specs.Prelude.{◌≡◌, ℕ, false};
+ghost use Rattle.elf_types.specs.declared.records.Kind.TheVariants as kinds;
 ghost use Rattle.elf_object.specs.Object.{no_home};
 ghost use Rattle.elf_object.specs.Open.{extent_of, home_of};
 ghost use Rattle.section_data.specs.Views.{home_view, passes_end};
@@ -45,10 +46,11 @@ impl Home {
     /// The home that a section header gives its section. It refuses nothing and takes no memory.
     ///
     /// Source: gABI chapter 4, "Section Header".
-    #[tactic(auto, unfolding(elf_object::specs::Open::home_of))]
+    #[tactic(auto, unfolding(elf_object::specs::Open::home_of), using(crate::proofs::EmptyHomes::extent_of_no_kind))]
     pub fn of(class: Class, h: &Shdr) -> Home
         ensures home { (size : ℕ) → home_view result.at result.len result.kind
             (passes_end size result.at result.len) ≡ home_of size h.now }
+        ensures empty { result.kind ≡ kinds.Empty → result.len ≡ 0 }
     {
         Home {
             at: h.offset,

@@ -2,11 +2,11 @@
 
 ghost use Rattle.std.specs.Prelude.{◌≡◌, ◌≢◌, ◌⊎◌, ◌+◌, ◌<◌, ◌≤◌, true, false, not, length, take, drop, IsTrue, IsSome, IfOk, IfErr, IfSome, OnOk, OnErr, Some, None, is_some, ◌||◌, if◌then◌else◌};
 ghost use Rattle.elf_types.specs.declared.errors.ElfError.TheVariants.{Memory, Read};
-ghost use Rattle.elf_types.specs.Answers.{answered};
+ghost use Rattle.elf_types.specs.Answers.{answered, IsRefusal};
 ghost use Rattle.elf_outside.specs.Asks.{Asks};
 ghost use Rattle.elf_xlate.specs.Translation.{decoded, is_whole};
 ghost use Rattle.elf_object.specs.Words.{Answers};
-ghost use Rattle.section_data.specs.Views.{is_bytes};
+ghost use Rattle.section_data.specs.Views.{IsCell, is_bytes};
 ghost use Rattle.section_data.specs.Held.{piece_in, is_ragged, is_loaded, ready, home_items, holds_items, HeldIs};
 ghost use Rattle.section_data.specs.Refused.{no_piece, no_home_items, items_refused, home_out, load_due, piece_due, items_due, reading, preparing};
 ghost use Rattle.section_data.specs.Leaves.{LiesIn, Warms, IsReadFrom, bytes_or_none};
@@ -138,6 +138,7 @@ impl Cell {
     pub(super) fn check_piece(&self, p: u32) -> Result<(), ElfError>
         ensures answer { result ≡ answered (no_piece self.now p) tt }
         ensures there { OnOk result (p < length self.now.pieces) }
+        ensures err { IfErr result IsRefusal }
     {
         let count = self.pieces.len() as u32;
         if p < count {
@@ -151,7 +152,8 @@ impl Cell {
     #[tactic(auto, unfolding(crate::specs::Refused::no_home_items))]
     pub(super) fn check_home(&self, p: u32, class: Class) -> Result<(), ElfError>
         requires { p < length self.now.pieces }
-        ensures { result ≡ answered (no_home_items class self.now p) tt }
+        ensures answer { result ≡ answered (no_home_items class self.now p) tt }
+        ensures err { IfErr result IsRefusal }
     {
         let section = self.section;
         if self.is_own(p) {
@@ -172,6 +174,7 @@ impl Cell {
     pub fn check(&self, p: u32, class: Class) -> Result<(), ElfError>
         ensures answer { result ≡ answered (items_refused class self.now p) tt }
         ensures there { OnOk result (p < length self.now.pieces) }
+        ensures err { IfErr result IsRefusal }
     {
         self.check_piece(p)?;
         self.check_home(p, class)
@@ -200,12 +203,14 @@ impl Cell {
     #[tactic(auto, unfolding(crate::specs::Held::ready), using(crate::proofs::Pieces::ready_own, crate::proofs::Pieces::ready_clean))]
     pub fn holds_items(&self, p: u32) -> bool
         requires { p < length self.now.pieces }
-        ensures { result ≡ holds_items self.now p }
+        ensures value { result ≡ holds_items self.now p }
+        ensures cell { IsCell self.now }
     {
+        let bytes = is_bytes(self.home.kind);
         if self.is_own(p) {
             return true;
         }
-        if is_bytes(self.home.kind) {
+        if bytes {
             self.raw.is_some()
         } else {
             self.held.is_some()
@@ -284,7 +289,9 @@ impl Cell {
         ensures unchanged { IfErr result (λ e. e ≢ Memory → self.new ≡ self.old) }
         ensures asks { Asks S.Source result src.old src.new (items_due class self.old p) }
     {
-        self.check(p, class)?;
+        if let Err(e) = self.check(p, class) {
+            return Err(e);
+        }
         if self.holds_items(p) {
             return Ok(());
         }
