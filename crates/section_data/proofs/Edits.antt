@@ -1,6 +1,6 @@
 -- What edits leave.
-use Rattle.std.proofs.Common.{◌≡◌, ℕ, ◌+◌, ◌<◌, ◌≤◌, Bool, true, false, List, [], ◌∷◌, ◌++◌, length, get_or, set, zero, suc, subst, Option, Some, None, refl, sym, ap, ◌∙◌, arith, length-append}
-use Rattle.std.specs.Prelude.{is_some, IsTrue, IsSome, IfSome, All, slice_set, if◌then◌else◌}
+use Rattle.std.proofs.Common.{◌≡◌, ℕ, ◌<◌, Bool, true, false, List, [], ◌∷◌, ◌++◌, length, get_or, set, zero, suc, subst, Option, Some, None, refl, sym, ap, ◌∙◌, arith, length-append}
+use Rattle.std.specs.Prelude.{is_some, IsTrue, IsSome, IfSome, slice_set, if◌then◌else◌}
 use lib.Count.{ones}
 use Rattle.elf_types.specs.declared.records.Kind.TheVariants as kinds
 use Rattle.std.proofs.lemmas.List.{set-get_or, length-set}
@@ -12,7 +12,7 @@ use Rattle.elf_object.specs.Steps.{own_piece}
 use Rattle.elf_object.specs.Calls.{is_piece_align}
 use Rattle.elf_object.specs.Valid.{IsPiece, OthersOwn}
 use Rattle.section_data.specs.Views.{CellView, IsCell, IsKept, opened_cell, new_cell}
-use Rattle.section_data.specs.Held.{piece_in, ready, home_items}
+use Rattle.section_data.specs.Held.{piece_in, home_items}
 use Rattle.section_data.specs.Leaves.{Claims, replaced, marked_piece}
 use Rattle.section_data.proofs.Pieces.{ready_own, ready_clean}
 

@@ -1,5 +1,5 @@
 -- What a piece holds, by whether it is own.
-use Rattle.std.proofs.Common.{◌≡◌, ℕ, Bool, true, false, List, length, Option, Some, None, refl, sym, ap, ◌∙◌}
+use Rattle.std.proofs.Common.{◌≡◌, ℕ, Bool, true, false, List, Option, Some, None, refl, ap, ◌∙◌}
 use Rattle.std.specs.Prelude.{is_some, IsTrue, not, ◌&&◌, ◌||◌}
 use Rattle.std.specs.Option.{option_and_then}
 use Rattle.elf_types.specs.declared.records.Class.{Class}
@@ -10,7 +10,7 @@ use Rattle.elf_xlate.specs.declared.content.Items.{Items}
 use Rattle.elf_xlate.specs.declared.content.Items.TheVariants as items
 use Rattle.elf_xlate.specs.Translation.{items_kind, is_whole, decoded}
 use Rattle.elf_object.specs.Answers.{bytes_of}
-use Rattle.section_data.specs.Views.{CellView, is_bytes}
+use Rattle.section_data.specs.Views.{CellView}
 use Rattle.section_data.specs.Held.{piece_in, kind_in, ready, home_items, items_in, raw_items, is_at_hand, is_loaded, or_empty, items_of_bytes}
 
 pub none_of : {X : Type 0} (o : Option X) → is_some o ≡ false → o ≡ None

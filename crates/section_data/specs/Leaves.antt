@@ -1,7 +1,7 @@
 -- What a call leaves of a cell.
 use Rattle.std.specs.Prelude.{◌≡◌, ℕ, ◌+◌, ◌<◌, ◌≤◌, true, false, ◌++◌, List, [], ◌∷◌, length, slice_set, Option, Some, None, IfSome}
 use Rattle.elf_xlate.specs.declared.content.Items.{Items}
-use Rattle.elf_object.specs.Object.{Home, Piece}
+use Rattle.elf_object.specs.Object.{Home}
 use Rattle.elf_object.specs.Open.{home_bytes}
 use Rattle.elf_object.specs.Steps.{own_piece}
 use Rattle.section_data.specs.Views.{CellView}

@@ -1,4 +1,4 @@
-use Rattle.std.proofs.Common.{◌≡◌, ℕ, ◌*◌, ◌/◌, ◌<◌, ◌≤◌, length, take, drop, List, refl, sym, ap, ◌∙◌, arith, subst, Ok, Err}
+use Rattle.std.proofs.Common.{◌≡◌, ℕ, ◌*◌, ◌/◌, ◌<◌, ◌≤◌, length, take, drop, sym, ap, ◌∙◌, subst, Ok}
 use Rattle.elf_xlate.specs.Items.{item_size}
 use Rattle.section_data.proofs.Items.{entry_there, entry_past}
 use Rattle.section_data.proofs.item.item_in.Goals as goal

@@ -1,4 +1,4 @@
-use Rattle.std.proofs.Common.{◌≡◌, sym, ◌∙◌, refl, Some, Option, None, Result, Ok, Err, ap, ℕ, ◌<◌, length, arith}
+use Rattle.std.proofs.Common.{◌≡◌, sym, refl, Some, Option, None, Err, ap, ◌<◌, length, arith}
 use Rattle.elf_types.specs.declared.constants.TheConstants.{MAX_PIECES}
 use Rattle.section_data.specs.Views.{CellView}
 use Rattle.elf_types.specs.declared.errors.ElfError.{ElfError}

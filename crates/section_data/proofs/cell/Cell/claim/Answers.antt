@@ -1,4 +1,4 @@
-use Rattle.std.proofs.Common.{◌≡◌, sym, ◌∙◌, refl}
+use Rattle.std.proofs.Common.{sym, ◌∙◌}
 use Rattle.section_data.proofs.Edits.{claims_own, claims_clean}
 use Rattle.section_data.proofs.cell.Cell.claim.Goals as goal
 

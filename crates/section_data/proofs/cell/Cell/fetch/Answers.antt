@@ -1,4 +1,4 @@
-use Rattle.std.proofs.Common.{◌≡◌, sym, ◌∙◌, refl}
+use Rattle.std.proofs.Common.{sym, ◌∙◌}
 use Rattle.section_data.proofs.Loading.{warms_same, due_clean}
 use Rattle.section_data.proofs.cell.Cell.fetch.Goals as goal
 

@@ -1,4 +1,4 @@
-use Rattle.std.proofs.Common.{◌≡◌, sym, ◌∙◌, refl}
+use Rattle.std.proofs.Common.{sym, ◌∙◌}
 use Rattle.section_data.proofs.Loading.{warms_same, warms_read, load_answers, load_errs, loaded_answers, due_unread}
 use Rattle.section_data.specs.Refused.{load_due}
 use Rattle.section_data.proofs.cell.Cell.load.Goals as goal

@@ -1,4 +1,4 @@
-use Rattle.std.proofs.Common.{◌≡◌, sym, ap, ◌∙◌, refl}
+use Rattle.std.proofs.Common.{true, sym, ◌∙◌}
 use Rattle.elf_object.proofs.AnswerLaws.{answers_refused}
 use Rattle.section_data.specs.Refused.{items_refused, items_due, preparing}
 use Rattle.section_data.proofs.Loading.{warms_same, due_clean}

@@ -1,4 +1,3 @@
-use Rattle.std.proofs.Common.{◌≡◌, sym, ◌∙◌, refl}
 use Rattle.section_data.proofs.Loading.{read_from}
 use Rattle.section_data.proofs.cell.Cell.read_raw.Goals as goal
 
