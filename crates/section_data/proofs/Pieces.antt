@@ -1,0 +1,83 @@
+-- What a piece holds, by whether it is own.
+use Rattle.std.proofs.Common.{◌≡◌, ℕ, Bool, true, false, List, Option, Some, None, refl, ap, ◌∙◌}
+use Rattle.std.specs.Prelude.{is_some, IsTrue, not, ◌&&◌, ◌||◌}
+use Rattle.std.specs.Option.{option_and_then}
+use Rattle.elf_types.specs.declared.records.Class.{Class}
+use Rattle.elf_types.specs.declared.records.Order.{Order}
+use Rattle.elf_types.specs.declared.records.Kind.{Kind}
+use Rattle.elf_types.specs.declared.records.Kind.TheVariants as kinds
+use Rattle.elf_xlate.specs.declared.content.Items.{Items}
+use Rattle.elf_xlate.specs.declared.content.Items.TheVariants as items
+use Rattle.elf_xlate.specs.Translation.{items_kind, is_whole, decoded}
+use Rattle.elf_object.specs.Answers.{bytes_of}
+use Rattle.section_data.specs.Views.{CellView}
+use Rattle.section_data.specs.Held.{piece_in, kind_in, ready, home_items, items_in, raw_items, is_at_hand, is_loaded, or_empty, items_of_bytes}
+
+pub none_of : {X : Type 0} (o : Option X) → is_some o ≡ false → o ≡ None
+none_of None h = refl
+none_of (Some x) h = cc
+
+-- items of kind Bytes are those of their bytes
+pub bytes_back : (i : Items) → items_kind i ≡ kinds.Bytes → items.Bytes (bytes_of i) ≡ i
+bytes_back (items.Bytes l) e = refl
+bytes_back items.Empty e = cc
+bytes_back (items.Half l) e = cc
+bytes_back (items.Word l) e = cc
+bytes_back (items.Addr l) e = cc
+bytes_back (items.Sym l) e = cc
+bytes_back (items.Rel l) e = cc
+bytes_back (items.Rela l) e = cc
+bytes_back (items.Dyn l) e = cc
+
+pub ready_own : (c : CellView) (p : ℕ) (i : Items) → (piece_in c p).own ≡ Some i → ready c p ≡ Some i
+unfolding ready
+ready_own c p i e = rw (ready, e) refl
+
+pub ready_clean : (c : CellView) (p : ℕ) → is_some (piece_in c p).own ≡ false → ready c p ≡ home_items c
+unfolding ready
+ready_clean c p e = rw (ready, none_of (piece_in c p).own e) refl
+
+pub kind_own : (c : CellView) (p : ℕ) (i : Items) → (piece_in c p).own ≡ Some i → kind_in c p ≡ items_kind i
+unfolding kind_in
+kind_own c p i e = rw (kind_in, e) refl
+
+pub kind_clean : (c : CellView) (p : ℕ) → is_some (piece_in c p).own ≡ false → kind_in c p ≡ c.home.kind
+unfolding kind_in
+kind_clean c p e = rw (kind_in, none_of (piece_in c p).own e) refl
+
+pub items_own : (class : Class) (order : Order) (c : CellView) (p : ℕ) (i : Items) → (piece_in c p).own ≡ Some i → items_in class order c p ≡ i
+unfolding items_in
+items_own class order c p i e = rw (items_in, e) refl
+
+pub items_clean : (class : Class) (order : Order) (c : CellView) (p : ℕ) → is_some (piece_in c p).own ≡ false → items_in class order c p ≡ raw_items class order c
+unfolding items_in
+items_clean class order c p e = rw (items_in, none_of (piece_in c p).own e) refl
+
+-- ---- The clean home piece, once its home is loaded and has whole items
+
+pub hand_loaded : (class : Class) (c : CellView) (p : ℕ) → IsTrue (is_at_hand class c p) → is_some (piece_in c p).own ≡ false → is_loaded c ≡ true
+unfolding is_at_hand
+hand_loaded class c p h e = by_tests (is_some (piece_in c p).own) (is_loaded c) (is_whole c.home.kind class c.home.len) h e
+  where
+    by_tests : (own loaded whole : Bool) → IsTrue (own || (loaded && not (not whole))) → own ≡ false → loaded ≡ true
+    by_tests true loaded whole h e = cc
+    by_tests false true whole h e = refl
+    by_tests false false whole h e = cc
+
+pub hand_whole : (class : Class) (c : CellView) (p : ℕ) → IsTrue (is_at_hand class c p) → is_some (piece_in c p).own ≡ false → is_whole c.home.kind class c.home.len ≡ true
+unfolding is_at_hand
+hand_whole class c p h e = by_tests (is_some (piece_in c p).own) (is_loaded c) (is_whole c.home.kind class c.home.len) h e
+  where
+    by_tests : (own loaded whole : Bool) → IsTrue (own || (loaded && not (not whole))) → own ≡ false → whole ≡ true
+    by_tests true loaded whole h e = cc
+    by_tests false true true h e = refl
+    by_tests false true false h e = cc
+    by_tests false false true h e = refl
+    by_tests false false false h e = cc
+
+pub items_raw : (class : Class) (order : Order) (c : CellView) (p : ℕ) (kind : Kind) (bytes : List ℕ) → is_some (piece_in c p).own ≡ false
+    → c.home.kind ≡ kind → c.raw ≡ Some bytes → items_in class order c p ≡ items_of_bytes kind class order bytes
+items_raw class order c p kind bytes e k r =
+    items_clean class order c p e
+    ∙ ap (λ (o : Option (List ℕ)). or_empty (option_and_then (decoded c.home.kind class order) o)) r
+    ∙ ap (λ (k : Kind). items_of_bytes k class order bytes) k

@@ -1,0 +1,12 @@
+use Rattle.std.proofs.Common.{sym, ◌∙◌}
+use Rattle.section_data.proofs.Edits.{claims_own, claims_clean}
+use Rattle.section_data.proofs.cell.Cell.claim.Goals as goal
+
+pub returns-then-is_own-clause-claims : goal.returns-then-is_own-clause-claims
+returns-then-is_own-clause-claims c =
+    claims_own c.args.self.now c.args.p (sym c.is_own.ensures.value ∙ c.if-is_own.true) (c.is_own.ensures.marked c.if-is_own.true)
+
+pub returns-clause-claims : goal.returns-clause-claims
+returns-clause-claims c =
+    claims_clean c.args.self.now _ _ c.args.p c.in_ok-items.items (sym c.is_own.ensures.value ∙ c.if-is_own.false)
+    c.in_ok-items.ensures.value c.in_ok-items.ensures.cell c.set_piece.ensures

@@ -1,0 +1,6 @@
+pub mod Views
+pub mod Held
+pub mod Refused
+pub mod Lends
+pub mod Leaves
+pub mod Entries

@@ -1,0 +1,79 @@
+-- One section's cell, as contracts see it: where its data stands in the image as opened, what is held of it in memory, and
+-- its pieces (elf_getdata, elf_rawdata). Home and Piece are those of the plain object.
+use Rattle.std.specs.Prelude.{◌≡◌, ℕ, ◌+◌, ◌≤◌, Bool, true, false, not, ◌==◌, ◌&&◌, nat_lt, List, [], ◌∷◌, length, All, Option, Some, None, IfSome}
+use Rattle.std.specs.Option.{option_map}
+use Rattle.elf_types.specs.declared.records.Kind.{Kind}
+use Rattle.elf_types.specs.declared.records.Kind.TheVariants as kinds
+use Rattle.elf_types.specs.declared.constants.TheConstants.{MAX_PIECES}
+use Rattle.elf_xlate.specs.declared.content.Items.{Items}
+use Rattle.elf_xlate.specs.Translation.{items_kind}
+use Rattle.elf_object.specs.Object.{Home, Piece, no_home, home_piece}
+use Rattle.elf_object.specs.Answers.{bytes_of}
+use Rattle.elf_object.specs.Valid.{IsPiece, OthersOwn}
+
+pub record CellView : Type 0 where
+  pub section : ℕ  -- the section's number
+  pub home : Home
+  pub raw : Option (List ℕ)  -- the home's bytes, once they are read
+  pub held : Option Items  -- the home's items, where they are held besides: those of kind Bytes never are
+  pub pieces : List Piece
+
+-- ---- What the program keeps, as a view
+
+-- the items of a piece, where they are its own
+abbrev pub when : Bool → Items → Option Items
+when true items = Some items
+when false items = None
+
+abbrev pub piece_view : Bool → Items → ℕ → Bool → Piece
+piece_view own items align marked = record { own = when own items; align = align; marked = marked }
+
+abbrev pub home_view : ℕ → ℕ → Kind → Bool → Home
+home_view at len kind out = record { at = at; len = len; kind = kind; out = out }
+
+abbrev pub cell_view : ℕ → Home → Option Items → Option Items → List Piece → CellView
+cell_view section home raw held pieces = record {
+  section = section;
+  home = home;
+  raw = option_map bytes_of raw;
+  held = held;
+  pieces = pieces;
+}
+
+-- ---- What is true of each cell
+
+-- whether items of the kind are bytes, which are held once, as the raw bytes
+abbrev pub is_bytes : Kind → Bool
+is_bytes kinds.Bytes = true
+is_bytes _ = false
+
+-- Raw bytes are as many as the home is long; a home out of the file is never read; bytes are held once; the pieces are
+-- those of a section; a home of no kind is empty.
+pub record IsCell (c : CellView) : Type 0 where
+  pub sized : IfSome c.raw (λ bytes. length bytes ≡ c.home.len)
+  pub outside : c.home.out ≡ true → c.raw ≡ None
+  pub once : is_bytes c.home.kind ≡ true → c.held ≡ None
+  pub few : length c.pieces ≤ MAX_PIECES
+  pub each : All IsPiece c.pieces
+  pub others : OthersOwn c.pieces
+  pub empty : c.home.kind ≡ kinds.Empty → c.home.len ≡ 0
+
+-- the same of what the program keeps: the raw bytes are kept as items of kind Bytes
+pub record IsKept (section : ℕ) (home : Home) (raw held : Option Items) (pieces : List Piece) : Type 0 where
+  pub bytes : IfSome raw (λ items. items_kind items ≡ kinds.Bytes)
+  pub cell : IsCell (cell_view section home raw held pieces)
+
+-- ---- Cells as they are made
+
+-- whether an extent that is not empty passes the end of an image
+abbrev pub passes_end : ℕ → ℕ → ℕ → Bool
+passes_end size at len = not (len == 0) && nat_lt size (at + len)
+
+-- the cell of a section of an image: nothing is read, and the one piece is the clean home piece
+abbrev pub opened_cell : ℕ → Home → CellView
+opened_cell section home =
+    record { section = section; home = home; raw = None; held = None; pieces = home_piece ∷ [] }
+
+-- the cell of a new section
+abbrev pub new_cell : ℕ → CellView
+new_cell section = record (opened_cell section no_home) { pieces = [] }

@@ -1,0 +1,200 @@
+//! A section's cell.
+
+ghost use Rattle.std.specs.Prelude.{◌≡◌, ℕ, ◌∷◌, [], ◌<◌, true, Some, None, length, IsTrue, IfOk, IfErr, IfSome, IsSome, is_some, unwrap_or};
+ghost use Rattle.std.specs.Option.{option_map};
+ghost use Rattle.elf_types.specs.declared.errors.ElfError.TheVariants.{Memory};
+ghost use Rattle.elf_types.specs.declared.records.Kind.TheVariants as kinds;
+ghost use Rattle.elf_object.specs.Object.{home_piece};
+ghost use Rattle.elf_object.specs.Open.{home_of};
+ghost use Rattle.section_data.specs.Views.{IsCell, cell_view, home_view, passes_end, new_cell, opened_cell};
+ghost use Rattle.section_data.specs.Held.{piece_in, kind_in, is_loaded, holds_items};
+
+use crate::home::Home;
+use crate::piece::Piece;
+use elf_types::{Class, ElfError, Kind, Shdr};
+use elf_xlate::Items;
+use std::alloc::Global;
+use std::marker::Model;
+
+mod edits;
+mod items;
+mod lending;
+mod loading;
+
+/// One section's data: its home in the image as opened, the home's bytes once they are read, its
+/// items once they are translated, and its pieces. A home of bytes is held once: its items are the
+/// home's bytes.
+#[derive(Drop)]
+pub struct Cell {
+    section: u32,
+    home: Home,
+    /// The home passes the end of the image.
+    out: bool,
+    /// The home's bytes, once they are read, as items of kind `Bytes`.
+    raw: Option<Items>,
+    /// The home's items where they are held besides.
+    held: Option<Items>,
+    pieces: Vec<Piece>,
+}
+
+impl Model for Cell {
+    ghost use Rattle.section_data.specs.Views.{CellView, cell_view, home_view, IsKept};
+
+    ghost Value = { CellView };
+
+    ghost view = { λ c. cell_view c.section (home_view c.home.at c.home.len c.home.kind c.out) c.raw c.held c.pieces.items };
+
+    ghost invariant = { λ c. IsKept c.section (home_view c.home.at c.home.len c.home.kind c.out) c.raw c.held c.pieces.items };
+}
+
+/// A list of one piece, the clean home piece. It refuses `Memory` alone.
+fn home_pieces(alloc: Global) -> Result<Vec<Piece>, ElfError>
+    ensures ok { IfOk result (λ l. l.items ≡ home_piece ∷ []) }
+    ensures err { IfErr result (λ e. e ≡ Memory) }
+{
+    let mut pieces = Vec::new(alloc);
+    pieces.push(Piece::home())?;
+    Ok(pieces)
+}
+
+impl Cell {
+    /// The cell of the section with that number over an image of `base` bytes: nothing is read, and
+    /// its one piece is the clean home piece. Without a home it is a new section, which has an empty
+    /// home and no piece. It refuses `Memory` alone.
+    pub fn new(alloc: Global, section: u32, home: Option<Home>, base: u64) -> Result<Cell, ElfError>
+        requires { IfSome home (λ h. h.kind ≡ kinds.Empty → h.len ≡ 0) }
+        ensures ok { IfOk result (λ c. c ≡ elim home [
+          | None ↦ new_cell section
+          | Some h ↦ opened_cell section (home_view h.at h.len h.kind (passes_end base h.at h.len))
+        ]) }
+        ensures err { IfErr result (λ e. e ≡ Memory) }
+    {
+        match home {
+            Some(home) => {
+                let pieces = home_pieces(alloc)?;
+                Ok(Cell::over(section, home, home.passes_end(base), pieces))
+            }
+            None => Ok(Cell::over(section, Home::none(), false, Vec::new(alloc))),
+        }
+    }
+
+    /// The cell over a home of which nothing is read.
+    fn over(section: u32, home: Home, out: bool, pieces: Vec<Piece>) -> Cell
+        requires { IsCell (cell_view section (home_view home.at home.len home.kind out) None None
+            pieces.items) }
+        ensures { result ≡ cell_view section (home_view home.at home.len home.kind out) None None
+            pieces.items }
+    {
+        Cell {
+            section,
+            home,
+            out,
+            raw: None,
+            held: None,
+            pieces,
+        }
+    }
+
+    /// The cell of a section of an image of `size` bytes, by its number and its header. It refuses
+    /// `Memory` alone.
+    ///
+    /// Source: gABI chapter 4, "Section Header".
+    pub fn opened(
+        alloc: Global,
+        section: u32,
+        class: Class,
+        header: &Shdr,
+        size: u64,
+    ) -> Result<Cell, ElfError>
+        ensures ok { IfOk result (λ c. c ≡ opened_cell section (home_of size header.now)) }
+        ensures err { IfErr result (λ e. e ≡ Memory) }
+    {
+        Cell::new(alloc, section, Some(Home::of(class, header)), size)
+    }
+
+    /// The section's number. It takes no memory.
+    pub fn section(&self) -> u32
+        ensures { result ≡ self.now.section }
+    {
+        self.section
+    }
+
+    /// The home. It takes no memory.
+    pub fn home(&self) -> Home
+        ensures at { result.at ≡ self.now.home.at }
+        ensures len { result.len ≡ self.now.home.len }
+        ensures kind { result.kind ≡ self.now.home.kind }
+    {
+        self.home
+    }
+
+    /// Whether the home passes the end of the image as opened. It takes no memory.
+    pub fn out(&self) -> bool
+        ensures { result ≡ self.now.home.out }
+    {
+        self.out
+    }
+
+    /// Whether the home's bytes are held. It takes no memory.
+    pub fn is_loaded(&self) -> bool
+        ensures value { result ≡ is_loaded self.now }
+        ensures cell { IsCell self.now }
+    {
+        self.raw.is_some()
+    }
+
+    /// The number of pieces, at most 2^20. It takes no memory.
+    pub fn piece_count(&self) -> u32
+        ensures value { result ≡ length self.now.pieces }
+        ensures cell { IsCell self.now }
+    {
+        self.pieces.len() as u32
+    }
+
+    /// The piece with that number.
+    fn piece(&self, p: u32) -> &Piece
+        requires { p < length self.now.pieces }
+        ensures { result.now ≡ piece_in self.now p }
+    {
+        &self.pieces[p as usize]
+    }
+
+    /// Whether a piece has items of its own; an own piece is marked. It takes no memory.
+    pub fn is_own(&self, p: u32) -> bool
+        requires { p < length self.now.pieces }
+        ensures value { result ≡ is_some (piece_in self.now p).own }
+        ensures marked { result ≡ true → (piece_in self.now p).marked ≡ true }
+    {
+        self.piece(p).is_own()
+    }
+
+    /// Whether a piece is marked dirty. It takes no memory.
+    pub fn is_marked(&self, p: u32) -> bool
+        requires { p < length self.now.pieces }
+        ensures { result ≡ (piece_in self.now p).marked }
+    {
+        self.piece(p).is_marked()
+    }
+
+    /// The alignment of a piece in its section. It takes no memory.
+    pub fn piece_align(&self, p: u32) -> u64
+        requires { p < length self.now.pieces }
+        ensures { result ≡ (piece_in self.now p).align }
+    {
+        self.piece(p).align()
+    }
+
+    /// The kind that a piece holds: that of its own items, or its home's. It takes no memory.
+    #[tactic(auto, using(crate::proofs::Pieces::kind_own, crate::proofs::Pieces::kind_clean))]
+    pub fn piece_kind(&self, p: u32) -> Kind
+        requires { p < length self.now.pieces }
+        ensures { result ≡ kind_in self.now p }
+    {
+        let piece = self.piece(p);
+        if piece.is_own() {
+            piece.items().kind()
+        } else {
+            self.home.kind
+        }
+    }
+}

@@ -1,0 +1,68 @@
+//! The items of a piece.
+
+ghost use Rattle.std.specs.Prelude.{◌≡◌, ◌<◌, length, IsTrue, IsSome, Some};
+ghost use Rattle.elf_object.specs.Answers.{entry_at};
+ghost use Rattle.section_data.specs.Held.{kind_in, items_in, is_at_hand, ready, home_items, holds_items};
+
+use crate::cell::Cell;
+use crate::cell::loading::is_bytes;
+use crate::item::{Item, entry, item_in};
+use elf_types::{Class, ElfError, Order};
+use elf_xlate::Items;
+
+/// Items that are there.
+fn there(slot: &Option<Items>) -> &Items
+    requires { IsSome slot.now }
+    ensures { slot.now ≡ Some result.now }
+{
+    match slot {
+        Some(items) => items,
+        None => unreachable!(),
+    }
+}
+
+impl Cell {
+    /// The home's items, which are held.
+    fn home_items(&self) -> &Items
+        requires { IsSome (home_items self.now) }
+        ensures { home_items self.now ≡ Some result.now }
+    {
+        if is_bytes(self.home.kind) {
+            there(&self.raw)
+        } else {
+            there(&self.held)
+        }
+    }
+
+    /// The items of a piece that holds them. It takes no memory.
+    #[tactic(auto, using(crate::proofs::Pieces::ready_own, crate::proofs::Pieces::ready_clean))]
+    pub fn items(&self, p: u32) -> &Items
+        requires piece { p < length self.now.pieces }
+        requires holds { IsTrue (holds_items self.now p) }
+        ensures { ready self.now p ≡ Some result.now }
+    {
+        let piece = self.piece(p);
+        if piece.is_own() {
+            return piece.items();
+        }
+        self.home_items()
+    }
+
+    /// Item `i` of a piece of the item's kind that is own, or whose home is loaded and has whole
+    /// items: the home is not translated. It refuses `NoEntry` exactly where the index is not below
+    /// the number of items, and takes no memory.
+    ///
+    /// Source: gelf_getsym of gelf(3E) and its like.
+    pub fn item<T: Item>(&self, p: u32, i: u64, class: Class, order: Order) -> Result<T, ElfError>
+        requires piece { p < length self.now.pieces }
+        requires kind { kind_in self.now p ≡ T.kind }
+        requires there { IsTrue (is_at_hand class self.now p) }
+        ensures { result ≡ entry_at (T.list_of (items_in class order self.now p)) i }
+    {
+        let piece = self.piece(p);
+        if piece.is_own() {
+            return entry(T::list(piece.items()), i);
+        }
+        item_in::<T>(self.bytes(), i, class, order)
+    }
+}

@@ -1,0 +1,19 @@
+//! One section's data: its home in the image as opened, the home's bytes once they are read, and
+//! its pieces.
+//!
+//! A [`Cell`] reads its home at the first use and translates it once. The items of a home of bytes
+//! are the home's bytes themselves, held once. A piece becomes own by an edit or a loan for
+//! writing; the clean home piece is what the home holds.
+#![tactic(auto)]
+
+mod cell;
+mod home;
+mod item;
+mod listed;
+mod piece;
+
+pub use cell::Cell;
+pub use home::Home;
+pub use item::Item;
+pub use listed::Listed;
+pub use piece::Piece;
