@@ -5,7 +5,7 @@ use Rattle.elf_types.specs.declared.records.Kind.{Kind}
 use Rattle.elf_types.specs.declared.records.Kind.TheVariants as kinds
 use Rattle.elf_types.specs.declared.records.Shdr.{Shdr}
 use Rattle.elf_types.specs.Kinds.{kinds_of_types, kind_in, kind_of_type, section_kind, is_compressed}
-use Rattle.elf_object.specs.Open.{extent_of}
+use Rattle.elf_object.specs.Open.{home_len}
 
 IsKind : Kind → Type 0
 IsKind k = k ≡ kinds.Empty → ⊥
@@ -32,8 +32,8 @@ typed_kind stype entsize =
     kind_of_rows (kinds_of_types entsize) stype
     ((λ h. cc), ((λ h. cc), ((λ h. cc), ((λ h. cc), ((λ h. cc), (hash, ((λ h. cc), ((λ h. cc), ((λ h. cc), ((λ h. cc), ((λ h. cc), ((λ h. cc), tt))))))))))))
 
-pub extent_of_no_kind : (h : Shdr) → section_kind h ≡ kinds.Empty → extent_of h ≡ 0
-unfolding section_kind extent_of IsKind
+pub extent_of_no_kind : (h : Shdr) → section_kind h ≡ kinds.Empty → home_len h ≡ 0
+unfolding section_kind home_len IsKind
 extent_of_no_kind h e = by_test (h.stype == 0 || h.stype == 8) e
   where
     by_test : (b : Bool) → (if b then kinds.Empty else (if is_compressed h.flags then kinds.Bytes else kind_of_type h.stype h.entsize)) ≡ kinds.Empty → (if not b then h.size else 0) ≡ 0

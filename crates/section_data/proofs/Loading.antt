@@ -1,18 +1,20 @@
 -- What reading and translating leaves, and how it is refused.
-use Rattle.std.proofs.Common.{◌≡◌, ℕ, ◌<◌, Bool, true, false, List, length, take, drop, Option, Some, None, Result, Ok, Err, refl, sym, ap, ◌∙◌, subst, inl, inr}
+use Rattle.std.proofs.Common.{◌≡◌, ℕ, ◌<◌, Bool, true, false, List, length, take, drop, Option, Some, None, Result, Ok, Err, refl, sym, ap, ◌∙◌, subst, inl, inr, ◌+◌, ◌≤◌, not, ◌&&◌, arith}
 use Rattle.std.specs.Prelude.{is_some, IfSome, IfErr, OnErr, OnOk, ◌⊎◌}
-use Rattle.std.proofs.lemmas.Bool.{lt-ltb}
+use Rattle.std.proofs.lemmas.Bool.{lt-ltb, ltb-false, eqb-true}
 use Rattle.elf_types.specs.declared.errors.ElfError.{ElfError}
 use Rattle.elf_types.specs.declared.errors.ElfError.TheVariants.{Memory, Read, OutOfFile}
 use Rattle.elf_types.specs.Answers.{answered, refused_if}
 use Rattle.elf_xlate.specs.declared.content.Items.{Items}
 use Rattle.elf_object.specs.Words.{Answers}
 use Rattle.elf_object.specs.Object.{Home}
-use Rattle.elf_object.specs.Open.{home_bytes}
-use Rattle.section_data.specs.Views.{CellView, IsCell}
+use Rattle.std.specs.Prelude.{nat_lt, ◌==◌}
+use Rattle.elf_types.specs.declared.records.Shdr.{Shdr}
+use Rattle.elf_object.specs.Open.{home_bytes, home_of, home_len}
+use Rattle.section_data.specs.Views.{CellView, IsCell, opened_cell}
 use Rattle.section_data.specs.Held.{piece_in, is_loaded}
 use Rattle.section_data.specs.Refused.{load_due, piece_due, home_out, reading}
-use Rattle.section_data.specs.Leaves.{IsReadFrom, bytes_or_none, RawBecomes, Warms}
+use Rattle.section_data.specs.Leaves.{IsReadFrom, bytes_or_none, RawBecomes, Warms, LiesIn}
 use Rattle.section_data.proofs.Pieces.{none_of}
 
 raw_same : (image : Option (List ℕ)) (home : Home) (raw : Option (List ℕ)) → RawBecomes image home raw raw
@@ -95,3 +97,13 @@ pub load_errs : (c : CellView) (r : Result (Unit {0}) ElfError) → is_loaded c 
     → IfErr r (λ e. c.home.out ≡ false → (0 < load_due c) × ((e ≡ Memory) ⊎ (e ≡ Read)))
 load_errs c (Ok x) unread inside err = tt {0}
 load_errs c (Err e) unread inside err = λ out. (subst (λ (n : ℕ). 0 < n) (sym (due_unread c unread inside)) err.0, err.1)
+
+-- a home in an image lies in a source of that size
+pub opened_lies : (section size : ℕ) (h : Shdr) → LiesIn (opened_cell section (home_of size h)) size
+unfolding home_of
+opened_lies section size h = λ unread inside some. by_test (home_len h == 0) refl inside some
+  where
+    by_test : (b : Bool) → (home_len h == 0) ≡ b → (not b && nat_lt size (h.offset + home_len h)) ≡ false → 0 < home_len h
+        → h.offset + home_len h ≤ size
+    by_test true e inside some = let none = eqb-true (home_len h) 0 e in omega (arith, none, some)
+    by_test false e inside some = ltb-false size (h.offset + home_len h) inside

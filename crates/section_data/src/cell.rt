@@ -7,6 +7,7 @@ ghost use Rattle.elf_types.specs.declared.records.Kind.TheVariants as kinds;
 ghost use Rattle.elf_object.specs.Object.{home_piece};
 ghost use Rattle.elf_object.specs.Open.{home_of};
 ghost use Rattle.section_data.specs.Views.{IsCell, cell_view, home_view, passes_end, new_cell, opened_cell};
+ghost use Rattle.section_data.specs.Leaves.{LiesIn};
 ghost use Rattle.section_data.specs.Held.{piece_in, kind_in, is_loaded, holds_items};
 
 use crate::home::Home;
@@ -99,6 +100,7 @@ impl Cell {
     /// `Memory` alone.
     ///
     /// Source: gABI chapter 4, "Section Header".
+    #[tactic(auto, using(crate::proofs::Loading::opened_lies))]
     pub fn opened(
         alloc: Global,
         section: u32,
@@ -107,6 +109,7 @@ impl Cell {
         size: u64,
     ) -> Result<Cell, ElfError>
         ensures ok { IfOk result (λ c. c ≡ opened_cell section (home_of size header.now)) }
+        ensures lies { IfOk result (λ c. LiesIn c size) }
         ensures err { IfErr result (λ e. e ≡ Memory) }
     {
         Cell::new(alloc, section, Some(Home::of(class, header)), size)

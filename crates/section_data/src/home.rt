@@ -3,7 +3,7 @@
 ghost use Rattle.std.specs.Prelude.{◌≡◌, ℕ, false};
 ghost use Rattle.elf_types.specs.declared.records.Kind.TheVariants as kinds;
 ghost use Rattle.elf_object.specs.Object.{no_home};
-ghost use Rattle.elf_object.specs.Open.{extent_of, home_of};
+ghost use Rattle.elf_object.specs.Open.{home_len, home_of};
 ghost use Rattle.section_data.specs.Views.{home_view, passes_end};
 
 use elf_types::constants::{SHT_NOBITS, SHT_NULL};
@@ -21,9 +21,9 @@ pub struct Home {
 }
 
 /// The number of bytes that a section has in the file, none for `SHT_NULL` and `SHT_NOBITS`.
-#[tactic(auto, unfolding(elf_object::specs::Open::extent_of))]
-fn extent_of(h: &Shdr) -> u64
-    ensures { result ≡ extent_of h.now }
+#[tactic(auto, unfolding(elf_object::specs::Open::home_len))]
+fn home_len(h: &Shdr) -> u64
+    ensures { result ≡ home_len h.now }
 {
     match h.stype {
         SHT_NULL | SHT_NOBITS => 0,
@@ -54,7 +54,7 @@ impl Home {
     {
         Home {
             at: h.offset,
-            len: extent_of(h),
+            len: home_len(h),
             kind: kind_of(class, h),
         }
     }

@@ -17,3 +17,6 @@ pub use home::Home;
 pub use item::Item;
 pub use listed::Listed;
 pub use piece::Piece;
+
+#[cfg(test)]
+mod tests;
