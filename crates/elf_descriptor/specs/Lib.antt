@@ -1,3 +1,4 @@
 pub mod State
 pub mod Views
 pub mod Sound
+pub mod Bodies

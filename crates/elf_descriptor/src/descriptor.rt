@@ -1,13 +1,13 @@
 //! The descriptor.
 
-ghost use Rattle.std.specs.Prelude.{◌≡◌, Ok};
-ghost use Rattle.elf_object.specs.Calls as calls;
+ghost use Rattle.std.specs.Prelude.{◌≡◌};
 
 use crate::body::Body;
 use elf_outside::Source;
-use elf_types::{Ehdr, ElfError, ScnId, Shdr};
 use std::alloc::Global;
 use std::marker::Model;
+
+mod getters;
 
 /// An object over a source. Contracts see it as a [`State`]: the plain object, what is held of it,
 /// and the source.
@@ -41,29 +41,5 @@ impl<S: Source> Elf<S> {
         ensures { result ≡ self.source }
     {
         self.src
-    }
-
-    /// The object's allocator: a call over an object that takes none takes its memory from it.
-    pub fn alloc(&self) -> Global {
-        self.alloc
-    }
-
-    /// The ELF header, with its true counts and its true string index. It refuses nothing and takes
-    /// no memory.
-    ///
-    /// Source: gelf_getehdr of gelf(3E).
-    pub fn ehdr(&self) -> Ehdr
-        ensures { Ok result ≡ calls.ehdr.answer self.now.o }
-    {
-        self.body.ehdr()
-    }
-
-    /// The present header of a section. It refuses `NoSection`, and takes no memory.
-    ///
-    /// Source: gelf_getshdr of gelf(3E).
-    pub fn shdr(&self, s: ScnId) -> Result<Shdr, ElfError>
-        ensures { result ≡ (calls.shdr s.0).answer self.now.o }
-    {
-        self.body.shdr(s.0)
     }
 }

@@ -1,6 +1,11 @@
 //! One section of an object.
 
-use elf_types::Shdr;
+ghost use Rattle.std.specs.Prelude.{◌≡◌, ◌<◌, length, OnOk, IfErr};
+ghost use Rattle.std.specs.List.{list_any};
+ghost use Rattle.elf_types.specs.Answers.{answered, IsRefusal};
+ghost use Rattle.section_data.specs.Refused.{no_piece};
+
+use elf_types::{ElfError, Shdr};
 use section_data::Cell;
 
 /// A section: its present header, its data, and whether its header is marked dirty.
@@ -12,4 +17,44 @@ pub struct Scn {
     pub cell: Cell,
     /// The section is marked dirty.
     pub marked: bool,
+}
+
+impl Scn {
+    ghost use Rattle.elf_descriptor.specs.Bodies.{is_scn_dirty};
+
+    /// Whether there is a piece with that number; else `NoData`.
+    pub fn check_piece(&self, p: u32) -> Result<(), ElfError>
+        ensures answer { result ≡ answered (no_piece self.now.cell p) tt }
+        ensures there { OnOk result (p < length self.now.cell.pieces) }
+        ensures err { IfErr result IsRefusal }
+    {
+        let count = self.cell.piece_count();
+        if p < count {
+            Ok(())
+        } else {
+            Err(ElfError::NoData { index: p, count })
+        }
+    }
+
+    /// Whether a piece is marked dirty.
+    #[tactic(auto, unfolding(section_data::specs::Held::piece_in), using(crate::proofs::Marks::any_at, std::proofs::lemmas::List::Folds::list_any_more))]
+    fn some_piece_marked(&self) -> bool
+        ensures { result ≡ list_any (λ p. p.marked) self.now.cell.pieces }
+    {
+        let count = self.cell.piece_count();
+        for p in 0..count {
+            if self.cell.is_marked(p) {
+                return true;
+            }
+        }
+        false
+    }
+
+    /// Whether the section or one of its pieces is marked dirty.
+    #[tactic(auto, unfolding(crate::specs::Bodies::is_scn_dirty))]
+    pub fn is_dirty(&self) -> bool
+        ensures { result ≡ is_scn_dirty self.now }
+    {
+        self.marked || self.some_piece_marked()
+    }
 }
