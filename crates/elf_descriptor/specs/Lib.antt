@@ -2,3 +2,6 @@ pub mod State
 pub mod Views
 pub mod Sound
 pub mod Bodies
+pub mod Warmed
+pub mod Reads
+pub mod Rests

@@ -5,6 +5,7 @@ use elf_types::{Ehdr, Octets, Phdrs, Shdrs};
 
 mod checks;
 mod getters;
+mod loading;
 
 /// The front as it stands in the image that was opened or last written.
 #[derive(Drop)]
