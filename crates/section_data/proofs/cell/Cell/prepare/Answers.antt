@@ -34,7 +34,7 @@ warm-requires-clause-whole g c =
 pub warm-requires-clause-unheld : goal.warm-requires-clause-unheld
 warm-requires-clause-unheld g c =
     let unheld = sym c.holds_items.ensures.value ∙ c.if-holds_items.false in
-    unheld_home c.args.self.now c.args.p c.holds_items.ensures.cell unheld
+    unheld_home c.args.self.now c.args.p unheld
 
 pub returns-clause-answer : goal.returns-clause-answer
 returns-clause-answer g c =
