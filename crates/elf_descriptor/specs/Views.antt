@@ -9,7 +9,7 @@ use Rattle.elf_ident.specs.Front.{zero_shdr}
 use Rattle.elf_object.specs.Object.{Object, Section, WrittenFront}
 use Rattle.elf_object.specs.Open.{home_bytes, front_in_image, no_front}
 use Rattle.section_data.specs.Views.{CellView, new_cell}
-use Rattle.section_data.specs.Held.{is_loaded}
+use Rattle.section_data.specs.Held.{cell_is_loaded}
 use Rattle.elf_descriptor.specs.declared.scn.Scn.{Scn}
 use Rattle.elf_descriptor.specs.declared.body.Written.{Written}
 use Rattle.elf_descriptor.specs.declared.body.Body.{Body}
@@ -66,7 +66,7 @@ object_of image size b = record {
 -- ---- What is held
 
 unfoldable pub loaded_of : Body → List Bool
-loaded_of b = map (λ s. is_loaded s.cell) b.sections.items
+loaded_of b = map (λ s. cell_is_loaded s.cell) b.sections.items
 
 unfoldable pub held_of : Body → List Bool
 held_of b = map (λ s. is_some s.cell.held) b.sections.items
