@@ -2,3 +2,4 @@ pub mod Refusals
 pub mod Marks
 pub mod Objects
 pub mod Warming
+pub mod Loaded

@@ -6,8 +6,10 @@
 
 mod body;
 mod descriptor;
+mod held;
 mod scn;
 
 pub use body::{Body, Written};
 pub use descriptor::Elf;
+pub use held::Held;
 pub use scn::Scn;
