@@ -1,14 +1,13 @@
 -- Notes whose name and descriptor lie in the bytes, and those that do not.
-use Rattle.std.proofs.Common.{◌≡◌, ℕ, zero, suc, ◌+◌, ◌<◌, ◌≤◌, min, ◌==◌, Bool, true, false, not, List, Result, Ok, Err, if◌then◌else◌, refl, sym, ap, ◌∙◌, arith}
+use Rattle.std.proofs.Common.{◌≡◌, ℕ, zero, suc, ◌+◌, ◌<◌, ◌≤◌, min, ◌==◌, Bool, true, false, not, List, Ok, Err, if◌then◌else◌, refl, ap, ◌∙◌, arith}
 use Rattle.std.proofs.lemmas.Bool.{cond-false, and_from, and_left, and_right, le-leb, lt-leb, ne_eqb}
 use Rattle.elf_types.specs.declared.records.Order.{Order}
 use Rattle.elf_types.specs.declared.errors.ElfError.TheVariants.{BadChain}
 use Rattle.elf_types.specs.Answers.{refused_if, answered}
 use Rattle.elf_xlate.specs.Numbers.{number_at}
 use Rattle.elf_layout.specs.Layout.{rounded_up}
-use Rattle.gelf_view.specs.declared.notes.NoteAt.{NoteAt}
 use Rattle.gelf_view.specs.declared.notes.TheConstants.{NOTE_HEADER_SIZE}
-use Rattle.gelf_view.specs.Notes.{namesz, descsz, note_type, name_end, desc_place, desc_end, note_lies, note_of, note_with, IsNoteWithin}
+use Rattle.gelf_view.specs.Notes.{namesz, descsz, note_type, name_end, desc_place, desc_end, note_lies, note_of, note_with}
 
 -- no place is rounded down
 pub rounded_up_le : (n align : ℕ) → n ≤ rounded_up n align

@@ -1,5 +1,5 @@
 -- The number at a place, as it is read from the bytes that stand there.
-use Rattle.std.proofs.Common.{◌≡◌, ℕ, ◌+◌, ◌-◌, List, take, drop, ap, arith}
+use Rattle.std.proofs.Common.{◌≡◌, ℕ, List, take, drop, ap, arith}
 use Rattle.std.proofs.lemmas.List.{take-take}
 use Rattle.elf_types.specs.declared.records.Class.TheVariants.{C32}
 use Rattle.elf_types.specs.declared.records.Order.{Order}
