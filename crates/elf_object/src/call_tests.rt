@@ -58,7 +58,8 @@ fn sections_of_symbols_are_due_both_homes()
     ensures loaded { due (section_of 2 0 1) indexed (false ∷ false ∷ true ∷ []) ≡ 8 }
 {}
 
-/// A string ends at the first NUL of the piece that covers its offset, and the first refusal counts.
+/// A string ends at the first NUL of the piece that covers its offset, and the first refusal
+/// counts.
 fn strings_are_found_in_their_piece()
     ensures found { (strptr 1 1).answer symbols64 ≡ Ok (0x61 ∷ []) }
     ensures empty { (strptr 1 0).answer symbols64 ≡ Ok [] }

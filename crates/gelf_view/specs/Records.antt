@@ -9,7 +9,9 @@ use Rattle.elf_object.specs.Strings.{has_nul}
 -- the bytes of a record of that size at a place, or that it does not lie in the bytes
 unfoldable pub record_at : ℕ → List ℕ → ℕ → Result (List ℕ) ElfError
 record_at size bytes at =
-    answered (refused_if (nat_lt (length bytes) (at + size)) (BadChain at)) (take size (drop at bytes))
+    answered
+    (refused_if (nat_lt (length bytes) (at + size)) (BadChain at))
+    (take size (drop at bytes))
 
 -- the string with which bytes begin, without its NUL, or none where no NUL follows (gABI chapter 4,
 -- "String Table")
