@@ -7,6 +7,8 @@
 mod body;
 mod descriptor;
 mod scn;
+#[cfg(test)]
+mod test_sources;
 
 pub use body::{Body, Written};
 pub use descriptor::Elf;

@@ -77,3 +77,6 @@ impl<S: Source> Elf<S> {
         }
     }
 }
+
+#[cfg(test)]
+mod tests;
