@@ -4,3 +4,4 @@ pub mod Objects
 pub mod Beginnings
 pub mod BeginAnswers
 pub mod Warming
+pub mod Loaded

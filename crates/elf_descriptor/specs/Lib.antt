@@ -3,6 +3,7 @@ pub mod Views
 pub mod Sound
 pub mod Begun
 pub mod Bodies
+pub mod Held
 pub mod Warmed
 pub mod Reads
 pub mod Rests

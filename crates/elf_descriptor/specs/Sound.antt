@@ -11,8 +11,8 @@ use Rattle.elf_descriptor.specs.declared.scn.Scn.{Scn}
 use Rattle.elf_descriptor.specs.declared.body.Body.{Body}
 use Rattle.elf_descriptor.specs.Views.{object_of, HasCounts}
 
--- the data of the section with a number: its home can be read from a source of that size, and the items that are
--- held are those of its bytes
+-- the data of the section with a number: its home can be read from a source of that size, and the
+-- items that are held are those of its bytes
 pub record CellIn (class : Class) (order : Order) (size i : ℕ) (s : Scn) : Type 0 where
   pub number : s.cell.section ≡ i
   pub lies : LiesIn s.cell size

@@ -22,8 +22,8 @@ abbrev pub bytes_or : Option (List ℕ) → List ℕ → List ℕ
 bytes_or None bytes = bytes
 bytes_or (Some loaded) bytes = loaded
 
--- the home's bytes: those that are loaded, else those in the image. Of a source that does not tell its bytes they
--- count as zeros, also once they are loaded.
+-- the home's bytes: those that are loaded, else those in the image. Of a source that does not tell
+-- its bytes they count as zeros, also once they are loaded.
 unfoldable pub raw_of : Option (List ℕ) → CellView → List ℕ
 raw_of None c = if c.home.out then [] else replicate c.home.len 0
 raw_of (Some image) c = bytes_or c.raw (home_bytes c.home image)

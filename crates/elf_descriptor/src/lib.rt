@@ -6,10 +6,12 @@
 
 mod body;
 mod descriptor;
+mod held;
 mod scn;
 #[cfg(test)]
 mod test_sources;
 
 pub use body::{Body, Written};
 pub use descriptor::Elf;
+pub use held::Held;
 pub use scn::Scn;

@@ -4,7 +4,10 @@ ghost use Rattle.std.specs.Prelude.{◌≡◌, ◌<◌, length, OnOk, IfErr};
 ghost use Rattle.std.specs.List.{list_any};
 ghost use Rattle.elf_types.specs.Answers.{answered, IsRefusal};
 ghost use Rattle.section_data.specs.Refused.{no_piece};
+ghost use Rattle.section_data.specs.Views.{IsCell};
+ghost use Rattle.elf_descriptor.specs.Held.{IsHeldIn};
 
+use crate::held::Held;
 use elf_types::{ElfError, Shdr};
 use section_data::Cell;
 
@@ -34,6 +37,22 @@ impl Scn {
         } else {
             Err(ElfError::NoData { index: p, count })
         }
+    }
+
+    /// What is held of a piece.
+    #[tactic(auto, unfolding(section_data::specs::Held::ready))]
+    pub fn held(&self, p: u32) -> Held<'_>
+        requires { p < length self.now.cell.pieces }
+        ensures held { IsHeldIn self.now.cell p result }
+        ensures cell { IsCell self.now.cell }
+    {
+        if self.cell.is_own(p) {
+            return Held::Edited(self.cell.items(p));
+        }
+        if self.cell.is_loaded() {
+            return Held::Raw(self.cell.bytes());
+        }
+        Held::Unread
     }
 
     /// Whether a piece is marked dirty.

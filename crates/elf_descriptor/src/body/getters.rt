@@ -85,8 +85,8 @@ impl Body {
     #[tactic(auto, using(crate::proofs::Objects::piece_kind_is, crate::proofs::Refusals::answered_err, crate::proofs::Refusals::answered_ok))]
     pub fn piece_kind(&self, d: DataId) -> Result<Kind, ElfError>
         requires { HasCounts self.now }
-        ensures { (image : Option (List ℕ)) (size : ℕ)
-            → result ≡ (calls.piece_kind d.section d.piece).answer (object_of image size self.now) }
+        ensures { (image : Option (List ℕ)) (size : ℕ) → result
+            ≡ (calls.piece_kind d.section d.piece).answer (object_of image size self.now) }
     {
         self.check_piece(d)?;
         Ok(self.scn(d.section).cell.piece_kind(d.piece))
@@ -96,8 +96,8 @@ impl Body {
     #[tactic(auto, using(crate::proofs::Objects::piece_align_is, crate::proofs::Refusals::answered_err, crate::proofs::Refusals::answered_ok))]
     pub fn piece_align(&self, d: DataId) -> Result<u64, ElfError>
         requires { HasCounts self.now }
-        ensures { (image : Option (List ℕ)) (size : ℕ)
-            → result ≡ (calls.piece_align d.section d.piece).answer (object_of image size self.now) }
+        ensures { (image : Option (List ℕ)) (size : ℕ) → result
+            ≡ (calls.piece_align d.section d.piece).answer (object_of image size self.now) }
     {
         self.check_piece(d)?;
         Ok(self.scn(d.section).cell.piece_align(d.piece))

@@ -1,16 +1,20 @@
 //! What a descriptor tells without reading.
 
-ghost use Rattle.std.specs.Prelude.{◌≡◌, Ok, length};
+ghost use Rattle.std.specs.Prelude.{◌≡◌, Ok, IfOk, length};
+ghost use Rattle.elf_types.specs.Answers.{err_of};
 ghost use Rattle.elf_object.specs.Object.{is_dirty};
+ghost use Rattle.elf_object.specs.Answers.{piece_refusal};
 ghost use Rattle.elf_object.specs.Calls as calls;
 
 use crate::descriptor::Elf;
+use crate::held::Held;
 use elf_outside::Source;
 use elf_types::{DataId, Ehdr, ElfError, Kind, Part, Phdr, ScnId, Shdr};
 use std::alloc::Global;
 
 impl<S: Source> Elf<S> {
     ghost use Rattle.elf_descriptor.specs.Sound.{IsSound};
+    ghost use Rattle.elf_descriptor.specs.Held.{IsHeld};
 
     /// The object's allocator: a call over an object that is handed none takes its memory from it.
     pub fn alloc(&self) -> Global {
@@ -157,5 +161,18 @@ impl<S: Source> Elf<S> {
         ensures { result ≡ length self.now.o.base }
     {
         self.body.base_len(self.src.len())
+    }
+
+    /// What is held of a piece: its items exactly where it is own, else the home's bytes in file
+    /// form exactly where the section is loaded. It refuses in this order: `NoSection`, `NoData`. It
+    /// reads nothing and takes no memory.
+    pub fn held(&self, d: DataId) -> Result<Held<'_>, ElfError>
+        ensures refusal { err_of result ≡ piece_refusal self.now.o d.section d.piece }
+        ensures held { IfOk result (λ held. IsHeld self.now d.section d.piece held) }
+    {
+        if let Err(e) = self.body.check_piece(d) {
+            return Err(e);
+        }
+        Ok(self.body.scn(d.section).held(d.piece))
     }
 }
