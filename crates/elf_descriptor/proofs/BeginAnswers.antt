@@ -1,5 +1,5 @@
 -- The answer of a call that begins a descriptor, once the front is read.
-use Rattle.std.proofs.Common.{◌≡◌, ℕ, ◌+◌, ◌≤◌, List, Option, Some, None, Result, Ok, Err, refl, sym, ap, ◌∙◌, subst}
+use Rattle.std.proofs.Common.{◌≡◌, ℕ, ◌≤◌, List, Option, Some, None, Result, Ok, Err, sym, ap, ◌∙◌, subst}
 use Rattle.std.specs.Prelude.{IfSome, IfOk, IfErr}
 use Rattle.elf_types.specs.declared.constants.TheConstants.{MAX_IMAGE}
 use Rattle.elf_types.specs.declared.errors.ElfError.{ElfError}

@@ -1,26 +1,22 @@
 -- What the front of an image begins.
-use Rattle.std.proofs.Common.{◌≡◌, ℕ, zero, suc, ◌+◌, ◌-◌, ◌^◌, ◌<◌, ◌≤◌, Bool, true, false, List, [], ◌∷◌, ◌++◌, length, map, take, drop, get_or, Option, Some, None, Result, Ok, Err, refl, sym, ap, ◌∙◌, subst, arith, lit<, lit≤}
-use Rattle.std.specs.Prelude.{All, IfSome, IsSome, is_some, slice_get, if◌then◌else◌}
+use Rattle.std.proofs.Common.{◌≡◌, ℕ, zero, suc, ◌+◌, ◌-◌, ◌^◌, ◌<◌, ◌≤◌, Bool, true, false, List, [], ◌∷◌, ◌++◌, length, map, take, drop, get_or, Option, Some, None, Ok, refl, sym, ap, ◌∙◌, subst, arith, lit<}
+use Rattle.std.specs.Prelude.{IfSome, IsSome, is_some, slice_get, if◌then◌else◌}
 use Rattle.std.specs.Global.{Vec}
 use Rattle.std.specs.List.{enumerate_from}
 use Rattle.std.proofs.Math.ListN.{replicate}
 use Rattle.std.proofs.Math.Seq.{take-suc}
-use Rattle.std.proofs.lemmas.List.{length-map, length-replicate, drop-replicate, take-replicate, map-append, length-take-le}
+use Rattle.std.proofs.lemmas.List.{length-map, length-replicate, drop-replicate, take-replicate, length-take-le}
 use Rattle.std.proofs.lemmas.List.FromFn.{length-enumerate_from}
 use Rattle.std.proofs.lemmas.List.Elements.{All-replicate}
 use Rattle.elf_types.specs.declared.constants.TheConstants.{MAX_IMAGE}
 use Rattle.elf_types.specs.declared.records.Class.{Class}
 use Rattle.elf_types.specs.declared.records.Order.{Order}
 use Rattle.elf_types.specs.declared.records.Shdr.{Shdr}
-use Rattle.elf_types.specs.declared.errors.ElfError.{ElfError}
-use Rattle.elf_types.specs.declared.errors.ElfError.TheVariants.{Memory, Read}
-use Rattle.elf_types.specs.Answers.{Follows}
 use Rattle.elf_outside.specs.declared.sources.Source.{Ghosts}
 use Rattle.elf_ident.specs.declared.fronts.Front.{Front}
-use Rattle.elf_ident.specs.Front.{front}
 use Rattle.elf_ident.specs.Reading.{IsFittingFront, IsCounted}
 use Rattle.elf_object.specs.Object.{Object, Section, Home, home_piece}
-use Rattle.elf_object.specs.Open.{begun, begun_or_refused, opened, opened_section, home_of, home_bytes}
+use Rattle.elf_object.specs.Open.{begun, opened, opened_section, home_of, home_bytes}
 use Rattle.elf_object.specs.Valid.{AreBytes}
 use Rattle.object_laws.specs.Laws.{BegunFits, BeginningsAreTied}
 use Rattle.writing_laws.specs.Based.{BeginningsAreBased}

@@ -21,11 +21,10 @@ fn begun<S: Source + Drop>(alloc: Global, src: S) -> Result<Elf<S>, ElfError> {
     }
 }
 
-/// The bytes of a header, and of tables of so many entries.
-fn front_size(class: Class, segments: u64, sections: u64) -> u64 {
-    ehdr_size(class) as u64
-        + segments * phdr_size(class) as u64
-        + sections * shdr_size(class) as u64
+/// The bytes of a header, two program headers and so many section headers.
+fn front_size(class: Class, sections: u8) -> u64 {
+    let (header, segment, section) = (ehdr_size(class), phdr_size(class), shdr_size(class));
+    header as u64 + 2 * segment as u64 + u64::from(sections) * section as u64
 }
 
 /// Whether a descriptor begins over an image that has two program headers and three sections,
@@ -42,10 +41,10 @@ fn has_begun(alloc: Global, image: Image, asked: u64) -> Result<bool, ElfError> 
 fn the_front_is_read_and_nothing_else(rt: HostRuntime) -> Result<(), Fail> {
     for (class, order) in FORMS {
         let tables = two_tables(rt.alloc(), class, order)?;
-        assert!(rt; has_begun(rt.alloc(), tables, front_size(class, 2, 3))?);
+        assert!(rt; has_begun(rt.alloc(), tables, front_size(class, 3))?);
         // Section 0 is read besides, where the numbers stand.
         let numbers = numbers_in_section_0(rt.alloc(), class, order)?;
-        assert!(rt; has_begun(rt.alloc(), numbers, front_size(class, 2, 4))?);
+        assert!(rt; has_begun(rt.alloc(), numbers, front_size(class, 4))?);
     }
     Ok(())
 }
