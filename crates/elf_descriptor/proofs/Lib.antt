@@ -3,3 +3,7 @@ pub mod Marks
 pub mod Objects
 pub mod Warming
 pub mod Loaded
+pub mod ReadsLaws
+pub mod Reading
+pub mod RawCalls
+pub mod Handing

@@ -8,6 +8,7 @@ use std::alloc::Global;
 use std::marker::Model;
 
 mod getters;
+mod reading;
 
 /// An object over a source. Contracts see it as a [`State`]: the plain object, what is held of it,
 /// and the source.
