@@ -5,3 +5,7 @@ pub mod Beginnings
 pub mod BeginAnswers
 pub mod Warming
 pub mod Loaded
+pub mod ReadsLaws
+pub mod Reading
+pub mod RawCalls
+pub mod Handing

@@ -9,6 +9,7 @@ use std::marker::Model;
 
 mod begin;
 mod getters;
+mod reading;
 
 /// An object over a source. Contracts see it as a [`State`]: the plain object, what is held of it,
 /// and the source.
