@@ -73,7 +73,7 @@ impl<S: Source> Elf<S> {
     {
         match read_front(alloc, &mut src) {
             Ok(front) => Elf::over(alloc, src, front),
-            Err(e) => Err((src, e)),
+            Err(refusal) => Err((src, refusal)),
         }
     }
 }

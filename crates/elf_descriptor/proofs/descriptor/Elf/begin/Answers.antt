@@ -26,4 +26,4 @@ returns-in-Ok-clause-bound g c =
     c.in-Ok.ensures.bound c.over.ensures.state c.over.ensures.back
 
 pub returns-in-Err-clause-answer : goal.returns-in-Err-clause-answer
-returns-in-Err-clause-answer g c = opened_refused (g.S.Source.holds c.args.src) c.in-Err.e c.in-Err.ensures.front
+returns-in-Err-clause-answer g c = opened_refused (g.S.Source.holds c.args.src) c.in-Err.refusal c.in-Err.ensures.front
