@@ -79,8 +79,8 @@ begun_state g f source = record {
   source = source;
 }
 
--- What a front begins is an object. Where the source tells bytes that have this front, it is that of
--- its base, and what is not dirty stands there.
+-- What a front begins is an object. Where the source tells bytes that have this front, it is that
+-- of its base, and what is not dirty stands there.
 abbrev pub BegunIsSound : Type 0
 BegunIsSound =
     (f : Front) (image : Option (List ℕ)) (size : ℕ) → IsFittingFront f → IsCounted f

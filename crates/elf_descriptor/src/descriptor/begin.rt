@@ -19,8 +19,8 @@ use object_laws::laws::{beginnings_are_tied, begun_fits};
 use std::alloc::Global;
 use writing_laws::based::beginnings_are_based;
 
-/// What a front begins is an object; over bytes that are told, and that have this front, what is not
-/// dirty stands in them.
+/// What a front begins is an object; over bytes that are told, and that have this front, what is
+/// not dirty stands in them.
 fn begun_is_sound()
     ensures { BegunIsSound }
 {
@@ -54,8 +54,8 @@ impl<S: Source> Elf<S> {
     /// not tell its bytes, they count as zeros in the object that contracts speak of.
     ///
     /// It refuses what `read_front` refuses, in its order: `Short`, `Magic`, `Class`, `Order`,
-    /// `Version`, `TooLarge`, `ShTable`, `PhTable`, `TooMany`; `Read` and `Memory` may come before
-    /// each. With a refusal it hands the source back.
+    /// `Version`, `TooLarge`, `ShTable`, `PhTable`, `TooMany`. `Read` may come at each read, and
+    /// `Memory` where none of these comes. With a refusal it hands the source back.
     ///
     /// It asks for at most one header and one section header, and for the two tables where nothing
     /// is refused, in at most five reads.
