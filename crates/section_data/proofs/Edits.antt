@@ -1,6 +1,6 @@
 -- What edits leave.
-use Rattle.std.proofs.Common.{◌≡◌, ℕ, ◌<◌, Bool, true, false, List, [], ◌∷◌, ◌++◌, length, get_or, set, zero, suc, subst, Option, Some, None, refl, sym, ap, ◌∙◌, arith, length-append}
-use Rattle.std.specs.Prelude.{is_some, IsTrue, IsSome, IfSome, slice_set, if◌then◌else◌}
+use Rattle.std.proofs.Common.{◌≡◌, ℕ, ◌<◌, Bool, true, false, List, [], ◌∷◌, ◌++◌, length, get_or, set, zero, suc, subst, Option, Some, None, Result, Ok, Err, refl, sym, ap, ◌∙◌, arith, length-append}
+use Rattle.std.specs.Prelude.{is_some, IsTrue, IsSome, IfSome, OnOk, OnErr, slice_set}
 use lib.Count.{ones}
 use Rattle.elf_types.specs.declared.records.Kind.TheVariants as kinds
 use Rattle.std.proofs.lemmas.List.{set-get_or, length-set}
@@ -15,7 +15,7 @@ use Rattle.section_data.specs.Views.{CellView, IsCell, IsKept, opened_cell, new_
 use Rattle.section_data.specs.declared.held.HomeItems.{HomeItems}
 use Rattle.section_data.specs.Held.{piece_in}
 use Rattle.section_data.specs.Leaves.{Claims, replaced, marked_piece}
-use Rattle.section_data.proofs.Pieces.{ready_own, ready_clean}
+use Rattle.section_data.proofs.PieceItems.{ready_own, ready_clean}
 
 held_kept : (held : Option Items) → IfSome held (λ items. held ≡ Some items)
 held_kept None = tt
@@ -150,11 +150,11 @@ appended_kept section home raw held l items align kept room good = record {
 }
 
 -- an own piece is pushed, or there is no memory for it
-pub pushed_kept : (pushed : Bool) (section : ℕ) (home : Home) (raw : Option Items) (held : HomeItems) (l now : List Piece) (q : Piece) (items : Items) (align : ℕ)
-    → IsKept section home raw held l → length l < MAX_PIECES → IsTrue (is_piece_align align) → q ≡ own_piece items align
-    → now ≡ (if pushed then l ++ q ∷ [] else l) → IsKept section home raw held now
-pushed_kept true section home raw held l now q items align kept room good is after =
+pub pushed_kept : {A E : Type 0} (r : Result A E) (section : ℕ) (home : Home) (raw : Option Items) (held : HomeItems) (l now : List Piece)
+    (q : Piece) (items : Items) (align : ℕ) → IsKept section home raw held l → length l < MAX_PIECES → IsTrue (is_piece_align align)
+    → q ≡ own_piece items align → OnOk r (now ≡ l ++ q ∷ []) → OnErr r (now ≡ l) → IsKept section home raw held now
+pushed_kept (Ok x) section home raw held l now q items align kept room good is after same =
     subst (λ (l : List Piece). IsKept section home raw held l) (sym (after ∙ ap (λ (q : Piece). l ++ q ∷ []) is))
     (appended_kept section home raw held l items align kept room good)
-pushed_kept false section home raw held l now q items align kept room good is after =
-    subst (λ (l : List Piece). IsKept section home raw held l) (sym after) kept
+pushed_kept (Err e) section home raw held l now q items align kept room good is after same =
+    subst (λ (l : List Piece). IsKept section home raw held l) (sym same) kept

@@ -1,5 +1,5 @@
 pub mod EmptyHomes
-pub mod Pieces
+pub mod PieceItems
 pub mod Items
 pub mod Loading
 pub mod Preparing

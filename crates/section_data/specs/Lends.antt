@@ -10,6 +10,8 @@ use Rattle.elf_object.specs.Object.{Piece}
 use Rattle.section_data.specs.contracts.piece.Piece.{the_row as piece_row}
 use Rattle.section_data.specs.contracts.cell.Cell.{the_row as cell_row}
 use Rattle.section_data.specs.Views.{CellView}
+use Rattle.section_data.specs.contracts.pieces.Pieces.{the_row as pieces_row}
+use Rattle.section_data.specs.Views.{piece_of}
 use Rattle.section_data.specs.Held.{piece_in}
 
 -- a piece with those items of its own
@@ -45,3 +47,8 @@ LendsPieceItems piece r = Lends piece_row items_row piece r (piece_with piece.no
 
 abbrev pub LendsCellItems : ℕ → MutBor CellView → MutBor Items → Fml
 LendsCellItems p cell r = Lends cell_row items_row cell r (with_items cell.now p)
+
+-- ---- One piece of a list
+
+abbrev pub LendsPieceOf : ℕ → MutBor (List Piece) → MutBor Piece → Fml
+LendsPieceOf p pieces r = Lends pieces_row piece_row pieces r (λ left. slice_set pieces.now p left)

@@ -90,7 +90,7 @@ impl Cell {
         ensures* lends { sem 𝓛 (LendsCell T.row T.variant p self.entry result) }
         ensures value { IfSome (piece_in self.old p).own (λ items. result.now ≡ T.list_of items) }
     {
-        let piece = &mut self.pieces[p as usize];
+        let piece = self.pieces.get_mut(p);
         piece.list_mut::<T>()
     }
 
@@ -102,7 +102,7 @@ impl Cell {
         ensures* lends { sem 𝓛 (LendsCellItems p self.entry result) }
         ensures value { (piece_in self.old p).own ≡ Some result.now }
     {
-        let piece = &mut self.pieces[p as usize];
+        let piece = self.pieces.get_mut(p);
         piece.items_mut()
     }
 }
