@@ -3,4 +3,5 @@ pub mod PieceItems
 pub mod Items
 pub mod Loading
 pub mod Preparing
+pub mod Owning
 pub mod Edits

@@ -8,6 +8,7 @@ use Rattle.elf_xlate.specs.declared.content.Items.{Items}
 use Rattle.elf_xlate.specs.declared.content.Items.TheVariants as items
 use Rattle.elf_xlate.specs.Translation.{decoded, items_kind, is_whole}
 use Rattle.elf_object.specs.Object.{Piece}
+use Rattle.elf_object.specs.Open.{home_bytes}
 use Rattle.section_data.specs.Views.{CellView, piece_of}
 
 unfoldable pub piece_in : CellView → ℕ → Piece
@@ -54,6 +55,18 @@ raw_items class order c = or_empty (option_and_then (decoded c.home.kind class o
 unfoldable pub items_in : Class → Order → CellView → ℕ → Items
 items_in class order c p =
     elim ((piece_in c p).own) [ None ↦ raw_items class order c | Some items ↦ items ]
+
+-- the home's bytes over an image: those that were read, else those in the image
+abbrev pub raw_over : List ℕ → CellView → List ℕ
+raw_over image c = elim (c.raw) [ None ↦ home_bytes c.home image | Some bytes ↦ bytes ]
+
+-- the items of a piece over an image
+unfoldable pub items_over : List ℕ → Class → Order → CellView → ℕ → Items
+items_over image class order c p =
+    elim ((piece_in c p).own) [
+      | None ↦ items_of_bytes c.home.kind class order (raw_over image c)
+      | Some items ↦ items
+    ]
 
 -- the home's bytes are no whole items
 abbrev pub is_ragged : Class → CellView → Bool
