@@ -179,7 +179,8 @@ impl Cell {
         self.check_home(p, class)
     }
 
-    /// Loads the home of a piece that is not own. It refuses as `load`, and nothing for an own piece.
+    /// Loads the home of a piece that is not own. It refuses as `load`, and nothing for an own piece,
+    /// whose cell stays as it is.
     pub fn fetch<S: Source>(&mut self, src: &mut S, p: u32) -> Result<(), ElfError>
         requires piece { p < length self.old.pieces }
         requires lies { LiesIn self.old (S.size src.old) }
@@ -190,6 +191,7 @@ impl Cell {
         ensures held { self.new.held ≡ self.old.held }
         ensures warms { Warms (S.holds src.old) self.old self.new }
         ensures unchanged { OnErr result (self.new ≡ self.old) }
+        ensures own { is_some (piece_in self.old p).own ≡ true → self.new ≡ self.old }
         ensures asks { Asks S.Source result src.old src.new (piece_due self.old p) }
         ensures cell { IsCell self.new }
     {
@@ -286,11 +288,11 @@ impl Cell {
         self.hold(class, order)
     }
 
-    /// Makes a piece hold its items, so that they can be handed out and claimed: the home is read and
-    /// translated at the first use, and room is made for a copy where it is of bytes. It refuses in this order: `NoData`, and for
-    /// the clean home piece `OutOfFile` and `Ragged`; then `Memory` or `Read` where the piece does
-    /// not hold its items. It reads nothing where it is refused, the piece is own or the section is
-    /// loaded.
+    /// Makes a piece hold its items, so that they can be handed out and claimed: the home is read
+    /// and translated at the first use, and room is made for a copy where it is of bytes. For an own
+    /// piece the cell stays as it is. It refuses in this order: `NoData`, and for the clean home
+    /// piece `OutOfFile` and `Ragged`; then `Memory` or `Read` where the piece does not hold its
+    /// items. It reads nothing where it is refused, the piece is own or the section is loaded.
     ///
     /// Source: elf_getdata of elf(3E).
     pub fn prepare<S: Source>(
@@ -310,6 +312,7 @@ impl Cell {
         ensures warms { Warms (S.holds src.old) self.old self.new }
         ensures same { OnErr result (self.new.held ≡ self.old.held) }
         ensures unchanged { IfErr result (λ e. e ≢ Memory → self.new ≡ self.old) }
+        ensures own { is_some (piece_in self.old p).own ≡ true → self.new ≡ self.old }
         ensures asks { Asks S.Source result src.old src.new (items_due class self.old p) }
         ensures cell { IsCell self.new }
     {

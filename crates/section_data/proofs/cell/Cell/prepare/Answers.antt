@@ -53,3 +53,7 @@ returns-clause-asks g c =
     let passed = passed_by (items_refused c.args.class c.args.self.now c.args.p) (sym c.check.ensures.answer ∙ c.in_default.is) in
     let unheld = sym c.holds_items.ensures.value ∙ c.if-holds_items.false in
     rw (due_passed c.args.class c.args.self.now c.args.p passed ∙ due_clean c.args.self.now c.args.p (unheld_clean c.args.self.now c.args.p unheld)) c.warm.ensures.asks
+
+pub returns-clause-own : goal.returns-clause-own
+returns-clause-own g c =
+    λ own. let clean = unheld_clean c.args.self.now c.args.p (sym c.holds_items.ensures.value ∙ c.if-holds_items.false) in cc
