@@ -11,6 +11,7 @@ use Rattle.elf_object.specs.Object.{Home, Piece, home_piece}
 use Rattle.elf_object.specs.Steps.{own_piece}
 use Rattle.elf_object.specs.Calls.{is_piece_align}
 use Rattle.elf_object.specs.Valid.{IsPiece, OthersOwn}
+use Rattle.elf_object.proofs.PieceLaws.{IsOwn, others_set, others_push, own_piece_is, home_piece_is}
 use Rattle.section_data.specs.Views.{CellView, IsCell, IsKept, opened_cell, new_cell}
 use Rattle.section_data.specs.declared.held.HomeItems.{HomeItems}
 use Rattle.section_data.specs.Held.{piece_in}
@@ -58,18 +59,6 @@ claims_clean old mid new p items clean there is after = record {
   kept = tt;
 }
 
-abbrev IsOwn : Piece → Type 0
-IsOwn p = IsSome p.own
-
-others_own : (l : List Piece) (q : Piece) → IsOwn q → OthersOwn l → OthersOwn (l ++ q ∷ [])
-others_own [] q own others = All-nil IsOwn
-others_own (first ∷ rest) q own others = All-push IsOwn rest q others own
-
-others_set : (l : List Piece) (p : ℕ) (q : Piece) → OthersOwn l → IsOwn q → OthersOwn (set l p q)
-others_set [] p q others own = tt
-others_set (first ∷ rest) zero q others own = others
-others_set (first ∷ rest) (suc p) q others own = All-set IsOwn rest p q own others
-
 kept_set : (section : ℕ) (home : Home) (raw : Option Items) (held : HomeItems) (l : List Piece) (p : ℕ) (q : Piece)
     → IsKept section home raw held l → IsPiece q → OthersOwn (set l p q) → IsKept section home raw held (set l p q)
 kept_set section home raw held l p q kept is others = record {
@@ -91,7 +80,7 @@ pub replaced_kept : (section : ℕ) (home : Home) (raw : Option Items) (held : H
     → IsKept section home raw held (set l p q)
 replaced_kept section home raw held l p items q r kept there is read =
     let old : IsPiece r = subst IsPiece (sym read) (All-get_or IsPiece l p home_piece there kept.cell.each) in
-    let new : IsPiece (own_piece items r.align) = record { align = old.align; own = refl } in
+    let new = own_piece_is items r.align old.align in
     subst (λ (q : Piece). IsKept section home raw held (set l p q)) (sym is)
     (kept_set section home raw held l p (own_piece items r.align) kept new (others_set l p (own_piece items r.align) kept.cell.others refl))
 
@@ -108,10 +97,6 @@ marked_is v p q r is read =
     ap (λ (q : Piece). record v { pieces = set v.pieces p q }) (is ∙ ap (λ (r : Piece). record r { marked = true }) read)
 
 -- ---- Cells as they are made
-
-home_piece_is : IsPiece home_piece
-unfolding is_piece_align ones
-home_piece_is = record { align = refl; own = tt }
 
 pub opened_is : (section : ℕ) (home : Home) → (home.kind ≡ kinds.Empty → home.len ≡ 0) → IsCell (opened_cell section home)
 opened_is section home empty = record {
@@ -143,8 +128,8 @@ appended_kept section home raw held l items align kept room good = record {
     sized = kept.cell.sized;
     outside = kept.cell.outside;
     few = omega (arith, room, length-append l (own_piece items align ∷ []));
-    each = All-push IsPiece l (own_piece items align) kept.cell.each (record { align = good; own = refl });
-    others = others_own l (own_piece items align) refl kept.cell.others;
+    each = All-push IsPiece l (own_piece items align) kept.cell.each (own_piece_is items align good);
+    others = others_push l (own_piece items align) kept.cell.others refl;
     empty = kept.cell.empty;
   };
 }

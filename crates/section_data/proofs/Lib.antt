@@ -1,4 +1,3 @@
-pub mod EmptyHomes
 pub mod PieceItems
 pub mod Items
 pub mod Loading

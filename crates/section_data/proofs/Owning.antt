@@ -1,13 +1,14 @@
 -- A piece that becomes own.
-use Rattle.std.proofs.Common.{◌≡◌, ℕ, ◌<◌, Bool, List, length, get_or, set, true, Option, Some, None, Result, Err, refl, sym, ap, ◌∙◌, subst}
-use Rattle.std.specs.Prelude.{IfSome, is_some, [], ◌∷◌}
+use Rattle.std.proofs.Common.{◌≡◌, ℕ, ◌<◌, Bool, false, List, length, get_or, set, true, Option, Some, None, Result, Err, refl, sym, ap, ◌∙◌, subst}
+use Rattle.std.specs.Prelude.{IfSome, IsTrue, is_some, [], ◌∷◌, ◌||◌}
 use Rattle.std.specs.Option.{option_and_then}
 use Rattle.std.proofs.lemmas.List.{get_or-set_same, length-set}
 use Rattle.elf_types.specs.declared.records.Class.{Class}
 use Rattle.elf_types.specs.declared.records.Order.{Order}
 use Rattle.elf_types.specs.declared.records.Kind.{Kind}
 use Rattle.elf_types.specs.declared.errors.ElfError.{ElfError}
-use Rattle.elf_types.specs.Answers.{first_refusal, answered}
+use Rattle.elf_types.specs.declared.errors.ElfError.TheVariants.{OutOfFile, Ragged}
+use Rattle.elf_types.specs.Answers.{refused_if, first_refusal, answered}
 use Rattle.elf_xlate.specs.declared.content.Items.{Items}
 use Rattle.elf_xlate.specs.Translation.{items_kind, decoded}
 use Rattle.elf_xlate.proofs.Decoded.{decoded_kind}
@@ -16,8 +17,8 @@ use Rattle.elf_object.specs.Object.{Piece, home_piece}
 use Rattle.elf_object.specs.Open.{home_bytes}
 use Rattle.elf_object.specs.Steps.{own_piece}
 use Rattle.section_data.specs.Views.{CellView}
-use Rattle.section_data.specs.Held.{piece_in, kind_in, ready, or_empty, items_of_bytes, raw_over, items_over, HeldIs}
-use Rattle.section_data.specs.Refused.{preparing, no_piece, wrong_piece_kind, no_home_items, items_refused, kind_refused, lend_due, items_due, piece_due}
+use Rattle.section_data.specs.Held.{piece_in, kind_in, cell_is_loaded, piece_holds_items, is_ragged, is_at_hand, ready, or_empty, items_of_bytes, raw_over, items_over, HeldIs}
+use Rattle.section_data.specs.Refused.{home_out, home_ragged, load_due, preparing, no_piece, wrong_piece_kind, no_home_items, items_refused, kind_refused, lend_due, items_due, piece_due}
 use Rattle.section_data.specs.Leaves.{RawBecomes, Warms, Claims, Owns, OwnsKind, Stays}
 use Rattle.section_data.proofs.Loading.{warms_same}
 use Rattle.section_data.proofs.PieceItems.{kind_own, kind_clean, ready_own, ready_clean}
@@ -55,6 +56,65 @@ lend_answers class c kind p r passed h =
 
 pub stays_same : {T : Type 0} (image : Option (List ℕ)) (e : ElfError) (c : CellView) → Stays {T = T} image (Err e) c c
 stays_same image e c = record { warms = warms_same image c; held = refl; unchanged = λ h. refl }
+
+-- ---- Reading before a call
+
+parted : (a b d : Option ElfError) → first_refusal (a ∷ b ∷ d ∷ []) ≡ None → d ≡ None
+parted None None None h = refl
+parted None None (Some e) h = cc
+parted None (Some e) d h = cc
+parted (Some e) b d h = cc
+
+lent_home : (class : Class) (c : CellView) (kind : Kind) (p : ℕ) → kind_refused class c kind p ≡ None → no_home_items class c p ≡ None
+unfolding kind_refused
+lent_home class c kind p passed = parted (no_piece c p) (wrong_piece_kind c kind p) (no_home_items class c p) passed
+
+whole_passed : (class : Class) (c : CellView) → first_refusal (home_out c ∷ home_ragged class c ∷ []) ≡ None → is_ragged class c ≡ false
+whole_passed class c passed = by_tests c.home.out (is_ragged class c) passed
+  where
+    by_tests : (out ragged : Bool)
+        → first_refusal (refused_if out (OutOfFile c.section) ∷ refused_if ragged (Ragged c.section) ∷ []) ≡ None → ragged ≡ false
+    by_tests true ragged h = cc
+    by_tests false true h = cc
+    by_tests false false h = refl
+
+-- what passed the check of a lend has each item at hand, once its home is loaded where it is not own
+pub lend_at_hand : (class : Class) (c : CellView) (kind : Kind) (p : ℕ) → kind_refused class c kind p ≡ None
+    → IsTrue (is_some (piece_in c p).own || cell_is_loaded c) → IsTrue (is_at_hand class c p)
+unfolding is_at_hand no_home_items
+lend_at_hand class c kind p passed loaded = by_own (piece_in c p).own refl
+  where
+    by_own : (own : Option Items) → (piece_in c p).own ≡ own → IsTrue (is_at_hand class c p)
+    by_own None clean =
+        let home = rw (no_home_items, clean) at (lent_home class c kind p passed) in
+        let there = rw clean at loaded in
+        rw (is_at_hand, clean, there, whole_passed class c home) refl
+    by_own (Some items) own = rw (is_at_hand, own) refl
+
+-- reading leaves what passed the check of a lend
+pub lend_stays : (image : Option (List ℕ)) (class : Class) (old warm : CellView) (kind : Kind) (p : ℕ) → Warms image old warm
+    → kind_refused class warm kind p ≡ kind_refused class old kind p
+unfolding kind_refused no_home_items kind_in piece_in
+lend_stays image class old warm kind p warms = ap (λ (c : CellView). kind_refused class c kind p) warms.cell
+
+-- a piece that holds its items is due nothing
+pub held_due : (class : Class) (order : Order) (c : CellView) (p : ℕ) → HeldIs class order c → IsTrue (piece_holds_items c p) → piece_due c p ≡ 0
+unfolding piece_due load_due
+held_due class order c p held holds = by_own (piece_in c p).own refl
+  where
+    by_raw : (raw : Option (List ℕ)) (items : Items) → c.raw ≡ raw → option_and_then (decoded c.home.kind class order) raw ≡ Some items → load_due c ≡ 0
+    by_raw None items is e = cc
+    by_raw (Some bytes) items is e = rw (load_due, is) refl
+
+    by_held : (o : Option Items) → c.held ≡ o → is_some o ≡ true → load_due c ≡ 0
+    by_held None is some = cc
+    by_held (Some items) is some = by_raw c.raw items refl (rw is at held)
+
+    by_own : (own : Option Items) → (piece_in c p).own ≡ own → piece_due c p ≡ 0
+    by_own (Some items) own = rw (piece_due, own) refl
+    by_own None clean =
+        let home = ready_clean c p (ap (λ (o : Option Items). is_some o) clean) in
+        rw (piece_due, clean) (by_held c.held refl (ap (λ (o : Option Items). is_some o) (sym home) ∙ holds))
 
 -- ---- What is claimed
 
@@ -168,3 +228,12 @@ owns_over (Some told) class order old new p items owns there own =
     let inside : p < length owns.warm.pieces = subst (λ (n : ℕ). p < n) count there in
     let is = some_is items owns.claims.items (sym own ∙ ap (λ (q : Piece). q.own) (claimed_piece owns.warm new p owns.claims inside)) in
     is ∙ ready_over told class order old owns.warm p owns.claims.items owns.warms owns.items owns.claims.stood
+
+-- the same of a list in them
+pub list_over : {X : Type 0} (list_of : Items → X) (image : Option (List ℕ)) (class : Class) (order : Order) (old new : CellView) (p : ℕ)
+    (kind : Kind) (list : X) → Owns image class order old new p → p < length new.pieces → OwnsKind kind (piece_in new p)
+    → IfSome (piece_in new p).own (λ items. list ≡ list_of items) → IfSome image (λ told. list ≡ list_of (items_over told class order old p))
+list_over list_of None class order old new p kind list owns there is value = tt
+list_over list_of (Some told) class order old new p kind list owns there is value =
+    let given = rw is.own at value in
+    given ∙ ap list_of (owns_over (Some told) class order old new p is.items owns there is.own)

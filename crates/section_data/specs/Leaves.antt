@@ -1,5 +1,5 @@
 -- What a call leaves of a cell.
-use Rattle.std.specs.Prelude.{◌≡◌, ℕ, ◌+◌, ◌<◌, ◌≤◌, true, false, ◌++◌, List, [], ◌∷◌, length, slice_set, Option, Some, None, Result, IfSome, IfErr, ◌≢◌}
+use Rattle.std.specs.Prelude.{◌≡◌, ℕ, ◌+◌, ◌<◌, ◌≤◌, true, false, ◌++◌, List, [], ◌∷◌, length, slice_set, Option, Some, None, Result, is_some, IfSome, IfErr, ◌≢◌}
 use Rattle.elf_xlate.specs.declared.content.Items.{Items}
 use Rattle.elf_types.specs.declared.records.Class.{Class}
 use Rattle.elf_types.specs.declared.records.Order.{Order}
@@ -57,11 +57,13 @@ pub record OwnsKind (kind : Kind) (piece : Piece) : Type 0 where
   pub own : piece.own ≡ Some items
   pub of_kind : items_kind items ≡ kind
 
--- a piece became own: its home was read and translated at first use, and then it was claimed
+-- a piece became own: its home was read and translated at first use where the piece was not own,
+-- and then it was claimed
 pub record Owns (image : Option (List ℕ)) (class : Class) (order : Order)
     (old new : CellView) (p : ℕ) : Type 0 where
   pub warm : CellView
   pub warms : Warms image old warm
+  pub stays : is_some (piece_in old p).own ≡ true → warm ≡ old
   pub items : HeldIs class order warm
   pub claims : Claims warm new p
 

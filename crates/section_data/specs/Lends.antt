@@ -68,6 +68,14 @@ LendsItems image class order p cell r =
     (λ new left. IsLent image class order cell.now new p left)
     (λ new. Stays image r cell.now new)
 
+-- the same of a list whose variant is given
+abbrev pub LendsItemList : (X : RattleType) → (List X.Denot → Items) → Option (List ℕ) → Class → Order
+    → ℕ → MutBor CellView → Result (MutBor (List X.Denot)) ElfError → Fml
+LendsItemList X variant image class order p cell r =
+    LendsSoOk cell_row (list_row X) cell r
+    (λ new left. IsLent image class order cell.now new p (variant left))
+    (λ new. Stays image r cell.now new)
+
 -- ---- One piece of a list
 
 abbrev pub LendsPieceOf : ℕ → MutBor (List Piece) → MutBor Piece → Fml

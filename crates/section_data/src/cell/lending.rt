@@ -21,7 +21,7 @@ use elf_xlate::Items;
 use std::mem;
 
 impl Cell {
-    ghost use Rattle.section_data.specs.Lends.{LendsCell, LendsCellItems, LendsItems};
+    ghost use Rattle.section_data.specs.Lends.{LendsCell, LendsCellItems, LendsItems, LendsItemList};
 
     /// Whether a piece holds the kind: else `WrongKind` with the kind that it holds.
     pub(super) fn check_kind(&self, p: u32, kind: Kind) -> Result<(), ElfError>
@@ -146,6 +146,33 @@ impl Cell {
     {
         match self.own(piece, kind, class, order, src) {
             Ok(()) => Ok(self.items_mut(piece)),
+            Err(e) => Err(e),
+        }
+    }
+
+    /// The list in the items of a piece of the list's kind, lent for writing as `lend` does.
+    pub fn lend_list<T: Listed, S: Source>(
+        &mut self,
+        piece: u32,
+        class: Class,
+        order: Order,
+        src: &mut S,
+    ) -> Result<&mut List<T>, ElfError>
+        requires lies { LiesIn self.old (S.size src.old) }
+        requires items { HeldIs class order self.old }
+        ensures* lends { sem 𝓛 (LendsItemList T.row T.variant (S.holds src.entry.now) class order
+            piece self.entry result) }
+        ensures answer { Answers true
+            (preparing self.old piece (lend_due class self.old T.kind piece))
+            (result_map (λ _. tt {0}) result)
+            (answered (kind_refused class self.old T.kind piece) (tt {0})) }
+        ensures value { IfSome (S.holds src.old) (λ image.
+            IfOk result (λ lent. lent.now ≡ T.list_of (items_over image class order self.old piece))) }
+        ensures asks { Asks S.Source result src.old src.new
+            (lend_due class self.old T.kind piece) }
+    {
+        match self.own(piece, T::kind(), class, order, src) {
+            Ok(()) => Ok(self.list_mut::<T>(piece)),
             Err(e) => Err(e),
         }
     }
