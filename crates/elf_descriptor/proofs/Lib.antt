@@ -1,5 +1,11 @@
 pub mod Refusals
 pub mod Marks
 pub mod Objects
+pub mod Beginnings
+pub mod BeginAnswers
 pub mod Warming
 pub mod Loaded
+pub mod ReadsLaws
+pub mod Reading
+pub mod RawCalls
+pub mod Handing

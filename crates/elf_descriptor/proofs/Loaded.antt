@@ -1,7 +1,7 @@
 -- What is loaded and held of each section, and what a call on it is due.
 use Rattle.std.proofs.Common.{◌≡◌, ℕ, ◌+◌, ◌<◌, ◌≤◌, Bool, true, false, List, [], ◌∷◌, length, get_or, map, Option, Some, None, refl, sym, ap, ◌∙◌, subst, inl, inr, arith}
 use Rattle.std.specs.Prelude.{slice_get, IfSome, IsSome, IsTrue, is_some, is_none, nat_lt, nat_le, unwrap_or, ◌||◌, not, if◌then◌else◌}
-use Rattle.std.proofs.lemmas.Bool.{ltb-true}
+use Rattle.std.proofs.lemmas.Bool.{ltb-true, ltb-false}
 use Rattle.std.proofs.lemmas.Option.{unwrap_or-slice_get}
 use Rattle.std.proofs.lemmas.List.{length-replicate, get_or_past}
 use Rattle.std.proofs.Math.ListN.{get_or-map}
@@ -44,6 +44,15 @@ home_held_is b s =
 pub absent_at : (b : Body) (s : ℕ) → length b.sections.items ≤ s → scn_at b s ≡ absent_scn
 unfolding scn_at
 absent_at b s past = get_or_past b.sections.items s absent_scn past
+
+pub loaded_there : (b : Body) (s : ℕ) → is_loaded (loaded_of b) s ≡ true → s < length b.sections.items
+loaded_there b s loaded = by_range (nat_lt s (length b.sections.items)) refl
+  where
+    by_range : (t : Bool) → nat_lt s (length b.sections.items) ≡ t → s < length b.sections.items
+    by_range true e = ltb-true s (length b.sections.items) e
+    by_range false e =
+        let absent = ap (λ (x : Scn). cell_is_loaded x.cell) (absent_at b s (ltb-false s (length b.sections.items) e)) in
+        let none = sym loaded ∙ loaded_is b s ∙ absent in cc
 
 -- ---- Raw bytes
 
