@@ -13,7 +13,7 @@ use elf_types::constants::{PF_R, PF_W, PF_X};
 use elf_types::{
     ElfError, Octets, Phdr, put_bytes, put_decimal, put_hex, put_text, segment_type_name,
 };
-use tool_output::{Line, Outputs, Side, Stop};
+use tool_output::{Line, Outputs, Stop};
 
 /// The letter of a flag's bit, or a dash where it is not set.
 #[tactic(auto, unfolding(crate::specs::Segments::flag_letter))]
@@ -168,7 +168,7 @@ fn show_lines<O: Sink, E: Sink>(
 {
     for (i, header) in phdrs.iter().enumerate() {
         let index = i as u64;
-        outputs.put(Side::Out, &SegmentLine { index, header })?;
+        outputs.show(&SegmentLine { index, header })?;
     }
     Ok(false)
 }

@@ -1,4 +1,5 @@
--- How a run ends: what it writes, its status, the files afterwards, and how much it reads and writes.
+-- How a run ends: what it writes, its status, the files afterwards, and how much it reads and
+-- writes.
 use Rattle.std.specs.Prelude.{◌≡◌, ◌⊎◌, ◌≤◌, ◌<◌, ℕ, List, [], ◌∷◌, Bool, true, false, Option, Some, None, IfSome, Result, OnOk, IfOk, IfErr, bytes_eq, length, take, slice_index, if◌then◌else◌}
 use Rattle.elf_outside.specs.Counts.{Rose}
 use Rattle.elf_outside.specs.Names.{Map}
@@ -14,14 +15,15 @@ use Rattle.tool_output.specs.Files.{Totals, IsWithin}
 
 -- ---- Stated
 
--- a file that a run writes: its name, its bytes afterwards, and whether it is changed in place or made anew
+-- a file that a run writes: its name, its bytes afterwards, and whether it is changed in place or
+-- made anew
 pub record FileWrite : Type 0 where
   pub name : List ℕ
   pub bytes : List ℕ
   pub in_place : Bool
 
--- what a run is to do: its marks and its status, the files that it writes, the bytes that it asks for at
--- most, and those that it hands to writes at most; None where no bound is promised
+-- what a run is to do: its marks and its status, the files that it writes, the bytes that it asks
+-- for at most, and those that it hands to writes at most; None where no bound is promised
 pub record Outcome : Type 0 where
   pub marks : List Mark
   pub status : ℕ
@@ -41,7 +43,13 @@ report_outcome report asks = record {
 
 -- the outcome of marks and a status, where no file is opened
 unfoldable pub only_says : List Mark → ℕ → Outcome
-only_says marks status = record { marks = marks; status = status; writes = []; asks = Some 0; gives = Some 0 }
+only_says marks status = record {
+  marks = marks;
+  status = status;
+  writes = [];
+  asks = Some 0;
+  gives = Some 0;
+}
 
 -- the write of a name
 unfoldable pub write_of : List FileWrite → List ℕ → Option FileWrite
@@ -89,16 +97,17 @@ pub record Does {F D O E T : Type 0} (f : FilesGhosts F D) (o : SinkGhosts O) (e
   pub status : IfOk result (λ answer. code answer ≡ stated.status)
   pub files : OnOk result ((name : List ℕ)
       → f.named files_new name ≡ held_after (write_of stated.writes name) (f.named files_old name))
-  pub left : IfErr result (λ stop. (name : List ℕ)
-      → MayHold (stop_status stop) (write_of stated.writes name) (f.named files_old name) (f.named files_new name))
+  pub left : IfErr result (λ stop. (name : List ℕ) → MayHold (stop_status stop)
+      (write_of stated.writes name) (f.named files_old name) (f.named files_new name))
   pub asks : OnOk result (IsWithin stated.asks (f.taken files_old) (f.taken files_new))
   pub gives : IsWithin stated.gives (f.given files_old) (f.given files_new)
 
 -- ---- Delivered
 
 -- below status 3 a run does all that is stated, and from 3 on it has stopped on the way
-pub record Delivers (stated : Outcome) (status : ℕ) (out_old out_new err_old err_new : Option (List ℕ))
-    (named_old named_new : Map) : Type 0 where
+pub record Delivers (stated : Outcome) (status : ℕ)
+    (out_old out_new err_old err_new : Option (List ℕ)) (named_old named_new : Map)
+    : Type 0 where
   pub status_is : status < 3 → status ≡ stated.status
   pub whole : status < 3 → Gained out_old out_new err_old err_new stated.marks
   pub stopped : 3 ≤ status → GainedFront out_old out_new err_old err_new stated.marks
@@ -107,14 +116,17 @@ pub record Delivers (stated : Outcome) (status : ℕ) (out_old out_new err_old e
   pub left : 3 ≤ status → (name : List ℕ)
       → MayHold status (write_of stated.writes name) (named_old name) (named_new name)
 
--- it asks for no more than is stated where it is done, and hands no more to writes whatever its status is
-pub record Costs (stated : Outcome) (status taken_old taken_new given_old given_new : ℕ) : Type 0 where
+-- it asks for no more than is stated where it is done, and hands no more to writes whatever its
+-- status is
+pub record Costs (stated : Outcome) (status taken_old taken_new given_old given_new : ℕ)
+    : Type 0 where
   pub asks : status < 2 → IsWithin stated.asks taken_old taken_new
   pub gives : IsWithin stated.gives given_old given_new
 
--- What a run leaves, and the causes of its status: of 3 a failed read of a file, of 4 a failed write of a
--- file or a failed put.
-pub record RunLeaves {F D O E : Type 0} (f : FilesGhosts F D) (o : SinkGhosts O) (e : SinkGhosts E) (status : ℕ)
+-- What a run leaves, and the causes of its status: of 3 a failed read of a file, of 4 a failed write
+-- of a file or a failed put.
+pub record RunLeaves {F D O E : Type 0}
+    (f : FilesGhosts F D) (o : SinkGhosts O) (e : SinkGhosts E) (status : ℕ)
     (files_old files_new : F) (out_old out_new : O) (err_old err_new : E) : Type 0 where
   pub totals : Totals f files_old files_new
   pub sinks : LeavesSinks o e out_old out_new err_old err_new
