@@ -17,7 +17,7 @@ use Rattle.elf_ident.specs.declared.counts.Counts.{Counts}
 use Rattle.elf_ident.specs.declared.fronts.Head.{Head}
 use Rattle.elf_ident.specs.declared.fronts.Front.{Front}
 use Rattle.elf_ident.specs.Reading.{IsSound, IsPhdrTable, IsShdrTable, IsFittingFront}
-use Rattle.elf_ident.specs.Front.{counted, phdrs_at, shdrs_at, front, front_at, front_with, front_bytes, table_bytes, class_named, class_or_longer, ident_in, header_at, header_in, counts_in, head_in, header_bytes, first_bytes}
+use Rattle.elf_ident.specs.Front.{with_counts, phdrs_at, shdrs_at, front, front_at, front_with, front_bytes, table_bytes, class_named, class_or_longer, ident_in, header_at, header_in, counts_in, head_in, header_bytes, first_bytes}
 use Rattle.elf_ident.proofs.Refusals.{answered_ok, bind_ok}
 use Rattle.elf_ident.proofs.HeaderLemmas.{class_is}
 use Rattle.elf_ident.proofs.TableLemmas.{phdr_size_most, shdr_size_most}
@@ -143,7 +143,7 @@ table_bytes_most head len s =
     omega (arith, p, q)
 
 -- a front is fitting
-pub front_fits : (head : Head) (len : ℕ) (phdrs : List Phdr) (shdrs : List Shdr) → IsSound head len → IsEhdr (counted head.header head.counts)
+pub front_fits : (head : Head) (len : ℕ) (phdrs : List Phdr) (shdrs : List Shdr) → IsSound head len → IsEhdr (with_counts head.header head.counts)
     → IsPhdrTable head.header.class head.counts.phnum phdrs → IsShdrTable head.header.class head.counts.shnum shdrs
     → IsFittingFront (front_with head phdrs shdrs)
 unfolding ehdr_fits

@@ -161,8 +161,8 @@ counts_in h image = do
 -- ---- The front
 
 -- the header with its true counts
-abbrev pub counted : Ehdr → Counts → Ehdr
-counted h c = record h { phnum = c.phnum; shnum = c.shnum; shstrndx = c.shstrndx }
+abbrev pub with_counts : Ehdr → Counts → Ehdr
+with_counts h c = record h { phnum = c.phnum; shnum = c.shnum; shstrndx = c.shstrndx }
 
 -- the program headers; where there are none, e_phoff is not looked at
 unfoldable pub phdrs_at : Ehdr → ℕ → List ℕ → List Phdr
@@ -178,7 +178,7 @@ shdrs_at h count image =
 
 abbrev pub front_with : Head → List Phdr → List Shdr → Front
 front_with head phdrs shdrs = record {
-  ehdr = counted head.header head.counts;
+  ehdr = with_counts head.header head.counts;
   pad = head.pad;
   written = head.header.phnum ∷ head.header.shnum ∷ head.header.shstrndx ∷ [];
   phdrs = phdrs;

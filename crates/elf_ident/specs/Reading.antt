@@ -15,7 +15,7 @@ use Rattle.elf_xlate.specs.Headers.{ehdr_size, ehdr_fits, phdr_size, phdr_fits, 
 use Rattle.elf_ident.specs.declared.counts.Counts.{Counts}
 use Rattle.elf_ident.specs.declared.fronts.Head.{Head}
 use Rattle.elf_ident.specs.declared.fronts.Front.{Front}
-use Rattle.elf_ident.specs.Front.{counted}
+use Rattle.elf_ident.specs.Front.{with_counts}
 
 -- ---- The bytes of a header
 
@@ -54,7 +54,7 @@ pub record HasTables (h : Ehdr) (len : ℕ) : Type 0 where
 
 -- the true counts of a header in an image of `len` bytes, where they are not refused
 pub record AreCounts (h : Ehdr) (len : ℕ) (c : Counts) : Type 0 where
-  pub tables : HasTables (counted h c) len
+  pub tables : HasTables (with_counts h c) len
   pub string_index : c.shnum ≡ 0 → c.shstrndx ≡ 0
   pub few_shdrs : c.shnum ≤ MAX_SECTIONS
   pub few_phdrs : c.phnum ≤ MAX_SEGMENTS

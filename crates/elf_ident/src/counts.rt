@@ -7,7 +7,7 @@ ghost use Rattle.elf_types.specs.declared.constants.TheConstants.{EV_CURRENT, MA
 ghost use Rattle.elf_outside.specs.Asks.{Asks};
 ghost use Rattle.elf_xlate.specs.Headers.{phdr_size, shdr_size, shdr_of};
 ghost use Rattle.elf_ident.specs.Reading.{HasTables, AreCounts, IsCountRefusal};
-ghost use Rattle.elf_ident.specs.Front.{counted, needs_first, first_section, zero_shdr, true_counts, true_phnum, true_shnum, true_shstrndx, lies_in, header_refusal, count_refusal, counts_by, counts_in};
+ghost use Rattle.elf_ident.specs.Front.{with_counts, needs_first, first_section, zero_shdr, true_counts, true_phnum, true_shnum, true_shstrndx, lies_in, header_refusal, count_refusal, counts_by, counts_in};
 
 use elf_outside::Source;
 use elf_outside::reads::read;
@@ -81,7 +81,7 @@ fn check_header(h: &Ehdr, len: u64) -> Result<(), ElfError>
 fn check_counts(h: &Ehdr, c: &Counts, len: u64) -> Result<(), ElfError>
     requires { h.now.phnum ≡ 0 → c.now.phnum ≡ 0 }
     ensures refusal { err_of result ≡ count_refusal h.now c.now len }
-    ensures tables { OnOk result (HasTables (counted h.now c.now) len) }
+    ensures tables { OnOk result (HasTables (with_counts h.now c.now) len) }
     ensures few { OnOk result ((c.now.shnum ≤ MAX_SECTIONS) × (c.now.phnum ≤ MAX_SEGMENTS)) }
     ensures err { IfErr result IsRefusal }
     ensures named { IfErr result (IsCountRefusal len) }

@@ -7,7 +7,7 @@ use Rattle.std.proofs.lemmas.Bool.{lt-ltb, ltb-true, leb-true, both_ways, and_pa
 use Rattle.std.proofs.lemmas.List.Elements.{All-from_recursion}
 use Rattle.elf_types.specs.declared.records.Part.{Part}
 use Rattle.elf_layout.specs.declared.parts.PartAt.{PartAt}
-use Rattle.elf_layout.specs.Meeting.{has_bytes, end_of, meets, covers, IsApart, LiesWithin, inserted_by, sorted_by, listed, first_met, overlap_of}
+use Rattle.elf_layout.specs.Meeting.{has_bytes, end_of, meets, covers, IsApart, LiesWithin, inserted_by, sorted_by, parts_by_position, first_met, overlap_of}
 use Rattle.elf_layout.specs.Layout.{place_of, end_after, in_order_from, length_with, length_from}
 use Rattle.elf_layout.proofs.Sorting.{all_weaker, all-inserted_by_back, all-sorted_by_back}
 use Rattle.elf_layout.proofs.Lengths.{length_from_ge}
@@ -136,7 +136,7 @@ disjoint_from p q missed n first second =
     both_ways (meets p q) missed met
 
 pub apart_by_caller : (ps : List PartAt) → overlap_of ps ≡ None → IsApart ps
-unfolding overlap_of listed
+unfolding overlap_of parts_by_position
 apart_by_caller ps none i j d below inside =
     disjoint_from _ _ (all_pairs_from IsMissed ps (pairs_with_empty ps (pairs-sorted_by (λ p. p.at) IsMissed missed_back (filter has_bytes ps) (pairs_of_none (sorted_by (λ p. p.at) (filter has_bytes ps)) none))) i j d below inside)
 

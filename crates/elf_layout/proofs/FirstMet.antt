@@ -7,7 +7,7 @@ use Rattle.std.proofs.lemmas.List.{get_or-drop, drop-drop, length-drop}
 use Rattle.elf_types.specs.declared.records.Part.{Part}
 use Rattle.elf_layout.specs.declared.parts.PartAt.{PartAt}
 use Rattle.elf_layout.specs.declared.meeting.Extent.{Extent}
-use Rattle.elf_layout.specs.Meeting.{has_bytes, end_of, meets, sorted_by, ranked_from, ranked_listed, ranks_by_position, listed, first_met, overlap_of}
+use Rattle.elf_layout.specs.Meeting.{has_bytes, end_of, meets, sorted_by, ranked_from, ranked_listed, ranks_by_position, parts_by_position, first_met, overlap_of}
 use Rattle.elf_layout.specs.Extents.{extent_of, sorted_extents_of, first_close, first_close_or}
 use Rattle.elf_layout.proofs.Sorting.{all_weaker, all_map, all-sorted_by, map-sorted_by, Climbs, climbs-sorted_by}
 
@@ -110,8 +110,8 @@ full_parts rank (p ∷ ps) =
       | false ↦ full_parts (rank + 1) ps
     ]
 
-listed_is : (ps : List PartAt) → listed ps ≡ map (λ x. x.1) (ranked_listed ps)
-unfolding listed
+listed_is : (ps : List PartAt) → parts_by_position ps ≡ map (λ x. x.1) (ranked_listed ps)
+unfolding parts_by_position
 listed_is ps = ap (λ qs. sorted_by (λ p. p.at) qs) (full_parts 0 ps) ∙ sym (map-sorted_by (λ (x : ℕ × PartAt). x.1) (λ p. p.at) (ranked_from 0 ps))
 
 ranked_all : (ps : List PartAt) → AllByRecursion (IsRanked ps) (ranked_listed ps)

@@ -52,8 +52,8 @@ unfoldable pub ranks_by_position : List PartAt → List ℕ
 ranks_by_position ps = map (λ x. x.0) (ranked_listed ps)
 
 -- the parts that are not empty, by position and then by rank
-unfoldable pub listed : List PartAt → List PartAt
-listed ps = sorted_by (λ p. p.at) (filter has_bytes ps)
+unfoldable pub parts_by_position : List PartAt → List PartAt
+parts_by_position ps = sorted_by (λ p. p.at) (filter has_bytes ps)
 
 -- the first that a later one meets, and the one next after it
 unfoldable pub first_met : List PartAt → Option (Part × Part)
@@ -64,4 +64,4 @@ first_met (a ∷ ps) =
 
 -- two parts that share a byte
 unfoldable pub overlap_of : List PartAt → Option (Part × Part)
-overlap_of ps = first_met (listed ps)
+overlap_of ps = first_met (parts_by_position ps)

@@ -26,7 +26,7 @@ fn three(rows: [(u64, u64, u64); 3]) -> [PartAt; 3] {
     ]
 }
 
-fn placed(
+fn place_all(
     alloc: Global,
     parts: &[PartAt],
     layout: bool,
@@ -75,7 +75,7 @@ fn an_image_stands_where_it_stood(rt: HostRuntime) -> Result<(), Fail> {
     ];
     for (class, parts, length) in [(Class::C64, wide, 312), (Class::C32, narrow, 208)] {
         for layout in [false, true] {
-            let places = placed(rt.alloc(), &parts, layout, length, class)?;
+            let places = place_all(rt.alloc(), &parts, layout, length, class)?;
             assert_eq!(rt; places.end, length);
             assert_eq!(rt; places.at.len(), 5);
             for (at, part) in places.at.as_slice().iter().zip(parts.iter()) {
@@ -152,14 +152,14 @@ fn parts_follow_one_another(rt: HostRuntime) -> Result<(), Fail> {
         ([(9, 65, 1), (9, 0, 16), (9, 0, 1)], [0, 80, 80], 65),
     ];
     for (rows, positions, length) in cases {
-        let places = placed(rt.alloc(), &three(rows), false, 1000, Class::C32)?;
+        let places = place_all(rt.alloc(), &three(rows), false, 1000, Class::C32)?;
         assert_eq!(rt; places.at.as_slice(), positions.as_slice());
         assert_eq!(rt; places.end, length);
     }
     // SHT_NOBITS has a position of its own and moves nothing
     let [a, b, c] = three([(9, 65, 1), (9, 100, 16), (9, 1, 1)]);
     let b = PartAt { filled: false, ..b };
-    let places = placed(rt.alloc(), &[a, b, c], false, 1000, Class::C32)?;
+    let places = place_all(rt.alloc(), &[a, b, c], false, 1000, Class::C32)?;
     assert_eq!(rt; places.at.as_slice(), [0, 80, 65].as_slice());
     assert_eq!(rt; places.end, 66);
     Ok(())
@@ -190,7 +190,7 @@ fn parts_share_no_byte(rt: HostRuntime) -> Result<(), Fail> {
         let want = want.map(|(a, b)| (Part::Section(a), Part::Section(b)));
         assert_eq!(rt; overlap(rt.alloc(), &parts)?, want);
         let refusal = want.map(|(a, b)| ElfError::Overlap { a, b });
-        let placed = placed(rt.alloc(), &parts, true, 0, Class::C64);
+        let placed = place_all(rt.alloc(), &parts, true, 0, Class::C64);
         assert_eq!(rt; placed.err().filter(|e| *e != ElfError::TooLarge), refusal);
     }
     Ok(())
@@ -219,16 +219,16 @@ fn images_have_limits(rt: HostRuntime) {
             // by a part, by the bytes that are there already, by a position that is not the
             // caller's
             let long = [filled(Part::Header, 0, most, 1)];
-            assert_eq!(rt; placed(rt.alloc(), &long, false, 0, class).err(), want);
-            assert_eq!(rt; placed(rt.alloc(), &long, true, 0, class).err(), want);
-            assert_eq!(rt; placed(rt.alloc(), &[], true, most, class).err(), want);
+            assert_eq!(rt; place_all(rt.alloc(), &long, false, 0, class).err(), want);
+            assert_eq!(rt; place_all(rt.alloc(), &long, true, 0, class).err(), want);
+            assert_eq!(rt; place_all(rt.alloc(), &[], true, most, class).err(), want);
             let far = PartAt {
                 filled: false,
                 ..filled(Part::Section(1), 0, 9, most)
             };
             let header = filled(Part::Header, 0, 64, 1);
             assert_eq!(rt;
-                placed(rt.alloc(), &[header, far], false, 0, class).err(),
+                place_all(rt.alloc(), &[header, far], false, 0, class).err(),
                 want
             );
             // the caller's position of a part without bytes is free
@@ -237,14 +237,14 @@ fn images_have_limits(rt: HostRuntime) {
                 ..far
             };
             assert_eq!(rt;
-                placed(rt.alloc(), &[header, far], true, 0, class).err(),
+                place_all(rt.alloc(), &[header, far], true, 0, class).err(),
                 None
             );
         }
         let past = filled(Part::Section(1), u64::MAX, u64::MAX, u64::MAX);
         for layout in [false, true] {
             let parts = [filled(Part::Header, 0, 64, 1), past];
-            let error = placed(rt.alloc(), &parts, layout, 0, class).err();
+            let error = place_all(rt.alloc(), &parts, layout, 0, class).err();
             assert_eq!(rt; error, Some(ElfError::TooLarge));
         }
     }

@@ -1,7 +1,7 @@
 -- Calls that read, one after another.
 use Rattle.std.proofs.Common.{◌+◌, ◌≤◌, ℕ, Result, Ok, Err, ◌∙◌, arith}
 use Rattle.elf_types.specs.declared.errors.ElfError.{ElfError}
-use Rattle.elf_types.specs.declared.errors.ElfError.TheVariants.{Memory, Read}
+use Rattle.elf_types.specs.declared.errors.ElfError.TheVariants.{Memory, Read, Write}
 use Rattle.elf_types.specs.Answers.{IsRefusal}
 use Rattle.elf_outside.specs.Asks.{ReadRose, Asks}
 use Rattle.elf_outside.specs.declared.sources.Source.{Ghosts}
@@ -10,11 +10,13 @@ use Rattle.elf_outside.specs.declared.sources.Source.{Ghosts}
 pub read_rose_before : {T : Type 0} (r : Result T ElfError) (a b c : ℕ) → a ≤ b → ReadRose r b c → ReadRose r a c
 read_rose_before (Ok x) a b c h k = tt
 read_rose_before (Err Read) a b c h k = omega arith
+read_rose_before (Err Write) a b c h k = k
 read_rose_before (Err e) a b c h k = tt
 
 -- a refusal that is passed on has the same cause
 pub read_rose_on : (T U : Type 0) (e : ElfError) (a b : ℕ) → ReadRose {T = T} (Err e) a b → ReadRose {T = U} (Err e) a b
 read_rose_on T U Read a b k = k
+read_rose_on T U Write a b k = k
 read_rose_on T U e a b k = tt
 
 -- two calls in a row, of which the second answers
@@ -60,4 +62,5 @@ asks_then g r q s t n a read = record {
 pub read_rose_refused : (T : Type 0) (e : ElfError) (a b : ℕ) → IsRefusal e → ReadRose {T = T} (Err e) a b
 read_rose_refused T Memory a b h = tt
 read_rose_refused T Read a b h = absurd h
+read_rose_refused T Write a b h = absurd h
 read_rose_refused T e a b h = tt

@@ -2,14 +2,14 @@
 use Rattle.std.proofs.Common.{◌+◌, ◌≤◌, ℕ, List, ◌++◌, Option, Some, None, IfSome, Result, Ok, Err, length, ap, ◌∙◌, subst, arith}
 use Rattle.std.specs.Option.{option_map}
 use Rattle.elf_types.specs.declared.errors.ElfError.{ElfError}
-use Rattle.elf_types.specs.declared.errors.ElfError.TheVariants.{Write}
-use Rattle.elf_outside.specs.Writes.{written_over, WritesOver, IsTorn, TearsOver}
+use Rattle.elf_types.specs.declared.errors.ElfError.TheVariants.{Read, Write}
+use Rattle.elf_outside.specs.Writes.{written_over, WritesOver, IsTornBy, TearsOver}
 use Rattle.elf_outside.specs.Puts.{WriteRose, UsesSink, Puts}
-use Rattle.elf_outside.specs.Patches.{UsesDevice, Patches}
+use Rattle.elf_outside.specs.Asks.{ReadRose}
+use Rattle.elf_outside.specs.Patches.{DeviceReadRose, UsesDevice, Patches}
 use Rattle.elf_outside.specs.declared.sinks.Sink.{Ghosts}
 use Rattle.elf_outside.specs.declared.sources.Source.{Ghosts as SourceGhosts}
 use Rattle.elf_outside.specs.declared.devices.Device.{Ghosts as DeviceGhosts}
-use Rattle.elf_outside.proofs.AskLemmas.{read_rose_before, read_rose_on}
 use Rattle.elf_outside.proofs.WriteLemmas.{appends_both, front_after, front_before, written_over_both, written_is_torn, torn_before, torn_after}
 
 -- a count that rose from a later value on rose from the first
@@ -59,13 +59,31 @@ puts_stop {T = T} {U = U} g e s t a b first = record {
 
 -- ---- Devices
 
+-- a count of failed reads that rose from a later value on rose from the first
+pub device_read_rose_before : {T : Type 0} (r : Result T ElfError) (a b c : ℕ) → a ≤ b → DeviceReadRose r b c → DeviceReadRose r a c
+device_read_rose_before (Ok x) a b c h k = tt
+device_read_rose_before (Err Read) a b c h k = omega arith
+device_read_rose_before (Err e) a b c h k = tt
+
+-- a refusal that is passed on has the same cause
+pub device_read_rose_on : (T U : Type 0) (e : ElfError) (a b : ℕ) → DeviceReadRose {T = T} (Err e) a b → DeviceReadRose {T = U} (Err e) a b
+device_read_rose_on T U Read a b k = k
+device_read_rose_on T U e a b k = tt
+
+-- a call that only reads a device shows its faults so
+pub reads_device : {T : Type 0} (r : Result T ElfError) (a b c d : ℕ) → ReadRose r a b → DeviceReadRose r a b × WriteRose r c d
+reads_device (Ok x) a b c d k = (tt, tt)
+reads_device (Err Read) a b c d k = (k, tt)
+reads_device (Err Write) a b c d k = absurd k
+reads_device (Err e) a b c d k = (tt, tt)
+
 -- two calls in a row, of which the second answers
 pub uses_device_both : {D T U : Type 0} (g : SourceGhosts D) (d : DeviceGhosts D) (r : Result T ElfError) (q : Result U ElfError) (s t u : D) (m n k l : ℕ)
     → UsesDevice g d r s t m n → UsesDevice g d q t u k l → UsesDevice g d q s u (m + k) (n + l)
 uses_device_both g d r q s t u m n k l first second = record {
   rest_after = second.rest_after ∙ first.rest_after;
   later = omega (arith, first.later, second.later);
-  read = read_rose_before q (g.faults s) (g.faults t) (g.faults u) first.later second.read;
+  read = device_read_rose_before q (g.faults s) (g.faults t) (g.faults u) first.later second.read;
   write_later = omega (arith, first.write_later, second.write_later);
   write = write_rose_before q (d.write_faults s) (d.write_faults t) (d.write_faults u) first.write_later second.write;
   taken = record {
@@ -84,7 +102,7 @@ pub uses_device_on : {D T U : Type 0} (g : SourceGhosts D) (d : DeviceGhosts D) 
 uses_device_on {T = T} {U = U} g d e s t m n k l asked handed uses = record {
   rest_after = uses.rest_after;
   later = uses.later;
-  read = read_rose_on T U e (g.faults s) (g.faults t) uses.read;
+  read = device_read_rose_on T U e (g.faults s) (g.faults t) uses.read;
   write_later = uses.write_later;
   write = write_rose_on T U e (d.write_faults s) (d.write_faults t) uses.write;
   taken = record { later = uses.taken.later; no_more = omega (arith, uses.taken.no_more) };
@@ -105,8 +123,8 @@ tears_over_both : (a b c : Option (List ℕ)) (at : ℕ) (p q : List ℕ) → If
 tears_over_both None b c at p q within first second =
     (second.0, second.1 ∙ ap (λ (o : Option (List ℕ)). option_map (λ (bytes : List ℕ). second.0) o) first, tt)
 tears_over_both (Some bytes) b c at p q within first second =
-    let torn : IsTorn (written_over bytes at p) second.0 (at + length p) q =
-    subst (λ (o : Option (List ℕ)). IfSome o (λ w. IsTorn w second.0 (at + length p) q)) first second.2 in (
+    let torn : IsTornBy (written_over bytes at p) second.0 (at + length p) q =
+    subst (λ (o : Option (List ℕ)). IfSome o (λ w. IsTornBy w second.0 (at + length p) q)) first second.2 in (
       second.0,
       second.1 ∙ ap (λ (o : Option (List ℕ)). option_map (λ (w : List ℕ). second.0) o) first,
       torn_after bytes (written_over bytes at p) second.0 at p q (written_is_torn bytes at p within) torn,

@@ -6,7 +6,7 @@ use Rattle.std.proofs.lemmas.Bool.{cases_lt}
 use Rattle.std.proofs.lemmas.Grind.{common_steps}
 use Rattle.std.proofs.lemmas.List.{take-append-le, take_min, take_at, length-take-le}
 use Rattle.std.proofs.lemmas.Slice.{drop-append-drop}
-use Rattle.elf_outside.specs.Writes.{Appends, AppendsFront, written_over, IsTorn}
+use Rattle.elf_outside.specs.Writes.{Appends, AppendsFront, written_over, IsTornBy}
 
 -- ---- Texts that were appended
 
@@ -58,14 +58,14 @@ written_at bytes at p k within =
     ]
 
 -- bytes with a piece over them are torn by it
-pub written_is_torn : (bytes : List ℕ) (at : ℕ) (p : List ℕ) → at + length p ≤ length bytes → IsTorn bytes (written_over bytes at p) at p
+pub written_is_torn : (bytes : List ℕ) (at : ℕ) (p : List ℕ) → at + length p ≤ length bytes → IsTornBy bytes (written_over bytes at p) at p
 written_is_torn bytes at p within = record {
   same_len = length-written_over bytes at p within;
   old_or_new = λ k. written_at bytes at p k within;
 }
 
 -- torn by a piece, so torn by that and another behind it
-pub torn_before : (old torn : List ℕ) (at : ℕ) (p q : List ℕ) → IsTorn old torn at p → IsTorn old torn at (p ++ q)
+pub torn_before : (old torn : List ℕ) (at : ℕ) (p q : List ℕ) → IsTornBy old torn at p → IsTornBy old torn at (p ++ q)
 torn_before old torn at p q is = record {
   same_len = is.same_len;
   old_or_new = λ k. elim (is.old_or_new k) [
@@ -75,7 +75,7 @@ torn_before old torn at p q is = record {
 }
 
 -- torn by a piece after another, whole or torn
-pub torn_after : (old mid torn : List ℕ) (at : ℕ) (p q : List ℕ) → IsTorn old mid at p → IsTorn mid torn (at + length p) q → IsTorn old torn at (p ++ q)
+pub torn_after : (old mid torn : List ℕ) (at : ℕ) (p q : List ℕ) → IsTornBy old mid at p → IsTornBy mid torn (at + length p) q → IsTornBy old torn at (p ++ q)
 torn_after old mid torn at p q first second = record {
   same_len = second.same_len ∙ first.same_len;
   old_or_new = λ k. elim (second.old_or_new k) [

@@ -1,7 +1,7 @@
 -- What a call that is generic over a source does to it.
 use Rattle.std.specs.Prelude.{ℕ, Result, Err, ◌≤◌}
 use Rattle.elf_types.specs.declared.errors.ElfError.{ElfError}
-use Rattle.elf_types.specs.declared.errors.ElfError.TheVariants.{Read}
+use Rattle.elf_types.specs.declared.errors.ElfError.TheVariants.{Read, Write}
 use Rattle.elf_outside.specs.Counts.{Rose, RaisedAtMost}
 use Rattle.elf_outside.specs.Leaves.{LeavesBy}
 use Rattle.elf_outside.specs.declared.sources.Source.{Ghosts}
@@ -10,9 +10,11 @@ use Rattle.elf_outside.specs.declared.sources.Source.{Ghosts}
 abbrev pub Leaves : {S : Type 0} → Ghosts S → S → S → Type 0
 Leaves g old new = LeavesBy g.size g.holds g.rest old new
 
--- the call answers Read only where the source's count of faults rose in it
+-- the call answers Read only where the source's count of faults rose in it; a call that reads never
+-- answers Write
 abbrev pub ReadRose : {T : Type 0} → Result T ElfError → ℕ → ℕ → Type 0
 ReadRose (Err Read) before now = Rose before now
+ReadRose (Err Write) before now = ⊥
 ReadRose _ before now = Unit {0}
 
 -- a call that reads: what it leaves, how its faults show, and that it asks for at most n bytes

@@ -1,6 +1,7 @@
 pub mod Counts
 pub mod Leaves
 pub mod Writes
+pub mod Torn
 pub mod Names
 pub mod Asks
 pub mod Puts

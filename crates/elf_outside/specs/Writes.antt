@@ -24,7 +24,7 @@ abbrev pub WritesOver : Option (List ℕ) → Option (List ℕ) → ℕ → List
 WritesOver old new at piece = new ≡ option_map (λ bytes. written_over bytes at piece) old
 
 -- each byte of the range is the old one or the new one, and each other byte is the old one
-pub record IsTorn (old new : List ℕ) (at : ℕ) (piece : List ℕ) : Type 0 where
+pub record IsTornBy (old new : List ℕ) (at : ℕ) (piece : List ℕ) : Type 0 where
   pub same_len : length new ≡ length old
   pub old_or_new : (k : ℕ) →
       (slice_index new k ≡ slice_index old k)
@@ -34,7 +34,7 @@ pub record IsTorn (old new : List ℕ) (at : ℕ) (piece : List ℕ) : Type 0 wh
 abbrev pub TearsOver : Option (List ℕ) → Option (List ℕ) → ℕ → List ℕ → Type 0
 TearsOver old new at piece =
     (torn : List ℕ) × (new ≡ option_map (λ _. torn) old)
-    × IfSome old (λ bytes. IsTorn bytes torn at piece)
+    × IfSome old (λ bytes. IsTornBy bytes torn at piece)
 
 -- the file has the length n
 pub record Resizes (size_old size_new : ℕ) (old new : Option (List ℕ)) (n : ℕ) : Type 0 where

@@ -1,8 +1,9 @@
--- How a call's answer compares with the stated one, and how a stated answer is made: by the first of several
--- refusals, by a value, by one step after another. The errors of an answer are ElfError or those of a crate.
+-- How a call's answer compares with the stated one, and how a stated answer is made: by the first
+-- of several refusals, by a value, by one step after another. The errors of an answer are ElfError
+-- or those of a crate.
 use Rattle.std.specs.Prelude.{◌≡◌, Bool, true, false, List, [], ◌∷◌, Option, Some, None, IfSome, Result, Ok, Err}
 use Rattle.elf_types.specs.declared.errors.ElfError.{ElfError}
-use Rattle.elf_types.specs.declared.errors.ElfError.TheVariants.{Memory, Read}
+use Rattle.elf_types.specs.declared.errors.ElfError.TheVariants.{Memory, Read, Write}
 
 -- ---- Stated answers
 
@@ -40,9 +41,10 @@ abbrev pub ◌>>=◌ : {A B E : Type 0} → Result A E → (A → Result B E) �
 
 -- ---- Answers that came
 
--- the answer, seen by view, is the stated one. An error that no definition states, of which stated_by tells
--- none, is free.
-abbrev pub FollowsBy : {X Y E D : Type 0} → (X → Y) → (E → Option D) → Result X E → Result Y D → Type 0
+-- the answer, seen by view, is the stated one. An error that no definition states, of which
+-- stated_by tells none, is free.
+abbrev pub FollowsBy : {X Y E D : Type 0} → (X → Y) → (E → Option D) → Result X E → Result Y D
+    → Type 0
 FollowsBy view stated_by (Ok x) stated = stated ≡ Ok (view x)
 FollowsBy view stated_by (Err e) stated = IfSome (stated_by e) (λ d. stated ≡ Err d)
 
@@ -56,8 +58,9 @@ stated_refusal e = Some e
 abbrev pub Follows : {T : Type 0} → Result T ElfError → Result T ElfError → Type 0
 Follows result stated = FollowsBy (λ x. x) stated_refusal result stated
 
--- a refusal that a definition states: neither Memory nor Read
+-- a refusal that a definition states: none of those whose cause lies outside, Memory, Read, Write
 abbrev pub IsRefusal : ElfError → Type 0
 IsRefusal Memory = ⊥
 IsRefusal Read = ⊥
+IsRefusal Write = ⊥
 IsRefusal e = Unit {0}

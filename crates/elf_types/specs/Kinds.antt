@@ -1,5 +1,5 @@
--- What a section's data consists of, by its header (gABI chapter 4, "Sections"; the version sections
--- are GNU's).
+-- What a section's data consists of, by its header (gABI chapter 4, "Sections"; the version
+-- sections are GNU's).
 use Rattle.std.specs.Prelude.{◌==◌, ◌||◌, ◌/◌, ◌%◌, ℕ, List, [], ◌∷◌, Bool, if◌then◌else◌}
 use Rattle.elf_types.specs.declared.records.Kind.{Kind}
 use Rattle.elf_types.specs.declared.records.Kind.TheVariants.{Empty, Bytes, Half, Word, Addr, Sym, Rel, Rela, Dyn}

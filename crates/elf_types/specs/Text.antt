@@ -77,7 +77,8 @@ error_text TooLarge = codes "too large"
 error_text TooMany = codes "too many"
 error_text FlagKept = codes "flag kept"
 error_text (NotStrings section) = numbered (codes "section ") section (codes " not strings")
-error_text (NoString offset size) = numbered_twice (codes "no string at ") offset (codes " of ") size
+error_text (NoString offset size) =
+    numbered_twice (codes "no string at ") offset (codes " of ") size
 error_text (Unended offset) = numbered (codes "string at ") offset (codes " has no end")
 error_text (BadMember at) = numbered (codes "bad member at ") at []
 error_text (BadChain at) = numbered (codes "bad chain at ") at []

@@ -1,5 +1,5 @@
-//! The constants of the System V gABI under their own names, and the limits of elfkit. The definitions in
-//! specs/ cite them as the code does.
+//! The constants of the System V gABI under their own names, and the limits of elfkit. The
+//! definitions in specs/ cite them as the code does.
 
 // ---- ELF identification (gABI chapter 4, "ELF Identification")
 

@@ -2,7 +2,7 @@
 //!
 //! Each call refuses `Memory` alone; what the list held then still stands, some bytes behind it.
 
-ghost use Rattle.std.specs.Prelude.{◌≡◌, ◌++◌, [], OnOk, IfOk, IfErr};
+ghost use Rattle.std.specs.Prelude.{◌≡◌, ◌++◌, [], OnOk, IfOk, IfErr, codes};
 ghost use Rattle.elf_types.specs.Writers.{WantsMemory};
 ghost use Rattle.elf_types.specs.Text.{numbered, numbered_twice, kind_text, part_text, unfit_text, overlap_text, held_text, error_text};
 
@@ -75,6 +75,7 @@ pub fn put_part(out: &mut Octets, part: Part) -> Result<(), ElfError>
     }
 }
 
+/// Appends a part and the index of its item that does not fit.
 #[tactic(auto, using(crate::proofs::Writers::stays), unfolding(crate::specs::Text::unfit_text))]
 fn put_unfit(out: &mut Octets, part: Part, index: u64) -> Result<(), ElfError>
     ensures ok { OnOk result (out.new ≡ out.old ++ unfit_text part index) }
@@ -85,6 +86,7 @@ fn put_unfit(out: &mut Octets, part: Part, index: u64) -> Result<(), ElfError>
     put_numbered(out, " index ", index, "")
 }
 
+/// Appends two parts that meet.
 #[tactic(auto, using(crate::proofs::Writers::stays), unfolding(crate::specs::Text::overlap_text))]
 fn put_overlap(out: &mut Octets, a: Part, b: Part) -> Result<(), ElfError>
     ensures ok { OnOk result (out.new ≡ out.old ++ overlap_text a b) }
@@ -96,6 +98,7 @@ fn put_overlap(out: &mut Octets, a: Part, b: Part) -> Result<(), ElfError>
     put_part(out, b)
 }
 
+/// Appends the kind that a piece holds.
 #[tactic(auto, using(crate::proofs::Writers::stays), unfolding(crate::specs::Text::held_text))]
 fn put_held(out: &mut Octets, kind: Kind) -> Result<(), ElfError>
     ensures ok { OnOk result (out.new ≡ out.old ++ held_text kind) }
@@ -103,6 +106,32 @@ fn put_held(out: &mut Octets, kind: Kind) -> Result<(), ElfError>
 {
     put_text(out, "held kind ")?;
     put_text(out, kind_name(kind))
+}
+
+/// Appends a number of which there are only so many: an index and a count, an offset and a size.
+fn put_missing(out: &mut Octets, before: &str, index: u64, count: u64) -> Result<(), ElfError>
+    ensures ok { OnOk result
+        (out.new ≡ out.old ++ numbered_twice before.now index (codes " of ") count) }
+    ensures err { IfErr result (WantsMemory out.old out.new) }
+{
+    put_numbered_twice(out, before, index, " of ", count)
+}
+
+/// Appends the index of a section or a piece, and how many there are.
+fn put_missing_index(out: &mut Octets, before: &str, index: u32, count: u32) -> Result<(), ElfError>
+    ensures ok { OnOk result
+        (out.new ≡ out.old ++ numbered_twice before.now index (codes " of ") count) }
+    ensures err { IfErr result (WantsMemory out.old out.new) }
+{
+    put_missing(out, before, u64::from(index), u64::from(count))
+}
+
+/// Appends what is wrong with a section.
+fn put_section(out: &mut Octets, section: u32, fault: &str) -> Result<(), ElfError>
+    ensures ok { OnOk result (out.new ≡ out.old ++ numbered (codes "section ") section fault.now) }
+    ensures err { IfErr result (WantsMemory out.old out.new) }
+{
+    put_numbered(out, "section ", u64::from(section), fault)
 }
 
 /// Appends the text of an error.
@@ -126,42 +155,13 @@ pub fn put_error(out: &mut Octets, e: &ElfError) -> Result<(), ElfError>
         ElfError::TooMany => put_text(out, "too many"),
         ElfError::FlagKept => put_text(out, "flag kept"),
         ElfError::Reserved => put_text(out, "section 0 reserved"),
-        ElfError::NoSection { index, count } => {
-            put_numbered_twice(
-                out,
-                "no section ",
-                u64::from(index),
-                " of ",
-                u64::from(count),
-            )
-        }
-        ElfError::NoData { index, count } => {
-            put_numbered_twice(out, "no piece ", u64::from(index), " of ", u64::from(count))
-        }
-        ElfError::NoEntry { index, count } => {
-            put_numbered_twice(out, "no entry ", index, " of ", count)
-        }
-        ElfError::NoString { offset, size } => {
-            put_numbered_twice(out, "no string at ", offset, " of ", size)
-        }
-        ElfError::OutOfFile { section } => put_numbered(
-            out,
-            "section ",
-            u64::from(section),
-            " out of file",
-        ),
-        ElfError::Ragged { section } => put_numbered(
-            out,
-            "section ",
-            u64::from(section),
-            " ragged",
-        ),
-        ElfError::NotStrings { section } => put_numbered(
-            out,
-            "section ",
-            u64::from(section),
-            " not strings",
-        ),
+        ElfError::NoSection { index, count } => put_missing_index(out, "no section ", index, count),
+        ElfError::NoData { index, count } => put_missing_index(out, "no piece ", index, count),
+        ElfError::NoEntry { index, count } => put_missing(out, "no entry ", index, count),
+        ElfError::NoString { offset, size } => put_missing(out, "no string at ", offset, size),
+        ElfError::OutOfFile { section } => put_section(out, section, " out of file"),
+        ElfError::Ragged { section } => put_section(out, section, " ragged"),
+        ElfError::NotStrings { section } => put_section(out, section, " not strings"),
         ElfError::Unended { offset } => put_numbered(out, "string at ", offset, " has no end"),
         ElfError::BadMember { at } => put_numbered(out, "bad member at ", at, ""),
         ElfError::BadChain { at } => put_numbered(out, "bad chain at ", at, ""),

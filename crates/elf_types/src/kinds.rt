@@ -36,9 +36,9 @@ fn kind_of_type(stype: u32, entsize: u64) -> Kind
     }
 }
 
-/// The kind of a section's items, by its type, its flag `SHF_COMPRESSED` and, for a hash section, its
-/// `sh_entsize` (a hash section with words of eight bytes is kept as bytes). It is the same in both
-/// classes. It takes no memory.
+/// The kind of a section's items, by its type, its flag `SHF_COMPRESSED` and, for a hash section,
+/// its `sh_entsize` (a hash section with words of eight bytes is kept as bytes). It is the same in
+/// both classes. It takes no memory.
 ///
 /// Source: gABI chapter 4, "Sections", and chapter 5, "Hash Table"; the version sections are GNU's.
 #[tactic(auto, unfolding(crate::specs::Kinds::section_kind))]

@@ -118,7 +118,8 @@ impl<T: Drop> List<T> {
 }
 
 impl<T: Copy> List<T> {
-    /// The item at an index, or None exactly where the index is not below the length. It takes no memory.
+    /// The item at an index, or None exactly where the index is not below the length. It takes no
+    /// memory.
     pub fn get(&self, i: u64) -> Option<T>
         ensures { result ≡ slice_get self.now i }
     {

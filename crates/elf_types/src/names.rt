@@ -4,7 +4,8 @@ ghost use Rattle.std.specs.Prelude.{◌≡◌};
 ghost use Rattle.std.specs.Option.{option_copied};
 ghost use Rattle.elf_types.specs.Names.{object_type_name_of, machine_name_of, section_type_name_of, segment_type_name_of, symbol_type_name_of, binding_name_of, visibility_name_of, tag_name_of};
 
-/// The name of an object's type, `e_type`, or None exactly where the number has no name. It takes no memory.
+/// The name of an object's type, `e_type`, or None exactly where the number has no
+/// name. It takes no memory.
 ///
 /// Source: gABI chapter 4, "ELF Header".
 #[tactic(auto, unfolding(crate::specs::Names::object_type_name_of, crate::specs::Names::object_type_names))]
@@ -21,7 +22,8 @@ pub fn etype_name(n: u16) -> Option<&'static str>
     }
 }
 
-/// The name of a machine, `e_machine`, or None exactly where the number has no name. It takes no memory.
+/// The name of a machine, `e_machine`, or None exactly where the number has no
+/// name. It takes no memory.
 ///
 /// Source: gABI chapter 4, "ELF Header".
 #[tactic(auto, unfolding(crate::specs::Names::machine_name_of, crate::specs::Names::machine_names))]
@@ -45,7 +47,8 @@ pub fn machine_name(n: u16) -> Option<&'static str>
     }
 }
 
-/// The name of a section's type, `sh_type`, or None exactly where the number has no name. It takes no memory.
+/// The name of a section's type, `sh_type`, or None exactly where the number has no
+/// name. It takes no memory.
 ///
 /// Source: gABI chapter 4, "Sections"; the last four are GNU's.
 #[tactic(auto, unfolding(crate::specs::Names::section_type_name_of, crate::specs::Names::section_type_names))]
@@ -78,7 +81,8 @@ pub fn section_type_name(n: u32) -> Option<&'static str>
     }
 }
 
-/// The name of a segment's type, `p_type`, or None exactly where the number has no name. It takes no memory.
+/// The name of a segment's type, `p_type`, or None exactly where the number has no
+/// name. It takes no memory.
 ///
 /// Source: gABI chapter 5, "Program Header"; the last four are GNU's.
 #[tactic(auto, unfolding(crate::specs::Names::segment_type_name_of, crate::specs::Names::segment_type_names))]
@@ -102,7 +106,8 @@ pub fn segment_type_name(n: u32) -> Option<&'static str>
     }
 }
 
-/// The name of a symbol's type, the `ST_TYPE` of `st_info`, or None exactly where the number has no name. It takes no memory.
+/// The name of a symbol's type, the `ST_TYPE` of `st_info`, or None exactly where the number has no
+/// name. It takes no memory.
 ///
 /// Source: gABI chapter 4, "Symbol Table"; the last one is GNU's.
 #[tactic(auto, unfolding(crate::specs::Names::symbol_type_name_of, crate::specs::Names::symbol_type_names))]
@@ -122,7 +127,8 @@ pub fn symbol_type_name(n: u8) -> Option<&'static str>
     }
 }
 
-/// The name of a symbol's binding, the `ST_BIND` of `st_info`, or None exactly where the number has no name. It takes no memory.
+/// The name of a symbol's binding, the `ST_BIND` of `st_info`, or None exactly where
+/// the number has no name. It takes no memory.
 ///
 /// Source: gABI chapter 4, "Symbol Table"; the last one is GNU's.
 #[tactic(auto, unfolding(crate::specs::Names::binding_name_of, crate::specs::Names::binding_names))]
@@ -138,7 +144,8 @@ pub fn binding_name(n: u8) -> Option<&'static str>
     }
 }
 
-/// The name of a symbol's visibility, the `ST_VISIBILITY` of `st_other`, or None exactly where the number has no name. It takes no memory.
+/// The name of a symbol's visibility, the `ST_VISIBILITY` of `st_other`, or None exactly where
+/// the number has no name. It takes no memory.
 ///
 /// Source: gABI chapter 4, "Symbol Table".
 #[tactic(auto, unfolding(crate::specs::Names::visibility_name_of, crate::specs::Names::visibility_names))]
@@ -154,7 +161,8 @@ pub fn visibility_name(n: u8) -> Option<&'static str>
     }
 }
 
-/// The name of a dynamic tag, `d_tag`, or None exactly where the number has no name. It takes no memory.
+/// The name of a dynamic tag, `d_tag`, or None exactly where the number has no
+/// name. It takes no memory.
 ///
 /// Source: gABI chapter 5, "Dynamic Section".
 #[tactic(auto, unfolding(crate::specs::Names::tag_name_of, crate::specs::Names::tag_names))]

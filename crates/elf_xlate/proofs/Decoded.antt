@@ -122,9 +122,9 @@ none_left kinds.Rela class len some whole = eqb-true _ 0 whole
 none_left kinds.Dyn class len some whole = eqb-true _ 0 whole
 
 -- Their bytes are all bytes, but for the kind Empty.
-pub counted : (kind : Kind) (class : Class) (order : Order) (bytes : List ℕ) (items : Items)
+pub decoded_count : (kind : Kind) (class : Class) (order : Order) (bytes : List ℕ) (items : Items)
     → decoded kind class order bytes ≡ Some items → kind ≢ kinds.Empty → count_of items * item_size kind class ≡ length bytes
-counted kind class order bytes items given some =
+decoded_count kind class order bytes items given some =
     let whole : is_whole kind class (length bytes) ≡ true = sym (whole_is kind class order bytes) ∙ is_true_some (decoded kind class order bytes) items given in
     let left = none_left kind class (length bytes) some whole in
     let size : ℕ = item_size kind class in

@@ -26,8 +26,8 @@ unfolding items_of
 length_items_of item size count bytes = length-map-range_with_len (λ i. item (take size (drop (i * size) bytes))) 0 count
 
 -- one item more of which something holds
-pub one_more : {X : Type 0} (P : X → Type 0) (l : List X) (x : X) → All P l → P x → All P (l ++ x ∷ [])
-one_more P l x all is = All-append P l (x ∷ []) all (All-cons P x [] is (All-nil P))
+pub all_and_one : {X : Type 0} (P : X → Type 0) (l : List X) (x : X) → All P l → P x → All P (l ++ x ∷ [])
+all_and_one P l x all is = All-append P l (x ∷ []) all (All-cons P x [] is (All-nil P))
 
 -- The items so far, each in its range and fitting.
 pub record AreRead {X : Type 0} (item : List ℕ → X) (InRange : X → Type 0) (fitting : X → Bool) (size i : ℕ) (bytes : List ℕ) (l : List X) : Type 0 where
@@ -52,8 +52,8 @@ one_read {X} item InRange fitting size i w bytes l new x so_far is width value r
           ap (λ (m : List X). m ++ x ∷ []) so_far.value
           ∙ ap (λ (y : X). items_of item size i bytes ++ y ∷ []) (value ∙ ap (λ (n : ℕ). item (take n (drop (i * size) bytes))) width)
           ∙ sym (items_of_more item size i bytes);
-      ranged = one_more InRange l x so_far.ranged ranged;
-      fits = one_more (λ y. IsTrue (fitting y)) l x so_far.fits fits;
+      ranged = all_and_one InRange l x so_far.ranged ranged;
+      fits = all_and_one (λ y. IsTrue (fitting y)) l x so_far.fits fits;
     })
 
 -- where all pass, none is the first that does not

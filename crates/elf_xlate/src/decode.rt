@@ -23,7 +23,7 @@ use std::alloc::Global;
 /// gives `Items::Empty`, whatever the bytes are.
 ///
 /// Source: gelf_xlatetom of gelf(3E).
-#[tactic(auto, using(crate::proofs::Decoded::decoded_kind, crate::proofs::Decoded::counted))]
+#[tactic(auto, using(crate::proofs::Decoded::decoded_kind, crate::proofs::Decoded::decoded_count))]
 pub fn to_memory(
     alloc: Global,
     kind: Kind,

@@ -43,15 +43,15 @@ one_digit number worth d high m =
     gathered : (a w d h : ℕ) → a + w * 128 * h + d * w ≡ a + w * (d + 128 * h)
     gathered a w d h = omega arith
 
-one_more : (number worth d : ℕ) (high : Result (ℕ × List ℕ) LineWhy) → raised ((number + (d * worth) % 2 ^ 64) % 2 ^ 64) ((worth * 128) % 2 ^ 64) high ≡ raised number worth (high >>= λ x. Ok (d + 128 * x.0, x.1))
-one_more number worth d (Ok x) = ap (λ (n : ℕ). read (n, x.1)) (one_digit number worth d x.0 (2 ^ 64))
-one_more number worth d (Err e) = refl
+digit_more : (number worth d : ℕ) (high : Result (ℕ × List ℕ) LineWhy) → raised ((number + (d * worth) % 2 ^ 64) % 2 ^ 64) ((worth * 128) % 2 ^ 64) high ≡ raised number worth (high >>= λ x. Ok (d + 128 * x.0, x.1))
+digit_more number worth d (Ok x) = ap (λ (n : ℕ). read (n, x.1)) (one_digit number worth d x.0 (2 ^ 64))
+digit_more number worth d (Err e) = refl
 
 -- a byte that is not the last
 pub raised_more : (signed : Bool) (number worth b : ℕ) (bytes rest : List ℕ) → 128 ≤ b → byte_at bytes ≡ Ok (b, rest)
     → raised ((number + (digit signed b * worth) % 2 ^ 64) % 2 ^ 64) ((worth * 128) % 2 ^ 64) (leb128 signed rest) ≡ raised number worth (leb128 signed bytes)
 raised_more signed number worth b bytes rest le e =
-    one_more number worth (digit signed b) (leb128 signed rest) ∙ ap (raised number worth) (sym (split signed b bytes rest le (byte_read bytes rest b e)))
+    digit_more number worth (digit signed b) (leb128 signed rest) ∙ ap (raised number worth) (sym (split signed b bytes rest le (byte_read bytes rest b e)))
   where
     split : (signed : Bool) (b : ℕ) (bytes rest : List ℕ) → 128 ≤ b → bytes ≡ b ∷ rest → leb128 signed bytes ≡ (leb128 signed rest >>= λ x. Ok (digit signed b + 128 * x.0, x.1))
     split signed b bytes rest le e = rw e (rw (le-ltb b 128 le) refl)

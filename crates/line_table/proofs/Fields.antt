@@ -10,7 +10,7 @@ use Rattle.line_table.specs.declared.faults.LineWhy.TheVariants.{Cut, Version, O
 use Rattle.line_table.specs.declared.faults.Stop.{Stop}
 use Rattle.elf_types.specs.Answers.{refused_if, first_refusal, answered, FollowsBy, ◌>>=◌}
 use Rattle.line_table.specs.Reading.{byte_at, bytes_at, number, number_at}
-use Rattle.line_table.specs.Header.{UnitHeader, field, signed_byte, one_more, operations_at, operations_of, unit_header, tables_of, field_refusal, unit_header_at}
+use Rattle.line_table.specs.Header.{UnitHeader, field, signed_byte, operations_len, operations_at, operations_of, unit_header, tables_of, field_refusal, unit_header_at}
 use Rattle.line_table.specs.Outcomes.{why_of}
 
 -- a byte is there, or the bytes end before it
@@ -145,7 +145,7 @@ later_step class order version header_length minimum operations more at body t e
 -- the fields of this header that stand before maximum_operations_per_instruction
 module _ (class : Class) (order : Order) (body : List ℕ) where
   -- the header has a field more or not
-  same_header : (more : ℕ) → one_more (field order w16 0 body) ≡ more → unit_header class order body ≡ header_by class order (field order w16 0 body) (field order w32 2 body) (get_or body 6 0) more body
+  same_header : (more : ℕ) → operations_len (field order w16 0 body) ≡ more → unit_header class order body ≡ header_by class order (field order w16 0 body) (field order w32 2 body) (get_or body 6 0) more body
   unfolding unit_header
   same_header more e = ap (λ (m : ℕ). header_by class order (field order w16 0 body) (field order w32 2 body) (get_or body 6 0) m body) e
 
@@ -153,10 +153,10 @@ module _ (class : Class) (order : Order) (body : List ℕ) where
   unfolding unit_header
   same_version = refl
 
-  same_tables : (more : ℕ) → one_more (field order w16 0 body) ≡ more → tables_of (unit_header class order body) ≡ 11 + more + (get_or body (10 + more) 0 - 1)
+  same_tables : (more : ℕ) → operations_len (field order w16 0 body) ≡ more → tables_of (unit_header class order body) ≡ 11 + more + (get_or body (10 + more) 0 - 1)
   same_tables more e = ap tables_of (same_header more e) ∙ ap (λ (m : ℕ). 11 + m + (get_or body (10 + more) 0 - 1)) e
 
-  goes_on : (operations more at : ℕ) → one_more (field order w16 0 body) ≡ more → operations_of (field order w16 0 body) body ≡ operations
+  goes_on : (operations more at : ℕ) → operations_len (field order w16 0 body) ≡ more → operations_of (field order w16 0 body) body ≡ operations
       → at ≡ 7 + more → at ≤ length body → other_version (field order w16 0 body) ≡ false
       → later_read class order (field order w16 0 body) (field order w32 2 body) (get_or body 6 0) operations (drop at body) ≡ unit_header_at class order body
   unfolding unit_header_at

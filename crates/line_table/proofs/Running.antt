@@ -99,10 +99,10 @@ module _ (u : UnitHeader) (end : ℕ) where
   after_one : (t : Table) (operation : Operation) (e : Effect) → Table
   after_one t operation e = record { registers = e.registers; files = t.files ++ names_added operation; rows = t.rows ++ option_to_list e.row }
 
-  one_more : (files : List (List ℕ)) (whole : Listed Instruction LineFault) (bytes rest : List ℕ) (t : Table) (operation : Operation) (e : Effect) → Running u end files whole bytes t
+  step_more : (files : List (List ℕ)) (whole : Listed Instruction LineFault) (bytes rest : List ℕ) (t : Table) (operation : Operation) (e : Effect) → Running u end files whole bytes t
       → 0 < length bytes → operation_at u bytes ≡ Ok (operation, rest) → effect u t.registers operation ≡ Ok e → length rest < length bytes → Running u end files whole rest (after_one t operation e)
   unfolding here after_one
-  one_more files whole bytes rest t operation e r lt read executed shorter =
+  step_more files whole bytes rest t operation e r lt read executed shorter =
       let i : Instruction = here bytes operation in
       record {
         front = r.front ++ i ∷ [];
@@ -121,11 +121,11 @@ module _ (u : UnitHeader) (end : ℕ) where
       first_row bytes t operation e later executed = rw executed refl
 
   -- the same, of what is equal to the table and to the bytes after the instruction
-  one_more_is : (files : List (List ℕ)) (whole : Listed Instruction LineFault) (bytes read_to rest : List ℕ) (t made after : Table) (operation : Operation) (e : Effect) → Running u end files whole bytes t
+  step_more_is : (files : List (List ℕ)) (whole : Listed Instruction LineFault) (bytes read_to rest : List ℕ) (t made after : Table) (operation : Operation) (e : Effect) → Running u end files whole bytes t
       → 0 < length bytes → operation_at u bytes ≡ Ok (operation, read_to) → effect u t.registers operation ≡ Ok e → after_one t operation e ≡ made → read_to ≡ rest → made ≡ after → length rest < length bytes
       → Running u end files whole rest after
-  one_more_is files whole bytes read_to rest t made after operation e r lt read executed table same_rest same_table shorter =
-      subst (λ (x : Table). Running u end files whole rest x) (table ∙ same_table) (one_more files whole bytes rest t operation e r lt (read ∙ ap (λ (x : List ℕ). done (operation, x)) same_rest) executed shorter)
+  step_more_is files whole bytes read_to rest t made after operation e r lt read executed table same_rest same_table shorter =
+      subst (λ (x : Table). Running u end files whole rest x) (table ∙ same_table) (step_more files whole bytes rest t operation e r lt (read ∙ ap (λ (x : List ℕ). done (operation, x)) same_rest) executed shorter)
 
   pub running_more : (files : List (List ℕ)) (whole : Listed Instruction LineFault) (bytes rest : List ℕ) (t after : Table) → Running u end files whole bytes t → 0 < length bytes
       → turn u t bytes ≡ Ok (after, rest) → length rest < length bytes → Running u end files whole rest after
@@ -136,7 +136,7 @@ module _ (u : UnitHeader) (end : ℕ) where
       let d = then_ok (effect u t.registers a.0.0) (λ e. Ok (after_one t a.0.0 e)) b.0 b.1 in
       let parts = done_same {E = LineWhy} (b.0, a.0.1) (after, rest) b.2 in
       let table = done_same {E = LineWhy} (after_one t a.0.0 d.0) b.0 d.2 in
-      one_more_is files whole bytes a.0.1 rest t b.0 after a.0.0 d.0 r lt a.1 d.1 table (ap (λ (p : Table × List ℕ). p.1) parts) (ap (λ (p : Table × List ℕ). p.0) parts) shorter
+      step_more_is files whole bytes a.0.1 rest t b.0 after a.0.0 d.0 r lt a.1 d.1 table (ap (λ (p : Table × List ℕ). p.1) parts) (ap (λ (p : Table × List ℕ). p.0) parts) shorter
 
   -- what was executed, whichever way the list of instructions goes on
   made_of : List (List ℕ) → Listed Instruction LineFault → Result (List (List ℕ) × List Row) LineFault

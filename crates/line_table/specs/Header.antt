@@ -41,8 +41,8 @@ unfoldable pub unit_body : Order → List ℕ → List ℕ
 unit_body order unit = take (unit_length order unit) (drop 4 unit)
 
 -- version 4 has a field more than the versions before it, maximum_operations_per_instruction
-abbrev pub one_more : ℕ → ℕ
-one_more version = if version == 4 then 1 else 0
+abbrev pub operations_len : ℕ → ℕ
+operations_len version = if version == 4 then 1 else 0
 
 -- maximum_operations_per_instruction, which is 1 before version 4, and what stands after it
 abbrev pub operations_at : ℕ → List ℕ → Front ℕ LineWhy
@@ -59,7 +59,7 @@ operations_of version body = if version == 4 then slice_index body 7 else 1
 unfoldable pub unit_header : Class → Order → List ℕ → UnitHeader
 unit_header class order body =
     let version = field order w16 0 body in
-    let more = one_more version in
+    let more = operations_len version in
     let opcode_base = slice_index body (10 + more) in
     record {
       class = class;
@@ -77,7 +77,7 @@ unit_header class order body =
 -- the directories stand after the operand counts, of which there is one for each opcode from 1 up
 -- to opcode_base
 abbrev pub tables_of : UnitHeader → ℕ
-tables_of u = 11 + one_more u.version + (u.opcode_base - 1)
+tables_of u = 11 + operations_len u.version + (u.opcode_base - 1)
 
 -- the program begins header_length bytes after that field
 abbrev pub program_of : UnitHeader → ℕ

@@ -82,10 +82,10 @@ listed_on (Ok (Some x, rest)) later =
     record { items = x ∷ (later rest).items; after = (later rest).after }
 
 -- at most so many items, where `next` reads an item, or the end of the list
-abbrev pub listed : {X E : Type 0} → (List ℕ → Front (Option X) E) → ℕ → List ℕ → Listed X E
-listed next zero bytes = record { items = []; after = Ok bytes }
-listed next (suc n) bytes = listed_on (next bytes) (λ rest. listed next n rest)
+abbrev pub items_at_most : {X E : Type 0} → (List ℕ → Front (Option X) E) → ℕ → List ℕ → Listed X E
+items_at_most next zero bytes = record { items = []; after = Ok bytes }
+items_at_most next (suc n) bytes = listed_on (next bytes) (λ rest. items_at_most next n rest)
 
 -- the whole list: since an item takes a byte, there is one turn more than it can need
 unfoldable pub list_at : {X E : Type 0} → (List ℕ → Front (Option X) E) → List ℕ → Listed X E
-list_at next bytes = listed next (suc (length bytes)) bytes
+list_at next bytes = items_at_most next (suc (length bytes)) bytes

@@ -12,7 +12,7 @@ use Rattle.elf_ident.specs.declared.counts.Counts.{Counts}
 use Rattle.elf_ident.specs.declared.fronts.Head.{Head}
 use Rattle.elf_ident.specs.declared.fronts.Front.{Front}
 use Rattle.elf_types.specs.Answers.{◌>>=◌}
-use Rattle.elf_ident.specs.Front.{counts_in, counted, phdrs_at, shdrs_at, front_with, front_at, head_in, front}
+use Rattle.elf_ident.specs.Front.{counts_in, with_counts, phdrs_at, shdrs_at, front_with, front_at, head_in, front}
 use Rattle.elf_object.specs.Object.{Object, Section}
 use Rattle.elf_object.specs.Derived.{written_header}
 use Rattle.elf_object.specs.Open.{shdrs_bytes, phdrs_bytes}
@@ -58,7 +58,7 @@ front_of q = record {
 head_of : Object → Head
 head_of q = record { header = written_header q.header; pad = q.pad; counts = counts_of q }
 
-counted_back : (q : Object) → IsDerived q → counted (written_header q.header) (counts_of q) ≡ q.header
+counted_back : (q : Object) → IsDerived q → with_counts (written_header q.header) (counts_of q) ≡ q.header
 unfolding counts_of written_header
 counted_back q is =
     ap (λ (m : ℕ). record q.header { phnum = m; shnum = length q.sections }) (sym is.phnum)

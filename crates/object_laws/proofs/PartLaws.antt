@@ -11,7 +11,7 @@ use Rattle.elf_types.specs.declared.errors.ElfError.TheVariants.{Overlap, TooLar
 use Rattle.elf_xlate.specs.Headers.{ehdr_size, phdr_size, shdr_size}
 use Rattle.elf_layout.specs.declared.parts.PartAt.{PartAt}
 use Rattle.elf_layout.specs.Layout.{some_above, place_of, end_after, in_order_from, standing, length_with, length_from, length_of, positions, limit_of, is_too_large, overlap_refusal, refusal_within, refusal_of}
-use Rattle.elf_layout.specs.Meeting.{has_bytes, end_of, sorted_by, first_met, listed, overlap_of}
+use Rattle.elf_layout.specs.Meeting.{has_bytes, end_of, sorted_by, first_met, parts_by_position, overlap_of}
 use Rattle.elf_object.specs.Object.{Object, section_at, has_file_bytes}
 use Rattle.elf_object.specs.Joined.{file_bytes}
 use Rattle.elf_object.specs.Layout.{header_part, segments_part, section_part, table_part, table_alignment, parts_of}
@@ -100,7 +100,7 @@ length_of-same true ps qs base same = length_from-same base ps qs same
 length_of-same false ps qs base same = ap (length_from 0) (in_order_from-same false 0 ps qs same)
 
 overlap-same : (layout : Bool) (ps qs : List PartAt) → SameParts layout ps qs → overlap_refusal ps layout ≡ overlap_refusal qs layout
-unfolding overlap_refusal overlap_of listed
+unfolding overlap_refusal overlap_of parts_by_position
 overlap-same true ps qs same = ap (λ (l : List PartAt). option_map (λ pair. Overlap pair.0 pair.1) (first_met (sorted_by (λ p. p.at) l))) (filter-same ps qs same)
 overlap-same false ps qs same = refl
 

@@ -13,7 +13,7 @@ use Rattle.elf_types.specs.declared.errors.ElfError.TheVariants.{Overlap, TooLar
 use Rattle.elf_xlate.specs.Fields.{fits}
 use Rattle.elf_layout.specs.declared.parts.PartAt.{PartAt}
 use Rattle.elf_layout.specs.Layout.{rounded_up, place_of, end_after, in_order_from, standing, length_with, length_from, length_of, limit_of, some_above, is_too_large, overlap_refusal, refusal_within, refusal_of}
-use Rattle.elf_layout.specs.Meeting.{has_bytes, end_of, meets, inserted_by, sorted_by, listed, first_met, overlap_of}
+use Rattle.elf_layout.specs.Meeting.{has_bytes, end_of, meets, inserted_by, sorted_by, parts_by_position, first_met, overlap_of}
 
 -- ---- One after the other
 
@@ -305,7 +305,7 @@ in_order_pairs (p ∷ ps) order = (each p ps order.0, in_order_pairs ps order.1)
 
 -- no two parts share a byte where nothing is refused
 pub standing_apart : (parts : List PartAt) (layout : Bool) (base : ℕ) (class : Class) → refusal_of parts layout base class ≡ None → Pairs (λ a b. meets a b ≡ false) (standing parts layout)
-unfolding refusal_of refusal_within overlap_refusal standing overlap_of listed
+unfolding refusal_of refusal_within overlap_refusal standing overlap_of parts_by_position
 standing_apart parts true base class h =
     let both = or_none (option_map (λ pair. Overlap pair.0 pair.1) (overlap_of parts)) (if is_too_large parts true base (limit_of class) then Some TooLarge else None) h in
     let none = no_overlap (overlap_of parts) both.0 in

@@ -12,7 +12,8 @@ use Rattle.elf_object.specs.Steps.{own_piece}
 use Rattle.elf_object.specs.Calls.{is_piece_align}
 use Rattle.elf_object.specs.Valid.{IsPiece, OthersOwn}
 use Rattle.section_data.specs.Views.{CellView, IsCell, IsKept, opened_cell, new_cell}
-use Rattle.section_data.specs.Held.{piece_in, home_items}
+use Rattle.section_data.specs.declared.held.HomeItems.{HomeItems}
+use Rattle.section_data.specs.Held.{piece_in}
 use Rattle.section_data.specs.Leaves.{Claims, replaced, marked_piece}
 use Rattle.section_data.proofs.Pieces.{ready_own, ready_clean}
 
@@ -46,7 +47,7 @@ claims_own c p own marked =
       kept = held_kept c.held;
     }
 
-pub claims_clean : (old mid new : CellView) (p : ℕ) (items : Items) → is_some (piece_in old p).own ≡ false → home_items old ≡ Some items
+pub claims_clean : (old mid new : CellView) (p : ℕ) (items : Items) → is_some (piece_in old p).own ≡ false → old.held ≡ Some items
     → mid ≡ record old { held = None } → new ≡ replaced mid p items → Claims old new p
 unfolding piece_in
 claims_clean old mid new p items clean there is after = record {
@@ -69,14 +70,14 @@ others_set [] p q others own = tt
 others_set (first ∷ rest) zero q others own = others
 others_set (first ∷ rest) (suc p) q others own = All-set IsOwn rest p q own others
 
-kept_set : (section : ℕ) (home : Home) (raw held : Option Items) (l : List Piece) (p : ℕ) (q : Piece)
+kept_set : (section : ℕ) (home : Home) (raw : Option Items) (held : HomeItems) (l : List Piece) (p : ℕ) (q : Piece)
     → IsKept section home raw held l → IsPiece q → OthersOwn (set l p q) → IsKept section home raw held (set l p q)
 kept_set section home raw held l p q kept is others = record {
   bytes = kept.bytes;
+  room = kept.room;
   cell = record {
     sized = kept.cell.sized;
     outside = kept.cell.outside;
-    once = kept.cell.once;
     few = let same = length-set l p q in omega (arith, kept.cell.few, same);
     each = All-set IsPiece l p q is kept.cell.each;
     others = others;
@@ -85,7 +86,7 @@ kept_set section home raw held l p q kept is others = record {
 }
 
 -- a piece is given items of its own
-pub replaced_kept : (section : ℕ) (home : Home) (raw held : Option Items) (l : List Piece) (p : ℕ) (items : Items) (q r : Piece)
+pub replaced_kept : (section : ℕ) (home : Home) (raw : Option Items) (held : HomeItems) (l : List Piece) (p : ℕ) (items : Items) (q r : Piece)
     → IsKept section home raw held l → p < length l → q ≡ own_piece items r.align → r ≡ get_or l p home_piece
     → IsKept section home raw held (set l p q)
 replaced_kept section home raw held l p items q r kept there is read =
@@ -116,7 +117,6 @@ pub opened_is : (section : ℕ) (home : Home) → (home.kind ≡ kinds.Empty →
 opened_is section home empty = record {
   sized = tt;
   outside = λ h. refl;
-  once = λ h. refl;
   few = omega arith;
   each = All-cons IsPiece home_piece [] home_piece_is (All-nil IsPiece);
   others = All-nil IsOwn;
@@ -127,22 +127,21 @@ pub new_is : (section : ℕ) → IsCell (new_cell section)
 new_is section = record {
   sized = tt;
   outside = λ h. refl;
-  once = λ h. refl;
   few = omega arith;
   each = All-nil IsPiece;
   others = tt;
   empty = λ h. refl;
 }
 
-pub appended_kept : (section : ℕ) (home : Home) (raw held : Option Items) (l : List Piece) (items : Items) (align : ℕ)
+pub appended_kept : (section : ℕ) (home : Home) (raw : Option Items) (held : HomeItems) (l : List Piece) (items : Items) (align : ℕ)
     → IsKept section home raw held l → length l < MAX_PIECES → IsTrue (is_piece_align align)
     → IsKept section home raw held (l ++ own_piece items align ∷ [])
 appended_kept section home raw held l items align kept room good = record {
   bytes = kept.bytes;
+  room = kept.room;
   cell = record {
     sized = kept.cell.sized;
     outside = kept.cell.outside;
-    once = kept.cell.once;
     few = omega (arith, room, length-append l (own_piece items align ∷ []));
     each = All-push IsPiece l (own_piece items align) kept.cell.each (record { align = good; own = refl });
     others = others_own l (own_piece items align) refl kept.cell.others;
@@ -151,7 +150,7 @@ appended_kept section home raw held l items align kept room good = record {
 }
 
 -- an own piece is pushed, or there is no memory for it
-pub pushed_kept : (pushed : Bool) (section : ℕ) (home : Home) (raw held : Option Items) (l now : List Piece) (q : Piece) (items : Items) (align : ℕ)
+pub pushed_kept : (pushed : Bool) (section : ℕ) (home : Home) (raw : Option Items) (held : HomeItems) (l now : List Piece) (q : Piece) (items : Items) (align : ℕ)
     → IsKept section home raw held l → length l < MAX_PIECES → IsTrue (is_piece_align align) → q ≡ own_piece items align
     → now ≡ (if pushed then l ++ q ∷ [] else l) → IsKept section home raw held now
 pushed_kept true section home raw held l now q items align kept room good is after =

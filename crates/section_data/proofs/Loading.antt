@@ -6,13 +6,20 @@ use Rattle.elf_types.specs.declared.errors.ElfError.{ElfError}
 use Rattle.elf_types.specs.declared.errors.ElfError.TheVariants.{Memory, Read, OutOfFile}
 use Rattle.elf_types.specs.Answers.{answered, refused_if}
 use Rattle.elf_xlate.specs.declared.content.Items.{Items}
+use Rattle.elf_xlate.specs.declared.content.Items.TheVariants as items
+use Rattle.elf_xlate.specs.Translation.{decoded}
+use Rattle.std.specs.Option.{option_map, option_and_then}
+use Rattle.elf_types.specs.declared.records.Class.{Class}
+use Rattle.elf_types.specs.declared.records.Order.{Order}
+use Rattle.elf_types.specs.declared.records.Kind.{Kind}
+use Rattle.elf_types.specs.declared.records.Kind.TheVariants as kinds
 use Rattle.elf_object.specs.Words.{Answers}
 use Rattle.elf_object.specs.Object.{Home}
 use Rattle.std.specs.Prelude.{nat_lt, ◌==◌}
 use Rattle.elf_types.specs.declared.records.Shdr.{Shdr}
 use Rattle.elf_object.specs.Open.{home_bytes, home_of, home_len}
 use Rattle.section_data.specs.Views.{CellView, IsCell, opened_cell}
-use Rattle.section_data.specs.Held.{piece_in, is_loaded}
+use Rattle.section_data.specs.Held.{piece_in, cell_is_loaded, HeldIs}
 use Rattle.section_data.specs.Refused.{load_due, piece_due, home_out, reading}
 use Rattle.section_data.specs.Leaves.{IsReadFrom, bytes_or_none, RawBecomes, Warms, LiesIn}
 use Rattle.section_data.proofs.Pieces.{none_of}
@@ -33,7 +40,7 @@ raw_read image home None None none is = tt
 raw_read image home None (Some bytes) none is = is
 raw_read image home (Some bytes) now none is = cc
 
-pub warms_read : (r : Result (Unit {0}) ElfError) (image : Option (List ℕ)) (old new : CellView) → is_loaded old ≡ false → OnErr r (new ≡ old)
+pub warms_read : (r : Result (Unit {0}) ElfError) (image : Option (List ℕ)) (old new : CellView) → cell_is_loaded old ≡ false → OnErr r (new ≡ old)
     → OnOk r (new ≡ record old { raw = new.raw }) → OnOk r (IsReadFrom image old.home (bytes_or_none new.raw)) → Warms image old new
 warms_read (Err e) image old new unread same is read = subst (λ (n : CellView). Warms image old n) (sym same) (warms_same image old)
 warms_read (Ok x) image old new unread same is read = record {
@@ -50,9 +57,24 @@ unfolding home_bytes
 read_from None home bytes inside len is = (len, tt)
 read_from (Some told) home bytes inside len is = (len, is ∙ sym (rw (home_bytes, inside) refl))
 
+-- room for a copy of raw bytes: the items that they hold are held
+pub held_bytes : (class : Class) (order : Order) (c : CellView) → c.home.kind ≡ kinds.Bytes
+    → option_map items.Bytes c.raw ≡ c.held → HeldIs class order c
+unfolding decoded
+held_bytes class order c kind same =
+    subst (λ (k : Kind). IfSome c.held (λ i. option_and_then (decoded k class order) c.raw ≡ Some i)) (sym kind)
+    (by_raw c.raw c.held same)
+  where
+    by_raw : (raw : Option (List ℕ)) (held : Option Items) → option_map items.Bytes raw ≡ held
+        → IfSome held (λ i. option_and_then (decoded kinds.Bytes class order) raw ≡ Some i)
+    by_raw None None e = tt
+    by_raw None (Some i) e = cc
+    by_raw (Some bytes) None e = tt
+    by_raw (Some bytes) (Some i) e = e
+
 -- ---- Refusals
 
-pub due_unread : (c : CellView) → is_loaded c ≡ false → c.home.out ≡ false → load_due c ≡ c.home.len
+pub due_unread : (c : CellView) → cell_is_loaded c ≡ false → c.home.out ≡ false → load_due c ≡ c.home.len
 unfolding load_due
 due_unread c unread inside = rw (load_due, unread, inside) refl
 
@@ -64,7 +86,7 @@ answers_read : (due : ℕ) (r : Result (Unit {0}) ElfError) → IfErr r (λ e. (
 answers_read due (Ok x) h = (refl, λ told. refl)
 answers_read due (Err e) h = wanted due e h.0 h.1
 
-pub load_answers : (c : CellView) (r : Result (Unit {0}) ElfError) → is_loaded c ≡ false → c.home.out ≡ false
+pub load_answers : (c : CellView) (r : Result (Unit {0}) ElfError) → cell_is_loaded c ≡ false → c.home.out ≡ false
     → IfErr r (λ e. (0 < c.home.len) × ((e ≡ Memory) ⊎ (e ≡ Read))) → Answers true (reading (load_due c)) r (answered (home_out c) (tt {0}))
 load_answers c r unread inside err =
     subst (λ (due : ℕ). Answers true (reading due) r (answered (home_out c) (tt {0}))) (sym (due_unread c unread inside))
@@ -80,19 +102,19 @@ unfolding piece_due
 due_clean c p clean = rw (piece_due, clean) refl
 
 -- what is loaded lies in the file
-pub loaded_inside : (c : CellView) → IsCell c → is_loaded c ≡ true → home_out c ≡ None
+pub loaded_inside : (c : CellView) → IsCell c → cell_is_loaded c ≡ true → home_out c ≡ None
 loaded_inside c cell loaded = by_out c.home.out refl
   where
     by_out : (out : Bool) → c.home.out ≡ out → refused_if out (OutOfFile c.section) ≡ None
     by_out true is = let none = ap (λ (r : Option (List ℕ)). is_some r) (cell.outside is) in cc
     by_out false is = refl
 
-pub loaded_answers : (c : CellView) (due : ℕ) → IsCell c → is_loaded c ≡ true → Answers true (reading due) (Ok (tt {0})) (answered (home_out c) (tt {0}))
+pub loaded_answers : (c : CellView) (due : ℕ) → IsCell c → cell_is_loaded c ≡ true → Answers true (reading due) (Ok (tt {0})) (answered (home_out c) (tt {0}))
 loaded_answers c due cell loaded =
     subst (λ (f : Option ElfError). Answers true (reading due) (Ok (tt {0})) (answered f (tt {0}))) (sym (loaded_inside c cell loaded))
     (refl, λ told. refl)
 
-pub load_errs : (c : CellView) (r : Result (Unit {0}) ElfError) → is_loaded c ≡ false → c.home.out ≡ false
+pub load_errs : (c : CellView) (r : Result (Unit {0}) ElfError) → cell_is_loaded c ≡ false → c.home.out ≡ false
     → IfErr r (λ e. (0 < c.home.len) × ((e ≡ Memory) ⊎ (e ≡ Read)))
     → IfErr r (λ e. c.home.out ≡ false → (0 < load_due c) × ((e ≡ Memory) ⊎ (e ≡ Read)))
 load_errs c (Ok x) unread inside err = tt {0}

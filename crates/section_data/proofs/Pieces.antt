@@ -11,7 +11,7 @@ use Rattle.elf_xlate.specs.declared.content.Items.TheVariants as items
 use Rattle.elf_xlate.specs.Translation.{items_kind, is_whole, decoded}
 use Rattle.elf_object.specs.Answers.{bytes_of}
 use Rattle.section_data.specs.Views.{CellView}
-use Rattle.section_data.specs.Held.{piece_in, kind_in, ready, home_items, items_in, raw_items, is_at_hand, is_loaded, or_empty, items_of_bytes}
+use Rattle.section_data.specs.Held.{piece_in, kind_in, ready, items_in, raw_items, is_at_hand, cell_is_loaded, or_empty, items_of_bytes}
 
 pub none_of : {X : Type 0} (o : Option X) → is_some o ≡ false → o ≡ None
 none_of None h = refl
@@ -33,7 +33,7 @@ pub ready_own : (c : CellView) (p : ℕ) (i : Items) → (piece_in c p).own ≡ 
 unfolding ready
 ready_own c p i e = rw (ready, e) refl
 
-pub ready_clean : (c : CellView) (p : ℕ) → is_some (piece_in c p).own ≡ false → ready c p ≡ home_items c
+pub ready_clean : (c : CellView) (p : ℕ) → is_some (piece_in c p).own ≡ false → ready c p ≡ c.held
 unfolding ready
 ready_clean c p e = rw (ready, none_of (piece_in c p).own e) refl
 
@@ -55,9 +55,9 @@ items_clean class order c p e = rw (items_in, none_of (piece_in c p).own e) refl
 
 -- ---- The clean home piece, once its home is loaded and has whole items
 
-pub hand_loaded : (class : Class) (c : CellView) (p : ℕ) → IsTrue (is_at_hand class c p) → is_some (piece_in c p).own ≡ false → is_loaded c ≡ true
+pub hand_loaded : (class : Class) (c : CellView) (p : ℕ) → IsTrue (is_at_hand class c p) → is_some (piece_in c p).own ≡ false → cell_is_loaded c ≡ true
 unfolding is_at_hand
-hand_loaded class c p h e = by_tests (is_some (piece_in c p).own) (is_loaded c) (is_whole c.home.kind class c.home.len) h e
+hand_loaded class c p h e = by_tests (is_some (piece_in c p).own) (cell_is_loaded c) (is_whole c.home.kind class c.home.len) h e
   where
     by_tests : (own loaded whole : Bool) → IsTrue (own || (loaded && not (not whole))) → own ≡ false → loaded ≡ true
     by_tests true loaded whole h e = cc
@@ -66,7 +66,7 @@ hand_loaded class c p h e = by_tests (is_some (piece_in c p).own) (is_loaded c) 
 
 pub hand_whole : (class : Class) (c : CellView) (p : ℕ) → IsTrue (is_at_hand class c p) → is_some (piece_in c p).own ≡ false → is_whole c.home.kind class c.home.len ≡ true
 unfolding is_at_hand
-hand_whole class c p h e = by_tests (is_some (piece_in c p).own) (is_loaded c) (is_whole c.home.kind class c.home.len) h e
+hand_whole class c p h e = by_tests (is_some (piece_in c p).own) (cell_is_loaded c) (is_whole c.home.kind class c.home.len) h e
   where
     by_tests : (own loaded whole : Bool) → IsTrue (own || (loaded && not (not whole))) → own ≡ false → whole ≡ true
     by_tests true loaded whole h e = cc

@@ -12,8 +12,8 @@ use Rattle.elf_outside.proofs.AskLemmas.{read_rose_refused}
 use Rattle.elf_xlate.specs.declared.content.Items.{Items}
 use Rattle.elf_xlate.specs.Translation.{is_whole}
 use Rattle.elf_object.specs.Words.{Answers}
-use Rattle.section_data.specs.Views.{CellView, IsCell, is_bytes}
-use Rattle.section_data.specs.Held.{piece_in, ready, home_items, holds_items, is_ragged}
+use Rattle.section_data.specs.Views.{CellView}
+use Rattle.section_data.specs.Held.{piece_in, ready, piece_holds_items, is_ragged}
 use Rattle.section_data.specs.Refused.{no_piece, no_home_items, items_refused, home_out, home_ragged, load_due, piece_due, items_due, preparing}
 use Rattle.section_data.specs.Leaves.{Warms}
 use Rattle.section_data.proofs.Pieces.{none_of, ready_own, ready_clean}
@@ -84,14 +84,10 @@ unheld_clean c p unheld = by_own (piece_in c p).own refl
     by_own None is = refl
     by_own (Some items) is = let held = ap (λ (r : Option Items). is_some r) (ready_own c p items is) in cc
 
-pub unheld_home : (c : CellView) (p : ℕ) → IsCell c → is_some (ready c p) ≡ false → c.held ≡ None
-unheld_home c p cell unheld = by_kind (is_bytes c.home.kind) refl
-  where
-    by_kind : (b : Bool) → is_bytes c.home.kind ≡ b → c.held ≡ None
-    by_kind true is = cell.once is
-    by_kind false is =
-        let home : ready c p ≡ c.held = ready_clean c p (unheld_clean c p unheld) ∙ rw is refl in
-        none_of c.held (ap (λ (r : Option Items). is_some r) (sym home) ∙ unheld)
+pub unheld_home : (c : CellView) (p : ℕ) → is_some (ready c p) ≡ false → c.held ≡ None
+unheld_home c p unheld =
+    let home = ready_clean c p (unheld_clean c p unheld) in
+    none_of c.held (ap (λ (r : Option Items). is_some r) (sym home) ∙ unheld)
 
 wanted : (c : CellView) (p : ℕ) (due : ℕ) (e : ElfError) → is_some (ready c p) ≡ false → (e ≡ Memory) ⊎ ((e ≡ Read) × (0 < due))
     → Answers true (preparing c p due) (Err e) (Ok (tt {0}))
@@ -115,7 +111,7 @@ prepare_answers class c p r passed unheld h =
     (answers_warm c p (load_due c) r unheld h))
 
 pub prepare_holds : (r : Result (Unit {0}) ElfError) (image : Option (List ℕ)) (old new : CellView) (p : ℕ) → Warms image old new
-    → is_some (piece_in old p).own ≡ false → OnOk r (IsSome (home_items new)) → OnOk r (IsTrue (holds_items new p))
+    → is_some (piece_in old p).own ≡ false → OnOk r (IsSome new.held) → OnOk r (IsTrue (piece_holds_items new p))
 unfolding piece_in
 prepare_holds (Err e) image old new p warms clean h = tt {0}
 prepare_holds (Ok x) image old new p warms clean h =

@@ -1,6 +1,6 @@
 -- What is held of a section's data in memory, and what its pieces hold.
-use Rattle.std.specs.Prelude.{◌≡◌, ℕ, Bool, not, ◌&&◌, ◌||◌, List, slice_index_or, Option, Some, None, IfSome, is_some, if◌then◌else◌}
-use Rattle.std.specs.Option.{option_map, option_and_then}
+use Rattle.std.specs.Prelude.{◌≡◌, ℕ, Bool, not, ◌&&◌, ◌||◌, List, slice_index_or, Option, Some, None, IfSome, is_some}
+use Rattle.std.specs.Option.{option_and_then}
 use Rattle.elf_types.specs.declared.records.Class.{Class}
 use Rattle.elf_types.specs.declared.records.Order.{Order}
 use Rattle.elf_types.specs.declared.records.Kind.{Kind}
@@ -8,7 +8,7 @@ use Rattle.elf_xlate.specs.declared.content.Items.{Items}
 use Rattle.elf_xlate.specs.declared.content.Items.TheVariants as items
 use Rattle.elf_xlate.specs.Translation.{decoded, items_kind, is_whole}
 use Rattle.elf_object.specs.Object.{Piece, home_piece}
-use Rattle.section_data.specs.Views.{CellView, is_bytes}
+use Rattle.section_data.specs.Views.{CellView}
 
 -- what stands at an index that no piece has is a clean home piece
 unfoldable pub piece_in : CellView → ℕ → Piece
@@ -19,24 +19,24 @@ unfoldable pub kind_in : CellView → ℕ → Kind
 kind_in c p = elim ((piece_in c p).own) [ None ↦ c.home.kind | Some items ↦ items_kind items ]
 
 -- the section is loaded: its home's bytes are held
-abbrev pub is_loaded : CellView → Bool
-is_loaded c = is_some c.raw
+abbrev pub cell_is_loaded : CellView → Bool
+cell_is_loaded c = is_some c.raw
 
--- the home's items where they are held; bytes are the raw bytes
-abbrev pub home_items : CellView → Option Items
-home_items c = if is_bytes c.home.kind then option_map items.Bytes c.raw else c.held
-
--- the items of a piece where they are held: of an own one, and of the clean home piece once it was translated
+-- the items of a piece where they are held in memory form: of an own one, and of the clean home
+-- piece where the home's items are
 unfoldable pub ready : CellView → ℕ → Option Items
-ready c p = elim ((piece_in c p).own) [ None ↦ home_items c | Some items ↦ Some items ]
+ready c p = elim ((piece_in c p).own) [ None ↦ c.held | Some items ↦ Some items ]
 
 -- whether a piece holds its items
-abbrev pub holds_items : CellView → ℕ → Bool
-holds_items c p = is_some (ready c p)
+abbrev pub piece_holds_items : CellView → ℕ → Bool
+piece_holds_items c p = is_some (ready c p)
 
--- Items that are held are those of the raw bytes. The cell does not know the image's class and order.
+-- Items that are held are those of the raw bytes. The cell does not know the image's class and
+-- order.
 abbrev pub HeldIs : Class → Order → CellView → Type 0
-HeldIs class order c = IfSome c.held (λ items. option_and_then (decoded c.home.kind class order) c.raw ≡ Some items)
+HeldIs class order c =
+    IfSome c.held
+    (λ items. option_and_then (decoded c.home.kind class order) c.raw ≡ Some items)
 
 -- no items where there are none
 abbrev pub or_empty : Option Items → Items
@@ -53,7 +53,8 @@ raw_items class order c = or_empty (option_and_then (decoded c.home.kind class o
 
 -- the items of a piece: its own, or for the clean home piece those that the raw bytes hold
 unfoldable pub items_in : Class → Order → CellView → ℕ → Items
-items_in class order c p = elim ((piece_in c p).own) [ None ↦ raw_items class order c | Some items ↦ items ]
+items_in class order c p =
+    elim ((piece_in c p).own) [ None ↦ raw_items class order c | Some items ↦ items ]
 
 -- the home's bytes are no whole items
 abbrev pub is_ragged : Class → CellView → Bool
@@ -61,4 +62,5 @@ is_ragged class c = not (is_whole c.home.kind class c.home.len)
 
 -- whether each item of a piece can be told: it is own, or the home is loaded and has whole items
 unfoldable pub is_at_hand : Class → CellView → ℕ → Bool
-is_at_hand class c p = is_some (piece_in c p).own || (is_loaded c && not (is_ragged class c))
+is_at_hand class c p =
+    is_some (piece_in c p).own || (cell_is_loaded c && not (is_ragged class c))

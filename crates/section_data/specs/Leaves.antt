@@ -5,9 +5,10 @@ use Rattle.elf_object.specs.Object.{Home}
 use Rattle.elf_object.specs.Open.{home_bytes}
 use Rattle.elf_object.specs.Steps.{own_piece}
 use Rattle.section_data.specs.Views.{CellView}
-use Rattle.section_data.specs.Held.{piece_in, ready, is_loaded}
+use Rattle.section_data.specs.Held.{piece_in, ready, cell_is_loaded}
 
--- bytes that were read from a home: as many as it is long, and those of the home in the image where the source tells it
+-- bytes that were read from a home: as many as it is long, and those of the home in the image where
+-- the source tells it
 abbrev pub IsReadFrom : Option (List ℕ) → Home → List ℕ → Type 0
 IsReadFrom image home bytes =
     (length bytes ≡ home.len) × IfSome image (λ told. bytes ≡ home_bytes home told)
@@ -17,12 +18,14 @@ bytes_or_none None = []
 bytes_or_none (Some bytes) = bytes
 
 -- raw bytes stay; where there were none they may have been read
-abbrev pub RawBecomes : Option (List ℕ) → Home → Option (List ℕ) → Option (List ℕ) → Type 0
+abbrev pub RawBecomes : Option (List ℕ) → Home → Option (List ℕ) → Option (List ℕ)
+    → Type 0
 RawBecomes image home (Some bytes) now = now ≡ Some bytes
 RawBecomes image home None None = Unit {0}
 RawBecomes image home None (Some bytes) = IsReadFrom image home bytes
 
--- a call that reads and translates at first use: no more than the raw bytes and the held items may come to be there
+-- a call that reads and translates at first use: no more than the raw bytes and the held items may
+-- come to be there
 pub record Warms (image : Option (List ℕ)) (old new : CellView) : Type 0 where
   pub raw : Option (List ℕ)
   pub held : Option Items
@@ -30,7 +33,8 @@ pub record Warms (image : Option (List ℕ)) (old new : CellView) : Type 0 where
   pub bytes : RawBecomes image old.home old.raw raw
   pub items : IfSome old.held (λ items. held ≡ Some items)
 
--- a piece that was ready became own and marked with its items; of the home's items that were held none may be left
+-- a piece that was ready became own and marked with its items; of the home's items that were held
+-- none may be left
 pub record Claims (old new : CellView) (p : ℕ) : Type 0 where
   pub items : Items
   pub held : Option Items
@@ -43,7 +47,9 @@ pub record Claims (old new : CellView) (p : ℕ) : Type 0 where
 
 -- a piece with other items, own and marked; it keeps its alignment
 abbrev pub replaced : CellView → ℕ → Items → CellView
-replaced c p items = record c { pieces = slice_set c.pieces p (own_piece items (piece_in c p).align) }
+replaced c p items = record c {
+  pieces = slice_set c.pieces p (own_piece items (piece_in c p).align);
+}
 
 -- one more piece
 abbrev pub appended : CellView → Items → ℕ → CellView
@@ -51,9 +57,14 @@ appended c items align = record c { pieces = c.pieces ++ own_piece items align �
 
 -- a piece with a dirty mark
 abbrev pub marked_piece : CellView → ℕ → CellView
-marked_piece c p = record c { pieces = slice_set c.pieces p (record (piece_in c p) { marked = true }) }
+marked_piece c p = record c {
+  pieces = slice_set c.pieces p (record (piece_in c p) { marked = true });
+}
 
 -- a home that lies in the image and is not loaded lies in a source of that size
 abbrev pub LiesIn : CellView → ℕ → Type 0
 LiesIn c size =
-    is_loaded c ≡ false → c.home.out ≡ false → 0 < c.home.len → c.home.at + c.home.len ≤ size
+    cell_is_loaded c ≡ false
+    → c.home.out ≡ false
+    → 0 < c.home.len
+    → c.home.at + c.home.len ≤ size

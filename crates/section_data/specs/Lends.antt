@@ -18,18 +18,25 @@ piece_with piece items = record piece { own = Some items }
 
 -- the same in a cell
 abbrev pub with_items : CellView → ℕ → Items → CellView
-with_items c p items = record c { pieces = slice_set c.pieces p (piece_with (piece_in c p) items) }
+with_items c p items = record c {
+  pieces = slice_set c.pieces p (piece_with (piece_in c p) items);
+}
 
 -- ---- A list whose variant is given, of items, of a piece and of a cell
 
-abbrev pub LendsList : (X : RattleType) → (List X.Denot → Items) → MutBor Items → MutBor (List X.Denot) → Fml
+abbrev pub LendsList : (X : RattleType) → (List X.Denot → Items) → MutBor Items
+    → MutBor (List X.Denot) → Fml
 LendsList X variant items r = Lends items_row (list_row X) items r variant
 
-abbrev pub LendsPiece : (X : RattleType) → (List X.Denot → Items) → MutBor Piece → MutBor (List X.Denot) → Fml
-LendsPiece X variant piece r = Lends piece_row (list_row X) piece r (λ left. piece_with piece.now (variant left))
+abbrev pub LendsPiece : (X : RattleType) → (List X.Denot → Items) → MutBor Piece
+    → MutBor (List X.Denot) → Fml
+LendsPiece X variant piece r =
+    Lends piece_row (list_row X) piece r (λ left. piece_with piece.now (variant left))
 
-abbrev pub LendsCell : (X : RattleType) → (List X.Denot → Items) → ℕ → MutBor CellView → MutBor (List X.Denot) → Fml
-LendsCell X variant p cell r = Lends cell_row (list_row X) cell r (λ left. with_items cell.now p (variant left))
+abbrev pub LendsCell : (X : RattleType) → (List X.Denot → Items) → ℕ → MutBor CellView
+    → MutBor (List X.Denot) → Fml
+LendsCell X variant p cell r =
+    Lends cell_row (list_row X) cell r (λ left. with_items cell.now p (variant left))
 
 -- ---- All items
 

@@ -1,5 +1,5 @@
 -- How each call on a cell is refused, what it is due, and where it may want memory.
-use Rattle.std.specs.Prelude.{ℕ, Bool, false, not, ◌||◌, ◌&&◌, nat_le, nat_lt, [], ◌∷◌, length, Option, Some, None, is_some, is_none, if◌then◌else◌}
+use Rattle.std.specs.Prelude.{ℕ, Bool, false, not, ◌||◌, nat_le, nat_lt, [], ◌∷◌, length, Option, Some, None, is_some, if◌then◌else◌}
 use Rattle.elf_types.specs.declared.records.Class.{Class}
 use Rattle.elf_types.specs.declared.records.Kind.{Kind}
 use Rattle.elf_types.specs.declared.records.Part.TheVariants as part
@@ -12,8 +12,8 @@ use Rattle.elf_xlate.specs.Translation.{first_unfit}
 use Rattle.elf_object.specs.Words.{Wants}
 use Rattle.elf_object.specs.Answers.{same_kind}
 use Rattle.elf_object.specs.Calls.{is_piece_align}
-use Rattle.section_data.specs.Views.{CellView, is_bytes}
-use Rattle.section_data.specs.Held.{piece_in, kind_in, is_loaded, is_ragged, holds_items}
+use Rattle.section_data.specs.Views.{CellView}
+use Rattle.section_data.specs.Held.{piece_in, kind_in, cell_is_loaded, is_ragged, piece_holds_items}
 
 -- ---- Refusals
 
@@ -21,7 +21,8 @@ abbrev pub no_piece : CellView → ℕ → Option ElfError
 no_piece c p = refused_if (nat_le (length c.pieces) p) (NoData p (length c.pieces))
 
 abbrev pub wrong_piece_kind : CellView → Kind → ℕ → Option ElfError
-wrong_piece_kind c kind p = refused_if (not (same_kind (kind_in c p) kind)) (WrongKind (kind_in c p))
+wrong_piece_kind c kind p =
+    refused_if (not (same_kind (kind_in c p) kind)) (WrongKind (kind_in c p))
 
 abbrev pub home_out : CellView → Option ElfError
 home_out c = refused_if c.home.out (OutOfFile c.section)
@@ -32,7 +33,10 @@ home_ragged class c = refused_if (is_ragged class c) (Ragged c.section)
 -- the piece is the clean home piece, and its home is out of the file or ragged
 unfoldable pub no_home_items : Class → CellView → ℕ → Option ElfError
 no_home_items class c p =
-    elim ((piece_in c p).own) [ None ↦ first_refusal (home_out c ∷ home_ragged class c ∷ []) | Some items ↦ None ]
+    elim ((piece_in c p).own) [
+      | None ↦ first_refusal (home_out c ∷ home_ragged class c ∷ [])
+      | Some items ↦ None
+    ]
 
 -- of the calls that hand out the items of a piece
 unfoldable pub items_refused : Class → CellView → ℕ → Option ElfError
@@ -46,7 +50,10 @@ kind_refused class c kind p =
 -- items that do not fit the class, as the piece with that number
 abbrev pub unfit_piece : Class → CellView → ℕ → Items → Option ElfError
 unfit_piece class c p items =
-    elim (first_unfit class items) [ None ↦ None | Some i ↦ Some (Unfit (part.Piece c.section p) i) ]
+    elim (first_unfit class items) [
+      | None ↦ None
+      | Some i ↦ Some (Unfit (part.Piece c.section p) i)
+    ]
 
 unfoldable pub replace_refused : Class → CellView → ℕ → Items → Option ElfError
 replace_refused class c p items = first_refusal (no_piece c p ∷ unfit_piece class c p items ∷ [])
@@ -62,7 +69,7 @@ append_refused class c items align = first_refusal
 
 -- the home, where it lies in the file and is not loaded
 unfoldable pub load_due : CellView → ℕ
-load_due c = if is_loaded c || c.home.out then 0 else c.home.len
+load_due c = if cell_is_loaded c || c.home.out then 0 else c.home.len
 
 -- the same for a call on a piece: an own one needs no home
 unfoldable pub piece_due : CellView → ℕ → ℕ
@@ -85,12 +92,4 @@ reading due = record { memory = nat_lt 0 due; read = nat_lt 0 due }
 
 -- in a call that makes a piece hold its items: where it does not hold them
 abbrev pub preparing : CellView → ℕ → ℕ → Wants
-preparing c p due = record { memory = not (holds_items c p); read = nat_lt 0 due }
-
--- whether a lend of the piece copies: the clean home piece of kind Bytes, whose raw bytes stay
-unfoldable pub copies : CellView → ℕ → Bool
-copies c p = is_none (piece_in c p).own && is_bytes c.home.kind
-
--- in a call that makes a ready piece own
-abbrev pub claiming : CellView → ℕ → Wants
-claiming c p = record { memory = copies c p; read = false }
+preparing c p due = record { memory = not (piece_holds_items c p); read = nat_lt 0 due }

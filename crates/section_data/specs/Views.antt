@@ -1,12 +1,15 @@
--- One section's cell, as contracts see it: where its data stands in the image as opened, what is held of it in memory, and
--- its pieces (elf_getdata, elf_rawdata). Home and Piece are those of the plain object.
-use Rattle.std.specs.Prelude.{◌≡◌, ℕ, ◌+◌, ◌≤◌, Bool, true, false, not, ◌==◌, ◌&&◌, nat_lt, List, [], ◌∷◌, length, All, Option, Some, None, IfSome}
+-- One section's cell, as contracts see it: where its data stands in the image as opened, what is
+-- held of it in memory, and its pieces (elf_getdata, elf_rawdata). Home and Piece are those of the
+-- plain object.
+use Rattle.std.specs.Prelude.{◌≡◌, ℕ, ◌+◌, ◌≤◌, Bool, true, false, not, ◌==◌, ◌&&◌, nat_lt, List, [], ◌∷◌, length, All, Option, Some, None, IfSome, IsSome}
 use Rattle.std.specs.Option.{option_map}
 use Rattle.elf_types.specs.declared.records.Kind.{Kind}
 use Rattle.elf_types.specs.declared.records.Kind.TheVariants as kinds
 use Rattle.elf_types.specs.declared.constants.TheConstants.{MAX_PIECES}
 use Rattle.elf_xlate.specs.declared.content.Items.{Items}
 use Rattle.elf_xlate.specs.Translation.{items_kind}
+use Rattle.section_data.specs.declared.held.HomeItems.{HomeItems}
+use Rattle.section_data.specs.declared.held.HomeItems.TheVariants.{Nothing, Translated, Raw}
 use Rattle.elf_object.specs.Object.{Home, Piece, no_home, home_piece}
 use Rattle.elf_object.specs.Answers.{bytes_of}
 use Rattle.elf_object.specs.Valid.{IsPiece, OthersOwn}
@@ -15,7 +18,7 @@ pub record CellView : Type 0 where
   pub section : ℕ  -- the section's number
   pub home : Home
   pub raw : Option (List ℕ)  -- the home's bytes, once they are read
-  pub held : Option Items  -- the home's items, where they are held besides: those of kind Bytes never are
+  pub held : Option Items  -- the home's items, where they are held in memory form
   pub pieces : List Piece
 
 -- ---- What the program keeps, as a view
@@ -31,36 +34,49 @@ piece_view own items align marked = record { own = when own items; align = align
 abbrev pub home_view : ℕ → ℕ → Kind → Bool → Home
 home_view at len kind out = record { at = at; len = len; kind = kind; out = out }
 
-abbrev pub cell_view : ℕ → Home → Option Items → Option Items → List Piece → CellView
+-- whether the home's items are held in memory form
+abbrev pub is_holding : HomeItems → Bool
+is_holding Nothing = false
+is_holding _ = true
+
+-- They are those that were translated; or the raw bytes, beside which there is room for a copy.
+abbrev pub held_view : Option Items → HomeItems → Option Items
+held_view raw Nothing = None
+held_view raw (Translated items) = Some items
+held_view raw (Raw room) = raw
+
+abbrev pub cell_view : ℕ → Home → Option Items → HomeItems → List Piece → CellView
 cell_view section home raw held pieces = record {
   section = section;
   home = home;
   raw = option_map bytes_of raw;
-  held = held;
+  held = held_view raw held;
   pieces = pieces;
 }
 
 -- ---- What is true of each cell
 
--- whether items of the kind are bytes, which are held once, as the raw bytes
-abbrev pub is_bytes : Kind → Bool
-is_bytes kinds.Bytes = true
-is_bytes _ = false
-
--- Raw bytes are as many as the home is long; a home out of the file is never read; bytes are held once; the pieces are
+-- Raw bytes are as many as the home is long; a home out of the file is never read; the pieces are
 -- those of a section; a home of no kind is empty.
 pub record IsCell (c : CellView) : Type 0 where
   pub sized : IfSome c.raw (λ bytes. length bytes ≡ c.home.len)
   pub outside : c.home.out ≡ true → c.raw ≡ None
-  pub once : is_bytes c.home.kind ≡ true → c.held ≡ None
   pub few : length c.pieces ≤ MAX_PIECES
   pub each : All IsPiece c.pieces
   pub others : OthersOwn c.pieces
   pub empty : c.home.kind ≡ kinds.Empty → c.home.len ≡ 0
 
+-- room for a copy is kept of bytes that are read, and has place for all of them
+abbrev pub IsRoomFor : Option Items → Home → HomeItems → Type 0
+IsRoomFor raw home Nothing = Unit {0}
+IsRoomFor raw home (Translated items) = Unit {0}
+IsRoomFor raw home (Raw room) = IsSome raw × (home.len ≤ room)
+
 -- the same of what the program keeps: the raw bytes are kept as items of kind Bytes
-pub record IsKept (section : ℕ) (home : Home) (raw held : Option Items) (pieces : List Piece) : Type 0 where
+pub record IsKept (section : ℕ) (home : Home) (raw : Option Items) (held : HomeItems)
+    (pieces : List Piece) : Type 0 where
   pub bytes : IfSome raw (λ items. items_kind items ≡ kinds.Bytes)
+  pub room : IsRoomFor raw home held
   pub cell : IsCell (cell_view section home raw held pieces)
 
 -- ---- Cells as they are made

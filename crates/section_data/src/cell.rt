@@ -6,10 +6,12 @@ ghost use Rattle.elf_types.specs.declared.errors.ElfError.TheVariants.{Memory};
 ghost use Rattle.elf_types.specs.declared.records.Kind.TheVariants as kinds;
 ghost use Rattle.elf_object.specs.Object.{home_piece};
 ghost use Rattle.elf_object.specs.Open.{home_of};
+ghost use Rattle.section_data.specs.declared.held.HomeItems.TheVariants.{Nothing};
 ghost use Rattle.section_data.specs.Views.{IsCell, cell_view, home_view, passes_end, new_cell, opened_cell};
 ghost use Rattle.section_data.specs.Leaves.{LiesIn};
-ghost use Rattle.section_data.specs.Held.{piece_in, kind_in, is_loaded, holds_items};
+ghost use Rattle.section_data.specs.Held.{piece_in, kind_in, cell_is_loaded};
 
+use crate::held::HomeItems;
 use crate::home::Home;
 use crate::piece::Piece;
 use elf_types::{Class, ElfError, Kind, Shdr};
@@ -24,17 +26,19 @@ mod loading;
 
 /// One section's data: its home in the image as opened, the home's bytes once they are read, its
 /// items once they are translated, and its pieces. A home of bytes is held once: its items are the
-/// home's bytes.
+/// home's bytes, and the cell keeps room for a copy of them once they were handed out, so that a
+/// loan of items that were handed out takes no memory. It keeps its allocator.
 #[derive(Drop)]
 pub struct Cell {
+    alloc: Global,
     section: u32,
     home: Home,
     /// The home passes the end of the image.
     out: bool,
     /// The home's bytes, once they are read, as items of kind `Bytes`.
     raw: Option<Items>,
-    /// The home's items where they are held besides.
-    held: Option<Items>,
+    /// The home's items where they are held in memory form.
+    held: HomeItems,
     pieces: Vec<Piece>,
 }
 
@@ -68,30 +72,33 @@ impl Cell {
           | None ↦ new_cell section
           | Some h ↦ opened_cell section (home_view h.at h.len h.kind (passes_end base h.at h.len))
         ]) }
+        ensures cell { IfOk result IsCell }
         ensures err { IfErr result (λ e. e ≡ Memory) }
     {
         match home {
             Some(home) => {
                 let pieces = home_pieces(alloc)?;
-                Ok(Cell::over(section, home, home.passes_end(base), pieces))
+                Ok(Cell::over(alloc, section, home, home.passes_end(base), pieces))
             }
-            None => Ok(Cell::over(section, Home::none(), false, Vec::new(alloc))),
+            None => Ok(Cell::over(alloc, section, Home::none(), false, Vec::new(alloc))),
         }
     }
 
     /// The cell over a home of which nothing is read.
-    fn over(section: u32, home: Home, out: bool, pieces: Vec<Piece>) -> Cell
-        requires { IsCell (cell_view section (home_view home.at home.len home.kind out) None None
+    fn over(alloc: Global, section: u32, home: Home, out: bool, pieces: Vec<Piece>) -> Cell
+        requires { IsCell (cell_view section (home_view home.at home.len home.kind out) None Nothing
             pieces.items) }
-        ensures { result ≡ cell_view section (home_view home.at home.len home.kind out) None None
-            pieces.items }
+        ensures value { result ≡ cell_view section (home_view home.at home.len home.kind out) None
+            Nothing pieces.items }
+        ensures cell { IsCell result }
     {
         Cell {
+            alloc,
             section,
             home,
             out,
             raw: None,
-            held: None,
+            held: HomeItems::Nothing,
             pieces,
         }
     }
@@ -110,6 +117,7 @@ impl Cell {
     ) -> Result<Cell, ElfError>
         ensures ok { IfOk result (λ c. c ≡ opened_cell section (home_of size header.now)) }
         ensures lies { IfOk result (λ c. LiesIn c size) }
+        ensures cell { IfOk result IsCell }
         ensures err { IfErr result (λ e. e ≡ Memory) }
     {
         Cell::new(alloc, section, Some(Home::of(class, header)), size)
@@ -140,7 +148,7 @@ impl Cell {
 
     /// Whether the home's bytes are held. It takes no memory.
     pub fn is_loaded(&self) -> bool
-        ensures value { result ≡ is_loaded self.now }
+        ensures value { result ≡ cell_is_loaded self.now }
         ensures cell { IsCell self.now }
     {
         self.raw.is_some()
@@ -157,7 +165,8 @@ impl Cell {
     /// The piece with that number.
     fn piece(&self, p: u32) -> &Piece
         requires { p < length self.now.pieces }
-        ensures { result.now ≡ piece_in self.now p }
+        ensures value { result.now ≡ piece_in self.now p }
+        ensures cell { IsCell self.now }
     {
         &self.pieces[p as usize]
     }
@@ -167,6 +176,7 @@ impl Cell {
         requires { p < length self.now.pieces }
         ensures value { result ≡ is_some (piece_in self.now p).own }
         ensures marked { result ≡ true → (piece_in self.now p).marked ≡ true }
+        ensures cell { IsCell self.now }
     {
         self.piece(p).is_own()
     }

@@ -2,15 +2,18 @@
 //! its pieces.
 //!
 //! A [`Cell`] reads its home at the first use and translates it once. The items of a home of bytes
-//! are the home's bytes themselves, held once. A piece becomes own by an edit or a loan for
-//! writing; the clean home piece is what the home holds.
+//! are the home's bytes themselves, held once; beside them the cell keeps room for a copy, so that
+//! a later loan for writing takes no memory. A piece becomes own by an edit or a loan for writing;
+//! the clean home piece is what the home holds.
 #![tactic(auto)]
 
 mod cell;
+mod held;
 mod home;
 mod item;
 mod listed;
 mod piece;
+mod room;
 
 pub use cell::Cell;
 pub use home::Home;

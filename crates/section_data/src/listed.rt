@@ -10,7 +10,7 @@ ghost use Rattle.elf_xlate.specs.Translation.{items_kind};
 ghost use Rattle.elf_object.specs.Answers.{bytes_of, halves_of, words_of, addrs_of, syms_of, rels_of, relas_of, dyns_of};
 ghost use Rattle.section_data.specs.Lends.{LendsList};
 
-use elf_types::{Dyn, List, Rel, Rela, Sym};
+use elf_types::{Dyn, Kind, List, Rel, Rela, Sym};
 use elf_xlate::Items;
 
 /// A type whose lists are the items of a kind.
@@ -23,6 +23,10 @@ pub trait Listed {
 
     // The list in items of the kind.
     ghost list_of: { TheItems → List Self };
+
+    /// The kind of the items. It takes no memory.
+    fn kind() -> Kind
+        ensures { result ≡ kind };
 
     /// The list in items of the kind. It takes no memory.
     fn list(items: &Items) -> &List<Self>
@@ -48,6 +52,10 @@ impl Listed for u8 {
     ghost variant = { items.Bytes };
 
     ghost list_of = { bytes_of };
+
+    fn kind() -> Kind {
+        Kind::Bytes
+    }
 
     fn list(items: &Items) -> &List<u8> {
         match items {
@@ -75,6 +83,10 @@ impl Listed for u16 {
 
     ghost list_of = { halves_of };
 
+    fn kind() -> Kind {
+        Kind::Half
+    }
+
     fn list(items: &Items) -> &List<u16> {
         match items {
             Items::Half(list) => list,
@@ -100,6 +112,10 @@ impl Listed for u32 {
     ghost variant = { items.Word };
 
     ghost list_of = { words_of };
+
+    fn kind() -> Kind {
+        Kind::Word
+    }
 
     fn list(items: &Items) -> &List<u32> {
         match items {
@@ -127,6 +143,10 @@ impl Listed for u64 {
 
     ghost list_of = { addrs_of };
 
+    fn kind() -> Kind {
+        Kind::Addr
+    }
+
     fn list(items: &Items) -> &List<u64> {
         match items {
             Items::Addr(list) => list,
@@ -152,6 +172,10 @@ impl Listed for Sym {
     ghost variant = { items.Sym };
 
     ghost list_of = { syms_of };
+
+    fn kind() -> Kind {
+        Kind::Sym
+    }
 
     fn list(items: &Items) -> &List<Sym> {
         match items {
@@ -179,6 +203,10 @@ impl Listed for Rel {
 
     ghost list_of = { rels_of };
 
+    fn kind() -> Kind {
+        Kind::Rel
+    }
+
     fn list(items: &Items) -> &List<Rel> {
         match items {
             Items::Rel(list) => list,
@@ -205,6 +233,10 @@ impl Listed for Rela {
 
     ghost list_of = { relas_of };
 
+    fn kind() -> Kind {
+        Kind::Rela
+    }
+
     fn list(items: &Items) -> &List<Rela> {
         match items {
             Items::Rela(list) => list,
@@ -230,6 +262,10 @@ impl Listed for Dyn {
     ghost variant = { items.Dyn };
 
     ghost list_of = { dyns_of };
+
+    fn kind() -> Kind {
+        Kind::Dyn
+    }
 
     fn list(items: &Items) -> &List<Dyn> {
         match items {

@@ -36,7 +36,7 @@ fn header(stype: u32, offset: u64, size: u64, flags: u64) -> Shdr {
 fn told(alloc: Global, class: Class, order: Order, h: &Shdr) -> Result<(Kind, u64), ElfError> {
     let mut source = zeros(alloc, 96, &[])?;
     let mut cell = Cell::opened(alloc, 5, class, h, 96)?;
-    cell.prepare(alloc, &mut source, 0, class, order)?;
+    cell.prepare(&mut source, 0, class, order)?;
     let items = cell.items(0);
     Ok((items.kind(), items.count()))
 }
@@ -80,11 +80,11 @@ fn a_failed_read_is_repeated_and_a_home_is_read_once(rt: HostRuntime) -> Result<
     let (class, order) = (Class::C64, Order::Greatest);
     let mut source = zeros(alloc, 96, &[1])?;
     let mut cell = Cell::opened(alloc, 5, class, &header(SHT_SYMTAB, 0, 48, 0), 96)?;
-    let failed = cell.prepare(alloc, &mut source, 0, class, order);
+    let failed = cell.prepare(&mut source, 0, class, order);
     assert_eq!(rt; failed, Err(ElfError::Read));
     assert!(rt; !cell.is_loaded());
-    cell.prepare(alloc, &mut source, 0, class, order)?;
-    cell.prepare(alloc, &mut source, 0, class, order)?;
+    cell.prepare(&mut source, 0, class, order)?;
+    cell.prepare(&mut source, 0, class, order)?;
     assert_eq!(rt; source.asked(), 96);
     assert_eq!(rt; cell.items(0).count(), 2);
     Ok(())

@@ -3,9 +3,10 @@
 use Rattle.std.proofs.Common.{◌≡◌, ℕ, ◌+◌, ◌-◌, ◌<◌, ◌≤◌, Bool, true, false, ◌||◌, List, [], ◌∷◌, ◌++◌, length, take, drop, replicate, get_or, sym, ap, ◌∙◌, subst, arith, ⊎_elim, ◌⊎◌, inl, inr}
 use Rattle.std.proofs.lemmas.Bool.{cases_lt}
 use Rattle.std.proofs.lemmas.List.{length-append, length-take, length-take-le, length-drop, length-replicate, get_or-append_right, get_or_append_left, get_or-take, get_or-drop, get_or-replicate, get_or_past, append-nil, ext_get_or}
-use Rattle.elf_outside.specs.Writes.{written_over, resized, IsTorn}
+use Rattle.elf_outside.specs.Writes.{written_over, resized, IsTornBy}
+use Rattle.elf_outside.specs.Torn.{IsTorn}
 use Rattle.elf_object.specs.Blocks.{Block, block_end, block_covers, is_covered}
-use Rattle.writing_laws.specs.Lines.{HoldsBlock, patched, IsTornPatch, IsUnderWay}
+use Rattle.writing_laws.specs.Lines.{HoldsBlock, patched, IsUnderWay}
 use Rattle.writing_laws.proofs.Bools.{neither}
 use Rattle.writing_laws.proofs.LineLaws.{covers_from, not_covered, end_is}
 use Rattle.writing_laws.proofs.HeldLaws.{stands_from, stands_byte, stands_within}
@@ -53,18 +54,19 @@ under_way_written old new held size blocks b left is stands fits =
     subst (λ (l : List ℕ). IsUnderWay old new l size blocks left) (sym same) (under_way_step old new held size blocks b left is stands fits)
 
 -- or is not, and some of its bytes may be there
-pub under_way_failed : (old new held torn : List ℕ) (size : ℕ) (blocks left : List Block) (b : Block) → IsUnderWay old new held size blocks left → HoldsBlock new b → IsTorn held torn b.at b.bytes → (size ≡ length old) ⊎ (size ≡ length new) → IsTornPatch old new torn
+pub under_way_failed : (old new held torn : List ℕ) (size : ℕ) (blocks left : List Block) (b : Block) → IsUnderWay old new held size blocks left → HoldsBlock new b → IsTornBy held torn b.at b.bytes → (size ≡ length old) ⊎ (size ≡ length new) → IsTorn old new torn
 under_way_failed old new held torn size blocks left b is stands between one =
     let len : length torn ≡ size = between.same_len ∙ is.len in
     record {
       len = ⊎_elim (λ e. inl (len ∙ e)) (λ e. inr (len ∙ e)) one;
-      each = λ k. ⊎_elim
-          (λ same. ⊎_elim (λ was. inl (same ∙ was)) (λ now. inr (same ∙ now)) (is.each k))
+      each = λ k there. ⊎_elim
+          (λ same. ⊎_elim (λ was. inl (same ∙ was)) (λ now. inr (now.0, same ∙ now.1)) (is.each k (omega (arith, between.same_len, there))))
           (λ put.
           let from = put.0 in
           let below = put.1 in
           let place : b.at + (k - b.at) ≡ k = omega arith in
-          inr (put.2 ∙ stands_byte new b.at b.bytes (k - b.at) stands (omega arith) ∙ ap (λ (j : ℕ). get_or new j 0) place))
+          let inside = stands_within new b.at b.bytes (k - b.at) stands (omega arith) in
+          inr (omega (arith, inside, from), put.2 ∙ stands_byte new b.at b.bytes (k - b.at) stands (omega arith) ∙ ap (λ (j : ℕ). get_or new j 0) place))
           (between.old_or_new k);
     }
 
@@ -151,7 +153,7 @@ length-lengthened n bytes longer =
 pub under_way_lengthened : (old new : List ℕ) (size : ℕ) (blocks : List Block) → length old ≤ size → IsUnderWay old new (resized size old) size blocks blocks
 under_way_lengthened old new size blocks longer = record {
   len = length-lengthened size old longer;
-  each = λ k. inl (lengthened_byte size old k longer);
+  each = λ k below. inl (lengthened_byte size old k longer);
   done = λ k over none. let clash : true ≡ false = sym over ∙ none in cc;
 }
 

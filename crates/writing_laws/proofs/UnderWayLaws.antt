@@ -5,12 +5,13 @@ use Rattle.std.specs.List.{range_with_len}
 use Rattle.std.proofs.lemmas.Bool.{cases_lt}
 use Rattle.std.proofs.lemmas.List.{drop-drop, take_at, drop_at, get_or-take, get_or_past, length-take-le, ext_get_or}
 use Rattle.std.proofs.lemmas.List.FromFn.{length-map-range_with_len}
+use Rattle.elf_outside.specs.Torn.{IsTorn}
 use Rattle.elf_object.specs.Blocks.{Block, block_end, block_covers, is_covered, byte_over, spread}
 use Rattle.object_laws.proofs.BlockLaws.{length-spread, get_or-spread}
 use Rattle.object_laws.proofs.StandLaws.{covered_from}
-use Rattle.writing_laws.specs.Lines.{StandsAt, HoldsBlock, AreInLine, in_line, IsLeft, patched, IsTornPatch, IsUnderWay}
+use Rattle.writing_laws.specs.Lines.{StandsAt, HoldsBlock, AreInLine, in_line, IsLeft, patched, IsUnderWay}
 use Rattle.writing_laws.proofs.LineLaws.{drop-spread, end_is}
-use Rattle.writing_laws.proofs.HeldLaws.{held_byte}
+use Rattle.writing_laws.proofs.HeldLaws.{held_byte, held_within}
 
 -- ---- In order
 
@@ -70,7 +71,7 @@ not_first b bs k out none = rw (out, none) refl
 pub under_way_start : (old new held : List ℕ) (blocks : List Block) → ((k : ℕ) → get_or held k 0 ≡ get_or old k 0) → IsUnderWay old new held (length held) blocks blocks
 under_way_start old new held blocks same = record {
   len = refl;
-  each = λ k. inl (same k);
+  each = λ k below. inl (same k);
   done = λ k over none. let clash : true ≡ false = sym over ∙ none in cc;
 }
 
@@ -78,7 +79,7 @@ under_way_start old new held blocks same = record {
 pub under_way_step : (old new held : List ℕ) (size : ℕ) (blocks : List Block) (b : Block) (left : List Block) → IsUnderWay old new held size blocks (b ∷ left) → HoldsBlock new b → block_end b ≤ size → IsUnderWay old new (patched size (b ∷ []) held) size blocks left
 under_way_step old new held size blocks b left is stands fits = record {
   len = length-patched size (b ∷ []) held;
-  each = λ k. each k (block_covers b k) refl;
+  each = λ k below. each k below (block_covers b k) refl;
   done = λ k over none. done k (block_covers b k) refl over none;
 }
   where
@@ -95,16 +96,18 @@ under_way_step old new held size blocks b left is stands fits = record {
         let below = covered_below b k size e fits in
         patched_byte size (b ∷ []) held k below ∙ one_over (λ j. get_or held j 0) b k true e ∙ held_byte new b k stands e
 
-    each : (k : ℕ) (c : Bool) → block_covers b k ≡ c → (get_or (patched size (b ∷ []) held) k 0 ≡ get_or old k 0) ⊎ (get_or (patched size (b ∷ []) held) k 0 ≡ get_or new k 0)
-    each k true e = inr (written k e)
-    each k false e = ⊎_elim (λ was. inl (same k e ∙ was)) (λ now. inr (same k e ∙ now)) (is.each k)
+    each : (k : ℕ) → k < length (patched size (b ∷ []) held) → (c : Bool) → block_covers b k ≡ c → (get_or (patched size (b ∷ []) held) k 0 ≡ get_or old k 0) ⊎ ((k < length new) × (get_or (patched size (b ∷ []) held) k 0 ≡ get_or new k 0))
+    each k below true e = inr (held_within new b k stands e, written k e)
+    each k below false e =
+        let count = length-patched size (b ∷ []) held in
+        ⊎_elim (λ was. inl (same k e ∙ was)) (λ now. inr (now.0, same k e ∙ now.1)) (is.each k (omega (arith, is.len, count, below)))
 
     done : (k : ℕ) (c : Bool) → block_covers b k ≡ c → is_covered blocks k ≡ true → is_covered left k ≡ false → get_or (patched size (b ∷ []) held) k 0 ≡ get_or new k 0
     done k true e over none = written k e
     done k false e over none = same k e ∙ is.done k over (not_first b left k e none)
 
 -- a failure on the way
-pub under_way_torn : (old new held : List ℕ) (size : ℕ) (blocks left : List Block) → IsUnderWay old new held size blocks left → (size ≡ length old) ⊎ (size ≡ length new) → IsTornPatch old new held
+pub under_way_torn : (old new held : List ℕ) (size : ℕ) (blocks left : List Block) → IsUnderWay old new held size blocks left → (size ≡ length old) ⊎ (size ≡ length new) → IsTorn old new held
 under_way_torn old new held size blocks left is one = record {
   len = ⊎_elim (λ e. inl (is.len ∙ e)) (λ e. inr (is.len ∙ e)) one;
   each = is.each;
@@ -122,4 +125,4 @@ under_way_done old new held size blocks is fits others =
   where
     by_test : (k : ℕ) → k < length new → (c : Bool) → is_covered blocks k ≡ c → get_or held k 0 ≡ get_or new k 0
     by_test k below true e = is.done k e refl
-    by_test k below false e = ⊎_elim (λ was. was ∙ others k below e) (λ now. now) (is.each k)
+    by_test k below false e = ⊎_elim (λ was. was ∙ others k below e) (λ now. now.1) (is.each k (omega (arith, is.len, fits, below)))

@@ -197,6 +197,6 @@ torn_device o old held starts torn =
       len = ⊎_elim (λ same. inl (omega arith)) (λ same. inr (omega arith)) torn.len;
       each = λ k below. ⊎_elim
           (λ e. inl (get_or-take (length o.base) held k 0 (omega arith) ∙ e ∙ begins o.base old k starts (omega arith)))
-          (λ e. inr (get_or-take (length o.base) held k 0 (omega arith) ∙ e))
-          (torn.each k);
+          (λ now. inr (get_or-take (length o.base) held k 0 (omega arith) ∙ now.1))
+          (torn.each k (omega arith));
     }

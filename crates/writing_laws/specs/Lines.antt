@@ -1,7 +1,8 @@
 -- Words for those who write bytes at places: what stands where, blocks in a line with what lies
 -- between them, and what a device may hold while it is written.
-use Rattle.std.specs.Prelude.{◌≡◌, ℕ, ◌-◌, ◌≤◌, true, false, List, [], ◌∷◌, ◌++◌, length, take, drop, map, slice_index, ◌⊎◌}
+use Rattle.std.specs.Prelude.{◌≡◌, ℕ, ◌-◌, ◌≤◌, true, false, List, [], ◌∷◌, ◌++◌, length, take, drop, map, slice_index}
 use Rattle.std.specs.List.{range_with_len}
+use Rattle.elf_outside.specs.Torn.{AreOldOrNew}
 use Rattle.elf_object.specs.Blocks.{Block, block_end, is_covered, spread}
 
 -- a piece of bytes stands in bytes at a place
@@ -38,26 +39,16 @@ pub record IsLeft (end : ℕ) (otherwise : ℕ → ℕ) (bytes : List ℕ) (from
   pub left : drop from bytes ≡ in_line end otherwise from blocks
   pub line : AreInLine end from blocks
 
--- ---- A device that is written. Past the end a byte counts as 0.
+-- ---- A device that is written. Past its end a byte counts as 0.
 
 -- so many bytes, with blocks written over them
 unfoldable pub patched : ℕ → List Block → List ℕ → List ℕ
 patched n blocks bytes = spread n (slice_index bytes) blocks
 
--- each byte is the old one or the new one
-abbrev pub AreBetween : List ℕ → List ℕ → List ℕ → Type 0
-AreBetween old new held =
-    (k : ℕ) → (slice_index held k ≡ slice_index old k) ⊎ (slice_index held k ≡ slice_index new k)
-
--- what a failed write may leave
-pub record IsTornPatch (old new held : List ℕ) : Type 0 where
-  pub len : (length held ≡ length old) ⊎ (length held ≡ length new)
-  pub each : AreBetween old new held
-
--- while blocks are written over a device that has so many bytes: those blocks that are not left
--- have their new bytes
+-- while blocks are written over a device that has so many bytes: each byte is the old one or the new
+-- one, and those blocks that are not left have their new bytes
 pub record IsUnderWay (old new held : List ℕ) (size : ℕ) (blocks left : List Block) : Type 0 where
   pub len : length held ≡ size
-  pub each : AreBetween old new held
+  pub each : AreOldOrNew old new held
   pub done : (k : ℕ) → is_covered blocks k ≡ true → is_covered left k ≡ false
       → slice_index held k ≡ slice_index new k

@@ -4,6 +4,7 @@ use Rattle.std.specs.Prelude.{◌≡◌, ℕ, ◌+◌, ◌-◌, ◌<◌, ◌≤�
 use Rattle.std.proofs.Math.ListN.{replicate}
 use Rattle.std.specs.List.{range_with_len}
 use Rattle.elf_types.specs.declared.records.Part.TheVariants as part
+use Rattle.elf_outside.specs.Torn.{IsTorn}
 use Rattle.elf_object.specs.Blocks.{Block, block_end, block_covers, is_covered, spread}
 use Rattle.elf_object.specs.Object.{is_dirty, Object, Home, section_at, has_file_bytes}
 use Rattle.elf_object.specs.Joined.{piece_blocks, pieces_end, file_bytes}
@@ -15,7 +16,7 @@ use Rattle.elf_object.specs.Settled.{settle}
 use Rattle.elf_object.specs.Changed.{changed_blocks, fill_places, changed_bytes, is_disturbed, torn}
 use Rattle.elf_object.specs.Valid.{IsObject}
 use Rattle.object_laws.specs.Laws.{IsTornImage}
-use Rattle.writing_laws.specs.Lines.{HoldsBlock, AreInLine, in_line, gap_places, patched, IsTornPatch}
+use Rattle.writing_laws.specs.Lines.{HoldsBlock, AreInLine, in_line, gap_places, patched}
 use Rattle.writing_laws.specs.Plan.{plan, block_of_rank, places_below, base_gaps, written_blocks, meets_some}
 use Rattle.writing_laws.specs.Marks.{marked_all, moved_pieces}
 use Rattle.writing_laws.specs.Ready.{IsReady}
@@ -80,7 +81,7 @@ InPlace o =
 -- has
 abbrev pub TornDevice : Object → Type 0
 TornDevice o =
-    (old held : List ℕ) → take (length o.base) old ≡ o.base → IsTornPatch old (image o) held
+    (old held : List ℕ) → take (length o.base) old ≡ o.base → IsTorn old (image o) held
     → IsTornImage o (take (length o.base) held)
 
 -- ---- Homes
@@ -108,8 +109,8 @@ pub record SettlesAlike (o : Object) : Type 0 where
   pub placed : IsObject o → refusal o ≡ None → settle (placed o) ≡ settle o
   pub torn : (bytes : List ℕ) → IsReady o → IsTornImage o bytes → settle (torn o bytes) ≡ settle o
 
--- where something is dirty, after places are stored, the object marked, and each piece of each section
--- that moves marked, an object is torn over its own base
+-- where something is dirty, after places are stored, the object marked, and each piece of each
+-- section that moves marked, an object is torn over its own base
 abbrev pub MarksAreTorn : Object → Type 0
 MarksAreTorn o =
     is_dirty o ≡ true → marked_all (placed o) (part.Object ∷ moved_pieces o) ≡ torn o o.base

@@ -23,9 +23,9 @@ pub fn settles_alike()
     ensures { (o : Object) → SettlesAlike o }
 {}
 
-/// An object in which something is dirty, whose places are stored, and which is marked as a whole and on
-/// each piece of each section that moves, is torn over its own base: what an update in place leaves that fails before
-/// it writes a byte.
+/// An object in which something is dirty, whose places are stored, and which is marked as a whole
+/// and on each piece of each section that moves, is torn over its own base: what an update in place
+/// leaves that fails before it writes a byte.
 #[tactic(auto, using(crate::proofs::MarkLaws::marks_are_torn))]
 pub fn marks_are_torn()
     ensures { (o : Object) → MarksAreTorn o }

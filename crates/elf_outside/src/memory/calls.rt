@@ -1,8 +1,9 @@
 //! The calls of an object in memory that are to fail.
 
-ghost use Rattle.std.specs.Prelude.{◌≡◌, ◌↔◌, Contains, IsTrue};
-ghost use Rattle.elf_outside.specs.Counts.{next_count};
+ghost use Rattle.std.specs.Prelude.{◌≡◌, ◌↔◌, Contains, IsErr, IsTrue};
+ghost use Rattle.elf_outside.specs.Counts.{HasCause, next_count, faults_after};
 
+use crate::sources::Failed;
 use elf_types::Addrs;
 
 /// The calls of one kind, numbered from 1: `made` were made so far, and those whose number is in
@@ -29,5 +30,20 @@ impl Calls {
     {
         self.made = self.made.saturating_add(1);
         self.bad.as_slice().contains(&self.made)
+    }
+
+    /// Counts a call, and refuses it where it is to fail, with one fault more.
+    pub fn next(&mut self, faults: &mut u64) -> Result<(), Failed>
+        ensures number { self.new.made ≡ next_count self.old.made }
+        ensures same { self.new.bad ≡ self.old.bad }
+        ensures fails { IsErr result ↔ Contains self.old.bad self.new.made }
+        ensures counted { faults.new ≡ faults_after result faults.old }
+        ensures cause { HasCause faults.old faults.new result }
+    {
+        if self.next_fails() {
+            *faults = faults.saturating_add(1);
+            return Err(Failed);
+        }
+        Ok(())
     }
 }

@@ -114,10 +114,7 @@ impl Source for MemDevice {
         ensures untouched { OnErr result (buf.new ≡ buf.old) }
     {
         self.taken = self.taken.saturating_add(buf.len() as u64);
-        if self.reads.next_fails() {
-            self.faults = self.faults.saturating_add(1);
-            return Err(Failed);
-        }
+        self.reads.next(&mut self.faults)?;
         copy_range(self.bytes.as_slice(), at as usize, buf);
         Ok(())
     }
@@ -149,10 +146,7 @@ impl Device for MemDevice {
         ensures counted { self.new.write_faults ≡ faults_after result self.old.write_faults }
     {
         self.given = self.given.saturating_add(buf.len() as u64);
-        if self.writes.next_fails() {
-            self.write_faults = self.write_faults.saturating_add(1);
-            return Err(Failed);
-        }
+        self.writes.next(&mut self.write_faults)?;
         put_over(self.bytes.as_mut_slice(), at as usize, buf);
         Ok(())
     }

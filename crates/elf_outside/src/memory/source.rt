@@ -81,10 +81,7 @@ impl Source for MemSource {
         ensures untouched { OnErr result (buf.new ≡ buf.old) }
     {
         self.taken = self.taken.saturating_add(buf.len() as u64);
-        if self.reads.next_fails() {
-            self.faults = self.faults.saturating_add(1);
-            return Err(Failed);
-        }
+        self.reads.next(&mut self.faults)?;
         copy_range(self.bytes.as_slice(), at as usize, buf);
         Ok(())
     }

@@ -5,6 +5,7 @@ ghost use Rattle.elf_types.specs.declared.constants.TheConstants.{MAX_PIECES};
 ghost use Rattle.elf_types.specs.Answers.{answered, IsRefusal};
 ghost use Rattle.elf_object.specs.Calls.{is_piece_align};
 ghost use Rattle.elf_object.specs.Words.{EditsWith, handing_back};
+ghost use Rattle.section_data.specs.Views.{IsCell};
 ghost use Rattle.section_data.specs.Refused.{no_piece, unfit_piece, replace_refused, append_refused};
 ghost use Rattle.section_data.specs.Leaves.{replaced, appended, marked_piece};
 
@@ -42,6 +43,7 @@ impl Cell {
     fn check_replace(&self, p: u32, class: Class, items: &Items) -> Result<(), ElfError>
         ensures answer { result ≡ answered (replace_refused class self.now p items.now) tt }
         ensures there { OnOk result (p < length self.now.pieces) }
+        ensures cell { IsCell self.now }
     {
         self.check_piece(p)?;
         self.check_fit(p, class, items)
@@ -54,6 +56,7 @@ impl Cell {
         ensures room { OnOk result (length self.now.pieces < MAX_PIECES) }
         ensures align { OnOk result (IsTrue (is_piece_align align)) }
         ensures err { IfErr result IsRefusal }
+        ensures cell { IsCell self.now }
     {
         let count = self.pieces.len() as u32;
         if u64::from(count) >= MAX_PIECES {
@@ -68,7 +71,8 @@ impl Cell {
     /// Gives a piece items of its own.
     pub(super) fn set_piece(&mut self, p: u32, items: Items)
         requires { p < length self.old.pieces }
-        ensures { self.new ≡ replaced self.old p items }
+        ensures value { self.new ≡ replaced self.old p items }
+        ensures cell { IsCell self.new }
     {
         let piece = &mut self.pieces[p as usize];
         piece.set(items);
@@ -83,6 +87,7 @@ impl Cell {
             (answered (replace_refused class self.old p items) tt) }
         ensures ok { OnOk result (self.new ≡ replaced self.old p items) }
         ensures unchanged { OnErr result (self.new ≡ self.old) }
+        ensures cell { IsCell self.new }
     {
         if let Err(e) = self.check_replace(p, class, &items) {
             return Err((items, e));
@@ -103,9 +108,10 @@ impl Cell {
         items: Items,
         align: u64,
     ) -> Result<u32, (Items, ElfError)>
-        ensures { EditsWith result items self.old self.new
+        ensures edits { EditsWith result items self.old self.new
             (answered (append_refused class self.old items align) (length self.old.pieces))
             (appended self.old items align) }
+        ensures cell { IsCell self.new }
     {
         if let Err(e) = self.check_append(class, &items, align) {
             return Err((items, e));
@@ -122,7 +128,8 @@ impl Cell {
     /// Source: elf_flagdata of elf(3E).
     pub fn mark(&mut self, p: u32)
         requires { p < length self.old.pieces }
-        ensures { self.new ≡ marked_piece self.old p }
+        ensures value { self.new ≡ marked_piece self.old p }
+        ensures cell { IsCell self.new }
     {
         let piece = &mut self.pieces[p as usize];
         piece.mark();

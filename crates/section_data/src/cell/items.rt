@@ -2,10 +2,10 @@
 
 ghost use Rattle.std.specs.Prelude.{◌≡◌, ◌<◌, length, IsTrue, IsSome, Some};
 ghost use Rattle.elf_object.specs.Answers.{entry_at};
-ghost use Rattle.section_data.specs.Held.{kind_in, items_in, is_at_hand, ready, home_items, holds_items};
+ghost use Rattle.section_data.specs.Held.{kind_in, items_in, is_at_hand, ready, piece_holds_items};
 
 use crate::cell::Cell;
-use crate::cell::loading::is_bytes;
+use crate::held::HomeItems;
 use crate::item::{Item, entry, item_in};
 use elf_types::{Class, ElfError, Order};
 use elf_xlate::Items;
@@ -24,13 +24,13 @@ fn there(slot: &Option<Items>) -> &Items
 impl Cell {
     /// The home's items, which are held.
     fn home_items(&self) -> &Items
-        requires { IsSome (home_items self.now) }
-        ensures { home_items self.now ≡ Some result.now }
+        requires { IsSome self.now.held }
+        ensures { self.now.held ≡ Some result.now }
     {
-        if is_bytes(self.home.kind) {
-            there(&self.raw)
-        } else {
-            there(&self.held)
+        match &self.held {
+            HomeItems::Translated(items) => items,
+            HomeItems::Raw(_) => there(&self.raw),
+            HomeItems::Nothing => unreachable!(),
         }
     }
 
@@ -38,7 +38,7 @@ impl Cell {
     #[tactic(auto, using(crate::proofs::Pieces::ready_own, crate::proofs::Pieces::ready_clean))]
     pub fn items(&self, p: u32) -> &Items
         requires piece { p < length self.now.pieces }
-        requires holds { IsTrue (holds_items self.now p) }
+        requires holds { IsTrue (piece_holds_items self.now p) }
         ensures { ready self.now p ≡ Some result.now }
     {
         let piece = self.piece(p);

@@ -1,34 +1,20 @@
 //! A piece becomes own, and its items are lent for writing.
 
-ghost use Rattle.std.specs.Prelude.{◌≡◌, ◌<◌, true, length, IsTrue, IsSome, IfSome, IfOk, IfErr, OnOk, OnErr, Ok, Some, None};
+ghost use Rattle.std.specs.Prelude.{◌≡◌, ◌<◌, length, IsTrue, IsSome, IfSome, IfErr, OnOk, Some, None};
 ghost use Rattle.std.specs.Borrow.{sem};
-ghost use Rattle.elf_types.specs.declared.errors.ElfError.TheVariants.{Memory};
-ghost use Rattle.elf_types.specs.Answers.{answered};
+ghost use Rattle.elf_types.specs.Answers.{answered, IsRefusal};
 ghost use Rattle.elf_xlate.specs.Translation.{items_kind};
-ghost use Rattle.elf_object.specs.Words.{Answers};
-ghost use Rattle.section_data.specs.Views.{is_bytes};
-ghost use Rattle.section_data.specs.Held.{piece_in, kind_in, ready, holds_items, home_items};
-ghost use Rattle.section_data.specs.Refused.{kind_refused, claiming, wrong_piece_kind};
+ghost use Rattle.section_data.specs.Views.{IsCell};
+ghost use Rattle.section_data.specs.Held.{piece_in, kind_in, piece_holds_items};
+ghost use Rattle.section_data.specs.Refused.{kind_refused, wrong_piece_kind};
 ghost use Rattle.section_data.specs.Leaves.{Claims};
 
 use crate::cell::Cell;
-use crate::cell::loading::is_bytes;
+use crate::held::HomeItems;
 use crate::listed::Listed;
-use elf_types::{Class, ElfError, Kind, List, Octets};
+use elf_types::{Class, ElfError, Kind, List};
 use elf_xlate::Items;
-use std::alloc::Global;
-
-/// Takes the items that are there.
-fn taken(slot: &mut Option<Items>) -> Items
-    requires { IsSome slot.old }
-    ensures value { slot.old ≡ Some result }
-    ensures after { slot.new ≡ None }
-{
-    match slot.take() {
-        Some(items) => items,
-        None => unreachable!(),
-    }
-}
+use std::mem;
 
 impl Cell {
     ghost use Rattle.section_data.specs.Lends.{LendsCell, LendsCellItems};
@@ -38,6 +24,7 @@ impl Cell {
         requires { p < length self.now.pieces }
         ensures answer { result ≡ answered (wrong_piece_kind self.now kind p) tt }
         ensures kind { OnOk result (kind_in self.now p ≡ kind) }
+        ensures err { IfErr result IsRefusal }
     {
         let held = self.piece_kind(p);
         if held == kind {
@@ -54,45 +41,43 @@ impl Cell {
     pub fn check_lend(&self, p: u32, kind: Kind, class: Class) -> Result<(), ElfError>
         ensures answer { result ≡ answered (kind_refused class self.now kind p) tt }
         ensures kind { OnOk result (kind_in self.now p ≡ kind) }
+        ensures there { OnOk result (p < length self.now.pieces) }
+        ensures err { IfErr result IsRefusal }
+        ensures cell { IsCell self.now }
     {
         self.check_piece(p)?;
         self.check_kind(p, kind)?;
         self.check_home(p, class)
     }
 
-    /// The home's items, for a piece to own: a copy of its bytes, which stay, or the translated
-    /// items, which go.
-    fn take_home(&mut self, alloc: Global) -> Result<Items, ElfError>
-        requires { IsSome (home_items self.old) }
-        ensures value { IfOk result (λ items. home_items self.old ≡ Some items) }
-        ensures cell { OnOk result (self.new ≡ record self.old { held = None }) }
-        ensures unchanged { OnErr result (self.new ≡ self.old) }
-        ensures err { IfErr result (λ e. (e ≡ Memory) × (is_bytes self.old.home.kind ≡ true)) }
+    /// The home's items, which are held, for a piece to own: the translated items go, and of raw
+    /// bytes, which stay, it is a copy in the room for it. It takes no memory.
+    fn take_home(&mut self) -> Items
+        requires { IsSome self.old.held }
+        ensures value { self.old.held ≡ Some result }
+        ensures after { self.new ≡ record self.old { held = None } }
     {
-        if is_bytes(self.home.kind) {
-            let bytes = Octets::from_slice(alloc, self.bytes())?;
-            Ok(Items::Bytes(bytes))
-        } else {
-            Ok(taken(&mut self.held))
+        match mem::replace(&mut self.held, HomeItems::Nothing) {
+            HomeItems::Translated(items) => items,
+            HomeItems::Raw(room) => Items::Bytes(room.fill(self.bytes())),
+            HomeItems::Nothing => unreachable!(),
         }
     }
 
-    /// Makes a piece that holds its items own and marked with them. It refuses `Memory` alone,
-    /// where it copies the clean home piece's bytes, and then the cell is as before.
-    #[tactic(auto, unfolding(crate::specs::Held::ready, crate::specs::Refused::copies))]
-    pub fn claim(&mut self, alloc: Global, p: u32) -> Result<(), ElfError>
+    /// Makes a piece that holds its items own and marked with them. Afterwards the clean home piece
+    /// holds none. It refuses nothing and takes no memory.
+    #[tactic(auto, unfolding(crate::specs::Held::ready))]
+    pub fn claim(&mut self, p: u32)
         requires piece { p < length self.old.pieces }
-        requires holds { IsTrue (holds_items self.old p) }
-        ensures answer { Answers true (claiming self.old p) result (Ok tt) }
-        ensures claims { OnOk result (Claims self.old self.new p) }
-        ensures unchanged { OnErr result (self.new ≡ self.old) }
+        requires holds { IsTrue (piece_holds_items self.old p) }
+        ensures claims { Claims self.old self.new p }
+        ensures cell { IsCell self.new }
     {
         if self.is_own(p) {
-            return Ok(());
+            return;
         }
-        let items = self.take_home(alloc)?;
+        let items = self.take_home();
         self.set_piece(p, items);
-        Ok(())
     }
 
     /// The list in a piece's own items, lent for writing: what the borrower leaves is what the

@@ -1,18 +1,23 @@
 //! Reading the home, and translating it once.
 
-ghost use Rattle.std.specs.Prelude.{◌≡◌, ◌≢◌, ◌⊎◌, ◌+◌, ◌<◌, ◌≤◌, true, false, not, length, take, drop, IsTrue, IsSome, IfOk, IfErr, IfSome, OnOk, OnErr, Some, None, is_some, ◌||◌, if◌then◌else◌};
+ghost use Rattle.std.specs.Prelude.{◌≡◌, ◌≢◌, ◌⊎◌, ◌+◌, ◌<◌, ◌≤◌, length, take, drop, true, false, IsTrue, IsSome, IfOk, IfErr, IfSome, OnOk, OnErr, Some, None, is_some, ◌||◌, if◌then◌else◌};
 ghost use Rattle.elf_types.specs.declared.errors.ElfError.TheVariants.{Memory, Read};
 ghost use Rattle.elf_types.specs.Answers.{answered, IsRefusal};
 ghost use Rattle.elf_outside.specs.Asks.{Asks};
 ghost use Rattle.elf_xlate.specs.Translation.{decoded, is_whole};
 ghost use Rattle.elf_object.specs.Words.{Answers};
-ghost use Rattle.section_data.specs.Views.{IsCell, is_bytes};
-ghost use Rattle.section_data.specs.Held.{piece_in, is_ragged, is_loaded, ready, home_items, holds_items, HeldIs};
+ghost use Rattle.elf_types.specs.declared.records.Class.{Class as TheClass};
+ghost use Rattle.elf_types.specs.declared.records.Order.{Order as TheOrder};
+ghost use Rattle.elf_types.specs.declared.records.Kind.TheVariants as kinds;
+ghost use Rattle.section_data.specs.Views.{IsCell};
+ghost use Rattle.section_data.specs.Held.{piece_in, is_ragged, cell_is_loaded, ready, piece_holds_items, HeldIs};
 ghost use Rattle.section_data.specs.Refused.{no_piece, no_home_items, items_refused, home_out, load_due, piece_due, items_due, reading, preparing};
 ghost use Rattle.section_data.specs.Leaves.{LiesIn, Warms, IsReadFrom, bytes_or_none};
 
 use crate::cell::Cell;
+use crate::held::HomeItems;
 use crate::home::Home;
+use crate::room::Room;
 use elf_outside::Source;
 use elf_outside::reads::read_range;
 use elf_types::{Class, ElfError, Kind, Octets, Order};
@@ -60,29 +65,19 @@ fn is_whole(kind: Kind, class: Class, len: u64) -> bool
     kind == Kind::Empty || len % item_size(kind, class) == 0
 }
 
-/// Whether items of the kind are bytes.
-pub(super) fn is_bytes(kind: Kind) -> bool
-    ensures { result ≡ is_bytes kind }
+/// Puts a value in the place of another.
+fn put<T: Drop>(slot: &mut T, value: T)
+    ensures { slot.new ≡ value }
 {
-    match kind {
-        Kind::Bytes => true,
-        _ => false,
-    }
-}
-
-/// Puts items where there may be none.
-fn put(slot: &mut Option<Items>, items: Items)
-    ensures { slot.new ≡ Some items }
-{
-    let _before = mem::replace(slot, Some(items));
+    let _before = mem::replace(slot, value);
 }
 
 impl Cell {
     /// Reads the home's bytes, which are not held.
-    fn read_raw<S: Source>(&mut self, alloc: Global, src: &mut S) -> Result<(), ElfError>
+    fn read_raw<S: Source>(&mut self, src: &mut S) -> Result<(), ElfError>
         requires lies { LiesIn self.old (S.size src.old) }
         requires inside { self.old.home.out ≡ false }
-        requires unread { is_loaded self.old ≡ false }
+        requires unread { cell_is_loaded self.old ≡ false }
         ensures ok { OnOk result (IsSome self.new.raw) }
         ensures raw { OnOk result (self.new ≡ record self.old { raw = self.new.raw }) }
         ensures bytes { OnOk result
@@ -90,26 +85,28 @@ impl Cell {
         ensures err { IfErr result (λ e. (0 < self.old.home.len) × ((e ≡ Memory) ⊎ (e ≡ Read))) }
         ensures unchanged { OnErr result (self.new ≡ self.old) }
         ensures asks { Asks S.Source result src.old src.new self.old.home.len }
+        ensures cell { IsCell self.new }
     {
-        let bytes = read_home(alloc, src, self.home)?;
-        put(&mut self.raw, Items::Bytes(bytes));
+        let bytes = read_home(self.alloc, src, self.home)?;
+        put(&mut self.raw, Some(Items::Bytes(bytes)));
         Ok(())
     }
 
     /// Reads the home's bytes where they are not held. It refuses in this order: `OutOfFile`
     /// exactly where the home passes the end of the image, then `Memory` or `Read`, and then the
     /// cell is as before. It reads nothing where it is refused or the section is loaded.
-    pub fn load<S: Source>(&mut self, alloc: Global, src: &mut S) -> Result<(), ElfError>
+    pub fn load<S: Source>(&mut self, src: &mut S) -> Result<(), ElfError>
         requires { LiesIn self.old (S.size src.old) }
         ensures answer { Answers true (reading (load_due self.old)) result
             (answered (home_out self.old) tt) }
-        ensures loaded { OnOk result (IsSome self.new.raw) }
+        ensures loaded { OnOk result (IsTrue (cell_is_loaded self.new)) }
         ensures held { self.new.held ≡ self.old.held }
         ensures warms { Warms (S.holds src.old) self.old self.new }
         ensures unchanged { OnErr result (self.new ≡ self.old) }
         ensures asks { Asks S.Source result src.old src.new (load_due self.old) }
         ensures err { IfErr result (λ e. self.old.home.out ≡ false
             → (0 < load_due self.old) × ((e ≡ Memory) ⊎ (e ≡ Read))) }
+        ensures cell { IsCell self.new }
     {
         if self.is_loaded() {
             return Ok(());
@@ -119,7 +116,7 @@ impl Cell {
                 section: self.section(),
             });
         }
-        self.read_raw(alloc, src)
+        self.read_raw(src)
     }
 
     /// The home's bytes, which are held. It takes no memory.
@@ -139,6 +136,7 @@ impl Cell {
         ensures answer { result ≡ answered (no_piece self.now p) tt }
         ensures there { OnOk result (p < length self.now.pieces) }
         ensures err { IfErr result IsRefusal }
+        ensures cell { IsCell self.now }
     {
         let count = self.pieces.len() as u32;
         if p < count {
@@ -175,103 +173,130 @@ impl Cell {
         ensures answer { result ≡ answered (items_refused class self.now p) tt }
         ensures there { OnOk result (p < length self.now.pieces) }
         ensures err { IfErr result IsRefusal }
+        ensures cell { IsCell self.now }
     {
         self.check_piece(p)?;
         self.check_home(p, class)
     }
 
-    /// Loads the home of a piece that is not own. It refuses as `load`, and nothing for an own piece.
-    pub fn fetch<S: Source>(&mut self, alloc: Global, src: &mut S, p: u32) -> Result<(), ElfError>
+    /// Loads the home of a piece that is not own. It refuses as `load`, and nothing for an own piece,
+    /// whose cell stays as it is.
+    pub fn fetch<S: Source>(&mut self, src: &mut S, p: u32) -> Result<(), ElfError>
         requires piece { p < length self.old.pieces }
         requires lies { LiesIn self.old (S.size src.old) }
         ensures answer { Answers true (reading (piece_due self.old p)) result
             (answered (if is_some (piece_in self.old p).own then None else home_out self.old) tt) }
-        ensures loaded { OnOk result (IsTrue (is_some (piece_in self.old p).own || is_loaded self.new)) }
+        ensures loaded { OnOk result
+            (IsTrue (is_some (piece_in self.old p).own || cell_is_loaded self.new)) }
         ensures held { self.new.held ≡ self.old.held }
         ensures warms { Warms (S.holds src.old) self.old self.new }
         ensures unchanged { OnErr result (self.new ≡ self.old) }
+        ensures own { is_some (piece_in self.old p).own ≡ true → self.new ≡ self.old }
         ensures asks { Asks S.Source result src.old src.new (piece_due self.old p) }
+        ensures cell { IsCell self.new }
     {
         if self.is_own(p) {
             return Ok(());
         }
-        self.load(alloc, src)
+        self.load(src)
     }
 
-    /// Whether a piece holds its items: an own one does, and the clean home piece once it was
-    /// translated, or read where its home is of bytes. It takes no memory.
+    /// Whether a piece holds its items: an own one does, and the clean home piece where the home's
+    /// items are held in memory form. It takes no memory.
     #[tactic(auto, unfolding(crate::specs::Held::ready), using(crate::proofs::Pieces::ready_own, crate::proofs::Pieces::ready_clean))]
     pub fn holds_items(&self, p: u32) -> bool
         requires { p < length self.now.pieces }
-        ensures value { result ≡ holds_items self.now p }
+        ensures value { result ≡ piece_holds_items self.now p }
         ensures cell { IsCell self.now }
     {
-        let bytes = is_bytes(self.home.kind);
         if self.is_own(p) {
             return true;
         }
-        if bytes {
-            self.raw.is_some()
-        } else {
-            self.held.is_some()
-        }
+        self.held.is_some()
     }
 
-    /// Translates a home that is loaded and not of bytes. It refuses `Memory` alone, and then the
-    /// cell is as before.
-    fn translate(&mut self, alloc: Global, class: Class, order: Order) -> Result<(), ElfError>
-        requires loaded { IsSome self.old.raw }
+    /// Translates a home that is loaded. It refuses `Memory` alone, and then the cell is as before.
+    fn translate(&mut self, class: Class, order: Order) -> Result<(), ElfError>
+        requires loaded { IsTrue (cell_is_loaded self.old) }
         requires whole { IsTrue (is_whole self.old.home.kind class self.old.home.len) }
-        requires kind { is_bytes self.old.home.kind ≡ false }
         ensures ok { OnOk result (IsSome self.new.held) }
         ensures held { OnOk result (self.new ≡ record self.old { held = self.new.held }) }
         ensures items { OnOk result (HeldIs class order self.new) }
         ensures err { IfErr result (λ e. e ≡ Memory) }
         ensures unchanged { OnErr result (self.new ≡ self.old) }
+        ensures cell { IsCell self.new }
     {
-        let items = translated(alloc, self.home.kind, class, order, self.bytes())?;
-        put(&mut self.held, items);
+        let items = translated(self.alloc, self.home.kind, class, order, self.bytes())?;
+        put(&mut self.held, HomeItems::Translated(items));
         Ok(())
+    }
+
+    /// Makes room for a copy of a home that is loaded and of bytes. It refuses `Memory` alone, and
+    /// then the cell is as before.
+    #[tactic(auto, using(crate::proofs::Loading::held_bytes))]
+    fn keep_room(&mut self) -> Result<(), ElfError>
+        requires loaded { IsTrue (cell_is_loaded self.old) }
+        requires kind { self.old.home.kind ≡ kinds.Bytes }
+        ensures ok { OnOk result (IsSome self.new.held) }
+        ensures held { OnOk result (self.new ≡ record self.old { held = self.new.held }) }
+        ensures items { (class : TheClass) (order : TheOrder) →
+            OnOk result (HeldIs class order self.new) }
+        ensures err { IfErr result (λ e. e ≡ Memory) }
+        ensures unchanged { OnErr result (self.new ≡ self.old) }
+        ensures cell { IsCell self.new }
+    {
+        let room = Room::of(self.alloc, self.home.len)?;
+        put(&mut self.held, HomeItems::Raw(room));
+        Ok(())
+    }
+
+    /// Holds the items of a home that is loaded and has whole items. It refuses `Memory` alone, and
+    /// then the cell is as before.
+    fn hold(&mut self, class: Class, order: Order) -> Result<(), ElfError>
+        requires loaded { IsTrue (cell_is_loaded self.old) }
+        requires whole { IsTrue (is_whole self.old.home.kind class self.old.home.len) }
+        ensures ok { OnOk result (IsSome self.new.held) }
+        ensures held { OnOk result (self.new ≡ record self.old { held = self.new.held }) }
+        ensures items { OnOk result (HeldIs class order self.new) }
+        ensures err { IfErr result (λ e. e ≡ Memory) }
+        ensures unchanged { OnErr result (self.new ≡ self.old) }
+        ensures cell { IsCell self.new }
+    {
+        match self.home().kind {
+            Kind::Bytes => self.keep_room(),
+            _ => self.translate(class, order),
+        }
     }
 
     /// Reads a home that lies in the file and has whole items, where it is not read, and translates
     /// it. It refuses `Memory` and `Read`.
-    fn warm<S: Source>(
-        &mut self,
-        alloc: Global,
-        src: &mut S,
-        class: Class,
-        order: Order,
-    ) -> Result<(), ElfError>
+    fn warm<S: Source>(&mut self, src: &mut S, class: Class, order: Order) -> Result<(), ElfError>
         requires lies { LiesIn self.old (S.size src.old) }
         requires inside { self.old.home.out ≡ false }
         requires whole { IsTrue (is_whole self.old.home.kind class self.old.home.len) }
         requires unheld { self.old.held ≡ None }
         ensures err { IfErr result (λ e. (e ≡ Memory) ⊎ ((e ≡ Read) × (0 < load_due self.old))) }
-        ensures holds { OnOk result (IsSome (home_items self.new)) }
+        ensures holds { OnOk result (IsSome self.new.held) }
         ensures items { HeldIs class order self.new }
         ensures warms { Warms (S.holds src.old) self.old self.new }
         ensures same { OnErr result (self.new.held ≡ self.old.held) }
         ensures unchanged { IfErr result (λ e. e ≢ Memory → self.new ≡ self.old) }
         ensures asks { Asks S.Source result src.old src.new (load_due self.old) }
+        ensures cell { IsCell self.new }
     {
-        self.load(alloc, src)?;
-        if is_bytes(self.home().kind) {
-            return Ok(());
-        }
-        self.translate(alloc, class, order)
+        self.load(src)?;
+        self.hold(class, order)
     }
 
-    /// Makes a piece hold its items, so that they can be handed out and claimed: the clean home
-    /// piece is read and translated at the first use. It refuses in this order: `NoData`, and for
-    /// the clean home piece `OutOfFile` and `Ragged`; then `Memory` or `Read` where the piece does
-    /// not hold its items. It reads nothing where it is refused, the piece is own or the section is
-    /// loaded.
+    /// Makes a piece hold its items, so that they can be handed out and claimed: the home is read
+    /// and translated at the first use, and room is made for a copy where it is of bytes. For an own
+    /// piece the cell stays as it is. It refuses in this order: `NoData`, and for the clean home
+    /// piece `OutOfFile` and `Ragged`; then `Memory` or `Read` where the piece does not hold its
+    /// items. It reads nothing where it is refused, the piece is own or the section is loaded.
     ///
     /// Source: elf_getdata of elf(3E).
     pub fn prepare<S: Source>(
         &mut self,
-        alloc: Global,
         src: &mut S,
         p: u32,
         class: Class,
@@ -282,12 +307,14 @@ impl Cell {
         ensures answer { Answers true (preparing self.old p (items_due class self.old p)) result
             (answered (items_refused class self.old p) tt) }
         ensures there { OnOk result (p < length self.old.pieces) }
-        ensures holds { OnOk result (IsTrue (holds_items self.new p)) }
+        ensures holds { OnOk result (IsTrue (piece_holds_items self.new p)) }
         ensures items { HeldIs class order self.new }
         ensures warms { Warms (S.holds src.old) self.old self.new }
         ensures same { OnErr result (self.new.held ≡ self.old.held) }
         ensures unchanged { IfErr result (λ e. e ≢ Memory → self.new ≡ self.old) }
+        ensures own { is_some (piece_in self.old p).own ≡ true → self.new ≡ self.old }
         ensures asks { Asks S.Source result src.old src.new (items_due class self.old p) }
+        ensures cell { IsCell self.new }
     {
         if let Err(e) = self.check(p, class) {
             return Err(e);
@@ -295,6 +322,6 @@ impl Cell {
         if self.holds_items(p) {
             return Ok(());
         }
-        self.warm(alloc, src, class, order)
+        self.warm(src, class, order)
     }
 }

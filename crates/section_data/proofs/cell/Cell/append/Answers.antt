@@ -12,8 +12,8 @@ refused_by : (refusal : Option ElfError) (e : ElfError) → answered refusal (tt
 refused_by None e h = cc
 refused_by (Some d) e h = cc
 
-pub returns-in-Err : goal.returns-in-Err
-returns-in-Err c = (
+pub returns-in-Err-clause-edits : goal.returns-in-Err-clause-edits
+returns-in-Err-clause-edits c = (
   refl,
   edit_refused _ _ (append_refused c.args.class c.args.self.now c.args.items c.args.align) _ c.in-Err.e c.in-Err.ensures.err
       (refused_by _ c.in-Err.e (sym c.in-Err.ensures.answer)),

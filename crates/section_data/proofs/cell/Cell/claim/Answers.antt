@@ -8,5 +8,5 @@ returns-then-is_own-clause-claims c =
 
 pub returns-clause-claims : goal.returns-clause-claims
 returns-clause-claims c =
-    claims_clean c.args.self.now _ _ c.args.p c.in_ok-items.items (sym c.is_own.ensures.value ∙ c.if-is_own.false)
-    c.in_ok-items.ensures.value c.in_ok-items.ensures.cell c.set_piece.ensures
+    claims_clean c.args.self.now _ _ c.args.p c.take_home-items.result (sym c.is_own.ensures.value ∙ c.if-is_own.false)
+    c.take_home-items.ensures.value c.take_home-items.ensures.after c.set_piece.ensures.value

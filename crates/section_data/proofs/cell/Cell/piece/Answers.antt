@@ -5,9 +5,9 @@ use Rattle.section_data.specs.Views.{CellView}
 use Rattle.section_data.specs.Held.{piece_in}
 use Rattle.section_data.proofs.cell.Cell.piece.Goals as goal
 
-pub returns : goal.returns
+pub returns-clause-value : goal.returns-clause-value
 unfolding piece_in
-returns c =
+returns-clause-value c =
     let count = ap (λ (v : CellView). length v.pieces) c.self.view_is in
     let there : c.args.p < length c.self.inside.pieces.items = omega (arith, count, c.requires) in
     rw (← c.self.view_is) (get_or_read c.self.inside.pieces.items _ _ there c.index.ensures home_piece)

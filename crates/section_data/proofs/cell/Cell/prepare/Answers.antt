@@ -34,7 +34,7 @@ warm-requires-clause-whole g c =
 pub warm-requires-clause-unheld : goal.warm-requires-clause-unheld
 warm-requires-clause-unheld g c =
     let unheld = sym c.holds_items.ensures.value ∙ c.if-holds_items.false in
-    unheld_home c.args.self.now c.args.p c.holds_items.ensures.cell unheld
+    unheld_home c.args.self.now c.args.p unheld
 
 pub returns-clause-answer : goal.returns-clause-answer
 returns-clause-answer g c =
@@ -53,3 +53,7 @@ returns-clause-asks g c =
     let passed = passed_by (items_refused c.args.class c.args.self.now c.args.p) (sym c.check.ensures.answer ∙ c.in_default.is) in
     let unheld = sym c.holds_items.ensures.value ∙ c.if-holds_items.false in
     rw (due_passed c.args.class c.args.self.now c.args.p passed ∙ due_clean c.args.self.now c.args.p (unheld_clean c.args.self.now c.args.p unheld)) c.warm.ensures.asks
+
+pub returns-clause-own : goal.returns-clause-own
+returns-clause-own g c =
+    λ own. let clean = unheld_clean c.args.self.now c.args.p (sym c.holds_items.ensures.value ∙ c.if-holds_items.false) in cc

@@ -13,9 +13,17 @@ invariant_of-self c =
     let read = get_or_read c.self.inside.pieces.items _ _ there c.index_mut-piece.ensures.value home_piece in
     replaced_kept _ _ _ _ c.self.inside.pieces.items c.args.p c.args.items _ _ c.self.invariant there c.set.ensures read
 
-pub returns : goal.returns
-returns c =
+pub returns-clause-value : goal.returns-clause-value
+returns-clause-value c =
     let count = ap (λ (v : CellView). length v.pieces) c.self.view_is in
     let there : c.args.p < length c.self.inside.pieces.items = omega (arith, count, c.requires) in
     let read = get_or_read c.self.inside.pieces.items _ _ there c.index_mut-piece.ensures.value home_piece in
     replaced_is _ c.args.p c.args.items _ _ c.set.ensures read ∙ ap (λ (v : CellView). replaced v c.args.p c.args.items) c.self.view_is
+
+pub returns-clause-cell : goal.returns-clause-cell
+returns-clause-cell c =
+    let count = ap (λ (v : CellView). length v.pieces) c.self.view_is in
+    let there : c.args.p < length c.self.inside.pieces.items = omega (arith, count, c.requires) in
+    let read = get_or_read c.self.inside.pieces.items _ _ there c.index_mut-piece.ensures.value home_piece in
+    let kept = replaced_kept _ _ _ _ c.self.inside.pieces.items c.args.p c.args.items _ _ c.self.invariant there c.set.ensures read in
+    kept.cell

@@ -1,0 +1,220 @@
+-- A section's data is read and translated: the object stays, and the descriptor stays sound.
+use Rattle.std.proofs.Common.{◌≡◌, ◌≢◌, ℕ, ◌<◌, ◌≤◌, Bool, true, false, List, [], ◌∷◌, length, get_or, set, map, Option, Some, None, refl, sym, ap, ◌∙◌, subst, arith}
+use Rattle.std.specs.Prelude.{slice_get, IfSome, IsSome, is_some, nat_lt, ◌==◌}
+use Rattle.std.specs.Option.{option_and_then}
+use Rattle.std.proofs.lemmas.Bool.{ltb-true, ltb-false, eqb-true, eq-eqb}
+use Rattle.std.proofs.lemmas.List.{length-set, get_or-set_same, get_or-set_other, set-get_or, set_past, get_or_read}
+use Rattle.std.proofs.lemmas.Option.{get_or_from_slice_get, slice_get-get_or, slice_get_within}
+use Rattle.std.proofs.Math.Seq.{map-set_same}
+use Rattle.elf_types.specs.declared.records.Class.{Class}
+use Rattle.elf_types.specs.declared.records.Order.{Order}
+use Rattle.elf_types.specs.declared.records.Ehdr.{Ehdr}
+use Rattle.elf_xlate.specs.declared.content.Items.{Items}
+use Rattle.elf_xlate.specs.Translation.{decoded}
+use Rattle.elf_outside.specs.declared.sources.Source.{Ghosts}
+use Rattle.elf_outside.specs.Asks.{Leaves}
+use Rattle.elf_object.specs.Object.{Object, Section, Home}
+use Rattle.elf_object.specs.Open.{home_bytes}
+use Rattle.section_data.specs.Views.{CellView}
+use Rattle.section_data.specs.Held.{cell_is_loaded, HeldIs}
+use Rattle.section_data.specs.Leaves.{Warms, RawBecomes, LiesIn}
+use Rattle.section_data.proofs.Loading.{warms_same}
+use Rattle.elf_descriptor.specs.declared.scn.Scn.{Scn}
+use Rattle.elf_descriptor.specs.declared.body.Body.{Body}
+use Rattle.elf_descriptor.specs.Views.{object_of, section_of, raw_of, bytes_or, scn_at, absent_scn, HasCounts}
+use Rattle.elf_descriptor.specs.Warmed.{Warmed}
+use Rattle.elf_descriptor.specs.Sound.{IsElf, IsSound, CellIn}
+
+-- ---- The data of one section
+
+raw_same : (image : List ℕ) (home : Home) (before after : Option (List ℕ)) → RawBecomes (Some image) home before after
+    → bytes_or after (home_bytes home image) ≡ bytes_or before (home_bytes home image)
+raw_same image home (Some bytes) after becomes = ap (λ (r : Option (List ℕ)). bytes_or r (home_bytes home image)) becomes
+raw_same image home None None becomes = refl
+raw_same image home None (Some bytes) becomes = becomes.1
+
+warm_raw : (image : Option (List ℕ)) (c : CellView) (raw : Option (List ℕ)) (held : Option Items) → RawBecomes image c.home c.raw raw
+    → raw_of image (record c { raw = raw; held = held }) ≡ raw_of image c
+unfolding raw_of
+warm_raw None c raw held becomes = refl
+warm_raw (Some image) c raw held becomes = raw_same image c.home c.raw raw becomes
+
+-- the section stays
+pub warms_section : (image : Option (List ℕ)) (x : Scn) (cell : CellView) → Warms image x.cell cell → section_of image (record x { cell = cell }) ≡ section_of image x
+unfolding section_of
+warms_section image x cell warms =
+    ap (λ (c : CellView). section_of image (record x { cell = c })) warms.cell
+    ∙ ap (λ (l : List ℕ). record (section_of image x) { raw = l }) (warm_raw image x.cell warms.raw warms.held warms.bytes)
+
+unread_before : (image : Option (List ℕ)) (home : Home) (before after : Option (List ℕ)) → RawBecomes image home before after → is_some after ≡ false → is_some before ≡ false
+unread_before image home None after becomes unread = refl
+unread_before image home (Some bytes) after becomes unread = let there = ap (λ (r : Option (List ℕ)). is_some r) becomes in cc
+
+warm_lies : (image : Option (List ℕ)) (size : ℕ) (c cell : CellView) → Warms image c cell → LiesIn c size → LiesIn cell size
+warm_lies image size c cell warms lies =
+    subst (λ (n : CellView). LiesIn n size) (sym warms.cell) (λ unread inside some. lies (unread_before image c.home c.raw warms.raw warms.bytes unread) inside some)
+
+warm_cell : (image : Option (List ℕ)) (class : Class) (order : Order) (size i : ℕ) (x : Scn) (cell : CellView) → Warms image x.cell cell → HeldIs class order cell
+    → CellIn class order size i x → CellIn class order size i (record x { cell = cell })
+warm_cell image class order size i x cell warms held is = record {
+  number = ap (λ (c : CellView). c.section) warms.cell ∙ is.number;
+  lies = warm_lies image size x.cell cell warms is.lies;
+  items = held;
+}
+
+-- what is held stays that of the bytes
+pub warm_held : (image : Option (List ℕ)) (class : Class) (order : Order) (c cell : CellView) → Warms image c cell → cell.held ≡ c.held → HeldIs class order c → HeldIs class order cell
+warm_held image class order c cell warms same is =
+    subst (λ (n : CellView). HeldIs class order n) (sym warms.cell)
+    (by_held c.held warms.held (sym (ap (λ (n : CellView). n.held) warms.cell) ∙ same) c.raw warms.raw warms.bytes is)
+  where
+    Holds : Option (List ℕ) → Items → Type 0
+    Holds raw items = option_and_then (decoded c.home.kind class order) raw ≡ Some items
+
+    kept : (before after : Option (List ℕ)) (items : Items) → RawBecomes image c.home before after → option_and_then (decoded c.home.kind class order) before ≡ Some items
+        → option_and_then (decoded c.home.kind class order) after ≡ Some items
+    kept None after items becomes is = cc
+    kept (Some bytes) after items becomes is = ap (λ (r : Option (List ℕ)). option_and_then (decoded c.home.kind class order) r) becomes ∙ is
+
+    by_held : (before now : Option Items) → now ≡ before → (raw after : Option (List ℕ)) → RawBecomes image c.home raw after
+        → IfSome before (λ items. option_and_then (decoded c.home.kind class order) raw ≡ Some items)
+        → IfSome now (λ items. option_and_then (decoded c.home.kind class order) after ≡ Some items)
+    by_held None now e raw after becomes is = subst (λ (o : Option Items). IfSome o (λ items. option_and_then (decoded c.home.kind class order) after ≡ Some items)) (sym e) tt
+    by_held (Some items) now e raw after becomes is =
+        subst (λ (o : Option Items). IfSome o (λ items. option_and_then (decoded c.home.kind class order) after ≡ Some items)) (sym e) (kept raw after items becomes is)
+
+-- ---- The section in its object
+
+pub other_number : (a b : ℕ) → (a == b) ≡ false → a ≢ b
+other_number a b e = λ same. let is = eq-eqb a b same in cc
+
+pub warmed_here : (image : Option (List ℕ)) (old new : Body) (s : ℕ) (w : Warmed image old new s) → s < length old.sections.items
+    → scn_at new s ≡ record (scn_at old s) { cell = w.cell }
+unfolding scn_at
+warmed_here image old new s w there =
+    ap (λ (l : List Scn). get_or l s absent_scn) w.sections
+    ∙ get_or-set_same old.sections.items s (record (scn_at old s) { cell = w.cell }) absent_scn there
+
+warmed_past : (image : Option (List ℕ)) (old new : Body) (s i : ℕ) (w : Warmed image old new s) → length old.sections.items ≤ s → scn_at new i ≡ scn_at old i
+unfolding scn_at
+warmed_past image old new s i w past =
+    ap (λ (l : List Scn). get_or l i absent_scn) (w.sections ∙ set_past old.sections.items s (record (scn_at old s) { cell = w.cell }) past)
+
+pub warmed_other : (image : Option (List ℕ)) (old new : Body) (s i : ℕ) (w : Warmed image old new s) → i ≢ s → scn_at new i ≡ scn_at old i
+unfolding scn_at
+warmed_other image old new s i w other =
+    ap (λ (l : List Scn). get_or l i absent_scn) w.sections
+    ∙ get_or-set_other old.sections.items s i (record (scn_at old s) { cell = w.cell }) absent_scn other
+
+-- the data of any section, read or not
+pub warmed_cell : (image : Option (List ℕ)) (old new : Body) (s i : ℕ) → Warmed image old new s → Warms image (scn_at old i).cell (scn_at new i).cell
+warmed_cell image old new s i w = by_number (i == s) refl
+  where
+    by_range : (b : Bool) → nat_lt s (length old.sections.items) ≡ b → Warms image (scn_at old s).cell (scn_at new s).cell
+    by_range true e = subst (λ (x : Scn). Warms image (scn_at old s).cell x.cell) (sym (warmed_here image old new s w (ltb-true s (length old.sections.items) e))) w.warms
+    by_range false e =
+        subst (λ (x : Scn). Warms image (scn_at old s).cell x.cell) (sym (warmed_past image old new s s w (ltb-false s (length old.sections.items) e))) (warms_same image (scn_at old s).cell)
+
+    by_number : (b : Bool) → (i == s) ≡ b → Warms image (scn_at old i).cell (scn_at new i).cell
+    by_number true e =
+        subst (λ (n : ℕ). Warms image (scn_at old n).cell (scn_at new n).cell) (sym (eqb-true i s e)) (by_range (nat_lt s (length old.sections.items)) refl)
+    by_number false e =
+        subst (λ (x : Scn). Warms image (scn_at old i).cell x.cell) (sym (warmed_other image old new s i w (other_number i s e))) (warms_same image (scn_at old i).cell)
+
+sections_same : (image : Option (List ℕ)) (old new : Body) (s : ℕ) → Warmed image old new s → map (section_of image) new.sections.items ≡ map (section_of image) old.sections.items
+unfolding scn_at
+sections_same image old new s w =
+    ap (λ (l : List Scn). map (section_of image) l) w.sections
+    ∙ map-set_same (section_of image) old.sections.items s (record (scn_at old s) { cell = w.cell }) absent_scn (warms_section image (scn_at old s) w.cell w.warms)
+
+-- the object stays
+pub warmed_object : (image : Option (List ℕ)) (size : ℕ) (old new : Body) (s : ℕ) → Warmed image old new s → object_of image size new ≡ object_of image size old
+unfolding object_of
+warmed_object image size old new s w =
+    ap (λ (b : Body). object_of image size b) w.rest
+    ∙ ap (λ (l : List Section). record (object_of image size old) { sections = l }) (sections_same image old new s w)
+
+warmed_counts : (image : Option (List ℕ)) (old new : Body) (s : ℕ) → Warmed image old new s → HasCounts old → HasCounts new
+warmed_counts image old new s w has = subst HasCounts (sym w.rest) (record {
+  phnum = has.phnum;
+  shnum = has.shnum ∙ sym (ap length w.sections ∙ length-set old.sections.items s (record (scn_at old s) { cell = w.cell }));
+})
+
+-- what is known of a section's data
+pub cell_at : (image : Option (List ℕ)) (size : ℕ) (b : Body) (s : ℕ) → IsElf image size b → s < length b.sections.items
+    → CellIn b.header.class b.header.order size s (scn_at b s)
+unfolding scn_at
+cell_at image size b s is there = is.cells s (scn_at b s) (slice_get-get_or b.sections.items s absent_scn there)
+
+warmed_cells : (image : Option (List ℕ)) (size : ℕ) (old new : Body) (s : ℕ) → Warmed image old new s → IsElf image size old → (i : ℕ) → i < length old.sections.items
+    → CellIn old.header.class old.header.order size i (scn_at new i)
+warmed_cells image size old new s w is i there = by_number (i == s) refl
+  where
+    by_number : (b : Bool) → (i == s) ≡ b → CellIn old.header.class old.header.order size i (scn_at new i)
+    by_number true e =
+        let same = eqb-true i s e in
+        let before = cell_at image size old s is (omega (arith, there, same)) in
+        subst (λ (n : ℕ). CellIn old.header.class old.header.order size n (scn_at new n)) (sym same)
+        (subst (λ (x : Scn). CellIn old.header.class old.header.order size s x) (sym (warmed_here image old new s w (omega (arith, there, same))))
+        (warm_cell image old.header.class old.header.order size s (scn_at old s) w.cell w.warms (w.items before.items) before))
+    by_number false e =
+        subst (λ (x : Scn). CellIn old.header.class old.header.order size i x) (sym (warmed_other image old new s i w (other_number i s e))) (cell_at image size old i is there)
+
+pub warmed_elf : (image : Option (List ℕ)) (size : ℕ) (old new : Body) (s : ℕ) → Warmed image old new s → IsElf image size old → IsElf image size new
+unfolding scn_at
+warmed_elf image size old new s w is = record {
+  long = is.long;
+  counts = warmed_counts image old new s w is.counts;
+  cells = λ i x found.
+      let count = ap length w.sections ∙ length-set old.sections.items s (record (scn_at old s) { cell = w.cell }) in
+      let there = slice_get_within new.sections.items i x found in
+      let at = get_or_from_slice_get new.sections.items i x absent_scn found in
+      let header = ap (λ (b : Body). b.header) w.rest in
+      subst (λ (h : Ehdr). CellIn h.class h.order size i x) (sym header)
+      (subst (λ (y : Scn). CellIn old.header.class old.header.order size i y) at (warmed_cells image size old new s w is i (omega (arith, there, count))));
+  sound = subst (IsSound image) (sym (warmed_object image size old new s w)) is.sound;
+}
+
+-- the same over the source as the call leaves it
+pub warmed_left : {S : Type 0} (g : Ghosts S) (source left : S) (old new : Body) (s : ℕ) → Leaves g source left → Warmed (g.holds source) old new s
+    → IsElf (g.holds source) (g.size source) old → IsElf (g.holds left) (g.size left) new
+warmed_left g source left old new s leaves w is =
+    subst (λ (image : Option (List ℕ)). IsElf image (g.size left) new) (sym leaves.same_bytes)
+    (subst (λ (size : ℕ). IsElf (g.holds source) size new) (sym leaves.same_len) (warmed_elf (g.holds source) (g.size source) old new s w is))
+
+-- ---- One section is written
+
+-- what stands at an index is the section with that number
+pub scn_read : (b : Body) (s : ℕ) (x : Scn) → s < length b.sections.items → x ≡ get_or b.sections.items s x → x ≡ scn_at b s
+unfolding scn_at
+scn_read b s x there read = get_or_read b.sections.items s x there read absent_scn
+
+pub scn_written : (b new : Body) (s : ℕ) (x : Scn) → s < length b.sections.items → new.sections.items ≡ set b.sections.items s x → scn_at new s ≡ x
+unfolding scn_at
+scn_written b new s x there is = ap (λ (l : List Scn). get_or l s absent_scn) is ∙ get_or-set_same b.sections.items s x absent_scn there
+
+pub warmed_by : (image : Option (List ℕ)) (old new : Body) (s : ℕ) (x : Scn) (cell : CellView) → x ≡ scn_at old s → new ≡ record old { sections = new.sections }
+    → new.sections.items ≡ set old.sections.items s (record x { cell = cell }) → Warms image x.cell cell
+    → (HeldIs old.header.class old.header.order x.cell → HeldIs old.header.class old.header.order cell) → Warmed image old new s
+warmed_by image old new s x cell read rest is warms held = record {
+  cell = cell;
+  rest = rest;
+  sections = is ∙ ap (λ (y : Scn). set old.sections.items s (record y { cell = cell })) read;
+  warms = subst (λ (y : Scn). Warms image y.cell cell) read warms;
+  items = subst (λ (y : Scn). HeldIs old.header.class old.header.order y.cell → HeldIs old.header.class old.header.order cell) read held;
+}
+
+pub cell_written : (P : CellView → Type 0) (b new : Body) (s : ℕ) (x : Scn) (cell : CellView) → s < length b.sections.items → new.sections.items ≡ set b.sections.items s (record x { cell = cell })
+    → P cell → P (scn_at new s).cell
+cell_written P b new s x cell there is h = subst (λ (y : Scn). P y.cell) (sym (scn_written b new s (record x { cell = cell }) there is)) h
+
+-- nothing is written
+pub warmed_same : (image : Option (List ℕ)) (b : Body) (s : ℕ) → Warmed image b b s
+unfolding scn_at
+warmed_same image b s = record {
+  cell = (scn_at b s).cell;
+  rest = refl;
+  sections = sym (set-get_or b.sections.items s absent_scn);
+  warms = warms_same image (scn_at b s).cell;
+  items = λ held. held;
+}

@@ -1,0 +1,36 @@
+-- What is held of a piece: the items of an own one, or of the clean home piece the home's bytes
+-- where they are loaded.
+use Rattle.std.specs.Prelude.{◌≡◌, ℕ, false, IsTrue, List, Option, Some, None}
+use Rattle.elf_object.specs.Words.{AlikeBytes}
+use Rattle.elf_object.specs.Object.{section_at, piece_at}
+use Rattle.elf_object.specs.Due.{is_loaded}
+use Rattle.section_data.specs.Views.{CellView}
+use Rattle.section_data.specs.Held.{piece_in}
+use Rattle.elf_descriptor.specs.declared.held.Held.{Held}
+use Rattle.elf_descriptor.specs.declared.held.Held.TheVariants.{Edited, Raw, Unread}
+use Rattle.elf_descriptor.specs.State.{State}
+
+-- of a cell's piece
+abbrev pub IsHeldIn : CellView → ℕ → Held → Type 0
+IsHeldIn c p (Edited items) = (piece_in c p).own ≡ Some items.now
+IsHeldIn c p (Raw bytes) = ((piece_in c p).own ≡ None) × (c.raw ≡ Some bytes.now)
+IsHeldIn c p Unread = ((piece_in c p).own ≡ None) × (c.raw ≡ None)
+
+-- the bytes of the home of a clean piece whose section is loaded: as many as stated, and the stated
+-- ones where the source tells them
+pub record AreHeldBytes {S : Type 0} (state : State S) (s p : ℕ) (bytes : List ℕ) : Type 0 where
+  pub clean : (piece_at state.o s p).own ≡ None
+  pub loaded : IsTrue (is_loaded state.loaded s)
+  pub alike : AlikeBytes bytes (section_at state.o s).raw
+  pub exact : IsTrue state.told → bytes ≡ (section_at state.o s).raw
+
+-- the home of a clean piece is not loaded
+pub record IsUnread {S : Type 0} (state : State S) (s p : ℕ) : Type 0 where
+  pub clean : (piece_at state.o s p).own ≡ None
+  pub unread : is_loaded state.loaded s ≡ false
+
+-- of a descriptor's piece
+abbrev pub IsHeld : {S : Type 0} → State S → ℕ → ℕ → Held → Type 0
+IsHeld state s p (Edited items) = (piece_at state.o s p).own ≡ Some items.now
+IsHeld state s p (Raw bytes) = AreHeldBytes state s p bytes.now
+IsHeld state s p Unread = IsUnread state s p

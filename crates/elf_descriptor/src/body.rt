@@ -1,0 +1,50 @@
+//! All of an object but its source.
+
+use crate::scn::Scn;
+use elf_types::{Ehdr, Octets, Phdrs, Shdrs};
+
+mod checks;
+mod getters;
+mod loading;
+
+/// The front as it stands in the image that was opened or last written.
+#[derive(Drop)]
+pub struct Written {
+    /// The header, with the counts and the string index as they stand.
+    pub header: Ehdr,
+    /// Bytes 9 to 15 of the identification.
+    pub pad: [u8; 7],
+    /// The program headers.
+    pub phdrs: Phdrs,
+    /// The section headers.
+    pub shdrs: Shdrs,
+}
+
+/// All of an object but its source.
+#[derive(Drop)]
+pub struct Body {
+    /// The header, with the true counts and the true string index.
+    pub header: Ehdr,
+    /// Bytes 9 to 15 of the identification.
+    pub pad: [u8; 7],
+    /// The program headers.
+    pub phdrs: Phdrs,
+    /// The sections.
+    pub sections: Vec<Scn>,
+    /// The base bytes of an object that was created; else they are those of the source.
+    pub base: Option<Octets>,
+    /// The front as it stands in the image; a created object has none.
+    pub written: Option<Written>,
+    /// `ELF_F_LAYOUT`.
+    pub layout: bool,
+    /// The byte of gaps.
+    pub fill: u8,
+    /// The object as a whole is marked dirty.
+    pub marked: bool,
+    /// The ELF header is marked dirty.
+    pub header_marked: bool,
+    /// The program headers are marked dirty.
+    pub segments_marked: bool,
+    /// An update can settle the object without memory.
+    pub ready: bool,
+}

@@ -1,0 +1,178 @@
+//! What an object tells without reading.
+
+ghost use Rattle.std.specs.Prelude.{◌≡◌, ℕ, List, Option, Ok, false, IfSome, length};
+ghost use Rattle.std.specs.List.{list_any};
+ghost use Rattle.elf_object.specs.Answers.{flag_bits};
+ghost use Rattle.elf_object.specs.Object.{is_dirty};
+ghost use Rattle.elf_object.specs.Calls as calls;
+ghost use Rattle.elf_types.specs.declared.records.Part.TheVariants as part;
+ghost use Rattle.elf_descriptor.specs.Views.{HasCounts, object_of, base_of};
+ghost use Rattle.elf_descriptor.specs.Bodies.{is_scn_dirty};
+
+use crate::body::Body;
+use elf_types::{DIRTY, DataId, Ehdr, ElfError, Kind, LAYOUT, Part, Phdr, Shdr};
+
+/// The flags of a part, by its dirty mark and whether `ELF_F_LAYOUT` is set.
+fn flag_bits(dirty: bool, layout: bool) -> u32
+    ensures { result ≡ flag_bits dirty layout }
+{
+    let bits = if dirty { DIRTY } else { 0 };
+    if layout { bits + LAYOUT } else { bits }
+}
+
+impl Body {
+    /// The header with its true counts.
+    #[tactic(auto, using(crate::proofs::Objects::header_is))]
+    pub fn ehdr(&self) -> Ehdr
+        requires { HasCounts self.now }
+        ensures { (image : Option (List ℕ)) (size : ℕ)
+            → Ok result ≡ calls.ehdr.answer (object_of image size self.now) }
+    {
+        self.header
+    }
+
+    /// A program header; else `NoEntry`.
+    #[tactic(auto, unfolding(elf_object::specs::Calls::phdr_answer, crate::specs::Views::object_of))]
+    pub fn phdr(&self, i: u32) -> Result<Phdr, ElfError>
+        ensures { (image : Option (List ℕ)) (size : ℕ)
+            → result ≡ (calls.phdr i).answer (object_of image size self.now) }
+    {
+        let index = u64::from(i);
+        match self.phdrs.get(index) {
+            Some(p) => Ok(p),
+            None => Err(ElfError::NoEntry {
+                index,
+                count: self.phdrs.len(),
+            }),
+        }
+    }
+
+    /// The present header of a section; else `NoSection`.
+    #[tactic(auto, using(crate::proofs::Objects::shdr_is, crate::proofs::Refusals::answered_err, crate::proofs::Refusals::answered_ok))]
+    pub fn shdr(&self, s: u32) -> Result<Shdr, ElfError>
+        requires { HasCounts self.now }
+        ensures { (image : Option (List ℕ)) (size : ℕ)
+            → result ≡ (calls.shdr s).answer (object_of image size self.now) }
+    {
+        self.check_section(s)?;
+        Ok(self.scn(s).header)
+    }
+
+    /// The number of a section's pieces; else `NoSection`.
+    #[tactic(auto, using(crate::proofs::Objects::pieces_is, crate::proofs::Refusals::answered_err, crate::proofs::Refusals::answered_ok))]
+    pub fn pieces(&self, s: u32) -> Result<u32, ElfError>
+        requires { HasCounts self.now }
+        ensures { (image : Option (List ℕ)) (size : ℕ)
+            → result ≡ (calls.pieces s).answer (object_of image size self.now) }
+    {
+        self.check_section(s)?;
+        Ok(self.scn(s).cell.piece_count())
+    }
+
+    /// The place and the length of a section's home; else `NoSection`.
+    #[tactic(auto, using(crate::proofs::Objects::home_is, crate::proofs::Refusals::answered_err, crate::proofs::Refusals::answered_ok))]
+    pub fn home(&self, s: u32) -> Result<(u64, u64), ElfError>
+        requires { HasCounts self.now }
+        ensures { (image : Option (List ℕ)) (size : ℕ)
+            → result ≡ (calls.home s).answer (object_of image size self.now) }
+    {
+        self.check_section(s)?;
+        let home = self.scn(s).cell.home();
+        Ok((home.at, home.len))
+    }
+
+    /// The kind that a piece holds; else `NoSection`, then `NoData`.
+    #[tactic(auto, using(crate::proofs::Objects::piece_kind_is, crate::proofs::Refusals::answered_err, crate::proofs::Refusals::answered_ok))]
+    pub fn piece_kind(&self, d: DataId) -> Result<Kind, ElfError>
+        requires { HasCounts self.now }
+        ensures { (image : Option (List ℕ)) (size : ℕ) → result
+            ≡ (calls.piece_kind d.section d.piece).answer (object_of image size self.now) }
+    {
+        self.check_piece(d)?;
+        Ok(self.scn(d.section).cell.piece_kind(d.piece))
+    }
+
+    /// The alignment of a piece in its section; else `NoSection`, then `NoData`.
+    #[tactic(auto, using(crate::proofs::Objects::piece_align_is, crate::proofs::Refusals::answered_err, crate::proofs::Refusals::answered_ok))]
+    pub fn piece_align(&self, d: DataId) -> Result<u64, ElfError>
+        requires { HasCounts self.now }
+        ensures { (image : Option (List ℕ)) (size : ℕ) → result
+            ≡ (calls.piece_align d.section d.piece).answer (object_of image size self.now) }
+    {
+        self.check_piece(d)?;
+        Ok(self.scn(d.section).cell.piece_align(d.piece))
+    }
+
+    /// The flags of a section; else `NoSection`.
+    #[tactic(auto, using(crate::proofs::Objects::section_flags_is, crate::proofs::Refusals::answered_err, crate::proofs::Refusals::answered_ok))]
+    fn section_flags(&self, s: u32) -> Result<u32, ElfError>
+        requires { HasCounts self.now }
+        ensures { (image : Option (List ℕ)) (size : ℕ)
+            → result ≡ (calls.flags (part.Section s)).answer (object_of image size self.now) }
+    {
+        self.check_section(s)?;
+        Ok(flag_bits(self.scn(s).marked, false))
+    }
+
+    /// The flags of a piece; else `NoSection`, then `NoData`.
+    #[tactic(auto, using(crate::proofs::Objects::piece_flags_is, crate::proofs::Refusals::answered_err, crate::proofs::Refusals::answered_ok))]
+    fn piece_flags(&self, d: DataId) -> Result<u32, ElfError>
+        requires { HasCounts self.now }
+        ensures { (image : Option (List ℕ)) (size : ℕ) → result
+            ≡ (calls.flags (part.Piece d.section d.piece)).answer (object_of image size self.now) }
+    {
+        self.check_piece(d)?;
+        Ok(flag_bits(self.scn(d.section).cell.is_marked(d.piece), false))
+    }
+
+    /// The flags of a part; else `NoSection`, then `NoData`.
+    #[tactic(auto, using(crate::proofs::Objects::object_flags_is, crate::proofs::Objects::table_flags_is, crate::proofs::Objects::header_flags_is, crate::proofs::Objects::segments_flags_is))]
+    pub fn flags(&self, part: Part) -> Result<u32, ElfError>
+        requires { HasCounts self.now }
+        ensures { (image : Option (List ℕ)) (size : ℕ)
+            → result ≡ (calls.flags part).answer (object_of image size self.now) }
+    {
+        match part {
+            Part::Object => Ok(flag_bits(self.marked, self.layout)),
+            Part::Table => Ok(flag_bits(self.marked, self.layout)),
+            Part::Header => Ok(flag_bits(self.header_marked, false)),
+            Part::Segments => Ok(flag_bits(self.segments_marked, false)),
+            Part::Section(s) => self.section_flags(s),
+            Part::Piece(section, piece) => self.piece_flags(DataId { section, piece }),
+        }
+    }
+
+    /// Whether a section or one of its pieces is marked dirty.
+    #[tactic(auto, using(crate::proofs::Marks::any_at, std::proofs::lemmas::List::Folds::list_any_more))]
+    fn some_section_marked(&self) -> bool
+        ensures { result ≡ list_any is_scn_dirty self.now.sections.items }
+    {
+        for scn in &self.sections {
+            if scn.is_dirty() {
+                return true;
+            }
+        }
+        false
+    }
+
+    /// Whether something is dirty.
+    #[tactic(auto, using(crate::proofs::Objects::dirty_is))]
+    pub fn dirty(&self) -> bool
+        ensures { (image : Option (List ℕ)) (size : ℕ)
+            → result ≡ is_dirty (object_of image size self.now) }
+    {
+        self.marked || self.header_marked || self.segments_marked || self.some_section_marked()
+    }
+
+    /// The number of base bytes, over a source of `size` bytes.
+    #[tactic(auto, using(crate::proofs::Objects::base_length))]
+    pub fn base_len(&self, size: u64) -> u64
+        ensures { (image : Option (List ℕ)) → IfSome image (λ bytes. length bytes ≡ size)
+            → result ≡ length (base_of self.now.base image size) }
+    {
+        match &self.base {
+            Some(base) => base.len(),
+            None => size,
+        }
+    }
+}

@@ -1,0 +1,45 @@
+//! The descriptor.
+
+ghost use Rattle.std.specs.Prelude.{◌≡◌};
+
+use crate::body::Body;
+use elf_outside::Source;
+use std::alloc::Global;
+use std::marker::Model;
+
+mod getters;
+
+/// An object over a source. Contracts see it as a [`State`]: the plain object, what is held of it,
+/// and the source.
+#[derive(Drop)]
+pub struct Elf<S: Source> {
+    alloc: Global,
+    src: S,
+    body: Body,
+}
+
+impl<S: Source> Model for Elf<S> {
+    ghost use Rattle.elf_descriptor.specs.State.{State};
+    ghost use Rattle.elf_descriptor.specs.Views.{state_of};
+    ghost use Rattle.elf_descriptor.specs.Sound.{IsElf};
+
+    ghost Value = { State S };
+
+    ghost view = { λ e. state_of S.Source e.src e.body };
+
+    ghost invariant = { λ e. IsElf (S.holds e.src) (S.size e.src) e.body };
+}
+
+// How an object begins over a source stands in `descriptor/begin.rt`:
+// `Elf::begin(alloc: Global, src: S) -> Result<Elf<S>, (S, ElfError)>`.
+
+impl<S: Source> Elf<S> {
+    /// Gives the source back. It refuses nothing and takes no memory.
+    ///
+    /// Source: elf_end of elf(3E).
+    pub fn end(self) -> S
+        ensures { result ≡ self.source }
+    {
+        self.src
+    }
+}
