@@ -16,6 +16,7 @@ use Rattle.tool_output.specs.Names.{Name}
 use Rattle.tool_output.specs.Files.{IsWithin}
 use Rattle.tool_output.specs.Reports.{Reports, refusal}
 use Rattle.tool_output.proofs.ReportLemmas.{reports_nothing}
+use Rattle.elf_outside.specs.Asks.{ReadRose}
 use Rattle.elf_outside.specs.declared.sinks.Sink.{Ghosts}
 use Rattle.elf_types.specs.Text.{error_text}
 use Rattle.elfkit.specs.Readelf.{front_by, file_front, front_report, file_report, shows_sections, file_asks}
@@ -63,16 +64,16 @@ shown_front o e r s t None parts many name f h k = tt
 shown_front o e r s t (Some image) parts many name f h k = rw h k
 
 pub refused_front : {O E : Type 0} (o : Ghosts O) (e : Ghosts E) (r : Result Bool Stop) (s t : Outputs O E) (holds : Option (List ℕ))
-    (parts : ReadelfParts) (many : Bool) (name : Name) (command : List ℕ) (d : ElfError) → d ≢ error.Write → command ≡ codes "readelf"
+    (parts : ReadelfParts) (many : Bool) (name : Name) (command : List ℕ) (d : ElfError) (before now : ℕ) → ReadRose {T = Front} (Err d) before now → command ≡ codes "readelf"
     → IfSome holds (λ image. Follows {T = Front} (Err d) (file_front image))
     → IfNone (stop_of d) (Reports o e r s t (refusal command name (error_text d))) → IfSome (stop_of d) (λ stop. (r ≡ Err stop) × (t ≡ s))
     → IfSome holds (λ image. Reports o e r s t (file_report parts many name image))
 unfolding file_report front_report
-refused_front o e r s t None parts many name command d no_write is h k stops = tt
-refused_front o e r s t (Some image) parts many name command error.Memory no_write is h k stops = rw (stops.0, stops.1) (reports_nothing o e s _ _)
-refused_front o e r s t (Some image) parts many name command error.Read no_write is h k stops = rw (stops.0, stops.1) (reports_nothing o e s _ _)
-refused_front o e r s t (Some image) parts many name command error.Write no_write is h k stops = absurd (no_write refl)
-refused_front o e r s t (Some image) parts many name command d no_write is h k stops = rw (h, ← is) k
+refused_front o e r s t None parts many name command d before now rose is h k stops = tt
+refused_front o e r s t (Some image) parts many name command error.Memory before now rose is h k stops = rw (stops.0, stops.1) (reports_nothing o e s _ _)
+refused_front o e r s t (Some image) parts many name command error.Read before now rose is h k stops = rw (stops.0, stops.1) (reports_nothing o e s _ _)
+refused_front o e r s t (Some image) parts many name command error.Write before now never is h k stops = absurd never
+refused_front o e r s t (Some image) parts many name command d before now rose is h k stops = rw (h, ← is) k
 
 -- ---- What is asked for
 

@@ -38,8 +38,8 @@ front_report parts many name (Err e) = refusal (codes "readelf") name (error_tex
 unfoldable pub file_report : ReadelfParts → Bool → Name → List ℕ → Report
 file_report parts many name image = front_report parts many name (file_front image)
 
--- The letters h and l show the front alone: the kind takes eight bytes, and the front what is stated
--- of it. For the other letters, which read sections, no bound is promised.
+-- The letters h and l show the front alone: the kind takes eight bytes, and the front what is
+-- stated of it. For the other letters, which read sections, no bound is promised.
 unfoldable pub shows_sections : ReadelfParts → Bool
 shows_sections parts = parts.sections || parts.symbols || parts.relocations
     || parts.dynamic || parts.notes || parts.versions

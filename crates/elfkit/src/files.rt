@@ -27,8 +27,8 @@ pub trait FileTool {
     fn command(&self) -> &'static str
         ensures { result.now ≡ command self.now };
 
-    /// Gives the report on what a source holds, under a name, and hands the source back. It stops by
-    /// `Read` only where a read of the source failed, and leaves what the source holds.
+    /// Gives the report on what a source holds, under a name, and hands the source back. It stops
+    /// by `Read` only where a read of the source failed, and leaves what the source holds.
     fn show<S: Source, O: Sink, E: Sink>(
         &self,
         alloc: Global,
@@ -42,8 +42,8 @@ pub trait FileTool {
             (λ image. IsWithin (asks self.now image) (S.taken src) (S.taken result.0)) };
 }
 
-/// Opens a file, gives it to a tool, and closes it; only then is the tool's answer looked at. A name
-/// that is not there has its message.
+/// Opens a file, gives it to a tool, and closes it; only then is the tool's answer looked at. A
+/// name that is not there has its message.
 fn one_file<T: FileTool, F: Files, O: Sink, E: Sink>(
     alloc: Global,
     tool: &T,
@@ -76,7 +76,8 @@ fn one_file<T: FileTool, F: Files, O: Sink, E: Sink>(
     shown
 }
 
-/// Gives each file to a tool, in the order of their names. The answer tells whether one was refused.
+/// Gives each file to a tool, in the order of their names. The answer tells whether one was
+/// refused.
 pub fn each_file<T: FileTool, F: Files, O: Sink, E: Sink>(
     alloc: Global,
     tool: &T,

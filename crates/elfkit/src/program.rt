@@ -50,8 +50,8 @@ fn run_words<F: Files, O: Sink, E: Sink>(
 /// - `Done`: nothing was refused;
 /// - `Refused`: a file was refused, or the form is not built yet;
 /// - `BadWords`: the words are refused, with their usage line on `err`;
-/// - `ReadFailed`, `WriteFailed`, `NoMemory`: a read failed; a write of a file, of `out` or of `err`
-///   failed; there was no memory.
+/// - `ReadFailed`, `WriteFailed`, `NoMemory`: a read failed; a write of a file, of `out` or of
+///   `err` failed; there was no memory.
 ///
 /// With the last three the run stopped on the way: both outputs have gained what was written up to
 /// one point, and nothing after it. Each file that was opened is closed again. Words that are

@@ -95,7 +95,8 @@ SinkRose o e out_old out_new err_old err_new =
     Rose (o.faults out_old) (o.faults out_new) ⊎ Rose (e.faults err_old) (e.faults err_new)
 
 -- the outputs hold the same references, and their sinks are left
-pub record KeepsSinks {O E : Type 0} (o : Ghosts O) (e : Ghosts E) (old new : Outputs O E) : Type 0 where
+pub record KeepsSinks {O E : Type 0} (o : Ghosts O) (e : Ghosts E) (old new : Outputs O E)
+    : Type 0 where
   pub same_out : new.out.ghost_name ≡ old.out.ghost_name
   pub same_err : new.err.ghost_name ≡ old.err.ghost_name
   pub same_page : new.page.ghost_name ≡ old.page.ghost_name

@@ -1,5 +1,5 @@
-//! How the text of a tool goes out: names, lines and messages, the two outputs and their page, and why
-//! a tool stops. Its definitions say what a tool reports, and how a run of the program ends.
+//! How the text of a tool goes out: names, lines and messages, the two outputs and their page, and
+//! why a tool stops. Its definitions say what a tool reports, and how a run of the program ends.
 #![tactic(auto)]
 
 pub mod lines;

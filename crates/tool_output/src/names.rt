@@ -7,8 +7,8 @@ use crate::lines::Line;
 use elf_types::{ElfError, Octets, put_bytes, put_text};
 use std::marker::Model;
 
-/// The name of a file, or of a member of an archive. Neither need be text. As a line it is `FILE`, or
-/// `LIB[MEMBER]`.
+/// The name of a file, or of a member of an archive. Neither need be text. As a line it is `FILE`,
+/// or `LIB[MEMBER]`.
 #[derive(Drop)]
 pub struct FileName<'a> {
     file: &'a [u8],

@@ -1,6 +1,6 @@
-//! The two outputs, and the one way in which text goes to them: it waits in a page, which is put when
-//! it is full, when the other output has its turn, and at the end. So both outputs get few large
-//! pieces, in the order of writing, and no more than a page and a line is held.
+//! The two outputs, and the one way in which text goes to them: it waits in a page, which is put
+//! when it is full, when the other output has its turn, and at the end. So both outputs get few
+//! large pieces, in the order of writing, and no more than a page and a line is held.
 
 ghost use Rattle.std.specs.Prelude.{◌≡◌, ◌++◌, ◌+◌, ◌<◌, [], length, OnOk, OnErr, IfSome, IfNone};
 ghost use Rattle.tool_output.specs.Marks.{said, Gained, GainedFront};
@@ -26,8 +26,8 @@ pub enum Side {
     Error,
 }
 
-/// The two outputs of a tool, and the page in which its text waits. It must be ended: a value that is
-/// let go is refused by the compiler.
+/// The two outputs of a tool, and the page in which its text waits. It must be ended: a value that
+/// is let go is refused by the compiler.
 pub struct Outputs<'a, O: Sink, E: Sink> {
     /// Standard output.
     pub(crate) out: &'a mut O,
@@ -83,9 +83,9 @@ impl<'a, O: Sink, E: Sink> Outputs<'a, O, E> {
         }
     }
 
-    /// Puts what waits, if anything does; afterwards nothing waits. A command calls it before its first
-    /// write to a file, so that a failed write of that file costs none of what was said before. It stops
-    /// with `Write` alone.
+    /// Puts what waits, if anything does; afterwards nothing waits. A command calls it before its
+    /// first write to a file, so that a failed write of that file costs none of what was said
+    /// before. It stops with `Write` alone.
     pub fn flush(&mut self) -> Result<(), Stop>
         ensures writes { Writes O.Sink E.Sink result self.old self.new [] }
         ensures empty { OnOk result (self.new.page.now ≡ []) }
@@ -132,9 +132,9 @@ impl<'a, O: Sink, E: Sink> Outputs<'a, O, E> {
         self.flush()
     }
 
-    /// Writes a line on one of the outputs. What waits for the other is put first, and the page once
-    /// the line fills it. It stops with `Write`, and with `Memory` where the line found none: the page
-    /// is then as it was before the line.
+    /// Writes a line on one of the outputs. What waits for the other is put first, and the page
+    /// once the line fills it. It stops with `Write`, and with `Memory` where the line found none:
+    /// the page is then as it was before the line.
     pub fn put<L: Line>(&mut self, side: Side, line: &L) -> Result<(), Stop>
         ensures writes { Writes O.Sink E.Sink result self.old self.new
             (said side (L.text line.now)) }
@@ -202,8 +202,8 @@ impl<'a, O: Sink, E: Sink> Outputs<'a, O, E> {
         self.give(Side::Error, message, true)
     }
 
-    /// Refuses a file for an error of the library, by a message that tells it, or stops where the error
-    /// is no refusal: then nothing is written.
+    /// Refuses a file for an error of the library, by a message that tells it, or stops where the
+    /// error is no refusal: then nothing is written.
     pub fn refuse_by<T: Line>(
         &mut self,
         message: &Message<'_, T>,

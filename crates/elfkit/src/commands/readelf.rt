@@ -1,6 +1,6 @@
 //! readelf: the parts of each file that it names.
 
-ghost use Rattle.std.specs.Prelude.{false, ◌≡◌, ◌≢◌, ◌≤◌, ◌+◌, ◌*◌, ◌^◌, codes, IfSome, IfErr, IsTrue};
+ghost use Rattle.std.specs.Prelude.{false, ◌≡◌, ◌≤◌, ◌+◌, ◌*◌, ◌^◌, codes, IfSome, IsTrue};
 ghost use Rattle.elf_types.specs.Answers.{Follows};
 ghost use Rattle.elf_outside.specs.Asks.{Asks};
 ghost use Rattle.tool_output.specs.Reports.{Reports};
@@ -29,7 +29,6 @@ fn front_of<S: Source>(alloc: Global, src: &mut S) -> Result<Front, ElfError>
     ensures asks { Asks S.Source result src.old src.new (8 + (128 + 2 ^ 20 * 120)) }
     ensures bound { IfSome (S.holds src.old) (λ image.
         S.taken src.new ≤ S.taken src.old + (8 + front_bytes image)) }
-    ensures err { IfErr result (λ e. e ≢ ElfError.Write) }
 {
     match kind_of_source(src)? {
         FileKind::Archive => Err(ElfError::Magic),

@@ -15,7 +15,7 @@ returns-in-Ok-clause-asks g c = within_asks _ (g.S.Source.holds c.args.src.now) 
 
 pub returns-in-Err-clause-reports : goal.returns-in-Err-clause-reports
 returns-in-Err-clause-reports g c = record {
-  reports = refused_front g.O.Sink g.E.Sink _ c.args.outputs.now _ (g.S.Source.holds c.args.src.now) _ _ _ _ _ c.in-Err.ensures.err c.command-command.ensures
+  reports = refused_front g.O.Sink g.E.Sink _ c.args.outputs.now _ (g.S.Source.holds c.args.src.now) _ _ _ _ _ _ _ c.in-Err.ensures.asks.read c.command-command.ensures
       c.in-Err.ensures.front c.refuse_by.ensures.reports c.refuse_by.ensures.stops;
   source = c.in-Err.ensures.asks.leaves;
   later = c.in-Err.ensures.asks.later;
