@@ -15,8 +15,7 @@ use Rattle.tool_output.specs.declared.outputs.Outputs.{Outputs}
 use Rattle.tool_output.specs.Names.{Name}
 use Rattle.tool_output.specs.Files.{IsWithin}
 use Rattle.tool_output.specs.Reports.{Reports, refusal}
-use Rattle.tool_output.proofs.ReportLemmas.{reports_nothing}
-use Rattle.elf_outside.specs.Asks.{ReadRose}
+use Rattle.tool_output.proofs.SourceLemmas.{stated_error}
 use Rattle.elf_outside.specs.declared.sinks.Sink.{Ghosts}
 use Rattle.elf_types.specs.Text.{error_text}
 use Rattle.elfkit.specs.Readelf.{front_by, file_front, front_report, file_report, shows_sections, file_asks}
@@ -63,17 +62,12 @@ unfolding file_report
 shown_front o e r s t None parts many name f h k = tt
 shown_front o e r s t (Some image) parts many name f h k = rw h k
 
-pub refused_front : {O E : Type 0} (o : Ghosts O) (e : Ghosts E) (r : Result Bool Stop) (s t : Outputs O E) (holds : Option (List ℕ))
-    (parts : ReadelfParts) (many : Bool) (name : Name) (command : List ℕ) (d : ElfError) (before now : ℕ) → ReadRose {T = Front} (Err d) before now → command ≡ codes "readelf"
-    → IfSome holds (λ image. Follows {T = Front} (Err d) (file_front image))
-    → IfNone (stop_of d) (Reports o e r s t (refusal command name (error_text d))) → IfSome (stop_of d) (λ stop. (r ≡ Err stop) × (t ≡ s))
-    → IfSome holds (λ image. Reports o e r s t (file_report parts many name image))
+pub refused_front : (holds : Option (List ℕ)) (parts : ReadelfParts) (many : Bool) (name : Name) (command : List ℕ) (d : ElfError)
+    → command ≡ codes "readelf" → IfSome holds (λ image. Follows {T = Front} (Err d) (file_front image))
+    → IfSome holds (λ image. stop_of d ≡ None → file_report parts many name image ≡ refusal command name (error_text d))
 unfolding file_report front_report
-refused_front o e r s t None parts many name command d before now rose is h k stops = tt
-refused_front o e r s t (Some image) parts many name command error.Memory before now rose is h k stops = rw (stops.0, stops.1) (reports_nothing o e s _ _)
-refused_front o e r s t (Some image) parts many name command error.Read before now rose is h k stops = rw (stops.0, stops.1) (reports_nothing o e s _ _)
-refused_front o e r s t (Some image) parts many name command error.Write before now never is h k stops = absurd never
-refused_front o e r s t (Some image) parts many name command d before now rose is h k stops = rw (h, ← is) k
+refused_front None parts many name command d is h = tt
+refused_front (Some image) parts many name command d is h = λ none. rw (stated_error d (file_front image) h none, is) refl
 
 -- ---- What is asked for
 

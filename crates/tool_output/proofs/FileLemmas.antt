@@ -13,6 +13,7 @@ use Rattle.tool_output.specs.declared.outputs.Outputs.{Outputs}
 use Rattle.tool_output.specs.Names.{Name, file_name}
 use Rattle.tool_output.specs.Reports.{Report, Reports, refusal}
 use Rattle.tool_output.specs.Steps.{KeepsSinks, LeavesSinks, SinkRose, OnRead, OnWrite}
+use Rattle.tool_output.proofs.StepLemmas.{keeps_then}
 use Rattle.tool_output.specs.Files.{report_on, asks_on, Totals, LeavesFiles, OnlyReads, IsWithin, IsWithinLeft, both_bounds, all_bounds}
 
 -- ---- A file that was opened, read and closed
@@ -137,27 +138,6 @@ module _ {F D O E : Type 0} (f : FilesGhosts F D) (o : SinkGhosts O) (e : SinkGh
     live = λ small. k.live (rw (h.live small) small) ∙ h.live small;
   }
 
-  pub keeps_none : (s : Outputs O E) → KeepsSinks o e s s
-  keeps_none s = record {
-    same_out = refl;
-    same_err = refl;
-    same_page = refl;
-    leaves = record { out_rest = refl; err_rest = refl; out_later = omega arith; err_later = omega arith };
-  }
-
-  pub keeps_then : (s t u : Outputs O E) → KeepsSinks o e s t → KeepsSinks o e t u → KeepsSinks o e s u
-  keeps_then s t u h k = record {
-    same_out = k.same_out ∙ h.same_out;
-    same_err = k.same_err ∙ h.same_err;
-    same_page = k.same_page ∙ h.same_page;
-    leaves = record {
-      out_rest = k.leaves.out_rest ∙ h.leaves.out_rest;
-      err_rest = k.leaves.err_rest ∙ h.leaves.err_rest;
-      out_later = omega (arith, h.leaves.out_later, k.leaves.out_later);
-      err_later = omega (arith, h.leaves.err_later, k.leaves.err_later);
-    };
-  }
-
   -- a failed write of the second step
   wrote_later : (a b c : F) (s t u : Outputs O E) → Totals f a b → KeepsSinks o e s t
       → Rose (f.write_faults b) (f.write_faults c) ⊎ SinkRose o e t.out.now u.out.now t.err.now u.err.now
@@ -171,18 +151,18 @@ module _ {F D O E : Type 0} (f : FilesGhosts F D) (o : SinkGhosts O) (e : SinkGh
       → LeavesFiles {T = T} f o e (Err stop) b c t u → LeavesFiles {T = U} f o e (Err stop) a c s u
   leaves_stop Read a b c s t u h k l = record {
     totals = totals_then a b c h l.totals;
-    keeps = keeps_then s t u k l.keeps;
+    keeps = keeps_then o e s t u k l.keeps;
     read = omega (arith, h.read_faults, l.read);
     write = tt;
   }
   leaves_stop Write a b c s t u h k l = record {
     totals = totals_then a b c h l.totals;
-    keeps = keeps_then s t u k l.keeps;
+    keeps = keeps_then o e s t u k l.keeps;
     read = tt;
     write = wrote_later a b c s t u h k l.write;
   }
   leaves_stop Memory a b c s t u h k l =
-      record { totals = totals_then a b c h l.totals; keeps = keeps_then s t u k l.keeps; read = tt; write = tt }
+      record { totals = totals_then a b c h l.totals; keeps = keeps_then o e s t u k l.keeps; read = tt; write = tt }
 
 -- ---- Bounds, by what is left of them
 

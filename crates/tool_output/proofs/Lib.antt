@@ -4,5 +4,6 @@ pub mod MarkLemmas
 pub mod OutcomeLemmas
 pub mod PageLemmas
 pub mod ReportLemmas
+pub mod SourceLemmas
 pub mod StepLemmas
 pub mod UnderWayLemmas

@@ -1,7 +1,8 @@
 use Rattle.std.proofs.Common.{refl, rules}
 use Rattle.std.proofs.lemmas.Result.{err_from_is_err_and}
 use Rattle.tool_output.specs.Files.{report_on, asks_on}
-use Rattle.tool_output.proofs.FileLemmas.{told_after, only_reads_none, only_reads_then, totals_none, totals_then, keeps_none, keeps_then, leaves_stop, bound_begins, bounds_go_on, bounds_end, report_on_same, asks_on_same}
+use Rattle.tool_output.proofs.FileLemmas.{told_after, only_reads_none, only_reads_then, totals_none, totals_then, leaves_stop, bound_begins, bounds_go_on, bounds_end, report_on_same, asks_on_same}
+use Rattle.tool_output.proofs.StepLemmas.{keeps_none, keeps_then}
 use Rattle.tool_output.proofs.UnderWayLemmas.{begins, goes_on, stops_at, is_given, reports_left, no_reports_left}
 use Rattle.elfkit.proofs.files.each_file.Goals as goal
 
@@ -11,7 +12,7 @@ loop-name-init g c = record {
   asks = λ told. bound_begins _ _;
   reads = only_reads_none g.F.Files g.O.Sink g.E.Sink c.args.files.now;
   totals = totals_none g.F.Files g.O.Sink g.E.Sink c.args.files.now;
-  keeps = keeps_none g.F.Files g.O.Sink g.E.Sink c.args.outputs.now;
+  keeps = keeps_none g.O.Sink g.E.Sink c.args.outputs.now;
 }
 
 pub loop-name-preserved : goal.loop-name-preserved
@@ -31,7 +32,7 @@ loop-name-preserved g c =
           (asks_on_same (t.asks c.args.tool.now) _ _ _ _ _ _ ((i.reads.names told).same _) c.as_str.ensures (step.asks (after told)));
       reads = only_reads_then g.F.Files g.O.Sink g.E.Sink _ _ _ i.reads step.reports.reads;
       totals = totals_then g.F.Files g.O.Sink g.E.Sink _ _ _ i.totals step.reports.leaves.totals;
-      keeps = keeps_then g.F.Files g.O.Sink g.E.Sink _ _ _ i.keeps step.reports.leaves.keeps;
+      keeps = keeps_then g.O.Sink g.E.Sink _ _ _ i.keeps step.reports.leaves.keeps;
     }
 
 pub returns-in_err-was_refused-clause-reports : goal.returns-in_err-was_refused-clause-reports
