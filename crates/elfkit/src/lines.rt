@@ -19,7 +19,7 @@ pub struct Title<'a> {
 impl Line for Title<'_> {
     ghost text = { λ t. title t.name.now };
 
-    #[tactic(auto, using(elf_types::proofs::Writers::stays), unfolding(crate::specs::Lines::title))]
+    #[tactic(auto, using(crate::proofs::Rows::kept), unfolding(crate::specs::Lines::title))]
     fn put(&self, page: &mut Octets) -> Result<(), ElfError> {
         put_text(page, "File: ")?;
         self.name.put(page)?;
@@ -37,7 +37,7 @@ pub struct Sentence<'a> {
 impl Line for Sentence<'_> {
     ghost text = { λ s. line_of s.text.now };
 
-    #[tactic(auto, using(elf_types::proofs::Writers::stays), unfolding(crate::specs::Lines::line_of))]
+    #[tactic(auto, using(crate::proofs::Rows::kept), unfolding(crate::specs::Lines::line_of))]
     fn put(&self, page: &mut Octets) -> Result<(), ElfError> {
         put_text(page, self.text)?;
         put_text(page, "\n")

@@ -51,13 +51,13 @@ unfoldable pub segment_end : Phdr → List ℕ
 segment_end p = flags_column p.flags ++ hex_column (codes "align") p.align ++ codes "\n"
 
 -- the line of one program header, by its number
-unfoldable pub segment_line : ℕ → Phdr → List ℕ
-segment_line i p = segment_start i p ++ segment_places p ++ segment_sizes p ++ segment_end p
+unfoldable pub phdr_line : ℕ → Phdr → List ℕ
+phdr_line i p = segment_start i p ++ segment_places p ++ segment_sizes p ++ segment_end p
 
-unfoldable pub segments_title : ℕ → List ℕ
-segments_title count = codes "Program headers: " ++ decimal count ++ codes "\n"
+unfoldable pub count_line : ℕ → List ℕ
+count_line count = codes "Program headers: " ++ decimal count ++ codes "\n"
 
 -- their number, and a line for each
 unfoldable pub segments_report : List Phdr → Report
 segments_report phdrs =
-    joined (shown (segments_title (length phdrs))) (shown (numbered_lines segment_line 0 phdrs))
+    joined (shown (count_line (length phdrs))) (shown (numbered_lines phdr_line 0 phdrs))

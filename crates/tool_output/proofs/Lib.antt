@@ -4,6 +4,7 @@ pub mod MarkLemmas
 pub mod OutcomeLemmas
 pub mod PageLemmas
 pub mod ReportLemmas
+pub mod Rows
 pub mod SourceLemmas
 pub mod StepLemmas
 pub mod UnderWayLemmas

@@ -22,7 +22,7 @@ pub struct Message<'a, T> {
 impl<T: Line> Line for Message<'_, T> {
     ghost text = { λ m. message m.command.now m.name.now (T.text m.text) };
 
-    #[tactic(auto, using(elf_types::proofs::Writers::stays), unfolding(crate::specs::Messages::message))]
+    #[tactic(auto, using(crate::proofs::Rows::kept), unfolding(crate::specs::Messages::message))]
     fn put(&self, page: &mut Octets) -> Result<(), ElfError> {
         put_text(page, self.command)?;
         put_text(page, ": ")?;
@@ -45,7 +45,7 @@ pub struct InSection<T> {
 impl<T: Line> Line for InSection<T> {
     ghost text = { λ s. in_section s.section (T.text s.text) };
 
-    #[tactic(auto, using(elf_types::proofs::Writers::stays), unfolding(crate::specs::Messages::in_section))]
+    #[tactic(auto, using(crate::proofs::Rows::kept), unfolding(crate::specs::Messages::in_section))]
     fn put(&self, page: &mut Octets) -> Result<(), ElfError> {
         put_text(page, "section ")?;
         put_decimal(page, u64::from(self.section))?;

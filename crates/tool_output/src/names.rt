@@ -46,7 +46,7 @@ impl<'a> FileName<'a> {
 impl Line for FileName<'_> {
     ghost text = { shown_name };
 
-    #[tactic(auto, using(elf_types::proofs::Writers::stays), unfolding(crate::specs::Names::shown_name))]
+    #[tactic(auto, using(crate::proofs::Rows::kept), unfolding(crate::specs::Names::shown_name))]
     fn put(&self, page: &mut Octets) -> Result<(), ElfError> {
         put_bytes(page, self.file)?;
         match self.member {
@@ -70,7 +70,7 @@ pub struct NameEx<'a> {
 impl Line for NameEx<'_> {
     ghost text = { λ n. name_ex n.name.now };
 
-    #[tactic(auto, using(elf_types::proofs::Writers::stays), unfolding(crate::specs::Names::name_ex))]
+    #[tactic(auto, using(crate::proofs::Rows::kept), unfolding(crate::specs::Names::name_ex))]
     fn put(&self, page: &mut Octets) -> Result<(), ElfError> {
         let name = self.name;
         match name.member {
