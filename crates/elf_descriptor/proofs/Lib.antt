@@ -2,8 +2,10 @@ pub mod Refusals
 pub mod Marks
 pub mod Objects
 pub mod Warming
+pub mod ListedCells
 pub mod Loaded
 pub mod ReadsLaws
 pub mod Reading
 pub mod RawCalls
 pub mod Handing
+pub mod PieceCalls

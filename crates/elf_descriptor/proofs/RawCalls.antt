@@ -89,7 +89,7 @@ out_due c out = by_loaded (cell_is_loaded c) c.home.out out
     by_loaded true b e = refl
     by_loaded false b e = rw e refl
 
-absent_due : load_due absent_scn.cell ≡ 0
+pub absent_due : load_due absent_scn.cell ≡ 0
 unfolding load_due
 absent_due = refl
 
