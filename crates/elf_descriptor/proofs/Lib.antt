@@ -9,3 +9,4 @@ pub mod Reading
 pub mod RawCalls
 pub mod Handing
 pub mod PieceCalls
+pub mod DataCalls

@@ -1,15 +1,18 @@
 -- Items of a kind in a section's data are made to be at hand.
 use Rattle.std.proofs.Common.{◌≡◌, ℕ, Bool, true, false, not, ◌&&◌, ◌||◌, List, [], ◌∷◌, length, set, ◌<◌, Option, Some, None, Result, Ok, Err, refl, sym, ap, ◌∙◌, subst, arith}
 use Rattle.std.proofs.lemmas.List.{length-set}
-use Rattle.std.specs.Prelude.{IsTrue, OnOk, is_some, if◌then◌else◌}
+use Rattle.std.proofs.lemmas.Bool.{leb-false}
+use Rattle.std.specs.Prelude.{nat_le, IsTrue, OnOk, is_some, if◌then◌else◌}
 use Rattle.elf_types.specs.declared.records.Class.{Class}
 use Rattle.elf_types.specs.declared.records.Kind.{Kind}
 use Rattle.elf_types.specs.declared.errors.ElfError.{ElfError}
-use Rattle.elf_types.specs.declared.errors.ElfError.TheVariants.{OutOfFile, Ragged}
+use Rattle.elf_types.specs.declared.errors.ElfError.TheVariants.{NoSection, NoData, WrongKind, OutOfFile, Ragged}
 use Rattle.elf_types.specs.Answers.{answered, refused_if, first_refusal}
 use Rattle.elf_xlate.specs.declared.content.Items.{Items}
 use Rattle.elf_object.specs.Words.{Answers}
-use Rattle.elf_object.proofs.PassedLaws.{none_first, none_rest, passed_two}
+use Rattle.elf_object.proofs.PassedLaws.{none_first, none_rest, passed_two, not_refused, not_not}
+use Rattle.elf_object.proofs.StepLaws.{same_kind-true}
+use Rattle.elf_object.specs.Answers.{same_kind}
 use Rattle.section_data.specs.Views.{CellView}
 use Rattle.section_data.specs.Held.{piece_in, kind_in, cell_is_loaded, is_ragged, is_at_hand}
 use Rattle.section_data.specs.Refused.{no_piece, wrong_piece_kind, no_home_items, kind_refused, items_refused, home_out, home_ragged, piece_due, reading}
@@ -17,6 +20,8 @@ use Rattle.section_data.specs.Leaves.{Warms}
 use Rattle.elf_types.specs.declared.records.Ehdr.{Ehdr}
 use Rattle.elf_descriptor.specs.declared.scn.Scn.{Scn}
 use Rattle.elf_descriptor.specs.declared.body.Body.{Body}
+use Rattle.elf_descriptor.specs.Views.{scn_at, no_scn}
+use Rattle.elf_descriptor.specs.Bodies.{no_items_in, no_list_in}
 use Rattle.elf_descriptor.specs.Dues.{list_due, IsListed}
 use Rattle.elf_descriptor.proofs.Warming.{scn_written}
 
@@ -31,6 +36,39 @@ list_home class c kind p passed =
 pub items_home : (class : Class) (c : CellView) (p : ℕ) → items_refused class c p ≡ None → no_home_items class c p ≡ None
 unfolding items_refused
 items_home class c p passed = none_first (no_home_items class c p) [] (none_rest (no_piece c p) (no_home_items class c p ∷ []) passed)
+
+-- there is such a section, and such a piece
+pub scn_passed : (b : Body) (s : ℕ) → no_scn b s ≡ None → s < length b.sections.items
+unfolding no_scn
+scn_passed b s passed = leb-false (length b.sections.items) s (not_refused (nat_le (length b.sections.items) s) (NoSection s (length b.sections.items)) passed)
+
+piece_passed : (c : CellView) (p : ℕ) → no_piece c p ≡ None → p < length c.pieces
+piece_passed c p passed = leb-false (length c.pieces) p (not_refused (nat_le (length c.pieces) p) (NoData p (length c.pieces)) passed)
+
+pub items_passed : (b : Body) (s p : ℕ) → no_items_in b s p ≡ None
+    → (s < length b.sections.items) × (p < length (scn_at b s).cell.pieces) × (no_home_items b.header.class (scn_at b s).cell p ≡ None)
+unfolding no_items_in items_refused
+items_passed b s p passed =
+    let c = (scn_at b s).cell in
+    let rest = none_first (items_refused b.header.class c p) [] (none_rest (no_scn b s) (items_refused b.header.class c p ∷ []) passed) in (
+      scn_passed b s (none_first (no_scn b s) (items_refused b.header.class c p ∷ []) passed),
+      piece_passed c p (none_first (no_piece c p) (no_home_items b.header.class c p ∷ []) rest),
+      items_home b.header.class c p rest,
+    )
+
+pub list_passed : (b : Body) (kind : Kind) (s p : ℕ) → no_list_in b kind s p ≡ None
+    → (s < length b.sections.items) × (p < length (scn_at b s).cell.pieces) × (kind_in (scn_at b s).cell p ≡ kind) × (no_home_items b.header.class (scn_at b s).cell p ≡ None)
+unfolding no_list_in kind_refused
+list_passed b kind s p passed =
+    let c = (scn_at b s).cell in
+    let rest = none_first (kind_refused b.header.class c kind p) [] (none_rest (no_scn b s) (kind_refused b.header.class c kind p ∷ []) passed) in
+    let after = none_rest (no_piece c p) (wrong_piece_kind c kind p ∷ no_home_items b.header.class c p ∷ []) rest in
+    let right = not_refused (not (same_kind (kind_in c p) kind)) (WrongKind (kind_in c p)) (none_first (wrong_piece_kind c kind p) (no_home_items b.header.class c p ∷ []) after) in (
+      scn_passed b s (none_first (no_scn b s) (kind_refused b.header.class c kind p ∷ []) passed),
+      piece_passed c p (none_first (no_piece c p) (wrong_piece_kind c kind p ∷ no_home_items b.header.class c p ∷ []) rest),
+      same_kind-true (kind_in c p) kind (not_not (same_kind (kind_in c p) kind) right),
+      list_home b.header.class c kind p rest,
+    )
 
 -- the home of a clean piece lies in the file and has whole items
 pub home_whole : (class : Class) (c : CellView) (p : ℕ) → no_home_items class c p ≡ None → (piece_in c p).own ≡ None → (c.home.out ≡ false) × (is_ragged class c ≡ false)

@@ -124,8 +124,8 @@ data_refusal_is image size b s p is =
     let c = (scn_at b s).cell in
     by_section b s (no_section o s) (no_data o s p ∷ no_content o s p ∷ []) (no_piece c p ∷ no_home_items b.header.class c p ∷ []) (no_section_is image size b s)
     (λ there.
-        ap (λ (r : Option ElfError). first_refusal (r ∷ no_content o s p ∷ [])) (no_data_is image size b s p)
-        ∙ ap (λ (r : Option ElfError). first_refusal (no_piece c p ∷ r ∷ [])) (no_content_is image size b s p is there))
+    ap (λ (r : Option ElfError). first_refusal (r ∷ no_content o s p ∷ [])) (no_data_is image size b s p)
+    ∙ ap (λ (r : Option ElfError). first_refusal (no_piece c p ∷ r ∷ [])) (no_content_is image size b s p is there))
     ∙ first_nested (no_scn b s) (no_piece c p ∷ no_home_items b.header.class c p ∷ [])
 
 pub lend_refusal_is : (image : Option (List ℕ)) (size : ℕ) (b : Body) (kind : Kind) (s p : ℕ) → IsElf image size b → lend_refusal (object_of image size b) kind s p ≡ no_list_in b kind s p
@@ -136,9 +136,9 @@ lend_refusal_is image size b kind s p is =
     by_section b s (no_section o s) (no_data o s p ∷ wrong_kind o kind s p ∷ no_content o s p ∷ [])
     (no_piece c p ∷ wrong_piece_kind c kind p ∷ no_home_items b.header.class c p ∷ []) (no_section_is image size b s)
     (λ there.
-        ap (λ (r : Option ElfError). first_refusal (r ∷ wrong_kind o kind s p ∷ no_content o s p ∷ [])) (no_data_is image size b s p)
-        ∙ ap (λ (r : Option ElfError). first_refusal (no_piece c p ∷ r ∷ no_content o s p ∷ [])) (wrong_kind_is image size b kind s p)
-        ∙ ap (λ (r : Option ElfError). first_refusal (no_piece c p ∷ wrong_piece_kind c kind p ∷ r ∷ [])) (no_content_is image size b s p is there))
+    ap (λ (r : Option ElfError). first_refusal (r ∷ wrong_kind o kind s p ∷ no_content o s p ∷ [])) (no_data_is image size b s p)
+    ∙ ap (λ (r : Option ElfError). first_refusal (no_piece c p ∷ r ∷ no_content o s p ∷ [])) (wrong_kind_is image size b kind s p)
+    ∙ ap (λ (r : Option ElfError). first_refusal (no_piece c p ∷ wrong_piece_kind c kind p ∷ r ∷ [])) (no_content_is image size b s p is there))
     ∙ first_nested (no_scn b s) (no_piece c p ∷ wrong_piece_kind c kind p ∷ no_home_items b.header.class c p ∷ [])
 
 -- each of them comes before the home is read
@@ -246,7 +246,7 @@ holds_is image size b s p =
 pub reader_looks : {S A : Type 0} (g : Ghosts S) (answer : Object → Result A ElfError) (wants : Wants) (result : Result (Unit {0}) ElfError) (source left : S) (old new : Body) (s p : ℕ) (r : Option ElfError)
     → IsUnread r
     → unless_refused (err_of (answer (object_over g source old))) (when_piece_clean (object_over g source old) s p)
-      ≡ unless_refused (first_refusal (no_scn old s ∷ r ∷ [])) (when_piece_clean (object_over g source old) s p)
+    ≡ unless_refused (first_refusal (no_scn old s ∷ r ∷ [])) (when_piece_clean (object_over g source old) s p)
     → Warmed (g.holds source) old new s
     → Answers true wants result (answered (first_refusal (no_scn old s ∷ r ∷ [])) (tt {0}))
     → IfErr result (λ e. e ≢ Memory → (scn_at new s).cell ≡ (scn_at old s).cell)
@@ -263,10 +263,10 @@ reader_looks {S} {A} g answer wants result source left old new s p r unread same
     record {
       object = left_object g source left old new s asks.leaves w;
       reads = subst (λ (l : List ℕ). Reads g result (state_of g source old) (state_of g left new) l l (homes_due o (loaded_of old) l)) (sym same_list)
-      (reads_warmed g result source left old new s list list w (subst (λ (n : ℕ). Asks g result source left n) (sym due) asks) idle
-      (λ out. ap (λ (c : CellView). c.held) (idle out))
-      (settled_one true wants result (first_refusal (no_scn old s ∷ r ∷ [])) (when_piece_clean o s p) o (loaded_of new) s (section_unread old s r unread) came
-      (read_or_not (is_some (piece_in (scn_at old s).cell p).own) refl) (now_loaded (is_some (piece_in (scn_at old s).cell p).own) refl result loaded)));
+          (reads_warmed g result source left old new s list list w (subst (λ (n : ℕ). Asks g result source left n) (sym due) asks) idle
+          (λ out. ap (λ (c : CellView). c.held) (idle out))
+          (settled_one true wants result (first_refusal (no_scn old s ∷ r ∷ [])) (when_piece_clean o s p) o (loaded_of new) s (section_unread old s r unread) came
+          (read_or_not (is_some (piece_in (scn_at old s).cell p).own) refl) (now_loaded (is_some (piece_in (scn_at old s).cell p).own) refl result loaded)));
     }
   where
     cell_or_read : (b : Bool) → is_some (piece_in (scn_at old s).cell p).own ≡ b

@@ -150,10 +150,10 @@ raw_queries {S} g result source left old new s is w came loaded same held asks =
     record {
       object = left_object g source left old new s asks.leaves w;
       reads = subst (λ (l : List ℕ). Reads g result (state_of g source old) (state_of g left new) l [] (homes_due o (loaded_of old) l)) (sym (raw_reads (g.holds source) (g.size source) old s is))
-      (reads_warmed g result source left old new s list [] w (subst (λ (n : ℕ). Asks g result source left n) (sym due) asks)
-      (idle_one true (reading (load_due (scn_at old s).cell)) result (no_raw_in old s) (s ∷ []) (scn_at old s).cell (scn_at new s).cell s (raw_unread old s) came (weaker result same) (inl refl))
-      (λ out. held)
-      (settled_one true (reading (load_due (scn_at old s).cell)) result (no_raw_in old s) (s ∷ []) o (loaded_of new) s (raw_unread old s) came (inl refl) (now_loaded result loaded)));
+          (reads_warmed g result source left old new s list [] w (subst (λ (n : ℕ). Asks g result source left n) (sym due) asks)
+          (idle_one true (reading (load_due (scn_at old s).cell)) result (no_raw_in old s) (s ∷ []) (scn_at old s).cell (scn_at new s).cell s (raw_unread old s) came (weaker result same) (inl refl))
+          (λ out. held)
+          (settled_one true (reading (load_due (scn_at old s).cell)) result (no_raw_in old s) (s ∷ []) o (loaded_of new) s (raw_unread old s) came (inl refl) (now_loaded result loaded)));
     }
   where
     weaker : (r : Result (Unit {0}) ElfError) → OnErr r ((scn_at new s).cell ≡ (scn_at old s).cell) → IfErr r (λ e. e ≢ Memory → (scn_at new s).cell ≡ (scn_at old s).cell)

@@ -2,6 +2,7 @@ pub mod State
 pub mod Views
 pub mod Sound
 pub mod Bodies
+pub mod Entries
 pub mod Dues
 pub mod Held
 pub mod Warmed
