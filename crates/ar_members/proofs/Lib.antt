@@ -10,3 +10,4 @@ pub mod StepLemmas
 pub mod SymbolLemmas
 pub mod Told
 pub mod WalkLemmas
+pub mod Words

@@ -1,6 +1,6 @@
 -- The header at a place of an archive (ar.h, `struct ar_hdr`), and its body. The name field is not
 -- looked at here.
-use Rattle.std.specs.Prelude.{◌≡◌, ℕ, ◌+◌, ◌-◌, ◌%◌, List, length, take, drop, IfSome, Result, Ok, Err, nat_le, nat_lt, if◌then◌else◌}
+use Rattle.std.specs.Prelude.{◌≡◌, ℕ, ◌+◌, ◌-◌, ◌%◌, ◌≤◌, List, length, take, drop, IfSome, Result, Ok, Err, nat_le, nat_lt, if◌then◌else◌}
 use Rattle.elf_types.specs.declared.errors.ElfError.{ElfError}
 use Rattle.elf_types.specs.declared.errors.ElfError.TheVariants.{BadMember}
 use Rattle.elf_types.specs.Answers.{refused_if, answered, stated_refusal, ◌>>=◌}
@@ -24,6 +24,10 @@ header_at bytes at =
     if nat_le (at + HEADER_LEN) (length bytes)
     then header_in at (take HEADER_LEN (drop at bytes)) (length bytes - HEADER_LEN - at)
     else Err (BadMember at)
+
+-- a header at a place lies in an archive of so many bytes, with a body of so many
+abbrev pub BodyLies : ℕ → ℕ → ℕ → Type 0
+BodyLies at len size = at + HEADER_LEN + len ≤ size
 
 -- the field of the name
 abbrev pub name_field : Header → List ℕ

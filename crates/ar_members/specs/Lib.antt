@@ -7,3 +7,4 @@ pub mod Walks
 pub mod Symbols
 pub mod Magic
 pub mod Archives
+pub mod Due

@@ -19,6 +19,10 @@ archive_refusal bytes =
     ∷ refused_if (nat_lt MAX_IMAGE (length bytes)) TooLarge
     ∷ [])
 
+-- the length of an archive that is not refused
+abbrev pub IsArchiveSize : ℕ → Type 0
+IsArchiveSize size = (FIRST ≤ size) × (size ≤ MAX_IMAGE)
+
 -- what is so of the length where an archive is refused, whatever bytes were read
 abbrev pub RefusesBySize : ℕ → ElfError → Type 0
 RefusesBySize size Short = size < FIRST

@@ -85,7 +85,8 @@ abbrev pub entries_within : ℕ → List ℕ → List ℕ → ℕ → Entries
 entries_within zero bytes names at = record { list = []; bad = None }
 entries_within (suc most) bytes names at =
     if nat_le (length bytes) at then record { list = []; bad = None }
-    else entry_and_later at (λ e. entries_within most bytes e.names e.next) (entry_at bytes names at)
+    else entry_and_later at (λ e. entries_within most bytes e.names e.next)
+    (entry_at bytes names at)
 
 -- all entries from a place on: there are no more than bytes
 unfoldable pub entries_from : List ℕ → List ℕ → ℕ → Entries

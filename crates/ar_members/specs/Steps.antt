@@ -3,12 +3,15 @@ use Rattle.std.specs.Prelude.{◌≡◌, ℕ, ◌+◌, ◌-◌, ◌≤◌, List,
 use Rattle.elf_types.specs.declared.errors.ElfError.{ElfError}
 use Rattle.ar_members.specs.declared.headers.TheConstants.{HEADER_LEN}
 use Rattle.ar_members.specs.declared.headers.ArHdr.{ArHdr}
+use Rattle.ar_members.specs.declared.headers.Header.{Header}
 use Rattle.ar_members.specs.declared.names.NameKind.{NameKind}
 use Rattle.ar_members.specs.declared.names.NameKind.TheVariants as kinds
 use Rattle.ar_members.specs.declared.numbers.Numbers.{Numbers}
 use Rattle.ar_members.specs.declared.entries.Entry.{Entry as Found}
 use Rattle.ar_members.specs.declared.entries.Entry.TheVariants.{Member, LongNames, Passed}
 use Rattle.ar_members.specs.declared.entries.Step.{Step}
+use Rattle.ar_members.specs.Names.{kind_of_name}
+use Rattle.ar_members.specs.Headers.{name_field}
 use Rattle.ar_members.specs.Members.{Entry, shown_header, member_entry, passed_entry, names_entry}
 
 -- how many bytes of its body were read for an entry
@@ -30,6 +33,9 @@ step_entry names step = entry_of names step.next step.entry
 abbrev pub asked_by : Option NameKind → ℕ → ℕ
 asked_by (Some kinds.LongNames) size = size
 asked_by _ size = 0
+
+abbrev pub body_asks : Header → ℕ
+body_asks header = asked_by (kind_of_name (name_field header)) header.numbers.size
 
 -- the shape of an entry, whatever bytes were read
 abbrev pub IsShaped : ℕ → Numbers → Found → Type 0

@@ -69,9 +69,11 @@ abbrev pub table_asks : Option NameKind → ℕ → ℕ
 table_asks (Some Symbols) size = size
 table_asks _ size = 0
 
+abbrev pub first_asks : Header → ℕ
+first_asks header = table_asks (kind_of_name (name_field header)) header.numbers.size
+
 abbrev pub symbols_due_by : Result Header ElfError → ℕ
-symbols_due_by (Ok header) =
-    HEADER_LEN + table_asks (kind_of_name (name_field header)) header.numbers.size
+symbols_due_by (Ok header) = HEADER_LEN + first_asks header
 symbols_due_by (Err e) = HEADER_LEN
 
 unfoldable pub symbols_due : List ℕ → ℕ

@@ -3,7 +3,8 @@
 ghost use Rattle.std.specs.Prelude.{◌≡◌, ◌⊎◌, ◌+◌, ◌-◌, ◌^◌, ◌≤◌, true, false, [], Ok, Err, None, IfSome, IfOk, IfErr, OnOk};
 ghost use Rattle.elf_types.specs.Answers.{Follows, FollowsBy, stated_refusal};
 ghost use Rattle.elf_outside.specs.Asks.{Asks};
-ghost use Rattle.ar_members.specs.Magic.{RefusesBySize};
+ghost use Rattle.ar_members.specs.Due.{AsksDue};
+ghost use Rattle.ar_members.specs.Magic.{IsArchiveSize, RefusesBySize};
 ghost use Rattle.ar_members.specs.Archives.{first_walk, begun_walk};
 
 use crate::headers::{ArHdr, FIRST, HEADER_LEN, read_header};
@@ -46,7 +47,7 @@ impl<S: Source> Model for Ar<S> {
 fn check<S: Source>(src: &mut S) -> Result<(), ElfError>
     ensures begun { IfSome (S.holds src.old)
         (λ image. FollowsBy (λ _. first_walk) stated_refusal result (begun_walk image)) }
-    ensures size { OnOk result ((8 ≤ S.size src.old) × (S.size src.old ≤ 2 ^ 40)) }
+    ensures size { OnOk result (IsArchiveSize (S.size src.old)) }
     ensures refusals { IfErr result (RefusesBySize (S.size src.old)) }
     ensures asks { Asks S.Source result src.old src.new 8 }
 {
@@ -68,7 +69,8 @@ impl<S: Source> Ar<S> {
     ghost use Rattle.ar_members.specs.Archives.{answer_of, source_of, handed_back};
     ghost use Rattle.ar_members.specs.Archives.{members_left, Moves, NextLies, next_asks, next_due};
     ghost use Rattle.ar_members.specs.Members.{next_of};
-    ghost use Rattle.ar_members.specs.Headers.{member_at, header_asks, HasBody, IsBadAt};
+    ghost use Rattle.ar_members.specs.declared.headers.TheConstants.{HEADER_LEN};
+    ghost use Rattle.ar_members.specs.Headers.{member_at, header_asks, BodyLies, HasBody, IsBadAt};
     ghost use Rattle.ar_members.specs.Symbols.{arsyms, symbols_due};
 
     /// Begins a walk over an archive. It asks for 8 bytes at most, and takes no memory.
@@ -77,10 +79,10 @@ impl<S: Source> Ar<S> {
     /// `!<arch>` and a newline, and `TooLarge` above 2^40 bytes, in this order, and hands the
     /// source back. `Read` may come before the last two.
     pub fn begin(alloc: Global, mut src: S) -> Result<Ar<S>, (S, ElfError)>
-        ensures begun { IfSome (S.holds src) (λ image.
-            FollowsBy (λ archive. archive.walk) stated_refusal (answer_of result) (begun_walk image)) }
+        ensures begun { IfSome (S.holds src) (λ image. FollowsBy (λ archive. archive.walk)
+            stated_refusal (answer_of result) (begun_walk image)) }
         ensures walk { IfOk result (λ archive. archive.walk ≡ first_walk) }
-        ensures size { IfOk result (λ archive. (8 ≤ S.size src) × (S.size src ≤ 2 ^ 40)) }
+        ensures size { OnOk result (IsArchiveSize (S.size src)) }
         ensures refusals { IfErr result (λ back. RefusesBySize (S.size src) back.1) }
         ensures asks { Asks S.Source (answer_of result) src (source_of result) 8 }
     {
@@ -118,8 +120,8 @@ impl<S: Source> Ar<S> {
             → (result ≡ Err (ElfError.BadMember self.old.walk.place)) × (self.new ≡ self.old) }
         ensures asks { Asks S.Source result self.old.source self.new.source
             (next_asks (S.size self.old.source) self.old.walk result) }
-        ensures due { IfSome (S.holds self.old.source) (λ image.
-            S.taken self.new.source ≤ S.taken self.old.source + next_due image self.old.walk) }
+        ensures due { AsksDue S.Source self.old.source self.new.source
+            (λ image. next_due image self.old.walk) }
     {
         if self.stopped {
             return Err(ElfError::BadMember { at: self.place });
@@ -160,8 +162,7 @@ impl<S: Source> Ar<S> {
         ensures walk { self.new.walk ≡ self.old.walk }
         ensures asks { Asks S.Source result self.old.source self.new.source
             (S.size self.old.source - 8) }
-        ensures due { IfSome (S.holds self.old.source)
-            (λ image. S.taken self.new.source ≤ S.taken self.old.source + symbols_due image) }
+        ensures due { AsksDue S.Source self.old.source self.new.source symbols_due }
     {
         read_symbols(self.alloc, &mut self.src)
     }
@@ -175,7 +176,7 @@ impl<S: Source> Ar<S> {
         ensures body { IfSome (S.holds self.source) (λ image.
             FollowsBy (λ w. (w.at, w.len)) stated_refusal (answer_of result) (member_at image at)) }
         ensures range { IfOk result
-            (λ w. (w.at ≡ at + 60) × (at + 60 + w.len ≤ S.size self.source)) }
+            (λ w. (w.at ≡ at + HEADER_LEN) × BodyLies at w.len (S.size self.source)) }
         ensures refusals { IfErr result
             (λ back. (back.1 ≡ ElfError.BadMember at) ⊎ (back.1 ≡ ElfError.Read)) }
         ensures walk { (handed_back (λ w. w.inner) result).walk ≡ self.walk }

@@ -3,10 +3,10 @@
 ghost use Rattle.std.specs.Prelude.{◌≡◌, ◌+◌, ◌^◌, ◌≤◌, IfSome, IfOk, IfErr};
 ghost use Rattle.elf_types.specs.Answers.{FollowsBy, stated_refusal};
 ghost use Rattle.elf_outside.specs.Asks.{Asks};
-ghost use Rattle.ar_members.specs.Names.{kind_of_name};
-ghost use Rattle.ar_members.specs.Headers.{next_at, name_field, IsBadAt};
+ghost use Rattle.ar_members.specs.Due.{AsksDue};
+ghost use Rattle.ar_members.specs.Headers.{next_at, BodyLies, IsBadAt};
 ghost use Rattle.ar_members.specs.Members.{named_entry, entry_at};
-ghost use Rattle.ar_members.specs.Steps.{entry_of, step_entry, asked_of, asked_by, IsShaped, StepLies, step_asks, step_due};
+ghost use Rattle.ar_members.specs.Steps.{entry_of, step_entry, asked_of, body_asks, IsShaped, StepLies, step_asks, step_due};
 
 use crate::headers::{ArHdr, HEADER_LEN, Header, next_place, read_header, shown_header};
 use crate::names::{NameKind, long_name, name_kind, short_name};
@@ -43,17 +43,15 @@ fn named_entry<S: Source>(
     at: u64,
     header: &Header,
 ) -> Result<Entry, ElfError>
-    requires body { at + 60 + header.now.numbers.size ≤ S.size src.old }
+    requires body { BodyLies at header.now.numbers.size (S.size src.old) }
     requires size { S.size src.old ≤ 2 ^ 40 }
     ensures entry { IfSome (S.holds src.old) (λ image.
         FollowsBy (entry_of names.now (next_at at header.now.numbers.size)) stated_refusal result
         (named_entry image names.now at header.now)) }
     ensures refusals { IfErr result (IsBadAt at) }
     ensures shape { IfOk result (IsShaped at header.now.numbers) }
-    ensures read { IfOk result (λ entry. asked_of entry
-        ≡ asked_by (kind_of_name (name_field header.now)) header.now.numbers.size) }
-    ensures asks { Asks S.Source result src.old src.new
-        (asked_by (kind_of_name (name_field header.now)) header.now.numbers.size) }
+    ensures read { IfOk result (λ entry. asked_of entry ≡ body_asks header.now) }
+    ensures asks { Asks S.Source result src.old src.new (body_asks header.now) }
 {
     let field = header.name_field();
     match name_kind(field) {
@@ -96,8 +94,8 @@ pub fn step_at<S: Source>(
     ensures refusals { IfErr result (IsBadAt at) }
     ensures lies { IfOk result (StepLies at (S.size src.old)) }
     ensures asks { Asks S.Source result src.old src.new (step_asks at (S.size src.old) result) }
-    ensures due { IfSome (S.holds src.old) (λ image.
-        S.taken src.new ≤ S.taken src.old + step_due (entry_at image names.now at)) }
+    ensures due { AsksDue S.Source src.old src.new
+        (λ image. step_due (entry_at image names.now at)) }
 {
     let header = read_header(src, at)?;
     let next = next_place(at, header.numbers.size);

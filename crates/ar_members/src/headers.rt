@@ -2,8 +2,9 @@
 
 ghost use Rattle.std.specs.Prelude.{◌≡◌, ◌⊎◌, ◌+◌, ◌^◌, ◌<◌, ◌≤◌, nat_le, take, IfSome, IfOk, IfErr};
 ghost use Rattle.elf_types.specs.Answers.{Follows};
+ghost use Rattle.elf_types.specs.declared.constants.TheConstants.{MAX_IMAGE};
 ghost use Rattle.elf_outside.specs.Asks.{Asks};
-ghost use Rattle.ar_members.specs.Headers.{next_at, name_field, header_in, header_asks, header_at};
+ghost use Rattle.ar_members.specs.Headers.{next_at, name_field, header_in, header_asks, header_at, BodyLies};
 ghost use Rattle.ar_members.specs.Members.{shown_header};
 
 use crate::numbers::{Numbers, header_numbers};
@@ -83,7 +84,7 @@ pub fn shown_header(
 
 /// The place of the header after a body: the next even one.
 pub fn next_place(at: u64, size: u64) -> u64
-    requires { at + 60 + size ≤ 2 ^ 40 }
+    requires { BodyLies at size MAX_IMAGE }
     ensures { result ≡ next_at at size }
 {
     let end = at + HEADER_LEN as u64 + size;
@@ -119,7 +120,7 @@ fn header_in(at: u64, bytes: [u8; HEADER_LEN], room: u64) -> Result<Header, ElfE
 /// end.
 pub fn read_header<S: Source>(src: &mut S, at: u64) -> Result<Header, ElfError>
     ensures header { IfSome (S.holds src.old) (λ image. Follows result (header_at image at)) }
-    ensures body { IfOk result (λ header. at + 60 + header.numbers.size ≤ S.size src.old) }
+    ensures body { IfOk result (λ header. BodyLies at header.numbers.size (S.size src.old)) }
     ensures refusals { IfErr result (λ e. (e ≡ ElfError.BadMember at) ⊎ (e ≡ ElfError.Read)) }
     ensures asks { Asks S.Source result src.old src.new (header_asks (S.size src.old) at) }
 {

@@ -106,7 +106,7 @@ fn up_to_end(text: &[u8]) -> Option<&[u8]>
 
 /// The name at an offset in the table of long names, which a slash and a newline end. None where it
 /// does not end in the table.
-#[tactic(auto, using(std::proofs::lemmas::List::drop_all), unfolding(crate::specs::Names::long_name_of))]
+#[tactic(auto, using(crate::proofs::Words::past), unfolding(crate::specs::Names::long_name_of))]
 pub fn long_name(names: &[u8], from: u64) -> Option<&[u8]>
     ensures { option_copied result ≡ long_name_of names.now from }
 {

@@ -3,9 +3,10 @@
 ghost use Rattle.std.specs.Prelude.{◌≡◌, ◌⊎◌, ◌+◌, ◌-◌, ◌*◌, ◌≤◌, [], Ok, length, IfSome, IfErr};
 ghost use Rattle.elf_types.specs.Answers.{Follows};
 ghost use Rattle.elf_outside.specs.Asks.{Asks};
-ghost use Rattle.ar_members.specs.Names.{kind_of_name};
-ghost use Rattle.ar_members.specs.Headers.{name_field, IsBadAt};
-ghost use Rattle.ar_members.specs.Symbols.{be_word, symbols_from, symbols_of, first_symbols, arsyms, table_asks, symbols_due};
+ghost use Rattle.ar_members.specs.declared.headers.TheConstants.{FIRST};
+ghost use Rattle.ar_members.specs.Due.{AsksDue};
+ghost use Rattle.ar_members.specs.Headers.{BodyLies, IsBadAt};
+ghost use Rattle.ar_members.specs.Symbols.{be_word, symbols_from, symbols_of, first_symbols, arsyms, first_asks, symbols_due};
 
 use crate::headers::{FIRST, HEADER_LEN, Header, read_header};
 use crate::names::{NameKind, name_kind, place_of};
@@ -88,12 +89,11 @@ fn table_symbols(alloc: Global, table: &[u8]) -> Result<ArSyms, ElfError>
 
 /// The symbols of the first member, by its header. It reads the body of a table of symbols alone.
 fn first_symbols<S: Source>(alloc: Global, src: &mut S, header: &Header) -> Result<ArSyms, ElfError>
-    requires { 68 + header.now.numbers.size ≤ S.size src.old }
+    requires { BodyLies FIRST header.now.numbers.size (S.size src.old) }
     ensures symbols { IfSome (S.holds src.old)
         (λ image. Follows result (first_symbols image header.now)) }
     ensures refusals { IfErr result (IsBadAt 8) }
-    ensures asks { Asks S.Source result src.old src.new
-        (table_asks (kind_of_name (name_field header.now)) header.now.numbers.size) }
+    ensures asks { Asks S.Source result src.old src.new (first_asks header.now) }
 {
     match name_kind(header.name_field()) {
         None => Err(BAD_TABLE),
@@ -115,8 +115,7 @@ pub fn read_symbols<S: Source>(alloc: Global, src: &mut S) -> Result<ArSyms, Elf
     ensures none { S.size src.old ≤ 8 → result ≡ Ok [] }
     ensures refusals { IfErr result (IsBadAt 8) }
     ensures asks { Asks S.Source result src.old src.new (S.size src.old - 8) }
-    ensures due { IfSome (S.holds src.old)
-        (λ image. S.taken src.new ≤ S.taken src.old + symbols_due image) }
+    ensures due { AsksDue S.Source src.old src.new symbols_due }
 {
     if src.len() <= FIRST {
         return Ok(ArSyms::new(alloc));

@@ -3,6 +3,7 @@
 ghost use Rattle.std.specs.Prelude.{◌≡◌, ◌+◌, ◌^◌, ◌≤◌, unwrap_or, None, Ok, IfSome, IfOk, IfErr};
 ghost use Rattle.elf_types.specs.Answers.{FollowsBy, stated_refusal};
 ghost use Rattle.elf_outside.specs.Asks.{Asks};
+ghost use Rattle.ar_members.specs.Due.{AsksDue};
 ghost use Rattle.ar_members.specs.Members.{members_from, next_of, due_from};
 ghost use Rattle.ar_members.specs.Walks.{MemberLies, RefusalLies, found_asks, found_left};
 
@@ -56,8 +57,7 @@ pub fn walk<S: Source>(
     ensures refusals { IfErr result (RefusalLies place (S.size src.old)) }
     ensures asks { Asks S.Source result src.old src.new
         (found_asks place (S.size src.old) result) }
-    ensures due { IfSome (S.holds src.old) (λ image.
-        S.taken src.new ≤ S.taken src.old + due_from image names.now place) }
+    ensures due { AsksDue S.Source src.old src.new (λ image. due_from image names.now place) }
 {
     let size = src.len();
     let mut at = place;

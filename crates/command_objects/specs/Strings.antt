@@ -39,7 +39,7 @@ has_nul bytes = list_any (λ b. b == 0) bytes
 abbrev pub bytes_from : Block → ℕ → List ℕ
 bytes_from b offset = drop (offset - b.at) b.bytes
 
--- no piece block_covers the offset; the size that it carries is at most the greatest number of eight
+-- no piece covers the offset; the size that it carries is at most the greatest number of eight
 -- bytes
 abbrev pub no_string : Object → ℕ → ℕ → Option ElfError
 no_string o s offset =

@@ -8,6 +8,7 @@ use Rattle.elf_types.specs.declared.errors.ElfError.{ElfError}
 use Rattle.elf_types.specs.declared.errors.ElfError.TheVariants.{ShTable, TooLarge}
 use Rattle.elf_types.specs.Answers.{refused_if, answered, Follows}
 use Rattle.elf_types.specs.declared.constants.TheConstants.{MAX_IMAGE}
+use Rattle.elf_types.specs.declared.records.TheConstants.{NULL_SECTION}
 use Rattle.elf_types.proofs.AnswerLemmas.{follows_same}
 use Rattle.elf_xlate.specs.Headers.{shdr_size, shdr_of}
 use Rattle.elf_ident.specs.declared.counts.Counts.{Counts}
@@ -16,8 +17,8 @@ use Rattle.elf_ident.proofs.Refusals.{last_passed}
 
 -- section 0 that is not needed counts as zeros
 pub first_not_needed : (holds : Option (List ℕ)) (h : Ehdr) → needs_first h ≡ false
-    → IfSome holds (λ image. ◌≡◌ {A = Result Shdr ElfError} (Ok (first_section h image)) (Ok zero_shdr))
-unfolding first_section
+    → IfSome holds (λ image. ◌≡◌ {A = Result Shdr ElfError} (Ok (first_section h image)) (Ok NULL_SECTION))
+unfolding first_section zero_shdr
 first_not_needed None h t = tt
 first_not_needed (Some image) h t = rw t refl
 

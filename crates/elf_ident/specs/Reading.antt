@@ -1,5 +1,5 @@
--- What is known of the parts of a front that were read. What is said of bytes holds where the source
--- tells them, and all else for every source.
+-- What is known of the parts of a front that were read. What is said of bytes holds where the
+-- source tells them, and all else for every source.
 use Rattle.std.specs.Prelude.{◌≡◌, ◌≢◌, ◌+◌, ◌*◌, ◌^◌, ◌-◌, ◌<◌, ◌≤◌, ◌⊎◌, List, [], ℕ, length, take, drop, IsTrue, Result, Ok, Err}
 use Rattle.std.specs.List.{All}
 use Rattle.elf_types.specs.declared.constants.TheConstants.{EI_NIDENT, EI_PAD, EV_CURRENT, MAX_IMAGE, MAX_SECTIONS, MAX_SEGMENTS}

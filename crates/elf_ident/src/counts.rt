@@ -7,14 +7,14 @@ ghost use Rattle.elf_types.specs.declared.constants.TheConstants.{EV_CURRENT, MA
 ghost use Rattle.elf_outside.specs.Asks.{Asks};
 ghost use Rattle.elf_xlate.specs.Headers.{phdr_size, shdr_size, shdr_of};
 ghost use Rattle.elf_ident.specs.Reading.{HasTables, AreCounts, IsCountRefusal};
-ghost use Rattle.elf_ident.specs.Front.{with_counts, needs_first, first_section, zero_shdr, true_counts, true_phnum, true_shnum, true_shstrndx, lies_in, header_refusal, count_refusal, counts_by, counts_in};
+ghost use Rattle.elf_ident.specs.Front.{with_counts, needs_first, first_section, true_counts, true_phnum, true_shnum, true_shstrndx, lies_in, header_refusal, count_refusal, counts_by, counts_in};
 
 use elf_outside::Source;
 use elf_outside::reads::read;
 use elf_types::constants::{
     EV_CURRENT, MAX_IMAGE, MAX_SECTIONS, MAX_SEGMENTS, PN_XNUM, SHN_XINDEX,
 };
-use elf_types::{Ehdr, ElfError, Shdr};
+use elf_types::{Ehdr, ElfError, NULL_SECTION, Shdr};
 use elf_xlate::{get_shdr, phdr_size, shdr_size};
 
 /// The true counts and the true string index of an image, after extended numbering. Source: gABI
@@ -162,25 +162,6 @@ fn counts_by(h: &Ehdr, first: &Shdr, len: u64) -> Result<Counts, ElfError>
     Ok(counts)
 }
 
-/// A section header of zeros, which stands for that of section 0 where that one is not needed.
-#[tactic(auto, unfolding(crate::specs::Front::zero_shdr))]
-fn zero_section_header() -> Shdr
-    ensures { result ≡ zero_shdr }
-{
-    Shdr {
-        name: 0,
-        stype: 0,
-        flags: 0,
-        addr: 0,
-        offset: 0,
-        size: 0,
-        link: 0,
-        info: 0,
-        addralign: 0,
-        entsize: 0,
-    }
-}
-
 /// Reads the header of section 0 where it is needed; a header of zeros stands for it else. It
 /// refuses `Read` alone.
 fn read_first_section<S: Source>(src: &mut S, h: &Ehdr) -> Result<Shdr, ElfError>
@@ -191,7 +172,7 @@ fn read_first_section<S: Source>(src: &mut S, h: &Ehdr) -> Result<Shdr, ElfError
     ensures err { IfErr result (λ e. e ≡ ElfError.Read) }
 {
     if !needs_first(h) {
-        return Ok(zero_section_header());
+        return Ok(NULL_SECTION);
     }
     let mut bytes = [0u8; MAX_SHDR_SIZE];
     read_shdr_by(src, h, &mut bytes)

@@ -215,7 +215,8 @@ const EXTENDED_CHANGES: [Change; 5] = [
     (FIRST_INFO, 99, ElfError::PhTable),
 ];
 
-/// What is refused of an image with these changes, of which a source has a length and tells nothing.
+/// What is refused of an image with these changes, of which a source has a length and tells
+/// nothing.
 fn refusal(alloc: Global, image: Image, changes: &[Change], len: u64) -> Option<ElfError> {
     let mut image = image;
     for (field, value, _) in changes {

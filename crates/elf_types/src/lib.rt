@@ -23,7 +23,8 @@ pub use names::{
     tag_name, visibility_name,
 };
 pub use records::{
-    Class, DIRTY, DataId, Dyn, Ehdr, Kind, LAYOUT, Order, Part, Phdr, Rel, Rela, ScnId, Shdr, Sym,
+    Class, DIRTY, DataId, Dyn, Ehdr, Kind, LAYOUT, NULL_SECTION, Order, Part, Phdr, Rel, Rela,
+    ScnId, Shdr, Sym,
 };
 pub use symbols::{bind, stt, vis};
 pub use texts::{put_bytes, put_decimal, put_hex, put_signed, put_text};

@@ -1,4 +1,5 @@
 //! Names of the numbers of an ELF image, without the prefixes of the C constants.
+#![tactic(auto, unfolding(crate::proofs::Words::names))]
 
 ghost use Rattle.std.specs.Prelude.{◌≡◌};
 ghost use Rattle.std.specs.Option.{option_copied};
@@ -8,7 +9,6 @@ ghost use Rattle.elf_types.specs.Names.{object_type_name_of, machine_name_of, se
 /// name. It takes no memory.
 ///
 /// Source: gABI chapter 4, "ELF Header".
-#[tactic(auto, unfolding(crate::specs::Names::object_type_name_of, crate::specs::Names::object_type_names))]
 pub fn etype_name(n: u16) -> Option<&'static str>
     ensures { option_copied result ≡ object_type_name_of n }
 {
@@ -26,7 +26,6 @@ pub fn etype_name(n: u16) -> Option<&'static str>
 /// name. It takes no memory.
 ///
 /// Source: gABI chapter 4, "ELF Header".
-#[tactic(auto, unfolding(crate::specs::Names::machine_name_of, crate::specs::Names::machine_names))]
 pub fn machine_name(n: u16) -> Option<&'static str>
     ensures { option_copied result ≡ machine_name_of n }
 {
@@ -51,7 +50,6 @@ pub fn machine_name(n: u16) -> Option<&'static str>
 /// name. It takes no memory.
 ///
 /// Source: gABI chapter 4, "Sections"; the last four are GNU's.
-#[tactic(auto, unfolding(crate::specs::Names::section_type_name_of, crate::specs::Names::section_type_names))]
 pub fn section_type_name(n: u32) -> Option<&'static str>
     ensures { option_copied result ≡ section_type_name_of n }
 {
@@ -85,7 +83,6 @@ pub fn section_type_name(n: u32) -> Option<&'static str>
 /// name. It takes no memory.
 ///
 /// Source: gABI chapter 5, "Program Header"; the last four are GNU's.
-#[tactic(auto, unfolding(crate::specs::Names::segment_type_name_of, crate::specs::Names::segment_type_names))]
 pub fn segment_type_name(n: u32) -> Option<&'static str>
     ensures { option_copied result ≡ segment_type_name_of n }
 {
@@ -110,7 +107,6 @@ pub fn segment_type_name(n: u32) -> Option<&'static str>
 /// name. It takes no memory.
 ///
 /// Source: gABI chapter 4, "Symbol Table"; the last one is GNU's.
-#[tactic(auto, unfolding(crate::specs::Names::symbol_type_name_of, crate::specs::Names::symbol_type_names))]
 pub fn symbol_type_name(n: u8) -> Option<&'static str>
     ensures { option_copied result ≡ symbol_type_name_of n }
 {
@@ -131,7 +127,6 @@ pub fn symbol_type_name(n: u8) -> Option<&'static str>
 /// the number has no name. It takes no memory.
 ///
 /// Source: gABI chapter 4, "Symbol Table"; the last one is GNU's.
-#[tactic(auto, unfolding(crate::specs::Names::binding_name_of, crate::specs::Names::binding_names))]
 pub fn binding_name(n: u8) -> Option<&'static str>
     ensures { option_copied result ≡ binding_name_of n }
 {
@@ -148,7 +143,6 @@ pub fn binding_name(n: u8) -> Option<&'static str>
 /// the number has no name. It takes no memory.
 ///
 /// Source: gABI chapter 4, "Symbol Table".
-#[tactic(auto, unfolding(crate::specs::Names::visibility_name_of, crate::specs::Names::visibility_names))]
 pub fn visibility_name(n: u8) -> Option<&'static str>
     ensures { option_copied result ≡ visibility_name_of n }
 {
@@ -165,7 +159,6 @@ pub fn visibility_name(n: u8) -> Option<&'static str>
 /// name. It takes no memory.
 ///
 /// Source: gABI chapter 5, "Dynamic Section".
-#[tactic(auto, unfolding(crate::specs::Names::tag_name_of, crate::specs::Names::tag_names))]
 pub fn tag_name(n: i64) -> Option<&'static str>
     ensures { option_copied result ≡ tag_name_of n }
 {

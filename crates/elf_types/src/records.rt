@@ -157,6 +157,20 @@ pub struct Shdr {
     pub entsize: u64,
 }
 
+/// The section header of index 0, whose fields are all 0 (gABI, "Sections").
+pub const NULL_SECTION: Shdr = Shdr {
+    name: 0,
+    stype: 0,
+    flags: 0,
+    addr: 0,
+    offset: 0,
+    size: 0,
+    link: 0,
+    info: 0,
+    addralign: 0,
+    entsize: 0,
+};
+
 /// A symbol (gABI, "Symbol Table").
 #[derive(Clone, Copy, Debug, PartialEq, Eq)]
 pub struct Sym {

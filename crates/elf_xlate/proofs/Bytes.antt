@@ -14,9 +14,9 @@ number_of_one Least b = omega arith
 number_of_one Greatest b = omega arith
 
 -- the number of one byte
-pub number_of_byte : (order : Order) (bytes : List ℕ) (place : ℕ) → place < length bytes → get_or bytes place 0 ≡ number_at order bytes place 1
+pub of_a_byte : (order : Order) (bytes : List ℕ) (place : ℕ) → place < length bytes → get_or bytes place 0 ≡ number_at order bytes place 1
 unfolding number_at
-number_of_byte order bytes place h =
+of_a_byte order bytes place h =
     let front = drop_more bytes place 0 h in
     rw (front, number_of_one order (get_or bytes place 0)) refl
 

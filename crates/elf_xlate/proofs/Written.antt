@@ -55,8 +55,8 @@ lent order place width n bytes front left h e left_is =
     same_lists _ _ (search (rules, places)) (λ k d lt. grind (arith, places))
 
 -- one byte
-pub set_is_written : (order : Order) (bytes : List ℕ) (place b : ℕ) → place + 1 ≤ length bytes → b < 256 → set bytes place b ≡ written place (octets order 1 b) bytes
+pub one_set : (order : Order) (bytes : List ℕ) (place b : ℕ) → place + 1 ≤ length bytes → b < 256 → set bytes place b ≡ written place (octets order 1 b) bytes
 unfolding written
-set_is_written order bytes place b h small =
+one_set order bytes place b h small =
     let next : suc place ≡ place + 1 = omega arith in
     rw (octets_one order b small) (set_split bytes place b (omega arith) ∙ ap (λ (p : ℕ). take place bytes ++ b ∷ drop p bytes) next)

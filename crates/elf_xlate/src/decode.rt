@@ -60,7 +60,7 @@ fn is_whole(kind: Kind, class: Class, len: usize) -> bool
 }
 
 /// The items of whole bytes in a byte order and a class that are types.
-#[tactic(auto, unfolding(crate::specs::Translation::decoded, crate::specs::Translation::first_unfit), using(crate::proofs::Decoded::listed_whole, crate::proofs::Pieces::all_pass))]
+#[tactic(auto, using(crate::proofs::Words::items_read), unfolding(crate::proofs::Words::items))]
 fn decode_items<T: Endian, const WIDE: bool>(
     alloc: Global,
     kind: Kind,

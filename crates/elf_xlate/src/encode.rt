@@ -45,7 +45,7 @@ pub fn to_file(
 
 /// Appends the bytes of items, each of which is tested as it is written, in one pass. Where it
 /// answers false, one does not fit or there is no memory, and there may be bytes of some.
-#[tactic(auto, unfolding(crate::specs::Translation::encoded, crate::specs::Translation::first_unfit))]
+#[tactic(auto, unfolding(crate::proofs::Words::items))]
 fn encode_items<T: Endian, const WIDE: bool>(items: &Items, out: &mut Octets) -> bool
     ensures fits { IsTrue result → first_unfit (class_of WIDE) items.now ≡ None }
     ensures bytes { IsTrue result → out.new ≡ out.old ++ encoded (class_of WIDE) T.order items.now }
@@ -145,7 +145,7 @@ pub fn put_items(items: &Items, class: Class, order: Order, from: u64, to: u64, 
 }
 
 /// The same in a byte order and a class that are types.
-#[tactic(auto, unfolding(crate::specs::Translation::encoded, crate::specs::Translation::first_unfit), using(crate::proofs::Pieces::range_passes))]
+#[tactic(auto, using(crate::proofs::Pieces::range_passes), unfolding(crate::proofs::Words::items))]
 fn encode_range<T: Endian, const WIDE: bool>(items: &Items, from: usize, to: usize, out: &mut [u8])
     requires order { from ≤ to }
     requires inside { to ≤ items_count items.now }

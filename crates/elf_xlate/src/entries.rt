@@ -35,7 +35,7 @@ impl<T: Endian, const WIDE: bool> Codec<Sym> for Form<T, WIDE> {
         if WIDE { 24 } else { 16 }
     }
 
-    #[tactic(auto, unfolding(crate::specs::Items::sym_of, crate::specs::Items::sym_fields, crate::specs::Items::sym_fits))]
+    #[tactic(auto, unfolding(crate::proofs::Words::sym))]
     fn decode(bytes: &[u8]) -> Sym {
         Sym {
             name: get_field!(T, WIDE, bytes, 0:4, 0:4),
@@ -51,7 +51,7 @@ impl<T: Endian, const WIDE: bool> Codec<Sym> for Form<T, WIDE> {
         item.fits_class(class::<WIDE>())
     }
 
-    #[tactic(auto, using(crate::proofs::Tables::sym_laid), unfolding(crate::specs::Items::sym_fits, crate::specs::Items::sym_fields))]
+    #[tactic(auto, using(crate::proofs::Tables::sym_laid), unfolding(crate::proofs::Words::sym))]
     fn encode(item: &Sym, out: &mut [u8]) {
         put_field!(T, WIDE, out, 0:4, 0:4, item.name);
         put_field!(T, WIDE, out, 12:1, 4:1, item.info);
@@ -119,7 +119,7 @@ impl<T: Endian, const WIDE: bool> Codec<Rel> for Form<T, WIDE> {
         if WIDE { 16 } else { 8 }
     }
 
-    #[tactic(auto, unfolding(crate::specs::Items::rel_of, crate::specs::Items::rel_fields, crate::specs::Items::rel_fits))]
+    #[tactic(auto, unfolding(crate::proofs::Words::rel))]
     fn decode(bytes: &[u8]) -> Rel {
         let info = get_field!(T, WIDE, bytes, 4:4, 8:8);
         Rel {
@@ -133,7 +133,7 @@ impl<T: Endian, const WIDE: bool> Codec<Rel> for Form<T, WIDE> {
         item.fits_class(class::<WIDE>())
     }
 
-    #[tactic(auto, using(crate::proofs::Tables::rel_laid), unfolding(crate::specs::Items::rel_fits, crate::specs::Items::rel_fields))]
+    #[tactic(auto, using(crate::proofs::Tables::rel_laid), unfolding(crate::proofs::Words::rel))]
     fn encode(item: &Rel, out: &mut [u8]) {
         let info = info_of::<WIDE>(item.sym, item.rtype);
         put_field!(T, WIDE, out, 0:4, 0:8, item.offset);
@@ -162,7 +162,7 @@ impl<T: Endian, const WIDE: bool> Codec<Rela> for Form<T, WIDE> {
         if WIDE { 24 } else { 12 }
     }
 
-    #[tactic(auto, unfolding(crate::specs::Items::rela_of, crate::specs::Items::rela_fields, crate::specs::Items::rela_fits))]
+    #[tactic(auto, unfolding(crate::proofs::Words::rela))]
     fn decode(bytes: &[u8]) -> Rela {
         let info = get_field!(T, WIDE, bytes, 4:4, 8:8);
         Rela {
@@ -177,7 +177,7 @@ impl<T: Endian, const WIDE: bool> Codec<Rela> for Form<T, WIDE> {
         item.fits_class(class::<WIDE>())
     }
 
-    #[tactic(auto, using(crate::proofs::Tables::rela_laid, crate::proofs::Signed::passed_on), unfolding(crate::specs::Items::rela_fits, crate::specs::Items::rela_fields))]
+    #[tactic(auto, using(crate::proofs::Words::put_rela), unfolding(crate::proofs::Words::rela))]
     fn encode(item: &Rela, out: &mut [u8]) {
         let info = info_of::<WIDE>(item.sym, item.rtype);
         put_field!(T, WIDE, out, 0:4, 0:8, item.offset);
@@ -207,7 +207,7 @@ impl<T: Endian, const WIDE: bool> Codec<Dyn> for Form<T, WIDE> {
         if WIDE { 16 } else { 8 }
     }
 
-    #[tactic(auto, unfolding(crate::specs::Items::dyn_of, crate::specs::Items::dyn_fields, crate::specs::Items::dyn_fits))]
+    #[tactic(auto, unfolding(crate::proofs::Words::dynamic))]
     fn decode(bytes: &[u8]) -> Dyn {
         Dyn {
             tag: get_field!(T, WIDE, bytes, 0:4 s, 0:8 s),
@@ -219,7 +219,7 @@ impl<T: Endian, const WIDE: bool> Codec<Dyn> for Form<T, WIDE> {
         item.fits_class(class::<WIDE>())
     }
 
-    #[tactic(auto, using(crate::proofs::Tables::dyn_laid, crate::proofs::Signed::passed_on), unfolding(crate::specs::Items::dyn_fits, crate::specs::Items::dyn_fields))]
+    #[tactic(auto, using(crate::proofs::Words::put_dyn), unfolding(crate::proofs::Words::dynamic))]
     fn encode(item: &Dyn, out: &mut [u8]) {
         put_field!(T, WIDE, out, 0:4 s, 0:8 s, item.tag);
         put_field!(T, WIDE, out, 4:4, 8:8, item.val);

@@ -9,7 +9,7 @@ use crate::byte_order::Endian;
 
 /// The byte that stands at a place in class 32 and at another in class 64.
 #[inline(always)]
-#[tactic(auto, using(crate::proofs::Bytes::number_of_byte), unfolding(crate::specs::Fields::number_in))]
+#[tactic(auto, using(crate::proofs::Bytes::of_a_byte), unfolding(crate::specs::Fields::number_in))]
 pub fn get_one<T: Endian, const WIDE: bool>(bytes: &[u8], narrow: usize, broad: usize) -> u8
     requires { (if WIDE then broad else narrow) + 1 ≤ length bytes.now }
     ensures { result ≡ number_in (class_of WIDE) T.order bytes.now (field (narrow, 1) (broad, 1)) }
@@ -63,7 +63,7 @@ pub fn get_native<T: Endian, const WIDE: bool>(bytes: &[u8], narrow: usize, broa
 
 /// The signed number at a place of the class: of four bytes in class 32, of eight in class 64.
 #[inline(always)]
-#[tactic(auto, unfolding(crate::specs::Fields::number_in, crate::specs::Numbers::number_at, crate::specs::Numbers::signed_of))]
+#[tactic(auto, unfolding(crate::proofs::Words::number))]
 pub fn get_signed<T: Endian, const WIDE: bool>(bytes: &[u8], narrow: usize, broad: usize) -> i64
     requires { (if WIDE then broad + 8 else narrow + 4) ≤ length bytes.now }
     ensures fits { IsTrue (fits_signed (class_of WIDE) result) }
@@ -106,7 +106,7 @@ fn write_eight<T: Endian>(out: &mut [u8], place: usize, n: u64)
 
 /// Writes a byte at a place of the class.
 #[inline(always)]
-#[tactic(auto, using(crate::proofs::Written::set_is_written), unfolding(crate::specs::Fields::written_in))]
+#[tactic(auto, using(crate::proofs::Written::one_set), unfolding(crate::specs::Fields::written_in))]
 pub fn put_one<T: Endian, const WIDE: bool>(out: &mut [u8], narrow: usize, broad: usize, n: u8)
     requires { (if WIDE then broad else narrow) + 1 ≤ length out.old }
     ensures { out.new ≡ written_in (class_of WIDE) T.order (field (narrow, 1) (broad, 1)) n

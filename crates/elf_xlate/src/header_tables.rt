@@ -38,7 +38,7 @@ impl<T: Endian, const WIDE: bool> Codec<Phdr> for Form<T, WIDE> {
         phdr_size(class::<WIDE>())
     }
 
-    #[tactic(auto, unfolding(crate::specs::Headers::phdr_of, crate::specs::Headers::phdr_fields, crate::specs::Headers::phdr_fits))]
+    #[tactic(auto, unfolding(crate::proofs::Words::phdr))]
     fn decode(bytes: &[u8]) -> Phdr {
         Phdr {
             ptype: get_field!(T, WIDE, bytes, 0:4, 0:4),
@@ -56,7 +56,7 @@ impl<T: Endian, const WIDE: bool> Codec<Phdr> for Form<T, WIDE> {
         phdr_fits(item, class::<WIDE>())
     }
 
-    #[tactic(auto, using(crate::proofs::Tables::phdr_laid), unfolding(crate::specs::Headers::phdr_fits, crate::specs::Headers::phdr_fields))]
+    #[tactic(auto, using(crate::proofs::Tables::phdr_laid), unfolding(crate::proofs::Words::phdr))]
     fn encode(item: &Phdr, out: &mut [u8]) {
         put_field!(T, WIDE, out, 0:4, 0:4, item.ptype);
         put_field!(T, WIDE, out, 24:4, 4:4, item.flags);
@@ -90,7 +90,7 @@ impl<T: Endian, const WIDE: bool> Codec<Shdr> for Form<T, WIDE> {
         shdr_size(class::<WIDE>())
     }
 
-    #[tactic(auto, unfolding(crate::specs::Headers::shdr_of, crate::specs::Headers::shdr_fields, crate::specs::Headers::shdr_fits))]
+    #[tactic(auto, unfolding(crate::proofs::Words::shdr))]
     fn decode(bytes: &[u8]) -> Shdr {
         Shdr {
             name: get_field!(T, WIDE, bytes, 0:4, 0:4),
@@ -110,7 +110,7 @@ impl<T: Endian, const WIDE: bool> Codec<Shdr> for Form<T, WIDE> {
         shdr_fits(item, class::<WIDE>())
     }
 
-    #[tactic(auto, using(crate::proofs::Tables::shdr_laid), unfolding(crate::specs::Headers::shdr_fits, crate::specs::Headers::shdr_fields))]
+    #[tactic(auto, using(crate::proofs::Tables::shdr_laid), unfolding(crate::proofs::Words::shdr))]
     fn encode(item: &Shdr, out: &mut [u8]) {
         put_field!(T, WIDE, out, 0:4, 0:4, item.name);
         put_field!(T, WIDE, out, 4:4, 4:4, item.stype);

@@ -17,7 +17,7 @@ use elf_types::constants::{
 use elf_types::{Class, Ehdr, Order};
 
 /// The ELF header, of class 64 or of class 32.
-#[tactic(auto, unfolding(crate::specs::Headers::ehdr_of, crate::specs::Headers::ehdr_fields, crate::specs::Headers::ehdr_fits))]
+#[tactic(auto, unfolding(crate::proofs::Words::ehdr))]
 fn decode_ehdr<T: Endian, const WIDE: bool>(class: Class, order: Order, bytes: &[u8]) -> Ehdr
     requires size { length bytes.now ≡ ehdr_size (class_of WIDE) }
     requires class { class ≡ class_of WIDE }
@@ -83,7 +83,7 @@ fn order_byte(order: Order) -> u8
 }
 
 /// Writes the ELF header, of class 64 or of class 32.
-#[tactic(auto, using(crate::proofs::Tables::ehdr_laid), unfolding(crate::specs::Headers::ehdr_fits, crate::specs::Headers::ehdr_fields))]
+#[tactic(auto, using(crate::proofs::Tables::ehdr_laid), unfolding(crate::proofs::Words::ehdr))]
 fn encode_ehdr<T: Endian, const WIDE: bool>(h: &Ehdr, pad: [u8; 7], out: &mut [u8])
     requires class { h.now.class ≡ class_of WIDE }
     requires order { h.now.order ≡ T.order }

@@ -111,7 +111,7 @@ impl<T: Endian, const WIDE: bool> Codec<u16> for Form<T, WIDE> {
         true
     }
 
-    #[tactic(auto, using(crate::proofs::Tables::half_laid), unfolding(crate::specs::Items::half_fields))]
+    #[tactic(auto, using(crate::proofs::Tables::half_laid), unfolding(crate::proofs::Words::half))]
     fn encode(item: &u16, out: &mut [u8]) {
         put_field!(T, WIDE, out, 0:2, 0:2, *item);
     }
@@ -147,7 +147,7 @@ impl<T: Endian, const WIDE: bool> Codec<u32> for Form<T, WIDE> {
         true
     }
 
-    #[tactic(auto, using(crate::proofs::Tables::word_laid), unfolding(crate::specs::Items::word_fields))]
+    #[tactic(auto, using(crate::proofs::Tables::word_laid), unfolding(crate::proofs::Words::word))]
     fn encode(item: &u32, out: &mut [u8]) {
         put_field!(T, WIDE, out, 0:4, 0:4, *item);
     }
@@ -183,7 +183,7 @@ impl<T: Endian, const WIDE: bool> Codec<u64> for Form<T, WIDE> {
         item.fits_class(class::<WIDE>())
     }
 
-    #[tactic(auto, using(crate::proofs::Tables::addr_laid), unfolding(crate::specs::Items::addr_fields))]
+    #[tactic(auto, using(crate::proofs::Tables::addr_laid), unfolding(crate::proofs::Words::addr))]
     fn encode(item: &u64, out: &mut [u8]) {
         put_field!(T, WIDE, out, 0:4, 0:8, *item);
     }

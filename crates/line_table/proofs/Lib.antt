@@ -5,3 +5,4 @@ pub mod Lists
 pub mod Names
 pub mod Running
 pub mod Made
+pub mod Words

@@ -41,7 +41,7 @@ pub struct Header<'a> {
 
 /// The body of the unit at the front of bytes, which is what `unit_length` counts. It refuses `Cut`
 /// where that field passes the bytes, then `Form`, and then `Cut` where the body passes them.
-#[tactic(auto, unfolding(crate::specs::Header::unit_body_at, crate::specs::Header::length_refusal, crate::specs::Header::unit_length, crate::specs::Header::unit_body, crate::specs::Header::field, crate::specs::Reading::number_at, crate::specs::Reading::bytes_at))]
+#[tactic(auto, unfolding(crate::proofs::Words::body))]
 pub fn read_body(bytes: &[u8], order: Order) -> Result<&[u8], Stop>
     ensures value { FollowsBy (λ b. b.now) why_of result (unit_body_at order bytes.now) }
     ensures size { IfOk result

@@ -72,7 +72,7 @@ pub fn read_operation(
 }
 
 /// The instruction of a standard opcode, which was read.
-#[tactic(auto, unfolding(crate::specs::Program::standard_at, crate::specs::Program::standard_opcodes))]
+#[tactic(auto, unfolding(crate::proofs::Words::standard))]
 fn read_standard(header: &Header, opcode: u8, reader: &mut Reader) -> Result<Operation, Stop>
     requires above { 0 < opcode }
     requires below { opcode < header.now.opcode_base }
@@ -145,7 +145,7 @@ fn extended_operation(alloc: Global, header: &Header, bytes: &[u8]) -> Result<Op
 }
 
 /// The address that is all of what is left.
-#[tactic(auto, unfolding(crate::specs::Program::address_in, crate::specs::Reading::number_at, crate::specs::Reading::bytes_at))]
+#[tactic(auto, unfolding(crate::proofs::Words::address))]
 fn read_address(header: &Header, reader: &mut Reader) -> Result<u64, Stop>
     ensures value { FollowsBy (λ n. n) why_of result (address_in (seen header.now) reader.old) }
 {

@@ -80,7 +80,7 @@ impl<'a> Reader<'a> {
     }
 
     /// A number of two bytes.
-    #[tactic(auto, unfolding(crate::specs::Reading::number_at, crate::specs::Reading::bytes_at, crate::specs::Reading::number))]
+    #[tactic(auto, unfolding(crate::proofs::Words::numbers))]
     pub fn read_u16(&mut self, order: Order) -> Result<u16, Stop>
         ensures value { FollowsBy (λ n. (n, self.new)) why_of result
             (number_at order w16 self.old) }
@@ -97,7 +97,7 @@ impl<'a> Reader<'a> {
     }
 
     /// A number of four bytes.
-    #[tactic(auto, unfolding(crate::specs::Reading::number_at, crate::specs::Reading::bytes_at, crate::specs::Reading::number))]
+    #[tactic(auto, unfolding(crate::proofs::Words::numbers))]
     pub fn read_u32(&mut self, order: Order) -> Result<u32, Stop>
         ensures value { FollowsBy (λ n. (n, self.new)) why_of result
             (number_at order w32 self.old) }
@@ -114,7 +114,7 @@ impl<'a> Reader<'a> {
     }
 
     /// A number of eight bytes.
-    #[tactic(auto, unfolding(crate::specs::Reading::number_at, crate::specs::Reading::bytes_at, crate::specs::Reading::number))]
+    #[tactic(auto, unfolding(crate::proofs::Words::numbers))]
     pub fn read_u64(&mut self, order: Order) -> Result<u64, Stop>
         ensures value { FollowsBy (λ n. (n, self.new)) why_of result
             (number_at order w64 self.old) }

@@ -63,8 +63,8 @@ fn section_bytes(alloc: Global, h: &Ehdr, section: &Shdr) -> Result<Octets, ElfE
 }
 
 impl Image {
-    /// The image that is a header alone; `pad` is the bytes 9 to 15 of its identification. It refuses
-    /// `Memory`, and `Unfit` for a header that does not fit its class.
+    /// The image that is a header alone; `pad` is the bytes 9 to 15 of its identification. It
+    /// refuses `Memory`, and `Unfit` for a header that does not fit its class.
     pub fn new(alloc: Global, header: Ehdr, pad: [u8; 7]) -> Result<Image, ElfError> {
         let bytes = header_bytes(alloc, &header, pad)?;
         Ok(Image {
@@ -95,8 +95,8 @@ impl Image {
         Ok(())
     }
 
-    /// Puts the file form of items at a place. It refuses `Memory`, and `Unfit` for an item that does
-    /// not fit the class.
+    /// Puts the file form of items at a place. It refuses `Memory`, and `Unfit` for an item that
+    /// does not fit the class.
     pub fn put_items(&mut self, at: u64, items: &Items) -> Result<(), ElfError> {
         let mut bytes = Octets::new(self.alloc);
         match to_file(items, self.header.class, self.header.order, &mut bytes) {

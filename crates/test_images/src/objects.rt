@@ -5,7 +5,7 @@ use crate::image::{Image, unfit};
 use elf_types::constants::{
     EV_CURRENT, PN_XNUM, SHN_ABS, SHN_XINDEX, SHT_PROGBITS, SHT_STRTAB, SHT_SYMTAB, STB_GLOBAL,
 };
-use elf_types::{Class, Ehdr, ElfError, Kind, Order, Part, Phdr, Shdr, Sym, Syms};
+use elf_types::{Class, Ehdr, ElfError, Kind, NULL_SECTION, Order, Part, Phdr, Shdr, Sym, Syms};
 use elf_xlate::{Items, ehdr_size, item_size, phdr_size, shdr_size};
 use std::alloc::Global;
 
@@ -26,20 +26,6 @@ pub const EM_X86_64: u16 = 62;
 
 /// The type of a symbol for a function, `STT_FUNC`.
 const STT_FUNC: u8 = 2;
-
-/// A section header of zeros, as section 0 has it.
-pub const NULL_SECTION: Shdr = Shdr {
-    name: 0,
-    stype: 0,
-    flags: 0,
-    addr: 0,
-    offset: 0,
-    size: 0,
-    link: 0,
-    info: 0,
-    addralign: 0,
-    entsize: 0,
-};
 
 /// A program header of zeros.
 const NULL_SEGMENT: Phdr = Phdr {
@@ -96,8 +82,9 @@ pub fn header_alone(alloc: Global, class: Class, order: Order) -> Result<Image, 
     Image::new(alloc, header, [0; 7])
 }
 
-/// An executable with these program headers behind its header, and nothing else. It refuses `Memory`,
-/// and `Unfit` for a program header that does not fit the class and for more than 65,535 of them.
+/// An executable with these program headers behind its header, and nothing else. It refuses
+/// `Memory`, and `Unfit` for a program header that does not fit the class and for more than 65,535
+/// of them.
 pub fn with_segments(
     alloc: Global,
     class: Class,
@@ -180,8 +167,9 @@ pub fn symbol_object(alloc: Global, class: Class, order: Order) -> Result<Image,
     Ok(image)
 }
 
-/// An object with sections 1 to 5, each of eight bytes that are the section's number, one behind the
-/// other at multiples of 8. Its table of section headers ends the image, and no section holds names.
+/// An object with sections 1 to 5, each of eight bytes that are the section's number, one behind
+/// the other at multiples of 8. Its table of section headers ends the image, and no section holds
+/// names.
 pub fn five_sections(alloc: Global, class: Class, order: Order) -> Result<Image, ElfError> {
     let start = (ehdr_size(class) as u64).next_multiple_of(8);
     let header = with_table(class, order, start + 40, 6);

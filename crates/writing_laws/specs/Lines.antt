@@ -45,8 +45,8 @@ pub record IsLeft (end : ℕ) (otherwise : ℕ → ℕ) (bytes : List ℕ) (from
 unfoldable pub patched : ℕ → List Block → List ℕ → List ℕ
 patched n blocks bytes = spread n (slice_index bytes) blocks
 
--- while blocks are written over a device that has so many bytes: each byte is the old one or the new
--- one, and those blocks that are not left have their new bytes
+-- while blocks are written over a device that has so many bytes: each byte is the old one or the
+-- new one, and those blocks that are not left have their new bytes
 pub record IsUnderWay (old new held : List ℕ) (size : ℕ) (blocks left : List Block) : Type 0 where
   pub len : length held ≡ size
   pub each : AreOldOrNew old new held
