@@ -101,7 +101,7 @@ data_looks g result source left old new s p is after w came holds same own asks 
 
 -- ---- The items that are handed out
 
-some_of : {X : Type 0} (o : Option X) → is_some o ≡ true → (x : X) × (o ≡ Some x)
+pub some_of : {X : Type 0} (o : Option X) → is_some o ≡ true → (x : X) × (o ≡ Some x)
 some_of None h = cc
 some_of (Some x) h = (x, refl)
 
@@ -124,11 +124,11 @@ decoded_alike kind class order bytes others items stated same made known = (
 )
 
 -- items that are held of a clean piece
-record AreItems (image : Option (List ℕ)) (items stated : Items) : Type 0 where
-  exact : IsTrue (is_some image) → items ≡ stated
-  alike : AlikeItems items stated
+pub record AreItems (image : Option (List ℕ)) (items stated : Items) : Type 0 where
+  pub exact : IsTrue (is_some image) → items ≡ stated
+  pub alike : AlikeItems items stated
 
-clean_items : (image : Option (List ℕ)) (size : ℕ) (b : Body) (s p : ℕ) (items : Items) (raw : Option (List ℕ)) → IsElf image size b → s < length b.sections.items → IsCell (scn_at b s).cell
+pub clean_items : (image : Option (List ℕ)) (size : ℕ) (b : Body) (s p : ℕ) (items : Items) (raw : Option (List ℕ)) → IsElf image size b → s < length b.sections.items → IsCell (scn_at b s).cell
     → (scn_at b s).cell.home.out ≡ false → (scn_at b s).cell.raw ≡ raw → option_and_then (decoded (scn_at b s).cell.home.kind b.header.class b.header.order) raw ≡ Some items
     → AreItems image items (object.or_empty (content (object_of image size b) s))
 clean_items image size b s p items None is there cell inside same made = cc

@@ -10,3 +10,5 @@ pub mod RawCalls
 pub mod Handing
 pub mod PieceCalls
 pub mod DataCalls
+pub mod BaseCalls
+pub mod EntryCalls

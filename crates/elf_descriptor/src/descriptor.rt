@@ -7,6 +7,8 @@ use elf_outside::Source;
 use std::alloc::Global;
 use std::marker::Model;
 
+mod base;
+mod entries;
 mod getters;
 mod reading;
 
