@@ -1,6 +1,8 @@
 pub mod Refusals
 pub mod Marks
 pub mod Objects
+pub mod Beginnings
+pub mod BeginAnswers
 pub mod Warming
 pub mod ListedCells
 pub mod Loaded

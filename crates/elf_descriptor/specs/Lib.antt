@@ -1,6 +1,7 @@
 pub mod State
 pub mod Views
 pub mod Sound
+pub mod Begun
 pub mod Bodies
 pub mod Entries
 pub mod Dues

@@ -1,12 +1,12 @@
 -- The true counts, from the header and section 0.
-use Rattle.std.proofs.Common.{◌≡◌, ◌+◌, ◌*◌, ◌^◌, ◌≤◌, ◌&&◌, ◌++◌, ℕ, Bool, true, false, List, [], ◌∷◌, length, take, drop, Option, Some, None, Result, Ok, Err, IfSome, refl, sym, ap, ◌∙◌, arith}
+use Rattle.std.proofs.Common.{◌≡◌, ◌+◌, ◌*◌, ◌≤◌, ◌&&◌, ℕ, Bool, true, false, List, [], ◌∷◌, length, take, drop, Option, Some, None, Result, Ok, Err, IfSome, refl, sym, ap, ◌∙◌, arith}
 use Rattle.std.specs.Prelude.{not, nat_lt, ◌==◌}
 use Rattle.std.proofs.lemmas.Bool.{leb-true}
 use Rattle.elf_types.specs.declared.records.Ehdr.{Ehdr}
 use Rattle.elf_types.specs.declared.records.Shdr.{Shdr}
 use Rattle.elf_types.specs.declared.errors.ElfError.{ElfError}
 use Rattle.elf_types.specs.declared.errors.ElfError.TheVariants.{ShTable, TooLarge}
-use Rattle.elf_types.specs.Answers.{refused_if, answered, Follows}
+use Rattle.elf_types.specs.Answers.{refused_if, Follows}
 use Rattle.elf_types.specs.declared.constants.TheConstants.{MAX_IMAGE}
 use Rattle.elf_types.specs.declared.records.TheConstants.{NULL_SECTION}
 use Rattle.elf_types.proofs.AnswerLemmas.{follows_same}

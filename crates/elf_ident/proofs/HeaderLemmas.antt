@@ -1,14 +1,13 @@
 -- The identification and the header, from the bytes that were read.
-use Rattle.std.proofs.Common.{◌≡◌, ◌+◌, ◌-◌, ◌<◌, ◌≤◌, ◌++◌, ◌==◌, ℕ, Bool, true, false, cond, subst, List, [], ◌∷◌, length, take, drop, Option, Some, None, Result, Ok, Err, IfSome, refl, sym, ap, ◌∙◌, arith, lit≤, lit<}
-use Rattle.std.specs.Prelude.{nat_lt, nat_eq, slice_index, not}
+use Rattle.std.proofs.Common.{◌≡◌, ◌+◌, ◌-◌, ◌<◌, ◌≤◌, ◌++◌, ◌==◌, ℕ, subst, List, length, take, drop, Option, Some, None, Result, Ok, Err, IfSome, refl, sym, ap, ◌∙◌, arith, lit≤, lit<}
+use Rattle.std.specs.Prelude.{slice_index, not}
 use Rattle.std.proofs.lemmas.Bool.{lt-ltb, le-ltb}
 use Rattle.std.proofs.lemmas.List.{take-take, get_or-take, length-take-le, take-append-drop, drop-take, take_at, drop_at}
-use Rattle.std.specs.List.{starts_with}
 use Rattle.elf_types.specs.declared.records.Class.{Class}
 use Rattle.elf_types.specs.declared.records.Class.TheVariants.{C32, C64}
 use Rattle.elf_types.specs.declared.records.Order.{Order}
 use Rattle.elf_types.specs.declared.errors.ElfError.{ElfError}
-use Rattle.elf_types.specs.declared.errors.ElfError.TheVariants.{Memory, Read, Short, Magic, Version}
+use Rattle.elf_types.specs.declared.errors.ElfError.TheVariants.{Memory, Read, Short, Version}
 use Rattle.elf_types.specs.declared.errors.ElfError.TheVariants.{Class as Class_error, Order as Order_error}
 use Rattle.elf_types.specs.Answers.{refused_if, answered, or_refused, ◌>>=◌, Follows}
 use Rattle.elf_types.proofs.AnswerLemmas.{follows_same}

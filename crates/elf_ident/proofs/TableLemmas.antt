@@ -1,5 +1,5 @@
 -- The entries of a table, from its bytes.
-use Rattle.std.proofs.Common.{◌≡◌, ◌+◌, ◌*◌, ◌<◌, ◌≤◌, ℕ, zero, suc, List, length, take, drop, Option, Some, None, IfSome, Result, Ok, Err, refl, sym, ap, subst, ◌∙◌, arith, lit<, lit≤}
+use Rattle.std.proofs.Common.{◌≡◌, ◌*◌, ◌<◌, ◌≤◌, ℕ, zero, suc, List, length, take, drop, Option, Some, None, IfSome, Result, Ok, Err, ap, subst, ◌∙◌, arith, lit<, lit≤}
 use Rattle.std.specs.Prelude.{◌/◌, ◌%◌, IfOk}
 use Rattle.elf_types.specs.declared.errors.ElfError.{ElfError}
 use Rattle.std.proofs.Math.Nat.{mul-div_cancel, mul-mod_left}

@@ -14,7 +14,7 @@ use elf_outside::{Files, Sink};
 use elf_types::Octets;
 use std::alloc::Global;
 use tool_output::{Outputs, Status, Stop};
-use tool_text::{Args, Refusal, read_words};
+use tool_text::{Args, WordsFault, read_words};
 
 /// Reads the words and runs their command, or says how they are to be.
 fn run_words<F: Files, O: Sink, E: Sink>(
@@ -37,11 +37,11 @@ fn run_words<F: Files, O: Sink, E: Sink>(
             let refused = run_command(alloc, &command, files, outputs)?;
             Ok(Status::of_refused(refused))
         }
-        Err(Refusal::Usage(usage)) => {
+        Err(WordsFault::Usage(usage)) => {
             say(outputs, usage.line())?;
             Ok(Status::BadWords)
         }
-        Err(Refusal::Memory) => Err(Stop::Memory),
+        Err(WordsFault::Memory) => Err(Stop::Memory),
     }
 }
 

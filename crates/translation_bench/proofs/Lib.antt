@@ -1,3 +1,3 @@
 pub mod Sums
 pub mod Places
-pub mod RoundLemmas
+pub mod Turns

@@ -25,7 +25,7 @@ pub fn total(alloc: Global, work: &Work) -> Option<u64> {
 }
 
 /// The sum after all rounds of decoding.
-#[tactic(auto, unfolding(crate::specs::Sums::decode_sum), using(crate::proofs::RoundLemmas::decoding))]
+#[tactic(auto, unfolding(crate::specs::Sums::decode_sum), using(crate::proofs::Turns::decoding))]
 fn decode_rounds(alloc: Global, work: &Work, bytes: &[u8], first: u64) -> Option<u64>
     ensures { IfSome result (λ sum. sum ≡ decode_sum first work.now.rounds
         (symbols_in (decoded kinds.Sym work.now.class work.now.order bytes.now))) }
@@ -39,7 +39,7 @@ fn decode_rounds(alloc: Global, work: &Work, bytes: &[u8], first: u64) -> Option
 }
 
 /// The sum with the symbol at a place more, where there is one.
-#[tactic(auto, unfolding(crate::specs::Sums::symbols_in), using(crate::proofs::RoundLemmas::reading))]
+#[tactic(auto, unfolding(crate::specs::Sums::symbols_in), using(crate::proofs::Turns::reading))]
 fn with_symbol_at(sum: u64, items: &Items, place: u64) -> u64
     ensures { result ≡ with_symbols sum (take 1 (drop place (symbols_in (Some items.now)))) }
 {
@@ -53,7 +53,7 @@ fn with_symbol_at(sum: u64, items: &Items, place: u64) -> u64
 }
 
 /// The sum of what encoding makes, and after all rounds of it.
-#[tactic(auto, unfolding(crate::specs::Sums::encode_sum), using(crate::proofs::RoundLemmas::encoding))]
+#[tactic(auto, unfolding(crate::specs::Sums::encode_sum), using(crate::proofs::Turns::encoding))]
 fn encode_rounds(alloc: Global, work: &Work, items: &Items) -> Option<u64>
     ensures { IfSome result (λ sum. sum ≡ encode_sum work.now.rounds
         (encoded work.now.class work.now.order items.now)) }

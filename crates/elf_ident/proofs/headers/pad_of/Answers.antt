@@ -1,4 +1,4 @@
-use Rattle.std.proofs.Common.{◌<◌, ℕ, drop, arith}
+use Rattle.std.proofs.Common.{◌<◌, drop, arith}
 use Rattle.std.proofs.lemmas.List.Elements.{All-from_get_or, All-take, All-drop}
 use Rattle.elf_ident.proofs.headers.pad_of.Goals as goal
 
