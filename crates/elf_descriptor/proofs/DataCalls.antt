@@ -16,16 +16,15 @@ use Rattle.elf_xlate.proofs.Decoded as counts
 use Rattle.elf_outside.specs.declared.sources.Source.{Ghosts}
 use Rattle.elf_outside.specs.Asks.{Asks}
 use Rattle.elf_object.specs.Words.{Answers, AlikeItems}
-use Rattle.elf_object.specs.Object.{Object, Piece, section_at, piece_at}
+use Rattle.elf_object.specs.Object.{Piece}
 use Rattle.elf_object.specs.Answers.{content, items_at, data_refusal}
 use Rattle.elf_object.specs.Answers as object
 use Rattle.elf_object.specs.Calls.{data_answer, wants}
 use Rattle.elf_object.specs.Calls as calls
-use Rattle.elf_object.specs.Due.{holds_items, homes_due, unless_refused, when_piece_clean}
+use Rattle.elf_object.specs.Due.{homes_due, unless_refused, when_piece_clean}
 use Rattle.section_data.specs.Views.{CellView, IsCell}
 use Rattle.section_data.specs.Held.{piece_in, cell_is_loaded, piece_holds_items, ready, HeldIs}
-use Rattle.section_data.specs.Refused.{items_refused, no_home_items, items_due, piece_due, due_unless, preparing}
-use Rattle.elf_descriptor.specs.declared.scn.Scn.{Scn}
+use Rattle.section_data.specs.Refused.{items_refused, no_home_items, items_due, preparing}
 use Rattle.elf_descriptor.specs.declared.body.Body.{Body}
 use Rattle.elf_descriptor.specs.Views.{object_of, section_of, raw_of, scn_at, no_scn, loaded_of, held_of, state_of}
 use Rattle.elf_descriptor.specs.Bodies.{no_items_in}
@@ -37,7 +36,7 @@ use Rattle.elf_descriptor.proofs.Objects.{piece_is}
 use Rattle.elf_descriptor.proofs.Warming.{warmed_cell, items_held_at}
 use Rattle.elf_descriptor.proofs.ListedCells.{warms_piece, home_whole, clean_or_own}
 use Rattle.elf_descriptor.proofs.Loaded.{raw_exact}
-use Rattle.elf_descriptor.proofs.PieceCalls.{data_refusal_is, items_unread, reader_due, reader_looks, holds_is, content_is, content_with, raw_length}
+use Rattle.elf_descriptor.proofs.PieceCalls.{data_refusal_is, items_unread, reader_due, reader_looks, holds_is, content_is, raw_length}
 
 data_reads : (image : Option (List ℕ)) (size : ℕ) (b : Body) (s p : ℕ) (sections : List ℕ) → IsElf image size b
     → unless_refused (err_of (data_answer (object_of image size b) s p)) sections

@@ -1,5 +1,5 @@
 -- The call that gives one item of a piece of a kind: its answer, what it reads, and the item.
-use Rattle.std.proofs.Common.{◌≡◌, ◌≢◌, ℕ, zero, suc, ◌/◌, ◌%◌, ◌<◌, ◌≤◌, Bool, true, false, not, cond, nat_eq, List, [], ◌∷◌, length, get_or, Option, Some, None, Result, Ok, Err, refl, sym, ap, ◌∙◌, subst, arith}
+use Rattle.std.proofs.Common.{◌≡◌, ◌≢◌, ℕ, zero, suc, ◌/◌, ◌%◌, ◌<◌, ◌≤◌, Bool, true, false, not, cond, nat_eq, List, [], ◌∷◌, length, Option, Some, None, Result, Ok, Err, refl, sym, ap, ◌∙◌, subst, arith}
 use Rattle.std.specs.Prelude.{IsTrue, IfErr, IfSome, OnErr, OnOk, IsOk, is_some, nat_lt, slice_get, ◌||◌, ◌&&◌, if◌then◌else◌}
 use Rattle.std.specs.Option.{option_map, option_and_then}
 use Rattle.std.proofs.lemmas.Option.{slice_get-get_or, slice_get_within, slice_get_past}
@@ -17,7 +17,7 @@ use Rattle.elf_outside.specs.declared.sources.Source.{Ghosts}
 use Rattle.elf_outside.specs.Asks.{Asks, ReadRose}
 use Rattle.elf_outside.proofs.AskLemmas.{read_rose_refused}
 use Rattle.elf_object.specs.Words.{Wants, Answers, MayWant}
-use Rattle.elf_object.specs.Object.{Object, Piece, piece_at}
+use Rattle.elf_object.specs.Object.{Piece, piece_at}
 use Rattle.elf_object.specs.Answers.{content, items_at, entry_at, entry_answer, lend_refusal}
 use Rattle.elf_object.specs.Answers as object
 use Rattle.elf_object.specs.Calls.{Call, due, wants}
@@ -25,7 +25,6 @@ use Rattle.elf_object.specs.Due.{is_loaded, homes_due, unless_refused, when_piec
 use Rattle.section_data.specs.Views.{CellView, IsCell}
 use Rattle.section_data.specs.Held.{piece_in, kind_in, cell_is_loaded, is_ragged, is_at_hand, items_in, raw_items, piece_holds_items, ready, HeldIs, or_empty}
 use Rattle.section_data.specs.Refused.{kind_refused, no_home_items, load_due, piece_due, due_unless, reading}
-use Rattle.elf_descriptor.specs.declared.scn.Scn.{Scn}
 use Rattle.elf_descriptor.specs.declared.body.Body.{Body}
 use Rattle.elf_descriptor.specs.State.{State}
 use Rattle.elf_descriptor.specs.Views.{object_of, raw_of, scn_at, no_scn, loaded_of, held_of, state_of}
@@ -43,13 +42,13 @@ use Rattle.elf_descriptor.proofs.ListedCells.{warms_piece, home_whole, clean_or_
 use Rattle.elf_descriptor.proofs.Loaded.{loaded_is}
 use Rattle.elf_descriptor.proofs.RawCalls.{due_unloaded}
 use Rattle.elf_descriptor.proofs.PieceCalls.{lend_refusal_is, kind_unread, reader_due, reader_looks, holds_is, raw_length}
-use Rattle.elf_descriptor.proofs.DataCalls.{content_made, some_of, AreItems, clean_items}
+use Rattle.elf_descriptor.proofs.DataCalls.{content_made, some_of, clean_items}
 
 -- ---- What is read
 
 entry_reads : {A : Type 0} (image : Option (List ℕ)) (size : ℕ) (b : Body) (kind : Kind) (list_of : Items → List A) (s p i : ℕ) (sections : List ℕ) → IsElf image size b
     → unless_refused (err_of (entry_answer (lend_refusal (object_of image size b) kind s p) (list_of (items_at (object_of image size b) s p)) i)) sections
-      ≡ unless_refused (first_refusal (no_scn b s ∷ kind_refused b.header.class (scn_at b s).cell kind p ∷ [])) sections
+    ≡ unless_refused (first_refusal (no_scn b s ∷ kind_refused b.header.class (scn_at b s).cell kind p ∷ [])) sections
 unfolding no_list_in
 entry_reads image size b kind list_of s p i sections is =
     unless_entry (lend_refusal (object_of image size b) kind s p) (list_of (items_at (object_of image size b) s p)) i sections
@@ -203,7 +202,7 @@ pub lists_alike : {X : Type 0} (image : Option (List ℕ)) (size : ℕ) (b : Bod
     → IsElf image size b → s < length b.sections.items → IsCell (scn_at b s).cell → kind_in (scn_at b s).cell p ≡ kind → no_home_items b.header.class (scn_at b s).cell p ≡ None
     → IsTrue (is_at_hand b.header.class (scn_at b s).cell p)
     → (IsTrue (is_some image) → list_of (items_in b.header.class b.header.order (scn_at b s).cell p) ≡ list_of (items_at (object_of image size b) s p))
-      × (length (list_of (items_in b.header.class b.header.order (scn_at b s).cell p)) ≡ length (list_of (items_at (object_of image size b) s p)))
+    × (length (list_of (items_in b.header.class b.header.order (scn_at b s).cell p)) ≡ length (list_of (items_at (object_of image size b) s p)))
 unfolding items_in items_at kind_in
 lists_alike {X} image size b kind variant list_of back item width s p listed_in is there cell right passed hand = by_own (piece_in (scn_at b s).cell p).own refl
   where
@@ -219,7 +218,7 @@ lists_alike {X} image size b kind variant list_of back item width s p listed_in 
 
     by_raw : (raw : Option (List ℕ)) → (scn_at b s).cell.raw ≡ raw → is_some raw ≡ true → (piece_in (scn_at b s).cell p).own ≡ None
         → (IsTrue (is_some image) → list_of (or_empty (option_and_then (decoded (scn_at b s).cell.home.kind b.header.class b.header.order) raw)) ≡ list_of (object.or_empty (content (object_of image size b) s)))
-          × (length (list_of (or_empty (option_and_then (decoded (scn_at b s).cell.home.kind b.header.class b.header.order) raw))) ≡ length (list_of (object.or_empty (content (object_of image size b) s))))
+        × (length (list_of (or_empty (option_and_then (decoded (scn_at b s).cell.home.kind b.header.class b.header.order) raw))) ≡ length (list_of (object.or_empty (content (object_of image size b) s))))
     by_raw None e some clean = cc
     by_raw (Some bytes) e some clean =
         let inside = (home_whole b.header.class (scn_at b s).cell p passed clean).0 in
@@ -254,7 +253,7 @@ lists_alike {X} image size b kind variant list_of back item width s p listed_in 
 
     by_own : (o : Option Items) → (piece_in (scn_at b s).cell p).own ≡ o
         → (IsTrue (is_some image) → list_of (items_in b.header.class b.header.order (scn_at b s).cell p) ≡ list_of (items_at (object_of image size b) s p))
-          × (length (list_of (items_in b.header.class b.header.order (scn_at b s).cell p)) ≡ length (list_of (items_at (object_of image size b) s p)))
+        × (length (list_of (items_in b.header.class b.header.order (scn_at b s).cell p)) ≡ length (list_of (items_at (object_of image size b) s p)))
     by_own (Some i) e =
         let first : items_in b.header.class b.header.order (scn_at b s).cell p ≡ i = ap (λ (o : Option Items). elim o [ None ↦ raw_items b.header.class b.header.order (scn_at b s).cell | Some j ↦ j ]) e in
         let same = first ∙ sym (stated (Some i) e) in
@@ -285,6 +284,12 @@ refused_entry told wants (Some d) l i e came = let same : d ≡ e = cc in ap Err
 refused_entry told wants None l i Memory came = (came.0, may_entry l i)
 refused_entry told wants None l i Read came = (came.0, may_entry l i)
 refused_entry told wants None l i e came = cc
+
+-- an entry that is given where nothing is refused before
+pub given_entry : {X : Type 0} (told : Bool) (wants : Wants) (refusal : Option ElfError) (l : List X) (i : ℕ) (result : Result X ElfError) → refusal ≡ None → Answers told wants result (entry_at l i)
+    → Answers told wants result (entry_answer refusal l i)
+given_entry told wants None l i result passed came = came
+given_entry told wants (Some e) l i result passed came = cc
 
 read_rose_by : {T : Type 0} (r : Result T ElfError) (a b : ℕ) → IfErr r IsRefusal → ReadRose r a b
 read_rose_by (Ok x) a b h = tt

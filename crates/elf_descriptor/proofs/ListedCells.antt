@@ -1,5 +1,5 @@
 -- Items of a kind in a section's data are made to be at hand.
-use Rattle.std.proofs.Common.{◌≡◌, ℕ, Bool, true, false, not, ◌&&◌, ◌||◌, List, [], ◌∷◌, length, set, ◌<◌, Option, Some, None, Result, Ok, Err, refl, sym, ap, ◌∙◌, subst, arith}
+use Rattle.std.proofs.Common.{◌≡◌, ℕ, Bool, true, false, not, ◌||◌, List, [], ◌∷◌, length, set, ◌<◌, Option, Some, None, Result, Ok, Err, refl, sym, ap, ◌∙◌, subst, arith}
 use Rattle.std.proofs.lemmas.List.{length-set}
 use Rattle.std.proofs.lemmas.Bool.{leb-false}
 use Rattle.std.specs.Prelude.{nat_le, IsTrue, OnOk, is_some, if◌then◌else◌}
@@ -7,7 +7,7 @@ use Rattle.elf_types.specs.declared.records.Class.{Class}
 use Rattle.elf_types.specs.declared.records.Kind.{Kind}
 use Rattle.elf_types.specs.declared.errors.ElfError.{ElfError}
 use Rattle.elf_types.specs.declared.errors.ElfError.TheVariants.{NoSection, NoData, WrongKind, OutOfFile, Ragged}
-use Rattle.elf_types.specs.Answers.{answered, refused_if, first_refusal}
+use Rattle.elf_types.specs.Answers.{answered, refused_if}
 use Rattle.elf_xlate.specs.declared.content.Items.{Items}
 use Rattle.elf_object.specs.Words.{Answers}
 use Rattle.elf_object.proofs.PassedLaws.{none_first, none_rest, passed_two, not_refused, not_not}
@@ -15,7 +15,7 @@ use Rattle.elf_object.proofs.StepLaws.{same_kind-true}
 use Rattle.elf_object.specs.Answers.{same_kind}
 use Rattle.section_data.specs.Views.{CellView}
 use Rattle.section_data.specs.Held.{piece_in, kind_in, cell_is_loaded, is_ragged, is_at_hand}
-use Rattle.section_data.specs.Refused.{no_piece, wrong_piece_kind, no_home_items, kind_refused, items_refused, home_out, home_ragged, piece_due, reading}
+use Rattle.section_data.specs.Refused.{no_piece, wrong_piece_kind, no_home_items, kind_refused, items_refused, home_out, piece_due, reading}
 use Rattle.section_data.specs.Leaves.{Warms}
 use Rattle.elf_types.specs.declared.records.Ehdr.{Ehdr}
 use Rattle.elf_descriptor.specs.declared.scn.Scn.{Scn}

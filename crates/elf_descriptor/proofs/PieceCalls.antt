@@ -1,6 +1,6 @@
 -- A call that looks at the items of a piece: how it is refused, what it is due, and what it reads.
-use Rattle.std.proofs.Common.{◌≡◌, ◌≢◌, ℕ, ◌<◌, ◌≤◌, Bool, true, false, not, List, [], ◌∷◌, length, get_or, Option, Some, None, Result, Ok, Err, refl, sym, ap, ◌∙◌, subst, inl, inr, arith}
-use Rattle.std.specs.Prelude.{IsTrue, IfErr, OnOk, is_some, is_none, nat_lt, nat_le, unwrap_or, slice_get, Contains, ◌||◌, ◌⊎◌, if◌then◌else◌}
+use Rattle.std.proofs.Common.{◌≡◌, ◌≢◌, ℕ, ◌<◌, Bool, true, false, not, List, [], ◌∷◌, length, Option, Some, None, Result, Ok, Err, refl, sym, ap, ◌∙◌, subst, inl, inr, arith}
+use Rattle.std.specs.Prelude.{IfErr, OnOk, is_some, is_none, nat_lt, nat_le, unwrap_or, slice_get, ◌||◌, ◌⊎◌, if◌then◌else◌}
 use Rattle.std.proofs.lemmas.Bool.{ltb-true, ltb-false}
 use Rattle.std.proofs.lemmas.List.Elements.{All-get_or}
 use Rattle.elf_types.specs.declared.records.Class.{Class}
@@ -15,8 +15,8 @@ use Rattle.elf_xlate.proofs.Decoded.{whole_is}
 use Rattle.elf_outside.specs.declared.sources.Source.{Ghosts}
 use Rattle.elf_outside.specs.Asks.{Asks}
 use Rattle.elf_object.specs.Words.{Wants, Answers}
-use Rattle.elf_object.specs.Object.{Object, Section, Piece, section_at, piece_at, absent_section}
-use Rattle.elf_object.specs.Answers.{content, no_section, no_data, wrong_kind, no_content, same_kind, kind_at, data_refusal, lend_refusal}
+use Rattle.elf_object.specs.Object.{Object, Section, Piece, section_at, absent_section}
+use Rattle.elf_object.specs.Answers.{content, no_section, no_data, wrong_kind, no_content, same_kind, data_refusal, lend_refusal}
 use Rattle.elf_object.specs.Valid.{IsSection}
 use Rattle.elf_object.specs.Calls.{reader}
 use Rattle.elf_object.specs.Due.{is_loaded, holds_items, homes_due, unless_refused, when_piece_clean}
@@ -33,7 +33,6 @@ use Rattle.elf_descriptor.specs.Reads.{Reads, Looks}
 use Rattle.elf_descriptor.proofs.Refusals.{IsUnread, unread_if, unread_first}
 use Rattle.elf_descriptor.proofs.Objects.{section_is, section_count_is, no_section_is, no_data_is, piece_is, kind_is}
 use Rattle.elf_descriptor.proofs.Warming.{cell_at}
-use Rattle.elf_descriptor.proofs.ListedCells.{clean_or_own}
 use Rattle.elf_descriptor.proofs.Loaded.{loaded_is, home_held_is, absent_at}
 use Rattle.elf_descriptor.proofs.Reading.{object_over, left_object, reads_warmed, idle_one, settled_one, one_due, none_due}
 use Rattle.elf_descriptor.proofs.RawCalls.{scn_missing, scn_there, home_due_is, absent_due}

@@ -1,6 +1,6 @@
 -- The call that gives a home's bytes: how it is refused, what it is due, and what it reads.
-use Rattle.std.proofs.Common.{◌≡◌, ◌≢◌, ℕ, ◌<◌, ◌≤◌, Bool, true, false, List, [], ◌∷◌, length, Option, Some, None, Result, Ok, Err, refl, sym, ap, ◌∙◌, subst, inl, inr, arith}
-use Rattle.std.specs.Prelude.{IsTrue, IfErr, OnOk, OnErr, is_some, nat_lt, nat_le, Contains, ◌||◌, not, if◌then◌else◌}
+use Rattle.std.proofs.Common.{◌≡◌, ◌≢◌, ℕ, ◌<◌, ◌≤◌, Bool, true, false, List, [], ◌∷◌, length, Option, Some, None, Result, Ok, Err, refl, sym, ap, ◌∙◌, subst, inl, arith}
+use Rattle.std.specs.Prelude.{IsTrue, IfErr, OnOk, OnErr, nat_lt, nat_le, ◌||◌, not, if◌then◌else◌}
 use Rattle.std.proofs.lemmas.Bool.{ltb-true, ltb-false, le-leb, leb-true}
 use Rattle.elf_types.specs.declared.errors.ElfError.{ElfError}
 use Rattle.elf_types.specs.declared.errors.ElfError.TheVariants.{Memory, NoSection, OutOfFile}
@@ -9,7 +9,7 @@ use Rattle.elf_outside.specs.declared.sources.Source.{Ghosts}
 use Rattle.elf_outside.specs.Asks.{Asks}
 use Rattle.elf_object.specs.Words.{Answers}
 use Rattle.elf_object.specs.Object.{Object, Section, section_at}
-use Rattle.elf_object.specs.Answers.{no_section, out_of_file, raw_refusal}
+use Rattle.elf_object.specs.Answers.{out_of_file, raw_refusal}
 use Rattle.elf_object.specs.Calls.{raw_answer, wants}
 use Rattle.elf_object.specs.Calls as calls
 use Rattle.elf_object.specs.Due.{is_loaded, home_due, homes_due, unless_refused}

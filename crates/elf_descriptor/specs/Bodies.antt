@@ -1,5 +1,5 @@
 -- Words on what the program keeps: how a call is refused by it, and its marks.
-use Rattle.std.specs.Prelude.{ℕ, Bool, ◌||◌, List, [], ◌∷◌, Option}
+use Rattle.std.specs.Prelude.{ℕ, Bool, ◌||◌, [], ◌∷◌, Option}
 use Rattle.std.specs.List.{list_any}
 use Rattle.elf_types.specs.declared.records.Kind.{Kind}
 use Rattle.elf_types.specs.declared.errors.ElfError.{ElfError}

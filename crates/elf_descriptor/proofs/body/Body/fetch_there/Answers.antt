@@ -1,10 +1,10 @@
-use Rattle.std.proofs.Common.{◌≡◌, ◌<◌, List, length, set, true, refl, sym, ap, ◌∙◌, subst, arith}
-use Rattle.std.specs.Prelude.{OnErr, IsTrue, is_some}
-use Rattle.section_data.specs.Held.{piece_in, kind_in, is_at_hand, HeldIs}
+use Rattle.std.proofs.Common.{◌≡◌, set, true, refl, sym, ap, subst}
+use Rattle.std.specs.Prelude.{OnErr, is_some}
+use Rattle.section_data.specs.Held.{piece_in}
 use Rattle.section_data.specs.Leaves.{LiesIn}
 use Rattle.elf_descriptor.specs.declared.scn.Scn.{Scn}
 use Rattle.elf_descriptor.specs.Views.{scn_at}
-use Rattle.elf_descriptor.proofs.Warming.{scn_read, scn_written, cell_written, warmed_by, warm_held}
+use Rattle.elf_descriptor.proofs.Warming.{scn_read, cell_written, warmed_by, warm_held}
 use Rattle.elf_descriptor.proofs.ListedCells.{listed_by}
 use Rattle.elf_descriptor.proofs.body.Body.fetch_there.Goals as goal
 

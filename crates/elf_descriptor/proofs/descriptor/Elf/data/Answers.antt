@@ -1,4 +1,4 @@
-use Rattle.std.proofs.Common.{◌≡◌, None, true, refl, ap, ◌∙◌, subst, sym}
+use Rattle.std.proofs.Common.{true, refl, ap, ◌∙◌, subst}
 use Rattle.elf_object.specs.Words.{AlikeItems}
 use Rattle.elf_object.specs.Object.{Object}
 use Rattle.elf_object.specs.Answers.{data_refusal, items_at}

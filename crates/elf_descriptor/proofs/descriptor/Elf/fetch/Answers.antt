@@ -20,7 +20,7 @@ invariant_of-self g c =
 pub returns-clause-answer : goal.returns-clause-answer
 returns-clause-answer g c = λ i.
     subst (λ (st : State g.row.S.Denot). Answers true (wanted (entry g.T.Listed.kind g.T.Listed.list_of c.args.d.section c.args.d.piece i) st) c.fetch.result
-        (answered (lend_refusal st.o g.T.Listed.kind c.args.d.section c.args.d.piece) (tt {0}))) c.self.view_is
+    (answered (lend_refusal st.o g.T.Listed.kind c.args.d.section c.args.d.piece) (tt {0}))) c.self.view_is
     (entry_answers _ _ c.self.inside.body g.T.Listed.kind g.T.Listed.list_of c.args.d.section c.args.d.piece i c.fetch.result c.self.invariant (rw (← c.kind.ensures) c.fetch.ensures.answer))
 
 pub returns-clause-hand : goal.returns-clause-hand
