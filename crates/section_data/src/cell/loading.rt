@@ -124,6 +124,7 @@ impl Cell {
         requires { IsSome self.now.raw }
         ensures value { self.now.raw ≡ Some result.now }
         ensures len { length result.now ≡ self.now.home.len }
+        ensures cell { IsCell self.now }
     {
         match &self.raw {
             Some(Items::Bytes(bytes)) => bytes.as_slice(),
