@@ -7,7 +7,9 @@ use elf_outside::Source;
 use std::alloc::Global;
 use std::marker::Model;
 
+mod base;
 mod begin;
+mod entries;
 mod getters;
 mod reading;
 
