@@ -1,14 +1,15 @@
 //! What a caller learns from the contracts of a descriptor's calls alone.
 
-ghost use Rattle.std.specs.Prelude.{◌≡◌, ◌≤◌, Ok, IfOk, OnOk, IsTrue};
-ghost use Rattle.elf_outside.specs.Asks.{Leaves};
+ghost use Rattle.std.specs.Prelude.{◌≡◌, Ok, IfOk, OnOk, IsTrue};
+ghost use Rattle.elf_object.specs.Words.{Answers};
 ghost use Rattle.elf_object.specs.Calls as calls;
 ghost use Rattle.elf_object.specs.Due.{is_loaded};
 ghost use Rattle.elf_descriptor.specs.Entries.{entry};
+ghost use Rattle.elf_descriptor.specs.Reads.{Looks, wanted};
 
 use crate::Elf;
 use elf_outside::Source;
-use elf_types::{DataId, ElfError, ScnId};
+use elf_types::{DataId, ElfError, ScnId, Sym};
 use section_data::Item;
 
 /// The first two items of a piece.
@@ -34,4 +35,14 @@ pub fn long<S: Source>(elf: &mut Elf<S>, s: ScnId) -> Result<(usize, u64), ElfEr
     let len = elf.raw(s)?.len();
     let header = elf.shdr(s)?;
     Ok((len, header.size))
+}
+
+/// A symbol, as the call of the plain object states it.
+#[tactic(auto, unfolding(elf_object::specs::Calls::sym_answer))]
+pub fn symbol<S: Source>(elf: &mut Elf<S>, d: DataId, i: u64) -> Result<Sym, ElfError>
+    ensures answer { Answers elf.old.told (wanted (calls.sym d.section d.piece i) elf.old) result
+        ((calls.sym d.section d.piece i).answer elf.old.o) }
+    ensures looks { Looks S.Source (calls.sym d.section d.piece i) result elf.old elf.new }
+{
+    elf.item::<Sym>(d, i)
 }

@@ -1,9 +1,9 @@
 //! Descriptors over sources in memory, in both classes and both orders.
 
-use crate::callers::{first_two, long};
-use crate::test_sources::source;
+use crate::callers::{first_two, long, symbol};
+use crate::test_sources::{Sparse, source};
 use crate::{Elf, Held};
-use elf_outside::MemSource;
+use elf_outside::{MemSource, Source};
 use elf_types::constants::{
     SHF_COMPRESSED, SHT_NOBITS, SHT_NULL, SHT_REL, SHT_SYMTAB, SHT_SYMTAB_SHNDX,
 };
@@ -46,12 +46,22 @@ fn image_of(alloc: Global, class: Class, order: Order, row: &Row) -> Result<Imag
 }
 
 /// What the data of section 3 are.
-fn data_of(elf: &mut Elf<MemSource>) -> Result<(Kind, u64), ElfError> {
+fn data_of<S: Source>(elf: &mut Elf<S>) -> Result<(Kind, u64), ElfError> {
     let items = elf.data(DataId {
         section: 3,
         piece: 0,
     })?;
     Ok((items.kind(), items.count()))
+}
+
+/// Whether the data are told as the row says over a source that does not tell its bytes.
+fn is_told_unseen(alloc: Global, class: Class, order: Order, row: &Row) -> Result<bool, ElfError> {
+    let image = image_of(alloc, class, order, row)?;
+    let len = image.bytes.len();
+    match Elf::begin(alloc, Sparse::new(image.bytes, len)) {
+        Ok(mut elf) => Ok(data_of(&mut elf) == row.told),
+        Err((_, e)) => Err(e),
+    }
 }
 
 /// Whether the data are told as the row says, and no more is asked for, also the second time.
@@ -132,6 +142,7 @@ fn sections_of_all_kinds_are_told_or_refused(rt: HostRuntime) -> Result<(), Fail
     for row in rows.iter() {
         for (class, order) in FORMS {
             assert!(rt; is_told(rt.alloc(), class, order, row)?);
+            assert!(rt; is_told_unseen(rt.alloc(), class, order, row)?);
         }
     }
     Ok(())
@@ -168,7 +179,7 @@ const STRINGS: DataId = DataId {
 fn symbols_are_told(alloc: Global, class: Class, order: Order) -> Result<bool, ElfError> {
     let mut elf = opened(alloc, symbol_object(alloc, class, order)?, 0)?;
     let (zero, function) = first_two::<MemSource, Sym>(&mut elf, SYMBOLS)?;
-    let past = elf.item::<Sym>(SYMBOLS, 2);
+    let past = symbol(&mut elf, SYMBOLS, 2);
     let bytes = elf.item::<Sym>(STRINGS, 0);
     let there = zero.value == 0 && function.value == 0x1000;
     let refused = past == Err(ElfError::NoEntry { index: 2, count: 2 })
@@ -200,7 +211,7 @@ fn is_raw(elf: &Elf<MemSource>, d: DataId, bytes: &[u8]) -> bool {
     }
 }
 
-/// Whether the home of the strings is held once it is read, and the base is copied.
+/// Whether the home of the strings is held once it is read, and nothing of another section.
 fn strings_are_held(alloc: Global, class: Class, order: Order) -> Result<bool, ElfError> {
     let mut elf = opened(alloc, symbol_object(alloc, class, order)?, 0)?;
     let before = is_unread(&elf, STRINGS);
@@ -213,6 +224,26 @@ fn strings_are_held(alloc: Global, class: Class, order: Order) -> Result<bool, E
 fn what_is_read_is_held(rt: HostRuntime) -> Result<(), Fail> {
     for (class, order) in FORMS {
         assert!(rt; strings_are_held(rt.alloc(), class, order)?);
+    }
+    Ok(())
+}
+
+/// Whether the first base bytes are copied, where there are so many.
+fn base_is_copied(alloc: Global, class: Class, order: Order) -> Result<bool, ElfError> {
+    let mut elf = opened(alloc, five_sections(alloc, class, order)?, 0)?;
+    let mut start = [0u8; 4];
+    if elf.base_len() < 4 {
+        return Ok(false);
+    }
+    elf.copy_base(0, &mut start)?;
+    let unread = is_unread(&elf, STRINGS);
+    Ok(unread && start == *b"\x7fELF")
+}
+
+#[test]
+fn the_base_is_copied(rt: HostRuntime) -> Result<(), Fail> {
+    for (class, order) in FORMS {
+        assert!(rt; base_is_copied(rt.alloc(), class, order)?);
     }
     Ok(())
 }
