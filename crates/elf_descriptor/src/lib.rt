@@ -8,6 +8,8 @@ mod body;
 mod descriptor;
 mod held;
 mod scn;
+#[cfg(test)]
+mod test_sources;
 
 pub use body::{Body, Written};
 pub use descriptor::Elf;

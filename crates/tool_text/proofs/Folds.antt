@@ -3,8 +3,8 @@ use Rattle.std.proofs.Common.{◌-◌, slice_get, ◌≡◌, ◌++◌, ◌+◌, 
 use Rattle.std.specs.List.{last_or, filter_map, cons_option}
 use Rattle.std.proofs.lemmas.List.{nil_from_length, take_more}
 use Rattle.std.proofs.lemmas.List.Elements.{filter_map-append}
-use Rattle.tool_text.specs.declared.splitting.Given.{Given}
-use Rattle.tool_text.specs.Reading.{last, only_one, arguments, argument_of}
+use Rattle.tool_text.specs.declared.splitting.CommandOption.{CommandOption}
+use Rattle.tool_text.specs.Reading.{last, only_one, option_arguments, option_argument_of}
 
 last_or-push : {X : Type 0} (o : Option X) (xs : List X) (x : X) → last_or o (xs ++ x ∷ []) ≡ Some x
 last_or-push o [] x = refl
@@ -22,19 +22,19 @@ last-one [] one = absurd (omega arith)
 last-one (x ∷ []) one = refl
 last-one (x ∷ y ∷ xs) one = absurd (omega arith)
 
-one_argument : (a : Option (List ℕ)) → cons_option a [] ≡ option_to_list a
-one_argument None = refl
-one_argument (Some x) = refl
+one_option_argument : (a : Option (List ℕ)) → cons_option a [] ≡ option_to_list a
+one_option_argument None = refl
+one_option_argument (Some x) = refl
 
--- the argument of one option more
-pub arguments_more : (letter : ℕ) (options : List Given) (i : ℕ) (o : Given) (words new : List (List ℕ)) (argument : Option (List ℕ)) → i < length options → o ≡ get_or options i o → words ≡ arguments letter (take i options) → argument_of letter o ≡ argument → new ≡ words ++ option_to_list argument → new ≡ arguments letter (take (i + 1) options)
-unfolding arguments
-arguments_more letter options i o words new argument within here so_far is added =
+-- the option-argument of one option more
+pub option_arguments_more : (letter : ℕ) (options : List CommandOption) (i : ℕ) (o : CommandOption) (words new : List (List ℕ)) (option_argument : Option (List ℕ)) → i < length options → o ≡ get_or options i o → words ≡ option_arguments letter (take i options) → option_argument_of letter o ≡ option_argument → new ≡ words ++ option_to_list option_argument → new ≡ option_arguments letter (take (i + 1) options)
+unfolding option_arguments
+option_arguments_more letter options i o words new option_argument within here so_far is added =
     let more : take (i + 1) options ≡ take i options ++ o ∷ [] = take_more options i o within ∙ ap (λ x. take i options ++ x ∷ []) (sym here) in
     added
-    ∙ ap (λ ws. ws ++ option_to_list argument) so_far
-    ∙ ap (λ ws. filter_map (argument_of letter) (take i options) ++ ws) (sym (one_argument argument) ∙ ap (λ a. cons_option a []) (sym is))
-    ∙ sym (ap (filter_map (argument_of letter)) more ∙ filter_map-append (argument_of letter) (take i options) (o ∷ []))
+    ∙ ap (λ ws. ws ++ option_to_list option_argument) so_far
+    ∙ ap (λ ws. filter_map (option_argument_of letter) (take i options) ++ ws) (sym (one_option_argument option_argument) ∙ ap (λ a. cons_option a []) (sym is))
+    ∙ sym (ap (filter_map (option_argument_of letter)) more ∙ filter_map-append (option_argument_of letter) (take i options) (o ∷ []))
 
 -- the last item by its index
 pub last_read : {X : Type 0} (xs : List X) → slice_get xs (length xs - 1) ≡ last xs

@@ -7,13 +7,13 @@ use Rattle.std.proofs.lemmas.Bool.Decides.{not_from_Decides}
 use Rattle.std.proofs.lemmas.Slice.Eq.{bytes_eq-Decides}
 use Rattle.tool_text.specs.declared.usages.Usage.{Usage}
 use Rattle.tool_text.specs.declared.usages.Usage.TheVariants as usage
-use Rattle.tool_text.specs.declared.splitting.Given.{Given}
+use Rattle.tool_text.specs.declared.splitting.CommandOption.{CommandOption}
 use Rattle.tool_text.specs.declared.splitting.Split.{Split}
 use Rattle.tool_text.specs.declared.commands.Command.{Command}
 use Rattle.tool_text.specs.Splitting.{split_of}
-use Rattle.tool_text.specs.Numbers.{number_of, script_number_of}
-use Rattle.tool_text.specs.Reading.{one_or_more, only_one, only_two, arguments, is_given, radix_of, split_at_equals, readelf_command, nm_command, size_command, strings_command, strip_command, elflint_command, calls_command, output_of, selftest_command, rehash_command, copy_command, changes_of, unstrip_command, lines_command, of_split, command_of, all_values, all_differ, last, least_of, number_within, name_of, named_file_of, renaming_of, named_bits_of, is_name, is_file_of}
-use Rattle.tool_text.specs.Forms.{IsWellFormed, AreApart, HasNames, IsOutputApart}
+use Rattle.tool_text.specs.Numbers.{word_number_of, script_number_of}
+use Rattle.tool_text.specs.Reading.{one_or_more, only_one, only_two, option_arguments, has_option, radix_of, split_at_equals, readelf_command, nm_command, size_command, strings_command, strip_command, elflint_command, calls_command, output_of, selftest_command, rehash_command, copy_command, changes_of, unstrip_command, lines_command, of_split, command_of, all_values, all_differ, last, least_of, number_within, name_of, named_file_of, renaming_of, named_bits_of, is_section_name, is_file_of}
+use Rattle.tool_text.specs.Forms.{IsWellFormed, ThreeDiffer, HasNames, IsOutputApart}
 
 -- Q holds of the value, if there is one
 record Yields {A : Type 0} (Q : A → Type 0) (o : Option A) : Type 0 where
@@ -38,7 +38,7 @@ some_all h = record { holds = h }
 at_some : {A : Type 0} {Q : A → Type 0} {o : Option A} {x : A} → o ≡ Some x → Yields Q o → Q x
 at_some {Q = Q} e h = subst (λ p. IfSome p Q) e h.holds
 
--- what holds of each value of the arguments
+-- what holds of each value of the option-arguments
 values_all : {X : Type 0} (value : List ℕ → Option X) (test : X → Bool) → ((w : List ℕ) → Yields (λ x. test x ≡ true) (value w)) → (ws : List (List ℕ)) → Yields (λ xs. list_all test xs ≡ true) (all_values value ws)
 unfolding all_values
 values_all value test each [] = some_all refl
@@ -60,7 +60,7 @@ within low high n = nat_le low n && nat_le n high
 
 number_all : (low high : ℕ) (w : List ℕ) → Yields (λ n. within low high n ≡ true) (number_within low high w)
 unfolding number_within within
-number_all low high w = bind_all (number_of w) (λ n _. if_all (nat_le low n && nat_le n high) n (λ t. t))
+number_all low high w = bind_all (word_number_of w) (λ n _. if_all (nat_le low n && nat_le n high) n (λ t. t))
 
 within_parts : (low high n : ℕ) → within low high n ≡ true → (low ≤ n) × (n ≤ high)
 unfolding within
@@ -73,7 +73,7 @@ least_all w = number_all 1 4096 w
 strings_form : (split : Split) → Yields IsWellFormed (strings_command split)
 unfolding strings_command last within
 strings_form split =
-    bind_all (one_or_more split.operands) (λ files _. bind_all (all_values least_of (arguments (byte "n") split.options)) (λ lengths lengths_are. bind_all (all_values radix_of (arguments (byte "t") split.options)) (λ radixes _.
+    bind_all (one_or_more split.operands) (λ files _. bind_all (all_values least_of (option_arguments (byte "n") split.options)) (λ lengths lengths_are. bind_all (all_values radix_of (option_arguments (byte "t") split.options)) (λ radixes _.
     some_all (within_parts 1 4096 _ (last_all (within 1 4096) None 4 lengths refl (at_some lengths_are (values_all least_of (within 1 4096) least_all _)))))))
 
 -- two and three words that differ
@@ -81,7 +81,7 @@ two_differ : (v w : List ℕ) → all_differ (v ∷ w ∷ []) ≡ true → v ≢
 unfolding all_differ
 two_differ v w t = differ v w (or_parts _ _ (not-true _ (and_parts _ _ t).0)).0
 
-three_differ : (u v w : List ℕ) → all_differ (u ∷ v ∷ w ∷ []) ≡ true → AreApart u v w
+three_differ : (u v w : List ℕ) → all_differ (u ∷ v ∷ w ∷ []) ≡ true → ThreeDiffer u v w
 unfolding all_differ
 three_differ u v w t =
     let p = and_parts _ _ t in
@@ -92,15 +92,15 @@ three_differ u v w t =
       last_two_differ = two_differ v w p.1;
     }
 
-strip_differ : (out file : List ℕ) (debug : Option (List ℕ)) → all_differ (out ∷ file ∷ option_to_list debug) ≡ true → (out ≢ file) × IfSome debug (λ d. AreApart out file d)
+strip_differ : (out file : List ℕ) (debug : Option (List ℕ)) → all_differ (out ∷ file ∷ option_to_list debug) ≡ true → (out ≢ file) × IfSome debug (λ d. ThreeDiffer out file d)
 strip_differ out file None t = (two_differ out file t, tt)
 strip_differ out file (Some debug) t = let p = three_differ out file debug t in (p.second_differs, p)
 
 strip_form : (split : Split) → Yields IsWellFormed (strip_command split)
 unfolding strip_command
 strip_form split =
-    bind_all (only_one split.operands) (λ file _. bind_all (last (arguments (byte "o") split.options)) (λ out _.
-    if_all (all_differ (out ∷ file ∷ option_to_list (last (arguments (byte "f") split.options)))) _ (λ t. strip_differ out file (last (arguments (byte "f") split.options)) t)))
+    bind_all (only_one split.operands) (λ file _. bind_all (last (option_arguments (byte "o") split.options)) (λ out _.
+    if_all (all_differ (out ∷ file ∷ option_to_list (last (option_arguments (byte "f") split.options)))) _ (λ t. strip_differ out file (last (option_arguments (byte "f") split.options)) t)))
 
 output_form : (in_place : Bool) (to : Option (List ℕ)) (file script : List ℕ) → Yields (λ output. IsOutputApart output file script) (output_of in_place to file script)
 unfolding output_of
@@ -113,55 +113,55 @@ output_form true (Some out) file script = record { holds = tt }
 calls_form : (split : Split) → Yields IsWellFormed (calls_command split)
 unfolding calls_command
 calls_form split =
-    bind_all (only_two split.operands) (λ files _. bind_all (output_of (is_given (byte "i") split.options) (last (arguments (byte "o") split.options)) files.0 files.1) (λ output output_is. some_all (at_some output_is (output_form _ _ files.0 files.1))))
+    bind_all (only_two split.operands) (λ files _. bind_all (output_of (has_option (byte "i") split.options) (last (option_arguments (byte "o") split.options)) files.0 files.1) (λ output output_is. some_all (at_some output_is (output_form _ _ files.0 files.1))))
 
 selftest_form : (split : Split) → Yields IsWellFormed (selftest_command split)
 unfolding selftest_command
 selftest_form split =
-    bind_all (only_one split.operands) (λ word _. bind_all (last (arguments (byte "o") split.options)) (λ out _. bind_all (number_within 1 60000 word) (λ count count_is.
+    bind_all (only_one split.operands) (λ word _. bind_all (last (option_arguments (byte "o") split.options)) (λ out _. bind_all (number_within 1 60000 word) (λ count count_is.
     some_all (within_parts 1 60000 count (at_some count_is (number_all 1 60000 word))))))
 
 rehash_form : (split : Split) → Yields IsWellFormed (rehash_command split)
 unfolding rehash_command
-rehash_form split = bind_all (only_one split.operands) (λ file _. bind_all (last (arguments (byte "o") split.options)) (λ out _. if_all (all_differ (out ∷ file ∷ [])) _ (λ t. two_differ out file t)))
+rehash_form split = bind_all (only_one split.operands) (λ file _. bind_all (last (option_arguments (byte "o") split.options)) (λ out _. if_all (all_differ (out ∷ file ∷ [])) _ (λ t. two_differ out file t)))
 
-name_all : (w : List ℕ) → Yields (λ n. is_name n ≡ true) (name_of w)
+name_all : (w : List ℕ) → Yields (λ n. is_section_name n ≡ true) (name_of w)
 unfolding name_of
-name_all w = if_all (is_name w) w (λ t. t)
+name_all w = if_all (is_section_name w) w (λ t. t)
 
-named_file_all : (w : List ℕ) → Yields (λ n. is_name n.name ≡ true) (named_file_of w)
+named_file_all : (w : List ℕ) → Yields (λ n. is_section_name n.name ≡ true) (named_file_of w)
 unfolding named_file_of
-named_file_all w = bind_all (split_at_equals w) (λ parts _. if_all (is_name parts.0) _ (λ t. t))
+named_file_all w = bind_all (split_at_equals w) (λ parts _. if_all (is_section_name parts.0) _ (λ t. t))
 
-renaming_old_all : (w : List ℕ) → Yields (λ n. is_name n.old ≡ true) (renaming_of w)
+renaming_old_all : (w : List ℕ) → Yields (λ n. is_section_name n.old ≡ true) (renaming_of w)
 unfolding renaming_of
-renaming_old_all w = bind_all (split_at_equals w) (λ parts _. if_all (is_name parts.0 && is_name parts.1) _ (λ t. (and_parts _ _ t).0))
+renaming_old_all w = bind_all (split_at_equals w) (λ parts _. if_all (is_section_name parts.0 && is_section_name parts.1) _ (λ t. (and_parts _ _ t).0))
 
-renaming_new_all : (w : List ℕ) → Yields (λ n. is_name n.new ≡ true) (renaming_of w)
+renaming_new_all : (w : List ℕ) → Yields (λ n. is_section_name n.new ≡ true) (renaming_of w)
 unfolding renaming_of
-renaming_new_all w = bind_all (split_at_equals w) (λ parts _. if_all (is_name parts.0 && is_name parts.1) _ (λ t. (and_parts _ _ t).1))
+renaming_new_all w = bind_all (split_at_equals w) (λ parts _. if_all (is_section_name parts.0 && is_section_name parts.1) _ (λ t. (and_parts _ _ t).1))
 
-named_bits_all : (w : List ℕ) → Yields (λ n. is_name n.name ≡ true) (named_bits_of w)
+named_bits_all : (w : List ℕ) → Yields (λ n. is_section_name n.name ≡ true) (named_bits_of w)
 unfolding named_bits_of
-named_bits_all w = bind_all (split_at_equals w) (λ parts _. bind_all (script_number_of parts.1) (λ bits _. if_all (is_name parts.0) _ (λ t. t)))
+named_bits_all w = bind_all (split_at_equals w) (λ parts _. bind_all (script_number_of parts.1) (λ bits _. if_all (is_section_name parts.0) _ (λ t. t)))
 
-changes_form : (options : List Given) → Yields HasNames (changes_of options)
+changes_form : (options : List CommandOption) → Yields HasNames (changes_of options)
 unfolding changes_of
 changes_form options =
-    bind_all (all_values name_of (arguments (byte "R") options)) (λ remove r. bind_all (all_values named_file_of (arguments (byte "u") options)) (λ update u. bind_all (all_values renaming_of (arguments (byte "n") options)) (λ rename n. bind_all (all_values named_bits_of (arguments (byte "f") options)) (λ flags f. bind_all (all_values named_file_of (arguments (byte "a") options)) (λ add a.
+    bind_all (all_values name_of (option_arguments (byte "R") options)) (λ remove r. bind_all (all_values named_file_of (option_arguments (byte "u") options)) (λ update u. bind_all (all_values renaming_of (option_arguments (byte "n") options)) (λ rename n. bind_all (all_values named_bits_of (option_arguments (byte "f") options)) (λ flags f. bind_all (all_values named_file_of (option_arguments (byte "a") options)) (λ add a.
     some_all (record {
-      remove = at_some r (values_all name_of is_name name_all _);
-      update = at_some u (values_all named_file_of (λ n. is_name n.name) named_file_all _);
-      rename_old = at_some n (values_all renaming_of (λ n. is_name n.old) renaming_old_all _);
-      rename_new = at_some n (values_all renaming_of (λ n. is_name n.new) renaming_new_all _);
-      flags = at_some f (values_all named_bits_of (λ n. is_name n.name) named_bits_all _);
-      add = at_some a (values_all named_file_of (λ n. is_name n.name) named_file_all _);
+      remove = at_some r (values_all name_of is_section_name name_all _);
+      update = at_some u (values_all named_file_of (λ n. is_section_name n.name) named_file_all _);
+      rename_old = at_some n (values_all renaming_of (λ n. is_section_name n.old) renaming_old_all _);
+      rename_new = at_some n (values_all renaming_of (λ n. is_section_name n.new) renaming_new_all _);
+      flags = at_some f (values_all named_bits_of (λ n. is_section_name n.name) named_bits_all _);
+      add = at_some a (values_all named_file_of (λ n. is_section_name n.name) named_file_all _);
     }))))))
 
 copy_form : (split : Split) → Yields IsWellFormed (copy_command split)
 unfolding copy_command
 copy_form split =
-    bind_all (only_one split.operands) (λ file _. bind_all (last (arguments (byte "o") split.options)) (λ out _. bind_all (changes_of split.options) (λ changes changes_are.
+    bind_all (only_one split.operands) (λ file _. bind_all (last (option_arguments (byte "o") split.options)) (λ out _. bind_all (changes_of split.options) (λ changes changes_are.
     unless_all (bytes_eq out file || is_file_of out changes.update || is_file_of out changes.add) _ (λ t.
     let p = or_parts _ _ t in
     let q = or_parts _ _ p.0 in (
@@ -171,7 +171,7 @@ copy_form split =
 
 unstrip_form : (split : Split) → Yields IsWellFormed (unstrip_command split)
 unfolding unstrip_command
-unstrip_form split = bind_all (only_two split.operands) (λ files _. bind_all (last (arguments (byte "o") split.options)) (λ out _. if_all (all_differ (out ∷ files.0 ∷ files.1 ∷ [])) _ (λ t. three_differ out files.0 files.1 t)))
+unstrip_form split = bind_all (only_two split.operands) (λ files _. bind_all (last (option_arguments (byte "o") split.options)) (λ out _. if_all (all_differ (out ∷ files.0 ∷ files.1 ∷ [])) _ (λ t. three_differ out files.0 files.1 t)))
 
 -- the commands of which nothing more is said
 readelf_form : (split : Split) → Yields IsWellFormed (readelf_command split)
@@ -180,7 +180,7 @@ readelf_form split = bind_all (one_or_more split.operands) (λ files _. unless_a
 
 nm_form : (split : Split) → Yields IsWellFormed (nm_command split)
 unfolding nm_command
-nm_form split = bind_all (one_or_more split.operands) (λ files _. bind_all (all_values radix_of (arguments (byte "t") split.options)) (λ radixes _. some_all tt))
+nm_form split = bind_all (one_or_more split.operands) (λ files _. bind_all (all_values radix_of (option_arguments (byte "t") split.options)) (λ radixes _. some_all tt))
 
 size_form : (split : Split) → Yields IsWellFormed (size_command split)
 unfolding size_command

@@ -1,10 +1,8 @@
 pub mod Folds
 pub mod FormsHold
-pub mod Fronts
+pub mod Groups
 pub mod Letters
 pub mod Numerals
 pub mod OneSplit
 pub mod OptionRules
-pub mod Rows
 pub mod Splits
-pub mod PageLemmas

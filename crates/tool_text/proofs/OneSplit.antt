@@ -1,11 +1,11 @@
 -- The rules of option words leave no choice: two splits that follow them are one.
-use Rattle.std.proofs.Common.{◌≡◌, ◌≢◌, ◌+◌, ◌≤◌, List, [], ◌∷◌, ℕ, zero, suc, true, false, length, Option, option_map, refl, sym, ap, subst, ◌∙◌, ⊎_elim, arith}
+use Rattle.std.proofs.Common.{◌≡◌, ◌≢◌, ◌+◌, ◌≤◌, List, [], ◌∷◌, ℕ, zero, suc, true, false, length, Option, refl, sym, ap, subst, ◌∙◌, ⊎_elim, arith}
 use Rattle.std.specs.Str.{byte}
 use Rattle.std.proofs.lemmas.Bool.{and_right, ne_eqb, cases_eq, cases_Bool}
 use Rattle.tool_text.specs.declared.usages.Usage.{Usage}
 use Rattle.tool_text.specs.declared.splitting.Split.{Split}
-use Rattle.tool_text.specs.Splitting.{is_option_word, is_flag, takes_argument, split_after}
-use Rattle.tool_text.specs.Rules.{FollowsRules, dash, flag, with_argument}
+use Rattle.tool_text.specs.Splitting.{is_option_word, stands_alone, takes_option_argument, lone_option, option_with, split_after}
+use Rattle.tool_text.specs.Rules.{FollowsRules, dash}
 
 -- how much there is to read
 size : List (List ℕ) → ℕ
@@ -28,43 +28,43 @@ module _ (usage : Usage) (s t : List (List ℕ) → Option Split) (F : FollowsRu
 
   -- where what is shorter is split alike
   module _ (n : ℕ) (shorter : (words : List (List ℕ)) → size words ≤ n → Same words) where
-    at_argument : (letter : ℕ) (letters : List ℕ) (words : List (List ℕ)) → takes_argument usage letter ≡ true → size (dash (letter ∷ letters) ∷ words) ≤ suc n → Same (dash (letter ∷ letters) ∷ words)
+    at_option_argument : (letter : ℕ) (letters : List ℕ) (words : List (List ℕ)) → takes_option_argument usage letter ≡ true → size (dash (letter ∷ letters) ∷ words) ≤ suc n → Same (dash (letter ∷ letters) ∷ words)
     unfolding Same size
-    at_argument letter (next ∷ rest) words here small =
-        F.argument_joined letter next rest words here
-        ∙ ap (option_map (split_after (with_argument letter (next ∷ rest)))) (shorter words (omega arith))
-        ∙ sym (G.argument_joined letter next rest words here)
-    at_argument letter [] [] here small = F.argument_missing letter here ∙ sym (G.argument_missing letter here)
-    at_argument letter [] (word ∷ words) here small =
-        F.argument_apart letter word words here
-        ∙ ap (option_map (split_after (with_argument letter word))) (shorter words (omega arith))
-        ∙ sym (G.argument_apart letter word words here)
+    at_option_argument letter (next ∷ rest) words here small =
+        F.joined letter next rest words here
+        ∙ ap (split_after (option_with letter (next ∷ rest))) (shorter words (omega arith))
+        ∙ sym (G.joined letter next rest words here)
+    at_option_argument letter [] [] here small = F.missing letter here ∙ sym (G.missing letter here)
+    at_option_argument letter [] (word ∷ words) here small =
+        F.separate letter word words here
+        ∙ ap (split_after (option_with letter word)) (shorter words (omega arith))
+        ∙ sym (G.separate letter word words here)
 
-    at_flag : (letter : ℕ) (letters : List ℕ) (words : List (List ℕ)) → takes_argument usage letter ≡ false → is_flag usage letter ≡ true → size (dash (letter ∷ letters) ∷ words) ≤ suc n → Same (dash (letter ∷ letters) ∷ words)
+    at_alone : (letter : ℕ) (letters : List ℕ) (words : List (List ℕ)) → stands_alone usage letter ≡ true → size (dash (letter ∷ letters) ∷ words) ≤ suc n → Same (dash (letter ∷ letters) ∷ words)
     unfolding Same size
-    at_flag letter [] words none here small =
-        F.flag_alone letter words none here
-        ∙ ap (option_map (split_after (flag letter))) (shorter words (omega arith))
-        ∙ sym (G.flag_alone letter words none here)
-    at_flag letter (next ∷ letters) words none here small =
+    at_alone letter [] words here small =
+        F.alone letter words here
+        ∙ ap (split_after (lone_option letter)) (shorter words (omega arith))
+        ∙ sym (G.alone letter words here)
+    at_alone letter (next ∷ letters) words here small =
         ⊎_elim
-        (λ e. subst (λ c. Same (dash (letter ∷ c ∷ letters) ∷ words)) (sym e) (F.dash_joined letter letters words none here ∙ sym (G.dash_joined letter letters words none here)))
+        (λ e. subst (λ c. Same (dash (letter ∷ c ∷ letters) ∷ words)) (sym e) (F.dash_grouped letter letters words here ∙ sym (G.dash_grouped letter letters words here)))
         (λ other.
-        F.flag_joined letter next letters words none here other
-        ∙ ap (option_map (split_after (flag letter))) (shorter (dash (next ∷ letters) ∷ words) (omega arith))
-        ∙ sym (G.flag_joined letter next letters words none here other))
+        F.grouped letter next letters words here other
+        ∙ ap (split_after (lone_option letter)) (shorter (dash (next ∷ letters) ∷ words) (omega arith))
+        ∙ sym (G.grouped letter next letters words here other))
         (cases_eq next 45)
 
     at_letter : (letter : ℕ) (letters : List ℕ) (words : List (List ℕ)) → letter ≢ byte "-" → size (dash (letter ∷ letters) ∷ words) ≤ suc n → Same (dash (letter ∷ letters) ∷ words)
     unfolding Same
     at_letter letter letters words other small =
         ⊎_elim
-        (λ here. at_argument letter letters words here small)
+        (λ here. at_option_argument letter letters words here small)
         (λ none. ⊎_elim
-        (λ here. at_flag letter letters words none here small)
+        (λ here. at_alone letter letters words here small)
         (λ neither. F.other_letter letter letters words none neither other ∙ sym (G.other_letter letter letters words none neither other))
-        (cases_Bool (is_flag usage letter)))
-        (cases_Bool (takes_argument usage letter))
+        (cases_Bool (stands_alone usage letter)))
+        (cases_Bool (takes_option_argument usage letter))
 
     at_word : (word : List ℕ) (words : List (List ℕ)) → size (word ∷ words) ≤ suc n → Same (word ∷ words)
     unfolding size

@@ -1,49 +1,15 @@
 -- The split of the words follows the rules of option words.
-use Rattle.std.proofs.Common.{◌≡◌, ◌≢◌, List, [], ◌∷◌, ℕ, Bool, true, false, length, bytes_eq, codes, Option, Some, None, option_map, option_and_then, refl, sym, ap, ◌∙◌, arith}
+use Rattle.std.proofs.Common.{◌≡◌, ◌≢◌, List, [], ◌∷◌, ℕ, Bool, true, false, length, bytes_eq, codes, Option, Some, None, option_and_then, refl, sym, ap, ◌∙◌, arith}
 use Rattle.std.specs.Str.{byte}
 use Rattle.std.proofs.lemmas.Bool.{true≢false, le-leb, ne_eqb, and_from, and_left, cond-true, cond-false}
 use Rattle.tool_text.specs.declared.usages.Usage.{Usage}
-use Rattle.tool_text.specs.declared.usages.Usage.TheVariants.{Readelf, Nm, Size, Strings, Strip, Elflint, Calls, Selftest, Rehash, Copy, Unstrip, Lines, General}
-use Rattle.tool_text.specs.declared.splitting.Given.{Given}
+use Rattle.tool_text.specs.declared.splitting.CommandOption.{CommandOption}
 use Rattle.tool_text.specs.declared.splitting.Split.{Split}
-use Rattle.tool_text.specs.Usages.{flag_letters, argument_letters}
-use Rattle.tool_text.specs.Splitting.{Row, is_option_word, is_flag, takes_argument, row_of, row_after, argument_row, split_of, split_after}
-use Rattle.tool_text.specs.Rules.{FollowsRules, dash, flag, with_argument}
-use Rattle.tool_text.proofs.Rows.{row_of-argument, row_of-flag, row_of-other, row_of-nil}
+use Rattle.tool_text.specs.Splitting.{Group, is_option_word, stands_alone, takes_option_argument, lone_option, option_with, group_of, group_after, last_of_group, split_of, split_after}
+use Rattle.tool_text.specs.Rules.{FollowsRules, dash}
+use Rattle.tool_text.proofs.Letters.{lone_letter, dash_takes_no_option_argument, dash_stands_not_alone}
+use Rattle.tool_text.proofs.Groups.{group_of-option_argument, group_of-alone, group_of-other, group_of-nil}
 use Rattle.tool_text.proofs.Splits.{split_after-nil, split_after-append}
-
--- a dash is no letter of a command
-dash_is_no_argument : (usage : Usage) → takes_argument usage (byte "-") ≡ false
-unfolding argument_letters
-dash_is_no_argument Readelf = refl
-dash_is_no_argument Nm = refl
-dash_is_no_argument Size = refl
-dash_is_no_argument Strings = refl
-dash_is_no_argument Strip = refl
-dash_is_no_argument Elflint = refl
-dash_is_no_argument Calls = refl
-dash_is_no_argument Selftest = refl
-dash_is_no_argument Rehash = refl
-dash_is_no_argument Copy = refl
-dash_is_no_argument Unstrip = refl
-dash_is_no_argument Lines = refl
-dash_is_no_argument General = refl
-
-dash_is_no_flag : (usage : Usage) → is_flag usage (byte "-") ≡ false
-unfolding flag_letters
-dash_is_no_flag Readelf = refl
-dash_is_no_flag Nm = refl
-dash_is_no_flag Size = refl
-dash_is_no_flag Strings = refl
-dash_is_no_flag Strip = refl
-dash_is_no_flag Elflint = refl
-dash_is_no_flag Calls = refl
-dash_is_no_flag Selftest = refl
-dash_is_no_flag Rehash = refl
-dash_is_no_flag Copy = refl
-dash_is_no_flag Unstrip = refl
-dash_is_no_flag Lines = refl
-dash_is_no_flag General = refl
 
 is_no_dash : (test : ℕ → Bool) (letter : ℕ) → test (byte "-") ≡ false → test letter ≡ true → letter ≢ byte "-"
 is_no_dash test letter none here e = true≢false (sym here ∙ ap test e ∙ none)
@@ -56,71 +22,71 @@ is_no_end : (letter : ℕ) (letters : List ℕ) → letter ≢ byte "-" → byte
 is_no_end letter letters other = and_left _ _ (ne_eqb letter 45 other)
 
 module _ (usage : Usage) where
-  -- what a row gives before the words after it
-  and_then_words : List (List ℕ) → Option Row → Option Split
-  and_then_words words row = option_and_then (λ r. option_map (split_after r.options) (split_of usage r.waiting words)) row
+  -- what a group gives before the words after it
+  and_then_words : List (List ℕ) → Option Group → Option Split
+  and_then_words words group = option_and_then (λ r. split_after r.options (split_of usage r.waiting words)) group
 
   -- the words at an option word that does not end the options
-  at_row : (letter : ℕ) (letters : List ℕ) (words : List (List ℕ)) → bytes_eq (dash (letter ∷ letters)) (codes "--") ≡ false → split_of usage None (dash (letter ∷ letters) ∷ words) ≡ and_then_words words (row_of usage (letter ∷ letters))
+  at_group : (letter : ℕ) (letters : List ℕ) (words : List (List ℕ)) → bytes_eq (dash (letter ∷ letters)) (codes "--") ≡ false → split_of usage None (dash (letter ∷ letters) ∷ words) ≡ and_then_words words (group_of usage (letter ∷ letters))
   unfolding split_of and_then_words
-  at_row letter letters words goes = cond-true _ _ _ (is_option letter letters) ∙ cond-false _ _ _ goes
+  at_group letter letters words goes = cond-true _ _ _ (is_option letter letters) ∙ cond-false _ _ _ goes
 
-  row_joined : (options : List Given) (words : List (List ℕ)) (row : Option Row) → and_then_words words (option_map (row_after options) row) ≡ option_map (split_after options) (and_then_words words row)
+  group_joined : (options : List CommandOption) (words : List (List ℕ)) (group : Option Group) → and_then_words words (group_after options group) ≡ split_after options (and_then_words words group)
   unfolding and_then_words
-  row_joined options words None = refl
-  row_joined options words (Some row) = split_after-append options row.options (split_of usage row.waiting words)
+  group_joined options words None = refl
+  group_joined options words (Some group) = split_after-append options group.options (split_of usage group.waiting words)
 
-  argument_is_no_dash : (letter : ℕ) → takes_argument usage letter ≡ true → letter ≢ byte "-"
-  argument_is_no_dash letter t = is_no_dash (takes_argument usage) letter (dash_is_no_argument usage) t
+  option_argument_is_no_dash : (letter : ℕ) → takes_option_argument usage letter ≡ true → letter ≢ byte "-"
+  option_argument_is_no_dash letter t = is_no_dash (takes_option_argument usage) letter (dash_takes_no_option_argument usage) t
 
-  flag_is_no_dash : (letter : ℕ) → is_flag usage letter ≡ true → letter ≢ byte "-"
-  flag_is_no_dash letter f = is_no_dash (is_flag usage) letter (dash_is_no_flag usage) f
+  alone_is_no_dash : (letter : ℕ) → stands_alone usage letter ≡ true → letter ≢ byte "-"
+  alone_is_no_dash letter f = is_no_dash (stands_alone usage) letter (dash_stands_not_alone usage) f
 
-  argument_here : (letter : ℕ) (letters : List ℕ) (words : List (List ℕ)) → takes_argument usage letter ≡ true → split_of usage None (dash (letter ∷ letters) ∷ words) ≡ and_then_words words (Some (argument_row letter letters))
-  argument_here letter letters words t =
-      at_row letter letters words (is_no_end letter letters (argument_is_no_dash letter t)) ∙ ap (and_then_words words) (row_of-argument usage letter letters t)
+  option_argument_here : (letter : ℕ) (letters : List ℕ) (words : List (List ℕ)) → takes_option_argument usage letter ≡ true → split_of usage None (dash (letter ∷ letters) ∷ words) ≡ and_then_words words (Some (last_of_group letter letters))
+  option_argument_here letter letters words t =
+      at_group letter letters words (is_no_end letter letters (option_argument_is_no_dash letter t)) ∙ ap (and_then_words words) (group_of-option_argument usage letter letters t)
 
-  flag_here : (letter : ℕ) (letters : List ℕ) (words : List (List ℕ)) → takes_argument usage letter ≡ false → is_flag usage letter ≡ true → split_of usage None (dash (letter ∷ letters) ∷ words) ≡ option_map (split_after (flag letter)) (and_then_words words (row_of usage letters))
-  flag_here letter letters words t f =
-      at_row letter letters words (is_no_end letter letters (flag_is_no_dash letter f))
-      ∙ ap (and_then_words words) (row_of-flag usage letter letters t f)
-      ∙ row_joined (flag letter) words (row_of usage letters)
+  alone_here : (letter : ℕ) (letters : List ℕ) (words : List (List ℕ)) → stands_alone usage letter ≡ true → split_of usage None (dash (letter ∷ letters) ∷ words) ≡ split_after (lone_option letter) (and_then_words words (group_of usage letters))
+  alone_here letter letters words f =
+      at_group letter letters words (is_no_end letter letters (alone_is_no_dash letter f))
+      ∙ ap (and_then_words words) (group_of-alone usage letter letters (lone_letter usage letter f) f)
+      ∙ group_joined (lone_option letter) words (group_of usage letters)
 
-  flag_alone_rule : (letter : ℕ) (words : List (List ℕ)) → takes_argument usage letter ≡ false → is_flag usage letter ≡ true → split_of usage None (dash (letter ∷ []) ∷ words) ≡ option_map (split_after (flag letter)) (split_of usage None words)
+  alone_rule : (letter : ℕ) (words : List (List ℕ)) → stands_alone usage letter ≡ true → split_of usage None (dash (letter ∷ []) ∷ words) ≡ split_after (lone_option letter) (split_of usage None words)
   unfolding and_then_words
-  flag_alone_rule letter words t f =
-      flag_here letter [] words t f
-      ∙ ap (option_map (split_after (flag letter))) (ap (and_then_words words) (row_of-nil usage) ∙ split_after-nil (split_of usage None words))
+  alone_rule letter words f =
+      alone_here letter [] words f
+      ∙ ap (split_after (lone_option letter)) (ap (and_then_words words) (group_of-nil usage) ∙ split_after-nil (split_of usage None words))
 
-  argument_joined_rule : (letter next : ℕ) (rest : List ℕ) (words : List (List ℕ)) → takes_argument usage letter ≡ true → split_of usage None (dash (letter ∷ next ∷ rest) ∷ words) ≡ option_map (split_after (with_argument letter (next ∷ rest))) (split_of usage None words)
+  joined_rule : (letter next : ℕ) (rest : List ℕ) (words : List (List ℕ)) → takes_option_argument usage letter ≡ true → split_of usage None (dash (letter ∷ next ∷ rest) ∷ words) ≡ split_after (option_with letter (next ∷ rest)) (split_of usage None words)
   unfolding and_then_words
-  argument_joined_rule letter next rest words t = argument_here letter (next ∷ rest) words t
+  joined_rule letter next rest words t = option_argument_here letter (next ∷ rest) words t
 
-  argument_apart_rule : (letter : ℕ) (word : List ℕ) (words : List (List ℕ)) → takes_argument usage letter ≡ true → split_of usage None (dash (letter ∷ []) ∷ word ∷ words) ≡ option_map (split_after (with_argument letter word)) (split_of usage None words)
+  separate_rule : (letter : ℕ) (word : List ℕ) (words : List (List ℕ)) → takes_option_argument usage letter ≡ true → split_of usage None (dash (letter ∷ []) ∷ word ∷ words) ≡ split_after (option_with letter word) (split_of usage None words)
   unfolding and_then_words split_of
-  argument_apart_rule letter word words t = argument_here letter [] (word ∷ words) t ∙ split_after-nil _
+  separate_rule letter word words t = option_argument_here letter [] (word ∷ words) t ∙ split_after-nil _
 
-  argument_missing_rule : (letter : ℕ) → takes_argument usage letter ≡ true → split_of usage None (dash (letter ∷ []) ∷ []) ≡ None
+  missing_rule : (letter : ℕ) → takes_option_argument usage letter ≡ true → split_of usage None (dash (letter ∷ []) ∷ []) ≡ None
   unfolding and_then_words split_of
-  argument_missing_rule letter t = argument_here letter [] [] t
+  missing_rule letter t = option_argument_here letter [] [] t
 
-  -- a dash behind a dash or a flag
-  dash_row : (letters : List ℕ) → row_of usage (byte "-" ∷ letters) ≡ None
-  dash_row letters = row_of-other usage (byte "-") letters (dash_is_no_argument usage) (dash_is_no_flag usage)
+  -- a dash behind a dash or a letter
+  dash_group : (letters : List ℕ) → group_of usage (byte "-" ∷ letters) ≡ None
+  dash_group letters = group_of-other usage (byte "-") letters (dash_takes_no_option_argument usage) (dash_stands_not_alone usage)
 
-  other_letter_rule : (letter : ℕ) (letters : List ℕ) (words : List (List ℕ)) → takes_argument usage letter ≡ false → is_flag usage letter ≡ false → letter ≢ byte "-" → split_of usage None (dash (letter ∷ letters) ∷ words) ≡ None
+  other_letter_rule : (letter : ℕ) (letters : List ℕ) (words : List (List ℕ)) → takes_option_argument usage letter ≡ false → stands_alone usage letter ≡ false → letter ≢ byte "-" → split_of usage None (dash (letter ∷ letters) ∷ words) ≡ None
   unfolding and_then_words
   other_letter_rule letter letters words t f other =
-      at_row letter letters words (is_no_end letter letters other) ∙ ap (and_then_words words) (row_of-other usage letter letters t f)
+      at_group letter letters words (is_no_end letter letters other) ∙ ap (and_then_words words) (group_of-other usage letter letters t f)
 
   other_dash_rule : (letters : List ℕ) (next : ℕ) (words : List (List ℕ)) → split_of usage None (dash (byte "-" ∷ next ∷ letters) ∷ words) ≡ None
   unfolding and_then_words
-  other_dash_rule letters next words = at_row (byte "-") (next ∷ letters) words refl ∙ ap (and_then_words words) (dash_row (next ∷ letters))
+  other_dash_rule letters next words = at_group (byte "-") (next ∷ letters) words refl ∙ ap (and_then_words words) (dash_group (next ∷ letters))
 
-  dash_joined_rule : (letter : ℕ) (letters : List ℕ) (words : List (List ℕ)) → takes_argument usage letter ≡ false → is_flag usage letter ≡ true → split_of usage None (dash (letter ∷ byte "-" ∷ letters) ∷ words) ≡ None
+  dash_grouped_rule : (letter : ℕ) (letters : List ℕ) (words : List (List ℕ)) → stands_alone usage letter ≡ true → split_of usage None (dash (letter ∷ byte "-" ∷ letters) ∷ words) ≡ None
   unfolding and_then_words
-  dash_joined_rule letter letters words t f =
-      flag_here letter (byte "-" ∷ letters) words t f ∙ ap (λ row. option_map (split_after (flag letter)) (and_then_words words row)) (dash_row letters)
+  dash_grouped_rule letter letters words f =
+      alone_here letter (byte "-" ∷ letters) words f ∙ ap (λ group. split_after (lone_option letter) (and_then_words words group)) (dash_group letters)
 
   no_words_rule : split_of usage None [] ≡ Some (record { options = []; operands = [] })
   unfolding split_of
@@ -139,14 +105,14 @@ module _ (usage : Usage) where
     no_words = no_words_rule;
     operands = operands_rule;
     end = end_rule;
-    flag_alone = flag_alone_rule;
-    flag_joined = λ letter next letters words t f other.
-        flag_here letter (next ∷ letters) words t f
-        ∙ ap (option_map (split_after (flag letter))) (sym (at_row next letters words (is_no_end next letters other)));
-    argument_joined = argument_joined_rule;
-    argument_apart = argument_apart_rule;
-    argument_missing = argument_missing_rule;
+    alone = alone_rule;
+    grouped = λ letter next letters words f other.
+        alone_here letter (next ∷ letters) words f
+        ∙ ap (split_after (lone_option letter)) (sym (at_group next letters words (is_no_end next letters other)));
+    joined = joined_rule;
+    separate = separate_rule;
+    missing = missing_rule;
     other_letter = other_letter_rule;
     other_dash = other_dash_rule;
-    dash_joined = dash_joined_rule;
+    dash_grouped = dash_grouped_rule;
   }

@@ -6,10 +6,10 @@ use Rattle.tool_text.specs.declared.commands.Command.TheVariants.{Readelf, Nm, S
 use Rattle.tool_text.specs.declared.commands.CallsOutput.{CallsOutput}
 use Rattle.tool_text.specs.declared.commands.CallsOutput.TheVariants.{To, InPlace}
 use Rattle.tool_text.specs.declared.commands.CopyChanges.{CopyChanges}
-use Rattle.tool_text.specs.Reading.{is_name, is_file_of}
+use Rattle.tool_text.specs.Reading.{is_section_name, is_file_of}
 
 -- no two of three words are the same
-pub record AreApart (first second third : List ℕ) : Type 0 where
+pub record ThreeDiffer (first second third : List ℕ) : Type 0 where
   pub second_differs : first ≢ second
   pub third_differs : first ≢ third
   pub last_two_differ : second ≢ third
@@ -22,12 +22,12 @@ IsOutputApart None file script = Unit {0}
 
 -- no name of a section holds a NUL byte
 pub record HasNames (changes : CopyChanges) : Type 0 where
-  pub remove : list_all is_name changes.remove ≡ true
-  pub update : list_all (λ n. is_name n.name) changes.update ≡ true
-  pub rename_old : list_all (λ n. is_name n.old) changes.rename ≡ true
-  pub rename_new : list_all (λ n. is_name n.new) changes.rename ≡ true
-  pub flags : list_all (λ n. is_name n.name) changes.flags ≡ true
-  pub add : list_all (λ n. is_name n.name) changes.add ≡ true
+  pub remove : list_all is_section_name changes.remove ≡ true
+  pub update : list_all (λ n. is_section_name n.name) changes.update ≡ true
+  pub rename_old : list_all (λ n. is_section_name n.old) changes.rename ≡ true
+  pub rename_new : list_all (λ n. is_section_name n.new) changes.rename ≡ true
+  pub flags : list_all (λ n. is_section_name n.name) changes.flags ≡ true
+  pub add : list_all (λ n. is_section_name n.name) changes.add ≡ true
 
 -- the output of copy is neither its file nor a file of its changes
 pub record IsCopyApart (changes : CopyChanges) (out file : List ℕ) : Type 0 where
@@ -37,12 +37,13 @@ pub record IsCopyApart (changes : CopyChanges) (out file : List ℕ) : Type 0 wh
 
 abbrev pub IsWellFormed : Command → Type 0
 IsWellFormed (Strings options files) = (1 ≤ options.least) × (options.least ≤ 4096)
-IsWellFormed (Strip options file) = (options.out ≢ file) × IfSome options.debug (λ debug. AreApart options.out file debug)
+IsWellFormed (Strip options file) =
+    (options.out ≢ file) × IfSome options.debug (λ debug. ThreeDiffer options.out file debug)
 IsWellFormed (Calls output file script) = IsOutputApart output file script
 IsWellFormed (Selftest out count) = (1 ≤ count) × (count ≤ 60000)
 IsWellFormed (Rehash out file) = out ≢ file
 IsWellFormed (Copy changes out file) = HasNames changes × IsCopyApart changes out file
-IsWellFormed (Unstrip out stripped debug) = AreApart out stripped debug
+IsWellFormed (Unstrip out stripped debug) = ThreeDiffer out stripped debug
 IsWellFormed (Readelf parts files) = Unit {0}
 IsWellFormed (Nm options files) = Unit {0}
 IsWellFormed (Size files) = Unit {0}

@@ -1,8 +1,6 @@
 pub mod Forms
-pub mod Messages
 pub mod Numbers
 pub mod Reading
 pub mod Rules
 pub mod Splitting
 pub mod Usages
-pub mod Pages

@@ -11,13 +11,14 @@ are_digits radix word = list_all (λ c. is_digit c radix) word
 -- the number that a word of one to `most` digits stands for, where it is below 2 ^ 64
 unfoldable pub numeral : ℕ → ℕ → List ℕ → Option ℕ
 numeral radix most word =
-    if are_digits radix word && nat_le 1 (length word) && nat_le (length word) most && nat_lt (digits_value radix word) (2 ^ 64)
+    if are_digits radix word && nat_le 1 (length word) && nat_le (length word) most
+    && nat_lt (digits_value radix word) (2 ^ 64)
     then Some (digits_value radix word)
     else None
 
--- a number of the words: one to nine decimal digits
-unfoldable pub number_of : List ℕ → Option ℕ
-number_of word = numeral 10 9 word
+-- a number of the command line: one to nine decimal digits
+unfoldable pub word_number_of : List ℕ → Option ℕ
+word_number_of word = numeral 10 9 word
 
 -- a number of a script: one to twenty decimal digits, or `0x` and one to sixteen hexadecimal ones
 unfoldable pub script_number_of : List ℕ → Option ℕ

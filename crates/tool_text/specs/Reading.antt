@@ -1,10 +1,11 @@
--- The reading of the words: the command with its options and operands, or the usage line that is due.
-use Rattle.std.specs.Prelude.{◌≡◌, ◌&&◌, ◌||◌, ◌==◌, List, [], ◌∷◌, ℕ, Bool, true, false, not, length, nat_le, nat_lt, bytes_eq, Option, Some, None, option_and_then, option_to_list, unwrap_or, ok_or, Result, Ok, Err, codes, if◌then◌else◌}
+-- The reading of the words: the command with its options and operands, or the usage line that is
+-- due.
+use Rattle.std.specs.Prelude.{◌&&◌, ◌||◌, ◌==◌, List, [], ◌∷◌, ℕ, Bool, true, false, not, length, nat_le, nat_lt, bytes_eq, Option, Some, None, option_and_then, option_to_list, unwrap_or, ok_or, Result, Err, codes, if◌then◌else◌}
 use Rattle.std.specs.List.{list_any, filter_map, last_or, position_or_len, before_first, after_first}
 use Rattle.std.specs.Str.{byte}
 use Rattle.tool_text.specs.declared.usages.Usage.{Usage}
 use Rattle.tool_text.specs.declared.usages.Usage.TheVariants as usage
-use Rattle.tool_text.specs.declared.splitting.Given.{Given}
+use Rattle.tool_text.specs.declared.splitting.CommandOption.{CommandOption}
 use Rattle.tool_text.specs.declared.splitting.Split.{Split}
 use Rattle.tool_text.specs.declared.options.Radix.{Radix}
 use Rattle.tool_text.specs.declared.options.Radix.TheVariants.{Decimal, Octal, Hex}
@@ -17,9 +18,9 @@ use Rattle.tool_text.specs.declared.commands.NamedFile.{NamedFile}
 use Rattle.tool_text.specs.declared.commands.Renaming.{Renaming}
 use Rattle.tool_text.specs.declared.commands.NamedBits.{NamedBits}
 use Rattle.tool_text.specs.declared.commands.CopyChanges.{CopyChanges}
-use Rattle.tool_text.specs.declared.commands.Refusal.{Refusal}
-use Rattle.tool_text.specs.declared.commands.Refusal.TheVariants as refusal
-use Rattle.tool_text.specs.Numbers.{number_of, script_number_of}
+use Rattle.tool_text.specs.declared.commands.WordsFault.{WordsFault}
+use Rattle.tool_text.specs.declared.commands.WordsFault.TheVariants as fault
+use Rattle.tool_text.specs.Numbers.{word_number_of, script_number_of}
 use Rattle.tool_text.specs.Usages.{value_in, command_named}
 use Rattle.tool_text.specs.Splitting.{split_of}
 
@@ -27,21 +28,21 @@ infixl 10 ◌>>=◌
 abbrev pub ◌>>=◌ : {A B : Type 0} → Option A → (A → Option B) → Option B
 o >>= f = option_and_then f o
 
--- the options: whether a letter is given, and its arguments in the order of the words
-unfoldable pub is_given : ℕ → List Given → Bool
-is_given letter options = list_any (λ o. o.letter == letter) options
+-- whether an option is there, and the option-arguments of a letter in the order of the words
+unfoldable pub has_option : ℕ → List CommandOption → Bool
+has_option letter options = list_any (λ o. o.letter == letter) options
 
-abbrev pub argument_of : ℕ → Given → Option (List ℕ)
-argument_of letter option = if option.letter == letter then option.argument else None
+abbrev pub option_argument_of : ℕ → CommandOption → Option (List ℕ)
+option_argument_of letter option = if option.letter == letter then option.option_argument else None
 
-unfoldable pub arguments : ℕ → List Given → List (List ℕ)
-arguments letter options = filter_map (argument_of letter) options
+unfoldable pub option_arguments : ℕ → List CommandOption → List (List ℕ)
+option_arguments letter options = filter_map (option_argument_of letter) options
 
--- of several arguments of one letter the last counts
+-- of several option-arguments of one letter the last counts
 unfoldable pub last : {X : Type 0} → List X → Option X
 last xs = last_or None xs
 
--- each argument must have a value, also where a later one counts
+-- each option-argument must have a value, also where a later one counts
 unfoldable pub all_values : {X : Type 0} → (List ℕ → Option X) → List (List ℕ) → Option (List X)
 all_values value [] = Some []
 all_values value (w ∷ ws) = do
@@ -74,7 +75,7 @@ radix_of word = value_in ((codes "d", Decimal) ∷ (codes "o", Octal) ∷ (codes
 -- a number from low to high
 unfoldable pub number_within : ℕ → ℕ → List ℕ → Option ℕ
 number_within low high word = do
-  n ← number_of word
+  n ← word_number_of word
   if nat_le low n && nat_le n high then Some n else None
 
 -- the least length of a run in strings
@@ -82,16 +83,16 @@ unfoldable pub least_of : List ℕ → Option ℕ
 least_of word = number_within 1 4096 word
 
 -- at least one letter and one file
-unfoldable pub parts_of : List Given → ReadelfParts
+unfoldable pub parts_of : List CommandOption → ReadelfParts
 parts_of options = record {
-  header = is_given (byte "h") options;
-  segments = is_given (byte "l") options;
-  sections = is_given (byte "S") options;
-  symbols = is_given (byte "s") options;
-  relocations = is_given (byte "r") options;
-  dynamic = is_given (byte "d") options;
-  notes = is_given (byte "n") options;
-  versions = is_given (byte "V") options;
+  header = has_option (byte "h") options;
+  segments = has_option (byte "l") options;
+  sections = has_option (byte "S") options;
+  symbols = has_option (byte "s") options;
+  relocations = has_option (byte "r") options;
+  dynamic = has_option (byte "d") options;
+  notes = has_option (byte "n") options;
+  versions = has_option (byte "V") options;
 }
 
 unfoldable pub readelf_command : Split → Option Command
@@ -103,13 +104,13 @@ readelf_command split = do
 unfoldable pub nm_command : Split → Option Command
 nm_command split = do
   files ← one_or_more split.operands
-  radixes ← all_values radix_of (arguments (byte "t") split.options)
+  radixes ← all_values radix_of (option_arguments (byte "t") split.options)
   Some (command.Nm (record {
-    name_each = is_given (byte "A") split.options;
-    globals = is_given (byte "g") split.options;
-    undefined = is_given (byte "u") split.options;
-    by_value = is_given (byte "v") split.options;
-    portable = is_given (byte "P") split.options;
+    name_each = has_option (byte "A") split.options;
+    globals = has_option (byte "g") split.options;
+    undefined = has_option (byte "u") split.options;
+    by_value = has_option (byte "v") split.options;
+    portable = has_option (byte "P") split.options;
     radix = unwrap_or (last radixes) Hex;
   }) files)
 
@@ -122,20 +123,24 @@ size_command split = do
 unfoldable pub strings_command : Split → Option Command
 strings_command split = do
   files ← one_or_more split.operands
-  lengths ← all_values least_of (arguments (byte "n") split.options)
-  radixes ← all_values radix_of (arguments (byte "t") split.options)
-  Some (command.Strings (record { all = is_given (byte "a") split.options; least = unwrap_or (last lengths) 4; place = last radixes }) files)
+  lengths ← all_values least_of (option_arguments (byte "n") split.options)
+  radixes ← all_values radix_of (option_arguments (byte "t") split.options)
+  Some (command.Strings (record {
+    all = has_option (byte "a") split.options;
+    least = unwrap_or (last lengths) 4;
+    place = last radixes;
+  }) files)
 
 -- OUT, FILE and DEBUG differ
 unfoldable pub strip_command : Split → Option Command
 strip_command split = do
   file ← only_one split.operands
-  out ← last (arguments (byte "o") split.options)
-  let debug = last (arguments (byte "f") split.options)
+  out ← last (option_arguments (byte "o") split.options)
+  let debug = last (option_arguments (byte "f") split.options)
   if all_differ (out ∷ file ∷ option_to_list debug)
       then Some (command.Strip (record {
-        debug_only = is_given (byte "g") split.options;
-        names = arguments (byte "R") split.options;
+        debug_only = has_option (byte "g") split.options;
+        names = option_arguments (byte "R") split.options;
         debug = debug;
         out = out;
       }) file)
@@ -150,19 +155,22 @@ elflint_command split = do
 unfoldable pub output_of : Bool → Option (List ℕ) → List ℕ → List ℕ → Option (Option CallsOutput)
 output_of false None file script = Some None
 output_of true None file script = Some (Some InPlace)
-output_of false (Some out) file script = if bytes_eq out file || bytes_eq out script then None else Some (Some (To out))
+output_of false (Some out) file script =
+    if bytes_eq out file || bytes_eq out script then None else Some (Some (To out))
 output_of true (Some out) file script = None
 
 unfoldable pub calls_command : Split → Option Command
 calls_command split = do
   files ← only_two split.operands
-  output ← output_of (is_given (byte "i") split.options) (last (arguments (byte "o") split.options)) files.0 files.1
+  let in_place = has_option (byte "i") split.options
+  let out = last (option_arguments (byte "o") split.options)
+  output ← output_of in_place out files.0 files.1
   Some (command.Calls output files.0 files.1)
 
 unfoldable pub selftest_command : Split → Option Command
 selftest_command split = do
   word ← only_one split.operands
-  out ← last (arguments (byte "o") split.options)
+  out ← last (option_arguments (byte "o") split.options)
   count ← number_within 1 60000 word
   Some (command.Selftest out count)
 
@@ -170,50 +178,54 @@ selftest_command split = do
 unfoldable pub rehash_command : Split → Option Command
 rehash_command split = do
   file ← only_one split.operands
-  out ← last (arguments (byte "o") split.options)
+  out ← last (option_arguments (byte "o") split.options)
   if all_differ (out ∷ file ∷ []) then Some (command.Rehash out file) else None
 
--- An argument is split at its first `=`. Without one, or with nothing before it, it is refused.
+-- An option-argument of copy is split at its first `=`. Without one, or with nothing before it, it
+-- is refused.
 abbrev pub is_equals : ℕ → Bool
 is_equals c = c == byte "="
 
 unfoldable pub split_at_equals : List ℕ → Option (List ℕ × List ℕ)
 split_at_equals word =
-    if nat_lt 0 (position_or_len is_equals word) && nat_lt (position_or_len is_equals word) (length word)
+    if nat_lt 0 (position_or_len is_equals word)
+    && nat_lt (position_or_len is_equals word) (length word)
     then Some (before_first is_equals word, after_first is_equals word)
     else None
 
 -- a name of a section holds no NUL byte
-unfoldable pub is_name : List ℕ → Bool
-is_name word = not (list_any (λ c. c == 0) word)
+unfoldable pub is_section_name : List ℕ → Bool
+is_section_name word = not (list_any (λ c. c == 0) word)
 
 -- NAME, NAME=FILE, OLD=NEW and NAME=BITS
 unfoldable pub name_of : List ℕ → Option (List ℕ)
-name_of word = if is_name word then Some word else None
+name_of word = if is_section_name word then Some word else None
 
 unfoldable pub named_file_of : List ℕ → Option NamedFile
 named_file_of word = do
   parts ← split_at_equals word
-  if is_name parts.0 then Some (record { name = parts.0; file = parts.1 }) else None
+  if is_section_name parts.0 then Some (record { name = parts.0; file = parts.1 }) else None
 
 unfoldable pub renaming_of : List ℕ → Option Renaming
 renaming_of word = do
   parts ← split_at_equals word
-  if is_name parts.0 && is_name parts.1 then Some (record { old = parts.0; new = parts.1 }) else None
+  if is_section_name parts.0 && is_section_name parts.1
+      then Some (record { old = parts.0; new = parts.1 })
+      else None
 
 unfoldable pub named_bits_of : List ℕ → Option NamedBits
 named_bits_of word = do
   parts ← split_at_equals word
   bits ← script_number_of parts.1
-  if is_name parts.0 then Some (record { name = parts.0; bits = bits }) else None
+  if is_section_name parts.0 then Some (record { name = parts.0; bits = bits }) else None
 
-unfoldable pub changes_of : List Given → Option CopyChanges
+unfoldable pub changes_of : List CommandOption → Option CopyChanges
 changes_of options = do
-  remove ← all_values name_of (arguments (byte "R") options)
-  update ← all_values named_file_of (arguments (byte "u") options)
-  rename ← all_values renaming_of (arguments (byte "n") options)
-  flags ← all_values named_bits_of (arguments (byte "f") options)
-  add ← all_values named_file_of (arguments (byte "a") options)
+  remove ← all_values name_of (option_arguments (byte "R") options)
+  update ← all_values named_file_of (option_arguments (byte "u") options)
+  rename ← all_values renaming_of (option_arguments (byte "n") options)
+  flags ← all_values named_bits_of (option_arguments (byte "f") options)
+  add ← all_values named_file_of (option_arguments (byte "a") options)
   Some (record { remove = remove; update = update; rename = rename; flags = flags; add = add })
 
 -- OUT is neither FILE nor a file of `-u` or `-a`
@@ -223,7 +235,7 @@ is_file_of word named = list_any (λ n. bytes_eq n.file word) named
 unfoldable pub copy_command : Split → Option Command
 copy_command split = do
   file ← only_one split.operands
-  out ← last (arguments (byte "o") split.options)
+  out ← last (option_arguments (byte "o") split.options)
   changes ← changes_of split.options
   if bytes_eq out file || is_file_of out changes.update || is_file_of out changes.add
       then None
@@ -233,8 +245,10 @@ copy_command split = do
 unfoldable pub unstrip_command : Split → Option Command
 unstrip_command split = do
   files ← only_two split.operands
-  out ← last (arguments (byte "o") split.options)
-  if all_differ (out ∷ files.0 ∷ files.1 ∷ []) then Some (command.Unstrip out files.0 files.1) else None
+  out ← last (option_arguments (byte "o") split.options)
+  if all_differ (out ∷ files.0 ∷ files.1 ∷ [])
+      then Some (command.Unstrip out files.0 files.1)
+      else None
 
 unfoldable pub lines_command : Split → Option Command
 lines_command split = do
@@ -271,8 +285,7 @@ reading (name ∷ words) = of_name (command_named name) words
     of_name None words = Err usage.General
     of_name (Some usage) words = ok_or (command_of usage words) usage
 
--- what the code returned is what the words say, unless memory ran out
-abbrev pub Follows : Result Command Refusal → Result Command Usage → Type 0
-Follows (Ok command) stated = stated ≡ Ok command
-Follows (Err (refusal.Usage usage)) stated = stated ≡ Err usage
-Follows (Err refusal.Memory) stated = Unit {0}
+-- the usage line by which words are refused; want of memory is free
+abbrev pub stated_usage : WordsFault → Option Usage
+stated_usage (fault.Usage usage) = Some usage
+stated_usage fault.Memory = None

@@ -1,5 +1,5 @@
 -- The commands by their names, and the line that says how each is called.
-use Rattle.std.specs.Prelude.{List, [], ◌∷◌, ℕ, Option, Some, None, codes, bytes_eq, if◌then◌else◌}
+use Rattle.std.specs.Prelude.{List, [], ◌∷◌, ◌++◌, ℕ, Option, Some, None, codes, bytes_eq, if◌then◌else◌}
 use Rattle.tool_text.specs.declared.usages.Usage.{Usage}
 use Rattle.tool_text.specs.declared.usages.Usage.TheVariants.{Readelf, Nm, Size, Strings, Strip, Elflint, Calls, Selftest, Rehash, Copy, Unstrip, Lines, General}
 
@@ -39,28 +39,32 @@ usage_line Elflint = codes "usage: elfkit elflint FILE.."
 usage_line Calls = codes "usage: elfkit calls [-o OUT | -i] FILE SCRIPT"
 usage_line Selftest = codes "usage: elfkit selftest -o OUT N"
 usage_line Rehash = codes "usage: elfkit rehash -o OUT FILE"
-usage_line Copy = codes "usage: elfkit copy [-R NAME].. [-u NAME=FILE].. [-n OLD=NEW].. [-f NAME=BITS].. [-a NAME=FILE].. -o OUT FILE"
+usage_line Copy =
+    codes "usage: elfkit copy [-R NAME].. [-u NAME=FILE].. [-n OLD=NEW].."
+    ++ codes " [-f NAME=BITS].. [-a NAME=FILE].. -o OUT FILE"
 usage_line Unstrip = codes "usage: elfkit unstrip -o OUT STRIPPED DEBUG"
 usage_line Lines = codes "usage: elfkit lines FILE.."
-usage_line General = codes "usage: elfkit readelf|nm|size|strings|strip|elflint|calls|selftest|rehash|copy|unstrip|lines"
+usage_line General =
+    codes "usage: elfkit readelf|nm|size|strings|strip|elflint|calls|selftest"
+    ++ codes "|rehash|copy|unstrip|lines"
 
--- the letters of a command that stand for themselves
-unfoldable pub flag_letters : Usage → List ℕ
-flag_letters Readelf = codes "hlSsrdnV"
-flag_letters Nm = codes "AguvP"
-flag_letters Strings = codes "a"
-flag_letters Strip = codes "g"
-flag_letters Calls = codes "i"
-flag_letters _ = []
+-- the letters of a command without an option-argument
+unfoldable pub letters_alone : Usage → List ℕ
+letters_alone Readelf = codes "hlSsrdnV"
+letters_alone Nm = codes "AguvP"
+letters_alone Strings = codes "a"
+letters_alone Strip = codes "g"
+letters_alone Calls = codes "i"
+letters_alone _ = []
 
--- the letters of a command that take an argument
-unfoldable pub argument_letters : Usage → List ℕ
-argument_letters Nm = codes "t"
-argument_letters Strings = codes "nt"
-argument_letters Strip = codes "Rfo"
-argument_letters Calls = codes "o"
-argument_letters Selftest = codes "o"
-argument_letters Rehash = codes "o"
-argument_letters Copy = codes "Runfao"
-argument_letters Unstrip = codes "o"
-argument_letters _ = []
+-- the letters of a command that take an option-argument
+unfoldable pub letters_with_option_argument : Usage → List ℕ
+letters_with_option_argument Nm = codes "t"
+letters_with_option_argument Strings = codes "nt"
+letters_with_option_argument Strip = codes "Rfo"
+letters_with_option_argument Calls = codes "o"
+letters_with_option_argument Selftest = codes "o"
+letters_with_option_argument Rehash = codes "o"
+letters_with_option_argument Copy = codes "Runfao"
+letters_with_option_argument Unstrip = codes "o"
+letters_with_option_argument _ = []

@@ -133,7 +133,7 @@ pub struct CopyChanges {
     pub add: List<NamedFile>,
 }
 
-/// The argument `NAME=FILE`, split at its first `=`.
+/// The option-argument `NAME=FILE`, split at its first `=`.
 #[derive(Drop)]
 pub struct NamedFile {
     /// The name of the section, which is not empty.
@@ -142,7 +142,7 @@ pub struct NamedFile {
     pub file: Text,
 }
 
-/// The argument `OLD=NEW`, split at its first `=`.
+/// The option-argument `OLD=NEW`, split at its first `=`.
 #[derive(Drop)]
 pub struct Renaming {
     /// The name of the section, which is not empty.
@@ -151,7 +151,7 @@ pub struct Renaming {
     pub new: Text,
 }
 
-/// The argument `NAME=BITS`, split at its first `=`.
+/// The option-argument `NAME=BITS`, split at its first `=`.
 #[derive(Drop)]
 pub struct NamedBits {
     /// The name of the section, which is not empty.
@@ -162,7 +162,7 @@ pub struct NamedBits {
 
 /// Why the words give no command.
 #[derive(Clone, Copy, Debug, PartialEq, Eq)]
-pub enum Refusal {
+pub enum WordsFault {
     /// There was no memory.
     Memory,
     /// The words are not of the form that this usage line states.

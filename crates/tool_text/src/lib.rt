@@ -1,15 +1,14 @@
-//! The words and messages of elfkit's tools: how a command line is read, the options that it gives
-//! each tool, and the lines by which a tool refuses a file.
+//! The words of elfkit's command line: how they are read as a command with its options and
+//! operands, by the utility conventions of POSIX.1-2017 (base definitions, chapter 12), and the
+//! usage lines of those that are refused.
 #![tactic(auto)]
 
 pub mod arguments;
 pub mod commands;
 mod faults;
-mod givens;
-pub mod messages;
 pub mod numbers;
+mod option_arguments;
 pub mod options;
-pub mod pages;
 pub mod reading;
 pub mod rules;
 mod splitting;
@@ -21,12 +20,10 @@ mod values;
 
 pub use arguments::Args;
 pub use commands::{
-    CallsOutput, Command, CopyChanges, NamedBits, NamedFile, Refusal, Renaming, StripOptions,
+    CallsOutput, Command, CopyChanges, NamedBits, NamedFile, Renaming, StripOptions, WordsFault,
 };
-pub use messages::put_message;
-pub use numbers::{number, script_number};
-pub use options::{NmOptions, Radix, ReadelfParts, Stop, StringsOptions};
-pub use pages::{PAGE_SIZE, finish, turn, turn_after};
+pub use numbers::{script_number, word_number};
+pub use options::{NmOptions, Radix, ReadelfParts, StringsOptions};
 pub use reading::read_words;
 pub use texts::Text;
 pub use usages::Usage;

@@ -1,7 +1,7 @@
 //! Words that are numbers.
 
 ghost use Rattle.std.specs.Prelude.{◌≡◌, ◌≤◌};
-ghost use Rattle.tool_text.specs.Numbers.{are_digits, numeral, number_of, script_number_of};
+ghost use Rattle.tool_text.specs.Numbers.{are_digits, numeral, word_number_of, script_number_of};
 
 /// Whether each byte is a digit in the radix, in either case.
 fn are_digits(word: &[u8], radix: u32) -> bool
@@ -26,10 +26,11 @@ fn numeral(word: &str, radix: u32, most: usize) -> Option<u64>
     u64::from_str_radix(word, radix).ok()
 }
 
-/// A number of the words, which has one to nine decimal digits, or None exactly where the word is none.
-#[tactic(auto, unfolding(crate::specs::Numbers::number_of))]
-pub fn number(word: &str) -> Option<u64>
-    ensures { result ≡ number_of word.now }
+/// A number of the command line, which has one to nine decimal digits, or None exactly where the
+/// word is none.
+#[tactic(auto, unfolding(crate::specs::Numbers::word_number_of))]
+pub fn word_number(word: &str) -> Option<u64>
+    ensures { result ≡ word_number_of word.now }
 {
     numeral(word, 10, 9)
 }

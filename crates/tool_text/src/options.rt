@@ -1,20 +1,4 @@
-//! The options of the tools, as the words give them, and why a tool stops.
-
-use thiserror::Error;
-
-/// Why a tool stopped before its end. What it had written by then is a prefix of its text.
-#[derive(Clone, Copy, Debug, PartialEq, Eq, Error)]
-pub enum Stop {
-    /// The source failed to read.
-    #[error("read failed")]
-    Read,
-    /// One of the two sinks failed to write.
-    #[error("write failed")]
-    Write,
-    /// There was no memory.
-    #[error("out of memory")]
-    Memory,
-}
+//! The options of the commands that list, as the words say them.
 
 /// The radix in which numbers are shown: `-t d`, `-t o` and `-t x`.
 #[derive(Clone, Copy, Debug, PartialEq, Eq)]

@@ -1,16 +1,20 @@
 //! The reading of the words: the command with its options and operands.
 
 ghost use Rattle.std.specs.Prelude.{◌≡◌, ◌∷◌, [], option_to_list, IfOk};
+ghost use Rattle.std.specs.Str.{byte};
+ghost use Rattle.elf_types.specs.Answers.{FollowsBy};
 ghost use Rattle.tool_text.specs.Forms.{IsWellFormed};
 ghost use Rattle.tool_text.specs.Splitting.{Reads};
-ghost use Rattle.tool_text.specs.Reading.{reading, Follows, command_of, of_split, readelf_command, parts_of, nm_command, size_command, strings_command, strip_command, elflint_command, calls_command, selftest_command, rehash_command, copy_command, changes_of, unstrip_command, lines_command, all_differ, is_file_of};
+ghost use Rattle.tool_text.specs.Reading.{reading, stated_usage, command_of, option_arguments, last, one_or_more, only_one, only_two, of_split, readelf_command, parts_of, nm_command, size_command, strings_command, strip_command, elflint_command, calls_command, selftest_command, rehash_command, copy_command, changes_of, unstrip_command, lines_command, all_differ, is_file_of};
 
 use crate::arguments::Args;
-use crate::commands::{CallsOutput, Command, CopyChanges, NamedFile, Refusal, StripOptions};
+use crate::commands::{CallsOutput, Command, CopyChanges, NamedFile, StripOptions, WordsFault};
 use crate::faults::Fault;
-use crate::givens::{all_values, arguments, is_given, last_argument, last_value};
+use crate::option_arguments::{
+    all_values, has_option, last_option_argument, last_value, option_arguments,
+};
 use crate::options::{NmOptions, Radix, ReadelfParts, StringsOptions};
-use crate::splitting::{Given, Split, split_words};
+use crate::splitting::{CommandOption, Split, split_words};
 use crate::texts::Text;
 use crate::usages::Usage;
 use crate::values::number_within;
@@ -19,20 +23,20 @@ use std::alloc::Global;
 /// Reads the words after the program's name, of which the first is the command. It refuses with the
 /// usage line that is due exactly where the words are not of that form, and for want of memory.
 #[tactic(auto, unfolding(crate::specs::Reading::reading))]
-pub fn read_words(alloc: Global, words: &Args) -> Result<Command, Refusal>
-    ensures value { Follows result (reading words.now) }
+pub fn read_words(alloc: Global, words: &Args) -> Result<Command, WordsFault>
+    ensures value { FollowsBy (λ c. c) stated_usage result (reading words.now) }
     ensures form { IfOk result IsWellFormed }
 {
     let Some((name, words)) = words.as_slice().split_first() else {
-        return Err(Refusal::Usage(Usage::General));
+        return Err(WordsFault::Usage(Usage::General));
     };
     let Some(usage) = Usage::named(name.as_str()) else {
-        return Err(Refusal::Usage(Usage::General));
+        return Err(WordsFault::Usage(Usage::General));
     };
     match read_command(alloc, usage, words) {
         Ok(command) => Ok(command),
-        Err(Fault::Words) => Err(Refusal::Usage(usage)),
-        Err(Fault::Memory) => Err(Refusal::Memory),
+        Err(Fault::Words) => Err(WordsFault::Usage(usage)),
+        Err(Fault::Memory) => Err(WordsFault::Memory),
     }
 }
 
@@ -67,120 +71,139 @@ fn read_split(alloc: Global, usage: Usage, split: Split) -> Result<Command, Faul
     }
 }
 
+/// The operands, of which there must be at least one.
+#[tactic(auto, unfolding(crate::specs::Reading::one_or_more))]
+fn one_or_more(operands: Args) -> Result<Args, Fault>
+    ensures { Reads result (one_or_more operands) }
+{
+    if operands.is_empty() {
+        return Err(Fault::Words);
+    }
+    Ok(operands)
+}
+
+/// The operand, of which there must be one.
+fn only_one(operands: Args) -> Result<Text, Fault>
+    ensures { Reads result (only_one operands) }
+{
+    operands.into_one().ok_or(Fault::Words)
+}
+
+/// The operands, of which there must be two.
+fn only_two(operands: Args) -> Result<(Text, Text), Fault>
+    ensures { Reads result (only_two operands) }
+{
+    operands.into_two().ok_or(Fault::Words)
+}
+
+/// The option-argument of the last `-o`, which must be there.
+fn output(alloc: Global, options: &[CommandOption]) -> Result<Text, Fault>
+    ensures { Reads result (last (option_arguments (byte "o") options.now)) }
+{
+    last_option_argument(alloc, options, b'o')?.ok_or(Fault::Words)
+}
+
 /// At least one letter and one file.
-#[tactic(auto, unfolding(crate::specs::Reading::readelf_command, crate::specs::Reading::one_or_more))]
+#[tactic(auto, unfolding(crate::specs::Reading::readelf_command))]
 fn readelf(split: Split) -> Result<Command, Fault>
     ensures { Reads result (readelf_command split) }
 {
     let Split { options, operands } = split;
-    if options.is_empty() || operands.is_empty() {
+    let files = one_or_more(operands)?;
+    if options.is_empty() {
         return Err(Fault::Words);
     }
     Ok(Command::Readelf {
         parts: parts(options.as_slice()),
-        files: operands,
+        files,
     })
 }
 
 /// The parts that the letters name.
 #[tactic(auto, unfolding(crate::specs::Reading::parts_of))]
-fn parts(options: &[Given]) -> ReadelfParts
+fn parts(options: &[CommandOption]) -> ReadelfParts
     ensures { result ≡ parts_of options.now }
 {
     ReadelfParts {
-        header: is_given(options, b'h'),
-        segments: is_given(options, b'l'),
-        sections: is_given(options, b'S'),
-        symbols: is_given(options, b's'),
-        relocations: is_given(options, b'r'),
-        dynamic: is_given(options, b'd'),
-        notes: is_given(options, b'n'),
-        versions: is_given(options, b'V'),
+        header: has_option(options, b'h'),
+        segments: has_option(options, b'l'),
+        sections: has_option(options, b'S'),
+        symbols: has_option(options, b's'),
+        relocations: has_option(options, b'r'),
+        dynamic: has_option(options, b'd'),
+        notes: has_option(options, b'n'),
+        versions: has_option(options, b'V'),
     }
 }
 
 /// At least one file. The radix is hexadecimal where none is given.
-#[tactic(auto, unfolding(crate::specs::Reading::nm_command, crate::specs::Reading::one_or_more))]
+#[tactic(auto, unfolding(crate::specs::Reading::nm_command))]
 fn nm(alloc: Global, split: Split) -> Result<Command, Fault>
     ensures { Reads result (nm_command split) }
 {
     let Split { options, operands } = split;
-    if operands.is_empty() {
-        return Err(Fault::Words);
-    }
     let options = options.as_slice();
+    let files = one_or_more(operands)?;
     let radix = last_value(alloc, options, b't')?.unwrap_or(Radix::Hex);
     Ok(Command::Nm {
         options: NmOptions {
-            name_each: is_given(options, b'A'),
-            globals: is_given(options, b'g'),
-            undefined: is_given(options, b'u'),
-            by_value: is_given(options, b'v'),
-            portable: is_given(options, b'P'),
+            name_each: has_option(options, b'A'),
+            globals: has_option(options, b'g'),
+            undefined: has_option(options, b'u'),
+            by_value: has_option(options, b'v'),
+            portable: has_option(options, b'P'),
             radix,
         },
-        files: operands,
+        files,
     })
 }
 
 /// At least one file.
-#[tactic(auto, unfolding(crate::specs::Reading::size_command, crate::specs::Reading::one_or_more))]
+#[tactic(auto, unfolding(crate::specs::Reading::size_command))]
 fn size(split: Split) -> Result<Command, Fault>
     ensures { Reads result (size_command split) }
 {
-    let Split {
-        options: _,
-        operands,
-    } = split;
-    if operands.is_empty() {
-        return Err(Fault::Words);
-    }
-    Ok(Command::Size { files: operands })
+    let files = one_or_more(split.operands)?;
+    Ok(Command::Size { files })
 }
 
 /// At least one file. A run has at least four bytes where nothing else is given.
-#[tactic(auto, unfolding(crate::specs::Reading::strings_command, crate::specs::Reading::one_or_more))]
+#[tactic(auto, unfolding(crate::specs::Reading::strings_command))]
 fn strings(alloc: Global, split: Split) -> Result<Command, Fault>
     ensures { Reads result (strings_command split) }
 {
     let Split { options, operands } = split;
-    if operands.is_empty() {
-        return Err(Fault::Words);
-    }
     let options = options.as_slice();
+    let files = one_or_more(operands)?;
     let least = last_value(alloc, options, b'n')?.unwrap_or(4);
     let place = last_value(alloc, options, b't')?;
     Ok(Command::Strings {
         options: StringsOptions {
-            all: is_given(options, b'a'),
+            all: has_option(options, b'a'),
             least,
             place,
         },
-        files: operands,
+        files,
     })
 }
 
 /// One file and an output. No two of them and the file for debugging are the same word.
-#[tactic(auto, unfolding(crate::specs::Reading::strip_command, crate::specs::Reading::all_differ))]
+#[tactic(auto, unfolding(crate::specs::Reading::strip_command))]
 fn strip(alloc: Global, split: Split) -> Result<Command, Fault>
     ensures { Reads result (strip_command split) }
 {
     let Split { options, operands } = split;
     let options = options.as_slice();
-    let Some(file) = operands.into_one() else {
-        return Err(Fault::Words);
-    };
-    let Some(out) = last_argument(alloc, options, b'o')? else {
-        return Err(Fault::Words);
-    };
-    let debug = last_argument(alloc, options, b'f')?;
+    let file = only_one(operands)?;
+    let out = output(alloc, options)?;
+    let debug = last_option_argument(alloc, options, b'f')?;
     if !strip_files_differ(&out, &file, &debug) {
         return Err(Fault::Words);
     }
     Ok(Command::Strip {
         options: StripOptions {
-            debug_only: is_given(options, b'g'),
-            names: arguments(alloc, options, b'R')?,
+            debug_only: has_option(options, b'g'),
+            names: option_arguments(alloc, options, b'R')?,
             debug,
             out,
         },
@@ -208,18 +231,12 @@ fn all_three_differ(first: &Text, second: &Text, third: &Text) -> bool
 }
 
 /// At least one file.
-#[tactic(auto, unfolding(crate::specs::Reading::elflint_command, crate::specs::Reading::one_or_more))]
+#[tactic(auto, unfolding(crate::specs::Reading::elflint_command))]
 fn elflint(split: Split) -> Result<Command, Fault>
     ensures { Reads result (elflint_command split) }
 {
-    let Split {
-        options: _,
-        operands,
-    } = split;
-    if operands.is_empty() {
-        return Err(Fault::Words);
-    }
-    Ok(Command::Elflint { files: operands })
+    let files = one_or_more(split.operands)?;
+    Ok(Command::Elflint { files })
 }
 
 /// A file and a script, and not both of `-o` and `-i`. The output is another word than either.
@@ -229,12 +246,10 @@ fn calls(alloc: Global, split: Split) -> Result<Command, Fault>
 {
     let Split { options, operands } = split;
     let options = options.as_slice();
-    let Some((file, script)) = operands.into_two() else {
-        return Err(Fault::Words);
-    };
+    let (file, script) = only_two(operands)?;
     let output = match (
-        last_argument(alloc, options, b'o')?,
-        is_given(options, b'i'),
+        last_option_argument(alloc, options, b'o')?,
+        has_option(options, b'i'),
     ) {
         (None, false) => None,
         (None, true) => Some(CallsOutput::InPlace),
@@ -256,12 +271,8 @@ fn selftest(alloc: Global, split: Split) -> Result<Command, Fault>
     ensures { Reads result (selftest_command split) }
 {
     let Split { options, operands } = split;
-    let Some(word) = operands.into_one() else {
-        return Err(Fault::Words);
-    };
-    let Some(out) = last_argument(alloc, options.as_slice(), b'o')? else {
-        return Err(Fault::Words);
-    };
+    let word = only_one(operands)?;
+    let out = output(alloc, options.as_slice())?;
     let count = number_within(word.as_str(), 1, 60000)?;
     Ok(Command::Selftest { out, count })
 }
@@ -272,12 +283,8 @@ fn rehash(alloc: Global, split: Split) -> Result<Command, Fault>
     ensures { Reads result (rehash_command split) }
 {
     let Split { options, operands } = split;
-    let Some(file) = operands.into_one() else {
-        return Err(Fault::Words);
-    };
-    let Some(out) = last_argument(alloc, options.as_slice(), b'o')? else {
-        return Err(Fault::Words);
-    };
+    let file = only_one(operands)?;
+    let out = output(alloc, options.as_slice())?;
     if out.is_same(&file) {
         return Err(Fault::Words);
     }
@@ -291,12 +298,8 @@ fn copy(alloc: Global, split: Split) -> Result<Command, Fault>
 {
     let Split { options, operands } = split;
     let options = options.as_slice();
-    let Some(file) = operands.into_one() else {
-        return Err(Fault::Words);
-    };
-    let Some(out) = last_argument(alloc, options, b'o')? else {
-        return Err(Fault::Words);
-    };
+    let file = only_one(operands)?;
+    let out = output(alloc, options)?;
     let changes = changes(alloc, options)?;
     if out.is_same(&file)
         || is_file_of(&out, changes.update.as_slice())
@@ -309,7 +312,7 @@ fn copy(alloc: Global, split: Split) -> Result<Command, Fault>
 
 /// The changes of copy.
 #[tactic(auto, unfolding(crate::specs::Reading::changes_of))]
-fn changes(alloc: Global, options: &[Given]) -> Result<CopyChanges, Fault>
+fn changes(alloc: Global, options: &[CommandOption]) -> Result<CopyChanges, Fault>
     ensures { Reads result (changes_of options.now) }
 {
     let remove = Args::from_texts(alloc, all_values(alloc, options, b'R')?);
@@ -335,17 +338,13 @@ fn is_file_of(word: &Text, named: &[NamedFile]) -> bool
 }
 
 /// An output and two files, no two of which are the same word.
-#[tactic(auto, unfolding(crate::specs::Reading::unstrip_command, crate::specs::Reading::all_differ))]
+#[tactic(auto, unfolding(crate::specs::Reading::unstrip_command))]
 fn unstrip(alloc: Global, split: Split) -> Result<Command, Fault>
     ensures { Reads result (unstrip_command split) }
 {
     let Split { options, operands } = split;
-    let Some((stripped, debug)) = operands.into_two() else {
-        return Err(Fault::Words);
-    };
-    let Some(out) = last_argument(alloc, options.as_slice(), b'o')? else {
-        return Err(Fault::Words);
-    };
+    let (stripped, debug) = only_two(operands)?;
+    let out = output(alloc, options.as_slice())?;
     if !all_three_differ(&out, &stripped, &debug) {
         return Err(Fault::Words);
     }
@@ -357,16 +356,10 @@ fn unstrip(alloc: Global, split: Split) -> Result<Command, Fault>
 }
 
 /// At least one file.
-#[tactic(auto, unfolding(crate::specs::Reading::lines_command, crate::specs::Reading::one_or_more))]
+#[tactic(auto, unfolding(crate::specs::Reading::lines_command))]
 fn lines(split: Split) -> Result<Command, Fault>
     ensures { Reads result (lines_command split) }
 {
-    let Split {
-        options: _,
-        operands,
-    } = split;
-    if operands.is_empty() {
-        return Err(Fault::Words);
-    }
-    Ok(Command::Lines { files: operands })
+    let files = one_or_more(split.operands)?;
+    Ok(Command::Lines { files })
 }

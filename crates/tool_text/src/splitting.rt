@@ -1,7 +1,7 @@
 //! The words after a command, as options and operands.
 
 ghost use Rattle.std.specs.Prelude.{◌≡◌, ◌≤◌, ◌<◌, None, length, drop};
-ghost use Rattle.tool_text.specs.Splitting.{Reads, is_option_word, split_of, AddsRow};
+ghost use Rattle.tool_text.specs.Splitting.{Reads, is_option_word, split_of, AddsGroup};
 
 use crate::arguments::Args;
 use crate::faults::Fault;
@@ -10,20 +10,20 @@ use crate::usages::Usage;
 use elf_types::List;
 use std::alloc::Global;
 
-/// An option of the words.
+/// An option, as the words give it.
 #[derive(Drop)]
-pub(crate) struct Given {
+pub(crate) struct CommandOption {
     /// Its letter.
     pub letter: u8,
-    /// Its argument, where the letter takes one.
-    pub argument: Option<Text>,
+    /// Its option-argument, where the letter takes one.
+    pub option_argument: Option<Text>,
 }
 
-/// The words after a command.
+/// The words after a command, split.
 #[derive(Drop)]
 pub(crate) struct Split {
     /// The options, in the order of the words.
-    pub options: List<Given>,
+    pub options: List<CommandOption>,
     /// The operands, in the order of the words.
     pub operands: Args,
 }
@@ -42,12 +42,15 @@ pub(crate) fn split_words(alloc: Global, usage: Usage, words: &[Text]) -> Result
         if word.as_str() == "--" {
             break;
         }
-        if let Some(letter) = read_row(alloc, &mut options, usage, word.as_str())? {
-            let Some((argument, after)) = rest.split_first() else {
+        if let Some(letter) = read_group(alloc, &mut options, usage, word.as_str())? {
+            let Some((option_argument, after)) = rest.split_first() else {
                 return Err(Fault::Words);
             };
-            let argument = Some(Text::copy_of(alloc, argument.as_str())?);
-            options.push(Given { letter, argument })?;
+            let option_argument = Some(Text::copy_of(alloc, option_argument.as_str())?);
+            options.push(CommandOption {
+                letter,
+                option_argument,
+            })?;
             rest = after;
         }
     }
@@ -62,32 +65,36 @@ fn is_option_word(word: &[u8]) -> bool
     word.len() >= 2 && word[0] == b'-'
 }
 
-/// Appends the options of an option word, and gives the letter whose argument is the next word.
-fn read_row(
+/// Appends the options of an option word. It gives the letter whose option-argument is the next
+/// word.
+fn read_group(
     alloc: Global,
-    options: &mut List<Given>,
+    options: &mut List<CommandOption>,
     usage: Usage,
     word: &str,
 ) -> Result<Option<u8>, Fault>
-    ensures { AddsRow usage (drop 1 word.now) options.old options.new result }
+    ensures { AddsGroup usage (drop 1 word.now) options.old options.new result }
 {
     let letters = word.as_bytes();
     for i in 1..letters.len() {
         let letter = letters[i];
-        if usage.takes_argument(letter) {
+        if usage.takes_option_argument(letter) {
             if i + 1 == letters.len() {
                 return Ok(Some(letter));
             }
-            let argument = Some(Text::copy_of(alloc, &word[i + 1..])?);
-            options.push(Given { letter, argument })?;
+            let option_argument = Some(Text::copy_of(alloc, &word[i + 1..])?);
+            options.push(CommandOption {
+                letter,
+                option_argument,
+            })?;
             return Ok(None);
         }
-        if !usage.is_flag(letter) {
+        if !usage.stands_alone(letter) {
             return Err(Fault::Words);
         }
-        options.push(Given {
+        options.push(CommandOption {
             letter,
-            argument: None,
+            option_argument: None,
         })?;
     }
     Ok(None)

@@ -2,8 +2,8 @@
 
 ghost use Rattle.std.specs.Prelude.{◌≡◌, ◌<◌};
 ghost use Rattle.std.specs.Bool.{OnTrue};
-ghost use Rattle.tool_text.specs.Splitting.{is_flag, takes_argument};
-ghost use Rattle.tool_text.specs.Usages.{command_named, usage_line, flag_letters, argument_letters};
+ghost use Rattle.tool_text.specs.Splitting.{stands_alone, takes_option_argument};
+ghost use Rattle.tool_text.specs.Usages.{command_named, usage_line, letters_alone, letters_with_option_argument};
 
 /// Which usage line is due: that of a command, or the general one.
 #[derive(Clone, Copy, Debug, PartialEq, Eq)]
@@ -74,21 +74,23 @@ impl Usage {
             Usage::Calls => "usage: elfkit calls [-o OUT | -i] FILE SCRIPT",
             Usage::Selftest => "usage: elfkit selftest -o OUT N",
             Usage::Rehash => "usage: elfkit rehash -o OUT FILE",
-            Usage::Copy => {
-                "usage: elfkit copy [-R NAME].. [-u NAME=FILE].. [-n OLD=NEW].. [-f NAME=BITS].. [-a NAME=FILE].. -o OUT FILE"
-            }
+            Usage::Copy => concat!(
+                "usage: elfkit copy [-R NAME].. [-u NAME=FILE].. [-n OLD=NEW]..",
+                " [-f NAME=BITS].. [-a NAME=FILE].. -o OUT FILE"
+            ),
             Usage::Unstrip => "usage: elfkit unstrip -o OUT STRIPPED DEBUG",
             Usage::Lines => "usage: elfkit lines FILE..",
-            Usage::General => {
-                "usage: elfkit readelf|nm|size|strings|strip|elflint|calls|selftest|rehash|copy|unstrip|lines"
-            }
+            Usage::General => concat!(
+                "usage: elfkit readelf|nm|size|strings|strip|elflint|calls|selftest",
+                "|rehash|copy|unstrip|lines"
+            ),
         }
     }
 
-    /// The option letters that stand for themselves.
-    #[tactic(auto, unfolding(crate::specs::Usages::flag_letters))]
-    fn flag_letters(self) -> &'static [u8]
-        ensures { result.now ≡ flag_letters self }
+    /// The option letters without an option-argument.
+    #[tactic(auto, unfolding(crate::specs::Usages::letters_alone))]
+    fn letters_alone(self) -> &'static [u8]
+        ensures { result.now ≡ letters_alone self }
     {
         match self {
             Usage::Readelf => b"hlSsrdnV",
@@ -100,10 +102,10 @@ impl Usage {
         }
     }
 
-    /// The option letters that take an argument.
-    #[tactic(auto, unfolding(crate::specs::Usages::argument_letters))]
-    fn argument_letters(self) -> &'static [u8]
-        ensures { result.now ≡ argument_letters self }
+    /// The option letters that take an option-argument.
+    #[tactic(auto, unfolding(crate::specs::Usages::letters_with_option_argument))]
+    fn letters_with_option_argument(self) -> &'static [u8]
+        ensures { result.now ≡ letters_with_option_argument self }
     {
         match self {
             Usage::Nm => b"t",
@@ -115,18 +117,18 @@ impl Usage {
         }
     }
 
-    /// Whether a letter stands for itself.
-    pub(crate) fn is_flag(self, letter: u8) -> bool
-        ensures { result ≡ is_flag self letter }
+    /// Whether a letter is an option without an option-argument.
+    pub(crate) fn stands_alone(self, letter: u8) -> bool
+        ensures { result ≡ stands_alone self letter }
     {
-        self.flag_letters().contains(&letter)
+        self.letters_alone().contains(&letter)
     }
 
-    /// Whether a letter takes an argument.
-    pub(crate) fn takes_argument(self, letter: u8) -> bool
-        ensures value { result ≡ takes_argument self letter }
+    /// Whether a letter takes an option-argument. Such a letter is ASCII.
+    pub(crate) fn takes_option_argument(self, letter: u8) -> bool
+        ensures value { result ≡ takes_option_argument self letter }
         ensures ascii { OnTrue result (letter < 128) }
     {
-        self.argument_letters().contains(&letter)
+        self.letters_with_option_argument().contains(&letter)
     }
 }

@@ -1,27 +1,27 @@
-//! The values of arguments.
+//! The values of option-arguments.
 
 ghost use Rattle.std.specs.Prelude.{◌≡◌, List, ℕ, Option, option_map};
 ghost use Rattle.tool_text.specs.Splitting.{Reads};
-ghost use Rattle.tool_text.specs.Reading.{radix_of, number_within, least_of, is_name, name_of, named_file_of, renaming_of, named_bits_of, split_at_equals};
+ghost use Rattle.tool_text.specs.Reading.{radix_of, number_within, least_of, is_section_name, name_of, named_file_of, renaming_of, named_bits_of, split_at_equals};
 
 use crate::commands::{NamedBits, NamedFile, Renaming};
 use crate::faults::Fault;
-use crate::numbers::{number, script_number};
+use crate::numbers::{script_number, word_number};
 use crate::options::Radix;
 use crate::texts::Text;
 use std::alloc::Global;
 
-/// A value that an argument stands for.
-pub(crate) trait Argument: Drop {
+/// A value that an option-argument stands for.
+pub(crate) trait OptionArgument: Drop {
     ghost of_word: { List ℕ → Option Self };
 
-    /// The value of an argument.
+    /// The value of an option-argument.
     fn from_word(alloc: Global, word: &str) -> Result<Self, Fault>
         ensures { Reads result (of_word word.now) };
 }
 
 /// `-t` of nm and strings.
-impl Argument for Radix {
+impl OptionArgument for Radix {
     ghost of_word = { radix_of };
 
     #[tactic(auto, unfolding(crate::specs::Reading::radix_of))]
@@ -36,7 +36,7 @@ impl Argument for Radix {
 }
 
 /// `-n` of strings, the only number among the options: the least length of a run, from 1 to 4096.
-impl Argument for u32 {
+impl OptionArgument for u32 {
     ghost of_word = { least_of };
 
     #[tactic(auto, unfolding(crate::specs::Reading::least_of))]
@@ -45,24 +45,24 @@ impl Argument for u32 {
     }
 }
 
-/// A number of the words, which must be from `low` to `high`.
+/// A number of the command line, which must be from `low` to `high`.
 #[tactic(auto, unfolding(crate::specs::Reading::number_within))]
 pub(crate) fn number_within(word: &str, low: u32, high: u32) -> Result<u32, Fault>
     ensures { Reads result (number_within low high word.now) }
 {
-    match number(word) {
+    match word_number(word) {
         Some(n) if u64::from(low) <= n && n <= u64::from(high) => Ok(n as u32),
         _ => Err(Fault::Words),
     }
 }
 
 /// `-R` of copy: the name of a section.
-impl Argument for Text {
+impl OptionArgument for Text {
     ghost of_word = { name_of };
 
     #[tactic(auto, unfolding(crate::specs::Reading::name_of))]
     fn from_word(alloc: Global, word: &str) -> Result<Text, Fault> {
-        if !is_name(word) {
+        if !is_section_name(word) {
             return Err(Fault::Words);
         }
         Ok(Text::copy_of(alloc, word)?)
@@ -70,7 +70,7 @@ impl Argument for Text {
 }
 
 /// `-u` and `-a` of copy.
-impl Argument for NamedFile {
+impl OptionArgument for NamedFile {
     ghost of_word = { named_file_of };
 
     #[tactic(auto, unfolding(crate::specs::Reading::named_file_of))]
@@ -78,7 +78,7 @@ impl Argument for NamedFile {
         let Some((name, file)) = split_at_equals(word) else {
             return Err(Fault::Words);
         };
-        if !is_name(name) {
+        if !is_section_name(name) {
             return Err(Fault::Words);
         }
         Ok(NamedFile {
@@ -89,7 +89,7 @@ impl Argument for NamedFile {
 }
 
 /// `-n` of copy.
-impl Argument for Renaming {
+impl OptionArgument for Renaming {
     ghost of_word = { renaming_of };
 
     #[tactic(auto, unfolding(crate::specs::Reading::renaming_of))]
@@ -97,7 +97,7 @@ impl Argument for Renaming {
         let Some((old, new)) = split_at_equals(word) else {
             return Err(Fault::Words);
         };
-        if !is_name(old) || !is_name(new) {
+        if !is_section_name(old) || !is_section_name(new) {
             return Err(Fault::Words);
         }
         Ok(Renaming {
@@ -108,7 +108,7 @@ impl Argument for Renaming {
 }
 
 /// `-f` of copy.
-impl Argument for NamedBits {
+impl OptionArgument for NamedBits {
     ghost of_word = { named_bits_of };
 
     #[tactic(auto, unfolding(crate::specs::Reading::named_bits_of))]
@@ -119,7 +119,7 @@ impl Argument for NamedBits {
         let Some(bits) = script_number(bits) else {
             return Err(Fault::Words);
         };
-        if !is_name(name) {
+        if !is_section_name(name) {
             return Err(Fault::Words);
         }
         let name = Text::copy_of(alloc, name)?;
@@ -140,9 +140,9 @@ fn split_at_equals(word: &str) -> Option<(&str, &str)>
 }
 
 /// Whether a word can be the name of a section: it holds no NUL byte.
-#[tactic(auto, unfolding(crate::specs::Reading::is_name))]
-fn is_name(word: &str) -> bool
-    ensures { result ≡ is_name word.now }
+#[tactic(auto, unfolding(crate::specs::Reading::is_section_name))]
+fn is_section_name(word: &str) -> bool
+    ensures { result ≡ is_section_name word.now }
 {
     !word.as_bytes().contains(&0)
 }

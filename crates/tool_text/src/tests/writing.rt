@@ -1,195 +1,189 @@
 //! The commands that write a file, but for the changes of copy.
 
-use super::{Part, Reading, all_give, are, is};
-use crate::{CallsOutput, Command, StripOptions};
+use super::{Comparison, Row, all_hold, are, are_two, is};
+use crate::{CallsOutput, Command, StripOptions, Text};
 use std::test::Fail;
 
-/// The options of strip for the file `F` and the output `O`.
-fn strip_options(reading: &Reading) -> Option<&StripOptions> {
-    match reading {
-        Ok(Command::Strip { options, file }) if is(file, "F") && is(&options.out, "O") => {
-            Some(options)
-        }
-        _ => None,
-    }
-}
-
-pub(super) fn are_strip_letters(reading: &Reading, wanted: &str) -> bool {
-    match strip_options(reading) {
-        Some(options) => {
-            options.debug_only == wanted.contains('g')
-                && options.names.is_empty()
-                && options.debug.is_none()
-        }
-        None => false,
-    }
-}
-
-pub(super) fn are_strip_names(reading: &Reading, wanted: &str) -> bool {
-    match strip_options(reading) {
-        Some(options) => !options.debug_only && are(&options.names, wanted),
-        None => false,
-    }
-}
-
-pub(super) fn is_debug_file(reading: &Reading, wanted: &str) -> bool {
-    match strip_options(reading) {
-        Some(options) => match &options.debug {
-            Some(debug) => is(debug, wanted) && options.names.is_empty(),
-            None => false,
-        },
-        None => false,
-    }
-}
-
-#[test]
-fn strip_takes_a_file_and_the_last_output(rt: HostRuntime) -> Result<(), Fail> {
-    let rows = [
-        ("strip|-o|O|F", ""),
-        ("strip|-oO|--|F", ""),
-        ("strip|-oF|-o|O|F", ""),
-        ("strip|-o|-g|-oO|F", ""),
-        ("strip|-g|-oO|F", "g"),
-        ("strip|-gg|-g|-oO|F", "g"),
-        ("strip|-goO|F", "g"),
-    ];
-    all_give(&rt, rt.alloc(), Part::StripLetters, &rows)
-}
-
-#[test]
-fn strip_takes_each_name_in_order(rt: HostRuntime) -> Result<(), Fail> {
-    let rows = [
-        ("strip|-R.a|-oO|F", ".a"),
-        ("strip|-R|.b|-R.a|-fD|-R|.b|-Rg|-oO|F", ".b|.a|.b|g"),
-        ("strip|-R||-R|--|-oO|-R|-g|F", "|--|-g"),
-    ];
-    all_give(&rt, rt.alloc(), Part::StripNames, &rows)
-}
-
-#[test]
-fn strip_takes_the_last_file_for_debugging(rt: HostRuntime) -> Result<(), Fail> {
-    let rows = [
-        ("strip|-fD|-oO|F", "D"),
-        ("strip|-g|-f|D|-oO|F", "D"),
-        ("strip|-f|O|-fF|-f|E|-oO|F", "E"),
-        ("strip|-f||-oO|F", ""),
-        ("strip|-f|-g|-oO|F", "-g"),
-    ];
-    all_give(&rt, rt.alloc(), Part::DebugFile, &rows)
-}
-
-fn is_output(output: &Option<CallsOutput>, wanted: &str) -> bool {
-    match output {
-        Some(CallsOutput::To(out)) => wanted.strip_prefix("o=") == Some(out.as_str()),
-        Some(CallsOutput::InPlace) => wanted == "i",
+/// Whether a text is this one, behind `=`, or there is neither.
+fn is_maybe(text: &Option<Text>, wanted: &str) -> bool {
+    match text {
+        Some(text) => wanted.strip_prefix('=') == Some(text.as_str()),
         None => wanted.is_empty(),
     }
 }
 
-pub(super) fn is_calls_output(reading: &Reading, wanted: &str) -> bool {
-    match reading {
-        Ok(Command::Calls { output, .. }) => is_output(output, wanted),
-        _ => false,
+/// The letter `g` of strip and the file for debugging, where no names are given, for the output O
+/// and the file F.
+struct Strip;
+
+const STRIP: [Row; 12] = [
+    ("strip|-o|O|F", ""),
+    ("strip|-oO|--|F", ""),
+    ("strip|-oF|-o|O|F", ""),
+    ("strip|-o|-g|-oO|F", ""),
+    ("strip|-g|-oO|F", "g"),
+    ("strip|-gg|-g|-oO|F", "g"),
+    ("strip|-goO|F", "g"),
+    ("strip|-fD|-oO|F", "=D"),
+    ("strip|-g|-f|D|-oO|F", "g=D"),
+    ("strip|-f|O|-fF|-f|E|-oO|F", "=E"),
+    ("strip|-f||-oO|F", "="),
+    ("strip|-f|-g|-oO|F", "=-g"),
+];
+
+/// The options of strip for the output O and the file F.
+fn strip_options(command: &Command) -> Option<&StripOptions> {
+    match command {
+        Command::Strip { options, file } if is(file, "F") && is(&options.out, "O") => Some(options),
+        _ => None,
     }
 }
 
-pub(super) fn are_calls_files(reading: &Reading, wanted: &str) -> bool {
-    match reading {
-        Ok(Command::Calls { file, script, .. }) => {
-            wanted.split_once('|') == Some((file.as_str(), script.as_str()))
+impl Comparison for Strip {
+    fn holds(command: &Command, wanted: &str) -> bool {
+        let (debug_only, debug) = match wanted.strip_prefix('g') {
+            Some(debug) => (true, debug),
+            None => (false, wanted),
+        };
+        match strip_options(command) {
+            Some(options) => {
+                options.debug_only == debug_only
+                    && options.names.is_empty()
+                    && is_maybe(&options.debug, debug)
+            }
+            None => false,
         }
-        _ => false,
     }
 }
 
-#[test]
-fn calls_takes_the_last_output_or_none(rt: HostRuntime) -> Result<(), Fail> {
-    let rows = [
-        ("calls|F|S", ""),
-        ("calls|--|F|S", ""),
-        ("calls|-i|F|S", "i"),
-        ("calls|-ii|-i|--|F|S", "i"),
-        ("calls|-oO|F|S", "o=O"),
-        ("calls|-o|O|F|S", "o=O"),
-        ("calls|-oF|-oS|-o|O|F|S", "o=O"),
-        ("calls|-o|-i|F|S", "o=-i"),
-        ("calls|-o|--|F|S", "o=--"),
-        ("calls|-o||F|S", "o="),
-    ];
-    all_give(&rt, rt.alloc(), Part::CallsOutput, &rows)
-}
+/// The names that strip removes.
+struct StripNames;
 
-#[test]
-fn calls_takes_a_file_and_a_script(rt: HostRuntime) -> Result<(), Fail> {
-    let rows = [
-        ("calls|F|S", "F|S"),
-        ("calls|-i|--|-|-o", "-|-o"),
-        ("calls|-oO|A|A", "A|A"),
-        ("calls||", "|"),
-    ];
-    all_give(&rt, rt.alloc(), Part::CallsFiles, &rows)
-}
+const STRIP_NAMES: [Row; 3] = [
+    ("strip|-R.a|-oO|F", "|.a"),
+    ("strip|-R|.b|-R.a|-fD|-R|.b|-Rg|-oO|F", "|.b|.a|.b|g"),
+    ("strip|-R||-R|--|-oO|-R|-g|F", "||--|-g"),
+];
 
-/// Selftest writes to the output `O`.
-pub(super) fn is_count(reading: &Reading, wanted: &str) -> bool {
-    match reading {
-        Ok(Command::Selftest { out, count }) => is(out, "O") && wanted.parse() == Ok(*count),
-        _ => false,
-    }
-}
-
-#[test]
-fn selftest_takes_an_output_and_a_number(rt: HostRuntime) -> Result<(), Fail> {
-    let rows = [
-        ("selftest|-oO|1", "1"),
-        ("selftest|-o|O|60000", "60000"),
-        ("selftest|-oA|-o|O|--|000000007", "7"),
-    ];
-    all_give(&rt, rt.alloc(), Part::Count, &rows)
-}
-
-pub(super) fn is_rehash(reading: &Reading, wanted: &str) -> bool {
-    match reading {
-        Ok(Command::Rehash { out, file }) => {
-            wanted.split_once('|') == Some((out.as_str(), file.as_str()))
+impl Comparison for StripNames {
+    fn holds(command: &Command, wanted: &str) -> bool {
+        match strip_options(command) {
+            Some(options) => !options.debug_only && are(&options.names, wanted),
+            None => false,
         }
-        _ => false,
+    }
+}
+
+/// The output of calls: nothing, `i`, or a file behind `=`.
+struct Output;
+
+const OUTPUTS: [Row; 10] = [
+    ("calls|F|S", ""),
+    ("calls|--|F|S", ""),
+    ("calls|-i|F|S", "i"),
+    ("calls|-ii|-i|--|F|S", "i"),
+    ("calls|-oO|F|S", "=O"),
+    ("calls|-o|O|F|S", "=O"),
+    ("calls|-oF|-oS|-o|O|F|S", "=O"),
+    ("calls|-o|-i|F|S", "=-i"),
+    ("calls|-o|--|F|S", "=--"),
+    ("calls|-o||F|S", "="),
+];
+
+impl Comparison for Output {
+    fn holds(command: &Command, wanted: &str) -> bool {
+        let Command::Calls { output, .. } = command else {
+            return false;
+        };
+        match output {
+            Some(CallsOutput::To(out)) => wanted.strip_prefix('=') == Some(out.as_str()),
+            Some(CallsOutput::InPlace) => wanted == "i",
+            None => wanted.is_empty(),
+        }
+    }
+}
+
+/// Two words of a command: the file and the script of calls, or the output and the file of rehash.
+struct TwoFiles;
+
+const TWO_FILES: [Row; 9] = [
+    ("calls|F|S", "F|S"),
+    ("calls|-i|--|-|-o", "-|-o"),
+    ("calls|-oO|A|A", "A|A"),
+    ("calls||", "|"),
+    ("rehash|-oO|F", "O|F"),
+    ("rehash|-o|F|-o|O|--|F", "O|F"),
+    ("rehash|-o|-o|-", "-o|-"),
+    ("rehash|-oO|", "O|"),
+    ("rehash|-o||F", "|F"),
+];
+
+impl Comparison for TwoFiles {
+    fn holds(command: &Command, wanted: &str) -> bool {
+        match command {
+            Command::Calls { file, script, .. } => are_two(file, script, wanted),
+            Command::Rehash { out, file } => are_two(out, file, wanted),
+            _ => false,
+        }
+    }
+}
+
+/// The number of selftest, for the output O.
+struct Count;
+
+const COUNTS: [Row; 3] = [
+    ("selftest|-oO|1", "1"),
+    ("selftest|-o|O|60000", "60000"),
+    ("selftest|-oA|-o|O|--|000000007", "7"),
+];
+
+impl Comparison for Count {
+    fn holds(command: &Command, wanted: &str) -> bool {
+        match command {
+            Command::Selftest { out, count } => is(out, "O") && wanted.parse() == Ok(*count),
+            _ => false,
+        }
+    }
+}
+
+/// The output of unstrip, for the files S and D.
+struct Unstrip;
+
+const UNSTRIP: [Row; 4] = [
+    ("unstrip|-oX|S|D", "X"),
+    ("unstrip|-o|X|S|D", "X"),
+    ("unstrip|-oS|-oD|-o|X|--|S|D", "X"),
+    ("unstrip|-o||S|D", ""),
+];
+
+impl Comparison for Unstrip {
+    fn holds(command: &Command, wanted: &str) -> bool {
+        let Command::Unstrip {
+            out,
+            stripped,
+            debug,
+        } = command
+        else {
+            return false;
+        };
+        is(out, wanted) && are_two(stripped, debug, "S|D")
     }
 }
 
 #[test]
-fn rehash_takes_an_output_and_a_file(rt: HostRuntime) -> Result<(), Fail> {
-    let rows = [
-        ("rehash|-oO|F", "O|F"),
-        ("rehash|-o|F|-o|O|--|F", "O|F"),
-        ("rehash|-o|-o|-", "-o|-"),
-        ("rehash|-oO|", "O|"),
-        ("rehash|-o||F", "|F"),
-    ];
-    all_give(&rt, rt.alloc(), Part::Rehash, &rows)
-}
-
-/// Unstrip joins the files `S` and `D`.
-pub(super) fn is_unstrip(reading: &Reading, wanted: &str) -> bool {
-    match reading {
-        Ok(
-            Command::Unstrip {
-                out,
-                stripped,
-                debug,
-            },
-        ) => is(out, wanted) && is(stripped, "S") && is(debug, "D"),
-        _ => false,
-    }
+fn strip_takes_names_and_the_last_files(rt: HostRuntime) -> Result<(), Fail> {
+    all_hold::<Strip>(&rt, rt.alloc(), &STRIP)?;
+    all_hold::<StripNames>(&rt, rt.alloc(), &STRIP_NAMES)
 }
 
 #[test]
-fn unstrip_takes_an_output_and_two_files(rt: HostRuntime) -> Result<(), Fail> {
-    let rows = [
-        ("unstrip|-oX|S|D", "X"),
-        ("unstrip|-o|X|S|D", "X"),
-        ("unstrip|-oS|-oD|-o|X|--|S|D", "X"),
-        ("unstrip|-o||S|D", ""),
-    ];
-    all_give(&rt, rt.alloc(), Part::Unstrip, &rows)
+fn calls_takes_two_files_and_the_last_output_or_none(rt: HostRuntime) -> Result<(), Fail> {
+    all_hold::<Output>(&rt, rt.alloc(), &OUTPUTS)?;
+    all_hold::<TwoFiles>(&rt, rt.alloc(), &TWO_FILES)
+}
+
+#[test]
+fn selftest_and_unstrip_take_the_last_output(rt: HostRuntime) -> Result<(), Fail> {
+    all_hold::<Count>(&rt, rt.alloc(), &COUNTS)?;
+    all_hold::<Unstrip>(&rt, rt.alloc(), &UNSTRIP)
 }

@@ -1,43 +1,43 @@
-use Rattle.std.proofs.Common.{◌≡◌, [], ◌∷◌, true, false, drop, codes, bytes_eq, Some, None, option_map, ap, sym, ◌∙◌, rules}
+use Rattle.std.proofs.Common.{◌≡◌, [], ◌∷◌, true, false, drop, codes, bytes_eq, Some, None, ap, sym, ◌∙◌, rules}
 use Rattle.std.proofs.lemmas.List.{nil_from_length}
 use Rattle.std.proofs.lemmas.Result.{err_from_is_err_and}
 use Rattle.tool_text.specs.Splitting.{split_of, split_after, is_option_word}
-use Rattle.tool_text.proofs.Splits.{words_ended, operand_met, end_met, row_refused, row_taken, row_fault, argument_missing, argument_taken}
+use Rattle.tool_text.proofs.Splits.{words_ended, operand_met, end_met, group_refused, group_taken, group_fault, option_argument_missing, option_argument_taken}
 use Rattle.tool_text.proofs.splitting.split_words.Goals as goal
-use Rattle.tool_text.proofs.splitting.split_words.Goals.{After-read_row, In_ok-letter, in-Some+then-not-is_option_word, in-Some+else-not-is_option_word+then-eq, in_default}
+use Rattle.tool_text.proofs.splitting.split_words.Goals.{After-read_group, In_ok-letter, in-Some+then-not-is_option_word, in-Some+else-not-is_option_word+then-eq, in_default}
 
 -- the words from here on give what is left of the whole
-so_far : (c : After-read_row) → option_map (split_after c.loop-word.options) (split_of c.args.usage None (c.in-Some.word.now ∷ c.in-Some.after.now)) ≡ split_of c.args.usage None c.args.words.now
+so_far : (c : After-read_group) → split_after c.loop-word.options (split_of c.args.usage None (c.in-Some.word.now ∷ c.in-Some.after.now)) ≡ split_of c.args.usage None c.args.words.now
 so_far c = rw c.in-Some.ensures.cases.0 at c.loop-word.invariant
 
-is_option : (c : After-read_row) → is_option_word c.in-Some.word.now ≡ true
+is_option : (c : After-read_group) → is_option_word c.in-Some.word.now ≡ true
 is_option c = search rules
 
-goes_on : (c : After-read_row) → bytes_eq c.in-Some.word.now (codes "--") ≡ false
+goes_on : (c : After-read_group) → bytes_eq c.in-Some.word.now (codes "--") ≡ false
 goes_on c = search rules
 
 -- the options of the word here are taken
-taken : (c : In_ok-letter) → option_map (split_after c.read_row.new.options) (split_of c.args.usage c.in_ok-letter.field-0 c.in-Some.after.now) ≡ split_of c.args.usage None c.args.words.now
+taken : (c : In_ok-letter) → split_after c.read_group.new.options (split_of c.args.usage c.in_ok-letter.field-0 c.in-Some.after.now) ≡ split_of c.args.usage None c.args.words.now
 taken c =
-    let d = (goal.at-In_ok-letter c).After-read_row in
-    row_taken c.args.usage c.loop-word.options _ _ _ (so_far d) _ _ (is_option d) (goes_on d) (rw c.as_str-in-Some.ensures at c.in_ok-letter.ensures)
+    let d = (goal.at-In_ok-letter c).After-read_group in
+    group_taken c.args.usage c.loop-word.options _ _ _ (so_far d) _ _ (is_option d) (goes_on d) (rw c.as_str-in-Some.ensures at c.in_ok-letter.ensures)
 
 pub returns-in_err-letter : goal.returns-in_err-letter
 returns-in_err-letter c =
-    let d = (goal.at.returns-in_err-letter c).After-read_row in
+    let d = (goal.at.returns-in_err-letter c).After-read_group in
     let p = err_from_is_err_and c.from_residual.result c.from_residual.ensures.1 in
     let same : p.0 ≡ c.in_err-letter.field-0.0 = p.2 in
-    rw (p.1, same) (row_fault c.args.usage (drop 1 c.as_str-in-Some.result.now) c.loop-word.options c.read_row.new.options _ _ c.in_err-letter.ensures (λ none. row_refused c.args.usage c.loop-word.options _ _ _ (so_far d) (is_option d) (goes_on d) (rw c.as_str-in-Some.ensures at none)))
+    rw (p.1, same) (group_fault c.args.usage (drop 1 c.as_str-in-Some.result.now) c.loop-word.options c.read_group.new.options _ _ c.in_err-letter.ensures (λ none. group_refused c.args.usage c.loop-word.options _ _ _ (so_far d) (is_option d) (goes_on d) (rw c.as_str-in-Some.ensures at none)))
 
 pub returns-in_default-split_first : goal.returns-in_default-split_first
 returns-in_default-split_first c =
     let e = taken (goal.at.returns-in_default-split_first c).In_ok-letter in
-    argument_missing c.args.usage c.read_row.new.options c.in-Some-2.letter _ (rw (c.in-Some-2.is, nil_from_length _ c.in_default-split_first.ensures.cases) at e)
+    option_argument_missing c.args.usage c.read_group.new.options c.in-Some-2.letter _ (rw (c.in-Some-2.is, nil_from_length _ c.in_default-split_first.ensures.cases) at e)
 
 pub loop-word-preserved-in-Some-2 : goal.loop-word-preserved-in-Some-2
 loop-word-preserved-in-Some-2 c =
     let e = taken (goal.at.loop-word-preserved-in-Some-2 c).In_ok-letter in
-    argument_taken c.args.usage c.read_row.new.options _ c.in-Some-2.letter c.in-Some-split_first.argument.now _ _ (rw (c.in-Some-2.is, c.in-Some-split_first.ensures.cases.0) at e) (search rules)
+    option_argument_taken c.args.usage c.read_group.new.options _ c.in-Some-2.letter c.in-Some-split_first.option_argument.now _ _ (rw (c.in-Some-2.is, c.in-Some-split_first.ensures.cases.0) at e) (search rules)
 
 pub loop-word-preserved : goal.loop-word-preserved
 loop-word-preserved c =

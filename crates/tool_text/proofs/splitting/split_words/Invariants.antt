@@ -1,11 +1,11 @@
-use Rattle.std.proofs.Common.{◌≡◌, None, length, option_map}
+use Rattle.std.proofs.Common.{◌≡◌, None, length}
 use Rattle.tool_text.specs.Splitting.{split_of, split_after}
 use Rattle.tool_text.proofs.splitting.split_words.Given as goal
 
 -- the words that are left complete what the options so far begin
 abbrev pub invariant-loop-word : goal.invariant-loop-word
 invariant-loop-word l =
-    option_map (split_after l.options) (split_of l.usage None l.rest) ≡ split_of l.usage None l.words
+    split_after l.options (split_of l.usage None l.rest) ≡ split_of l.usage None l.words
 
 abbrev pub decreases-loop-word : goal.decreases-loop-word
 decreases-loop-word l = length l.rest

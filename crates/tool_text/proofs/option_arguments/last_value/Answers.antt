@@ -1,0 +1,9 @@
+use Rattle.std.proofs.Common.{◌-◌, length, slice_get, Some, option_map, ap, sym, ◌∙◌}
+use Rattle.tool_text.specs.Reading.{last}
+use Rattle.tool_text.proofs.Folds.{last_read}
+use Rattle.tool_text.proofs.option_arguments.last_value.Goals as goal
+
+pub returns : goal.returns
+returns g c =
+    ap (option_map last) c.in_ok-values.ensures
+    ∙ ap Some (sym (last_read c.in_ok-values.values) ∙ ap (λ xs. slice_get xs (length xs - 1)) (sym c.as_slice.ensures) ∙ sym c.last.ensures.value ∙ sym c.copied.ensures)

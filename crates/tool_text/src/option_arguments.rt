@@ -1,0 +1,86 @@
+//! What the options of the words say, letter by letter.
+
+ghost use Rattle.std.specs.Prelude.{◌≡◌, IfOk, IfErr, option_map};
+ghost use Rattle.tool_text.specs.Splitting.{Reads};
+ghost use Rattle.tool_text.specs.Reading.{has_option, option_arguments, all_values, last};
+ghost use Rattle.tool_text.specs.declared.faults.Fault.TheVariants.{Memory};
+
+use crate::arguments::Args;
+use crate::faults::Fault;
+use crate::splitting::CommandOption;
+use crate::texts::Text;
+use crate::values::OptionArgument;
+use elf_types::List;
+use std::alloc::Global;
+
+/// Whether an option is among them.
+#[tactic(auto, unfolding(crate::specs::Reading::has_option))]
+pub(crate) fn has_option(options: &[CommandOption], letter: u8) -> bool
+    ensures { result ≡ has_option letter options.now }
+{
+    options.iter().any(|option| option.letter == letter)
+}
+
+/// The option-arguments of a letter, in the order of the words. Only memory can be missing for it.
+#[tactic(auto, unfolding(crate::specs::Reading::option_arguments))]
+pub(crate) fn option_arguments(
+    alloc: Global,
+    options: &[CommandOption],
+    letter: u8,
+) -> Result<Args, Fault>
+    ensures ok { IfOk result (λ a. a ≡ option_arguments letter options.now) }
+    ensures err { IfErr result (λ e. e ≡ Memory) }
+{
+    let mut words = Args::new(alloc);
+    for option in options {
+        if option.letter == letter {
+            if let Some(word) = &option.option_argument {
+                words.add(word.as_str())?;
+            }
+        }
+    }
+    Ok(words)
+}
+
+/// The last option-argument of a letter. Only memory can be missing for it.
+pub(crate) fn last_option_argument(
+    alloc: Global,
+    options: &[CommandOption],
+    letter: u8,
+) -> Result<Option<Text>, Fault>
+    ensures ok { IfOk result (λ o. o ≡ last (option_arguments letter options.now)) }
+    ensures err { IfErr result (λ e. e ≡ Memory) }
+{
+    let words = option_arguments(alloc, options, letter)?;
+    Ok(words.into_last())
+}
+
+/// The values of the option-arguments of a letter, in the order of the words. Each must have one.
+#[tactic(auto, unfolding(crate::specs::Reading::all_values))]
+pub(crate) fn all_values<T: OptionArgument>(
+    alloc: Global,
+    options: &[CommandOption],
+    letter: u8,
+) -> Result<List<T>, Fault>
+    ensures { Reads result (all_values T.of_word (option_arguments letter options.now)) }
+{
+    let words = option_arguments(alloc, options, letter)?;
+    let mut values = List::new(alloc);
+    for word in words.as_slice() {
+        values.push(T::from_word(alloc, word.as_str())?)?;
+    }
+    Ok(values)
+}
+
+/// The value of the last option-argument of a letter. Each of them must have one.
+pub(crate) fn last_value<T: OptionArgument + Copy>(
+    alloc: Global,
+    options: &[CommandOption],
+    letter: u8,
+) -> Result<Option<T>, Fault>
+    ensures { Reads result
+        (option_map last (all_values T.of_word (option_arguments letter options.now))) }
+{
+    let values = all_values::<T>(alloc, options, letter)?;
+    Ok(values.as_slice().last().copied())
+}
