@@ -1,5 +1,5 @@
 use Rattle.tool_output.proofs.StepLemmas.{page_put, page_lost}
-use Rattle.tool_output.proofs.outputs.Outputs.put_page.Goals as goal
+use Rattle.tool_output.proofs.outputs.Outputs.flush.Goals as goal
 
 pub returns-in-Ok-clause-writes : goal.returns-in-Ok-clause-writes
 returns-in-Ok-clause-writes g c =
