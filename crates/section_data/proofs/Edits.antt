@@ -1,7 +1,6 @@
 -- What edits leave.
-use Rattle.std.proofs.Common.{◌≡◌, ℕ, ◌<◌, Bool, true, false, List, [], ◌∷◌, ◌++◌, length, get_or, set, zero, suc, subst, Option, Some, None, Result, Ok, Err, refl, sym, ap, ◌∙◌, arith, length-append}
-use Rattle.std.specs.Prelude.{is_some, IsTrue, IsSome, IfSome, OnOk, OnErr, slice_set}
-use lib.Count.{ones}
+use Rattle.std.proofs.Common.{◌≡◌, ℕ, ◌<◌, Bool, true, false, List, [], ◌∷◌, ◌++◌, length, get_or, set, subst, Option, Some, None, Result, Ok, Err, refl, sym, ap, ◌∙◌, arith, length-append}
+use Rattle.std.specs.Prelude.{is_some, IsTrue, IfSome, OnOk, OnErr, slice_set}
 use Rattle.elf_types.specs.declared.records.Kind.TheVariants as kinds
 use Rattle.std.proofs.lemmas.List.{set-get_or, length-set}
 use Rattle.std.proofs.lemmas.List.Elements.{All-nil, All-cons, All-set, All-push, All-get_or}
@@ -16,7 +15,7 @@ use Rattle.section_data.specs.Views.{CellView, IsCell, IsKept, opened_cell, new_
 use Rattle.section_data.specs.declared.held.HomeItems.{HomeItems}
 use Rattle.section_data.specs.Held.{piece_in}
 use Rattle.section_data.specs.Leaves.{Claims, replaced, marked_piece}
-use Rattle.section_data.proofs.PieceItems.{ready_own, ready_clean}
+use Rattle.section_data.proofs.Holdings.{ready_own, ready_clean}
 
 held_kept : (held : Option Items) → IfSome held (λ items. held ≡ Some items)
 held_kept None = tt

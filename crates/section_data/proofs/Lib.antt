@@ -1,4 +1,4 @@
-pub mod PieceItems
+pub mod Holdings
 pub mod Items
 pub mod Loading
 pub mod Preparing

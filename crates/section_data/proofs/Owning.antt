@@ -1,5 +1,5 @@
 -- A piece that becomes own.
-use Rattle.std.proofs.Common.{◌≡◌, ℕ, ◌<◌, Bool, false, List, length, get_or, set, true, Option, Some, None, Result, Err, refl, sym, ap, ◌∙◌, subst}
+use Rattle.std.proofs.Common.{◌≡◌, ℕ, ◌<◌, Bool, false, List, length, true, Option, Some, None, Result, Err, refl, sym, ap, ◌∙◌, subst}
 use Rattle.std.specs.Prelude.{IfSome, IsTrue, is_some, [], ◌∷◌, ◌||◌}
 use Rattle.std.specs.Option.{option_and_then}
 use Rattle.std.proofs.lemmas.List.{get_or-set_same, length-set}
@@ -21,7 +21,7 @@ use Rattle.section_data.specs.Held.{piece_in, kind_in, cell_is_loaded, piece_hol
 use Rattle.section_data.specs.Refused.{home_out, home_ragged, load_due, preparing, no_piece, wrong_piece_kind, no_home_items, items_refused, kind_refused, lend_due, items_due, piece_due}
 use Rattle.section_data.specs.Leaves.{RawBecomes, Warms, Claims, Owns, OwnsKind, Stays}
 use Rattle.section_data.proofs.Loading.{warms_same}
-use Rattle.section_data.proofs.PieceItems.{kind_own, kind_clean, ready_own, ready_clean}
+use Rattle.section_data.proofs.Holdings.{kind_own, kind_clean, ready_own, ready_clean}
 use Rattle.section_data.proofs.Preparing.{due_passed}
 
 -- ---- Refusals

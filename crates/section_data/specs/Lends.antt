@@ -15,7 +15,6 @@ use Rattle.section_data.specs.contracts.piece.Piece.{the_row as piece_row}
 use Rattle.section_data.specs.contracts.cell.Cell.{the_row as cell_row}
 use Rattle.section_data.specs.Views.{CellView}
 use Rattle.section_data.specs.contracts.pieces.Pieces.{the_row as pieces_row}
-use Rattle.section_data.specs.Views.{piece_of}
 use Rattle.section_data.specs.Held.{piece_in}
 
 -- a piece with those items of its own
@@ -69,8 +68,8 @@ LendsItems image class order p cell r =
     (λ new. Stays image r cell.now new)
 
 -- the same of a list whose variant is given
-abbrev pub LendsItemList : (X : RattleType) → (List X.Denot → Items) → Option (List ℕ) → Class → Order
-    → ℕ → MutBor CellView → Result (MutBor (List X.Denot)) ElfError → Fml
+abbrev pub LendsItemList : (X : RattleType) → (List X.Denot → Items) → Option (List ℕ) → Class
+    → Order → ℕ → MutBor CellView → Result (MutBor (List X.Denot)) ElfError → Fml
 LendsItemList X variant image class order p cell r =
     LendsSoOk cell_row (list_row X) cell r
     (λ new left. IsLent image class order cell.now new p (variant left))

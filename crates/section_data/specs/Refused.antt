@@ -1,5 +1,5 @@
 -- How each call on a cell is refused, what it is due, and where it may want memory.
-use Rattle.std.specs.Prelude.{ℕ, Bool, false, not, ◌||◌, nat_le, nat_lt, [], ◌∷◌, length, Option, Some, None, is_some, if◌then◌else◌}
+use Rattle.std.specs.Prelude.{ℕ, not, ◌||◌, nat_le, nat_lt, [], ◌∷◌, length, Option, Some, None, is_some, if◌then◌else◌}
 use Rattle.elf_types.specs.declared.records.Class.{Class}
 use Rattle.elf_types.specs.declared.records.Kind.{Kind}
 use Rattle.elf_types.specs.declared.records.Part.TheVariants as part

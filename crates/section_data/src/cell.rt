@@ -1,10 +1,8 @@
 //! A section's cell.
 
-ghost use Rattle.std.specs.Prelude.{◌≡◌, ℕ, ◌∷◌, [], ◌<◌, true, Some, None, length, IsTrue, IfOk, IfErr, IfSome, IsSome, is_some, unwrap_or};
-ghost use Rattle.std.specs.Option.{option_map};
+ghost use Rattle.std.specs.Prelude.{◌≡◌, ◌<◌, true, Some, None, length, IfOk, IfErr, IfSome, is_some};
 ghost use Rattle.elf_types.specs.declared.errors.ElfError.TheVariants.{Memory};
 ghost use Rattle.elf_types.specs.declared.records.Kind.TheVariants as kinds;
-ghost use Rattle.elf_object.specs.Object.{home_piece};
 ghost use Rattle.elf_object.specs.Open.{home_of};
 ghost use Rattle.section_data.specs.declared.held.HomeItems.TheVariants.{Nothing};
 ghost use Rattle.section_data.specs.Views.{IsCell, cell_view, home_view, passes_end, new_cell, opened_cell};
@@ -48,15 +46,17 @@ impl Model for Cell {
 
     ghost Value = { CellView };
 
-    ghost view = { λ c. cell_view c.section (home_view c.home.at c.home.len c.home.kind c.out) c.raw c.held c.pieces };
+    ghost view = { λ c. cell_view c.section
+        (home_view c.home.at c.home.len c.home.kind c.out) c.raw c.held c.pieces };
 
-    ghost invariant = { λ c. IsKept c.section (home_view c.home.at c.home.len c.home.kind c.out) c.raw c.held c.pieces };
+    ghost invariant = { λ c. IsKept c.section
+        (home_view c.home.at c.home.len c.home.kind c.out) c.raw c.held c.pieces };
 }
 
 impl Cell {
     /// The cell of the section with that number over an image of `base` bytes: nothing is read, and
-    /// its one piece is the clean home piece. Without a home it is a new section, which has an empty
-    /// home and no piece. It refuses `Memory` alone.
+    /// its one piece is the clean home piece. Without a home it is a new section, which has an
+    /// empty home and no piece. It refuses `Memory` alone.
     pub fn new(alloc: Global, section: u32, home: Option<Home>, base: u64) -> Result<Cell, ElfError>
         requires { IfSome home (λ h. h.kind ≡ kinds.Empty → h.len ≡ 0) }
         ensures ok { IfOk result (λ c. c ≡ elim home [
@@ -190,7 +190,7 @@ impl Cell {
     }
 
     /// The kind that a piece holds: that of its own items, or its home's. It takes no memory.
-    #[tactic(auto, using(crate::proofs::PieceItems::kind_own, crate::proofs::PieceItems::kind_clean))]
+    #[tactic(auto, using(crate::proofs::Holdings::kind_own, crate::proofs::Holdings::kind_clean))]
     pub fn piece_kind(&self, p: u32) -> Kind
         requires { p < length self.now.pieces }
         ensures { result ≡ kind_in self.now p }

@@ -1,6 +1,6 @@
 //! One item of a section's data, from the home's bytes or from a list.
 
-ghost use Rattle.std.specs.Prelude.{◌≡◌, ℕ, ◌*◌, ◌/◌, ◌<◌, ◌≤◌, List, length, take, drop, IsTrue, IsSome, IfSome, None};
+ghost use Rattle.std.specs.Prelude.{◌≡◌, ℕ, ◌*◌, ◌/◌, ◌<◌, ◌≤◌, List, length, take, drop, IsTrue, IfSome, None};
 ghost use Rattle.std.specs.Option.{option_map};
 ghost use Rattle.elf_types.specs.declared.records.Class.{Class as TheClass};
 ghost use Rattle.elf_types.specs.declared.records.Order.{Order as TheOrder};
@@ -29,7 +29,9 @@ pub trait Item: Listed + Copy + Drop {
         ensures { result ≡ item_of class order bytes.now };
 
     // The items that bytes hold are those at each place.
-    ghost listed_in: { (class : TheClass) (order : TheOrder) (bytes : List ℕ) → decoded Self.kind class order bytes ≡ option_map Self.variant (listed (item_of class order) (item_size Self.kind class) bytes) };
+    ghost listed_in: { (class : TheClass) (order : TheOrder) (bytes : List ℕ) →
+        decoded Self.kind class order bytes ≡ option_map Self.variant
+        (listed (item_of class order) (item_size Self.kind class) bytes) };
 
     // An item has bytes.
     ghost sized: { (class : TheClass) → 0 < item_size Self.kind class };

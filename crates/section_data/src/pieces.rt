@@ -100,7 +100,8 @@ impl Pieces {
         &mut self.others[p as usize - 1]
     }
 
-    /// Adds a piece at the end. Where there is no memory it hands it back, and the list is as before.
+    /// Adds a piece at the end. Where there is no memory it hands it back, and the list is as
+    /// before.
     pub(crate) fn push(&mut self, piece: Piece) -> Result<(), AllocFailed<Piece>>
         requires { length self.old < MAX_PIECES }
         ensures ok { OnOk result (self.new ≡ self.old ++ piece ∷ []) }

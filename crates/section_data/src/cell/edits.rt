@@ -6,7 +6,7 @@ ghost use Rattle.elf_types.specs.Answers.{answered, IsRefusal};
 ghost use Rattle.elf_object.specs.Calls.{is_piece_align};
 ghost use Rattle.elf_object.specs.Words.{EditsWith, handing_back};
 ghost use Rattle.section_data.specs.Views.{IsCell};
-ghost use Rattle.section_data.specs.Refused.{no_piece, unfit_piece, replace_refused, append_refused};
+ghost use Rattle.section_data.specs.Refused.{unfit_piece, replace_refused, append_refused};
 ghost use Rattle.section_data.specs.Leaves.{replaced, appended, marked_piece};
 
 use crate::cell::Cell;

@@ -1,6 +1,6 @@
 //! A piece becomes own, and its items are lent for writing.
 
-ghost use Rattle.std.specs.Prelude.{◌≡◌, ◌≢◌, ◌<◌, true, length, IsTrue, IsSome, IfSome, IfErr, IfOk, OnOk, OnErr, Some, None};
+ghost use Rattle.std.specs.Prelude.{◌≡◌, ◌<◌, true, length, IsTrue, IsSome, IfSome, IfErr, IfOk, OnOk, OnErr, Some, None};
 ghost use Rattle.std.specs.Borrow.{sem};
 ghost use Rattle.elf_types.specs.declared.errors.ElfError.TheVariants.{Memory};
 ghost use Rattle.elf_types.specs.Answers.{answered, IsRefusal};
@@ -118,9 +118,9 @@ impl Cell {
 
     /// The items of a piece that holds that kind, lent for writing. The home is read and translated
     /// at first use, and the piece becomes own and marked; what the borrower leaves is what it
-    /// holds. It refuses in this order: `NoData`, `WrongKind` with the kind that the piece holds, for
-    /// the clean home piece `OutOfFile` and `Ragged`, and then `Memory` or `Read` where the piece
-    /// does not hold its items. It reads nothing where it is refused, the piece is own or the
+    /// holds. It refuses in this order: `NoData`, `WrongKind` with the kind that the piece holds,
+    /// for the clean home piece `OutOfFile` and `Ragged`, and then `Memory` or `Read` where the
+    /// piece does not hold its items. It reads nothing where it is refused, the piece is own or the
     /// section is loaded.
     ///
     /// Source: elf_getdata and elf_flagdata of elf(3E).
@@ -136,7 +136,8 @@ impl Cell {
         requires items { HeldIs class order self.old }
         ensures* lends { sem 𝓛 (LendsItems (S.holds src.entry.now) class order piece self.entry
             result) }
-        ensures answer { Answers true (preparing self.old piece (lend_due class self.old kind piece))
+        ensures answer { Answers true
+            (preparing self.old piece (lend_due class self.old kind piece))
             (result_map (λ _. tt {0}) result)
             (answered (kind_refused class self.old kind piece) (tt {0})) }
         ensures kind { IfOk result (λ lent. items_kind lent.now ≡ kind) }
@@ -166,8 +167,8 @@ impl Cell {
             (preparing self.old piece (lend_due class self.old T.kind piece))
             (result_map (λ _. tt {0}) result)
             (answered (kind_refused class self.old T.kind piece) (tt {0})) }
-        ensures value { IfSome (S.holds src.old) (λ image.
-            IfOk result (λ lent. lent.now ≡ T.list_of (items_over image class order self.old piece))) }
+        ensures value { IfSome (S.holds src.old) (λ image. IfOk result (λ lent.
+            lent.now ≡ T.list_of (items_over image class order self.old piece))) }
         ensures asks { Asks S.Source result src.old src.new
             (lend_due class self.old T.kind piece) }
     {

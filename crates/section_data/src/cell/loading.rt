@@ -10,7 +10,7 @@ ghost use Rattle.elf_types.specs.declared.records.Class.{Class as TheClass};
 ghost use Rattle.elf_types.specs.declared.records.Order.{Order as TheOrder};
 ghost use Rattle.elf_types.specs.declared.records.Kind.TheVariants as kinds;
 ghost use Rattle.section_data.specs.Views.{IsCell};
-ghost use Rattle.section_data.specs.Held.{piece_in, is_ragged, cell_is_loaded, ready, piece_holds_items, HeldIs};
+ghost use Rattle.section_data.specs.Held.{piece_in, cell_is_loaded, piece_holds_items, HeldIs};
 ghost use Rattle.section_data.specs.Refused.{no_piece, no_home_items, items_refused, home_out, load_due, piece_due, items_due, reading, preparing};
 ghost use Rattle.section_data.specs.Leaves.{LiesIn, Warms, IsReadFrom, bytes_or_none};
 
@@ -180,8 +180,8 @@ impl Cell {
         self.check_home(p, class)
     }
 
-    /// Loads the home of a piece that is not own. It refuses as `load`, and nothing for an own piece,
-    /// whose cell stays as it is.
+    /// Loads the home of a piece that is not own. It refuses as `load`, and nothing for an own
+    /// piece, whose cell stays as it is.
     pub fn fetch<S: Source>(&mut self, src: &mut S, p: u32) -> Result<(), ElfError>
         requires piece { p < length self.old.pieces }
         requires lies { LiesIn self.old (S.size src.old) }
@@ -204,16 +204,13 @@ impl Cell {
 
     /// Whether a piece holds its items: an own one does, and the clean home piece where the home's
     /// items are held in memory form. It takes no memory.
-    #[tactic(auto, unfolding(crate::specs::Held::ready), using(crate::proofs::PieceItems::ready_own, crate::proofs::PieceItems::ready_clean))]
+    #[tactic(auto, using(crate::proofs::Holdings::holds_either))]
     pub fn holds_items(&self, p: u32) -> bool
         requires { p < length self.now.pieces }
         ensures value { result ≡ piece_holds_items self.now p }
         ensures cell { IsCell self.now }
     {
-        if self.is_own(p) {
-            return true;
-        }
-        self.held.is_some()
+        self.is_own(p) || self.held.is_some()
     }
 
     /// Translates a home that is loaded. It refuses `Memory` alone, and then the cell is as before.
@@ -290,10 +287,10 @@ impl Cell {
     }
 
     /// Makes a piece hold its items, so that they can be handed out and claimed: the home is read
-    /// and translated at the first use, and room is made for a copy where it is of bytes. For an own
-    /// piece the cell stays as it is. It refuses in this order: `NoData`, and for the clean home
-    /// piece `OutOfFile` and `Ragged`; then `Memory` or `Read` where the piece does not hold its
-    /// items. It reads nothing where it is refused, the piece is own or the section is loaded.
+    /// and translated at the first use, and room is made for a copy where it is of bytes. For an
+    /// own piece the cell stays as it is. It refuses in this order: `NoData`, and for the clean
+    /// home piece `OutOfFile` and `Ragged`; then `Memory` or `Read` where the piece does not hold
+    /// its items. It reads nothing where it is refused, the piece is own or the section is loaded.
     ///
     /// Source: elf_getdata of elf(3E).
     pub fn prepare<S: Source>(

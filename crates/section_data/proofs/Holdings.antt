@@ -11,7 +11,7 @@ use Rattle.elf_xlate.specs.declared.content.Items.TheVariants as items
 use Rattle.elf_xlate.specs.Translation.{items_kind, is_whole, decoded}
 use Rattle.elf_object.specs.Answers.{bytes_of}
 use Rattle.section_data.specs.Views.{CellView}
-use Rattle.section_data.specs.Held.{piece_in, kind_in, ready, items_in, raw_items, is_at_hand, cell_is_loaded, or_empty, items_of_bytes}
+use Rattle.section_data.specs.Held.{piece_in, kind_in, ready, piece_holds_items, items_in, raw_items, is_at_hand, cell_is_loaded, or_empty, items_of_bytes}
 
 pub none_of : {X : Type 0} (o : Option X) → is_some o ≡ false → o ≡ None
 none_of None h = refl
@@ -36,6 +36,15 @@ ready_own c p i e = rw (ready, e) refl
 pub ready_clean : (c : CellView) (p : ℕ) → is_some (piece_in c p).own ≡ false → ready c p ≡ c.held
 unfolding ready
 ready_clean c p e = rw (ready, none_of (piece_in c p).own e) refl
+
+-- whether a piece holds its items
+pub holds_either : (c : CellView) (p : ℕ) → piece_holds_items c p ≡ (is_some (piece_in c p).own || is_some c.held)
+unfolding ready
+holds_either c p = by_own (piece_in c p).own
+  where
+    by_own : (own : Option Items) → is_some (elim own [ None ↦ c.held | Some items ↦ Some items ]) ≡ (is_some own || is_some c.held)
+    by_own None = refl
+    by_own (Some items) = refl
 
 pub kind_own : (c : CellView) (p : ℕ) (i : Items) → (piece_in c p).own ≡ Some i → kind_in c p ≡ items_kind i
 unfolding kind_in
