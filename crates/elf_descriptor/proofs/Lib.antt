@@ -1,5 +1,16 @@
 pub mod Refusals
 pub mod Marks
 pub mod Objects
+pub mod Beginnings
+pub mod BeginAnswers
 pub mod Warming
+pub mod ListedCells
 pub mod Loaded
+pub mod ReadsLaws
+pub mod Reading
+pub mod RawCalls
+pub mod Handing
+pub mod PieceCalls
+pub mod DataCalls
+pub mod BaseCalls
+pub mod EntryCalls

@@ -1,9 +1,9 @@
 -- A section's data is read and translated: the object stays, and the descriptor stays sound.
-use Rattle.std.proofs.Common.{◌≡◌, ◌≢◌, ℕ, ◌<◌, ◌≤◌, Bool, true, false, List, [], ◌∷◌, length, get_or, set, map, Option, Some, None, refl, sym, ap, ◌∙◌, subst, arith}
-use Rattle.std.specs.Prelude.{slice_get, IfSome, IsSome, is_some, nat_lt, ◌==◌}
+use Rattle.std.proofs.Common.{◌≡◌, ◌≢◌, ℕ, ◌<◌, ◌≤◌, Bool, true, false, List, length, get_or, set, map, Option, Some, None, refl, sym, ap, ◌∙◌, subst, arith}
+use Rattle.std.specs.Prelude.{IfSome, is_some, nat_lt, ◌==◌}
 use Rattle.std.specs.Option.{option_and_then}
 use Rattle.std.proofs.lemmas.Bool.{ltb-true, ltb-false, eqb-true, eq-eqb}
-use Rattle.std.proofs.lemmas.List.{length-set, get_or-set_same, get_or-set_other, set-get_or, set_past, get_or_read}
+use Rattle.std.proofs.lemmas.List.{length-set, get_or-set_same, get_or-set_other, set-get_or, set_past, get_or_past, get_or_read}
 use Rattle.std.proofs.lemmas.Option.{get_or_from_slice_get, slice_get-get_or, slice_get_within}
 use Rattle.std.proofs.Math.Seq.{map-set_same}
 use Rattle.elf_types.specs.declared.records.Class.{Class}
@@ -13,10 +13,10 @@ use Rattle.elf_xlate.specs.declared.content.Items.{Items}
 use Rattle.elf_xlate.specs.Translation.{decoded}
 use Rattle.elf_outside.specs.declared.sources.Source.{Ghosts}
 use Rattle.elf_outside.specs.Asks.{Leaves}
-use Rattle.elf_object.specs.Object.{Object, Section, Home}
+use Rattle.elf_object.specs.Object.{Section, Home}
 use Rattle.elf_object.specs.Open.{home_bytes}
 use Rattle.section_data.specs.Views.{CellView}
-use Rattle.section_data.specs.Held.{cell_is_loaded, HeldIs}
+use Rattle.section_data.specs.Held.{HeldIs}
 use Rattle.section_data.specs.Leaves.{Warms, RawBecomes, LiesIn}
 use Rattle.section_data.proofs.Loading.{warms_same}
 use Rattle.elf_descriptor.specs.declared.scn.Scn.{Scn}
@@ -145,6 +145,25 @@ pub cell_at : (image : Option (List ℕ)) (size : ℕ) (b : Body) (s : ℕ) → 
     → CellIn b.header.class b.header.order size s (scn_at b s)
 unfolding scn_at
 cell_at image size b s is there = is.cells s (scn_at b s) (slice_get-get_or b.sections.items s absent_scn there)
+
+-- its home can be read
+pub lies_at : (image : Option (List ℕ)) (size : ℕ) (b : Body) (s : ℕ) → IsElf image size b → LiesIn (scn_at b s).cell size
+unfolding scn_at
+lies_at image size b s is = by_range (nat_lt s (length b.sections.items)) refl
+  where
+    by_range : (t : Bool) → nat_lt s (length b.sections.items) ≡ t → LiesIn (scn_at b s).cell size
+    by_range true e = (cell_at image size b s is (ltb-true s (length b.sections.items) e)).lies
+    by_range false e =
+        subst (λ (x : Scn). LiesIn x.cell size) (sym (get_or_past b.sections.items s absent_scn (ltb-false s (length b.sections.items) e))) (λ unread inside some. absurd (omega (arith, some)))
+
+-- its items that are held are those of its bytes
+pub items_held_at : (image : Option (List ℕ)) (size : ℕ) (b : Body) (s : ℕ) → IsElf image size b → HeldIs b.header.class b.header.order (scn_at b s).cell
+unfolding scn_at
+items_held_at image size b s is = by_range (nat_lt s (length b.sections.items)) refl
+  where
+    by_range : (t : Bool) → nat_lt s (length b.sections.items) ≡ t → HeldIs b.header.class b.header.order (scn_at b s).cell
+    by_range true e = (cell_at image size b s is (ltb-true s (length b.sections.items) e)).items
+    by_range false e = subst (λ (x : Scn). HeldIs b.header.class b.header.order x.cell) (sym (get_or_past b.sections.items s absent_scn (ltb-false s (length b.sections.items) e))) tt
 
 warmed_cells : (image : Option (List ℕ)) (size : ℕ) (old new : Body) (s : ℕ) → Warmed image old new s → IsElf image size old → (i : ℕ) → i < length old.sections.items
     → CellIn old.header.class old.header.order size i (scn_at new i)

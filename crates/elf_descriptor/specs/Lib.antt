@@ -1,7 +1,10 @@
 pub mod State
 pub mod Views
 pub mod Sound
+pub mod Begun
 pub mod Bodies
+pub mod Entries
+pub mod Dues
 pub mod Held
 pub mod Warmed
 pub mod Reads

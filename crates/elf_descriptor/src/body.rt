@@ -6,6 +6,7 @@ use elf_types::{Ehdr, Octets, Phdrs, Shdrs};
 mod checks;
 mod getters;
 mod loading;
+mod opening;
 
 /// The front as it stands in the image that was opened or last written.
 #[derive(Drop)]

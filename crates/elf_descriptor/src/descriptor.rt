@@ -7,7 +7,11 @@ use elf_outside::Source;
 use std::alloc::Global;
 use std::marker::Model;
 
+mod base;
+mod begin;
+mod entries;
 mod getters;
+mod reading;
 
 /// An object over a source. Contracts see it as a [`State`]: the plain object, what is held of it,
 /// and the source.
@@ -29,9 +33,6 @@ impl<S: Source> Model for Elf<S> {
 
     ghost invariant = { λ e. IsElf (S.holds e.src) (S.size e.src) e.body };
 }
-
-// How an object begins over a source stands in `descriptor/begin.rt`:
-// `Elf::begin(alloc: Global, src: S) -> Result<Elf<S>, (S, ElfError)>`.
 
 impl<S: Source> Elf<S> {
     /// Gives the source back. It refuses nothing and takes no memory.

@@ -2,6 +2,7 @@
 
 ghost use Rattle.std.specs.Prelude.{◌≡◌, ◌<◌, length, IsTrue, IsSome, Some};
 ghost use Rattle.elf_object.specs.Answers.{entry_at};
+ghost use Rattle.section_data.specs.Views.{IsCell};
 ghost use Rattle.section_data.specs.Held.{kind_in, items_in, is_at_hand, ready, piece_holds_items};
 
 use crate::cell::Cell;
@@ -35,11 +36,12 @@ impl Cell {
     }
 
     /// The items of a piece that holds them. It takes no memory.
-    #[tactic(auto, using(crate::proofs::Pieces::ready_own, crate::proofs::Pieces::ready_clean))]
+    #[tactic(auto, using(crate::proofs::PieceItems::ready_own, crate::proofs::PieceItems::ready_clean))]
     pub fn items(&self, p: u32) -> &Items
         requires piece { p < length self.now.pieces }
         requires holds { IsTrue (piece_holds_items self.now p) }
-        ensures { ready self.now p ≡ Some result.now }
+        ensures value { ready self.now p ≡ Some result.now }
+        ensures cell { IsCell self.now }
     {
         let piece = self.piece(p);
         if piece.is_own() {
@@ -57,7 +59,8 @@ impl Cell {
         requires piece { p < length self.now.pieces }
         requires kind { kind_in self.now p ≡ T.kind }
         requires there { IsTrue (is_at_hand class self.now p) }
-        ensures { result ≡ entry_at (T.list_of (items_in class order self.now p)) i }
+        ensures value { result ≡ entry_at (T.list_of (items_in class order self.now p)) i }
+        ensures cell { IsCell self.now }
     {
         let piece = self.piece(p);
         if piece.is_own() {

@@ -124,6 +124,7 @@ impl Cell {
         requires { IsSome self.now.raw }
         ensures value { self.now.raw ≡ Some result.now }
         ensures len { length result.now ≡ self.now.home.len }
+        ensures cell { IsCell self.now }
     {
         match &self.raw {
             Some(Items::Bytes(bytes)) => bytes.as_slice(),
@@ -138,7 +139,7 @@ impl Cell {
         ensures err { IfErr result IsRefusal }
         ensures cell { IsCell self.now }
     {
-        let count = self.pieces.len() as u32;
+        let count = self.pieces.len();
         if p < count {
             Ok(())
         } else {
@@ -203,7 +204,7 @@ impl Cell {
 
     /// Whether a piece holds its items: an own one does, and the clean home piece where the home's
     /// items are held in memory form. It takes no memory.
-    #[tactic(auto, unfolding(crate::specs::Held::ready), using(crate::proofs::Pieces::ready_own, crate::proofs::Pieces::ready_clean))]
+    #[tactic(auto, unfolding(crate::specs::Held::ready), using(crate::proofs::PieceItems::ready_own, crate::proofs::PieceItems::ready_clean))]
     pub fn holds_items(&self, p: u32) -> bool
         requires { p < length self.now.pieces }
         ensures value { result ≡ piece_holds_items self.now p }

@@ -1,0 +1,89 @@
+-- What calls in a row do to a source, and what is held after them.
+use Rattle.std.proofs.Common.{◌≡◌, ℕ, ◌+◌, ◌≤◌, Bool, true, false, List, [], ◌∷◌, ◌++◌, Result, refl, ◌∙◌, arith}
+use Rattle.std.specs.Prelude.{IsTrue, IfErr, ◌||◌, if◌then◌else◌}
+use Rattle.std.proofs.lemmas.List.Elements.{Contains-append_left, Contains-append_right}
+use Rattle.std.proofs.lemmas.List.Sums.{sum_by-append, sum_by-cons}
+use Rattle.elf_types.specs.declared.errors.ElfError.{ElfError}
+use Rattle.elf_types.specs.Answers.{IsRefusal}
+use Rattle.elf_outside.specs.declared.sources.Source.{Ghosts}
+use Rattle.elf_outside.specs.Asks.{ReadRose}
+use Rattle.elf_outside.proofs.AskLemmas.{asks_both, asks_then}
+use Rattle.elf_object.specs.Object.{Object, section_at}
+use Rattle.elf_object.specs.Due.{is_loaded, home_due, homes_due}
+use Rattle.elf_descriptor.specs.State.{State}
+use Rattle.elf_descriptor.specs.Reads.{Reads}
+
+-- an answer after a step that was Ok, or that was refused as the answer is
+pub reads_then : {S T U : Type 0} (g : Ghosts S) (r : Result T ElfError) (q : Result U ElfError) (old new : State S) (sections holding : List ℕ) (due : ℕ)
+    → (IfErr q IsRefusal → IfErr r IsRefusal) → ReadRose q (g.faults old.source) (g.faults new.source) → Reads g r old new sections holding due → Reads g q old new sections holding due
+reads_then g r q old new sections holding due settled read reads = record {
+  source = asks_then g r q old.source new.source due reads.source read;
+  told = reads.told;
+  ready = reads.ready;
+  loads = reads.loads;
+  stays = reads.stays;
+  holds = reads.holds;
+  holds_on = reads.holds_on;
+  first_use = λ refused. reads.first_use (settled refused);
+}
+
+-- nothing is done
+pub reads_nothing : {S T : Type 0} (g : Ghosts S) (r : Result T ElfError) (s : State S) (sections holding : List ℕ) (due : ℕ)
+    → ReadRose r (g.faults s.source) (g.faults s.source) → Reads g r s s sections holding due
+reads_nothing g r s sections holding due read = record {
+  source = record {
+    leaves = record { same_len = refl; same_bytes = refl; same_rest = refl };
+    later = omega arith;
+    read = read;
+    taken = record { later = omega arith; no_more = omega arith };
+  };
+  told = refl;
+  ready = refl;
+  loads = λ i other. refl;
+  stays = λ i is. is;
+  holds = λ i other. refl;
+  holds_on = λ s p is. is;
+  first_use = λ settled. omega arith;
+}
+
+-- ---- Two calls in a row
+
+-- what is due does not rise once more is loaded
+due_stays : (o : Object) (before after : List Bool) (s : ℕ) → (IsTrue (is_loaded before s) → IsTrue (is_loaded after s)) → home_due o after s ≤ home_due o before s
+unfolding home_due
+due_stays o before after s stays = by_loaded (is_loaded before s) (is_loaded after s) (section_at o s).home.out stays
+  where
+    by_loaded : (a b out : Bool) → (IsTrue a → IsTrue b)
+        → (if b || out then 0 else (section_at o s).home.len) ≤ (if a || out then 0 else (section_at o s).home.len)
+    by_loaded a true out stays = omega arith
+    by_loaded true false out stays = let is = stays refl in cc
+    by_loaded false false out stays = omega arith
+
+pub dues_stay : (o : Object) (before after : List Bool) (sections : List ℕ) → ((i : ℕ) → IsTrue (is_loaded before i) → IsTrue (is_loaded after i))
+    → homes_due o after sections ≤ homes_due o before sections
+unfolding homes_due
+dues_stay o before after [] stays = omega arith
+dues_stay o before after (s ∷ sections) stays =
+    omega (arith, due_stays o before after s (stays s), dues_stay o before after sections stays, sum_by-cons (home_due o before) s sections, sum_by-cons (home_due o after) s sections)
+
+-- two calls in a row on an object that the first one leaves, of which the second answers
+pub reads_both : {S T U : Type 0} (g : Ghosts S) (r : Result T ElfError) (q : Result U ElfError) (old mid new : State S) (a b x y : List ℕ) (n m : ℕ)
+    → IfErr r IsRefusal → mid.o ≡ old.o → Reads g r old mid a x n → Reads g q mid new b y m → Reads g q old new (a ++ b) (x ++ y) (n + m)
+unfolding homes_due
+reads_both g r q old mid new a b x y n m settled same first second = record {
+  source = asks_both g r q old.source mid.source new.source n m first.source second.source;
+  told = second.told ∙ first.told;
+  ready = second.ready ∙ first.ready;
+  loads = λ i other. second.loads i (λ is. other (Contains-append_right a b i is)) ∙ first.loads i (λ is. other (Contains-append_left a b i is));
+  stays = λ i is. second.stays i (first.stays i is);
+  holds = λ i other. second.holds i (λ is. other (Contains-append_right x y i is)) ∙ first.holds i (λ is. other (Contains-append_left x y i is));
+  holds_on = λ s p is. second.holds_on s p (first.holds_on s p is);
+  first_use = λ refused.
+      let one = first.first_use settled in
+      let two = rw same at second.first_use refused in
+      let before = sum_by-append (home_due old.o old.loaded) a b in
+      let after = sum_by-append (home_due old.o new.loaded) a b in
+      let fewer = dues_stay old.o mid.loaded new.loaded a second.stays in
+      let less = dues_stay old.o old.loaded mid.loaded b first.stays in
+      omega (arith, one, two, before, after, fewer, less);
+}

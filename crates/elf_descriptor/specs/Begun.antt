@@ -1,0 +1,112 @@
+-- A descriptor that begins over a source (elf_begin, elf(3E); gABI chapter 4, "Object Files").
+use Rattle.std.specs.Prelude.{◌≡◌, ◌≤◌, ℕ, Bool, false, List, length, map, slice_get, Option, Some, None, is_some, IfSome, Result, Ok, Err}
+use Rattle.std.specs.List.{enumerate_from}
+use Rattle.std.specs.Global.{Vec}
+use Rattle.elf_types.specs.declared.constants.TheConstants.{MAX_IMAGE}
+use Rattle.elf_types.specs.declared.records.Shdr.{Shdr}
+use Rattle.elf_types.specs.declared.errors.ElfError.{ElfError}
+use Rattle.elf_outside.specs.declared.sources.Source.{Ghosts}
+use Rattle.elf_ident.specs.declared.fronts.Front.{Front}
+use Rattle.elf_ident.specs.Reading.{IsFittingFront, IsCounted, HasTables}
+use Rattle.elf_object.specs.Object.{Object}
+use Rattle.elf_object.specs.Open.{begun, opened, home_of, standing_header}
+use Rattle.elf_object.specs.Valid.{AreBytes}
+use Rattle.section_data.specs.Views.{opened_cell}
+use Rattle.elf_descriptor.specs.declared.scn.Scn.{Scn}
+use Rattle.elf_descriptor.specs.declared.body.Body.{Body}
+use Rattle.elf_descriptor.specs.State.{State}
+use Rattle.elf_descriptor.specs.Views.{object_of, loaded_of, held_of, base_of, HasCounts}
+use Rattle.elf_descriptor.specs.Sound.{CellIn, IsSound}
+
+-- ---- What the program keeps
+
+-- a section of an image of `size` bytes, with its number and its header; nothing of it is read
+abbrev pub opened_scn : ℕ → ℕ × Shdr → Scn
+opened_scn size s = record {
+  header = s.1;
+  cell = opened_cell s.0 (home_of size s.1);
+  marked = false;
+}
+
+-- the sections with these headers
+unfoldable pub opened_scns : ℕ → List Shdr → List Scn
+opened_scns size headers = map (opened_scn size) (enumerate_from 0 headers)
+
+-- all of the object that a front begins, with these sections; nothing is marked
+unfoldable pub opened_body : Front → Vec Scn → Body
+opened_body f sections = record {
+  header = f.ehdr;
+  pad = f.pad;
+  phdrs = f.phdrs;
+  sections = sections;
+  base = None;
+  written =
+      Some (record { header = standing_header f; pad = f.pad; phdrs = f.phdrs; shdrs = f.shdrs });
+  layout = false;
+  fill = 0;
+  marked = false;
+  header_marked = false;
+  segments_marked = false;
+  ready = false;
+}
+
+-- for each section header, that something of its section is held: nothing is
+abbrev pub none_held : List Shdr → List Bool
+none_held headers = map (λ h. false) headers
+
+-- what a front begins over a source of `size` bytes, whatever bytes it tells: its object, of which
+-- nothing is read
+pub record IsOpened (f : Front) (size : ℕ) (b : Body) : Type 0 where
+  pub object : (image : Option (List ℕ)) → IfSome image (λ bytes. length bytes ≡ size)
+      → object_of image size b ≡ begun f (base_of None image size)
+  pub counts : HasCounts b
+  pub cells : (i : ℕ) (s : Scn) → slice_get b.sections.items i ≡ Some s
+      → CellIn b.header.class b.header.order size i s
+  pub loaded : loaded_of b ≡ none_held f.shdrs
+  pub held : held_of b ≡ none_held f.shdrs
+  pub ready : b.ready ≡ false
+
+-- ---- The descriptor
+
+-- the descriptor over a source that a front begins
+unfoldable pub begun_state : {S : Type 0} → Ghosts S → Front → S → State S
+begun_state g f source = record {
+  o = begun f (base_of None (g.holds source) (g.size source));
+  told = is_some (g.holds source);
+  loaded = none_held f.shdrs;
+  held = none_held f.shdrs;
+  ready = false;
+  source = source;
+}
+
+-- What a front begins is an object. Where the source tells bytes that have this front, it is that
+-- of its base, and what is not dirty stands there.
+abbrev pub BegunIsSound : Type 0
+BegunIsSound =
+    (f : Front) (image : Option (List ℕ)) (size : ℕ) → IsFittingFront f → IsCounted f
+    → size ≤ MAX_IMAGE
+    → IfSome image (λ bytes. length bytes ≡ size)
+    → IfSome image AreBytes
+    → IfSome image (λ bytes. opened bytes ≡ Ok (begun f bytes))
+    → IsSound image (begun f (base_of None image size))
+
+-- it has begun over that source: a front of its length, each number of which fits, begins it
+pub record IsBegun {S : Type 0} (g : Ghosts S) (source : S) (e : State S) : Type 0 where
+  pub front : Front
+  pub fitting : IsFittingFront front
+  pub counted : IsCounted front
+  pub tables : HasTables front.ehdr (g.size source)
+  pub small : g.size source ≤ MAX_IMAGE
+  pub state : e ≡ begun_state g front e.source
+
+-- ---- The answer of a call that begins a descriptor, or hands its source back with a refusal
+
+-- its object, or the refusal
+abbrev pub begun_answer : {S : Type 0} → Result (State S) (S × ElfError) → Result Object ElfError
+begun_answer (Ok e) = Ok e.o
+begun_answer (Err back) = Err back.1
+
+-- the source afterwards
+abbrev pub source_after : {S : Type 0} → Result (State S) (S × ElfError) → S
+source_after (Ok e) = e.source
+source_after (Err back) = back.0

@@ -1,0 +1,95 @@
+//! The object that the front of an image begins.
+
+ghost use Rattle.std.specs.Prelude.{◌≡◌, ◌≤◌, length, IfOk, IfErr};
+ghost use Rattle.elf_types.specs.declared.constants.TheConstants.{MAX_SECTIONS};
+ghost use Rattle.elf_types.specs.declared.errors.ElfError.TheVariants.{Memory};
+ghost use Rattle.elf_ident.specs.Reading.{IsCounted};
+ghost use Rattle.elf_object.specs.Open.{standing_header};
+ghost use Rattle.elf_descriptor.specs.Begun.{IsOpened, opened_body, opened_scns};
+
+use crate::body::{Body, Written};
+use crate::scn::Scn;
+use elf_ident::Front;
+use elf_types::{Class, Ehdr, ElfError, List, Phdrs, Shdr};
+use section_data::Cell;
+use std::alloc::Global;
+
+/// The sections with these headers in an image of `size` bytes. Nothing of them is read. It refuses
+/// `Memory` alone.
+fn open_sections(
+    alloc: Global,
+    class: Class,
+    headers: &[Shdr],
+    size: u64,
+) -> Result<Vec<Scn>, ElfError>
+    requires { length headers.now ≤ MAX_SECTIONS }
+    ensures ok { IfOk result (λ l. l.items ≡ opened_scns size headers.now) }
+    ensures err { IfErr result (λ e. e ≡ Memory) }
+{
+    let mut sections = Vec::with_capacity(alloc, headers.len())?;
+    for (i, header) in headers.iter().enumerate() {
+        let cell = Cell::opened(alloc, i as u32, class, header, size)?;
+        sections.push(Scn {
+            header: *header,
+            cell,
+            marked: false,
+        })?;
+    }
+    Ok(sections)
+}
+
+/// The header with its counts and its string index as they stand in the image.
+#[tactic(auto, unfolding(elf_object::specs::Open::standing_header))]
+fn as_written(front: &Front) -> Ehdr
+    ensures { result ≡ standing_header front.now }
+{
+    Ehdr {
+        phnum: u32::from(front.written[0]),
+        shnum: u32::from(front.written[1]),
+        shstrndx: u32::from(front.written[2]),
+        ..front.ehdr
+    }
+}
+
+/// The object with these sections. The front's own lists become those that stand in the image, and
+/// `phdrs` is the copy of its program headers.
+#[tactic(auto, unfolding(crate::specs::Begun::opened_body))]
+fn with_parts(front: Front, phdrs: Phdrs, sections: Vec<Scn>) -> Body
+    requires { phdrs ≡ front.phdrs }
+    ensures { result ≡ opened_body front sections }
+{
+    let header = as_written(&front);
+    Body {
+        header: front.ehdr,
+        pad: front.pad,
+        phdrs,
+        sections,
+        base: None,
+        written: Some(Written {
+            header,
+            pad: front.pad,
+            phdrs: front.phdrs,
+            shdrs: front.shdrs,
+        }),
+        layout: false,
+        fill: 0,
+        marked: false,
+        header_marked: false,
+        segments_marked: false,
+        ready: false,
+    }
+}
+
+impl Body {
+    /// The object that a front begins over a source of `size` bytes: nothing is read of a section,
+    /// and nothing is marked. It refuses `Memory` alone.
+    pub fn opened(alloc: Global, front: Front, size: u64) -> Result<Body, ElfError>
+        requires { IsCounted front }
+        ensures opened { IfOk result (IsOpened front size) }
+        ensures err { IfErr result (λ e. e ≡ Memory) }
+    {
+        let sections = open_sections(alloc, front.ehdr.class, front.shdrs.as_slice(), size)?;
+        let phdrs = List::from_slice(alloc, front.phdrs.as_slice())?;
+        Ok(with_parts(front, phdrs, sections))
+    }
+}

@@ -1,0 +1,82 @@
+//! How a descriptor begins.
+
+ghost use Rattle.std.specs.Prelude.{◌≡◌, ◌+◌, ◌≤◌, Ok, IfOk, IfErr, IfSome};
+ghost use Rattle.elf_types.specs.declared.constants.TheConstants.{MAX_IMAGE};
+ghost use Rattle.elf_types.specs.declared.errors.ElfError.TheVariants.{Memory};
+ghost use Rattle.elf_types.specs.Answers.{Follows};
+ghost use Rattle.elf_outside.specs.Asks.{Asks};
+ghost use Rattle.elf_ident.specs.Front.{front_bytes, most_front_bytes};
+ghost use Rattle.elf_ident.specs.Reading.{IsFittingFront, IsCounted, IsFrontRefusal};
+ghost use Rattle.elf_object.specs.Open.{begun, opened};
+ghost use Rattle.elf_descriptor.specs.Begun.{BegunIsSound};
+
+use crate::body::Body;
+use crate::descriptor::Elf;
+use elf_ident::{Front, read_front};
+use elf_outside::Source;
+use elf_types::ElfError;
+use object_laws::laws::{beginnings_are_tied, begun_fits};
+use std::alloc::Global;
+use writing_laws::based::beginnings_are_based;
+
+/// What a front begins is an object; over bytes that are told, and that have this front, what is
+/// not dirty stands in them.
+fn begun_is_sound()
+    ensures { BegunIsSound }
+{
+    begun_fits();
+    beginnings_are_tied();
+    beginnings_are_based();
+}
+
+impl<S: Source> Elf<S> {
+    ghost use Rattle.elf_descriptor.specs.Begun.{IsBegun, begun_answer, begun_state, source_after};
+
+    /// The descriptor over a source that a front begins. It refuses `Memory` alone, and then hands
+    /// the source back.
+    fn over(alloc: Global, src: S, front: Front) -> Result<Elf<S>, (S, ElfError)>
+        requires fitting { IsFittingFront front }
+        requires counted { IsCounted front }
+        requires small { S.size src ≤ MAX_IMAGE }
+        requires told { IfSome (S.holds src) (λ image. opened image ≡ Ok (begun front image)) }
+        ensures state { IfOk result (λ e. e ≡ begun_state S.Source front src) }
+        ensures back { IfErr result (λ r. (r.0 ≡ src) × (r.1 ≡ Memory)) }
+    {
+        begun_is_sound();
+        let size = src.len();
+        match Body::opened(alloc, front, size) {
+            Ok(body) => Ok(Elf { alloc, src, body }),
+            Err(e) => Err((src, e)),
+        }
+    }
+
+    /// Begins over a source: it reads the front, and nothing of a section. Where the source does
+    /// not tell its bytes, they count as zeros in the object that contracts speak of.
+    ///
+    /// It refuses what `read_front` refuses, in its order: `Short`, `Magic`, `Class`, `Order`,
+    /// `Version`, `TooLarge`, `ShTable`, `PhTable`, `TooMany`. `Read` may come at each read, and
+    /// `Memory` where none of these comes. With a refusal it hands the source back.
+    ///
+    /// It asks for at most one header and one section header, and for the two tables where nothing
+    /// is refused, in at most five reads.
+    ///
+    /// Source: elf_begin of elf(3E).
+    pub fn begin(alloc: Global, mut src: S) -> Result<Elf<S>, (S, ElfError)>
+        ensures answer { IfSome (S.holds src) (λ image.
+            Follows (begun_answer result) (opened image)) }
+        ensures begun { IfOk result (IsBegun S.Source src) }
+        ensures asks { Asks S.Source (begun_answer result) src (source_after result)
+            most_front_bytes }
+        ensures bound { IfSome (S.holds src) (λ image.
+            S.taken (source_after result) ≤ S.taken src + front_bytes image) }
+        ensures err { IfErr result (λ back. IsFrontRefusal (S.size src) back.1) }
+    {
+        match read_front(alloc, &mut src) {
+            Ok(front) => Elf::over(alloc, src, front),
+            Err(refusal) => Err((src, refusal)),
+        }
+    }
+}
+
+#[cfg(test)]
+mod tests;
