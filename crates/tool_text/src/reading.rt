@@ -5,7 +5,7 @@ ghost use Rattle.std.specs.Str.{byte};
 ghost use Rattle.elf_types.specs.Answers.{FollowsBy};
 ghost use Rattle.tool_text.specs.Forms.{IsWellFormed};
 ghost use Rattle.tool_text.specs.Splitting.{Reads};
-ghost use Rattle.tool_text.specs.Reading.{reading, stated_usage, command_of, option_arguments, last, one_or_more, only_one, only_two, of_split, readelf_command, parts_of, nm_command, size_command, strings_command, strip_command, elflint_command, calls_command, selftest_command, rehash_command, copy_command, changes_of, unstrip_command, lines_command, all_differ, is_file_of};
+ghost use Rattle.tool_text.specs.Reading.{reading, stated_usage, command_of, option_arguments, last, one_or_more, of_split, readelf_command, parts_of, nm_command, size_command, strings_command, strip_command, elflint_command, calls_command, selftest_command, rehash_command, copy_command, changes_of, unstrip_command, lines_command, all_differ, is_file_of};
 
 use crate::arguments::Args;
 use crate::commands::{CallsOutput, Command, CopyChanges, NamedFile, StripOptions, WordsFault};
@@ -55,45 +55,31 @@ fn read_split(alloc: Global, usage: Usage, split: Split) -> Result<Command, Faul
     ensures { Reads result (of_split usage split) }
 {
     match usage {
-        Usage::Readelf => readelf(split),
+        Usage::Readelf => readelf(split).ok_or(Fault::Words),
         Usage::Nm => nm(alloc, split),
-        Usage::Size => size(split),
+        Usage::Size => size(split).ok_or(Fault::Words),
         Usage::Strings => strings(alloc, split),
         Usage::Strip => strip(alloc, split),
-        Usage::Elflint => elflint(split),
+        Usage::Elflint => elflint(split).ok_or(Fault::Words),
         Usage::Calls => calls(alloc, split),
         Usage::Selftest => selftest(alloc, split),
         Usage::Rehash => rehash(alloc, split),
         Usage::Copy => copy(alloc, split),
         Usage::Unstrip => unstrip(alloc, split),
-        Usage::Lines => lines(split),
+        Usage::Lines => lines(split).ok_or(Fault::Words),
         Usage::General => Err(Fault::Words),
     }
 }
 
-/// The operands, of which there must be at least one.
+/// The operands, or None exactly where there is none.
 #[tactic(auto, unfolding(crate::specs::Reading::one_or_more))]
-fn one_or_more(operands: Args) -> Result<Args, Fault>
-    ensures { Reads result (one_or_more operands) }
+fn one_or_more(operands: Args) -> Option<Args>
+    ensures { result ≡ one_or_more operands }
 {
     if operands.is_empty() {
-        return Err(Fault::Words);
+        return None;
     }
-    Ok(operands)
-}
-
-/// The operand, of which there must be one.
-fn only_one(operands: Args) -> Result<Text, Fault>
-    ensures { Reads result (only_one operands) }
-{
-    operands.into_one().ok_or(Fault::Words)
-}
-
-/// The operands, of which there must be two.
-fn only_two(operands: Args) -> Result<(Text, Text), Fault>
-    ensures { Reads result (only_two operands) }
-{
-    operands.into_two().ok_or(Fault::Words)
+    Some(operands)
 }
 
 /// The option-argument of the last `-o`, which must be there.
@@ -105,15 +91,15 @@ fn output(alloc: Global, options: &[CommandOption]) -> Result<Text, Fault>
 
 /// At least one letter and one file.
 #[tactic(auto, unfolding(crate::specs::Reading::readelf_command))]
-fn readelf(split: Split) -> Result<Command, Fault>
-    ensures { Reads result (readelf_command split) }
+fn readelf(split: Split) -> Option<Command>
+    ensures { result ≡ readelf_command split }
 {
     let Split { options, operands } = split;
     let files = one_or_more(operands)?;
     if options.is_empty() {
-        return Err(Fault::Words);
+        return None;
     }
-    Ok(Command::Readelf {
+    Some(Command::Readelf {
         parts: parts(options.as_slice()),
         files,
     })
@@ -143,7 +129,7 @@ fn nm(alloc: Global, split: Split) -> Result<Command, Fault>
 {
     let Split { options, operands } = split;
     let options = options.as_slice();
-    let files = one_or_more(operands)?;
+    let files = one_or_more(operands).ok_or(Fault::Words)?;
     let radix = last_value(alloc, options, b't')?.unwrap_or(Radix::Hex);
     Ok(Command::Nm {
         options: NmOptions {
@@ -160,11 +146,11 @@ fn nm(alloc: Global, split: Split) -> Result<Command, Fault>
 
 /// At least one file.
 #[tactic(auto, unfolding(crate::specs::Reading::size_command))]
-fn size(split: Split) -> Result<Command, Fault>
-    ensures { Reads result (size_command split) }
+fn size(split: Split) -> Option<Command>
+    ensures { result ≡ size_command split }
 {
     let files = one_or_more(split.operands)?;
-    Ok(Command::Size { files })
+    Some(Command::Size { files })
 }
 
 /// At least one file. A run has at least four bytes where nothing else is given.
@@ -174,7 +160,7 @@ fn strings(alloc: Global, split: Split) -> Result<Command, Fault>
 {
     let Split { options, operands } = split;
     let options = options.as_slice();
-    let files = one_or_more(operands)?;
+    let files = one_or_more(operands).ok_or(Fault::Words)?;
     let least = last_value(alloc, options, b'n')?.unwrap_or(4);
     let place = last_value(alloc, options, b't')?;
     Ok(Command::Strings {
@@ -194,7 +180,7 @@ fn strip(alloc: Global, split: Split) -> Result<Command, Fault>
 {
     let Split { options, operands } = split;
     let options = options.as_slice();
-    let file = only_one(operands)?;
+    let file = operands.into_one().ok_or(Fault::Words)?;
     let out = output(alloc, options)?;
     let debug = last_option_argument(alloc, options, b'f')?;
     if !strip_files_differ(&out, &file, &debug) {
@@ -232,11 +218,11 @@ fn all_three_differ(first: &Text, second: &Text, third: &Text) -> bool
 
 /// At least one file.
 #[tactic(auto, unfolding(crate::specs::Reading::elflint_command))]
-fn elflint(split: Split) -> Result<Command, Fault>
-    ensures { Reads result (elflint_command split) }
+fn elflint(split: Split) -> Option<Command>
+    ensures { result ≡ elflint_command split }
 {
     let files = one_or_more(split.operands)?;
-    Ok(Command::Elflint { files })
+    Some(Command::Elflint { files })
 }
 
 /// A file and a script, and not both of `-o` and `-i`. The output is another word than either.
@@ -246,7 +232,7 @@ fn calls(alloc: Global, split: Split) -> Result<Command, Fault>
 {
     let Split { options, operands } = split;
     let options = options.as_slice();
-    let (file, script) = only_two(operands)?;
+    let (file, script) = operands.into_two().ok_or(Fault::Words)?;
     let output = match (
         last_option_argument(alloc, options, b'o')?,
         has_option(options, b'i'),
@@ -271,9 +257,9 @@ fn selftest(alloc: Global, split: Split) -> Result<Command, Fault>
     ensures { Reads result (selftest_command split) }
 {
     let Split { options, operands } = split;
-    let word = only_one(operands)?;
+    let word = operands.into_one().ok_or(Fault::Words)?;
     let out = output(alloc, options.as_slice())?;
-    let count = number_within(word.as_str(), 1, 60000)?;
+    let count = number_within(word.as_str(), 1, 60000).ok_or(Fault::Words)?;
     Ok(Command::Selftest { out, count })
 }
 
@@ -283,7 +269,7 @@ fn rehash(alloc: Global, split: Split) -> Result<Command, Fault>
     ensures { Reads result (rehash_command split) }
 {
     let Split { options, operands } = split;
-    let file = only_one(operands)?;
+    let file = operands.into_one().ok_or(Fault::Words)?;
     let out = output(alloc, options.as_slice())?;
     if out.is_same(&file) {
         return Err(Fault::Words);
@@ -298,7 +284,7 @@ fn copy(alloc: Global, split: Split) -> Result<Command, Fault>
 {
     let Split { options, operands } = split;
     let options = options.as_slice();
-    let file = only_one(operands)?;
+    let file = operands.into_one().ok_or(Fault::Words)?;
     let out = output(alloc, options)?;
     let changes = changes(alloc, options)?;
     if out.is_same(&file)
@@ -343,7 +329,7 @@ fn unstrip(alloc: Global, split: Split) -> Result<Command, Fault>
     ensures { Reads result (unstrip_command split) }
 {
     let Split { options, operands } = split;
-    let (stripped, debug) = only_two(operands)?;
+    let (stripped, debug) = operands.into_two().ok_or(Fault::Words)?;
     let out = output(alloc, options.as_slice())?;
     if !all_three_differ(&out, &stripped, &debug) {
         return Err(Fault::Words);
@@ -357,9 +343,9 @@ fn unstrip(alloc: Global, split: Split) -> Result<Command, Fault>
 
 /// At least one file.
 #[tactic(auto, unfolding(crate::specs::Reading::lines_command))]
-fn lines(split: Split) -> Result<Command, Fault>
-    ensures { Reads result (lines_command split) }
+fn lines(split: Split) -> Option<Command>
+    ensures { result ≡ lines_command split }
 {
     let files = one_or_more(split.operands)?;
-    Ok(Command::Lines { files })
+    Some(Command::Lines { files })
 }

@@ -41,18 +41,19 @@ impl OptionArgument for u32 {
 
     #[tactic(auto, unfolding(crate::specs::Reading::least_of))]
     fn from_word(_alloc: Global, word: &str) -> Result<u32, Fault> {
-        number_within(word, 1, 4096)
+        number_within(word, 1, 4096).ok_or(Fault::Words)
     }
 }
 
-/// A number of the command line, which must be from `low` to `high`.
+/// The number of the command line that a word is, or None exactly where it is none from `low` to
+/// `high`.
 #[tactic(auto, unfolding(crate::specs::Reading::number_within))]
-pub(crate) fn number_within(word: &str, low: u32, high: u32) -> Result<u32, Fault>
-    ensures { Reads result (number_within low high word.now) }
+pub(crate) fn number_within(word: &str, low: u32, high: u32) -> Option<u32>
+    ensures { result ≡ number_within low high word.now }
 {
     match word_number(word) {
-        Some(n) if u64::from(low) <= n && n <= u64::from(high) => Ok(n as u32),
-        _ => Err(Fault::Words),
+        Some(n) if u64::from(low) <= n && n <= u64::from(high) => Some(n as u32),
+        _ => None,
     }
 }
 
