@@ -36,7 +36,7 @@ impl Cell {
     }
 
     /// The items of a piece that holds them. It takes no memory.
-    #[tactic(auto, using(crate::proofs::Pieces::ready_own, crate::proofs::Pieces::ready_clean))]
+    #[tactic(auto, using(crate::proofs::PieceItems::ready_own, crate::proofs::PieceItems::ready_clean))]
     pub fn items(&self, p: u32) -> &Items
         requires piece { p < length self.now.pieces }
         requires holds { IsTrue (piece_holds_items self.now p) }
