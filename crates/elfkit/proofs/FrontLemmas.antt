@@ -1,5 +1,5 @@
 -- The front of a file by its kind.
-use Rattle.std.proofs.Common.{◌≡◌, ◌≢◌, ◌+◌, ◌≤◌, Bool, true, false, if◌then◌else◌, ℕ, List, Option, Some, None, Result, Ok, Err, IfSome, IfNone, codes, refl, sym, ap, ◌∙◌, subst, arith}
+use Rattle.std.proofs.Common.{◌≡◌, ◌≢◌, ◌+◌, ◌≤◌, Bool, true, false, if◌then◌else◌, ℕ, List, Option, Some, None, Result, Ok, Err, IfSome, codes, refl, sym, ap, ◌∙◌, subst, arith}
 use Rattle.elf_types.specs.declared.errors.ElfError.{ElfError}
 use Rattle.elf_types.specs.declared.errors.ElfError.TheVariants as error
 use Rattle.elf_types.specs.Answers.{Follows}

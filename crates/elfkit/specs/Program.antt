@@ -1,5 +1,5 @@
 -- What the program does, by the words and the bytes of the files.
-use Rattle.std.specs.Prelude.{◌≡◌, ◌<◌, ℕ, List, Bool, true, false, IsTrue, Result, Ok, Err}
+use Rattle.std.specs.Prelude.{◌≡◌, ◌<◌, ℕ, List, Bool, false, IsTrue, Result, Ok, Err}
 use Rattle.elf_outside.specs.Names.{Map}
 use Rattle.tool_output.specs.declared.statuses.Status.{Status}
 use Rattle.tool_output.specs.declared.statuses.Status.TheVariants.{BadWords}

@@ -1,5 +1,5 @@
 -- The command readelf: the parts of each file that it names.
-use Rattle.std.specs.Prelude.{◌++◌, ◌+◌, ℕ, List, Bool, true, false, not, ◌||◌, length, map, nat_lt, Option, Some, None, Result, Ok, Err, codes, if◌then◌else◌}
+use Rattle.std.specs.Prelude.{◌+◌, ℕ, List, Bool, not, ◌||◌, length, map, nat_lt, Option, Some, None, Result, Ok, Err, codes, if◌then◌else◌}
 use Rattle.elf_types.specs.declared.errors.ElfError.{ElfError}
 use Rattle.elf_types.specs.declared.errors.ElfError.TheVariants.{Magic}
 use Rattle.elf_types.specs.Text.{error_text}

@@ -1,5 +1,5 @@
 -- The end of a call over two sinks.
-use Rattle.std.proofs.Common.{◌≡◌, ◌++◌, ℕ, List, [], Option, Result, Ok, Err, OnOk, OnErr, IfOk, refl, sym, ap, ◌∙◌, subst, append_assoc}
+use Rattle.std.proofs.Common.{◌≡◌, ◌++◌, List, [], Result, Ok, Err, OnOk, OnErr, IfOk, sym, ap, ◌∙◌, subst, append_assoc}
 use Rattle.elf_outside.specs.declared.sinks.Sink.{Ghosts}
 use Rattle.tool_output.specs.declared.stops.Stop.{Stop}
 use Rattle.tool_output.specs.declared.stops.Stop.TheVariants.{Read, Write, Memory}

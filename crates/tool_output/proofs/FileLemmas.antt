@@ -1,5 +1,5 @@
 -- Steps over a set of files.
-use Rattle.std.proofs.Common.{◌≡◌, ◌≢◌, ◌⊎◌, inl, inr, ◌+◌, ◌<◌, ◌≤◌, ℕ, Bool, true, false, List, [], ◌∷◌, length, map, drop, get_or, codes, Option, Some, None, Result, Ok, Err, IsTrue, IsSome, IsNone, IfSome, refl, sym, ap, ◌∙◌, subst, arith, ◌^◌, ◌-◌}
+use Rattle.std.proofs.Common.{◌≡◌, ◌≢◌, ◌⊎◌, inl, inr, ◌+◌, ◌<◌, ◌≤◌, ℕ, Bool, true, false, List, [], ◌∷◌, length, map, drop, get_or, codes, Option, Some, None, Result, Err, IsTrue, IsSome, IsNone, IfSome, refl, sym, ap, ◌∙◌, subst, arith, ◌-◌}
 use Rattle.std.specs.Str.{bytes_eq}
 use Rattle.std.proofs.lemmas.List.{at_drop_more, at_drop_all}
 use Rattle.std.proofs.lemmas.Slice.Eq.{bytes_eq-Decides}
@@ -12,7 +12,7 @@ use Rattle.tool_output.specs.declared.stops.Stop.TheVariants.{Read, Write, Memor
 use Rattle.tool_output.specs.declared.outputs.Outputs.{Outputs}
 use Rattle.tool_output.specs.Names.{Name, file_name}
 use Rattle.tool_output.specs.Reports.{Report, Reports, refusal}
-use Rattle.tool_output.specs.Steps.{KeepsSinks, LeavesSinks, SinkRose, OnRead, OnWrite}
+use Rattle.tool_output.specs.Steps.{KeepsSinks, SinkRose}
 use Rattle.tool_output.proofs.StepLemmas.{keeps_then}
 use Rattle.tool_output.specs.Files.{report_on, asks_on, Totals, LeavesFiles, OnlyReads, IsWithin, IsWithinLeft, both_bounds, all_bounds}
 

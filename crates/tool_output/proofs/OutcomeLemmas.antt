@@ -1,5 +1,5 @@
 -- The end of a run.
-use Rattle.std.proofs.Common.{◌≡◌, ◌≢◌, ◌⊎◌, inl, inr, ◌++◌, ◌+◌, ◌<◌, ◌≤◌, ℕ, Bool, true, false, List, [], ◌∷◌, length, take, Option, Some, None, Result, Ok, Err, OnOk, IfOk, IfErr, IfSome, IsTrue, if◌then◌else◌, refl, sym, ap, ◌∙◌, subst, arith, lit<, lit≤}
+use Rattle.std.proofs.Common.{◌≡◌, ◌⊎◌, inl, inr, ◌<◌, ◌≤◌, ℕ, Bool, true, false, List, [], length, Option, Some, None, Result, Ok, Err, OnOk, IfOk, IfErr, IsTrue, if◌then◌else◌, refl, sym, ap, ◌∙◌, subst, arith, lit≤}
 use Rattle.std.proofs.lemmas.List.{take_all}
 use Rattle.std.specs.Option.{option_map}
 use Rattle.elf_outside.specs.Counts.{Rose}
@@ -10,7 +10,7 @@ use Rattle.tool_output.specs.declared.stops.Stop.{Stop}
 use Rattle.tool_output.specs.declared.stops.Stop.TheVariants.{Read, Write, Memory}
 use Rattle.tool_output.specs.declared.outputs.Outputs.{Outputs}
 use Rattle.tool_output.specs.Statuses.{refused_status, stop_status, ended_status}
-use Rattle.tool_output.specs.Marks.{Mark, Gained, GainedFront}
+use Rattle.tool_output.specs.Marks.{Mark}
 use Rattle.tool_output.specs.Steps.{Writes, Ends, Ended, LeavesSinks, SinkRose, OnRead, OnWrite, OnKept}
 use Rattle.tool_output.specs.Reports.{Report, Reports}
 use Rattle.tool_output.specs.Files.{OnlyReads, LeavesFiles, IsWithin}

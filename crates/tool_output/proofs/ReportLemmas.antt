@@ -1,11 +1,10 @@
 -- Reports, one after another.
-use Rattle.std.proofs.Common.{◌≡◌, ◌++◌, ◌||◌, Bool, true, false, ℕ, List, [], Result, Ok, Err, refl, sym, ap, ◌∙◌, subst, append_assoc, append-nil}
+use Rattle.std.proofs.Common.{◌≡◌, ◌++◌, ◌||◌, Bool, true, false, ℕ, List, [], Result, Ok, Err, refl, ap, ◌∙◌, subst, append_assoc, append-nil}
 use Rattle.elf_outside.specs.declared.sinks.Sink.{Ghosts}
 use Rattle.tool_output.specs.declared.stops.Stop.{Stop}
 use Rattle.tool_output.specs.declared.outputs.Outputs.{Outputs}
 use Rattle.tool_output.specs.declared.outputs.Side.TheVariants.{Out}
 use Rattle.tool_output.specs.Marks.{Mark, said}
-use Rattle.tool_output.specs.Steps.{Writes, Performs}
 use Rattle.tool_output.specs.Reports.{Report, Reports, no_report, shown, joined}
 use Rattle.tool_output.proofs.StepLemmas.{went_none, went_then, writes_went, writes_then, writes_stop, writes_nothing}
 

@@ -1,13 +1,12 @@
 -- Steps that write, one after another.
-use Rattle.std.proofs.Common.{◌≡◌, ◌++◌, arith, ℕ, List, [], Option, Result, Ok, Err, OnOk, OnErr, refl, sym, ap, ◌∙◌, subst, append_assoc, append-nil}
-use Rattle.elf_types.specs.declared.errors.ElfError.{ElfError}
+use Rattle.std.proofs.Common.{◌≡◌, ◌++◌, arith, ℕ, List, [], Option, Result, Ok, Err, refl, sym, ap, ◌∙◌, subst, append_assoc, append-nil}
 use Rattle.elf_outside.specs.declared.sinks.Sink.{Ghosts}
 use Rattle.tool_output.specs.declared.stops.Stop.{Stop}
 use Rattle.tool_output.specs.declared.stops.Stop.TheVariants.{Read, Write, Memory}
 use Rattle.tool_output.specs.declared.outputs.Side.{Side}
 use Rattle.tool_output.specs.declared.outputs.Outputs.{Outputs}
 use Rattle.tool_output.specs.Marks.{Mark, said, Gained}
-use Rattle.tool_output.specs.Steps.{waiting, Gains, GainsFront, Went, WentFront, OnStop, OnWrite, Writes, Performs, OnRead, KeepsSinks}
+use Rattle.tool_output.specs.Steps.{waiting, Gains, GainsFront, Went, WentFront, Writes, Performs, OnRead, KeepsSinks}
 use Rattle.tool_output.proofs.MarkLemmas.{said_append, said_none, gained_none, gained_then}
 
 gained_same : (a b p q : Option (List ℕ)) → b ≡ a → q ≡ p → Gained a b p q []

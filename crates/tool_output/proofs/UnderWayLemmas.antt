@@ -1,11 +1,10 @@
 -- A report that is given in steps, by what is left of it: what goes over names, members, rows or parts.
-use Rattle.std.proofs.Common.{◌≡◌, ◌++◌, ◌||◌, ◌+◌, ◌<◌, ◌≤◌, Bool, false, ℕ, List, [], ◌∷◌, length, map, drop, get_or, Result, Ok, Err, refl, sym, ap, ◌∙◌, subst}
+use Rattle.std.proofs.Common.{◌≡◌, ◌++◌, ◌||◌, ◌+◌, ◌<◌, ◌≤◌, Bool, false, ℕ, List, [], ◌∷◌, length, drop, get_or, Ok, Err, refl, sym, ap, ◌∙◌, subst}
 use Rattle.std.proofs.lemmas.List.{at_drop_more, at_drop_all}
 use Rattle.elf_outside.specs.declared.sinks.Sink.{Ghosts}
 use Rattle.tool_output.specs.declared.stops.Stop.{Stop}
 use Rattle.tool_output.specs.declared.outputs.Side.TheVariants.{Out}
 use Rattle.tool_output.specs.declared.outputs.Outputs.{Outputs}
-use Rattle.tool_output.specs.Marks.{said}
 use Rattle.tool_output.specs.Lines.{numbered_lines}
 use Rattle.tool_output.specs.Reports.{Report, Reports, no_report, shown, joined, all_joined, reports_of, UnderWay}
 use Rattle.tool_output.proofs.MarkLemmas.{said_append, said_none}

@@ -1,6 +1,6 @@
 -- How a run ends: what it writes, its status, the files afterwards, and how much it reads and
 -- writes.
-use Rattle.std.specs.Prelude.{◌≡◌, ◌⊎◌, ◌≤◌, ◌<◌, ℕ, List, [], ◌∷◌, Bool, true, false, Option, Some, None, IfSome, Result, OnOk, IfOk, IfErr, bytes_eq, take, if◌then◌else◌}
+use Rattle.std.specs.Prelude.{◌≡◌, ◌⊎◌, ◌≤◌, ◌<◌, ℕ, List, [], ◌∷◌, Bool, true, false, Option, Some, None, Result, OnOk, IfOk, IfErr, bytes_eq, take, if◌then◌else◌}
 use Rattle.std.specs.Option.{option_map}
 use Rattle.elf_outside.specs.Counts.{Rose}
 use Rattle.elf_outside.specs.Names.{Map}

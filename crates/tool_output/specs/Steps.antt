@@ -1,5 +1,5 @@
 -- What a step of a tool does to the two outputs.
-use Rattle.std.specs.Prelude.{◌≡◌, ◌++◌, ◌⊎◌, ◌≤◌, ℕ, List, [], Option, Result, Ok, Err, OnOk, OnErr, IfOk}
+use Rattle.std.specs.Prelude.{◌≡◌, ◌++◌, ◌⊎◌, ◌≤◌, ℕ, List, [], Option, Result, Err, OnOk, OnErr, IfOk}
 use Rattle.elf_outside.specs.Counts.{Rose}
 use Rattle.elf_outside.specs.declared.sinks.Sink.{Ghosts}
 use Rattle.tool_output.specs.declared.stops.Stop.{Stop}

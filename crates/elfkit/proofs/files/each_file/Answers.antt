@@ -1,4 +1,4 @@
-use Rattle.std.proofs.Common.{refl, rules}
+use Rattle.std.proofs.Common.{refl}
 use Rattle.std.proofs.lemmas.Result.{err_from_is_err_and}
 use Rattle.tool_output.specs.Files.{report_on, asks_on}
 use Rattle.tool_output.proofs.FileLemmas.{told_after, only_reads_none, only_reads_then, totals_none, totals_then, leaves_stop, bound_begins, bounds_go_on, bounds_end, report_on_same, asks_on_same}

@@ -1,4 +1,4 @@
-use Rattle.std.proofs.Common.{refl, Bool}
+use Rattle.std.proofs.Common.{Bool}
 use Rattle.tool_output.specs.declared.statuses.Status.{Status}
 use Rattle.std.proofs.lemmas.Result.{err_from_is_err_and}
 use Rattle.tool_output.specs.Statuses.{status_code, refused_status}

@@ -1,4 +1,3 @@
-use Rattle.std.proofs.Common.{sym}
 use Rattle.tool_output.proofs.ReportLemmas.{reports_none}
 use Rattle.readelf_tool.proofs.fronts.show_segments_part.Goals as goal
 

@@ -1,4 +1,4 @@
-use Rattle.std.proofs.Common.{sym, ap, ◌∙◌, refl}
+use Rattle.std.proofs.Common.{sym, refl}
 use Rattle.tool_output.proofs.OutcomeLemmas.{reads_done}
 use Rattle.elfkit.specs.Readelf.{readelf_files, readelf_outcome}
 use Rattle.elfkit.proofs.CommandLemmas.{not_built_done}

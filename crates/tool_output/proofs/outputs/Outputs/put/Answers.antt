@@ -1,4 +1,4 @@
-use Rattle.std.proofs.Common.{[], sym, ap, ◌∙◌, refl, take}
+use Rattle.std.proofs.Common.{[], ap, ◌∙◌, refl, take}
 use Rattle.std.proofs.lemmas.Result.{err_from_is_err_and}
 use Rattle.tool_output.proofs.PageLemmas.{restored}
 use Rattle.tool_output.proofs.StepLemmas.{writes_stop, line_put, line_lost}
