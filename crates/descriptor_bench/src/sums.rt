@@ -1,0 +1,71 @@
+//! The sums of what is read.
+
+use crate::work::{What, Work};
+use elf_descriptor::Elf;
+use elf_outside::{Files, Source};
+use elf_types::constants::SHT_SYMTAB;
+use elf_types::{DataId, ElfError, ScnId, Sym};
+use std::alloc::Global;
+
+/// The sum of the sizes of all sections, modulo 2^64.
+fn headers<S: Source>(elf: &Elf<S>) -> Option<u64> {
+    let mut sum = 0u64;
+    for s in 0..elf.shnum() {
+        let header = elf.shdr(ScnId(s)).ok()?;
+        sum = sum.wrapping_add(header.size);
+    }
+    Some(sum)
+}
+
+/// The number of the first symbol table.
+fn first_symbols<S: Source>(elf: &Elf<S>) -> Option<u32> {
+    for s in 0..elf.shnum() {
+        let header = elf.shdr(ScnId(s)).ok()?;
+        if header.stype == SHT_SYMTAB {
+            return Some(s);
+        }
+    }
+    None
+}
+
+/// The sum of the values of the symbols of the first symbol table, modulo 2^64, each read by its
+/// own call.
+fn symbols<S: Source>(elf: &mut Elf<S>) -> Option<u64> {
+    let section = first_symbols(elf)?;
+    let table = DataId { section, piece: 0 };
+    let mut sum = 0u64;
+    for i in 0..u64::MAX {
+        match elf.item::<Sym>(table, i) {
+            Ok(symbol) => sum = sum.wrapping_add(symbol.value),
+            Err(ElfError::NoEntry { .. }) => break,
+            Err(_) => return None,
+        }
+    }
+    Some(sum)
+}
+
+/// The sum of one round over a source, which is given back.
+fn round<S: Source>(alloc: Global, src: S, what: What) -> (S, Option<u64>) {
+    match Elf::begin(alloc, src) {
+        Ok(mut elf) => {
+            let sum = match what {
+                What::Headers => headers(&elf),
+                What::Symbols => symbols(&mut elf),
+            };
+            (elf.end(), sum)
+        }
+        Err((src, _)) => (src, None),
+    }
+}
+
+/// The sum of all rounds, or None where the file is not there or one failed.
+pub fn total<F: Files>(alloc: Global, files: &mut F, work: &Work) -> Option<u64> {
+    let mut sum = 0u64;
+    for _ in 0..work.rounds {
+        let file = files.open(alloc, work.file.as_str()).ok()?;
+        let (file, part) = round(alloc, file, work.what);
+        files.close(work.file.as_str(), file);
+        sum = sum.wrapping_add(part?);
+    }
+    Some(sum)
+}
