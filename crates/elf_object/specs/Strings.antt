@@ -1,6 +1,6 @@
 -- The string at an offset of a section's pieces, and the names that are such strings (gABI
 -- chapter 4, "String Table", sh_name and st_name; elf_strptr).
-use Rattle.std.specs.Prelude.{ℕ, ◌-◌, ◌^◌, min, Bool, false, not, ◌==◌, ◌&&◌, List, [], ◌∷◌, drop, filter, slice_get, if◌then◌else◌, Option, Some, None, is_none, Result, Ok, Err}
+use Rattle.std.specs.Prelude.{◌≡◌, ℕ, ◌-◌, ◌^◌, min, Bool, false, not, ◌==◌, ◌&&◌, List, [], ◌∷◌, drop, filter, slice_get, if◌then◌else◌, Option, Some, None, is_none, Result, Ok, Err}
 use Rattle.std.specs.List.{list_any, list_all}
 use Rattle.std.specs.Str.{bytes_eq}
 use Rattle.elf_types.specs.declared.records.Kind.{Kind}
@@ -9,26 +9,30 @@ use Rattle.elf_types.specs.declared.records.Sym.{Sym}
 use Rattle.elf_types.specs.declared.errors.ElfError.{ElfError}
 use Rattle.elf_types.specs.declared.errors.ElfError.TheVariants.{NotStrings, OutOfFile, NoString, Unended}
 use Rattle.elf_types.specs.declared.constants.TheConstants.{SHT_STRTAB}
-use Rattle.elf_types.specs.Answers.{refused_if, first_refusal, answered}
+use Rattle.elf_types.specs.Answers.{refused_if, first_refusal, answered, err_of}
 use Rattle.elf_xlate.specs.Translation.{items_kind}
 use Rattle.strtab_build.specs.Table.{string_at}
+use Rattle.elf_object.specs.Words.{Refusals}
 use Rattle.elf_object.specs.Blocks.{Block, block_covers}
 use Rattle.elf_object.specs.Object.{Object, Section, Piece, section_at, home_is_clean}
 use Rattle.elf_object.specs.Answers.{no_section, same_kind}
 use Rattle.elf_object.specs.Joined.{piece_blocks, pieces_end}
+use Rattle.elf_object.specs.Due.{is_loaded, unless_refused, when_clean}
+use Rattle.elf_object.specs.Calls.{Call}
 
 -- ---- The string at an offset
 
 -- the kind of the items that a piece of the section holds
-abbrev pub piece_kind : Section → Piece → Kind
-piece_kind c p = elim (p.own) [ None ↦ c.home.kind | Some items ↦ items_kind items ]
+abbrev pub kind_of_piece : Section → Piece → Kind
+kind_of_piece c p = elim (p.own) [ None ↦ c.home.kind | Some items ↦ items_kind items ]
 
 -- a section of type SHT_STRTAB, each piece of which holds bytes
 unfoldable pub holds_strings : Section → Bool
 holds_strings c =
-    c.header.stype == SHT_STRTAB && list_all (λ p. same_kind (piece_kind c p) kinds.Bytes) c.pieces
+    c.header.stype == SHT_STRTAB
+    && list_all (λ p. same_kind (kind_of_piece c p) kinds.Bytes) c.pieces
 
--- the first piece that block_covers an offset of the section
+-- the first piece that covers an offset of the section
 unfoldable pub piece_over : Object → ℕ → ℕ → Option Block
 piece_over o s offset = slice_get (filter (λ b. block_covers b offset) (piece_blocks o s)) 0
 
@@ -39,8 +43,8 @@ has_nul bytes = list_any (λ b. b == 0) bytes
 abbrev pub bytes_from : Block → ℕ → List ℕ
 bytes_from b offset = drop (offset - b.at) b.bytes
 
--- no piece covers the offset; the size that it carries is at most the greatest number of eight
--- bytes
+-- no piece covers the offset: it is not below the size, or lies between two pieces. The size that
+-- is carried is at most the greatest number of eight bytes.
 abbrev pub no_string : Object → ℕ → ℕ → Option ElfError
 no_string o s offset =
     refused_if
@@ -55,14 +59,18 @@ unended o s offset =
       | Some b ↦ refused_if (not (has_nul (bytes_from b offset))) (Unended offset)
     ]
 
-unfoldable pub string_refusal : Object → ℕ → ℕ → Option ElfError
-string_refusal o s offset = first_refusal
+-- what is seen before a byte is read
+unfoldable pub string_refusal_unread : Object → ℕ → ℕ → Option ElfError
+string_refusal_unread o s offset = first_refusal
     (no_section o s
     ∷ refused_if (not (holds_strings (section_at o s))) (NotStrings s)
     ∷ refused_if (home_is_clean (section_at o s) && (section_at o s).home.out) (OutOfFile s)
     ∷ no_string o s offset
-    ∷ unended o s offset
     ∷ [])
+
+unfoldable pub string_refusal : Object → ℕ → ℕ → Option ElfError
+string_refusal o s offset =
+    first_refusal (string_refusal_unread o s offset ∷ unended o s offset ∷ [])
 
 -- the bytes from the offset up to the first NUL
 abbrev pub string_in : Object → ℕ → ℕ → List ℕ
@@ -72,6 +80,24 @@ string_in o s offset =
 -- elf_strptr
 unfoldable pub string_answer : Object → ℕ → ℕ → Result (List ℕ) ElfError
 string_answer o s offset = answered (string_refusal o s offset) (string_in o s offset)
+
+-- it looks at bytes where they stand: it reads the home where its piece is clean, and wants memory
+-- where that is not loaded
+abbrev pub strptr : ℕ → ℕ → Call (List ℕ)
+strptr s offset = record {
+  answer = λ o. string_answer o s offset;
+  after = λ o. o;
+  reads = λ o. unless_refused (err_of (string_answer o s offset)) (when_clean o s);
+  memory = λ o loaded held. home_is_clean (section_at o s) && not (is_loaded loaded s);
+}
+
+-- its refusals: in the bytes it meets that no NUL follows
+abbrev pub strptr_refusals : Object → ℕ → ℕ → Refusals
+strptr_refusals o s offset = record {
+  unread = string_refusal_unread o s offset;
+  early = string_refusal_unread o s offset;
+  met = λ e. e ≡ Unended offset;
+}
 
 -- ---- Names
 
