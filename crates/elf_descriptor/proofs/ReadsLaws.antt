@@ -1,5 +1,5 @@
 -- What calls in a row do to a source, and what is held after them.
-use Rattle.std.proofs.Common.{◌≡◌, ℕ, ◌+◌, ◌≤◌, Bool, true, false, List, [], ◌∷◌, ◌++◌, Result, refl, ◌∙◌, arith}
+use Rattle.std.proofs.Common.{◌≡◌, ℕ, ◌+◌, ◌≤◌, Bool, true, false, List, [], ◌∷◌, ◌++◌, Result, refl, ◌∙◌, subst, arith}
 use Rattle.std.specs.Prelude.{IsTrue, IfErr, ◌||◌, if◌then◌else◌}
 use Rattle.std.proofs.lemmas.List.Elements.{Contains-append_left, Contains-append_right}
 use Rattle.std.proofs.lemmas.List.Sums.{sum_by-append, sum_by-cons}
@@ -7,11 +7,12 @@ use Rattle.elf_types.specs.declared.errors.ElfError.{ElfError}
 use Rattle.elf_types.specs.Answers.{IsRefusal}
 use Rattle.elf_outside.specs.declared.sources.Source.{Ghosts}
 use Rattle.elf_outside.specs.Asks.{ReadRose}
-use Rattle.elf_outside.proofs.AskLemmas.{asks_both, asks_then}
+use Rattle.elf_outside.proofs.AskLemmas.{asks_both, asks_then, asks_fewer}
 use Rattle.elf_object.specs.Object.{Object, section_at}
 use Rattle.elf_object.specs.Due.{is_loaded, home_due, homes_due}
 use Rattle.elf_descriptor.specs.State.{State}
-use Rattle.elf_descriptor.specs.Reads.{Reads}
+use Rattle.elf_object.specs.Calls.{Call, due}
+use Rattle.elf_descriptor.specs.Reads.{Reads, Looks}
 
 -- an answer after a step that was Ok, or that was refused as the answer is
 pub reads_then : {S T U : Type 0} (g : Ghosts S) (r : Result T ElfError) (q : Result U ElfError) (old new : State S) (sections holding : List ℕ) (due : ℕ)
@@ -87,3 +88,50 @@ reads_both g r q old mid new a b x y n m settled same first second = record {
       let less = dues_stay old.o old.loaded mid.loaded b first.stays in
       omega (arith, one, two, before, after, fewer, less);
 }
+
+-- it may ask for more
+pub reads_within : {S T : Type 0} (g : Ghosts S) (r : Result T ElfError) (old new : State S) (sections holding : List ℕ) (n m : ℕ) → n ≤ m → Reads g r old new sections holding n → Reads g r old new sections holding m
+reads_within g r old new sections holding n m few reads = record {
+  source = asks_fewer g r old.source new.source n m few reads.source;
+  told = reads.told;
+  ready = reads.ready;
+  loads = reads.loads;
+  stays = reads.stays;
+  holds = reads.holds;
+  holds_on = reads.holds_on;
+  first_use = reads.first_use;
+}
+
+-- it may read more sections: a call that is refused before the second one of two
+pub reads_wider : {S T : Type 0} (g : Ghosts S) (r : Result T ElfError) (old new : State S) (a b x y : List ℕ) (n m : ℕ) → Reads g r old new a x n → Reads g r old new (a ++ b) (x ++ y) (n + m)
+unfolding homes_due
+reads_wider g r old new a b x y n m reads = record {
+  source = asks_fewer g r old.source new.source n (n + m) (omega arith) reads.source;
+  told = reads.told;
+  ready = reads.ready;
+  loads = λ i other. reads.loads i (λ is. other (Contains-append_left a b i is));
+  stays = reads.stays;
+  holds = λ i other. reads.holds i (λ is. other (Contains-append_left x y i is));
+  holds_on = reads.holds_on;
+  first_use = λ refused.
+      let one = reads.first_use refused in
+      let before = sum_by-append (home_due old.o old.loaded) a b in
+      let after = sum_by-append (home_due old.o new.loaded) a b in
+      let less = dues_stay old.o old.loaded new.loaded b reads.stays in
+      omega (arith, one, before, after, less);
+}
+
+-- two calls in a row that look at the object: what both are due of it as it was before
+pub looks_both : {S A B T U : Type 0} (g : Ghosts S) (c : Call A) (d : Call B) (r : Result T ElfError) (q : Result U ElfError) (old mid new : State S)
+    → IfErr r IsRefusal → Looks g c r old mid → Looks g d q mid new
+    → (new.o ≡ old.o) × Reads g q old new (c.reads old.o ++ d.reads old.o) (c.reads old.o ++ d.reads old.o) (due c old.o old.loaded + due d old.o old.loaded)
+looks_both g c d r q old mid new settled first second =
+    let same = first.object in
+    let later : Reads g q mid new (d.reads old.o) (d.reads old.o) (due d old.o mid.loaded) =
+    subst (λ (o : Object). Reads g q mid new (d.reads o) (d.reads o) (due d o mid.loaded)) same second.reads in
+    let fewer = dues_stay old.o old.loaded mid.loaded (d.reads old.o) first.reads.stays in (
+      second.object ∙ same,
+      reads_within g q old new (c.reads old.o ++ d.reads old.o) (c.reads old.o ++ d.reads old.o) (due c old.o old.loaded + due d old.o mid.loaded) (due c old.o old.loaded + due d old.o old.loaded)
+          (omega (arith, fewer))
+          (reads_both g r q old mid new (c.reads old.o) (d.reads old.o) (c.reads old.o) (d.reads old.o) (due c old.o old.loaded) (due d old.o mid.loaded) settled same first.reads later),
+    )

@@ -15,7 +15,5 @@ mod test_sources;
 #[cfg(test)]
 mod tests;
 
-pub use body::{Body, Written};
 pub use descriptor::Elf;
 pub use held::Held;
-pub use scn::Scn;
