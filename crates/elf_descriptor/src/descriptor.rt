@@ -8,6 +8,8 @@ use std::alloc::Global;
 use std::marker::Model;
 
 mod begin;
+mod create;
+mod edits;
 mod getters;
 mod reading;
 
