@@ -1,8 +1,9 @@
 //! An archive over a source.
 
-ghost use Rattle.std.specs.Prelude.{◌≡◌, ◌⊎◌, ◌+◌, ◌-◌, ◌^◌, ◌≤◌, true, false, [], Ok, Err, None, IfSome, IfOk, IfErr, OnOk};
+ghost use Rattle.std.specs.Prelude.{◌≡◌, ◌⊎◌, ◌+◌, ◌-◌, ◌≤◌, true, false, [], Ok, Err, None, IfSome, IfOk, IfErr, OnOk};
 ghost use Rattle.elf_types.specs.Answers.{Follows, FollowsBy, stated_refusal};
 ghost use Rattle.elf_outside.specs.Asks.{Asks};
+ghost use Rattle.ar_members.specs.declared.headers.TheConstants.{FIRST};
 ghost use Rattle.ar_members.specs.Due.{AsksDue};
 ghost use Rattle.ar_members.specs.Magic.{IsArchiveSize, RefusesBySize};
 ghost use Rattle.ar_members.specs.Archives.{first_walk, begun_walk};
@@ -29,7 +30,8 @@ pub struct Ar<S: Source> {
 }
 
 impl<S: Source> Model for Ar<S> {
-    ghost use Rattle.std.specs.Prelude.{◌≡◌, ◌^◌, ◌<◌, ◌≤◌, true};
+    ghost use Rattle.std.specs.Prelude.{◌≡◌, ◌<◌, ◌≤◌, true};
+    ghost use Rattle.elf_types.specs.declared.constants.TheConstants.{MAX_IMAGE};
     ghost use Rattle.ar_members.specs.Archives.{Archive};
 
     ghost Value = { Archive S };
@@ -40,7 +42,7 @@ impl<S: Source> Model for Ar<S> {
     } };
 
     ghost invariant = { λ a.
-        (S.size a.src ≤ 2 ^ 40) × (a.stopped ≡ true → a.place < S.size a.src) };
+        (S.size a.src ≤ MAX_IMAGE) × (a.stopped ≡ true → a.place < S.size a.src) };
 }
 
 /// Whether a source is an archive.
@@ -49,7 +51,7 @@ fn check<S: Source>(src: &mut S) -> Result<(), ElfError>
         (λ image. FollowsBy (λ _. first_walk) stated_refusal result (begun_walk image)) }
     ensures size { OnOk result (IsArchiveSize (S.size src.old)) }
     ensures refusals { IfErr result (RefusesBySize (S.size src.old)) }
-    ensures asks { Asks S.Source result src.old src.new 8 }
+    ensures asks { Asks S.Source result src.old src.new FIRST }
 {
     let size = src.len();
     if size < FIRST {
@@ -84,7 +86,7 @@ impl<S: Source> Ar<S> {
         ensures walk { IfOk result (λ archive. archive.walk ≡ first_walk) }
         ensures size { OnOk result (IsArchiveSize (S.size src)) }
         ensures refusals { IfErr result (λ back. RefusesBySize (S.size src) back.1) }
-        ensures asks { Asks S.Source (answer_of result) src (source_of result) 8 }
+        ensures asks { Asks S.Source (answer_of result) src (source_of result) FIRST }
     {
         if let Err(e) = check(&mut src) {
             return Err((src, e));
@@ -157,11 +159,11 @@ impl<S: Source> Ar<S> {
     pub fn arsym(&mut self) -> Result<ArSyms, ElfError>
         ensures symbols { IfSome (S.holds self.old.source)
             (λ image. Follows result (arsyms image)) }
-        ensures none { S.size self.old.source ≤ 8 → result ≡ Ok [] }
-        ensures refusals { IfErr result (IsBadAt 8) }
+        ensures none { S.size self.old.source ≤ FIRST → result ≡ Ok [] }
+        ensures refusals { IfErr result (IsBadAt FIRST) }
         ensures walk { self.new.walk ≡ self.old.walk }
         ensures asks { Asks S.Source result self.old.source self.new.source
-            (S.size self.old.source - 8) }
+            (S.size self.old.source - FIRST) }
         ensures due { AsksDue S.Source self.old.source self.new.source symbols_due }
     {
         read_symbols(self.alloc, &mut self.src)

@@ -1,7 +1,8 @@
 //! One step of the walk over an archive.
 
-ghost use Rattle.std.specs.Prelude.{◌≡◌, ◌+◌, ◌^◌, ◌≤◌, IfSome, IfOk, IfErr};
+ghost use Rattle.std.specs.Prelude.{◌≡◌, ◌≤◌, IfSome, IfOk, IfErr};
 ghost use Rattle.elf_types.specs.Answers.{FollowsBy, stated_refusal};
+ghost use Rattle.elf_types.specs.declared.constants.TheConstants.{MAX_IMAGE};
 ghost use Rattle.elf_outside.specs.Asks.{Asks};
 ghost use Rattle.ar_members.specs.Due.{AsksDue};
 ghost use Rattle.ar_members.specs.Headers.{next_at, BodyLies, IsBadAt};
@@ -44,7 +45,7 @@ fn named_entry<S: Source>(
     header: &Header,
 ) -> Result<Entry, ElfError>
     requires body { BodyLies at header.now.numbers.size (S.size src.old) }
-    requires size { S.size src.old ≤ 2 ^ 40 }
+    requires size { S.size src.old ≤ MAX_IMAGE }
     ensures entry { IfSome (S.holds src.old) (λ image.
         FollowsBy (entry_of names.now (next_at at header.now.numbers.size)) stated_refusal result
         (named_entry image names.now at header.now)) }
@@ -88,7 +89,7 @@ pub fn step_at<S: Source>(
     names: &[u8],
     at: u64,
 ) -> Result<Step, ElfError>
-    requires { S.size src.old ≤ 2 ^ 40 }
+    requires { S.size src.old ≤ MAX_IMAGE }
     ensures entry { IfSome (S.holds src.old) (λ image.
         FollowsBy (step_entry names.now) stated_refusal result (entry_at image names.now at)) }
     ensures refusals { IfErr result (IsBadAt at) }

@@ -4,6 +4,7 @@ ghost use Rattle.std.specs.Prelude.{◌≡◌, ◌⊎◌, ◌+◌, ◌^◌, ◌<
 ghost use Rattle.elf_types.specs.Answers.{Follows};
 ghost use Rattle.elf_types.specs.declared.constants.TheConstants.{MAX_IMAGE};
 ghost use Rattle.elf_outside.specs.Asks.{Asks};
+ghost use Rattle.ar_members.specs.declared.headers.TheConstants.{HEADER_LEN};
 ghost use Rattle.ar_members.specs.Headers.{next_at, name_field, header_in, header_asks, header_at, BodyLies};
 ghost use Rattle.ar_members.specs.Members.{shown_header};
 
@@ -65,7 +66,7 @@ pub fn shown_header(
     numbers: &Numbers,
     name: &[u8],
 ) -> Result<ArHdr, ElfError>
-    requires { at + 60 < 2 ^ 64 }
+    requires { at + HEADER_LEN < 2 ^ 64 }
     ensures ok { IfOk result (λ header. header ≡ shown_header at numbers.now name.now) }
     ensures err { IfErr result (λ e. e ≡ ElfError.Memory) }
 {
@@ -93,7 +94,7 @@ pub fn next_place(at: u64, size: u64) -> u64
 
 /// Whether a header at a place lies in an archive of `size` bytes.
 fn is_whole(size: u64, at: u64) -> bool
-    ensures { result ≡ nat_le (at + 60) size }
+    ensures { result ≡ nat_le (at + HEADER_LEN) size }
 {
     size >= HEADER_LEN as u64 && at <= size - HEADER_LEN as u64
 }

@@ -51,7 +51,7 @@ fn named_symbols(
 ) -> Result<ArSyms, ElfError>
     requires { length offsets.now ≡ 4 * count }
     ensures symbols { Follows result (symbols_from count offsets.now names.now) }
-    ensures refusals { IfErr result (λ e. (e ≡ ElfError.BadMember 8) ⊎ (e ≡ ElfError.Memory)) }
+    ensures refusals { IfErr result (λ e. (e ≡ ElfError.BadMember FIRST) ⊎ (e ≡ ElfError.Memory)) }
 {
     let mut symbols = ArSyms::with_capacity(alloc, u64::from(count))?;
     let mut rest = names;
@@ -72,7 +72,7 @@ fn named_symbols(
 #[tactic(auto, unfolding(crate::specs::Symbols::symbols_of))]
 fn table_symbols(alloc: Global, table: &[u8]) -> Result<ArSyms, ElfError>
     ensures symbols { Follows result (symbols_of table.now) }
-    ensures refusals { IfErr result (λ e. (e ≡ ElfError.BadMember 8) ⊎ (e ≡ ElfError.Memory)) }
+    ensures refusals { IfErr result (λ e. (e ≡ ElfError.BadMember FIRST) ⊎ (e ≡ ElfError.Memory)) }
 {
     if table.len() < 4 {
         return Err(BAD_TABLE);
@@ -92,7 +92,7 @@ fn first_symbols<S: Source>(alloc: Global, src: &mut S, header: &Header) -> Resu
     requires { BodyLies FIRST header.now.numbers.size (S.size src.old) }
     ensures symbols { IfSome (S.holds src.old)
         (λ image. Follows result (first_symbols image header.now)) }
-    ensures refusals { IfErr result (IsBadAt 8) }
+    ensures refusals { IfErr result (IsBadAt FIRST) }
     ensures asks { Asks S.Source result src.old src.new (first_asks header.now) }
 {
     match name_kind(header.name_field()) {
@@ -112,9 +112,9 @@ fn first_symbols<S: Source>(alloc: Global, src: &mut S, header: &Header) -> Resu
 /// The symbols of the first member, where that is a table of symbols; else the empty list.
 pub fn read_symbols<S: Source>(alloc: Global, src: &mut S) -> Result<ArSyms, ElfError>
     ensures symbols { IfSome (S.holds src.old) (λ image. Follows result (arsyms image)) }
-    ensures none { S.size src.old ≤ 8 → result ≡ Ok [] }
-    ensures refusals { IfErr result (IsBadAt 8) }
-    ensures asks { Asks S.Source result src.old src.new (S.size src.old - 8) }
+    ensures none { S.size src.old ≤ FIRST → result ≡ Ok [] }
+    ensures refusals { IfErr result (IsBadAt FIRST) }
+    ensures asks { Asks S.Source result src.old src.new (S.size src.old - FIRST) }
     ensures due { AsksDue S.Source src.old src.new symbols_due }
 {
     if src.len() <= FIRST {

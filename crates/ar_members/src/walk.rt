@@ -1,7 +1,8 @@
 //! The walk from one member to the next.
 
-ghost use Rattle.std.specs.Prelude.{◌≡◌, ◌+◌, ◌^◌, ◌≤◌, unwrap_or, None, Ok, IfSome, IfOk, IfErr};
+ghost use Rattle.std.specs.Prelude.{◌≡◌, ◌≤◌, unwrap_or, None, Ok, IfSome, IfOk, IfErr};
 ghost use Rattle.elf_types.specs.Answers.{FollowsBy, stated_refusal};
+ghost use Rattle.elf_types.specs.declared.constants.TheConstants.{MAX_IMAGE};
 ghost use Rattle.elf_outside.specs.Asks.{Asks};
 ghost use Rattle.ar_members.specs.Due.{AsksDue};
 ghost use Rattle.ar_members.specs.Members.{members_from, next_of, due_from};
@@ -45,7 +46,7 @@ pub fn walk<S: Source>(
     names: &[u8],
     place: u64,
 ) -> Result<Found, ElfError>
-    requires { S.size src.old ≤ 2 ^ 40 }
+    requires { S.size src.old ≤ MAX_IMAGE }
     ensures members { IfSome (S.holds src.old) (λ image.
         FollowsBy (found_left image names.now) stated_refusal result
         (next_of (members_from image names.now place))) }

@@ -1,7 +1,7 @@
 -- All words of this crate and of the object at once, for proofs by computation.
 use Rattle.std.specs.Prelude.{Bool, true}
 use Rattle.std.specs.Fmt.{digits}
-use Rattle.strtab_build.specs.Table.{distinct, strings, table as string_table, place_of as string_place, string_at}
+use Rattle.strtab_build.specs.Table.{distinct, strings, table as string_table, place_of as string_place}
 use Rattle.elf_object.proofs.Computing.{all_words as object_words}
 use Rattle.command_objects.specs.Arranged.{loaded_end, base_end, tail_of, over_base, movable, parts_from, place_from, section_from, placed_from, tail_refusal, arranged}
 use Rattle.command_objects.specs.BuiltHashes.{buckets_of, in_bucket, next_in, sysv_built, gnu_order_of, first_unsorted, hashes_of, bloom_word, chain_word, first_listed, gnu_built, hash_refusal, build_sysv_answer, gnu_order_answer, unsorted, build_gnu_answer}
@@ -18,12 +18,11 @@ use Rattle.command_objects.specs.Rehashed.{dynamic_symbols, gnu_section, sysv_se
 use Rattle.command_objects.specs.Removed.{removable, with_found, is_debug_name, is_named, is_debug_data, relocates_removed, needs_symbols, is_unneeded_symtab, indexes_removed, linking_to, has_removed_users, with_followers, removed_sections, removed_by_name}
 use Rattle.command_objects.specs.Reordered.{in_order, new_index, reordered_section, reordered, reorder_refusal_of, reorder_refusal}
 use Rattle.command_objects.specs.Split.{is_loaded_from_file, debug_section, debug_half, debug_refusal, debug_of, removed_allocated, same_header, same_phdr, same_loaded, allocated, matches, counterpart, combined_section, combined_object, combined_raw_refusal, combine_fault, unstripped}
-use Rattle.command_objects.specs.Strings.{holds_strings, piece_over, string_refusal, string_answer, section_name, symbol_name}
 use Rattle.command_objects.specs.Words.{is_allocated, is_relocations, info_is_section, is_of, is_loose, is_among, greatest, in_turn}
 
 -- its value says nothing: what counts is that a proof that unfolds it unfolds the others
 unfoldable pub all_words : Bool
-unfolding object_words digits distinct strings string_table string_place string_at loaded_end
+unfolding object_words digits distinct strings string_table string_place loaded_end
     base_end tail_of over_base movable parts_from place_from section_from placed_from tail_refusal
     arranged buckets_of in_bucket next_in sysv_built gnu_order_of first_unsorted hashes_of
     bloom_word chain_word first_listed gnu_built hash_refusal build_sysv_answer gnu_order_answer
@@ -46,7 +45,6 @@ unfolding object_words digits distinct strings string_table string_place string_
     removed_sections removed_by_name in_order new_index reordered_section reordered
     reorder_refusal_of reorder_refusal is_loaded_from_file debug_section debug_half debug_refusal
     debug_of removed_allocated same_header same_phdr same_loaded allocated matches counterpart
-    combined_section combined_object combined_raw_refusal combine_fault unstripped holds_strings
-    piece_over string_refusal string_answer section_name symbol_name is_allocated is_relocations
+    combined_section combined_object combined_raw_refusal combine_fault unstripped is_allocated is_relocations
     info_is_section is_of is_loose is_among greatest in_turn
 all_words = true

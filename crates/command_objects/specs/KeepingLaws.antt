@@ -12,7 +12,7 @@ use Rattle.elf_object.specs.Open.{opened}
 use Rattle.elf_object.specs.Refusal.{refusal}
 use Rattle.elf_object.specs.Valid.{AreBytes}
 use Rattle.command_objects.specs.Words.{is_allocated, is_program, header_at, is_among, in_turn}
-use Rattle.command_objects.specs.Strings.{section_name, or_empty_name}
+use Rattle.elf_object.specs.Strings.{section_name, or_empty_name}
 use Rattle.command_objects.specs.Removed.{removed_sections, removed_by_name}
 use Rattle.command_objects.specs.Arranged.{Rebuilt}
 use Rattle.command_objects.specs.Rebuilt.{rebuilt, renews_names}

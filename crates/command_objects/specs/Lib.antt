@@ -1,4 +1,3 @@
-pub mod Strings
 pub mod Words
 pub mod Removed
 pub mod Followed

@@ -10,7 +10,7 @@ use Rattle.elf_types.specs.declared.errors.ElfError.{ElfError}
 use Rattle.elf_types.specs.declared.constants.TheConstants.{STB_LOCAL, SHN_UNDEF}
 use Rattle.elf_object.specs.Object.{Object}
 use Rattle.elf_object.specs.Answers.{items_at, syms_of, lend_refusal}
-use Rattle.command_objects.specs.Strings.{symbol_name, is_name}
+use Rattle.elf_object.specs.Strings.{symbol_name, is_name}
 
 -- a name that can be read and is not empty
 abbrev pub not_empty : Option (List ℕ) → Option (List ℕ)

@@ -6,7 +6,7 @@ use Rattle.std.specs.Str.{bytes_eq}
 use Rattle.elf_types.specs.declared.constants.TheConstants.{SHT_SYMTAB, SHT_STRTAB, SHT_GROUP, SHT_SYMTAB_SHNDX}
 use Rattle.elf_object.specs.Object.{Object}
 use Rattle.elf_object.specs.Layout.{section_numbers}
-use Rattle.command_objects.specs.Strings.{section_name, is_name}
+use Rattle.elf_object.specs.Strings.{section_name, is_name}
 use Rattle.command_objects.specs.Words.{is_allocated, is_relocations, header_at, is_among}
 
 -- the sections that may be removed

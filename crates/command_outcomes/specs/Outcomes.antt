@@ -6,6 +6,7 @@ use Rattle.elf_types.specs.Text.{error_text}
 use Rattle.tool_output.specs.declared.outputs.Side.TheVariants.{Out, Error}
 use Rattle.tool_output.specs.Marks.{Mark, said}
 use Rattle.tool_output.specs.Messages.{message}
+use Rattle.tool_output.specs.Names.{file_name}
 use Rattle.tool_output.specs.Outcomes.{FileWrite, Outcome}
 
 -- ---- Commands that write: they make all their files, or say why they make none
@@ -28,7 +29,8 @@ outcome_with marks status writes =
 -- status 1 and one message where something is refused
 unfoldable pub written_outcome : List ℕ → Result Done Complaint → Outcome
 written_outcome command (Ok done) = outcome_with (said Out done.shown) 0 done.writes
-written_outcome command (Err c) = outcome_with (said Error (message command c.file c.text)) 1 []
+written_outcome command (Err c) =
+    outcome_with (said Error (message command (file_name c.file) c.text)) 1 []
 
 -- a file that is made anew
 abbrev pub made_file : List ℕ → List ℕ → FileWrite

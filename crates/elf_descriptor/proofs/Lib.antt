@@ -4,6 +4,7 @@ pub mod Objects
 pub mod Beginnings
 pub mod BeginAnswers
 pub mod Warming
+pub mod ListedCells
 pub mod Loaded
 pub mod ReadsLaws
 pub mod Reading
@@ -15,3 +16,7 @@ pub mod EditPieces
 pub mod EditGrows
 pub mod EditAppends
 pub mod CreateLaws
+pub mod PieceCalls
+pub mod DataCalls
+pub mod BaseCalls
+pub mod EntryCalls

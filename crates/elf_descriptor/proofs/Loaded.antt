@@ -1,31 +1,22 @@
 -- What is loaded and held of each section, and what a call on it is due.
-use Rattle.std.proofs.Common.{◌≡◌, ℕ, ◌+◌, ◌<◌, ◌≤◌, Bool, true, false, List, [], ◌∷◌, length, get_or, map, Option, Some, None, refl, sym, ap, ◌∙◌, subst, inl, inr, arith}
-use Rattle.std.specs.Prelude.{slice_get, IfSome, IsSome, IsTrue, is_some, is_none, nat_lt, nat_le, unwrap_or, ◌||◌, not, if◌then◌else◌}
+use Rattle.std.proofs.Common.{◌≡◌, ℕ, ◌<◌, ◌≤◌, Bool, true, false, List, length, map, Option, Some, None, refl, sym, ap, ◌∙◌, subst}
+use Rattle.std.specs.Prelude.{slice_get, IfSome, IsTrue, is_some, nat_lt, unwrap_or}
 use Rattle.std.proofs.lemmas.Bool.{ltb-true, ltb-false}
 use Rattle.std.proofs.lemmas.Option.{unwrap_or-slice_get}
 use Rattle.std.proofs.lemmas.List.{length-replicate, get_or_past}
 use Rattle.std.proofs.Math.ListN.{get_or-map}
-use Rattle.std.proofs.Math.Nat.{add-zero}
-use Rattle.elf_types.specs.declared.errors.ElfError.{ElfError}
-use Rattle.elf_types.specs.declared.errors.ElfError.TheVariants.{NoSection, OutOfFile}
-use Rattle.elf_types.specs.Answers.{answered, refused_if, first_refusal, err_of}
 use Rattle.elf_outside.specs.declared.sources.Source.{Ghosts}
-use Rattle.elf_object.specs.Object.{Object, Section, Piece, section_at, piece_at}
+use Rattle.elf_object.specs.Object.{Section, Piece, section_at}
 use Rattle.elf_object.specs.Open.{home_bytes}
-use Rattle.elf_object.specs.Answers.{out_of_file, raw_refusal}
-use Rattle.elf_object.specs.Calls.{raw_answer}
-use Rattle.elf_object.specs.Due.{is_loaded, holds_items, home_due, homes_due, unless_refused, is_refused_unread}
+use Rattle.elf_object.specs.Due.{is_loaded}
 use Rattle.section_data.specs.Views.{CellView, IsCell}
-use Rattle.section_data.specs.Held.{piece_in, cell_is_loaded}
-use Rattle.section_data.specs.Refused.{home_out, load_due}
+use Rattle.section_data.specs.Held.{cell_is_loaded}
 use Rattle.elf_descriptor.specs.declared.held.Held.{Held}
 use Rattle.elf_descriptor.specs.declared.held.Held.TheVariants.{Edited, Raw, Unread}
 use Rattle.elf_descriptor.specs.declared.scn.Scn.{Scn}
 use Rattle.elf_descriptor.specs.declared.body.Body.{Body}
-use Rattle.elf_descriptor.specs.State.{State}
-use Rattle.elf_descriptor.specs.Views.{object_of, section_of, raw_of, bytes_or, scn_at, absent_scn, no_scn, loaded_of, held_of, state_of}
-use Rattle.elf_descriptor.specs.Bodies.{no_raw_in}
-use Rattle.elf_descriptor.specs.Held.{IsHeld, IsHeldIn, AreHeldBytes, IsUnread}
+use Rattle.elf_descriptor.specs.Views.{object_of, section_of, raw_of, bytes_or, scn_at, absent_scn, loaded_of, held_of, state_of}
+use Rattle.elf_descriptor.specs.Held.{IsHeld, IsHeldIn}
 use Rattle.elf_descriptor.proofs.Objects.{section_is, piece_is}
 
 pub loaded_is : (b : Body) (s : ℕ) → is_loaded (loaded_of b) s ≡ cell_is_loaded (scn_at b s).cell

@@ -1,6 +1,6 @@
 -- The call that gives a home's bytes: how it is refused, what it is due, and what it reads.
-use Rattle.std.proofs.Common.{◌≡◌, ◌≢◌, ℕ, ◌<◌, ◌≤◌, Bool, true, false, List, [], ◌∷◌, length, Option, Some, None, Result, Ok, Err, refl, sym, ap, ◌∙◌, subst, inl, inr, arith}
-use Rattle.std.specs.Prelude.{IsTrue, IfErr, OnOk, OnErr, is_some, nat_lt, nat_le, Contains, ◌||◌, not, if◌then◌else◌}
+use Rattle.std.proofs.Common.{◌≡◌, ◌≢◌, ℕ, ◌<◌, ◌≤◌, Bool, true, false, List, [], ◌∷◌, length, Option, Some, None, Result, Ok, Err, refl, sym, ap, ◌∙◌, subst, inl, arith}
+use Rattle.std.specs.Prelude.{IsTrue, IfErr, OnOk, OnErr, nat_lt, nat_le, ◌||◌, not, if◌then◌else◌}
 use Rattle.std.proofs.lemmas.Bool.{ltb-true, ltb-false, le-leb, leb-true}
 use Rattle.elf_types.specs.declared.errors.ElfError.{ElfError}
 use Rattle.elf_types.specs.declared.errors.ElfError.TheVariants.{Memory, NoSection, OutOfFile}
@@ -9,7 +9,7 @@ use Rattle.elf_outside.specs.declared.sources.Source.{Ghosts}
 use Rattle.elf_outside.specs.Asks.{Asks}
 use Rattle.elf_object.specs.Words.{Answers}
 use Rattle.elf_object.specs.Object.{Object, Section, section_at}
-use Rattle.elf_object.specs.Answers.{no_section, out_of_file, raw_refusal}
+use Rattle.elf_object.specs.Answers.{out_of_file, raw_refusal}
 use Rattle.elf_object.specs.Calls.{raw_answer, wants}
 use Rattle.elf_object.specs.Calls as calls
 use Rattle.elf_object.specs.Due.{is_loaded, home_due, homes_due, unless_refused}
@@ -89,7 +89,7 @@ out_due c out = by_loaded (cell_is_loaded c) c.home.out out
     by_loaded true b e = refl
     by_loaded false b e = rw e refl
 
-absent_due : load_due absent_scn.cell ≡ 0
+pub absent_due : load_due absent_scn.cell ≡ 0
 unfolding load_due
 absent_due = refl
 
@@ -150,10 +150,10 @@ raw_queries {S} g result source left old new s is w came loaded same held asks =
     record {
       object = left_object g source left old new s asks.leaves w;
       reads = subst (λ (l : List ℕ). Reads g result (state_of g source old) (state_of g left new) l [] (homes_due o (loaded_of old) l)) (sym (raw_reads (g.holds source) (g.size source) old s is))
-      (reads_warmed g result source left old new s list [] w (subst (λ (n : ℕ). Asks g result source left n) (sym due) asks)
-      (idle_one true (reading (load_due (scn_at old s).cell)) result (no_raw_in old s) (s ∷ []) (scn_at old s).cell (scn_at new s).cell s (raw_unread old s) came (weaker result same) (inl refl))
-      (λ out. held)
-      (settled_one true (reading (load_due (scn_at old s).cell)) result (no_raw_in old s) (s ∷ []) o (loaded_of new) s (raw_unread old s) came (inl refl) (now_loaded result loaded)));
+          (reads_warmed g result source left old new s list [] w (subst (λ (n : ℕ). Asks g result source left n) (sym due) asks)
+          (idle_one true (reading (load_due (scn_at old s).cell)) result (no_raw_in old s) (s ∷ []) (scn_at old s).cell (scn_at new s).cell s (raw_unread old s) came (weaker result same) (inl refl))
+          (λ out. held)
+          (settled_one true (reading (load_due (scn_at old s).cell)) result (no_raw_in old s) (s ∷ []) o (loaded_of new) s (raw_unread old s) came (inl refl) (now_loaded result loaded)));
     }
   where
     weaker : (r : Result (Unit {0}) ElfError) → OnErr r ((scn_at new s).cell ≡ (scn_at old s).cell) → IfErr r (λ e. e ≢ Memory → (scn_at new s).cell ≡ (scn_at old s).cell)

@@ -1,6 +1,6 @@
 -- A call reads the home of one section, and what is held after it.
-use Rattle.std.proofs.Common.{◌≡◌, ◌≢◌, ℕ, ◌+◌, ◌<◌, ◌≤◌, Bool, true, false, List, [], ◌∷◌, length, get_or, Option, Some, None, Result, Ok, Err, refl, sym, ap, ◌∙◌, subst, inl, inr, arith}
-use Rattle.std.specs.Prelude.{slice_get, IfSome, IsTrue, IfErr, OnOk, OnErr, is_some, unwrap_or, Contains, ◌||◌, ◌==◌, ◌⊎◌}
+use Rattle.std.proofs.Common.{◌≡◌, ◌≢◌, ℕ, Bool, true, false, List, [], ◌∷◌, Option, Some, None, Result, Ok, Err, refl, sym, ap, ◌∙◌, subst, inl, inr, arith}
+use Rattle.std.specs.Prelude.{slice_get, IfSome, IsTrue, IfErr, OnOk, is_some, unwrap_or, Contains, ◌||◌, ◌==◌, ◌⊎◌}
 use Rattle.std.proofs.lemmas.Bool.{eqb-true}
 use Rattle.std.proofs.Math.Nat.{zero-add}
 use Rattle.elf_types.specs.declared.errors.ElfError.{ElfError}
@@ -10,7 +10,7 @@ use Rattle.elf_xlate.specs.declared.content.Items.{Items}
 use Rattle.elf_outside.specs.declared.sources.Source.{Ghosts}
 use Rattle.elf_outside.specs.Asks.{Asks, Leaves}
 use Rattle.elf_object.specs.Words.{Wants, Answers}
-use Rattle.elf_object.specs.Object.{Object, section_at, piece_at}
+use Rattle.elf_object.specs.Object.{Object, piece_at}
 use Rattle.elf_object.specs.Due.{is_loaded, holds_items, home_due, homes_due, unless_refused, is_refused_unread}
 use Rattle.elf_object.proofs.AnswerLaws.{answers_refusal, answered_refusal}
 use Rattle.section_data.specs.Views.{CellView}
@@ -18,7 +18,6 @@ use Rattle.section_data.specs.Held.{cell_is_loaded}
 use Rattle.section_data.specs.Leaves.{Warms, RawBecomes}
 use Rattle.elf_descriptor.specs.declared.scn.Scn.{Scn}
 use Rattle.elf_descriptor.specs.declared.body.Body.{Body}
-use Rattle.elf_descriptor.specs.State.{State}
 use Rattle.elf_descriptor.specs.Views.{object_of, scn_at, loaded_of, held_of, state_of}
 use Rattle.elf_descriptor.specs.Warmed.{Warmed}
 use Rattle.elf_descriptor.specs.Reads.{Reads}

@@ -1,12 +1,12 @@
 -- What calls in a row do to a source, and what is held after them.
-use Rattle.std.proofs.Common.{◌≡◌, ℕ, ◌+◌, ◌<◌, ◌≤◌, Bool, true, false, List, [], ◌∷◌, ◌++◌, Result, Ok, Err, refl, ◌∙◌, arith}
+use Rattle.std.proofs.Common.{◌≡◌, ℕ, ◌+◌, ◌≤◌, Bool, true, false, List, [], ◌∷◌, ◌++◌, Result, refl, ◌∙◌, arith}
 use Rattle.std.specs.Prelude.{IsTrue, IfErr, ◌||◌, if◌then◌else◌}
 use Rattle.std.proofs.lemmas.List.Elements.{Contains-append_left, Contains-append_right}
 use Rattle.std.proofs.lemmas.List.Sums.{sum_by-append, sum_by-cons}
 use Rattle.elf_types.specs.declared.errors.ElfError.{ElfError}
 use Rattle.elf_types.specs.Answers.{IsRefusal}
 use Rattle.elf_outside.specs.declared.sources.Source.{Ghosts}
-use Rattle.elf_outside.specs.Asks.{Asks, ReadRose}
+use Rattle.elf_outside.specs.Asks.{ReadRose}
 use Rattle.elf_outside.proofs.AskLemmas.{asks_both, asks_then}
 use Rattle.elf_object.specs.Object.{Object, section_at}
 use Rattle.elf_object.specs.Due.{is_loaded, home_due, homes_due}

@@ -1,11 +1,11 @@
 -- Refusals that come before a call reads, and answers that meet them.
-use Rattle.std.proofs.Common.{◌≡◌, ◌≢◌, ℕ, Bool, true, false, List, [], ◌∷◌, length, Option, Some, None, Result, Ok, Err, refl, sym, ap, ◌∙◌, subst, inl, inr}
-use Rattle.std.specs.Prelude.{IsTrue, IfErr, ◌⊎◌, slice_get}
+use Rattle.std.proofs.Common.{◌≡◌, ◌≢◌, ℕ, Bool, true, false, List, [], ◌∷◌, length, Option, Some, None, Result, Ok, Err, refl, subst, inl, inr}
+use Rattle.std.specs.Prelude.{IsTrue, ◌⊎◌, slice_get}
 use Rattle.elf_types.specs.declared.errors.ElfError.{ElfError}
 use Rattle.elf_types.specs.declared.errors.ElfError.TheVariants.{Memory, Read, NoEntry, Unfit, BadChain, Unended}
-use Rattle.elf_types.specs.Answers.{answered, refused_if, first_refusal, err_of, IsRefusal}
+use Rattle.elf_types.specs.Answers.{answered, refused_if, first_refusal, err_of}
 use Rattle.elf_object.specs.Words.{Wants, Answers, is_late}
-use Rattle.elf_object.specs.Answers.{entry_at, entry_answer}
+use Rattle.elf_object.specs.Answers.{entry_answer}
 use Rattle.elf_object.specs.Due.{is_refused_unread, unless_refused}
 
 -- what a test refuses is refused in a call that it comes first in

@@ -1,6 +1,6 @@
 -- A section's data is read and translated: the object stays, and the descriptor stays sound.
-use Rattle.std.proofs.Common.{◌≡◌, ◌≢◌, ℕ, ◌<◌, ◌≤◌, Bool, true, false, List, [], ◌∷◌, length, get_or, set, map, Option, Some, None, refl, sym, ap, ◌∙◌, subst, arith}
-use Rattle.std.specs.Prelude.{slice_get, IfSome, IsSome, is_some, nat_lt, ◌==◌}
+use Rattle.std.proofs.Common.{◌≡◌, ◌≢◌, ℕ, ◌<◌, ◌≤◌, Bool, true, false, List, length, get_or, set, map, Option, Some, None, refl, sym, ap, ◌∙◌, subst, arith}
+use Rattle.std.specs.Prelude.{IfSome, is_some, nat_lt, ◌==◌}
 use Rattle.std.specs.Option.{option_and_then}
 use Rattle.std.proofs.lemmas.Bool.{ltb-true, ltb-false, eqb-true, eq-eqb}
 use Rattle.std.proofs.lemmas.List.{length-set, get_or-set_same, get_or-set_other, set-get_or, set_past, get_or_past, get_or_read}
@@ -13,10 +13,10 @@ use Rattle.elf_xlate.specs.declared.content.Items.{Items}
 use Rattle.elf_xlate.specs.Translation.{decoded}
 use Rattle.elf_outside.specs.declared.sources.Source.{Ghosts}
 use Rattle.elf_outside.specs.Asks.{Leaves}
-use Rattle.elf_object.specs.Object.{Object, Section, Home}
+use Rattle.elf_object.specs.Object.{Section, Home}
 use Rattle.elf_object.specs.Open.{home_bytes}
 use Rattle.section_data.specs.Views.{CellView}
-use Rattle.section_data.specs.Held.{cell_is_loaded, HeldIs}
+use Rattle.section_data.specs.Held.{HeldIs}
 use Rattle.section_data.specs.Leaves.{Warms, RawBecomes, LiesIn}
 use Rattle.section_data.proofs.Loading.{warms_same}
 use Rattle.elf_descriptor.specs.declared.scn.Scn.{Scn}

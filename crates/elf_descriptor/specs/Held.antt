@@ -1,6 +1,6 @@
 -- What is held of a piece: the items of an own one, or of the clean home piece the home's bytes
 -- where they are loaded.
-use Rattle.std.specs.Prelude.{◌≡◌, ℕ, false, IsTrue, List, Option, Some, None}
+use Rattle.std.specs.Prelude.{◌≡◌, ℕ, false, IsTrue, List, Some, None}
 use Rattle.elf_object.specs.Words.{AlikeBytes}
 use Rattle.elf_object.specs.Object.{section_at, piece_at}
 use Rattle.elf_object.specs.Due.{is_loaded}

@@ -3,6 +3,8 @@ pub mod Views
 pub mod Sound
 pub mod Begun
 pub mod Bodies
+pub mod Entries
+pub mod Dues
 pub mod Held
 pub mod Warmed
 pub mod Reads

@@ -6,9 +6,9 @@ use Rattle.elf_types.specs.declared.errors.ElfError.{ElfError}
 use Rattle.elf_outside.specs.declared.sources.Source.{Ghosts}
 use Rattle.elf_descriptor.specs.contracts.descriptor.Elf.{the_row}
 use Rattle.elf_object.specs.Calls as calls
-use Rattle.elf_object.specs.Due.{is_loaded}
+use Rattle.elf_object.specs.Due.{is_loaded, holds_items}
 use Rattle.elf_descriptor.specs.State.{State}
-use Rattle.elf_descriptor.specs.Reads.{Queries}
+use Rattle.elf_descriptor.specs.Reads.{Queries, Looks}
 
 abbrev pub Rests : (S : RattleType) → (g : Ghosts S.Denot) → MutBor (State S.Denot)
     → (State S.Denot → Type 0) → Fml
@@ -19,3 +19,9 @@ pub record GivesRaw {S T : Type 0} (g : Ghosts S) (s : ℕ) (result : Result T E
     (old new : State S) : Type 0 where
   pub queries : Queries g (calls.raw s) [] result old new
   pub loaded : OnOk result (IsTrue (is_loaded new.loaded s))
+
+-- after a call that gives a piece's items: it holds them
+pub record GivesItems {S T : Type 0} (g : Ghosts S) (s p : ℕ) (result : Result T ElfError)
+    (old new : State S) : Type 0 where
+  pub looks : Looks g (calls.section_data s p) result old new
+  pub held : OnOk result (IsTrue (holds_items new.o new.held s p))

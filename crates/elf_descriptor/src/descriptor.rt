@@ -7,9 +7,11 @@ use elf_outside::Source;
 use std::alloc::Global;
 use std::marker::Model;
 
+mod base;
 mod begin;
 mod create;
 mod edits;
+mod entries;
 mod getters;
 mod reading;
 

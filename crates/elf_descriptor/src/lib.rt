@@ -5,11 +5,15 @@
 #![tactic(auto)]
 
 mod body;
+#[cfg(test)]
+mod callers;
 mod descriptor;
 mod held;
 mod scn;
 #[cfg(test)]
 mod test_sources;
+#[cfg(test)]
+mod tests;
 
 pub use body::{Body, Written};
 pub use descriptor::Elf;

@@ -1,14 +1,20 @@
 //! One section of an object.
 
-ghost use Rattle.std.specs.Prelude.{◌≡◌, ◌<◌, length, OnOk, IfErr};
+ghost use Rattle.std.specs.Prelude.{◌≡◌, ◌<◌, length, true, IsTrue, is_some, OnOk, OnErr, IfErr};
 ghost use Rattle.std.specs.List.{list_any};
 ghost use Rattle.elf_types.specs.Answers.{answered, IsRefusal};
-ghost use Rattle.section_data.specs.Refused.{no_piece};
+ghost use Rattle.elf_outside.specs.Asks.{Asks};
+ghost use Rattle.elf_object.specs.Words.{Answers};
+ghost use Rattle.section_data.specs.Leaves.{LiesIn, Warms};
+ghost use Rattle.section_data.specs.Held.{piece_in, kind_in, is_at_hand};
+ghost use Rattle.section_data.specs.Refused.{no_piece, kind_refused, reading};
+ghost use Rattle.elf_descriptor.specs.Dues.{list_due};
 ghost use Rattle.section_data.specs.Views.{IsCell};
 ghost use Rattle.elf_descriptor.specs.Held.{IsHeldIn};
 
 use crate::held::Held;
-use elf_types::{ElfError, Shdr};
+use elf_outside::Source;
+use elf_types::{Class, ElfError, Kind, Shdr};
 use section_data::Cell;
 
 /// A section: its present header, its data, and whether its header is marked dirty.
@@ -37,6 +43,37 @@ impl Scn {
         } else {
             Err(ElfError::NoData { index: p, count })
         }
+    }
+
+    /// Makes each item of a piece of a kind be at hand: it is own, or its home is loaded. It refuses in
+    /// this order: `NoData`, `WrongKind` with the kind that the piece holds, and for the clean home
+    /// piece `OutOfFile` and `Ragged`; then `Memory` or `Read`.
+    pub fn fetch<S: Source>(
+        &mut self,
+        src: &mut S,
+        p: u32,
+        kind: Kind,
+        class: Class,
+    ) -> Result<(), ElfError>
+        requires lies { LiesIn self.old.cell (S.size src.old) }
+        ensures answer { Answers true (reading (list_due class self.old.cell kind p)) result
+            (answered (kind_refused class self.old.cell kind p) tt) }
+        ensures there { OnOk result (p < length self.new.cell.pieces) }
+        ensures kind { OnOk result (kind_in self.new.cell p ≡ kind) }
+        ensures hand { OnOk result (IsTrue (is_at_hand class self.new.cell p)) }
+        ensures held { self.new.cell.held ≡ self.old.cell.held }
+        ensures rest { self.new ≡ record self.old { cell = self.new.cell } }
+        ensures warms { Warms (S.holds src.old) self.old.cell self.new.cell }
+        ensures unchanged { OnErr result (self.new.cell ≡ self.old.cell) }
+        ensures own { is_some (piece_in self.old.cell p).own ≡ true
+            → self.new.cell ≡ self.old.cell }
+        ensures asks { Asks S.Source result src.old src.new
+            (list_due class self.old.cell kind p) }
+    {
+        if let Err(e) = self.cell.check_lend(p, kind, class) {
+            return Err(e);
+        }
+        self.cell.fetch(src, p)
     }
 
     /// What is held of a piece.

@@ -15,5 +15,6 @@ pub mod Steps
 pub mod Calls
 pub mod Runs
 pub mod SymbolSections
+pub mod Strings
 pub mod Valid
 pub mod Samples

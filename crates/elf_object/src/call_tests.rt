@@ -1,16 +1,17 @@
-//! Calls that store one field, the section of a symbol, and what a call may read, computed on small
-//! images by proof.
+//! Calls that store one field, the section of a symbol, strings, and what a call may read, computed
+//! on small images by proof.
 #![tactic(auto, unfolding(crate::proofs::Computing::all_words))]
 
 ghost use Rattle.std.specs.Prelude.{[], ◌≡◌, ℕ, ◌+◌, ◌^◌, ◌∷◌, true, false, Some, None, Ok, Err};
-ghost use Rattle.elf_types.specs.declared.errors.ElfError.TheVariants.{Memory, NoEntry, NoSection, Overlap, Read, TooMany, Unended, Unfit, WrongKind};
+ghost use Rattle.elf_types.specs.declared.errors.ElfError.TheVariants.{Memory, NoEntry, NoSection, NoString, NotStrings, OutOfFile, Overlap, Read, TooMany, Unended, Unfit, WrongKind};
 ghost use Rattle.elf_types.specs.declared.records.Kind.TheVariants as kind;
 ghost use Rattle.elf_xlate.specs.declared.content.Items.TheVariants as items;
 ghost use Rattle.elf_types.specs.declared.records.Part.TheVariants as part;
 ghost use Rattle.elf_object.specs.Words.{AlikeBytes, AlikeItems, Answers, AnswersRead, Edits, IsLike, Updates, handing_back, late_after, result_map, seen};
 ghost use Rattle.elf_object.specs.Object.{header_of, no_phdr};
-ghost use Rattle.elf_object.specs.Calls.{step, due, wants, ehdr, section_data, raw, word, sym, sym_answer, update_sym, phdr_answer, newscn};
+ghost use Rattle.elf_object.specs.Calls.{step, due, wants, ehdr, section_data, raw, word, sym, sym_answer, update_sym, phdr_answer, newscn, newdata_aligned};
 ghost use Rattle.elf_object.specs.SymbolSections.{symshndx};
+ghost use Rattle.elf_object.specs.Strings.{strptr};
 ghost use Rattle.elf_object.specs.Runs.{addall, left_by, set_ehdr, set_item, set_phdr, set_shdr};
 ghost use Rattle.elf_object.specs.Samples.{out_of_memory, type_set, link_set, entry_set, shstrndx_set, vaddr_set, value_set, section_of, symbols64, symbols32, ragged, missing, indexed, extended, third, wanting, no_symbol};
 
@@ -55,6 +56,24 @@ fn sections_of_symbols_are_due_both_homes()
     ensures no_symbol { due (section_of 2 0 2) indexed [] ≡ 48 }
     ensures no_table { due (section_of 2 0 1) (step (set_shdr 1 (link_set 0)) indexed) [] ≡ 48 }
     ensures loaded { due (section_of 2 0 1) indexed (false ∷ false ∷ true ∷ []) ≡ 8 }
+{}
+
+/// A string ends at the first NUL of the piece that covers its offset, and the first refusal
+/// counts.
+fn strings_are_found_in_their_piece()
+    ensures found { (strptr 1 1).answer symbols64 ≡ Ok (0x61 ∷ []) }
+    ensures empty { (strptr 1 0).answer symbols64 ≡ Ok [] }
+    ensures no_section { (strptr 3 0).answer symbols64 ≡ Err (NoSection 3 3) }
+    ensures not_strings { (strptr 2 0).answer symbols64 ≡ Err (NotStrings 2) }
+    ensures missing { (strptr 2 0).answer (step (set_shdr 2 (type_set 3)) missing)
+        ≡ Err (OutOfFile 2) }
+    ensures no_string { (strptr 1 3).answer symbols64 ≡ Err (NoString 3 3) }
+    ensures between { (strptr 1 3).answer
+        (step (newdata_aligned 1 (items.Bytes (0x62 ∷ [])) 4) symbols64) ≡ Err (NoString 3 5) }
+    ensures unended { (strptr 1 4).answer
+        (step (newdata_aligned 1 (items.Bytes (0x62 ∷ [])) 4) symbols64) ≡ Err (Unended 4) }
+    ensures reads { due (strptr 1 1) symbols64 [] ≡ 3 }
+    ensures refused { due (strptr 2 0) symbols64 [] ≡ 0 }
 {}
 
 /// A call is due the home of its section, as long as that is not loaded and its home piece is
@@ -152,6 +171,7 @@ fn calls_compute_on_small_images() {
     a_field_of_the_header_is_stored();
     a_field_of_a_program_header_is_stored();
     symbols_have_sections();
+    strings_are_found_in_their_piece();
     sections_of_symbols_are_due_both_homes();
     calls_are_due_the_home();
     refused_calls_are_due_nothing();

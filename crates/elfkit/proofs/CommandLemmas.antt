@@ -1,5 +1,5 @@
 -- Commands by their words.
-use Rattle.std.proofs.Common.{◌≡◌, ◌≢◌, ◌<◌, Bool, true, false, List, ℕ, Option, Result, Ok, Err, IfOk, IfErr, refl, arith, lit<}
+use Rattle.std.proofs.Common.{◌≡◌, ◌<◌, Bool, true, List, ℕ, Result, Ok, Err, IfOk, codes, refl, arith, lit<}
 use Rattle.elf_outside.specs.Names.{Map}
 use Rattle.tool_output.specs.declared.stops.Stop.{Stop}
 use Rattle.elf_outside.specs.declared.sinks.Sink.{Ghosts as SinkGhosts}
@@ -7,32 +7,31 @@ use Rattle.elf_outside.specs.declared.file_sets.Files.{Ghosts as FilesGhosts}
 use Rattle.tool_output.specs.declared.outputs.Outputs.{Outputs}
 use Rattle.tool_output.specs.declared.outputs.Side.TheVariants.{Error}
 use Rattle.tool_output.specs.Marks.{said}
-use Rattle.tool_output.specs.Steps.{Writes}
+use Rattle.tool_output.specs.Steps.{Writes, Performs}
 use Rattle.tool_output.specs.declared.statuses.Status.{Status}
 use Rattle.tool_output.specs.Statuses.{status_code, refused_status}
-use Rattle.tool_output.specs.Outcomes.{Does, Delivers}
+use Rattle.tool_output.specs.Outcomes.{Outcome, Does}
 use Rattle.tool_output.specs.declared.statuses.Status.TheVariants.{BadWords}
 use Rattle.tool_output.proofs.StepLemmas.{stops_as, writes_went}
 use Rattle.tool_output.proofs.OutcomeLemmas.{says_done}
 use Rattle.tool_text.specs.Usages.{usage_line}
 use Rattle.tool_text.specs.declared.usages.Usage.{Usage}
-use Rattle.tool_text.specs.declared.options.ReadelfParts.{ReadelfParts}
 use Rattle.tool_text.specs.declared.commands.Command.{Command}
-use Rattle.tool_text.specs.declared.commands.Command.TheVariants.{Readelf, Nm, Size, Strings, Strip, Elflint, Calls, Selftest, Rehash, Copy, Unstrip, Lines}
 use Rattle.tool_text.specs.Reading.{reading}
 use Rattle.elfkit.specs.Lines.{line_of, says, not_built}
-use Rattle.elfkit.specs.Program.{command_outcome, usage_outcome, outcome_by, program, opens_files, IsStatusOf}
-
-pub outcome_of_others : (command : Command) (named : Map) → ((parts : ReadelfParts) (names : List (List ℕ)) → command ≢ Readelf parts names)
-    → command_outcome command named ≡ not_built
-unfolding command_outcome
-outcome_of_others (Readelf parts names) named other = absurd (other parts names refl)
-outcome_of_others _ named other = refl
+use Rattle.elfkit.specs.Program.{usage_outcome, outcome_by, program, IsStatusOf}
 
 -- a form that is not built ends with 1
-pub status_of_refusal : (result : Result Bool Stop) → IfOk result (λ refused. refused ≡ true) → IfOk result (λ refused. refused_status refused ≡ 1)
+status_of_refusal : (result : Result Bool Stop) → IfOk result (λ refused. refused ≡ true) → IfOk result (λ refused. refused_status refused ≡ 1)
 status_of_refusal (Ok refused) h = rw h refl
 status_of_refusal (Err stop) h = tt
+
+pub not_built_done : {F D O E : Type 0} (f : FilesGhosts F D) (o : SinkGhosts O) (e : SinkGhosts E) (a : F) (s t : Outputs O E) (stated : Outcome) (result : Result Bool Stop)
+    → stated ≡ not_built → Performs o e result s t (said Error (line_of (codes "elfkit: form not built"))) true
+    → Does f o e refused_status stated result a a s t
+unfolding not_built says
+not_built_done f o e a s t stated result is h =
+    rw is (says_done f o e a a s t refused_status _ 1 result h.writes (status_of_refusal result h.value_is))
 
 -- the usage line of words that are refused
 abbrev pub bad_words : {T : Type 0} → Result T Stop → Result Status Stop
@@ -50,13 +49,6 @@ module _ {F D O E T : Type 0} (f : FilesGhosts F D) (o : SinkGhosts O) (e : Sink
       → Writes o e result s t (said Error (line_of text)) → Does f o e status_code (program words named) (bad_words result) a a s t
   unfolding program outcome_by
   usage_done words text result is line h = rw is (does_usage result (rw line at h))
-
--- words that are refused open no file
-pub on_usage : (r : Result Command Usage) (status : ℕ) (a b c d : Option (List ℕ)) (old new : Map)
-    → (opens_files r ≡ false → Delivers (outcome_by r old) status a b c d old new) → IfErr r (λ usage. Delivers (usage_outcome usage) status a b c d old new)
-unfolding outcome_by opens_files
-on_usage (Ok command) status a b c d old new h = tt
-on_usage (Err usage) status a b c d old new h = h refl
 
 -- no status of a step is 3 or more
 pub below_three : (r : Result Command Usage) (answer : Result Status Stop) → IfOk answer (IsStatusOf r) → IfOk answer (λ status. status_code status < 3)

@@ -2,11 +2,12 @@
 use Rattle.std.specs.Prelude.{◌++◌, ℕ, List, codes}
 use Rattle.tool_output.specs.declared.outputs.Side.TheVariants.{Error}
 use Rattle.tool_output.specs.Marks.{said}
+use Rattle.tool_output.specs.Names.{Name, shown_name}
 use Rattle.tool_output.specs.Outcomes.{Outcome, only_says}
 
--- `File: FILE`
-unfoldable pub title : List ℕ → List ℕ
-title name = codes "File: " ++ name ++ codes "\n"
+-- `File: NAME`
+unfoldable pub title : Name → List ℕ
+title name = codes "File: " ++ shown_name name ++ codes "\n"
 
 -- a text on a line of its own
 unfoldable pub line_of : List ℕ → List ℕ

@@ -49,6 +49,16 @@ pub fn run_command<F: Files, O: Sink, E: Sink>(
             parts,
             files: names,
         } => readelf(alloc, parts, names, files, outputs),
-        _ => not_built(outputs),
+        Command::Nm { .. } => not_built(outputs),
+        Command::Size { .. } => not_built(outputs),
+        Command::Strings { .. } => not_built(outputs),
+        Command::Strip { .. } => not_built(outputs),
+        Command::Elflint { .. } => not_built(outputs),
+        Command::Calls { .. } => not_built(outputs),
+        Command::Selftest { .. } => not_built(outputs),
+        Command::Rehash { .. } => not_built(outputs),
+        Command::Copy { .. } => not_built(outputs),
+        Command::Unstrip { .. } => not_built(outputs),
+        Command::Lines { .. } => not_built(outputs),
     }
 }

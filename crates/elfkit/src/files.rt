@@ -1,15 +1,14 @@
 //! Files by name, one after another, each given to a tool while it is open.
 
-ghost use Rattle.std.specs.Prelude.{◌≡◌, ◌≤◌, ℕ, List, Option, map, IfSome, IsTrue, OnOk};
-ghost use Rattle.elf_outside.specs.Asks.{Leaves};
-ghost use Rattle.elf_outside.specs.Counts.{Rose};
-ghost use Rattle.tool_output.specs.Files.{report_on, asks_on, all_bounds, IsWithin, OnlyReads, LeavesFiles};
-ghost use Rattle.tool_output.specs.Reports.{Report, Reports, reports_of};
-ghost use Rattle.tool_output.specs.Steps.{LeavesOutputs};
+ghost use Rattle.std.specs.Prelude.{◌≡◌, ℕ, List, Option, map, IfSome, IsTrue, OnOk};
+ghost use Rattle.tool_output.specs.Names.{Name};
+ghost use Rattle.tool_output.specs.Files.{report_on, asks_on, all_bounds, IsWithin, ReportsFiles};
+ghost use Rattle.tool_output.specs.Reports.{Report, reports_of};
+ghost use Rattle.tool_output.specs.Sources.{ReportsOn};
 
 use elf_outside::{Files, OpenFault, Sink, Source};
 use std::alloc::Global;
-use tool_output::{Message, Outputs, Stop};
+use tool_output::{FileName, Message, Outputs, Stop};
 use tool_text::Text;
 
 /// What a command does with each of the files that it names.
@@ -20,7 +19,7 @@ use tool_text::Text;
 pub trait FileTool {
     ghost command: { Self → List ℕ };
 
-    ghost report: { Self → List ℕ → List ℕ → Report };
+    ghost report: { Self → Name → List ℕ → Report };
 
     ghost asks: { Self → List ℕ → Option ℕ };
 
@@ -28,57 +27,57 @@ pub trait FileTool {
     fn command(&self) -> &'static str
         ensures { result.now ≡ command self.now };
 
-    /// Gives the report on what a source holds, under a name. It stops by `Read` only where a read of the
-    /// source failed, and leaves what the source holds.
+    /// Gives the report on what a source holds, under a name, and hands the source back. It stops
+    /// by `Read` only where a read of the source failed, and leaves what the source holds.
     fn show<S: Source, O: Sink, E: Sink>(
         &self,
         alloc: Global,
-        src: &mut S,
-        name: &[u8],
+        src: S,
+        name: &FileName<'_>,
         outputs: &mut Outputs<'_, O, E>,
-    ) -> Result<bool, Stop>
-        ensures reports { IfSome (S.holds src.old) (λ image.
-            Reports O.Sink E.Sink result outputs.old outputs.new (report self.now name.now image)) }
-        ensures asks { IfSome (S.holds src.old) (λ image.
-            IsWithin (asks self.now image) (S.taken src.old) (S.taken src.new)) }
-        ensures source { Leaves S.Source src.old src.new × (S.faults src.old ≤ S.faults src.new) }
-        ensures leaves { LeavesOutputs O.Sink E.Sink (Rose (S.faults src.old) (S.faults src.new))
-            result outputs.old outputs.new };
+    ) -> (S, Result<bool, Stop>)
+        ensures reports { ReportsOn S.Source O.Sink E.Sink (report self.now name.now)
+            result.1 src result.0 outputs.old outputs.new }
+        ensures asks { IfSome (S.holds src)
+            (λ image. IsWithin (asks self.now image) (S.taken src) (S.taken result.0)) };
 }
 
-/// Opens a file, gives it to a tool, and closes it. A name that is not there has its message.
+/// Opens a file, gives it to a tool, and closes it; only then is the tool's answer looked at. A
+/// name that is not there has its message.
 fn one_file<T: FileTool, F: Files, O: Sink, E: Sink>(
     alloc: Global,
     tool: &T,
-    name: &str,
+    file_name: &str,
     files: &mut F,
     outputs: &mut Outputs<'_, O, E>,
 ) -> Result<bool, Stop>
-    ensures reports { IsTrue (F.tells files.old) → Reports O.Sink E.Sink result outputs.old outputs.new
-        (report_on (T.command tool.now) (T.report tool.now) (F.named files.old) name.now) }
+    ensures reports { ReportsFiles F.Files O.Sink E.Sink
+        (λ named. report_on (T.command tool.now) (T.report tool.now) named file_name.now)
+        result files.old files.new outputs.old outputs.new }
     ensures asks { IsTrue (F.tells files.old) →
-        IsWithin (asks_on (T.asks tool.now) (F.named files.old) name.now) (F.taken files.old) (F.taken files.new) }
-    ensures reads { OnlyReads F.Files files.old files.new }
-    ensures leaves { LeavesFiles F.Files O.Sink E.Sink result files.old files.new outputs.old outputs.new }
+        IsWithin (asks_on (T.asks tool.now) (F.named files.old) file_name.now)
+        (F.taken files.old) (F.taken files.new) }
 {
-    let mut file = match files.open(alloc, name) {
+    let name = FileName::of(file_name.as_bytes());
+    let file = match files.open(alloc, file_name) {
         Ok(file) => file,
         Err(OpenFault::NotThere) => {
             return outputs.refuse(&Message {
                 command: tool.command(),
-                file: name.as_bytes(),
+                name: &name,
                 text: "not found",
             });
         }
         Err(OpenFault::Failed) => return Err(Stop::Read),
         Err(OpenFault::Memory) => return Err(Stop::Memory),
     };
-    let shown = tool.show(alloc, &mut file, name.as_bytes(), outputs);
-    files.close(name, file);
+    let (file, shown) = tool.show(alloc, file, &name, outputs);
+    files.close(file_name, file);
     shown
 }
 
-/// Gives each file to a tool, in the order of their names. The answer tells whether one was refused.
+/// Gives each file to a tool, in the order of their names. The answer tells whether one was
+/// refused.
 pub fn each_file<T: FileTool, F: Files, O: Sink, E: Sink>(
     alloc: Global,
     tool: &T,
@@ -86,13 +85,12 @@ pub fn each_file<T: FileTool, F: Files, O: Sink, E: Sink>(
     files: &mut F,
     outputs: &mut Outputs<'_, O, E>,
 ) -> Result<bool, Stop>
-    ensures reports { IsTrue (F.tells files.old) → Reports O.Sink E.Sink result outputs.old outputs.new
-        (reports_of (report_on (T.command tool.now) (T.report tool.now) (F.named files.old)) names.now) }
+    ensures reports { ReportsFiles F.Files O.Sink E.Sink
+        (λ named. reports_of (report_on (T.command tool.now) (T.report tool.now) named) names.now)
+        result files.old files.new outputs.old outputs.new }
     ensures asks { IsTrue (F.tells files.old) → OnOk result
         (IsWithin (all_bounds (map (asks_on (T.asks tool.now) (F.named files.old)) names.now))
         (F.taken files.old) (F.taken files.new)) }
-    ensures reads { OnlyReads F.Files files.old files.new }
-    ensures leaves { LeavesFiles F.Files O.Sink E.Sink result files.old files.new outputs.old outputs.new }
 {
     let mut refused = false;
     for name in names {

@@ -6,23 +6,23 @@ ghost use Rattle.tool_output.specs.Steps.{Writes, LeavesOutputs};
 ghost use Rattle.elfkit.specs.Lines.{title, line_of};
 
 use elf_outside::Sink;
-use elf_types::{ElfError, Octets, put_bytes, put_text};
-use tool_output::{Line, Outputs, Side, Stop};
+use elf_types::{ElfError, Octets, put_text};
+use tool_output::{FileName, Line, Outputs, Side, Stop};
 
-/// `File: FILE`, the line before what is shown of a file.
+/// `File: NAME`, the line before what is shown of a file.
 #[derive(Clone, Copy)]
 pub struct Title<'a> {
-    /// The file.
-    pub file: &'a [u8],
+    /// The file, or the member of an archive.
+    pub name: &'a FileName<'a>,
 }
 
 impl Line for Title<'_> {
-    ghost text = { λ t. title t.file.now };
+    ghost text = { λ t. title t.name.now };
 
-    #[tactic(auto, using(elf_types::proofs::Writers::stays), unfolding(crate::specs::Lines::title))]
+    #[tactic(auto, using(crate::proofs::Rows::kept), unfolding(crate::specs::Lines::title))]
     fn put(&self, page: &mut Octets) -> Result<(), ElfError> {
         put_text(page, "File: ")?;
-        put_bytes(page, self.file)?;
+        self.name.put(page)?;
         put_text(page, "\n")
     }
 }
@@ -37,7 +37,7 @@ pub struct Sentence<'a> {
 impl Line for Sentence<'_> {
     ghost text = { λ s. line_of s.text.now };
 
-    #[tactic(auto, using(elf_types::proofs::Writers::stays), unfolding(crate::specs::Lines::line_of))]
+    #[tactic(auto, using(crate::proofs::Rows::kept), unfolding(crate::specs::Lines::line_of))]
     fn put(&self, page: &mut Octets) -> Result<(), ElfError> {
         put_text(page, self.text)?;
         put_text(page, "\n")

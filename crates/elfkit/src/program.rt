@@ -1,12 +1,12 @@
 //! The program, from its words to its status.
 
-ghost use Rattle.std.specs.Prelude.{false, ◌≡◌, IfOk, IfErr, IsErr, IsTrue};
+ghost use Rattle.std.specs.Prelude.{false, ◌≡◌, IfOk, IsErr};
 ghost use Rattle.tool_text.specs.Reading.{reading};
 ghost use Rattle.tool_output.specs.Outcomes.{Does, Delivers, Costs, RunLeaves};
 ghost use Rattle.tool_output.specs.Statuses.{status_code};
 ghost use Rattle.tool_output.specs.Steps.{OnRead};
 ghost use Rattle.tool_output.specs.Files.{LeavesFiles};
-ghost use Rattle.elfkit.specs.Program.{opens_files, usage_outcome, program, IsStatusOf};
+ghost use Rattle.elfkit.specs.Program.{opens_files, program, AreTold, IsStatusOf};
 
 use crate::commands::run_command;
 use crate::lines::say;
@@ -23,7 +23,7 @@ fn run_words<F: Files, O: Sink, E: Sink>(
     files: &mut F,
     outputs: &mut Outputs<'_, O, E>,
 ) -> Result<Status, Stop>
-    ensures does { (IsTrue (opens_files (reading words.now)) → IsTrue (F.tells files.old)) →
+    ensures does { AreTold words.now (F.tells files.old) →
         Does F.Files O.Sink E.Sink status_code (program words.now (F.named files.old))
         result files.old files.new outputs.old outputs.new }
     ensures status { IfOk result (IsStatusOf (reading words.now)) }
@@ -50,8 +50,8 @@ fn run_words<F: Files, O: Sink, E: Sink>(
 /// - `Done`: nothing was refused;
 /// - `Refused`: a file was refused, or the form is not built yet;
 /// - `BadWords`: the words are refused, with their usage line on `err`;
-/// - `ReadFailed`, `WriteFailed`, `NoMemory`: a read failed; a write of a file, of `out` or of `err`
-///   failed; there was no memory.
+/// - `ReadFailed`, `WriteFailed`, `NoMemory`: a read failed; a write of a file, of `out` or of
+///   `err` failed; there was no memory.
 ///
 /// With the last three the run stopped on the way: both outputs have gained what was written up to
 /// one point, and nothing after it. Each file that was opened is closed again. Words that are
@@ -63,17 +63,13 @@ pub fn run<F: Files, O: Sink, E: Sink>(
     out: &mut O,
     err: &mut E,
 ) -> Status
-    ensures delivers { IsTrue (F.tells files.old) →
+    ensures delivers { AreTold words.now (F.tells files.old) →
         Delivers (program words.now (F.named files.old)) (status_code result)
         (O.wrote out.old) (O.wrote out.new) (E.wrote err.old) (E.wrote err.new)
         (F.named files.old) (F.named files.new) }
-    ensures costs { IsTrue (F.tells files.old) →
+    ensures costs { AreTold words.now (F.tells files.old) →
         Costs (program words.now (F.named files.old)) (status_code result)
         (F.taken files.old) (F.taken files.new) (F.given files.old) (F.given files.new) }
-    ensures usage { IfErr (reading words.now) (λ usage.
-        Delivers (usage_outcome usage) (status_code result)
-        (O.wrote out.old) (O.wrote out.new) (E.wrote err.old) (E.wrote err.new)
-        (F.named files.old) (F.named files.new)) }
     ensures used { result ≡ Status.BadWords → IsErr (reading words.now) }
     ensures untouched { opens_files (reading words.now) ≡ false →
         (files.new ≡ files.old) × ¬ (result ≡ Status.ReadFailed) }

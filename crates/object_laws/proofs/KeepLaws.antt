@@ -1,7 +1,6 @@
 -- Each step on headers, sections and pieces keeps what makes an object (`IsObject`).
 use Rattle.std.proofs.Common.{◌≡◌, ℕ, zero, suc, ◌+◌, ◌^◌, ◌<◌, ◌≤◌, Bool, true, false, not, ◌&&◌, List, [], ◌∷◌, ◌++◌, length, get_or, set, replicate, Option, Some, None, refl, sym, ap, ◌∙◌, subst, arith, lit<, lit≤, ⊎_elim}
-use Rattle.std.specs.Prelude.{All, IfSome, IsSome, IsTrue, nat_le, nat_lt, if◌then◌else◌, ◌==◌}
-use lib.Count.{ones}
+use Rattle.std.specs.Prelude.{All, IfSome, IsTrue, nat_le, nat_lt, if◌then◌else◌, ◌==◌}
 use Rattle.std.proofs.lemmas.Bool.{le-leb, leb-false, ltb-false, eqb-true, cases_lt}
 use Rattle.std.proofs.lemmas.List.{length-set, length-append, length-replicate, get_or_past, set_past, nil_from_length, length_push}
 use Rattle.std.proofs.lemmas.List.Elements.{All-nil, All-cons, All-set, All-append, All-push, All-get_or}
@@ -23,6 +22,7 @@ use Rattle.elf_object.specs.Steps.{with_sections, new_number, with_section, with
 use Rattle.elf_object.specs.Calls.{step, update_ehdr, update_ehdr_refusal, update_phdr, update_phdr_refusal, newphdr, newphdr_refusal, phdrs_mut, update_shdr, update_shdr_refusal, newscn, newscn_refusal, newnull, newdata_aligned, newdata_refusal, unfit_items, flag_refusal, set_fill, replace, replace_refusal, flag, lend, is_piece_align}
 use Rattle.elf_object.specs.Answers.{lend_refusal, items_at, piece_count, flags_of, has_dirty, has_layout}
 use Rattle.elf_object.specs.Valid.{IsHome, IsPiece, OthersOwn, IsSection, IsObject, KeepsObject}
+use Rattle.elf_object.proofs.PieceLaws.{IsOwn, others_set, others_push, own_piece_is, home_piece_is}
 use Rattle.elf_object.proofs.PassedLaws.{not_refused, not_not, passed_two, passed_three, passed_one, answered_keeps, edit_keeps}
 
 -- what holds of each item, and of what stands for none, holds of the item at any index
@@ -297,25 +297,6 @@ pieces_kept class c l is each others count = record {
   others = others;
   piece_count = count;
 }
-
-abbrev IsOwn : Piece → Type 0
-IsOwn p = IsSome p.own
-
-others_set : (l : List Piece) (i : ℕ) (p : Piece) → OthersOwn l → IsOwn p → OthersOwn (set l i p)
-others_set [] i p others own = tt
-others_set (x ∷ l) zero p others own = others
-others_set (x ∷ l) (suc i) p others own = All-set IsOwn l i p own others
-
-others_push : (l : List Piece) (p : Piece) → OthersOwn l → IsOwn p → OthersOwn (l ++ p ∷ [])
-others_push [] p others own = All-nil IsOwn
-others_push (x ∷ l) p others own = All-push IsOwn l p others own
-
-own_piece_is : (items : Items) (align : ℕ) → IsTrue (is_piece_align align) → IsPiece (own_piece items align)
-own_piece_is items align aligned = record { align = aligned; own = refl }
-
-pub home_piece_is : IsPiece home_piece
-unfolding is_piece_align ones
-home_piece_is = record { align = refl; own = tt }
 
 -- a piece of an object, and the home piece where there is none
 pub piece_at_is : (o : Object) (s p : ℕ) → IsObject o → IsPiece (piece_at o s p)

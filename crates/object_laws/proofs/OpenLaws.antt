@@ -5,12 +5,9 @@ use Rattle.std.proofs.lemmas.Bool.{ltb-false, lt-ltb, eqb-true}
 use Rattle.std.proofs.lemmas.List.{length-take, length-drop, length-map, length-replicate, length-take-le, nil_from_length}
 use Rattle.std.proofs.lemmas.List.FromFn.{length-map-range_with_len}
 use Rattle.std.proofs.lemmas.List.Elements.{All-nil, All-cons, All-take, All-drop, All-map, All-replicate}
-use Rattle.elf_types.specs.Kinds.{section_kind, kind_of_type, kinds_of_types, kind_in, is_compressed}
 use Rattle.elf_types.specs.declared.records.Class.{Class}
 use Rattle.elf_types.specs.declared.records.Class.TheVariants.{C32, C64}
 use Rattle.elf_types.specs.declared.records.Order.{Order}
-use Rattle.elf_types.specs.declared.records.Kind.{Kind}
-use Rattle.elf_types.specs.declared.records.Kind.TheVariants as kinds
 use Rattle.elf_types.specs.declared.records.Ehdr.{Ehdr}
 use Rattle.elf_types.specs.declared.records.Phdr.{Phdr}
 use Rattle.elf_types.specs.declared.records.Shdr.{Shdr}
@@ -32,7 +29,9 @@ use Rattle.elf_ident.specs.Reading.{IsFittingFront, IsCounted}
 use Rattle.object_laws.specs.Laws.{BegunFits}
 use Rattle.elf_object.proofs.PassedLaws.{not_refused, not_not, passed_one}
 use Rattle.elf_object.specs.Valid.{AreBytes, IsHome, IsPiece, IsSection, IsObject}
-use Rattle.object_laws.proofs.KeepLaws.{counted_is, home_piece_is, zero_shdr_is}
+use Rattle.elf_object.proofs.HomeLaws.{extent_of_no_kind}
+use Rattle.elf_object.proofs.PieceLaws.{home_piece_is}
+use Rattle.object_laws.proofs.KeepLaws.{counted_is, zero_shdr_is}
 use Rattle.object_laws.proofs.RangeLaws.{no_field, native_range, field_range, number_in_below, items_range}
 use Rattle.object_laws.proofs.PlacedLaws.{ehdr_fits_all, shdr_fits_all}
 
@@ -128,39 +127,6 @@ shdr_range class order bytes are = (
 )
 
 -- ---- Sections
-
-IsKind : Kind → Type 0
-IsKind k = k ≡ kinds.Empty → ⊥
-
-either_kind : (b : Bool) (x y : Kind) → IsKind x → IsKind y → IsKind (if b then x else y)
-either_kind true x y hx hy = hx
-either_kind false x y hx hy = hy
-
-AreKinds : List (ℕ × Kind) → Type 0
-AreKinds [] = Unit {0}
-AreKinds (row ∷ rows) = IsKind row.1 × AreKinds rows
-
-kind_of_rows : (rows : List (ℕ × Kind)) (stype : ℕ) → AreKinds rows → IsKind (kind_in rows stype)
-unfolding IsKind AreKinds
-kind_of_rows [] stype are = λ h. cc
-kind_of_rows (row ∷ rows) stype are =
-    either_kind (stype == row.0) row.1 (kind_in rows stype) are.0 (kind_of_rows rows stype are.1)
-
--- a section that occupies the file has items
-typed_kind : (stype entsize : ℕ) → IsKind (kind_of_type stype entsize)
-unfolding IsKind AreKinds kind_of_type
-typed_kind stype entsize =
-    let hash = either_kind (entsize == 8) kinds.Bytes kinds.Word (λ h. cc) (λ h. cc) in
-    kind_of_rows (kinds_of_types entsize) stype
-    ((λ h. cc), ((λ h. cc), ((λ h. cc), ((λ h. cc), ((λ h. cc), (hash, ((λ h. cc), ((λ h. cc), ((λ h. cc), ((λ h. cc), ((λ h. cc), ((λ h. cc), tt))))))))))))
-
-pub extent_of_no_kind : (h : Shdr) → section_kind h ≡ kinds.Empty → home_len h ≡ 0
-unfolding section_kind home_len IsKind
-extent_of_no_kind h e = by_test (h.stype == 0 || h.stype == 8) e
-  where
-    by_test : (b : Bool) → (if b then kinds.Empty else (if is_compressed h.flags then kinds.Bytes else kind_of_type h.stype h.entsize)) ≡ kinds.Empty → (if not b then h.size else 0) ≡ 0
-    by_test true e = refl
-    by_test false e = absurd (either_kind (is_compressed h.flags) kinds.Bytes (kind_of_type h.stype h.entsize) (λ h. cc) (typed_kind h.stype h.entsize) e)
 
 extent_small : (h : Shdr) → IsShdr h → home_len h < 2 ^ 64
 unfolding home_len

@@ -1,6 +1,6 @@
 -- An update in place leaves an object, and so does one that failed (`IsObject`).
 use Rattle.std.proofs.Common.{◌≡◌, ℕ, ◌^◌, ◌<◌, Bool, true, false, List, [], ◌∷◌, length, get_or, None, refl, arith, sym, ap, ◌∙◌, subst}
-use Rattle.std.specs.Prelude.{All, IsSome, IsTrue, map, if◌then◌else◌}
+use Rattle.std.specs.Prelude.{All, IsTrue, map, if◌then◌else◌}
 use Rattle.std.specs.List.{enumerate_from}
 use Rattle.std.proofs.lemmas.List.{length-map, nil_from_length}
 use Rattle.std.proofs.lemmas.List.FromFn.{length-enumerate_from}
@@ -17,6 +17,7 @@ use Rattle.elf_object.specs.Refusal.{refusal}
 use Rattle.elf_object.specs.Settled.{settled_section, settled_over, settle}
 use Rattle.elf_object.specs.Changed.{is_moved, marked_piece, torn_section, torn_over, torn}
 use Rattle.elf_object.specs.Valid.{AreBytes, IsPiece, OthersOwn, IsSection, IsObject}
+use Rattle.elf_object.proofs.PieceLaws.{IsOwn}
 use Rattle.object_laws.specs.Laws.{UpdatesKeep}
 use Rattle.object_laws.proofs.ByteLaws.{image_are}
 use Rattle.object_laws.proofs.KeepLaws.{section_at_is, pieces_kept, marked_is}
@@ -86,9 +87,6 @@ settle_is o ok passed = by_test (is_dirty o) refl
     by_test false clean = subst IsObject (sym (settle-clean o clean)) ok
 
 -- ---- An update that failed
-
-abbrev IsOwn : Piece → Type 0
-IsOwn p = IsSome p.own
 
 others_marked : (l : List Piece) → OthersOwn l → OthersOwn (map marked_piece l)
 others_marked [] others = tt

@@ -16,13 +16,13 @@ unfoldable pub field_line : List ℕ → List ℕ → List ℕ
 field_line name value = field_title name ++ value ++ codes "\n"
 
 -- its value is a decimal number
-unfoldable pub decimal_line : List ℕ → ℕ → List ℕ
+abbrev pub decimal_line : List ℕ → ℕ → List ℕ
 decimal_line name n = field_line name (decimal n)
 
 -- or a hexadecimal one
-unfoldable pub hex_line : List ℕ → ℕ → List ℕ
+abbrev pub hex_line : List ℕ → ℕ → List ℕ
 hex_line name n = field_line name (codes "0x" ++ hex n)
 
 -- or a number by its name
-unfoldable pub name_line : List ℕ → Option (List ℕ) → ℕ → List ℕ
+abbrev pub name_line : List ℕ → Option (List ℕ) → ℕ → List ℕ
 name_line title name n = field_line title (name_or_hex name n)

@@ -13,4 +13,5 @@ if_asked false part = no_report
 
 unfoldable pub readelf_report : ReadelfParts → Front → Report
 readelf_report parts front =
-    joined (if_asked parts.header (header_report front.ehdr)) (if_asked parts.segments (segments_report front.phdrs))
+    joined (if_asked parts.header (header_report front.ehdr))
+    (if_asked parts.segments (segments_report front.phdrs))

@@ -20,7 +20,10 @@ other_flags flags = if flags - flags % 8 == 0 then [] else codes "+0x" ++ hex (f
 -- the three letters, and the other bits (gABI chapter 5, "Segment Permissions")
 unfoldable pub flags_text : ℕ → List ℕ
 flags_text flags =
-    (flag_letter flags PF_R (byte "R") ∷ flag_letter flags PF_W (byte "W") ∷ flag_letter flags PF_X (byte "X") ∷ [])
+    (flag_letter flags PF_R (byte "R")
+    ∷ flag_letter flags PF_W (byte "W")
+    ∷ flag_letter flags PF_X (byte "X")
+    ∷ [])
     ++ other_flags flags
 
 -- ` NAME 0xN`
@@ -29,7 +32,8 @@ hex_column name n = codes " " ++ name ++ codes " 0x" ++ hex n
 
 -- `  I TYPE`
 unfoldable pub segment_start : ℕ → Phdr → List ℕ
-segment_start i p = codes "  " ++ decimal i ++ codes " " ++ name_or_hex (segment_type_name_of p.ptype) p.ptype
+segment_start i p =
+    codes "  " ++ decimal i ++ codes " " ++ name_or_hex (segment_type_name_of p.ptype) p.ptype
 
 unfoldable pub segment_places : Phdr → List ℕ
 segment_places p =
@@ -47,12 +51,13 @@ unfoldable pub segment_end : Phdr → List ℕ
 segment_end p = flags_column p.flags ++ hex_column (codes "align") p.align ++ codes "\n"
 
 -- the line of one program header, by its number
-unfoldable pub segment_line : ℕ → Phdr → List ℕ
-segment_line i p = segment_start i p ++ segment_places p ++ segment_sizes p ++ segment_end p
+unfoldable pub phdr_line : ℕ → Phdr → List ℕ
+phdr_line i p = segment_start i p ++ segment_places p ++ segment_sizes p ++ segment_end p
 
-unfoldable pub segments_title : ℕ → List ℕ
-segments_title count = codes "Program headers: " ++ decimal count ++ codes "\n"
+unfoldable pub count_line : ℕ → List ℕ
+count_line count = codes "Program headers: " ++ decimal count ++ codes "\n"
 
 -- their number, and a line for each
 unfoldable pub segments_report : List Phdr → Report
-segments_report phdrs = joined (shown (segments_title (length phdrs))) (shown (numbered_lines segment_line 0 phdrs))
+segments_report phdrs =
+    joined (shown (count_line (length phdrs))) (shown (numbered_lines phdr_line 0 phdrs))

@@ -1,5 +1,5 @@
-//! Lines of one field, and numbers with names. Each call refuses `Memory` alone; what the page held then
-//! still stands, some bytes behind it.
+//! Lines of one field, and numbers with names. Each call refuses `Memory` alone; what the page held
+//! then still stands, some bytes behind it.
 
 ghost use Rattle.std.specs.Prelude.{◌≡◌, ◌++◌, OnOk, IfErr};
 ghost use Rattle.std.specs.Option.{option_copied};
@@ -9,7 +9,7 @@ ghost use Rattle.readelf_tool.specs.Fields.{name_or_hex, field_title, field_line
 use elf_types::{ElfError, Octets, put_decimal, put_hex, put_text};
 
 /// Appends a name, or in hexadecimal a number that has none.
-#[tactic(auto, using(elf_types::proofs::Writers::stays), unfolding(crate::specs::Fields::name_or_hex))]
+#[tactic(auto, using(crate::proofs::Rows::kept), unfolding(crate::specs::Fields::name_or_hex))]
 pub fn put_name_or_hex(
     page: &mut Octets,
     name: Option<&'static str>,
@@ -28,7 +28,7 @@ pub fn put_name_or_hex(
 }
 
 /// Appends `  NAME: `.
-#[tactic(auto, using(elf_types::proofs::Writers::stays), unfolding(crate::specs::Fields::field_title))]
+#[tactic(auto, using(crate::proofs::Rows::kept), unfolding(crate::specs::Fields::field_title))]
 fn put_title(page: &mut Octets, name: &str) -> Result<(), ElfError>
     ensures ok { OnOk result (page.new ≡ page.old ++ field_title name.now) }
     ensures err { IfErr result (WantsMemory page.old page.new) }
@@ -39,7 +39,7 @@ fn put_title(page: &mut Octets, name: &str) -> Result<(), ElfError>
 }
 
 /// Appends the line `  NAME: VALUE`.
-#[tactic(auto, using(elf_types::proofs::Writers::stays), unfolding(crate::specs::Fields::field_line))]
+#[tactic(auto, using(crate::proofs::Rows::kept), unfolding(crate::specs::Fields::field_line))]
 pub fn put_field(page: &mut Octets, name: &str, value: &str) -> Result<(), ElfError>
     ensures ok { OnOk result (page.new ≡ page.old ++ field_line name.now value.now) }
     ensures err { IfErr result (WantsMemory page.old page.new) }
@@ -50,7 +50,7 @@ pub fn put_field(page: &mut Octets, name: &str, value: &str) -> Result<(), ElfEr
 }
 
 /// Appends the line `  NAME: N`, the number in decimal.
-#[tactic(auto, using(elf_types::proofs::Writers::stays), unfolding(crate::specs::Fields::field_line, crate::specs::Fields::decimal_line))]
+#[tactic(auto, using(crate::proofs::Rows::kept), unfolding(crate::specs::Fields::field_line))]
 pub fn put_decimal_field(page: &mut Octets, name: &str, n: u64) -> Result<(), ElfError>
     ensures ok { OnOk result (page.new ≡ page.old ++ decimal_line name.now n) }
     ensures err { IfErr result (WantsMemory page.old page.new) }
@@ -61,7 +61,7 @@ pub fn put_decimal_field(page: &mut Octets, name: &str, n: u64) -> Result<(), El
 }
 
 /// Appends the line `  NAME: 0xN`, the number in hexadecimal.
-#[tactic(auto, using(elf_types::proofs::Writers::stays), unfolding(crate::specs::Fields::field_line, crate::specs::Fields::hex_line))]
+#[tactic(auto, using(crate::proofs::Rows::kept), unfolding(crate::specs::Fields::field_line))]
 pub fn put_hex_field(page: &mut Octets, name: &str, n: u64) -> Result<(), ElfError>
     ensures ok { OnOk result (page.new ≡ page.old ++ hex_line name.now n) }
     ensures err { IfErr result (WantsMemory page.old page.new) }
@@ -73,14 +73,15 @@ pub fn put_hex_field(page: &mut Octets, name: &str, n: u64) -> Result<(), ElfErr
 }
 
 /// Appends the line `  TITLE: NAME`, the name of a number or the number in hexadecimal.
-#[tactic(auto, using(elf_types::proofs::Writers::stays), unfolding(crate::specs::Fields::field_line, crate::specs::Fields::name_line))]
+#[tactic(auto, using(crate::proofs::Rows::kept), unfolding(crate::specs::Fields::field_line))]
 pub fn put_name_field(
     page: &mut Octets,
     title: &str,
     name: Option<&'static str>,
     n: u64,
 ) -> Result<(), ElfError>
-    ensures ok { OnOk result (page.new ≡ page.old ++ name_line title.now (option_copied name.entry) n) }
+    ensures ok { OnOk result
+        (page.new ≡ page.old ++ name_line title.now (option_copied name.entry) n) }
     ensures err { IfErr result (WantsMemory page.old page.new) }
 {
     put_title(page, title)?;

@@ -5,7 +5,7 @@ ghost use Rattle.elf_types.specs.Writers.{WantsMemory};
 ghost use Rattle.tool_output.specs.Lines.{numbered_lines};
 ghost use Rattle.tool_output.specs.Reports.{Reports, shown};
 ghost use Rattle.tool_output.specs.Steps.{LeavesOutputs};
-ghost use Rattle.readelf_tool.specs.Segments.{flag_letter, other_flags, flags_text, flags_column, hex_column, segment_start, segment_places, segment_sizes, segment_end, segment_line, segments_title, segments_report};
+ghost use Rattle.readelf_tool.specs.Segments.{flag_letter, other_flags, flags_text, flags_column, hex_column, segment_start, segment_places, segment_sizes, segment_end, phdr_line, count_line, segments_report};
 
 use crate::fields::put_name_or_hex;
 use elf_outside::Sink;
@@ -13,7 +13,7 @@ use elf_types::constants::{PF_R, PF_W, PF_X};
 use elf_types::{
     ElfError, Octets, Phdr, put_bytes, put_decimal, put_hex, put_text, segment_type_name,
 };
-use tool_output::{Line, Outputs, Side, Stop};
+use tool_output::{Line, Outputs, Stop};
 
 /// The letter of a flag's bit, or a dash where it is not set.
 #[tactic(auto, unfolding(crate::specs::Segments::flag_letter))]
@@ -24,7 +24,7 @@ fn flag_letter(flags: u32, bit: u32, letter: u8) -> u8
 }
 
 /// Appends the bits that have no letter.
-#[tactic(auto, using(elf_types::proofs::Writers::stays), unfolding(crate::specs::Segments::other_flags))]
+#[tactic(auto, using(crate::proofs::Rows::kept), unfolding(crate::specs::Segments::other_flags))]
 fn put_other_flags(page: &mut Octets, flags: u32) -> Result<(), ElfError>
     ensures ok { OnOk result (page.new ≡ page.old ++ other_flags flags) }
     ensures err { IfErr result (WantsMemory page.old page.new) }
@@ -38,7 +38,7 @@ fn put_other_flags(page: &mut Octets, flags: u32) -> Result<(), ElfError>
 }
 
 /// Appends the flags: three letters, and the other bits.
-#[tactic(auto, using(elf_types::proofs::Writers::stays), unfolding(crate::specs::Segments::flags_text))]
+#[tactic(auto, using(crate::proofs::Rows::kept), unfolding(crate::specs::Segments::flags_text))]
 fn put_flags(page: &mut Octets, flags: u32) -> Result<(), ElfError>
     ensures ok { OnOk result (page.new ≡ page.old ++ flags_text flags) }
     ensures err { IfErr result (WantsMemory page.old page.new) }
@@ -53,7 +53,7 @@ fn put_flags(page: &mut Octets, flags: u32) -> Result<(), ElfError>
 }
 
 /// Appends ` flags FLAGS`.
-#[tactic(auto, using(elf_types::proofs::Writers::stays), unfolding(crate::specs::Segments::flags_column))]
+#[tactic(auto, using(crate::proofs::Rows::kept), unfolding(crate::specs::Segments::flags_column))]
 fn put_flags_column(page: &mut Octets, flags: u32) -> Result<(), ElfError>
     ensures ok { OnOk result (page.new ≡ page.old ++ flags_column flags) }
     ensures err { IfErr result (WantsMemory page.old page.new) }
@@ -63,7 +63,7 @@ fn put_flags_column(page: &mut Octets, flags: u32) -> Result<(), ElfError>
 }
 
 /// Appends ` NAME 0xN`.
-#[tactic(auto, using(elf_types::proofs::Writers::stays), unfolding(crate::specs::Segments::hex_column))]
+#[tactic(auto, using(crate::proofs::Rows::kept), unfolding(crate::specs::Segments::hex_column))]
 fn put_hex_column(page: &mut Octets, name: &str, n: u64) -> Result<(), ElfError>
     ensures ok { OnOk result (page.new ≡ page.old ++ hex_column name.now n) }
     ensures err { IfErr result (WantsMemory page.old page.new) }
@@ -75,7 +75,7 @@ fn put_hex_column(page: &mut Octets, name: &str, n: u64) -> Result<(), ElfError>
 }
 
 /// Appends `  I TYPE`.
-#[tactic(auto, using(elf_types::proofs::Writers::stays), unfolding(crate::specs::Segments::segment_start))]
+#[tactic(auto, using(crate::proofs::Rows::kept), unfolding(crate::specs::Segments::segment_start))]
 fn put_start(page: &mut Octets, i: u64, p: &Phdr) -> Result<(), ElfError>
     ensures ok { OnOk result (page.new ≡ page.old ++ segment_start i p.now) }
     ensures err { IfErr result (WantsMemory page.old page.new) }
@@ -87,7 +87,7 @@ fn put_start(page: &mut Octets, i: u64, p: &Phdr) -> Result<(), ElfError>
 }
 
 /// Appends the offset and the two addresses.
-#[tactic(auto, using(elf_types::proofs::Writers::stays), unfolding(crate::specs::Segments::segment_places))]
+#[tactic(auto, using(crate::proofs::Rows::kept), unfolding(crate::specs::Segments::segment_places))]
 fn put_places(page: &mut Octets, p: &Phdr) -> Result<(), ElfError>
     ensures ok { OnOk result (page.new ≡ page.old ++ segment_places p.now) }
     ensures err { IfErr result (WantsMemory page.old page.new) }
@@ -98,7 +98,7 @@ fn put_places(page: &mut Octets, p: &Phdr) -> Result<(), ElfError>
 }
 
 /// Appends the two sizes.
-#[tactic(auto, using(elf_types::proofs::Writers::stays), unfolding(crate::specs::Segments::segment_sizes))]
+#[tactic(auto, using(crate::proofs::Rows::kept), unfolding(crate::specs::Segments::segment_sizes))]
 fn put_sizes(page: &mut Octets, p: &Phdr) -> Result<(), ElfError>
     ensures ok { OnOk result (page.new ≡ page.old ++ segment_sizes p.now) }
     ensures err { IfErr result (WantsMemory page.old page.new) }
@@ -108,7 +108,7 @@ fn put_sizes(page: &mut Octets, p: &Phdr) -> Result<(), ElfError>
 }
 
 /// Appends the flags, the alignment and the newline.
-#[tactic(auto, using(elf_types::proofs::Writers::stays), unfolding(crate::specs::Segments::segment_end))]
+#[tactic(auto, using(crate::proofs::Rows::kept), unfolding(crate::specs::Segments::segment_end))]
 fn put_end(page: &mut Octets, p: &Phdr) -> Result<(), ElfError>
     ensures ok { OnOk result (page.new ≡ page.old ++ segment_end p.now) }
     ensures err { IfErr result (WantsMemory page.old page.new) }
@@ -128,9 +128,9 @@ struct SegmentLine<'a> {
 }
 
 impl Line for SegmentLine<'_> {
-    ghost text = { λ l. segment_line l.index l.header.now };
+    ghost text = { λ l. phdr_line l.index l.header.now };
 
-    #[tactic(auto, using(elf_types::proofs::Writers::stays), unfolding(crate::specs::Segments::segment_line))]
+    #[tactic(auto, using(crate::proofs::Rows::kept), unfolding(crate::specs::Segments::phdr_line))]
     fn put(&self, page: &mut Octets) -> Result<(), ElfError> {
         put_start(page, self.index, self.header)?;
         put_places(page, self.header)?;
@@ -147,9 +147,9 @@ struct SegmentsTitle {
 }
 
 impl Line for SegmentsTitle {
-    ghost text = { λ t. segments_title t.count };
+    ghost text = { λ t. count_line t.count };
 
-    #[tactic(auto, using(elf_types::proofs::Writers::stays), unfolding(crate::specs::Segments::segments_title))]
+    #[tactic(auto, using(crate::proofs::Rows::kept), unfolding(crate::specs::Segments::count_line))]
     fn put(&self, page: &mut Octets) -> Result<(), ElfError> {
         put_text(page, "Program headers: ")?;
         put_decimal(page, self.count)?;
@@ -163,12 +163,12 @@ fn show_lines<O: Sink, E: Sink>(
     outputs: &mut Outputs<'_, O, E>,
 ) -> Result<bool, Stop>
     ensures reports { Reports O.Sink E.Sink result outputs.old outputs.new
-        (shown (numbered_lines segment_line 0 phdrs.now)) }
+        (shown (numbered_lines phdr_line 0 phdrs.now)) }
     ensures leaves { LeavesOutputs O.Sink E.Sink ⊥ result outputs.old outputs.new }
 {
     for (i, header) in phdrs.iter().enumerate() {
         let index = i as u64;
-        outputs.put(Side::Out, &SegmentLine { index, header })?;
+        outputs.show(&SegmentLine { index, header })?;
     }
     Ok(false)
 }
@@ -178,7 +178,8 @@ pub fn show_segments<O: Sink, E: Sink>(
     phdrs: &[Phdr],
     outputs: &mut Outputs<'_, O, E>,
 ) -> Result<bool, Stop>
-    ensures reports { Reports O.Sink E.Sink result outputs.old outputs.new (segments_report phdrs.now) }
+    ensures reports { Reports O.Sink E.Sink result outputs.old outputs.new
+        (segments_report phdrs.now) }
     ensures leaves { LeavesOutputs O.Sink E.Sink ⊥ result outputs.old outputs.new }
 {
     let count = phdrs.len() as u64;

@@ -1,6 +1,6 @@
 -- What edits leave.
-use Rattle.std.proofs.Common.{◌≡◌, ℕ, ◌<◌, Bool, true, false, List, [], ◌∷◌, ◌++◌, length, get_or, set, zero, suc, subst, Option, Some, None, refl, sym, ap, ◌∙◌, arith, length-append}
-use Rattle.std.specs.Prelude.{is_some, IsTrue, IsSome, IfSome, slice_set, if◌then◌else◌}
+use Rattle.std.proofs.Common.{◌≡◌, ℕ, ◌<◌, Bool, true, false, List, [], ◌∷◌, ◌++◌, length, get_or, set, zero, suc, subst, Option, Some, None, Result, Ok, Err, refl, sym, ap, ◌∙◌, arith, length-append}
+use Rattle.std.specs.Prelude.{is_some, IsTrue, IsSome, IfSome, OnOk, OnErr, slice_set}
 use lib.Count.{ones}
 use Rattle.elf_types.specs.declared.records.Kind.TheVariants as kinds
 use Rattle.std.proofs.lemmas.List.{set-get_or, length-set}
@@ -11,11 +11,12 @@ use Rattle.elf_object.specs.Object.{Home, Piece, home_piece}
 use Rattle.elf_object.specs.Steps.{own_piece}
 use Rattle.elf_object.specs.Calls.{is_piece_align}
 use Rattle.elf_object.specs.Valid.{IsPiece, OthersOwn}
+use Rattle.elf_object.proofs.PieceLaws.{IsOwn, others_set, others_push, own_piece_is, home_piece_is}
 use Rattle.section_data.specs.Views.{CellView, IsCell, IsKept, opened_cell, new_cell}
 use Rattle.section_data.specs.declared.held.HomeItems.{HomeItems}
 use Rattle.section_data.specs.Held.{piece_in}
 use Rattle.section_data.specs.Leaves.{Claims, replaced, marked_piece}
-use Rattle.section_data.proofs.Pieces.{ready_own, ready_clean}
+use Rattle.section_data.proofs.PieceItems.{ready_own, ready_clean}
 
 held_kept : (held : Option Items) → IfSome held (λ items. held ≡ Some items)
 held_kept None = tt
@@ -58,18 +59,6 @@ claims_clean old mid new p items clean there is after = record {
   kept = tt;
 }
 
-abbrev IsOwn : Piece → Type 0
-IsOwn p = IsSome p.own
-
-others_own : (l : List Piece) (q : Piece) → IsOwn q → OthersOwn l → OthersOwn (l ++ q ∷ [])
-others_own [] q own others = All-nil IsOwn
-others_own (first ∷ rest) q own others = All-push IsOwn rest q others own
-
-others_set : (l : List Piece) (p : ℕ) (q : Piece) → OthersOwn l → IsOwn q → OthersOwn (set l p q)
-others_set [] p q others own = tt
-others_set (first ∷ rest) zero q others own = others
-others_set (first ∷ rest) (suc p) q others own = All-set IsOwn rest p q own others
-
 kept_set : (section : ℕ) (home : Home) (raw : Option Items) (held : HomeItems) (l : List Piece) (p : ℕ) (q : Piece)
     → IsKept section home raw held l → IsPiece q → OthersOwn (set l p q) → IsKept section home raw held (set l p q)
 kept_set section home raw held l p q kept is others = record {
@@ -91,7 +80,7 @@ pub replaced_kept : (section : ℕ) (home : Home) (raw : Option Items) (held : H
     → IsKept section home raw held (set l p q)
 replaced_kept section home raw held l p items q r kept there is read =
     let old : IsPiece r = subst IsPiece (sym read) (All-get_or IsPiece l p home_piece there kept.cell.each) in
-    let new : IsPiece (own_piece items r.align) = record { align = old.align; own = refl } in
+    let new = own_piece_is items r.align old.align in
     subst (λ (q : Piece). IsKept section home raw held (set l p q)) (sym is)
     (kept_set section home raw held l p (own_piece items r.align) kept new (others_set l p (own_piece items r.align) kept.cell.others refl))
 
@@ -108,10 +97,6 @@ marked_is v p q r is read =
     ap (λ (q : Piece). record v { pieces = set v.pieces p q }) (is ∙ ap (λ (r : Piece). record r { marked = true }) read)
 
 -- ---- Cells as they are made
-
-home_piece_is : IsPiece home_piece
-unfolding is_piece_align ones
-home_piece_is = record { align = refl; own = tt }
 
 pub opened_is : (section : ℕ) (home : Home) → (home.kind ≡ kinds.Empty → home.len ≡ 0) → IsCell (opened_cell section home)
 opened_is section home empty = record {
@@ -143,18 +128,18 @@ appended_kept section home raw held l items align kept room good = record {
     sized = kept.cell.sized;
     outside = kept.cell.outside;
     few = omega (arith, room, length-append l (own_piece items align ∷ []));
-    each = All-push IsPiece l (own_piece items align) kept.cell.each (record { align = good; own = refl });
-    others = others_own l (own_piece items align) refl kept.cell.others;
+    each = All-push IsPiece l (own_piece items align) kept.cell.each (own_piece_is items align good);
+    others = others_push l (own_piece items align) kept.cell.others refl;
     empty = kept.cell.empty;
   };
 }
 
 -- an own piece is pushed, or there is no memory for it
-pub pushed_kept : (pushed : Bool) (section : ℕ) (home : Home) (raw : Option Items) (held : HomeItems) (l now : List Piece) (q : Piece) (items : Items) (align : ℕ)
-    → IsKept section home raw held l → length l < MAX_PIECES → IsTrue (is_piece_align align) → q ≡ own_piece items align
-    → now ≡ (if pushed then l ++ q ∷ [] else l) → IsKept section home raw held now
-pushed_kept true section home raw held l now q items align kept room good is after =
+pub pushed_kept : {A E : Type 0} (r : Result A E) (section : ℕ) (home : Home) (raw : Option Items) (held : HomeItems) (l now : List Piece)
+    (q : Piece) (items : Items) (align : ℕ) → IsKept section home raw held l → length l < MAX_PIECES → IsTrue (is_piece_align align)
+    → q ≡ own_piece items align → OnOk r (now ≡ l ++ q ∷ []) → OnErr r (now ≡ l) → IsKept section home raw held now
+pushed_kept (Ok x) section home raw held l now q items align kept room good is after same =
     subst (λ (l : List Piece). IsKept section home raw held l) (sym (after ∙ ap (λ (q : Piece). l ++ q ∷ []) is))
     (appended_kept section home raw held l items align kept room good)
-pushed_kept false section home raw held l now q items align kept room good is after =
-    subst (λ (l : List Piece). IsKept section home raw held l) (sym after) kept
+pushed_kept (Err e) section home raw held l now q items align kept room good is after same =
+    subst (λ (l : List Piece). IsKept section home raw held l) (sym same) kept

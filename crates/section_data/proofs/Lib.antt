@@ -1,6 +1,6 @@
-pub mod EmptyHomes
-pub mod Pieces
+pub mod PieceItems
 pub mod Items
 pub mod Loading
 pub mod Preparing
+pub mod Owning
 pub mod Edits

@@ -22,7 +22,7 @@ use Rattle.section_data.specs.Views.{CellView, IsCell, opened_cell}
 use Rattle.section_data.specs.Held.{piece_in, cell_is_loaded, HeldIs}
 use Rattle.section_data.specs.Refused.{load_due, piece_due, home_out, reading}
 use Rattle.section_data.specs.Leaves.{IsReadFrom, bytes_or_none, RawBecomes, Warms, LiesIn}
-use Rattle.section_data.proofs.Pieces.{none_of}
+use Rattle.section_data.proofs.PieceItems.{none_of}
 
 raw_same : (image : Option (List ℕ)) (home : Home) (raw : Option (List ℕ)) → RawBecomes image home raw raw
 raw_same image home None = tt

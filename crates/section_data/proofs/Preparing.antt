@@ -16,7 +16,7 @@ use Rattle.section_data.specs.Views.{CellView}
 use Rattle.section_data.specs.Held.{piece_in, ready, piece_holds_items, is_ragged}
 use Rattle.section_data.specs.Refused.{no_piece, no_home_items, items_refused, home_out, home_ragged, load_due, piece_due, items_due, preparing}
 use Rattle.section_data.specs.Leaves.{Warms}
-use Rattle.section_data.proofs.Pieces.{none_of, ready_own, ready_clean}
+use Rattle.section_data.proofs.PieceItems.{none_of, ready_own, ready_clean}
 use Rattle.section_data.proofs.Loading.{due_clean}
 
 -- ---- Refusals

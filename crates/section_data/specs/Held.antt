@@ -1,5 +1,5 @@
 -- What is held of a section's data in memory, and what its pieces hold.
-use Rattle.std.specs.Prelude.{◌≡◌, ℕ, Bool, not, ◌&&◌, ◌||◌, List, slice_index_or, Option, Some, None, IfSome, is_some}
+use Rattle.std.specs.Prelude.{◌≡◌, ℕ, Bool, not, ◌&&◌, ◌||◌, List, Option, Some, None, IfSome, is_some}
 use Rattle.std.specs.Option.{option_and_then}
 use Rattle.elf_types.specs.declared.records.Class.{Class}
 use Rattle.elf_types.specs.declared.records.Order.{Order}
@@ -7,12 +7,12 @@ use Rattle.elf_types.specs.declared.records.Kind.{Kind}
 use Rattle.elf_xlate.specs.declared.content.Items.{Items}
 use Rattle.elf_xlate.specs.declared.content.Items.TheVariants as items
 use Rattle.elf_xlate.specs.Translation.{decoded, items_kind, is_whole}
-use Rattle.elf_object.specs.Object.{Piece, home_piece}
-use Rattle.section_data.specs.Views.{CellView}
+use Rattle.elf_object.specs.Object.{Piece}
+use Rattle.elf_object.specs.Open.{home_bytes}
+use Rattle.section_data.specs.Views.{CellView, piece_of}
 
--- what stands at an index that no piece has is a clean home piece
 unfoldable pub piece_in : CellView → ℕ → Piece
-piece_in c p = slice_index_or c.pieces p home_piece
+piece_in c p = piece_of c.pieces p
 
 -- the kind that a piece holds
 unfoldable pub kind_in : CellView → ℕ → Kind
@@ -55,6 +55,18 @@ raw_items class order c = or_empty (option_and_then (decoded c.home.kind class o
 unfoldable pub items_in : Class → Order → CellView → ℕ → Items
 items_in class order c p =
     elim ((piece_in c p).own) [ None ↦ raw_items class order c | Some items ↦ items ]
+
+-- the home's bytes over an image: those that were read, else those in the image
+abbrev pub raw_over : List ℕ → CellView → List ℕ
+raw_over image c = elim (c.raw) [ None ↦ home_bytes c.home image | Some bytes ↦ bytes ]
+
+-- the items of a piece over an image
+unfoldable pub items_over : List ℕ → Class → Order → CellView → ℕ → Items
+items_over image class order c p =
+    elim ((piece_in c p).own) [
+      | None ↦ items_of_bytes c.home.kind class order (raw_over image c)
+      | Some items ↦ items
+    ]
 
 -- the home's bytes are no whole items
 abbrev pub is_ragged : Class → CellView → Bool

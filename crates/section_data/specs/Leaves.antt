@@ -1,11 +1,17 @@
 -- What a call leaves of a cell.
-use Rattle.std.specs.Prelude.{◌≡◌, ℕ, ◌+◌, ◌<◌, ◌≤◌, true, false, ◌++◌, List, [], ◌∷◌, length, slice_set, Option, Some, None, IfSome}
+use Rattle.std.specs.Prelude.{◌≡◌, ℕ, ◌+◌, ◌<◌, ◌≤◌, true, false, ◌++◌, List, [], ◌∷◌, length, slice_set, Option, Some, None, Result, is_some, IfSome, IfErr, ◌≢◌}
 use Rattle.elf_xlate.specs.declared.content.Items.{Items}
-use Rattle.elf_object.specs.Object.{Home}
+use Rattle.elf_types.specs.declared.records.Class.{Class}
+use Rattle.elf_types.specs.declared.records.Order.{Order}
+use Rattle.elf_types.specs.declared.records.Kind.{Kind}
+use Rattle.elf_types.specs.declared.errors.ElfError.{ElfError}
+use Rattle.elf_types.specs.declared.errors.ElfError.TheVariants.{Memory}
+use Rattle.elf_xlate.specs.Translation.{items_kind}
+use Rattle.elf_object.specs.Object.{Home, Piece}
 use Rattle.elf_object.specs.Open.{home_bytes}
 use Rattle.elf_object.specs.Steps.{own_piece}
 use Rattle.section_data.specs.Views.{CellView}
-use Rattle.section_data.specs.Held.{piece_in, ready, cell_is_loaded}
+use Rattle.section_data.specs.Held.{piece_in, ready, cell_is_loaded, HeldIs}
 
 -- bytes that were read from a home: as many as it is long, and those of the home in the image where
 -- the source tells it
@@ -44,6 +50,30 @@ pub record Claims (old new : CellView) (p : ℕ) : Type 0 where
   }
   pub stood : ready old p ≡ Some items
   pub kept : IfSome held (λ items. old.held ≡ Some items)
+
+-- a piece with items of its own of a kind
+pub record OwnsKind (kind : Kind) (piece : Piece) : Type 0 where
+  pub items : Items
+  pub own : piece.own ≡ Some items
+  pub of_kind : items_kind items ≡ kind
+
+-- a piece became own: its home was read and translated at first use where the piece was not own,
+-- and then it was claimed
+pub record Owns (image : Option (List ℕ)) (class : Class) (order : Order)
+    (old new : CellView) (p : ℕ) : Type 0 where
+  pub warm : CellView
+  pub warms : Warms image old warm
+  pub stays : is_some (piece_in old p).own ≡ true → warm ≡ old
+  pub items : HeldIs class order warm
+  pub claims : Claims warm new p
+
+-- a refused call that reads and translates: only want of memory leaves more held than before, and
+-- that is raw bytes
+pub record Stays {T : Type 0} (image : Option (List ℕ)) (result : Result T ElfError)
+    (old new : CellView) : Type 0 where
+  pub warms : Warms image old new
+  pub held : new.held ≡ old.held
+  pub unchanged : IfErr result (λ e. e ≢ Memory → new ≡ old)
 
 -- a piece with other items, own and marked; it keeps its alignment
 abbrev pub replaced : CellView → ℕ → Items → CellView

@@ -1,15 +1,21 @@
 -- Items that are lent for writing: what the borrower leaves stands there afterwards.
-use Rattle.std.specs.Prelude.{List, ℕ, Some, slice_set}
-use Rattle.std.specs.Borrow.{Lends, Fml}
+use Rattle.std.specs.Prelude.{◌≡◌, List, ℕ, Option, Some, Result, slice_set}
+use Rattle.std.specs.Borrow.{Lends, LendsSoOk, Fml}
 use denote.RattleType.{RattleType}
 use denote.Ref.{MutBor}
 use Rattle.elf_types.specs.contracts.lists.List.{the_row as list_row}
+use Rattle.elf_types.specs.declared.records.Class.{Class}
+use Rattle.elf_types.specs.declared.records.Order.{Order}
+use Rattle.elf_types.specs.declared.errors.ElfError.{ElfError}
+use Rattle.section_data.specs.Leaves.{Owns, Stays}
 use Rattle.elf_xlate.specs.declared.content.Items.{Items}
 use Rattle.elf_xlate.specs.contracts.content.Items.{the_row as items_row}
 use Rattle.elf_object.specs.Object.{Piece}
 use Rattle.section_data.specs.contracts.piece.Piece.{the_row as piece_row}
 use Rattle.section_data.specs.contracts.cell.Cell.{the_row as cell_row}
 use Rattle.section_data.specs.Views.{CellView}
+use Rattle.section_data.specs.contracts.pieces.Pieces.{the_row as pieces_row}
+use Rattle.section_data.specs.Views.{piece_of}
 use Rattle.section_data.specs.Held.{piece_in}
 
 -- a piece with those items of its own
@@ -45,3 +51,33 @@ LendsPieceItems piece r = Lends piece_row items_row piece r (piece_with piece.no
 
 abbrev pub LendsCellItems : ℕ → MutBor CellView → MutBor Items → Fml
 LendsCellItems p cell r = Lends cell_row items_row cell r (with_items cell.now p)
+
+-- ---- The items of a piece that becomes own
+
+-- a piece that was lent: it became own, and holds what the borrower left
+pub record IsLent (image : Option (List ℕ)) (class : Class) (order : Order) (old new : CellView)
+    (p : ℕ) (left : Items) : Type 0 where
+  pub own : CellView
+  pub owns : Owns image class order old own p
+  pub cell : new ≡ with_items own p left
+
+abbrev pub LendsItems : Option (List ℕ) → Class → Order → ℕ → MutBor CellView
+    → Result (MutBor Items) ElfError → Fml
+LendsItems image class order p cell r =
+    LendsSoOk cell_row items_row cell r
+    (λ new left. IsLent image class order cell.now new p left)
+    (λ new. Stays image r cell.now new)
+
+-- the same of a list whose variant is given
+abbrev pub LendsItemList : (X : RattleType) → (List X.Denot → Items) → Option (List ℕ) → Class → Order
+    → ℕ → MutBor CellView → Result (MutBor (List X.Denot)) ElfError → Fml
+LendsItemList X variant image class order p cell r =
+    LendsSoOk cell_row (list_row X) cell r
+    (λ new left. IsLent image class order cell.now new p (variant left))
+    (λ new. Stays image r cell.now new)
+
+-- ---- One piece of a list
+
+abbrev pub LendsPieceOf : ℕ → MutBor (List Piece) → MutBor Piece → Fml
+LendsPieceOf p pieces r =
+    Lends pieces_row piece_row pieces r (λ left. slice_set pieces.now p left)

@@ -3,4 +3,3 @@ pub mod Held
 pub mod Refused
 pub mod Lends
 pub mod Leaves
-pub mod Entries

@@ -84,6 +84,10 @@ due_unless (Some e) due = 0
 unfoldable pub items_due : Class → CellView → ℕ → ℕ
 items_due class c p = due_unless (items_refused class c p) (piece_due c p)
 
+-- of a call that lends the items of a piece of a kind
+unfoldable pub lend_due : Class → CellView → Kind → ℕ → ℕ
+lend_due class c kind p = due_unless (kind_refused class c kind p) (piece_due c p)
+
 -- ---- Where Memory and Read may come
 
 -- in a call that only reads: where there is something to read

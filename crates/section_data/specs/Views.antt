@@ -1,7 +1,7 @@
 -- One section's cell, as contracts see it: where its data stands in the image as opened, what is
 -- held of it in memory, and its pieces (elf_getdata, elf_rawdata). Home and Piece are those of the
 -- plain object.
-use Rattle.std.specs.Prelude.{◌≡◌, ℕ, ◌+◌, ◌≤◌, Bool, true, false, not, ◌==◌, ◌&&◌, nat_lt, List, [], ◌∷◌, length, All, Option, Some, None, IfSome, IsSome}
+use Rattle.std.specs.Prelude.{◌≡◌, ℕ, ◌+◌, ◌≤◌, Bool, true, false, not, ◌==◌, ◌&&◌, nat_lt, List, [], ◌∷◌, length, slice_index_or, All, Option, Some, None, IfSome, IsSome}
 use Rattle.std.specs.Option.{option_map}
 use Rattle.elf_types.specs.declared.records.Kind.{Kind}
 use Rattle.elf_types.specs.declared.records.Kind.TheVariants as kinds
@@ -30,6 +30,15 @@ when false items = None
 
 abbrev pub piece_view : Bool → Items → ℕ → Bool → Piece
 piece_view own items align marked = record { own = when own items; align = align; marked = marked }
+
+-- the pieces of a section: the home piece is the first where there is one
+abbrev pub pieces_view : Bool → Piece → List Piece → List Piece
+pieces_view true home others = home ∷ others
+pieces_view false home others = others
+
+-- what stands at an index that no piece has is a clean home piece
+abbrev pub piece_of : List Piece → ℕ → Piece
+piece_of pieces p = slice_index_or pieces p home_piece
 
 abbrev pub home_view : ℕ → ℕ → Kind → Bool → Home
 home_view at len kind out = record { at = at; len = len; kind = kind; out = out }

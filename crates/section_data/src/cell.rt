@@ -14,6 +14,7 @@ ghost use Rattle.section_data.specs.Held.{piece_in, kind_in, cell_is_loaded};
 use crate::held::HomeItems;
 use crate::home::Home;
 use crate::piece::Piece;
+use crate::pieces::Pieces;
 use elf_types::{Class, ElfError, Kind, Shdr};
 use elf_xlate::Items;
 use std::alloc::Global;
@@ -39,7 +40,7 @@ pub struct Cell {
     raw: Option<Items>,
     /// The home's items where they are held in memory form.
     held: HomeItems,
-    pieces: Vec<Piece>,
+    pieces: Pieces,
 }
 
 impl Model for Cell {
@@ -47,19 +48,9 @@ impl Model for Cell {
 
     ghost Value = { CellView };
 
-    ghost view = { λ c. cell_view c.section (home_view c.home.at c.home.len c.home.kind c.out) c.raw c.held c.pieces.items };
+    ghost view = { λ c. cell_view c.section (home_view c.home.at c.home.len c.home.kind c.out) c.raw c.held c.pieces };
 
-    ghost invariant = { λ c. IsKept c.section (home_view c.home.at c.home.len c.home.kind c.out) c.raw c.held c.pieces.items };
-}
-
-/// A list of one piece, the clean home piece. It refuses `Memory` alone.
-fn home_pieces(alloc: Global) -> Result<Vec<Piece>, ElfError>
-    ensures ok { IfOk result (λ l. l.items ≡ home_piece ∷ []) }
-    ensures err { IfErr result (λ e. e ≡ Memory) }
-{
-    let mut pieces = Vec::new(alloc);
-    pieces.push(Piece::home())?;
-    Ok(pieces)
+    ghost invariant = { λ c. IsKept c.section (home_view c.home.at c.home.len c.home.kind c.out) c.raw c.held c.pieces };
 }
 
 impl Cell {
@@ -77,19 +68,19 @@ impl Cell {
     {
         match home {
             Some(home) => {
-                let pieces = home_pieces(alloc)?;
+                let pieces = Pieces::of_home(alloc);
                 Ok(Cell::over(alloc, section, home, home.passes_end(base), pieces))
             }
-            None => Ok(Cell::over(alloc, section, Home::none(), false, Vec::new(alloc))),
+            None => Ok(Cell::over(alloc, section, Home::none(), false, Pieces::none(alloc))),
         }
     }
 
     /// The cell over a home of which nothing is read.
-    fn over(alloc: Global, section: u32, home: Home, out: bool, pieces: Vec<Piece>) -> Cell
+    fn over(alloc: Global, section: u32, home: Home, out: bool, pieces: Pieces) -> Cell
         requires { IsCell (cell_view section (home_view home.at home.len home.kind out) None Nothing
-            pieces.items) }
+            pieces) }
         ensures value { result ≡ cell_view section (home_view home.at home.len home.kind out) None
-            Nothing pieces.items }
+            Nothing pieces }
         ensures cell { IsCell result }
     {
         Cell {
@@ -159,16 +150,17 @@ impl Cell {
         ensures value { result ≡ length self.now.pieces }
         ensures cell { IsCell self.now }
     {
-        self.pieces.len() as u32
+        self.pieces.len()
     }
 
     /// The piece with that number.
+    #[tactic(auto, unfolding(crate::specs::Held::piece_in))]
     fn piece(&self, p: u32) -> &Piece
         requires { p < length self.now.pieces }
         ensures value { result.now ≡ piece_in self.now p }
         ensures cell { IsCell self.now }
     {
-        &self.pieces[p as usize]
+        self.pieces.get(p)
     }
 
     /// Whether a piece has items of its own; an own piece is marked. It takes no memory.
@@ -198,7 +190,7 @@ impl Cell {
     }
 
     /// The kind that a piece holds: that of its own items, or its home's. It takes no memory.
-    #[tactic(auto, using(crate::proofs::Pieces::kind_own, crate::proofs::Pieces::kind_clean))]
+    #[tactic(auto, using(crate::proofs::PieceItems::kind_own, crate::proofs::PieceItems::kind_clean))]
     pub fn piece_kind(&self, p: u32) -> Kind
         requires { p < length self.now.pieces }
         ensures { result ≡ kind_in self.now p }

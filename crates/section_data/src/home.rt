@@ -46,7 +46,7 @@ impl Home {
     /// The home that a section header gives its section. It refuses nothing and takes no memory.
     ///
     /// Source: gABI chapter 4, "Section Header".
-    #[tactic(auto, unfolding(elf_object::specs::Open::home_of), using(crate::proofs::EmptyHomes::extent_of_no_kind))]
+    #[tactic(auto, unfolding(elf_object::specs::Open::home_of), using(elf_object::proofs::HomeLaws::extent_of_no_kind))]
     pub fn of(class: Class, h: &Shdr) -> Home
         ensures home { (size : ℕ) → home_view result.at result.len result.kind
             (passes_end size result.at result.len) ≡ home_of size h.now }

@@ -13,6 +13,7 @@ mod home;
 mod item;
 mod listed;
 mod piece;
+mod pieces;
 mod room;
 
 pub use cell::Cell;

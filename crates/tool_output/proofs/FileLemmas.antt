@@ -1,7 +1,7 @@
 -- Steps over a set of files.
-use Rattle.std.proofs.Common.{◌≡◌, ◌≢◌, ◌⊎◌, inl, inr, ◌++◌, ◌+◌, ◌<◌, ◌≤◌, ℕ, Bool, true, false, List, [], ◌∷◌, length, map, take, get_or, codes, Option, Some, None, Result, Ok, Err, IsTrue, IsSome, IsNone, IfSome, refl, sym, ap, ◌∙◌, subst, arith, ◌^◌, ◌-◌}
+use Rattle.std.proofs.Common.{◌≡◌, ◌≢◌, ◌⊎◌, inl, inr, ◌+◌, ◌<◌, ◌≤◌, ℕ, Bool, true, false, List, [], ◌∷◌, length, map, drop, get_or, codes, Option, Some, None, Result, Ok, Err, IsTrue, IsSome, IsNone, IfSome, refl, sym, ap, ◌∙◌, subst, arith, ◌^◌, ◌-◌}
 use Rattle.std.specs.Str.{bytes_eq}
-use Rattle.std.proofs.lemmas.List.{map-append, take_more, take_all}
+use Rattle.std.proofs.lemmas.List.{at_drop_more, at_drop_all}
 use Rattle.std.proofs.lemmas.Slice.Eq.{bytes_eq-Decides}
 use Rattle.elf_outside.specs.Counts.{Rose, RaisedBy}
 use Rattle.elf_outside.specs.Names.{Map, SameNames, Closes}
@@ -10,10 +10,11 @@ use Rattle.elf_outside.specs.declared.file_sets.Files.{Ghosts as FilesGhosts}
 use Rattle.tool_output.specs.declared.stops.Stop.{Stop}
 use Rattle.tool_output.specs.declared.stops.Stop.TheVariants.{Read, Write, Memory}
 use Rattle.tool_output.specs.declared.outputs.Outputs.{Outputs}
-use Rattle.tool_output.specs.Messages.{message}
+use Rattle.tool_output.specs.Names.{Name, file_name}
 use Rattle.tool_output.specs.Reports.{Report, Reports, refusal}
 use Rattle.tool_output.specs.Steps.{KeepsSinks, LeavesSinks, SinkRose, OnRead, OnWrite}
-use Rattle.tool_output.specs.Files.{report_on, asks_on, Totals, LeavesFiles, OnlyReads, IsWithin, both_bounds, all_bounds}
+use Rattle.tool_output.proofs.StepLemmas.{keeps_then}
+use Rattle.tool_output.specs.Files.{report_on, asks_on, Totals, LeavesFiles, OnlyReads, IsWithin, IsWithinLeft, both_bounds, all_bounds}
 
 -- ---- A file that was opened, read and closed
 
@@ -56,12 +57,12 @@ given_kept before opened own after none first raised = omega (arith, raised.late
 
 -- ---- What is said of a name
 
-module _ (command : List ℕ) (report : List ℕ → List ℕ → Report) (asks : List ℕ → Option ℕ) (named : Map) (name : List ℕ) where
-  pub report_absent : named name ≡ None → report_on command report named name ≡ refusal command name (codes "not found")
+module _ (command : List ℕ) (report : Name → List ℕ → Report) (asks : List ℕ → Option ℕ) (named : Map) (name : List ℕ) where
+  pub report_absent : named name ≡ None → report_on command report named name ≡ refusal command (file_name name) (codes "not found")
   unfolding report_on
   report_absent is = rw is refl
 
-  report_there : (bytes : List ℕ) → named name ≡ Some bytes → report_on command report named name ≡ report name bytes
+  report_there : (bytes : List ℕ) → named name ≡ Some bytes → report_on command report named name ≡ report (file_name name) bytes
   unfolding report_on
   report_there bytes is = rw is refl
 
@@ -71,7 +72,7 @@ module _ (command : List ℕ) (report : List ℕ → List ℕ → Report) (asks 
 
   -- the report on an open file is that on its name
   pub opened_reports : {O E : Type 0} (o : SinkGhosts O) (e : SinkGhosts E) (r : Result Bool Stop) (s t : Outputs O E) (held : Option (List ℕ))
-      → held ≡ named name → named name ≢ None → IfSome held (λ bytes. Reports o e r s t (report name bytes))
+      → held ≡ named name → named name ≢ None → IfSome held (λ bytes. Reports o e r s t (report (file_name name) bytes))
       → Reports o e r s t (report_on command report named name)
   opened_reports o e r s t None same there h = absurd (there (sym same))
   opened_reports o e r s t (Some bytes) same there h = rw (report_there bytes (sym same)) h
@@ -89,7 +90,7 @@ module _ (command : List ℕ) (report : List ℕ → List ℕ → Report) (asks 
 
 -- what is said of a name by one map is said by another that has the same there
 pub report_on_same : {O E : Type 0} (o : SinkGhosts O) (e : SinkGhosts E) (r : Result Bool Stop) (s t : Outputs O E)
-    (command : List ℕ) (report : List ℕ → List ℕ → Report) (m0 m1 : Map) (name shown : List ℕ) → m1 shown ≡ m0 shown → shown ≡ name
+    (command : List ℕ) (report : Name → List ℕ → Report) (m0 m1 : Map) (name shown : List ℕ) → m1 shown ≡ m0 shown → shown ≡ name
     → Reports o e r s t (report_on command report m1 shown) → Reports o e r s t (report_on command report m0 name)
 unfolding report_on
 report_on_same o e r s t command report m0 m1 name shown same is h = rw (← is) (rw same at h)
@@ -137,63 +138,67 @@ module _ {F D O E : Type 0} (f : FilesGhosts F D) (o : SinkGhosts O) (e : SinkGh
     live = λ small. k.live (rw (h.live small) small) ∙ h.live small;
   }
 
-  pub keeps_none : (s : Outputs O E) → KeepsSinks o e s s
-  keeps_none s = record {
-    same_out = refl;
-    same_err = refl;
-    same_page = refl;
-    leaves = record { out_rest = refl; err_rest = refl; out_later = omega arith; err_later = omega arith };
+  -- a failed write of the second step
+  wrote_later : (a b c : F) (s t u : Outputs O E) → Totals f a b → KeepsSinks o e s t
+      → Rose (f.write_faults b) (f.write_faults c) ⊎ SinkRose o e t.out.now u.out.now t.err.now u.err.now
+      → Rose (f.write_faults a) (f.write_faults c) ⊎ SinkRose o e s.out.now u.out.now s.err.now u.err.now
+  wrote_later a b c s t u h k (inl rose) = inl (let p = h.write_faults in omega (arith, p, rose))
+  wrote_later a b c s t u h k (inr (inl rose)) = inr (inl (let p = k.leaves.out_later in omega (arith, p, rose)))
+  wrote_later a b c s t u h k (inr (inr rose)) = inr (inr (let p = k.leaves.err_later in omega (arith, p, rose)))
+
+  -- a step that stops, after others
+  pub leaves_stop : {T U : Type 0} (stop : Stop) (a b c : F) (s t u : Outputs O E) → Totals f a b → KeepsSinks o e s t
+      → LeavesFiles {T = T} f o e (Err stop) b c t u → LeavesFiles {T = U} f o e (Err stop) a c s u
+  leaves_stop Read a b c s t u h k l = record {
+    totals = totals_then a b c h l.totals;
+    keeps = keeps_then o e s t u k l.keeps;
+    read = omega (arith, h.read_faults, l.read);
+    write = tt;
   }
-
-  pub keeps_then : (s t u : Outputs O E) → KeepsSinks o e s t → KeepsSinks o e t u → KeepsSinks o e s u
-  keeps_then s t u h k = record {
-    same_out = k.same_out ∙ h.same_out;
-    same_err = k.same_err ∙ h.same_err;
-    same_page = k.same_page ∙ h.same_page;
-    leaves = record {
-      out_rest = k.leaves.out_rest ∙ h.leaves.out_rest;
-      err_rest = k.leaves.err_rest ∙ h.leaves.err_rest;
-      out_later = omega (arith, h.leaves.out_later, k.leaves.out_later);
-      err_later = omega (arith, h.leaves.err_later, k.leaves.err_later);
-    };
+  leaves_stop Write a b c s t u h k l = record {
+    totals = totals_then a b c h l.totals;
+    keeps = keeps_then o e s t u k l.keeps;
+    read = tt;
+    write = wrote_later a b c s t u h k l.write;
   }
+  leaves_stop Memory a b c s t u h k l =
+      record { totals = totals_then a b c h l.totals; keeps = keeps_then o e s t u k l.keeps; read = tt; write = tt }
 
--- ---- Bounds
+-- ---- Bounds, by what is left of them
 
-both_assoc : (a b c : Option ℕ) → both_bounds (both_bounds a b) c ≡ both_bounds a (both_bounds b c)
-both_assoc None b c = refl
-both_assoc (Some a) None c = refl
-both_assoc (Some a) (Some b) None = refl
-both_assoc (Some a) (Some b) (Some c) = ap Some (omega arith)
+pub bound_begins : (whole : Option ℕ) (a : ℕ) → IsWithinLeft whole whole a a
+bound_begins None a = tt
+bound_begins (Some n) a = omega arith
 
-both_zero : (b : Option ℕ) → both_bounds b (Some 0) ≡ both_bounds (Some 0) b
-both_zero None = refl
-both_zero (Some b) = ap Some (omega arith)
+bound_goes_on : (whole bound left : Option ℕ) (a b c : ℕ) → IsWithinLeft whole (both_bounds bound left) a b → IsWithin bound b c
+    → IsWithinLeft whole left a c
+bound_goes_on None bound left a b c h k = tt
+bound_goes_on (Some n) None left a b c h k = absurd h
+bound_goes_on (Some n) (Some m) None a b c h k = absurd h
+bound_goes_on (Some n) (Some m) (Some l) a b c h k = omega arith
 
-bounds_append : (bs : List (Option ℕ)) (b : Option ℕ) → all_bounds (bs ++ b ∷ []) ≡ both_bounds (all_bounds bs) b
-unfolding all_bounds
-bounds_append [] b = both_zero b
-bounds_append (a ∷ bs) b = ap (both_bounds a) (bounds_append bs b) ∙ sym (both_assoc a (all_bounds bs) b)
+bound_ends : (whole : Option ℕ) (a b : ℕ) → IsWithinLeft whole (Some 0) a b → IsWithin whole a b
+bound_ends None a b h = tt
+bound_ends (Some n) a b h = omega arith
 
-within_both : (p q : Option ℕ) (a b c : ℕ) → IsWithin p a b → IsWithin q b c → IsWithin (both_bounds p q) a c
-within_both None q a b c h k = tt
-within_both (Some p) None a b c h k = tt
-within_both (Some p) (Some q) a b c h k = omega arith
+module _ {X : Type 0} (asks : X → Option ℕ) (whole : Option ℕ) (xs : List X) where
+  abbrev bounds : List X → Option ℕ
+  bounds ys = all_bounds (map asks ys)
 
-module _ (asks : List ℕ → Option ℕ) (names : List (List ℕ)) where
-  pub asks_none : (a : ℕ) → IsWithin (all_bounds (map asks (take 0 names))) a a
+  bounds_cons : (x : X) (ys : List X) → bounds (x ∷ ys) ≡ both_bounds (asks x) (bounds ys)
   unfolding all_bounds
-  asks_none a = omega arith
+  bounds_cons x ys = refl
 
-  pub asks_more : (a b c i : ℕ) (name : List ℕ) → i < length names → name ≡ get_or names i name
-      → IsWithin (all_bounds (map asks (take i names))) a b → IsWithin (asks name) b c
-      → IsWithin (all_bounds (map asks (take (i + 1) names))) a c
-  asks_more a b c i name lt is h k =
-      let one_more : take (i + 1) names ≡ take i names ++ (name ∷ []) = take_more names i name lt ∙ ap (λ (n : List ℕ). take i names ++ (n ∷ [])) (sym is) in
-      subst (λ (o : Option ℕ). IsWithin o a c)
-      (sym (ap (λ (ns : List (List ℕ)). all_bounds (map asks ns)) one_more ∙ ap all_bounds (map-append asks (take i names) (name ∷ []))
-      ∙ bounds_append (map asks (take i names)) (asks name)))
-      (within_both (all_bounds (map asks (take i names))) (asks name) a b c h k)
+  bounds_nil : bounds [] ≡ Some 0
+  unfolding all_bounds
+  bounds_nil = refl
 
-  pub asks_all : (a b i : ℕ) → length names ≤ i → IsWithin (all_bounds (map asks (take i names))) a b → IsWithin (all_bounds (map asks names)) a b
-  asks_all a b i le h = subst (λ (ns : List (List ℕ)). IsWithin (all_bounds (map asks ns)) a b) (take_all i names le) h
+  pub bounds_go_on : (a b c i : ℕ) (x : X) → i < length xs → x ≡ get_or xs i x → IsWithinLeft whole (all_bounds (map asks (drop i xs))) a b
+      → IsWithin (asks x) b c → IsWithinLeft whole (all_bounds (map asks (drop (i + 1) xs))) a c
+  bounds_go_on a b c i x lt is h k =
+      bound_goes_on whole (asks x) (bounds (drop (i + 1) xs)) a b c
+      (subst (λ (o : Option ℕ). IsWithinLeft whole o a b)
+      (at_drop_more bounds xs i x lt ∙ ap (λ (y : X). bounds (y ∷ drop (i + 1) xs)) (sym is) ∙ bounds_cons x (drop (i + 1) xs)) h) k
+
+  pub bounds_end : (a b i : ℕ) → length xs ≤ i → IsWithinLeft whole (all_bounds (map asks (drop i xs))) a b → IsWithin whole a b
+  bounds_end a b i le h = bound_ends whole a b (subst (λ (o : Option ℕ). IsWithinLeft whole o a b) (at_drop_all bounds xs i le ∙ bounds_nil) h)

@@ -1,8 +1,10 @@
 pub mod EndLemmas
 pub mod FileLemmas
-pub mod LineLemmas
 pub mod MarkLemmas
 pub mod OutcomeLemmas
 pub mod PageLemmas
 pub mod ReportLemmas
+pub mod Rows
+pub mod SourceLemmas
 pub mod StepLemmas
+pub mod UnderWayLemmas

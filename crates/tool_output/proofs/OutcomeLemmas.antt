@@ -1,7 +1,9 @@
 -- The end of a run.
-use Rattle.std.proofs.Common.{◌≡◌, ◌≢◌, ◌⊎◌, inl, inr, ◌++◌, ◌+◌, ◌<◌, ◌≤◌, ℕ, Bool, true, false, List, [], ◌∷◌, length, take, slice_index, Option, Some, None, Result, Ok, Err, OnOk, IfOk, IfErr, IfSome, IsTrue, cond, refl, sym, ap, ◌∙◌, subst, arith, lit<, lit≤}
+use Rattle.std.proofs.Common.{◌≡◌, ◌≢◌, ◌⊎◌, inl, inr, ◌++◌, ◌+◌, ◌<◌, ◌≤◌, ℕ, Bool, true, false, List, [], ◌∷◌, length, take, Option, Some, None, Result, Ok, Err, OnOk, IfOk, IfErr, IfSome, IsTrue, if◌then◌else◌, refl, sym, ap, ◌∙◌, subst, arith, lit<, lit≤}
 use Rattle.std.proofs.lemmas.List.{take_all}
+use Rattle.std.specs.Option.{option_map}
 use Rattle.elf_outside.specs.Counts.{Rose}
+use Rattle.elf_outside.specs.Torn.{IsTorn}
 use Rattle.elf_outside.specs.declared.sinks.Sink.{Ghosts as SinkGhosts}
 use Rattle.elf_outside.specs.declared.file_sets.Files.{Ghosts as FilesGhosts}
 use Rattle.tool_output.specs.declared.stops.Stop.{Stop}
@@ -12,7 +14,7 @@ use Rattle.tool_output.specs.Marks.{Mark, Gained, GainedFront}
 use Rattle.tool_output.specs.Steps.{Writes, Ends, Ended, LeavesSinks, SinkRose, OnRead, OnWrite, OnKept}
 use Rattle.tool_output.specs.Reports.{Report, Reports}
 use Rattle.tool_output.specs.Files.{OnlyReads, LeavesFiles, IsWithin}
-use Rattle.tool_output.specs.Outcomes.{FileWrite, Outcome, report_outcome, only_says, write_of, held_after, IsMixed, MayHoldInPlace, MayHoldBytes, MayHold, Does, Delivers, Costs, RunLeaves}
+use Rattle.tool_output.specs.Outcomes.{FileWrite, Outcome, report_outcome, only_says, write_of, held_after, MayHoldChanged, MayHoldBytes, MayHold, Does, Delivers, Costs, RunLeaves}
 use Rattle.tool_output.proofs.EndLemmas.{ended_over, ok_at}
 use Rattle.tool_output.proofs.StepLemmas.{stops_as, writes_nothing}
 
@@ -73,49 +75,41 @@ module _ {F D O E : Type 0} (f : FilesGhosts F D) (o : SinkGhosts O) (e : SinkGh
 
 -- ---- A file of a run that stopped
 
-mixed_old : (old new : List ℕ) → IsMixed old new old
-mixed_old old new = record { len = inl refl; bytes = λ k lt. inl (lt, refl) }
+torn_old : (old new : List ℕ) → IsTorn old new old
+torn_old old new = record { len = inl refl; each = λ k lt. inl refl }
 
-mixed_new : (old new : List ℕ) → IsMixed old new new
-mixed_new old new = record { len = inr refl; bytes = λ k lt. inr (inl (lt, refl)) }
+torn_new : (old new : List ℕ) → IsTorn old new new
+torn_new old new = record { len = inr refl; each = λ k lt. inr (lt, refl) }
 
-abbrev HoldsMixed : List ℕ → Option (List ℕ) → Option (List ℕ) → Type 0
-HoldsMixed bytes old held = IfSome old (λ before. (now : List ℕ) × (held ≡ Some now) × IsMixed before bytes now)
-
-written_old : (bytes : List ℕ) (old : Option (List ℕ)) → HoldsMixed bytes old old
-written_old bytes None = tt
-written_old bytes (Some before) = (before, refl, mixed_old before bytes)
-
-written_new : (bytes : List ℕ) (old : Option (List ℕ)) → HoldsMixed bytes old (Some bytes)
-written_new bytes None = tt
-written_new bytes (Some before) = (bytes, refl, mixed_new before bytes)
-
-in_place_at_four : (bytes : List ℕ) (old held : Option (List ℕ)) → HoldsMixed bytes old held → MayHoldInPlace 4 bytes old held
-in_place_at_four bytes old held h = record {
+changed_at_four : (bytes old now : List ℕ) (held : Option (List ℕ)) → held ≡ Some now → IsTorn old bytes now → MayHoldChanged 4 bytes old held
+changed_at_four bytes old now held is torn = record {
   unread = λ no. absurd (omega arith);
-  unwritten = λ four. h;
+  unwritten = λ four. (now, is, torn);
   wanting = λ no. absurd (omega arith);
 }
 
-old_or_new : (bytes : List ℕ) (old held : Option (List ℕ)) → (held ≡ old) ⊎ (held ≡ Some bytes) → HoldsMixed bytes old held
-old_or_new bytes old held (inl same) = subst (HoldsMixed bytes old) (sym same) (written_old bytes old)
-old_or_new bytes old held (inr whole) = subst (HoldsMixed bytes old) (sym whole) (written_new bytes old)
+old_or_new : (bytes old : List ℕ) (held : Option (List ℕ)) → (held ≡ Some old) ⊎ (held ≡ Some bytes) → MayHoldChanged 4 bytes old held
+old_or_new bytes old held (inl same) = changed_at_four bytes old old held same (torn_old old bytes)
+old_or_new bytes old held (inr whole) = changed_at_four bytes old bytes held whole (torn_new old bytes)
 
 at_four : (stop : Stop) (in_place : Bool) (bytes : List ℕ) (old held : Option (List ℕ))
     → MayHoldBytes in_place (stop_status stop) bytes old held → MayHoldBytes in_place 4 bytes old held
 at_four stop false bytes old held h = h
-at_four Read true bytes old held h = in_place_at_four bytes old held (old_or_new bytes old held (inl (h.unread refl)))
-at_four Memory true bytes old held h = in_place_at_four bytes old held (old_or_new bytes old held (h.wanting refl))
-at_four Write true bytes old held h = h
+at_four stop true bytes None held h = h
+at_four Read true bytes (Some old) held h = old_or_new bytes old held (inl (h.unread refl))
+at_four Memory true bytes (Some old) held h = old_or_new bytes old held (h.wanting refl)
+at_four Write true bytes (Some old) held h = h
 
 -- what another stop may leave, a failed write may leave
 stopped_at_four : (stop : Stop) (w : Option FileWrite) (old held : Option (List ℕ)) → MayHold (stop_status stop) w old held → MayHold 4 w old held
 stopped_at_four stop None old held h = h
 stopped_at_four stop (Some w) old held h = at_four stop w.in_place w.bytes old held h
 
-whole_at_four : (in_place : Bool) (bytes : List ℕ) (old : Option (List ℕ)) → MayHoldBytes in_place 4 bytes old (Some bytes)
+whole_at_four : (in_place : Bool) (bytes : List ℕ) (old : Option (List ℕ))
+    → MayHoldBytes in_place 4 bytes old (if in_place then option_map (λ _. bytes) old else Some bytes)
 whole_at_four false bytes old = inr (length bytes, ap Some (sym (take_all (length bytes) bytes (omega arith))))
-whole_at_four true bytes old = in_place_at_four bytes old (Some bytes) (written_new bytes old)
+whole_at_four true bytes None = refl
+whole_at_four true bytes (Some old) = old_or_new bytes old (Some bytes) (inr refl)
 
 -- and so may be left what is stated
 stated_at_four : (w : Option FileWrite) (old held : Option (List ℕ)) → held ≡ held_after w old → MayHold 4 w old held
@@ -124,11 +118,13 @@ stated_at_four (Some w) old held h = subst (MayHoldBytes w.in_place 4 w.bytes ol
 
 may_hold_same : (status : ℕ) (w : Option FileWrite) (old : Option (List ℕ)) → MayHold status w old old
 may_hold_same status None old = refl
-may_hold_same status (Some w) old = bytes_same w.in_place
+may_hold_same status (Some w) old = bytes_same w.in_place old
   where
-    bytes_same : (in_place : Bool) → MayHoldBytes in_place status w.bytes old old
-    bytes_same true = record { unread = λ three. refl; unwritten = λ four. written_old w.bytes old; wanting = λ five. inl refl }
-    bytes_same false = inl refl
+    bytes_same : (in_place : Bool) (held : Option (List ℕ)) → MayHoldBytes in_place status w.bytes held held
+    bytes_same true None = refl
+    bytes_same true (Some before) =
+        record { unread = λ three. refl; unwritten = λ four. (before, refl, torn_old before w.bytes); wanting = λ five. inl refl }
+    bytes_same false held = inl refl
 
 within_same : (bound : Option ℕ) (a : ℕ) → IsWithin bound a a
 within_same None a = tt

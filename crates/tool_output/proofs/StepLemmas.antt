@@ -1,5 +1,5 @@
 -- Steps that write, one after another.
-use Rattle.std.proofs.Common.{◌≡◌, ◌++◌, ℕ, List, [], Option, Result, Ok, Err, OnOk, OnErr, refl, sym, ap, ◌∙◌, subst, append_assoc, append-nil}
+use Rattle.std.proofs.Common.{◌≡◌, ◌++◌, arith, ℕ, List, [], Option, Result, Ok, Err, OnOk, OnErr, refl, sym, ap, ◌∙◌, subst, append_assoc, append-nil}
 use Rattle.elf_types.specs.declared.errors.ElfError.{ElfError}
 use Rattle.elf_outside.specs.declared.sinks.Sink.{Ghosts}
 use Rattle.tool_output.specs.declared.stops.Stop.{Stop}
@@ -7,7 +7,7 @@ use Rattle.tool_output.specs.declared.stops.Stop.TheVariants.{Read, Write, Memor
 use Rattle.tool_output.specs.declared.outputs.Side.{Side}
 use Rattle.tool_output.specs.declared.outputs.Outputs.{Outputs}
 use Rattle.tool_output.specs.Marks.{Mark, said, Gained}
-use Rattle.tool_output.specs.Steps.{waiting, Gains, GainsFront, Went, WentFront, OnStop, OnWrite, Writes, Performs, OnRead}
+use Rattle.tool_output.specs.Steps.{waiting, Gains, GainsFront, Went, WentFront, OnStop, OnWrite, Writes, Performs, OnRead, KeepsSinks}
 use Rattle.tool_output.proofs.MarkLemmas.{said_append, said_none, gained_none, gained_then}
 
 gained_same : (a b p q : Option (List ℕ)) → b ≡ a → q ≡ p → Gained a b p q []
@@ -189,4 +189,27 @@ module _ {O E : Type 0} (o : Ghosts O) (e : Ghosts E) where
       went = went_then s t m [] (said t.side []) turned.ok (went_text t m [] out err same (page ∙ sym (append-nil t.page.now)));
     };
     lost = tt;
+  }
+
+  -- ---- What is left
+
+  pub keeps_none : (s : Outputs O E) → KeepsSinks o e s s
+  keeps_none s = record {
+    same_out = refl;
+    same_err = refl;
+    same_page = refl;
+    leaves = record { out_rest = refl; err_rest = refl; out_later = omega arith; err_later = omega arith };
+  }
+
+  pub keeps_then : (s t u : Outputs O E) → KeepsSinks o e s t → KeepsSinks o e t u → KeepsSinks o e s u
+  keeps_then s t u h k = record {
+    same_out = k.same_out ∙ h.same_out;
+    same_err = k.same_err ∙ h.same_err;
+    same_page = k.same_page ∙ h.same_page;
+    leaves = record {
+      out_rest = k.leaves.out_rest ∙ h.leaves.out_rest;
+      err_rest = k.leaves.err_rest ∙ h.leaves.err_rest;
+      out_later = omega (arith, h.leaves.out_later, k.leaves.out_later);
+      err_later = omega (arith, h.leaves.err_later, k.leaves.err_later);
+    };
   }

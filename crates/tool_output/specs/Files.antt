@@ -1,34 +1,37 @@
--- What a step over a set of files leaves.
-use Rattle.std.specs.Prelude.{◌≡◌, ◌⊎◌, ◌≤◌, ◌<◌, ◌^◌, ◌-◌, ◌+◌, ℕ, List, [], ◌∷◌, Option, Some, None, IfSome, Result, IsTrue, codes}
+-- What a step over a set of files does and leaves.
+use Rattle.std.specs.Prelude.{◌≡◌, ◌⊎◌, ◌≤◌, ◌<◌, ◌^◌, ◌-◌, ◌+◌, ℕ, List, [], ◌∷◌, Bool, Option, Some, None, IfSome, Result, IsTrue, codes}
 use Rattle.elf_outside.specs.Counts.{Rose}
 use Rattle.elf_outside.specs.Names.{Map, SameNames}
 use Rattle.elf_outside.specs.declared.sinks.Sink.{Ghosts as SinkGhosts}
 use Rattle.elf_outside.specs.declared.file_sets.Files.{Ghosts as FilesGhosts}
 use Rattle.tool_output.specs.declared.stops.Stop.{Stop}
 use Rattle.tool_output.specs.declared.outputs.Outputs.{Outputs}
-use Rattle.tool_output.specs.Reports.{Report, refusal}
+use Rattle.tool_output.specs.Names.{Name, file_name}
+use Rattle.tool_output.specs.Reports.{Report, Reports, refusal}
 use Rattle.tool_output.specs.Steps.{KeepsSinks, OnRead, OnWrite, SinkRose}
 
 -- ---- What is said of names
 
 -- the report on a name: the one on its bytes, or that it is not there
-unfoldable pub report_on : List ℕ → (List ℕ → List ℕ → Report) → Map → List ℕ → Report
-report_on command report named name = on_held (named name)
+unfoldable pub report_on : List ℕ → (Name → List ℕ → Report) → Map → List ℕ → Report
+report_on command report named file = on_held (named file)
   where
     on_held : Option (List ℕ) → Report
-    on_held (Some bytes) = report name bytes
-    on_held None = refusal command name (codes "not found")
+    on_held (Some bytes) = report (file_name file) bytes
+    on_held None = refusal command (file_name file) (codes "not found")
 
 -- how many bytes are asked for at most to give it, where that is promised
 unfoldable pub asks_on : (List ℕ → Option ℕ) → Map → List ℕ → Option ℕ
-asks_on asks named name = of_held (named name)
+asks_on asks named file = of_held (named file)
   where
     of_held : Option (List ℕ) → Option ℕ
     of_held (Some bytes) = asks bytes
     of_held None = Some 0
 
--- no total of a set of files falls, each file that was opened is closed again, and the set tells its map
--- as before
+-- ---- What a step leaves
+
+-- no total of a set of files falls, each file that was opened is closed again, and the set tells
+-- its map as before
 pub record Totals {F D : Type 0} (f : FilesGhosts F D) (old new : F) : Type 0 where
   pub tells : f.tells new ≡ f.tells old
   pub read_faults : f.read_faults old ≤ f.read_faults new
@@ -37,9 +40,10 @@ pub record Totals {F D : Type 0} (f : FilesGhosts F D) (old new : F) : Type 0 wh
   pub given : f.given old ≤ f.given new
   pub live : f.live old < 2 ^ 64 - 8 → f.live new ≡ f.live old
 
--- What a step over files leaves, and the causes of its stops: of Read a failed read of a file, of Write a
--- failed write of a file or a failed put.
-pub record LeavesFiles {F D O E T : Type 0} (f : FilesGhosts F D) (o : SinkGhosts O) (e : SinkGhosts E)
+-- What a step over files leaves, and the causes of its stops: of Read a failed read of a file, of
+-- Write a failed write of a file or a failed put.
+pub record LeavesFiles {F D O E T : Type 0}
+    (f : FilesGhosts F D) (o : SinkGhosts O) (e : SinkGhosts E)
     (result : Result T Stop) (files_old files_new : F) (old new : Outputs O E) : Type 0 where
   pub totals : Totals f files_old files_new
   pub keeps : KeepsSinks o e old new
@@ -49,8 +53,21 @@ pub record LeavesFiles {F D O E T : Type 0} (f : FilesGhosts F D) (o : SinkGhost
 
 -- no file is written: every name is as before, and nothing is handed to writes
 pub record OnlyReads {F D : Type 0} (f : FilesGhosts F D) (old new : F) : Type 0 where
-  pub names : IsTrue (f.tells old) → SameNames (f.tells old) (f.named old) (f.tells new) (f.named new)
+  pub names : IsTrue (f.tells old)
+      → SameNames (f.tells old) (f.named old) (f.tells new) (f.named new)
   pub given : f.given new ≡ f.given old
+
+-- ---- A step that only reads files
+
+-- it gives the report on the map of names, where the set tells it
+pub record ReportsFiles {F D O E : Type 0}
+    (f : FilesGhosts F D) (o : SinkGhosts O) (e : SinkGhosts E)
+    (report : Map → Report) (result : Result Bool Stop)
+    (files_old files_new : F) (old new : Outputs O E) : Type 0 where
+  pub reports : IsTrue (f.tells files_old)
+      → Reports o e result old new (report (f.named files_old))
+  pub reads : OnlyReads f files_old files_new
+  pub leaves : LeavesFiles f o e result files_old files_new old new
 
 -- ---- Bounds on a count of bytes
 
@@ -66,3 +83,9 @@ both_bounds _ _ = None
 unfoldable pub all_bounds : List (Option ℕ) → Option ℕ
 all_bounds [] = Some 0
 all_bounds (b ∷ bs) = both_bounds b (all_bounds bs)
+
+-- of a whole bound, where there is one, what is left may still be asked for
+abbrev pub IsWithinLeft : Option ℕ → Option ℕ → ℕ → ℕ → Type 0
+IsWithinLeft None left before now = Unit {0}
+IsWithinLeft (Some whole) None before now = ⊥
+IsWithinLeft (Some whole) (Some left) before now = now + left ≤ before + whole

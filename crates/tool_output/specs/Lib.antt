@@ -2,8 +2,10 @@ pub mod Files
 pub mod Lines
 pub mod Marks
 pub mod Messages
+pub mod Names
 pub mod Outcomes
 pub mod Reports
-pub mod Steps
+pub mod Sources
 pub mod Statuses
+pub mod Steps
 pub mod Stops

@@ -14,14 +14,17 @@ abbrev pub waiting : {O E : Type 0} → Outputs O E → List Mark
 waiting s = said s.side s.page.now
 
 -- both sinks gained the marks from one step to another, or a front of them
-abbrev pub Gains : {O E : Type 0} → Ghosts O → Ghosts E → Outputs O E → Outputs O E → List Mark → Type 0
+abbrev pub Gains : {O E : Type 0}
+    → Ghosts O → Ghosts E → Outputs O E → Outputs O E → List Mark → Type 0
 Gains o e old new marks =
-    Gained (o.wrote old.out.now) (o.wrote new.out.now) (e.wrote old.err.now) (e.wrote new.err.now) marks
+    Gained (o.wrote old.out.now) (o.wrote new.out.now)
+    (e.wrote old.err.now) (e.wrote new.err.now) marks
 
 abbrev pub GainsFront : {O E : Type 0}
     → Ghosts O → Ghosts E → Outputs O E → Outputs O E → List Mark → Type 0
 GainsFront o e old new marks =
-    GainedFront (o.wrote old.out.now) (o.wrote new.out.now) (e.wrote old.err.now) (e.wrote new.err.now) marks
+    GainedFront (o.wrote old.out.now) (o.wrote new.out.now)
+    (e.wrote old.err.now) (e.wrote new.err.now) marks
 
 -- the marks were written: of what waited and of them, all was put but what waits now
 pub record Went {O E : Type 0} (o : Ghosts O) (e : Ghosts E) (old new : Outputs O E)
@@ -61,8 +64,9 @@ abbrev pub OnKept : {T : Type 0} → Result T Stop → Type 0 → Type 0
 OnKept (Err Write) P = Unit {0}
 OnKept _ P = P
 
--- A step writes the marks. Where it stops it has written a front of them, and what waits then is still
--- to be put. Where a write failed the page is lost, and the sinks have a front of what waited and of them.
+-- A step writes the marks. Where it stops it has written a front of them, and what waits then is
+-- still to be put. Where a write failed the page is lost, and the sinks have a front of what waited
+-- and of them.
 pub record Writes {O E T : Type 0} (o : Ghosts O) (e : Ghosts E) (result : Result T Stop)
     (old new : Outputs O E) (marks : List Mark) : Type 0 where
   pub ok : OnOk result (Went o e old new marks)
@@ -91,13 +95,15 @@ SinkRose o e out_old out_new err_old err_new =
     Rose (o.faults out_old) (o.faults out_new) ⊎ Rose (e.faults err_old) (e.faults err_new)
 
 -- the outputs hold the same references, and their sinks are left
-pub record KeepsSinks {O E : Type 0} (o : Ghosts O) (e : Ghosts E) (old new : Outputs O E) : Type 0 where
+pub record KeepsSinks {O E : Type 0} (o : Ghosts O) (e : Ghosts E) (old new : Outputs O E)
+    : Type 0 where
   pub same_out : new.out.ghost_name ≡ old.out.ghost_name
   pub same_err : new.err.ghost_name ≡ old.err.ghost_name
   pub same_page : new.page.ghost_name ≡ old.page.ghost_name
   pub leaves : LeavesSinks o e old.out.now new.out.now old.err.now new.err.now
 
--- What a step leaves, and the causes of its stops: of Read the one that is given, of Write a failed put.
+-- What a step leaves, and the causes of its stops: of Read the one that is given, of Write a failed
+-- put.
 pub record LeavesOutputs {O E T : Type 0} (o : Ghosts O) (e : Ghosts E) (reads : Type 0)
     (result : Result T Stop) (old new : Outputs O E) : Type 0 where
   pub keeps : KeepsSinks o e old new
@@ -118,23 +124,22 @@ pub record Waits {O E : Type 0} (old new : Outputs O E) (page : List ℕ) : Type
 
 -- ---- The end
 
--- What waited is put, and the answer stands, or that put fails; an empty page is not put, nor the page of
--- a step that a failed write stopped.
+-- What waited is put, and the answer stands, or that put fails; an empty page is not put, nor the
+-- page of a step that a failed write stopped.
 pub record Ends {O E T : Type 0} (o : Ghosts O) (e : Ghosts E) (ended result : Result T Stop)
     (old : Outputs O E) (out_new : O) (err_new : E) : Type 0 where
   pub lost : OnWrite ended ((result ≡ ended) × (out_new ≡ old.out.now) × (err_new ≡ old.err.now))
   pub answer : OnKept result (result ≡ ended)
-  pub put : OnKept result
-      (Gained (o.wrote old.out.now) (o.wrote out_new) (e.wrote old.err.now) (e.wrote err_new) (waiting old))
-  pub failed : OnKept ended (OnWrite result
-      (GainedFront (o.wrote old.out.now) (o.wrote out_new) (e.wrote old.err.now) (e.wrote err_new)
-      (waiting old)))
+  pub put : OnKept result (Gained (o.wrote old.out.now) (o.wrote out_new)
+      (e.wrote old.err.now) (e.wrote err_new) (waiting old))
+  pub failed : OnKept ended (OnWrite result (GainedFront (o.wrote old.out.now) (o.wrote out_new)
+      (e.wrote old.err.now) (e.wrote err_new) (waiting old)))
   pub unput : old.page.now ≡ [] → (out_new ≡ old.out.now) × (err_new ≡ old.err.now)
   pub leaves : LeavesSinks o e old.out.now out_new old.err.now err_new
   pub cause : OnWrite result (OnKept ended (SinkRose o e old.out.now out_new old.err.now err_new))
 
 -- a call over two sinks is over: they gained all the marks, or a front of them where it stopped
-pub record Ended {T : Type 0} (result : Result T Stop) (out_old out_new err_old err_new : Option (List ℕ))
-    (marks : List Mark) : Type 0 where
+pub record Ended {T : Type 0} (result : Result T Stop)
+    (out_old out_new err_old err_new : Option (List ℕ)) (marks : List Mark) : Type 0 where
   pub whole : OnOk result (Gained out_old out_new err_old err_new marks)
   pub stopped : OnErr result (GainedFront out_old out_new err_old err_new marks)

@@ -1,9 +1,10 @@
-//! How the text of a tool goes out: lines and messages, the two outputs and their page, and why a tool
-//! stops. Its definitions say what a tool reports, and how a run of the program ends.
+//! How the text of a tool goes out: names, lines and messages, the two outputs and their page, and
+//! why a tool stops. Its definitions say what a tool reports, and how a run of the program ends.
 #![tactic(auto)]
 
 pub mod lines;
 pub mod messages;
+pub mod names;
 pub mod outputs;
 pub mod statuses;
 pub mod stops;
@@ -11,7 +12,8 @@ pub mod stops;
 mod tests;
 
 pub use lines::Line;
-pub use messages::Message;
+pub use messages::{InSection, Message};
+pub use names::{FileName, NameEx};
 pub use outputs::{Outputs, PAGE_SIZE, Side};
 pub use statuses::Status;
 pub use stops::Stop;

@@ -2,33 +2,55 @@
 
 ghost use Rattle.std.specs.Prelude.{◌≡◌, ◌++◌};
 ghost use Rattle.elf_types.specs.Text.{error_text};
-ghost use Rattle.tool_output.specs.Messages.{message};
+ghost use Rattle.tool_output.specs.Messages.{message, in_section};
 
 use crate::lines::Line;
-use elf_types::{ElfError, Octets, put_bytes, put_error, put_text};
+use crate::names::FileName;
+use elf_types::{ElfError, Octets, put_bytes, put_decimal, put_error, put_text};
 
-/// The line `COMMAND: FILE: TEXT` with its newline.
+/// The line `COMMAND: NAME: TEXT` with its newline.
 #[derive(Clone, Copy)]
 pub struct Message<'a, T> {
     /// The command.
     pub command: &'a str,
-    /// The file, or a member as `LIB[MEMBER]`, which need not be text.
-    pub file: &'a [u8],
+    /// The file, or the member of an archive.
+    pub name: &'a FileName<'a>,
     /// What is wrong with it.
     pub text: T,
 }
 
 impl<T: Line> Line for Message<'_, T> {
-    ghost text = { λ m. message m.command.now m.file.now (T.text m.text) };
+    ghost text = { λ m. message m.command.now m.name.now (T.text m.text) };
 
-    #[tactic(auto, using(elf_types::proofs::Writers::stays), unfolding(crate::specs::Messages::message))]
+    #[tactic(auto, using(crate::proofs::Rows::kept), unfolding(crate::specs::Messages::message))]
     fn put(&self, page: &mut Octets) -> Result<(), ElfError> {
         put_text(page, self.command)?;
         put_text(page, ": ")?;
-        put_bytes(page, self.file)?;
+        self.name.put(page)?;
         put_text(page, ": ")?;
         self.text.put(page)?;
         put_text(page, "\n")
+    }
+}
+
+/// `section S: TEXT`, what is wrong with a section.
+#[derive(Clone, Copy)]
+pub struct InSection<T> {
+    /// The section.
+    pub section: u32,
+    /// What is wrong with it.
+    pub text: T,
+}
+
+impl<T: Line> Line for InSection<T> {
+    ghost text = { λ s. in_section s.section (T.text s.text) };
+
+    #[tactic(auto, using(crate::proofs::Rows::kept), unfolding(crate::specs::Messages::in_section))]
+    fn put(&self, page: &mut Octets) -> Result<(), ElfError> {
+        put_text(page, "section ")?;
+        put_decimal(page, u64::from(self.section))?;
+        put_text(page, ": ")?;
+        self.text.put(page)
     }
 }
 
@@ -38,6 +60,15 @@ impl Line for &str {
 
     fn put(&self, page: &mut Octets) -> Result<(), ElfError> {
         put_text(page, self)
+    }
+}
+
+/// Bytes that need not be text.
+impl Line for &[u8] {
+    ghost text = { λ b. b.now };
+
+    fn put(&self, page: &mut Octets) -> Result<(), ElfError> {
+        put_bytes(page, self)
     }
 }
 

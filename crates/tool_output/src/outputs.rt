@@ -1,13 +1,12 @@
-//! The two outputs, and the one way in which text goes to them: it waits in a page, which is put when it is
-//! full, when the other output has its turn, and at the end. So both outputs get few large pieces, in the
-//! order of writing, and no more than a page and a line is held.
+//! The two outputs, and the one way in which text goes to them: it waits in a page, which is put
+//! when it is full, when the other output has its turn, and at the end. So both outputs get few
+//! large pieces, in the order of writing, and no more than a page and a line is held.
 
 ghost use Rattle.std.specs.Prelude.{◌≡◌, ◌++◌, ◌+◌, ◌<◌, [], length, OnOk, OnErr, IfSome, IfNone};
-ghost use Rattle.elf_types.specs.Text.{error_text};
 ghost use Rattle.tool_output.specs.Marks.{said, Gained, GainedFront};
-ghost use Rattle.tool_output.specs.Reports.{Reports, refusal, shown};
+ghost use Rattle.tool_output.specs.Reports.{Reports, shown, found, noted, refusal};
 ghost use Rattle.tool_output.specs.Stops.{stop_of};
-ghost use Rattle.tool_output.specs.Steps.{Writes, LeavesSinks, SinkRose, LeavesOutputs, Waits, Ends, page_size};
+ghost use Rattle.tool_output.specs.Steps.{Writes, Performs, LeavesSinks, SinkRose, LeavesOutputs, Waits, Ends, page_size};
 
 use crate::lines::Line;
 use crate::messages::Message;
@@ -27,17 +26,17 @@ pub enum Side {
     Error,
 }
 
-/// The two outputs of a tool, and the page in which its text waits. It must be ended: a value that is
-/// let go is refused by the compiler.
+/// The two outputs of a tool, and the page in which its text waits. It must be ended: a value that
+/// is let go is refused by the compiler.
 pub struct Outputs<'a, O: Sink, E: Sink> {
     /// Standard output.
-    pub out: &'a mut O,
+    pub(crate) out: &'a mut O,
     /// Standard error.
-    pub err: &'a mut E,
+    pub(crate) err: &'a mut E,
     /// What waits.
-    pub page: &'a mut Octets,
+    pub(crate) page: &'a mut Octets,
     /// The output for which it waits.
-    pub side: Side,
+    pub(crate) side: Side,
 }
 
 /// Puts bytes to one of the outputs, and does nothing where there are none.
@@ -47,12 +46,12 @@ fn put_bytes<O: Sink, E: Sink>(
     side: Side,
     bytes: &[u8],
 ) -> Result<(), Failed>
-    ensures ok { OnOk result (Gained (O.wrote out.old) (O.wrote out.new) (E.wrote err.old) (E.wrote err.new)
-        (said side bytes.now)) }
-    ensures front { OnErr result
-        (GainedFront (O.wrote out.old) (O.wrote out.new) (E.wrote err.old) (E.wrote err.new)
-        (said side bytes.now)) }
-    ensures unput { bytes.now ≡ [] → (result ≡ Ok tt) × (out.new ≡ out.old) × (err.new ≡ err.old) }
+    ensures ok { OnOk result (Gained (O.wrote out.old) (O.wrote out.new)
+        (E.wrote err.old) (E.wrote err.new) (said side bytes.now)) }
+    ensures front { OnErr result (GainedFront (O.wrote out.old) (O.wrote out.new)
+        (E.wrote err.old) (E.wrote err.new) (said side bytes.now)) }
+    ensures unput { bytes.now ≡ [] →
+        (result ≡ Ok tt) × (out.new ≡ out.old) × (err.new ≡ err.old) }
     ensures leaves { LeavesSinks O.Sink E.Sink out.old out.new err.old err.new }
     ensures cause { OnErr result (SinkRose O.Sink E.Sink out.old out.new err.old err.new) }
 {
@@ -69,9 +68,11 @@ impl<'a, O: Sink, E: Sink> Outputs<'a, O, E> {
     /// Two outputs for which nothing waits. The page is empty.
     pub fn new(out: &'a mut O, err: &'a mut E, page: &'a mut Octets) -> Outputs<'a, O, E>
         requires { page.old ≡ [] }
-        ensures same { (result.out.ghost_name ≡ out.entry.ghost_name) × (result.err.ghost_name ≡ err.entry.ghost_name)
+        ensures same { (result.out.ghost_name ≡ out.entry.ghost_name)
+            × (result.err.ghost_name ≡ err.entry.ghost_name)
             × (result.page.ghost_name ≡ page.entry.ghost_name) }
-        ensures values { (result.out.now ≡ out.old) × (result.err.now ≡ err.old) × (result.page.now ≡ page.old) }
+        ensures values { (result.out.now ≡ out.old) × (result.err.now ≡ err.old)
+            × (result.page.now ≡ page.old) }
         ensures side { result.side ≡ Side.Out }
     {
         Outputs {
@@ -82,11 +83,14 @@ impl<'a, O: Sink, E: Sink> Outputs<'a, O, E> {
         }
     }
 
-    /// Puts what waits, if anything does. It stops with `Write` alone.
-    fn put_page(&mut self) -> Result<(), Stop>
+    /// Puts what waits, if anything does; afterwards nothing waits. A command calls it before its
+    /// first write to a file, so that a failed write of that file costs none of what was said
+    /// before. It stops with `Write` alone.
+    pub fn flush(&mut self) -> Result<(), Stop>
         ensures writes { Writes O.Sink E.Sink result self.old self.new [] }
         ensures empty { OnOk result (self.new.page.now ≡ []) }
         ensures side { self.new.side ≡ self.old.side }
+        ensures unput { self.old.page.now ≡ [] → OnOk result (Waits self.old self.new []) }
         ensures leaves { LeavesOutputs O.Sink E.Sink ⊥ result self.old self.new }
     {
         match put_bytes(self.out, self.err, self.side, self.page.as_slice()) {
@@ -108,7 +112,7 @@ impl<'a, O: Sink, E: Sink> Outputs<'a, O, E> {
         if self.side == side {
             return Ok(());
         }
-        self.put_page()?;
+        self.flush()?;
         self.side = side;
         Ok(())
     }
@@ -118,24 +122,27 @@ impl<'a, O: Sink, E: Sink> Outputs<'a, O, E> {
         ensures writes { Writes O.Sink E.Sink result self.old self.new [] }
         ensures room { OnOk result (length self.new.page.now < page_size) }
         ensures side { self.new.side ≡ self.old.side }
-        ensures waits { length self.old.page.now < page_size → Waits self.old self.new self.old.page.now }
+        ensures waits { length self.old.page.now < page_size →
+            Waits self.old self.new self.old.page.now }
         ensures leaves { LeavesOutputs O.Sink E.Sink ⊥ result self.old self.new }
     {
         if self.page.len() < PAGE_SIZE {
             return Ok(());
         }
-        self.put_page()
+        self.flush()
     }
 
-    /// Writes a line on one of the outputs. What waits for the other is put first, and the page once the
-    /// line fills it. It stops with `Write`, and with `Memory` where the line found none: the page is then
-    /// as it was before the line.
+    /// Writes a line on one of the outputs. What waits for the other is put first, and the page
+    /// once the line fills it. It stops with `Write`, and with `Memory` where the line found none:
+    /// the page is then as it was before the line.
     pub fn put<L: Line>(&mut self, side: Side, line: &L) -> Result<(), Stop>
-        ensures writes { Writes O.Sink E.Sink result self.old self.new (said side (L.text line.now)) }
+        ensures writes { Writes O.Sink E.Sink result self.old self.new
+            (said side (L.text line.now)) }
         ensures room { OnOk result (length self.new.page.now < page_size) }
         ensures turned { OnOk result (self.new.side ≡ side) }
-        ensures waits { self.old.side ≡ side → length (self.old.page.now ++ L.text line.now) < page_size
-            → OnOk result (Waits self.old self.new (self.old.page.now ++ L.text line.now)) }
+        ensures waits { self.old.side ≡ side →
+            length (self.old.page.now ++ L.text line.now) < page_size →
+            OnOk result (Waits self.old self.new (self.old.page.now ++ L.text line.now)) }
         ensures leaves { LeavesOutputs O.Sink E.Sink ⊥ result self.old self.new }
     {
         self.turn_to(side)?;
@@ -147,39 +154,72 @@ impl<'a, O: Sink, E: Sink> Outputs<'a, O, E> {
         self.turn()
     }
 
+    /// Writes a line, and answers whether it refuses something.
+    fn give<L: Line>(&mut self, side: Side, line: &L, refused: bool) -> Result<bool, Stop>
+        ensures performs { Performs O.Sink E.Sink result self.old self.new
+            (said side (L.text line.now)) refused }
+        ensures leaves { LeavesOutputs O.Sink E.Sink ⊥ result self.old self.new }
+    {
+        self.put(side, line)?;
+        Ok(refused)
+    }
+
     /// Writes a line on standard output. Nothing is refused.
+    #[tactic(auto, unfolding(crate::specs::Reports::shown))]
     pub fn show<L: Line>(&mut self, line: &L) -> Result<bool, Stop>
         ensures reports { Reports O.Sink E.Sink result self.old self.new (shown (L.text line.now)) }
         ensures leaves { LeavesOutputs O.Sink E.Sink ⊥ result self.old self.new }
     {
-        self.put(Side::Out, line)?;
-        Ok(false)
+        self.give(Side::Out, line, false)
+    }
+
+    /// Writes a finding on standard output, which counts as a refusal.
+    #[tactic(auto, unfolding(crate::specs::Reports::found))]
+    pub fn find<L: Line>(&mut self, line: &L) -> Result<bool, Stop>
+        ensures reports { Reports O.Sink E.Sink result self.old self.new (found (L.text line.now)) }
+        ensures leaves { LeavesOutputs O.Sink E.Sink ⊥ result self.old self.new }
+    {
+        self.give(Side::Out, line, true)
+    }
+
+    /// Writes a message that refuses nothing.
+    #[tactic(auto, unfolding(crate::specs::Reports::noted))]
+    pub fn note<T: Line>(&mut self, message: &Message<'_, T>) -> Result<bool, Stop>
+        ensures reports { let m = message.now in Reports O.Sink E.Sink result self.old self.new
+            (noted m.command.now m.name.now (T.text m.text)) }
+        ensures leaves { LeavesOutputs O.Sink E.Sink ⊥ result self.old self.new }
+    {
+        self.give(Side::Error, message, false)
     }
 
     /// Refuses a file, by its message.
+    #[tactic(auto, unfolding(crate::specs::Reports::refusal))]
     pub fn refuse<T: Line>(&mut self, message: &Message<'_, T>) -> Result<bool, Stop>
-        ensures reports { Reports O.Sink E.Sink result self.old self.new
-            (refusal message.now.command.now message.now.file.now (T.text message.now.text)) }
+        ensures reports { let m = message.now in Reports O.Sink E.Sink result self.old self.new
+            (refusal m.command.now m.name.now (T.text m.text)) }
         ensures leaves { LeavesOutputs O.Sink E.Sink ⊥ result self.old self.new }
     {
-        self.put(Side::Error, message)?;
-        Ok(true)
+        self.give(Side::Error, message, true)
     }
 
-    /// Refuses a file by an error of the library, or stops where the error is no refusal.
-    pub fn refuse_by(&mut self, command: &str, file: &[u8], e: ElfError) -> Result<bool, Stop>
-        ensures reports { IfNone (stop_of e) (Reports O.Sink E.Sink result self.old self.new
-            (refusal command.now file.now (error_text e))) }
-        ensures stops { IfSome (stop_of e) (λ stop. (result ≡ Err stop) × (self.new ≡ self.old)) }
-        ensures leaves { IfNone (stop_of e) (LeavesOutputs O.Sink E.Sink ⊥ result self.old self.new) }
+    /// Refuses a file for an error of the library, by a message that tells it, or stops where the
+    /// error is no refusal: then nothing is written.
+    pub fn refuse_by<T: Line>(
+        &mut self,
+        message: &Message<'_, T>,
+        e: ElfError,
+    ) -> Result<bool, Stop>
+        ensures reports { let m = message.now in IfNone (stop_of e)
+            (Reports O.Sink E.Sink result self.old self.new
+            (refusal m.command.now m.name.now (T.text m.text))) }
+        ensures stops { IfSome (stop_of e)
+            (λ stop. (result ≡ Err stop) × (self.new ≡ self.old)) }
+        ensures leaves { IfNone (stop_of e)
+            (LeavesOutputs O.Sink E.Sink ⊥ result self.old self.new) }
     {
         match Stop::of(&e) {
             Some(stop) => Err(stop),
-            None => self.refuse(&Message {
-                command,
-                file,
-                text: e,
-            }),
+            None => self.refuse(message),
         }
     }
 

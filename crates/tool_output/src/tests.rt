@@ -1,6 +1,6 @@
 //! How lines reach the two outputs, and texts that no clause speaks of.
 
-use crate::{Message, Outputs, PAGE_SIZE, Side, Status, Stop};
+use crate::{FileName, InSection, Line, Message, NameEx, Outputs, PAGE_SIZE, Side, Status, Stop};
 use elf_outside::MemSink;
 use elf_types::{Addrs, ElfError, Octets};
 use std::alloc::Global;
@@ -116,13 +116,65 @@ fn a_page_is_put_when_it_is_full(rt: HostRuntime) -> Result<(), Fail> {
     Ok(())
 }
 
-/// Refuses a file by an error, and ends the writing.
-fn refused(alloc: Global, e: ElfError) -> Result<Written, Fail> {
+/// What is said of a member of an archive.
+#[derive(Clone, Copy)]
+enum Saying {
+    /// A finding on standard output.
+    Finding,
+    /// A message that refuses nothing.
+    Note,
+    /// A refusal by an error.
+    RefusedBy(ElfError),
+    /// A refusal by an error of a section.
+    InSection(u32, ElfError),
+}
+
+/// Says it over two outputs.
+fn say(outputs: &mut Outputs<'_, MemSink, MemSink>, saying: Saying) -> Result<bool, Stop> {
+    let name = &FileName::of_member(b"LIB", b"M");
+    let command = "nm";
+    match saying {
+        Saying::Finding => outputs.find(&"found\n"),
+        Saying::Note => {
+            let text = "noted";
+            outputs.note(&Message {
+                command,
+                name,
+                text,
+            })
+        }
+        Saying::RefusedBy(e) => {
+            let text = e;
+            outputs.refuse_by(
+                &Message {
+                    command,
+                    name,
+                    text,
+                },
+                e,
+            )
+        }
+        Saying::InSection(section, e) => {
+            let text = InSection { section, text: e };
+            outputs.refuse_by(
+                &Message {
+                    command,
+                    name,
+                    text,
+                },
+                e,
+            )
+        }
+    }
+}
+
+/// Says it, and ends the writing.
+fn said(alloc: Global, saying: Saying) -> Result<Written, Fail> {
     let mut out = sink(alloc, 0)?;
     let mut err = sink(alloc, 0)?;
     let mut page = Octets::new(alloc);
     let mut outputs = Outputs::new(&mut out, &mut err, &mut page);
-    let answer = outputs.refuse_by("nm", b"LIB[M]", e);
+    let answer = say(&mut outputs, saying);
     let ended = outputs.end(answer);
     Ok(Written {
         out: out.into_bytes(),
@@ -131,14 +183,69 @@ fn refused(alloc: Global, e: ElfError) -> Result<Written, Fail> {
     })
 }
 
+/// Whether it is answered so, with these texts.
+fn is_said(
+    alloc: Global,
+    saying: Saying,
+    ended: Result<bool, Stop>,
+    out: &[u8],
+    err: &[u8],
+) -> Result<bool, Fail> {
+    let written = said(alloc, saying)?;
+    Ok(written.ended == ended && holds(&written, out, err))
+}
+
 #[test]
 fn refusals_are_messages_and_stops_are_not(rt: HostRuntime) -> Result<(), Fail> {
-    let ragged = refused(rt.alloc(), ElfError::Ragged { section: 2 })?;
-    assert_eq!(rt; ragged.ended, Ok(true));
-    assert!(rt; holds(&ragged, b"", b"nm: LIB[M]: section 2 ragged\n"));
-    let unread = refused(rt.alloc(), ElfError::Read)?;
-    assert_eq!(rt; unread.ended, Err(Stop::Read));
-    assert!(rt; holds(&unread, b"", b""));
+    let ragged = ElfError::Ragged { section: 2 };
+    let message = b"nm: LIB[M]: section 2 ragged\n";
+    assert!(rt;
+        is_said(
+            rt.alloc(),
+            Saying::RefusedBy(ragged),
+            Ok(true),
+            b"",
+            message
+        )?
+    );
+    let message = b"nm: LIB[M]: section 7: section 2 ragged\n";
+    assert!(rt;
+        is_said(
+            rt.alloc(),
+            Saying::InSection(7, ragged),
+            Ok(true),
+            b"",
+            message
+        )?
+    );
+    let unread = Saying::RefusedBy(ElfError::Read);
+    assert!(rt; is_said(rt.alloc(), unread, Err(Stop::Read), b"", b"")?);
+    Ok(())
+}
+
+#[test]
+fn findings_refuse_and_notes_do_not(rt: HostRuntime) -> Result<(), Fail> {
+    assert!(rt; is_said(rt.alloc(), Saying::Finding, Ok(true), b"found\n", b"")?);
+    let message = b"nm: LIB[M]: noted\n";
+    assert!(rt; is_said(rt.alloc(), Saying::Note, Ok(false), b"", message)?);
+    Ok(())
+}
+
+/// Whether a line has this text.
+fn reads<L: Line>(alloc: Global, line: &L, text: &[u8]) -> Result<bool, Fail> {
+    let mut page = Octets::new(alloc);
+    line.put(&mut page)?;
+    Ok(page.as_slice() == text)
+}
+
+#[test]
+fn names_are_shown_in_two_forms(rt: HostRuntime) -> Result<(), Fail> {
+    let file = FileName::of(b"F");
+    let member = FileName::of_member(b"LIB", b"M");
+    assert!(rt; reads(rt.alloc(), &file, b"F")?);
+    assert!(rt; reads(rt.alloc(), &member, b"LIB[M]")?);
+    assert!(rt; reads(rt.alloc(), &NameEx { name: &file }, b"F")?);
+    assert!(rt; reads(rt.alloc(), &NameEx { name: &member }, b"M (ex LIB)")?);
     Ok(())
 }
 

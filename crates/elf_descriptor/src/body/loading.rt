@@ -1,19 +1,21 @@
 //! Reading a section's bytes, and translating them once.
 
-ghost use Rattle.std.specs.Prelude.{◌≡◌, ◌<◌, length, true, IsTrue, OnOk, OnErr};
+ghost use Rattle.std.specs.Prelude.{◌≡◌, ◌≢◌, ◌<◌, length, true, IsTrue, is_some, IfErr, OnOk, OnErr};
+ghost use Rattle.elf_types.specs.declared.errors.ElfError.TheVariants.{Memory};
 ghost use Rattle.elf_types.specs.Answers.{answered};
 ghost use Rattle.elf_outside.specs.Asks.{Asks};
 ghost use Rattle.elf_object.specs.Words.{Answers};
-ghost use Rattle.section_data.specs.Held.{cell_is_loaded};
+ghost use Rattle.section_data.specs.Held.{piece_in, cell_is_loaded, piece_holds_items, HeldIs};
 ghost use Rattle.section_data.specs.Leaves.{LiesIn};
-ghost use Rattle.section_data.specs.Refused.{load_due, reading, home_out};
+ghost use Rattle.section_data.specs.Refused.{load_due, items_due, reading, preparing, home_out, items_refused, kind_refused};
 ghost use Rattle.elf_descriptor.specs.Views.{HasCounts, scn_at};
-ghost use Rattle.elf_descriptor.specs.Bodies.{no_raw_in};
+ghost use Rattle.elf_descriptor.specs.Bodies.{no_raw_in, no_items_in, no_list_in};
+ghost use Rattle.elf_descriptor.specs.Dues.{list_due, IsListed};
 ghost use Rattle.elf_descriptor.specs.Warmed.{Warmed};
 
 use crate::body::Body;
 use elf_outside::Source;
-use elf_types::ElfError;
+use elf_types::{DataId, ElfError, Kind};
 
 impl Body {
     /// Reads the home of a section that is there, where its bytes are not held. It refuses in this
@@ -51,5 +53,103 @@ impl Body {
             return Err(e);
         }
         self.load_there(src, s)
+    }
+
+    /// Makes a piece of a section that is there hold its items.
+    fn prepare_there<S: Source>(&mut self, src: &mut S, d: DataId) -> Result<(), ElfError>
+        requires there { d.section < length self.old.sections.items }
+        requires lies { LiesIn (scn_at self.old d.section).cell (S.size src.old) }
+        requires items { HeldIs self.old.header.class self.old.header.order
+            (scn_at self.old d.section).cell }
+        ensures answer { Answers true (preparing (scn_at self.old d.section).cell d.piece
+            (items_due self.old.header.class (scn_at self.old d.section).cell d.piece)) result
+            (answered (items_refused self.old.header.class (scn_at self.old d.section).cell d.piece) tt) }
+        ensures piece { OnOk result (d.piece < length (scn_at self.old d.section).cell.pieces) }
+        ensures holds { OnOk result
+            (IsTrue (piece_holds_items (scn_at self.new d.section).cell d.piece)) }
+        ensures unchanged { IfErr result (λ e. e ≢ Memory
+            → (scn_at self.new d.section).cell ≡ (scn_at self.old d.section).cell) }
+        ensures own { is_some (piece_in (scn_at self.old d.section).cell d.piece).own ≡ true
+            → (scn_at self.new d.section).cell ≡ (scn_at self.old d.section).cell }
+        ensures warmed { Warmed (S.holds src.old) self.old self.new d.section }
+        ensures asks { Asks S.Source result src.old src.new
+            (items_due self.old.header.class (scn_at self.old d.section).cell d.piece) }
+    {
+        let (class, order) = (self.header.class, self.header.order);
+        let scn = &mut self.sections[d.section as usize];
+        scn.cell.prepare(src, d.piece, class, order)
+    }
+
+    /// Makes a piece hold its items. It refuses in this order: `NoSection`, `NoData`, and for the
+    /// clean home piece `OutOfFile` and `Ragged`; then `Memory` or `Read`.
+    #[tactic(auto, unfolding(crate::specs::Bodies::no_items_in))]
+    pub fn prepare<S: Source>(&mut self, src: &mut S, d: DataId) -> Result<(), ElfError>
+        requires counts { HasCounts self.old }
+        requires lies { LiesIn (scn_at self.old d.section).cell (S.size src.old) }
+        requires items { HeldIs self.old.header.class self.old.header.order
+            (scn_at self.old d.section).cell }
+        ensures answer { Answers true (preparing (scn_at self.old d.section).cell d.piece
+            (items_due self.old.header.class (scn_at self.old d.section).cell d.piece)) result
+            (answered (no_items_in self.old d.section d.piece) tt) }
+        ensures holds { OnOk result
+            (IsTrue (piece_holds_items (scn_at self.new d.section).cell d.piece)) }
+        ensures unchanged { IfErr result (λ e. e ≢ Memory
+            → (scn_at self.new d.section).cell ≡ (scn_at self.old d.section).cell) }
+        ensures own { is_some (piece_in (scn_at self.old d.section).cell d.piece).own ≡ true
+            → (scn_at self.new d.section).cell ≡ (scn_at self.old d.section).cell }
+        ensures warmed { Warmed (S.holds src.old) self.old self.new d.section }
+        ensures asks { Asks S.Source result src.old src.new
+            (items_due self.old.header.class (scn_at self.old d.section).cell d.piece) }
+    {
+        if let Err(e) = self.check_section(d.section) {
+            return Err(e);
+        }
+        self.prepare_there(src, d)
+    }
+
+    /// Makes each item of a piece of a kind, in a section that is there, be at hand.
+    fn fetch_there<S: Source>(&mut self, src: &mut S, d: DataId, kind: Kind) -> Result<(), ElfError>
+        requires there { d.section < length self.old.sections.items }
+        requires lies { LiesIn (scn_at self.old d.section).cell (S.size src.old) }
+        ensures answer { Answers true (reading (list_due self.old.header.class
+            (scn_at self.old d.section).cell kind d.piece)) result (answered (kind_refused
+            self.old.header.class (scn_at self.old d.section).cell kind d.piece) tt) }
+        ensures hand { OnOk result (IsListed self.new d.section d.piece kind) }
+        ensures unchanged { OnErr result
+            ((scn_at self.new d.section).cell ≡ (scn_at self.old d.section).cell) }
+        ensures own { is_some (piece_in (scn_at self.old d.section).cell d.piece).own ≡ true
+            → (scn_at self.new d.section).cell ≡ (scn_at self.old d.section).cell }
+        ensures warmed { Warmed (S.holds src.old) self.old self.new d.section }
+        ensures asks { Asks S.Source result src.old src.new
+            (list_due self.old.header.class (scn_at self.old d.section).cell kind d.piece) }
+    {
+        let class = self.header.class;
+        let scn = &mut self.sections[d.section as usize];
+        scn.fetch(src, d.piece, kind, class)
+    }
+
+    /// Makes each item of a piece of a kind be at hand: it is own, or its home is loaded. It refuses in
+    /// this order: `NoSection`, `NoData`, `WrongKind`, and for the clean home piece `OutOfFile` and
+    /// `Ragged`; then `Memory` or `Read`.
+    #[tactic(auto, unfolding(crate::specs::Bodies::no_list_in))]
+    pub fn fetch<S: Source>(&mut self, src: &mut S, d: DataId, kind: Kind) -> Result<(), ElfError>
+        requires counts { HasCounts self.old }
+        requires lies { LiesIn (scn_at self.old d.section).cell (S.size src.old) }
+        ensures answer { Answers true (reading (list_due self.old.header.class
+            (scn_at self.old d.section).cell kind d.piece)) result
+            (answered (no_list_in self.old kind d.section d.piece) tt) }
+        ensures hand { OnOk result (IsListed self.new d.section d.piece kind) }
+        ensures unchanged { OnErr result
+            ((scn_at self.new d.section).cell ≡ (scn_at self.old d.section).cell) }
+        ensures own { is_some (piece_in (scn_at self.old d.section).cell d.piece).own ≡ true
+            → (scn_at self.new d.section).cell ≡ (scn_at self.old d.section).cell }
+        ensures warmed { Warmed (S.holds src.old) self.old self.new d.section }
+        ensures asks { Asks S.Source result src.old src.new
+            (list_due self.old.header.class (scn_at self.old d.section).cell kind d.piece) }
+    {
+        if let Err(e) = self.check_section(d.section) {
+            return Err(e);
+        }
+        self.fetch_there(src, d, kind)
     }
 }

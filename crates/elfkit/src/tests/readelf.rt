@@ -11,16 +11,21 @@ use test_images::{
 use tool_output::Status;
 
 /// The header of an executable that has nothing else.
-const HEADER: &[u8] =
-    b"ELF header\n  class: 64\n  order: least\n  osabi: 0\n  abiversion: 0\n  type: EXEC\n  machine: X86_64\n  version: 1\n  entry: 0x401000\n  phoff: 0\n  shoff: 0\n  flags: 0x0\n  ehsize: 64\n  phentsize: 0\n  phnum: 0\n  shentsize: 0\n  shnum: 0\n  shstrndx: 0\n";
+const HEADER: &[u8] = b"ELF header\n  class: 64\n  order: least\n  osabi: 0\n  abiversion: 0\n  \
+      type: EXEC\n  machine: X86_64\n  version: 1\n  entry: 0x401000\n  phoff: 0\n  \
+      shoff: 0\n  flags: 0x0\n  ehsize: 64\n  phentsize: 0\n  phnum: 0\n  \
+      shentsize: 0\n  shnum: 0\n  shstrndx: 0\n";
 
 /// The header of an object of class 32, the greatest byte first, and its program headers.
-const NARROW: &[u8] =
-    b"ELF header\n  class: 32\n  order: greatest\n  osabi: 0\n  abiversion: 0\n  type: REL\n  machine: X86_64\n  version: 1\n  entry: 0x0\n  phoff: 0\n  shoff: 88\n  flags: 0x0\n  ehsize: 52\n  phentsize: 0\n  phnum: 0\n  shentsize: 40\n  shnum: 3\n  shstrndx: 1\nProgram headers: 0\n";
+const NARROW: &[u8] = b"ELF header\n  class: 32\n  order: greatest\n  osabi: 0\n  abiversion: 0\n  \
+      type: REL\n  machine: X86_64\n  version: 1\n  entry: 0x0\n  phoff: 0\n  \
+      shoff: 88\n  flags: 0x0\n  ehsize: 52\n  phentsize: 0\n  phnum: 0\n  \
+      shentsize: 40\n  shnum: 3\n  shstrndx: 1\nProgram headers: 0\n";
 
 /// One program header of class 64.
-const SEGMENT: &[u8] =
-    b"Program headers: 1\n  0 LOAD offset 0x1 vaddr 0x401000 paddr 0x2 filesz 0x78 memsz 0x90 flags R-X+0x8 align 0x1000\n";
+const SEGMENT: &[u8] = b"Program headers: 1\n  \
+      0 LOAD offset 0x1 vaddr 0x401000 paddr 0x2 filesz 0x78 memsz 0x90 \
+      flags R-X+0x8 align 0x1000\n";
 
 /// Whether readelf shows this text of an image, and nothing else.
 fn shows(alloc: Global, line: &str, image: &Image, text: &[u8]) -> Result<bool, Fail> {

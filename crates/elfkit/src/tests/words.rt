@@ -36,7 +36,8 @@ const SAID: [Said; 6] = [
     Said {
         line: "--help",
         status: Status::BadWords,
-        text: b"usage: elfkit readelf|nm|size|strings|strip|elflint|calls|selftest|rehash|copy|unstrip|lines\n",
+        text: b"usage: elfkit readelf|nm|size|strings|strip|elflint|calls|selftest|rehash|copy|\
+            unstrip|lines\n",
     },
     Said {
         line: "nm -gP -- -x",

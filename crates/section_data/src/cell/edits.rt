@@ -58,7 +58,7 @@ impl Cell {
         ensures err { IfErr result IsRefusal }
         ensures cell { IsCell self.now }
     {
-        let count = self.pieces.len() as u32;
+        let count = self.pieces.len();
         if u64::from(count) >= MAX_PIECES {
             return Err(ElfError::TooMany);
         }
@@ -74,7 +74,7 @@ impl Cell {
         ensures value { self.new ≡ replaced self.old p items }
         ensures cell { IsCell self.new }
     {
-        let piece = &mut self.pieces[p as usize];
+        let piece = self.pieces.get_mut(p);
         piece.set(items);
     }
 
@@ -116,7 +116,7 @@ impl Cell {
         if let Err(e) = self.check_append(class, &items, align) {
             return Err((items, e));
         }
-        let p = self.pieces.len() as u32;
+        let p = self.pieces.len();
         match self.pieces.push(Piece::with_own(items, align)) {
             Ok(()) => Ok(p),
             Err(refused) => Err((refused.value.into_items(), ElfError::Memory)),
@@ -131,7 +131,7 @@ impl Cell {
         ensures value { self.new ≡ marked_piece self.old p }
         ensures cell { IsCell self.new }
     {
-        let piece = &mut self.pieces[p as usize];
+        let piece = self.pieces.get_mut(p);
         piece.mark();
     }
 }

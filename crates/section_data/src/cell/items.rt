@@ -36,7 +36,7 @@ impl Cell {
     }
 
     /// The items of a piece that holds them. It takes no memory.
-    #[tactic(auto, using(crate::proofs::Pieces::ready_own, crate::proofs::Pieces::ready_clean))]
+    #[tactic(auto, using(crate::proofs::PieceItems::ready_own, crate::proofs::PieceItems::ready_clean))]
     pub fn items(&self, p: u32) -> &Items
         requires piece { p < length self.now.pieces }
         requires holds { IsTrue (piece_holds_items self.now p) }
@@ -59,7 +59,8 @@ impl Cell {
         requires piece { p < length self.now.pieces }
         requires kind { kind_in self.now p ≡ T.kind }
         requires there { IsTrue (is_at_hand class self.now p) }
-        ensures { result ≡ entry_at (T.list_of (items_in class order self.now p)) i }
+        ensures value { result ≡ entry_at (T.list_of (items_in class order self.now p)) i }
+        ensures cell { IsCell self.now }
     {
         let piece = self.piece(p);
         if piece.is_own() {

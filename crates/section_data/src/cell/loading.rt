@@ -139,7 +139,7 @@ impl Cell {
         ensures err { IfErr result IsRefusal }
         ensures cell { IsCell self.now }
     {
-        let count = self.pieces.len() as u32;
+        let count = self.pieces.len();
         if p < count {
             Ok(())
         } else {
@@ -204,7 +204,7 @@ impl Cell {
 
     /// Whether a piece holds its items: an own one does, and the clean home piece where the home's
     /// items are held in memory form. It takes no memory.
-    #[tactic(auto, unfolding(crate::specs::Held::ready), using(crate::proofs::Pieces::ready_own, crate::proofs::Pieces::ready_clean))]
+    #[tactic(auto, unfolding(crate::specs::Held::ready), using(crate::proofs::PieceItems::ready_own, crate::proofs::PieceItems::ready_clean))]
     pub fn holds_items(&self, p: u32) -> bool
         requires { p < length self.now.pieces }
         ensures value { result ≡ piece_holds_items self.now p }

@@ -1,9 +1,7 @@
-use Rattle.std.proofs.Common.{◌≡◌, ◌∙◌, true, false, sym, rules}
-use Rattle.tool_text.specs.Reading.{reading}
+use Rattle.std.proofs.Common.{◌∙◌, rules}
 use Rattle.tool_output.specs.Statuses.{status_code}
 use Rattle.tool_output.proofs.OutcomeLemmas.{run_delivers}
-use Rattle.elfkit.specs.Program.{program}
-use Rattle.elfkit.proofs.CommandLemmas.{on_usage, below_three}
+use Rattle.elfkit.proofs.CommandLemmas.{below_three}
 use Rattle.elfkit.proofs.program.run.Goals as goal
 
 pub returns-clause-delivers : goal.returns-clause-delivers
@@ -11,13 +9,4 @@ returns-clause-delivers g c = λ told.
     let v = c.new-outputs.ensures.values in
     run_delivers g.F.Files g.O.Sink g.E.Sink _ c.args.files.now _ status_code _ _ c.new-outputs.result _ _ _ _ _ _ _
     v.0 v.1 (search rules) (search rules) c.end.ensures (below_three _ _ c.run_words-ended.ensures.status)
-    _ c.of.ensures (v.2 ∙ c.new-page.ensures) (c.run_words-ended.ensures.does (λ opens. told))
-
-pub returns-clause-usage : goal.returns-clause-usage
-unfolding program
-returns-clause-usage g c =
-    let v = c.new-outputs.ensures.values in
-    on_usage (reading c.args.words.now) _ _ _ _ _ (g.F.Files.named c.args.files.now) _
-    (λ unopened. run_delivers g.F.Files g.O.Sink g.E.Sink _ c.args.files.now _ status_code _ _ c.new-outputs.result _ _ _ _ _ _ _
-    v.0 v.1 (search rules) (search rules) c.end.ensures (below_three _ _ c.run_words-ended.ensures.status)
-    _ c.of.ensures (v.2 ∙ c.new-page.ensures) (c.run_words-ended.ensures.does (λ opens. absurd (let no : true ≡ false = sym opens ∙ unopened in cc))))
+    _ c.of.ensures (v.2 ∙ c.new-page.ensures) (c.run_words-ended.ensures.does told)

@@ -1,9 +1,13 @@
+use Rattle.std.proofs.Common.{false, drop}
+use Rattle.tool_output.specs.Lines.{numbered_lines}
+use Rattle.tool_output.specs.Reports.{shown, UnderWay}
 use Rattle.tool_output.specs.Steps.{KeepsSinks}
-use Rattle.tool_output.proofs.LineLemmas.{Shown}
-use Rattle.readelf_tool.specs.Segments.{segment_line}
+use Rattle.readelf_tool.specs.Segments.{phdr_line}
 use Rattle.readelf_tool.proofs.segments.show_lines.Given as goal
 
 abbrev pub invariant-loop-i : goal.invariant-loop-i
-invariant-loop-i g l =
-    Shown segment_line g.O.Sink g.E.Sink l.phdrs l.initial.outputs l.outputs l.i
-    × KeepsSinks g.O.Sink g.E.Sink l.initial.outputs l.outputs
+invariant-loop-i g l = record {
+  lines : UnderWay g.O.Sink g.E.Sink false l.initial.outputs l.outputs
+      (shown (numbered_lines phdr_line 0 l.phdrs)) (shown (numbered_lines phdr_line l.i (drop l.i l.phdrs)));
+  keeps : KeepsSinks g.O.Sink g.E.Sink l.initial.outputs l.outputs;
+}

@@ -1,5 +1,5 @@
 use Rattle.std.proofs.Common.{◌≡◌, length, Some, sym, ap, ◌∙◌, subst}
-use Rattle.std.specs.Prelude.{IsTrue, IsSome}
+use Rattle.std.specs.Prelude.{IsTrue}
 use Rattle.elf_object.specs.Words.{AlikeBytes}
 use Rattle.elf_object.specs.Object.{section_at}
 use Rattle.elf_object.specs.Due.{is_loaded}

@@ -1,20 +1,17 @@
-use Rattle.std.proofs.Common.{sym, refl}
-use Rattle.tool_output.proofs.OutcomeLemmas.{says_done, reads_done}
-use Rattle.elfkit.specs.Lines.{says, not_built}
+use Rattle.std.proofs.Common.{sym, ap, ◌∙◌, refl}
+use Rattle.tool_output.proofs.OutcomeLemmas.{reads_done}
 use Rattle.elfkit.specs.Readelf.{readelf_files, readelf_outcome}
-use Rattle.elfkit.proofs.CommandLemmas.{status_of_refusal}
+use Rattle.elfkit.proofs.CommandLemmas.{not_built_done}
 use Rattle.elfkit.proofs.commands.readelf.readelf.Goals as goal
 
 pub returns-then-not-are_built-clause-does : goal.returns-then-not-are_built-clause-does
-unfolding readelf_outcome not_built says
+unfolding readelf_outcome
 returns-then-not-are_built-clause-does g c = λ told.
-    let h = c.not_built.ensures.performs in
-    rw (← c.if-not-are_built.ensures) (says_done g.F.Files g.O.Sink g.E.Sink c.args.files.now c.args.files.now c.args.outputs.now _ _ _ _ _ h.writes
-    (status_of_refusal _ h.value_is))
+    not_built_done g.F.Files g.O.Sink g.E.Sink c.args.files.now c.args.outputs.now _ _ _ (rw (← c.if-not-are_built.ensures) refl) c.not_built.ensures.performs
 
 pub returns-clause-does : goal.returns-clause-does
 unfolding readelf_outcome readelf_files
 returns-clause-does g c = λ told.
     let t = told (sym c.if-not-are_built.ensures) in
-    rw (← c.if-not-are_built.ensures) (reads_done g.F.Files g.O.Sink g.E.Sink c.args.files.now _ c.args.outputs.now _ _ _ _ t c.each_file.ensures.reads
-    (rw (← c.as_slice.ensures) (c.each_file.ensures.asks t)) (rw (← c.len-many.ensures, ← c.as_slice.ensures) (c.each_file.ensures.reports t)))
+    rw (← c.if-not-are_built.ensures) (reads_done g.F.Files g.O.Sink g.E.Sink c.args.files.now _ c.args.outputs.now _ _ _ _ t c.each_file.ensures.reports.reads
+    (rw (← c.as_slice.ensures) (c.each_file.ensures.asks t)) (rw (← c.len-many.ensures, ← c.as_slice.ensures) (c.each_file.ensures.reports.reports t)))

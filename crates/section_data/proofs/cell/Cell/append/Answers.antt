@@ -22,6 +22,6 @@ returns-in-Err-clause-edits c = (
 pub invariant_of-self : goal.invariant_of-self
 invariant_of-self c =
     let count = ap (λ (v : CellView). length v.pieces) c.self.view_is in
-    let room : length c.self.inside.pieces.items < MAX_PIECES = omega (arith, count, c.in_default.ensures.room) in
-    pushed_kept _ _ _ _ _ c.self.inside.pieces.items _ _ c.args.items c.args.align c.self.invariant room c.in_default.ensures.align
-    c.with_own.ensures c.push.ensures.items
+    let room : length c.self.inside.pieces < MAX_PIECES = omega (arith, count, c.in_default.ensures.room) in
+    pushed_kept c.push.result _ _ _ _ c.self.inside.pieces _ _ c.args.items c.args.align c.self.invariant room c.in_default.ensures.align
+    c.with_own.ensures c.push.ensures.ok c.push.ensures.unchanged

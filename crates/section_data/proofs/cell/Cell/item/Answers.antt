@@ -3,7 +3,7 @@ use Rattle.std.specs.Prelude.{is_some}
 use Rattle.elf_object.specs.Object.{Piece}
 use Rattle.elf_object.specs.Answers.{entry_at}
 use Rattle.elf_xlate.specs.declared.content.Items.{Items}
-use Rattle.section_data.proofs.Pieces.{kind_own, kind_clean, items_own, items_raw, hand_loaded, hand_whole}
+use Rattle.section_data.proofs.PieceItems.{kind_own, kind_clean, items_own, items_raw, hand_loaded, hand_whole}
 use Rattle.section_data.proofs.cell.Cell.item.Goals as goal
 
 pub list-requires : goal.list-requires
@@ -11,8 +11,8 @@ list-requires g c =
     let own = ap (λ (q : Piece). q.own) (sym c.piece-piece.ensures.value) ∙ c.items.ensures in
     sym (kind_own c.args.self.now c.args.p c.items.result.now own) ∙ c.requires.kind
 
-pub returns-then-is_own : goal.returns-then-is_own
-returns-then-is_own g c =
+pub returns-then-is_own-clause-value : goal.returns-then-is_own-clause-value
+returns-then-is_own-clause-value g c =
     let own = ap (λ (q : Piece). q.own) (sym c.piece-piece.ensures.value) ∙ c.items.ensures in
     let same = items_own c.args.class c.args.order c.args.self.now c.args.p c.items.result.now own in
     c.entry.ensures ∙ ap (λ l. entry_at l c.args.i) (c.list.ensures ∙ ap g.T.Listed.list_of (sym same))
@@ -30,8 +30,8 @@ item_in-requires g c =
     let kind = sym (kind_clean c.args.self.now c.args.p there) ∙ c.requires.kind in
     rw (c.bytes.ensures.len, ← kind) (hand_whole c.args.class c.args.self.now c.args.p c.requires.there there)
 
-pub returns : goal.returns
-returns g c =
+pub returns-clause-value : goal.returns-clause-value
+returns-clause-value g c =
     let clean = sym c.is_own.ensures.value ∙ c.if-is_own.false in
     let there = ap (λ (q : Piece). is_some q.own) (sym c.piece-piece.ensures.value) ∙ clean in
     let kind = sym (kind_clean c.args.self.now c.args.p there) ∙ c.requires.kind in

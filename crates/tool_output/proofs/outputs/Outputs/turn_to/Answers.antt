@@ -6,4 +6,4 @@ returns-then-eq-clause-writes g c = writes_went g.O.Sink g.E.Sink _ _ _ _ (went_
 
 pub returns-clause-writes : goal.returns-clause-writes
 returns-clause-writes g c =
-    side_turned g.O.Sink g.E.Sink _ _ c.args.self.now c.put_page.new.self _ c.in_ok-put_page.ensures.empty c.in_ok-put_page.ensures.writes
+    side_turned g.O.Sink g.E.Sink _ _ c.args.self.now c.flush.new.self _ c.in_ok-flush.ensures.empty c.in_ok-flush.ensures.writes

@@ -1,0 +1,11 @@
+-- One item of a piece, of a kind whose lists of items are given (gelf_getsym and its like): the
+-- calls of the plain object that give an item are this, each at its kind.
+use Rattle.std.specs.Prelude.{ℕ, List}
+use Rattle.elf_types.specs.declared.records.Kind.{Kind}
+use Rattle.elf_xlate.specs.declared.content.Items.{Items}
+use Rattle.elf_object.specs.Answers.{items_at, entry_answer, lend_refusal}
+use Rattle.elf_object.specs.Calls.{Call, reader}
+
+abbrev pub entry : {A : Type 0} → Kind → (Items → List A) → ℕ → ℕ → ℕ → Call A
+entry kind list_of s p i =
+    reader s p (λ o. entry_answer (lend_refusal o kind s p) (list_of (items_at o s p)) i)

@@ -1,0 +1,41 @@
+//! The base bytes of an object.
+
+ghost use Rattle.std.specs.Prelude.{◌≡◌, ◌+◌, ◌≤◌, length, take, drop, IsTrue, OnOk, IfErr};
+ghost use Rattle.elf_outside.specs.Asks.{Asks};
+
+use crate::descriptor::Elf;
+use elf_outside::Source;
+use elf_outside::reads::read;
+use elf_types::ElfError;
+
+/// Copies the bytes from the place `at` on into the whole of `buf`.
+fn copy_range(bytes: &[u8], at: u64, buf: &mut [u8])
+    requires { at + length buf.old ≤ length bytes.now }
+    ensures { buf.new ≡ take (length buf.old) (drop at bytes.now) }
+{
+    let start = at as usize;
+    let range = &bytes[start..start + buf.len()];
+    buf.copy_from_slice(range);
+}
+
+impl<S: Source> Elf<S> {
+    /// Copies base bytes, those of the image as opened or last settled, from the place `at` on into
+    /// the whole of `buf`; the range lies in the base. It refuses `Read` alone and takes no memory.
+    /// It loads no section.
+    pub fn copy_base(&mut self, at: u64, buf: &mut [u8]) -> Result<(), ElfError>
+        requires { at + length buf.old ≤ length self.old.o.base }
+        ensures bytes { IsTrue self.old.told
+            → OnOk result (buf.new ≡ take (length buf.old) (drop at self.old.o.base)) }
+        ensures asks { Asks S.Source result self.old.source self.new.source (length buf.old) }
+        ensures stays { self.new ≡ record self.old { source = self.new.source } }
+        ensures err { IfErr result (λ e. e ≡ ElfError.Read) }
+    {
+        match &self.body.base {
+            Some(base) => {
+                copy_range(base.as_slice(), at, buf);
+                Ok(())
+            }
+            None => read(&mut self.src, at, buf),
+        }
+    }
+}

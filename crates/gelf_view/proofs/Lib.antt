@@ -1,0 +1,3 @@
+mod NulLemmas
+mod NumberLemmas
+mod NoteLemmas

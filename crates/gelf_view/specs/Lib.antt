@@ -1,0 +1,4 @@
+pub mod Records
+pub mod Versions
+pub mod Notes
+pub mod Calls

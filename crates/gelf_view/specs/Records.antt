@@ -1,0 +1,20 @@
+-- Records and strings that are read from bytes. The records of notes and of versions are alike in
+-- both classes, and their numbers stand in the byte order of the image.
+use Rattle.std.specs.Prelude.{ℕ, ◌+◌, nat_lt, not, ◌==◌, List, length, take, drop, take_while, Option, Some, None, Result, if◌then◌else◌}
+use Rattle.elf_types.specs.declared.errors.ElfError.{ElfError}
+use Rattle.elf_types.specs.declared.errors.ElfError.TheVariants.{BadChain}
+use Rattle.elf_types.specs.Answers.{refused_if, answered}
+use Rattle.elf_object.specs.Strings.{has_nul}
+
+-- the bytes of a record of that size at a place, or that it does not lie in the bytes
+unfoldable pub record_at : ℕ → List ℕ → ℕ → Result (List ℕ) ElfError
+record_at size bytes at =
+    answered
+    (refused_if (nat_lt (length bytes) (at + size)) (BadChain at))
+    (take size (drop at bytes))
+
+-- the string with which bytes begin, without its NUL, or none where no NUL follows (gABI chapter 4,
+-- "String Table")
+unfoldable pub string_front : List ℕ → Option (List ℕ)
+string_front bytes =
+    if has_nul bytes then Some (take_while (λ b. not (b == 0)) bytes) else None

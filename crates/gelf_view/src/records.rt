@@ -1,0 +1,43 @@
+//! Records of bytes, and the numbers in them.
+
+ghost use Rattle.std.specs.Prelude.{◌≡◌, ◌+◌, ◌≤◌, length, IfOk, OnOk};
+ghost use Rattle.elf_xlate.specs.Numbers.{number_at};
+ghost use Rattle.elf_object.specs.Words.{seen};
+ghost use Rattle.gelf_view.specs.Records.{record_at};
+
+use elf_types::{Class, ElfError, Order};
+use elf_xlate::{get_half, get_word};
+
+/// The bytes of the record of `size` bytes that stands at a place. It refuses `BadChain { at }`
+/// exactly where the record does not lie in the bytes, and takes no memory.
+#[tactic(auto, unfolding(crate::specs::Records::record_at))]
+pub fn record_in(bytes: &[u8], at: u64, size: usize) -> Result<&[u8], ElfError>
+    ensures value { seen result ≡ record_at size bytes.now at }
+    ensures size { IfOk result (λ part. length part.now ≡ size) }
+    ensures within { OnOk result (at + size ≤ length bytes.now) }
+{
+    let count = bytes.len() as u64;
+    if count < at || count - at < size as u64 {
+        return Err(ElfError::BadChain { at });
+    }
+    let start = at as usize;
+    Ok(&bytes[start..start + size])
+}
+
+/// The two-byte number at a place.
+#[tactic(auto, using(crate::proofs::NumberLemmas::half_is))]
+pub fn half_at(bytes: &[u8], place: usize, order: Order) -> u16
+    requires { place + 2 ≤ length bytes.now }
+    ensures { result ≡ number_at order bytes.now place 2 }
+{
+    get_half(Class::C32, order, &bytes[place..place + 2])
+}
+
+/// The four-byte number at a place.
+#[tactic(auto, using(crate::proofs::NumberLemmas::word_is))]
+pub fn word_at(bytes: &[u8], place: usize, order: Order) -> u32
+    requires { place + 4 ≤ length bytes.now }
+    ensures { result ≡ number_at order bytes.now place 4 }
+{
+    get_word(Class::C32, order, &bytes[place..place + 4])
+}

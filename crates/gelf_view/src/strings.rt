@@ -1,0 +1,19 @@
+//! Strings, each of which a NUL ends.
+
+ghost use Rattle.std.specs.Prelude.{◌≡◌};
+ghost use Rattle.std.specs.Option.{option_copied};
+ghost use Rattle.gelf_view.specs.Records.{string_front};
+
+use memchr::memchr;
+
+/// The string with which bytes begin, without its NUL, or None exactly where no NUL follows. It
+/// takes no memory.
+///
+/// Source: gABI chapter 4, "String Table"; elf_strptr of elf(3E).
+#[tactic(auto, using(crate::proofs::NulLemmas::string_ended, crate::proofs::NulLemmas::string_unended), unfolding(crate::specs::Records::string_front))]
+pub fn string_in(bytes: &[u8]) -> Option<&[u8]>
+    ensures { option_copied result ≡ string_front bytes.now }
+{
+    let end = memchr(0, bytes)?;
+    Some(&bytes[..end])
+}

@@ -1,0 +1,112 @@
+//! The pieces of a section.
+
+ghost use Rattle.std.specs.Prelude.{◌≡◌, ◌<◌, ◌∷◌, ◌++◌, [], length, OnOk, OnErr, IfErr};
+ghost use Rattle.std.specs.Borrow.{sem};
+ghost use Rattle.elf_types.specs.declared.constants.TheConstants.{MAX_PIECES};
+ghost use Rattle.elf_object.specs.Object.{home_piece};
+ghost use Rattle.section_data.specs.Views.{piece_of};
+
+use crate::piece::Piece;
+use std::alloc::{AllocFailed, Global};
+use std::marker::Model;
+
+/// The pieces of a section, at most 2^20. The first piece of a section of an image stands in the
+/// struct itself, so that a section that has no other takes no memory for it. Contracts see the
+/// list of the pieces.
+#[derive(Drop)]
+pub(crate) struct Pieces {
+    /// The section has a home piece, which is the first.
+    homed: bool,
+    home: Piece,
+    others: Vec<Piece>,
+}
+
+impl Model for Pieces {
+    ghost use Rattle.std.specs.Prelude.{◌≤◌, List, length};
+    ghost use Rattle.elf_types.specs.declared.constants.TheConstants.{MAX_PIECES as most};
+    ghost use Rattle.elf_object.specs.Object.{Piece as PlainPiece};
+    ghost use Rattle.section_data.specs.Views.{pieces_view};
+
+    ghost Value = { List PlainPiece };
+
+    ghost view = { λ l. pieces_view l.homed l.home l.others.items };
+
+    ghost invariant = { λ l. length (pieces_view l.homed l.home l.others.items) ≤ most };
+}
+
+impl Pieces {
+    ghost use Rattle.section_data.specs.Lends.{LendsPieceOf};
+
+    /// The clean home piece alone. It takes no memory.
+    pub(crate) fn of_home(alloc: Global) -> Pieces
+        ensures { result ≡ home_piece ∷ [] }
+    {
+        Pieces {
+            homed: true,
+            home: Piece::home(),
+            others: Vec::new(alloc),
+        }
+    }
+
+    /// No piece. It takes no memory.
+    pub(crate) fn none(alloc: Global) -> Pieces
+        ensures { result ≡ [] }
+    {
+        Pieces {
+            homed: false,
+            home: Piece::home(),
+            others: Vec::new(alloc),
+        }
+    }
+
+    /// The number of pieces.
+    pub(crate) fn len(&self) -> u32
+        ensures { result ≡ length self.now }
+    {
+        let others = self.others.len();
+        if self.homed {
+            (others + 1) as u32
+        } else {
+            others as u32
+        }
+    }
+
+    /// The piece with that number.
+    pub(crate) fn get(&self, p: u32) -> &Piece
+        requires { p < length self.now }
+        ensures { result.now ≡ piece_of self.now p }
+    {
+        if !self.homed {
+            return &self.others[p as usize];
+        }
+        if p == 0 {
+            return &self.home;
+        }
+        &self.others[p as usize - 1]
+    }
+
+    /// A piece, lent for writing: what the borrower leaves stands in its place.
+    pub(crate) fn get_mut(&mut self, p: u32) -> &mut Piece
+        requires { p < length self.old }
+        ensures* lends { sem 𝓛 (LendsPieceOf p self.entry result) }
+        ensures value { result.now ≡ piece_of self.old p }
+    {
+        if !self.homed {
+            return &mut self.others[p as usize];
+        }
+        if p == 0 {
+            return &mut self.home;
+        }
+        &mut self.others[p as usize - 1]
+    }
+
+    /// Adds a piece at the end. Where there is no memory it hands it back, and the list is as before.
+    pub(crate) fn push(&mut self, piece: Piece) -> Result<(), AllocFailed<Piece>>
+        requires { length self.old < MAX_PIECES }
+        ensures ok { OnOk result (self.new ≡ self.old ++ piece ∷ []) }
+        ensures unchanged { OnErr result (self.new ≡ self.old) }
+        ensures back { IfErr result (λ e. e.value ≡ piece) }
+    {
+        self.others.push(piece)
+    }
+}
