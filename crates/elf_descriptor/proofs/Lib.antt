@@ -10,6 +10,12 @@ pub mod ReadsLaws
 pub mod Reading
 pub mod RawCalls
 pub mod Handing
+pub mod EditLaws
+pub mod EditSteps
+pub mod EditPieces
+pub mod EditGrows
+pub mod EditAppends
+pub mod CreateLaws
 pub mod PieceCalls
 pub mod DataCalls
 pub mod BaseCalls

@@ -5,15 +5,14 @@ use Rattle.std.specs.List.{list_any}
 use Rattle.std.proofs.lemmas.List.{length-map, length-replicate}
 use Rattle.std.proofs.Math.ListN.{get_or-map}
 use Rattle.elf_types.specs.declared.records.Kind.{Kind}
-use Rattle.elf_types.specs.declared.records.Part.TheVariants as part
 use Rattle.elf_types.specs.declared.errors.ElfError.{ElfError}
 use Rattle.elf_types.specs.declared.errors.ElfError.TheVariants.{NoSection, NoData}
 use Rattle.elf_types.specs.Answers.{answered, refused_if, first_refusal}
 use Rattle.elf_xlate.specs.Translation.{items_kind}
 use Rattle.elf_object.specs.Object.{Section, Piece, header_of, section_at, piece_at, absent_section, home_piece, is_dirty, some_section_marked, some_piece_marked}
 use Rattle.elf_object.specs.Open.{home_bytes}
-use Rattle.elf_object.specs.Answers.{no_section, no_data, piece_count, kind_at, piece_refusal, part_refusal, flags_of, flag_bits}
-use Rattle.elf_object.specs.Calls.{shdr_answer, pieces_answer, home_answer, piece_kind_answer, piece_align_answer, flags_answer}
+use Rattle.elf_object.specs.Answers.{no_section, no_data, piece_count, kind_at, piece_refusal}
+use Rattle.elf_object.specs.Calls.{shdr_answer, pieces_answer, home_answer, piece_kind_answer, piece_align_answer}
 use Rattle.section_data.specs.Held.{piece_in, kind_in}
 use Rattle.section_data.specs.Refused.{no_piece}
 use Rattle.elf_descriptor.specs.declared.body.Body.{Body}
@@ -100,33 +99,9 @@ piece_align_is image size b s p =
 
 -- ---- Marks
 
-pub section_flags_is : (image : Option (List ℕ)) (size : ℕ) (b : Body) (s : ℕ) → flags_answer (object_of image size b) (part.Section s) ≡ answered (no_scn b s) (flag_bits (scn_at b s).marked false)
-unfolding flags_answer flags_of part_refusal section_of
-section_flags_is image size b s =
-    ap (λ (r : Option ElfError). answered r (flag_bits (section_at (object_of image size b) s).marked false)) (no_section_is image size b s)
-    ∙ ap (λ (c : Section). answered (no_scn b s) (flag_bits c.marked false)) (section_is image size b s)
-
-pub piece_flags_is : (image : Option (List ℕ)) (size : ℕ) (b : Body) (s p : ℕ) → flags_answer (object_of image size b) (part.Piece s p) ≡ answered (no_piece_in b s p) (flag_bits (piece_in (scn_at b s).cell p).marked false)
-unfolding flags_answer flags_of part_refusal
-piece_flags_is image size b s p =
-    ap (λ (r : Option ElfError). answered r (flag_bits (piece_at (object_of image size b) s p).marked false)) (piece_refusal_is image size b s p)
-    ∙ ap (λ (q : Piece). answered (no_piece_in b s p) (flag_bits q.marked false)) (piece_is image size b s p)
-
-pub object_flags_is : (image : Option (List ℕ)) (size : ℕ) (b : Body) → flags_answer (object_of image size b) part.Object ≡ Ok (flag_bits b.marked b.layout)
-unfolding flags_answer flags_of part_refusal object_of
-object_flags_is image size b = refl
-
-pub table_flags_is : (image : Option (List ℕ)) (size : ℕ) (b : Body) → flags_answer (object_of image size b) part.Table ≡ Ok (flag_bits b.marked b.layout)
-unfolding flags_answer flags_of part_refusal object_of
-table_flags_is image size b = refl
-
-pub header_flags_is : (image : Option (List ℕ)) (size : ℕ) (b : Body) → flags_answer (object_of image size b) part.Header ≡ Ok (flag_bits b.header_marked false)
-unfolding flags_answer flags_of part_refusal object_of
-header_flags_is image size b = refl
-
-pub segments_flags_is : (image : Option (List ℕ)) (size : ℕ) (b : Body) → flags_answer (object_of image size b) part.Segments ≡ Ok (flag_bits b.segments_marked false)
-unfolding flags_answer flags_of part_refusal object_of
-segments_flags_is image size b = refl
+pub section_marked_is : (image : Option (List ℕ)) (size : ℕ) (b : Body) (s : ℕ) → (section_at (object_of image size b) s).marked ≡ (scn_at b s).marked
+unfolding section_of
+section_marked_is image size b s = ap (λ (c : Section). c.marked) (section_is image size b s)
 
 pub dirty_is : (image : Option (List ℕ)) (size : ℕ) (b : Body) → is_dirty (object_of image size b) ≡ (b.marked || b.header_marked || b.segments_marked || list_any is_scn_dirty b.sections.items)
 unfolding is_dirty some_section_marked some_piece_marked object_of section_of is_scn_dirty

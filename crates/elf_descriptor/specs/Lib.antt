@@ -9,3 +9,5 @@ pub mod Held
 pub mod Warmed
 pub mod Reads
 pub mod Rests
+pub mod Edits
+pub mod Created

@@ -4,9 +4,12 @@ use crate::scn::Scn;
 use elf_types::{Ehdr, Octets, Phdrs, Shdrs};
 
 mod checks;
+mod creating;
+mod edits;
 mod getters;
 mod loading;
 mod opening;
+mod parts;
 
 /// The front as it stands in the image that was opened or last written.
 #[derive(Drop)]

@@ -9,6 +9,8 @@ use std::marker::Model;
 
 mod base;
 mod begin;
+mod create;
+mod edits;
 mod entries;
 mod getters;
 mod reading;

@@ -1,24 +1,14 @@
 //! What an object tells without reading.
 
-ghost use Rattle.std.specs.Prelude.{◌≡◌, ℕ, List, Option, Ok, false, IfSome, length};
+ghost use Rattle.std.specs.Prelude.{◌≡◌, ℕ, List, Option, Ok, IfSome, length};
 ghost use Rattle.std.specs.List.{list_any};
-ghost use Rattle.elf_object.specs.Answers.{flag_bits};
 ghost use Rattle.elf_object.specs.Object.{is_dirty};
 ghost use Rattle.elf_object.specs.Calls as calls;
-ghost use Rattle.elf_types.specs.declared.records.Part.TheVariants as part;
 ghost use Rattle.elf_descriptor.specs.Views.{HasCounts, object_of, base_of};
 ghost use Rattle.elf_descriptor.specs.Bodies.{is_scn_dirty};
 
 use crate::body::Body;
-use elf_types::{DIRTY, DataId, Ehdr, ElfError, Kind, LAYOUT, Part, Phdr, Shdr};
-
-/// The flags of a part, by its dirty mark and whether `ELF_F_LAYOUT` is set.
-fn flag_bits(dirty: bool, layout: bool) -> u32
-    ensures { result ≡ flag_bits dirty layout }
-{
-    let bits = if dirty { DIRTY } else { 0 };
-    if layout { bits + LAYOUT } else { bits }
-}
+use elf_types::{DataId, Ehdr, ElfError, Kind, Part, Phdr, Shdr};
 
 impl Body {
     /// The header with its true counts.
@@ -103,43 +93,15 @@ impl Body {
         Ok(self.scn(d.section).cell.piece_align(d.piece))
     }
 
-    /// The flags of a section; else `NoSection`.
-    #[tactic(auto, using(crate::proofs::Objects::section_flags_is, crate::proofs::Refusals::answered_err, crate::proofs::Refusals::answered_ok))]
-    fn section_flags(&self, s: u32) -> Result<u32, ElfError>
-        requires { HasCounts self.now }
-        ensures { (image : Option (List ℕ)) (size : ℕ)
-            → result ≡ (calls.flags (part.Section s)).answer (object_of image size self.now) }
-    {
-        self.check_section(s)?;
-        Ok(flag_bits(self.scn(s).marked, false))
-    }
-
-    /// The flags of a piece; else `NoSection`, then `NoData`.
-    #[tactic(auto, using(crate::proofs::Objects::piece_flags_is, crate::proofs::Refusals::answered_err, crate::proofs::Refusals::answered_ok))]
-    fn piece_flags(&self, d: DataId) -> Result<u32, ElfError>
-        requires { HasCounts self.now }
-        ensures { (image : Option (List ℕ)) (size : ℕ) → result
-            ≡ (calls.flags (part.Piece d.section d.piece)).answer (object_of image size self.now) }
-    {
-        self.check_piece(d)?;
-        Ok(flag_bits(self.scn(d.section).cell.is_marked(d.piece), false))
-    }
-
     /// The flags of a part; else `NoSection`, then `NoData`.
-    #[tactic(auto, using(crate::proofs::Objects::object_flags_is, crate::proofs::Objects::table_flags_is, crate::proofs::Objects::header_flags_is, crate::proofs::Objects::segments_flags_is))]
+    #[tactic(auto, unfolding(elf_object::specs::Calls::flags_answer), using(crate::proofs::Refusals::answered_err, crate::proofs::Refusals::answered_ok))]
     pub fn flags(&self, part: Part) -> Result<u32, ElfError>
         requires { HasCounts self.now }
         ensures { (image : Option (List ℕ)) (size : ℕ)
             → result ≡ (calls.flags part).answer (object_of image size self.now) }
     {
-        match part {
-            Part::Object => Ok(flag_bits(self.marked, self.layout)),
-            Part::Table => Ok(flag_bits(self.marked, self.layout)),
-            Part::Header => Ok(flag_bits(self.header_marked, false)),
-            Part::Segments => Ok(flag_bits(self.segments_marked, false)),
-            Part::Section(s) => self.section_flags(s),
-            Part::Piece(section, piece) => self.piece_flags(DataId { section, piece }),
-        }
+        self.check_part(part)?;
+        Ok(self.part_flags(part))
     }
 
     /// Whether a section or one of its pieces is marked dirty.

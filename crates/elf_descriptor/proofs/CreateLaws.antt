@@ -1,0 +1,82 @@
+-- What is created is an object over nothing that was read.
+use Rattle.std.proofs.Common.{◌≡◌, ℕ, ◌<◌, ◌^◌, Bool, List, [], ◌∷◌, length, map, Option, Some, None, refl, sym, ap, ◌∙◌, subst, true, false}
+use Rattle.std.specs.Prelude.{slice_get, is_some}
+use Rattle.elf_types.specs.declared.records.Class.{Class}
+use Rattle.elf_types.specs.declared.records.Order.{Order}
+use Rattle.elf_types.specs.declared.records.Phdr.{Phdr}
+use Rattle.std.specs.Global.{Vec}
+use Rattle.elf_types.specs.declared.records.Ehdr.{Ehdr}
+use Rattle.elf_outside.specs.declared.sources.Source.{Ghosts}
+use Rattle.elf_object.specs.Object.{Object, Section}
+use Rattle.elf_object.specs.Open.{created_over, new_ehdr}
+use Rattle.elf_object.specs.Valid.{AreBytes}
+use Rattle.object_laws.specs.Laws.{BeginningsAre, BeginningsAreTied}
+use Rattle.writing_laws.specs.Based.{BeginningsAreBased}
+use Rattle.section_data.specs.Held.{cell_is_loaded}
+use Rattle.elf_descriptor.specs.declared.scn.Scn.{Scn}
+use Rattle.elf_descriptor.specs.declared.body.Body.{Body}
+use Rattle.elf_descriptor.specs.State.{State}
+use Rattle.elf_descriptor.specs.Views.{object_of, section_of, loaded_of, held_of, state_of}
+use Rattle.elf_descriptor.specs.Sound.{IsElf, IsSound}
+use Rattle.elf_descriptor.specs.Created.{IsCreatedBody, IsCreated}
+use Rattle.elf_descriptor.proofs.EditLaws.{has_counts}
+
+abbrev body_with : Ehdr → List Phdr → Vec Scn → List ℕ → Body
+body_with header phdrs sections base = record {
+  header = header;
+  pad = 0 ∷ 0 ∷ 0 ∷ 0 ∷ 0 ∷ 0 ∷ 0 ∷ [];
+  phdrs = phdrs;
+  sections = sections;
+  base = Some base;
+  written = None;
+  layout = false;
+  fill = 0;
+  marked = false;
+  header_marked = true;
+  segments_marked = false;
+  ready = false;
+}
+
+abbrev object_with : Ehdr → List Phdr → List Section → List ℕ → Object
+object_with header phdrs sections base = record (created_over header.class header.order base) { header = header; phdrs = phdrs; sections = sections }
+
+pub created_body : (class : Class) (order : Order) (base : List ℕ) (header : Ehdr) (phdrs : List Phdr) (sections : Vec Scn) → header ≡ new_ehdr class order → phdrs ≡ [] → sections.items ≡ []
+    → IsCreatedBody class order base (body_with header phdrs sections base)
+unfolding object_of created_over
+created_body class order base header phdrs sections header_is no_phdrs none = record {
+  object = λ image size.
+      ap (λ (l : List Scn). object_with header phdrs (map (section_of image) l) base) none
+      ∙ ap (λ (l : List Phdr). object_with header l [] base) no_phdrs
+      ∙ ap (λ (h : Ehdr). object_with h [] [] base) header_is;
+  none = none;
+  ready = refl;
+}
+
+pub created_elf : BeginningsAre → BeginningsAreTied → BeginningsAreBased → (class : Class) (order : Order) (base : List ℕ) (b : Body) → AreBytes base → length base < 2 ^ 64
+    → IsCreatedBody class order base b → IsElf (Some []) 0 b
+created_elf are tied based class order base b bytes len is =
+    let sound : IsSound (Some []) (object_of (Some []) 0 b) = subst (λ (o : Object). IsSound (Some []) o) (sym (is.object (Some []) 0)) (record {
+      object = are.from_nothing class order base bytes len;
+      tied = λ told. tied.from_nothing class order base;
+      based = λ told. based.from_nothing class order base;
+    }) in
+    record {
+      long = refl;
+      counts = has_counts (Some []) 0 b sound.object;
+      cells = λ i s found. absurd (nothing i s (ap (λ (l : List Scn). slice_get l i) (sym is.none) ∙ found));
+      sound = sound;
+    }
+  where
+    nothing : (i : ℕ) (s : Scn) → slice_get [] i ≡ Some s → ⊥
+    nothing i s found = cc
+
+pub created_state : {S : Type 0} (g : Ghosts S) (source : S) (class : Class) (order : Order) (base : List ℕ) (b : Body) → is_some (g.holds source) ≡ true → IsCreatedBody class order base b
+    → IsCreated class order base (state_of g source b)
+unfolding loaded_of held_of
+created_state g source class order base b told is = record {
+  object = is.object (g.holds source) (g.size source);
+  told = told;
+  loaded = ap (λ (l : List Scn). map (λ s. cell_is_loaded s.cell) l) is.none;
+  held = ap (λ (l : List Scn). map (λ s. is_some s.cell.held) l) is.none;
+  ready = is.ready;
+}

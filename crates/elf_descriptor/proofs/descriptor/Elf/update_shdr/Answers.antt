@@ -1,0 +1,23 @@
+use Rattle.std.proofs.Common.{◌≡◌, false, subst}
+use Rattle.elf_object.specs.Calls as calls
+use Rattle.elf_descriptor.specs.State.{State}
+use Rattle.elf_descriptor.specs.Views.{state_of}
+use Rattle.elf_descriptor.specs.Edits.{StepsTo, stepped}
+use Rattle.elf_descriptor.proofs.EditLaws.{stated_elf, steps_to}
+use Rattle.elf_descriptor.proofs.descriptor.Elf.update_shdr.Goals as goal
+
+pub invariant_of-self : goal.invariant_of-self
+invariant_of-self g c =
+    stated_elf (calls.update_shdr c.args.s.0 c.args.h.now) (g.S.Source.holds c.self.inside.src) (g.S.Source.size c.self.inside.src) c.update_shdr.result false c.self.inside.body c.update_shdr.new.self
+    (c.every_step_is_sound.ensures.object.update_shdr c.args.s.0 c.args.h.now c.shdr_is_ranged.ensures) (c.every_step_is_sound.ensures.tied.update_shdr c.args.s.0 c.args.h.now) (c.every_step_is_sound.ensures.based.update_shdr c.args.s.0 c.args.h.now)
+    (c.update_shdr.ensures.answer (g.S.Source.holds c.self.inside.src) (g.S.Source.size c.self.inside.src)) c.update_shdr.ensures.step c.update_shdr.ensures.unchanged c.self.invariant
+
+pub returns-clause-answer : goal.returns-clause-answer
+returns-clause-answer g c =
+    subst (λ (st : State g.row.S.Denot). c.update_shdr.result ≡ (calls.update_shdr c.args.s.0 c.args.h.now).answer st.o) c.self.view_is
+    (c.update_shdr.ensures.answer (g.S.Source.holds c.self.inside.src) (g.S.Source.size c.self.inside.src))
+
+pub returns-clause-state : goal.returns-clause-state
+returns-clause-state g c =
+    subst (λ (st : State g.row.S.Denot). StepsTo c.update_shdr.result st (state_of g.S.Source c.self.inside.src c.update_shdr.new.self) (stepped (calls.update_shdr c.args.s.0 c.args.h.now) st)) c.self.view_is
+    (steps_to g.S.Source c.self.inside.src (calls.update_shdr c.args.s.0 c.args.h.now) c.update_shdr.result c.self.inside.body c.update_shdr.new.self c.update_shdr.ensures.step c.update_shdr.ensures.unchanged)

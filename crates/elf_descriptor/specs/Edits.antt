@@ -1,0 +1,71 @@
+-- What an edit that reads nothing leaves of a descriptor (elf_update, ELF_F_DIRTY).
+use Rattle.std.specs.Prelude.{◌≡◌, ℕ, ◌<◌, Bool, false, List, [], length, map, Option, Result, Ok, Err}
+use Rattle.elf_types.specs.declared.records.DataId.{DataId}
+use Rattle.elf_types.specs.declared.records.Part.{Part}
+use Rattle.elf_types.specs.declared.records.Part.TheVariants as part
+use Rattle.elf_object.specs.Object.{Object}
+use Rattle.elf_types.specs.declared.errors.ElfError.{ElfError}
+use Rattle.elf_object.specs.Calls.{Call}
+use Rattle.elf_object.specs.Words.{Edits, EditsWith}
+use Rattle.section_data.specs.Views.{CellView}
+use Rattle.elf_descriptor.specs.declared.scn.Scn.{Scn}
+use Rattle.elf_descriptor.specs.declared.body.Body.{Body}
+use Rattle.elf_descriptor.specs.State.{State}
+use Rattle.elf_descriptor.specs.Views.{object_of, scn_at}
+
+-- ---- The descriptor
+
+-- after an edit: an update may want memory again
+abbrev pub stepped : {S A : Type 0} → Call A → State S → State S
+stepped c s = record s { o = c.after s.o; ready = false }
+
+-- after a call on flags, which keeps that an update wants none
+abbrev pub flagged : {S A : Type 0} → Call A → State S → State S
+flagged c s = record s { o = c.after s.o }
+
+-- what an edit leaves: the stepped state, or where it is refused the state as it was
+abbrev pub StepsTo : {A E S : Type 0} → Result A E → S → S → S → Type 0
+StepsTo (Ok x) old new stepped = new ≡ stepped
+StepsTo (Err e) old new stepped = new ≡ old
+
+-- ---- What the program keeps
+
+-- a section's data but for its pieces
+abbrev pub without_pieces : Scn → CellView
+without_pieces s = record s.cell { pieces = [] }
+
+-- what is held of each section's home
+unfoldable pub homes_of : Body → List CellView
+homes_of b = map without_pieces b.sections.items
+
+-- a step of the object, whatever its source tells; of the homes nothing changes
+pub record IsStepped (after : Object → Object) (stays_ready : Bool) (old new : Body) : Type 0 where
+  pub object : (image : Option (List ℕ)) (size : ℕ)
+      → object_of image size new ≡ after (object_of image size old)
+  pub homes : homes_of new ≡ homes_of old
+  pub class : new.header.class ≡ old.header.class
+  pub order : new.header.order ≡ old.header.order
+  pub ready : new.ready ≡ stays_ready
+
+-- the part is there
+abbrev pub IsThere : Body → Part → Type 0
+IsThere b (part.Section s) = s < length b.sections.items
+IsThere b (part.Piece s p) =
+    (s < length b.sections.items) × (p < length (scn_at b s).cell.pieces)
+IsThere b _ = Unit {0}
+
+-- a section's data has its number
+abbrev pub IsNumbered : Body → ℕ → Type 0
+IsNumbered b s = s < length b.sections.items → (scn_at b s).cell.section ≡ s
+
+-- a piece's section and number
+abbrev pub numbers_of : DataId → ℕ × ℕ
+numbers_of d = (d.section, d.piece)
+
+-- the answer of an edit, whatever it leaves: the stated one, or Memory where nothing is refused
+abbrev pub IsStated : {A : Type 0} → Result A ElfError → Result A ElfError → Type 0
+IsStated result stated = Edits result (tt {0}) (tt {0}) stated (tt {0})
+
+-- of an edit that hands back what was handed in
+abbrev pub IsStatedWith : {A B : Type 0} → Result A (B × ElfError) → B → Result A ElfError → Type 0
+IsStatedWith result items stated = EditsWith result items (tt {0}) (tt {0}) stated (tt {0})

@@ -1,0 +1,6 @@
+//! Edits of an object, which read nothing.
+
+mod flags;
+mod headers;
+mod pieces;
+mod segments;

@@ -1,0 +1,62 @@
+//! How a descriptor is created over nothing that was read.
+
+ghost use Rattle.std.specs.Prelude.{[], length, ◌<◌, ◌^◌};
+ghost use Rattle.object_laws.specs.Laws.{BeginningsAre, BeginningsAreTied};
+ghost use Rattle.writing_laws.specs.Based.{BeginningsAreBased};
+ghost use Rattle.elf_object.specs.Valid.{AreBytes};
+
+use crate::body::Body;
+use crate::descriptor::Elf;
+use elf_outside::NoSource;
+use elf_types::{Class, Octets, Order};
+use object_laws::laws::{beginnings_are, beginnings_are_tied};
+use std::alloc::Global;
+use writing_laws::based::beginnings_are_based;
+
+/// What is created is an object, of which what is not dirty stands in its base.
+fn creating_is_sound()
+    ensures object { BeginningsAre }
+    ensures tied { BeginningsAreTied }
+    ensures based { BeginningsAreBased }
+{
+    beginnings_are();
+    beginnings_are_tied();
+    beginnings_are_based();
+}
+
+/// What a slice has are bytes, and they can be counted.
+fn bytes_are_ranged(_bytes: &[u8])
+    ensures bytes { AreBytes _bytes.now }
+    ensures length { length _bytes.now < 2 ^ 64 }
+{}
+
+impl Elf<NoSource> {
+    ghost use Rattle.elf_descriptor.specs.Created.{IsCreated};
+
+    /// An object of that class and order: its header has version 1 and 0 in every other field, it
+    /// has no program headers, no sections and no base bytes, and its header is dirty. It refuses
+    /// nothing and takes no memory.
+    ///
+    /// Source: elf_begin with ELF_C_WRITE, and gelf_newehdr, of elf(3E) and gelf(3E).
+    pub fn create(alloc: Global, class: Class, order: Order) -> Elf<NoSource>
+        ensures { IsCreated class order [] result }
+    {
+        Elf::create_over(alloc, class, order, Octets::new(alloc))
+    }
+
+    /// The same over these base bytes, which count with `LAYOUT` alone. It refuses nothing and
+    /// takes no memory.
+    ///
+    /// Source: elf_begin with ELF_C_WRITE, and gelf_newehdr, of elf(3E) and gelf(3E).
+    pub fn create_over(alloc: Global, class: Class, order: Order, base: Octets) -> Elf<NoSource>
+        ensures { IsCreated class order base result }
+    {
+        creating_is_sound();
+        bytes_are_ranged(base.as_slice());
+        Elf {
+            alloc,
+            src: NoSource,
+            body: Body::created(alloc, class, order, base),
+        }
+    }
+}

@@ -1,0 +1,178 @@
+//! Edits of a descriptor, which read nothing. Each refusal leaves the descriptor as it was.
+
+ghost use Rattle.std.specs.Prelude.{◌≡◌, ◌<◌, ◌^◌};
+ghost use Rattle.elf_xlate.specs.Headers.{IsEhdr, IsShdr};
+ghost use Rattle.elf_object.specs.Words.{handing_back, result_map, Edits, EditsWith};
+ghost use Rattle.elf_object.specs.Calls as calls;
+ghost use Rattle.object_laws.specs.Laws.{EveryStepKeeps, EveryStepKeepsTied};
+ghost use Rattle.writing_laws.specs.Based.{EveryStepKeepsBased};
+
+use crate::descriptor::Elf;
+use elf_outside::Source;
+use elf_types::{DataId, Ehdr, ElfError, Part, Phdr, ScnId, Shdr};
+use elf_xlate::Items;
+use object_laws::laws::{every_step_keeps, every_step_keeps_tied};
+use writing_laws::based::every_step_keeps_based;
+
+/// Every edit leaves an object, of which what is not dirty stands in the base.
+fn every_step_is_sound()
+    ensures object { EveryStepKeeps }
+    ensures tied { EveryStepKeepsTied }
+    ensures based { EveryStepKeepsBased }
+{
+    every_step_keeps();
+    every_step_keeps_tied();
+    every_step_keeps_based();
+}
+
+/// The fields of a header are in the range of their types.
+fn ehdr_is_ranged(_h: Ehdr)
+    ensures { IsEhdr _h }
+{}
+
+/// The fields of a section header are in the range of their types.
+fn shdr_is_ranged(_h: Shdr)
+    ensures { IsShdr _h }
+{}
+
+/// A byte is in the range of its type.
+fn byte_is_ranged(_byte: u8)
+    ensures { _byte < 2 ^ 8 }
+{}
+
+impl<S: Source> Elf<S> {
+    ghost use Rattle.elf_descriptor.specs.Edits.{StepsTo, numbers_of, stepped, flagged};
+
+    /// Stores a header's `osabi`, `abiversion`, `etype`, `machine`, `entry`, `phoff`, `shoff`,
+    /// `flags` and `shstrndx`, and marks the header dirty. It looks at no other field. It refuses
+    /// in this order: `NoSection` where `shstrndx` is neither 0 nor below the section count,
+    /// `Unfit`. It reads nothing and takes no memory.
+    ///
+    /// Source: gelf_update_ehdr of gelf(3E).
+    pub fn update_ehdr(&mut self, h: &Ehdr) -> Result<(), ElfError>
+        ensures answer { result ≡ (calls.update_ehdr h.now).answer self.old.o }
+        ensures state { StepsTo result self.old self.new
+            (stepped (calls.update_ehdr h.now) self.old) }
+    {
+        every_step_is_sound();
+        ehdr_is_ranged(*h);
+        self.body.update_ehdr(h)
+    }
+
+    /// Stores a program header, and marks the program headers dirty. It refuses in this order:
+    /// `NoEntry`, `Unfit`. It reads nothing and takes no memory.
+    ///
+    /// Source: gelf_update_phdr of gelf(3E).
+    pub fn update_phdr(&mut self, i: u32, p: &Phdr) -> Result<(), ElfError>
+        ensures answer { result ≡ (calls.update_phdr i p.now).answer self.old.o }
+        ensures state { StepsTo result self.old self.new
+            (stepped (calls.update_phdr i p.now) self.old) }
+    {
+        every_step_is_sound();
+        self.body.update_phdr(i, p)
+    }
+
+    /// Stores a section's header, and marks the section dirty. It refuses in this order:
+    /// `NoSection`, `Reserved` for section 0, `Unfit`. It reads nothing and takes no memory.
+    ///
+    /// Source: gelf_update_shdr of gelf(3E).
+    pub fn update_shdr(&mut self, s: ScnId, h: &Shdr) -> Result<(), ElfError>
+        ensures answer { result ≡ (calls.update_shdr s.0 h.now).answer self.old.o }
+        ensures state { StepsTo result self.old self.new
+            (stepped (calls.update_shdr s.0 h.now) self.old) }
+    {
+        every_step_is_sound();
+        shdr_is_ranged(*h);
+        self.body.update_shdr(s.0, h)
+    }
+
+    /// Gives the object so many program headers of zeros in place of those that it has, and marks
+    /// them dirty. It refuses in this order: `TooMany` above 65,534, `Memory`. It reads nothing.
+    ///
+    /// Source: gelf_newphdr of gelf(3E).
+    pub fn newphdr(&mut self, n: u32) -> Result<(), ElfError>
+        ensures { Edits result self.old self.new ((calls.newphdr n).answer self.old.o)
+            (stepped (calls.newphdr n) self.old) }
+    {
+        every_step_is_sound();
+        self.body.newphdr(self.alloc, n)
+    }
+
+    /// Adds a piece with these items to a section, with that alignment in it, and answers the
+    /// piece; it is own and marked. It refuses in this order: `NoSection`, `Reserved` for section
+    /// 0, `TooMany` at 2^20 pieces, `BadAlign` where the alignment is no power of two or is greater
+    /// than 2^20, `Unfit` with the new piece's number, `Memory`, and hands the items back. It reads
+    /// nothing. The section's `sh_addralign` stays.
+    ///
+    /// Source: elf_newdata of elf(3E).
+    pub fn newdata_aligned(
+        &mut self,
+        s: ScnId,
+        items: Items,
+        align: u64,
+    ) -> Result<DataId, (Items, ElfError)>
+        ensures { EditsWith (result_map numbers_of result) items self.old self.new
+            ((calls.newdata_aligned s.0 items align).answer self.old.o)
+            (stepped (calls.newdata_aligned s.0 items align) self.old) }
+    {
+        every_step_is_sound();
+        self.body.newdata(s.0, items, align)
+    }
+
+    /// Adds a piece with these items and alignment 1 to a section; it refuses as `newdata_aligned`.
+    ///
+    /// Source: elf_newdata of elf(3E).
+    pub fn newdata(&mut self, s: ScnId, items: Items) -> Result<DataId, (Items, ElfError)>
+        ensures { EditsWith (result_map numbers_of result) items self.old self.new
+            ((calls.newdata s.0 items).answer self.old.o)
+            (stepped (calls.newdata s.0 items) self.old) }
+    {
+        self.newdata_aligned(s, items, 1)
+    }
+
+    /// Gives a piece other items, of any kind; it becomes own and marked, and keeps its alignment.
+    /// It refuses in this order: `NoSection`, `Reserved` for section 0, `NoData`, `Unfit`, and hands
+    /// the items back. It reads nothing and takes no memory.
+    ///
+    /// Source: elf_newdata of elf(3E), for data that takes the place of other data.
+    pub fn replace(&mut self, d: DataId, items: Items) -> Result<(), (Items, ElfError)>
+        ensures answer { result ≡ handing_back items
+            ((calls.replace d.section d.piece items).answer self.old.o) }
+        ensures state { StepsTo result self.old self.new
+            (stepped (calls.replace d.section d.piece items) self.old) }
+    {
+        every_step_is_sound();
+        self.body.replace(d, items)
+    }
+
+    /// Sets or clears the flags of a part that `bits` has, and answers those that the part has
+    /// then. `LAYOUT` counts for the object alone, and the section header table stands for the object;
+    /// other bits are not looked at. It refuses in this order: `NoSection`, `NoData`, `FlagKept`
+    /// where `DIRTY` is to be cleared. It reads nothing and takes no memory.
+    ///
+    /// Source: elf_flagelf, elf_flagehdr, elf_flagphdr, elf_flagscn, elf_flagshdr and elf_flagdata
+    /// of elf(3E).
+    pub fn flag(&mut self, part: Part, set: bool, bits: u32) -> Result<u32, ElfError>
+        ensures answer { result ≡ (calls.flag part set bits).answer self.old.o }
+        ensures state { StepsTo result self.old self.new
+            (flagged (calls.flag part set bits) self.old) }
+    {
+        every_step_is_sound();
+        self.body.flag(part, set, bits)
+    }
+
+    /// Stores the fill byte, the byte of gaps. It marks nothing, refuses nothing, reads nothing and
+    /// takes no memory.
+    ///
+    /// Source: elf_fill of elf(3E).
+    pub fn set_fill(&mut self, byte: u8)
+        ensures { self.new ≡ stepped (calls.set_fill byte) self.old }
+    {
+        every_step_is_sound();
+        byte_is_ranged(byte);
+        self.body.set_fill(byte);
+    }
+}
+
+#[cfg(test)]
+mod tests;
