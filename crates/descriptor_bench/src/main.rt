@@ -1,6 +1,6 @@
-//! Opens an image round after round and reads it by the calls of a descriptor, for bench/descriptor,
-//! whose C program does the same through libelf and prints the same sum. What it prints is compared
-//! there; its functions promise no more than that they are safe.
+//! Opens an image round after round and reads it by the calls of a descriptor, for
+//! bench/descriptor, whose C program does the same through libelf and prints the same sum. What it
+//! prints is compared there; its functions promise no more than that they are safe.
 #![tactic(auto)]
 
 mod sums;
