@@ -173,6 +173,3 @@ impl<S: Source> Elf<S> {
         self.body.set_fill(byte);
     }
 }
-
-#[cfg(test)]
-mod tests;
