@@ -11,3 +11,5 @@ pub mod Reads
 pub mod Rests
 pub mod Edits
 pub mod Created
+pub mod Owned
+pub mod Lends
