@@ -22,3 +22,8 @@ pub mod PieceCalls
 pub mod DataCalls
 pub mod BaseCalls
 pub mod EntryCalls
+pub mod OwnedBodies
+pub mod OwnedCells
+pub mod OwnedCalls
+pub mod LendCalls
+pub mod LendLaws
