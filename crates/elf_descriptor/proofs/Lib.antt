@@ -20,3 +20,5 @@ pub mod PieceCalls
 pub mod DataCalls
 pub mod BaseCalls
 pub mod EntryCalls
+pub mod Words
+pub mod Rules
