@@ -15,6 +15,8 @@ pub mod EditSteps
 pub mod EditPieces
 pub mod EditGrows
 pub mod EditAppends
+pub mod EditSections
+pub mod EditSegments
 pub mod CreateLaws
 pub mod PieceCalls
 pub mod DataCalls

@@ -11,3 +11,4 @@ pub mod Reads
 pub mod Rests
 pub mod Edits
 pub mod Created
+pub mod LentSegments
