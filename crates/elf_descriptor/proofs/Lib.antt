@@ -24,3 +24,8 @@ pub mod BaseCalls
 pub mod EntryCalls
 pub mod Words
 pub mod Rules
+pub mod OwnedBodies
+pub mod OwnedCells
+pub mod OwnedCalls
+pub mod LendCalls
+pub mod LendLaws

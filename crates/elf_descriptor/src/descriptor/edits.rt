@@ -16,7 +16,7 @@ use object_laws::laws::{every_step_keeps, every_step_keeps_tied};
 use writing_laws::based::every_step_keeps_based;
 
 /// Every edit leaves an object, of which what is not dirty stands in the base.
-fn every_step_is_sound()
+pub(super) fn every_step_is_sound()
     ensures object { EveryStepKeeps }
     ensures tied { EveryStepKeepsTied }
     ensures based { EveryStepKeepsBased }
