@@ -1,13 +1,17 @@
-//! Sources for the tests.
+//! Sources for the tests of all crates.
+#![tactic(auto)]
 
-ghost use Rattle.std.specs.Prelude.{[], None};
+ghost use Rattle.std.specs.Prelude.{◌≡◌, [], None, IfOk};
 
 use elf_outside::{Failed, MemSource, Source};
 use elf_types::{Addrs, ElfError, Octets};
 use std::alloc::Global;
 
 /// A source of these bytes, of which the read of a number fails, or none where that is 0.
-pub fn source(alloc: Global, bytes: Octets, bad_read: u64) -> Result<MemSource, ElfError> {
+/// It refuses `Memory` alone.
+pub fn source(alloc: Global, bytes: Octets, bad_read: u64) -> Result<MemSource, ElfError>
+    ensures { IfOk result (λ s. s.bytes ≡ bytes) }
+{
     let bad_reads = Addrs::from_slice(alloc, &[bad_read])?;
     Ok(MemSource::new(bytes, bad_reads))
 }
