@@ -103,10 +103,10 @@ section_same old new s x read rest is =
       ready = ap (λ (b : Body). b.ready) rest;
     }
 
-abbrev owned_in : ℕ → Items → List Piece → List Piece
+abbrev pub owned_in : ℕ → Items → List Piece → List Piece
 owned_in p items pieces = set pieces p (own_piece items (get_or pieces p home_piece).align)
 
-piece_owned : (o : Object) (s p : ℕ) (items : Items) → with_section o s (record (section_at o s) { pieces = owned_in p items (section_at o s).pieces }) ≡ with_own o s p items
+pub piece_owned : (o : Object) (s p : ℕ) (items : Items) → with_section o s (record (section_at o s) { pieces = owned_in p items (section_at o s).pieces }) ≡ with_own o s p items
 unfolding with_own with_piece_at piece_at
 piece_owned o s p items = refl
 

@@ -22,3 +22,10 @@ pub mod PieceCalls
 pub mod DataCalls
 pub mod BaseCalls
 pub mod EntryCalls
+pub mod Words
+pub mod Rules
+pub mod OwnedBodies
+pub mod OwnedCells
+pub mod OwnedCalls
+pub mod LendCalls
+pub mod LendLaws

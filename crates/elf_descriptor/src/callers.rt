@@ -13,6 +13,8 @@ use elf_outside::Source;
 use elf_types::{DataId, ElfError, Phdr, ScnId, Sym};
 use section_data::Item;
 
+pub mod lending;
+
 /// The first two items of a piece.
 pub fn first_two<S: Source, T: Item>(elf: &mut Elf<S>, d: DataId) -> Result<(T, T), ElfError>
     ensures first { IsTrue elf.old.told → IfOk result (λ both.
