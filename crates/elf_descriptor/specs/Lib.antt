@@ -11,3 +11,6 @@ pub mod Reads
 pub mod Rests
 pub mod Edits
 pub mod Created
+pub mod LentSegments
+pub mod Owned
+pub mod Lends
