@@ -7,6 +7,7 @@ mod checks;
 mod creating;
 mod edits;
 mod getters;
+mod homes;
 mod loading;
 mod opening;
 mod parts;

@@ -13,6 +13,7 @@ mod create;
 mod edits;
 mod entries;
 mod getters;
+mod homes;
 mod reading;
 
 /// An object over a source. Contracts see it as a [`State`]: the plain object, what is held of it,

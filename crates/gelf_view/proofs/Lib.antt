@@ -1,3 +1,15 @@
 mod NulLemmas
 mod NumberLemmas
 mod NoteLemmas
+mod PieceBytes
+mod FetchLemmas
+mod LendLemmas
+mod FoundLemmas
+mod NoteAnswers
+mod StackLemmas
+mod HomeLemmas
+mod StringLemmas
+mod StringCalls
+mod IndexTables
+mod SymbolLemmas
+mod SymbolCalls

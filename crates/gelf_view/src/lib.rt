@@ -2,14 +2,24 @@
 //! beside its items, read from bytes.
 #![tactic(auto)]
 
+mod calls;
+mod fetching;
+mod items;
 mod notes;
 mod records;
+mod string_calls;
+mod string_places;
 mod strings;
+mod symbol_calls;
 mod symbols;
 mod versions;
 
+pub use calls::{note, verdaux, verdef, vernaux, verneed};
+pub use items::{addr, dynent, half, rel, rela, sym, word};
 pub use notes::{NoteAt, note_align, note_in};
+pub use string_calls::strptr;
 pub use strings::string_in;
+pub use symbol_calls::{shndx_table, symshndx};
 pub use symbols::SymPlace;
 pub use versions::{
     Verdaux, Verdef, Vernaux, Verneed, verdaux_in, verdef_in, vernaux_in, verneed_in,
