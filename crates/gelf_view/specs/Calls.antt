@@ -31,7 +31,8 @@ use Rattle.gelf_view.specs.Versions.{verdef_at, verdaux_at, verneed_at, vernaux_
 
 -- what refuses a lend of a kind before its content does
 unfoldable pub kind_refusal : Object → Kind → ℕ → ℕ → Option ElfError
-kind_refusal o kind s p = first_refusal (no_section o s ∷ no_data o s p ∷ wrong_kind o kind s p ∷ [])
+kind_refusal o kind s p =
+    first_refusal (no_section o s ∷ no_data o s p ∷ wrong_kind o kind s p ∷ [])
 
 -- it looks at the bytes of a piece where they stand, and so wants memory only for a home that is
 -- not loaded

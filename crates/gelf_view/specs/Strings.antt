@@ -30,7 +30,9 @@ abbrev pub Stands : ℕ → ℕ → ℕ → ℕ → Stand → Type 0
 Stands end align len offset (Covers start) =
     (is_in end align len offset ≡ true) × (start ≡ offset - rounded_up end align)
 Stands end align len offset (Ends next) =
-    (is_in end align len offset ≡ false) × (next ≡ rounded_up end align + len) × (next < 2 ^ 64)
+    (is_in end align len offset ≡ false)
+    × (next ≡ rounded_up end align + len)
+    × (next < 2 ^ 64)
 Stands end align len offset Past =
     (is_in end align len offset ≡ false) × (2 ^ 64 ≤ rounded_up end align + len)
 

@@ -16,7 +16,7 @@ ghost use Rattle.gelf_view.specs.Calls.{bytes, kind_refusal};
 
 use elf_descriptor::{Elf, Held};
 use elf_outside::Source;
-use elf_types::{DataId, ElfError, Kind, ScnId};
+use elf_types::{DataId, ElfError, Kind, Order, ScnId};
 use elf_xlate::Items;
 
 /// Reads a section's home where its bytes are not held. It refuses in this order: `NoSection`,
@@ -128,4 +128,12 @@ fn own_bytes(items: &Items) -> &[u8]
         Items::Bytes(list) => list.as_slice(),
         _ => unreachable!(),
     }
+}
+
+/// The byte order of an object.
+#[tactic(auto, unfolding(elf_object::specs::Object::header_of))]
+pub fn order<S: Source>(elf: &Elf<S>) -> Order
+    ensures { result ≡ elf.now.o.header.order }
+{
+    elf.ehdr().order
 }

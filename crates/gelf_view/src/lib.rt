@@ -2,9 +2,9 @@
 //! beside its items, read from bytes.
 #![tactic(auto)]
 
-mod calls;
 mod fetching;
 mod items;
+mod note_calls;
 mod notes;
 mod records;
 mod string_calls;
@@ -12,15 +12,17 @@ mod string_places;
 mod strings;
 mod symbol_calls;
 mod symbols;
+mod version_calls;
 mod versions;
 
-pub use calls::{note, verdaux, verdef, vernaux, verneed};
 pub use items::{addr, dynent, half, rel, rela, sym, word};
+pub use note_calls::note;
 pub use notes::{NoteAt, note_align, note_in};
 pub use string_calls::strptr;
 pub use strings::string_in;
 pub use symbol_calls::{shndx_table, symshndx};
 pub use symbols::SymPlace;
+pub use version_calls::{verdaux, verdef, vernaux, verneed};
 pub use versions::{
     Verdaux, Verdef, Vernaux, Verneed, verdaux_in, verdef_in, vernaux_in, verneed_in,
 };

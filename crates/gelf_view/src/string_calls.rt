@@ -110,8 +110,8 @@ fn is_out<S: Source>(elf: &Elf<S>, s: ScnId) -> bool
     }
 }
 
-/// The number of bytes that are read of a section that is there, or `OutOfFile` where the home piece
-/// is clean and the home is out of the file.
+/// The number of bytes that a section that is there has in the file, or `OutOfFile` where the home
+/// piece is clean and the home is out of the file.
 fn check_home<S: Source>(elf: &Elf<S>, s: ScnId, count: u32) -> Result<u64, ElfError>
     requires section { no_section elf.now.o s.0 ≡ None }
     requires count { count ≡ piece_count elf.now.o s.0 }

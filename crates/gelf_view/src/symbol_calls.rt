@@ -70,7 +70,8 @@ fn extended_index<S: Source>(elf: &mut Elf<S>, s: ScnId, i: u64) -> Result<u32, 
 
 /// The place of a symbol with index `i` in a section.
 fn place_of<S: Source>(elf: &mut Elf<S>, s: ScnId, i: u64, x: Sym) -> Result<SymPlace, ElfError>
-    ensures answer { Answers elf.old.told (wanted (symbol_place elf.old.told s.0 i x) elf.old) result
+    ensures answer { Answers elf.old.told
+        (wanted (symbol_place elf.old.told s.0 i x) elf.old) result
         ((symbol_place elf.old.told s.0 i x).answer elf.old.o) }
     ensures looks { Looks S.Source (symbol_place elf.old.told s.0 i x) result elf.old elf.new }
 {

@@ -11,7 +11,7 @@ use Rattle.gelf_view.specs.Calls.{bytes, note, note_found, note_answer}
 use Rattle.gelf_view.specs.Notes.{note_align, note_at, IsNoteWithin}
 use Rattle.gelf_view.proofs.FoundLemmas.{at_hand, found_queries, found_queries_err}
 use Rattle.gelf_view.proofs.NoteAnswers.{note_is_found, note_step, note_refused}
-use Rattle.gelf_view.proofs.calls.note.Goals as goal
+use Rattle.gelf_view.proofs.note_calls.note.Goals as goal
 
 pub bytes_there-requires-clause-passed : goal.bytes_there-requires-clause-passed
 bytes_there-requires-clause-passed g c =

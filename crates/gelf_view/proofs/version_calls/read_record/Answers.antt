@@ -10,7 +10,7 @@ use Rattle.elf_descriptor.proofs.Refusals.{answers_passed}
 use Rattle.gelf_view.specs.Calls.{bytes, in_bytes, record_found}
 use Rattle.gelf_view.specs.Records.{record_at}
 use Rattle.gelf_view.proofs.FoundLemmas.{at_hand, record_step, record_is_found, found_queries, found_queries_err, found_refused}
-use Rattle.gelf_view.proofs.calls.read_record.Goals as goal
+use Rattle.gelf_view.proofs.version_calls.read_record.Goals as goal
 
 pub bytes_there-requires-clause-passed : goal.bytes_there-requires-clause-passed
 bytes_there-requires-clause-passed g c =
