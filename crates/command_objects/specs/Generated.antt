@@ -1,7 +1,8 @@
 -- The image of the self test: so many sections, each with a symbol.
-use Rattle.std.specs.Prelude.{ℕ, ◌+◌, ◌*◌, ◌%◌, List, [], ◌∷◌, ◌++◌, length, map, codes, decimal, Option, Some, Result, Ok}
+use Rattle.std.specs.Prelude.{ℕ, ◌+◌, ◌*◌, ◌%◌, List, [], ◌∷◌, ◌++◌, length, map, codes, decimal, Option, Some, None, Result, Ok}
 use Rattle.std.specs.List.{range_with_len, sum}
 use Rattle.std.proofs.Math.ListN.{replicate}
+use Rattle.elf_types.specs.Answers.{◌>>=◌}
 use Rattle.elf_types.specs.declared.records.Class.TheVariants.{C64}
 use Rattle.elf_types.specs.declared.records.Order.TheVariants.{Least}
 use Rattle.elf_types.specs.declared.records.Shdr.{Shdr}
@@ -109,21 +110,25 @@ abbrev pub line_of : List ℕ → List ℕ → List ℕ
 line_of word number = word ++ codes " " ++ number ++ codes "\n"
 
 -- what a lookup found
-abbrev pub found_text : Result (Option ℕ) ElfError → List ℕ
-found_text (Ok (Some i)) = decimal i
-found_text _ = codes "none"
+abbrev pub found_text : Option ℕ → List ℕ
+found_text (Some i) = decimal i
+found_text None = codes "none"
 
 unfoldable pub symbols_in : Object → ℕ → List Sym
 symbols_in o n = syms_of (items_at o (n + 1) 0)
 
--- a lookup of the last symbol's name
-abbrev pub last_found : ℕ → Object → Result (Option ℕ) ElfError
-last_found n o = find_linear_answer o (n + 1) (numbered_name (codes "y") n)
-
-unfoldable pub five_lines : ℕ → Object → List ℕ
-five_lines n o =
+unfoldable pub five_lines : ℕ → Object → Option ℕ → List ℕ
+five_lines n o found =
     line_of (codes "sections") (decimal (length o.sections))
     ++ line_of (codes "symbols") (decimal (length (symbols_in o n)))
     ++ line_of (codes "bytes") (decimal (length o.base))
     ++ line_of (codes "value sum") (decimal (sum (map (λ x. x.value) (symbols_in o n))))
-    ++ line_of (codes "found") (found_text (last_found n o))
+    ++ line_of (codes "found") (found_text found)
+
+-- a lookup of the last symbol's name, which is refused as a lend of the symbols is
+abbrev pub last_found : ℕ → Object → Result (Option ℕ) ElfError
+last_found n o = find_linear_answer o (n + 1) (numbered_name (codes "y") n)
+
+-- the lines, or that refusal
+unfoldable pub told_lines : ℕ → Object → Result (List ℕ) ElfError
+told_lines n o = last_found n o >>= λ found. Ok (five_lines n o found)

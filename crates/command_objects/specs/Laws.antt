@@ -1,8 +1,8 @@
 -- What strip and rehash keep, as laws over the definitions. They are stated here, and not proved
 -- yet.
-use Rattle.std.specs.Prelude.{◌≡◌, ℕ, ◌+◌, ◌<◌, ◌≤◌, ◌^◌, Bool, true, false, ◌&&◌, nat_le, nat_lt, List, [], ◌∷◌, length, slice_get, slice_index, All, Option, Some, None, Result, Ok, Err}
+use Rattle.std.specs.Prelude.{◌≡◌, ◌↔◌, ℕ, ◌+◌, ◌<◌, ◌≤◌, ◌^◌, Bool, true, false, ◌&&◌, nat_le, nat_lt, List, [], ◌∷◌, length, slice_get, slice_index, All, Option, Some, None, Result, Ok, Err}
 use Rattle.std.proofs.Math.ListN.{replicate}
-use Rattle.std.specs.List.{list_any}
+use Rattle.std.specs.List.{list_any, range_with_len}
 use Rattle.elf_types.specs.declared.records.Class.{Class}
 use Rattle.elf_types.specs.declared.records.Phdr.{Phdr}
 use Rattle.elf_types.specs.declared.records.Sym.{Sym}
@@ -26,7 +26,8 @@ use Rattle.command_objects.specs.Generated.{generated}
 use Rattle.command_objects.specs.Files.{file_of, file_made}
 use Rattle.command_objects.specs.Listed.{listed_names, find_linear_answer}
 use Rattle.command_objects.specs.HashSections.{is_whole_sysv, is_whole_gnu}
-use Rattle.command_objects.specs.BuiltHashes.{GnuShape, build_sysv_answer, build_gnu_answer}
+use Rattle.command_objects.specs.Hashes.{gnu_hash}
+use Rattle.command_objects.specs.BuiltHashes.{GnuShape, buckets_of, gnu_order_of, first_unsorted, build_sysv_answer, build_gnu_answer}
 use Rattle.command_objects.specs.Rehashed.{dynamic_symbols, rehashed}
 
 -- ---- What is made is an object
@@ -119,6 +120,14 @@ pub record BuiltHashesAreWhole : Type 0 where
       (o : Object) (s : ℕ) (shape : GnuShape) (bytes : List ℕ) → IsShape shape
       → build_gnu_answer o s shape ≡ Ok bytes
       → is_whole_gnu o.header.class o.header.order bytes (listed_names o s) ≡ true
+
+-- symbols are refused as unsorted exactly where they do not stand in the order that GNU's section
+-- needs
+abbrev pub SortedAreBuilt : Type 0
+SortedAreBuilt =
+    (nbuckets : ℕ) (names : List (Option (List ℕ)))
+    → (first_unsorted (buckets_of gnu_hash nbuckets names) ≡ None)
+    ↔ (gnu_order_of nbuckets names ≡ range_with_len 0 (length names))
 
 -- ---- Rehash keeps lookup
 

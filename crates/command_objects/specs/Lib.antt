@@ -15,5 +15,6 @@ pub mod Generated
 pub mod Files
 pub mod Samples
 pub mod Programs
+pub mod Executable
 pub mod Laws
 pub mod KeepingLaws

@@ -1,7 +1,7 @@
 -- Small images on which the definitions are computed, and forms of answers that the tests compare.
-use Rattle.std.specs.Prelude.{ℕ, List, [], ◌∷◌, codes, false, Result, Ok, Err}
+use Rattle.std.specs.Prelude.{ℕ, List, [], ◌∷◌, ◌++◌, codes, false, Result, Ok, Err}
 use Rattle.elf_object.specs.Object.{Object}
-use Rattle.elf_object.specs.Samples.{small64, symbols32, symbols64, with_number, object_in}
+use Rattle.elf_object.specs.Samples.{small64, symbols32, symbols64, with_number, object_in, hex}
 use Rattle.command_objects.specs.Arranged.{Rebuilt}
 use Rattle.command_objects.specs.Files.{file_of, file_made}
 use Rattle.command_objects.specs.Rebuilt.{stripped}
@@ -57,6 +57,29 @@ updating_none = record no_changes { update = (codes ".q", two_letters) ∷ [] }
 
 abbrev pub adding : Changes
 adding = record no_changes { add = (codes ".x", two_letters) ∷ [] }
+
+-- the self test's image with one section, in 480 bytes: the section .s1 at 64, the symbols with
+-- their new values 1 and 4 at 72, their names at 120, the sections' names at 124, and the table at
+-- 160
+unfoldable pub one_section64 : List ℕ
+one_section64 =
+    hex (codes "7f454c4602010100000000000000000001003e00010000000000000000000000")
+    ++ hex (codes "0000000000000000a00000000000000000000000400000000000400005000400")
+    ++ hex (codes "0101000000000000")
+    ++ hex (codes "000000000000000001000000000000000000000000000000")
+    ++ hex (codes "010000001100010004000000000000000200000000000000")
+    ++ hex (codes "00793100")
+    ++ hex (codes "002e7331002e73796d746162002e737472746162002e7368737472746162000000000000")
+    ++ hex (codes "0000000000000000000000000000000000000000000000000000000000000000")
+    ++ hex (codes "0000000000000000000000000000000000000000000000000000000000000000")
+    ++ hex (codes "0100000001000000020000000000000000000000000000004000000000000000")
+    ++ hex (codes "0200000000000000000000000000000001000000000000000000000000000000")
+    ++ hex (codes "0500000002000000000000000000000000000000000000004800000000000000")
+    ++ hex (codes "3000000000000000030000000100000008000000000000001800000000000000")
+    ++ hex (codes "0d00000003000000000000000000000000000000000000007800000000000000")
+    ++ hex (codes "0400000000000000000000000000000001000000000000000000000000000000")
+    ++ hex (codes "1500000003000000000000000000000000000000000000007c00000000000000")
+    ++ hex (codes "1f00000000000000000000000000000001000000000000000000000000000000")
 
 -- the self test's image, opened again
 abbrev pub selftest_again : ℕ → Object

@@ -10,8 +10,8 @@ ghost use Rattle.command_objects.specs.Copied.{copied};
 ghost use Rattle.command_objects.specs.Copied.CopyFault.{NoSection, NoTable};
 ghost use Rattle.command_objects.specs.Split.{debug_half, debug_refusal, unstripped};
 ghost use Rattle.command_objects.specs.Split.UnstripFault.{Mismatch};
-ghost use Rattle.command_objects.specs.Generated.{five_lines};
-ghost use Rattle.command_objects.specs.Samples.{made_or_none, unlinked64, two_letters, with_new_section, stripped64, debug64, updating_none, adding, selftest_again};
+ghost use Rattle.command_objects.specs.Generated.{generated_and_shifted, told_lines};
+ghost use Rattle.command_objects.specs.Samples.{made_or_none, unlinked64, two_letters, with_new_section, stripped64, debug64, updating_none, adding, one_section64, selftest_again};
 
 /// A section is added behind the others, and its name goes into the table.
 fn sections_are_added()
@@ -44,15 +44,16 @@ fn halves_are_combined()
 
 /// The self test's image with one section.
 fn one_section_is_generated()
-    ensures size { length (selftest_again 1).base ≡ 480 }
-    ensures lines { five_lines 1 (selftest_again 1)
-        ≡ codes "sections 5\nsymbols 2\nbytes 480\nvalue sum 5\nfound 1\n" }
+    ensures bytes { file_of (generated_and_shifted 1) ≡ Ok one_section64 }
+    ensures size { length one_section64 ≡ 480 }
+    ensures lines { told_lines 1 (selftest_again 1)
+        ≡ Ok (codes "sections 5\nsymbols 2\nbytes 480\nvalue sum 5\nfound 1\n") }
 {}
 
 /// The self test's image with eight sections: lengths begin anew after seven.
 fn eight_sections_are_generated()
-    ensures lines { five_lines 8 (selftest_again 8)
-        ≡ codes "sections 12\nsymbols 9\nbytes 1168\nvalue sum 180\nfound 8\n" }
+    ensures lines { told_lines 8 (selftest_again 8)
+        ≡ Ok (codes "sections 12\nsymbols 9\nbytes 1168\nvalue sum 180\nfound 8\n") }
 {}
 
 #[test]

@@ -5,6 +5,8 @@
 #[cfg(test)]
 mod copy_tests;
 #[cfg(test)]
+mod executable_tests;
+#[cfg(test)]
 mod hash_tests;
 #[cfg(test)]
 mod program_tests;

@@ -1,12 +1,11 @@
--- What a command gives: the bytes that it writes on both outputs, in their order, its status,
--- and the files that it makes.
+-- What a command gives: its report, which is the bytes that it writes on both outputs and its
+-- status, and the files that it makes.
 use Rattle.std.specs.Prelude.{ℕ, false, List, [], ◌∷◌, None, Result, Ok, Err}
 use Rattle.elf_types.specs.declared.errors.ElfError.{ElfError}
 use Rattle.elf_types.specs.Text.{error_text}
-use Rattle.tool_output.specs.declared.outputs.Side.TheVariants.{Out, Error}
-use Rattle.tool_output.specs.Marks.{Mark, said}
-use Rattle.tool_output.specs.Messages.{message}
 use Rattle.tool_output.specs.Names.{file_name}
+use Rattle.tool_output.specs.Statuses.{refused_status}
+use Rattle.tool_output.specs.Reports.{Report, shown, refusal}
 use Rattle.tool_output.specs.Outcomes.{FileWrite, Outcome}
 
 -- ---- Commands that write: they make all their files, or say why they make none
@@ -21,16 +20,20 @@ pub record Complaint : Type 0 where
   pub file : List ℕ
   pub text : List ℕ
 
--- marks, a status and files
-abbrev pub outcome_with : List Mark → ℕ → List FileWrite → Outcome
-outcome_with marks status writes =
-    record { marks = marks; status = status; writes = writes; asks = None; gives = None }
+-- a report, and the files that are made; no bound on what is asked for or given is promised
+abbrev pub outcome_with : Report → List FileWrite → Outcome
+outcome_with report writes = record {
+  marks = report.marks;
+  status = refused_status report.refused;
+  writes = writes;
+  asks = None;
+  gives = None;
+}
 
 -- status 1 and one message where something is refused
 unfoldable pub written_outcome : List ℕ → Result Done Complaint → Outcome
-written_outcome command (Ok done) = outcome_with (said Out done.shown) 0 done.writes
-written_outcome command (Err c) =
-    outcome_with (said Error (message command (file_name c.file) c.text)) 1 []
+written_outcome command (Ok done) = outcome_with (shown done.shown) done.writes
+written_outcome command (Err c) = outcome_with (refusal command (file_name c.file) c.text) []
 
 -- a file that is made anew
 abbrev pub made_file : List ℕ → List ℕ → FileWrite

@@ -2,7 +2,7 @@
 use Rattle.std.specs.Prelude.{ℕ, List, [], ◌∷◌, Result, Ok, codes}
 use Rattle.elf_types.specs.Answers.{◌>>=◌}
 use Rattle.elf_object.specs.Open.{opened}
-use Rattle.command_objects.specs.Generated.{generated_and_shifted, five_lines}
+use Rattle.command_objects.specs.Generated.{generated_and_shifted, told_lines}
 use Rattle.command_objects.specs.Files.{file_of}
 use Rattle.tool_output.specs.Outcomes.{Outcome}
 use Rattle.command_outcomes.specs.Outcomes.{Done, Complaint, written_outcome, made_file, of_file}
@@ -11,7 +11,8 @@ unfoldable pub selftest_done : List ℕ → ℕ → Result Done Complaint
 selftest_done out n =
     of_file out (file_of (generated_and_shifted n)) >>= λ bytes.
     of_file out (opened bytes) >>= λ o.
-    Ok (record { shown = five_lines n o; writes = made_file out bytes ∷ [] })
+    of_file out (told_lines n o) >>= λ lines.
+    Ok (record { shown = lines; writes = made_file out bytes ∷ [] })
 
 unfoldable pub selftest_outcome : List ℕ → ℕ → Outcome
 selftest_outcome out n = written_outcome (codes "selftest") (selftest_done out n)

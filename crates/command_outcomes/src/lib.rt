@@ -2,5 +2,6 @@
 //! their files.
 #![tactic(auto)]
 
+pub mod laws;
 #[cfg(test)]
 mod tests;

@@ -2,15 +2,23 @@
 //! out by hand.
 #![tactic(auto, unfolding(crate::proofs::Computing::all_words))]
 
-ghost use Rattle.std.specs.Prelude.{◌≡◌, [], ◌∷◌, codes, true, false, None, Some};
+ghost use Rattle.std.specs.Prelude.{◌≡◌, [], ◌∷◌, codes, true, false, None, Some, Result};
+ghost use Rattle.elf_outside.specs.declared.file_sets.OpenFault.{OpenFault};
+ghost use Rattle.elf_outside.specs.declared.memory.device.MemDevice.{MemDevice};
+ghost use Rattle.elf_outside.specs.declared.memory.files.MemFiles.{MemFiles};
 ghost use Rattle.elf_object.specs.Samples.{small64};
 ghost use Rattle.tool_output.specs.Marks.{said};
+ghost use Rattle.command_objects.specs.Samples.{one_section64};
+ghost use Rattle.command_objects.specs.Executable.{stripped_executable64, debug_executable64, combined_executable64};
 ghost use Rattle.command_outcomes.specs.Outcomes.{made_file};
 ghost use Rattle.tool_output.specs.declared.outputs.Side.TheVariants.{Out};
-ghost use Rattle.command_outcomes.specs.Strip.{unstrip_outcome};
+ghost use Rattle.command_outcomes.specs.Strip.{strip_outcome, unstrip_outcome};
 ghost use Rattle.command_outcomes.specs.Copy.{copy_outcome, rehash_outcome};
 ghost use Rattle.command_outcomes.specs.Selftest.{selftest_outcome};
-ghost use Rattle.command_outcomes.specs.Samples.{some_files, strip_of, updating_none, adding_missing, adding, refused_with, written, lengths};
+ghost use Rattle.command_outcomes.specs.OpenedAgain.{OpensAgain, SecondOpenFails, StopsUnread};
+ghost use Rattle.command_outcomes.specs.Samples.{some_files, split_files, executable_files, half_files, stripping, strip_of, updating_none, adding_missing, adding, ends_with, refused_with, written, lengths};
+
+use crate::laws::stops_where_unread;
 
 /// strip makes one file, or two, or none with a message.
 fn strip_gives_files_or_a_message()
@@ -24,6 +32,31 @@ fn strip_gives_files_or_a_message()
     ensures archive { strip_of false None (codes "A")
         ≡ refused_with (codes "strip: A: not an ELF image\n") }
     ensures short { strip_of false None (codes "G") ≡ refused_with (codes "strip: G: too short\n") }
+{}
+
+/// What was split combines again, byte for byte.
+fn split_files_are_combined()
+    ensures debug { split_files (codes "D") ≡ Some small64 }
+    ensures whole { unstrip_outcome split_files (codes "X") (codes "O") (codes "D")
+        ≡ written (made_file (codes "X") small64 ∷ []) }
+{}
+
+/// So it is of a whole executable: status 0 both times.
+fn executables_are_split_and_combined()
+    ensures split { strip_outcome (stripping false (Some (codes "D"))) executable_files (codes "U")
+        ≡ written
+        (made_file (codes "O") stripped_executable64
+        ∷ made_file (codes "D") debug_executable64
+        ∷ []) }
+    ensures whole { unstrip_outcome half_files (codes "X") (codes "O") (codes "D")
+        ≡ written (made_file (codes "X") combined_executable64 ∷ []) }
+{}
+
+/// A section is added to an image whose table of names stands alone.
+fn copy_gives_a_file()
+    ensures files { lengths (copy_outcome adding some_files (codes "O") (codes "K"))
+        ≡ (codes "O", 384) ∷ [] }
+    ensures status { (copy_outcome adding some_files (codes "O") (codes "K")).status ≡ 0 }
 {}
 
 /// The messages of the other commands.
@@ -42,15 +75,29 @@ fn commands_say_why_they_write_nothing()
 
 /// The self test shows five lines and makes its file.
 fn selftest_shows_five_lines()
-    ensures marks { (selftest_outcome (codes "O") 1).marks
-        ≡ said Out (codes "sections 5\nsymbols 2\nbytes 480\nvalue sum 5\nfound 1\n") }
-    ensures status { (selftest_outcome (codes "O") 1).status ≡ 0 }
-    ensures writes { lengths (selftest_outcome (codes "O") 1) ≡ (codes "O", 480) ∷ [] }
+    ensures { selftest_outcome (codes "O") 1
+        ≡ ends_with
+        (said Out (codes "sections 5\nsymbols 2\nbytes 480\nvalue sum 5\nfound 1\n"))
+        0
+        (made_file (codes "O") one_section64 ∷ []) }
 {}
+
+/// The same where opening the file again fails: status 3, no output, and the same image.
+fn selftest_stops_where_its_file_is_not_opened()
+    ensures { (old new : MemFiles) (answer : Result MemDevice OpenFault)
+        → SecondOpenFails old → OpensAgain old new (codes "O") one_section64 answer
+        → StopsUnread (selftest_outcome (codes "O") 1) old new (codes "O") one_section64 answer }
+{
+    stops_where_unread();
+}
 
 #[test]
 fn outcomes_compute_on_small_files() {
     strip_gives_files_or_a_message();
+    split_files_are_combined();
+    executables_are_split_and_combined();
+    copy_gives_a_file();
     commands_say_why_they_write_nothing();
     selftest_shows_five_lines();
+    selftest_stops_where_its_file_is_not_opened();
 }

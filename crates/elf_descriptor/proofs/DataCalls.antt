@@ -66,7 +66,7 @@ data_answers image size b s p result is came =
     (subst (λ (r : Option ElfError). Answers true (preparing cell p (items_due b.header.class cell p)) result (answered r (tt {0}))) (sym (data_refusal_is image size b s p is)) came)
 
 -- a clean piece that holds its items has them from loaded bytes
-held_loaded : (class : Class) (order : Order) (c : CellView) (p : ℕ) → HeldIs class order c → (piece_in c p).own ≡ None → piece_holds_items c p ≡ true → cell_is_loaded c ≡ true
+pub held_loaded : (class : Class) (order : Order) (c : CellView) (p : ℕ) → HeldIs class order c → (piece_in c p).own ≡ None → piece_holds_items c p ≡ true → cell_is_loaded c ≡ true
 unfolding ready
 held_loaded class order c p is clean holds = by_held c.held c.raw is (sym (ap (λ (o : Option Items). is_some (elim o [ None ↦ c.held | Some items ↦ Some items ])) clean) ∙ holds)
   where

@@ -1,6 +1,6 @@
 -- Edits that may want memory.
-use Rattle.std.proofs.Common.{◌≡◌, ℕ, ◌<◌, Bool, true, false, List, [], ◌∷◌, ◌++◌, length, set, Option, Some, None, Result, Ok, Err, refl, sym, ap, ◌∙◌, subst}
-use Rattle.std.specs.Prelude.{OnOk, OnErr, IfOk, IfErr, IsOk}
+use Rattle.std.proofs.Common.{◌≡◌, ℕ, true, false, List, Option, Result, Ok, Err, refl, sym, ap, ◌∙◌, subst}
+use Rattle.std.specs.Prelude.{OnOk, OnErr, IfOk, IfErr}
 use Rattle.std.proofs.Math.ListN.{replicate}
 use Rattle.std.proofs.lemmas.List.{length-replicate}
 use Rattle.elf_types.specs.declared.records.Phdr.{Phdr}
@@ -8,13 +8,12 @@ use Rattle.elf_types.specs.declared.errors.ElfError.{ElfError}
 use Rattle.elf_types.specs.declared.errors.ElfError.TheVariants.{Memory}
 use Rattle.elf_types.specs.Answers.{answered, IsRefusal}
 use Rattle.elf_outside.specs.declared.sources.Source.{Ghosts}
-use Rattle.elf_object.specs.Object.{Object, no_phdr}
+use Rattle.elf_object.specs.Object.{no_phdr}
 use Rattle.elf_object.specs.Steps.{with_phdrs, with_new_phdrs}
-use Rattle.elf_object.specs.Words.{Edits, EditsWith, result_map}
+use Rattle.elf_object.specs.Words.{Edits}
 use Rattle.elf_object.specs.Calls.{Call}
 use Rattle.elf_object.proofs.AnswerLaws.{answered_refusal, answered_value, edited, edit_refused, edit_wants}
 use Rattle.elf_descriptor.specs.declared.body.Body.{Body}
-use Rattle.elf_descriptor.specs.State.{State}
 use Rattle.elf_descriptor.specs.Views.{object_of, state_of}
 use Rattle.elf_descriptor.specs.Edits.{IsStepped, homes_of, stepped}
 use Rattle.elf_descriptor.proofs.EditLaws.{state_stepped}
@@ -75,3 +74,11 @@ phdrs_zeroed old new n phdrs zeros is = subst (λ (b : Body). IsStepped (λ o. w
 pub left_same : {A E : Type 0} (r : Result A E) (old new : Body) → OnErr r (new ≡ old) → OnErr r (IsStepped (λ o. o) old.ready old new)
 left_same (Ok x) old new same = tt
 left_same (Err e) old new same = subst (λ (b : Body). IsStepped (λ o. o) old.ready old b) (sym same) (same_stepped old)
+
+-- what holds holds on an error
+pub on_err : {A E : Type 0} {P : Type 0} (r : Result A E) → P → OnErr r P
+on_err (Ok x) is = tt
+on_err (Err e) is = is
+
+pub left_alone : (old new : Body) → new ≡ old → IsStepped (λ o. o) old.ready old new
+left_alone old new same = subst (λ (b : Body). IsStepped (λ o. o) old.ready old b) (sym same) (same_stepped old)

@@ -1,5 +1,5 @@
 -- An edit keeps what is true of each descriptor, and leaves the stepped state.
-use Rattle.std.proofs.Common.{◌≡◌, ℕ, ◌<◌, Bool, List, [], ◌∷◌, length, get_or, map, Option, Some, None, Result, Ok, Err, refl, sym, ap, ◌∙◌, subst, arith}
+use Rattle.std.proofs.Common.{◌≡◌, ℕ, Bool, List, [], ◌∷◌, length, get_or, map, Option, Some, Result, Ok, Err, refl, sym, ap, ◌∙◌, subst, arith}
 use Rattle.std.specs.Prelude.{slice_get, is_some, IfOk, OnOk, OnErr, false}
 use Rattle.std.proofs.lemmas.List.{length-map}
 use Rattle.std.proofs.lemmas.Option.{get_or_from_slice_get, slice_get_within}
@@ -90,7 +90,7 @@ step_sound c image o x keeps ties bases answer is =
       based = λ told. bases o (is.based told);
     })
 
-stepped_elf : {A : Type 0} (c : Call A) (image : Option (List ℕ)) (size : ℕ) (x : A) (ready : Bool) (old new : Body) → KeepsObject c → KeepsTied c → KeepsBased c
+pub stepped_elf : {A : Type 0} (c : Call A) (image : Option (List ℕ)) (size : ℕ) (x : A) (ready : Bool) (old new : Body) → KeepsObject c → KeepsTied c → KeepsBased c
     → c.answer (object_of image size old) ≡ Ok x → IsStepped c.after ready old new → IsElf image size old → IsElf image size new
 stepped_elf c image size x ready old new keeps ties bases answer step is =
     let sound : IsSound image (object_of image size new) = subst (λ (p : Object). IsSound image p) (sym (step.object image size)) (step_sound c image (object_of image size old) x keeps ties bases answer is.sound) in

@@ -1,21 +1,20 @@
 -- Edits of the pieces of a section: their refusals, and their steps.
-use Rattle.std.proofs.Common.{◌≡◌, ℕ, ◌<◌, Bool, false, List, [], ◌∷◌, ◌++◌, length, map, get_or, set, Option, Some, None, Result, Ok, Err, refl, sym, ap, ◌∙◌, subst}
-use Rattle.std.specs.Prelude.{OnOk, OnErr, IfOk, not, nat_le}
+use Rattle.std.proofs.Common.{◌≡◌, ℕ, Bool, false, List, [], ◌∷◌, map, get_or, set, Option, Some, None, Result, Ok, Err, refl, sym, ap, ◌∙◌, subst}
+use Rattle.std.specs.Prelude.{OnOk, OnErr, IfOk}
+use Rattle.std.specs.Global.{Vec}
 use Rattle.std.proofs.lemmas.List.{set-get_or}
-use Rattle.std.proofs.Math.Seq.{map-set}
 use Rattle.elf_types.specs.declared.records.Class.{Class}
 use Rattle.elf_types.specs.declared.records.Part.TheVariants as part
 use Rattle.elf_types.specs.declared.errors.ElfError.{ElfError}
-use Rattle.elf_types.specs.declared.errors.ElfError.TheVariants.{NoSection, Unfit}
-use Rattle.elf_types.specs.Answers.{answered, refused_if, first_refusal}
+use Rattle.elf_types.specs.declared.errors.ElfError.TheVariants.{Unfit}
+use Rattle.elf_types.specs.Answers.{answered, first_refusal}
 use Rattle.elf_xlate.specs.declared.content.Items.{Items}
 use Rattle.elf_xlate.specs.Translation.{first_unfit}
-use Rattle.elf_object.specs.Object.{Object, Section, Piece, section_at, piece_at, home_piece}
-use Rattle.elf_object.specs.Answers.{no_section, no_data, reserved, piece_count}
+use Rattle.elf_object.specs.Object.{Object, Piece, section_at, piece_at, home_piece}
+use Rattle.elf_object.specs.Answers.{no_data, reserved}
 use Rattle.elf_object.specs.Steps.{with_section, with_piece_at, with_own, own_piece}
 use Rattle.elf_object.specs.Words.{handing_back}
-use Rattle.elf_object.specs.Calls.{Call, replace_refusal, unfit_items}
-use Rattle.elf_object.specs.Calls as calls
+use Rattle.elf_object.specs.Calls.{replace_refusal, unfit_items}
 use Rattle.section_data.specs.Views.{CellView}
 use Rattle.section_data.specs.Held.{piece_in}
 use Rattle.section_data.specs.Leaves.{replaced}
@@ -24,8 +23,8 @@ use Rattle.elf_descriptor.specs.declared.scn.Scn.{Scn}
 use Rattle.elf_descriptor.specs.declared.body.Body.{Body}
 use Rattle.elf_descriptor.specs.Views.{object_of, section_of, scn_at, absent_scn, no_scn}
 use Rattle.elf_descriptor.specs.Edits.{IsStepped, homes_of, without_pieces}
-use Rattle.elf_descriptor.proofs.Objects.{section_is, no_section_is, no_data_is}
-use Rattle.elf_descriptor.proofs.EditSteps.{section_stepped, pieces_stepped}
+use Rattle.elf_descriptor.proofs.Objects.{no_section_is, no_data_is}
+use Rattle.elf_descriptor.proofs.EditSteps.{pieces_stepped}
 
 -- ---- Refusals
 
@@ -79,6 +78,17 @@ answered_back {A} {B} items (Err e) r is = subst (λ (q : Result A (B × ElfErro
 
 -- ---- Steps
 
+-- the same sections are kept
+pub items_same : (old : Body) (sections : Vec Scn) → sections.items ≡ old.sections.items → IsStepped (λ o. o) old.ready old (record old { sections = sections })
+unfolding object_of homes_of
+items_same old sections items = record {
+  object = λ image size. ap (λ (l : List Scn). record (object_of image size old) { sections = map (section_of image) l }) items;
+  homes = ap (λ (l : List Scn). map without_pieces l) items;
+  class = refl;
+  order = refl;
+  ready = refl;
+}
+
 -- the section is written as it was
 pub section_same : (old new : Body) (s : ℕ) (x : Scn) → x ≡ scn_at old s → new ≡ record old { sections = new.sections }
     → new.sections.items ≡ set old.sections.items s x → IsStepped (λ o. o) old.ready old new
@@ -93,10 +103,10 @@ section_same old new s x read rest is =
       ready = ap (λ (b : Body). b.ready) rest;
     }
 
-abbrev owned_in : ℕ → Items → List Piece → List Piece
+abbrev pub owned_in : ℕ → Items → List Piece → List Piece
 owned_in p items pieces = set pieces p (own_piece items (get_or pieces p home_piece).align)
 
-piece_owned : (o : Object) (s p : ℕ) (items : Items) → with_section o s (record (section_at o s) { pieces = owned_in p items (section_at o s).pieces }) ≡ with_own o s p items
+pub piece_owned : (o : Object) (s p : ℕ) (items : Items) → with_section o s (record (section_at o s) { pieces = owned_in p items (section_at o s).pieces }) ≡ with_own o s p items
 unfolding with_own with_piece_at piece_at
 piece_owned o s p items = refl
 

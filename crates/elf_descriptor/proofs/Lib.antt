@@ -16,8 +16,15 @@ pub mod EditSteps
 pub mod EditPieces
 pub mod EditGrows
 pub mod EditAppends
+pub mod EditSections
+pub mod EditSegments
 pub mod CreateLaws
 pub mod PieceCalls
 pub mod DataCalls
 pub mod BaseCalls
 pub mod EntryCalls
+pub mod OwnedBodies
+pub mod OwnedCells
+pub mod OwnedCalls
+pub mod LendCalls
+pub mod LendLaws

@@ -39,7 +39,7 @@ use Rattle.elf_descriptor.proofs.RawCalls.{scn_missing, scn_there, home_due_is, 
 
 -- ---- The content of a home
 
-section_sound : (image : Option (List ℕ)) (size : ℕ) (b : Body) (s : ℕ) → IsElf image size b → s < length b.sections.items → IsSection b.header.class (section_of image (scn_at b s))
+pub section_sound : (image : Option (List ℕ)) (size : ℕ) (b : Body) (s : ℕ) → IsElf image size b → s < length b.sections.items → IsSection b.header.class (section_of image (scn_at b s))
 unfolding section_at object_of
 section_sound image size b s is there =
     let count = section_count_is image size b in

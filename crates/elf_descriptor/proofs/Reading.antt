@@ -68,7 +68,7 @@ loads_there image old new s sections w idle i out = by_number (i == s) refl
     by_number true e = let same = eqb-true i s e in subst (λ (n : ℕ). (scn_at new n).cell ≡ (scn_at old n).cell) (sym same) (idle (subst (λ (n : ℕ). ¬ Contains sections n) same out))
     by_number false e = ap (λ (x : Scn). x.cell) (warmed_other image old new s i w (other_number i s e))
 
-held_there : (image : Option (List ℕ)) (old new : Body) (s : ℕ) (holding : List ℕ) → Warmed image old new s
+pub held_there : (image : Option (List ℕ)) (old new : Body) (s : ℕ) (holding : List ℕ) → Warmed image old new s
     → (¬ Contains holding s → (scn_at new s).cell.held ≡ (scn_at old s).cell.held)
     → (i : ℕ) → ¬ Contains holding i → (scn_at new i).cell.held ≡ (scn_at old i).cell.held
 held_there image old new s holding w idle i out = by_number (i == s) refl
@@ -77,7 +77,7 @@ held_there image old new s holding w idle i out = by_number (i == s) refl
     by_number true e = let same = eqb-true i s e in subst (λ (n : ℕ). (scn_at new n).cell.held ≡ (scn_at old n).cell.held) (sym same) (idle (subst (λ (n : ℕ). ¬ Contains holding n) same out))
     by_number false e = ap (λ (x : Scn). x.cell.held) (warmed_other image old new s i w (other_number i s e))
 
-home_held : (b : Body) (s : ℕ) → is_loaded (held_of b) s ≡ is_some (scn_at b s).cell.held
+pub home_held : (b : Body) (s : ℕ) → is_loaded (held_of b) s ≡ is_some (scn_at b s).cell.held
 unfolding is_loaded
 home_held b s = home_held_is b s
 
@@ -117,7 +117,7 @@ reads_warmed g result source left old new s sections holding w asks idle kept se
 
 -- ---- Refused before it reads, or one home is read
 
-contains_one : (s : ℕ) → Contains (s ∷ []) s
+pub contains_one : (s : ℕ) → Contains (s ∷ []) s
 contains_one s = (0, omega arith, refl)
 
 -- where a section is not read its data is as before

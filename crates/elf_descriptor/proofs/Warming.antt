@@ -46,7 +46,7 @@ warms_section image x cell warms =
     ap (λ (c : CellView). section_of image (record x { cell = c })) warms.cell
     ∙ ap (λ (l : List ℕ). record (section_of image x) { raw = l }) (warm_raw image x.cell warms.raw warms.held warms.bytes)
 
-unread_before : (image : Option (List ℕ)) (home : Home) (before after : Option (List ℕ)) → RawBecomes image home before after → is_some after ≡ false → is_some before ≡ false
+pub unread_before : (image : Option (List ℕ)) (home : Home) (before after : Option (List ℕ)) → RawBecomes image home before after → is_some after ≡ false → is_some before ≡ false
 unread_before image home None after becomes unread = refl
 unread_before image home (Some bytes) after becomes unread = let there = ap (λ (r : Option (List ℕ)). is_some r) becomes in cc
 

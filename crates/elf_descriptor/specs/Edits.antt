@@ -1,13 +1,19 @@
 -- What an edit that reads nothing leaves of a descriptor (elf_update, ELF_F_DIRTY).
-use Rattle.std.specs.Prelude.{◌≡◌, ℕ, ◌<◌, Bool, false, List, [], length, map, Option, Result, Ok, Err}
+use Rattle.std.specs.Prelude.{◌≡◌, ℕ, ◌<◌, Bool, true, false, List, [], ◌++◌, ◌-◌, ◌==◌, length, map, Option, Result, Ok, Err, if◌then◌else◌}
+use Rattle.std.specs.List.{range_with_len}
+use Rattle.std.proofs.Math.ListN.{replicate}
 use Rattle.elf_types.specs.declared.records.DataId.{DataId}
+use Rattle.elf_types.specs.declared.records.ScnId.{ScnId}
 use Rattle.elf_types.specs.declared.records.Part.{Part}
 use Rattle.elf_types.specs.declared.records.Part.TheVariants as part
-use Rattle.elf_object.specs.Object.{Object}
 use Rattle.elf_types.specs.declared.errors.ElfError.{ElfError}
+use Rattle.elf_ident.specs.Front.{zero_shdr}
+use Rattle.elf_object.specs.Object.{Object, new_section}
+use Rattle.elf_object.specs.Steps.{with_sections}
 use Rattle.elf_object.specs.Calls.{Call}
+use Rattle.elf_object.specs.Calls as calls
 use Rattle.elf_object.specs.Words.{Edits, EditsWith}
-use Rattle.section_data.specs.Views.{CellView}
+use Rattle.section_data.specs.Views.{CellView, new_cell}
 use Rattle.elf_descriptor.specs.declared.scn.Scn.{Scn}
 use Rattle.elf_descriptor.specs.declared.body.Body.{Body}
 use Rattle.elf_descriptor.specs.State.{State}
@@ -58,6 +64,10 @@ IsThere b _ = Unit {0}
 abbrev pub IsNumbered : Body → ℕ → Type 0
 IsNumbered b s = s < length b.sections.items → (scn_at b s).cell.section ≡ s
 
+-- a section's number
+abbrev pub section_number : ScnId → ℕ
+section_number s = s.0
+
 -- a piece's section and number
 abbrev pub numbers_of : DataId → ℕ × ℕ
 numbers_of d = (d.section, d.piece)
@@ -69,3 +79,45 @@ IsStated result stated = Edits result (tt {0}) (tt {0}) stated (tt {0})
 -- of an edit that hands back what was handed in
 abbrev pub IsStatedWith : {A B : Type 0} → Result A (B × ElfError) → B → Result A ElfError → Type 0
 IsStatedWith result items stated = EditsWith result items (tt {0}) (tt {0}) stated (tt {0})
+
+-- ---- Sections that are added
+
+-- a new section with a number
+abbrev pub new_scn : ℕ → Scn
+new_scn n = record { header = zero_shdr; cell = new_cell n; marked = true }
+
+-- so many new sections, with the numbers from one on
+unfoldable pub new_scns : ℕ → ℕ → List Scn
+new_scns first count = map new_scn (range_with_len first count)
+
+-- sections that are added as elf_newscn makes them
+abbrev pub with_added : ℕ → Object → Object
+with_added count o = with_sections o (o.sections ++ replicate count new_section)
+
+-- a step that adds sections, whatever the source tells
+pub record IsGrown (after : Object → Object) (old new : Body) : Type 0 where
+  pub count : ℕ
+  pub object : (image : Option (List ℕ)) (size : ℕ)
+      → object_of image size new ≡ after (object_of image size old)
+  pub sections : new.sections.items
+      ≡ old.sections.items ++ new_scns (length old.sections.items) count
+  pub class : new.header.class ≡ old.header.class
+  pub order : new.header.order ≡ old.header.order
+  pub ready : new.ready ≡ false
+
+-- of each section, whether something of it is held: of one that is added nothing is
+abbrev pub with_none : ℕ → List Bool → List Bool
+with_none count l = l ++ replicate (count - length l) false
+
+-- after an edit that may add sections
+abbrev pub grown : {S A : Type 0} → Call A → State S → State S
+grown c s = record s {
+  o = c.after s.o;
+  loaded = with_none (length (c.after s.o).sections) s.loaded;
+  held = with_none (length (c.after s.o).sections) s.held;
+  ready = false;
+}
+
+-- after elf_newscn's section 0 alone, which changes nothing where there are sections
+abbrev pub nulled : {S : Type 0} → State S → State S
+nulled s = if length s.o.sections == 0 then grown calls.newnull s else s

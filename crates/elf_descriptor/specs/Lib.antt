@@ -12,3 +12,6 @@ pub mod Reads
 pub mod Rests
 pub mod Edits
 pub mod Created
+pub mod LentSegments
+pub mod Owned
+pub mod Lends

@@ -8,6 +8,7 @@ mod creating;
 mod edits;
 mod getters;
 mod homes;
+mod lending;
 mod loading;
 mod opening;
 mod parts;

@@ -1,16 +1,19 @@
 //! What a caller learns from the contracts of a descriptor's calls alone.
 
-ghost use Rattle.std.specs.Prelude.{◌≡◌, Ok, IfOk, OnOk, IsTrue};
+ghost use Rattle.std.specs.Prelude.{◌≡◌, ◌<◌, ℕ, Ok, IfOk, OnOk, IsTrue, length, slice_set};
 ghost use Rattle.elf_object.specs.Words.{Answers};
 ghost use Rattle.elf_object.specs.Calls as calls;
 ghost use Rattle.elf_object.specs.Due.{is_loaded};
 ghost use Rattle.elf_descriptor.specs.Entries.{entry};
 ghost use Rattle.elf_descriptor.specs.Reads.{Looks, wanted};
+ghost use Rattle.elf_descriptor.specs.Edits.{stepped};
 
 use crate::Elf;
 use elf_outside::Source;
-use elf_types::{DataId, ElfError, ScnId, Sym};
+use elf_types::{DataId, ElfError, Phdr, ScnId, Sym};
 use section_data::Item;
+
+pub mod lending;
 
 /// The first two items of a piece.
 pub fn first_two<S: Source, T: Item>(elf: &mut Elf<S>, d: DataId) -> Result<(T, T), ElfError>
@@ -35,6 +38,24 @@ pub fn long<S: Source>(elf: &mut Elf<S>, s: ScnId) -> Result<(usize, u64), ElfEr
     let len = elf.raw(s)?.len();
     let header = elf.shdr(s)?;
     Ok((len, header.size))
+}
+
+/// Stores a program header in those that are lent.
+pub fn put_segment<S: Source>(elf: &mut Elf<S>, i: u32, p: Phdr)
+    requires { i < length elf.old.o.phdrs }
+    ensures { elf.new ≡ stepped (calls.phdrs_mut (slice_set elf.old.o.phdrs i p)) elf.old }
+{
+    elf.phdrs_mut()[i as usize] = p;
+}
+
+/// Adds a section; nothing that is held changes.
+#[tactic(auto, using(crate::proofs::EditSections::none_more))]
+pub fn add_section<S: Source>(elf: &mut Elf<S>) -> Result<ScnId, ElfError>
+    ensures number { IfOk result (λ s. calls.newscn.answer elf.old.o ≡ Ok s.0) }
+    ensures object { OnOk result (elf.new.o ≡ calls.newscn.after elf.old.o) }
+    ensures loaded { (i : ℕ) → is_loaded elf.new.loaded i ≡ is_loaded elf.old.loaded i }
+{
+    elf.newscn()
 }
 
 /// A symbol, as the call of the plain object states it.

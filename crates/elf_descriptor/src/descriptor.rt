@@ -14,6 +14,7 @@ mod edits;
 mod entries;
 mod getters;
 mod homes;
+mod lends;
 mod reading;
 
 /// An object over a source. Contracts see it as a [`State`]: the plain object, what is held of it,

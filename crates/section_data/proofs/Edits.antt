@@ -45,6 +45,7 @@ claims_own c p own marked =
           (sym (set-get_or c.pieces p home_piece) ∙ ap (λ (q : Piece). slice_set c.pieces p q) is);
       stood = ready_own c p there.0 there.1;
       kept = held_kept c.held;
+      same = λ h. refl;
     }
 
 pub claims_clean : (old mid new : CellView) (p : ℕ) (items : Items) → is_some (piece_in old p).own ≡ false → old.held ≡ Some items
@@ -56,6 +57,7 @@ claims_clean old mid new p items clean there is after = record {
   cell = after ∙ ap (λ (m : CellView). replaced m p items) is;
   stood = ready_clean old p clean ∙ there;
   kept = tt;
+  same = λ own. let never = sym clean ∙ own in cc;
 }
 
 kept_set : (section : ℕ) (home : Home) (raw : Option Items) (held : HomeItems) (l : List Piece) (p : ℕ) (q : Piece)

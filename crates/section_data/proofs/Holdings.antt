@@ -1,5 +1,5 @@
 -- What a piece holds, by whether it is own.
-use Rattle.std.proofs.Common.{◌≡◌, ℕ, Bool, true, false, List, Option, Some, None, refl, ap, ◌∙◌}
+use Rattle.std.proofs.Common.{◌≡◌, ℕ, ◌/◌, Bool, true, false, List, Option, Some, None, refl, ap, ◌∙◌}
 use Rattle.std.specs.Prelude.{is_some, IsTrue, not, ◌&&◌, ◌||◌}
 use Rattle.std.specs.Option.{option_and_then}
 use Rattle.elf_types.specs.declared.records.Class.{Class}
@@ -8,10 +8,11 @@ use Rattle.elf_types.specs.declared.records.Kind.{Kind}
 use Rattle.elf_types.specs.declared.records.Kind.TheVariants as kinds
 use Rattle.elf_xlate.specs.declared.content.Items.{Items}
 use Rattle.elf_xlate.specs.declared.content.Items.TheVariants as items
-use Rattle.elf_xlate.specs.Translation.{items_kind, is_whole, decoded}
+use Rattle.elf_xlate.specs.Items.{item_size}
+use Rattle.elf_xlate.specs.Translation.{items_kind, items_count, is_whole, decoded}
 use Rattle.elf_object.specs.Answers.{bytes_of}
 use Rattle.section_data.specs.Views.{CellView}
-use Rattle.section_data.specs.Held.{piece_in, kind_in, ready, piece_holds_items, items_in, raw_items, is_at_hand, cell_is_loaded, or_empty, items_of_bytes}
+use Rattle.section_data.specs.Held.{piece_in, kind_in, count_in, ready, piece_holds_items, items_in, raw_items, is_at_hand, cell_is_loaded, or_empty, items_of_bytes}
 
 pub none_of : {X : Type 0} (o : Option X) → is_some o ≡ false → o ≡ None
 none_of None h = refl
@@ -61,6 +62,14 @@ items_own class order c p i e = rw (items_in, e) refl
 pub items_clean : (class : Class) (order : Order) (c : CellView) (p : ℕ) → is_some (piece_in c p).own ≡ false → items_in class order c p ≡ raw_items class order c
 unfolding items_in
 items_clean class order c p e = rw (items_in, none_of (piece_in c p).own e) refl
+
+pub count_own : (class : Class) (c : CellView) (p : ℕ) (i : Items) → (piece_in c p).own ≡ Some i → count_in class c p ≡ items_count i
+unfolding count_in
+count_own class c p i e = rw (count_in, e) refl
+
+pub count_clean : (class : Class) (c : CellView) (p : ℕ) → is_some (piece_in c p).own ≡ false → count_in class c p ≡ c.home.len / item_size c.home.kind class
+unfolding count_in
+count_clean class c p e = rw (count_in, none_of (piece_in c p).own e) refl
 
 -- ---- The clean home piece, once its home is loaded and has whole items
 

@@ -147,7 +147,7 @@ warm_kind : (image : Option (List ℕ)) (old warm : CellView) (p : ℕ) → Warm
 unfolding kind_in piece_in
 warm_kind image old warm p warms = ap (λ (c : CellView). kind_in c p) warms.cell
 
-claimed_piece : (old new : CellView) (p : ℕ) (claims : Claims old new p) → p < length old.pieces
+pub claimed_piece : (old new : CellView) (p : ℕ) (claims : Claims old new p) → p < length old.pieces
     → piece_in new p ≡ own_piece claims.items (piece_in old p).align
 unfolding piece_in
 claimed_piece old new p claims there =

@@ -1,12 +1,13 @@
 -- What is held of a section's data in memory, and what its pieces hold.
-use Rattle.std.specs.Prelude.{◌≡◌, ℕ, Bool, not, ◌&&◌, ◌||◌, List, Option, Some, None, IfSome, is_some}
+use Rattle.std.specs.Prelude.{◌≡◌, ℕ, ◌/◌, Bool, not, ◌&&◌, ◌||◌, List, Option, Some, None, IfSome, is_some}
 use Rattle.std.specs.Option.{option_and_then}
 use Rattle.elf_types.specs.declared.records.Class.{Class}
 use Rattle.elf_types.specs.declared.records.Order.{Order}
 use Rattle.elf_types.specs.declared.records.Kind.{Kind}
 use Rattle.elf_xlate.specs.declared.content.Items.{Items}
 use Rattle.elf_xlate.specs.declared.content.Items.TheVariants as items
-use Rattle.elf_xlate.specs.Translation.{decoded, items_kind, is_whole}
+use Rattle.elf_xlate.specs.Items.{item_size}
+use Rattle.elf_xlate.specs.Translation.{decoded, items_kind, items_count, is_whole}
 use Rattle.elf_object.specs.Object.{Piece}
 use Rattle.elf_object.specs.Open.{home_bytes}
 use Rattle.section_data.specs.Views.{CellView, piece_of}
@@ -66,6 +67,14 @@ items_over image class order c p =
     elim ((piece_in c p).own) [
       | None ↦ items_of_bytes c.home.kind class order (raw_over image c)
       | Some items ↦ items
+    ]
+
+-- the number of items of a piece: of its own, or of those that the home's bytes are long enough for
+unfoldable pub count_in : Class → CellView → ℕ → ℕ
+count_in class c p =
+    elim ((piece_in c p).own) [
+      | None ↦ c.home.len / item_size c.home.kind class
+      | Some items ↦ items_count items
     ]
 
 -- the home's bytes are no whole items

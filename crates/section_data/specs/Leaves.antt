@@ -40,7 +40,7 @@ pub record Warms (image : Option (List ℕ)) (old new : CellView) : Type 0 where
   pub items : IfSome old.held (λ items. held ≡ Some items)
 
 -- a piece that was ready became own and marked with its items; of the home's items that were held
--- none may be left
+-- none may be left. An own piece stays as it is.
 pub record Claims (old new : CellView) (p : ℕ) : Type 0 where
   pub items : Items
   pub held : Option Items
@@ -50,6 +50,7 @@ pub record Claims (old new : CellView) (p : ℕ) : Type 0 where
   }
   pub stood : ready old p ≡ Some items
   pub kept : IfSome held (λ items. old.held ≡ Some items)
+  pub same : is_some (piece_in old p).own ≡ true → new ≡ old
 
 -- a piece with items of its own of a kind
 pub record OwnsKind (kind : Kind) (piece : Piece) : Type 0 where

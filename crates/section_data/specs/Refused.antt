@@ -1,5 +1,5 @@
 -- How each call on a cell is refused, what it is due, and where it may want memory.
-use Rattle.std.specs.Prelude.{ℕ, not, ◌||◌, nat_le, nat_lt, [], ◌∷◌, length, Option, Some, None, is_some, if◌then◌else◌}
+use Rattle.std.specs.Prelude.{ℕ, Bool, not, ◌||◌, nat_le, nat_lt, [], ◌∷◌, length, Option, Some, None, is_some, if◌then◌else◌}
 use Rattle.elf_types.specs.declared.records.Class.{Class}
 use Rattle.elf_types.specs.declared.records.Kind.{Kind}
 use Rattle.elf_types.specs.declared.records.Part.TheVariants as part
@@ -10,10 +10,10 @@ use Rattle.elf_types.specs.Answers.{refused_if, first_refusal}
 use Rattle.elf_xlate.specs.declared.content.Items.{Items}
 use Rattle.elf_xlate.specs.Translation.{first_unfit}
 use Rattle.elf_object.specs.Words.{Wants}
-use Rattle.elf_object.specs.Answers.{same_kind}
+use Rattle.elf_object.specs.Answers.{same_kind, no_entry}
 use Rattle.elf_object.specs.Calls.{is_piece_align}
 use Rattle.section_data.specs.Views.{CellView}
-use Rattle.section_data.specs.Held.{piece_in, kind_in, cell_is_loaded, is_ragged, piece_holds_items}
+use Rattle.section_data.specs.Held.{piece_in, kind_in, cell_is_loaded, is_ragged, piece_holds_items, count_in}
 
 -- ---- Refusals
 
@@ -63,6 +63,14 @@ append_refused class c items align = first_refusal
     (refused_if (nat_le MAX_PIECES (length c.pieces)) TooMany
     ∷ refused_if (not (is_piece_align align)) (BadAlign align)
     ∷ unfit_piece class c (length c.pieces) items
+    ∷ [])
+
+-- of a call that stores an item of a kind, which fits the class or not
+unfoldable pub store_refused : Class → CellView → Kind → ℕ → ℕ → Bool → Option ElfError
+store_refused class c kind p i fitting = first_refusal
+    (kind_refused class c kind p
+    ∷ no_entry i (count_in class c p)
+    ∷ refused_if (not fitting) (Unfit (part.Piece c.section p) i)
     ∷ [])
 
 -- ---- Bytes that a call asks its source for at most

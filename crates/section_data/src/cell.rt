@@ -22,6 +22,7 @@ mod edits;
 mod items;
 mod lending;
 mod loading;
+mod storing;
 
 /// One section's data: its home in the image as opened, the home's bytes once they are read, its
 /// items once they are translated, and its pieces. A home of bytes is held once: its items are the

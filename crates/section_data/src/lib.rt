@@ -15,12 +15,14 @@ mod listed;
 mod piece;
 mod pieces;
 mod room;
+mod storable;
 
 pub use cell::Cell;
 pub use home::Home;
 pub use item::Item;
 pub use listed::Listed;
 pub use piece::Piece;
+pub use storable::Storable;
 
 #[cfg(test)]
 mod tests;

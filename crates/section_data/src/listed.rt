@@ -1,12 +1,12 @@
 //! The types whose lists are the items of a section's data.
 
-ghost use Rattle.std.specs.Prelude.{◌≡◌, List, refl};
+ghost use Rattle.std.specs.Prelude.{◌≡◌, List, length, refl};
 ghost use Rattle.std.specs.Borrow.{sem};
 ghost use Rattle.elf_types.specs.declared.records.Kind.{Kind as TheKind};
 ghost use Rattle.elf_types.specs.declared.records.Kind.TheVariants as kinds;
 ghost use Rattle.elf_xlate.specs.declared.content.Items.{Items as TheItems};
 ghost use Rattle.elf_xlate.specs.declared.content.Items.TheVariants as items;
-ghost use Rattle.elf_xlate.specs.Translation.{items_kind};
+ghost use Rattle.elf_xlate.specs.Translation.{items_kind, items_count};
 ghost use Rattle.elf_object.specs.Answers.{bytes_of, halves_of, words_of, addrs_of, syms_of, rels_of, relas_of, dyns_of};
 ghost use Rattle.section_data.specs.Lends.{LendsList};
 
@@ -31,19 +31,24 @@ pub trait Listed {
     /// The list in items of the kind. It takes no memory.
     fn list(items: &Items) -> &List<Self>
         requires { items_kind items.now ≡ kind }
-        ensures { result.now ≡ list_of items.now };
+        ensures value { result.now ≡ list_of items.now }
+        ensures counted { length result.now ≡ items_count items.now };
 
     /// The same, lent for writing: what the borrower leaves is what the items hold.
     fn list_mut(items: &mut Items) -> &mut List<Self>
         requires { items_kind items.old ≡ kind }
         ensures* lends { sem 𝓛 (LendsList Self.row variant items.entry result) }
-        ensures value { result.now ≡ list_of items.old };
+        ensures value { result.now ≡ list_of items.old }
+        ensures counted { length result.now ≡ items_count items.old };
 
     // The items of a list have it.
     ghost back: { (l : List Self) → list_of (variant l) ≡ l };
 
     // They are of the kind.
     ghost of_kind: { (l : List Self) → items_kind (variant l) ≡ kind };
+
+    // They are as many.
+    ghost counted: { (l : List Self) → items_count (variant l) ≡ length l };
 }
 
 impl Listed for u8 {
@@ -74,6 +79,8 @@ impl Listed for u8 {
     ghost back = { λ _. refl };
 
     ghost of_kind = { λ _. refl };
+
+    ghost counted = { λ _. refl };
 }
 
 impl Listed for u16 {
@@ -104,6 +111,8 @@ impl Listed for u16 {
     ghost back = { λ _. refl };
 
     ghost of_kind = { λ _. refl };
+
+    ghost counted = { λ _. refl };
 }
 
 impl Listed for u32 {
@@ -134,6 +143,8 @@ impl Listed for u32 {
     ghost back = { λ _. refl };
 
     ghost of_kind = { λ _. refl };
+
+    ghost counted = { λ _. refl };
 }
 
 impl Listed for u64 {
@@ -164,6 +175,8 @@ impl Listed for u64 {
     ghost back = { λ _. refl };
 
     ghost of_kind = { λ _. refl };
+
+    ghost counted = { λ _. refl };
 }
 
 impl Listed for Sym {
@@ -194,6 +207,8 @@ impl Listed for Sym {
     ghost back = { λ _. refl };
 
     ghost of_kind = { λ _. refl };
+
+    ghost counted = { λ _. refl };
 }
 
 impl Listed for Rel {
@@ -224,6 +239,8 @@ impl Listed for Rel {
     ghost back = { λ _. refl };
 
     ghost of_kind = { λ _. refl };
+
+    ghost counted = { λ _. refl };
 }
 
 impl Listed for Rela {
@@ -254,6 +271,8 @@ impl Listed for Rela {
     ghost back = { λ _. refl };
 
     ghost of_kind = { λ _. refl };
+
+    ghost counted = { λ _. refl };
 }
 
 impl Listed for Dyn {
@@ -284,4 +303,6 @@ impl Listed for Dyn {
     ghost back = { λ _. refl };
 
     ghost of_kind = { λ _. refl };
+
+    ghost counted = { λ _. refl };
 }

@@ -1,8 +1,8 @@
 //! A piece of a section's data.
 
-ghost use Rattle.std.specs.Prelude.{◌≡◌, IsTrue, IsSome, IfSome, Some, is_some, true};
+ghost use Rattle.std.specs.Prelude.{◌≡◌, IsTrue, IsSome, IfSome, Some, is_some, length, true};
 ghost use Rattle.std.specs.Borrow.{sem};
-ghost use Rattle.elf_xlate.specs.Translation.{items_kind};
+ghost use Rattle.elf_xlate.specs.Translation.{items_kind, items_count};
 ghost use Rattle.elf_object.specs.Calls.{is_piece_align};
 ghost use Rattle.elf_object.specs.Object.{home_piece};
 ghost use Rattle.elf_object.specs.Steps.{own_piece};
@@ -123,6 +123,7 @@ impl Piece {
         requires kind { IfSome self.old.own (λ items. items_kind items ≡ T.kind) }
         ensures* lends { sem 𝓛 (LendsPiece T.row T.variant self.entry result) }
         ensures value { IfSome self.old.own (λ items. result.now ≡ T.list_of items) }
+        ensures counted { IfSome self.old.own (λ items. length result.now ≡ items_count items) }
     {
         T::list_mut(&mut self.items)
     }

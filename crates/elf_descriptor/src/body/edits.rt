@@ -3,4 +3,5 @@
 mod flags;
 mod headers;
 mod pieces;
+mod sections;
 mod segments;

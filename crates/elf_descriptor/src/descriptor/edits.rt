@@ -1,6 +1,7 @@
 //! Edits of a descriptor, which read nothing. Each refusal leaves the descriptor as it was.
 
-ghost use Rattle.std.specs.Prelude.{◌≡◌, ◌<◌, ◌^◌};
+ghost use Rattle.std.specs.Prelude.{◌≡◌, ◌<◌, ◌^◌, length, OnErr};
+ghost use Rattle.std.specs.Borrow.{sem};
 ghost use Rattle.elf_xlate.specs.Headers.{IsEhdr, IsShdr};
 ghost use Rattle.elf_object.specs.Words.{handing_back, result_map, Edits, EditsWith};
 ghost use Rattle.elf_object.specs.Calls as calls;
@@ -15,7 +16,7 @@ use object_laws::laws::{every_step_keeps, every_step_keeps_tied};
 use writing_laws::based::every_step_keeps_based;
 
 /// Every edit leaves an object, of which what is not dirty stands in the base.
-fn every_step_is_sound()
+pub(super) fn every_step_is_sound()
     ensures object { EveryStepKeeps }
     ensures tied { EveryStepKeepsTied }
     ensures based { EveryStepKeepsBased }
@@ -41,7 +42,8 @@ fn byte_is_ranged(_byte: u8)
 {}
 
 impl<S: Source> Elf<S> {
-    ghost use Rattle.elf_descriptor.specs.Edits.{StepsTo, numbers_of, stepped, flagged};
+    ghost use Rattle.elf_descriptor.specs.Edits.{StepsTo, section_number, numbers_of, stepped, flagged, grown, nulled};
+    ghost use Rattle.elf_descriptor.specs.LentSegments.{LendsSegments};
 
     /// Stores a header's `osabi`, `abiversion`, `etype`, `machine`, `entry`, `phoff`, `shoff`,
     /// `flags` and `shstrndx`, and marks the header dirty. It looks at no other field. It refuses
@@ -96,6 +98,45 @@ impl<S: Source> Elf<S> {
     {
         every_step_is_sound();
         self.body.newphdr(self.alloc, n)
+    }
+
+    /// The program headers, lent for writing, and marked dirty. It refuses nothing, reads nothing
+    /// and takes no memory. Whether what is left fits the class is looked at by an update.
+    ///
+    /// Source: gelf_getphdr and gelf_update_phdr of gelf(3E), on all of them.
+    pub fn phdrs_mut(&mut self) -> &mut [Phdr]
+        ensures* lends { sem 𝓛 (LendsSegments S.row S.Source self.entry result) }
+        ensures value { result.now ≡ self.old.o.phdrs }
+    {
+        every_step_is_sound();
+        self.body.phdrs_mut()
+    }
+
+    /// Adds a section at the end, whose header is zeros, which has no piece and is marked dirty,
+    /// and answers it. An object without sections gets section 0 before it. It refuses in this
+    /// order: `TooMany` at 2^20 sections, `Memory`. It reads nothing.
+    ///
+    /// Source: elf_newscn of elf(3E).
+    pub fn newscn(&mut self) -> Result<ScnId, ElfError>
+        ensures { Edits (result_map section_number result) self.old self.new
+            (calls.newscn.answer self.old.o) (grown calls.newscn self.old) }
+    {
+        every_step_is_sound();
+        self.body.newscn(self.alloc)
+    }
+
+    /// Gives an object without sections section 0, whose header is zeros and which is marked dirty;
+    /// where there are sections it changes nothing, refuses nothing and takes no memory. It refuses
+    /// `Memory` alone. It reads nothing.
+    ///
+    /// Source: gABI chapter 4, "Sections", on section 0.
+    pub fn newnull(&mut self) -> Result<(), ElfError>
+        ensures answer { Edits result self.old self.new (calls.newnull.answer self.old.o)
+            (nulled self.old) }
+        ensures wants { OnErr result (length self.old.o.sections ≡ 0) }
+    {
+        every_step_is_sound();
+        self.body.newnull(self.alloc)
     }
 
     /// Adds a piece with these items to a section, with that alignment in it, and answers the

@@ -6,7 +6,7 @@ ghost use Rattle.elf_types.specs.declared.errors.ElfError.TheVariants.{Memory};
 ghost use Rattle.elf_types.specs.Answers.{answered, IsRefusal};
 ghost use Rattle.elf_outside.specs.Asks.{Asks};
 ghost use Rattle.elf_object.specs.Words.{Answers, result_map};
-ghost use Rattle.elf_xlate.specs.Translation.{items_kind};
+ghost use Rattle.elf_xlate.specs.Translation.{items_kind, items_count};
 ghost use Rattle.section_data.specs.Views.{IsCell};
 ghost use Rattle.section_data.specs.Held.{piece_in, kind_in, piece_holds_items, items_over, HeldIs};
 ghost use Rattle.section_data.specs.Refused.{kind_refused, wrong_piece_kind, lend_due, preparing};
@@ -85,8 +85,8 @@ impl Cell {
     }
 
     /// Makes a piece of a kind own and marked with its items; the home is read and translated at
-    /// first use.
-    fn own<S: Source>(
+    /// first use. It refuses as `lend`.
+    pub fn own<S: Source>(
         &mut self,
         p: u32,
         kind: Kind,
@@ -187,6 +187,8 @@ impl Cell {
         requires kind { IfSome (piece_in self.old p).own (λ items. items_kind items ≡ T.kind) }
         ensures* lends { sem 𝓛 (LendsCell T.row T.variant p self.entry result) }
         ensures value { IfSome (piece_in self.old p).own (λ items. result.now ≡ T.list_of items) }
+        ensures counted { IfSome (piece_in self.old p).own (λ items.
+            length result.now ≡ items_count items) }
     {
         let piece = self.pieces.get_mut(p);
         piece.list_mut::<T>()

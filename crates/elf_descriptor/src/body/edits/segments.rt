@@ -1,6 +1,7 @@
-//! Another number of program headers.
+//! The program headers: another number of them, and their loan for writing.
 
 ghost use Rattle.std.specs.Prelude.{◌≡◌, ℕ, List, Option, false, OnOk, OnErr, IfOk, IfErr};
+ghost use Rattle.std.specs.Borrow.{sem};
 ghost use Rattle.std.proofs.Math.ListN.{replicate};
 ghost use Rattle.elf_types.specs.Answers.{answered, IsRefusal};
 ghost use Rattle.elf_types.specs.declared.errors.ElfError.TheVariants.{Memory};
@@ -46,6 +47,8 @@ fn check_count(n: u32) -> Result<(), ElfError>
 }
 
 impl Body {
+    ghost use Rattle.elf_descriptor.specs.LentSegments.{LendsBodySegments};
+
     /// Gives the object other program headers.
     fn set_phdrs(&mut self, phdrs: Phdrs, n: u32)
         requires { phdrs ≡ replicate n no_phdr }
@@ -83,5 +86,15 @@ impl Body {
             return Err(e);
         }
         self.zero_phdrs(alloc, n)
+    }
+
+    /// The program headers, lent for writing; they are marked dirty.
+    pub fn phdrs_mut(&mut self) -> &mut [Phdr]
+        ensures* lends { sem 𝓛 (LendsBodySegments self.entry result) }
+        ensures value { result.now ≡ self.old.phdrs }
+    {
+        self.segments_marked = true;
+        self.ready = false;
+        self.phdrs.as_mut_slice()
     }
 }

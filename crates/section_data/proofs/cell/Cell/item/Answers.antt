@@ -15,7 +15,7 @@ pub returns-then-is_own-clause-value : goal.returns-then-is_own-clause-value
 returns-then-is_own-clause-value g c =
     let own = ap (λ (q : Piece). q.own) (sym c.piece-piece.ensures.value) ∙ c.items.ensures in
     let same = items_own c.args.class c.args.order c.args.self.now c.args.p c.items.result.now own in
-    c.entry.ensures ∙ ap (λ l. entry_at l c.args.i) (c.list.ensures ∙ ap g.T.Listed.list_of (sym same))
+    c.entry.ensures ∙ ap (λ l. entry_at l c.args.i) (c.list.ensures.value ∙ ap g.T.Listed.list_of (sym same))
 
 pub bytes-requires : goal.bytes-requires
 bytes-requires g c =
