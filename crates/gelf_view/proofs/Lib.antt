@@ -13,3 +13,5 @@ mod StringCalls
 mod IndexTables
 mod SymbolLemmas
 mod SymbolCalls
+mod ChainLemmas
+mod ChainCalls

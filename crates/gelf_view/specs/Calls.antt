@@ -1,7 +1,7 @@
 -- The calls that read notes, version records and the section of a symbol, in the form of the calls
 -- of the plain object (gelf_getnote, gelf_getverdef and its like, gelf_getsymshndx). Notes and
 -- version records are refused as a lend of bytes, and then by what stands in the bytes.
-use Rattle.std.specs.Prelude.{◌≡◌, ℕ, ◌==◌, ◌&&◌, not, Bool, List, [], ◌∷◌, Option, is_none, Result}
+use Rattle.std.specs.Prelude.{◌≡◌, ℕ, ◌==◌, ◌&&◌, not, Bool, List, [], ◌∷◌, length, Option, Some, None, is_none, if◌then◌else◌, Result, Ok}
 use Rattle.elf_types.specs.declared.constants.TheConstants.{SHT_SYMTAB_SHNDX}
 use Rattle.elf_types.specs.declared.records.Sym.{Sym}
 use Rattle.elf_types.specs.declared.records.Kind.{Kind}
@@ -93,6 +93,16 @@ verneed_answer o s p at = bytes_answer o s p >>= λ bytes. verneed_at o.header.o
 
 unfoldable pub vernaux_answer : Object → ℕ → ℕ → ℕ → Result Vernaux ElfError
 vernaux_answer o s p at = bytes_answer o s p >>= λ bytes. vernaux_at o.header.order bytes at
+
+-- where the entries of a version section begin: an empty one has none
+abbrev pub first_place : ℕ → Option ℕ
+first_place size = if size == 0 then None else Some 0
+
+unfoldable pub first_entry_answer : Object → ℕ → ℕ → Result (Option ℕ) ElfError
+first_entry_answer o s p = bytes_answer o s p >>= λ bytes. Ok (first_place (length bytes))
+
+abbrev pub first_entry : ℕ → ℕ → Call (Option ℕ)
+first_entry s p = bytes_reader s p (λ o. first_entry_answer o s p)
 
 -- gelf_getverdef
 abbrev pub verdef : ℕ → ℕ → ℕ → Call Verdef

@@ -3,3 +3,4 @@ pub mod Versions
 pub mod Notes
 pub mod Strings
 pub mod Calls
+pub mod Chains

@@ -1,12 +1,13 @@
 //! The notes of a section's data.
 
-ghost use Rattle.std.specs.Prelude.{◌≡◌, ◌==◌, [], None, IfOk, IfSome, is_none};
+ghost use Rattle.std.specs.Prelude.{◌≡◌, ◌==◌, [], None, IsTrue, IfOk, IfSome, is_none};
 ghost use Rattle.elf_object.specs.Words.{AnswersRead};
 ghost use Rattle.elf_object.specs.Object.{section_at};
 ghost use Rattle.elf_object.specs.Answers.{count_at, no_section};
 ghost use Rattle.elf_descriptor.specs.Reads.{Queries, wanted};
 ghost use Rattle.gelf_view.specs.Calls as calls;
 ghost use Rattle.gelf_view.specs.Calls.{note_refusals};
+ghost use Rattle.gelf_view.specs.Chains.{note_then, notes, IsLedBy};
 ghost use Rattle.gelf_view.specs.Notes.{note_align as stated_align, IsNoteWithin};
 
 use crate::fetching::{bytes_there, fetch_bytes, order};
@@ -43,6 +44,8 @@ pub fn note<S: Source>(elf: &mut Elf<S>, d: DataId, at: u64) -> Result<Option<No
         is_none found ≡ (at == count_at elf.old.o d.section d.piece)) }
     ensures within { IfOk result (λ found.
         IfSome found (IsNoteWithin (count_at elf.old.o d.section d.piece) at)) }
+    ensures chain { IsTrue elf.old.told → IsLedBy result
+        (note_then (notes elf.old.o d.section d.piece)) (notes elf.old.o d.section d.piece at) }
     ensures queries { Queries S.Source (calls.note d.section d.piece at) [] result elf.old elf.new }
 {
     match fetch_bytes(elf, d) {

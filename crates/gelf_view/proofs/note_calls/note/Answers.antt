@@ -1,4 +1,4 @@
-use Rattle.std.proofs.Common.{true, ℕ, [], ◌≡◌, ◌==◌, IfOk, IfSome, length, sym, ap, ◌∙◌, subst}
+use Rattle.std.proofs.Common.{true, Err, ℕ, [], ◌≡◌, ◌==◌, IfOk, IfSome, length, sym, ap, ◌∙◌, subst}
 use Rattle.std.specs.Prelude.{is_none}
 use Rattle.elf_types.specs.declared.records.Order.{Order}
 use Rattle.elf_types.specs.declared.records.Kind.TheVariants as kinds
@@ -7,7 +7,10 @@ use Rattle.elf_object.specs.Answers.{lend_refusal, no_section, count_at}
 use Rattle.elf_object.proofs.AnswerLaws.{lend_passed}
 use Rattle.elf_descriptor.specs.Reads.{Queries, wanted}
 use Rattle.elf_descriptor.proofs.Refusals.{answers_passed}
-use Rattle.gelf_view.specs.Calls.{bytes, note, note_found, note_answer}
+use Rattle.gelf_view.specs.Calls.{bytes, note, note_found, note_answer, note_refusals}
+use Rattle.gelf_view.specs.Chains.{note_then, notes}
+use Rattle.gelf_view.proofs.ChainLemmas.{led_read}
+use Rattle.gelf_view.proofs.ChainCalls.{notes_of_piece}
 use Rattle.gelf_view.specs.Notes.{note_align, note_at, IsNoteWithin}
 use Rattle.gelf_view.proofs.FoundLemmas.{at_hand, found_queries, found_queries_err}
 use Rattle.gelf_view.proofs.NoteAnswers.{note_is_found, note_step, note_refused}
@@ -60,3 +63,15 @@ unfolding note_answer
 returns-in-Err-clause-queries g c =
     found_queries_err g.S.Source c.args.elf.now c.fetch_bytes.new.elf c.args.d.section c.args.d.piece c.args.at (note_found c.args.d.section c.args.at)
     (λ o l. note_is_found o.header.order (note_align (section_at o c.args.d.section).header.addralign) l c.args.at) c.in-Err.e c.in-Err.ensures.queries
+
+pub returns-in-Ok-clause-chain : goal.returns-in-Ok-clause-chain
+returns-in-Ok-clause-chain g c = λ told.
+    led_read c.args.elf.now.told (wanted (note c.args.d.section c.args.d.piece c.args.at) c.args.elf.now) (note_refusals c.args.elf.now.o c.args.d.section c.args.d.piece c.args.at) c.note_in.result
+    (note_answer c.args.elf.now.o c.args.d.section c.args.d.piece c.args.at) (note_then (notes c.args.elf.now.o c.args.d.section c.args.d.piece))
+    (notes c.args.elf.now.o c.args.d.section c.args.d.piece c.args.at) told (returns-in-Ok-clause-answer g c) (notes_of_piece c.args.elf.now.o c.args.d.section c.args.d.piece c.args.at)
+
+pub returns-in-Err-clause-chain : goal.returns-in-Err-clause-chain
+returns-in-Err-clause-chain g c = λ told.
+    led_read c.args.elf.now.told (wanted (note c.args.d.section c.args.d.piece c.args.at) c.args.elf.now) (note_refusals c.args.elf.now.o c.args.d.section c.args.d.piece c.args.at) (Err c.in-Err.e)
+    (note_answer c.args.elf.now.o c.args.d.section c.args.d.piece c.args.at) (note_then (notes c.args.elf.now.o c.args.d.section c.args.d.piece))
+    (notes c.args.elf.now.o c.args.d.section c.args.d.piece c.args.at) told (returns-in-Err-clause-answer g c) (notes_of_piece c.args.elf.now.o c.args.d.section c.args.d.piece c.args.at)

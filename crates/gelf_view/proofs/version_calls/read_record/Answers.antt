@@ -1,3 +1,6 @@
+use Rattle.std.proofs.Common.{arith}
+use Rattle.elf_object.specs.Answers.{count_at}
+use Rattle.gelf_view.proofs.ChainCalls.{found_lies}
 use Rattle.std.proofs.Common.{true, List, ℕ, [], Result, sym, ap, ◌∙◌, subst}
 use Rattle.elf_types.specs.declared.records.Order.{Order}
 use Rattle.elf_types.specs.declared.records.Kind.TheVariants as kinds
@@ -42,3 +45,8 @@ pub returns-in-Err-clause-queries : goal.returns-in-Err-clause-queries
 returns-in-Err-clause-queries g c =
     found_queries_err g.S.Source c.args.elf.now c.fetch_bytes.new.elf c.args.d.section c.args.d.piece c.args.at (record_found g.R.Record.size g.R.Record.of c.args.at)
     (λ o l. record_is_found g.R.Record.size c.args.at (g.R.Record.of o.header.order) l) c.in-Err.e c.in-Err.ensures.queries
+
+pub returns-in-Ok-clause-within : goal.returns-in-Ok-clause-within
+returns-in-Ok-clause-within g c =
+    found_lies (g.R.Record.of c.order.result) g.R.Record.size c.args.at (count_at c.args.elf.now.o c.args.d.section c.args.d.piece) c.bytes_there.result.now c.read_in.result c.read_in.ensures
+    (c.bytes_there.ensures.count ∙ ap (λ (o : Object). count_at o c.args.d.section c.args.d.piece) c.in-Ok.ensures.queries.object) (omega (arith, c.bytes_there.type_inv.1))
