@@ -22,6 +22,7 @@ pub mod PieceCalls
 pub mod DataCalls
 pub mod BaseCalls
 pub mod EntryCalls
+pub mod HandEntries
 pub mod Words
 pub mod Rules
 pub mod OwnedBodies
