@@ -1,6 +1,7 @@
 pub mod Refusals
 pub mod Marks
 pub mod Objects
+pub mod Homes
 pub mod Beginnings
 pub mod BeginAnswers
 pub mod Warming

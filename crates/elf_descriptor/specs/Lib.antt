@@ -6,6 +6,7 @@ pub mod Bodies
 pub mod Entries
 pub mod Dues
 pub mod Held
+pub mod Homes
 pub mod Warmed
 pub mod Reads
 pub mod Rests

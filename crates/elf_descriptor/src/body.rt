@@ -7,6 +7,7 @@ mod checks;
 mod creating;
 mod edits;
 mod getters;
+mod homes;
 mod lending;
 mod loading;
 mod opening;

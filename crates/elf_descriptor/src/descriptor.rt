@@ -13,6 +13,7 @@ mod create;
 mod edits;
 mod entries;
 mod getters;
+mod homes;
 mod lends;
 mod reading;
 

@@ -3,3 +3,17 @@ mod NumberLemmas
 mod NoteLemmas
 mod Words
 mod Rules
+mod PieceBytes
+mod FetchLemmas
+mod LendLemmas
+mod FoundLemmas
+mod NoteAnswers
+mod StackLemmas
+mod HomeLemmas
+mod StringLemmas
+mod StringCalls
+mod IndexTables
+mod SymbolLemmas
+mod SymbolCalls
+mod ChainLemmas
+mod ChainCalls

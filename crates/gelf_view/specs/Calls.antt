@@ -1,14 +1,18 @@
 -- The calls that read notes, version records and the section of a symbol, in the form of the calls
 -- of the plain object (gelf_getnote, gelf_getverdef and its like, gelf_getsymshndx). Notes and
 -- version records are refused as a lend of bytes, and then by what stands in the bytes.
-use Rattle.std.specs.Prelude.{◌≡◌, ℕ, ◌&&◌, not, Bool, List, [], ◌∷◌, Option, is_none, Result}
+use Rattle.std.specs.Prelude.{◌≡◌, ℕ, ◌==◌, ◌&&◌, not, Bool, List, [], ◌∷◌, length, Option, Some, None, is_none, if◌then◌else◌, Result, Ok}
+use Rattle.elf_types.specs.declared.constants.TheConstants.{SHT_SYMTAB_SHNDX}
+use Rattle.elf_types.specs.declared.records.Sym.{Sym}
+use Rattle.elf_types.specs.declared.records.Kind.{Kind}
 use Rattle.elf_types.specs.declared.records.Kind.TheVariants as kinds
 use Rattle.elf_types.specs.declared.errors.ElfError.{ElfError}
 use Rattle.elf_types.specs.declared.errors.ElfError.TheVariants.{BadChain}
 use Rattle.elf_types.specs.Answers.{answered, first_refusal, ◌>>=◌}
-use Rattle.elf_object.specs.Words.{Refusals}
-use Rattle.elf_object.specs.Object.{Object, section_at, piece_at}
-use Rattle.elf_object.specs.Answers.{bytes_of, items_at, count_at, lend_refusal}
+use Rattle.elf_types.specs.declared.records.Order.{Order}
+use Rattle.elf_object.specs.Words.{Refusals, result_map}
+use Rattle.elf_object.specs.Object.{Object, Section, section_at, piece_at}
+use Rattle.elf_object.specs.Answers.{no_section, no_data, wrong_kind, bytes_of, items_at, count_at, lend_refusal}
 use Rattle.elf_object.specs.Due.{is_loaded}
 use Rattle.elf_object.specs.Calls.{Call, reader}
 use Rattle.elf_object.specs.SymbolSections as sections
@@ -18,11 +22,17 @@ use Rattle.gelf_view.specs.declared.versions.Verdaux.{Verdaux}
 use Rattle.gelf_view.specs.declared.versions.Verneed.{Verneed}
 use Rattle.gelf_view.specs.declared.versions.Vernaux.{Vernaux}
 use Rattle.gelf_view.specs.declared.symbols.SymPlace.{SymPlace}
-use Rattle.gelf_view.specs.declared.symbols.SymPlace.TheVariants.{Special, Section}
+use Rattle.gelf_view.specs.declared.symbols.SymPlace.TheVariants as special
 use Rattle.gelf_view.specs.Notes.{note_align, note_at, no_header}
+use Rattle.gelf_view.specs.Records.{record_at}
 use Rattle.gelf_view.specs.Versions.{verdef_at, verdaux_at, verneed_at, vernaux_at}
 
 -- ---- Calls that look at bytes
+
+-- what refuses a lend of a kind before its content does
+unfoldable pub kind_refusal : Object → Kind → ℕ → ℕ → Option ElfError
+kind_refusal o kind s p =
+    first_refusal (no_section o s ∷ no_data o s p ∷ wrong_kind o kind s p ∷ [])
 
 -- it looks at the bytes of a piece where they stand, and so wants memory only for a home that is
 -- not loaded
@@ -31,18 +41,26 @@ bytes_reader s p answer = record (reader s p answer) {
   memory = λ o loaded held. is_none (piece_at o s p).own && not (is_loaded loaded s);
 }
 
--- the bytes of a piece, refused as a lend of them, and then what is found in them
-abbrev pub in_bytes : {A : Type 0} → Object → ℕ → ℕ → (List ℕ → Result A ElfError)
-    → Result A ElfError
-in_bytes o s p found =
-    answered (lend_refusal o kinds.Bytes s p) (bytes_of (items_at o s p)) >>= found
+-- the bytes of a piece, refused as a lend of them
+abbrev pub bytes_answer : Object → ℕ → ℕ → Result (List ℕ) ElfError
+bytes_answer o s p = answered (lend_refusal o kinds.Bytes s p) (bytes_of (items_at o s p))
+
+abbrev pub bytes : ℕ → ℕ → Call (List ℕ)
+bytes s p = bytes_reader s p (λ o. bytes_answer o s p)
+
+-- and then what is found in them
+abbrev pub in_bytes : {A : Type 0} → ℕ → ℕ → (Object → List ℕ → Result A ElfError) → Call A
+in_bytes s p found = bytes_reader s p (λ o. bytes_answer o s p >>= found o)
 
 -- ---- Notes
 
+-- in the bytes of a section
+abbrev pub note_found : ℕ → ℕ → Object → List ℕ → Result (Option NoteAt) ElfError
+note_found s at o bytes =
+    note_at o.header.order (note_align (section_at o s).header.addralign) bytes at
+
 unfoldable pub note_answer : Object → ℕ → ℕ → ℕ → Result (Option NoteAt) ElfError
-note_answer o s p at =
-    let align = note_align (section_at o s).header.addralign in
-    in_bytes o s p (λ bytes. note_at o.header.order align bytes at)
+note_answer o s p at = bytes_answer o s p >>= note_found s at o
 
 -- gelf_getnote
 abbrev pub note : ℕ → ℕ → ℕ → Call (Option NoteAt)
@@ -59,17 +77,32 @@ note_refusals o s p at = record {
 
 -- ---- Version records
 
+-- a record of that size and form at a place of bytes
+abbrev pub record_found : {A : Type 0} → ℕ → (Order → List ℕ → A) → ℕ → Object → List ℕ
+    → Result A ElfError
+record_found size of at o bytes = result_map (of o.header.order) (record_at size bytes at)
+
 unfoldable pub verdef_answer : Object → ℕ → ℕ → ℕ → Result Verdef ElfError
-verdef_answer o s p at = in_bytes o s p (λ bytes. verdef_at o.header.order bytes at)
+verdef_answer o s p at = bytes_answer o s p >>= λ bytes. verdef_at o.header.order bytes at
 
 unfoldable pub verdaux_answer : Object → ℕ → ℕ → ℕ → Result Verdaux ElfError
-verdaux_answer o s p at = in_bytes o s p (λ bytes. verdaux_at o.header.order bytes at)
+verdaux_answer o s p at = bytes_answer o s p >>= λ bytes. verdaux_at o.header.order bytes at
 
 unfoldable pub verneed_answer : Object → ℕ → ℕ → ℕ → Result Verneed ElfError
-verneed_answer o s p at = in_bytes o s p (λ bytes. verneed_at o.header.order bytes at)
+verneed_answer o s p at = bytes_answer o s p >>= λ bytes. verneed_at o.header.order bytes at
 
 unfoldable pub vernaux_answer : Object → ℕ → ℕ → ℕ → Result Vernaux ElfError
-vernaux_answer o s p at = in_bytes o s p (λ bytes. vernaux_at o.header.order bytes at)
+vernaux_answer o s p at = bytes_answer o s p >>= λ bytes. vernaux_at o.header.order bytes at
+
+-- where the entries of a version section begin: an empty one has none
+abbrev pub first_place : ℕ → Option ℕ
+first_place size = if size == 0 then None else Some 0
+
+unfoldable pub first_entry_answer : Object → ℕ → ℕ → Result (Option ℕ) ElfError
+first_entry_answer o s p = bytes_answer o s p >>= λ bytes. Ok (first_place (length bytes))
+
+abbrev pub first_entry : ℕ → ℕ → Call (Option ℕ)
+first_entry s p = bytes_reader s p (λ o. first_entry_answer o s p)
 
 -- gelf_getverdef
 abbrev pub verdef : ℕ → ℕ → ℕ → Call Verdef
@@ -89,6 +122,23 @@ vernaux s p at = bytes_reader s p (λ o. vernaux_answer o s p at)
 
 -- ---- The section of a symbol
 
+-- whether a section is a table of extended indexes of the symbols of another
+abbrev pub is_index_table : ℕ → Section → Bool
+is_index_table s c = c.header.stype == SHT_SYMTAB_SHNDX && c.header.link == s
+
+-- word i of that table
+abbrev pub extended : ℕ → ℕ → Call ℕ
+extended s i = record {
+  answer = λ o. sections.extended_index o s i;
+  after = λ o. o;
+  reads = λ o. sections.word_reads o i (sections.shndx_table o s);
+  memory = λ o loaded held. sections.word_memory o loaded held (sections.shndx_table o s);
+}
+
+-- the place of a symbol with that index
+abbrev pub symbol_place : Bool → ℕ → ℕ → Sym → Call SymPlace
+symbol_place told s i x = sections.place_by told special.Special special.Section s i x
+
 -- gelf_getsymshndx, over a source that tells its bytes or does not
 abbrev pub symshndx : Bool → ℕ → ℕ → ℕ → Call SymPlace
-symshndx told s p i = sections.symshndx told Special Section s p i
+symshndx told s p i = sections.symshndx told special.Special special.Section s p i

@@ -1,4 +1,6 @@
 pub mod Records
 pub mod Versions
 pub mod Notes
+pub mod Strings
 pub mod Calls
+pub mod Chains

@@ -1,6 +1,6 @@
 -- Records and strings that are read from bytes. The records of notes and of versions are alike in
 -- both classes, and their numbers stand in the byte order of the image.
-use Rattle.std.specs.Prelude.{ℕ, ◌+◌, nat_lt, not, ◌==◌, List, length, take, drop, take_while, Option, Some, None, Result, if◌then◌else◌}
+use Rattle.std.specs.Prelude.{ℕ, ◌+◌, ◌<◌, ◌≤◌, ◌^◌, nat_lt, not, ◌==◌, List, length, take, drop, take_while, Option, Some, None, Result, if◌then◌else◌}
 use Rattle.elf_types.specs.declared.errors.ElfError.{ElfError}
 use Rattle.elf_types.specs.declared.errors.ElfError.TheVariants.{BadChain}
 use Rattle.elf_types.specs.Answers.{refused_if, answered}
@@ -12,6 +12,10 @@ record_at size bytes at =
     answered
     (refused_if (nat_lt (length bytes) (at + size)) (BadChain at))
     (take size (drop at bytes))
+
+-- a record of that size at a place lies in so many bytes, which stand in memory
+abbrev pub LiesAt : ℕ → ℕ → ℕ → Type 0
+LiesAt at size count = (at + size ≤ count) × (count < 2 ^ 63)
 
 -- the string with which bytes begin, without its NUL, or none where no NUL follows (gABI chapter 4,
 -- "String Table")

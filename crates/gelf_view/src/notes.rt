@@ -1,6 +1,6 @@
 //! Notes.
 
-ghost use Rattle.std.specs.Prelude.{◌≡◌, ◌+◌, ◌≤◌, length, min, IfOk, IfSome};
+ghost use Rattle.std.specs.Prelude.{◌≡◌, ◌==◌, is_none, ◌+◌, ◌≤◌, length, min, IfOk, IfSome};
 ghost use Rattle.elf_layout.specs.Layout.{rounded_up};
 ghost use Rattle.gelf_view.specs.Notes.{note_align as stated_align, note_at, note_with as stated_note, IsNoteWithin};
 
@@ -53,6 +53,7 @@ fn rounded_up_to(place: u64, align: u64, end: u64) -> u64
 #[tactic(auto, unfolding(crate::specs::Notes::note_at))]
 pub fn note_in(bytes: &[u8], at: u64, align: u64, order: Order) -> Result<Option<NoteAt>, ElfError>
     ensures value { result ≡ note_at order align bytes.now at }
+    ensures ended { IfOk result (λ found. is_none found ≡ (at == length bytes.now)) }
     ensures within { IfOk result (λ found. IfSome found (IsNoteWithin (length bytes.now) at)) }
 {
     let size = bytes.len() as u64;

@@ -1,8 +1,9 @@
 //! Records of bytes, and the numbers in them.
 
-ghost use Rattle.std.specs.Prelude.{◌≡◌, ◌+◌, ◌≤◌, length, IfOk, OnOk};
+ghost use Rattle.std.specs.Prelude.{ℕ, List, ◌≡◌, ◌+◌, ◌≤◌, length, IfOk, OnOk};
 ghost use Rattle.elf_xlate.specs.Numbers.{number_at};
-ghost use Rattle.elf_object.specs.Words.{seen};
+ghost use Rattle.elf_types.specs.declared.records.Order.{Order as TheOrder};
+ghost use Rattle.elf_object.specs.Words.{result_map, seen};
 ghost use Rattle.gelf_view.specs.Records.{record_at};
 
 use elf_types::{Class, ElfError, Order};
@@ -22,6 +23,20 @@ pub fn record_in(bytes: &[u8], at: u64, size: usize) -> Result<&[u8], ElfError>
     }
     let start = at as usize;
     Ok(&bytes[start..start + size])
+}
+
+/// A record that is read from bytes.
+pub trait Record {
+    // The number of its bytes.
+    ghost size: { ℕ };
+
+    // The record that bytes hold in an order.
+    ghost of: { TheOrder → List ℕ → Self };
+
+    /// The record at a place of bytes in a byte order. It refuses `BadChain { at }` exactly where
+    /// the record does not lie in the bytes, and takes no memory.
+    fn read_in(bytes: &[u8], at: u64, order: Order) -> Result<Self, ElfError>
+        ensures { result ≡ result_map (of order) (record_at size bytes.now at) };
 }
 
 /// The two-byte number at a place.

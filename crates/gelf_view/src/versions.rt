@@ -1,9 +1,10 @@
 //! The records of GNU's version sections.
 
 ghost use Rattle.std.specs.Prelude.{◌≡◌};
-ghost use Rattle.gelf_view.specs.Versions.{verdef_at, verdaux_at, verneed_at, vernaux_at};
+ghost use Rattle.gelf_view.specs.Versions.{verdef_at, verdaux_at, verneed_at, vernaux_at, verdef_of, verdaux_of, verneed_of, vernaux_of};
+ghost use Rattle.gelf_view.specs.declared.versions.TheConstants.{VERDEF_SIZE, VERDAUX_SIZE, VERNEED_SIZE, VERNAUX_SIZE};
 
-use crate::records::{half_at, record_in, word_at};
+use crate::records::{Record, half_at, record_in, word_at};
 use elf_types::{ElfError, Order};
 
 /// The number of bytes of a `Verdef`.
@@ -144,4 +145,48 @@ pub fn vernaux_in(bytes: &[u8], at: u64, order: Order) -> Result<Vernaux, ElfErr
         name: word_at(fields, 8, order),
         next: word_at(fields, 12, order),
     })
+}
+
+impl Record for Verdef {
+    ghost size = { VERDEF_SIZE };
+
+    ghost of = { verdef_of };
+
+    #[tactic(auto, unfolding(crate::specs::Versions::verdef_at))]
+    fn read_in(bytes: &[u8], at: u64, order: Order) -> Result<Verdef, ElfError> {
+        verdef_in(bytes, at, order)
+    }
+}
+
+impl Record for Verdaux {
+    ghost size = { VERDAUX_SIZE };
+
+    ghost of = { verdaux_of };
+
+    #[tactic(auto, unfolding(crate::specs::Versions::verdaux_at))]
+    fn read_in(bytes: &[u8], at: u64, order: Order) -> Result<Verdaux, ElfError> {
+        verdaux_in(bytes, at, order)
+    }
+}
+
+impl Record for Verneed {
+    ghost size = { VERNEED_SIZE };
+
+    ghost of = { verneed_of };
+
+    #[tactic(auto, unfolding(crate::specs::Versions::verneed_at))]
+    fn read_in(bytes: &[u8], at: u64, order: Order) -> Result<Verneed, ElfError> {
+        verneed_in(bytes, at, order)
+    }
+}
+
+impl Record for Vernaux {
+    ghost size = { VERNAUX_SIZE };
+
+    ghost of = { vernaux_of };
+
+    #[tactic(auto, unfolding(crate::specs::Versions::vernaux_at))]
+    fn read_in(bytes: &[u8], at: u64, order: Order) -> Result<Vernaux, ElfError> {
+        vernaux_in(bytes, at, order)
+    }
 }

@@ -1,0 +1,25 @@
+use Rattle.std.proofs.Common.{Ok, is_some, ap, ◌∙◌, sym, subst}
+use Rattle.elf_object.specs.Object.{piece_at}
+use Rattle.elf_object.specs.Answers.{piece_refusal}
+use Rattle.elf_object.specs.Calls.{piece_kind_answer}
+use Rattle.elf_types.specs.declared.records.Kind.{Kind}
+use Rattle.elf_types.specs.declared.records.Kind.TheVariants as kinds
+use Rattle.gelf_view.proofs.FetchLemmas.{kind_bytes, kind_other}
+use Rattle.gelf_view.proofs.fetching.own_if_bytes.Goals as goal
+
+pub is_edited-requires : goal.is_edited-requires
+is_edited-requires g c =
+    (kind_bytes c.args.elf.now.o c.args.d.section c.args.d.piece (is_some (piece_at c.args.elf.now.o c.args.d.section c.args.d.piece).own)
+    (ap Ok (sym c.in-Bytes.is) ∙ c.requires)).1
+
+pub returns-in-Bytes-clause-answer : goal.returns-in-Bytes-clause-answer
+returns-in-Bytes-clause-answer g c =
+    ap Ok c.is_edited.ensures
+    ∙ (kind_bytes c.args.elf.now.o c.args.d.section c.args.d.piece (is_some (piece_at c.args.elf.now.o c.args.d.section c.args.d.piece).own)
+    (ap Ok (sym c.in-Bytes.is) ∙ c.requires)).0
+
+pub returns-in_default : goal.returns-in_default
+returns-in_default g c = record {
+  answer = kind_other c.args.elf.now.o c.args.d.section c.args.d.piece (is_some (piece_at c.args.elf.now.o c.args.d.section c.args.d.piece).own) c.args.kind c.requires c.in_default.not-Bytes;
+  err = tt;
+}

@@ -1,0 +1,27 @@
+use Rattle.std.proofs.Common.{ℕ, List, [], drop, refl, ap, ◌∙◌}
+use Rattle.elf_object.specs.Object.{Object}
+use Rattle.elf_types.specs.declared.errors.ElfError.TheVariants.{Unended}
+use Rattle.elf_types.specs.Answers.{or_refused}
+use Rattle.elf_object.specs.Strings.{strptr}
+use Rattle.elf_descriptor.proofs.EntryCalls.{queries_then}
+use Rattle.gelf_view.specs.Records.{string_front}
+use Rattle.gelf_view.specs.Strings.{bytes_in}
+use Rattle.gelf_view.proofs.StringCalls.{string_found, unended_seen, unended_refusal}
+use Rattle.gelf_view.proofs.string_calls.strptr.Goals as goal
+
+pub returns-in-Ok : goal.returns-in-Ok
+returns-in-Ok g c =
+    let begins = c.in-Ok.ensures.begins in
+    let asked = c.in-Ok.ensures.queries in (
+      (
+        refl,
+        (λ w. tt),
+        queries_then g.S.Source (strptr c.args.s.0 c.args.offset) [] c.in-Ok.start c.string_there.result c.args.elf.now c.fetch_start.new.elf (unended_refusal c.string_there.result c.args.offset c.string_there.ensures.err) asked,
+      ),
+      record {
+        answer = string_found g.S.Source c.args.elf.now c.fetch_start.new.elf c.args.s.0 c.args.offset c.in-Ok.start.piece c.in-Ok.start.start begins c.args.elf.now.told _
+            (unended_seen c.string_there.result c.args.offset c.string_there.ensures.err)
+            (λ told. c.string_there.ensures.value (asked.reads.told ∙ told) ∙ ap (λ (o : Object). or_refused (string_front (drop c.in-Ok.start.start (bytes_in o c.args.s.0 c.in-Ok.start.piece))) (Unended c.args.offset)) asked.object);
+        rests = tt;
+      },
+    )

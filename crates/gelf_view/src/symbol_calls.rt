@@ -1,0 +1,112 @@
+//! The section of a symbol of a section's data.
+
+ghost use Rattle.std.specs.Prelude.{◌≡◌, None};
+ghost use Rattle.std.specs.Option.{option_map};
+ghost use Rattle.elf_object.specs.Words.{Answers, AnswersRead};
+ghost use Rattle.elf_object.specs.Object.{section_at};
+ghost use Rattle.elf_object.specs.Answers.{no_section};
+ghost use Rattle.elf_object.specs.SymbolSections as sections;
+ghost use Rattle.elf_object.specs.SymbolSections.{symshndx_refusals};
+ghost use Rattle.elf_descriptor.specs.Reads.{Looks, wanted};
+ghost use Rattle.gelf_view.specs.Calls as calls;
+ghost use Rattle.gelf_view.specs.Calls.{extended, is_index_table, symbol_place};
+
+use crate::items::{sym, word};
+use crate::symbols::SymPlace;
+use elf_descriptor::Elf;
+use elf_outside::Source;
+use elf_types::constants::{SHN_LORESERVE, SHN_XINDEX, SHT_SYMTAB_SHNDX};
+use elf_types::{DataId, ElfError, ScnId, Sym};
+
+/// Whether a section that is there is a table of extended indexes of the symbols of another.
+#[tactic(auto, unfolding(elf_object::specs::Calls::shdr_answer))]
+fn is_table_of<S: Source>(elf: &Elf<S>, table: u32, s: ScnId) -> bool
+    requires { no_section elf.now.o table ≡ None }
+    ensures { result ≡ is_index_table s.0 (section_at elf.now.o table) }
+{
+    match elf.shdr(ScnId(table)) {
+        Ok(header) => header.stype == SHT_SYMTAB_SHNDX && header.link == s.0,
+        Err(_) => unreachable!(),
+    }
+}
+
+/// The table of extended indexes of the symbols of a section: the first section whose present type
+/// is `SHT_SYMTAB_SHNDX` and whose present link is that section. It refuses nothing, reads nothing
+/// and takes no memory.
+///
+/// Source: gABI chapter 4, "Sections", `SHT_SYMTAB_SHNDX`.
+pub fn shndx_table<S: Source>(elf: &Elf<S>, s: ScnId) -> Option<ScnId>
+    ensures { option_map (λ table. table.0) result ≡ sections.shndx_table elf.now.o s.0 }
+{
+    let count = elf.shnum();
+    for table in 0..count {
+        if is_table_of(elf, table, s) {
+            return Some(ScnId(table));
+        }
+    }
+    None
+}
+
+/// The extended index of symbol `i` of a section: word `i` in piece 0 of its table of extended
+/// indexes. Where there is no table it refuses `NoEntry` with count 0, and else as `word`.
+fn extended_index<S: Source>(elf: &mut Elf<S>, s: ScnId, i: u64) -> Result<u32, ElfError>
+    ensures answer { Answers elf.old.told (wanted (extended s.0 i) elf.old) result
+        ((extended s.0 i).answer elf.old.o) }
+    ensures looks { Looks S.Source (extended s.0 i) result elf.old elf.new }
+{
+    let table = shndx_table(elf, s);
+    match table {
+        Some(table) => word(
+            elf,
+            DataId {
+                section: table.0,
+                piece: 0,
+            },
+            i,
+        ),
+        None => Err(ElfError::NoEntry { index: i, count: 0 }),
+    }
+}
+
+/// The place of a symbol with index `i` in a section.
+fn place_of<S: Source>(elf: &mut Elf<S>, s: ScnId, i: u64, x: Sym) -> Result<SymPlace, ElfError>
+    ensures answer { Answers elf.old.told
+        (wanted (symbol_place elf.old.told s.0 i x) elf.old) result
+        ((symbol_place elf.old.told s.0 i x).answer elf.old.o) }
+    ensures looks { Looks S.Source (symbol_place elf.old.told s.0 i x) result elf.old elf.new }
+{
+    let index = u32::from(x.shndx);
+    if index < SHN_LORESERVE {
+        return Ok(SymPlace::Section(index));
+    }
+    if index != SHN_XINDEX {
+        return Ok(SymPlace::Special(x.shndx));
+    }
+    match extended_index(elf, s, i) {
+        Ok(number) => Ok(SymPlace::Section(number)),
+        Err(e) => Err(e),
+    }
+}
+
+/// The section of symbol `i` of a piece, with its extended index. An index below `SHN_LORESERVE` is
+/// a section's number, and one from there to 0xfffe is a special one. `SHN_XINDEX` says that the
+/// number is word `i` in piece 0 of the table of extended indexes: the first section whose present
+/// type is `SHT_SYMTAB_SHNDX` and whose present link is the symbol's section.
+///
+/// It refuses as `sym`; where the table is needed, `NoEntry` with count 0 where there is none, and
+/// else as `word` on it. `Memory` and `Read` may come at both. It marks nothing dirty.
+///
+/// Source: gABI chapter 4, "Symbol Table", `st_shndx`; gelf_getsymshndx of gelf(3E).
+pub fn symshndx<S: Source>(elf: &mut Elf<S>, d: DataId, i: u64) -> Result<SymPlace, ElfError>
+    ensures answer { AnswersRead elf.old.told
+        (wanted (calls.symshndx elf.old.told d.section d.piece i) elf.old)
+        (symshndx_refusals elf.old.o d.section d.piece i) result
+        ((calls.symshndx elf.old.told d.section d.piece i).answer elf.old.o) }
+    ensures looks { Looks S.Source (calls.symshndx elf.old.told d.section d.piece i) result elf.old
+        elf.new }
+{
+    match sym(elf, d, i) {
+        Ok(x) => place_of(elf, ScnId(d.section), i, x),
+        Err(e) => Err(e),
+    }
+}
