@@ -14,3 +14,4 @@ pub mod Created
 pub mod LentSegments
 pub mod Owned
 pub mod Lends
+pub mod Stores

@@ -15,6 +15,7 @@ mod entries;
 mod getters;
 mod lends;
 mod reading;
+mod stores;
 
 /// An object over a source. Contracts see it as a [`State`]: the plain object, what is held of it,
 /// and the source.
