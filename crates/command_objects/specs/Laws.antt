@@ -22,7 +22,6 @@ use Rattle.command_objects.specs.Arranged.{Rebuilt}
 use Rattle.command_objects.specs.Rebuilt.{rebuilt, stripped}
 use Rattle.command_objects.specs.Copied.{Changes, copied}
 use Rattle.command_objects.specs.Split.{debug_of, unstripped}
-use Rattle.command_objects.specs.Generated.{generated}
 use Rattle.command_objects.specs.Files.{file_of, file_made}
 use Rattle.command_objects.specs.Listed.{listed_names, find_linear_answer}
 use Rattle.command_objects.specs.HashSections.{is_whole_sysv, is_whole_gnu}
@@ -57,7 +56,6 @@ pub record MadeAreObjects : Type 0 where
   pub combined :
       (o d : Object) (r : Rebuilt) → IsOpened o → IsOpened d → unstripped o d ≡ Ok r
       → IsObject r.object
-  pub generated : (n : ℕ) → 1 ≤ n → n ≤ 60000 → IsObject (generated n)
 
 -- ---- Loadable bytes stay
 

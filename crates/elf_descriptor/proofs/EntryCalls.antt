@@ -24,7 +24,7 @@ use Rattle.elf_object.specs.Calls.{Call, due, wants}
 use Rattle.elf_object.specs.Due.{is_loaded, homes_due, unless_refused, when_piece_clean}
 use Rattle.section_data.specs.Views.{CellView, IsCell}
 use Rattle.section_data.specs.Held.{piece_in, kind_in, cell_is_loaded, is_ragged, is_at_hand, items_in, raw_items, piece_holds_items, ready, HeldIs, or_empty}
-use Rattle.section_data.specs.Refused.{kind_refused, no_home_items, load_due, piece_due, due_unless, reading}
+use Rattle.section_data.specs.Refused.{kind_refused, no_home_items, load_due, piece_due, due_unless, loading}
 use Rattle.elf_descriptor.specs.declared.body.Body.{Body}
 use Rattle.elf_descriptor.specs.State.{State}
 use Rattle.elf_descriptor.specs.Views.{object_of, raw_of, scn_at, no_scn, loaded_of, held_of, state_of}
@@ -80,10 +80,10 @@ list_unheld class order c kind p is some = by_refusal (kind_refused class c kind
     by_refusal (Some e) some = cc
 
 pub entry_answers : {A : Type 0} (image : Option (List ℕ)) (size : ℕ) (b : Body) (kind : Kind) (list_of : Items → List A) (s p i : ℕ) (result : Result (Unit {0}) ElfError) → IsElf image size b
-    → Answers true (reading (list_due b.header.class (scn_at b s).cell kind p)) result (answered (no_list_in b kind s p) (tt {0}))
+    → Answers true (loading (list_due b.header.class (scn_at b s).cell kind p)) result (answered (no_list_in b kind s p) (tt {0}))
     → Answers true (wants (entry kind list_of s p i) (object_of image size b) (loaded_of b) (held_of b)) result (answered (lend_refusal (object_of image size b) kind s p) (tt {0}))
 entry_answers image size b kind list_of s p i result is came =
-    let before = reading (list_due b.header.class (scn_at b s).cell kind p) in
+    let before = loading (list_due b.header.class (scn_at b s).cell kind p) in
     answers_wants true before (wants (entry kind list_of s p i) (object_of image size b) (loaded_of b) (held_of b)) result (answered (lend_refusal (object_of image size b) kind s p) (tt {0}))
     (λ some. ap not (holds_is image size b s p ∙ list_unheld b.header.class b.header.order (scn_at b s).cell kind p (items_held_at image size b s is) some))
     (λ some. ap (λ (n : ℕ). nat_lt 0 n) (entry_due image size b kind list_of s p i is) ∙ some)
@@ -100,14 +100,14 @@ hand_read class c p clean hand = by_tests (is_some (piece_in c p).own) (cell_is_
 
 pub entry_looks : {S A : Type 0} (g : Ghosts S) (kind : Kind) (list_of : Items → List A) (result : Result (Unit {0}) ElfError) (source left : S) (old new : Body) (s p i : ℕ)
     → IsElf (g.holds source) (g.size source) old → Warmed (g.holds source) old new s
-    → Answers true (reading (list_due old.header.class (scn_at old s).cell kind p)) result (answered (no_list_in old kind s p) (tt {0}))
+    → Answers true (loading (list_due old.header.class (scn_at old s).cell kind p)) result (answered (no_list_in old kind s p) (tt {0}))
     → OnOk result (IsListed new s p kind) → OnErr result ((scn_at new s).cell ≡ (scn_at old s).cell)
     → (is_some (piece_in (scn_at old s).cell p).own ≡ true → (scn_at new s).cell ≡ (scn_at old s).cell)
     → Asks g result source left (list_due old.header.class (scn_at old s).cell kind p)
     → Looks g (entry kind list_of s p i) result (state_of g source old) (state_of g left new)
 unfolding no_list_in list_due
 entry_looks g kind list_of result source left old new s p i is w came hand same own asks =
-    reader_looks g (λ o. entry_answer (lend_refusal o kind s p) (list_of (items_at o s p)) i) (reading (list_due old.header.class (scn_at old s).cell kind p)) result source left old new s p
+    reader_looks g (λ o. entry_answer (lend_refusal o kind s p) (list_of (items_at o s p)) i) (loading (list_due old.header.class (scn_at old s).cell kind p)) result source left old new s p
     (kind_refused old.header.class (scn_at old s).cell kind p) (kind_unread old.header.class (scn_at old s).cell kind p)
     (entry_reads (g.holds source) (g.size source) old kind list_of s p i (when_piece_clean (object_of (g.holds source) (g.size source) old) s p) is) w came (weaker result same) own
     (now_loaded result hand) asks

@@ -22,6 +22,8 @@ pub mod PieceCalls
 pub mod DataCalls
 pub mod BaseCalls
 pub mod EntryCalls
+pub mod Words
+pub mod Rules
 pub mod OwnedBodies
 pub mod OwnedCells
 pub mod OwnedCalls

@@ -15,7 +15,7 @@ use Rattle.elf_object.proofs.StepLaws.{same_kind-true}
 use Rattle.elf_object.specs.Answers.{same_kind}
 use Rattle.section_data.specs.Views.{CellView}
 use Rattle.section_data.specs.Held.{piece_in, kind_in, cell_is_loaded, is_ragged, is_at_hand}
-use Rattle.section_data.specs.Refused.{no_piece, wrong_piece_kind, no_home_items, kind_refused, items_refused, home_out, piece_due, reading}
+use Rattle.section_data.specs.Refused.{no_piece, wrong_piece_kind, no_home_items, kind_refused, items_refused, home_out, piece_due, loading}
 use Rattle.section_data.specs.Leaves.{Warms}
 use Rattle.elf_types.specs.declared.records.Ehdr.{Ehdr}
 use Rattle.elf_descriptor.specs.declared.scn.Scn.{Scn}
@@ -110,11 +110,11 @@ none_out class c kind p passed = by_own (is_some (piece_in c p).own) refl
     by_own false e = ap (λ (out : Bool). refused_if out (OutOfFile c.section)) (home_whole class c p (list_home class c kind p passed) (clean_or_own c p false e refl)).0
 
 pub list_answers : (class : Class) (c : CellView) (kind : Kind) (p : ℕ) (r : Result (Unit {0}) ElfError) → kind_refused class c kind p ≡ None
-    → Answers true (reading (piece_due c p)) r (answered (if is_some (piece_in c p).own then None else home_out c) (tt {0}))
-    → Answers true (reading (list_due class c kind p)) r (answered (kind_refused class c kind p) (tt {0}))
+    → Answers true (loading (piece_due c p)) r (answered (if is_some (piece_in c p).own then None else home_out c) (tt {0}))
+    → Answers true (loading (list_due class c kind p)) r (answered (kind_refused class c kind p) (tt {0}))
 list_answers class c kind p r passed came =
-    subst (λ (n : ℕ). Answers true (reading n) r (answered (kind_refused class c kind p) (tt {0}))) (sym (list_due_is class c kind p passed))
-    (subst (λ (f : Option ElfError). Answers true (reading (piece_due c p)) r (answered f (tt {0}))) (none_out class c kind p passed ∙ sym passed) came)
+    subst (λ (n : ℕ). Answers true (loading n) r (answered (kind_refused class c kind p) (tt {0}))) (sym (list_due_is class c kind p passed))
+    (subst (λ (f : Option ElfError). Answers true (loading (piece_due c p)) r (answered f (tt {0}))) (none_out class c kind p passed ∙ sym passed) came)
 
 pub list_hand : (image : Option (List ℕ)) (class : Class) (c cell : CellView) (kind : Kind) (p : ℕ) (r : Result (Unit {0}) ElfError) → kind_refused class c kind p ≡ None → Warms image c cell
     → OnOk r (IsTrue (is_some (piece_in c p).own || cell_is_loaded cell)) → OnOk r (IsTrue (is_at_hand class cell p))

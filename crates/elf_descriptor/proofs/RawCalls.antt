@@ -15,7 +15,7 @@ use Rattle.elf_object.specs.Calls as calls
 use Rattle.elf_object.specs.Due.{is_loaded, home_due, homes_due, unless_refused}
 use Rattle.section_data.specs.Views.{CellView}
 use Rattle.section_data.specs.Held.{cell_is_loaded}
-use Rattle.section_data.specs.Refused.{home_out, load_due, reading}
+use Rattle.section_data.specs.Refused.{home_out, load_due, loading}
 use Rattle.elf_descriptor.specs.declared.scn.Scn.{Scn}
 use Rattle.elf_descriptor.specs.declared.body.Body.{Body}
 use Rattle.elf_descriptor.specs.Views.{object_of, section_of, scn_at, absent_scn, no_scn, loaded_of, held_of, state_of}
@@ -128,18 +128,18 @@ due_unloaded c due = by_loaded (cell_is_loaded c) due
     by_loaded false e = refl
 
 pub raw_answers : (image : Option (List ℕ)) (size : ℕ) (b : Body) (s : ℕ) (result : Result (Unit {0}) ElfError) → IsElf image size b
-    → Answers true (reading (load_due (scn_at b s).cell)) result (answered (no_raw_in b s) (tt {0}))
+    → Answers true (loading (load_due (scn_at b s).cell)) result (answered (no_raw_in b s) (tt {0}))
     → Answers true (wants (calls.raw s) (object_of image size b) (loaded_of b) (held_of b)) result (answered (raw_refusal (object_of image size b) s) (tt {0}))
 raw_answers image size b s result is came =
     let due = ap (λ (l : List ℕ). homes_due (object_of image size b) (loaded_of b) l) (raw_reads image size b s is) ∙ raw_due image size b s in
-    answers_wants true (reading (load_due (scn_at b s).cell)) (wants (calls.raw s) (object_of image size b) (loaded_of b) (held_of b)) result (answered (raw_refusal (object_of image size b) s) (tt {0}))
+    answers_wants true (loading (load_due (scn_at b s).cell)) (wants (calls.raw s) (object_of image size b) (loaded_of b) (held_of b)) result (answered (raw_refusal (object_of image size b) s) (tt {0}))
     (λ some. ap not (loaded_is b s ∙ due_unloaded (scn_at b s).cell some))
     (λ some. ap (λ (n : ℕ). nat_lt 0 n) due ∙ some)
-    (subst (λ (r : Option ElfError). Answers true (reading (load_due (scn_at b s).cell)) result (answered r (tt {0}))) (sym (raw_refusal_is image size b s is)) came)
+    (subst (λ (r : Option ElfError). Answers true (loading (load_due (scn_at b s).cell)) result (answered r (tt {0}))) (sym (raw_refusal_is image size b s is)) came)
 
 pub raw_queries : {S : Type 0} (g : Ghosts S) (result : Result (Unit {0}) ElfError) (source left : S) (old new : Body) (s : ℕ)
     → IsElf (g.holds source) (g.size source) old → Warmed (g.holds source) old new s
-    → Answers true (reading (load_due (scn_at old s).cell)) result (answered (no_raw_in old s) (tt {0}))
+    → Answers true (loading (load_due (scn_at old s).cell)) result (answered (no_raw_in old s) (tt {0}))
     → OnOk result (IsTrue (cell_is_loaded (scn_at new s).cell)) → OnErr result ((scn_at new s).cell ≡ (scn_at old s).cell)
     → (scn_at new s).cell.held ≡ (scn_at old s).cell.held → Asks g result source left (load_due (scn_at old s).cell)
     → Queries g (calls.raw s) [] result (state_of g source old) (state_of g left new)
@@ -151,9 +151,9 @@ raw_queries {S} g result source left old new s is w came loaded same held asks =
       object = left_object g source left old new s asks.leaves w;
       reads = subst (λ (l : List ℕ). Reads g result (state_of g source old) (state_of g left new) l [] (homes_due o (loaded_of old) l)) (sym (raw_reads (g.holds source) (g.size source) old s is))
           (reads_warmed g result source left old new s list [] w (subst (λ (n : ℕ). Asks g result source left n) (sym due) asks)
-          (idle_one true (reading (load_due (scn_at old s).cell)) result (no_raw_in old s) (s ∷ []) (scn_at old s).cell (scn_at new s).cell s (raw_unread old s) came (weaker result same) (inl refl))
+          (idle_one true (loading (load_due (scn_at old s).cell)) result (no_raw_in old s) (s ∷ []) (scn_at old s).cell (scn_at new s).cell s (raw_unread old s) came (weaker result same) (inl refl))
           (λ out. held)
-          (settled_one true (reading (load_due (scn_at old s).cell)) result (no_raw_in old s) (s ∷ []) o (loaded_of new) s (raw_unread old s) came (inl refl) (now_loaded result loaded)));
+          (settled_one true (loading (load_due (scn_at old s).cell)) result (no_raw_in old s) (s ∷ []) o (loaded_of new) s (raw_unread old s) came (inl refl) (now_loaded result loaded)));
     }
   where
     weaker : (r : Result (Unit {0}) ElfError) → OnErr r ((scn_at new s).cell ≡ (scn_at old s).cell) → IfErr r (λ e. e ≢ Memory → (scn_at new s).cell ≡ (scn_at old s).cell)

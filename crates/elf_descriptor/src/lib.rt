@@ -11,8 +11,6 @@ mod descriptor;
 mod held;
 mod scn;
 #[cfg(test)]
-mod test_sources;
-#[cfg(test)]
 mod tests;
 
 pub use descriptor::Elf;

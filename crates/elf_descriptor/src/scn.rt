@@ -1,13 +1,13 @@
 //! One section of an object.
 
-ghost use Rattle.std.specs.Prelude.{◌≡◌, ◌<◌, length, true, IsTrue, is_some, OnOk, OnErr, IfErr};
+ghost use Rattle.std.specs.Prelude.{◌≡◌, ◌<◌, length, true, IsTrue, is_some, OnOk, OnErr};
 ghost use Rattle.std.specs.List.{list_any};
-ghost use Rattle.elf_types.specs.Answers.{answered, IsRefusal};
+ghost use Rattle.elf_types.specs.Answers.{answered};
 ghost use Rattle.elf_outside.specs.Asks.{Asks};
 ghost use Rattle.elf_object.specs.Words.{Answers};
 ghost use Rattle.section_data.specs.Leaves.{LiesIn, Warms};
 ghost use Rattle.section_data.specs.Held.{piece_in, kind_in, is_at_hand};
-ghost use Rattle.section_data.specs.Refused.{no_piece, kind_refused, reading};
+ghost use Rattle.section_data.specs.Refused.{kind_refused, loading};
 ghost use Rattle.elf_descriptor.specs.Dues.{list_due};
 ghost use Rattle.section_data.specs.Views.{IsCell};
 ghost use Rattle.elf_descriptor.specs.Held.{IsHeldIn};
@@ -31,23 +31,9 @@ pub struct Scn {
 impl Scn {
     ghost use Rattle.elf_descriptor.specs.Bodies.{is_scn_dirty};
 
-    /// Whether there is a piece with that number; else `NoData`.
-    pub fn check_piece(&self, p: u32) -> Result<(), ElfError>
-        ensures answer { result ≡ answered (no_piece self.now.cell p) tt }
-        ensures there { OnOk result (p < length self.now.cell.pieces) }
-        ensures err { IfErr result IsRefusal }
-    {
-        let count = self.cell.piece_count();
-        if p < count {
-            Ok(())
-        } else {
-            Err(ElfError::NoData { index: p, count })
-        }
-    }
-
-    /// Makes each item of a piece of a kind be at hand: it is own, or its home is loaded. It refuses in
-    /// this order: `NoData`, `WrongKind` with the kind that the piece holds, and for the clean home
-    /// piece `OutOfFile` and `Ragged`; then `Memory` or `Read`.
+    /// Makes each item of a piece of a kind be at hand: it is own, or its home is loaded. It
+    /// refuses in this order: `NoData`, `WrongKind` with the kind that the piece holds, and for the
+    /// clean home piece `OutOfFile` and `Ragged`; then `Memory` or `Read`.
     pub fn fetch<S: Source>(
         &mut self,
         src: &mut S,
@@ -56,7 +42,7 @@ impl Scn {
         class: Class,
     ) -> Result<(), ElfError>
         requires lies { LiesIn self.old.cell (S.size src.old) }
-        ensures answer { Answers true (reading (list_due class self.old.cell kind p)) result
+        ensures answer { Answers true (loading (list_due class self.old.cell kind p)) result
             (answered (kind_refused class self.old.cell kind p) tt) }
         ensures there { OnOk result (p < length self.new.cell.pieces) }
         ensures kind { OnOk result (kind_in self.new.cell p ≡ kind) }
@@ -93,7 +79,7 @@ impl Scn {
     }
 
     /// Whether a piece is marked dirty.
-    #[tactic(auto, unfolding(section_data::specs::Held::piece_in), using(crate::proofs::Marks::any_at, std::proofs::lemmas::List::Folds::list_any_more))]
+    #[tactic(auto, unfolding(crate::proofs::Words::piece), using(crate::proofs::Rules::marks))]
     fn some_piece_marked(&self) -> bool
         ensures { result ≡ list_any (λ p. p.marked) self.now.cell.pieces }
     {

@@ -1,7 +1,6 @@
 //! Descriptors over sources in memory, in both classes and both orders.
 
 use crate::callers::{first_two, long, symbol};
-use crate::test_sources::{Sparse, source};
 use crate::{Elf, Held};
 use elf_outside::{MemSource, Source};
 use elf_types::constants::{
@@ -11,6 +10,7 @@ use elf_types::{Class, DataId, ElfError, Kind, Order, ScnId, Sym};
 use std::alloc::Global;
 use std::test::Fail;
 use test_images::{FORMS, Field, Image, SectionField, five_sections, symbol_object};
+use test_sources::{Sparse, source};
 
 /// A descriptor over an image, in whose source the read of a number fails, or none where that is 0.
 fn opened(alloc: Global, image: Image, bad_read: u64) -> Result<Elf<MemSource>, ElfError> {

@@ -18,7 +18,7 @@ use Rattle.tool_text.specs.Usages.{usage_line}
 use Rattle.tool_text.specs.declared.usages.Usage.{Usage}
 use Rattle.tool_text.specs.declared.commands.Command.{Command}
 use Rattle.tool_text.specs.Reading.{reading}
-use Rattle.elfkit.specs.Lines.{line_of, says, not_built}
+use Rattle.elfkit.specs.Sentences.{line_of, says, not_built}
 use Rattle.elfkit.specs.Program.{usage_outcome, outcome_by, program, IsStatusOf}
 
 -- a form that is not built ends with 1

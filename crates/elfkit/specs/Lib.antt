@@ -1,3 +1,5 @@
-pub mod Lines
+pub mod Objects
 pub mod Program
 pub mod Readelf
+pub mod Sentences
+pub mod Titles

@@ -10,7 +10,7 @@ use Rattle.tool_text.specs.declared.commands.Command.{Command}
 use Rattle.tool_text.specs.declared.commands.Command.TheVariants.{Readelf, Nm, Size, Strings, Strip, Elflint, Calls, Selftest, Rehash, Copy, Unstrip, Lines}
 use Rattle.tool_text.specs.Usages.{usage_line}
 use Rattle.tool_text.specs.Reading.{reading}
-use Rattle.elfkit.specs.Lines.{says, not_built}
+use Rattle.elfkit.specs.Sentences.{says, not_built}
 use Rattle.elfkit.specs.Readelf.{are_built, readelf_outcome}
 
 unfoldable pub command_outcome : Command → Map → Outcome

@@ -6,12 +6,12 @@ ghost use Rattle.tool_output.specs.Steps.{Performs, OnRead, LeavesOutputs};
 ghost use Rattle.tool_output.specs.Files.{LeavesFiles};
 ghost use Rattle.tool_output.specs.Statuses.{refused_status};
 ghost use Rattle.tool_output.specs.Outcomes.{Does};
-ghost use Rattle.elfkit.specs.Lines.{line_of};
+ghost use Rattle.elfkit.specs.Sentences.{line_of};
 ghost use Rattle.elfkit.specs.Program.{command_outcome, is_built};
 
 pub mod readelf;
 
-use crate::lines::say;
+use crate::sentences::say;
 use elf_outside::{Files, Sink};
 use readelf::readelf;
 use std::alloc::Global;

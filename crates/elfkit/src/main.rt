@@ -3,10 +3,12 @@
 
 mod commands;
 mod files;
-mod lines;
+mod objects;
 mod program;
+mod sentences;
 #[cfg(test)]
 mod tests;
+mod titles;
 
 ghost use Rattle.std.specs.Prelude.{◌≡◌, ◌⊎◌, IfErr};
 

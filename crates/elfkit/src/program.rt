@@ -9,7 +9,7 @@ ghost use Rattle.tool_output.specs.Files.{LeavesFiles};
 ghost use Rattle.elfkit.specs.Program.{opens_files, program, AreTold, IsStatusOf};
 
 use crate::commands::run_command;
-use crate::lines::say;
+use crate::sentences::say;
 use elf_outside::{Files, Sink};
 use elf_types::Octets;
 use std::alloc::Global;

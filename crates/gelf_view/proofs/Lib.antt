@@ -1,3 +1,5 @@
 mod NulLemmas
 mod NumberLemmas
 mod NoteLemmas
+mod Words
+mod Rules

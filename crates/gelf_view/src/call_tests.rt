@@ -1,5 +1,5 @@
 //! Calls that look at notes and version records, computed on small images by proof.
-#![tactic(auto, unfolding(elf_object::proofs::Computing::all_words, crate::specs::Calls::note_answer, crate::specs::Calls::verdaux_answer, crate::specs::Notes::note_at, crate::specs::Notes::note_align, crate::specs::Records::record_at, crate::specs::Versions::verdaux_at, crate::specs::Versions::verdaux_of))]
+#![tactic(auto, unfolding(elf_object::proofs::Computing::all_words, crate::proofs::Words::calls))]
 
 ghost use Rattle.std.specs.Prelude.{◌≡◌, ◌∷◌, [], true, false, None, Ok, Err};
 ghost use Rattle.elf_types.specs.declared.errors.ElfError.TheVariants.{BadChain, NoData, NoSection, WrongKind};

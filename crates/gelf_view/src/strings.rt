@@ -10,7 +10,7 @@ use memchr::memchr;
 /// takes no memory.
 ///
 /// Source: gABI chapter 4, "String Table"; elf_strptr of elf(3E).
-#[tactic(auto, using(crate::proofs::NulLemmas::string_ended, crate::proofs::NulLemmas::string_unended), unfolding(crate::specs::Records::string_front))]
+#[tactic(auto, using(crate::proofs::Rules::string), unfolding(crate::specs::Records::string_front))]
 pub fn string_in(bytes: &[u8]) -> Option<&[u8]>
     ensures { option_copied result ≡ string_front bytes.now }
 {

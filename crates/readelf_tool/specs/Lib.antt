@@ -1,4 +1,4 @@
 pub mod Fields
 pub mod Header
 pub mod Segments
-pub mod Front
+pub mod Parts

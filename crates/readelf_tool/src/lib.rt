@@ -1,9 +1,9 @@
-//! readelf: the parts of an image as lines of text.
+//! readelf: the parts of an object as lines of text.
 #![tactic(auto)]
 
 pub mod fields;
-pub mod fronts;
 pub mod headers;
+pub mod parts;
 pub mod segments;
 
-pub use fronts::show_parts;
+pub use parts::{ReadelfTool, readelf, show_parts, shows_sections};

@@ -1,6 +1,6 @@
 //! The lines of the program headers.
 
-ghost use Rattle.std.specs.Prelude.{◌≡◌, ◌++◌, length, OnOk, IfErr};
+ghost use Rattle.std.specs.Prelude.{◌≡◌, ◌++◌, ◌<◌, length, slice_index_or, OnOk, IfErr};
 ghost use Rattle.elf_types.specs.Writers.{WantsMemory};
 ghost use Rattle.tool_output.specs.Lines.{numbered_lines};
 ghost use Rattle.tool_output.specs.Reports.{Reports, shown};
@@ -8,7 +8,8 @@ ghost use Rattle.tool_output.specs.Steps.{LeavesOutputs};
 ghost use Rattle.readelf_tool.specs.Segments.{flag_letter, other_flags, flags_text, flags_column, hex_column, segment_start, segment_places, segment_sizes, segment_end, phdr_line, count_line, segments_report};
 
 use crate::fields::put_name_or_hex;
-use elf_outside::Sink;
+use elf_descriptor::Elf;
+use elf_outside::{Sink, Source};
 use elf_types::constants::{PF_R, PF_W, PF_X};
 use elf_types::{
     ElfError, Octets, Phdr, put_bytes, put_decimal, put_hex, put_text, segment_type_name,
@@ -76,12 +77,12 @@ fn put_hex_column(page: &mut Octets, name: &str, n: u64) -> Result<(), ElfError>
 
 /// Appends `  I TYPE`.
 #[tactic(auto, using(crate::proofs::Rows::kept), unfolding(crate::specs::Segments::segment_start))]
-fn put_start(page: &mut Octets, i: u64, p: &Phdr) -> Result<(), ElfError>
+fn put_start(page: &mut Octets, i: u32, p: &Phdr) -> Result<(), ElfError>
     ensures ok { OnOk result (page.new ≡ page.old ++ segment_start i p.now) }
     ensures err { IfErr result (WantsMemory page.old page.new) }
 {
     put_text(page, "  ")?;
-    put_decimal(page, i)?;
+    put_decimal(page, u64::from(i))?;
     put_text(page, " ")?;
     put_name_or_hex(page, segment_type_name(p.ptype), u64::from(p.ptype))
 }
@@ -122,7 +123,7 @@ fn put_end(page: &mut Octets, p: &Phdr) -> Result<(), ElfError>
 #[derive(Clone, Copy)]
 struct SegmentLine<'a> {
     /// Its number.
-    index: u64,
+    index: u32,
     /// The program header.
     header: &'a Phdr,
 }
@@ -143,7 +144,7 @@ impl Line for SegmentLine<'_> {
 #[derive(Clone, Copy)]
 struct SegmentsTitle {
     /// How many there are.
-    count: u64,
+    count: u32,
 }
 
 impl Line for SegmentsTitle {
@@ -152,37 +153,49 @@ impl Line for SegmentsTitle {
     #[tactic(auto, using(crate::proofs::Rows::kept), unfolding(crate::specs::Segments::count_line))]
     fn put(&self, page: &mut Octets) -> Result<(), ElfError> {
         put_text(page, "Program headers: ")?;
-        put_decimal(page, self.count)?;
+        put_decimal(page, u64::from(self.count))?;
         put_text(page, "\n")
     }
 }
 
+/// A program header that is there.
+#[tactic(auto, unfolding(elf_object::specs::Calls::phdr_answer))]
+fn phdr_at<S: Source>(elf: &Elf<S>, i: u32) -> Phdr
+    requires { i < length elf.now.o.phdrs }
+    ensures { result ≡ slice_index_or elf.now.o.phdrs i result }
+{
+    match elf.phdr(i) {
+        Ok(header) => header,
+        Err(_) => unreachable!(),
+    }
+}
+
 /// Shows a line for each program header.
-fn show_lines<O: Sink, E: Sink>(
-    phdrs: &[Phdr],
+fn show_lines<S: Source, O: Sink, E: Sink>(
+    elf: &Elf<S>,
     outputs: &mut Outputs<'_, O, E>,
 ) -> Result<bool, Stop>
     ensures reports { Reports O.Sink E.Sink result outputs.old outputs.new
-        (shown (numbered_lines phdr_line 0 phdrs.now)) }
+        (shown (numbered_lines phdr_line 0 elf.now.o.phdrs)) }
     ensures leaves { LeavesOutputs O.Sink E.Sink ⊥ result outputs.old outputs.new }
 {
-    for (i, header) in phdrs.iter().enumerate() {
-        let index = i as u64;
-        outputs.show(&SegmentLine { index, header })?;
+    for i in 0..elf.phnum() {
+        let header = &phdr_at(elf, i);
+        outputs.show(&SegmentLine { index: i, header })?;
     }
     Ok(false)
 }
 
 /// Shows the program headers: their number, and a line for each. Nothing is refused.
-pub fn show_segments<O: Sink, E: Sink>(
-    phdrs: &[Phdr],
+pub fn show_segments<S: Source, O: Sink, E: Sink>(
+    elf: &Elf<S>,
     outputs: &mut Outputs<'_, O, E>,
 ) -> Result<bool, Stop>
     ensures reports { Reports O.Sink E.Sink result outputs.old outputs.new
-        (segments_report phdrs.now) }
+        (segments_report elf.now.o.phdrs) }
     ensures leaves { LeavesOutputs O.Sink E.Sink ⊥ result outputs.old outputs.new }
 {
-    let count = phdrs.len() as u64;
+    let count = elf.phnum();
     outputs.show(&SegmentsTitle { count })?;
-    show_lines(phdrs, outputs)
+    show_lines(elf, outputs)
 }

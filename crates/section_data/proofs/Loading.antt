@@ -20,7 +20,7 @@ use Rattle.elf_types.specs.declared.records.Shdr.{Shdr}
 use Rattle.elf_object.specs.Open.{home_bytes, home_of, home_len}
 use Rattle.section_data.specs.Views.{CellView, IsCell, opened_cell}
 use Rattle.section_data.specs.Held.{piece_in, cell_is_loaded, HeldIs}
-use Rattle.section_data.specs.Refused.{load_due, piece_due, home_out, reading}
+use Rattle.section_data.specs.Refused.{load_due, piece_due, home_out, loading}
 use Rattle.section_data.specs.Leaves.{IsReadFrom, bytes_or_none, RawBecomes, Warms, LiesIn}
 use Rattle.section_data.proofs.Holdings.{none_of}
 
@@ -78,19 +78,19 @@ pub due_unread : (c : CellView) → cell_is_loaded c ≡ false → c.home.out �
 unfolding load_due
 due_unread c unread inside = rw (load_due, unread, inside) refl
 
-wanted : (due : ℕ) (e : ElfError) → 0 < due → (e ≡ Memory) ⊎ (e ≡ Read) → Answers true (reading due) (Err e) (Ok (tt {0}))
-wanted due e some (inl is) = subst (λ (d : ElfError). Answers true (reading due) (Err d) (Ok (tt {0}))) (sym is) (lt-ltb 0 due some, tt {0})
-wanted due e some (inr is) = subst (λ (d : ElfError). Answers true (reading due) (Err d) (Ok (tt {0}))) (sym is) (lt-ltb 0 due some, tt {0})
+wanted : (due : ℕ) (e : ElfError) → 0 < due → (e ≡ Memory) ⊎ (e ≡ Read) → Answers true (loading due) (Err e) (Ok (tt {0}))
+wanted due e some (inl is) = subst (λ (d : ElfError). Answers true (loading due) (Err d) (Ok (tt {0}))) (sym is) (lt-ltb 0 due some, tt {0})
+wanted due e some (inr is) = subst (λ (d : ElfError). Answers true (loading due) (Err d) (Ok (tt {0}))) (sym is) (lt-ltb 0 due some, tt {0})
 
-answers_read : (due : ℕ) (r : Result (Unit {0}) ElfError) → IfErr r (λ e. (0 < due) × ((e ≡ Memory) ⊎ (e ≡ Read))) → Answers true (reading due) r (Ok (tt {0}))
+answers_read : (due : ℕ) (r : Result (Unit {0}) ElfError) → IfErr r (λ e. (0 < due) × ((e ≡ Memory) ⊎ (e ≡ Read))) → Answers true (loading due) r (Ok (tt {0}))
 answers_read due (Ok x) h = (refl, λ told. refl)
 answers_read due (Err e) h = wanted due e h.0 h.1
 
 pub load_answers : (c : CellView) (r : Result (Unit {0}) ElfError) → cell_is_loaded c ≡ false → c.home.out ≡ false
-    → IfErr r (λ e. (0 < c.home.len) × ((e ≡ Memory) ⊎ (e ≡ Read))) → Answers true (reading (load_due c)) r (answered (home_out c) (tt {0}))
+    → IfErr r (λ e. (0 < c.home.len) × ((e ≡ Memory) ⊎ (e ≡ Read))) → Answers true (loading (load_due c)) r (answered (home_out c) (tt {0}))
 load_answers c r unread inside err =
-    subst (λ (due : ℕ). Answers true (reading due) r (answered (home_out c) (tt {0}))) (sym (due_unread c unread inside))
-    (subst (λ (out : Bool). Answers true (reading c.home.len) r (answered (refused_if out (OutOfFile c.section)) (tt {0}))) (sym inside)
+    subst (λ (due : ℕ). Answers true (loading due) r (answered (home_out c) (tt {0}))) (sym (due_unread c unread inside))
+    (subst (λ (out : Bool). Answers true (loading c.home.len) r (answered (refused_if out (OutOfFile c.section)) (tt {0}))) (sym inside)
     (answers_read c.home.len r err))
 
 pub due_own : (c : CellView) (p : ℕ) → is_some (piece_in c p).own ≡ true → piece_due c p ≡ 0
@@ -109,9 +109,9 @@ loaded_inside c cell loaded = by_out c.home.out refl
     by_out true is = let none = ap (λ (r : Option (List ℕ)). is_some r) (cell.outside is) in cc
     by_out false is = refl
 
-pub loaded_answers : (c : CellView) (due : ℕ) → IsCell c → cell_is_loaded c ≡ true → Answers true (reading due) (Ok (tt {0})) (answered (home_out c) (tt {0}))
+pub loaded_answers : (c : CellView) (due : ℕ) → IsCell c → cell_is_loaded c ≡ true → Answers true (loading due) (Ok (tt {0})) (answered (home_out c) (tt {0}))
 loaded_answers c due cell loaded =
-    subst (λ (f : Option ElfError). Answers true (reading due) (Ok (tt {0})) (answered f (tt {0}))) (sym (loaded_inside c cell loaded))
+    subst (λ (f : Option ElfError). Answers true (loading due) (Ok (tt {0})) (answered f (tt {0}))) (sym (loaded_inside c cell loaded))
     (refl, λ told. refl)
 
 pub load_errs : (c : CellView) (r : Result (Unit {0}) ElfError) → cell_is_loaded c ≡ false → c.home.out ≡ false

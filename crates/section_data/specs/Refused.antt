@@ -99,8 +99,8 @@ lend_due class c kind p = due_unless (kind_refused class c kind p) (piece_due c 
 -- ---- Where Memory and Read may come
 
 -- in a call that only reads: where there is something to read
-abbrev pub reading : ℕ → Wants
-reading due = record { memory = nat_lt 0 due; read = nat_lt 0 due }
+abbrev pub loading : ℕ → Wants
+loading due = record { memory = nat_lt 0 due; read = nat_lt 0 due }
 
 -- in a call that makes a piece hold its items: where it does not hold them
 abbrev pub preparing : CellView → ℕ → ℕ → Wants

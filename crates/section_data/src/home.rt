@@ -3,10 +3,10 @@
 ghost use Rattle.std.specs.Prelude.{◌≡◌, ℕ, false};
 ghost use Rattle.elf_types.specs.declared.records.Kind.TheVariants as kinds;
 ghost use Rattle.elf_object.specs.Object.{no_home};
-ghost use Rattle.elf_object.specs.Open.{home_len, home_of};
+ghost use Rattle.elf_object.specs.Open.{home_of};
 ghost use Rattle.section_data.specs.Views.{home_view, passes_end};
 
-use elf_types::constants::{SHT_NOBITS, SHT_NULL};
+use elf_object::home_len;
 use elf_types::{Class, Kind, Shdr, kind_of};
 
 /// A section's home: an extent of the image, and the kind of the items in it.
@@ -18,17 +18,6 @@ pub struct Home {
     pub len: u64,
     /// The kind of its items.
     pub kind: Kind,
-}
-
-/// The number of bytes that a section has in the file, none for `SHT_NULL` and `SHT_NOBITS`.
-#[tactic(auto, unfolding(elf_object::specs::Open::home_len))]
-fn home_len(h: &Shdr) -> u64
-    ensures { result ≡ home_len h.now }
-{
-    match h.stype {
-        SHT_NULL | SHT_NOBITS => 0,
-        _ => h.size,
-    }
 }
 
 impl Home {

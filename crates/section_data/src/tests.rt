@@ -1,3 +1,5 @@
+//! Cells over sources in memory.
+
 ghost use Rattle.std.specs.Prelude.{◌≡◌, length, IfOk};
 ghost use Rattle.elf_types.specs.declared.records.Class.TheVariants.{C32};
 ghost use Rattle.elf_types.specs.declared.records.Order.TheVariants.{Least};
@@ -14,16 +16,14 @@ use elf_xlate::Items;
 use std::alloc::Global;
 use std::test::Fail;
 use test_images::{FORMS, NULL_SECTION};
+use test_sources::source;
 
-/// A source of so many zeros, whose reads with these numbers fail.
-fn zeros(alloc: Global, len: usize, bad_reads: &[u64]) -> Result<MemSource, ElfError>
+/// A source of so many zeros, of which the read of a number fails, or none where that is 0.
+fn zeros(alloc: Global, len: usize, bad_read: u64) -> Result<MemSource, ElfError>
     ensures { IfOk result (λ s. length s.bytes ≡ len) }
 {
     let bytes = vec![in alloc; 0u8; len]?;
-    Ok(MemSource::new(
-        Octets::from_vec(bytes),
-        Addrs::from_slice(alloc, bad_reads)?,
-    ))
+    source(alloc, Octets::from_vec(bytes), bad_read)
 }
 
 /// A header of a type, with a place, a size and flags.
@@ -39,7 +39,7 @@ fn header(stype: u32, offset: u64, size: u64, flags: u64) -> Shdr {
 
 /// What a section's data are, or how they are refused, in an image of 96 zeros.
 fn told(alloc: Global, class: Class, order: Order, h: &Shdr) -> Result<(Kind, u64), ElfError> {
-    let mut source = zeros(alloc, 96, &[])?;
+    let mut source = zeros(alloc, 96, 0)?;
     let mut cell = Cell::opened(alloc, 5, class, h, 96)?;
     cell.prepare(&mut source, 0, class, order)?;
     let items = cell.items(0);
@@ -83,7 +83,7 @@ fn sections_of_all_kinds_are_told_or_refused(rt: HostRuntime) -> Result<(), Fail
 fn a_failed_read_is_repeated_and_a_home_is_read_once(rt: HostRuntime) -> Result<(), Fail> {
     let alloc = rt.alloc();
     let (class, order) = (Class::C64, Order::Greatest);
-    let mut source = zeros(alloc, 96, &[1])?;
+    let mut source = zeros(alloc, 96, 1)?;
     let mut cell = Cell::opened(alloc, 5, class, &header(SHT_SYMTAB, 0, 48, 0), 96)?;
     let failed = cell.prepare(&mut source, 0, class, order);
     assert_eq!(rt; failed, Err(ElfError::Read));
@@ -164,7 +164,7 @@ fn state(cell: &Cell, p: u32) -> Result<(bool, bool, Kind, u64), ElfError> {
 
 /// What a change leaves of the piece, in a section of 20 bytes.
 fn changed(alloc: Global, by: Change) -> Result<(bool, bool, Kind, u64), ElfError> {
-    let mut source = zeros(alloc, 96, &[])?;
+    let mut source = zeros(alloc, 96, 0)?;
     let h = header(SHT_PROGBITS, 10, 20, 0);
     let mut cell = Cell::opened(alloc, 5, Class::C32, &h, 96)?;
     let p = apply(alloc, &mut cell, &mut source, by)?;
@@ -219,7 +219,7 @@ fn a_changed_piece_is_own_and_marked(rt: HostRuntime) -> Result<(), Fail> {
 #[tactic(auto, using(crate::proofs::Owning::lend_at_hand, crate::proofs::Preparing::passed_by))]
 fn half(alloc: Global, i: u64) -> Result<u16, ElfError> {
     let bytes = Octets::from_slice(alloc, &[0x12, 0x34, 0x56, 0x78])?;
-    let mut source = MemSource::new(bytes, Addrs::new(alloc));
+    let mut source = source(alloc, bytes, 0)?;
     let h = header(SHT_GNU_VERSYM, 0, 4, 0);
     let mut cell = Cell::opened(alloc, 5, Class::C64, &h, 4)?;
     cell.load(&mut source)?;

@@ -45,6 +45,6 @@ impl Body {
         ensures err { IfErr result IsRefusal }
     {
         self.check_section(d.section)?;
-        self.scn(d.section).check_piece(d.piece)
+        self.scn(d.section).cell.check_piece(d.piece)
     }
 }

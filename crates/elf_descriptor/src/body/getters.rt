@@ -22,7 +22,7 @@ impl Body {
     }
 
     /// A program header; else `NoEntry`.
-    #[tactic(auto, unfolding(elf_object::specs::Calls::phdr_answer, crate::specs::Views::object_of))]
+    #[tactic(auto, unfolding(crate::proofs::Words::phdr))]
     pub fn phdr(&self, i: u32) -> Result<Phdr, ElfError>
         ensures { (image : Option (List ℕ)) (size : ℕ)
             → result ≡ (calls.phdr i).answer (object_of image size self.now) }
@@ -38,7 +38,7 @@ impl Body {
     }
 
     /// The present header of a section; else `NoSection`.
-    #[tactic(auto, using(crate::proofs::Objects::shdr_is, crate::proofs::Refusals::answered_err, crate::proofs::Refusals::answered_ok))]
+    #[tactic(auto, using(crate::proofs::Objects::shdr_is, crate::proofs::Rules::answered))]
     pub fn shdr(&self, s: u32) -> Result<Shdr, ElfError>
         requires { HasCounts self.now }
         ensures { (image : Option (List ℕ)) (size : ℕ)
@@ -49,7 +49,7 @@ impl Body {
     }
 
     /// The number of a section's pieces; else `NoSection`.
-    #[tactic(auto, using(crate::proofs::Objects::pieces_is, crate::proofs::Refusals::answered_err, crate::proofs::Refusals::answered_ok))]
+    #[tactic(auto, using(crate::proofs::Objects::pieces_is, crate::proofs::Rules::answered))]
     pub fn pieces(&self, s: u32) -> Result<u32, ElfError>
         requires { HasCounts self.now }
         ensures { (image : Option (List ℕ)) (size : ℕ)
@@ -60,7 +60,7 @@ impl Body {
     }
 
     /// The place and the length of a section's home; else `NoSection`.
-    #[tactic(auto, using(crate::proofs::Objects::home_is, crate::proofs::Refusals::answered_err, crate::proofs::Refusals::answered_ok))]
+    #[tactic(auto, using(crate::proofs::Objects::home_is, crate::proofs::Rules::answered))]
     pub fn home(&self, s: u32) -> Result<(u64, u64), ElfError>
         requires { HasCounts self.now }
         ensures { (image : Option (List ℕ)) (size : ℕ)
@@ -72,7 +72,7 @@ impl Body {
     }
 
     /// The kind that a piece holds; else `NoSection`, then `NoData`.
-    #[tactic(auto, using(crate::proofs::Objects::piece_kind_is, crate::proofs::Refusals::answered_err, crate::proofs::Refusals::answered_ok))]
+    #[tactic(auto, using(crate::proofs::Objects::piece_kind_is, crate::proofs::Rules::answered))]
     pub fn piece_kind(&self, d: DataId) -> Result<Kind, ElfError>
         requires { HasCounts self.now }
         ensures { (image : Option (List ℕ)) (size : ℕ) → result
@@ -83,7 +83,7 @@ impl Body {
     }
 
     /// The alignment of a piece in its section; else `NoSection`, then `NoData`.
-    #[tactic(auto, using(crate::proofs::Objects::piece_align_is, crate::proofs::Refusals::answered_err, crate::proofs::Refusals::answered_ok))]
+    #[tactic(auto, using(crate::proofs::Objects::piece_align_is, crate::proofs::Rules::answered))]
     pub fn piece_align(&self, d: DataId) -> Result<u64, ElfError>
         requires { HasCounts self.now }
         ensures { (image : Option (List ℕ)) (size : ℕ) → result
@@ -94,7 +94,7 @@ impl Body {
     }
 
     /// The flags of a part; else `NoSection`, then `NoData`.
-    #[tactic(auto, unfolding(elf_object::specs::Calls::flags_answer), using(crate::proofs::Refusals::answered_err, crate::proofs::Refusals::answered_ok))]
+    #[tactic(auto, unfolding(crate::proofs::Words::flags), using(crate::proofs::Rules::answered))]
     pub fn flags(&self, part: Part) -> Result<u32, ElfError>
         requires { HasCounts self.now }
         ensures { (image : Option (List ℕ)) (size : ℕ)
@@ -105,7 +105,7 @@ impl Body {
     }
 
     /// Whether a section or one of its pieces is marked dirty.
-    #[tactic(auto, using(crate::proofs::Marks::any_at, std::proofs::lemmas::List::Folds::list_any_more))]
+    #[tactic(auto, using(crate::proofs::Rules::marks))]
     fn some_section_marked(&self) -> bool
         ensures { result ≡ list_any is_scn_dirty self.now.sections.items }
     {

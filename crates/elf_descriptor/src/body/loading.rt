@@ -7,7 +7,7 @@ ghost use Rattle.elf_outside.specs.Asks.{Asks};
 ghost use Rattle.elf_object.specs.Words.{Answers};
 ghost use Rattle.section_data.specs.Held.{piece_in, cell_is_loaded, piece_holds_items, HeldIs};
 ghost use Rattle.section_data.specs.Leaves.{LiesIn};
-ghost use Rattle.section_data.specs.Refused.{load_due, items_due, reading, preparing, home_out, items_refused, kind_refused};
+ghost use Rattle.section_data.specs.Refused.{load_due, items_due, loading, preparing, home_out, items_refused, kind_refused};
 ghost use Rattle.elf_descriptor.specs.Views.{HasCounts, scn_at};
 ghost use Rattle.elf_descriptor.specs.Bodies.{no_raw_in, no_items_in, no_list_in};
 ghost use Rattle.elf_descriptor.specs.Dues.{list_due, IsListed};
@@ -23,7 +23,7 @@ impl Body {
     fn load_there<S: Source>(&mut self, src: &mut S, s: u32) -> Result<(), ElfError>
         requires there { s < length self.old.sections.items }
         requires lies { LiesIn (scn_at self.old s).cell (S.size src.old) }
-        ensures answer { Answers true (reading (load_due (scn_at self.old s).cell)) result
+        ensures answer { Answers true (loading (load_due (scn_at self.old s).cell)) result
             (answered (home_out (scn_at self.old s).cell) tt) }
         ensures loaded { OnOk result (IsTrue (cell_is_loaded (scn_at self.new s).cell)) }
         ensures held { (scn_at self.new s).cell.held ≡ (scn_at self.old s).cell.held }
@@ -41,7 +41,7 @@ impl Body {
     pub fn load<S: Source>(&mut self, src: &mut S, s: u32) -> Result<(), ElfError>
         requires counts { HasCounts self.old }
         requires lies { LiesIn (scn_at self.old s).cell (S.size src.old) }
-        ensures answer { Answers true (reading (load_due (scn_at self.old s).cell)) result
+        ensures answer { Answers true (loading (load_due (scn_at self.old s).cell)) result
             (answered (no_raw_in self.old s) tt) }
         ensures loaded { OnOk result (IsTrue (cell_is_loaded (scn_at self.new s).cell)) }
         ensures held { (scn_at self.new s).cell.held ≡ (scn_at self.old s).cell.held }
@@ -63,7 +63,8 @@ impl Body {
             (scn_at self.old d.section).cell }
         ensures answer { Answers true (preparing (scn_at self.old d.section).cell d.piece
             (items_due self.old.header.class (scn_at self.old d.section).cell d.piece)) result
-            (answered (items_refused self.old.header.class (scn_at self.old d.section).cell d.piece) tt) }
+            (answered (items_refused self.old.header.class (scn_at self.old d.section).cell
+            d.piece) tt) }
         ensures piece { OnOk result (d.piece < length (scn_at self.old d.section).cell.pieces) }
         ensures holds { OnOk result
             (IsTrue (piece_holds_items (scn_at self.new d.section).cell d.piece)) }
@@ -111,7 +112,7 @@ impl Body {
     fn fetch_there<S: Source>(&mut self, src: &mut S, d: DataId, kind: Kind) -> Result<(), ElfError>
         requires there { d.section < length self.old.sections.items }
         requires lies { LiesIn (scn_at self.old d.section).cell (S.size src.old) }
-        ensures answer { Answers true (reading (list_due self.old.header.class
+        ensures answer { Answers true (loading (list_due self.old.header.class
             (scn_at self.old d.section).cell kind d.piece)) result (answered (kind_refused
             self.old.header.class (scn_at self.old d.section).cell kind d.piece) tt) }
         ensures hand { OnOk result (IsListed self.new d.section d.piece kind) }
@@ -128,14 +129,14 @@ impl Body {
         scn.fetch(src, d.piece, kind, class)
     }
 
-    /// Makes each item of a piece of a kind be at hand: it is own, or its home is loaded. It refuses in
-    /// this order: `NoSection`, `NoData`, `WrongKind`, and for the clean home piece `OutOfFile` and
-    /// `Ragged`; then `Memory` or `Read`.
+    /// Makes each item of a piece of a kind be at hand: it is own, or its home is loaded. It
+    /// refuses in this order: `NoSection`, `NoData`, `WrongKind`, and for the clean home piece
+    /// `OutOfFile` and `Ragged`; then `Memory` or `Read`.
     #[tactic(auto, unfolding(crate::specs::Bodies::no_list_in))]
     pub fn fetch<S: Source>(&mut self, src: &mut S, d: DataId, kind: Kind) -> Result<(), ElfError>
         requires counts { HasCounts self.old }
         requires lies { LiesIn (scn_at self.old d.section).cell (S.size src.old) }
-        ensures answer { Answers true (reading (list_due self.old.header.class
+        ensures answer { Answers true (loading (list_due self.old.header.class
             (scn_at self.old d.section).cell kind d.piece)) result
             (answered (no_list_in self.old kind d.section d.piece) tt) }
         ensures hand { OnOk result (IsListed self.new d.section d.piece kind) }

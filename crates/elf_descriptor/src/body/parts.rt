@@ -19,7 +19,7 @@ fn flag_bits(dirty: bool, layout: bool) -> u32
 
 impl Body {
     /// Whether a part is there; else `NoSection`, then `NoData`.
-    #[tactic(auto, unfolding(elf_object::specs::Answers::part_refusal), using(crate::proofs::Objects::no_section_is, crate::proofs::Objects::piece_refusal_is))]
+    #[tactic(auto, unfolding(crate::proofs::Words::part), using(crate::proofs::Rules::part))]
     pub fn check_part(&self, part: Part) -> Result<(), ElfError>
         requires { HasCounts self.now }
         ensures answer { (image : Option (List ℕ)) (size : ℕ)
@@ -34,7 +34,7 @@ impl Body {
     }
 
     /// The flags of a part that is there.
-    #[tactic(auto, unfolding(elf_object::specs::Answers::flags_of, crate::specs::Views::object_of), using(crate::proofs::Objects::section_marked_is, crate::proofs::Objects::piece_is))]
+    #[tactic(auto, unfolding(crate::proofs::Words::part_flags), using(crate::proofs::Rules::flags))]
     pub fn part_flags(&self, part: Part) -> u32
         requires { IsThere self.now part }
         ensures { (image : Option (List ℕ)) (size : ℕ)

@@ -172,8 +172,8 @@ impl<S: Source> Elf<S> {
     }
 
     /// Gives a piece other items, of any kind; it becomes own and marked, and keeps its alignment.
-    /// It refuses in this order: `NoSection`, `Reserved` for section 0, `NoData`, `Unfit`, and hands
-    /// the items back. It reads nothing and takes no memory.
+    /// It refuses in this order: `NoSection`, `Reserved` for section 0, `NoData`, `Unfit`, and
+    /// hands the items back. It reads nothing and takes no memory.
     ///
     /// Source: elf_newdata of elf(3E), for data that takes the place of other data.
     pub fn replace(&mut self, d: DataId, items: Items) -> Result<(), (Items, ElfError)>
@@ -187,9 +187,9 @@ impl<S: Source> Elf<S> {
     }
 
     /// Sets or clears the flags of a part that `bits` has, and answers those that the part has
-    /// then. `LAYOUT` counts for the object alone, and the section header table stands for the object;
-    /// other bits are not looked at. It refuses in this order: `NoSection`, `NoData`, `FlagKept`
-    /// where `DIRTY` is to be cleared. It reads nothing and takes no memory.
+    /// then. `LAYOUT` counts for the object alone, and the section header table stands for the
+    /// object; other bits are not looked at. It refuses in this order: `NoSection`, `NoData`,
+    /// `FlagKept` where `DIRTY` is to be cleared. It reads nothing and takes no memory.
     ///
     /// Source: elf_flagelf, elf_flagehdr, elf_flagphdr, elf_flagscn, elf_flagshdr and elf_flagdata
     /// of elf(3E).

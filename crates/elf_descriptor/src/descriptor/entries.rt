@@ -15,8 +15,8 @@ use elf_types::{DataId, ElfError};
 use section_data::Item;
 
 impl<S: Source> Elf<S> {
-    /// Makes each item of a piece of the item's kind be at hand: it is own, or its home is loaded. It
-    /// refuses in this order: `NoSection`, `NoData`, `WrongKind`, and for the clean home piece
+    /// Makes each item of a piece of the item's kind be at hand: it is own, or its home is loaded.
+    /// It refuses in this order: `NoSection`, `NoData`, `WrongKind`, and for the clean home piece
     /// `OutOfFile` and `Ragged`; then `Memory` or `Read`.
     fn fetch<T: Item>(&mut self, d: DataId) -> Result<(), ElfError>
         ensures answer { (i : ℕ) → Answers true
@@ -47,10 +47,10 @@ impl<S: Source> Elf<S> {
     }
 
     /// Item `i` of a piece that holds items of the item's kind. It refuses in this order:
-    /// `NoSection`, `NoData`, `WrongKind` with the kind that the piece holds, and for the clean home
-    /// piece `OutOfFile` and `Ragged`; then `Memory` or `Read` where its home is not loaded, and
-    /// `NoEntry` exactly where the index is not below the number of items. The home is read at the
-    /// first use, and not translated: of a clean piece one item is decoded alone.
+    /// `NoSection`, `NoData`, `WrongKind` with the kind that the piece holds, and for the clean
+    /// home piece `OutOfFile` and `Ragged`; then `Memory` or `Read` where its home is not loaded,
+    /// and `NoEntry` exactly where the index is not below the number of items. The home is read at
+    /// the first use, and not translated: of a clean piece one item is decoded alone.
     ///
     /// Source: gelf_getsym of gelf(3E) and its like.
     pub fn item<T: Item>(&mut self, d: DataId, i: u64) -> Result<T, ElfError>

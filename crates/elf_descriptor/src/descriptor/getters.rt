@@ -164,8 +164,8 @@ impl<S: Source> Elf<S> {
     }
 
     /// What is held of a piece: its items exactly where it is own, else the home's bytes in file
-    /// form exactly where the section is loaded. It refuses in this order: `NoSection`, `NoData`. It
-    /// reads nothing and takes no memory.
+    /// form exactly where the section is loaded. It refuses in this order: `NoSection`, `NoData`.
+    /// It reads nothing and takes no memory.
     pub fn held(&self, d: DataId) -> Result<Held<'_>, ElfError>
         ensures refusal { err_of result ≡ piece_refusal self.now.o d.section d.piece }
         ensures held { IfOk result (λ held. IsHeld self.now d.section d.piece held) }

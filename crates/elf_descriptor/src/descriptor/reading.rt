@@ -59,8 +59,8 @@ impl<S: Source> Elf<S> {
     /// Makes a piece hold its items. It refuses in this order: `NoSection`, `NoData`, and for the
     /// clean home piece `OutOfFile` and `Ragged`; then `Memory` or `Read`.
     fn prepare(&mut self, d: DataId) -> Result<(), ElfError>
-        ensures answer { Answers true (wanted (calls.section_data d.section d.piece) self.old) result
-            (answered (data_refusal self.old.o d.section d.piece) tt) }
+        ensures answer { Answers true (wanted (calls.section_data d.section d.piece) self.old)
+            result (answered (data_refusal self.old.o d.section d.piece) tt) }
         ensures holds { OnOk result
             (IsTrue (holds_items self.new.o self.new.held d.section d.piece)) }
         ensures looks { Looks S.Source (calls.section_data d.section d.piece) result self.old
@@ -80,15 +80,16 @@ impl<S: Source> Elf<S> {
         self.body.scn(d.section).cell.items(d.piece)
     }
 
-    /// A piece's items. It refuses in this order: `NoSection`, `NoData`, and for the clean home piece
-    /// `OutOfFile` where its home passes the end of the image and `Ragged` where the size of an item
-    /// does not divide the home's length; then `Memory` or `Read` where the piece does not hold its
-    /// items. The home is read and translated at the first use.
+    /// A piece's items. It refuses in this order: `NoSection`, `NoData`, and for the clean home
+    /// piece `OutOfFile` where its home passes the end of the image and `Ragged` where the size of
+    /// an item does not divide the home's length; then `Memory` or `Read` where the piece does not
+    /// hold its items. The home is read and translated at the first use.
     ///
     /// Source: elf_getdata of elf(3E).
     pub fn data(&mut self, d: DataId) -> Result<&Items, ElfError>
-        ensures answer { Answers self.old.told (wanted (calls.section_data d.section d.piece) self.old)
-            (seen result) ((calls.section_data d.section d.piece).answer self.old.o) }
+        ensures answer { Answers self.old.told
+            (wanted (calls.section_data d.section d.piece) self.old) (seen result)
+            ((calls.section_data d.section d.piece).answer self.old.o) }
         ensures like { IsLike AlikeItems (seen result)
             ((calls.section_data d.section d.piece).answer self.old.o) }
         ensures* rests { sem 𝓛 (Rests S.row S.Source self.entry (λ new.

@@ -11,17 +11,10 @@ ghost use Rattle.section_data.specs.Leaves.{replaced, appended, marked_piece};
 
 use crate::cell::Cell;
 use crate::piece::Piece;
-use elf_types::constants::{MAX_PIECE_ALIGN, MAX_PIECES};
+use elf_object::is_piece_align;
+use elf_types::constants::MAX_PIECES;
 use elf_types::{Class, ElfError, Part};
 use elf_xlate::{Items, unfit};
-
-/// Whether an alignment is one of a piece: a power of two, at most 2^20.
-#[tactic(auto, unfolding(elf_object::specs::Calls::is_piece_align))]
-fn is_piece_align(align: u64) -> bool
-    ensures { result ≡ is_piece_align align }
-{
-    align.is_power_of_two() && align <= MAX_PIECE_ALIGN
-}
 
 impl Cell {
     /// Whether items fit the class as the piece with that number; else `Unfit`.

@@ -11,7 +11,7 @@ ghost use Rattle.elf_types.specs.declared.records.Order.{Order as TheOrder};
 ghost use Rattle.elf_types.specs.declared.records.Kind.TheVariants as kinds;
 ghost use Rattle.section_data.specs.Views.{IsCell};
 ghost use Rattle.section_data.specs.Held.{piece_in, cell_is_loaded, piece_holds_items, HeldIs};
-ghost use Rattle.section_data.specs.Refused.{no_piece, no_home_items, items_refused, home_out, load_due, piece_due, items_due, reading, preparing};
+ghost use Rattle.section_data.specs.Refused.{no_piece, no_home_items, items_refused, home_out, load_due, piece_due, items_due, loading, preparing};
 ghost use Rattle.section_data.specs.Leaves.{LiesIn, Warms, IsReadFrom, bytes_or_none};
 
 use crate::cell::Cell;
@@ -97,7 +97,7 @@ impl Cell {
     /// cell is as before. It reads nothing where it is refused or the section is loaded.
     pub fn load<S: Source>(&mut self, src: &mut S) -> Result<(), ElfError>
         requires { LiesIn self.old (S.size src.old) }
-        ensures answer { Answers true (reading (load_due self.old)) result
+        ensures answer { Answers true (loading (load_due self.old)) result
             (answered (home_out self.old) tt) }
         ensures loaded { OnOk result (IsTrue (cell_is_loaded self.new)) }
         ensures held { self.new.held ≡ self.old.held }
@@ -132,8 +132,8 @@ impl Cell {
         }
     }
 
-    /// Whether there is a piece with that number; else `NoData`.
-    pub(super) fn check_piece(&self, p: u32) -> Result<(), ElfError>
+    /// Whether there is a piece with that number; else `NoData`. It takes no memory.
+    pub fn check_piece(&self, p: u32) -> Result<(), ElfError>
         ensures answer { result ≡ answered (no_piece self.now p) tt }
         ensures there { OnOk result (p < length self.now.pieces) }
         ensures err { IfErr result IsRefusal }
@@ -185,7 +185,7 @@ impl Cell {
     pub fn fetch<S: Source>(&mut self, src: &mut S, p: u32) -> Result<(), ElfError>
         requires piece { p < length self.old.pieces }
         requires lies { LiesIn self.old (S.size src.old) }
-        ensures answer { Answers true (reading (piece_due self.old p)) result
+        ensures answer { Answers true (loading (piece_due self.old p)) result
             (answered (if is_some (piece_in self.old p).own then None else home_out self.old) tt) }
         ensures loaded { OnOk result
             (IsTrue (is_some (piece_in self.old p).own || cell_is_loaded self.new)) }

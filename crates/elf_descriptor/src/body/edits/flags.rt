@@ -118,7 +118,7 @@ impl Body {
     }
 
     /// Stores whether the layout is the caller's, where it is to be.
-    #[tactic(auto, using(crate::proofs::EditSteps::layout_else, crate::proofs::EditSteps::layout_there))]
+    #[tactic(auto, using(crate::proofs::Rules::layout))]
     fn set_layout_if(&mut self, whole: bool, layout: bool)
         ensures step { IsStepped (λ o. if whole then with_layout o layout else o) self.old.ready
             self.old self.new }

@@ -12,27 +12,9 @@ ghost use Rattle.elf_descriptor.specs.Views.{HasCounts, object_of, no_scn};
 ghost use Rattle.elf_descriptor.specs.Edits.{IsStepped};
 
 use crate::body::Body;
+use elf_object::stored_ehdr;
 use elf_types::{Ehdr, ElfError, Part, Phdr, Phdrs, Shdr};
 use elf_xlate::{ehdr_fits, phdr_fits, shdr_fits};
-
-/// A header with the nine fields of another that an update stores.
-#[tactic(auto, unfolding(elf_object::specs::Steps::stored_ehdr))]
-fn stored(old: &Ehdr, h: &Ehdr) -> Ehdr
-    ensures { result ≡ stored_ehdr old.now h.now }
-{
-    Ehdr {
-        osabi: h.osabi,
-        abiversion: h.abiversion,
-        etype: h.etype,
-        machine: h.machine,
-        entry: h.entry,
-        phoff: h.phoff,
-        shoff: h.shoff,
-        flags: h.flags,
-        shstrndx: h.shstrndx,
-        ..*old
-    }
-}
 
 /// Whether a section is not section 0; else `Reserved`.
 pub(super) fn check_reserved(s: u32) -> Result<(), ElfError>
@@ -72,7 +54,7 @@ impl Body {
         ensures answer { result ≡ answered (refused_if
             (not (ehdr_fits (stored_ehdr self.now.header h.now))) (Unfit part.Header 0)) tt }
     {
-        if ehdr_fits(&stored(&self.header, h)) {
+        if ehdr_fits(&stored_ehdr(&self.header, h)) {
             return Ok(());
         }
         Err(ElfError::Unfit {
@@ -99,7 +81,7 @@ impl Body {
     fn set_ehdr(&mut self, h: &Ehdr)
         ensures { IsStepped (calls.update_ehdr h.now).after false self.old self.new }
     {
-        self.header = stored(&self.header, h);
+        self.header = stored_ehdr(&self.header, h);
         self.header_marked = true;
         self.ready = false;
     }

@@ -1,7 +1,6 @@
 //! Descriptors that begin over images of all forms, and each refusal, with the source handed back.
 
 use crate::descriptor::Elf;
-use crate::test_sources::{Sparse, source};
 use elf_outside::Source;
 use elf_types::constants::{EI_CLASS, EI_DATA, EI_VERSION, MAX_IMAGE, MAX_SECTIONS};
 use elf_types::{Class, DataId, ElfError, Kind, Order, ScnId};
@@ -12,6 +11,7 @@ use test_images::{
     FORMS, Field, HeaderField, Image, SectionField, header_alone, numbers_in_section_0,
     symbol_object, two_tables,
 };
+use test_sources::{Sparse, source};
 
 /// What begins over a source, or the refusal.
 fn begun<S: Source + Drop>(alloc: Global, src: S) -> Result<Elf<S>, ElfError> {

@@ -8,6 +8,6 @@ use Rattle.readelf_tool.proofs.segments.show_lines.Given as goal
 abbrev pub invariant-loop-i : goal.invariant-loop-i
 invariant-loop-i g l = record {
   lines : UnderWay g.O.Sink g.E.Sink false l.initial.outputs l.outputs
-      (shown (numbered_lines phdr_line 0 l.phdrs)) (shown (numbered_lines phdr_line l.i (drop l.i l.phdrs)));
+      (shown (numbered_lines phdr_line 0 l.elf.o.phdrs)) (shown (numbered_lines phdr_line l.i (drop l.i l.elf.o.phdrs)));
   keeps : KeepsSinks g.O.Sink g.E.Sink l.initial.outputs l.outputs;
 }

@@ -1,0 +1,14 @@
+pub mod NumberLemmas
+pub mod NameLemmas
+pub mod TableLemmas
+pub mod RowLemmas
+pub mod GeneratedObject
+pub mod GeneratedIs
+pub mod PlacedEnds
+pub mod GeneratedParts
+pub mod GeneratedImage
+pub mod StringLemmas
+pub mod GeneratedAgain
+pub mod LookupLemmas
+pub mod SelftestLaws
+pub mod Computing

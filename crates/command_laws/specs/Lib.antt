@@ -1,0 +1,3 @@
+pub mod SelftestSizes
+pub mod SelftestLaw
+pub mod Samples

@@ -1,0 +1,24 @@
+-- What the self test gives, for each number of sections that it takes.
+use Rattle.std.specs.Prelude.{◌≡◌, ℕ, ◌≤◌, List, [], ◌∷◌, length, None}
+use Rattle.elf_object.specs.Valid.{IsObject}
+use Rattle.elf_object.specs.Refusal.{refusal}
+use Rattle.elf_object.specs.Image.{image}
+use Rattle.tool_output.specs.Reports.{shown}
+use Rattle.command_objects.specs.Generated.{generated, generated_and_shifted}
+use Rattle.command_outcomes.specs.Outcomes.{outcome_with, made_file}
+use Rattle.command_outcomes.specs.Selftest.{selftest_outcome}
+use Rattle.command_laws.specs.SelftestSizes.{selftest_bytes, selftest_lines}
+
+-- what is generated is an object, its update is not refused, and the command makes its image, whose
+-- length is stated, and shows the lines that are stated
+pub record SelftestGives (out : List ℕ) (n : ℕ) : Type 0 where
+  pub object : IsObject (generated n)
+  pub updated : refusal (generated_and_shifted n) ≡ None
+  pub outcome : selftest_outcome out n
+      ≡ outcome_with
+      (shown (selftest_lines n))
+      (made_file out (image (generated_and_shifted n)) ∷ [])
+  pub bytes : length (image (generated_and_shifted n)) ≡ selftest_bytes n
+
+abbrev pub SelftestLaw : Type 0
+SelftestLaw = (out : List ℕ) (n : ℕ) → 1 ≤ n → n ≤ 60000 → SelftestGives out n

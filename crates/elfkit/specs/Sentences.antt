@@ -1,0 +1,17 @@
+-- The lines that the program writes of its own.
+use Rattle.std.specs.Prelude.{◌++◌, ℕ, List, codes}
+use Rattle.tool_output.specs.declared.outputs.Side.TheVariants.{Error}
+use Rattle.tool_output.specs.Marks.{said}
+use Rattle.tool_output.specs.Outcomes.{Outcome, only_says}
+
+-- a text on a line of its own
+unfoldable pub line_of : List ℕ → List ℕ
+line_of text = text ++ codes "\n"
+
+-- a line on standard error and a status
+unfoldable pub says : List ℕ → ℕ → Outcome
+says text status = only_says (said Error (line_of text)) status
+
+-- words that are read, for a form that is not built yet
+unfoldable pub not_built : Outcome
+not_built = says (codes "elfkit: form not built") 1

@@ -1,0 +1,194 @@
+-- Steps over a descriptor and the outputs, one after another.
+use Rattle.std.proofs.Common.{◌≡◌, inl, inr, ◌||◌, Bool, false, Result, Ok, Err, IsTrue, refl, ◌∙◌, subst, arith}
+use Rattle.elf_outside.specs.declared.sources.Source.{Ghosts as SourceGhosts}
+use Rattle.elf_outside.specs.declared.sinks.Sink.{Ghosts as SinkGhosts}
+use Rattle.elf_object.specs.Object.{Object}
+use Rattle.elf_descriptor.specs.State.{State}
+use Rattle.tool_output.specs.declared.stops.Stop.{Stop}
+use Rattle.tool_output.specs.declared.stops.Stop.TheVariants.{Read, Write, Memory}
+use Rattle.tool_output.specs.declared.outputs.Outputs.{Outputs}
+use Rattle.tool_output.specs.Reports.{Report, Reports, no_report, joined}
+use Rattle.tool_output.specs.Steps.{KeepsSinks, LeavesOutputs, SinkRose, OnRead, OnWrite}
+use Rattle.tool_output.proofs.StepLemmas.{keeps_none, keeps_then}
+use Rattle.tool_output.proofs.ReportLemmas.{reports_then, reports_then_stop, reports_stop, reports_nothing}
+use Rattle.tool_output.proofs.UnderWayLemmas.{begins, goes_on, stops_at, is_given}
+use Rattle.object_output.specs.Steps.{LeavesElf, ReportsElf, Learns, ElfUnderWay, SourceRose}
+
+module _ {S : Type 0} (s : SourceGhosts S) where
+  -- nothing is done
+  pub elf_left : (a : State S) → LeavesElf s a a
+  elf_left a = record {
+    object = refl;
+    told = refl;
+    source = record { same_len = refl; same_bytes = refl; same_rest = refl };
+    later = omega arith;
+  }
+
+  pub elf_left_then : (a b c : State S) → LeavesElf s a b → LeavesElf s b c → LeavesElf s a c
+  elf_left_then a b c h k = record {
+    object = k.object ∙ h.object;
+    told = k.told ∙ h.told;
+    source = record {
+      same_len = k.source.same_len ∙ h.source.same_len;
+      same_bytes = k.source.same_bytes ∙ h.source.same_bytes;
+      same_rest = k.source.same_rest ∙ h.source.same_rest;
+    };
+    later = omega (arith, h.later, k.later);
+  }
+
+  pub still_told : (a b : State S) → LeavesElf s a b → IsTrue a.told → IsTrue b.told
+  still_told a b h is = rw h.told is
+
+  -- a read that failed in a later step
+  rose_later : (a b c : State S) → LeavesElf s a b → SourceRose s b c → SourceRose s a c
+  rose_later a b c h rose = let p = h.later in omega (arith, p, rose)
+
+module _ {S O E : Type 0} (s : SourceGhosts S) (o : SinkGhosts O) (e : SinkGhosts E) where
+  -- ---- What is left of the outputs
+
+  -- a put that failed in a later step
+  sink_rose_later : (t u v : Outputs O E) → KeepsSinks o e t u → SinkRose o e u.out.now v.out.now u.err.now v.err.now
+      → SinkRose o e t.out.now v.out.now t.err.now v.err.now
+  sink_rose_later t u v k rose = by_side rose
+    where
+      by_side : SinkRose o e u.out.now v.out.now u.err.now v.err.now → SinkRose o e t.out.now v.out.now t.err.now v.err.now
+      by_side (inl rose) = inl (let p = k.leaves.out_later in omega (arith, p, rose))
+      by_side (inr rose) = inr (let p = k.leaves.err_later in omega (arith, p, rose))
+
+  -- a step that answers, after others
+  outputs_after : (r : Result Bool Stop) (a b c : State S) (t u v : Outputs O E) → LeavesElf s a b → KeepsSinks o e t u
+      → LeavesOutputs o e (SourceRose s b c) r u v → LeavesOutputs o e (SourceRose s a c) r t v
+  outputs_after (Ok x) a b c t u v h k l = record { keeps = keeps_then o e t u v k l.keeps; read = tt; write = tt }
+  outputs_after (Err Read) a b c t u v h k l = record { keeps = keeps_then o e t u v k l.keeps; read = rose_later s a b c h l.read; write = tt }
+  outputs_after (Err Write) a b c t u v h k l = record { keeps = keeps_then o e t u v k l.keeps; read = tt; write = sink_rose_later t u v k l.write }
+  outputs_after (Err Memory) a b c t u v h k l = record { keeps = keeps_then o e t u v k l.keeps; read = tt; write = tt }
+
+  -- a step that reads nothing leaves as much where something is read
+  pub reads_nothing : (P : Type 0) (r : Result Bool Stop) (t u : Outputs O E) → LeavesOutputs o e ⊥ r t u → LeavesOutputs o e P r t u
+  reads_nothing P (Ok x) t u h = record { keeps = h.keeps; read = tt; write = tt }
+  reads_nothing P (Err Read) t u h = absurd h.read
+  reads_nothing P (Err Write) t u h = record { keeps = h.keeps; read = tt; write = h.write }
+  reads_nothing P (Err Memory) t u h = record { keeps = h.keeps; read = tt; write = tt }
+
+  -- ---- A report
+
+  -- what is written after a call that leaves the object
+  pub elf_says : (report : Object → Report) (r : Result Bool Stop) (a b : State S) (t u : Outputs O E) → LeavesElf s a b
+      → (IsTrue a.told → Reports o e r t u (report a.o)) → LeavesOutputs o e ⊥ r t u → ReportsElf s o e report r a b t u
+  elf_says report r a b t u h k l = record {
+    reports = k;
+    elf = h;
+    leaves = reads_nothing (SourceRose s a b) r t u l;
+  }
+
+  -- a step that stops before it writes
+  pub elf_stopped : (report : Object → Report) (stop : Stop) (a b : State S) (t : Outputs O E) → LeavesElf s a b
+      → LeavesOutputs {T = Bool} o e (SourceRose s a b) (Err stop) t t → ReportsElf s o e report (Err stop) a b t t
+  elf_stopped report stop a b t h l = record {
+    reports = λ told. reports_nothing o e t stop (report a.o);
+    elf = h;
+    leaves = l;
+  }
+
+  -- the same report, stated otherwise
+  pub elf_as : (p q : Object → Report) (r : Result Bool Stop) (a b : State S) (t u : Outputs O E) → (IsTrue a.told → q a.o ≡ p a.o)
+      → ReportsElf s o e p r a b t u → ReportsElf s o e q r a b t u
+  elf_as p q r a b t u same h = record {
+    reports = λ told. rw (same told) (h.reports told);
+    elf = h.elf;
+    leaves = h.leaves;
+  }
+
+  module _ (p q : Object → Report) (a b c : State S) (t u v : Outputs O E) where
+    later_report : (r : Result Bool Stop) → LeavesElf s a b → (IsTrue b.told → Reports o e r u v (q b.o)) → IsTrue a.told → Reports o e r u v (q a.o)
+    later_report r h k told = subst (λ (x : Object). Reports o e r u v (q x)) h.object (k (still_told s a b h told))
+
+    -- two reports
+    pub elf_then : (x y z : Bool) → z ≡ (x || y) → ReportsElf s o e p (Ok x) a b t u → ReportsElf s o e q (Ok y) b c u v
+        → ReportsElf s o e (λ m. joined (p m) (q m)) (Ok z) a c t v
+    elf_then x y z is h k = record {
+      reports = λ told. reports_then o e t u v (p a.o) (q a.o) x y z is (h.reports told) (later_report (Ok y) h.elf k.reports told);
+      elf = elf_left_then s a b c h.elf k.elf;
+      leaves = record { keeps = keeps_then o e t u v h.leaves.keeps k.leaves.keeps; read = tt; write = tt };
+    }
+
+    -- the second of two stops
+    pub elf_then_stop : (x : Bool) (stop : Stop) → ReportsElf s o e p (Ok x) a b t u → ReportsElf s o e q (Err stop) b c u v
+        → ReportsElf s o e (λ m. joined (p m) (q m)) (Err stop) a c t v
+    elf_then_stop x stop h k = record {
+      reports = λ told. reports_then_stop o e t u v (p a.o) (q a.o) x stop (h.reports told) (later_report (Err stop) h.elf k.reports told);
+      elf = elf_left_then s a b c h.elf k.elf;
+      leaves = outputs_after (Err stop) a b c t u v h.elf h.leaves.keeps k.leaves;
+    }
+
+  -- the first of two stops
+  pub elf_stop : (p q : Object → Report) (a b : State S) (t u : Outputs O E) (stop : Stop) → ReportsElf s o e p (Err stop) a b t u
+      → ReportsElf s o e (λ m. joined (p m) (q m)) (Err stop) a b t u
+  elf_stop p q a b t u stop h = record {
+    reports = λ told. reports_stop o e t u (p a.o) (q a.o) stop (h.reports told);
+    elf = h.elf;
+    leaves = h.leaves;
+  }
+
+  -- ---- A value, and then a report
+
+  module _ {T : Type 0} (stated : Object → T) (a b : State S) where
+    -- the report that the value decides
+    pub elf_learns : (v : T) (report : T → Object → Report) (r : Result Bool Stop) (c : State S) (t u : Outputs O E)
+        → Learns s stated (Ok v) a b → ReportsElf s o e (report v) r b c t u → ReportsElf s o e (λ m. report (stated m) m) r a c t u
+    elf_learns v report r c t u h k = record {
+      reports = λ told.
+          subst (λ (x : T). Reports o e r t u (report x a.o)) (h.value told)
+          (subst (λ (x : Object). Reports o e r t u (report v x)) h.elf.object (k.reports (still_told s a b h.elf told)));
+      elf = elf_left_then s a b c h.elf k.elf;
+      leaves = outputs_after r a b c t t u h.elf (keeps_none o e t) k.leaves;
+    }
+
+    -- or there is none
+    pub elf_learns_none : (stop : Stop) (report : Object → Report) (t : Outputs O E) → Learns {T = T} s stated (Err stop) a b
+        → ReportsElf s o e report (Err stop) a b t t
+    elf_learns_none stop report t h = elf_stopped report stop a b t h.elf (by_stop stop h.read h.write)
+      where
+        by_stop : (stop : Stop) → OnRead {T = T} (Err stop) (SourceRose s a b) → OnWrite {T = T} (Err stop) ⊥
+            → LeavesOutputs {T = Bool} o e (SourceRose s a b) (Err stop) t t
+        by_stop Read read write = record { keeps = keeps_none o e t; read = read; write = tt }
+        by_stop Memory read write = record { keeps = keeps_none o e t; read = tt; write = tt }
+        by_stop Write read write = absurd write
+
+-- ---- A report that is given in steps
+
+-- nothing is given yet, and the whole is left
+pub elf_begins : {S O E : Type 0} (s : SourceGhosts S) (o : SinkGhosts O) (e : SinkGhosts E) (a : State S) (t : Outputs O E) (whole : Object → Report)
+    → ElfUnderWay s o e false a a t t whole whole
+elf_begins s o e a t whole = record { report = λ told. begins o e t (whole a.o); elf = elf_left s a; keeps = keeps_none o e t }
+
+module _ {S O E : Type 0} {s : SourceGhosts S} {o : SinkGhosts O} {e : SinkGhosts E} {x : Bool} {a b : State S} {t u : Outputs O E}
+    {whole rest : Object → Report} (h : ElfUnderWay s o e x a b t u whole rest) where
+  of_first : (c : State S) (r : Result Bool Stop) (v : Outputs O E) (next : Object → Report) → ReportsElf s o e next r b c u v → IsTrue a.told → Reports o e r u v (next a.o)
+  of_first c r v next k told = subst (λ (m : Object). Reports o e r u v (next m)) h.elf.object (k.reports (still_told s a b h.elf told))
+
+  -- the next of what is left is given
+  pub elf_goes_on : {c : State S} {v : Outputs O E} {y z : Bool} (next left : Object → Report) → (IsTrue a.told → rest a.o ≡ joined (next a.o) (left a.o))
+      → ReportsElf s o e next (Ok y) b c u v → z ≡ (x || y) → ElfUnderWay s o e z a c t v whole left
+  elf_goes_on {c} {v} {y} {z} next left is k or = record {
+    report = λ told. goes_on (h.report told) (next a.o) (left a.o) (is told) (of_first c (Ok y) v next k told) or;
+    elf = elf_left_then s a b c h.elf k.elf;
+    keeps = keeps_then o e t u v h.keeps k.leaves.keeps;
+  }
+
+  -- or the step stops on the way
+  pub elf_stops_at : {c : State S} {v : Outputs O E} {stop : Stop} (next left : Object → Report) → (IsTrue a.told → rest a.o ≡ joined (next a.o) (left a.o))
+      → ReportsElf s o e next (Err stop) b c u v → ReportsElf s o e whole (Err stop) a c t v
+  elf_stops_at {c} {v} {stop} next left is k = record {
+    reports = λ told. stops_at (h.report told) (next a.o) (left a.o) (is told) (of_first c (Err stop) v next k told);
+    elf = elf_left_then s a b c h.elf k.elf;
+    leaves = outputs_after s o e (Err stop) a b c t u v h.elf h.keeps k.leaves;
+  }
+
+  -- nothing is left
+  pub elf_is_given : (IsTrue a.told → rest a.o ≡ no_report) → ReportsElf s o e whole (Ok x) a b t u
+  elf_is_given none = record {
+    reports = λ told. is_given (h.report told) (none told);
+    elf = h.elf;
+    leaves = record { keeps = h.keeps; read = tt; write = tt };
+  }

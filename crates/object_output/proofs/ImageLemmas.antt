@@ -1,0 +1,168 @@
+-- An image that a tool is to speak of.
+use Rattle.std.proofs.Common.{◌≡◌, ◌≢◌, ◌+◌, ◌≤◌, ℕ, Bool, List, Option, Some, None, Result, Ok, Err, IfSome, IfOk, IsTrue, refl, sym, ap, ◌∙◌, subst, arith}
+use Rattle.std.specs.Prelude.{is_some}
+use Rattle.elf_types.specs.declared.errors.ElfError.{ElfError}
+use Rattle.elf_types.specs.declared.errors.ElfError.TheVariants as error
+use Rattle.elf_types.specs.Answers.{Follows}
+use Rattle.elf_types.specs.Text.{error_text}
+use Rattle.elf_outside.specs.Asks.{Asks, ReadRose}
+use Rattle.elf_outside.proofs.AskLemmas.{asks_both, asks_fewer, asks_then}
+use Rattle.elf_outside.specs.declared.sources.Source.{Ghosts as SourceGhosts}
+use Rattle.elf_outside.specs.declared.sinks.Sink.{Ghosts as SinkGhosts}
+use Rattle.elf_ident.specs.declared.file_kinds.FileKind.{FileKind}
+use Rattle.elf_ident.specs.declared.file_kinds.FileKind.TheVariants.{Archive, Elf, Other}
+use Rattle.elf_ident.specs.FileKinds.{file_kind}
+use Rattle.elf_object.specs.Object.{Object}
+use Rattle.elf_object.specs.Open.{opened}
+use Rattle.elf_ident.specs.Front.{front_bytes, most_front_bytes}
+use Rattle.elf_descriptor.specs.State.{State}
+use Rattle.elf_descriptor.specs.Begun.{IsBegun, begun_state, begun_answer, source_after}
+use Rattle.tool_output.specs.declared.stops.Stop.{Stop}
+use Rattle.tool_output.specs.declared.stops.Stop.TheVariants.{Read, Write, Memory}
+use Rattle.tool_output.specs.Steps.{LeavesOutputs}
+use Rattle.elf_outside.specs.Counts.{Rose}
+use Rattle.tool_output.specs.declared.outputs.Outputs.{Outputs}
+use Rattle.tool_output.specs.Stops.{stop_of}
+use Rattle.tool_output.specs.Names.{Name}
+use Rattle.tool_output.specs.Files.{IsWithin, both_bounds}
+use Rattle.tool_output.specs.Reports.{Report, Reports, refusal}
+use Rattle.tool_output.specs.Sources.{ReportsOn}
+use Rattle.tool_output.proofs.SourceLemmas.{stated_error}
+use Rattle.object_output.specs.Steps.{ReportsElf}
+use Rattle.object_output.specs.Images.{object_by, file_object, image_report, image_asks}
+
+kind_is : (a b : FileKind) → ◌≡◌ {A = Result FileKind ElfError} (Ok a) (Ok b) → a ≡ b
+kind_is a b h = cc
+
+-- an archive is no image
+pub object_of_archive : (holds : Option (List ℕ)) → IfSome holds (λ image. Follows (Ok Archive) (Ok (file_kind image)))
+    → IfSome holds (λ image. file_object image ≡ Err error.Magic)
+unfolding file_object object_by
+object_of_archive None h = tt
+object_of_archive (Some image) h = rw (kind_is (file_kind image) Archive h) refl
+
+-- anything else is opened
+by_kind : (k : FileKind) (image : List ℕ) → k ≢ Archive → object_by k image ≡ opened image
+unfolding object_by
+by_kind Archive image h = absurd (h refl)
+by_kind Elf image h = refl
+by_kind Other image h = refl
+
+pub object_of_image : (holds left : Option (List ℕ)) (k : FileKind) (r : Result Object ElfError) → left ≡ holds
+    → IfSome holds (λ image. Follows (Ok k) (Ok (file_kind image))) → k ≢ Archive → IfSome left (λ image. Follows r (opened image))
+    → IfSome holds (λ image. Follows r (file_object image))
+unfolding file_object
+object_of_image None left k r same kind other h = tt
+object_of_image (Some image) left k r same kind other h =
+    subst (λ (x : Result Object ElfError). Follows r x)
+    (sym (ap (λ (q : FileKind). object_by q image) (kind_is (file_kind image) k kind) ∙ by_kind k image other))
+    (subst (λ (x : Option (List ℕ)). IfSome x (λ i. Follows r (opened i))) same h)
+
+pub elf_is_no_archive : Elf ≢ Archive
+elf_is_no_archive h = cc
+
+pub other_is_no_archive : Other ≢ Archive
+other_is_no_archive h = cc
+
+-- a failed read is no statement on the bytes
+pub object_unread : (holds : Option (List ℕ)) (e : ElfError) → e ≡ error.Read → IfSome holds (λ image. Follows {T = Object} (Err e) (file_object image))
+object_unread None e is = tt
+object_unread (Some image) e is = rw is tt
+
+-- ---- What is asked for to begin
+
+-- the kind alone, and the kind and the front
+pub kind_within : (holds : Option (List ℕ)) (a b : ℕ) → b ≤ a + 8 → IfSome holds (λ image. b ≤ a + (8 + front_bytes image))
+kind_within None a b h = tt
+kind_within (Some image) a b h = omega arith
+
+pub front_within : (holds left : Option (List ℕ)) (a b c : ℕ) → left ≡ holds → b ≤ a + 8
+    → IfSome left (λ image. c ≤ b + front_bytes image) → IfSome holds (λ image. c ≤ a + (8 + front_bytes image))
+front_within None left a b c same h k = tt
+front_within (Some image) left a b c same h k =
+    let bound = subst (λ (o : Option (List ℕ)). IfSome o (λ i. c ≤ b + front_bytes i)) same k in
+    omega (arith, h, bound)
+
+module _ {S : Type 0} (s : SourceGhosts S) (src mid : S) where
+  -- the kind was told, and then the descriptor begun
+  pub begun_asks : (k : FileKind) (r : Result (State S) (S × ElfError)) → Asks {T = FileKind} s (Ok k) src mid 8
+      → Asks s (begun_answer r) mid (source_after r) most_front_bytes
+      → Asks s (begun_answer r) src (source_after r) (8 + most_front_bytes)
+  begun_asks k r h l = asks_both s (Ok k) (begun_answer r) src mid (source_after r) 8 most_front_bytes h l
+
+  -- or that was all
+  pub kind_asks : (k : Result FileKind ElfError) (e : ElfError) → ReadRose {T = Object} (Err e) (s.faults src) (s.faults mid) → Asks s k src mid 8
+      → Asks {T = Object} s (Err e) src mid (8 + most_front_bytes)
+  kind_asks k e read h = asks_fewer s (Err e) src mid 8 (8 + most_front_bytes) (omega arith) (asks_then s k (Err e) src mid 8 h read)
+
+  -- a descriptor tells its bytes where the source does
+  pub begun_told : (r : Result (State S) (S × ElfError)) (n : ℕ) → s.holds mid ≡ s.holds src → Asks s (begun_answer r) mid (source_after r) n
+      → IfOk r (IsBegun s mid) → IfOk r (λ a. a.told ≡ is_some (s.holds src))
+  unfolding begun_state
+  begun_told (Err back) n same asks is = tt
+  begun_told (Ok a) n same asks is = ap (λ (x : State S). x.told) is.state ∙ ap is_some (asks.leaves.same_bytes ∙ same)
+
+-- ---- What is said of it
+
+-- a read that failed once the descriptor had begun
+rose_from_first : {O E : Type 0} (o : SinkGhosts O) (e : SinkGhosts E) (r : Result Bool Stop) (a b c : ℕ) (t u : Outputs O E) → a ≤ b
+    → LeavesOutputs o e (Rose b c) r t u → LeavesOutputs o e (Rose a c) r t u
+rose_from_first o e (Ok x) a b c t u later h = record { keeps = h.keeps; read = tt; write = tt }
+rose_from_first o e (Err Read) a b c t u later h = let rose = h.read in record { keeps = h.keeps; read = omega (arith, later, rose); write = tt }
+rose_from_first o e (Err Write) a b c t u later h = record { keeps = h.keeps; read = tt; write = h.write }
+rose_from_first o e (Err Memory) a b c t u later h = record { keeps = h.keeps; read = tt; write = tt }
+
+module _ (command : List ℕ) (report : Name → Object → Report) (name : Name) where
+  shown_on : {O E : Type 0} (o : SinkGhosts O) (e : SinkGhosts E) (r : Result Bool Stop) (t u : Outputs O E) (holds : Option (List ℕ)) (told : Bool) (x : Object)
+      → IfSome holds (λ image. Follows (Ok x) (file_object image)) → told ≡ is_some holds → (IsTrue told → Reports o e r t u (report name x))
+      → IfSome holds (λ image. Reports o e r t u (image_report command report name image))
+  unfolding image_report
+  shown_on o e r t u None told x stated is h = tt
+  shown_on o e r t u (Some image) told x stated is h = rw stated (h is)
+
+  -- the object of the image is reported on
+  pub image_shown : {S O E : Type 0} (s : SourceGhosts S) (o : SinkGhosts O) (e : SinkGhosts E) (r : Result Bool Stop) (src : S) (a b : State S) (t u : Outputs O E) (n : ℕ)
+      → Asks {T = Object} s (Ok a.o) src a.source n → IfSome (s.holds src) (λ image. Follows (Ok a.o) (file_object image)) → a.told ≡ is_some (s.holds src)
+      → ReportsElf s o e (report name) r a b t u → ReportsOn s o e (image_report command report name) r src b.source t u
+  image_shown s o e r src a b t u n asks stated told h =
+      let p = asks.later in
+      let q = h.elf.later in record {
+        reports = shown_on o e r t u (s.holds src) a.told a.o stated told h.reports;
+        source = record {
+          same_len = h.elf.source.same_len ∙ asks.leaves.same_len;
+          same_bytes = h.elf.source.same_bytes ∙ asks.leaves.same_bytes;
+          same_rest = h.elf.source.same_rest ∙ asks.leaves.same_rest;
+        };
+        later = omega (arith, p, q);
+        leaves = rose_from_first o e r (s.faults src) (s.faults a.source) (s.faults b.source) t u asks.later h.leaves;
+      }
+
+  -- the message of one that is refused
+  pub image_refused : (holds : Option (List ℕ)) (said : List ℕ) (d : ElfError) → said ≡ command → IfSome holds (λ image. Follows {T = Object} (Err d) (file_object image))
+      → IfSome holds (λ image. stop_of d ≡ None → image_report command report name image ≡ refusal said name (error_text d))
+  unfolding image_report
+  image_refused None said d is h = tt
+  image_refused (Some image) said d is h = λ none. rw (stated_error d (file_object image) h none, is) refl
+
+-- ---- What is asked for in all
+
+both_within : (asks : Option ℕ) (n a b c : ℕ) → b ≤ a + n → IsWithin asks b c → IsWithin (both_bounds (Some n) asks) a c
+both_within None n a b c h k = tt
+both_within (Some m) n a b c h k = omega (arith, h, k)
+
+pub image_within : (asks : List ℕ → Option ℕ) (holds left : Option (List ℕ)) (a b c : ℕ) → left ≡ holds → IfSome holds (λ image. b ≤ a + (8 + front_bytes image))
+    → IfSome left (λ image. IsWithin (asks image) b c) → IfSome holds (λ image. IsWithin (image_asks asks image) a c)
+unfolding image_asks
+image_within asks None left a b c same h k = tt
+image_within asks (Some image) left a b c same h k =
+    both_within (asks image) (8 + front_bytes image) a b c h (subst (λ (o : Option (List ℕ)). IfSome o (λ i. IsWithin (asks i) b c)) same k)
+
+within_first : (asks : Option ℕ) (n a b : ℕ) → b ≤ a + n → IsWithin (both_bounds (Some n) asks) a b
+within_first None n a b h = tt
+within_first (Some m) n a b h = omega (arith, h)
+
+pub refused_within : (asks : List ℕ → Option ℕ) (holds : Option (List ℕ)) (a b : ℕ) → IfSome holds (λ image. b ≤ a + (8 + front_bytes image))
+    → IfSome holds (λ image. IsWithin (image_asks asks image) a b)
+unfolding image_asks
+refused_within asks None a b h = tt
+refused_within asks (Some image) a b h = within_first (asks image) (8 + front_bytes image) a b h

@@ -1,0 +1,4 @@
+pub mod ElfSteps
+pub mod ImageLemmas
+pub mod SectionLemmas
+pub mod ShowLemmas

@@ -1,0 +1,38 @@
+-- What a tool says of an image: the report on its object, or why it is refused.
+use Rattle.std.specs.Prelude.{◌+◌, ℕ, List, Option, Some, Result, Ok, Err}
+use Rattle.elf_types.specs.declared.errors.ElfError.{ElfError}
+use Rattle.elf_types.specs.declared.errors.ElfError.TheVariants.{Magic}
+use Rattle.elf_types.specs.Text.{error_text}
+use Rattle.elf_ident.specs.declared.file_kinds.FileKind.{FileKind}
+use Rattle.elf_ident.specs.declared.file_kinds.FileKind.TheVariants.{Archive, Elf, Other}
+use Rattle.elf_ident.specs.FileKinds.{file_kind}
+use Rattle.elf_ident.specs.Front.{front_bytes}
+use Rattle.elf_object.specs.Object.{Object}
+use Rattle.elf_object.specs.Open.{opened}
+use Rattle.tool_output.specs.Names.{Name}
+use Rattle.tool_output.specs.Files.{both_bounds}
+use Rattle.tool_output.specs.Reports.{Report, refusal}
+
+-- the object of a file's bytes; an archive is no image
+unfoldable pub object_by : FileKind → List ℕ → Result Object ElfError
+object_by Archive image = Err Magic
+object_by Elf image = opened image
+object_by Other image = opened image
+
+unfoldable pub file_object : List ℕ → Result Object ElfError
+file_object image = object_by (file_kind image) image
+
+-- the report on an object, or the message that says why there is none
+abbrev pub object_report : List ℕ → (Name → Object → Report) → Name → Result Object ElfError
+    → Report
+object_report command report name (Ok o) = report name o
+object_report command report name (Err e) = refusal command name (error_text e)
+
+-- of a command that says this of an object, the report on a file's bytes
+unfoldable pub image_report : List ℕ → (Name → Object → Report) → Name → List ℕ → Report
+image_report command report name image = object_report command report name (file_object image)
+
+-- How many bytes it asks for at most, where that is promised: the kind takes eight, the front what
+-- is stated of it, and then what the tool asks for.
+unfoldable pub image_asks : (List ℕ → Option ℕ) → List ℕ → Option ℕ
+image_asks asks image = both_bounds (Some (8 + front_bytes image)) (asks image)

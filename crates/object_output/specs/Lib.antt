@@ -1,0 +1,3 @@
+pub mod Steps
+pub mod Shows
+pub mod Images

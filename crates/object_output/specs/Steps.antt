@@ -1,0 +1,51 @@
+-- What a step of a tool over a descriptor and the two outputs does.
+use Rattle.std.specs.Prelude.{◌≡◌, ◌≤◌, Bool, IsTrue, Result, IfOk}
+use Rattle.elf_outside.specs.Asks.{Leaves}
+use Rattle.elf_outside.specs.Counts.{Rose}
+use Rattle.elf_outside.specs.declared.sources.Source.{Ghosts as SourceGhosts}
+use Rattle.elf_outside.specs.declared.sinks.Sink.{Ghosts as SinkGhosts}
+use Rattle.elf_object.specs.Object.{Object}
+use Rattle.elf_descriptor.specs.State.{State}
+use Rattle.tool_output.specs.declared.stops.Stop.{Stop}
+use Rattle.tool_output.specs.declared.outputs.Outputs.{Outputs}
+use Rattle.tool_output.specs.Reports.{Report, Reports, UnderWay}
+use Rattle.tool_output.specs.Steps.{OnRead, OnWrite, KeepsSinks, LeavesOutputs}
+
+-- The object stays, and so does what the source holds. Of the descriptor more may be loaded.
+pub record LeavesElf {S : Type 0} (s : SourceGhosts S) (old new : State S) : Type 0 where
+  pub object : new.o ≡ old.o
+  pub told : new.told ≡ old.told
+  pub source : Leaves s old.source new.source
+  pub later : s.faults old.source ≤ s.faults new.source
+
+-- a read of the source failed
+abbrev pub SourceRose : {S : Type 0} → SourceGhosts S → State S → State S → Type 0
+SourceRose s old new = Rose (s.faults old.source) (s.faults new.source)
+
+-- It gives the report on the object, where the source tells its bytes, and leaves the object. It
+-- stops by Read only where a read of the source failed.
+pub record ReportsElf {S O E : Type 0} (s : SourceGhosts S) (o : SinkGhosts O) (e : SinkGhosts E)
+    (report : Object → Report) (result : Result Bool Stop) (old new : State S)
+    (outputs_old outputs_new : Outputs O E) : Type 0 where
+  pub reports : IsTrue old.told → Reports o e result outputs_old outputs_new (report old.o)
+  pub elf : LeavesElf s old new
+  pub leaves : LeavesOutputs o e (SourceRose s old new) result outputs_old outputs_new
+
+-- It gives a value that is stated of the object, where the source tells its bytes, and leaves the
+-- object. It stops by Read only where a read of the source failed, and never by Write.
+pub record Learns {S T : Type 0} (s : SourceGhosts S) (stated : Object → T)
+    (result : Result T Stop) (old new : State S) : Type 0 where
+  pub value : IsTrue old.told → IfOk result (λ v. v ≡ stated old.o)
+  pub elf : LeavesElf s old new
+  pub read : OnRead result (SourceRose s old new)
+  pub write : OnWrite result ⊥
+
+-- Of a report on the object all but the rest was given, with `refused` as the answer so far: what
+-- is true of whatever goes over something in an object, sections, symbols or notes.
+pub record ElfUnderWay {S O E : Type 0} (s : SourceGhosts S) (o : SinkGhosts O) (e : SinkGhosts E)
+    (refused : Bool) (old new : State S) (outputs_old outputs_new : Outputs O E)
+    (whole rest : Object → Report) : Type 0 where
+  pub report : IsTrue old.told
+      → UnderWay o e refused outputs_old outputs_new (whole old.o) (rest old.o)
+  pub elf : LeavesElf s old new
+  pub keeps : KeepsSinks o e outputs_old outputs_new

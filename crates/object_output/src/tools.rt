@@ -1,0 +1,67 @@
+//! A tool that says something of an object.
+
+ghost use Rattle.std.specs.Prelude.{◌≡◌, ℕ, List, Option, IfSome};
+ghost use Rattle.elf_object.specs.Object.{Object};
+ghost use Rattle.tool_output.specs.Names.{Name};
+ghost use Rattle.tool_output.specs.Reports.{Report};
+ghost use Rattle.tool_output.specs.Files.{IsWithin};
+ghost use Rattle.object_output.specs.Steps.{ReportsElf};
+ghost use Rattle.object_output.specs.Shows.{ShowsElf};
+
+use elf_descriptor::Elf;
+use elf_outside::{Sink, Source};
+use elf_types::Octets;
+use std::alloc::Global;
+use tool_output::{FileName, Outputs, Stop};
+
+/// What a command does with each image of the files that it names.
+///
+/// - `command` is its name, which stands before its messages.
+/// - `report` is what it says of an object, under the name of its file.
+/// - `asks` is how many bytes it asks for at most once the descriptor has begun, by the bytes of
+///   the image, where that is promised.
+pub trait ObjectTool {
+    ghost command: { Self → List ℕ };
+
+    ghost report: { Self → Name → Object → Report };
+
+    ghost asks: { Self → List ℕ → Option ℕ };
+
+    /// The command's name.
+    fn command(&self) -> &'static str
+        ensures { result.now ≡ command self.now };
+
+    /// Gives the report on an object, and leaves the object. The answer tells whether something was
+    /// refused. It stops by `Read` only where a read of the source failed, by `Write` only where a
+    /// put failed.
+    fn show<S: Source, O: Sink, E: Sink>(
+        &self,
+        elf: &mut Elf<S>,
+        name: &FileName<'_>,
+        outputs: &mut Outputs<'_, O, E>,
+    ) -> Result<bool, Stop>
+        ensures reports { ReportsElf S.Source O.Sink E.Sink (report self.now name.now)
+            result elf.old elf.new outputs.old outputs.new }
+        ensures asks { IfSome (S.holds elf.old.source) (λ image.
+            IsWithin (asks self.now image) (S.taken elf.old.source) (S.taken elf.new.source)) };
+}
+
+/// Gives a tool's report on an object on two outputs, as the public call of a tool does, and leaves
+/// the object. The answer tells whether something was refused. It stops by `Read` where a read of
+/// the source failed, by `Write` where a put failed, and by `Memory`.
+pub fn show_object<T: ObjectTool, S: Source, O: Sink, E: Sink>(
+    alloc: Global,
+    tool: &T,
+    elf: &mut Elf<S>,
+    name: &FileName<'_>,
+    out: &mut O,
+    err: &mut E,
+) -> Result<bool, Stop>
+    ensures { ShowsElf S.Source O.Sink E.Sink (T.report tool.now name.now)
+        result elf.old elf.new out.old out.new err.old err.new }
+{
+    let mut page = Octets::new(alloc);
+    let mut outputs = Outputs::new(out, err, &mut page);
+    let shown = tool.show(elf, name, &mut outputs);
+    outputs.end(shown)
+}
