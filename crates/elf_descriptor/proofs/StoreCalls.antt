@@ -1,5 +1,5 @@
 -- The call that stores one item: how it is refused, and what it leaves.
-use Rattle.std.proofs.Common.{◌≡◌, ℕ, ◌/◌, ◌<◌, Bool, true, false, not, List, [], ◌∷◌, length, set, Option, Some, None, Result, Ok, Err, refl, sym, ap, ◌∙◌, subst}
+use Rattle.std.proofs.Common.{◌≡◌, ℕ, ◌/◌, ◌<◌, Bool, true, false, not, List, [], ◌∷◌, length, set, Option, Some, None, Result, Err, refl, sym, ap, ◌∙◌, subst}
 use Rattle.std.specs.Prelude.{IsTrue, IfErr, is_some, nat_le, nat_lt}
 use Rattle.std.proofs.lemmas.Bool.{leb-false}
 use Rattle.std.proofs.lemmas.List.{length-set}
@@ -132,15 +132,6 @@ module _ {S A : Type 0} (g : Ghosts S) (kind : Kind) (variant : List A → Items
       (λ memory. memory)
       (λ read. ap (λ (k : Kind). nat_lt 0 (homes_due old.o old.loaded (lend_reads old.o k s p))) (sym (of_kind l)) ∙ read)
       came)
-
-  pub store_refused_queries : {T : Type 0} (old new : State S) (s p i : ℕ) (item : A) (l : List A) (e : ElfError) → Queries {T = T} g (calls.lend s p (variant l)) [] (Err e) old new
-      → Queries {T = Unit {0}} g (store kind variant list_of fitting s p i item) [] (Err e) old new
-  store_refused_queries old new s p i item l e queries =
-      let same = queries_err g (calls.lend s p (variant l)) [] e old new queries in
-      record {
-        object = same.object;
-        reads = subst (λ (k : Kind). Reads {T = Unit {0}} g (Err e) old new (lend_reads old.o k s p) [] (homes_due old.o old.loaded (lend_reads old.o k s p))) (of_kind l) same.reads;
-      }
 
   -- what the borrower left is the list with the item stored
   pub store_edits : {T : Type 0} (v : Result T ElfError) (r : Result (Unit {0}) ElfError) (old new : State S) (s p i : ℕ) (item : A) (lent left : List A) → ((l : List A) → items_count (variant l) ≡ length l) → lend_refusal old.o kind s p ≡ None

@@ -50,7 +50,8 @@ impl<S: Source> Elf<S> {
         }
         match self.lend::<T>(d) {
             Ok(list) => {
-                list.as_mut_slice()[i as usize] = item;
+                let at = i as usize;
+                list.as_mut_slice()[at] = item;
                 Ok(())
             }
             Err(e) => Err(e),

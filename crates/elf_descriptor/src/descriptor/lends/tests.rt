@@ -1,7 +1,6 @@
 //! A list of each kind is lent and changed, and then one of its items is stored.
 
 use crate::descriptor::Elf;
-use crate::test_sources::source;
 use elf_outside::MemSource;
 use elf_types::constants::{
     SHT_DYNAMIC, SHT_GNU_VERSYM, SHT_INIT_ARRAY, SHT_PROGBITS, SHT_REL, SHT_RELA, SHT_SYMTAB,
@@ -13,6 +12,7 @@ use section_data::Storable;
 use std::alloc::Global;
 use std::test::Fail;
 use test_images::{FORMS, Field, SectionField, five_sections};
+use test_sources::source;
 
 /// The piece that is lent.
 const PIECE: DataId = DataId {

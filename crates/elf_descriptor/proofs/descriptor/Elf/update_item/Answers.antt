@@ -1,20 +1,20 @@
-use Rattle.std.proofs.Common.{◌≡◌, ℕ, ◌*◌, ◌^◌, ◌<◌, ◌≤◌, Fits, w64, arith, length, [], refl, sym, ap, ◌∙◌, subst}
+use Rattle.std.proofs.Common.{ℕ, ◌*◌, ◌^◌, ◌<◌, ◌≤◌, Fits, w64, arith, length, [], refl, sym, ap, ◌∙◌, subst}
 use Rattle.std.proofs.Math.Nat.{mul-le-mul_right}
 use Rattle.elf_object.proofs.AnswerLaws.{answered_value}
 use Rattle.elf_descriptor.proofs.LendLaws.{refilled_set}
-use Rattle.elf_descriptor.proofs.StoreCalls.{store_passed, store_wants, store_refused_queries, store_edits}
+use Rattle.elf_descriptor.proofs.StoreCalls.{store_passed, store_wants, store_edits}
 use Rattle.elf_descriptor.proofs.descriptor.Elf.update_item.Goals as goal
 
 below : (i n size : ℕ) → i < n → n * size < 2 ^ 63 → Fits w64 (i * size)
 below i n size inside small = let less : i * size ≤ n * size = mul-le-mul_right size (omega (arith, inside)) in omega (arith, less, small)
 
-pub bounds-as_mut_slice-i : goal.bounds-as_mut_slice-i
-bounds-as_mut_slice-i g c =
+pub bounds-as_mut_slice-at : goal.bounds-as_mut_slice-at
+bounds-as_mut_slice-at g c =
     let passed = store_passed _ _ _ _ _ _ (answered_value _ _ _ (sym c.in_default.ensures.answer)).0 in
     subst (λ n. c.args.i < n) (sym (ap length c.as_mut_slice.ensures.value ∙ c.in-Ok.ensures.sized)) passed.1
 
-pub offset_bounds-as_mut_slice-i : goal.offset_bounds-as_mut_slice-i
-offset_bounds-as_mut_slice-i g c = below c.args.i (length c.as_mut_slice.result.now) _ (bounds-as_mut_slice-i g c) c.as_mut_slice.type_inv.1
+pub offset_bounds-as_mut_slice-at : goal.offset_bounds-as_mut_slice-at
+offset_bounds-as_mut_slice-at g c = below c.args.i (length c.as_mut_slice.result.now) _ (bounds-as_mut_slice-at g c) c.as_mut_slice.type_inv.1
 
 pub returns-in-Ok-clause-edits : goal.returns-in-Ok-clause-edits
 returns-in-Ok-clause-edits g c =
