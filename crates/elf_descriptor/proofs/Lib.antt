@@ -31,3 +31,4 @@ pub mod OwnedCells
 pub mod OwnedCalls
 pub mod LendCalls
 pub mod LendLaws
+pub mod StoreCalls
