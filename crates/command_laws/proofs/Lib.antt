@@ -11,4 +11,5 @@ pub mod StringLemmas
 pub mod GeneratedAgain
 pub mod LookupLemmas
 pub mod SelftestLaws
+pub mod SortedLemmas
 pub mod Computing

@@ -2,6 +2,7 @@
 //! what it ensures holds, and is proved.
 
 ghost use Rattle.command_laws.specs.SelftestLaw.{SelftestLaw};
+ghost use Rattle.command_objects.specs.Laws.{SortedAreBuilt};
 
 use object_laws::laws::{reopen_law, settling_keeps_items};
 
@@ -14,3 +15,10 @@ pub fn selftest_law()
     reopen_law();
     settling_keeps_items();
 }
+
+/// GNU's hash section is refused as unsorted exactly where the symbols do not stand in the order
+/// that it needs.
+#[tactic(auto, using(crate::proofs::SortedLemmas::sorted_are_built))]
+pub fn sorted_are_built()
+    ensures { SortedAreBuilt }
+{}

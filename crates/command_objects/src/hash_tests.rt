@@ -7,6 +7,7 @@ ghost use Rattle.elf_object.specs.Samples.{symbols32, symbols64, hex};
 ghost use Rattle.elf_object.specs.Answers.{items_at, bytes_of, halves_of, words_of, relas_of};
 ghost use Rattle.elf_types.specs.declared.errors.ElfError.TheVariants.{Unsorted};
 ghost use Rattle.command_objects.specs.Programs.{a_shared_object, rehashed_again, small_shape, small_hash, two_buckets, two_buckets_hash, has_whole_sysv, has_whole_gnu, has_whole_gnu_32, words_32};
+ghost use Rattle.command_objects.specs.Words.{all_sections};
 ghost use Rattle.command_objects.specs.HashSections.{is_whole_sysv};
 ghost use Rattle.command_objects.specs.Hashes.{elf_hash, gnu_hash};
 ghost use Rattle.command_objects.specs.Listed.{listed_names, find_linear_answer};
@@ -34,7 +35,8 @@ fn hash_sections_are_built()
     ensures gnu { build_gnu_answer symbols64 2 small_shape ≡ Ok (hex small_hash) }
     ensures order { gnu_order_answer symbols64 2 1 ≡ Ok (0 ∷ 1 ∷ []) }
     ensures reorder { reorder_refusal symbols64 2 ≡ None }
-    ensures reordered { items_at (reordered symbols64 2 (0 ∷ 1 ∷ [])) 2 0 ≡ items_at symbols64 2 0 }
+    ensures reordered { map (λ s. items_at (reordered symbols64 2 (0 ∷ 1 ∷ [])) s 0)
+        (all_sections symbols64) ≡ map (λ s. items_at symbols64 s 0) (all_sections symbols64) }
     ensures no_hash { rehashed symbols64 ≡ Err NoDynamicHash }
 {}
 

@@ -18,12 +18,13 @@ abbrev pub file_in : List (List ℕ × List ℕ) → Map
 file_in [] name = None
 file_in (row ∷ rows) name = if bytes_eq name row.0 then Some row.1 else file_in rows name
 
--- an image, the same with a symbol table that links to nothing, another one, an archive, and a file
--- of two bytes
+-- an image, the same with a symbol table that links to nothing and without a section of names,
+-- another one, an archive, and a file of two bytes
 abbrev pub some_files : Map
 some_files = file_in
     ((codes "J", small64)
     ∷ (codes "K", with_number 288 4 0 small64)
+    ∷ (codes "F", with_number 62 2 0 small64)
     ∷ (codes "H", header64)
     ∷ (codes "A", codes "!<arch>\n")
     ∷ (codes "G", codes "hi")

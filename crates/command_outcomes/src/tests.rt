@@ -23,6 +23,7 @@ use crate::laws::stops_where_unread;
 /// strip makes one file, or two, or none with a message.
 fn strip_gives_files_or_a_message()
     ensures all { lengths (strip_of false None (codes "J")) ≡ (codes "O", 200) ∷ [] }
+    ensures unnamed { lengths (strip_of false None (codes "F")) ≡ (codes "O", 128) ∷ [] }
     ensures debug_only { strip_of true None (codes "J")
         ≡ written (made_file (codes "O") small64 ∷ []) }
     ensures split { lengths (strip_of false (Some (codes "D")) (codes "J"))
