@@ -16,8 +16,8 @@ impl<S: Source> Elf<S> {
     /// Whether item `i` of a piece of the item's kind can be given that value; it refuses as
     /// `update_item` but for `Memory` and `Read`. It reads nothing.
     fn check_store<T: Storable>(&self, d: DataId, i: u64, item: &T) -> Result<(), ElfError>
-        ensures answer { result ≡ answered (update_item_refusal self.now.o T.kind d.section d.piece i
-            (T.fitting self.now.o.header.class item.now)) tt }
+        ensures answer { result ≡ answered (update_item_refusal self.now.o T.kind d.section
+            d.piece i (T.fitting self.now.o.header.class item.now)) tt }
         ensures err { IfErr result IsRefusal }
     {
         self.body.check_store(d, i, item)
