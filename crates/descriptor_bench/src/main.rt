@@ -3,6 +3,7 @@
 //! prints is compared there; its functions promise no more than that they are safe.
 #![tactic(auto)]
 
+mod growth;
 mod sums;
 mod work;
 

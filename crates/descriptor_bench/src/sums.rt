@@ -1,5 +1,6 @@
 //! The sums of what is read.
 
+use crate::growth::{lists, sections};
 use crate::work::{What, Work};
 use elf_descriptor::Elf;
 use elf_outside::{Files, Source};
@@ -51,6 +52,7 @@ fn round<S: Source>(alloc: Global, src: S, what: What) -> (S, Option<u64>) {
             let sum = match what {
                 What::Headers => headers(&elf),
                 What::Symbols => symbols(&mut elf),
+                _ => None,
             };
             (elf.end(), sum)
         }
@@ -58,14 +60,28 @@ fn round<S: Source>(alloc: Global, src: S, what: What) -> (S, Option<u64>) {
     }
 }
 
-/// The sum of all rounds, or None where the file is not there or one failed.
+/// The sum of one round over a file, or None where it is not there or was refused.
+fn file_round<F: Files>(alloc: Global, files: &mut F, work: &Work) -> Option<u64> {
+    let file = files.open(alloc, work.name.as_str()).ok()?;
+    let (file, part) = round(alloc, file, work.what);
+    files.close(work.name.as_str(), file);
+    part
+}
+
+/// The sum of one round.
+fn part<F: Files>(alloc: Global, files: &mut F, work: &Work) -> Option<u64> {
+    match work.what {
+        What::Sections => sections(alloc, work.count()?),
+        What::Lists => lists(alloc, work.count()?),
+        _ => file_round(alloc, files, work),
+    }
+}
+
+/// The sum of all rounds, or None where one failed.
 pub fn total<F: Files>(alloc: Global, files: &mut F, work: &Work) -> Option<u64> {
     let mut sum = 0u64;
     for _ in 0..work.rounds {
-        let file = files.open(alloc, work.file.as_str()).ok()?;
-        let (file, part) = round(alloc, file, work.what);
-        files.close(work.file.as_str(), file);
-        sum = sum.wrapping_add(part?);
+        sum = sum.wrapping_add(part(alloc, files, work)?);
     }
     Some(sum)
 }

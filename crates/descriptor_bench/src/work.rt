@@ -3,26 +3,38 @@
 use std::env::Args;
 
 /// The words that the program takes.
-pub const USAGE: &str = "usage: descriptor_bench headers|symbols ROUNDS FILE";
+pub const USAGE: &str = "usage: descriptor_bench headers|symbols ROUNDS FILE
+       descriptor_bench sections|lists ROUNDS COUNT";
 
-/// What a round reads.
+/// What a round reads or makes.
 #[derive(Clone, Copy, Debug, PartialEq, Eq)]
 pub enum What {
     /// Each section header.
     Headers,
     /// Each symbol of the first symbol table.
     Symbols,
+    /// So many sections are added to an object, each with a piece.
+    Sections,
+    /// So many headers and pieces are pushed to lists.
+    Lists,
 }
 
-/// What to read, how often, and of which file.
+/// What to read or to make, how often, and of which file or how many.
 #[derive(Drop)]
 pub struct Work {
-    /// What a round reads.
+    /// What a round reads or makes.
     pub what: What,
     /// The number of rounds.
     pub rounds: u32,
-    /// The file.
-    pub file: String,
+    /// The name of the file, or the number.
+    pub name: String,
+}
+
+impl Work {
+    /// The number, where there is one.
+    pub fn count(&self) -> Option<u32> {
+        self.name.as_str().parse().ok()
+    }
 }
 
 /// What the words after the program's name ask for, or None where they are not of the form of
@@ -31,11 +43,11 @@ pub fn read_work(mut words: Args) -> Option<Work> {
     let _program = words.next()?;
     let what = read_what(words.next()?.as_str())?;
     let rounds = words.next()?.as_str().parse().ok()?;
-    let file = words.next()?;
+    let name = words.next()?;
     if words.next().is_some() {
         return None;
     }
-    Some(Work { what, rounds, file })
+    Some(Work { what, rounds, name })
 }
 
 /// What a word names.
@@ -43,6 +55,8 @@ fn read_what(word: &str) -> Option<What> {
     match word {
         "headers" => Some(What::Headers),
         "symbols" => Some(What::Symbols),
+        "sections" => Some(What::Sections),
+        "lists" => Some(What::Lists),
         _ => None,
     }
 }

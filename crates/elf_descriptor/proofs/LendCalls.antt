@@ -231,19 +231,31 @@ module _ (told : Bool) (old mid : Object) (kind : Kind) (s p : ℕ) (stated : It
   pub lent_count : (n : ℕ) → IfSome (piece_at mid s p).own (λ items. n ≡ items_count items) → n ≡ items_count stated
   lent_count n is = subst (λ (o : Option Items). IfSome o (λ items. n ≡ items_count items)) own_left is ∙ x.count
 
--- what was read for it
-pub lent_reads : {S T U : Type 0} (g : Ghosts S) (v : Result T ElfError) (r : Result U ElfError) (old mid : State S) (kind : Kind) (s p : ℕ) (items : Items) (sections others : List ℕ)
-    → IsOwnPiece mid.o kind s p → sections ≡ others → (IfErr r IsRefusal → IfErr v IsRefusal) → ReadRose r (g.faults old.source) (g.faults mid.source)
-    → ReadsToOwn g v old mid sections (homes_due old.o old.loaded sections)
-    → ReadsToOwn g r old (record mid { o = with_own mid.o s p items }) others (homes_due old.o old.loaded others)
-lent_reads g v r old mid kind s p items sections others y same settled rose reads =
+-- an answer after a step that was Ok, or that was refused as the answer is
+pub to_own_then : {S T U : Type 0} (g : Ghosts S) (v : Result T ElfError) (r : Result U ElfError) (old new : State S) (sections : List ℕ) (due : ℕ)
+    → (IfErr r IsRefusal → IfErr v IsRefusal) → ReadRose r (g.faults old.source) (g.faults new.source) → ReadsToOwn g v old new sections due → ReadsToOwn g r old new sections due
+to_own_then g v r old new sections due settled rose reads = record {
+  source = asks_then g v r old.source new.source due reads.source rose;
+  told = reads.told;
+  ready = reads.ready;
+  loads = reads.loads;
+  stays = reads.stays;
+  holds = reads.holds;
+  holds_on = reads.holds_on;
+  first_use = λ refused. reads.first_use (settled refused);
+}
+
+-- what was read for it, once the borrower left other items
+pub lent_reads : {S T : Type 0} (g : Ghosts S) (r : Result T ElfError) (old mid : State S) (kind : Kind) (s p : ℕ) (items : Items) (sections others : List ℕ) → IsOwnPiece mid.o kind s p → sections ≡ others
+    → ReadsToOwn g r old mid sections (homes_due old.o old.loaded sections) → ReadsToOwn g r old (record mid { o = with_own mid.o s p items }) others (homes_due old.o old.loaded others)
+lent_reads g r old mid kind s p items sections others y same reads =
     subst (λ (l : List ℕ). ReadsToOwn g r old (record mid { o = with_own mid.o s p items }) l (homes_due old.o old.loaded l)) same (record {
-      source = asks_then g v r old.source mid.source (homes_due old.o old.loaded sections) reads.source rose;
+      source = reads.source;
       told = reads.told;
       ready = reads.ready;
       loads = reads.loads;
       stays = reads.stays;
       holds = reads.holds;
       holds_on = λ t i below holds. holds_owned mid.o mid.held s p t i items y.section y.piece (reads.holds_on t i below holds);
-      first_use = λ refused. reads.first_use (settled refused);
+      first_use = reads.first_use;
     })

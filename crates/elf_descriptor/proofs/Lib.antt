@@ -23,6 +23,7 @@ pub mod PieceCalls
 pub mod DataCalls
 pub mod BaseCalls
 pub mod EntryCalls
+pub mod HandEntries
 pub mod Words
 pub mod Rules
 pub mod OwnedBodies
@@ -30,3 +31,4 @@ pub mod OwnedCells
 pub mod OwnedCalls
 pub mod LendCalls
 pub mod LendLaws
+pub mod StoreCalls

@@ -15,3 +15,4 @@ pub mod Created
 pub mod LentSegments
 pub mod Owned
 pub mod Lends
+pub mod Stores

@@ -12,6 +12,7 @@ mod lending;
 mod loading;
 mod opening;
 mod parts;
+mod storing;
 
 /// The front as it stands in the image that was opened or last written.
 #[derive(Drop)]

@@ -16,6 +16,7 @@ mod getters;
 mod homes;
 mod lends;
 mod reading;
+mod stores;
 
 /// An object over a source. Contracts see it as a [`State`]: the plain object, what is held of it,
 /// and the source.

@@ -8,6 +8,8 @@ mod body;
 #[cfg(test)]
 mod callers;
 mod descriptor;
+#[cfg(test)]
+mod edit_tests;
 mod held;
 mod scn;
 #[cfg(test)]

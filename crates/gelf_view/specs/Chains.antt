@@ -120,7 +120,8 @@ unfoldable pub vernauxs : Object → ℕ → ℕ → AuxPlace → Chain Vernaux
 vernauxs o s p place = aux_from (vernaux_answer o s p) (λ x. x.next) place
 
 -- what a call answers that looks for the next one
-abbrev pub aux_answer : {A : Type 0} → (ℕ → Result A ElfError) → AuxPlace → Result (Option A) ElfError
+abbrev pub aux_answer : {A : Type 0} → (ℕ → Result A ElfError) → AuxPlace
+    → Result (Option A) ElfError
 aux_answer read place =
     if place.left == 0 then Ok None
     else (if place.last then Err (BadChain place.at) else result_map Some (read place.at))

@@ -49,7 +49,8 @@ fn next_record<S: Source, R: Aux>(
 ) -> Result<Option<R>, ElfError>
     ensures answer { Answers elf.old.told
         (wanted (in_bytes d.section d.piece (record_found R.size R.of place.old.at)) elf.old) result
-        (aux_answer (λ at. (in_bytes d.section d.piece (record_found R.size R.of at)).answer elf.old.o)
+        (aux_answer
+        (λ at. (in_bytes d.section d.piece (record_found R.size R.of at)).answer elf.old.o)
         place.old) }
     ensures behind { IsBehind result R.next_of place.old place.new }
     ensures queries { Queries S.Source
@@ -71,12 +72,12 @@ fn next_record<S: Source, R: Aux>(
     }
 }
 
-/// The next name of a version definition, in the byte order of the image, or None exactly where none
-/// is left; the place goes on behind it, and stays where nothing is given. It refuses in this order:
-/// `BadChain` with the place where the name before said that it is the last one; as a lend of bytes,
-/// `NoSection`, `NoData`, `WrongKind`, and for the clean home piece `OutOfFile`; then `Memory` or
-/// `Read` where its home is not loaded, and `BadChain` with the place where the record does not lie
-/// in the piece. It marks nothing dirty.
+/// The next name of a version definition, in the byte order of the image, or None exactly where
+/// none is left; the place goes on behind it, and stays where nothing is given. It refuses in this
+/// order: `BadChain` with the place where the name before said that it is the last one; as a lend
+/// of bytes, `NoSection`, `NoData`, `WrongKind`, and for the clean home piece `OutOfFile`; then
+/// `Memory` or `Read` where its home is not loaded, and `BadChain` with the place where the record
+/// does not lie in the piece. It marks nothing dirty.
 ///
 /// Source: gelf_getverdaux of gelf(3E).
 #[tactic(auto, unfolding(crate::specs::Calls::verdaux_answer, crate::specs::Versions::verdaux_at))]

@@ -43,10 +43,10 @@ pub fn read_record<S: Source, R: Record>(
     }
 }
 
-/// The place of the first entry of a version section, a piece of bytes: 0, or None exactly where the
-/// piece is empty. It refuses as a lend of bytes, in this order: `NoSection`, `NoData`, `WrongKind`,
-/// and for the clean home piece `OutOfFile`; then `Memory` or `Read` where its home is not loaded. It
-/// marks nothing dirty.
+/// The place of the first entry of a version section, a piece of bytes: 0, or None exactly where
+/// the piece is empty. It refuses as a lend of bytes, in this order: `NoSection`, `NoData`,
+/// `WrongKind`, and for the clean home piece `OutOfFile`; then `Memory` or `Read` where its home is
+/// not loaded. It marks nothing dirty.
 #[tactic(auto, unfolding(crate::specs::Calls::first_entry_answer))]
 pub fn first_entry<S: Source>(elf: &mut Elf<S>, d: DataId) -> Result<Option<u64>, ElfError>
     ensures answer { Answers true (wanted (calls.first_entry d.section d.piece) elf.old) result

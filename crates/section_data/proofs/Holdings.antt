@@ -1,6 +1,6 @@
 -- What a piece holds, by whether it is own.
-use Rattle.std.proofs.Common.{◌≡◌, ℕ, ◌/◌, Bool, true, false, List, Option, Some, None, refl, ap, ◌∙◌}
-use Rattle.std.specs.Prelude.{is_some, IsTrue, not, ◌&&◌, ◌||◌}
+use Rattle.std.proofs.Common.{◌≡◌, ℕ, ◌/◌, ◌<◌, Bool, true, false, List, length, Option, Some, None, Ok, refl, sym, ap, ◌∙◌, subst}
+use Rattle.std.specs.Prelude.{is_some, IsTrue, IfSome, not, ◌&&◌, ◌||◌}
 use Rattle.std.specs.Option.{option_and_then}
 use Rattle.elf_types.specs.declared.records.Class.{Class}
 use Rattle.elf_types.specs.declared.records.Order.{Order}
@@ -10,9 +10,9 @@ use Rattle.elf_xlate.specs.declared.content.Items.{Items}
 use Rattle.elf_xlate.specs.declared.content.Items.TheVariants as items
 use Rattle.elf_xlate.specs.Items.{item_size}
 use Rattle.elf_xlate.specs.Translation.{items_kind, items_count, is_whole, decoded}
-use Rattle.elf_object.specs.Answers.{bytes_of}
-use Rattle.section_data.specs.Views.{CellView}
-use Rattle.section_data.specs.Held.{piece_in, kind_in, count_in, ready, piece_holds_items, items_in, raw_items, is_at_hand, cell_is_loaded, or_empty, items_of_bytes}
+use Rattle.elf_object.specs.Answers.{bytes_of, entry_at}
+use Rattle.section_data.specs.Views.{CellView, IsCell}
+use Rattle.section_data.specs.Held.{piece_in, kind_in, count_in, ready, piece_holds_items, items_in, raw_items, is_at_hand, cell_is_loaded, or_empty, items_of_bytes, TellsItem}
 
 pub none_of : {X : Type 0} (o : Option X) → is_some o ≡ false → o ≡ None
 none_of None h = refl
@@ -99,3 +99,31 @@ items_raw class order c p kind bytes e k r =
     items_clean class order c p e
     ∙ ap (λ (o : Option (List ℕ)). or_empty (option_and_then (decoded c.home.kind class order) o)) r
     ∙ ap (λ (k : Kind). items_of_bytes k class order bytes) k
+
+-- item i of such a piece
+pub tells_clean : {X : Type 0} (kind : Kind) (list_of : Items → List X) (class : Class) (order : Order) (c : CellView) (p i : ℕ) (bytes : List ℕ) (r : Option X)
+    → IsCell c → p < length c.pieces → is_some (piece_in c p).own ≡ false → c.home.kind ≡ kind → c.raw ≡ Some bytes
+    → IfSome r (λ item. IsTrue (is_whole kind class (length bytes)))
+    → IfSome r (λ item. entry_at (list_of (items_of_bytes kind class order bytes)) i ≡ Ok item)
+    → IfSome r (TellsItem kind list_of class order c p i)
+unfolding is_at_hand
+tells_clean kind list_of class order c p i bytes None cell there clean of_kind raw whole entry = tt
+tells_clean kind list_of class order c p i bytes (Some item) cell there clean of_kind raw whole entry = record {
+  cell = cell;
+  piece = there;
+  of_kind = kind_clean c p clean ∙ of_kind;
+  hand = by_tests (is_some (piece_in c p).own) (cell_is_loaded c) (is_whole c.home.kind class c.home.len) (ap (λ (o : Option (List ℕ)). is_some o) raw) home_whole;
+  entry = ap (λ (items : Items). entry_at (list_of items) i) (items_raw class order c p kind bytes clean of_kind raw) ∙ entry;
+}
+  where
+    long : length bytes ≡ c.home.len
+    long = subst (λ (o : Option (List ℕ)). IfSome o (λ l. length l ≡ c.home.len)) raw cell.sized
+
+    home_whole : is_whole c.home.kind class c.home.len ≡ true
+    home_whole = ap (λ (k : Kind). is_whole k class c.home.len) of_kind ∙ ap (λ (n : ℕ). is_whole kind class n) (sym long) ∙ whole
+
+    by_tests : (own loaded whole : Bool) → loaded ≡ true → whole ≡ true → IsTrue (own || (loaded && not (not whole)))
+    by_tests true loaded whole l w = refl
+    by_tests false true true l w = refl
+    by_tests false true false l w = cc
+    by_tests false false whole l w = cc

@@ -1,11 +1,16 @@
 -- An item of bytes, as an entry of the list that they hold.
-use Rattle.std.proofs.Common.{◌≡◌, ℕ, ◌*◌, ◌/◌, ◌%◌, ◌<◌, ◌≤◌, List, length, take, drop, Bool, true, false, cond, nat_eq, Option, Some, None, Ok, Err, refl, sym, ap, ◌∙◌}
+use Rattle.std.proofs.Common.{◌≡◌, ℕ, ◌+◌, ◌-◌, ◌*◌, ◌/◌, ◌%◌, ◌<◌, ◌≤◌, List, length, take, drop, Bool, true, false, cond, nat_eq, Option, Some, None, Ok, Err, refl, sym, ap, ◌∙◌, subst, arith}
 use Rattle.std.specs.Option.{option_map, is_some}
+use Rattle.std.proofs.lemmas.Bool.{eqb-true}
+use Rattle.std.proofs.lemmas.Nat.{div-add-mod'}
+use Rattle.std.proofs.Math.Nat.{le-div_iff_mul-le, div-lt_iff_lt-mul, lt_of_mul-lt-mul_right, suc-mul}
 use Rattle.elf_types.specs.declared.records.Class.{Class}
 use Rattle.elf_types.specs.declared.records.Order.{Order}
 use Rattle.elf_types.specs.declared.records.Kind.{Kind}
+use Rattle.elf_types.specs.declared.records.Kind.TheVariants as kinds
 use Rattle.elf_types.specs.declared.errors.ElfError.TheVariants.{NoEntry}
 use Rattle.elf_xlate.specs.declared.content.Items.{Items}
+use Rattle.elf_xlate.specs.Items.{item_size}
 use Rattle.elf_xlate.specs.Translation.{items_of, listed, is_whole, decoded}
 use Rattle.elf_xlate.proofs.Pieces.{length_items_of}
 use Rattle.elf_xlate.proofs.Decoded.{whole_is, item_there, item_past}
@@ -56,3 +61,41 @@ entry_past {X} variant list_of back item size i bytes kind class order listed_in
         ∙ ap length (back (items_of item size (length bytes / size) bytes))
         ∙ length_items_of item size (length bytes / size) bytes in
         rw (entry_at, none, count) refl
+
+-- ---- Whether there is an item i
+
+pub count_past : (len size i : ℕ) → 0 < size → len ≤ i * size → len / size ≤ i
+count_past len size i some past = omega (arith, (div-lt_iff_lt-mul some).1 (subst (λ (n : ℕ). len < n) (sym (suc-mul i size)) (omega (arith, past, some))))
+
+-- in whole items, an item that begins before the end stands in them
+pub item_begins : (len size i : ℕ) → 0 < size → len % size ≡ 0 → i * size < len → i < len / size
+item_begins len size i some even before =
+    let whole : len / size * size ≡ len = omega (arith, div-add-mod' len size, even) in
+    lt_of_mul-lt-mul_right size (subst (λ (n : ℕ). i * size < n) (sym whole) before)
+
+pub item_ends : (len size i : ℕ) → 0 < size → len % size ≡ 0 → i * size < len → i * size + size ≤ len
+item_ends len size i some even before =
+    subst (λ (n : ℕ). n ≤ len) (suc-mul i size) ((le-div_iff_mul-le some).0 (item_begins len size i some even before))
+
+-- bytes are whole items where the size of one divides their number
+pub whole_kind : (kind : Kind) (class : Class) (len : ℕ) → len % item_size kind class ≡ 0 → is_whole kind class len ≡ true
+whole_kind kinds.Empty class len even = refl
+whole_kind kinds.Bytes class len even = rw even refl
+whole_kind kinds.Half class len even = rw even refl
+whole_kind kinds.Word class len even = rw even refl
+whole_kind kinds.Addr class len even = rw even refl
+whole_kind kinds.Sym class len even = rw even refl
+whole_kind kinds.Rel class len even = rw even refl
+whole_kind kinds.Rela class len even = rw even refl
+whole_kind kinds.Dyn class len even = rw even refl
+
+pub kind_whole : (kind : Kind) (class : Class) (len : ℕ) → 0 < item_size kind class → is_whole kind class len ≡ true → len % item_size kind class ≡ 0
+kind_whole kinds.Empty class len some whole = absurd (omega (arith, some))
+kind_whole kinds.Bytes class len some whole = eqb-true _ _ whole
+kind_whole kinds.Half class len some whole = eqb-true _ _ whole
+kind_whole kinds.Word class len some whole = eqb-true _ _ whole
+kind_whole kinds.Addr class len some whole = eqb-true _ _ whole
+kind_whole kinds.Sym class len some whole = eqb-true _ _ whole
+kind_whole kinds.Rel class len some whole = eqb-true _ _ whole
+kind_whole kinds.Rela class len some whole = eqb-true _ _ whole
+kind_whole kinds.Dyn class len some whole = eqb-true _ _ whole

@@ -4,3 +4,4 @@ pub mod Loading
 pub mod Preparing
 pub mod Owning
 pub mod Edits
+pub mod Rules

@@ -1,5 +1,5 @@
 -- What is held of a section's data in memory, and what its pieces hold.
-use Rattle.std.specs.Prelude.{◌≡◌, ℕ, ◌/◌, Bool, not, ◌&&◌, ◌||◌, List, Option, Some, None, IfSome, is_some}
+use Rattle.std.specs.Prelude.{◌≡◌, ℕ, ◌/◌, Bool, not, ◌&&◌, ◌||◌, List, Option, Some, None, IfSome, is_some, ◌<◌, length, IsTrue, Ok}
 use Rattle.std.specs.Option.{option_and_then}
 use Rattle.elf_types.specs.declared.records.Class.{Class}
 use Rattle.elf_types.specs.declared.records.Order.{Order}
@@ -9,8 +9,9 @@ use Rattle.elf_xlate.specs.declared.content.Items.TheVariants as items
 use Rattle.elf_xlate.specs.Items.{item_size}
 use Rattle.elf_xlate.specs.Translation.{decoded, items_kind, items_count, is_whole}
 use Rattle.elf_object.specs.Object.{Piece}
+use Rattle.elf_object.specs.Answers.{entry_at}
 use Rattle.elf_object.specs.Open.{home_bytes}
-use Rattle.section_data.specs.Views.{CellView, piece_of}
+use Rattle.section_data.specs.Views.{CellView, piece_of, IsCell}
 
 unfoldable pub piece_in : CellView → ℕ → Piece
 piece_in c p = piece_of c.pieces p
@@ -85,3 +86,12 @@ is_ragged class c = not (is_whole c.home.kind class c.home.len)
 unfoldable pub is_at_hand : Class → CellView → ℕ → Bool
 is_at_hand class c p =
     is_some (piece_in c p).own || (cell_is_loaded c && not (is_ragged class c))
+
+-- item i of a piece that holds a kind: each of them can be told, and it is this one
+pub record TellsItem {X : Type 0} (kind : Kind) (list_of : Items → List X) (class : Class)
+    (order : Order) (c : CellView) (p i : ℕ) (item : X) : Type 0 where
+  pub cell : IsCell c
+  pub piece : p < length c.pieces
+  pub of_kind : kind_in c p ≡ kind
+  pub hand : IsTrue (is_at_hand class c p)
+  pub entry : entry_at (list_of (items_in class order c p)) i ≡ Ok item

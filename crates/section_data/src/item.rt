@@ -1,6 +1,6 @@
 //! One item of a section's data, from the home's bytes or from a list.
 
-ghost use Rattle.std.specs.Prelude.{◌≡◌, ℕ, ◌*◌, ◌/◌, ◌<◌, ◌≤◌, List, length, take, drop, IsTrue, IfSome, None};
+ghost use Rattle.std.specs.Prelude.{◌≡◌, ℕ, ◌*◌, ◌/◌, ◌%◌, ◌<◌, ◌≤◌, List, length, take, drop, IsTrue, IfSome, None, Ok};
 ghost use Rattle.std.specs.Option.{option_map};
 ghost use Rattle.elf_types.specs.declared.records.Class.{Class as TheClass};
 ghost use Rattle.elf_types.specs.declared.records.Order.{Order as TheOrder};
@@ -162,20 +162,53 @@ pub(crate) fn entry<T: Copy + Drop>(list: &List<T>, i: u64) -> Result<T, ElfErro
     }
 }
 
-/// The bytes of item `i` of items of a size, where there is such an item.
+/// The bytes of item `i` of items of a size, where the bytes are whole items and there is such an
+/// item.
+#[tactic(auto, using(crate::proofs::Rules::item_bytes))]
+#[inline(always)]
 fn bytes_of_item(bytes: &[u8], size: usize, i: u64) -> Option<&[u8]>
     requires { 0 < size }
     ensures there { IfSome result (λ b. b.now ≡ take size (drop (i * size) bytes.now)) }
     ensures inside { IfSome result (λ b. i < length bytes.now / size) }
     ensures len { IfSome result (λ b. length b.now ≡ size) }
-    ensures past { result ≡ None → length bytes.now / size ≤ i }
+    ensures whole { IfSome result (λ b. length bytes.now % size ≡ 0) }
+    ensures past { result ≡ None → length bytes.now % size ≡ 0 → length bytes.now / size ≤ i }
 {
-    let count = (bytes.len() / size) as u64;
-    if i < count {
-        let at = i as usize * size;
-        Some(&bytes[at..at + size])
-    } else {
-        None
+    let len = bytes.len();
+    if len % size != 0 {
+        return None;
+    }
+    let at = (i as usize).checked_mul(size)?;
+    if len <= at {
+        return None;
+    }
+    Some(&bytes[at..at + size])
+}
+
+/// Item `i` of the items that bytes hold in the file of a class, where they are whole items and
+/// there is such an item.
+#[inline(always)]
+fn item_of_class<T: Item>(bytes: &[u8], i: u64, class: Class, order: Order) -> Option<T>
+    ensures whole { IfSome result (λ _. IsTrue (is_whole T.kind class (length bytes.now))) }
+    ensures value { IfSome result (λ item.
+        entry_at (T.list_of (items_of_bytes T.kind class order bytes.now)) i ≡ Ok item) }
+{
+    match bytes_of_item(bytes, T::size(class), i) {
+        Some(item) => Some(T::get(class, order, item)),
+        None => None,
+    }
+}
+
+/// The same in either class: the sizes are constants in each arm, so that no division is left.
+#[inline(always)]
+pub(crate) fn item_if_whole<T: Item>(bytes: &[u8], i: u64, class: Class, order: Order) -> Option<T>
+    ensures whole { IfSome result (λ _. IsTrue (is_whole T.kind class (length bytes.now))) }
+    ensures value { IfSome result (λ item.
+        entry_at (T.list_of (items_of_bytes T.kind class order bytes.now)) i ≡ Ok item) }
+{
+    match class {
+        Class::C32 => item_of_class::<T>(bytes, i, Class::C32, order),
+        Class::C64 => item_of_class::<T>(bytes, i, Class::C64, order),
     }
 }
 

@@ -1,6 +1,6 @@
 //! The pieces of a section.
 
-ghost use Rattle.std.specs.Prelude.{◌≡◌, ◌<◌, ◌∷◌, ◌++◌, [], length, OnOk, OnErr, IfErr};
+ghost use Rattle.std.specs.Prelude.{◌≡◌, ◌<◌, ◌∷◌, ◌++◌, [], length, true, false, is_some, OnOk, OnErr, IfErr};
 ghost use Rattle.std.specs.Borrow.{sem};
 ghost use Rattle.elf_types.specs.declared.constants.TheConstants.{MAX_PIECES};
 ghost use Rattle.elf_object.specs.Object.{home_piece};
@@ -69,6 +69,14 @@ impl Pieces {
         } else {
             others as u32
         }
+    }
+
+    /// Whether the piece with that number is the clean home piece.
+    pub(crate) fn is_clean_home(&self, p: u32) -> bool
+        ensures there { result ≡ true → p < length self.now }
+        ensures clean { result ≡ true → is_some (piece_of self.now p).own ≡ false }
+    {
+        self.homed && p == 0 && !self.home.is_own()
     }
 
     /// The piece with that number.

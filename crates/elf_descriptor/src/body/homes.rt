@@ -9,7 +9,7 @@ use elf_types::ElfError;
 
 impl Body {
     /// Whether a section's home is out of the file; else `NoSection`.
-    #[tactic(auto, using(crate::proofs::Homes::out_is, crate::proofs::Refusals::answered_err, crate::proofs::Refusals::answered_ok))]
+    #[tactic(auto, using(crate::proofs::Rules::out_of_file))]
     pub fn is_out_of_file(&self, s: u32) -> Result<bool, ElfError>
         requires { HasCounts self.now }
         ensures { (image : Option (List ℕ)) (size : ℕ)

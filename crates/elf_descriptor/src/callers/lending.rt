@@ -1,9 +1,11 @@
 //! What a caller learns of items that it was lent.
 
-ghost use Rattle.std.specs.Prelude.{◌≡◌, ◌∷◌, ◌++◌, [], IfOk, OnOk, IsTrue};
+ghost use Rattle.std.specs.Prelude.{◌≡◌, ◌∷◌, ◌++◌, [], true, IfOk, OnOk, OnErr, IsTrue};
 ghost use Rattle.elf_xlate.specs.declared.content.Items.TheVariants as items;
 ghost use Rattle.elf_object.specs.Answers.{items_at, words_of};
+ghost use Rattle.elf_object.specs.Words.{Answers};
 ghost use Rattle.elf_object.specs.Calls as calls;
+ghost use Rattle.elf_descriptor.specs.Reads.{wanted};
 
 use crate::Elf;
 use elf_outside::Source;
@@ -31,4 +33,20 @@ pub fn store_first<S: Source>(elf: &mut Elf<S>, d: DataId, sym: Sym) -> Result<S
     }
     syms.as_mut_slice()[0] = sym;
     elf.item::<Sym>(d, 0)
+}
+
+/// Stores a symbol, as the call of the plain object states it.
+pub fn update_symbol<S: Source>(
+    elf: &mut Elf<S>,
+    d: DataId,
+    i: u64,
+    sym: &Sym,
+) -> Result<(), ElfError>
+    ensures answer { Answers true (wanted (calls.update_sym d.section d.piece i sym.now) elf.old)
+        result ((calls.update_sym d.section d.piece i sym.now).answer elf.old.o) }
+    ensures object { IsTrue elf.old.told → OnOk result (elf.new.o
+        ≡ (calls.update_sym d.section d.piece i sym.now).after elf.old.o) }
+    ensures unchanged { OnErr result (elf.new.o ≡ elf.old.o) }
+{
+    elf.update_item::<Sym>(d, i, *sym)
 }

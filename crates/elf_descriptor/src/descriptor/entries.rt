@@ -1,6 +1,6 @@
 //! One item of a piece.
 
-ghost use Rattle.std.specs.Prelude.{◌≡◌, ℕ, ◌||◌, true, IsTrue, is_some, IfErr, OnOk, None};
+ghost use Rattle.std.specs.Prelude.{◌≡◌, ℕ, ◌||◌, true, IsTrue, is_some, IfErr, IfSome, OnOk, None, Ok};
 ghost use Rattle.elf_types.specs.Answers.{answered, IsRefusal};
 ghost use Rattle.elf_object.specs.Words.{Wants, Answers};
 ghost use Rattle.elf_object.specs.Object.{piece_at};
@@ -46,6 +46,36 @@ impl<S: Source> Elf<S> {
             .item::<T>(d.piece, i, class, order)
     }
 
+    /// Item `i` of a clean piece of the item's kind, where it can be told at once: its home is
+    /// loaded.
+    #[inline(always)]
+    fn item_at_hand<T: Item>(&self, d: DataId, i: u64) -> Option<T>
+        ensures { (wants : Wants) → IfSome result (λ item. Answers self.now.told wants (Ok item)
+            ((entry T.kind T.list_of d.section d.piece i).answer self.now.o)) }
+    {
+        if d.section >= self.body.header.shnum {
+            return None;
+        }
+        let (class, order) = (self.body.header.class, self.body.header.order);
+        let cell = &self.body.scn(d.section).cell;
+        cell.item_at_hand::<T>(d.piece, i, class, order)
+    }
+
+    /// Item `i` of a piece, whose home is read where it is not loaded; it refuses as `item`.
+    #[inline(never)]
+    fn fetch_item<T: Item>(&mut self, d: DataId, i: u64) -> Result<T, ElfError>
+        ensures answer { Answers self.old.told
+            (wanted (entry T.kind T.list_of d.section d.piece i) self.old) result
+            ((entry T.kind T.list_of d.section d.piece i).answer self.old.o) }
+        ensures looks { Looks S.Source (entry T.kind T.list_of d.section d.piece i) result self.old
+            self.new }
+    {
+        match self.fetch::<T>(d) {
+            Ok(()) => self.entry::<T>(d, i),
+            Err(e) => Err(e),
+        }
+    }
+
     /// Item `i` of a piece that holds items of the item's kind. It refuses in this order:
     /// `NoSection`, `NoData`, `WrongKind` with the kind that the piece holds, and for the clean
     /// home piece `OutOfFile` and `Ragged`; then `Memory` or `Read` where its home is not loaded,
@@ -60,9 +90,9 @@ impl<S: Source> Elf<S> {
         ensures looks { Looks S.Source (entry T.kind T.list_of d.section d.piece i) result self.old
             self.new }
     {
-        match self.fetch::<T>(d) {
-            Ok(()) => self.entry::<T>(d, i),
-            Err(e) => Err(e),
+        if let Some(item) = self.item_at_hand::<T>(d, i) {
+            return Ok(item);
         }
+        self.fetch_item::<T>(d, i)
     }
 }

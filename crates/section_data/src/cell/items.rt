@@ -1,14 +1,14 @@
 //! The items of a piece.
 
-ghost use Rattle.std.specs.Prelude.{◌≡◌, ◌<◌, length, IsTrue, IsSome, Some};
+ghost use Rattle.std.specs.Prelude.{◌≡◌, ◌<◌, length, true, false, is_some, IsTrue, IsSome, IfSome, Some};
 ghost use Rattle.elf_object.specs.Answers.{entry_at};
 ghost use Rattle.section_data.specs.Views.{IsCell};
-ghost use Rattle.section_data.specs.Held.{kind_in, items_in, is_at_hand, ready, piece_holds_items};
+ghost use Rattle.section_data.specs.Held.{piece_in, kind_in, items_in, is_at_hand, ready, piece_holds_items, TellsItem};
 
 use crate::cell::Cell;
 use crate::held::HomeItems;
-use crate::item::{Item, entry, item_in};
-use elf_types::{Class, ElfError, Order};
+use crate::item::{Item, entry, item_if_whole, item_in};
+use elf_types::{Class, ElfError, Kind, Order};
 use elf_xlate::Items;
 
 /// Items that are there.
@@ -67,5 +67,34 @@ impl Cell {
             return entry(T::list(piece.items()), i);
         }
         item_in::<T>(self.bytes(), i, class, order)
+    }
+
+    /// Whether a piece is the clean home piece.
+    #[tactic(auto, unfolding(crate::specs::Held::piece_in))]
+    fn is_clean_home(&self, p: u32) -> bool
+        ensures there { result ≡ true → p < length self.now.pieces }
+        ensures clean { result ≡ true → is_some (piece_in self.now p).own ≡ false }
+    {
+        self.pieces.is_clean_home(p)
+    }
+
+    /// Whether the home holds items of a kind.
+    fn is_home_of(&self, kind: Kind) -> bool
+        ensures { result ≡ true → self.now.home.kind ≡ kind }
+    {
+        self.home.kind == kind
+    }
+
+    /// Item `i` of a clean piece of the item's kind, where it can be told at once: the home is
+    /// loaded and has whole items, and there is such an item. It tells the most often asked of what
+    /// `item` tells, by few tests, and takes no memory.
+    #[inline(always)]
+    pub fn item_at_hand<T: Item>(&self, p: u32, i: u64, class: Class, order: Order) -> Option<T>
+        ensures { IfSome result (TellsItem T.kind T.list_of class order self.now p i) }
+    {
+        if !self.is_clean_home(p) || !self.is_home_of(T::kind()) || !self.is_loaded() {
+            return None;
+        }
+        item_if_whole::<T>(self.bytes(), i, class, order)
     }
 }

@@ -7,7 +7,7 @@ use Rattle.elf_descriptor.specs.Reads.{wanted}
 use Rattle.elf_descriptor.proofs.Refusals.{answers_passed}
 use Rattle.elf_descriptor.proofs.Handing.{queries_err}
 use Rattle.elf_descriptor.proofs.EntryCalls.{given_entry, refused_entry, queries_then}
-use Rattle.elf_descriptor.proofs.descriptor.Elf.item.Goals as goal
+use Rattle.elf_descriptor.proofs.descriptor.Elf.fetch_item.Goals as goal
 
 pub entry-requires-clause-passed : goal.entry-requires-clause-passed
 entry-requires-clause-passed g c =
