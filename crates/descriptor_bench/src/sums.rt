@@ -45,6 +45,30 @@ fn symbols<S: Source>(elf: &mut Elf<S>) -> Option<u64> {
     Some(sum)
 }
 
+/// The number of symbols of the first symbol table, of which one is edited so often.
+fn edited<S: Source>(elf: &mut Elf<S>, times: u32) -> Option<u64> {
+    let section = first_symbols(elf)?;
+    let table = DataId { section, piece: 0 };
+    let mut count = 0;
+    for _ in 0..times {
+        count = edit_first(elf, table)?;
+    }
+    Some(count)
+}
+
+/// Adds 1 to the value of the first symbol of a piece, and answers how many it has.
+fn edit_first<S: Source>(elf: &mut Elf<S>, table: DataId) -> Option<u64> {
+    match elf.syms_mut(table) {
+        Ok(symbols) => {
+            if let Some(first) = symbols.as_mut_slice().first_mut() {
+                first.value = first.value.wrapping_add(1);
+            }
+            Some(symbols.len())
+        }
+        Err(_) => None,
+    }
+}
+
 /// The sum of one round over a source, which is given back.
 fn round<S: Source>(alloc: Global, src: S, what: What) -> (S, Option<u64>) {
     match Elf::begin(alloc, src) {
@@ -52,6 +76,8 @@ fn round<S: Source>(alloc: Global, src: S, what: What) -> (S, Option<u64>) {
             let sum = match what {
                 What::Headers => headers(&elf),
                 What::Symbols => symbols(&mut elf),
+                What::Once => edited(&mut elf, 1),
+                What::Twice => edited(&mut elf, 2),
                 _ => None,
             };
             (elf.end(), sum)

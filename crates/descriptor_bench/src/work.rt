@@ -3,7 +3,7 @@
 use std::env::Args;
 
 /// The words that the program takes.
-pub const USAGE: &str = "usage: descriptor_bench headers|symbols ROUNDS FILE
+pub const USAGE: &str = "usage: descriptor_bench headers|symbols|once|twice ROUNDS FILE
        descriptor_bench sections|lists ROUNDS COUNT";
 
 /// What a round reads or makes.
@@ -13,6 +13,10 @@ pub enum What {
     Headers,
     /// Each symbol of the first symbol table.
     Symbols,
+    /// One symbol of the first symbol table is edited once.
+    Once,
+    /// It is edited twice.
+    Twice,
     /// So many sections are added to an object, each with a piece.
     Sections,
     /// So many headers and pieces are pushed to lists.
@@ -55,6 +59,8 @@ fn read_what(word: &str) -> Option<What> {
     match word {
         "headers" => Some(What::Headers),
         "symbols" => Some(What::Symbols),
+        "once" => Some(What::Once),
+        "twice" => Some(What::Twice),
         "sections" => Some(What::Sections),
         "lists" => Some(What::Lists),
         _ => None,

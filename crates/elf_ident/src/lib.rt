@@ -11,6 +11,4 @@ pub use file_kinds::{FileKind, kind_of_source};
 pub use fronts::{Front, read_front};
 
 #[cfg(test)]
-pub(crate) mod test_sources;
-#[cfg(test)]
 mod tests;

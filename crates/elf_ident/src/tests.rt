@@ -1,6 +1,5 @@
 //! Fronts that are read, in both classes and both orders, and each refusal in its order.
 
-use crate::test_sources::{Sparse, source};
 use crate::{FileKind, Front, kind_of_source, read_front};
 use elf_types::constants::{EI_CLASS, EI_DATA, EI_VERSION, MAX_IMAGE, MAX_SECTIONS};
 use elf_types::{Class, ElfError, Octets, Order};
@@ -11,6 +10,7 @@ use test_images::{
     FORMS, Field, HeaderField, Image, SectionField, SegmentField, header_alone,
     numbers_in_section_0, two_tables,
 };
+use test_sources::{Sparse, source};
 
 /// First bytes of a file, its kind, and how many of them are asked for.
 struct Start {

@@ -31,10 +31,10 @@ when false items = None
 abbrev pub piece_view : Bool → Items → ℕ → Bool → Piece
 piece_view own items align marked = record { own = when own items; align = align; marked = marked }
 
--- the pieces of a section: the home piece is the first where there is one
+-- the pieces of a section: the first, where there is one, and the others
 abbrev pub pieces_view : Bool → Piece → List Piece → List Piece
-pieces_view true home others = home ∷ others
-pieces_view false home others = others
+pieces_view true first others = first ∷ others
+pieces_view false first others = others
 
 -- what stands at an index that no piece has is a clean home piece
 abbrev pub piece_of : List Piece → ℕ → Piece

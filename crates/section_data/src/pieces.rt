@@ -9,29 +9,30 @@ ghost use Rattle.section_data.specs.Views.{piece_of};
 use crate::piece::Piece;
 use std::alloc::{AllocFailed, Global};
 use std::marker::Model;
+use std::mem;
 
-/// The pieces of a section, at most 2^20. The first piece of a section of an image stands in the
-/// struct itself, so that a section that has no other takes no memory for it. Contracts see the
-/// list of the pieces.
+/// The pieces of a section, at most 2^20. The first one stands in the struct itself, so that a
+/// section that has no other takes no memory for it. Contracts see the list of the pieces.
 #[derive(Drop)]
 pub(crate) struct Pieces {
-    /// The section has a home piece, which is the first.
-    homed: bool,
-    home: Piece,
+    /// There is a first piece; else there is none at all.
+    has_first: bool,
+    first: Piece,
     others: Vec<Piece>,
 }
 
 impl Model for Pieces {
-    ghost use Rattle.std.specs.Prelude.{◌≤◌, List, length};
+    ghost use Rattle.std.specs.Prelude.{◌≡◌, ◌≤◌, List, [], length, false};
     ghost use Rattle.elf_types.specs.declared.constants.TheConstants.{MAX_PIECES as most};
     ghost use Rattle.elf_object.specs.Object.{Piece as PlainPiece};
     ghost use Rattle.section_data.specs.Views.{pieces_view};
 
     ghost Value = { List PlainPiece };
 
-    ghost view = { λ l. pieces_view l.homed l.home l.others.items };
+    ghost view = { λ l. pieces_view l.has_first l.first l.others.items };
 
-    ghost invariant = { λ l. length (pieces_view l.homed l.home l.others.items) ≤ most };
+    ghost invariant = { λ l. (length (pieces_view l.has_first l.first l.others.items) ≤ most)
+        × (l.has_first ≡ false → l.others.items ≡ []) };
 }
 
 impl Pieces {
@@ -42,8 +43,8 @@ impl Pieces {
         ensures { result ≡ home_piece ∷ [] }
     {
         Pieces {
-            homed: true,
-            home: Piece::home(),
+            has_first: true,
+            first: Piece::home(),
             others: Vec::new(alloc),
         }
     }
@@ -53,8 +54,8 @@ impl Pieces {
         ensures { result ≡ [] }
     {
         Pieces {
-            homed: false,
-            home: Piece::home(),
+            has_first: false,
+            first: Piece::home(),
             others: Vec::new(alloc),
         }
     }
@@ -63,11 +64,10 @@ impl Pieces {
     pub(crate) fn len(&self) -> u32
         ensures { result ≡ length self.now }
     {
-        let others = self.others.len();
-        if self.homed {
-            (others + 1) as u32
+        if self.has_first {
+            (self.others.len() + 1) as u32
         } else {
-            others as u32
+            0
         }
     }
 
@@ -84,11 +84,8 @@ impl Pieces {
         requires { p < length self.now }
         ensures { result.now ≡ piece_of self.now p }
     {
-        if !self.homed {
-            return &self.others[p as usize];
-        }
         if p == 0 {
-            return &self.home;
+            return &self.first;
         }
         &self.others[p as usize - 1]
     }
@@ -99,23 +96,25 @@ impl Pieces {
         ensures* lends { sem 𝓛 (LendsPieceOf p self.entry result) }
         ensures value { result.now ≡ piece_of self.old p }
     {
-        if !self.homed {
-            return &mut self.others[p as usize];
-        }
         if p == 0 {
-            return &mut self.home;
+            return &mut self.first;
         }
         &mut self.others[p as usize - 1]
     }
 
-    /// Adds a piece at the end. Where there is no memory it hands it back, and the list is as
-    /// before.
+    /// Adds a piece at the end; the first takes no memory. Where there is none it hands the piece
+    /// back, and the list is as before.
     pub(crate) fn push(&mut self, piece: Piece) -> Result<(), AllocFailed<Piece>>
         requires { length self.old < MAX_PIECES }
         ensures ok { OnOk result (self.new ≡ self.old ++ piece ∷ []) }
         ensures unchanged { OnErr result (self.new ≡ self.old) }
         ensures back { IfErr result (λ e. e.value ≡ piece) }
     {
+        if !self.has_first {
+            let _before = mem::replace(&mut self.first, piece);
+            self.has_first = true;
+            return Ok(());
+        }
         self.others.push(piece)
     }
 }
