@@ -76,7 +76,7 @@ impl Pieces {
         ensures there { result ≡ true → p < length self.now }
         ensures clean { result ≡ true → is_some (piece_of self.now p).own ≡ false }
     {
-        self.homed && p == 0 && !self.home.is_own()
+        self.has_first && p == 0 && !self.first.is_own()
     }
 
     /// The piece with that number.
