@@ -1,5 +1,5 @@
 -- What the program does, by the words and the bytes of the files.
-use Rattle.std.specs.Prelude.{◌≡◌, ◌<◌, ℕ, List, Bool, false, IsTrue, Result, Ok, Err}
+use Rattle.std.specs.Prelude.{◌≡◌, ◌<◌, ℕ, List, Bool, true, false, IsTrue, Result, Ok, Err}
 use Rattle.elf_outside.specs.Names.{Map}
 use Rattle.tool_output.specs.declared.statuses.Status.{Status}
 use Rattle.tool_output.specs.declared.statuses.Status.TheVariants.{BadWords}
@@ -12,6 +12,7 @@ use Rattle.tool_text.specs.Usages.{usage_line}
 use Rattle.tool_text.specs.Reading.{reading}
 use Rattle.elfkit.specs.Sentences.{says, not_built}
 use Rattle.elfkit.specs.Readelf.{are_built, readelf_outcome}
+use Rattle.elfkit.specs.Lines.{lines_outcome}
 
 unfoldable pub command_outcome : Command → Map → Outcome
 command_outcome (Readelf parts files) named = readelf_outcome parts files named
@@ -25,7 +26,7 @@ command_outcome (Selftest out count) named = not_built
 command_outcome (Rehash out file) named = not_built
 command_outcome (Copy changes out file) named = not_built
 command_outcome (Unstrip out stripped debug) named = not_built
-command_outcome (Lines files) named = not_built
+command_outcome (Lines files) named = lines_outcome files named
 
 -- the usage line of words that are refused
 unfoldable pub usage_outcome : Usage → Outcome
@@ -54,7 +55,7 @@ is_built (Selftest out count) = false
 is_built (Rehash out file) = false
 is_built (Copy changes out file) = false
 is_built (Unstrip out stripped debug) = false
-is_built (Lines files) = false
+is_built (Lines files) = true
 
 -- it opens none on words that are refused, nor for a form that is not built
 unfoldable pub opens_files : Result Command Usage → Bool

@@ -9,10 +9,12 @@ ghost use Rattle.tool_output.specs.Outcomes.{Does};
 ghost use Rattle.elfkit.specs.Sentences.{line_of};
 ghost use Rattle.elfkit.specs.Program.{command_outcome, is_built};
 
+pub mod lines;
 pub mod readelf;
 
 use crate::sentences::say;
 use elf_outside::{Files, Sink};
+use lines::lines;
 use readelf::readelf;
 use std::alloc::Global;
 use tool_output::{Outputs, Side, Stop};
@@ -59,6 +61,6 @@ pub fn run_command<F: Files, O: Sink, E: Sink>(
         Command::Rehash { .. } => not_built(outputs),
         Command::Copy { .. } => not_built(outputs),
         Command::Unstrip { .. } => not_built(outputs),
-        Command::Lines { .. } => not_built(outputs),
+        Command::Lines { files: names } => lines(alloc, names, files, outputs),
     }
 }

@@ -1,6 +1,7 @@
 //! The program over files and outputs in memory.
 
 mod faults;
+mod lines;
 mod readelf;
 mod words;
 

@@ -62,6 +62,9 @@ returns-in-Unstrip-clause-does g c = λ told.
     not_built_done g.F.Files g.O.Sink g.E.Sink c.args.files.now c.args.outputs.now _ _ _ (rw c.in-Unstrip.is refl) c.not_built-in-Unstrip.ensures.performs
 
 pub returns-in-Lines-clause-does : goal.returns-in-Lines-clause-does
-unfolding command_outcome
-returns-in-Lines-clause-does g c = λ told.
-    not_built_done g.F.Files g.O.Sink g.E.Sink c.args.files.now c.args.outputs.now _ _ _ (rw c.in-Lines.is refl) c.not_built-in-Lines.ensures.performs
+unfolding command_outcome is_built
+returns-in-Lines-clause-does g c = rw c.in-Lines.is (λ told. c.lines.ensures.does (told refl))
+
+pub returns-in-Lines-clause-untouched : goal.returns-in-Lines-clause-untouched
+unfolding is_built
+returns-in-Lines-clause-untouched g c = rw c.in-Lines.is (λ no. cc)
