@@ -1,3 +1,3 @@
-pub mod Rows
+pub mod Kept
 pub mod TableLemmas
 pub mod UnitLemmas

@@ -1,5 +1,5 @@
 -- What is said of a section.
-use Rattle.std.proofs.Common.{◌≡◌, ◌<◌, ℕ, Bool, true, false, List, length, Option, None, Result, Ok, Err, IsTrue, IfSome, IfNone, codes, refl, sym, subst}
+use Rattle.std.proofs.Common.{◌≡◌, ◌<◌, ℕ, Bool, true, false, List, length, Option, None, Result, Ok, Err, IsTrue, IfSome, IfNone, codes, refl, sym, subst, arith}
 use Rattle.elf_types.specs.declared.records.Class.{Class}
 use Rattle.elf_types.specs.declared.records.Order.{Order}
 use Rattle.elf_types.specs.declared.errors.ElfError.{ElfError}
@@ -82,6 +82,11 @@ module _ (name : Name) (o : Object) (s : ℕ) where
   section_table bytes class order not a b is = rw (section_there bytes is, not, a, b) refl
 
   module _ (there : s < length o.sections) where
+    -- whether it is out of the file is answered
+    pub out_answered : (e : ElfError) → out_answer o s ≡ Err e → ⊥
+    unfolding out_answer
+    out_answered e is = search arith
+
     home_in : out_answer o s ≡ Ok false → raw_answer o s ≡ Ok (section_at o s).raw
     unfolding out_answer raw_answer raw_refusal
     home_in is = search arith

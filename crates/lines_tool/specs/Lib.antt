@@ -1,4 +1,3 @@
 pub mod Rows
 pub mod Units
 pub mod Tables
-pub mod Tool

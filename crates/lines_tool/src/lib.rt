@@ -4,5 +4,3 @@
 pub mod rows;
 pub mod tables;
 pub mod units;
-
-pub use tables::{LinesTool, lines};

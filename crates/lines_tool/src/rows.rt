@@ -18,7 +18,7 @@ pub struct TableTitle {
 impl Line for TableTitle {
     ghost text = { λ t. table_title t.section };
 
-    #[tactic(auto, using(crate::proofs::Rows::kept), unfolding(crate::specs::Rows::table_title))]
+    #[tactic(auto, using(crate::proofs::Kept::kept), unfolding(crate::specs::Rows::table_title))]
     fn put(&self, page: &mut Octets) -> Result<(), ElfError> {
         put_text(page, "Line table of section ")?;
         put_decimal(page, u64::from(self.section))?;
@@ -38,7 +38,7 @@ pub struct UnitTitle {
 impl Line for UnitTitle {
     ghost text = { λ t. unit_title t.at t.version };
 
-    #[tactic(auto, using(crate::proofs::Rows::kept), unfolding(crate::specs::Rows::unit_title))]
+    #[tactic(auto, using(crate::proofs::Kept::kept), unfolding(crate::specs::Rows::unit_title))]
     fn put(&self, page: &mut Octets) -> Result<(), ElfError> {
         put_text(page, "  unit at ")?;
         put_decimal(page, self.at)?;
@@ -60,7 +60,7 @@ pub struct FileLine<'a> {
 impl Line for FileLine<'_> {
     ghost text = { λ l. file_line l.number l.name.now };
 
-    #[tactic(auto, using(crate::proofs::Rows::kept), unfolding(crate::specs::Rows::file_line))]
+    #[tactic(auto, using(crate::proofs::Kept::kept), unfolding(crate::specs::Rows::file_line))]
     fn put(&self, page: &mut Octets) -> Result<(), ElfError> {
         put_text(page, "    file ")?;
         put_decimal(page, self.number)?;
@@ -71,7 +71,7 @@ impl Line for FileLine<'_> {
 }
 
 /// Appends a word, where it holds.
-#[tactic(auto, using(crate::proofs::Rows::kept))]
+#[tactic(auto, using(crate::proofs::Kept::kept))]
 fn put_if(page: &mut Octets, holds: bool, word: &str) -> Result<(), ElfError>
     ensures ok { OnOk result (page.new ≡ page.old ++ word_if holds word.now) }
     ensures err { IfErr result (WantsMemory page.old page.new) }
@@ -80,7 +80,7 @@ fn put_if(page: &mut Octets, holds: bool, word: &str) -> Result<(), ElfError>
 }
 
 /// Appends the file, the line and the column.
-#[tactic(auto, using(crate::proofs::Rows::kept), unfolding(crate::specs::Rows::row_place))]
+#[tactic(auto, using(crate::proofs::Kept::kept), unfolding(crate::specs::Rows::row_place))]
 fn put_place(page: &mut Octets, row: &Row) -> Result<(), ElfError>
     ensures ok { OnOk result (page.new ≡ page.old ++ row_place row.now) }
     ensures err { IfErr result (WantsMemory page.old page.new) }
@@ -94,7 +94,7 @@ fn put_place(page: &mut Octets, row: &Row) -> Result<(), ElfError>
 }
 
 /// Appends the words of a row.
-#[tactic(auto, using(crate::proofs::Rows::kept), unfolding(crate::specs::Rows::row_words))]
+#[tactic(auto, using(crate::proofs::Kept::kept), unfolding(crate::specs::Rows::row_words))]
 fn put_words(page: &mut Octets, row: &Row) -> Result<(), ElfError>
     ensures ok { OnOk result (page.new ≡ page.old ++ row_words row.now) }
     ensures err { IfErr result (WantsMemory page.old page.new) }
@@ -113,7 +113,7 @@ pub struct RowLine<'a> {
 impl Line for RowLine<'_> {
     ghost text = { λ l. row_line l.row.now };
 
-    #[tactic(auto, using(crate::proofs::Rows::kept), unfolding(crate::specs::Rows::row_line))]
+    #[tactic(auto, using(crate::proofs::Kept::kept), unfolding(crate::specs::Rows::row_line))]
     fn put(&self, page: &mut Octets) -> Result<(), ElfError> {
         let row = self.row;
         put_text(page, "    0x")?;
@@ -136,7 +136,7 @@ pub struct FaultText {
 impl Line for FaultText {
     ghost text = { λ f. fault_text f.at f.why };
 
-    #[tactic(auto, using(crate::proofs::Rows::kept), unfolding(crate::specs::Rows::fault_text))]
+    #[tactic(auto, using(crate::proofs::Kept::kept), unfolding(crate::specs::Rows::fault_text))]
     fn put(&self, page: &mut Octets) -> Result<(), ElfError> {
         put_text(page, "bad line table at ")?;
         put_decimal(page, self.at)?;

@@ -6,9 +6,32 @@ use Rattle.elf_types.specs.declared.errors.ElfError.{ElfError}
 use Rattle.elf_types.specs.Kinds.{is_compressed}
 use Rattle.elf_outside.specs.Asks.{ReadRose}
 use Rattle.elf_object.specs.Object.{header_of}
-use Rattle.object_output.proofs.ElfSteps.{elf_left, elf_says}
+use Rattle.object_output.proofs.ElfSteps.{elf_says}
 use Rattle.object_output.proofs.SectionLemmas.{ok_is}
 use Rattle.lines_tool.specs.Tables.{section_report}
 use Rattle.lines_tool.proofs.TableLemmas.{queried, answers_stated, elf_refuses, section_out, section_table}
 use Rattle.lines_tool.proofs.tables.LineTablesSectionTool.show.Goals as goal
 
+pub returns-in-Ok : goal.returns-in-Ok
+unfolding header_of
+returns-in-Ok g c =
+    let name = c.args.self.now.name.now in
+    let s = c.args.s.0 in
+    let header = ok_is _ _ c.ehdr-class.ensures in
+    let plain = ap (λ (h : Shdr). is_compressed h.flags) (sym c.section_header.ensures) ∙ sym c.is_compressed.ensures ∙ c.if-is_compressed.false in
+    elf_says g.S.Source g.O.Sink g.E.Sink (λ o. section_report name o s) _ c.args.elf.now _ c.args.outputs.now _
+    (queried g.S.Source _ _ c.raw.result c.args.elf.now _ c.raw.follows.holds-at-none.queries)
+    (λ told. rw (section_table name c.args.elf.now.o s _ _ _ plain (ap (λ (h : Ehdr). h.class) header) (ap (λ (h : Ehdr). h.order) header)
+    (c.in-Ok.ensures.answer.1 told)) c.show_table.ensures.reports)
+    c.show_table.ensures.leaves
+
+pub returns-in-Err : goal.returns-in-Err
+returns-in-Err g c =
+    let name = c.args.self.now.name.now in
+    let s = c.args.s.0 in
+    let query = c.raw.follows.holds-at-none.queries in
+    elf_refuses g.S.Source g.O.Sink g.E.Sink (λ o. section_report name o s) (Bor (List ℕ)) _ _ c.args.elf.now _ c.args.outputs.now _ c.in-Err.e
+    (queried g.S.Source _ _ c.raw.result c.args.elf.now _ query)
+    (subst (λ (r : Result (Bor (List ℕ)) ElfError). ReadRose r (g.S.Source.faults c.args.elf.now.source) (g.S.Source.faults c.raw.follows.lender-at-none.source)) c.in-Err.is query.reads.source.read)
+    (λ told none. section_out name c.args.elf.now.o s c.in-Err.e (answers_stated c.args.elf.now.told _ c.in-Err.e _ c.in-Err.ensures.answer none))
+    c.refuse_by.ensures.reports c.refuse_by.ensures.stops c.refuse_by.ensures.leaves
