@@ -1,3 +1,4 @@
 pub mod Rows
 pub mod Units
 pub mod Tables
+pub mod Tool

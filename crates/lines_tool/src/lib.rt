@@ -3,4 +3,7 @@
 
 pub mod rows;
 pub mod tables;
+pub mod tool;
 pub mod units;
+
+pub use tool::{LinesTool, lines};

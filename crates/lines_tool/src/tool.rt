@@ -1,0 +1,55 @@
+//! The tool of the command lines.
+
+ghost use Rattle.std.specs.Prelude.{◌≡◌, None, codes};
+ghost use Rattle.tool_output.specs.Names.{file_name};
+ghost use Rattle.object_output.specs.Shows.{ShowsElf};
+ghost use Rattle.lines_tool.specs.Tool.{lines_report};
+
+use crate::tables::LineTables;
+use elf_descriptor::Elf;
+use elf_outside::{Sink, Source};
+use object_output::{ObjectTool, each_section_named, show_object};
+use std::alloc::Global;
+use tool_output::{FileName, Outputs, Stop};
+
+/// The tool of the command lines.
+#[derive(Clone, Copy)]
+pub struct LinesTool;
+
+impl ObjectTool for LinesTool {
+    ghost command = { λ _. codes "lines" };
+
+    ghost report = { λ _. lines_report };
+
+    ghost asks = { λ _ _. None };
+
+    fn command(&self) -> &'static str {
+        "lines"
+    }
+
+    #[tactic(auto, unfolding(crate::specs::Tool::lines_report))]
+    fn show<S: Source, O: Sink, E: Sink>(
+        &self,
+        elf: &mut Elf<S>,
+        name: &FileName<'_>,
+        outputs: &mut Outputs<'_, O, E>,
+    ) -> Result<bool, Stop> {
+        each_section_named(&LineTables { name }, ".debug_line", elf, outputs)
+    }
+}
+
+/// Shows the line table of each section named `.debug_line`, as the command lines does, on two
+/// outputs. Messages name the object by `name`. The answer tells whether something was refused. It
+/// stops by `Read` where a read of the source failed, by `Write` where a put failed, and by `Memory`.
+pub fn lines<S: Source, O: Sink, E: Sink>(
+    alloc: Global,
+    elf: &mut Elf<S>,
+    name: &[u8],
+    out: &mut O,
+    err: &mut E,
+) -> Result<bool, Stop>
+    ensures { ShowsElf S.Source O.Sink E.Sink (lines_report (file_name name.now))
+        result elf.old elf.new out.old out.new err.old err.new }
+{
+    show_object(alloc, &LinesTool, elf, &FileName::of(name), out, err)
+}
