@@ -40,7 +40,8 @@ impl ObjectTool for LinesTool {
 
 /// Shows the line table of each section named `.debug_line`, as the command lines does, on two
 /// outputs. Messages name the object by `name`. The answer tells whether something was refused. It
-/// stops by `Read` where a read of the source failed, by `Write` where a put failed, and by `Memory`.
+/// stops by `Read` where a read of the source failed, by `Write` where a put failed, and by
+/// `Memory`.
 pub fn lines<S: Source, O: Sink, E: Sink>(
     alloc: Global,
     elf: &mut Elf<S>,

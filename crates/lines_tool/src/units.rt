@@ -33,10 +33,7 @@ fn show_files<O: Sink, E: Sink>(
 }
 
 /// Shows the rows of a unit.
-fn show_rows<O: Sink, E: Sink>(
-    rows: &[Row],
-    outputs: &mut Outputs<'_, O, E>,
-) -> Result<bool, Stop>
+fn show_rows<O: Sink, E: Sink>(rows: &[Row], outputs: &mut Outputs<'_, O, E>) -> Result<bool, Stop>
     ensures reports { Reports O.Sink E.Sink result outputs.old outputs.new
         (reports_of (λ r. shown (row_line r)) rows.now) }
     ensures leaves { LeavesOutputs O.Sink E.Sink ⊥ result outputs.old outputs.new }
@@ -48,10 +45,7 @@ fn show_rows<O: Sink, E: Sink>(
 }
 
 /// Shows a unit: its title, its files and its rows.
-fn show_unit<O: Sink, E: Sink>(
-    unit: &Unit,
-    outputs: &mut Outputs<'_, O, E>,
-) -> Result<bool, Stop>
+fn show_unit<O: Sink, E: Sink>(unit: &Unit, outputs: &mut Outputs<'_, O, E>) -> Result<bool, Stop>
     ensures reports { Reports O.Sink E.Sink result outputs.old outputs.new
         (unit_report unit.now) }
     ensures leaves { LeavesOutputs O.Sink E.Sink ⊥ result outputs.old outputs.new }

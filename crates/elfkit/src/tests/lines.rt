@@ -12,19 +12,18 @@ use tool_output::Status;
 /// The names of the sections.
 const NAMES: &[u8] = b"\0.debug_line\0";
 
-/// Where the names, the section headers and the line table stand.
+/// Where they stand.
 const NAMES_AT: u64 = 64;
+
+/// Where the section headers stand.
 const HEADERS_AT: u64 = 80;
+
+/// Where the line table stands.
 const TABLE_AT: u64 = 512;
 
 /// An object whose section 1 is named `.debug_line` and has these bytes at the end of the image.
 /// Section 2 has the names.
-fn with_lines(
-    alloc: Global,
-    class: Class,
-    order: Order,
-    bytes: &[u8],
-) -> Result<Image, ElfError> {
+fn with_lines(alloc: Global, class: Class, order: Order, bytes: &[u8]) -> Result<Image, ElfError> {
     let header = Ehdr {
         shoff: HEADERS_AT,
         shentsize: shdr_size(class) as u16,
@@ -61,7 +60,8 @@ fn lines_of(alloc: Global, bytes: &[u8]) -> Result<Ran, Fail> {
 }
 
 /// A unit of version 2 with one file, which makes two rows.
-const UNIT: &[u8; 50] = b"\x2e\0\0\0\x02\0\x17\0\0\0\x01\x01\xfb\x0e\x0a\0\x01\x01\x01\x01\0\0\0\x01\
+const UNIT: &[u8; 50] =
+    b"\x2e\0\0\0\x02\0\x17\0\0\0\x01\x01\xfb\x0e\x0a\0\x01\x01\x01\x01\0\0\0\x01\
     \0a.c\0\0\0\0\0\0\x09\x02\0\x10\x40\0\0\0\0\0\x14\x02\x04\0\x01\x01";
 
 /// Its lines, for a unit at 0.
