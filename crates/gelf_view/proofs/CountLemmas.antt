@@ -77,17 +77,22 @@ counted_by (Ok items) = refl
 counted_by (Err e) = refl
 
 module _ (o : Object) (s p : ℕ) where
+  abbrev answer_by : Option Items → Result ℕ ElfError
+  answer_by own =
+      answered (elim own [ None ↦ err_of (content o s) | Some items ↦ None ])
+      (items_count (elim own [ None ↦ or_empty (content o s) | Some items ↦ items ]))
+
   pub own_counted : (items : Items) → (piece_at o s p).own ≡ Some items → Ok (items_count items) ≡ answered (no_content o s p) (count_at o s p)
   unfolding no_content count_at items_at
-  own_counted items own = rw own refl
+  own_counted items own = sym (ap answer_by own)
 
   pub clean_counted : (piece_at o s p).own ≡ None → result_map items_count (content o s) ≡ answered (no_content o s p) (count_at o s p)
   unfolding no_content count_at items_at
-  clean_counted clean = counted_by (content o s) ∙ rw clean refl
+  clean_counted clean = counted_by (content o s) ∙ sym (ap answer_by clean)
 
   pub clean_of_kind : (piece_at o s p).own ≡ None → (section_at o s).home.kind ≡ kind_at o s p
   unfolding kind_at
-  clean_of_kind clean = rw clean refl
+  clean_of_kind clean = sym (ap (λ (own : Option Items). elim own [ None ↦ (section_at o s).home.kind | Some items ↦ items_kind items ]) clean)
 
   pub section_there : piece_refusal o s p ≡ None → no_section o s ≡ None
   unfolding piece_refusal
@@ -148,6 +153,6 @@ module _ (o : Object) (kind : Kind) (s p n : ℕ) where
         value.0,
         here,
         sym (ap (λ (r : Option ElfError). answered r n) (lend_by ∙ ap (λ (r : Option ElfError). first_refusal (r ∷ wrong_kind o kind s p ∷ no_content o s p ∷ [])) value.0)
-        ∙ ap (λ (t : Bool). answered (first_refusal (refused_if (not t) (WrongKind (kind_at o s p)) ∷ no_content o s p ∷ [])) n) (same_kind-same (kind_at o s p) kind here)
-        ∙ ap (λ (r : Option ElfError). answered r n) (alone (no_content o s p))),
+            ∙ ap (λ (t : Bool). answered (first_refusal (refused_if (not t) (WrongKind (kind_at o s p)) ∷ no_content o s p ∷ [])) n) (same_kind-same (kind_at o s p) kind here)
+            ∙ ap (λ (r : Option ElfError). answered r n) (alone (no_content o s p))),
       )

@@ -8,6 +8,7 @@ ghost use Rattle.elf_object.specs.Object.{section_at};
 ghost use Rattle.elf_object.specs.Answers.{content, count_at, kind_at, lend_refusal, no_content, no_section, piece_refusal};
 ghost use Rattle.elf_object.specs.Calls.{piece_kind_answer};
 
+use crate::fetching::class;
 use crate::string_calls::{home_len, is_out};
 use elf_descriptor::{Elf, Held};
 use elf_outside::Source;
@@ -24,7 +25,7 @@ fn home_count<S: Source, T: Item>(elf: &Elf<S>, s: ScnId) -> Result<u64, ElfErro
     if is_out(elf, s) {
         return Err(ElfError::OutOfFile { section: s.0 });
     }
-    let size = T::size(elf.ehdr().class) as u64;
+    let size = T::size(class(elf)) as u64;
     let len = home_len(elf, s);
     if len % size != 0 {
         return Err(ElfError::Ragged { section: s.0 });
@@ -51,11 +52,7 @@ fn count_there<S: Source, T: Item>(elf: &Elf<S>, d: DataId) -> Result<u64, ElfEr
 
 /// The number of items of a piece that is there and of that kind, where it is the items' kind; else
 /// `WrongKind`, and then as `count_there`.
-fn count_of_kind<S: Source, T: Item>(
-    elf: &Elf<S>,
-    d: DataId,
-    kind: Kind,
-) -> Result<u64, ElfError>
+fn count_of_kind<S: Source, T: Item>(elf: &Elf<S>, d: DataId, kind: Kind) -> Result<u64, ElfError>
     requires { Ok kind ≡ piece_kind_answer elf.now.o d.section d.piece }
     ensures answer { result ≡ answered (lend_refusal elf.now.o T.kind d.section d.piece)
         (count_at elf.now.o d.section d.piece) }

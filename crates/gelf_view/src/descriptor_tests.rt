@@ -146,10 +146,12 @@ const BASE: Verdef = Verdef {
 /// Whether the definition and its name are read, and none at another place.
 fn definition_is_read(elf: &mut Elf<MemSource>, d: DataId) -> Result<bool, ElfError> {
     let name = Verdaux { name: 1, next: 0 };
-    Ok(first_entry(elf, d)? == Some(0)
-        && verdef(elf, d, 0)? == BASE
-        && verdaux(elf, d, 20)? == name
-        && verdef(elf, d, 9) == Err(ElfError::BadChain { at: 9 }))
+    Ok(
+        first_entry(elf, d)? == Some(0)
+            && verdef(elf, d, 0)? == BASE
+            && verdaux(elf, d, 20)? == name
+            && verdef(elf, d, 9) == Err(ElfError::BadChain { at: 9 }),
+    )
 }
 
 /// Whether no second name is found behind one that says that it is the last.

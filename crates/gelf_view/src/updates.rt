@@ -17,12 +17,7 @@ use elf_types::{DataId, Dyn, ElfError, Rel, Rela, Sym};
 /// object.
 ///
 /// Source: gABI chapter 4, "Symbol Table"; gelf_update_sym of gelf(3E).
-pub fn update_sym<S: Source>(
-    elf: &mut Elf<S>,
-    d: DataId,
-    i: u64,
-    v: &Sym,
-) -> Result<(), ElfError>
+pub fn update_sym<S: Source>(elf: &mut Elf<S>, d: DataId, i: u64, v: &Sym) -> Result<(), ElfError>
     ensures answer { Answers true
         (wanted (calls.update_sym d.section d.piece i v.now) elf.old) result
         ((calls.update_sym d.section d.piece i v.now).answer elf.old.o) }
@@ -41,12 +36,7 @@ pub fn update_sym<S: Source>(
 /// refusal leaves the object.
 ///
 /// Source: gABI chapter 4, "Relocation"; gelf_update_rel of gelf(3E).
-pub fn update_rel<S: Source>(
-    elf: &mut Elf<S>,
-    d: DataId,
-    i: u64,
-    v: &Rel,
-) -> Result<(), ElfError>
+pub fn update_rel<S: Source>(elf: &mut Elf<S>, d: DataId, i: u64, v: &Rel) -> Result<(), ElfError>
     ensures answer { Answers true
         (wanted (calls.update_rel d.section d.piece i v.now) elf.old) result
         ((calls.update_rel d.section d.piece i v.now).answer elf.old.o) }
@@ -65,12 +55,7 @@ pub fn update_rel<S: Source>(
 /// its items. A refusal leaves the object.
 ///
 /// Source: gABI chapter 4, "Relocation"; gelf_update_rela of gelf(3E).
-pub fn update_rela<S: Source>(
-    elf: &mut Elf<S>,
-    d: DataId,
-    i: u64,
-    v: &Rela,
-) -> Result<(), ElfError>
+pub fn update_rela<S: Source>(elf: &mut Elf<S>, d: DataId, i: u64, v: &Rela) -> Result<(), ElfError>
     ensures answer { Answers true
         (wanted (calls.update_rela d.section d.piece i v.now) elf.old) result
         ((calls.update_rela d.section d.piece i v.now).answer elf.old.o) }
@@ -113,12 +98,7 @@ pub fn update_dynent<S: Source>(
 /// A refusal leaves the object.
 ///
 /// Source: gABI chapter 4, "Data Representation"; elf_getdata of elf(3E).
-pub fn update_word<S: Source>(
-    elf: &mut Elf<S>,
-    d: DataId,
-    i: u64,
-    v: u32,
-) -> Result<(), ElfError>
+pub fn update_word<S: Source>(elf: &mut Elf<S>, d: DataId, i: u64, v: u32) -> Result<(), ElfError>
     ensures answer { Answers true
         (wanted (calls.update_word d.section d.piece i v) elf.old) result
         ((calls.update_word d.section d.piece i v).answer elf.old.o) }
@@ -137,12 +117,7 @@ pub fn update_word<S: Source>(
 /// A refusal leaves the object.
 ///
 /// Source: gABI chapter 4, "Data Representation"; elf_getdata of elf(3E).
-pub fn update_half<S: Source>(
-    elf: &mut Elf<S>,
-    d: DataId,
-    i: u64,
-    v: u16,
-) -> Result<(), ElfError>
+pub fn update_half<S: Source>(elf: &mut Elf<S>, d: DataId, i: u64, v: u16) -> Result<(), ElfError>
     ensures answer { Answers true
         (wanted (calls.update_half d.section d.piece i v) elf.old) result
         ((calls.update_half d.section d.piece i v).answer elf.old.o) }
@@ -161,12 +136,7 @@ pub fn update_half<S: Source>(
 /// the object.
 ///
 /// Source: gABI chapter 4, "Data Representation"; elf_getdata of elf(3E).
-pub fn update_addr<S: Source>(
-    elf: &mut Elf<S>,
-    d: DataId,
-    i: u64,
-    v: u64,
-) -> Result<(), ElfError>
+pub fn update_addr<S: Source>(elf: &mut Elf<S>, d: DataId, i: u64, v: u64) -> Result<(), ElfError>
     ensures answer { Answers true
         (wanted (calls.update_addr d.section d.piece i v) elf.old) result
         ((calls.update_addr d.section d.piece i v).answer elf.old.o) }

@@ -16,7 +16,7 @@ use Rattle.tool_output.proofs.StepLemmas.{keeps_none, keeps_then}
 use Rattle.tool_output.proofs.SourceLemmas.{reads_weaker, refused_reports, refused_leaves, Stops}
 use Rattle.tool_output.proofs.ReportLemmas.{reports_none, reports_then, reports_then_stop, reports_stop, reports_nothing}
 use Rattle.tool_output.proofs.UnderWayLemmas.{begins, goes_on, stops_at, is_given}
-use Rattle.object_output.specs.Steps.{LeavesElf, ReportsElf, Learns, ElfUnderWay, SourceRose}
+use Rattle.object_output.specs.Steps.{LeavesElf, ReadsElf, ReportsElf, Learns, ElfUnderWay, SourceRose}
 
 module _ {S : Type 0} (s : SourceGhosts S) where
   -- nothing is done
@@ -140,6 +140,21 @@ module _ {S O E : Type 0} (s : SourceGhosts S) (o : SinkGhosts O) (e : SinkGhost
 
   -- ---- A value, and then a report
 
+  -- a step that stops before there is a value
+  pub elf_unread : (T : Type 0) (stop : Stop) (report : Object → Report) (a b : State S) (t : Outputs O E) → ReadsElf {T = T} s (Err stop) a b
+      → ReportsElf s o e report (Err stop) a b t t
+  elf_unread T stop report a b t h = record {
+    reports = λ told. reports_nothing o e t stop (report a.o);
+    elf = h.elf;
+    leaves = by_stop stop h.read h.write;
+  }
+    where
+      by_stop : (stop : Stop) → OnRead {T = T} (Err stop) (SourceRose s a b) → OnWrite {T = T} (Err stop) ⊥
+          → LeavesOutputs {T = Bool} o e (SourceRose s a b) (Err stop) t t
+      by_stop Read read write = record { keeps = keeps_none o e t; read = read; write = tt }
+      by_stop Memory read write = record { keeps = keeps_none o e t; read = tt; write = tt }
+      by_stop Write read write = absurd write
+
   module _ {T : Type 0} (stated : Object → T) (a b : State S) where
     -- the report that the value decides
     pub elf_learns : (v : T) (report : T → Object → Report) (r : Result Bool Stop) (c : State S) (t u : Outputs O E)
@@ -155,17 +170,7 @@ module _ {S O E : Type 0} (s : SourceGhosts S) (o : SinkGhosts O) (e : SinkGhost
     -- or there is none
     pub elf_learns_none : (stop : Stop) (report : Object → Report) (t : Outputs O E) → Learns {T = T} s stated (Err stop) a b
         → ReportsElf s o e report (Err stop) a b t t
-    elf_learns_none stop report t h = record {
-      reports = λ told. reports_nothing o e t stop (report a.o);
-      elf = h.reads.elf;
-      leaves = by_stop stop h.reads.read h.reads.write;
-    }
-      where
-        by_stop : (stop : Stop) → OnRead {T = T} (Err stop) (SourceRose s a b) → OnWrite {T = T} (Err stop) ⊥
-            → LeavesOutputs {T = Bool} o e (SourceRose s a b) (Err stop) t t
-        by_stop Read read write = record { keeps = keeps_none o e t; read = read; write = tt }
-        by_stop Memory read write = record { keeps = keeps_none o e t; read = tt; write = tt }
-        by_stop Write read write = absurd write
+    elf_learns_none stop report t h = elf_unread T stop report a b t h.reads
 
 -- ---- A report that is given in steps
 

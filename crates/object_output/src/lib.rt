@@ -10,6 +10,6 @@ pub mod sections;
 pub mod tools;
 
 pub use images::show_image;
-pub use names::{Bracketed, each_section_named, is_named, section_name};
+pub use names::{Bracketed, each_section_named, is_named, section_name, string_at};
 pub use sections::{SectionTool, each_section, section_header};
 pub use tools::{ObjectTool, show_object};

@@ -39,11 +39,33 @@ impl Line for Bracketed<'_> {
     }
 }
 
-/// The name of a section that is there: the string at its `sh_name` in the section of the names, or
-/// None where there is no such section or the string cannot be read. It stops by `Read` where a read
-/// of the source failed, and by `Memory`.
+/// The string at an offset of a section, or None where it cannot be read. It stops by `Read` where a
+/// read of the source failed, and by `Memory`.
 ///
-/// Source: gABI chapter 4, "Section Header", sh_name; elf_strptr of elf(3E).
+/// Source: gABI chapter 4, "String Table"; elf_strptr of elf(3E).
+pub fn string_at<S: Source>(
+    elf: &mut Elf<S>,
+    s: ScnId,
+    offset: u64,
+) -> Result<Option<&[u8]>, Stop>
+    ensures value { IsTrue elf.old.told → IfOk result (λ name. option_copied name
+        ≡ strings.readable (strings.string_answer elf.old.o s.0 offset)) }
+    ensures* rests { sem 𝓛 (Rests S.row S.Source elf.entry (λ new.
+        ReadsElf S.Source result elf.old new)) }
+{
+    match strptr(elf, s, offset) {
+        Ok(name) => Ok(Some(name)),
+        Err(e) => match Stop::of(&e) {
+            Some(stop) => Err(stop),
+            None => Ok(None),
+        },
+    }
+}
+
+/// The name of a section that is there: the string at its `sh_name` in the section of the names, or
+/// None where there is no such section or the string cannot be read. It stops as `string_at` does.
+///
+/// Source: gABI chapter 4, "Section Header", sh_name.
 pub fn section_name<S: Source>(elf: &mut Elf<S>, s: ScnId) -> Result<Option<&[u8]>, Stop>
     requires { s.0 < length elf.old.o.sections }
     ensures value { IsTrue elf.old.told → IfOk result
@@ -56,13 +78,7 @@ pub fn section_name<S: Source>(elf: &mut Elf<S>, s: ScnId) -> Result<Option<&[u8
         return Ok(None);
     }
     let at = section_header(elf, s).name;
-    match strptr(elf, ScnId(names), u64::from(at)) {
-        Ok(name) => Ok(Some(name)),
-        Err(e) => match Stop::of(&e) {
-            Some(stop) => Err(stop),
-            None => Ok(None),
-        },
-    }
+    string_at(elf, ScnId(names), u64::from(at))
 }
 
 /// Whether a section that is there has this name. It stops as `section_name` does.
