@@ -80,7 +80,7 @@ fn strings_are_told(elf: &mut Elf<MemSource>) -> Result<bool, ElfError> {
     add_bytes(elf, b"b")?;
     let between = ElfError::NoString { offset: 4, size: 9 };
     let no_section = ElfError::NoSection { index: 9, count: 3 };
-    let own = bytes(elf, FIRST)? == b"\0a\0";
+    let own = bytes(elf, FIRST)? == b"\0a\0".as_slice();
     Ok(
         own && is_string(elf, 1, 1, Ok(b"a"))
             && is_string(elf, 1, 4, Err(between))
