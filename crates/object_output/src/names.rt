@@ -43,11 +43,7 @@ impl Line for Bracketed<'_> {
 /// read of the source failed, and by `Memory`.
 ///
 /// Source: gABI chapter 4, "String Table"; elf_strptr of elf(3E).
-pub fn string_at<S: Source>(
-    elf: &mut Elf<S>,
-    s: ScnId,
-    offset: u64,
-) -> Result<Option<&[u8]>, Stop>
+pub fn string_at<S: Source>(elf: &mut Elf<S>, s: ScnId, offset: u64) -> Result<Option<&[u8]>, Stop>
     ensures value { IsTrue elf.old.told → IfOk result (λ name. option_copied name
         ≡ strings.readable (strings.string_answer elf.old.o s.0 offset)) }
     ensures* rests { sem 𝓛 (Rests S.row S.Source elf.entry (λ new.
