@@ -1,5 +1,5 @@
 -- What is left of the report on a section's units.
-use Rattle.std.proofs.Common.{◌≡◌, ◌||◌, ◌+◌, ◌<◌, ◌≤◌, ℕ, suc, zero, Bool, false, List, [], ◌∷◌, length, Option, Some, None, Result, Ok, Err, refl, sym, ap, ◌∙◌, subst, arith}
+use Rattle.std.proofs.Common.{◌≡◌, ◌+◌, ◌<◌, ◌≤◌, ℕ, suc, zero, Bool, false, List, [], ◌∷◌, length, Option, Some, None, Result, Ok, Err, refl, sym, ap, ◌∙◌, subst, arith}
 use Rattle.elf_types.specs.declared.records.Class.{Class}
 use Rattle.elf_types.specs.declared.records.Order.{Order}
 use Rattle.line_table.specs.declared.faults.LineWhy.{LineWhy}
@@ -16,18 +16,10 @@ use Rattle.tool_output.specs.Reports.{Report, Reports, no_report, shown, joined,
 use Rattle.tool_output.specs.Steps.{KeepsSinks}
 use Rattle.tool_output.proofs.StepLemmas.{keeps_none, keeps_then}
 use Rattle.tool_output.proofs.ReportLemmas.{joined_assoc, joined_none, none_joined, reports_nothing}
-use Rattle.tool_output.proofs.UnderWayLemmas.{begins, goes_on, stops_at, is_given}
+use Rattle.tool_output.proofs.UnderWayLemmas.{begins, goes_on, stops_at, ends_with, is_given}
 use Rattle.lines_tool.specs.Rows.{row_line, fault_text}
 use Rattle.lines_tool.specs.Units.{UnitList, unit_then, units_at_most, units_of}
 use Rattle.lines_tool.specs.Tables.{section_refused, fault_report, unit_report, units_report}
-
--- ---- The last step of a report
-
--- all that is left is given by the step that answers
-pub ends_with : {O E : Type 0} {o : Ghosts O} {e : Ghosts E} {s t : Outputs O E} {whole rest : Report} (h : UnderWay o e false s t whole rest)
-    {u : Outputs O E} (r : Result Bool Stop) (last : Report) → rest ≡ last → Reports o e r t u last → Reports o e r s u whole
-ends_with h (Ok y) last is k = is_given (goes_on h {y = y} {z = y} last no_report (is ∙ sym (joined_none last)) k refl) refl
-ends_with h (Err stop) last is k = stops_at h last no_report (is ∙ sym (joined_none last)) k
 
 -- ---- A unit
 
@@ -135,4 +127,4 @@ module _ (name : Name) (s : ℕ) where
           → Reports o e r u v (section_refused name s (fault_text place why)) → Reports o e r t v whole
       units_fail v r place why is k =
           let turn = one_turn h.turns h.enough h.report in
-          ends_with turn.2 r (section_refused name s (fault_text place why)) (fault_left turn.0 at place why is) k
+          ends_with turn.2 r (section_refused name s (fault_text place why)) refl (fault_left turn.0 at place why is) k

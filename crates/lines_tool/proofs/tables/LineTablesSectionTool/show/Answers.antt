@@ -6,10 +6,11 @@ use Rattle.elf_types.specs.declared.errors.ElfError.{ElfError}
 use Rattle.elf_types.specs.Kinds.{is_compressed}
 use Rattle.elf_outside.specs.Asks.{ReadRose}
 use Rattle.elf_object.specs.Object.{header_of}
-use Rattle.object_output.proofs.ElfSteps.{elf_says}
+use Rattle.object_output.proofs.ElfSteps.{elf_says, elf_refuses}
 use Rattle.object_output.proofs.SectionLemmas.{ok_is}
 use Rattle.lines_tool.specs.Tables.{section_report}
-use Rattle.lines_tool.proofs.TableLemmas.{queried, answers_stated, elf_refuses, section_out, section_table}
+use Rattle.object_output.proofs.QueryLemmas.{queried}
+use Rattle.lines_tool.proofs.TableLemmas.{answers_stated, section_out, section_table}
 use Rattle.lines_tool.proofs.tables.LineTablesSectionTool.show.Goals as goal
 
 pub returns-in-Ok : goal.returns-in-Ok
@@ -30,7 +31,7 @@ returns-in-Err g c =
     let name = c.args.self.now.name.now in
     let s = c.args.s.0 in
     let query = c.raw.follows.holds-at-none.queries in
-    elf_refuses g.S.Source g.O.Sink g.E.Sink (λ o. section_report name o s) (Bor (List ℕ)) _ _ c.args.elf.now _ c.args.outputs.now _ c.in-Err.e
+    elf_refuses g.S.Source g.O.Sink g.E.Sink (λ o. section_report name o s) (Bor (List ℕ)) c.in-Err.e _ _ c.args.elf.now _ c.args.outputs.now _
     (queried g.S.Source _ _ c.raw.result c.args.elf.now _ query)
     (subst (λ (r : Result (Bor (List ℕ)) ElfError). ReadRose r (g.S.Source.faults c.args.elf.now.source) (g.S.Source.faults c.raw.follows.lender-at-none.source)) c.in-Err.is query.reads.source.read)
     (λ told none. section_out name c.args.elf.now.o s c.in-Err.e (answers_stated c.args.elf.now.told _ c.in-Err.e _ c.in-Err.ensures.answer none))
