@@ -1,5 +1,5 @@
 -- Steps over a descriptor and the outputs, one after another.
-use Rattle.std.proofs.Common.{◌≡◌, inl, inr, ◌||◌, Bool, false, None, Result, Ok, Err, IsTrue, IfNone, refl, ◌∙◌, subst, arith}
+use Rattle.std.proofs.Common.{◌≡◌, inl, inr, ◌||◌, Bool, false, ℕ, List, None, Result, Ok, Err, IsTrue, IfNone, refl, ◌∙◌, subst, arith}
 use Rattle.elf_types.specs.declared.errors.ElfError.{ElfError}
 use Rattle.elf_outside.specs.Asks.{ReadRose}
 use Rattle.elf_outside.specs.declared.sources.Source.{Ghosts as SourceGhosts}
@@ -9,12 +9,12 @@ use Rattle.elf_descriptor.specs.State.{State}
 use Rattle.tool_output.specs.declared.stops.Stop.{Stop}
 use Rattle.tool_output.specs.declared.stops.Stop.TheVariants.{Read, Write, Memory}
 use Rattle.tool_output.specs.declared.outputs.Outputs.{Outputs}
-use Rattle.tool_output.specs.Reports.{Report, Reports, no_report, joined}
+use Rattle.tool_output.specs.Reports.{Report, Reports, no_report, shown, joined}
 use Rattle.tool_output.specs.Steps.{KeepsSinks, LeavesOutputs, SinkRose, OnRead, OnWrite}
 use Rattle.tool_output.specs.Stops.{stop_of}
 use Rattle.tool_output.proofs.StepLemmas.{keeps_none, keeps_then}
 use Rattle.tool_output.proofs.SourceLemmas.{reads_weaker, refused_reports, refused_leaves, Stops}
-use Rattle.tool_output.proofs.ReportLemmas.{reports_none, reports_then, reports_then_stop, reports_stop, reports_nothing}
+use Rattle.tool_output.proofs.ReportLemmas.{reports_none, reports_then, reports_then_stop, reports_stop, reports_nothing, shown_then}
 use Rattle.tool_output.proofs.UnderWayLemmas.{begins, goes_on, stops_at, is_given}
 use Rattle.object_output.specs.Steps.{LeavesElf, ReadsElf, ReportsElf, Learns, ElfUnderWay, SourceRose}
 
@@ -117,6 +117,16 @@ module _ {S O E : Type 0} (s : SourceGhosts S) (o : SinkGhosts O) (e : SinkGhost
       elf = elf_left_then s a b c h.elf k.elf;
       leaves = outputs_after (Err stop) a b c t u v h.elf h.leaves.keeps k.leaves;
     }
+
+  -- a text on standard output, and then a report
+  pub elf_shown_then : (text : Object → List ℕ) (q : Object → Report) (r : Result Bool Stop) (x : Bool) (a b c : State S) (t u v : Outputs O E)
+      → ReportsElf s o e (λ m. shown (text m)) (Ok x) a b t u → ReportsElf s o e q r b c u v → ReportsElf s o e (λ m. joined (shown (text m)) (q m)) r a c t v
+  elf_shown_then text q r x a b c t u v h k = record {
+    reports = λ told. shown_then o e r t u v (text a.o) x (q a.o) (h.reports told)
+        (subst (λ (m : Object). Reports o e r u v (q m)) h.elf.object (k.reports (still_told s a b h.elf told)));
+    elf = elf_left_then s a b c h.elf k.elf;
+    leaves = outputs_after r a b c t u v h.elf h.leaves.keeps k.leaves;
+  }
 
   -- the first of two stops
   pub elf_stop : (p q : Object → Report) (a b : State S) (t u : Outputs O E) (stop : Stop) → ReportsElf s o e p (Err stop) a b t u

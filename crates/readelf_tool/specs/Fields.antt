@@ -44,3 +44,7 @@ name_column title name n = codes " " ++ title ++ codes " " ++ name_or_hex name n
 -- `  I`, with which a row begins
 unfoldable pub row_start : ℕ → List ℕ
 row_start i = codes "  " ++ decimal i
+
+-- `TITLE N`, the title of a list of so many
+unfoldable pub counted_line : List ℕ → ℕ → List ℕ
+counted_line title count = title ++ decimal count ++ codes "\n"

@@ -1,5 +1,5 @@
 -- The lines of the section headers (the part `S`).
-use Rattle.std.specs.Prelude.{◌++◌, ℕ, List, length, Option, codes, decimal}
+use Rattle.std.specs.Prelude.{◌++◌, ℕ, List, length, Option, codes}
 use Rattle.elf_types.specs.declared.records.Shdr.{Shdr}
 use Rattle.elf_types.specs.Names.{section_type_name_of}
 use Rattle.elf_object.specs.Object.{Object, section_at}
@@ -7,7 +7,7 @@ use Rattle.elf_object.specs.Due.{all_sections}
 use Rattle.elf_object.specs.Strings.{section_name}
 use Rattle.tool_output.specs.Reports.{Report, shown, joined, reports_of}
 use Rattle.object_output.specs.Sections.{bracketed}
-use Rattle.readelf_tool.specs.Fields.{name_or_hex, hex_column, decimal_column, row_start}
+use Rattle.readelf_tool.specs.Fields.{name_or_hex, hex_column, decimal_column, row_start, counted_line}
 
 -- `  I NAME TYPE`
 unfoldable pub section_start : ℕ → Option (List ℕ) → ℕ → List ℕ
@@ -35,7 +35,7 @@ section_line i name h =
     section_start i name h.stype ++ section_places h ++ section_numbers h ++ codes "\n"
 
 unfoldable pub sections_title : ℕ → List ℕ
-sections_title count = codes "Section headers: " ++ decimal count ++ codes "\n"
+sections_title count = counted_line (codes "Section headers: ") count
 
 -- the line of a section of an object
 unfoldable pub section_row : Object → ℕ → Report

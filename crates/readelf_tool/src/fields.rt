@@ -4,7 +4,7 @@
 ghost use Rattle.std.specs.Prelude.{◌≡◌, ◌++◌, OnOk, IfErr};
 ghost use Rattle.std.specs.Option.{option_copied};
 ghost use Rattle.elf_types.specs.Writers.{WantsMemory};
-ghost use Rattle.readelf_tool.specs.Fields.{name_or_hex, field_title, field_line, decimal_line, hex_line, name_line, hex_column, decimal_column, name_column, row_start};
+ghost use Rattle.readelf_tool.specs.Fields.{name_or_hex, field_title, field_line, decimal_line, hex_line, name_line, hex_column, decimal_column, name_column, row_start, counted_line};
 
 use elf_types::{ElfError, Octets, put_decimal, put_hex, put_text};
 
@@ -139,4 +139,15 @@ pub fn put_row_start(page: &mut Octets, i: u64) -> Result<(), ElfError>
 {
     put_text(page, "  ")?;
     put_decimal(page, i)
+}
+
+/// Appends `TITLE N`, the title of a list of so many.
+#[tactic(auto, using(crate::proofs::Rows::kept), unfolding(crate::specs::Fields::counted_line))]
+pub fn put_counted_line(page: &mut Octets, title: &str, count: u64) -> Result<(), ElfError>
+    ensures ok { OnOk result (page.new ≡ page.old ++ counted_line title.now count) }
+    ensures err { IfErr result (WantsMemory page.old page.new) }
+{
+    put_text(page, title)?;
+    put_decimal(page, count)?;
+    put_text(page, "\n")
 }

@@ -6,23 +6,20 @@ ghost use Rattle.elf_types.specs.Writers.{WantsMemory};
 ghost use Rattle.object_output.specs.Steps.{ReportsElf};
 ghost use Rattle.readelf_tool.specs.Sections.{section_start, section_places, section_numbers, section_line, sections_title, section_row, sections_report};
 
-use crate::fields::{put_decimal_column, put_hex_column, put_name_or_hex, put_row_start};
+use crate::fields::{
+    put_counted_line, put_decimal_column, put_hex_column, put_name_or_hex, put_row_start,
+};
 use elf_descriptor::Elf;
 use elf_outside::{Sink, Source};
-use elf_types::{ElfError, Octets, ScnId, Shdr, put_decimal, put_text, section_type_name};
+use elf_types::{ElfError, Octets, ScnId, Shdr, put_text, section_type_name};
 use object_output::{Bracketed, SectionTool, each_section, section_header, section_name};
 use tool_output::{Line, Outputs, Stop};
 
 /// Appends `  I NAME TYPE`.
 #[tactic(auto, using(crate::proofs::Rows::kept), unfolding(crate::specs::Sections::section_start))]
-fn put_start(
-    page: &mut Octets,
-    i: u32,
-    name: Option<&[u8]>,
-    stype: u32,
-) -> Result<(), ElfError>
+fn put_start(page: &mut Octets, i: u32, name: Option<&[u8]>, stype: u32) -> Result<(), ElfError>
     ensures ok { OnOk result
-        (page.new ≡ page.old ++ section_start i (option_copied name) stype) }
+        (page.new ≡ page.old ++ section_start i (option_copied name.entry) stype) }
     ensures err { IfErr result (WantsMemory page.old page.new) }
 {
     put_row_start(page, u64::from(i))?;
@@ -64,15 +61,15 @@ struct SectionLine<'a> {
     /// Its name.
     name: Option<&'a [u8]>,
     /// Its header.
-    header: &'a Shdr,
+    header: Shdr,
 }
 
 impl Line for SectionLine<'_> {
-    ghost text = { λ l. section_line l.index (option_copied l.name) l.header.now };
+    ghost text = { λ l. section_line l.index (option_copied l.name) l.header };
 
     #[tactic(auto, using(crate::proofs::Rows::kept), unfolding(crate::specs::Sections::section_line))]
     fn put(&self, page: &mut Octets) -> Result<(), ElfError> {
-        let h = self.header;
+        let h = &self.header;
         put_start(page, self.index, self.name, h.stype)?;
         put_places(page, h)?;
         put_numbers(page, h)?;
@@ -92,9 +89,7 @@ impl Line for SectionsTitle {
 
     #[tactic(auto, using(crate::proofs::Rows::kept), unfolding(crate::specs::Sections::sections_title))]
     fn put(&self, page: &mut Octets) -> Result<(), ElfError> {
-        put_text(page, "Section headers: ")?;
-        put_decimal(page, u64::from(self.count))?;
-        put_text(page, "\n")
+        put_counted_line(page, "Section headers: ", u64::from(self.count))
     }
 }
 
@@ -111,7 +106,7 @@ impl SectionTool for SectionRows {
         s: ScnId,
         outputs: &mut Outputs<'_, O, E>,
     ) -> Result<bool, Stop> {
-        let header = &section_header(elf, s);
+        let header = section_header(elf, s);
         match section_name(elf, s) {
             Ok(name) => outputs.show(&SectionLine {
                 index: s.0,
