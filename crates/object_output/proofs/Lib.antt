@@ -1,4 +1,7 @@
 pub mod ElfSteps
 pub mod ImageLemmas
+pub mod NameLemmas
+pub mod QueryLemmas
+pub mod Rules
 pub mod SectionLemmas
 pub mod ShowLemmas

@@ -1,3 +1,4 @@
 pub mod Steps
 pub mod Shows
 pub mod Images
+pub mod Sections
