@@ -2,7 +2,7 @@
 use Rattle.std.specs.Prelude.{ℕ, List, None, codes}
 use Rattle.elf_outside.specs.Names.{Map}
 use Rattle.tool_output.specs.Outcomes.{Outcome}
-use Rattle.lines_tool.specs.Tables.{lines_report}
+use Rattle.lines_tool.specs.Tool.{lines_report}
 use Rattle.elfkit.specs.Objects.{objects_outcome}
 
 -- the files in their order; what it reads of them has no bound that is promised
