@@ -1,3 +1,4 @@
+use Rattle.std.proofs.Common.{refl}
 use Rattle.elfkit.specs.Program.{command_outcome, is_built}
 use Rattle.elfkit.proofs.commands.run_command.Goals as goal
 
