@@ -8,7 +8,7 @@ use crate::questions::{
 use elf_descriptor::{Elf, Held};
 use elf_outside::Source;
 use elf_types::constants::{
-    SHF_COMPRESSED, SHT_NOBITS, SHT_NULL, SHT_REL, SHT_SYMTAB, SHT_SYMTAB_SHNDX,
+    SHF_COMPRESSED, SHT_NOBITS, SHT_NULL, SHT_PROGBITS, SHT_REL, SHT_SYMTAB, SHT_SYMTAB_SHNDX,
 };
 use elf_types::{DataId, ElfError, Kind, ScnId, Sym};
 use std::alloc::Global;
@@ -26,7 +26,15 @@ struct Row {
 }
 
 /// Sections of all kinds.
-const ROWS: [Row; 8] = [
+const ROWS: [Row; 9] = [
+    Row {
+        fields: [
+            (SectionField::Type, SHT_PROGBITS as u64),
+            (SectionField::Size, 8),
+        ],
+        told: Ok((Kind::Bytes, 8)),
+        asked: 8,
+    },
     Row {
         fields: [
             (SectionField::Type, SHT_NULL as u64),

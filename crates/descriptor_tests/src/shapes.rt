@@ -48,14 +48,18 @@ fn data_refusal<S: Source>(elf: &mut Elf<S>) -> Option<ElfError> {
     }
 }
 
-/// Section 2 has 25 bytes, 24 zeros and a one: they are no whole symbols, and are told as raw
-/// bytes alone.
+/// Section 2 has 25 bytes: they are no whole symbols, and are told as raw bytes alone.
 pub struct Ragged;
 
-/// Whether the raw bytes of section 2 are so many, and the last is a one.
-fn ends_with_one<S: Source>(elf: &mut Elf<S>, len: usize) -> bool {
+/// The zero symbol and the first byte of the function.
+const RAGGED: [u8; 25] = [
+    0, 0, 0, 0, 0, 0, 0, 0, 0, 0, 0, 0, 0, 0, 0, 0, 0, 0, 0, 0, 0, 0, 0, 0, 1,
+];
+
+/// Whether the raw bytes of section 2 are these.
+fn is_raw<S: Source>(elf: &mut Elf<S>, bytes: &[u8]) -> bool {
     match elf.raw(ScnId(2)) {
-        Ok(raw) => raw.len() == len && raw.last() == Some(&1),
+        Ok(raw) => raw == bytes,
         Err(_) => false,
     }
 }
@@ -68,7 +72,7 @@ impl Question for Ragged {
 
     fn is_answered<S: Source>(&self, elf: &mut Elf<S>) -> bool {
         let ragged = Some(ElfError::Ragged { section: 2 });
-        data_refusal(elf) == ragged && ends_with_one(elf, 25)
+        data_refusal(elf) == ragged && is_raw(elf, &RAGGED)
     }
 }
 
