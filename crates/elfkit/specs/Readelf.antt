@@ -16,7 +16,7 @@ are_built parts = not (shows_sections parts)
 -- member of an archive under its own
 unfoldable pub readelf_files : ReadelfParts → List (List ℕ) → Map → Outcome
 readelf_files parts names named =
-    let report = λ has_title. titled_report has_title (λ name o. readelf_report parts o) in
+    let report = λ (has_title : Bool). titled_report has_title (λ name o. readelf_report parts o) in
     let many = nat_lt 1 (length names) in
     objects_outcome (codes "readelf") (report many) (report true) (readelf_asks parts) names named
 
