@@ -26,12 +26,12 @@ status_of_refusal : (result : Result Bool Stop) → IfOk result (λ refused. ref
 status_of_refusal (Ok refused) h = rw h refl
 status_of_refusal (Err stop) h = tt
 
-pub not_built_done : {F D O E : Type 0} (f : FilesGhosts F D) (o : SinkGhosts O) (e : SinkGhosts E) (a : F) (s t : Outputs O E) (stated : Outcome) (result : Result Bool Stop)
-    → stated ≡ not_built → Performs o e result s t (said Error (line_of (codes "elfkit: form not built"))) true
-    → Does f o e refused_status stated result a a s t
+pub not_built_done : {F D O E : Type 0} (f : FilesGhosts F D) (o : SinkGhosts O) (e : SinkGhosts E) (a : F) (s t : Outputs O E) (result : Result Bool Stop)
+    → Performs o e result s t (said Error (line_of (codes "elfkit: form not built"))) true
+    → Does f o e refused_status not_built result a a s t
 unfolding not_built says
-not_built_done f o e a s t stated result is h =
-    rw is (says_done f o e a a s t refused_status _ 1 result h.writes (status_of_refusal result h.value_is))
+not_built_done f o e a s t result h =
+    says_done f o e a a s t refused_status _ 1 result h.writes (status_of_refusal result h.value_is)
 
 -- the usage line of words that are refused
 abbrev pub bad_words : {T : Type 0} → Result T Stop → Result Status Stop

@@ -43,7 +43,7 @@ pub fn readelf<F: Files, O: Sink, E: Sink>(
         result files.old files.new outputs.old outputs.new }
 {
     if !are_built(parts) {
-        return not_built(outputs);
+        return not_built(files, outputs);
     }
     let tool = &ReadelfTool { parts };
     let of_file = Titled {

@@ -1,12 +1,10 @@
-use Rattle.std.proofs.Common.{sym, refl}
+use Rattle.std.proofs.Common.{sym}
 use Rattle.elfkit.specs.Readelf.{readelf_files, readelf_outcome}
-use Rattle.elfkit.proofs.CommandLemmas.{not_built_done}
 use Rattle.elfkit.proofs.commands.readelf.readelf.Goals as goal
 
 pub returns-then-not-are_built-clause-does : goal.returns-then-not-are_built-clause-does
 unfolding readelf_outcome
-returns-then-not-are_built-clause-does g c = λ told.
-    not_built_done g.F.Files g.O.Sink g.E.Sink c.args.files.now c.args.outputs.now _ _ _ (rw (← c.if-not-are_built.ensures) refl) c.not_built.ensures.performs
+returns-then-not-are_built-clause-does g c = λ told. rw (← c.if-not-are_built.ensures) c.not_built.ensures.does
 
 pub returns-clause-does : goal.returns-clause-does
 unfolding readelf_outcome readelf_files
