@@ -1,11 +1,15 @@
 //! What readelf shows of the members of an archive.
 
-use super::{NOTHING, run_line};
-use elf_types::{Class, Octets, Order};
+use super::{NOTHING, ROOM, run_line};
+use elf_outside::{MemSink, MemSource};
+use elf_types::{Addrs, Class, Octets, Order};
+use object_output::show_file;
+use readelf_tool::ReadelfTool;
 use std::alloc::Global;
 use std::test::Fail;
 use test_images::symbol_object;
-use tool_output::Status;
+use tool_output::{Outputs, Status};
+use tool_text::ReadelfParts;
 
 /// Appends a text, and spaces up to a width.
 fn put_field(bytes: &mut Octets, text: &[u8], width: usize) -> Result<(), Fail> {
@@ -154,5 +158,40 @@ fn an_archive_in_an_archive_is_no_image(rt: HostRuntime) -> Result<(), Fail> {
 fn an_empty_archive_has_nothing(rt: HostRuntime) -> Result<(), Fail> {
     let ran = run_line(rt.alloc(), "readelf -hl F", b"!<arch>\n", NOTHING)?;
     assert!(rt; ran.is(Status::Done, b"", b""));
+    Ok(())
+}
+
+/// The parts of `readelf -h`.
+const HEADER: ReadelfParts = ReadelfParts {
+    header: true,
+    segments: false,
+    sections: false,
+    symbols: false,
+    relocations: false,
+    dynamic: false,
+    notes: false,
+    versions: false,
+};
+
+/// How many bytes of an archive are asked for when its members' headers are shown.
+fn asked(alloc: Global, archive: Octets) -> Result<u64, Fail> {
+    let tool = ReadelfTool { parts: &HEADER };
+    let none = Addrs::new(alloc);
+    let mut out = MemSink::new(alloc, ROOM, Addrs::new(alloc))?;
+    let mut err = MemSink::new(alloc, ROOM, Addrs::new(alloc))?;
+    let mut page = Octets::new(alloc);
+    let mut outputs = Outputs::new(&mut out, &mut err, &mut page);
+    let source = MemSource::new(archive, none);
+    let (source, shown) = show_file(alloc, &tool, &tool, source, b"F", &mut outputs);
+    let _refused = outputs.end(shown);
+    Ok(source.asked())
+}
+
+#[test]
+fn a_body_is_not_read_whole(rt: HostRuntime) -> Result<(), Fail> {
+    let archive = library(rt.alloc(), b"/0")?;
+    // The first line for the kind and for the walk, five headers and the long names, each member's
+    // header, and of the object its header and three section headers.
+    assert!(rt; asked(rt.alloc(), archive)? == 8 + 8 + 5 * 60 + 27 + 3 * 60 + 64 + 3 * 64);
     Ok(())
 }
