@@ -10,8 +10,8 @@ use Rattle.object_output.specs.Images.{image_report}
 use Rattle.object_output.specs.Archives.{archive_report}
 use Rattle.object_output.specs.Files.{file_report, file_asks}
 
--- the report on a file's bytes of a command that says this of the object of a file, and this of that
--- of a member
+-- the report on a file's bytes of a command that says this of the object of a file, and this of the
+-- object of a member
 unfoldable pub object_file_report : List ℕ → (Name → Object → Report) → (Name → Object → Report)
     → Name → List ℕ → Report
 object_file_report command report member_report =

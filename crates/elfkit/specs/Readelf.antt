@@ -1,22 +1,23 @@
 -- The command readelf: the parts of each file that it names.
-use Rattle.std.specs.Prelude.{ℕ, List, Bool, true, not, length, nat_lt, codes, if◌then◌else◌}
+use Rattle.std.specs.Prelude.{ℕ, List, Bool, true, not, ◌||◌, length, nat_lt, codes, if◌then◌else◌}
 use Rattle.elf_outside.specs.Names.{Map}
 use Rattle.tool_output.specs.Outcomes.{Outcome}
 use Rattle.tool_text.specs.declared.options.ReadelfParts.{ReadelfParts}
-use Rattle.readelf_tool.specs.Parts.{readelf_report, shows_sections, readelf_asks}
+use Rattle.readelf_tool.specs.Parts.{readelf_report, readelf_asks}
 use Rattle.elfkit.specs.Sentences.{not_built}
 use Rattle.elfkit.specs.Titles.{titled_report}
 use Rattle.elfkit.specs.Objects.{objects_outcome}
 
--- the parts that are built so far
+-- the parts that are built so far: h, l and S
 unfoldable pub are_built : ReadelfParts → Bool
-are_built parts = not (shows_sections parts)
+are_built parts =
+    not (parts.symbols || parts.relocations || parts.dynamic || parts.notes || parts.versions)
 
 -- the files in their order, each image under a title where more than one file is named, and each
 -- member of an archive under its own
 unfoldable pub readelf_files : ReadelfParts → List (List ℕ) → Map → Outcome
 readelf_files parts names named =
-    let report = λ (has_title : Bool). titled_report has_title (λ name o. readelf_report parts o) in
+    let report = λ (has_title : Bool). titled_report has_title (readelf_report parts) in
     let many = nat_lt 1 (length names) in
     objects_outcome (codes "readelf") (report many) (report true) (readelf_asks parts) names named
 

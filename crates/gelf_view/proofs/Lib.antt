@@ -17,3 +17,4 @@ mod SymbolLemmas
 mod SymbolCalls
 mod ChainLemmas
 mod ChainCalls
+mod CountLemmas

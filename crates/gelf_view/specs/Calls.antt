@@ -2,7 +2,9 @@
 -- of the plain object (gelf_getnote, gelf_getverdef and its like, gelf_getsymshndx). Notes and
 -- version records are refused as a lend of bytes, and then by what stands in the bytes.
 use Rattle.std.specs.Prelude.{◌≡◌, ℕ, ◌==◌, ◌&&◌, not, Bool, List, [], ◌∷◌, length, Option, Some, None, is_none, if◌then◌else◌, Result, Ok}
+use Rattle.std.specs.Option.{option_map}
 use Rattle.elf_types.specs.declared.constants.TheConstants.{SHT_SYMTAB_SHNDX}
+use Rattle.elf_types.specs.declared.records.ScnId.{ScnId}
 use Rattle.elf_types.specs.declared.records.Sym.{Sym}
 use Rattle.elf_types.specs.declared.records.Kind.{Kind}
 use Rattle.elf_types.specs.declared.records.Kind.TheVariants as kinds
@@ -82,6 +84,10 @@ abbrev pub record_found : {A : Type 0} → ℕ → (Order → List ℕ → A) �
     → Result A ElfError
 record_found size of at o bytes = result_map (of o.header.order) (record_at size bytes at)
 
+-- the call that reads one in a piece
+abbrev pub record_call : {A : Type 0} → ℕ → (Order → List ℕ → A) → ℕ → ℕ → ℕ → Call A
+record_call size of s p at = in_bytes s p (record_found size of at)
+
 unfoldable pub verdef_answer : Object → ℕ → ℕ → ℕ → Result Verdef ElfError
 verdef_answer o s p at = bytes_answer o s p >>= λ bytes. verdef_at o.header.order bytes at
 
@@ -125,6 +131,10 @@ vernaux s p at = bytes_reader s p (λ o. vernaux_answer o s p at)
 -- whether a section is a table of extended indexes of the symbols of another
 abbrev pub is_index_table : ℕ → Section → Bool
 is_index_table s c = c.header.stype == SHT_SYMTAB_SHNDX && c.header.link == s
+
+-- the first such section, as a caller has it
+abbrev pub IsTable : Object → ℕ → Option ScnId → Type 0
+IsTable o s table = option_map (λ x. x.0) table ≡ sections.shndx_table o s
 
 -- word i of that table
 abbrev pub extended : ℕ → ℕ → Call ℕ

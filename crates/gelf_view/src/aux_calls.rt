@@ -4,7 +4,7 @@ ghost use Rattle.std.specs.Prelude.{◌≡◌, [], ℕ, IsTrue};
 ghost use Rattle.elf_object.specs.Words.{Answers};
 ghost use Rattle.elf_descriptor.specs.Reads.{Queries, wanted};
 ghost use Rattle.gelf_view.specs.Calls as calls;
-ghost use Rattle.gelf_view.specs.Calls.{in_bytes, record_found, verdaux_answer, vernaux_answer};
+ghost use Rattle.gelf_view.specs.Calls.{record_call, verdaux_answer, vernaux_answer};
 ghost use Rattle.gelf_view.specs.Chains.{aux_answer, aux_from, aux_then, verdauxs, vernauxs, IsBehind, IsLedBy};
 
 use crate::aux::AuxPlace;
@@ -48,14 +48,12 @@ fn next_record<S: Source, R: Aux>(
     place: &mut AuxPlace,
 ) -> Result<Option<R>, ElfError>
     ensures answer { Answers elf.old.told
-        (wanted (in_bytes d.section d.piece (record_found R.size R.of place.old.at)) elf.old) result
-        (aux_answer
-        (λ at. (in_bytes d.section d.piece (record_found R.size R.of at)).answer elf.old.o)
+        (wanted (record_call R.size R.of d.section d.piece place.old.at) elf.old) result
+        (aux_answer (λ at. (record_call R.size R.of d.section d.piece at).answer elf.old.o)
         place.old) }
     ensures behind { IsBehind result R.next_of place.old place.new }
-    ensures queries { Queries S.Source
-        (in_bytes d.section d.piece (record_found R.size R.of place.old.at)) [] result elf.old
-        elf.new }
+    ensures queries { Queries S.Source (record_call R.size R.of d.section d.piece place.old.at) []
+        result elf.old elf.new }
 {
     if place.left == 0 {
         return Ok(None);

@@ -16,7 +16,7 @@ ghost use Rattle.gelf_view.specs.Calls.{bytes, kind_refusal};
 
 use elf_descriptor::{Elf, Held};
 use elf_outside::Source;
-use elf_types::{DataId, ElfError, Kind, Order, ScnId};
+use elf_types::{Class, DataId, ElfError, Kind, Order, ScnId};
 use elf_xlate::Items;
 
 /// Reads a section's home where its bytes are not held. It refuses in this order: `NoSection`,
@@ -136,4 +136,12 @@ pub fn order<S: Source>(elf: &Elf<S>) -> Order
     ensures { result ≡ elf.now.o.header.order }
 {
     elf.ehdr().order
+}
+
+/// The class of an object.
+#[tactic(auto, unfolding(elf_object::specs::Object::header_of))]
+pub fn class<S: Source>(elf: &Elf<S>) -> Class
+    ensures { result ≡ elf.now.o.header.class }
+{
+    elf.ehdr().class
 }

@@ -1,31 +1,42 @@
-//! The strings, notes and version records of an ELF image: what gelf(3E) shows of a section's data
-//! beside its items, read from bytes.
+//! The views of a section's data, which gelf(3E) shows: its items one by one, its strings, notes
+//! and version records, and the sections of its symbols.
+//!
+//! Each call works on a descriptor, an `Elf`, and reads a section at the first use. What is looked
+//! for in bytes is a function over bytes too, as `note_in`.
 #![tactic(auto)]
 
 mod aux;
 mod aux_calls;
+mod counts;
 mod fetching;
 mod items;
 mod note_calls;
 mod notes;
+mod piece_bytes;
 mod records;
 mod string_calls;
 mod string_places;
 mod strings;
 mod symbol_calls;
 mod symbols;
+mod updates;
 mod version_calls;
 mod versions;
 
 pub use aux::AuxPlace;
 pub use aux_calls::{next_verdaux, next_vernaux};
+pub use counts::item_count;
 pub use items::{addr, dynent, half, rel, rela, sym, word};
 pub use note_calls::note;
 pub use notes::{NoteAt, note_align, note_in};
+pub use piece_bytes::bytes;
 pub use string_calls::strptr;
 pub use strings::string_in;
-pub use symbol_calls::{shndx_table, symshndx};
+pub use symbol_calls::{shndx_table, symbol_place, symshndx};
 pub use symbols::SymPlace;
+pub use updates::{
+    update_addr, update_dynent, update_half, update_rel, update_rela, update_sym, update_word,
+};
 pub use version_calls::{first_entry, verdaux, verdef, vernaux, verneed};
 pub use versions::{
     Verdaux, Verdef, Vernaux, Verneed, verdaux_in, verdef_in, vernaux_in, verneed_in,
@@ -33,5 +44,7 @@ pub use versions::{
 
 #[cfg(test)]
 mod call_tests;
+#[cfg(test)]
+mod descriptor_tests;
 #[cfg(test)]
 mod tests;

@@ -87,7 +87,7 @@ fn check_strings<S: Source>(elf: &Elf<S>, s: ScnId) -> Result<u32, ElfError>
 
 /// The length of the home of a section that is there.
 #[tactic(auto, unfolding(elf_object::specs::Calls::home_answer))]
-fn home_len<S: Source>(elf: &Elf<S>, s: ScnId) -> u64
+pub(crate) fn home_len<S: Source>(elf: &Elf<S>, s: ScnId) -> u64
     requires { no_section elf.now.o s.0 ≡ None }
     ensures { result ≡ (section_at elf.now.o s.0).home.len }
 {
@@ -99,7 +99,7 @@ fn home_len<S: Source>(elf: &Elf<S>, s: ScnId) -> u64
 
 /// Whether the home of a section that is there is out of the file.
 #[tactic(auto, unfolding(elf_descriptor::specs::Homes::out_answer))]
-fn is_out<S: Source>(elf: &Elf<S>, s: ScnId) -> bool
+pub(crate) fn is_out<S: Source>(elf: &Elf<S>, s: ScnId) -> bool
     requires { no_section elf.now.o s.0 ≡ None }
     ensures out { result ≡ (section_at elf.now.o s.0).home.out }
     ensures object { IsObject elf.now.o }

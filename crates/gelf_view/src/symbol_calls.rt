@@ -1,15 +1,13 @@
 //! The section of a symbol of a section's data.
 
 ghost use Rattle.std.specs.Prelude.{◌≡◌, None};
-ghost use Rattle.std.specs.Option.{option_map};
 ghost use Rattle.elf_object.specs.Words.{Answers, AnswersRead};
 ghost use Rattle.elf_object.specs.Object.{section_at};
 ghost use Rattle.elf_object.specs.Answers.{no_section};
-ghost use Rattle.elf_object.specs.SymbolSections as sections;
 ghost use Rattle.elf_object.specs.SymbolSections.{symshndx_refusals};
 ghost use Rattle.elf_descriptor.specs.Reads.{Looks, wanted};
 ghost use Rattle.gelf_view.specs.Calls as calls;
-ghost use Rattle.gelf_view.specs.Calls.{extended, is_index_table, symbol_place};
+ghost use Rattle.gelf_view.specs.Calls.{extended, is_index_table, symbol_place, IsTable};
 
 use crate::items::{sym, word};
 use crate::symbols::SymPlace;
@@ -34,9 +32,9 @@ fn is_table_of<S: Source>(elf: &Elf<S>, table: u32, s: ScnId) -> bool
 /// is `SHT_SYMTAB_SHNDX` and whose present link is that section. It refuses nothing, reads nothing
 /// and takes no memory.
 ///
-/// Source: gABI chapter 4, "Sections", `SHT_SYMTAB_SHNDX`.
+/// Source: gABI chapter 4, "Sections", `SHT_SYMTAB_SHNDX`; elf_scnshndx of libelf.
 pub fn shndx_table<S: Source>(elf: &Elf<S>, s: ScnId) -> Option<ScnId>
-    ensures { option_map (λ table. table.0) result ≡ sections.shndx_table elf.now.o s.0 }
+    ensures { IsTable elf.now.o s.0 result }
 {
     let count = elf.shnum();
     for table in 0..count {
@@ -47,14 +45,29 @@ pub fn shndx_table<S: Source>(elf: &Elf<S>, s: ScnId) -> Option<ScnId>
     None
 }
 
+/// That table where a symbol's index says that it is needed.
+fn table_for<S: Source>(elf: &Elf<S>, s: ScnId, shndx: u16) -> Option<ScnId>
+    ensures { shndx ≡ SHN_XINDEX → IsTable elf.now.o s.0 result }
+{
+    if u32::from(shndx) != SHN_XINDEX {
+        return None;
+    }
+    shndx_table(elf, s)
+}
+
 /// The extended index of symbol `i` of a section: word `i` in piece 0 of its table of extended
 /// indexes. Where there is no table it refuses `NoEntry` with count 0, and else as `word`.
-fn extended_index<S: Source>(elf: &mut Elf<S>, s: ScnId, i: u64) -> Result<u32, ElfError>
+fn extended_index<S: Source>(
+    elf: &mut Elf<S>,
+    s: ScnId,
+    i: u64,
+    table: Option<ScnId>,
+) -> Result<u32, ElfError>
+    requires { IsTable elf.old.o s.0 table }
     ensures answer { Answers elf.old.told (wanted (extended s.0 i) elf.old) result
         ((extended s.0 i).answer elf.old.o) }
     ensures looks { Looks S.Source (extended s.0 i) result elf.old elf.new }
 {
-    let table = shndx_table(elf, s);
     match table {
         Some(table) => word(
             elf,
@@ -68,8 +81,21 @@ fn extended_index<S: Source>(elf: &mut Elf<S>, s: ScnId, i: u64) -> Result<u32, 
     }
 }
 
-/// The place of a symbol with index `i` in a section.
-fn place_of<S: Source>(elf: &mut Elf<S>, s: ScnId, i: u64, x: Sym) -> Result<SymPlace, ElfError>
+/// The section of a symbol that was looked at, which is symbol `i` of a section, as `symshndx` tells
+/// it: for who goes over the symbols of a section, and has looked for its table of extended indexes
+/// once. Where the index is `SHN_XINDEX` it refuses `NoEntry` with count 0 where there is no table,
+/// and else as `word` on it; `Memory` or `Read` may come there. It marks nothing dirty.
+///
+/// Source: gABI chapter 4, "Symbol Table", `st_shndx`; gelf_getsymshndx of gelf(3E), which takes the
+/// data of both tables.
+pub fn symbol_place<S: Source>(
+    elf: &mut Elf<S>,
+    s: ScnId,
+    i: u64,
+    x: Sym,
+    table: Option<ScnId>,
+) -> Result<SymPlace, ElfError>
+    requires { x.shndx ≡ SHN_XINDEX → IsTable elf.old.o s.0 table }
     ensures answer { Answers elf.old.told
         (wanted (symbol_place elf.old.told s.0 i x) elf.old) result
         ((symbol_place elf.old.told s.0 i x).answer elf.old.o) }
@@ -82,7 +108,7 @@ fn place_of<S: Source>(elf: &mut Elf<S>, s: ScnId, i: u64, x: Sym) -> Result<Sym
     if index != SHN_XINDEX {
         return Ok(SymPlace::Special(x.shndx));
     }
-    match extended_index(elf, s, i) {
+    match extended_index(elf, s, i, table) {
         Ok(number) => Ok(SymPlace::Section(number)),
         Err(e) => Err(e),
     }
@@ -91,7 +117,8 @@ fn place_of<S: Source>(elf: &mut Elf<S>, s: ScnId, i: u64, x: Sym) -> Result<Sym
 /// The section of symbol `i` of a piece, with its extended index. An index below `SHN_LORESERVE` is
 /// a section's number, and one from there to 0xfffe is a special one. `SHN_XINDEX` says that the
 /// number is word `i` in piece 0 of the table of extended indexes: the first section whose present
-/// type is `SHT_SYMTAB_SHNDX` and whose present link is the symbol's section.
+/// type is `SHT_SYMTAB_SHNDX` and whose present link is the symbol's section. It looks for that
+/// table where it is needed, section by section.
 ///
 /// It refuses as `sym`; where the table is needed, `NoEntry` with count 0 where there is none, and
 /// else as `word` on it. `Memory` and `Read` may come at both. It marks nothing dirty.
@@ -106,7 +133,11 @@ pub fn symshndx<S: Source>(elf: &mut Elf<S>, d: DataId, i: u64) -> Result<SymPla
         elf.new }
 {
     match sym(elf, d, i) {
-        Ok(x) => place_of(elf, ScnId(d.section), i, x),
+        Ok(x) => {
+            let s = ScnId(d.section);
+            let table = table_for(elf, s, x.shndx);
+            symbol_place(elf, s, i, x, table)
+        }
         Err(e) => Err(e),
     }
 }

@@ -4,7 +4,7 @@ ghost use Rattle.std.specs.Prelude.{◌≡◌, [], true, IsTrue, OnOk, length};
 ghost use Rattle.elf_object.specs.Words.{Answers};
 ghost use Rattle.elf_descriptor.specs.Reads.{Queries, wanted};
 ghost use Rattle.gelf_view.specs.Calls as calls;
-ghost use Rattle.gelf_view.specs.Calls.{first_place, in_bytes, record_found};
+ghost use Rattle.gelf_view.specs.Calls.{first_place, record_call};
 ghost use Rattle.gelf_view.specs.Chains.{behind_verdef, behind_verneed, verdefs, verneeds, IsLedBy};
 ghost use Rattle.gelf_view.specs.Records.{LiesAt};
 ghost use Rattle.gelf_view.specs.declared.versions.TheConstants.{VERDEF_SIZE, VERNEED_SIZE};
@@ -31,11 +31,11 @@ pub fn read_record<S: Source, R: Record>(
     at: u64,
 ) -> Result<R, ElfError>
     ensures answer { Answers elf.old.told
-        (wanted (in_bytes d.section d.piece (record_found R.size R.of at)) elf.old) result
-        ((in_bytes d.section d.piece (record_found R.size R.of at)).answer elf.old.o) }
+        (wanted (record_call R.size R.of d.section d.piece at) elf.old) result
+        ((record_call R.size R.of d.section d.piece at).answer elf.old.o) }
     ensures within { OnOk result (LiesAt at R.size (count_at elf.old.o d.section d.piece)) }
-    ensures queries { Queries S.Source (in_bytes d.section d.piece (record_found R.size R.of at)) []
-        result elf.old elf.new }
+    ensures queries { Queries S.Source (record_call R.size R.of d.section d.piece at) [] result
+        elf.old elf.new }
 {
     match fetch_bytes(elf, d) {
         Ok(()) => R::read_in(bytes_there(elf, d), at, order(elf)),

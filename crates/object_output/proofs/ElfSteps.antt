@@ -1,5 +1,7 @@
 -- Steps over a descriptor and the outputs, one after another.
-use Rattle.std.proofs.Common.{◌≡◌, ◌||◌, Bool, false, Result, Ok, Err, IsTrue, refl, ◌∙◌, subst, arith}
+use Rattle.std.proofs.Common.{◌≡◌, ◌||◌, Bool, false, ℕ, List, None, Result, Ok, Err, IsTrue, IfNone, refl, ◌∙◌, subst, arith}
+use Rattle.elf_types.specs.declared.errors.ElfError.{ElfError}
+use Rattle.elf_outside.specs.Asks.{ReadRose}
 use Rattle.elf_outside.specs.declared.sources.Source.{Ghosts as SourceGhosts}
 use Rattle.elf_outside.specs.declared.sinks.Sink.{Ghosts as SinkGhosts}
 use Rattle.elf_object.specs.Object.{Object}
@@ -7,12 +9,14 @@ use Rattle.elf_descriptor.specs.State.{State}
 use Rattle.tool_output.specs.declared.stops.Stop.{Stop}
 use Rattle.tool_output.specs.declared.stops.Stop.TheVariants.{Read, Write, Memory}
 use Rattle.tool_output.specs.declared.outputs.Outputs.{Outputs}
-use Rattle.tool_output.specs.Reports.{Report, Reports, no_report, joined}
+use Rattle.tool_output.specs.Reports.{Report, Reports, no_report, shown, joined}
 use Rattle.tool_output.specs.Steps.{KeepsSinks, LeavesOutputs, OnRead, OnWrite}
+use Rattle.tool_output.specs.Stops.{stop_of}
 use Rattle.tool_output.proofs.StepLemmas.{keeps_none, keeps_then}
-use Rattle.tool_output.proofs.ReportLemmas.{reports_then, reports_then_stop, reports_stop, reports_nothing}
+use Rattle.tool_output.proofs.SourceLemmas.{reads_weaker, refused_reports, refused_leaves, Stops}
+use Rattle.tool_output.proofs.ReportLemmas.{reports_none, reports_then, reports_then_stop, reports_stop, reports_nothing, shown_then}
 use Rattle.tool_output.proofs.UnderWayLemmas.{begins, goes_on, stops_at, is_given}
-use Rattle.object_output.specs.Steps.{LeavesElf, ReportsElf, Learns, ElfUnderWay, SourceRose}
+use Rattle.object_output.specs.Steps.{LeavesElf, ReadsElf, ReportsElf, Learns, ElfUnderWay, SourceRose}
 use Rattle.object_output.proofs.SourceSteps.{leaves_then, left_after}
 
 module _ {S : Type 0} (s : SourceGhosts S) where
@@ -44,13 +48,6 @@ module _ {S O E : Type 0} (s : SourceGhosts S) (o : SinkGhosts O) (e : SinkGhost
       → LeavesOutputs o e (SourceRose s b c) r u v → LeavesOutputs o e (SourceRose s a c) r t v
   outputs_after r a b c t u v h k l = left_after o e r (s.faults a.source) (s.faults b.source) (s.faults c.source) t u v h.later k l
 
-  -- a step that reads nothing leaves as much where something is read
-  pub reads_nothing : (P : Type 0) (r : Result Bool Stop) (t u : Outputs O E) → LeavesOutputs o e ⊥ r t u → LeavesOutputs o e P r t u
-  reads_nothing P (Ok x) t u h = record { keeps = h.keeps; read = tt; write = tt }
-  reads_nothing P (Err Read) t u h = absurd h.read
-  reads_nothing P (Err Write) t u h = record { keeps = h.keeps; read = tt; write = h.write }
-  reads_nothing P (Err Memory) t u h = record { keeps = h.keeps; read = tt; write = tt }
-
   -- ---- A report
 
   -- what is written after a call that leaves the object
@@ -59,16 +56,16 @@ module _ {S O E : Type 0} (s : SourceGhosts S) (o : SinkGhosts O) (e : SinkGhost
   elf_says report r a b t u h k l = record {
     reports = k;
     elf = h;
-    leaves = reads_nothing (SourceRose s a b) r t u l;
+    leaves = reads_weaker o e (SourceRose s a b) r t u l;
   }
 
-  -- a step that stops before it writes
-  pub elf_stopped : (report : Object → Report) (stop : Stop) (a b : State S) (t : Outputs O E) → LeavesElf s a b
-      → LeavesOutputs {T = Bool} o e (SourceRose s a b) (Err stop) t t → ReportsElf s o e report (Err stop) a b t t
-  elf_stopped report stop a b t h l = record {
-    reports = λ told. reports_nothing o e t stop (report a.o);
+  -- a step that says nothing
+  pub elf_says_none : (report : Object → Report) (a b : State S) (t : Outputs O E) → LeavesElf s a b → (IsTrue a.told → report a.o ≡ no_report)
+      → ReportsElf s o e report (Ok false) a b t t
+  elf_says_none report a b t h none = record {
+    reports = λ told. rw (none told) (reports_none o e t);
     elf = h;
-    leaves = l;
+    leaves = record { keeps = keeps_none o e t; read = tt; write = tt };
   }
 
   -- the same report, stated otherwise
@@ -102,6 +99,16 @@ module _ {S O E : Type 0} (s : SourceGhosts S) (o : SinkGhosts O) (e : SinkGhost
       leaves = outputs_after (Err stop) a b c t u v h.elf h.leaves.keeps k.leaves;
     }
 
+  -- a text on standard output, and then a report
+  pub elf_shown_then : (text : Object → List ℕ) (q : Object → Report) (r : Result Bool Stop) (x : Bool) (a b c : State S) (t u v : Outputs O E)
+      → ReportsElf s o e (λ m. shown (text m)) (Ok x) a b t u → ReportsElf s o e q r b c u v → ReportsElf s o e (λ m. joined (shown (text m)) (q m)) r a c t v
+  elf_shown_then text q r x a b c t u v h k = record {
+    reports = λ told. shown_then o e r t u v (text a.o) x (q a.o) (h.reports told)
+        (subst (λ (m : Object). Reports o e r u v (q m)) h.elf.object (k.reports (still_told s a b h.elf told)));
+    elf = elf_left_then s a b c h.elf k.elf;
+    leaves = outputs_after r a b c t u v h.elf h.leaves.keeps k.leaves;
+  }
+
   -- the first of two stops
   pub elf_stop : (p q : Object → Report) (a b : State S) (t u : Outputs O E) (stop : Stop) → ReportsElf s o e p (Err stop) a b t u
       → ReportsElf s o e (λ m. joined (p m) (q m)) (Err stop) a b t u
@@ -111,7 +118,33 @@ module _ {S O E : Type 0} (s : SourceGhosts S) (o : SinkGhosts O) (e : SinkGhost
     leaves = h.leaves;
   }
 
+  -- a call answered an error, which refuses what is spoken of or stops the step
+  pub elf_refuses : (report : Object → Report) (T : Type 0) (d : ElfError) (refused : Report) (r : Result Bool Stop) (a b : State S) (t u : Outputs O E)
+      → LeavesElf s a b → ReadRose {T = T} (Err d) (s.faults a.source) (s.faults b.source) → (IsTrue a.told → stop_of d ≡ None → report a.o ≡ refused)
+      → IfNone (stop_of d) (Reports o e r t u refused) → Stops o e r t u d → IfNone (stop_of d) (LeavesOutputs o e ⊥ r t u)
+      → ReportsElf s o e report r a b t u
+  elf_refuses report T d refused r a b t u h rose same k stops l = record {
+    reports = λ told. refused_reports o e T d r t u (s.faults a.source) (s.faults b.source) (report a.o) refused rose (same told) k stops;
+    elf = h;
+    leaves = refused_leaves o e T d r t u (s.faults a.source) (s.faults b.source) rose l stops;
+  }
+
   -- ---- A value, and then a report
+
+  -- a step that stops before there is a value
+  pub elf_unread : (T : Type 0) (stop : Stop) (report : Object → Report) (a b : State S) (t : Outputs O E) → ReadsElf {T = T} s (Err stop) a b
+      → ReportsElf s o e report (Err stop) a b t t
+  elf_unread T stop report a b t h = record {
+    reports = λ told. reports_nothing o e t stop (report a.o);
+    elf = h.elf;
+    leaves = by_stop stop h.read h.write;
+  }
+    where
+      by_stop : (stop : Stop) → OnRead {T = T} (Err stop) (SourceRose s a b) → OnWrite {T = T} (Err stop) ⊥
+          → LeavesOutputs {T = Bool} o e (SourceRose s a b) (Err stop) t t
+      by_stop Read read write = record { keeps = keeps_none o e t; read = read; write = tt }
+      by_stop Memory read write = record { keeps = keeps_none o e t; read = tt; write = tt }
+      by_stop Write read write = absurd write
 
   module _ {T : Type 0} (stated : Object → T) (a b : State S) where
     -- the report that the value decides
@@ -120,21 +153,15 @@ module _ {S O E : Type 0} (s : SourceGhosts S) (o : SinkGhosts O) (e : SinkGhost
     elf_learns v report r c t u h k = record {
       reports = λ told.
           subst (λ (x : T). Reports o e r t u (report x a.o)) (h.value told)
-          (subst (λ (x : Object). Reports o e r t u (report v x)) h.elf.object (k.reports (still_told s a b h.elf told)));
-      elf = elf_left_then s a b c h.elf k.elf;
-      leaves = outputs_after r a b c t t u h.elf (keeps_none o e t) k.leaves;
+          (subst (λ (x : Object). Reports o e r t u (report v x)) h.reads.elf.object (k.reports (still_told s a b h.reads.elf told)));
+      elf = elf_left_then s a b c h.reads.elf k.elf;
+      leaves = outputs_after r a b c t t u h.reads.elf (keeps_none o e t) k.leaves;
     }
 
     -- or there is none
     pub elf_learns_none : (stop : Stop) (report : Object → Report) (t : Outputs O E) → Learns {T = T} s stated (Err stop) a b
         → ReportsElf s o e report (Err stop) a b t t
-    elf_learns_none stop report t h = elf_stopped report stop a b t h.elf (by_stop stop h.read h.write)
-      where
-        by_stop : (stop : Stop) → OnRead {T = T} (Err stop) (SourceRose s a b) → OnWrite {T = T} (Err stop) ⊥
-            → LeavesOutputs {T = Bool} o e (SourceRose s a b) (Err stop) t t
-        by_stop Read read write = record { keeps = keeps_none o e t; read = read; write = tt }
-        by_stop Memory read write = record { keeps = keeps_none o e t; read = tt; write = tt }
-        by_stop Write read write = absurd write
+    elf_learns_none stop report t h = elf_unread T stop report a b t h.reads
 
 -- ---- A report that is given in steps
 

@@ -8,8 +8,7 @@ use Rattle.tool_output.specs.Files.{both_bounds}
 use Rattle.tool_output.specs.Reports.{Report}
 use Rattle.object_output.specs.Images.{image_asks}
 
--- by what is said of an image, and of an archive: what the first bytes of neither tell is said to be
--- no image
+-- by what is said of an image, and of an archive; what begins as neither is taken as an image
 abbrev pub report_by : (Name → List ℕ → Report) → (Name → List ℕ → Report) → FileKind → Name
     → List ℕ → Report
 report_by of_image of_archive Archive name bytes = of_archive name bytes

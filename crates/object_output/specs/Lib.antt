@@ -4,3 +4,4 @@ pub mod Shows
 pub mod Images
 pub mod Archives
 pub mod Files
+pub mod Sections

@@ -31,14 +31,19 @@ pub record ReportsElf {S O E : Type 0} (s : SourceGhosts S) (o : SinkGhosts O) (
   pub elf : LeavesElf s old new
   pub leaves : LeavesOutputs o e (SourceRose s old new) result outputs_old outputs_new
 
--- It gives a value that is stated of the object, where the source tells its bytes, and leaves the
--- object. It stops by Read only where a read of the source failed, and never by Write.
-pub record Learns {S T : Type 0} (s : SourceGhosts S) (stated : Object → T)
-    (result : Result T Stop) (old new : State S) : Type 0 where
-  pub value : IsTrue old.told → IfOk result (λ v. v ≡ stated old.o)
+-- It writes nothing and leaves the object. It stops by Read only where a read of the source failed,
+-- and never by Write.
+pub record ReadsElf {S T : Type 0} (s : SourceGhosts S) (result : Result T Stop)
+    (old new : State S) : Type 0 where
   pub elf : LeavesElf s old new
   pub read : OnRead result (SourceRose s old new)
   pub write : OnWrite result ⊥
+
+-- besides, it gives a value that is stated of the object, where the source tells its bytes
+pub record Learns {S T : Type 0} (s : SourceGhosts S) (stated : Object → T)
+    (result : Result T Stop) (old new : State S) : Type 0 where
+  pub value : IsTrue old.told → IfOk result (λ v. v ≡ stated old.o)
+  pub reads : ReadsElf s result old new
 
 -- Of a report on the object all but the rest was given, with `refused` as the answer so far: what
 -- is true of whatever goes over something in an object, sections, symbols or notes.

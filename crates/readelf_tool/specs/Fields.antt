@@ -26,3 +26,25 @@ hex_line name n = field_line name (codes "0x" ++ hex n)
 -- or a number by its name
 abbrev pub name_line : List ℕ → Option (List ℕ) → ℕ → List ℕ
 name_line title name n = field_line title (name_or_hex name n)
+
+-- ---- The columns of a row
+
+-- ` NAME 0xN`
+unfoldable pub hex_column : List ℕ → ℕ → List ℕ
+hex_column name n = codes " " ++ name ++ codes " 0x" ++ hex n
+
+-- ` NAME N`
+unfoldable pub decimal_column : List ℕ → ℕ → List ℕ
+decimal_column name n = codes " " ++ name ++ codes " " ++ decimal n
+
+-- ` TITLE NAME`, the name of a number or the number in hexadecimal
+unfoldable pub name_column : List ℕ → Option (List ℕ) → ℕ → List ℕ
+name_column title name n = codes " " ++ title ++ codes " " ++ name_or_hex name n
+
+-- `  I`, with which a row begins
+unfoldable pub row_start : ℕ → List ℕ
+row_start i = codes "  " ++ decimal i
+
+-- `TITLE N`, the title of a list of so many
+unfoldable pub counted_line : List ℕ → ℕ → List ℕ
+counted_line title count = title ++ decimal count ++ codes "\n"

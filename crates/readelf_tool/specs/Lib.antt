@@ -1,4 +1,5 @@
 pub mod Fields
 pub mod Header
 pub mod Segments
+pub mod Sections
 pub mod Parts

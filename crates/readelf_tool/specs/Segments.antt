@@ -7,7 +7,7 @@ use Rattle.elf_types.specs.Names.{segment_type_name_of}
 use Rattle.elf_types.specs.Text.{hex}
 use Rattle.tool_output.specs.Lines.{numbered_lines}
 use Rattle.tool_output.specs.Reports.{Report, shown, joined}
-use Rattle.readelf_tool.specs.Fields.{name_or_hex}
+use Rattle.readelf_tool.specs.Fields.{name_or_hex, hex_column}
 
 -- a letter where its bit is set, and `-` where it is not
 unfoldable pub flag_letter : ℕ → ℕ → ℕ → ℕ
@@ -25,10 +25,6 @@ flags_text flags =
     ∷ flag_letter flags PF_X (byte "X")
     ∷ [])
     ++ other_flags flags
-
--- ` NAME 0xN`
-unfoldable pub hex_column : List ℕ → ℕ → List ℕ
-hex_column name n = codes " " ++ name ++ codes " 0x" ++ hex n
 
 -- `  I TYPE`
 unfoldable pub segment_start : ℕ → Phdr → List ℕ

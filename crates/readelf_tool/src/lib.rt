@@ -4,6 +4,10 @@
 pub mod fields;
 pub mod headers;
 pub mod parts;
+pub mod sections;
 pub mod segments;
 
 pub use parts::{ReadelfTool, readelf, show_parts, shows_sections};
+
+#[cfg(test)]
+mod tests;

@@ -1,15 +1,19 @@
 //! What readelf shows of an object.
 
-ghost use Rattle.std.specs.Prelude.{◌≡◌, codes};
+ghost use Rattle.std.specs.Prelude.{◌≡◌, codes, false};
 ghost use Rattle.elf_object.specs.Object.{header_of};
 ghost use Rattle.tool_output.specs.Reports.{Reports};
 ghost use Rattle.tool_output.specs.Steps.{LeavesOutputs};
+ghost use Rattle.tool_output.specs.Names.{file_name};
+ghost use Rattle.object_output.specs.Steps.{ReportsElf};
 ghost use Rattle.object_output.specs.Shows.{ShowsElf};
 ghost use Rattle.readelf_tool.specs.Header.{header_report};
 ghost use Rattle.readelf_tool.specs.Segments.{segments_report};
-ghost use Rattle.readelf_tool.specs.Parts.{if_asked, readelf_report, shows_sections, readelf_asks};
+ghost use Rattle.readelf_tool.specs.Sections.{sections_report};
+ghost use Rattle.readelf_tool.specs.Parts.{if_asked, front_report, data_report, readelf_report, shows_sections, readelf_asks};
 
 use crate::headers::show_header;
+use crate::sections::show_sections;
 use crate::segments::show_segments;
 use elf_descriptor::Elf;
 use elf_outside::{Sink, Source};
@@ -52,20 +56,50 @@ fn show_segments_part<S: Source, O: Sink, E: Sink>(
     }
 }
 
-/// Shows the parts of an object that are asked for: the header (`h`), then the program headers
+/// Shows the parts of the front that are asked for: the header (`h`), then the program headers
 /// (`l`). It reads nothing. The answer tells whether something was refused.
-pub fn show_parts<S: Source, O: Sink, E: Sink>(
+fn show_front<S: Source, O: Sink, E: Sink>(
     elf: &Elf<S>,
     parts: &ReadelfParts,
     outputs: &mut Outputs<'_, O, E>,
 ) -> Result<bool, Stop>
     ensures reports { Reports O.Sink E.Sink result outputs.old outputs.new
-        (readelf_report parts.now elf.now.o) }
+        (front_report parts.now elf.now.o) }
     ensures leaves { LeavesOutputs O.Sink E.Sink ⊥ result outputs.old outputs.new }
 {
     let header = show_header_part(parts.header, elf, outputs)?;
     let segments = show_segments_part(parts.segments, elf, outputs)?;
     Ok(header | segments)
+}
+
+/// Shows the section headers, where they are asked for.
+fn show_sections_part<S: Source, O: Sink, E: Sink>(
+    asked: bool,
+    elf: &mut Elf<S>,
+    outputs: &mut Outputs<'_, O, E>,
+) -> Result<bool, Stop>
+    ensures { ReportsElf S.Source O.Sink E.Sink (λ o. if_asked asked (sections_report o))
+        result elf.old elf.new outputs.old outputs.new }
+{
+    if asked {
+        show_sections(elf, outputs)
+    } else {
+        Ok(false)
+    }
+}
+
+/// Shows the parts that read sections, as far as they are asked for: the section headers (`S`).
+#[tactic(auto, unfolding(crate::specs::Parts::data_report))]
+fn show_data<S: Source, O: Sink, E: Sink>(
+    _name: &FileName<'_>,
+    elf: &mut Elf<S>,
+    parts: &ReadelfParts,
+    outputs: &mut Outputs<'_, O, E>,
+) -> Result<bool, Stop>
+    ensures { ReportsElf S.Source O.Sink E.Sink (data_report parts.now _name.now)
+        result elf.old elf.new outputs.old outputs.new }
+{
+    show_sections_part(parts.sections, elf, outputs)
 }
 
 /// Whether a part is asked for that reads sections.
@@ -81,6 +115,27 @@ pub fn shows_sections(parts: &ReadelfParts) -> bool
         || parts.versions
 }
 
+/// Shows the parts of an object that are asked for, in their order: the header (`h`), the program
+/// headers (`l`), and the section headers (`S`). Where no part reads sections, nothing is read. The
+/// answer tells whether something was refused.
+pub fn show_parts<S: Source, O: Sink, E: Sink>(
+    name: &FileName<'_>,
+    elf: &mut Elf<S>,
+    parts: &ReadelfParts,
+    outputs: &mut Outputs<'_, O, E>,
+) -> Result<bool, Stop>
+    ensures reports { ReportsElf S.Source O.Sink E.Sink (readelf_report parts.now name.now)
+        result elf.old elf.new outputs.old outputs.new }
+    ensures unread { shows_sections parts.now ≡ false → elf.new ≡ elf.old }
+{
+    let front = show_front(elf, parts, outputs)?;
+    if !shows_sections(parts) {
+        return Ok(front);
+    }
+    let data = show_data(name, elf, parts, outputs)?;
+    Ok(front | data)
+}
+
 /// The tool of the command readelf: these parts of an object.
 #[derive(Clone, Copy)]
 pub struct ReadelfTool<'a> {
@@ -91,7 +146,7 @@ pub struct ReadelfTool<'a> {
 impl ObjectTool for ReadelfTool<'_> {
     ghost command = { λ _. codes "readelf" };
 
-    ghost report = { λ t name o. readelf_report t.parts.now o };
+    ghost report = { λ t name. readelf_report t.parts.now name };
 
     ghost asks = { λ t. readelf_asks t.parts.now };
 
@@ -102,10 +157,10 @@ impl ObjectTool for ReadelfTool<'_> {
     fn show<S: Source, O: Sink, E: Sink>(
         &self,
         elf: &mut Elf<S>,
-        _name: &FileName<'_>,
+        name: &FileName<'_>,
         outputs: &mut Outputs<'_, O, E>,
     ) -> Result<bool, Stop> {
-        show_parts(elf, self.parts, outputs)
+        show_parts(name, elf, self.parts, outputs)
     }
 }
 
@@ -120,7 +175,8 @@ pub fn readelf<S: Source, O: Sink, E: Sink>(
     out: &mut O,
     err: &mut E,
 ) -> Result<bool, Stop>
-    ensures { ShowsElf S.Source O.Sink E.Sink (readelf_report parts.now)
+    ensures { ShowsElf S.Source O.Sink E.Sink
+        (readelf_report parts.now (file_name name.now))
         result elf.old elf.new out.old out.new err.old err.new }
 {
     show_object(

@@ -5,9 +5,9 @@ ghost use Rattle.elf_types.specs.Writers.{WantsMemory};
 ghost use Rattle.tool_output.specs.Lines.{numbered_lines};
 ghost use Rattle.tool_output.specs.Reports.{Reports, shown};
 ghost use Rattle.tool_output.specs.Steps.{LeavesOutputs};
-ghost use Rattle.readelf_tool.specs.Segments.{flag_letter, other_flags, flags_text, flags_column, hex_column, segment_start, segment_places, segment_sizes, segment_end, phdr_line, count_line, segments_report};
+ghost use Rattle.readelf_tool.specs.Segments.{flag_letter, other_flags, flags_text, flags_column, segment_start, segment_places, segment_sizes, segment_end, phdr_line, count_line, segments_report};
 
-use crate::fields::put_name_or_hex;
+use crate::fields::{put_hex_column, put_name_or_hex};
 use elf_descriptor::Elf;
 use elf_outside::{Sink, Source};
 use elf_types::constants::{PF_R, PF_W, PF_X};
@@ -61,18 +61,6 @@ fn put_flags_column(page: &mut Octets, flags: u32) -> Result<(), ElfError>
 {
     put_text(page, " flags ")?;
     put_flags(page, flags)
-}
-
-/// Appends ` NAME 0xN`.
-#[tactic(auto, using(crate::proofs::Rows::kept), unfolding(crate::specs::Segments::hex_column))]
-fn put_hex_column(page: &mut Octets, name: &str, n: u64) -> Result<(), ElfError>
-    ensures ok { OnOk result (page.new ≡ page.old ++ hex_column name.now n) }
-    ensures err { IfErr result (WantsMemory page.old page.new) }
-{
-    put_text(page, " ")?;
-    put_text(page, name)?;
-    put_text(page, " 0x")?;
-    put_hex(page, n)
 }
 
 /// Appends `  I TYPE`.

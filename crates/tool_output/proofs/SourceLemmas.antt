@@ -26,23 +26,23 @@ stated_error d stated h none = h
 
 module _ {O E : Type 0} (o : SinkGhosts O) (e : SinkGhosts E) where
   -- a step that reads nothing leaves as much where something is read
-  reads_weaker : (P : Type 0) (r : Result Bool Stop) (s t : Outputs O E) → LeavesOutputs o e ⊥ r s t → LeavesOutputs o e P r s t
+  pub reads_weaker : (P : Type 0) (r : Result Bool Stop) (s t : Outputs O E) → LeavesOutputs o e ⊥ r s t → LeavesOutputs o e P r s t
   reads_weaker P (Ok x) s t h = record { keeps = h.keeps; read = tt; write = tt }
   reads_weaker P (Err Read) s t h = absurd h.read
   reads_weaker P (Err Write) s t h = record { keeps = h.keeps; read = tt; write = h.write }
   reads_weaker P (Err Memory) s t h = record { keeps = h.keeps; read = tt; write = tt }
 
-  abbrev Stops : Result Bool Stop → Outputs O E → Outputs O E → ElfError → Type 0
+  abbrev pub Stops : Result Bool Stop → Outputs O E → Outputs O E → ElfError → Type 0
   Stops r s t d = IfSome (stop_of d) (λ stop. (r ≡ Err stop) × (t ≡ s))
 
-  refused_reports : (T : Type 0) (d : ElfError) (r : Result Bool Stop) (s t : Outputs O E) (before now : ℕ) (a b : Report) → ReadRose {T = T} (Err d) before now
+  pub refused_reports : (T : Type 0) (d : ElfError) (r : Result Bool Stop) (s t : Outputs O E) (before now : ℕ) (a b : Report) → ReadRose {T = T} (Err d) before now
       → (stop_of d ≡ None → a ≡ b) → IfNone (stop_of d) (Reports o e r s t b) → Stops r s t d → Reports o e r s t a
   refused_reports T error.Memory r s t before now a b rose same k stops = rw (stops.0, stops.1) (reports_nothing o e s Memory a)
   refused_reports T error.Read r s t before now a b rose same k stops = rw (stops.0, stops.1) (reports_nothing o e s Read a)
   refused_reports T error.Write r s t before now a b never same k stops = absurd never
   refused_reports T d r s t before now a b rose same k stops = subst (λ (x : Report). Reports o e r s t x) (sym (same refl)) k
 
-  refused_leaves : (T : Type 0) (d : ElfError) (r : Result Bool Stop) (s t : Outputs O E) (before now : ℕ) → ReadRose {T = T} (Err d) before now
+  pub refused_leaves : (T : Type 0) (d : ElfError) (r : Result Bool Stop) (s t : Outputs O E) (before now : ℕ) → ReadRose {T = T} (Err d) before now
       → IfNone (stop_of d) (LeavesOutputs o e ⊥ r s t) → Stops r s t d → LeavesOutputs o e (Rose before now) r s t
   refused_leaves T error.Memory r s t before now rose k stops = rw (stops.0, stops.1) (record { keeps = keeps_none o e s; read = tt; write = tt })
   refused_leaves T error.Read r s t before now rose k stops = rw (stops.0, stops.1) (record { keeps = keeps_none o e s; read = rose; write = tt })

@@ -1,6 +1,8 @@
 -- A report that is given in steps, by what is left of it: what goes over names, members, rows or parts.
-use Rattle.std.proofs.Common.{◌≡◌, ◌++◌, ◌||◌, ◌+◌, ◌<◌, ◌≤◌, Bool, false, ℕ, List, [], ◌∷◌, length, drop, get_or, Ok, Err, refl, sym, ap, ◌∙◌, subst}
+use Rattle.std.proofs.Common.{◌≡◌, ◌++◌, ◌||◌, ◌+◌, ◌<◌, ◌≤◌, Bool, false, ℕ, List, [], ◌∷◌, length, drop, get_or, Result, Ok, Err, refl, sym, ap, ◌∙◌, subst}
+use Rattle.std.specs.List.{flat_map}
 use Rattle.std.proofs.lemmas.List.{at_drop_more, at_drop_all}
+use Rattle.std.proofs.lemmas.List.Concat.{flat_map-cons}
 use Rattle.elf_outside.specs.declared.sinks.Sink.{Ghosts}
 use Rattle.tool_output.specs.declared.stops.Stop.{Stop}
 use Rattle.tool_output.specs.declared.outputs.Side.TheVariants.{Out}
@@ -42,6 +44,13 @@ module _ {O E : Type 0} {o : Ghosts O} {e : Ghosts E} {x : Bool} {s t : Outputs 
       subst (λ (r : Report). Reports o e (Err stop) s u r) (one_more a left is)
       (reports_stop o e s u (joined h.done a) left stop (reports_then_stop o e s t u h.done a x stop h.given k))
 
+  -- the last of what is left is given by the step that answers
+  pub ends_with : {u : Outputs O E} (r : Result Bool Stop) (a : Report) → x ≡ false → rest ≡ a → Reports o e r t u a → Reports o e r s u whole
+  ends_with {u} (Ok y) a none is k =
+      let all = goes_on {u = u} {y = y} {z = y} a no_report (is ∙ sym (joined_none a)) k (sym (ap (λ (v : Bool). v || y) none)) in
+      subst (λ (r : Report). Reports o e (Ok y) s u r) (sym (joined_none all.done) ∙ all.left) all.given
+  ends_with {u} (Err stop) a none is k = stops_at a no_report (is ∙ sym (joined_none a)) k
+
   -- nothing is left
   pub is_given : rest ≡ no_report → Reports o e (Ok x) s t whole
   is_given none =
@@ -68,14 +77,27 @@ module _ {X : Type 0} (report : X → Report) where
   no_reports_left xs i le = at_drop_all (reports_of report) xs i le ∙ of_nil
 
 -- a text, and the rest of the text
-shown_append : (a b : List ℕ) → shown (a ++ b) ≡ joined (shown a) (shown b)
+pub shown_append : (a b : List ℕ) → shown (a ++ b) ≡ joined (shown a) (shown b)
 unfolding shown joined
 shown_append a b = ap (λ m. record { marks = m; refused = false }) (said_append Out a b)
 
-shown_none : shown [] ≡ no_report
+pub shown_none : shown [] ≡ no_report
 unfolding shown no_report
 shown_none = ap (λ m. record { marks = m; refused = false }) (said_none Out)
 
+-- lines without numbers
+module _ {X : Type 0} (line : X → List ℕ) where
+  pub texts_left : (xs : List X) (i : ℕ) (x : X) → i < length xs → x ≡ get_or xs i x
+      → shown (flat_map line (drop i xs)) ≡ joined (shown (line x)) (shown (flat_map line (drop (i + 1) xs)))
+  texts_left xs i x lt is =
+      ap shown (at_drop_more (flat_map line) xs i x lt
+      ∙ ap (λ (y : X). flat_map line (y ∷ drop (i + 1) xs)) (sym is) ∙ flat_map-cons line x (drop (i + 1) xs))
+      ∙ shown_append (line x) (flat_map line (drop (i + 1) xs))
+
+  pub no_texts_left : (xs : List X) (i : ℕ) → length xs ≤ i → shown (flat_map line (drop i xs)) ≡ no_report
+  no_texts_left xs i le = ap shown (at_drop_all (flat_map line) xs i le) ∙ shown_none
+
+-- numbered lines
 module _ {X : Type 0} (line : ℕ → X → List ℕ) where
   line_cons : (i : ℕ) (x : X) (xs : List X) → numbered_lines line i (x ∷ xs) ≡ line i x ++ numbered_lines line (i + 1) xs
   unfolding numbered_lines

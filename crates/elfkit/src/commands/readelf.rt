@@ -11,17 +11,17 @@ use crate::commands::not_built;
 use crate::objects::each_object;
 use crate::titles::Titled;
 use elf_outside::{Files, Sink};
-use readelf_tool::{ReadelfTool, shows_sections};
+use readelf_tool::ReadelfTool;
 use std::alloc::Global;
 use tool_output::{Outputs, Stop};
 use tool_text::{Args, ReadelfParts};
 
-/// Whether all parts that are asked for are built.
+/// Whether all parts that are asked for are built: `h`, `l` and `S` are.
 #[tactic(auto, unfolding(crate::specs::Readelf::are_built))]
 fn are_built(parts: &ReadelfParts) -> bool
     ensures { result ≡ are_built parts.now }
 {
-    !shows_sections(parts)
+    !(parts.symbols || parts.relocations || parts.dynamic || parts.notes || parts.versions)
 }
 
 /// The command readelf: the parts of each file, in the order of the names. The answer tells whether

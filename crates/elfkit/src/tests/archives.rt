@@ -62,7 +62,7 @@ struct Damage {
     err: &'static [u8],
 }
 
-/// Nothing is damaged; a body, the end of the first header, its size, a long name that is not there.
+/// Nothing is damaged; a body, the end of the first header, its size, a long name without a text.
 const DAMAGES: [Damage; 5] = [
     Damage {
         long_name: b"/0",

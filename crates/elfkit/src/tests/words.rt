@@ -45,7 +45,7 @@ const SAID: [Said; 6] = [
         text: b"elfkit: form not built\n",
     },
     Said {
-        line: "readelf -hS F",
+        line: "readelf -hs F",
         status: Status::Refused,
         text: b"elfkit: form not built\n",
     },

@@ -3,11 +3,11 @@ use Rattle.gelf_view.proofs.symbol_calls.symshndx.Goals as goal
 
 pub returns-in-Ok-clause-answer : goal.returns-in-Ok-clause-answer
 returns-in-Ok-clause-answer g c =
-    placed g.S.Source c.args.elf.now c.sym.new.elf c.place_of.new.elf c.args.d.section c.args.d.piece c.args.i c.in-Ok.x c.in-Ok.ensures.answer c.in-Ok.ensures.looks c.place_of.result c.place_of.ensures.answer
+    placed g.S.Source c.args.elf.now c.sym.new.elf c.symbol_place.new.elf c.args.d.section c.args.d.piece c.args.i c.in-Ok.x c.in-Ok.ensures.answer c.in-Ok.ensures.looks c.symbol_place.result c.symbol_place.ensures.answer
 
 pub returns-in-Ok-clause-looks : goal.returns-in-Ok-clause-looks
 returns-in-Ok-clause-looks g c =
-    placed_looks g.S.Source c.args.elf.now c.sym.new.elf c.place_of.new.elf c.args.d.section c.args.d.piece c.args.i c.in-Ok.x c.in-Ok.ensures.answer c.in-Ok.ensures.looks c.place_of.result c.place_of.ensures.looks
+    placed_looks g.S.Source c.args.elf.now c.sym.new.elf c.symbol_place.new.elf c.args.d.section c.args.d.piece c.args.i c.in-Ok.x c.in-Ok.ensures.answer c.in-Ok.ensures.looks c.symbol_place.result c.symbol_place.ensures.looks
 
 pub returns-in-Err-clause-answer : goal.returns-in-Err-clause-answer
 returns-in-Err-clause-answer g c =

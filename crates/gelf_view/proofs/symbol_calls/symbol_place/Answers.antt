@@ -2,7 +2,7 @@ use Rattle.std.proofs.Common.{Ok, Err, sym, ◌∙◌}
 use Rattle.elf_outside.proofs.AskLemmas.{read_rose_on}
 use Rattle.gelf_view.specs.declared.symbols.SymPlace.{SymPlace}
 use Rattle.gelf_view.proofs.SymbolCalls.{low_answers, special_answers, extended_answers}
-use Rattle.gelf_view.proofs.symbol_calls.place_of.Goals as goal
+use Rattle.gelf_view.proofs.symbol_calls.symbol_place.Goals as goal
 
 pub returns-then-index-lt-SHN_LORESERVE-clause-answer : goal.returns-then-index-lt-SHN_LORESERVE-clause-answer
 returns-then-index-lt-SHN_LORESERVE-clause-answer g c = low_answers c.args.elf.now c.args.s.0 c.args.i c.args.x c.from-index.result c.from-index.ensures c.if-index-lt-SHN_LORESERVE.true

@@ -1,0 +1,28 @@
+use Rattle.std.proofs.Common.{Bool, Ok, false, refl}
+use Rattle.std.proofs.lemmas.Result.{err_from_is_err_and}
+use Rattle.elf_object.specs.Object.{Object}
+use Rattle.elf_object.specs.Strings as strings
+use Rattle.tool_output.specs.Reports.{no_report}
+use Rattle.object_output.specs.Sections.{report_if}
+use Rattle.object_output.proofs.ElfSteps.{elf_left, elf_learns, elf_learns_none, elf_says_none}
+use Rattle.object_output.proofs.names.NamedSectionTool.show.Goals as goal
+
+pub returns-in_err-is_named : goal.returns-in_err-is_named
+returns-in_err-is_named g c =
+    let p = err_from_is_err_and c.from_residual.result c.from_residual.ensures.1 in
+    rw (p.1, p.2) (elf_learns_none g.S.Source g.O.Sink g.E.Sink _ c.args.elf.now _ _ _ c.args.outputs.now c.in_err-is_named.ensures)
+
+pub returns-then-branch : goal.returns-then-branch
+returns-then-branch g c =
+    let named = λ (o : Object). strings.is_name c.as_bytes.result.now (strings.section_name o c.args.s.0) in
+    let report = g.T.SectionTool.report c.args.self.now.tool.now in
+    rw (← c.as_bytes.ensures.value) (elf_learns g.S.Source g.O.Sink g.E.Sink named c.args.elf.now _ c.in_ok-is_named.field-0 (λ (b : Bool) (o : Object). report_if b (report o c.args.s.0)) _ _ c.args.outputs.now _
+    c.in_ok-is_named.ensures (rw c.if-branch.true c.show.ensures))
+
+pub returns-else-branch : goal.returns-else-branch
+returns-else-branch g c =
+    let named = λ (o : Object). strings.is_name c.as_bytes.result.now (strings.section_name o c.args.s.0) in
+    let report = g.T.SectionTool.report c.args.self.now.tool.now in
+    rw (← c.as_bytes.ensures.value) (elf_learns g.S.Source g.O.Sink g.E.Sink named c.args.elf.now _ c.in_ok-is_named.field-0 (λ (b : Bool) (o : Object). report_if b (report o c.args.s.0)) _ _ c.args.outputs.now _
+    c.in_ok-is_named.ensures
+    (rw c.if-branch.false (elf_says_none g.S.Source g.O.Sink g.E.Sink (λ o. no_report) c.is_named.new.elf _ c.args.outputs.now (elf_left g.S.Source c.is_named.new.elf) (λ told. refl))))

@@ -1,0 +1,14 @@
+use Rattle.elf_object.specs.Due.{all_sections}
+use Rattle.elf_object.specs.Strings as strings
+use Rattle.object_output.specs.Sections.{sections_named}
+use Rattle.object_output.proofs.ElfSteps.{elf_as}
+use Rattle.object_output.proofs.NameLemmas.{reports_where}
+use Rattle.object_output.proofs.names.each_section_named.Goals as goal
+use Rattle.std.proofs.Common.{sym}
+
+pub returns : goal.returns
+unfolding sections_named
+returns g c =
+    let o = c.args.elf.now.o in
+    elf_as g.S.Source g.O.Sink g.E.Sink _ _ _ c.args.elf.now _ c.args.outputs.now _
+    (λ told. sym (reports_where (λ s. strings.is_name c.args.name.now (strings.section_name o s)) (g.T.SectionTool.report c.args.tool.now o) (all_sections o))) c.each_section.ensures

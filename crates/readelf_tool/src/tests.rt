@@ -1,0 +1,107 @@
+//! What readelf shows of small objects.
+
+use crate::readelf;
+use elf_descriptor::Elf;
+use elf_outside::{MemSink, MemSource};
+use elf_types::{Addrs, Class, ElfError, Octets, Order};
+use std::alloc::Global;
+use std::test::Fail;
+use test_images::{Field, HeaderField, Image, SectionField, symbol_object};
+use tool_text::ReadelfParts;
+
+/// The room of each output, more than a test writes.
+const ROOM: u64 = 1 << 16;
+
+/// No part.
+const NONE: ReadelfParts = ReadelfParts {
+    header: false,
+    segments: false,
+    sections: false,
+    symbols: false,
+    relocations: false,
+    dynamic: false,
+    notes: false,
+    versions: false,
+};
+
+/// The section headers.
+const SECTIONS: ReadelfParts = ReadelfParts {
+    sections: true,
+    ..NONE
+};
+
+/// What was said of an image.
+#[derive(Drop)]
+struct Said {
+    refused: bool,
+    out: Octets,
+    err: Octets,
+}
+
+/// A descriptor over an image.
+fn opened(alloc: Global, image: Image) -> Result<Elf<MemSource>, ElfError> {
+    match Elf::begin(alloc, MemSource::new(image.bytes, Addrs::new(alloc))) {
+        Ok(elf) => Ok(elf),
+        Err((_, e)) => Err(e),
+    }
+}
+
+/// What is said of an image under the name F.
+fn said(alloc: Global, image: Image, parts: &ReadelfParts) -> Result<Said, Fail> {
+    let mut elf = opened(alloc, image)?;
+    let mut out = MemSink::new(alloc, ROOM, Addrs::new(alloc))?;
+    let mut err = MemSink::new(alloc, ROOM, Addrs::new(alloc))?;
+    let refused = readelf(alloc, &mut elf, parts, b"F", &mut out, &mut err)?;
+    Ok(Said {
+        refused,
+        out: out.into_bytes(),
+        err: err.into_bytes(),
+    })
+}
+
+/// Whether this text is shown of an image, and nothing is refused.
+fn shows(alloc: Global, image: Image, parts: &ReadelfParts, text: &[u8]) -> Result<bool, Fail> {
+    let said = said(alloc, image, parts)?;
+    Ok(!said.refused && said.out.as_slice() == text && said.err.as_slice().is_empty())
+}
+
+/// An object with two symbols, whose symbol table is named `a`.
+fn named(alloc: Global) -> Result<Image, ElfError> {
+    let mut image = symbol_object(alloc, Class::C64, Order::Least)?;
+    image.put_field(Field::Section(2, SectionField::Name), 1);
+    Ok(image)
+}
+
+/// Its section headers.
+const HEADERS: &[u8] = b"Section headers: 3\n  \
+      0 [] NULL flags 0x0 addr 0x0 offset 0x0 size 0x0 link 0 info 0 align 0 entsize 0\n  \
+      1 [] STRTAB flags 0x0 addr 0x0 offset 0x40 size 0x3 link 0 info 0 align 1 entsize 0\n  \
+      2 [a] SYMTAB flags 0x0 addr 0x0 offset 0x48 size 0x30 link 1 info 1 align 8 entsize 24\n";
+
+#[test]
+fn section_headers_are_shown(rt: HostRuntime) -> Result<(), Fail> {
+    let image = named(rt.alloc())?;
+    assert!(rt; shows(rt.alloc(), image, &SECTIONS, HEADERS)?);
+    Ok(())
+}
+
+/// The last line of an object of class 32 whose names can not be read, and whose last section is of
+/// a type without a name.
+const NAMELESS: &[u8] = b"  2 <none> 0x70000001 flags 0x0 addr 0x0 offset 0x38 size 0x20 \
+      link 1 info 1 align 4 entsize 16\n";
+
+/// That object.
+fn nameless(alloc: Global) -> Result<Image, ElfError> {
+    let mut image = symbol_object(alloc, Class::C32, Order::Greatest)?;
+    image.put_field(Field::Header(HeaderField::Shstrndx), 0);
+    image.put_field(Field::Section(2, SectionField::Type), 0x7000_0001);
+    Ok(image)
+}
+
+#[test]
+fn numbers_stand_for_names(rt: HostRuntime) -> Result<(), Fail> {
+    let image = nameless(rt.alloc())?;
+    let said = said(rt.alloc(), image, &SECTIONS)?;
+    assert!(rt; said.out.as_slice().ends_with(NAMELESS));
+    Ok(())
+}
