@@ -5,6 +5,8 @@ use Rattle.tool_output.specs.Outcomes.{Outcome}
 use Rattle.lines_tool.specs.Tool.{lines_report}
 use Rattle.elfkit.specs.Objects.{objects_outcome}
 
--- the files in their order; what it reads of them has no bound that is promised
+-- the files in their order, and the members of one that is an archive; what it reads has no bound
+-- that is promised
 unfoldable pub lines_outcome : List (List ℕ) → Map → Outcome
-lines_outcome names named = objects_outcome (codes "lines") lines_report (λ image. None) names named
+lines_outcome names named =
+    objects_outcome (codes "lines") lines_report lines_report (λ image. None) names named

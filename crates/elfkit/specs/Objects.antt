@@ -6,12 +6,21 @@ use Rattle.tool_output.specs.Names.{Name}
 use Rattle.tool_output.specs.Files.{report_on, asks_on, all_bounds}
 use Rattle.tool_output.specs.Outcomes.{Outcome, report_outcome}
 use Rattle.tool_output.specs.Reports.{Report, reports_of}
-use Rattle.object_output.specs.Images.{image_report, image_asks}
+use Rattle.object_output.specs.Images.{image_report}
+use Rattle.object_output.specs.Archives.{archive_report}
+use Rattle.object_output.specs.Files.{file_report, file_asks}
 
--- it says this of an object, and then asks for at most so many bytes; the files in their order
-unfoldable pub objects_outcome : List ℕ → (Name → Object → Report) → (List ℕ → Option ℕ)
-    → List (List ℕ) → Map → Outcome
-objects_outcome command report asks names named =
+-- the report on a file's bytes of a command that says this of the object of a file, and this of the
+-- object of a member
+unfoldable pub object_file_report : List ℕ → (Name → Object → Report) → (Name → Object → Report)
+    → Name → List ℕ → Report
+object_file_report command report member_report =
+    file_report (image_report command report) (archive_report command member_report)
+
+-- it then asks for at most so many bytes of an image; the files in their order
+unfoldable pub objects_outcome : List ℕ → (Name → Object → Report) → (Name → Object → Report)
+    → (List ℕ → Option ℕ) → List (List ℕ) → Map → Outcome
+objects_outcome command report member_report asks names named =
     report_outcome
-    (reports_of (report_on command (image_report command report) named) names)
-    (all_bounds (map (asks_on (image_asks asks) named) names))
+    (reports_of (report_on command (object_file_report command report member_report) named) names)
+    (all_bounds (map (asks_on (file_asks asks) named) names))

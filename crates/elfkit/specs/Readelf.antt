@@ -1,5 +1,5 @@
 -- The command readelf: the parts of each file that it names.
-use Rattle.std.specs.Prelude.{ℕ, List, Bool, not, ◌||◌, length, nat_lt, codes, if◌then◌else◌}
+use Rattle.std.specs.Prelude.{ℕ, List, Bool, true, not, ◌||◌, length, nat_lt, codes, if◌then◌else◌}
 use Rattle.elf_outside.specs.Names.{Map}
 use Rattle.tool_output.specs.Outcomes.{Outcome}
 use Rattle.tool_text.specs.declared.options.ReadelfParts.{ReadelfParts}
@@ -13,12 +13,13 @@ unfoldable pub are_built : ReadelfParts → Bool
 are_built parts =
     not (parts.symbols || parts.relocations || parts.dynamic || parts.notes || parts.versions)
 
--- the files in their order, each under a title where more than one is named
+-- the files in their order, each image under a title where more than one file is named, and each
+-- member of an archive under its own
 unfoldable pub readelf_files : ReadelfParts → List (List ℕ) → Map → Outcome
 readelf_files parts names named =
+    let report = λ (has_title : Bool). titled_report has_title (readelf_report parts) in
     let many = nat_lt 1 (length names) in
-    let report = titled_report many (readelf_report parts) in
-    objects_outcome (codes "readelf") report (readelf_asks parts) names named
+    objects_outcome (codes "readelf") (report many) (report true) (readelf_asks parts) names named
 
 unfoldable pub readelf_outcome : ReadelfParts → List (List ℕ) → Map → Outcome
 readelf_outcome parts names named =

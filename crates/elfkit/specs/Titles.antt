@@ -8,10 +8,10 @@ use Rattle.tool_output.specs.Reports.{Report, no_report, shown, joined}
 unfoldable pub title : Name → List ℕ
 title name = codes "File: " ++ shown_name name ++ codes "\n"
 
--- where more than one file is named
+-- the title of an image that has one
 unfoldable pub title_report : Bool → Name → Report
-title_report many name = if many then shown (title name) else no_report
+title_report has_title name = if has_title then shown (title name) else no_report
 
 -- a report behind its title
 unfoldable pub titled_report : Bool → (Name → Object → Report) → Name → Object → Report
-titled_report many report name o = joined (title_report many name) (report name o)
+titled_report has_title report name o = joined (title_report has_title name) (report name o)

@@ -1,7 +1,7 @@
 //! Files by name, one after another, each given to a tool while it is open.
 
 ghost use Rattle.std.specs.Prelude.{◌≡◌, ℕ, List, Option, map, IfSome, IsTrue, OnOk};
-ghost use Rattle.tool_output.specs.Names.{Name};
+ghost use Rattle.tool_output.specs.Names.{Name, file_name};
 ghost use Rattle.tool_output.specs.Files.{report_on, asks_on, all_bounds, IsWithin, ReportsFiles};
 ghost use Rattle.tool_output.specs.Reports.{Report, reports_of};
 ghost use Rattle.tool_output.specs.Sources.{ReportsOn};
@@ -27,16 +27,16 @@ pub trait FileTool {
     fn command(&self) -> &'static str
         ensures { result.now ≡ command self.now };
 
-    /// Gives the report on what a source holds, under a name, and hands the source back. It stops
-    /// by `Read` only where a read of the source failed, and leaves what the source holds.
+    /// Gives the report on what a file holds, under its name, and hands the file back. It stops by
+    /// `Read` only where a read of the file failed, and leaves what the file holds.
     fn show<S: Source, O: Sink, E: Sink>(
         &self,
         alloc: Global,
         src: S,
-        name: &FileName<'_>,
+        name: &[u8],
         outputs: &mut Outputs<'_, O, E>,
     ) -> (S, Result<bool, Stop>)
-        ensures reports { ReportsOn S.Source O.Sink E.Sink (report self.now name.now)
+        ensures reports { ReportsOn S.Source O.Sink E.Sink (report self.now (file_name name.now))
             result.1 src result.0 outputs.old outputs.new }
         ensures asks { IfSome (S.holds src)
             (λ image. IsWithin (asks self.now image) (S.taken src) (S.taken result.0)) };
@@ -58,20 +58,20 @@ fn one_file<T: FileTool, F: Files, O: Sink, E: Sink>(
         IsWithin (asks_on (T.asks tool.now) (F.named files.old) file_name.now)
         (F.taken files.old) (F.taken files.new) }
 {
-    let name = FileName::of(file_name.as_bytes());
+    let name = file_name.as_bytes();
     let file = match files.open(alloc, file_name) {
         Ok(file) => file,
         Err(OpenFault::NotThere) => {
             return outputs.refuse(&Message {
                 command: tool.command(),
-                name: &name,
+                name: &FileName::of(name),
                 text: "not found",
             });
         }
         Err(OpenFault::Failed) => return Err(Stop::Read),
         Err(OpenFault::Memory) => return Err(Stop::Memory),
     };
-    let (file, shown) = tool.show(alloc, file, &name, outputs);
+    let (file, shown) = tool.show(alloc, file, name, outputs);
     files.close(file_name, file);
     shown
 }

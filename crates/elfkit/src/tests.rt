@@ -1,5 +1,6 @@
 //! The program over files and outputs in memory.
 
+mod archives;
 mod faults;
 mod lines;
 mod readelf;

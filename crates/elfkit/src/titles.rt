@@ -29,36 +29,36 @@ impl Line for Title<'_> {
     }
 }
 
-/// Shows the title of an image, where more than one file is named.
+/// Shows the title of an image, where it has one.
 fn show_title<O: Sink, E: Sink>(
-    many: bool,
+    has_title: bool,
     name: &FileName<'_>,
     outputs: &mut Outputs<'_, O, E>,
 ) -> Result<bool, Stop>
     ensures reports { Reports O.Sink E.Sink result outputs.old outputs.new
-        (title_report many name.now) }
+        (title_report has_title name.now) }
     ensures leaves { LeavesOutputs O.Sink E.Sink ⊥ result outputs.old outputs.new }
 {
-    if many {
+    if has_title {
         outputs.show(&Title { name })
     } else {
         Ok(false)
     }
 }
 
-/// A tool whose report on an image has a title, where more than one file is named.
+/// A tool whose report on an image stands behind a title, where it has one.
 #[derive(Clone, Copy)]
 pub struct Titled<'a, T> {
     /// The tool.
     pub tool: &'a T,
-    /// Whether more than one file is named.
-    pub many: bool,
+    /// Whether the reports have titles.
+    pub has_title: bool,
 }
 
 impl<T: ObjectTool> ObjectTool for Titled<'_, T> {
     ghost command = { λ t. T.command t.tool.now };
 
-    ghost report = { λ t. titled_report t.many (T.report t.tool.now) };
+    ghost report = { λ t. titled_report t.has_title (T.report t.tool.now) };
 
     ghost asks = { λ t. T.asks t.tool.now };
 
@@ -72,7 +72,7 @@ impl<T: ObjectTool> ObjectTool for Titled<'_, T> {
         name: &FileName<'_>,
         outputs: &mut Outputs<'_, O, E>,
     ) -> Result<bool, Stop> {
-        let title = show_title(self.many, name, outputs)?;
+        let title = show_title(self.has_title, name, outputs)?;
         let shown = self.tool.show(elf, name, outputs)?;
         Ok(title | shown)
     }

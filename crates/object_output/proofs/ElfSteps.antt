@@ -1,5 +1,5 @@
 -- Steps over a descriptor and the outputs, one after another.
-use Rattle.std.proofs.Common.{◌≡◌, inl, inr, ◌||◌, Bool, false, ℕ, List, None, Result, Ok, Err, IsTrue, IfNone, refl, ◌∙◌, subst, arith}
+use Rattle.std.proofs.Common.{◌≡◌, ◌||◌, Bool, false, ℕ, List, None, Result, Ok, Err, IsTrue, IfNone, refl, ◌∙◌, subst, arith}
 use Rattle.elf_types.specs.declared.errors.ElfError.{ElfError}
 use Rattle.elf_outside.specs.Asks.{ReadRose}
 use Rattle.elf_outside.specs.declared.sources.Source.{Ghosts as SourceGhosts}
@@ -10,13 +10,14 @@ use Rattle.tool_output.specs.declared.stops.Stop.{Stop}
 use Rattle.tool_output.specs.declared.stops.Stop.TheVariants.{Read, Write, Memory}
 use Rattle.tool_output.specs.declared.outputs.Outputs.{Outputs}
 use Rattle.tool_output.specs.Reports.{Report, Reports, no_report, shown, joined}
-use Rattle.tool_output.specs.Steps.{KeepsSinks, LeavesOutputs, SinkRose, OnRead, OnWrite}
+use Rattle.tool_output.specs.Steps.{KeepsSinks, LeavesOutputs, OnRead, OnWrite}
 use Rattle.tool_output.specs.Stops.{stop_of}
 use Rattle.tool_output.proofs.StepLemmas.{keeps_none, keeps_then}
 use Rattle.tool_output.proofs.SourceLemmas.{reads_weaker, refused_reports, refused_leaves, Stops}
 use Rattle.tool_output.proofs.ReportLemmas.{reports_none, reports_then, reports_then_stop, reports_stop, reports_nothing, shown_then}
 use Rattle.tool_output.proofs.UnderWayLemmas.{begins, goes_on, stops_at, is_given}
 use Rattle.object_output.specs.Steps.{LeavesElf, ReadsElf, ReportsElf, Learns, ElfUnderWay, SourceRose}
+use Rattle.object_output.proofs.SourceSteps.{leaves_then, left_after}
 
 module _ {S : Type 0} (s : SourceGhosts S) where
   -- nothing is done
@@ -32,40 +33,20 @@ module _ {S : Type 0} (s : SourceGhosts S) where
   elf_left_then a b c h k = record {
     object = k.object ∙ h.object;
     told = k.told ∙ h.told;
-    source = record {
-      same_len = k.source.same_len ∙ h.source.same_len;
-      same_bytes = k.source.same_bytes ∙ h.source.same_bytes;
-      same_rest = k.source.same_rest ∙ h.source.same_rest;
-    };
+    source = leaves_then s a.source b.source c.source h.source k.source;
     later = omega (arith, h.later, k.later);
   }
 
   pub still_told : (a b : State S) → LeavesElf s a b → IsTrue a.told → IsTrue b.told
   still_told a b h is = rw h.told is
 
-  -- a read that failed in a later step
-  rose_later : (a b c : State S) → LeavesElf s a b → SourceRose s b c → SourceRose s a c
-  rose_later a b c h rose = let p = h.later in omega (arith, p, rose)
-
 module _ {S O E : Type 0} (s : SourceGhosts S) (o : SinkGhosts O) (e : SinkGhosts E) where
   -- ---- What is left of the outputs
-
-  -- a put that failed in a later step
-  sink_rose_later : (t u v : Outputs O E) → KeepsSinks o e t u → SinkRose o e u.out.now v.out.now u.err.now v.err.now
-      → SinkRose o e t.out.now v.out.now t.err.now v.err.now
-  sink_rose_later t u v k rose = by_side rose
-    where
-      by_side : SinkRose o e u.out.now v.out.now u.err.now v.err.now → SinkRose o e t.out.now v.out.now t.err.now v.err.now
-      by_side (inl rose) = inl (let p = k.leaves.out_later in omega (arith, p, rose))
-      by_side (inr rose) = inr (let p = k.leaves.err_later in omega (arith, p, rose))
 
   -- a step that answers, after others
   outputs_after : (r : Result Bool Stop) (a b c : State S) (t u v : Outputs O E) → LeavesElf s a b → KeepsSinks o e t u
       → LeavesOutputs o e (SourceRose s b c) r u v → LeavesOutputs o e (SourceRose s a c) r t v
-  outputs_after (Ok x) a b c t u v h k l = record { keeps = keeps_then o e t u v k l.keeps; read = tt; write = tt }
-  outputs_after (Err Read) a b c t u v h k l = record { keeps = keeps_then o e t u v k l.keeps; read = rose_later s a b c h l.read; write = tt }
-  outputs_after (Err Write) a b c t u v h k l = record { keeps = keeps_then o e t u v k l.keeps; read = tt; write = sink_rose_later t u v k l.write }
-  outputs_after (Err Memory) a b c t u v h k l = record { keeps = keeps_then o e t u v k l.keeps; read = tt; write = tt }
+  outputs_after r a b c t u v h k l = left_after o e r (s.faults a.source) (s.faults b.source) (s.faults c.source) t u v h.later k l
 
   -- ---- A report
 

@@ -18,9 +18,6 @@ use Rattle.elf_ident.specs.Front.{front_bytes, most_front_bytes}
 use Rattle.elf_descriptor.specs.State.{State}
 use Rattle.elf_descriptor.specs.Begun.{IsBegun, begun_state, begun_answer, source_after}
 use Rattle.tool_output.specs.declared.stops.Stop.{Stop}
-use Rattle.tool_output.specs.declared.stops.Stop.TheVariants.{Read, Write, Memory}
-use Rattle.tool_output.specs.Steps.{LeavesOutputs}
-use Rattle.elf_outside.specs.Counts.{Rose}
 use Rattle.tool_output.specs.declared.outputs.Outputs.{Outputs}
 use Rattle.tool_output.specs.Stops.{stop_of}
 use Rattle.tool_output.specs.Names.{Name}
@@ -30,8 +27,9 @@ use Rattle.tool_output.specs.Sources.{ReportsOn}
 use Rattle.tool_output.proofs.SourceLemmas.{stated_error}
 use Rattle.object_output.specs.Steps.{ReportsElf}
 use Rattle.object_output.specs.Images.{object_by, file_object, image_report, image_asks}
+use Rattle.object_output.proofs.SourceSteps.{leaves_then, rose_from_first}
 
-kind_is : (a b : FileKind) → ◌≡◌ {A = Result FileKind ElfError} (Ok a) (Ok b) → a ≡ b
+pub kind_is : (a b : FileKind) → ◌≡◌ {A = Result FileKind ElfError} (Ok a) (Ok b) → a ≡ b
 kind_is a b h = cc
 
 -- an archive is no image
@@ -104,17 +102,9 @@ module _ {S : Type 0} (s : SourceGhosts S) (src mid : S) where
 
 -- ---- What is said of it
 
--- a read that failed once the descriptor had begun
-rose_from_first : {O E : Type 0} (o : SinkGhosts O) (e : SinkGhosts E) (r : Result Bool Stop) (a b c : ℕ) (t u : Outputs O E) → a ≤ b
-    → LeavesOutputs o e (Rose b c) r t u → LeavesOutputs o e (Rose a c) r t u
-rose_from_first o e (Ok x) a b c t u later h = record { keeps = h.keeps; read = tt; write = tt }
-rose_from_first o e (Err Read) a b c t u later h = let rose = h.read in record { keeps = h.keeps; read = omega (arith, later, rose); write = tt }
-rose_from_first o e (Err Write) a b c t u later h = record { keeps = h.keeps; read = tt; write = h.write }
-rose_from_first o e (Err Memory) a b c t u later h = record { keeps = h.keeps; read = tt; write = tt }
-
 module _ (command : List ℕ) (report : Name → Object → Report) (name : Name) where
   shown_on : {O E : Type 0} (o : SinkGhosts O) (e : SinkGhosts E) (r : Result Bool Stop) (t u : Outputs O E) (holds : Option (List ℕ)) (told : Bool) (x : Object)
-      → IfSome holds (λ image. Follows (Ok x) (file_object image)) → told ≡ is_some holds → (IsTrue told → Reports o e r t u (report name x))
+      → IfSome holds (λ image. Follows (Ok x) (opened image)) → told ≡ is_some holds → (IsTrue told → Reports o e r t u (report name x))
       → IfSome holds (λ image. Reports o e r t u (image_report command report name image))
   unfolding image_report
   shown_on o e r t u None told x stated is h = tt
@@ -122,47 +112,44 @@ module _ (command : List ℕ) (report : Name → Object → Report) (name : Name
 
   -- the object of the image is reported on
   pub image_shown : {S O E : Type 0} (s : SourceGhosts S) (o : SinkGhosts O) (e : SinkGhosts E) (r : Result Bool Stop) (src : S) (a b : State S) (t u : Outputs O E) (n : ℕ)
-      → Asks {T = Object} s (Ok a.o) src a.source n → IfSome (s.holds src) (λ image. Follows (Ok a.o) (file_object image)) → a.told ≡ is_some (s.holds src)
+      → Asks {T = Object} s (Ok a.o) src a.source n → IfSome (s.holds src) (λ image. Follows (Ok a.o) (opened image)) → IsBegun s src a
       → ReportsElf s o e (report name) r a b t u → ReportsOn s o e (image_report command report name) r src b.source t u
-  image_shown s o e r src a b t u n asks stated told h =
+  image_shown s o e r src a b t u n asks stated is h =
       let p = asks.later in
-      let q = h.elf.later in record {
+      let q = h.elf.later in
+      let told = begun_told s src src (Ok a) n refl asks is in record {
         reports = shown_on o e r t u (s.holds src) a.told a.o stated told h.reports;
-        source = record {
-          same_len = h.elf.source.same_len ∙ asks.leaves.same_len;
-          same_bytes = h.elf.source.same_bytes ∙ asks.leaves.same_bytes;
-          same_rest = h.elf.source.same_rest ∙ asks.leaves.same_rest;
-        };
+        source = leaves_then s src a.source b.source asks.leaves h.elf.source;
         later = omega (arith, p, q);
         leaves = rose_from_first o e r (s.faults src) (s.faults a.source) (s.faults b.source) t u asks.later h.leaves;
       }
 
   -- the message of one that is refused
-  pub image_refused : (holds : Option (List ℕ)) (said : List ℕ) (d : ElfError) → said ≡ command → IfSome holds (λ image. Follows {T = Object} (Err d) (file_object image))
-      → IfSome holds (λ image. stop_of d ≡ None → image_report command report name image ≡ refusal said name (error_text d))
+  pub image_refused : (holds : Option (List ℕ)) (d : ElfError) → IfSome holds (λ image. Follows {T = Object} (Err d) (opened image))
+      → IfSome holds (λ image. stop_of d ≡ None → image_report command report name image ≡ refusal command name (error_text d))
   unfolding image_report
-  image_refused None said d is h = tt
-  image_refused (Some image) said d is h = λ none. rw (stated_error d (file_object image) h none, is) refl
+  image_refused None d h = tt
+  image_refused (Some image) d h = λ none. rw (stated_error d (opened image) h none) refl
 
 -- ---- What is asked for in all
 
-both_within : (asks : Option ℕ) (n a b c : ℕ) → b ≤ a + n → IsWithin asks b c → IsWithin (both_bounds (Some n) asks) a c
+pub both_within : (asks : Option ℕ) (n a b c : ℕ) → b ≤ a + n → IsWithin asks b c → IsWithin (both_bounds (Some n) asks) a c
 both_within None n a b c h k = tt
 both_within (Some m) n a b c h k = omega (arith, h, k)
 
-pub image_within : (asks : List ℕ → Option ℕ) (holds left : Option (List ℕ)) (a b c : ℕ) → left ≡ holds → IfSome holds (λ image. b ≤ a + (8 + front_bytes image))
+pub image_within : (asks : List ℕ → Option ℕ) (holds left : Option (List ℕ)) (a b c : ℕ) → left ≡ holds → IfSome holds (λ image. b ≤ a + front_bytes image)
     → IfSome left (λ image. IsWithin (asks image) b c) → IfSome holds (λ image. IsWithin (image_asks asks image) a c)
 unfolding image_asks
 image_within asks None left a b c same h k = tt
 image_within asks (Some image) left a b c same h k =
-    both_within (asks image) (8 + front_bytes image) a b c h (subst (λ (o : Option (List ℕ)). IfSome o (λ i. IsWithin (asks i) b c)) same k)
+    both_within (asks image) (front_bytes image) a b c h (subst (λ (o : Option (List ℕ)). IfSome o (λ i. IsWithin (asks i) b c)) same k)
 
-within_first : (asks : Option ℕ) (n a b : ℕ) → b ≤ a + n → IsWithin (both_bounds (Some n) asks) a b
+pub within_first : (asks : Option ℕ) (n a b : ℕ) → b ≤ a + n → IsWithin (both_bounds (Some n) asks) a b
 within_first None n a b h = tt
 within_first (Some m) n a b h = omega (arith, h)
 
-pub refused_within : (asks : List ℕ → Option ℕ) (holds : Option (List ℕ)) (a b : ℕ) → IfSome holds (λ image. b ≤ a + (8 + front_bytes image))
+pub refused_within : (asks : List ℕ → Option ℕ) (holds : Option (List ℕ)) (a b : ℕ) → IfSome holds (λ image. b ≤ a + front_bytes image)
     → IfSome holds (λ image. IsWithin (image_asks asks image) a b)
 unfolding image_asks
 refused_within asks None a b h = tt
-refused_within asks (Some image) a b h = within_first (asks image) (8 + front_bytes image) a b h
+refused_within asks (Some image) a b h = within_first (asks image) (front_bytes image) a b h

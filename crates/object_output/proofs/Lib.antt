@@ -1,7 +1,10 @@
 pub mod ElfSteps
+pub mod FileLemmas
 pub mod ImageLemmas
+pub mod MemberLemmas
 pub mod NameLemmas
 pub mod QueryLemmas
 pub mod Rules
 pub mod SectionLemmas
 pub mod ShowLemmas
+pub mod SourceSteps

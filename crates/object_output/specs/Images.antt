@@ -1,5 +1,5 @@
 -- What a tool says of an image: the report on its object, or why it is refused.
-use Rattle.std.specs.Prelude.{◌+◌, ℕ, List, Option, Some, Result, Ok, Err}
+use Rattle.std.specs.Prelude.{ℕ, List, Option, Some, Result, Ok, Err}
 use Rattle.elf_types.specs.declared.errors.ElfError.{ElfError}
 use Rattle.elf_types.specs.declared.errors.ElfError.TheVariants.{Magic}
 use Rattle.elf_types.specs.Text.{error_text}
@@ -13,6 +13,24 @@ use Rattle.tool_output.specs.Names.{Name}
 use Rattle.tool_output.specs.Files.{both_bounds}
 use Rattle.tool_output.specs.Reports.{Report, refusal}
 
+-- the report on an object, or the message that says why there is none
+abbrev pub object_report : List ℕ → (Name → Object → Report) → Name → Result Object ElfError
+    → Report
+object_report command report name (Ok o) = report name o
+object_report command report name (Err e) = refusal command name (error_text e)
+
+-- of a command that says this of an object, the report on the bytes of an image, whose front tells
+-- whether they are one
+unfoldable pub image_report : List ℕ → (Name → Object → Report) → Name → List ℕ → Report
+image_report command report name image = object_report command report name (opened image)
+
+-- How many bytes it asks for at most, where that is promised: the front what is stated of it, and
+-- then what the tool asks for.
+unfoldable pub image_asks : (List ℕ → Option ℕ) → List ℕ → Option ℕ
+image_asks asks image = both_bounds (Some (front_bytes image)) (asks image)
+
+-- ---- For a command that takes no archive
+
 -- the object of a file's bytes; an archive is no image
 unfoldable pub object_by : FileKind → List ℕ → Result Object ElfError
 object_by Archive image = Err Magic
@@ -21,18 +39,3 @@ object_by Other image = opened image
 
 unfoldable pub file_object : List ℕ → Result Object ElfError
 file_object image = object_by (file_kind image) image
-
--- the report on an object, or the message that says why there is none
-abbrev pub object_report : List ℕ → (Name → Object → Report) → Name → Result Object ElfError
-    → Report
-object_report command report name (Ok o) = report name o
-object_report command report name (Err e) = refusal command name (error_text e)
-
--- of a command that says this of an object, the report on a file's bytes
-unfoldable pub image_report : List ℕ → (Name → Object → Report) → Name → List ℕ → Report
-image_report command report name image = object_report command report name (file_object image)
-
--- How many bytes it asks for at most, where that is promised: the kind takes eight, the front what
--- is stated of it, and then what the tool asks for.
-unfoldable pub image_asks : (List ℕ → Option ℕ) → List ℕ → Option ℕ
-image_asks asks image = both_bounds (Some (8 + front_bytes image)) (asks image)

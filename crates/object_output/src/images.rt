@@ -9,17 +9,18 @@ ghost use Rattle.tool_output.specs.Sources.{ReportsOn};
 ghost use Rattle.tool_output.specs.Files.{IsWithin};
 ghost use Rattle.object_output.specs.Images.{file_object, image_report, image_asks};
 
-use crate::tools::ObjectTool;
+use crate::tools::{ObjectTool, refuse};
 use elf_descriptor::Elf;
 use elf_ident::{FileKind, kind_of_source};
 use elf_outside::{Sink, Source};
 use elf_types::ElfError;
 use std::alloc::Global;
-use tool_output::{FileName, Message, Outputs, Stop};
+use tool_output::{FileName, Outputs, Stop};
 
-/// Begins over what a file holds; an archive is refused as `Magic`. With a refusal it hands the
+/// Begins over what a file holds, for a command that takes one image and no archive: an archive is
+/// refused as `Magic`. It asks for at most eight bytes and the front's. With a refusal it hands the
 /// source back.
-fn begin_image<S: Source>(alloc: Global, mut src: S) -> Result<Elf<S>, (S, ElfError)>
+pub fn begin_image<S: Source>(alloc: Global, mut src: S) -> Result<Elf<S>, (S, ElfError)>
     ensures answer { IfSome (S.holds src) (λ image.
         Follows (begun_answer result) (file_object image)) }
     ensures told { IfOk result (λ e. e.told ≡ is_some (S.holds src)) }
@@ -36,9 +37,9 @@ fn begin_image<S: Source>(alloc: Global, mut src: S) -> Result<Elf<S>, (S, ElfEr
     }
 }
 
-/// Gives a tool's report on what a source holds, under a name, and hands the source back. A file
-/// that is no image has the message that says why. It stops by `Read` only where a read of the
-/// source failed.
+/// Gives a tool's report on the image that a source holds, under a name, and hands the source back.
+/// What has no front of an image has the message that says why. It stops by `Read` only where a
+/// read of the source failed.
 pub fn show_image<T: ObjectTool, S: Source, O: Sink, E: Sink>(
     alloc: Global,
     tool: &T,
@@ -52,21 +53,13 @@ pub fn show_image<T: ObjectTool, S: Source, O: Sink, E: Sink>(
     ensures asks { IfSome (S.holds src) (λ image.
         IsWithin (image_asks (T.asks tool.now) image) (S.taken src) (S.taken result.0)) }
 {
-    match begin_image(alloc, src) {
+    match Elf::begin(alloc, src) {
         Ok(mut elf) => {
             let shown = tool.show(&mut elf, name, outputs);
             (elf.end(), shown)
         }
         Err((src, e)) => {
-            let command = tool.command();
-            let refused = outputs.refuse_by(
-                &Message {
-                    command,
-                    name,
-                    text: e,
-                },
-                e,
-            );
+            let refused = refuse(tool, name, e, outputs);
             (src, refused)
         }
     }

@@ -1,15 +1,20 @@
 //! Tools over objects: what a step over a descriptor and the two outputs does, and what a tool says
-//! of an image. A command that speaks of objects is an `ObjectTool`; `show_image` opens the image
-//! for it, and `show_object` gives its report on a descriptor that is there. What it says of each
-//! section, or of each section of a name, is a `SectionTool`.
+//! of an image. A command that speaks of objects is an `ObjectTool`; `show_file` opens the image
+//! for it, or each member of an archive, and `show_object` gives its report on a descriptor that is
+//! there. What it says of each section, or of each section of a name, is a `SectionTool`. A command
+//! that takes no archive begins by `begin_image`.
 #![tactic(auto)]
 
+pub mod archives;
+pub mod files;
 pub mod images;
 pub mod names;
 pub mod sections;
 pub mod tools;
 
-pub use images::show_image;
+pub use archives::show_archive;
+pub use files::show_file;
+pub use images::{begin_image, show_image};
 pub use names::{Bracketed, each_section_named, is_named, section_name, string_at};
 pub use sections::{SectionTool, each_section, section_header};
 pub use tools::{ObjectTool, show_object};

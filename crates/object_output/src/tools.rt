@@ -6,13 +6,14 @@ ghost use Rattle.tool_output.specs.Names.{Name};
 ghost use Rattle.tool_output.specs.Reports.{Report};
 ghost use Rattle.tool_output.specs.Files.{IsWithin};
 ghost use Rattle.object_output.specs.Steps.{ReportsElf};
+ghost use Rattle.object_output.specs.Refusals.{Refuses};
 ghost use Rattle.object_output.specs.Shows.{ShowsElf};
 
 use elf_descriptor::Elf;
 use elf_outside::{Sink, Source};
-use elf_types::Octets;
+use elf_types::{ElfError, Octets};
 use std::alloc::Global;
-use tool_output::{FileName, Outputs, Stop};
+use tool_output::{FileName, Message, Outputs, Stop};
 
 /// What a command does with each image of the files that it names.
 ///
@@ -44,6 +45,25 @@ pub trait ObjectTool {
             result elf.old elf.new outputs.old outputs.new }
         ensures asks { IfSome (S.holds elf.old.source) (λ image.
             IsWithin (asks self.now image) (S.taken elf.old.source) (S.taken elf.new.source)) };
+}
+
+/// Refuses a file, or a member of an archive, for an error of the library: gives its message, or
+/// stops where the error is no refusal.
+pub(crate) fn refuse<T: ObjectTool, O: Sink, E: Sink>(
+    tool: &T,
+    name: &FileName<'_>,
+    e: ElfError,
+    outputs: &mut Outputs<'_, O, E>,
+) -> Result<bool, Stop>
+    ensures { Refuses O.Sink E.Sink (T.command tool.now) name.now e
+        result outputs.old outputs.new }
+{
+    let message = Message {
+        command: tool.command(),
+        name,
+        text: e,
+    };
+    outputs.refuse_by(&message, e)
 }
 
 /// Gives a tool's report on an object on two outputs, as the public call of a tool does, and leaves

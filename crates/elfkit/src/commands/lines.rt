@@ -1,4 +1,4 @@
-//! lines: the line tables of each file that it names.
+//! lines: the line tables of each file that it names, or of the members of one that is an archive.
 
 ghost use Rattle.std.specs.Prelude.{IsTrue};
 ghost use Rattle.tool_output.specs.Files.{LeavesFiles};
@@ -13,8 +13,8 @@ use std::alloc::Global;
 use tool_output::{Outputs, Stop};
 use tool_text::Args;
 
-/// The command lines: the line tables of each file, in the order of the names. The answer tells
-/// whether something was refused.
+/// The command lines: the line tables of each file, in the order of the names, and of each member of
+/// one that is an archive. The answer tells whether something was refused.
 #[tactic(auto, unfolding(crate::specs::Lines::lines_outcome))]
 pub fn lines<F: Files, O: Sink, E: Sink>(
     alloc: Global,
@@ -28,5 +28,5 @@ pub fn lines<F: Files, O: Sink, E: Sink>(
     ensures leaves { LeavesFiles F.Files O.Sink E.Sink
         result files.old files.new outputs.old outputs.new }
 {
-    each_object(alloc, &LinesTool, names, files, outputs)
+    each_object(alloc, &LinesTool, &LinesTool, names, files, outputs)
 }

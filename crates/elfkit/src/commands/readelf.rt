@@ -46,6 +46,13 @@ pub fn readelf<F: Files, O: Sink, E: Sink>(
         return not_built(files, outputs);
     }
     let tool = &ReadelfTool { parts };
-    let many = names.len() > 1;
-    each_object(alloc, &Titled { tool, many }, names, files, outputs)
+    let of_file = Titled {
+        tool,
+        has_title: names.len() > 1,
+    };
+    let of_member = Titled {
+        tool,
+        has_title: true,
+    };
+    each_object(alloc, &of_file, &of_member, names, files, outputs)
 }

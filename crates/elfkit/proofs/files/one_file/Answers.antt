@@ -11,8 +11,8 @@ returns-in-Err-NotThere-clause-reports g c = record {
       rw (
         report_absent (t.command c.args.tool.now) (t.report c.args.tool.now) (t.asks c.args.tool.now) (g.F.Files.named c.args.files.now) c.args.file_name.now absent,
         ← c.command.ensures,
-        ← c.as_bytes.ensures.value,
-        ← c.of-name.ensures,
+        ← c.as_bytes-name.ensures.value,
+        ← c.of.ensures,
       ) c.refuse.ensures.reports;
   reads = search rules;
   leaves = search rules;
@@ -38,7 +38,7 @@ returns-clause-reports g c = record {
       let t = g.T.FileTool in
       opened_reports (t.command c.args.tool.now) (t.report c.args.tool.now) (t.asks c.args.tool.now) (g.F.Files.named c.args.files.now) c.args.file_name.now
       g.O.Sink g.E.Sink _ c.args.outputs.now _ _ (c.in-Ok.ensures.bytes told) (λ none. let h = (c.in-Ok.ensures.not_there told).1 none in cc)
-      (rw (c.of-name.ensures, c.as_bytes.ensures.value) at c.show-file.ensures.reports.reports);
+      (rw c.as_bytes-name.ensures.value at c.show-file.ensures.reports.reports);
   reads = record {
     names = λ told. closed_same _ _ _ _ _ _ c.args.file_name.now _ told c.in-Ok.ensures.names c.close.ensures.names
         (c.show-file.ensures.reports.source.same_bytes ∙ c.in-Ok.ensures.bytes told);

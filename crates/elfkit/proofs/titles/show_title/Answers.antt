@@ -2,10 +2,10 @@ use Rattle.tool_output.proofs.ReportLemmas.{reports_none}
 use Rattle.elfkit.specs.Titles.{title_report}
 use Rattle.elfkit.proofs.titles.show_title.Goals as goal
 
-pub returns-then-many-clause-reports : goal.returns-then-many-clause-reports
+pub returns-then-has_title-clause-reports : goal.returns-then-has_title-clause-reports
 unfolding title_report
-returns-then-many-clause-reports g c = rw c.if-many.true c.show.ensures.reports
+returns-then-has_title-clause-reports g c = rw c.if-has_title.true c.show.ensures.reports
 
-pub returns-else-many-clause-reports : goal.returns-else-many-clause-reports
+pub returns-else-has_title-clause-reports : goal.returns-else-has_title-clause-reports
 unfolding title_report
-returns-else-many-clause-reports g c = rw c.if-many.false (reports_none g.O.Sink g.E.Sink c.args.outputs.now)
+returns-else-has_title-clause-reports g c = rw c.if-has_title.false (reports_none g.O.Sink g.E.Sink c.args.outputs.now)

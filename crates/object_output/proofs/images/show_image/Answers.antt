@@ -6,7 +6,7 @@ pub returns-in-Ok-clause-reports : goal.returns-in-Ok-clause-reports
 returns-in-Ok-clause-reports g c =
     let t = g.T.ObjectTool in
     rw c.end.ensures (image_shown (t.command c.args.tool.now) (t.report c.args.tool.now) c.args.name.now g.S.Source g.O.Sink g.E.Sink _ c.args.src c.in-Ok.elf _ c.args.outputs.now _ _
-    c.in-Ok.ensures.asks c.in-Ok.ensures.answer c.in-Ok.ensures.told c.show-shown.ensures.reports)
+    c.in-Ok.ensures.asks c.in-Ok.ensures.answer c.in-Ok.ensures.begun c.show-shown.ensures.reports)
 
 pub returns-in-Ok-clause-asks : goal.returns-in-Ok-clause-asks
 returns-in-Ok-clause-asks g c =
@@ -16,9 +16,10 @@ returns-in-Ok-clause-asks g c =
 pub returns-in-Err-clause-reports : goal.returns-in-Err-clause-reports
 returns-in-Err-clause-reports g c =
     let t = g.T.ObjectTool in
+    let refused = c.refuse-refused.ensures in
     refuses_after g.O.Sink g.E.Sink g.S.Source _ _ _ c.args.src _ c.args.outputs.now _ _ _ c.in-Err.ensures.asks
-    (image_refused (t.command c.args.tool.now) (t.report c.args.tool.now) c.args.name.now (g.S.Source.holds c.args.src) _ _ c.command-command.ensures c.in-Err.ensures.answer)
-    c.refuse_by-refused.ensures.reports c.refuse_by-refused.ensures.stops c.refuse_by-refused.ensures.leaves
+    (image_refused (t.command c.args.tool.now) (t.report c.args.tool.now) c.args.name.now (g.S.Source.holds c.args.src) _ c.in-Err.ensures.answer)
+    refused.reports refused.stops refused.leaves
 
 pub returns-in-Err-clause-asks : goal.returns-in-Err-clause-asks
 returns-in-Err-clause-asks g c =

@@ -1,0 +1,61 @@
+use Rattle.tool_output.specs.Names.{file_name}
+use Rattle.tool_output.proofs.SourceLemmas.{refuses_after}
+use Rattle.object_output.specs.Images.{image_report}
+use Rattle.object_output.specs.Archives.{archive_report}
+use Rattle.object_output.proofs.SourceSteps.{after_call}
+use Rattle.object_output.proofs.ImageLemmas.{elf_is_no_archive, other_is_no_archive}
+use Rattle.object_output.proofs.FileLemmas.{file_is_archive, file_is_image, kind_is_told, archive_within, file_within, unread_within}
+use Rattle.object_output.proofs.files.show_file.Goals as goal
+
+pub returns-in-Ok-Archive-clause-reports : goal.returns-in-Ok-Archive-clause-reports
+returns-in-Ok-Archive-clause-reports g c =
+    let t = g.T.ObjectTool in
+    let of_image = image_report (t.command c.args.tool.now) (t.report c.args.tool.now) in
+    let of_archive = archive_report (t.command c.args.member_tool.now) (t.report c.args.member_tool.now) in
+    after_call g.S.Source g.O.Sink g.E.Sink _ _ _ _ _ c.args.src _ _ c.args.outputs.now _ c.in-Ok-Archive.ensures.asks
+    (file_is_archive of_image of_archive (file_name c.args.file.now) (g.S.Source.holds c.args.src) (rw c.in-Ok-Archive.field-0-is at c.in-Ok-Archive.ensures.kind))
+    c.show_archive.ensures
+
+pub returns-in-Ok-Archive-clause-asks : goal.returns-in-Ok-Archive-clause-asks
+returns-in-Ok-Archive-clause-asks g c =
+    archive_within (g.T.ObjectTool.asks c.args.tool.now) (g.S.Source.holds c.args.src) _ _ (rw c.in-Ok-Archive.field-0-is at c.in-Ok-Archive.ensures.kind)
+
+pub returns-in-Ok-Elf-clause-reports : goal.returns-in-Ok-Elf-clause-reports
+returns-in-Ok-Elf-clause-reports g c =
+    let t = g.T.ObjectTool in
+    let of_image = image_report (t.command c.args.tool.now) (t.report c.args.tool.now) in
+    let of_archive = archive_report (t.command c.args.member_tool.now) (t.report c.args.member_tool.now) in
+    after_call g.S.Source g.O.Sink g.E.Sink _ _ _ _ _ c.args.src _ _ c.args.outputs.now _ c.in-Ok-Elf.ensures.asks
+    (file_is_image of_image of_archive (file_name c.args.file.now) (g.S.Source.holds c.args.src) _ (rw c.in-Ok-Elf.field-0-is at c.in-Ok-Elf.ensures.kind) elf_is_no_archive)
+    (rw c.of-name.ensures at c.show_image.ensures.reports)
+
+pub returns-in-Ok-Elf-clause-asks : goal.returns-in-Ok-Elf-clause-asks
+returns-in-Ok-Elf-clause-asks g c =
+    let asks = c.in-Ok-Elf.ensures.asks in
+    file_within (g.T.ObjectTool.asks c.args.tool.now) (g.S.Source.holds c.args.src) _ _ _ _ _ asks.leaves.same_bytes
+    (rw c.in-Ok-Elf.field-0-is at c.in-Ok-Elf.ensures.kind) elf_is_no_archive asks.taken.no_more c.show_image.ensures.asks
+
+pub returns-in-Ok-Other-clause-reports : goal.returns-in-Ok-Other-clause-reports
+returns-in-Ok-Other-clause-reports g c =
+    let t = g.T.ObjectTool in
+    let of_image = image_report (t.command c.args.tool.now) (t.report c.args.tool.now) in
+    let of_archive = archive_report (t.command c.args.member_tool.now) (t.report c.args.member_tool.now) in
+    after_call g.S.Source g.O.Sink g.E.Sink _ _ _ _ _ c.args.src _ _ c.args.outputs.now _ c.in-Ok-Other.ensures.asks
+    (file_is_image of_image of_archive (file_name c.args.file.now) (g.S.Source.holds c.args.src) _ (rw c.in-Ok-Other.field-0-is at c.in-Ok-Other.ensures.kind) other_is_no_archive)
+    (rw c.of-name.ensures at c.show_image-in-Ok-Other.ensures.reports)
+
+pub returns-in-Ok-Other-clause-asks : goal.returns-in-Ok-Other-clause-asks
+returns-in-Ok-Other-clause-asks g c =
+    let asks = c.in-Ok-Other.ensures.asks in
+    file_within (g.T.ObjectTool.asks c.args.tool.now) (g.S.Source.holds c.args.src) _ _ _ _ _ asks.leaves.same_bytes
+    (rw c.in-Ok-Other.field-0-is at c.in-Ok-Other.ensures.kind) other_is_no_archive asks.taken.no_more c.show_image-in-Ok-Other.ensures.asks
+
+pub returns-in-Err-clause-reports : goal.returns-in-Err-clause-reports
+returns-in-Err-clause-reports g c =
+    let refused = c.refuse-refused.ensures in
+    refuses_after g.O.Sink g.E.Sink g.S.Source _ _ _ c.args.src _ c.args.outputs.now _ _ _ c.in-Err.ensures.asks
+    (kind_is_told (g.S.Source.holds c.args.src) _ _ c.in-Err.e c.in-Err.ensures.kind) refused.reports refused.stops refused.leaves
+
+pub returns-in-Err-clause-asks : goal.returns-in-Err-clause-asks
+returns-in-Err-clause-asks g c =
+    unread_within (g.T.ObjectTool.asks c.args.tool.now) (g.S.Source.holds c.args.src) _ _ c.in-Err.ensures.asks.taken.no_more

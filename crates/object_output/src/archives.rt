@@ -1,0 +1,111 @@
+//! The members of an archive, one after another, each given to a tool as an image.
+
+ghost use Rattle.std.specs.Prelude.{◌≡◌, IfSome};
+ghost use Rattle.ar_members.specs.Archives.{members_left};
+ghost use Rattle.ar_members.specs.Headers.{HasBody};
+ghost use Rattle.tool_output.specs.Names.{file_name};
+ghost use Rattle.tool_output.specs.Sources.{ReportsOn};
+ghost use Rattle.object_output.specs.Images.{image_report};
+ghost use Rattle.object_output.specs.Archives.{member_report, members_report, archive_report};
+
+use crate::images::show_image;
+use crate::tools::{ObjectTool, refuse};
+use ar_members::{Ar, ArHdr};
+use elf_outside::{Sink, Source};
+use std::alloc::Global;
+use tool_output::{FileName, Outputs, Stop};
+
+/// Gives a tool's report on a member of an archive, under `LIB[MEMBER]`, and hands the archive back
+/// with its walk as it stood. Of the member's body no more is read than the tool asks for.
+fn show_member<T: ObjectTool, S: Source, O: Sink, E: Sink>(
+    alloc: Global,
+    tool: &T,
+    archive: Ar<S>,
+    file: &[u8],
+    header: &ArHdr,
+    outputs: &mut Outputs<'_, O, E>,
+) -> (Ar<S>, Result<bool, Stop>)
+    requires { IfSome (S.holds archive.source) (λ bytes. HasBody bytes header.now) }
+    ensures reports { ReportsOn S.Source O.Sink E.Sink
+        (λ bytes. member_report (image_report (T.command tool.now) (T.report tool.now))
+        file.now bytes header.now)
+        result.1 archive.source result.0.source outputs.old outputs.new }
+    ensures walk { result.0.walk ≡ archive.walk }
+{
+    let name = FileName::of_member(file, header.name.as_slice());
+    match archive.member(header.at) {
+        Ok(body) => {
+            let (body, shown) = show_image(alloc, tool, body, &name, outputs);
+            (body.into_inner(), shown)
+        }
+        Err((archive, e)) => {
+            let refused = refuse(tool, &name, e, outputs);
+            (archive, refused)
+        }
+    }
+}
+
+/// Gives a tool's report on each member that is left of an archive, in their order, and the message
+/// of the bad header that ends them, if one does. It hands the archive back.
+fn show_members<T: ObjectTool, S: Source, O: Sink, E: Sink>(
+    alloc: Global,
+    tool: &T,
+    mut archive: Ar<S>,
+    file: &[u8],
+    outputs: &mut Outputs<'_, O, E>,
+) -> (Ar<S>, Result<bool, Stop>)
+    ensures { ReportsOn S.Source O.Sink E.Sink
+        (λ bytes. members_report (T.command tool.now)
+        (image_report (T.command tool.now) (T.report tool.now))
+        file.now bytes (members_left bytes archive.walk))
+        result.1 archive.source result.0.source outputs.old outputs.new }
+{
+    let mut refused = false;
+    loop {
+        match archive.next() {
+            Ok(Some(header)) => {
+                let (after, shown) = show_member(alloc, tool, archive, file, &header, outputs);
+                archive = after;
+                match shown {
+                    Ok(was_refused) => refused = refused | was_refused,
+                    Err(stop) => return (archive, Err(stop)),
+                }
+            }
+            Ok(None) => return (archive, Ok(refused)),
+            Err(e) => match refuse(tool, &FileName::of(file), e, outputs) {
+                Ok(was_refused) => return (archive, Ok(refused | was_refused)),
+                Err(stop) => return (archive, Err(stop)),
+            },
+        }
+    }
+}
+
+/// Gives a tool's report on what an archive holds, and hands the source back. Each member has the
+/// report on an image under `LIB[MEMBER]`, or the message that says why it is none, and the walk
+/// goes on; a bad header ends it, with its message. One member is held at a time, and of its body
+/// no more is read than the tool asks for. It stops by `Read` only where a read of the source
+/// failed.
+///
+/// Source: ar.h, and the archive format of System V and GNU; gABI chapter 7, "Archive File".
+pub fn show_archive<T: ObjectTool, S: Source, O: Sink, E: Sink>(
+    alloc: Global,
+    tool: &T,
+    src: S,
+    file: &[u8],
+    outputs: &mut Outputs<'_, O, E>,
+) -> (S, Result<bool, Stop>)
+    ensures { ReportsOn S.Source O.Sink E.Sink
+        (archive_report (T.command tool.now) (T.report tool.now) (file_name file.now))
+        result.1 src result.0 outputs.old outputs.new }
+{
+    match Ar::begin(alloc, src) {
+        Ok(archive) => {
+            let (archive, shown) = show_members(alloc, tool, archive, file, outputs);
+            (archive.end(), shown)
+        }
+        Err((src, e)) => {
+            let refused = refuse(tool, &FileName::of(file), e, outputs);
+            (src, refused)
+        }
+    }
+}

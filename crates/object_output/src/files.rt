@@ -1,0 +1,48 @@
+//! A file, which is an image or an archive of them.
+
+ghost use Rattle.std.specs.Prelude.{IfSome};
+ghost use Rattle.tool_output.specs.Names.{file_name};
+ghost use Rattle.tool_output.specs.Sources.{ReportsOn};
+ghost use Rattle.tool_output.specs.Files.{IsWithin};
+ghost use Rattle.object_output.specs.Images.{image_report};
+ghost use Rattle.object_output.specs.Archives.{archive_report};
+ghost use Rattle.object_output.specs.Files.{file_report, file_asks};
+
+use crate::archives::show_archive;
+use crate::images::show_image;
+use crate::tools::{ObjectTool, refuse};
+use elf_ident::{FileKind, kind_of_source};
+use elf_outside::{Sink, Source};
+use std::alloc::Global;
+use tool_output::{FileName, Outputs, Stop};
+
+/// Gives a tool's report on what a file holds, under its name, and hands the source back. An
+/// archive, by its first eight bytes, has the report of `member_tool` on each member; anything else
+/// is taken as an image. It stops by `Read` only where a read of the source failed.
+pub fn show_file<T: ObjectTool, S: Source, O: Sink, E: Sink>(
+    alloc: Global,
+    tool: &T,
+    member_tool: &T,
+    mut src: S,
+    file: &[u8],
+    outputs: &mut Outputs<'_, O, E>,
+) -> (S, Result<bool, Stop>)
+    ensures reports { ReportsOn S.Source O.Sink E.Sink
+        (file_report (image_report (T.command tool.now) (T.report tool.now))
+        (archive_report (T.command member_tool.now) (T.report member_tool.now))
+        (file_name file.now))
+        result.1 src result.0 outputs.old outputs.new }
+    ensures asks { IfSome (S.holds src) (λ bytes.
+        IsWithin (file_asks (T.asks tool.now) bytes) (S.taken src) (S.taken result.0)) }
+{
+    let name = FileName::of(file);
+    match kind_of_source(&mut src) {
+        Ok(FileKind::Archive) => show_archive(alloc, member_tool, src, file, outputs),
+        Ok(FileKind::Elf) => show_image(alloc, tool, src, &name, outputs),
+        Ok(FileKind::Other) => show_image(alloc, tool, src, &name, outputs),
+        Err(e) => {
+            let refused = refuse(tool, &name, e, outputs);
+            (src, refused)
+        }
+    }
+}
