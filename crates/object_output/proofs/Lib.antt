@@ -1,5 +1,6 @@
 pub mod ElfSteps
 pub mod ImageLemmas
+pub mod ListCounts
 pub mod NameLemmas
 pub mod QueryLemmas
 pub mod Rules

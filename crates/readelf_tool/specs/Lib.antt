@@ -2,4 +2,6 @@ pub mod Fields
 pub mod Header
 pub mod Segments
 pub mod Sections
+pub mod Tables
+pub mod Symbols
 pub mod Parts
