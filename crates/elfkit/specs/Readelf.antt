@@ -8,10 +8,10 @@ use Rattle.elfkit.specs.Sentences.{not_built}
 use Rattle.elfkit.specs.Titles.{titled_report}
 use Rattle.elfkit.specs.Objects.{objects_outcome}
 
--- the parts that are built so far: h, l and S
+-- the parts that are built so far: h, l, S and s
 unfoldable pub are_built : ReadelfParts → Bool
 are_built parts =
-    not (parts.symbols || parts.relocations || parts.dynamic || parts.notes || parts.versions)
+    not (parts.relocations || parts.dynamic || parts.notes || parts.versions)
 
 -- the files in their order, each under a title where more than one is named
 unfoldable pub readelf_files : ReadelfParts → List (List ℕ) → Map → Outcome

@@ -94,4 +94,3 @@ titled_as a b s name n count same is =
 pub count_is : (o : Object) (s p : ℕ) → count_at o s p ≡ items_count (items_at o s p)
 unfolding count_at
 count_is o s p = refl
-

@@ -27,8 +27,8 @@ unfoldable pub if_plain : Name → Object → ℕ → Report → Report
 if_plain name o s lines =
     if (section_at o s).home.out then refused name (error_text (OutOfFile s))
     else (if is_compressed (section_at o s).header.flags
-      then refused name (in_section s (codes "compressed"))
-      else lines)
+    then refused name (in_section s (codes "compressed"))
+    else lines)
 
 -- and so has one whose items can not be told
 unfoldable pub if_told : Name → Option ElfError → Report → Report

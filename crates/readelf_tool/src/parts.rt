@@ -10,11 +10,13 @@ ghost use Rattle.object_output.specs.Shows.{ShowsElf};
 ghost use Rattle.readelf_tool.specs.Header.{header_report};
 ghost use Rattle.readelf_tool.specs.Segments.{segments_report};
 ghost use Rattle.readelf_tool.specs.Sections.{sections_report};
+ghost use Rattle.readelf_tool.specs.Symbols.{symbols_report};
 ghost use Rattle.readelf_tool.specs.Parts.{if_asked, front_report, data_report, readelf_report, shows_sections, readelf_asks};
 
 use crate::headers::show_header;
 use crate::sections::show_sections;
 use crate::segments::show_segments;
+use crate::symbols::show_symbols;
 use elf_descriptor::Elf;
 use elf_outside::{Sink, Source};
 use object_output::{ObjectTool, show_object};
@@ -88,18 +90,37 @@ fn show_sections_part<S: Source, O: Sink, E: Sink>(
     }
 }
 
-/// Shows the parts that read sections, as far as they are asked for: the section headers (`S`).
-#[tactic(auto, unfolding(crate::specs::Parts::data_report))]
+/// Shows the symbol tables, where they are asked for.
+fn show_symbols_part<S: Source, O: Sink, E: Sink>(
+    asked: bool,
+    name: &FileName<'_>,
+    elf: &mut Elf<S>,
+    outputs: &mut Outputs<'_, O, E>,
+) -> Result<bool, Stop>
+    ensures { ReportsElf S.Source O.Sink E.Sink (λ o. if_asked asked (symbols_report name.now o))
+        result elf.old elf.new outputs.old outputs.new }
+{
+    if asked {
+        show_symbols(name, elf, outputs)
+    } else {
+        Ok(false)
+    }
+}
+
+/// Shows the parts that read sections, as far as they are asked for: the section headers (`S`),
+/// then the symbol tables (`s`).
 fn show_data<S: Source, O: Sink, E: Sink>(
-    _name: &FileName<'_>,
+    name: &FileName<'_>,
     elf: &mut Elf<S>,
     parts: &ReadelfParts,
     outputs: &mut Outputs<'_, O, E>,
 ) -> Result<bool, Stop>
-    ensures { ReportsElf S.Source O.Sink E.Sink (data_report parts.now _name.now)
+    ensures { ReportsElf S.Source O.Sink E.Sink (data_report parts.now name.now)
         result elf.old elf.new outputs.old outputs.new }
 {
-    show_sections_part(parts.sections, elf, outputs)
+    let sections = show_sections_part(parts.sections, elf, outputs)?;
+    let symbols = show_symbols_part(parts.symbols, name, elf, outputs)?;
+    Ok(sections | symbols)
 }
 
 /// Whether a part is asked for that reads sections.
@@ -116,7 +137,7 @@ pub fn shows_sections(parts: &ReadelfParts) -> bool
 }
 
 /// Shows the parts of an object that are asked for, in their order: the header (`h`), the program
-/// headers (`l`), and the section headers (`S`). Where no part reads sections, nothing is read. The
+/// headers (`l`), the section headers (`S`) and the symbol tables (`s`). Where no part reads sections, nothing is read. The
 /// answer tells whether something was refused.
 pub fn show_parts<S: Source, O: Sink, E: Sink>(
     name: &FileName<'_>,

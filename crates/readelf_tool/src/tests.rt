@@ -30,6 +30,12 @@ const SECTIONS: ReadelfParts = ReadelfParts {
     ..NONE
 };
 
+/// The symbol tables.
+const SYMBOLS: ReadelfParts = ReadelfParts {
+    symbols: true,
+    ..NONE
+};
+
 /// What was said of an image.
 #[derive(Drop)]
 struct Said {
@@ -103,5 +109,65 @@ fn numbers_stand_for_names(rt: HostRuntime) -> Result<(), Fail> {
     let image = nameless(rt.alloc())?;
     let said = said(rt.alloc(), image, &SECTIONS)?;
     assert!(rt; said.out.as_slice().ends_with(NAMELESS));
+    Ok(())
+}
+
+/// The symbols of an object with two.
+const TWO_SYMBOLS: &[u8] = b"Symbols of section 2 []: 2\n  \
+      0 value 0x0 size 0 type NOTYPE bind LOCAL vis DEFAULT shndx UND []\n  \
+      1 value 0x1000 size 4 type FUNC bind GLOBAL vis DEFAULT shndx ABS [a]\n";
+
+#[test]
+fn symbols_are_shown_alike_in_both_classes(rt: HostRuntime) -> Result<(), Fail> {
+    let wide = symbol_object(rt.alloc(), Class::C64, Order::Least)?;
+    assert!(rt; shows(rt.alloc(), wide, &SYMBOLS, TWO_SYMBOLS)?);
+    let narrow = symbol_object(rt.alloc(), Class::C32, Order::Greatest)?;
+    assert!(rt; shows(rt.alloc(), narrow, &SYMBOLS, TWO_SYMBOLS)?);
+    Ok(())
+}
+
+/// Whether an object whose section 2 has this value in a field is refused by this line alone.
+fn refuses(alloc: Global, field: SectionField, value: u64, line: &[u8]) -> Result<bool, Fail> {
+    let mut image = symbol_object(alloc, Class::C64, Order::Least)?;
+    image.put_field(Field::Section(2, field), value);
+    let said = said(alloc, image, &SYMBOLS)?;
+    Ok(said.refused && said.err.as_slice() == line && said.out.as_slice().is_empty())
+}
+
+#[test]
+fn a_message_stands_in_place_of_symbols(rt: HostRuntime) -> Result<(), Fail> {
+    let out = b"readelf: F: section 2 out of file\n";
+    assert!(rt; refuses(rt.alloc(), SectionField::Offset, 1 << 63, out)?);
+    let ragged = b"readelf: F: section 2 ragged\n";
+    assert!(rt; refuses(rt.alloc(), SectionField::Size, 25, ragged)?);
+    let compressed = b"readelf: F: section 2: compressed\n";
+    assert!(rt; refuses(rt.alloc(), SectionField::Flags, 0x800, compressed)?);
+    Ok(())
+}
+
+/// An object whose last symbol has an extended index, and whose first section is its table of them
+/// where that is so.
+fn extended(alloc: Global, table: bool) -> Result<Image, ElfError> {
+    let mut image = symbol_object(alloc, Class::C64, Order::Least)?;
+    image.put_bytes(72 + 24 + 6, b"\xff\xff")?;
+    if table {
+        image.put_field(Field::Section(1, SectionField::Type), 18);
+        image.put_field(Field::Section(1, SectionField::Link), 2);
+        image.put_field(Field::Section(1, SectionField::Offset), 72);
+        image.put_field(Field::Section(1, SectionField::Size), 8);
+    }
+    Ok(image)
+}
+
+/// Whether the last line that is shown of it ends so.
+fn last_ends(alloc: Global, table: bool, end: &[u8]) -> Result<bool, Fail> {
+    let said = said(alloc, extended(alloc, table)?, &SYMBOLS)?;
+    Ok(said.out.as_slice().ends_with(end))
+}
+
+#[test]
+fn extended_indexes_are_followed(rt: HostRuntime) -> Result<(), Fail> {
+    assert!(rt; last_ends(rt.alloc(), true, b" shndx 0 <none>\n")?);
+    assert!(rt; last_ends(rt.alloc(), false, b" shndx XINDEX [a]\n")?);
     Ok(())
 }
