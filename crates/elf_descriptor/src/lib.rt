@@ -5,15 +5,9 @@
 #![tactic(auto)]
 
 mod body;
-#[cfg(test)]
-mod callers;
 mod descriptor;
-#[cfg(test)]
-mod edit_tests;
 mod held;
 mod scn;
-#[cfg(test)]
-mod tests;
 
 pub use descriptor::Elf;
 pub use held::Held;

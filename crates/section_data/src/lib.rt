@@ -23,6 +23,3 @@ pub use item::Item;
 pub use listed::Listed;
 pub use piece::Piece;
 pub use storable::Storable;
-
-#[cfg(test)]
-mod tests;

@@ -77,6 +77,3 @@ impl<S: Source> Elf<S> {
         }
     }
 }
-
-#[cfg(test)]
-mod tests;

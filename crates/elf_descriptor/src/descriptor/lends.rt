@@ -20,8 +20,6 @@ use elf_types::{DataId, ElfError, List};
 use section_data::Listed;
 
 mod kinds;
-#[cfg(test)]
-mod tests;
 
 impl<S: Source> Elf<S> {
     ghost use Rattle.elf_descriptor.specs.Lends.{ReadsToOwn, LendsItems, LendsOwnItems, LendAnswers};

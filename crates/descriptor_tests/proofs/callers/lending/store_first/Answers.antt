@@ -2,7 +2,7 @@ use Rattle.std.proofs.Common.{refl}
 use Rattle.elf_types.specs.declared.records.Kind.TheVariants as kinds
 use Rattle.elf_object.specs.Answers.{syms_of}
 use Rattle.elf_descriptor.proofs.LendLaws.{lent_entry, stored_read}
-use Rattle.elf_descriptor.proofs.callers.lending.store_first.Goals as goal
+use Rattle.descriptor_tests.proofs.callers.lending.store_first.Goals as goal
 
 pub returns : goal.returns
 returns g c = record {

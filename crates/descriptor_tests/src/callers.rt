@@ -8,7 +8,7 @@ ghost use Rattle.elf_descriptor.specs.Entries.{entry};
 ghost use Rattle.elf_descriptor.specs.Reads.{Looks, wanted};
 ghost use Rattle.elf_descriptor.specs.Edits.{stepped};
 
-use crate::Elf;
+use elf_descriptor::Elf;
 use elf_outside::Source;
 use elf_types::{DataId, ElfError, Phdr, ScnId, Sym};
 use section_data::Item;
@@ -49,7 +49,7 @@ pub fn put_segment<S: Source>(elf: &mut Elf<S>, i: u32, p: Phdr)
 }
 
 /// Adds a section; nothing that is held changes.
-#[tactic(auto, using(crate::proofs::EditSections::none_more))]
+#[tactic(auto, using(elf_descriptor::proofs::EditSections::none_more))]
 pub fn add_section<S: Source>(elf: &mut Elf<S>) -> Result<ScnId, ElfError>
     ensures number { IfOk result (λ s. calls.newscn.answer elf.old.o ≡ Ok s.0) }
     ensures object { OnOk result (elf.new.o ≡ calls.newscn.after elf.old.o) }

@@ -7,7 +7,7 @@ ghost use Rattle.elf_object.specs.Words.{Answers};
 ghost use Rattle.elf_object.specs.Calls as calls;
 ghost use Rattle.elf_descriptor.specs.Reads.{wanted};
 
-use crate::Elf;
+use elf_descriptor::Elf;
 use elf_outside::Source;
 use elf_types::{DataId, ElfError, Sym};
 

@@ -1,6 +1,6 @@
 //! The most program headers, sections and pieces.
 
-use crate::Elf;
+use elf_descriptor::Elf;
 use elf_outside::NoSource;
 use elf_types::constants::{MAX_PIECES, MAX_SECTIONS, PN_XNUM};
 use elf_types::{Class, ElfError, Octets, Order, ScnId};
@@ -9,7 +9,7 @@ use std::alloc::Global;
 use std::test::Fail;
 
 /// An object without sections and program headers.
-fn created(alloc: Global) -> Elf<NoSource> {
+pub fn created(alloc: Global) -> Elf<NoSource> {
     Elf::create(alloc, Class::C32, Order::Least)
 }
 
@@ -19,13 +19,6 @@ fn segments_are_limited(elf: &mut Elf<NoSource>) -> bool {
     stated &= elf.newphdr(PN_XNUM) == Err(ElfError::TooMany);
     stated &= elf.phnum() == PN_XNUM - 1;
     stated
-}
-
-#[test]
-fn program_headers_are_at_most_so_many(rt: HostRuntime) -> Result<(), Fail> {
-    let mut elf = created(rt.alloc());
-    assert!(rt; segments_are_limited(&mut elf));
-    Ok(())
 }
 
 /// Adds so many sections, and answers the number of the last.
@@ -43,13 +36,6 @@ fn sections_are_limited(elf: &mut Elf<NoSource>) -> bool {
     stated &= u64::from(elf.shnum()) == MAX_SECTIONS;
     stated &= elf.newscn() == Err(ElfError::TooMany);
     stated
-}
-
-#[test]
-fn sections_are_at_most_so_many(rt: HostRuntime) -> Result<(), Fail> {
-    let mut elf = created(rt.alloc());
-    assert!(rt; sections_are_limited(&mut elf));
-    Ok(())
 }
 
 /// How a piece without bytes is refused that is added to a section.
@@ -70,18 +56,19 @@ fn last_refused(elf: &mut Elf<NoSource>, s: ScnId, count: u64) -> Option<ElfErro
     last
 }
 
-/// Whether there may be 2^20 pieces of a section, and no more.
+/// Whether there may be 2^20 pieces of section 1, and no more.
 fn pieces_are_limited(elf: &mut Elf<NoSource>) -> bool {
     let s = ScnId(1);
-    let mut stated = elf.newscn() == Ok(s);
-    stated &= last_refused(elf, s, MAX_PIECES).is_none();
+    let mut stated = last_refused(elf, s, MAX_PIECES).is_none();
     stated &= refused(elf, s) == Some(ElfError::TooMany);
     stated
 }
 
 #[test]
-fn pieces_are_at_most_so_many(rt: HostRuntime) -> Result<(), Fail> {
+fn there_are_at_most_so_many(rt: HostRuntime) -> Result<(), Fail> {
     let mut elf = created(rt.alloc());
+    assert!(rt; segments_are_limited(&mut elf));
+    assert!(rt; sections_are_limited(&mut elf));
     assert!(rt; pieces_are_limited(&mut elf));
     Ok(())
 }

@@ -1,15 +1,13 @@
 //! Each refusal of an edit leaves every answer as it was.
 
-use super::begun;
-use crate::Elf;
-use elf_outside::MemSource;
-use elf_types::{
-    Addrs, Class, DIRTY, DataId, Ehdr, ElfError, LAYOUT, Order, Part, Phdr, ScnId, Shdr,
-};
+use crate::questions::{Form, NARROW, Question, asked, is_answered};
+use elf_descriptor::Elf;
+use elf_outside::Source;
+use elf_types::{Addrs, DIRTY, DataId, Ehdr, ElfError, LAYOUT, Part, Phdr, ScnId, Shdr};
 use elf_xlate::Items;
 use std::alloc::Global;
 use std::test::Fail;
-use test_images::two_tables;
+use test_images::{Image, two_tables};
 
 /// An edit.
 #[derive(Clone, Copy)]
@@ -32,7 +30,7 @@ enum Edit {
 }
 
 /// How a header is refused.
-fn header_refused(elf: &mut Elf<MemSource>, shstrndx: u32, entry: u64) -> Option<ElfError> {
+fn header_refused<S: Source>(elf: &mut Elf<S>, shstrndx: u32, entry: u64) -> Option<ElfError> {
     let h = Ehdr {
         shstrndx,
         entry,
@@ -42,7 +40,7 @@ fn header_refused(elf: &mut Elf<MemSource>, shstrndx: u32, entry: u64) -> Option
 }
 
 /// How a program header is refused.
-fn segment_refused(elf: &mut Elf<MemSource>, i: u32, offset: u64) -> Option<ElfError> {
+fn segment_refused<S: Source>(elf: &mut Elf<S>, i: u32, offset: u64) -> Option<ElfError> {
     let Ok(first) = elf.phdr(0) else {
         return None;
     };
@@ -50,7 +48,7 @@ fn segment_refused(elf: &mut Elf<MemSource>, i: u32, offset: u64) -> Option<ElfE
 }
 
 /// How the header of a section is refused.
-fn section_refused(elf: &mut Elf<MemSource>, s: u32, size: u64) -> Option<ElfError> {
+fn section_refused<S: Source>(elf: &mut Elf<S>, s: u32, size: u64) -> Option<ElfError> {
     let Ok(first) = elf.shdr(ScnId(0)) else {
         return None;
     };
@@ -68,7 +66,7 @@ fn of_two(items: Items, e: ElfError) -> Option<ElfError> {
 }
 
 /// How a new piece is refused.
-fn piece_refused(elf: &mut Elf<MemSource>, s: u32, second: u64, align: u64) -> Option<ElfError> {
+fn piece_refused<S: Source>(elf: &mut Elf<S>, s: u32, second: u64, align: u64) -> Option<ElfError> {
     match addresses(elf.alloc(), second) {
         Ok(items) => match elf.newdata_aligned(ScnId(s), items, align) {
             Ok(_) => None,
@@ -79,7 +77,7 @@ fn piece_refused(elf: &mut Elf<MemSource>, s: u32, second: u64, align: u64) -> O
 }
 
 /// How items are refused that are to replace others.
-fn items_refused(elf: &mut Elf<MemSource>, d: DataId, second: u64) -> Option<ElfError> {
+fn items_refused<S: Source>(elf: &mut Elf<S>, d: DataId, second: u64) -> Option<ElfError> {
     match addresses(elf.alloc(), second) {
         Ok(items) => match elf.replace(d, items) {
             Ok(()) => None,
@@ -90,7 +88,7 @@ fn items_refused(elf: &mut Elf<MemSource>, d: DataId, second: u64) -> Option<Elf
 }
 
 /// How an edit is refused.
-fn refused(elf: &mut Elf<MemSource>, edit: Edit) -> Option<ElfError> {
+fn refused<S: Source>(elf: &mut Elf<S>, edit: Edit) -> Option<ElfError> {
     match edit {
         Edit::Header(shstrndx, entry) => header_refused(elf, shstrndx, entry),
         Edit::Segment(i, offset) => segment_refused(elf, i, offset),
@@ -105,7 +103,7 @@ fn refused(elf: &mut Elf<MemSource>, edit: Edit) -> Option<ElfError> {
 }
 
 /// Whether two descriptors have the same headers.
-fn headers_agree(a: &Elf<MemSource>, b: &Elf<MemSource>) -> bool {
+fn headers_agree<S: Source, F: Source>(a: &Elf<S>, b: &Elf<F>) -> bool {
     let mut agree = a.ehdr() == b.ehdr();
     agree &= a.phnum() == b.phnum();
     agree &= a.phdr(0) == b.phdr(0);
@@ -114,7 +112,7 @@ fn headers_agree(a: &Elf<MemSource>, b: &Elf<MemSource>) -> bool {
 }
 
 /// Whether they have the same section of a number.
-fn section_agrees(a: &Elf<MemSource>, b: &Elf<MemSource>, s: ScnId) -> bool {
+fn section_agrees<S: Source, F: Source>(a: &Elf<S>, b: &Elf<F>, s: ScnId) -> bool {
     let d = DataId {
         section: s.0,
         piece: 0,
@@ -128,12 +126,12 @@ fn section_agrees(a: &Elf<MemSource>, b: &Elf<MemSource>, s: ScnId) -> bool {
 }
 
 /// Whether they have the same marks of a part.
-fn marks_agree(a: &Elf<MemSource>, b: &Elf<MemSource>, part: Part) -> bool {
+fn marks_agree<S: Source, F: Source>(a: &Elf<S>, b: &Elf<F>, part: Part) -> bool {
     a.flags(part) == b.flags(part)
 }
 
 /// Whether they have the same marks.
-fn all_marks_agree(a: &Elf<MemSource>, b: &Elf<MemSource>) -> bool {
+fn all_marks_agree<S: Source, F: Source>(a: &Elf<S>, b: &Elf<F>) -> bool {
     let mut agree = a.dirty() == b.dirty();
     agree &= marks_agree(a, b, Part::Object);
     agree &= marks_agree(a, b, Part::Header);
@@ -146,7 +144,7 @@ fn all_marks_agree(a: &Elf<MemSource>, b: &Elf<MemSource>) -> bool {
 }
 
 /// Whether they answer alike in all that is told without reading.
-fn all_agree(a: &Elf<MemSource>, b: &Elf<MemSource>) -> bool {
+fn all_agree<S: Source, F: Source>(a: &Elf<S>, b: &Elf<F>) -> bool {
     let mut agree = headers_agree(a, b);
     agree &= a.shnum() == b.shnum();
     for s in 0..3 {
@@ -232,30 +230,54 @@ const REFUSALS: [(Edit, ElfError); 20] = [
 ];
 
 /// Whether an edit is refused as stated and leaves the descriptor as another one is.
-fn leaves(elf: &mut Elf<MemSource>, fresh: &Elf<MemSource>, edit: Edit, refusal: ElfError) -> bool {
-    let mut stated = refused(elf, edit) == Some(refusal);
-    stated &= all_agree(elf, fresh);
-    stated
+fn leaves<S: Source, F: Source>(
+    elf: &mut Elf<S>,
+    fresh: &Elf<F>,
+    edit: Edit,
+    refusal: ElfError,
+) -> bool {
+    refused(elf, edit) == Some(refusal) && all_agree(elf, fresh)
 }
 
-/// Whether each refusal comes as stated and leaves what the descriptor answers.
-fn all_leave(elf: &mut Elf<MemSource>, fresh: &Elf<MemSource>) -> bool {
-    let mut stated = true;
-    for (edit, refusal) in REFUSALS {
-        stated &= leaves(elf, fresh, edit, refusal);
+/// Each refusal comes as stated and leaves what another descriptor over the image answers.
+#[derive(Drop)]
+struct Refusals<'a, F: Source> {
+    fresh: &'a Elf<F>,
+}
+
+impl<F: Source> Question for Refusals<'_, F> {
+    fn image(&self, alloc: Global, form: Form) -> Result<Image, ElfError> {
+        two_tables(alloc, form.0, form.1)
     }
-    stated
+
+    fn is_answered<S: Source>(&self, elf: &mut Elf<S>) -> bool {
+        let mut stated = true;
+        for (edit, refusal) in REFUSALS {
+            stated &= leaves(elf, self.fresh, edit, refusal);
+        }
+        stated
+    }
 }
 
-/// A descriptor over an image with two program headers and three sections.
-fn tables(alloc: Global) -> Result<Elf<MemSource>, ElfError> {
-    begun(alloc, two_tables(alloc, Class::C32, Order::Greatest)?)
+/// The same, begun with that other descriptor.
+struct BesideFresh;
+
+impl Question for BesideFresh {
+    fn image(&self, alloc: Global, form: Form) -> Result<Image, ElfError> {
+        two_tables(alloc, form.0, form.1)
+    }
+
+    fn is_answered<S: Source>(&self, elf: &mut Elf<S>) -> bool {
+        let refusals = Refusals { fresh: &*elf };
+        match asked(elf.alloc(), &refusals, NARROW, 0) {
+            Ok(answered) => answered.is_some(),
+            Err(_) => false,
+        }
+    }
 }
 
 #[test]
 fn a_refused_edit_changes_nothing(rt: HostRuntime) -> Result<(), Fail> {
-    let fresh = tables(rt.alloc())?;
-    let mut elf = tables(rt.alloc())?;
-    assert!(rt; all_leave(&mut elf, &fresh));
+    assert!(rt; is_answered(rt.alloc(), &BesideFresh, NARROW)?);
     Ok(())
 }
