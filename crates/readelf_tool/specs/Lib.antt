@@ -4,4 +4,5 @@ pub mod Segments
 pub mod Sections
 pub mod Tables
 pub mod Symbols
+pub mod Dynamic
 pub mod Parts

@@ -2,6 +2,7 @@
 #![tactic(auto)]
 
 pub mod data;
+pub mod dynamic;
 pub mod fields;
 pub mod headers;
 pub mod parts;

@@ -3,7 +3,8 @@
 use crate::readelf;
 use elf_descriptor::Elf;
 use elf_outside::{MemSink, MemSource};
-use elf_types::{Addrs, Class, ElfError, Octets, Order};
+use elf_types::{Addrs, Class, Dyn, Dyns, ElfError, Octets, Order};
+use elf_xlate::Items;
 use std::alloc::Global;
 use std::test::Fail;
 use test_images::{Field, HeaderField, Image, SectionField, symbol_object};
@@ -33,6 +34,12 @@ const SECTIONS: ReadelfParts = ReadelfParts {
 /// The symbol tables.
 const SYMBOLS: ReadelfParts = ReadelfParts {
     symbols: true,
+    ..NONE
+};
+
+/// The dynamic sections.
+const DYNAMIC: ReadelfParts = ReadelfParts {
+    dynamic: true,
     ..NONE
 };
 
@@ -169,5 +176,30 @@ fn last_ends(alloc: Global, table: bool, end: &[u8]) -> Result<bool, Fail> {
 fn extended_indexes_are_followed(rt: HostRuntime) -> Result<(), Fail> {
     assert!(rt; last_ends(rt.alloc(), true, b" shndx 0 <none>\n")?);
     assert!(rt; last_ends(rt.alloc(), false, b" shndx XINDEX [a]\n")?);
+    Ok(())
+}
+
+/// The entries of the object below.
+const ENTRIES: &[u8] = b"Dynamic section 2 []: 3\n  \
+      0 SONAME [a]\n  1 0xfffffffffffffffe 0x7\n  2 NULL 0x0\n";
+
+/// An object with a dynamic section that links to the strings: a name, a tag without a name, and the
+/// end.
+fn dynamic(alloc: Global) -> Result<Image, ElfError> {
+    let mut image = symbol_object(alloc, Class::C64, Order::Least)?;
+    image.put_field(Field::Section(2, SectionField::Type), 6);
+    let entries = [
+        Dyn { tag: 14, val: 1 },
+        Dyn { tag: -2, val: 7 },
+        Dyn { tag: 0, val: 0 },
+    ];
+    image.put_items(72, &Items::Dyn(Dyns::from_slice(alloc, &entries)?))?;
+    Ok(image)
+}
+
+#[test]
+fn dynamic_entries_are_shown(rt: HostRuntime) -> Result<(), Fail> {
+    let image = dynamic(rt.alloc())?;
+    assert!(rt; shows(rt.alloc(), image, &DYNAMIC, ENTRIES)?);
     Ok(())
 }
