@@ -60,7 +60,7 @@ fn opened(alloc: Global, image: Image) -> Result<Elf<MemSource>, ElfError> {
 }
 
 /// What is said of an image under the name F.
-fn said(alloc: Global, image: Image, parts: &ReadelfParts) -> Result<Said, Fail> {
+fn readelf_of(alloc: Global, image: Image, parts: &ReadelfParts) -> Result<Said, Fail> {
     let mut elf = opened(alloc, image)?;
     let mut out = MemSink::new(alloc, ROOM, Addrs::new(alloc))?;
     let mut err = MemSink::new(alloc, ROOM, Addrs::new(alloc))?;
@@ -74,7 +74,7 @@ fn said(alloc: Global, image: Image, parts: &ReadelfParts) -> Result<Said, Fail>
 
 /// Whether this text is shown of an image, and nothing is refused.
 fn shows(alloc: Global, image: Image, parts: &ReadelfParts, text: &[u8]) -> Result<bool, Fail> {
-    let said = said(alloc, image, parts)?;
+    let said = readelf_of(alloc, image, parts)?;
     Ok(!said.refused && said.out.as_slice() == text && said.err.as_slice().is_empty())
 }
 
@@ -114,7 +114,7 @@ fn nameless(alloc: Global) -> Result<Image, ElfError> {
 #[test]
 fn numbers_stand_for_names(rt: HostRuntime) -> Result<(), Fail> {
     let image = nameless(rt.alloc())?;
-    let said = said(rt.alloc(), image, &SECTIONS)?;
+    let said = readelf_of(rt.alloc(), image, &SECTIONS)?;
     assert!(rt; said.out.as_slice().ends_with(NAMELESS));
     Ok(())
 }
@@ -137,7 +137,7 @@ fn symbols_are_shown_alike_in_both_classes(rt: HostRuntime) -> Result<(), Fail> 
 fn refuses(alloc: Global, field: SectionField, value: u64, line: &[u8]) -> Result<bool, Fail> {
     let mut image = symbol_object(alloc, Class::C64, Order::Least)?;
     image.put_field(Field::Section(2, field), value);
-    let said = said(alloc, image, &SYMBOLS)?;
+    let said = readelf_of(alloc, image, &SYMBOLS)?;
     Ok(said.refused && said.err.as_slice() == line && said.out.as_slice().is_empty())
 }
 
@@ -168,7 +168,7 @@ fn extended(alloc: Global, table: bool) -> Result<Image, ElfError> {
 
 /// Whether the last line that is shown of it ends so.
 fn last_ends(alloc: Global, table: bool, end: &[u8]) -> Result<bool, Fail> {
-    let said = said(alloc, extended(alloc, table)?, &SYMBOLS)?;
+    let said = readelf_of(alloc, extended(alloc, table)?, &SYMBOLS)?;
     Ok(said.out.as_slice().ends_with(end))
 }
 
