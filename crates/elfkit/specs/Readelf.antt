@@ -8,10 +8,9 @@ use Rattle.elfkit.specs.Sentences.{not_built}
 use Rattle.elfkit.specs.Titles.{titled_report}
 use Rattle.elfkit.specs.Objects.{objects_outcome}
 
--- the parts that are built so far: h, l and S
+-- the parts that are built so far: h, l, S, s and d
 unfoldable pub are_built : ReadelfParts → Bool
-are_built parts =
-    not (parts.symbols || parts.relocations || parts.dynamic || parts.notes || parts.versions)
+are_built parts = not (parts.relocations || parts.notes || parts.versions)
 
 -- the files in their order, each image under a title where more than one file is named, and each
 -- member of an archive under its own

@@ -1,6 +1,7 @@
 pub mod ElfSteps
 pub mod FileLemmas
 pub mod ImageLemmas
+pub mod ListCounts
 pub mod MemberLemmas
 pub mod NameLemmas
 pub mod QueryLemmas

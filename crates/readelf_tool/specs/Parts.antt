@@ -7,6 +7,8 @@ use Rattle.tool_output.specs.Reports.{Report, no_report, joined}
 use Rattle.readelf_tool.specs.Header.{header_report}
 use Rattle.readelf_tool.specs.Segments.{segments_report}
 use Rattle.readelf_tool.specs.Sections.{sections_report}
+use Rattle.readelf_tool.specs.Symbols.{symbols_report}
+use Rattle.readelf_tool.specs.Dynamic.{dynamic_report}
 
 -- a part, where it is asked for
 abbrev pub if_asked : Bool → Report → Report
@@ -28,9 +30,12 @@ front_report parts o =
     joined (if_asked parts.header (header_report (header_of o)))
     (if_asked parts.segments (segments_report o.phdrs))
 
--- the section headers, and then what is in the sections
+-- the section headers, then the symbol tables and the dynamic sections
 unfoldable pub data_report : ReadelfParts → Name → Object → Report
-data_report parts name o = if_asked parts.sections (sections_report o)
+data_report parts name o =
+    joined (if_asked parts.sections (sections_report o))
+    (joined (if_asked parts.symbols (symbols_report name o))
+    (if_asked parts.dynamic (dynamic_report name o)))
 
 unfoldable pub readelf_report : ReadelfParts → Name → Object → Report
 readelf_report parts name o =

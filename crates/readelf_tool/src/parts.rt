@@ -2,7 +2,7 @@
 
 ghost use Rattle.std.specs.Prelude.{◌≡◌, codes, false};
 ghost use Rattle.elf_object.specs.Object.{header_of};
-ghost use Rattle.tool_output.specs.Reports.{Reports};
+ghost use Rattle.tool_output.specs.Reports.{Reports, joined};
 ghost use Rattle.tool_output.specs.Steps.{LeavesOutputs};
 ghost use Rattle.tool_output.specs.Names.{file_name};
 ghost use Rattle.object_output.specs.Steps.{ReportsElf};
@@ -10,11 +10,15 @@ ghost use Rattle.object_output.specs.Shows.{ShowsElf};
 ghost use Rattle.readelf_tool.specs.Header.{header_report};
 ghost use Rattle.readelf_tool.specs.Segments.{segments_report};
 ghost use Rattle.readelf_tool.specs.Sections.{sections_report};
+ghost use Rattle.readelf_tool.specs.Symbols.{symbols_report};
+ghost use Rattle.readelf_tool.specs.Dynamic.{dynamic_report};
 ghost use Rattle.readelf_tool.specs.Parts.{if_asked, front_report, data_report, readelf_report, shows_sections, readelf_asks};
 
+use crate::dynamic::show_dynamic;
 use crate::headers::show_header;
 use crate::sections::show_sections;
 use crate::segments::show_segments;
+use crate::symbols::show_symbols;
 use elf_descriptor::Elf;
 use elf_outside::{Sink, Source};
 use object_output::{ObjectTool, show_object};
@@ -88,18 +92,71 @@ fn show_sections_part<S: Source, O: Sink, E: Sink>(
     }
 }
 
-/// Shows the parts that read sections, as far as they are asked for: the section headers (`S`).
-#[tactic(auto, unfolding(crate::specs::Parts::data_report))]
-fn show_data<S: Source, O: Sink, E: Sink>(
-    _name: &FileName<'_>,
+/// Shows the symbol tables, where they are asked for.
+fn show_symbols_part<S: Source, O: Sink, E: Sink>(
+    asked: bool,
+    name: &FileName<'_>,
+    elf: &mut Elf<S>,
+    outputs: &mut Outputs<'_, O, E>,
+) -> Result<bool, Stop>
+    ensures { ReportsElf S.Source O.Sink E.Sink (λ o. if_asked asked (symbols_report name.now o))
+        result elf.old elf.new outputs.old outputs.new }
+{
+    if asked {
+        show_symbols(name, elf, outputs)
+    } else {
+        Ok(false)
+    }
+}
+
+/// Shows the dynamic sections, where they are asked for.
+fn show_dynamic_part<S: Source, O: Sink, E: Sink>(
+    asked: bool,
+    name: &FileName<'_>,
+    elf: &mut Elf<S>,
+    outputs: &mut Outputs<'_, O, E>,
+) -> Result<bool, Stop>
+    ensures { ReportsElf S.Source O.Sink E.Sink (λ o. if_asked asked (dynamic_report name.now o))
+        result elf.old elf.new outputs.old outputs.new }
+{
+    if asked {
+        show_dynamic(name, elf, outputs)
+    } else {
+        Ok(false)
+    }
+}
+
+/// Shows the symbol tables (`s`) and the dynamic sections (`d`), as far as they are asked for.
+fn show_tables<S: Source, O: Sink, E: Sink>(
+    name: &FileName<'_>,
     elf: &mut Elf<S>,
     parts: &ReadelfParts,
     outputs: &mut Outputs<'_, O, E>,
 ) -> Result<bool, Stop>
-    ensures { ReportsElf S.Source O.Sink E.Sink (data_report parts.now _name.now)
+    ensures { ReportsElf S.Source O.Sink E.Sink (λ o.
+        joined (if_asked parts.now.symbols (symbols_report name.now o))
+        (if_asked parts.now.dynamic (dynamic_report name.now o)))
         result elf.old elf.new outputs.old outputs.new }
 {
-    show_sections_part(parts.sections, elf, outputs)
+    let symbols = show_symbols_part(parts.symbols, name, elf, outputs)?;
+    let dynamic = show_dynamic_part(parts.dynamic, name, elf, outputs)?;
+    Ok(symbols | dynamic)
+}
+
+/// Shows the parts that read sections, as far as they are asked for: the section headers (`S`),
+/// then the tables.
+fn show_data<S: Source, O: Sink, E: Sink>(
+    name: &FileName<'_>,
+    elf: &mut Elf<S>,
+    parts: &ReadelfParts,
+    outputs: &mut Outputs<'_, O, E>,
+) -> Result<bool, Stop>
+    ensures { ReportsElf S.Source O.Sink E.Sink (data_report parts.now name.now)
+        result elf.old elf.new outputs.old outputs.new }
+{
+    let sections = show_sections_part(parts.sections, elf, outputs)?;
+    let tables = show_tables(name, elf, parts, outputs)?;
+    Ok(sections | tables)
 }
 
 /// Whether a part is asked for that reads sections.
@@ -116,7 +173,8 @@ pub fn shows_sections(parts: &ReadelfParts) -> bool
 }
 
 /// Shows the parts of an object that are asked for, in their order: the header (`h`), the program
-/// headers (`l`), and the section headers (`S`). Where no part reads sections, nothing is read. The
+/// headers (`l`), the section headers (`S`), the symbol tables (`s`) and the dynamic sections
+/// (`d`). Where no part reads sections, nothing is read. The
 /// answer tells whether something was refused.
 pub fn show_parts<S: Source, O: Sink, E: Sink>(
     name: &FileName<'_>,

@@ -16,12 +16,12 @@ use std::alloc::Global;
 use tool_output::{Outputs, Stop};
 use tool_text::{Args, ReadelfParts};
 
-/// Whether all parts that are asked for are built: `h`, `l` and `S` are.
+/// Whether all parts that are asked for are built: `h`, `l`, `S`, `s` and `d` are.
 #[tactic(auto, unfolding(crate::specs::Readelf::are_built))]
 fn are_built(parts: &ReadelfParts) -> bool
     ensures { result ≡ are_built parts.now }
 {
-    !(parts.symbols || parts.relocations || parts.dynamic || parts.notes || parts.versions)
+    !(parts.relocations || parts.notes || parts.versions)
 }
 
 /// The command readelf: the parts of each file, in the order of the names. The answer tells whether

@@ -45,7 +45,7 @@ const SAID: [Said; 6] = [
         text: b"elfkit: form not built\n",
     },
     Said {
-        line: "readelf -hs F",
+        line: "readelf -hV F",
         status: Status::Refused,
         text: b"elfkit: form not built\n",
     },

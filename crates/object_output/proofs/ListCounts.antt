@@ -1,0 +1,62 @@
+-- A list in items has as many as are counted.
+use Rattle.std.proofs.Common.{◌≡◌, length, refl}
+use Rattle.elf_types.specs.declared.records.Kind.TheVariants as kinds
+use Rattle.elf_xlate.specs.declared.content.Items.{Items}
+use Rattle.elf_xlate.specs.declared.content.Items.TheVariants as items
+use Rattle.elf_xlate.specs.Translation.{items_kind, items_count}
+use Rattle.elf_object.specs.Answers.{halves_of, syms_of, rels_of, relas_of, dyns_of}
+
+pub halves_counted : (content : Items) → items_kind content ≡ kinds.Half → length (halves_of content) ≡ items_count content
+halves_counted items.Empty is = cc
+halves_counted (items.Bytes l) is = cc
+halves_counted (items.Half l) is = refl
+halves_counted (items.Word l) is = cc
+halves_counted (items.Addr l) is = cc
+halves_counted (items.Sym l) is = cc
+halves_counted (items.Rel l) is = cc
+halves_counted (items.Rela l) is = cc
+halves_counted (items.Dyn l) is = cc
+
+pub syms_counted : (content : Items) → items_kind content ≡ kinds.Sym → length (syms_of content) ≡ items_count content
+syms_counted items.Empty is = cc
+syms_counted (items.Bytes l) is = cc
+syms_counted (items.Half l) is = cc
+syms_counted (items.Word l) is = cc
+syms_counted (items.Addr l) is = cc
+syms_counted (items.Sym l) is = refl
+syms_counted (items.Rel l) is = cc
+syms_counted (items.Rela l) is = cc
+syms_counted (items.Dyn l) is = cc
+
+pub rels_counted : (content : Items) → items_kind content ≡ kinds.Rel → length (rels_of content) ≡ items_count content
+rels_counted items.Empty is = cc
+rels_counted (items.Bytes l) is = cc
+rels_counted (items.Half l) is = cc
+rels_counted (items.Word l) is = cc
+rels_counted (items.Addr l) is = cc
+rels_counted (items.Sym l) is = cc
+rels_counted (items.Rel l) is = refl
+rels_counted (items.Rela l) is = cc
+rels_counted (items.Dyn l) is = cc
+
+pub relas_counted : (content : Items) → items_kind content ≡ kinds.Rela → length (relas_of content) ≡ items_count content
+relas_counted items.Empty is = cc
+relas_counted (items.Bytes l) is = cc
+relas_counted (items.Half l) is = cc
+relas_counted (items.Word l) is = cc
+relas_counted (items.Addr l) is = cc
+relas_counted (items.Sym l) is = cc
+relas_counted (items.Rel l) is = cc
+relas_counted (items.Rela l) is = refl
+relas_counted (items.Dyn l) is = cc
+
+pub dyns_counted : (content : Items) → items_kind content ≡ kinds.Dyn → length (dyns_of content) ≡ items_count content
+dyns_counted items.Empty is = cc
+dyns_counted (items.Bytes l) is = cc
+dyns_counted (items.Half l) is = cc
+dyns_counted (items.Word l) is = cc
+dyns_counted (items.Addr l) is = cc
+dyns_counted (items.Sym l) is = cc
+dyns_counted (items.Rel l) is = cc
+dyns_counted (items.Rela l) is = cc
+dyns_counted (items.Dyn l) is = refl

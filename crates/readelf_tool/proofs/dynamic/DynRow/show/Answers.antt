@@ -1,0 +1,20 @@
+use Rattle.std.proofs.Common.{sym, ap, ◌∙◌}
+use Rattle.tool_output.specs.Reports.{shown}
+use Rattle.object_output.proofs.ElfSteps.{elf_left, elf_as, elf_says}
+use Rattle.readelf_tool.specs.Dynamic.{dyn_name, dyn_name_line, dyn_row}
+use Rattle.readelf_tool.proofs.DynamicLemmas.{row_named, row_valued}
+use Rattle.readelf_tool.proofs.dynamic.DynRow.show.Goals as goal
+
+pub returns-then-names_string : goal.returns-then-names_string
+returns-then-names_string g c =
+    let s = c.args.s.0 in
+    let x = c.args.self in
+    elf_as g.S.Source g.O.Sink g.E.Sink (λ o. shown (dyn_name_line c.args.i x (dyn_name o s x))) (λ o. shown (dyn_row o s c.args.i x)) _ c.args.elf.now _ c.args.outputs.now _
+    (λ told. ap shown (row_named c.args.elf.now.o s x c.args.i (sym c.names_string.ensures ∙ c.if-names_string.true))) c.show_name.ensures
+
+pub returns : goal.returns
+returns g c =
+    let s = c.args.s.0 in
+    let x = c.args.self in
+    elf_says g.S.Source g.O.Sink g.E.Sink (λ o. shown (dyn_row o s c.args.i x)) _ c.args.elf.now _ c.args.outputs.now _ (elf_left g.S.Source c.args.elf.now)
+    (λ told. rw (row_valued c.args.elf.now.o s x c.args.i (sym c.names_string.ensures ∙ c.if-names_string.false)) c.show.ensures.reports) c.show.ensures.leaves

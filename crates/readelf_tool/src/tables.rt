@@ -1,0 +1,253 @@
+//! Sections whose data is a table: their title, and a row for each item. The items are told one by
+//! one, so a table is held once, as the bytes of its section.
+
+ghost use Rattle.std.specs.Prelude.{◌≡◌, ◌++◌, ◌<◌, ℕ, List, length, slice_get, None, Some, IsSome, IsTrue, IfOk, OnOk, IfErr};
+ghost use Rattle.std.specs.Option.{option_copied};
+ghost use Rattle.elf_types.specs.Writers.{WantsMemory};
+ghost use Rattle.tool_output.specs.Stops.{stop_of};
+ghost use Rattle.elf_types.specs.declared.records.ScnId.{ScnId as TheScnId};
+ghost use Rattle.std.specs.Prelude.{Option as TheOption};
+ghost use Rattle.elf_xlate.specs.declared.content.Items.{Items as TheItems};
+ghost use Rattle.elf_xlate.specs.Translation.{items_kind, items_count};
+ghost use Rattle.elf_object.specs.Object.{Object};
+ghost use Rattle.elf_object.specs.Answers.{items_at, lend_refusal};
+ghost use Rattle.elf_object.specs.Strings as strings;
+ghost use Rattle.tool_output.specs.Lines.{numbered_lines};
+ghost use Rattle.tool_output.specs.Reports.{shown};
+ghost use Rattle.object_output.specs.Steps.{ReportsElf, ReadsElf};
+ghost use Rattle.readelf_tool.specs.Tables.{data_title, table_title, table_lines, if_told, row_at};
+
+use elf_descriptor::Elf;
+use elf_outside::{Sink, Source};
+use elf_types::{DataId, ElfError, Octets, ScnId, put_decimal, put_text};
+use gelf_view::item_count;
+use object_output::{Bracketed, section_name};
+use section_data::Item;
+use tool_output::{FileName, Line, Message, Outputs, Stop};
+
+/// An item that has a row in a table.
+///
+/// - `title` is what stands before the section's number in its title.
+/// - `line` is the row of an item of a section, by the object, the section and the item's index.
+/// - `fits` says of the section of extended indexes that is handed in what a row needs.
+pub trait Row: Item {
+    ghost title: { List ℕ };
+
+    ghost line: { Object → ℕ → ℕ → Self → List ℕ };
+
+    ghost fits: { Object → ℕ → TheOption TheScnId → Type 0 };
+
+    /// What stands before the section's number in its title.
+    fn title() -> &'static str
+        ensures { result.now ≡ title };
+
+    /// Shows the row of item `i` of a section that is there.
+    fn show<S: Source, O: Sink, E: Sink>(
+        self,
+        elf: &mut Elf<S>,
+        s: ScnId,
+        i: u64,
+        table: Option<ScnId>,
+        outputs: &mut Outputs<'_, O, E>,
+    ) -> Result<bool, Stop>
+        requires section { s.0 < length elf.old.o.sections }
+        requires fits { fits elf.old.o s.0 table }
+        ensures { ReportsElf S.Source O.Sink E.Sink (λ o. shown (line o s.0 i self))
+            result elf.old elf.new outputs.old outputs.new };
+}
+
+/// Appends `TITLE S NAME`.
+#[tactic(auto, using(crate::proofs::Rows::kept), unfolding(crate::specs::Tables::data_title))]
+pub fn put_data_title(
+    page: &mut Octets,
+    title: &str,
+    s: ScnId,
+    name: Option<&[u8]>,
+) -> Result<(), ElfError>
+    ensures ok { OnOk result
+        (page.new ≡ page.old ++ data_title title.now s.0 (option_copied name.entry)) }
+    ensures err { IfErr result (WantsMemory page.old page.new) }
+{
+    put_text(page, title)?;
+    put_decimal(page, u64::from(s.0))?;
+    put_text(page, " ")?;
+    Bracketed { name }.put(page)
+}
+
+/// The title of a table.
+#[derive(Clone, Copy)]
+struct TableTitle<'a> {
+    /// What stands before the section's number.
+    title: &'static str,
+    /// The section.
+    section: ScnId,
+    /// Its name.
+    name: Option<&'a [u8]>,
+    /// The number of its items.
+    count: u64,
+}
+
+impl Line for TableTitle<'_> {
+    ghost text = { λ t. table_title t.title.now t.section.0 (option_copied t.name) t.count };
+
+    #[tactic(auto, using(crate::proofs::Rows::kept), unfolding(crate::specs::Tables::table_title))]
+    fn put(&self, page: &mut Octets) -> Result<(), ElfError> {
+        put_data_title(page, self.title, self.section, self.name)?;
+        put_text(page, ": ")?;
+        put_decimal(page, self.count)?;
+        put_text(page, "\n")
+    }
+}
+
+/// Shows the title of a table.
+fn show_title<S: Source, O: Sink, E: Sink>(
+    title: &'static str,
+    elf: &mut Elf<S>,
+    s: ScnId,
+    count: u64,
+    outputs: &mut Outputs<'_, O, E>,
+) -> Result<bool, Stop>
+    requires { s.0 < length elf.old.o.sections }
+    ensures { ReportsElf S.Source O.Sink E.Sink
+        (λ o. shown (table_title title.now s.0 (strings.section_name o s.0) count))
+        result elf.old elf.new outputs.old outputs.new }
+{
+    match section_name(elf, s) {
+        Ok(name) => outputs.show(&TableTitle {
+            title,
+            section: s,
+            name,
+            count,
+        }),
+        Err(stop) => Err(stop),
+    }
+}
+
+/// The stop of an error that is no refusal.
+fn stop_for(e: ElfError) -> Stop
+    requires { IsSome (stop_of e) }
+    ensures { stop_of e ≡ Some result }
+{
+    match Stop::of(&e) {
+        Some(stop) => stop,
+        None => unreachable!(),
+    }
+}
+
+/// Item `i` of a piece of the item's kind, which is there. It stops by `Read` where a read of the
+/// source failed, and by `Memory`.
+pub fn item_there<S: Source, T: Item>(elf: &mut Elf<S>, d: DataId, i: u64) -> Result<T, Stop>
+    requires passed { lend_refusal elf.old.o T.kind d.section d.piece ≡ None }
+    requires there { i < length (T.list_of (items_at elf.old.o d.section d.piece)) }
+    ensures value { IsTrue elf.old.told → IfOk result (λ x.
+        slice_get (T.list_of (items_at elf.old.o d.section d.piece)) i ≡ Some x) }
+    ensures reads { ReadsElf S.Source result elf.old elf.new }
+{
+    match elf.item::<T>(d, i) {
+        Ok(item) => Ok(item),
+        Err(e) => Err(stop_for(e)),
+    }
+}
+
+/// Shows the row of an item that is there.
+fn show_row<T: Row, S: Source, O: Sink, E: Sink>(
+    elf: &mut Elf<S>,
+    s: ScnId,
+    i: u64,
+    table: Option<ScnId>,
+    outputs: &mut Outputs<'_, O, E>,
+) -> Result<bool, Stop>
+    requires section { s.0 < length elf.old.o.sections }
+    requires passed { lend_refusal elf.old.o T.kind s.0 0 ≡ None }
+    requires there { i < length (T.list_of (items_at elf.old.o s.0 0)) }
+    requires fits { T.fits elf.old.o s.0 table }
+    ensures { ReportsElf S.Source O.Sink E.Sink
+        (λ o. shown (row_at (T.line o s.0) (T.list_of (items_at o s.0 0)) i))
+        result elf.old elf.new outputs.old outputs.new }
+{
+    let d = DataId {
+        section: s.0,
+        piece: 0,
+    };
+    match item_there::<S, T>(elf, d, i) {
+        Ok(item) => item.show(elf, s, i, table, outputs),
+        Err(stop) => Err(stop),
+    }
+}
+
+/// Shows a row for each item of a section that is there.
+fn show_rows<T: Row, S: Source, O: Sink, E: Sink>(
+    elf: &mut Elf<S>,
+    s: ScnId,
+    count: u64,
+    table: Option<ScnId>,
+    outputs: &mut Outputs<'_, O, E>,
+) -> Result<bool, Stop>
+    requires section { s.0 < length elf.old.o.sections }
+    requires passed { lend_refusal elf.old.o T.kind s.0 0 ≡ None }
+    requires count { count ≡ length (T.list_of (items_at elf.old.o s.0 0)) }
+    requires fits { T.fits elf.old.o s.0 table }
+    ensures { ReportsElf S.Source O.Sink E.Sink
+        (λ o. shown (numbered_lines (T.line o s.0) 0 (T.list_of (items_at o s.0 0))))
+        result elf.old elf.new outputs.old outputs.new }
+{
+    let mut refused = false;
+    for i in 0..count {
+        let was_refused = show_row::<T, S, O, E>(elf, s, i, table, outputs)?;
+        refused = refused | was_refused;
+    }
+    Ok(refused)
+}
+
+/// Shows the title of a section whose items can be told, and a row for each.
+fn show_table_lines<T: Row, S: Source, O: Sink, E: Sink>(
+    elf: &mut Elf<S>,
+    s: ScnId,
+    count: u64,
+    table: Option<ScnId>,
+    outputs: &mut Outputs<'_, O, E>,
+) -> Result<bool, Stop>
+    requires section { s.0 < length elf.old.o.sections }
+    requires passed { lend_refusal elf.old.o T.kind s.0 0 ≡ None }
+    requires count { count ≡ length (T.list_of (items_at elf.old.o s.0 0)) }
+    requires fits { T.fits elf.old.o s.0 table }
+    ensures { ReportsElf S.Source O.Sink E.Sink
+        (λ o. table_lines T.title T.line o s.0 (T.list_of (items_at o s.0 0)))
+        result elf.old elf.new outputs.old outputs.new }
+{
+    let titled = show_title(T::title(), elf, s, count, outputs)?;
+    let rows = show_rows::<T, S, O, E>(elf, s, count, table, outputs)?;
+    Ok(titled | rows)
+}
+
+/// Shows the table of a section that is there, or refuses the object for that section where its
+/// items can not be told. A list of the items has as many as are counted.
+pub fn show_table<T: Row, S: Source, O: Sink, E: Sink>(
+    name: &FileName<'_>,
+    elf: &mut Elf<S>,
+    s: ScnId,
+    table: Option<ScnId>,
+    outputs: &mut Outputs<'_, O, E>,
+) -> Result<bool, Stop>
+    requires section { s.0 < length elf.old.o.sections }
+    requires fits { T.fits elf.old.o s.0 table }
+    requires counted { (items : TheItems) → items_kind items ≡ T.kind →
+        length (T.list_of items) ≡ items_count items }
+    ensures { ReportsElf S.Source O.Sink E.Sink (λ o.
+        if_told name.now (lend_refusal o T.kind s.0 0)
+        (table_lines T.title T.line o s.0 (T.list_of (items_at o s.0 0))))
+        result elf.old elf.new outputs.old outputs.new }
+{
+    let d = DataId {
+        section: s.0,
+        piece: 0,
+    };
+    match item_count::<S, T>(elf, d) {
+        Ok(count) => show_table_lines::<T, S, O, E>(elf, s, count, table, outputs),
+        Err(e) => outputs.refuse(&Message {
+            command: "readelf",
+            name,
+            text: e,
+        }),
+    }
+}
