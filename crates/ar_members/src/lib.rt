@@ -9,8 +9,6 @@ mod headers;
 mod names;
 mod numbers;
 mod symbols;
-#[cfg(test)]
-mod tests;
 mod walk;
 
 pub use archive::Ar;

@@ -9,6 +9,3 @@ mod tables;
 
 pub use file_kinds::{FileKind, kind_of_source};
 pub use fronts::{Front, read_front};
-
-#[cfg(test)]
-mod tests;

@@ -13,6 +13,3 @@ pub use meeting::{overlap, ranks_by_position};
 pub use parts::{PartAt, Parts, Places};
 pub use placing::place;
 pub use rounding::rounded_within;
-
-#[cfg(test)]
-mod tests;

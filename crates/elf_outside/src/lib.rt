@@ -12,8 +12,6 @@ pub mod reads;
 pub mod real;
 pub mod sinks;
 pub mod sources;
-#[cfg(test)]
-pub(crate) mod steps;
 pub mod window;
 pub mod writes;
 

@@ -56,6 +56,3 @@ pub fn read_array<S: Source, const N: usize>(src: &mut S, at: u64) -> Result<[u8
     read(src, at, &mut array)?;
     Ok(array)
 }
-
-#[cfg(test)]
-mod tests;

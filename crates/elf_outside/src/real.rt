@@ -14,6 +14,3 @@ use system_file::SystemFile;
 /// A file of the system whose small reads are served from a window. It tells no bytes. Its length
 /// is that of the file as it was opened, and as the writes through it changed it since.
 pub type RealFile = ReadAhead<SystemFile>;
-
-#[cfg(test)]
-mod tests;

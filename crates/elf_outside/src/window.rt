@@ -60,6 +60,3 @@ impl<S: Source> Source for Window<S> {
     ghost sized = { λ w. range_sized
         (S.holds w.inner) w.at w.len (S.size w.inner) w.in_range (S.sized w.inner) };
 }
-
-#[cfg(test)]
-mod tests;

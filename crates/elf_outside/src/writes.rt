@@ -50,6 +50,3 @@ pub fn set_len<D: Device>(device: &mut D, n: u64) -> Result<(), ElfError>
         Err(Failed) => Err(ElfError::Write),
     }
 }
-
-#[cfg(test)]
-mod tests;

@@ -10,8 +10,6 @@ pub mod lists;
 pub mod names;
 pub mod records;
 pub mod symbols;
-#[cfg(test)]
-mod tests;
 pub mod texts;
 
 pub use error_texts::{kind_name, put_error, put_numbered, put_numbered_twice, put_part, text};

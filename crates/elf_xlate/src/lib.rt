@@ -31,10 +31,3 @@ pub use laws::{
 pub use numbers::number;
 pub use single::{get_addr, get_dyn, get_half, get_rel, get_rela, get_sym, get_word};
 pub use sizes::{ehdr_size, fsize, item_size, phdr_size, shdr_size};
-
-#[cfg(test)]
-mod header_tests;
-#[cfg(test)]
-mod test_forms;
-#[cfg(test)]
-mod tests;

@@ -1,19 +1,10 @@
 //! elfkit: shows, checks and changes ELF images.
 #![tactic(auto)]
 
-mod commands;
-mod files;
-mod objects;
-mod program;
-mod sentences;
-#[cfg(test)]
-mod tests;
-mod titles;
-
 ghost use Rattle.std.specs.Prelude.{◌≡◌, ◌⊎◌, IfErr};
 
-use elf_outside::{RealFiles, RealSink};
-use program::run;
+use elf_outside::{RealFiles, RealSink, Sink};
+use elfkit_run::run;
 use std::env;
 use std::io::ErrorKind;
 use std::process::ExitCode;
@@ -39,11 +30,22 @@ fn read_arguments(rt: &(impl Env + AllocGlobal)) -> Result<Args, Status>
     Ok(words)
 }
 
+/// The status of a run whose words can't be had. Words that are not text have a message first.
+fn end_without_words(rt: &HostRuntime, status: Status) -> Status {
+    if status != Status::BadWords {
+        return status;
+    }
+    match RealSink::new(rt.stderr()).put(b"elfkit: an argument is not text in UTF-8\n") {
+        Ok(()) => status,
+        Err(_) => Status::WriteFailed,
+    }
+}
+
 /// The status of the program.
 fn start(rt: &HostRuntime) -> Status {
     let words = match read_arguments(rt) {
         Ok(words) => words,
-        Err(status) => return status,
+        Err(status) => return end_without_words(rt, status),
     };
     let Ok(system) = rt.clone() else {
         return Status::NoMemory;

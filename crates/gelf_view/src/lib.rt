@@ -41,10 +41,3 @@ pub use version_calls::{first_entry, verdaux, verdef, vernaux, verneed};
 pub use versions::{
     Verdaux, Verdef, Vernaux, Verneed, verdaux_in, verdef_in, vernaux_in, verneed_in,
 };
-
-#[cfg(test)]
-mod call_tests;
-#[cfg(test)]
-mod descriptor_tests;
-#[cfg(test)]
-mod tests;

@@ -20,6 +20,3 @@ mod units;
 pub use faults::{LineFault, LineWhy};
 pub use rows::{FileNames, Row, Rows};
 pub use units::{Unit, unit_at};
-
-#[cfg(test)]
-mod tests;

@@ -39,8 +39,8 @@ impl Line for Bracketed<'_> {
     }
 }
 
-/// The string at an offset of a section, or None where it cannot be read. It stops by `Read` where a
-/// read of the source failed, and by `Memory`.
+/// The string at an offset of a section, or None where it cannot be read. It stops by `Read` where
+/// a read of the source failed, and by `Memory`.
 ///
 /// Source: gABI chapter 4, "String Table"; elf_strptr of elf(3E).
 pub fn string_at<S: Source>(elf: &mut Elf<S>, s: ScnId, offset: u64) -> Result<Option<&[u8]>, Stop>

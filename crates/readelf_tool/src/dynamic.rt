@@ -17,8 +17,8 @@ use elf_types::{Dyn, ElfError, Octets, ScnId, put_hex, put_text, tag_name};
 use object_output::{Bracketed, section_header, string_at};
 use tool_output::{FileName, Line, Outputs, Stop};
 
-/// Whether the value of an entry is the offset of a string, by its tag: `DT_NEEDED`, `DT_SONAME`, `DT_RPATH` and
-/// `DT_RUNPATH`.
+/// Whether the value of an entry is the offset of a string, by its tag: `DT_NEEDED`, `DT_SONAME`,
+/// `DT_RPATH` and `DT_RUNPATH`.
 #[tactic(auto, unfolding(crate::specs::Dynamic::names_string))]
 fn names_string(x: &Dyn) -> bool
     ensures { result ≡ names_string x.now.tag }

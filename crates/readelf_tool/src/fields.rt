@@ -1,5 +1,5 @@
-//! Lines of one field, the columns of rows, and numbers with names. Each call refuses `Memory` alone; what the page held
-//! then still stands, some bytes behind it.
+//! Lines of one field, the columns of rows, and numbers with names. Each call refuses `Memory`
+//! alone; what the page held then still stands, some bytes behind it.
 
 ghost use Rattle.std.specs.Prelude.{◌≡◌, ◌++◌, OnOk, IfErr};
 ghost use Rattle.std.specs.Option.{option_copied};

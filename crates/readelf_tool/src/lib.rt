@@ -12,6 +12,3 @@ pub mod symbols;
 pub mod tables;
 
 pub use parts::{ReadelfTool, readelf, show_parts, shows_sections};
-
-#[cfg(test)]
-mod tests;

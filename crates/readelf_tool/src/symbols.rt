@@ -130,8 +130,8 @@ impl Line for SymbolLine<'_> {
     }
 }
 
-/// The section of symbol `i` of a section, which was looked at, or None where its extended index can
-/// not be told. It stops by `Read` where a read of the source failed, and by `Memory`.
+/// The section of symbol `i` of a section, which was looked at, or None where its extended index
+/// can not be told. It stops by `Read` where a read of the source failed, and by `Memory`.
 fn place_of<S: Source>(
     elf: &mut Elf<S>,
     s: ScnId,

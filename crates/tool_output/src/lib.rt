@@ -8,8 +8,6 @@ pub mod names;
 pub mod outputs;
 pub mod statuses;
 pub mod stops;
-#[cfg(test)]
-mod tests;
 
 pub use lines::Line;
 pub use messages::{InSection, Message};

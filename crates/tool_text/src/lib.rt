@@ -12,8 +12,6 @@ pub mod options;
 pub mod reading;
 pub mod rules;
 mod splitting;
-#[cfg(test)]
-mod tests;
 pub mod texts;
 pub mod usages;
 mod values;

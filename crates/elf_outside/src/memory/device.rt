@@ -202,6 +202,3 @@ impl Device for MemDevice {
 
     ghost rest_begins = { λ _. refl };
 }
-
-#[cfg(test)]
-mod tests;

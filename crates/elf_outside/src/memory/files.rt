@@ -248,6 +248,3 @@ fn set_empty(names: &mut BTreeMap<String, Kept>, alloc: Global, name: &str) -> R
         Err(_) => Err(OpenFault::Memory),
     }
 }
-
-#[cfg(test)]
-mod tests;

@@ -77,6 +77,3 @@ impl Sink for MemSink {
         Ok(())
     }
 }
-
-#[cfg(test)]
-mod tests;

@@ -88,6 +88,3 @@ impl Source for MemSource {
 
     ghost sized = { λ _. refl };
 }
-
-#[cfg(test)]
-mod tests;

@@ -48,6 +48,13 @@ impl<S: Source> ReadAhead<S> {
         }
     }
 
+    /// The inner source, without the window.
+    pub fn into_inner(self) -> S
+        ensures { result ≡ self.inner }
+    {
+        self.inner
+    }
+
     /// Empties the window.
     fn forget(&mut self)
         ensures inner { self.new.inner ≡ self.old.inner }
@@ -176,6 +183,3 @@ impl<D: Device> Device for ReadAhead<D> {
 
     ghost rest_begins = { λ r. D.rest_begins r.inner };
 }
-
-#[cfg(test)]
-mod tests;

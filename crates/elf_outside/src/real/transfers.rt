@@ -9,7 +9,7 @@ use std::os::unix::fs::FileExt;
 
 /// Reads from a place on until the buffer is full, and gives the number of bytes read. It stops
 /// early where the file fails or gives nothing.
-pub(crate) fn read_from<F: FileExt>(file: &F, at: u64, buf: &mut [u8]) -> usize
+pub fn read_from<F: FileExt>(file: &F, at: u64, buf: &mut [u8]) -> usize
     requires { at + length buf.old < 2 ^ 64 }
     ensures { result ≤ length buf.old }
 {
@@ -30,7 +30,7 @@ pub(crate) fn read_from<F: FileExt>(file: &F, at: u64, buf: &mut [u8]) -> usize
 
 /// Writes a piece from a place on, and gives the number of bytes written. It stops early where the
 /// file fails or takes nothing.
-pub(crate) fn write_from<F: FileExt>(file: &F, at: u64, piece: &[u8]) -> usize
+pub fn write_from<F: FileExt>(file: &F, at: u64, piece: &[u8]) -> usize
     requires { at + length piece.now < 2 ^ 64 }
     ensures { result ≤ length piece.now }
 {
@@ -51,7 +51,7 @@ pub(crate) fn write_from<F: FileExt>(file: &F, at: u64, piece: &[u8]) -> usize
 
 /// Writes a piece to a stream, and gives the number of bytes written. It stops early where the
 /// stream fails or takes nothing.
-pub(crate) fn write_to<W: Write>(stream: &mut W, piece: &[u8]) -> usize
+pub fn write_to<W: Write>(stream: &mut W, piece: &[u8]) -> usize
     ensures bound { result ≤ length piece.now }
     ensures bytes { BytesAppend (W.contents stream.old) (W.contents stream.new)
         (take result piece.now) }
@@ -70,6 +70,3 @@ pub(crate) fn write_to<W: Write>(stream: &mut W, piece: &[u8]) -> usize
     }
     done
 }
-
-#[cfg(test)]
-mod tests;

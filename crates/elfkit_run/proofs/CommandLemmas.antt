@@ -1,0 +1,57 @@
+-- Commands by their words.
+use Rattle.std.proofs.Common.{◌≡◌, ◌<◌, Bool, true, List, ℕ, Result, Ok, Err, IfOk, codes, refl, arith, lit<}
+use Rattle.elf_outside.specs.Names.{Map}
+use Rattle.tool_output.specs.declared.stops.Stop.{Stop}
+use Rattle.elf_outside.specs.declared.sinks.Sink.{Ghosts as SinkGhosts}
+use Rattle.elf_outside.specs.declared.file_sets.Files.{Ghosts as FilesGhosts}
+use Rattle.tool_output.specs.declared.outputs.Outputs.{Outputs}
+use Rattle.tool_output.specs.declared.outputs.Side.TheVariants.{Error}
+use Rattle.tool_output.specs.Marks.{said}
+use Rattle.tool_output.specs.Steps.{Writes, Performs}
+use Rattle.tool_output.specs.declared.statuses.Status.{Status}
+use Rattle.tool_output.specs.Statuses.{status_code, refused_status}
+use Rattle.tool_output.specs.Outcomes.{Outcome, Does}
+use Rattle.tool_output.specs.declared.statuses.Status.TheVariants.{BadWords}
+use Rattle.tool_output.proofs.StepLemmas.{stops_as, writes_went}
+use Rattle.tool_output.proofs.OutcomeLemmas.{says_done}
+use Rattle.tool_text.specs.Usages.{usage_line}
+use Rattle.tool_text.specs.declared.usages.Usage.{Usage}
+use Rattle.tool_text.specs.declared.commands.Command.{Command}
+use Rattle.tool_text.specs.Reading.{reading}
+use Rattle.elfkit_run.specs.Sentences.{line_of, says, not_built}
+use Rattle.elfkit_run.specs.Program.{usage_outcome, outcome_by, program, IsStatusOf}
+
+-- a form that is not built ends with 1
+status_of_refusal : (result : Result Bool Stop) → IfOk result (λ refused. refused ≡ true) → IfOk result (λ refused. refused_status refused ≡ 1)
+status_of_refusal (Ok refused) h = rw h refl
+status_of_refusal (Err stop) h = tt
+
+pub not_built_done : {F D O E : Type 0} (f : FilesGhosts F D) (o : SinkGhosts O) (e : SinkGhosts E) (a : F) (s t : Outputs O E) (result : Result Bool Stop)
+    → Performs o e result s t (said Error (line_of (codes "elfkit: form not built"))) true
+    → Does f o e refused_status not_built result a a s t
+unfolding not_built says
+not_built_done f o e a s t result h =
+    says_done f o e a a s t refused_status _ 1 result h.writes (status_of_refusal result h.value_is)
+
+-- the usage line of words that are refused
+abbrev pub bad_words : {T : Type 0} → Result T Stop → Result Status Stop
+bad_words (Ok said_so) = Ok BadWords
+bad_words (Err stop) = Err stop
+
+module _ {F D O E T : Type 0} (f : FilesGhosts F D) (o : SinkGhosts O) (e : SinkGhosts E) (usage : Usage) (named : Map) (a : F) (s t : Outputs O E) where
+  does_usage : (result : Result T Stop) → Writes o e result s t (said Error (line_of (usage_line usage)))
+      → Does f o e status_code (usage_outcome usage) (bad_words result) a a s t
+  unfolding usage_outcome says
+  does_usage (Ok said_so) h = says_done f o e a a s t status_code _ 2 (Ok BadWords) (writes_went o e BadWords s t _ h.ok) refl
+  does_usage (Err stop) h = says_done f o e a a s t status_code _ 2 (Err stop) (stops_as o e stop s t _ h) tt
+
+  pub usage_done : (words : List (List ℕ)) (text : List ℕ) (result : Result T Stop) → reading words ≡ Err usage → text ≡ usage_line usage
+      → Writes o e result s t (said Error (line_of text)) → Does f o e status_code (program words named) (bad_words result) a a s t
+  unfolding program outcome_by
+  usage_done words text result is line h = rw is (does_usage result (rw line at h))
+
+-- no status of a step is 3 or more
+pub below_three : (r : Result Command Usage) (answer : Result Status Stop) → IfOk answer (IsStatusOf r) → IfOk answer (λ status. status_code status < 3)
+below_three (Ok command) (Ok status) h = omega (arith, h)
+below_three (Err usage) (Ok status) h = rw h (lit< tt)
+below_three r (Err stop) h = tt

@@ -1,0 +1,19 @@
+use Rattle.std.proofs.Common.{refl}
+use Rattle.elfkit_run.specs.Program.{command_outcome, is_built}
+use Rattle.elfkit_run.proofs.commands.run_command.Goals as goal
+
+pub returns-in-Readelf-clause-does : goal.returns-in-Readelf-clause-does
+unfolding command_outcome is_built
+returns-in-Readelf-clause-does g c = rw c.in-Readelf.is c.readelf.ensures.does
+
+pub returns-in-Readelf-clause-untouched : goal.returns-in-Readelf-clause-untouched
+unfolding is_built
+returns-in-Readelf-clause-untouched g c = rw c.in-Readelf.is c.readelf.ensures.untouched
+
+pub returns-in-Lines-clause-does : goal.returns-in-Lines-clause-does
+unfolding command_outcome is_built
+returns-in-Lines-clause-does g c = rw c.in-Lines.is (λ told. c.lines.ensures.does (told refl))
+
+pub returns-in-Lines-clause-untouched : goal.returns-in-Lines-clause-untouched
+unfolding is_built
+returns-in-Lines-clause-untouched g c = rw c.in-Lines.is (λ no. cc)

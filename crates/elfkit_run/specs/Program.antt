@@ -1,0 +1,74 @@
+-- What the program does, by the words and the bytes of the files.
+use Rattle.std.specs.Prelude.{◌≡◌, ◌<◌, ℕ, List, Bool, true, false, IsTrue, Result, Ok, Err}
+use Rattle.elf_outside.specs.Names.{Map}
+use Rattle.tool_output.specs.declared.statuses.Status.{Status}
+use Rattle.tool_output.specs.declared.statuses.Status.TheVariants.{BadWords}
+use Rattle.tool_output.specs.Statuses.{status_code}
+use Rattle.tool_output.specs.Outcomes.{Outcome}
+use Rattle.tool_text.specs.declared.usages.Usage.{Usage}
+use Rattle.tool_text.specs.declared.commands.Command.{Command}
+use Rattle.tool_text.specs.declared.commands.Command.TheVariants.{Readelf, Nm, Size, Strings, Strip, Elflint, Calls, Selftest, Rehash, Copy, Unstrip, Lines}
+use Rattle.tool_text.specs.Usages.{usage_line}
+use Rattle.tool_text.specs.Reading.{reading}
+use Rattle.elfkit_run.specs.Sentences.{says, not_built}
+use Rattle.elfkit_run.specs.Readelf.{are_built, readelf_outcome}
+use Rattle.elfkit_run.specs.Lines.{lines_outcome}
+
+unfoldable pub command_outcome : Command → Map → Outcome
+command_outcome (Readelf parts files) named = readelf_outcome parts files named
+command_outcome (Nm options files) named = not_built
+command_outcome (Size files) named = not_built
+command_outcome (Strings options files) named = not_built
+command_outcome (Strip options file) named = not_built
+command_outcome (Elflint files) named = not_built
+command_outcome (Calls output file script) named = not_built
+command_outcome (Selftest out count) named = not_built
+command_outcome (Rehash out file) named = not_built
+command_outcome (Copy changes out file) named = not_built
+command_outcome (Unstrip out stripped debug) named = not_built
+command_outcome (Lines files) named = lines_outcome files named
+
+-- the usage line of words that are refused
+unfoldable pub usage_outcome : Usage → Outcome
+usage_outcome usage = says (usage_line usage) 2
+
+unfoldable pub outcome_by : Result Command Usage → Map → Outcome
+outcome_by (Ok command) named = command_outcome command named
+outcome_by (Err usage) named = usage_outcome usage
+
+-- the program
+unfoldable pub program : List (List ℕ) → Map → Outcome
+program words named = outcome_by (reading words) named
+
+-- ---- Words that make a run open files
+
+-- a command of a form that is built
+unfoldable pub is_built : Command → Bool
+is_built (Readelf parts files) = are_built parts
+is_built (Nm options files) = false
+is_built (Size files) = false
+is_built (Strings options files) = false
+is_built (Strip options file) = false
+is_built (Elflint files) = false
+is_built (Calls output file script) = false
+is_built (Selftest out count) = false
+is_built (Rehash out file) = false
+is_built (Copy changes out file) = false
+is_built (Unstrip out stripped debug) = false
+is_built (Lines files) = true
+
+-- it opens none on words that are refused, nor for a form that is not built
+unfoldable pub opens_files : Result Command Usage → Bool
+opens_files (Ok command) = is_built command
+opens_files (Err usage) = false
+
+-- the files are told, where the words make a run open any
+abbrev pub AreTold : List (List ℕ) → Bool → Type 0
+AreTold words tells = IsTrue (opens_files (reading words)) → IsTrue tells
+
+-- ---- The statuses of a run that comes to its end
+
+-- words that are refused end with their own, and those that are read do not
+abbrev pub IsStatusOf : Result Command Usage → Status → Type 0
+IsStatusOf (Ok command) status = status_code status < 2
+IsStatusOf (Err usage) status = status ≡ BadWords

@@ -1,0 +1,79 @@
+//! The commands, one file each, and the answer to those that are not built yet.
+
+ghost use Rattle.std.specs.Prelude.{◌≡◌, true, false, IsTrue};
+ghost use Rattle.tool_output.specs.Marks.{said};
+ghost use Rattle.tool_output.specs.Steps.{Performs, OnRead, LeavesOutputs};
+ghost use Rattle.tool_output.specs.Files.{LeavesFiles};
+ghost use Rattle.tool_output.specs.Statuses.{refused_status};
+ghost use Rattle.tool_output.specs.Outcomes.{Does};
+ghost use Rattle.elfkit_run.specs.Sentences.{line_of, not_built};
+ghost use Rattle.elfkit_run.specs.Program.{command_outcome, is_built};
+
+pub mod lines;
+pub mod readelf;
+
+use crate::sentences::say;
+use elf_outside::{Files, Sink};
+use lines::lines;
+use readelf::readelf;
+use std::alloc::Global;
+use tool_output::{Outputs, Side, Stop};
+use tool_text::Command;
+
+/// Says a sentence on standard error, which counts as a refusal.
+fn refuse<O: Sink, E: Sink>(outputs: &mut Outputs<'_, O, E>, text: &str) -> Result<bool, Stop>
+    ensures performs { Performs O.Sink E.Sink result outputs.old outputs.new
+        (said Side.Error (line_of text.now)) true }
+    ensures leaves { LeavesOutputs O.Sink E.Sink ⊥ result outputs.old outputs.new }
+{
+    say(outputs, text)?;
+    Ok(true)
+}
+
+/// Says that a form is not built, which counts as a refusal, and leaves all files.
+fn not_built<F: Files, O: Sink, E: Sink>(
+    _files: &F,
+    outputs: &mut Outputs<'_, O, E>,
+) -> Result<bool, Stop>
+    ensures does { Does F.Files O.Sink E.Sink refused_status not_built
+        result _files.now _files.now outputs.old outputs.new }
+    ensures leaves { LeavesOutputs O.Sink E.Sink ⊥ result outputs.old outputs.new }
+{
+    refuse(outputs, "elfkit: form not built")
+}
+
+/// Runs a command that was read.
+#[tactic(auto, unfolding(crate::specs::Program::command_outcome, crate::specs::Program::is_built))]
+pub fn run_command<F: Files, O: Sink, E: Sink>(
+    alloc: Global,
+    command: &Command,
+    files: &mut F,
+    outputs: &mut Outputs<'_, O, E>,
+) -> Result<bool, Stop>
+    ensures does { (IsTrue (is_built command.now) → IsTrue (F.tells files.old)) →
+        Does F.Files O.Sink E.Sink refused_status
+        (command_outcome command.now (F.named files.old))
+        result files.old files.new outputs.old outputs.new }
+    ensures untouched { is_built command.now ≡ false →
+        (files.new ≡ files.old) × OnRead result ⊥ }
+    ensures leaves { LeavesFiles F.Files O.Sink E.Sink
+        result files.old files.new outputs.old outputs.new }
+{
+    match command {
+        Command::Readelf {
+            parts,
+            files: names,
+        } => readelf(alloc, parts, names, files, outputs),
+        Command::Nm { .. } => not_built(files, outputs),
+        Command::Size { .. } => not_built(files, outputs),
+        Command::Strings { .. } => not_built(files, outputs),
+        Command::Strip { .. } => not_built(files, outputs),
+        Command::Elflint { .. } => not_built(files, outputs),
+        Command::Calls { .. } => not_built(files, outputs),
+        Command::Selftest { .. } => not_built(files, outputs),
+        Command::Rehash { .. } => not_built(files, outputs),
+        Command::Copy { .. } => not_built(files, outputs),
+        Command::Unstrip { .. } => not_built(files, outputs),
+        Command::Lines { files: names } => lines(alloc, names, files, outputs),
+    }
+}

@@ -1,0 +1,12 @@
+//! A run of elfkit: from the words of the command line, over a set of files and the two outputs, to
+//! a status.
+#![tactic(auto)]
+
+mod commands;
+mod files;
+mod objects;
+mod program;
+mod sentences;
+mod titles;
+
+pub use program::run;

@@ -1,0 +1,83 @@
+//! The program, from its words to its status.
+
+ghost use Rattle.std.specs.Prelude.{false, ◌≡◌, IfOk, IsErr};
+ghost use Rattle.tool_text.specs.Reading.{reading};
+ghost use Rattle.tool_output.specs.Outcomes.{Does, Delivers, Costs, RunLeaves};
+ghost use Rattle.tool_output.specs.Statuses.{status_code};
+ghost use Rattle.tool_output.specs.Steps.{OnRead};
+ghost use Rattle.tool_output.specs.Files.{LeavesFiles};
+ghost use Rattle.elfkit_run.specs.Program.{opens_files, program, AreTold, IsStatusOf};
+
+use crate::commands::run_command;
+use crate::sentences::say;
+use elf_outside::{Files, Sink};
+use elf_types::Octets;
+use std::alloc::Global;
+use tool_output::{Outputs, Status, Stop};
+use tool_text::{Args, WordsFault, read_words};
+
+/// Reads the words and runs their command, or says how they are to be.
+fn run_words<F: Files, O: Sink, E: Sink>(
+    alloc: Global,
+    words: &Args,
+    files: &mut F,
+    outputs: &mut Outputs<'_, O, E>,
+) -> Result<Status, Stop>
+    ensures does { AreTold words.now (F.tells files.old) →
+        Does F.Files O.Sink E.Sink status_code (program words.now (F.named files.old))
+        result files.old files.new outputs.old outputs.new }
+    ensures status { IfOk result (IsStatusOf (reading words.now)) }
+    ensures untouched { opens_files (reading words.now) ≡ false →
+        (files.new ≡ files.old) × OnRead result ⊥ }
+    ensures leaves { LeavesFiles F.Files O.Sink E.Sink
+        result files.old files.new outputs.old outputs.new }
+{
+    match read_words(alloc, words) {
+        Ok(command) => {
+            let refused = run_command(alloc, &command, files, outputs)?;
+            Ok(Status::of_refused(refused))
+        }
+        Err(WordsFault::Usage(usage)) => {
+            say(outputs, usage.line())?;
+            Ok(Status::BadWords)
+        }
+        Err(WordsFault::Memory) => Err(Stop::Memory),
+    }
+}
+
+/// Runs elfkit on the words after the program's name, over a set of files and the two outputs:
+///
+/// - `Done`: nothing was refused;
+/// - `Refused`: a file was refused, or the form is not built yet;
+/// - `BadWords`: the words are refused, with their usage line on `err`;
+/// - `ReadFailed`, `WriteFailed`, `NoMemory`: a read failed; a write of a file, of `out` or of
+///   `err` failed; there was no memory.
+///
+/// With the last three the run stopped on the way: both outputs have gained what was written up to
+/// one point, and nothing after it. Each file that was opened is closed again. Words that are
+/// refused, or of a form that is not built, open no file.
+pub fn run<F: Files, O: Sink, E: Sink>(
+    alloc: Global,
+    words: &Args,
+    files: &mut F,
+    out: &mut O,
+    err: &mut E,
+) -> Status
+    ensures delivers { AreTold words.now (F.tells files.old) →
+        Delivers (program words.now (F.named files.old)) (status_code result)
+        (O.wrote out.old) (O.wrote out.new) (E.wrote err.old) (E.wrote err.new)
+        (F.named files.old) (F.named files.new) }
+    ensures costs { AreTold words.now (F.tells files.old) →
+        Costs (program words.now (F.named files.old)) (status_code result)
+        (F.taken files.old) (F.taken files.new) (F.given files.old) (F.given files.new) }
+    ensures used { result ≡ Status.BadWords → IsErr (reading words.now) }
+    ensures untouched { opens_files (reading words.now) ≡ false →
+        (files.new ≡ files.old) × ¬ (result ≡ Status.ReadFailed) }
+    ensures leaves { RunLeaves F.Files O.Sink E.Sink (status_code result)
+        files.old files.new out.old out.new err.old err.new }
+{
+    let mut page = Octets::new(alloc);
+    let mut outputs = Outputs::new(out, err, &mut page);
+    let ended = run_words(alloc, words, files, &mut outputs);
+    Status::of(outputs.end(ended))
+}

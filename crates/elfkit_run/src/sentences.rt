@@ -1,0 +1,36 @@
+//! The lines that the program writes of its own.
+
+ghost use Rattle.std.specs.Prelude.{◌≡◌, ◌++◌};
+ghost use Rattle.tool_output.specs.Marks.{said};
+ghost use Rattle.tool_output.specs.Steps.{Writes, LeavesOutputs};
+ghost use Rattle.elfkit_run.specs.Sentences.{line_of};
+
+use elf_outside::Sink;
+use elf_types::{ElfError, Octets, put_text};
+use tool_output::{Line, Outputs, Side, Stop};
+
+/// A text on a line of its own.
+#[derive(Clone, Copy)]
+pub struct Sentence<'a> {
+    /// The text.
+    pub text: &'a str,
+}
+
+impl Line for Sentence<'_> {
+    ghost text = { λ s. line_of s.text.now };
+
+    #[tactic(auto, using(crate::proofs::Rows::kept), unfolding(crate::specs::Sentences::line_of))]
+    fn put(&self, page: &mut Octets) -> Result<(), ElfError> {
+        put_text(page, self.text)?;
+        put_text(page, "\n")
+    }
+}
+
+/// Says a sentence on standard error.
+pub fn say<O: Sink, E: Sink>(outputs: &mut Outputs<'_, O, E>, text: &str) -> Result<(), Stop>
+    ensures writes { Writes O.Sink E.Sink result outputs.old outputs.new
+        (said Side.Error (line_of text.now)) }
+    ensures leaves { LeavesOutputs O.Sink E.Sink ⊥ result outputs.old outputs.new }
+{
+    outputs.put(Side::Error, &Sentence { text })
+}

@@ -1,0 +1,79 @@
+//! The line before what is shown of an image.
+
+ghost use Rattle.std.specs.Prelude.{◌≡◌, ◌++◌};
+ghost use Rattle.tool_output.specs.Reports.{Reports};
+ghost use Rattle.tool_output.specs.Steps.{LeavesOutputs};
+ghost use Rattle.elfkit_run.specs.Titles.{title, title_report, titled_report};
+
+use elf_descriptor::Elf;
+use elf_outside::{Sink, Source};
+use elf_types::{ElfError, Octets, put_text};
+use object_output::ObjectTool;
+use tool_output::{FileName, Line, Outputs, Stop};
+
+/// `File: NAME`, the line before what is shown of an image.
+#[derive(Clone, Copy)]
+struct Title<'a> {
+    /// The file, or the member of an archive.
+    name: &'a FileName<'a>,
+}
+
+impl Line for Title<'_> {
+    ghost text = { λ t. title t.name.now };
+
+    #[tactic(auto, using(crate::proofs::Rows::kept), unfolding(crate::specs::Titles::title))]
+    fn put(&self, page: &mut Octets) -> Result<(), ElfError> {
+        put_text(page, "File: ")?;
+        self.name.put(page)?;
+        put_text(page, "\n")
+    }
+}
+
+/// Shows the title of an image, where it has one.
+fn show_title<O: Sink, E: Sink>(
+    has_title: bool,
+    name: &FileName<'_>,
+    outputs: &mut Outputs<'_, O, E>,
+) -> Result<bool, Stop>
+    ensures reports { Reports O.Sink E.Sink result outputs.old outputs.new
+        (title_report has_title name.now) }
+    ensures leaves { LeavesOutputs O.Sink E.Sink ⊥ result outputs.old outputs.new }
+{
+    if has_title {
+        outputs.show(&Title { name })
+    } else {
+        Ok(false)
+    }
+}
+
+/// A tool whose report on an image stands behind a title, where it has one.
+#[derive(Clone, Copy)]
+pub struct Titled<'a, T> {
+    /// The tool.
+    pub tool: &'a T,
+    /// Whether the reports have titles.
+    pub has_title: bool,
+}
+
+impl<T: ObjectTool> ObjectTool for Titled<'_, T> {
+    ghost command = { λ t. T.command t.tool.now };
+
+    ghost report = { λ t. titled_report t.has_title (T.report t.tool.now) };
+
+    ghost asks = { λ t. T.asks t.tool.now };
+
+    fn command(&self) -> &'static str {
+        self.tool.command()
+    }
+
+    fn show<S: Source, O: Sink, E: Sink>(
+        &self,
+        elf: &mut Elf<S>,
+        name: &FileName<'_>,
+        outputs: &mut Outputs<'_, O, E>,
+    ) -> Result<bool, Stop> {
+        let title = show_title(self.has_title, name, outputs)?;
+        let shown = self.tool.show(elf, name, outputs)?;
+        Ok(title | shown)
+    }
+}
