@@ -15,4 +15,8 @@ mod readelf;
 #[cfg(test)]
 mod runs;
 #[cfg(test)]
+mod size;
+#[cfg(test)]
+mod strings;
+#[cfg(test)]
 mod words;

@@ -3,4 +3,6 @@ pub mod Objects
 pub mod Program
 pub mod Readelf
 pub mod Sentences
+pub mod Size
+pub mod Strings
 pub mod Titles

@@ -1,0 +1,9 @@
+//! size: how much memory the sections of an object take.
+#![tactic(auto)]
+
+pub mod rows;
+pub mod sums;
+pub mod tool;
+
+pub use rows::SizeTitle;
+pub use tool::{SizeTool, size};

@@ -1,0 +1,89 @@
+//! The sums of the sizes of sections.
+
+ghost use Rattle.std.specs.Prelude.{◌≡◌, ◌+◌, ◌<◌, ◌≤◌, ◌^◌, ◌/◌, ◌%◌, ◌==◌, length};
+ghost use Rattle.command_objects.specs.Words.{is_allocated};
+ghost use Rattle.size_tool.specs.Sums.{is_bss, is_fixed, is_text, is_data, size_if, sums_of, AreWithin};
+
+use elf_descriptor::Elf;
+use elf_outside::Source;
+use elf_types::constants::{SHF_ALLOC, SHF_EXECINSTR, SHF_WRITE, SHT_NOBITS};
+use elf_types::{ScnId, Shdr};
+use object_output::section_header;
+
+/// The sums of an object. As many sections of any size as there can be pass 64 bits.
+#[derive(Clone, Copy, Debug, PartialEq, Eq)]
+pub struct Sums {
+    /// What a process does not write, or executes.
+    pub text: u128,
+    /// What it writes, and the file holds.
+    pub data: u128,
+    /// What the file does not hold.
+    pub bss: u128,
+}
+
+/// Whether a section takes memory in a process.
+///
+/// Source: gABI chapter 4, "Sections", SHF_ALLOC.
+#[tactic(auto, unfolding(command_objects::specs::Words::is_allocated))]
+fn is_allocated(h: &Shdr) -> bool
+    ensures { result ≡ is_allocated h.now }
+{
+    h.flags / SHF_ALLOC % 2 == 1
+}
+
+/// Whether a section is in memory but not in the file.
+#[tactic(auto, unfolding(crate::specs::Sums::is_bss))]
+fn is_bss(h: &Shdr) -> bool
+    ensures { result ≡ is_bss h.now }
+{
+    is_allocated(h) && h.stype == SHT_NOBITS
+}
+
+/// Whether a process executes a section, or does not write it.
+#[tactic(auto, unfolding(crate::specs::Sums::is_fixed))]
+fn is_fixed(h: &Shdr) -> bool
+    ensures { result ≡ is_fixed h.now }
+{
+    h.flags / SHF_EXECINSTR % 2 == 1 || h.flags / SHF_WRITE % 2 != 1
+}
+
+/// Whether a section counts as text.
+#[tactic(auto, unfolding(crate::specs::Sums::is_text))]
+fn is_text(h: &Shdr) -> bool
+    ensures { result ≡ is_text h.now }
+{
+    is_allocated(h) && h.stype != SHT_NOBITS && is_fixed(h)
+}
+
+/// Whether a section counts as data.
+#[tactic(auto, unfolding(crate::specs::Sums::is_data))]
+fn is_data(h: &Shdr) -> bool
+    ensures { result ≡ is_data h.now }
+{
+    is_allocated(h) && h.stype != SHT_NOBITS && !is_fixed(h)
+}
+
+/// A size, where it counts.
+fn size_if(counts: bool, size: u64) -> u128
+    ensures size { result ≡ size_if counts size }
+    ensures range { result < 2 ^ 64 }
+{
+    if counts { u128::from(size) } else { 0 }
+}
+
+/// The sums of the sections of an object. Nothing is read.
+pub fn sum_sections<S: Source>(elf: &Elf<S>) -> Sums
+    ensures sums { result ≡ sums_of elf.now.o.sections }
+    ensures within { AreWithin (2 ^ 32) result }
+{
+    let mut text: u128 = 0;
+    let mut data: u128 = 0;
+    let mut bss: u128 = 0;
+    for s in 0..elf.shnum() {
+        let h = section_header(elf, ScnId(s));
+        text += size_if(is_text(&h), h.size);
+        data += size_if(is_data(&h), h.size);
+        bss += size_if(is_bss(&h), h.size);
+    }
+    Sums { text, data, bss }
+}

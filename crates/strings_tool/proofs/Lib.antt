@@ -1,0 +1,7 @@
+pub mod Rows
+pub mod RunLemmas
+pub mod TextLemmas
+pub mod ScanLemmas
+pub mod RangeLemmas
+pub mod SectionLemmas
+pub mod ToolLemmas

@@ -1,0 +1,5 @@
+pub mod Runs
+pub mod Texts
+pub mod Scans
+pub mod Homes
+pub mod Tool
