@@ -15,8 +15,4 @@ mod readelf;
 #[cfg(test)]
 mod runs;
 #[cfg(test)]
-mod size;
-#[cfg(test)]
-mod strings;
-#[cfg(test)]
 mod words;

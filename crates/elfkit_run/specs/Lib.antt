@@ -4,5 +4,4 @@ pub mod Program
 pub mod Readelf
 pub mod Sentences
 pub mod Size
-pub mod Strings
 pub mod Titles

@@ -14,13 +14,12 @@ use Rattle.elfkit_run.specs.Sentences.{says, not_built}
 use Rattle.elfkit_run.specs.Readelf.{are_built, readelf_outcome}
 use Rattle.elfkit_run.specs.Lines.{lines_outcome}
 use Rattle.elfkit_run.specs.Size.{size_outcome}
-use Rattle.elfkit_run.specs.Strings.{strings_outcome}
 
 unfoldable pub command_outcome : Command → Map → Outcome
 command_outcome (Readelf parts files) named = readelf_outcome parts files named
 command_outcome (Nm options files) named = not_built
 command_outcome (Size files) named = size_outcome files named
-command_outcome (Strings options files) named = strings_outcome options files named
+command_outcome (Strings options files) named = not_built
 command_outcome (Strip options file) named = not_built
 command_outcome (Elflint files) named = not_built
 command_outcome (Calls output file script) named = not_built
@@ -49,7 +48,7 @@ unfoldable pub is_built : Command → Bool
 is_built (Readelf parts files) = are_built parts
 is_built (Nm options files) = false
 is_built (Size files) = true
-is_built (Strings options files) = true
+is_built (Strings options files) = false
 is_built (Strip options file) = false
 is_built (Elflint files) = false
 is_built (Calls output file script) = false

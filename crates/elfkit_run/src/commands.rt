@@ -12,7 +12,6 @@ ghost use Rattle.elfkit_run.specs.Program.{command_outcome, is_built};
 pub mod lines;
 pub mod readelf;
 pub mod size;
-pub mod strings;
 
 use crate::sentences::say;
 use elf_outside::{Files, Sink};
@@ -20,7 +19,6 @@ use lines::lines;
 use readelf::readelf;
 use size::size;
 use std::alloc::Global;
-use strings::strings;
 use tool_output::{Outputs, Side, Stop};
 use tool_text::Command;
 
@@ -70,10 +68,7 @@ pub fn run_command<F: Files, O: Sink, E: Sink>(
         } => readelf(alloc, parts, names, files, outputs),
         Command::Nm { .. } => not_built(files, outputs),
         Command::Size { files: names } => size(alloc, names, files, outputs),
-        Command::Strings {
-            options,
-            files: names,
-        } => strings(alloc, options, names, files, outputs),
+        Command::Strings { .. } => not_built(files, outputs),
         Command::Strip { .. } => not_built(files, outputs),
         Command::Elflint { .. } => not_built(files, outputs),
         Command::Calls { .. } => not_built(files, outputs),

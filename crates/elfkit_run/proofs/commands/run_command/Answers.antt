@@ -25,11 +25,3 @@ returns-in-Size-clause-does g c = rw c.in-Size.is (λ told. c.size.ensures.does 
 pub returns-in-Size-clause-untouched : goal.returns-in-Size-clause-untouched
 unfolding is_built
 returns-in-Size-clause-untouched g c = rw c.in-Size.is (λ no. cc)
-
-pub returns-in-Strings-clause-does : goal.returns-in-Strings-clause-does
-unfolding command_outcome is_built
-returns-in-Strings-clause-does g c = rw c.in-Strings.is (λ told. c.strings.ensures.does (told refl))
-
-pub returns-in-Strings-clause-untouched : goal.returns-in-Strings-clause-untouched
-unfolding is_built
-returns-in-Strings-clause-untouched g c = rw c.in-Strings.is (λ no. cc)

@@ -1,7 +1,0 @@
-pub mod Rows
-pub mod RunLemmas
-pub mod TextLemmas
-pub mod ScanLemmas
-pub mod RangeLemmas
-pub mod SectionLemmas
-pub mod ToolLemmas

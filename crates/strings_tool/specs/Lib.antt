@@ -1,5 +1,0 @@
-pub mod Runs
-pub mod Texts
-pub mod Scans
-pub mod Homes
-pub mod Tool
