@@ -1,11 +1,10 @@
 //! Archives as the usual tool writes them, and damaged ones.
 
-use ar_members::{Ar, ArHdr};
+use ar_members::{Ar, ArHdr, ArSym};
 use elf_outside::reads::read_range;
 use elf_outside::{MemSource, Source, Window};
 use elf_types::{ElfError, Octets};
 use std::alloc::Global;
-use std::test::Fail;
 use test_sources::source;
 
 /// An archive of 290 bytes with a table of symbols at 8, a table of long names at 78, an empty
@@ -75,28 +74,39 @@ fn lists_both<S: Source>(archive: &mut Ar<S>) -> bool {
     next_is(archive, FIRST) && next_is(archive, SECOND) && is_at_end(archive)
 }
 
+/// Whether it is so of the archive in memory.
+fn library_lists_both(alloc: Global) -> Result<bool, ElfError> {
+    let mut archive = library(alloc, 0)?;
+    Ok(lists_both(&mut archive))
+}
+
 #[test]
-fn members_are_listed_with_their_names(rt: HostRuntime) -> Result<(), Fail> {
-    let mut archive = library(rt.alloc(), 0)?;
-    assert!(rt; lists_both(&mut archive));
-    Ok(())
+fn members_are_listed_with_their_names(rt: HostRuntime) {
+    assert!(rt; library_lists_both(rt.alloc()) == Ok(true));
+}
+
+/// Whether a symbol is that of the first member.
+fn is_symbol(symbol: &ArSym) -> bool {
+    symbol.at == 166 && symbol.name.as_slice() == b"a".as_slice()
 }
 
 /// Whether there is one symbol, of the first member.
-fn lists_symbol<S: Source>(archive: &mut Ar<S>) -> Result<bool, ElfError> {
-    let symbols = archive.arsym()?;
-    let mut stated = symbols.len() == 1;
-    for symbol in symbols.as_slice() {
-        stated &= symbol.at == 166 && symbol.name.as_slice() == b"a".as_slice();
+fn lists_symbol<S: Source>(archive: &mut Ar<S>) -> bool {
+    match archive.arsym() {
+        Ok(symbols) => symbols.len() == 1 && symbols.as_slice().first().is_some_and(is_symbol),
+        Err(_) => false,
     }
-    Ok(stated)
+}
+
+/// Whether it is so of the archive in memory.
+fn library_lists_symbol(alloc: Global) -> Result<bool, ElfError> {
+    let mut archive = library(alloc, 0)?;
+    Ok(lists_symbol(&mut archive))
 }
 
 #[test]
-fn symbols_are_listed_with_their_members(rt: HostRuntime) -> Result<(), Fail> {
-    let mut archive = library(rt.alloc(), 0)?;
-    assert!(rt; lists_symbol(&mut archive) == Ok(true));
-    Ok(())
+fn symbols_are_listed_with_their_members(rt: HostRuntime) {
+    assert!(rt; library_lists_symbol(rt.alloc()) == Ok(true));
 }
 
 /// Whether a window reads these bytes.
@@ -124,12 +134,17 @@ fn reads_between<S: Source>(alloc: Global, mut archive: Ar<S>) -> (S, bool) {
     (archive.end(), first && read && second)
 }
 
+/// How many bytes the archive is asked for by that, if it is so.
+fn asked_between(alloc: Global) -> Result<Option<u64>, ElfError> {
+    let (source, read) = reads_between(alloc, library(alloc, 0)?);
+    Ok(if read { Some(source.asked()) } else { None })
+}
+
 #[test]
-fn a_body_is_a_source_and_the_walk_goes_on(rt: HostRuntime) -> Result<(), Fail> {
-    let (source, read) = reads_between(rt.alloc(), library(rt.alloc(), 0)?);
+fn a_body_is_a_source_and_the_walk_goes_on(rt: HostRuntime) {
     // The first line, four headers of the walk and its long names, and a header and a body besides.
-    assert!(rt; read && source.asked() == 8 + 4 * 60 + 27 + 60 + 3);
-    Ok(())
+    let due = 8 + 4 * 60 + 27 + 60 + 3;
+    assert!(rt; asked_between(rt.alloc()) == Ok(Some(due)));
 }
 
 /// The place of the bad header at which a walk ends, 0 where it ends well, and 1 where it fails.
@@ -145,28 +160,37 @@ fn end_of<S: Source>(archive: &mut Ar<S>) -> u64 {
     1
 }
 
-/// The bytes of the archive with another byte at a place, cut after some bytes.
-fn damaged(alloc: Global, place: usize, byte: u8, len: u64) -> Result<Octets, ElfError> {
-    let mut bytes = Octets::from_slice(alloc, LIBRARY)?;
-    if let Some(there) = bytes.as_mut_slice().get_mut(place) {
+/// Changes a byte, where it is there.
+fn change(bytes: &mut [u8], place: usize, byte: u8) {
+    if let Some(there) = bytes.get_mut(place) {
         *there = byte;
     }
-    bytes.truncate(len);
-    Ok(bytes)
 }
 
-/// Damages: a place, the byte there, the length, and the place at which the walk ends. They are the
-/// end of a header, its size, its mode, its name, a long name without an end, a header and a body
-/// that are cut, and a last pad byte that is.
-const DAMAGES: [(usize, u8, u64, u64); 8] = [
-    (66, 0, 290, 8),
-    (56, b'x', 290, 8),
-    (125, b'z', 290, 78),
-    (167, b'x', 290, 166),
-    (164, b'x', 290, 166),
-    (0, b'!', 285, 226),
-    (0, b'!', 288, 226),
-    (0, b'!', 289, 0),
+/// The archive with another byte at a place, cut after some bytes.
+fn damaged(alloc: Global, damage: Damage) -> Result<Ar<MemSource>, ElfError> {
+    let (place, byte, len) = damage;
+    let mut bytes = Octets::from_slice(alloc, LIBRARY)?;
+    change(bytes.as_mut_slice(), place, byte);
+    bytes.truncate(len);
+    opened(alloc, bytes, 0)
+}
+
+/// A place, the byte there, and the length.
+type Damage = (usize, u8, u64);
+
+/// Damages, and the place at which the walk ends. They are the end of a header, its size, its mode,
+/// its name, a long name without an end, a header and a body that are cut, and a last pad byte that
+/// is.
+const DAMAGES: [(Damage, u64); 8] = [
+    ((66, 0, 290), 8),
+    ((56, b'x', 290), 8),
+    ((125, b'z', 290), 78),
+    ((167, b'x', 290), 166),
+    ((164, b'x', 290), 166),
+    ((0, b'!', 285), 226),
+    ((0, b'!', 288), 226),
+    ((0, b'!', 289), 0),
 ];
 
 /// Whether a walk ends at a place, there again, and has no symbols where that is the first.
@@ -176,17 +200,23 @@ fn ends_at<S: Source>(archive: &mut Ar<S>, at: u64) -> bool {
 }
 
 /// Whether the walk over a damaged archive ends so.
-fn is_ended(alloc: Global, place: usize, byte: u8, len: u64, at: u64) -> Result<bool, ElfError> {
-    let mut archive = opened(alloc, damaged(alloc, place, byte, len)?, 0)?;
+fn is_ended(alloc: Global, damage: Damage, at: u64) -> Result<bool, ElfError> {
+    let mut archive = damaged(alloc, damage)?;
     Ok(ends_at(&mut archive, at))
 }
 
-#[test]
-fn a_bad_header_ends_the_walk(rt: HostRuntime) -> Result<(), Fail> {
-    for (place, byte, len, at) in DAMAGES {
-        assert!(rt; is_ended(rt.alloc(), place, byte, len, at)?);
+/// Whether each does.
+fn are_ended(alloc: Global) -> Result<bool, ElfError> {
+    let mut stated = true;
+    for (damage, at) in DAMAGES {
+        stated &= is_ended(alloc, damage, at)?;
     }
-    Ok(())
+    Ok(stated)
+}
+
+#[test]
+fn a_bad_header_ends_the_walk(rt: HostRuntime) {
+    assert!(rt; are_ended(rt.alloc()) == Ok(true));
 }
 
 /// Texts, and their refusals as archives.
@@ -202,12 +232,18 @@ fn refusal_of(alloc: Global, text: &[u8]) -> Result<Option<ElfError>, ElfError> 
     Ok(opened(alloc, bytes, 0).err())
 }
 
-#[test]
-fn what_is_no_archive_is_refused(rt: HostRuntime) -> Result<(), Fail> {
+/// Whether the texts are refused so.
+fn texts_are_refused(alloc: Global) -> Result<bool, ElfError> {
+    let mut stated = true;
     for (text, refusal) in TEXTS {
-        assert!(rt; refusal_of(rt.alloc(), text)? == refusal);
+        stated &= refusal_of(alloc, text)? == refusal;
     }
-    Ok(())
+    Ok(stated)
+}
+
+#[test]
+fn what_is_no_archive_is_refused(rt: HostRuntime) {
+    assert!(rt; texts_are_refused(rt.alloc()) == Ok(true));
 }
 
 /// Whether the next call is refused as `Read`, and the one after it gives the first member.
@@ -221,14 +257,24 @@ fn waits_at(alloc: Global, bad_read: u64) -> Result<bool, ElfError> {
     Ok(waits(&mut archive))
 }
 
-#[test]
-fn a_failed_read_leaves_the_walk(rt: HostRuntime) -> Result<(), Fail> {
+/// Whether a walk waits where any read of it fails.
+fn waits_at_each(alloc: Global) -> Result<bool, ElfError> {
+    let mut stated = true;
     // The first line is read, and then two headers, the long names, and the first member's header.
     for bad_read in 2..6 {
-        assert!(rt; waits_at(rt.alloc(), bad_read)?);
+        stated &= waits_at(alloc, bad_read)?;
     }
+    Ok(stated)
+}
+
+#[test]
+fn a_failed_read_leaves_the_walk(rt: HostRuntime) {
+    assert!(rt; waits_at_each(rt.alloc()) == Ok(true));
+}
+
+#[test]
+fn a_failed_first_read_is_named(rt: HostRuntime) {
     assert!(rt; library(rt.alloc(), 1).err() == Some(ElfError::Read));
-    Ok(())
 }
 
 /// Whether an archive is handed back by a read that fails, and its walk stands.
@@ -239,8 +285,12 @@ fn is_handed_back<S: Source + Drop>(archive: Ar<S>) -> bool {
     }
 }
 
+/// Whether it is so of the archive in memory.
+fn library_is_handed_back(alloc: Global) -> Result<bool, ElfError> {
+    Ok(is_handed_back(library(alloc, 2)?))
+}
+
 #[test]
-fn a_failed_read_hands_the_archive_back(rt: HostRuntime) -> Result<(), Fail> {
-    assert!(rt; is_handed_back(library(rt.alloc(), 2)?));
-    Ok(())
+fn a_failed_read_hands_the_archive_back(rt: HostRuntime) {
+    assert!(rt; library_is_handed_back(rt.alloc()) == Ok(true));
 }

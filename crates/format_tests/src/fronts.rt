@@ -7,7 +7,6 @@ use elf_outside::{MemSource, Source};
 use elf_types::{Class, Ehdr, ElfError, Octets, Order};
 use elf_xlate::{ehdr_size, phdr_size, shdr_size};
 use std::alloc::Global;
-use std::test::Fail;
 use test_images::{
     FORMS, Field, Image, SectionField, SegmentField, header_alone, numbers_in_section_0, two_tables,
 };
@@ -31,12 +30,18 @@ fn is_told(alloc: Global, text: &[u8], kind: FileKind, asked: u64) -> Result<boo
     Ok(kind_of_source(&mut src) == Ok(kind) && src.asked() == asked)
 }
 
-#[test]
-fn a_kind_is_told_by_eight_bytes(rt: HostRuntime) -> Result<(), Fail> {
+/// Whether each kind is.
+fn kinds_are_told(alloc: Global) -> Result<bool, ElfError> {
+    let mut stated = true;
     for (text, kind, asked) in STARTS {
-        assert!(rt; is_told(rt.alloc(), text, kind, asked)?);
+        stated &= is_told(alloc, text, kind, asked)?;
     }
-    Ok(())
+    Ok(stated)
+}
+
+#[test]
+fn a_kind_is_told_by_eight_bytes(rt: HostRuntime) {
+    assert!(rt; kinds_are_told(rt.alloc()) == Ok(true));
 }
 
 /// A front, with what it should be.
@@ -78,12 +83,18 @@ fn header_is_read(alloc: Global, class: Class, order: Order) -> Result<bool, Elf
     Ok(asked == Some(ehdr_size(class) as u64))
 }
 
-#[test]
-fn a_header_alone_is_read(rt: HostRuntime) -> Result<(), Fail> {
+/// Whether it is in all forms.
+fn headers_are_read(alloc: Global) -> Result<bool, ElfError> {
+    let mut stated = true;
     for (class, order) in FORMS {
-        assert!(rt; header_is_read(rt.alloc(), class, order)?);
+        stated &= header_is_read(alloc, class, order)?;
     }
-    Ok(())
+    Ok(stated)
+}
+
+#[test]
+fn a_header_alone_is_read(rt: HostRuntime) {
+    assert!(rt; headers_are_read(rt.alloc()) == Ok(true));
 }
 
 /// The bytes of a header, two program headers and so many section headers.
@@ -133,12 +144,18 @@ fn tables_are_read(alloc: Global, class: Class, order: Order) -> Result<bool, El
     Ok(asked == Some(tables_size(class, 3)))
 }
 
-#[test]
-fn a_header_with_both_tables_is_read(rt: HostRuntime) -> Result<(), Fail> {
+/// Whether they are in all forms.
+fn all_tables_are_read(alloc: Global) -> Result<bool, ElfError> {
+    let mut stated = true;
     for (class, order) in FORMS {
-        assert!(rt; tables_are_read(rt.alloc(), class, order)?);
+        stated &= tables_are_read(alloc, class, order)?;
     }
-    Ok(())
+    Ok(stated)
+}
+
+#[test]
+fn a_header_with_both_tables_is_read(rt: HostRuntime) {
+    assert!(rt; all_tables_are_read(rt.alloc()) == Ok(true));
 }
 
 /// The counts and the string index are those of section 0.
@@ -158,12 +175,18 @@ fn numbers_count(alloc: Global, class: Class, order: Order) -> Result<bool, ElfE
     Ok(asked == Some(tables_size(class, 4)))
 }
 
-#[test]
-fn numbers_in_section_0_count(rt: HostRuntime) -> Result<(), Fail> {
+/// Whether they do in all forms.
+fn all_numbers_count(alloc: Global) -> Result<bool, ElfError> {
+    let mut stated = true;
     for (class, order) in FORMS {
-        assert!(rt; numbers_count(rt.alloc(), class, order)?);
+        stated &= numbers_count(alloc, class, order)?;
     }
-    Ok(())
+    Ok(stated)
+}
+
+#[test]
+fn numbers_in_section_0_count(rt: HostRuntime) {
+    assert!(rt; all_numbers_count(rt.alloc()) == Ok(true));
 }
 
 /// Whether a front is refused as `Read`, and then is read.
@@ -179,11 +202,17 @@ fn failed_read_is_named(alloc: Global, bad_read: u64) -> Result<bool, ElfError> 
     Ok(is_read_again(alloc, &mut src))
 }
 
-#[test]
-fn a_failed_read_is_named(rt: HostRuntime) -> Result<(), Fail> {
+/// Whether it is where any read fails.
+fn failed_reads_are_named(alloc: Global) -> Result<bool, ElfError> {
+    let mut stated = true;
     // The identification, the rest of the header, section 0, and the two tables.
     for bad_read in 1..6 {
-        assert!(rt; failed_read_is_named(rt.alloc(), bad_read)?);
+        stated &= failed_read_is_named(alloc, bad_read)?;
     }
-    Ok(())
+    Ok(stated)
+}
+
+#[test]
+fn a_failed_read_is_named(rt: HostRuntime) {
+    assert!(rt; failed_reads_are_named(rt.alloc()) == Ok(true));
 }

@@ -1,9 +1,8 @@
 //! The places of the parts of worked images, and the parts that share bytes.
 
 use elf_layout::{PartAt, Parts, Places, overlap, place, ranks_by_position, rounded_within};
-use elf_types::{Addrs, Class, ElfError, Part};
+use elf_types::{Class, ElfError, Part};
 use std::alloc::Global;
-use std::test::Fail;
 
 /// A number, an alignment, a limit, and the next multiple within the limit.
 type Rounding = (u64, u64, u64, Option<u64>);
@@ -20,11 +19,18 @@ const ROUNDINGS: [Rounding; 9] = [
     (101, 1, 100, None),
 ];
 
+/// Whether the numbers are rounded as stated.
+fn are_rounded() -> bool {
+    let mut stated = true;
+    for (n, align, limit, multiple) in ROUNDINGS {
+        stated &= rounded_within(n, align, limit) == multiple;
+    }
+    stated
+}
+
 #[test]
 fn rounds_up_to_any_alignment(rt: HostRuntime) {
-    for (n, align, limit, multiple) in ROUNDINGS {
-        assert!(rt; rounded_within(n, align, limit) == multiple);
-    }
+    assert!(rt; are_rounded());
 }
 
 /// A part with bytes in the file: its position, its length and its alignment.
@@ -86,6 +92,9 @@ const WIDE: [Row; 5] = [
     (Part::Table, 120, 192, 8),
 ];
 
+/// Their positions.
+const WIDE_AT: [u64; 5] = [0, 64, 64, 72, 120];
+
 /// The same in class 32, in an image of 208 bytes.
 const NARROW: [Row; 5] = [
     (Part::Header, 0, 52, 1),
@@ -95,14 +104,8 @@ const NARROW: [Row; 5] = [
     (Part::Table, 88, 120, 4),
 ];
 
-/// The positions of parts.
-fn positions_of(alloc: Global, rows: &[Row]) -> Result<Addrs, ElfError> {
-    let mut positions = vec![in alloc; 0u64; rows.len()]?;
-    for (position, row) in positions.as_mut_slice().iter_mut().zip(rows) {
-        *position = row.1;
-    }
-    Ok(Addrs::from_vec(positions))
-}
+/// Their positions.
+const NARROW_AT: [u64; 5] = [0, 52, 52, 56, 88];
 
 /// Whether parts are placed at these positions, in order and where the caller puts them.
 fn stay_at(alloc: Global, parts: &Parts, positions: &[u64], length: u64, class: Class) -> bool {
@@ -112,17 +115,27 @@ fn stay_at(alloc: Global, parts: &Parts, positions: &[u64], length: u64, class: 
 }
 
 /// Whether each part is placed where it stands, and the image keeps its length.
-fn stays(alloc: Global, rows: &[Row], length: u64, class: Class) -> Result<bool, ElfError> {
+fn stays(
+    alloc: Global,
+    rows: &[Row],
+    positions: &[u64],
+    length: u64,
+    class: Class,
+) -> Result<bool, ElfError> {
     let parts = parts_of(alloc, rows)?;
-    let positions = positions_of(alloc, rows)?;
-    Ok(stay_at(alloc, &parts, positions.as_slice(), length, class))
+    Ok(stay_at(alloc, &parts, positions, length, class))
+}
+
+/// Whether both images stay.
+fn both_stay(alloc: Global) -> Result<bool, ElfError> {
+    let wide = stays(alloc, &WIDE, &WIDE_AT, 312, Class::C64)?;
+    let narrow = stays(alloc, &NARROW, &NARROW_AT, 208, Class::C32)?;
+    Ok(wide && narrow)
 }
 
 #[test]
-fn an_image_stands_where_it_stood(rt: HostRuntime) -> Result<(), Fail> {
-    assert!(rt; stays(rt.alloc(), &WIDE, 312, Class::C64)?);
-    assert!(rt; stays(rt.alloc(), &NARROW, 208, Class::C32)?);
-    Ok(())
+fn an_image_stands_where_it_stood(rt: HostRuntime) {
+    assert!(rt; both_stay(rt.alloc()) == Ok(true));
 }
 
 /// The parts of an image of class 64, the position of each, and the image's length.
@@ -193,12 +206,18 @@ fn is_laid_out(alloc: Global, image: &Image) -> Result<bool, ElfError> {
     Ok(stand_at(placed, image.positions, image.end))
 }
 
-#[test]
-fn sections_follow_the_program_headers(rt: HostRuntime) -> Result<(), Fail> {
+/// Whether the images are.
+fn are_laid_out(alloc: Global) -> Result<bool, ElfError> {
+    let mut stated = true;
     for image in IMAGES.iter() {
-        assert!(rt; is_laid_out(rt.alloc(), image)?);
+        stated &= is_laid_out(alloc, image)?;
     }
-    Ok(())
+    Ok(stated)
+}
+
+#[test]
+fn sections_follow_the_program_headers(rt: HostRuntime) {
+    assert!(rt; are_laid_out(rt.alloc()) == Ok(true));
 }
 
 /// The position, the length and the alignment of sections 1 to 3.
@@ -253,13 +272,23 @@ fn bare_moves_nothing(alloc: Global) -> Result<bool, ElfError> {
     Ok(stand_at(placed, &AROUND_BARE, 66))
 }
 
-#[test]
-fn parts_follow_one_another(rt: HostRuntime) -> Result<(), Fail> {
+/// Whether all do.
+fn all_follow(alloc: Global) -> Result<bool, ElfError> {
+    let mut stated = true;
     for following in FOLLOWING.iter() {
-        assert!(rt; follow(rt.alloc(), following)?);
+        stated &= follow(alloc, following)?;
     }
-    assert!(rt; bare_moves_nothing(rt.alloc())?);
-    Ok(())
+    Ok(stated)
+}
+
+#[test]
+fn parts_follow_one_another(rt: HostRuntime) {
+    assert!(rt; all_follow(rt.alloc()) == Ok(true));
+}
+
+#[test]
+fn a_part_without_bytes_moves_nothing(rt: HostRuntime) {
+    assert!(rt; bare_moves_nothing(rt.alloc()) == Ok(true));
 }
 
 /// Three sections, and the first of them that a later one meets, with that one.
@@ -307,12 +336,18 @@ fn meet(alloc: Global, meeting: &Meeting) -> Result<bool, ElfError> {
     Ok(refused == Ok(meeting.1) && overlap(alloc, parts.as_slice()) == Ok(meeting.1))
 }
 
-#[test]
-fn parts_share_no_byte(rt: HostRuntime) -> Result<(), Fail> {
+/// Whether all do.
+fn all_meet(alloc: Global) -> Result<bool, ElfError> {
+    let mut stated = true;
     for meeting in MEETINGS.iter() {
-        assert!(rt; meet(rt.alloc(), meeting)?);
+        stated &= meet(alloc, meeting)?;
     }
-    Ok(())
+    Ok(stated)
+}
+
+#[test]
+fn parts_share_no_byte(rt: HostRuntime) {
+    assert!(rt; all_meet(rt.alloc()) == Ok(true));
 }
 
 /// Three sections, and the ranks of those that are not empty, by their positions.
@@ -337,12 +372,18 @@ fn are_ranked(alloc: Global, ranking: &Ranking) -> Result<bool, ElfError> {
     have_ranks(alloc, parts.as_slice(), ranking.1)
 }
 
-#[test]
-fn ranks_go_by_position(rt: HostRuntime) -> Result<(), Fail> {
+/// Whether all are.
+fn all_are_ranked(alloc: Global) -> Result<bool, ElfError> {
+    let mut stated = true;
     for ranking in RANKINGS.iter() {
-        assert!(rt; are_ranked(rt.alloc(), ranking)?);
+        stated &= are_ranked(alloc, ranking)?;
     }
-    Ok(())
+    Ok(stated)
+}
+
+#[test]
+fn ranks_go_by_position(rt: HostRuntime) {
+    assert!(rt; all_are_ranked(rt.alloc()) == Ok(true));
 }
 
 /// How parts are refused, if they are.
@@ -392,12 +433,19 @@ const LIMITS: [(Class, u64, Option<ElfError>); 4] = [
     (Class::C64, (1 << 40) + 1, Some(ElfError::TooLarge)),
 ];
 
+/// Whether images are limited so.
+fn are_limited(alloc: Global) -> bool {
+    let mut stated = true;
+    for (class, end, refusal) in LIMITS {
+        stated &= long_header_is(alloc, class, end, refusal);
+        stated &= long_base_is(alloc, class, end, refusal);
+        stated &= far_part_is(alloc, class, end, refusal);
+        stated &= is_past(alloc, class, false) && is_past(alloc, class, true);
+    }
+    stated
+}
+
 #[test]
 fn images_have_limits(rt: HostRuntime) {
-    for (class, end, stated) in LIMITS {
-        assert!(rt; long_header_is(rt.alloc(), class, end, stated));
-        assert!(rt; long_base_is(rt.alloc(), class, end, stated));
-        assert!(rt; far_part_is(rt.alloc(), class, end, stated));
-        assert!(rt; is_past(rt.alloc(), class, false) && is_past(rt.alloc(), class, true));
-    }
+    assert!(rt; are_limited(rt.alloc()));
 }

@@ -9,7 +9,6 @@ use elf_types::{
     symbol_type_name, tag_name, text, vis, visibility_name,
 };
 use std::alloc::Global;
-use std::test::Fail;
 
 /// A number of the standard.
 #[derive(Clone, Copy)]
@@ -60,11 +59,18 @@ const NAMES: [(Number, Option<&str>); 10] = [
     (Number::Tag(-1), None),
 ];
 
+/// Whether the numbers have those names.
+fn numbers_are_named() -> bool {
+    let mut stated = true;
+    for (number, name) in NAMES {
+        stated &= name_of(number) == name;
+    }
+    stated
+}
+
 #[test]
 fn numbers_have_the_names_of_the_standard(rt: HostRuntime) {
-    for (number, name) in NAMES {
-        assert!(rt; name_of(number) == name);
-    }
+    assert!(rt; numbers_are_named());
 }
 
 /// Errors and their texts.
@@ -90,12 +96,18 @@ fn has_text(alloc: Global, e: ElfError, wanted: &str) -> Result<bool, ElfError> 
     Ok(text(alloc, &e)?.as_slice() == wanted.as_bytes())
 }
 
-#[test]
-fn errors_have_texts(rt: HostRuntime) -> Result<(), Fail> {
+/// Whether the errors have those texts.
+fn texts_are_shown(alloc: Global) -> Result<bool, ElfError> {
+    let mut stated = true;
     for (e, wanted) in TEXTS {
-        assert!(rt; has_text(rt.alloc(), e, wanted)?);
+        stated &= has_text(alloc, e, wanted)?;
     }
-    Ok(())
+    Ok(stated)
+}
+
+#[test]
+fn errors_have_texts(rt: HostRuntime) {
+    assert!(rt; texts_are_shown(rt.alloc()) == Ok(true));
 }
 
 /// Numbers that are shown with the digits of 16.
@@ -113,12 +125,15 @@ fn put_numbers(out: &mut Octets) -> Result<(), ElfError> {
     put_signed(out, -1)
 }
 
+/// Whether the numbers have those digits.
+fn digits_are_put(alloc: Global) -> bool {
+    let mut out = Octets::new(alloc);
+    put_numbers(&mut out) == Ok(()) && out.as_slice() == DIGITS
+}
+
 #[test]
-fn numbers_have_digits(rt: HostRuntime) -> Result<(), Fail> {
-    let mut out = Octets::new(rt.alloc());
-    put_numbers(&mut out)?;
-    assert!(rt; out.as_slice() == DIGITS);
-    Ok(())
+fn numbers_have_digits(rt: HostRuntime) {
+    assert!(rt; digits_are_put(rt.alloc()));
 }
 
 /// The type, the flags and the size of an entry of a section, and the kind of its items.
@@ -143,11 +158,18 @@ fn kind_in(stype: u32, flags: u64, entsize: u64) -> Kind {
     kind_of(Class::C64, &h)
 }
 
+/// Whether the sections have those kinds.
+fn kinds_are_told() -> bool {
+    let mut stated = true;
+    for (stype, flags, entsize, kind) in KINDS {
+        stated &= kind_in(stype, flags, entsize) == kind;
+    }
+    stated
+}
+
 #[test]
 fn sections_have_kinds(rt: HostRuntime) {
-    for (stype, flags, entsize, kind) in KINDS {
-        assert!(rt; kind_in(stype, flags, entsize) == kind);
-    }
+    assert!(rt; kinds_are_told());
 }
 
 /// Appends four bytes and takes one away.
@@ -165,10 +187,13 @@ fn holds_three(alloc: Global, list: &Octets) -> Result<bool, ElfError> {
     Ok(items && copy.as_slice() == list.as_slice())
 }
 
+/// Whether a list with room for one holds three in the end.
+fn three_are_kept(alloc: Global) -> Result<bool, ElfError> {
+    let mut list = Octets::with_capacity(alloc, 1)?;
+    Ok(grow_and_shrink(&mut list) == Ok(()) && holds_three(alloc, &list) == Ok(true))
+}
+
 #[test]
-fn a_list_keeps_its_items(rt: HostRuntime) -> Result<(), Fail> {
-    let mut list = Octets::with_capacity(rt.alloc(), 1)?;
-    grow_and_shrink(&mut list)?;
-    assert!(rt; holds_three(rt.alloc(), &list)?);
-    Ok(())
+fn a_list_keeps_its_items(rt: HostRuntime) {
+    assert!(rt; three_are_kept(rt.alloc()) == Ok(true));
 }

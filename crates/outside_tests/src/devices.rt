@@ -6,7 +6,6 @@ use elf_outside::writes::{set_len, write_at};
 use elf_outside::{Device, MemDevice};
 use elf_types::{Addrs, ElfError};
 use std::alloc::Global;
-use std::test::Fail;
 
 /// A device in memory: its bytes, its room, and the numbers of the reads and the writes that fail.
 pub struct Made {
@@ -92,15 +91,13 @@ fn is_left(alloc: Global, row: &Row) -> Result<bool, ElfError> {
 }
 
 #[test]
-fn a_device_grows_up_to_its_room(rt: HostRuntime) -> Result<(), Fail> {
-    assert!(rt; is_left(rt.alloc(), &GROWING)?);
-    Ok(())
+fn a_device_grows_up_to_its_room(rt: HostRuntime) {
+    assert!(rt; is_left(rt.alloc(), &GROWING) == Ok(true));
 }
 
 #[test]
-fn the_reads_and_the_writes_that_were_named_fail(rt: HostRuntime) -> Result<(), Fail> {
-    assert!(rt; is_left(rt.alloc(), &FAILING)?);
-    Ok(())
+fn the_reads_and_the_writes_that_were_named_fail(rt: HostRuntime) {
+    assert!(rt; is_left(rt.alloc(), &FAILING) == Ok(true));
 }
 
 /// A device whose third write fails.
@@ -130,9 +127,15 @@ fn is_patched<D: Device>(device: &mut D) -> bool {
     stated && reads(device, 0, 6, Some(b"aXYd\0\0"))
 }
 
+/// Whether it is so of a device in memory.
+fn memory_is_patched(alloc: Global) -> Result<bool, ElfError> {
+    let Some(mut device) = device(alloc, &PATCHED)? else {
+        return Ok(false);
+    };
+    Ok(is_patched(&mut device))
+}
+
 #[test]
-fn a_device_is_patched(rt: HostRuntime) -> Result<(), Fail> {
-    let mut made = device(rt.alloc(), &PATCHED)?.ok_or("a room that the bytes pass")?;
-    assert!(rt; is_patched(&mut made));
-    Ok(())
+fn a_device_is_patched(rt: HostRuntime) {
+    assert!(rt; memory_is_patched(rt.alloc()) == Ok(true));
 }

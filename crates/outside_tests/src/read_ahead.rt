@@ -7,7 +7,6 @@ use elf_outside::real::read_ahead::ReadAhead;
 use elf_outside::{Device, MemSource, Source};
 use elf_types::{Addrs, ElfError, Octets};
 use std::alloc::Global;
-use std::test::Fail;
 
 /// A device with eight bytes and room for one more.
 const EIGHT: Made = Made {
@@ -38,12 +37,18 @@ fn answers_ahead<D: Device>(alloc: Global, device: D, steps: &[Step]) -> (D, boo
     (ahead.into_inner(), stated)
 }
 
+/// How many bytes the device is asked for by the steps, if they are answered so.
+fn asked_by_steps(alloc: Global) -> Result<Option<u64>, ElfError> {
+    let Some(device) = device(alloc, &EIGHT)? else {
+        return Ok(None);
+    };
+    let (device, stated) = answers_ahead(alloc, device, &STEPS);
+    Ok(if stated { Some(device.asked()) } else { None })
+}
+
 #[test]
-fn small_reads_are_served_from_one_window(rt: HostRuntime) -> Result<(), Fail> {
-    let made = device(rt.alloc(), &EIGHT)?.ok_or("a room that the bytes pass")?;
-    let (device, stated) = answers_ahead(rt.alloc(), made, &STEPS);
-    assert!(rt; stated && device.asked() == 7 + 7 + 2 + 6);
-    Ok(())
+fn small_reads_are_served_from_one_window(rt: HostRuntime) {
+    assert!(rt; asked_by_steps(rt.alloc()) == Ok(Some(7 + 7 + 2 + 6)));
 }
 
 /// A source of 100,000 bytes, each 7, of which the reads of these numbers fail.
@@ -77,11 +82,10 @@ const LOST: [Reading; 3] = [
 ];
 
 #[test]
-fn a_window_that_fails_loses_no_read(rt: HostRuntime) -> Result<(), Fail> {
-    assert!(rt; asked(rt.alloc(), &[1], &ALONE)? == Some(4096 + 2));
+fn a_window_that_fails_loses_no_read(rt: HostRuntime) {
+    assert!(rt; asked(rt.alloc(), &[1], &ALONE) == Ok(Some(4096 + 2)));
     let windows = 4096 + 4096 + 8192;
-    assert!(rt; asked(rt.alloc(), &[1, 4, 5], &LOST)? == Some(windows + 2 + 2));
-    Ok(())
+    assert!(rt; asked(rt.alloc(), &[1, 4, 5], &LOST) == Ok(Some(windows + 2 + 2)));
 }
 
 /// A walk over the source.
@@ -95,7 +99,6 @@ const WALK: [Reading; 6] = [
 ];
 
 #[test]
-fn a_walk_takes_ever_larger_windows(rt: HostRuntime) -> Result<(), Fail> {
-    assert!(rt; asked(rt.alloc(), &[], &WALK)? == Some(4096 + 8192 + 16384 + 1));
-    Ok(())
+fn a_walk_takes_ever_larger_windows(rt: HostRuntime) {
+    assert!(rt; asked(rt.alloc(), &[], &WALK) == Ok(Some(4096 + 8192 + 16384 + 1)));
 }

@@ -6,7 +6,6 @@ use elf_outside::writes::put;
 use elf_outside::{DeviceSink, MemSink, Sink};
 use elf_types::{Addrs, ElfError};
 use std::alloc::Global;
-use std::test::Fail;
 
 /// A sink with a room, of which the puts of these numbers fail.
 fn sink(alloc: Global, room: u64, bad_puts: &[u64]) -> Result<MemSink, ElfError> {
@@ -32,9 +31,8 @@ fn puts_are_taken(alloc: Global) -> Result<bool, ElfError> {
 }
 
 #[test]
-fn puts_fail_where_they_were_named_or_pass_the_room(rt: HostRuntime) -> Result<(), Fail> {
-    assert!(rt; puts_are_taken(rt.alloc())?);
-    Ok(())
+fn puts_fail_where_they_were_named_or_pass_the_room(rt: HostRuntime) {
+    assert!(rt; puts_are_taken(rt.alloc()) == Ok(true));
 }
 
 /// Whether the second of three puts is an error.
@@ -53,9 +51,8 @@ fn refused_put_is_an_error(alloc: Global) -> Result<bool, ElfError> {
 }
 
 #[test]
-fn a_refused_put_is_an_error(rt: HostRuntime) -> Result<(), Fail> {
-    assert!(rt; refused_put_is_an_error(rt.alloc())?);
-    Ok(())
+fn a_refused_put_is_an_error(rt: HostRuntime) {
+    assert!(rt; refused_put_is_an_error(rt.alloc()) == Ok(true));
 }
 
 /// A device with two bytes and room for four.
@@ -80,7 +77,6 @@ fn device_sink_appends(alloc: Global) -> Result<bool, ElfError> {
 }
 
 #[test]
-fn a_sink_over_a_device_appends(rt: HostRuntime) -> Result<(), Fail> {
-    assert!(rt; device_sink_appends(rt.alloc())?);
-    Ok(())
+fn a_sink_over_a_device_appends(rt: HostRuntime) {
+    assert!(rt; device_sink_appends(rt.alloc()) == Ok(true));
 }

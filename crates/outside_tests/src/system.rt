@@ -64,9 +64,15 @@ fn comes_and_goes(rt: &HostRuntime, path: &str) -> Result<bool, Fail> {
     Ok(made && is_so(rt, path, &GONE)?)
 }
 
+/// Whether it is so of a path that is not there.
+fn file_comes_and_goes(rt: &HostRuntime) -> Result<bool, Fail> {
+    let path = path_of(rt, "file")?;
+    comes_and_goes(rt, path.as_str())
+}
+
 #[test]
 fn a_file_is_made_changed_and_read_back(rt: HostRuntime) -> Result<(), Fail> {
-    assert!(rt; comes_and_goes(&rt, path_of(&rt, "file")?.as_str())?);
+    assert!(rt; file_comes_and_goes(&rt)?);
     Ok(())
 }
 
@@ -88,10 +94,21 @@ fn is_refused(rt: &HostRuntime, path: &str) -> Result<bool, Fail> {
     Ok(refused)
 }
 
+/// Whether it is so of a path that is not there.
+fn folder_is_refused(rt: &HostRuntime) -> Result<bool, Fail> {
+    let path = path_of(rt, "folder")?;
+    is_refused(rt, path.as_str())
+}
+
+/// Whether a path in a folder that is not there is refused.
+fn no_folder_is_refused(rt: &HostRuntime) -> Result<bool, Fail> {
+    let path = path_of(rt, "none/file")?;
+    is_so(rt, path.as_str(), &NOWHERE)
+}
+
 #[test]
 fn a_folder_is_no_file(rt: HostRuntime) -> Result<(), Fail> {
-    assert!(rt; is_refused(&rt, path_of(&rt, "folder")?.as_str())?);
-    assert!(rt; is_so(&rt, path_of(&rt, "none/file")?.as_str(), &NOWHERE)?);
+    assert!(rt; folder_is_refused(&rt)? && no_folder_is_refused(&rt)?);
     Ok(())
 }
 
@@ -106,8 +123,14 @@ fn is_reached(rt: &HostRuntime, path: &str) -> Result<bool, Fail> {
     Ok(reached)
 }
 
+/// Whether it is so of a path that is not there.
+fn stream_is_reached(rt: &HostRuntime) -> Result<bool, Fail> {
+    let path = path_of(rt, "stream")?;
+    is_reached(rt, path.as_str())
+}
+
 #[test]
 fn a_put_reaches_the_stream(rt: HostRuntime) -> Result<(), Fail> {
-    assert!(rt; is_reached(&rt, path_of(&rt, "stream")?.as_str())?);
+    assert!(rt; stream_is_reached(&rt)?);
     Ok(())
 }

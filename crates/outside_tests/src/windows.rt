@@ -5,7 +5,6 @@ use crate::steps::{Read, reads, reads_all};
 use elf_outside::{NoSource, Source, Window};
 use elf_types::ElfError;
 use std::alloc::Global;
-use std::test::Fail;
 
 /// Reads of a window of four bytes, of which the third is to fail.
 const READS: [Read; 3] = [(0, 4, Some(b"cdef")), (3, 1, Some(b"f")), (0, 1, None)];
@@ -27,9 +26,8 @@ fn window_reads(alloc: Global) -> Result<bool, ElfError> {
 }
 
 #[test]
-fn a_window_reads_its_range(rt: HostRuntime) -> Result<(), Fail> {
-    assert!(rt; window_reads(rt.alloc())?);
-    Ok(())
+fn a_window_reads_its_range(rt: HostRuntime) {
+    assert!(rt; window_reads(rt.alloc()) == Ok(true));
 }
 
 #[test]

@@ -5,7 +5,6 @@ use elf_types::constants::{EI_CLASS, EI_DATA, EI_VERSION, MAX_IMAGE, MAX_SECTION
 use elf_types::{Class, ElfError, Order};
 use elf_xlate::{ehdr_size, phdr_size, shdr_size};
 use std::alloc::Global;
-use std::test::Fail;
 use test_images::{
     FORMS, Field, HeaderField, Image, SectionField, numbers_in_section_0, two_tables,
 };
@@ -95,13 +94,19 @@ fn extended_changes_are_refused(alloc: Global, form: Form) -> Result<bool, ElfEr
     Ok(refused)
 }
 
-#[test]
-fn a_damaged_field_is_refused(rt: HostRuntime) -> Result<(), Fail> {
+/// Whether all changes are in all forms.
+fn all_changes_are_refused(alloc: Global) -> Result<bool, ElfError> {
+    let mut refused = true;
     for form in FORMS {
-        assert!(rt; changes_are_refused(rt.alloc(), form)?);
-        assert!(rt; extended_changes_are_refused(rt.alloc(), form)?);
+        refused &= changes_are_refused(alloc, form)?;
+        refused &= extended_changes_are_refused(alloc, form)?;
     }
-    Ok(())
+    Ok(refused)
+}
+
+#[test]
+fn a_damaged_field_is_refused(rt: HostRuntime) {
+    assert!(rt; all_changes_are_refused(rt.alloc()) == Ok(true));
 }
 
 /// Faults in the order of their refusals, but for those of the length.
@@ -153,13 +158,19 @@ fn lengths_come_in_order(alloc: Global, form: Form) -> Result<bool, ElfError> {
     Ok(ordered)
 }
 
-#[test]
-fn the_first_refusal_is_the_answer(rt: HostRuntime) -> Result<(), Fail> {
+/// Whether all come in order in all forms.
+fn all_come_in_order(alloc: Global) -> Result<bool, ElfError> {
+    let mut ordered = true;
     for form in FORMS {
-        assert!(rt; faults_come_in_order(rt.alloc(), form)?);
-        assert!(rt; lengths_come_in_order(rt.alloc(), form)?);
+        ordered &= faults_come_in_order(alloc, form)?;
+        ordered &= lengths_come_in_order(alloc, form)?;
     }
-    Ok(())
+    Ok(ordered)
+}
+
+#[test]
+fn the_first_refusal_is_the_answer(rt: HostRuntime) {
+    assert!(rt; all_come_in_order(rt.alloc()) == Ok(true));
 }
 
 /// What is refused of an image with a number in a field of section 0, of which a source has a
@@ -193,13 +204,18 @@ fn lies_first(
     Ok(cut == Some(past) && whole == Some(ElfError::TooMany))
 }
 
-#[test]
-fn a_table_of_too_many_entries_lies_in_the_image(rt: HostRuntime) -> Result<(), Fail> {
-    let alloc = rt.alloc();
+/// Whether both tables are, in all forms.
+fn tables_lie_first(alloc: Global) -> Result<bool, ElfError> {
+    let mut stated = true;
     for form in FORMS {
         let (segment, section) = (phdr_size(form.0), shdr_size(form.0));
-        assert!(rt; lies_first(alloc, form, FIRST_INFO, 64, segment, ElfError::PhTable)?);
-        assert!(rt; lies_first(alloc, form, FIRST_SIZE, 192, section, ElfError::ShTable)?);
+        stated &= lies_first(alloc, form, FIRST_INFO, 64, segment, ElfError::PhTable)?;
+        stated &= lies_first(alloc, form, FIRST_SIZE, 192, section, ElfError::ShTable)?;
     }
-    Ok(())
+    Ok(stated)
+}
+
+#[test]
+fn a_table_of_too_many_entries_lies_in_the_image(rt: HostRuntime) {
+    assert!(rt; tables_lie_first(rt.alloc()) == Ok(true));
 }

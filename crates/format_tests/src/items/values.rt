@@ -3,10 +3,7 @@
 ghost use Rattle.std.specs.Prelude.{◌≡◌, IsTrue, length};
 ghost use Rattle.elf_xlate.specs.Items.{item_size};
 
-use elf_types::{
-    Addrs, Class, Dyn, Dyns, ElfError, Halves, Kind, Order, Rel, Rela, Relas, Rels, Sym, Syms,
-    Words,
-};
+use elf_types::{Class, Dyn, ElfError, Kind, List, Order, Rel, Rela, Sym};
 use elf_xlate::{
     Items, get_addr, get_dyn, get_half, get_rel, get_rela, get_sym, get_word, item_size,
 };
@@ -82,16 +79,20 @@ pub fn is_single(form: Form, bytes: &[u8], value: Value) -> bool {
     }
 }
 
-/// Two items of one kind, and none where their kinds differ.
+/// A list of two items.
+fn pair<T: Copy + Drop>(alloc: Global, first: T, second: T) -> Result<List<T>, ElfError> {
+    List::from_slice(alloc, &[first, second])
+}
+
+/// Two items of one kind, and none where their kinds differ or are those of numbers that fit each
+/// class.
 pub fn of_two(alloc: Global, first: Value, second: Value) -> Result<Items, ElfError> {
     match (first, second) {
-        (Value::Half(a), Value::Half(b)) => Ok(Items::Half(Halves::from_slice(alloc, &[a, b])?)),
-        (Value::Word(a), Value::Word(b)) => Ok(Items::Word(Words::from_slice(alloc, &[a, b])?)),
-        (Value::Addr(a), Value::Addr(b)) => Ok(Items::Addr(Addrs::from_slice(alloc, &[a, b])?)),
-        (Value::Sym(a), Value::Sym(b)) => Ok(Items::Sym(Syms::from_slice(alloc, &[a, b])?)),
-        (Value::Rel(a), Value::Rel(b)) => Ok(Items::Rel(Rels::from_slice(alloc, &[a, b])?)),
-        (Value::Rela(a), Value::Rela(b)) => Ok(Items::Rela(Relas::from_slice(alloc, &[a, b])?)),
-        (Value::Dyn(a), Value::Dyn(b)) => Ok(Items::Dyn(Dyns::from_slice(alloc, &[a, b])?)),
+        (Value::Addr(a), Value::Addr(b)) => Ok(Items::Addr(pair(alloc, a, b)?)),
+        (Value::Sym(a), Value::Sym(b)) => Ok(Items::Sym(pair(alloc, a, b)?)),
+        (Value::Rel(a), Value::Rel(b)) => Ok(Items::Rel(pair(alloc, a, b)?)),
+        (Value::Rela(a), Value::Rela(b)) => Ok(Items::Rela(pair(alloc, a, b)?)),
+        (Value::Dyn(a), Value::Dyn(b)) => Ok(Items::Dyn(pair(alloc, a, b)?)),
         _ => Ok(Items::Empty),
     }
 }

@@ -4,7 +4,6 @@ use super::{SMALL_UNIT, UNIT_OF_EVERY_OPCODE, WIDE, next_of};
 use elf_types::{Class, ElfError, Octets, Order};
 use line_table::{LineFault, LineWhy, unit_at};
 use std::alloc::Global;
-use std::test::Fail;
 
 /// Bytes that are changed.
 type Changes = &'static [(usize, u8)];
@@ -73,27 +72,40 @@ fn is_refused(
     Ok(next_of(alloc, bytes.as_slice(), 0) == Err(LineFault::Bad { at, why }))
 }
 
-#[test]
-fn names_the_first_fault(rt: HostRuntime) -> Result<(), Fail> {
+/// Whether the damages are.
+fn damages_are_refused(alloc: Global) -> Result<bool, ElfError> {
+    let mut stated = true;
     for (changes, at, why) in DAMAGES {
-        assert!(rt; is_refused(rt.alloc(), SMALL_UNIT, changes, at, why)?);
+        stated &= is_refused(alloc, SMALL_UNIT, changes, at, why)?;
     }
-    // Opcode 13, which stands at 84, is to have 255 operands.
-    let operands = [(28, 255)];
-    assert!(rt;
-        is_refused(
-            rt.alloc(),
-            UNIT_OF_EVERY_OPCODE,
-            &operands,
-            84,
-            LineWhy::Cut
-        )?
-    );
-    assert!(rt; LineWhy::Cut.text() == "cut");
-    Ok(())
+    Ok(stated)
 }
 
-/// A range of lines of 0, and a program that does not divide by it.
+#[test]
+fn names_the_first_fault(rt: HostRuntime) {
+    assert!(rt; damages_are_refused(rt.alloc()) == Ok(true));
+}
+
+/// Opcode 13 of the unit of every opcode, which stands at 84, is to have 255 operands.
+const OPERANDS: [(usize, u8); 1] = [(28, 255)];
+
+/// Whether that is refused.
+fn operands_are_refused(alloc: Global) -> Result<bool, ElfError> {
+    is_refused(alloc, UNIT_OF_EVERY_OPCODE, &OPERANDS, 84, LineWhy::Cut)
+}
+
+#[test]
+fn operands_that_pass_the_unit_are_a_fault(rt: HostRuntime) {
+    assert!(rt; operands_are_refused(rt.alloc()) == Ok(true));
+}
+
+#[test]
+fn causes_have_texts(rt: HostRuntime) {
+    assert!(rt; LineWhy::Cut.text() == "cut");
+}
+
+/// A range of lines of 0, which is no fault where nothing is divided by it, and a program that does
+/// not divide.
 const UNDIVIDED: [(usize, u8); 2] = [(13, 0), (44, 1)];
 
 /// How many rows a unit has.
@@ -104,21 +116,30 @@ fn rows_in(alloc: Global, section: &[u8]) -> Option<u64> {
     }
 }
 
-/// A line_range of 0 is no fault where nothing is divided by it.
+/// How many rows the unit has that does not divide.
+fn undivided_rows(alloc: Global) -> Result<Option<u64>, ElfError> {
+    let unit = damaged(alloc, SMALL_UNIT, &UNDIVIDED)?;
+    Ok(rows_in(alloc, unit.as_slice()))
+}
+
 #[test]
-fn divides_by_the_range_of_lines_alone(rt: HostRuntime) -> Result<(), Fail> {
-    let unit = damaged(rt.alloc(), SMALL_UNIT, &UNDIVIDED)?;
-    assert!(rt; rows_in(rt.alloc(), unit.as_slice()) == Some(2));
-    Ok(())
+fn divides_by_the_range_of_lines_alone(rt: HostRuntime) {
+    assert!(rt; undivided_rows(rt.alloc()) == Ok(Some(2)));
 }
 
 /// What is changed of three units: nothing, a range of lines of 0, and the version.
 const THREE: [Changes; 3] = [&[], &[(13, 0)], &[(4, 5)]];
 
+/// Appends the small unit with some bytes changed.
+fn put_damaged(alloc: Global, section: &mut Octets, changes: Changes) -> Result<(), ElfError> {
+    let unit = damaged(alloc, SMALL_UNIT, changes)?;
+    section.extend(unit.as_slice())
+}
+
 /// Appends the three units.
 fn put_three(alloc: Global, section: &mut Octets) -> Result<(), ElfError> {
     for changes in THREE {
-        section.extend(damaged(alloc, SMALL_UNIT, changes)?.as_slice())?;
+        put_damaged(alloc, section, changes)?;
     }
     Ok(())
 }
@@ -151,12 +172,15 @@ fn are_placed(alloc: Global, section: &[u8]) -> bool {
     stated
 }
 
+/// Whether the three units are told so.
+fn three_are_placed(alloc: Global) -> bool {
+    let mut section = Octets::new(alloc);
+    put_three(alloc, &mut section) == Ok(()) && are_placed(alloc, section.as_slice())
+}
+
 #[test]
-fn places_are_those_in_the_section(rt: HostRuntime) -> Result<(), Fail> {
-    let mut section = Octets::new(rt.alloc());
-    put_three(rt.alloc(), &mut section)?;
-    assert!(rt; are_placed(rt.alloc(), section.as_slice()));
-    Ok(())
+fn places_are_those_in_the_section(rt: HostRuntime) {
+    assert!(rt; three_are_placed(rt.alloc()));
 }
 
 /// The fault of a unit in a class.
@@ -176,9 +200,14 @@ const ADDRESS: LineFault = LineFault::Bad {
     why: LineWhy::Address,
 };
 
+/// Whether a section that is too short is refused, and a class whose addresses are.
+fn too_small_is_refused(alloc: Global) -> bool {
+    let shorter = SMALL_UNIT.get(..49).unwrap_or(&[]);
+    let cut = fault_in(alloc, shorter, Class::C64) == Some(CUT);
+    cut && fault_in(alloc, SMALL_UNIT, Class::C32) == Some(ADDRESS)
+}
+
 #[test]
 fn refuses_what_the_section_or_the_class_is_too_small_for(rt: HostRuntime) {
-    let shorter = SMALL_UNIT.get(..49).unwrap_or(&[]);
-    assert!(rt; fault_in(rt.alloc(), shorter, Class::C64) == Some(CUT));
-    assert!(rt; fault_in(rt.alloc(), SMALL_UNIT, Class::C32) == Some(ADDRESS));
+    assert!(rt; too_small_is_refused(rt.alloc()));
 }
