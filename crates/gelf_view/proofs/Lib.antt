@@ -1,7 +1,6 @@
 mod NulLemmas
 mod NumberLemmas
 mod NoteLemmas
-mod Words
 mod Rules
 mod PieceBytes
 mod FetchLemmas
