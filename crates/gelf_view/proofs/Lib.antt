@@ -1,6 +1,7 @@
 mod NulLemmas
 mod NumberLemmas
 mod NoteLemmas
+mod Words
 mod Rules
 mod PieceBytes
 mod FetchLemmas
