@@ -47,24 +47,23 @@ fn is_written(alloc: Global, items: &Items, form: Form, bytes: &[u8]) -> Result<
 type Row = (Form, &'static [u8], Value);
 
 /// Whether bytes hold an item in a form, alone and in a list, and are written for it again.
-fn is_held(alloc: Global, form: Form, bytes: &[u8], value: Value) -> Result<bool, ElfError> {
+fn is_held(alloc: Global, form: Form, bytes: &[u8], value: Value) -> bool {
     match to_memory(alloc, kind(value), form.0, form.1, bytes) {
         Ok(items) => {
             let read = is_first(&items, value) && is_single(form, bytes, value);
-            Ok(read && is_written(alloc, &items, form, bytes)?)
+            read && is_written(alloc, &items, form, bytes) == Ok(true)
         }
-        Err(_) => Ok(false),
+        Err(_) => false,
     }
 }
 
 /// Whether it is so of each row.
-fn are_held(alloc: Global, rows: &[Row]) -> Result<bool, ElfError> {
+fn are_held(alloc: Global, rows: &[Row]) -> bool {
+    let mut stated = true;
     for (form, bytes, value) in rows {
-        if !is_held(alloc, *form, bytes, *value)? {
-            return Ok(false);
-        }
+        stated &= is_held(alloc, *form, bytes, *value);
     }
-    Ok(true)
+    stated
 }
 
 /// Whether two items are refused in class 32 by the second, with nothing written, and fit class 64.
@@ -75,19 +74,17 @@ fn is_refused(items: &Items, out: &mut Octets) -> bool {
 }
 
 /// Whether each of the items is refused behind one that fits.
-fn are_refused(alloc: Global, good: Value, others: &[Value]) -> Result<bool, ElfError> {
+fn are_refused(alloc: Global, good: Value, others: &[Value]) -> bool {
+    let mut stated = true;
     for other in others {
-        let items = of_two(alloc, good, *other)?;
-        if !is_refused(&items, &mut Octets::new(alloc)) {
-            return Ok(false);
-        }
+        stated &= is_refused(&of_two(alloc, good, *other), &mut Octets::new(alloc));
     }
-    Ok(true)
+    stated
 }
 
 /// Whether bytes hold their items in their forms, and the other items are refused behind a good one.
 fn are_translated(alloc: Global, rows: &[Row], good: Value, others: &[Value]) -> bool {
-    are_held(alloc, rows) == Ok(true) && are_refused(alloc, good, others) == Ok(true)
+    are_held(alloc, rows) && are_refused(alloc, good, others)
 }
 
 const NARROW_SYM: Sym = Sym {

@@ -79,20 +79,30 @@ pub fn is_single(form: Form, bytes: &[u8], value: Value) -> bool {
     }
 }
 
-/// A list of two items.
-fn pair<T: Copy + Drop>(alloc: Global, first: T, second: T) -> Result<List<T>, ElfError> {
-    List::from_slice(alloc, &[first, second])
+/// Appends two items.
+fn put_both<T: Copy + Drop>(list: &mut List<T>, first: T, second: T) -> Result<(), ElfError> {
+    list.push(first)?;
+    list.push(second)
 }
 
-/// Two items of one kind, and none where their kinds differ or are those of numbers that fit each
-/// class.
-pub fn of_two(alloc: Global, first: Value, second: Value) -> Result<Items, ElfError> {
+/// A list of two items, or of fewer where there is no memory.
+fn pair<T: Copy + Drop>(alloc: Global, first: T, second: T) -> List<T> {
+    let mut list = List::new(alloc);
+    match put_both(&mut list, first, second) {
+        Ok(()) => list,
+        Err(_) => List::new(alloc),
+    }
+}
+
+/// Two items of one kind, and none where their kinds differ, are those of numbers that fit each
+/// class, or there is no memory.
+pub fn of_two(alloc: Global, first: Value, second: Value) -> Items {
     match (first, second) {
-        (Value::Addr(a), Value::Addr(b)) => Ok(Items::Addr(pair(alloc, a, b)?)),
-        (Value::Sym(a), Value::Sym(b)) => Ok(Items::Sym(pair(alloc, a, b)?)),
-        (Value::Rel(a), Value::Rel(b)) => Ok(Items::Rel(pair(alloc, a, b)?)),
-        (Value::Rela(a), Value::Rela(b)) => Ok(Items::Rela(pair(alloc, a, b)?)),
-        (Value::Dyn(a), Value::Dyn(b)) => Ok(Items::Dyn(pair(alloc, a, b)?)),
-        _ => Ok(Items::Empty),
+        (Value::Addr(a), Value::Addr(b)) => Items::Addr(pair(alloc, a, b)),
+        (Value::Sym(a), Value::Sym(b)) => Items::Sym(pair(alloc, a, b)),
+        (Value::Rel(a), Value::Rel(b)) => Items::Rel(pair(alloc, a, b)),
+        (Value::Rela(a), Value::Rela(b)) => Items::Rela(pair(alloc, a, b)),
+        (Value::Dyn(a), Value::Dyn(b)) => Items::Dyn(pair(alloc, a, b)),
+        _ => Items::Empty,
     }
 }
