@@ -180,7 +180,7 @@ const TWINS: Ending = Ending {
 };
 
 #[test]
-fn an_archive_in_an_archive_is_no_image(rt: HostRuntime) -> Result<(), Fail> {
+fn an_inner_archive_is_no_image_and_an_empty_one_shows_nothing(rt: HostRuntime) -> Result<(), Fail> {
     let bytes = twins(rt.alloc())?;
     assert!(rt; ends(rt.alloc(), "readelf -l F", bytes, &TWINS)?);
     let empty = Bytes(b"!<arch>\n");

@@ -100,7 +100,7 @@ const NAMELESS_LINE: &[u8] = b"  2 <none> 0x70000001 flags 0x0 addr 0x0 offset 0
       link 1 info 1 align 4 entsize 16\n";
 
 #[test]
-fn section_headers_are_shown(rt: HostRuntime) -> Result<(), Fail> {
+fn section_headers_are_shown_and_numbers_stand_for_names(rt: HostRuntime) -> Result<(), Fail> {
     let alloc = rt.alloc();
     let named = wide_with(alloc, &NAMED)?;
     assert!(rt; shows(alloc, named, &SECTIONS, HEADERS)?);
