@@ -180,7 +180,9 @@ const TWINS: Ending = Ending {
 };
 
 #[test]
-fn an_inner_archive_is_no_image_and_an_empty_one_shows_nothing(rt: HostRuntime) -> Result<(), Fail> {
+fn an_inner_archive_is_no_image_and_an_empty_one_shows_nothing(
+    rt: HostRuntime,
+) -> Result<(), Fail> {
     let bytes = twins(rt.alloc())?;
     assert!(rt; ends(rt.alloc(), "readelf -l F", bytes, &TWINS)?);
     let empty = Bytes(b"!<arch>\n");
