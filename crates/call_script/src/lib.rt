@@ -1,5 +1,5 @@
-//! The script of `elfkit calls`, a text of lines, each a call of the library: the types of calls, and
-//! the reader of scripts.
+//! The script of `elfkit calls`, a text of lines, each a call of the library: the types of calls,
+//! and the reader of scripts.
 //!
 //! `read_script` reads a whole script before a call is made. It runs none: the calls name sections
 //! and pieces by their numbers, which the object that they are run on may not have.

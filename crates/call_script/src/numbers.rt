@@ -15,7 +15,8 @@ use std::alloc::Global;
 /// form.
 #[tactic(auto, unfolding(crate::specs::Numbers::number_of))]
 pub(crate) fn read_number(word: &[u8]) -> Result<Option<u64>, Stop>
-    ensures { Reads result (or_refused (option_map (below (2 ^ 64)) (number_of word.now)) Why.BadWords) }
+    ensures { Reads result
+        (or_refused (option_map (below (2 ^ 64)) (number_of word.now)) Why.BadWords) }
 {
     if word.starts_with(b"0x") {
         return read_digits(&word[2..], 16, 16);
@@ -27,7 +28,8 @@ pub(crate) fn read_number(word: &[u8]) -> Result<Option<u64>, Stop>
 /// `BadWords` where the word has another form.
 #[tactic(auto, unfolding(crate::specs::Numbers::signed_of))]
 pub(crate) fn read_signed(word: &[u8]) -> Result<Option<i64>, Stop>
-    ensures { Reads result (or_refused (option_map within_64_bits (signed_of word.now)) Why.BadWords) }
+    ensures { Reads result
+        (or_refused (option_map within_64_bits (signed_of word.now)) Why.BadWords) }
 {
     if word.starts_with(b"-") {
         let n = read_digits(&word[1..], 10, 20)?;
@@ -43,7 +45,8 @@ pub(crate) fn read_signed(word: &[u8]) -> Result<Option<i64>, Stop>
 fn read_digits(word: &[u8], radix: u32, most: usize) -> Result<Option<u64>, Stop>
     requires low { 2 ≤ radix }
     requires high { radix ≤ 36 }
-    ensures { Reads result (or_refused (option_map (below (2 ^ 64)) (digits_of radix most word.now)) Why.BadWords) }
+    ensures { Reads result
+        (or_refused (option_map (below (2 ^ 64)) (digits_of radix most word.now)) Why.BadWords) }
 {
     if word.is_empty() || word.len() > most || !are_digits(word, radix) {
         return Err(Stop::Why(Why::BadWords));

@@ -33,9 +33,9 @@ fn find(bytes: &[u8], separator: u8) -> Option<usize>
     bytes.iter().position(|byte| *byte == separator)
 }
 
-/// The words of a line that are left to read, which contracts see as their list. Each call takes what
-/// it reads off the front, and refuses `BadWords` where the words have another form; what is left
-/// then is open. A number is None where it is out of its range.
+/// The words of a line that are left to read, which contracts see as their list. Each call takes
+/// what it reads off the front, and refuses `BadWords` where the words have another form; what is
+/// left then is open. A number is None where it is out of its range.
 #[derive(Drop)]
 pub(crate) struct Words<'a> {
     /// What is left of the line, or None behind its last word.
