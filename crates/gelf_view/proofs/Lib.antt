@@ -18,3 +18,4 @@ mod SymbolCalls
 mod ChainLemmas
 mod ChainCalls
 mod CountLemmas
+pub mod HandLemmas

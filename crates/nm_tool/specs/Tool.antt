@@ -1,0 +1,48 @@
+-- What nm says of an object.
+use Rattle.std.specs.Prelude.{ℕ, List, slice_get, Option, Some, None, codes}
+use Rattle.elf_types.specs.declared.records.Sym.{Sym}
+use Rattle.elf_types.specs.declared.records.Kind.TheVariants as kinds
+use Rattle.elf_types.specs.declared.errors.ElfError.{ElfError}
+use Rattle.elf_types.specs.Text.{error_text}
+use Rattle.elf_object.specs.Object.{Object}
+use Rattle.elf_object.specs.Answers.{lend_refusal}
+use Rattle.tool_text.specs.declared.options.NmOptions.{NmOptions}
+use Rattle.tool_output.specs.Names.{Name}
+use Rattle.tool_output.specs.Reports.{Report, no_report, shown, noted, refusal, reports_of}
+use Rattle.nm_tool.specs.Letters.{is_undefined, symbol_letter, symbol_place}
+use Rattle.nm_tool.specs.Rows.{row_text}
+use Rattle.nm_tool.specs.Order.{Entry, in_order}
+use Rattle.nm_tool.specs.Listed.{symbol_table, symbols, listed}
+
+-- the row of symbol i, whose name is shown as this
+unfoldable pub symbol_row : NmOptions → Name → Object → ℕ → ℕ → List ℕ → Sym → List ℕ
+symbol_row options file o s i name x =
+    let place = symbol_place o s i x in
+    row_text options o.header.class file (is_undefined place) x (symbol_letter o x place) name
+
+unfoldable pub entry_report : NmOptions → Name → Object → ℕ → ℕ → List ℕ → Report
+entry_report options file o s i name =
+    elim (slice_get (symbols o s) i) [
+      | None ↦ no_report
+      | Some x ↦ shown (symbol_row options file o s i name x)
+    ]
+
+-- a row for each symbol that is listed, in their order
+unfoldable pub rows_report : NmOptions → Name → Object → ℕ → Report
+rows_report options file o s =
+    reports_of (λ (e : Entry). entry_report options file o s e.index e.name)
+    (in_order (listed options o s))
+
+-- they stand in a table that can be told
+unfoldable pub table_report : NmOptions → Name → Object → ℕ → Option ElfError → Report
+table_report options file o s None = rows_report options file o s
+table_report options file o s (Some e) = refusal (codes "nm") file (error_text e)
+
+-- an object without symbols has a message, and is not refused for it
+unfoldable pub object_report : NmOptions → Name → Object → Option ℕ → Report
+object_report options file o None = noted (codes "nm") file (codes "no symbols")
+object_report options file o (Some s) =
+    table_report options file o s (lend_refusal o kinds.Sym s 0)
+
+unfoldable pub nm_report : NmOptions → Name → Object → Report
+nm_report options file o = object_report options file o (symbol_table o)
