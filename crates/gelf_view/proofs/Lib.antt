@@ -18,4 +18,3 @@ mod SymbolCalls
 mod ChainLemmas
 mod ChainCalls
 mod CountLemmas
-pub mod HandLemmas

@@ -4,4 +4,3 @@ pub mod Notes
 pub mod Strings
 pub mod Calls
 pub mod Chains
-pub mod Hand

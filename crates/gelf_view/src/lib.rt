@@ -5,7 +5,6 @@
 //! for in bytes is a function over bytes too, as `note_in`.
 #![tactic(auto)]
 
-mod at_hand;
 mod aux;
 mod aux_calls;
 mod counts;
@@ -24,7 +23,6 @@ mod updates;
 mod version_calls;
 mod versions;
 
-pub use at_hand::{item_at_hand, string_at_hand};
 pub use aux::AuxPlace;
 pub use aux_calls::{next_verdaux, next_vernaux};
 pub use counts::item_count;

@@ -135,7 +135,7 @@ fn check_home<S: Source>(elf: &Elf<S>, s: ScnId, count: u32) -> Result<u64, ElfE
 
 /// Where the string at an offset begins. It refuses in this order: `NoSection`, `NotStrings`,
 /// `OutOfFile`, `NoString`. It reads nothing.
-pub fn start_of<S: Source>(elf: &Elf<S>, s: ScnId, offset: u64) -> Result<Start, ElfError>
+fn start_of<S: Source>(elf: &Elf<S>, s: ScnId, offset: u64) -> Result<Start, ElfError>
     ensures begins { IfOk result (λ x. Begins elf.now.o s.0 offset x.piece x.start) }
     ensures refused { IfErr result (λ e. string_refusal_unread elf.now.o s.0 offset ≡ Some e) }
     ensures err { IfErr result IsRefusal }
@@ -204,7 +204,7 @@ fn bytes_from(bytes: &[u8], place: u64) -> &[u8]
 
 /// The string that begins at a place of a piece whose bytes are at hand, or `Unended` with the
 /// offset where no NUL follows in it.
-pub fn string_there<S: Source>(
+fn string_there<S: Source>(
     elf: &Elf<S>,
     s: ScnId,
     start: Start,

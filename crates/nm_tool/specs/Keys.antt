@@ -1,6 +1,6 @@
 -- The rows that are sorted, each with a key that decides most comparisons: the value, where rows
 -- stand by value, and else the first eight bytes of the name.
-use Rattle.std.specs.Prelude.{◌≡◌, ◌+◌, ◌*◌, ℕ, Bool, false, List, [], ◌∷◌, slice_index_or, Option, Some, None, if◌then◌else◌}
+use Rattle.std.specs.Prelude.{◌≡◌, ◌+◌, ◌*◌, ℕ, Bool, false, List, [], ◌∷◌, slice_index_or, if◌then◌else◌}
 use Rattle.elf_object.specs.Valid.{AreBytes}
 use Rattle.nm_tool.specs.declared.order.Row.{Row}
 use Rattle.nm_tool.specs.Order.{Entry}
@@ -18,10 +18,6 @@ as_entry by_value r = record {
   name = r.name.now;
   index = r.index;
 }
-
-abbrev pub as_entries : Bool → Option Row → List Entry
-as_entries by_value None = []
-as_entries by_value (Some r) = as_entry by_value r ∷ []
 
 -- its key is the one of its name, where rows do not stand by value
 pub record KeyIs (by_value : Bool) (r : Row) : Type 0 where

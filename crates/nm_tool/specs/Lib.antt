@@ -4,5 +4,6 @@ pub mod Rows
 pub mod Order
 pub mod Listed
 pub mod Keys
-pub mod Hand
+pub mod Pools
+pub mod Tables
 pub mod Tool

@@ -72,8 +72,3 @@ listed_from options o s i (x ∷ xs) =
 -- those of the table, from symbol 1 on: symbol 0 is the undefined one
 unfoldable pub listed : NmOptions → Object → ℕ → List Entry
 listed options o s = listed_from options o s 1 (drop 1 (symbols o s))
-
--- that of symbol i of section s, where there is one and it is listed
-unfoldable pub entry_at : NmOptions → Object → ℕ → ℕ → List Entry
-entry_at options o s i =
-    elim (slice_get (symbols o s) i) [ None ↦ [] | Some x ↦ entry_if options o s i x ]

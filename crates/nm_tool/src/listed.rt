@@ -1,19 +1,21 @@
 //! The symbols that are listed.
 
-ghost use Rattle.std.specs.Prelude.{◌≡◌, All, map, length, IsTrue, IfSome, IfOk, IfErr};
-ghost use Rattle.elf_types.specs.declared.errors.ElfError.TheVariants.{Memory};
-ghost use Rattle.nm_tool.specs.Listed.{is_kept, is_wanted, is_listed, listed, listed_name, symbols as stated_symbols, entry_at};
-ghost use Rattle.nm_tool.specs.Keys.{as_entry, as_entries, KeyIs};
-ghost use Rattle.nm_tool.specs.Hand.{AreTables, AreAtHand};
+ghost use Rattle.std.specs.Prelude.{◌≡◌, ◌-◌, IfOk, IfErr};
+ghost use Rattle.object_output.specs.Steps.{Learns};
+ghost use Rattle.nm_tool.specs.Listed.{is_kept, is_wanted, listed_name};
+ghost use Rattle.nm_tool.specs.Pools.{if_wanted, wanted_at, with_name, with_symbol, pool_of};
+ghost use Rattle.nm_tool.specs.Tables.{AreTables};
 
-use crate::hand::{Tables, name, place, symbol};
 use crate::letters::{has_type, is_local, is_undefined};
-use crate::order::{Row, prefix};
+use crate::pools::Pool;
+use crate::symbols::{Tables, place_at, symbol_at};
 use elf_descriptor::Elf;
 use elf_outside::Source;
+use elf_types::Sym;
 use elf_types::constants::{STT_FILE, STT_SECTION};
-use elf_types::{ElfError, Sym};
+use object_output::string_at;
 use std::alloc::Global;
+use tool_output::Stop;
 use tool_text::NmOptions;
 
 /// Whether a symbol is neither a section nor a file, and with `-g` not local.
@@ -28,102 +30,131 @@ fn is_kept(options: &NmOptions, x: &Sym) -> bool
 }
 
 /// Whether symbol `i` is undefined, where only such are asked for (`-u`).
-#[tactic(auto, unfolding(crate::specs::Listed::is_wanted))]
-fn is_wanted<S: Source>(elf: &Elf<S>, t: &Tables, options: &NmOptions, i: u64, x: &Sym) -> bool
-    requires tables { AreTables elf.now t.now }
-    requires hand { AreAtHand elf.now t.now }
-    ensures { IsTrue elf.now.told
-        → result ≡ is_wanted options.now elf.now.o t.now.symbols.0 i x.now }
-{
-    if !options.undefined {
-        return true;
-    }
-    is_undefined(place(elf, t, i, x))
-}
-
-/// Whether symbol `i`, which has this name, is listed.
-#[tactic(auto, unfolding(crate::specs::Listed::is_listed))]
-fn is_listed<S: Source>(
-    elf: &Elf<S>,
-    t: &Tables,
+fn is_wanted<S: Source>(
+    elf: &mut Elf<S>,
+    t: Tables,
     options: &NmOptions,
     i: u64,
-    x: &Sym,
-    name: &[u8],
-) -> bool
-    requires tables { AreTables elf.now t.now }
-    requires hand { AreAtHand elf.now t.now }
-    requires name { IsTrue elf.now.told → name.now ≡ listed_name elf.now.o t.now.symbols.0 x.now }
-    ensures { IsTrue elf.now.told
-        → result ≡ is_listed options.now elf.now.o t.now.symbols.0 i x.now }
+    x: Sym,
+) -> Result<bool, Stop>
+    requires { AreTables elf.old.o t }
+    ensures { Learns S.Source (λ o. is_wanted options.now o t.symbols.0 i x)
+        result elf.old elf.new }
 {
-    if !is_kept(options, x) {
-        return false;
+    if !options.undefined {
+        return Ok(true);
     }
-    if !is_wanted(elf, t, options, i, x) {
-        return false;
-    }
-    !name.is_empty()
-}
-
-/// The row of symbol `i`, which has this name.
-fn row_of<'a>(by_value: bool, i: u64, x: &Sym, name: &'a [u8]) -> Row<'a>
-    ensures entry { as_entry by_value result ≡ record {
-      value = if by_value then x.now.value else 0;
-      name = name.now;
-      index = i;
-    } }
-    ensures key { KeyIs by_value result }
-{
-    let first = prefix(name);
-    let key = if by_value { x.value } else { first };
-    Row {
-        key,
-        name,
-        index: i,
+    match place_at(elf, t, i, x) {
+        Ok(place) => Ok(is_undefined(place)),
+        Err(stop) => Err(stop),
     }
 }
 
-/// The row of symbol `i`, where it is listed.
-fn row<'a, S: Source>(elf: &'a Elf<S>, t: &Tables, options: &NmOptions, i: u64) -> Option<Row<'a>>
-    requires tables { AreTables elf.now t.now }
-    requires hand { AreAtHand elf.now t.now }
-    ensures entry { IsTrue elf.now.told → as_entries options.now.by_value result
-        ≡ entry_at options.now elf.now.o t.now.symbols.0 i }
-    ensures key { IfSome result (KeyIs options.now.by_value) }
+/// Symbol `i`, where it is wanted whatever its name.
+fn if_wanted<S: Source>(
+    elf: &mut Elf<S>,
+    t: Tables,
+    options: &NmOptions,
+    i: u64,
+    x: Sym,
+) -> Result<Option<Sym>, Stop>
+    requires { AreTables elf.old.o t }
+    ensures { Learns S.Source (λ o. if_wanted options.now o t.symbols.0 i x)
+        result elf.old elf.new }
 {
-    let x = symbol(elf, t, i)?;
-    let name = name(elf, t, &x);
-    if is_listed(elf, t, options, i, &x, name) {
-        Some(row_of(options.by_value, i, &x, name))
-    } else {
-        None
+    if !is_kept(options, &x) {
+        return Ok(None);
+    }
+    match is_wanted(elf, t, options, i, x) {
+        Ok(true) => Ok(Some(x)),
+        Ok(false) => Ok(None),
+        Err(stop) => Err(stop),
     }
 }
 
-/// The rows of the symbols that are listed, in the order of the table, which has `count` symbols.
-/// It refuses `Memory` alone.
-pub fn listed<'a, S: Source>(
+/// The same by its index.
+fn wanted_at<S: Source>(
+    elf: &mut Elf<S>,
+    t: Tables,
+    options: &NmOptions,
+    i: u64,
+) -> Result<Option<Sym>, Stop>
+    requires { AreTables elf.old.o t }
+    ensures { Learns S.Source (λ o. wanted_at options.now o t.symbols.0 i)
+        result elf.old elf.new }
+{
+    match symbol_at(elf, t, i) {
+        Ok(Some(x)) => if_wanted(elf, t, options, i, x),
+        Ok(None) => Ok(None),
+        Err(stop) => Err(stop),
+    }
+}
+
+/// A pool with one more symbol, unless its name is empty; it stops where there is no memory.
+fn with_name(pool: Pool, value: u64, i: u64, name: &[u8]) -> Result<Pool, Stop>
+    ensures { IfOk result (λ p. p ≡ with_name pool value i name.now) }
+    ensures err { IfErr result (λ stop. stop ≡ Stop.Memory) }
+{
+    match pool.with(value, i, name) {
+        Ok(pool) => Ok(pool),
+        Err(e) => Err(Stop::want_of(e)),
+    }
+}
+
+/// A pool with symbol `i` under its name as it is shown.
+fn with_named<S: Source>(
+    elf: &mut Elf<S>,
+    t: Tables,
+    i: u64,
+    x: Sym,
+    pool: Pool,
+) -> Result<Pool, Stop>
+    requires { AreTables elf.old.o t }
+    ensures { Learns S.Source (λ o. with_name pool x.value i (listed_name o t.symbols.0 x))
+        result elf.old elf.new }
+{
+    match string_at(elf, t.names, u64::from(x.name)) {
+        Ok(Some(name)) => with_name(pool, x.value, i, name),
+        Ok(None) => with_name(pool, x.value, i, b"<none>"),
+        Err(stop) => Err(stop),
+    }
+}
+
+/// A pool with symbol `i`, where it is listed.
+fn with_symbol<S: Source>(
+    elf: &mut Elf<S>,
+    t: Tables,
+    options: &NmOptions,
+    pool: Pool,
+    i: u64,
+) -> Result<Pool, Stop>
+    requires { AreTables elf.old.o t }
+    ensures { Learns S.Source (λ o. with_symbol options.now o t.symbols.0 pool i)
+        result elf.old elf.new }
+{
+    match wanted_at(elf, t, options, i) {
+        Ok(Some(x)) => with_named(elf, t, i, x, pool),
+        Ok(None) => Ok(pool),
+        Err(stop) => Err(stop),
+    }
+}
+
+/// The pool of the symbols that are listed, of a table that has `count` symbols. It stops by `Read`
+/// where a read of the source failed, and by `Memory`.
+pub fn pool_of<S: Source>(
     alloc: Global,
-    elf: &'a Elf<S>,
-    t: &Tables,
+    elf: &mut Elf<S>,
+    t: Tables,
     options: &NmOptions,
     count: u64,
-) -> Result<Vec<Row<'a>>, ElfError>
-    requires tables { AreTables elf.now t.now }
-    requires hand { AreAtHand elf.now t.now }
-    requires count { count ≡ length (stated_symbols elf.now.o t.now.symbols.0) }
-    ensures listed { IsTrue elf.now.told → IfOk result (λ rows.
-        map (as_entry options.now.by_value) rows.items
-        ≡ listed options.now elf.now.o t.now.symbols.0) }
-    ensures keys { IfOk result (λ rows. All (KeyIs options.now.by_value) rows.items) }
-    ensures err { IfErr result (λ e. e ≡ Memory) }
+) -> Result<Pool, Stop>
+    requires { AreTables elf.old.o t }
+    ensures { Learns S.Source (λ o. pool_of options.now o t.symbols.0 (count - 1))
+        result elf.old elf.new }
 {
-    let mut rows = Vec::with_capacity(alloc, count as usize)?;
+    let mut pool = Pool::new(alloc);
     for i in 1..count {
-        if let Some(row) = row(elf, t, options, i) {
-            rows.push(row)?;
-        }
+        pool = with_symbol(elf, t, options, pool, i)?;
     }
-    Ok(rows)
+    Ok(pool)
 }

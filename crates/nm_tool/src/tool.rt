@@ -1,29 +1,31 @@
 //! The tool of the command nm.
 
-ghost use Rattle.std.specs.Prelude.{◌≡◌, ◌<◌, None, Some, length, map, IsTrue, IfSome, codes};
+ghost use Rattle.std.specs.Prelude.{◌≡◌, ◌<◌, None, length, IfSome, codes};
 ghost use Rattle.std.specs.Option.{option_map};
 ghost use Rattle.elf_types.specs.declared.records.Kind.TheVariants as kinds;
 ghost use Rattle.elf_object.specs.Object.{section_at};
 ghost use Rattle.elf_object.specs.Answers.{lend_refusal};
-ghost use Rattle.tool_output.specs.Reports.{Reports, reports_of};
+ghost use Rattle.tool_output.specs.Reports.{Reports, form, reports_of};
 ghost use Rattle.tool_output.specs.Steps.{LeavesOutputs};
 ghost use Rattle.tool_output.specs.Names.{file_name};
 ghost use Rattle.object_output.specs.Steps.{ReportsElf};
 ghost use Rattle.object_output.specs.Shows.{ShowsElf};
-ghost use Rattle.nm_tool.specs.Hand.{AreTables, AreAtHand};
+ghost use Rattle.nm_tool.specs.Tables.{AreTables};
+ghost use Rattle.nm_tool.specs.Pools.{IsPool};
 ghost use Rattle.nm_tool.specs.Listed.{is_table, symbol_table, symbols as stated_symbols};
-ghost use Rattle.nm_tool.specs.Tool.{entry_report, rows_report, table_report, nm_report};
+ghost use Rattle.nm_tool.specs.Tool.{placed_row, symbol_row, entry_report, row_report, pool_report, rows_report, table_report, nm_report};
 
-use crate::hand::{Tables, load_tables, place, symbol, tables_of};
 use crate::letters::{is_undefined, symbol_letter};
-use crate::listed::listed;
+use crate::listed::pool_of;
 use crate::order::{Row, sorted};
+use crate::pools::{Pool, rows_of};
 use crate::rows::SymbolRow;
+use crate::symbols::{Tables, place_at, symbol_at, tables_of};
 use elf_descriptor::Elf;
 use elf_outside::{Sink, Source};
 use elf_types::constants::SHT_SYMTAB;
 use elf_types::{DataId, ScnId, Sym, is_compressed};
-use gelf_view::item_count;
+use gelf_view::{SymPlace, item_count};
 use object_output::{ObjectTool, section_header, show_object};
 use std::alloc::Global;
 use tool_output::{FileName, Message, Outputs, Stop};
@@ -31,110 +33,139 @@ use tool_text::NmOptions;
 
 /// What the rows of a table show besides its symbols.
 #[derive(Clone, Copy)]
-struct Shown<'a> {
+struct Form<'a> {
     /// The options.
     options: &'a NmOptions,
     /// The file, or the member of an archive.
     file: &'a FileName<'a>,
 }
 
-/// Shows the row of a symbol, where it is there.
-fn show_row<S: Source, O: Sink, E: Sink>(
+/// Shows the row of a symbol whose place is known.
+fn show_symbol<S: Source, O: Sink, E: Sink>(
     elf: &Elf<S>,
-    t: &Tables,
-    shown: Shown<'_>,
+    form: Form<'_>,
+    symbol: Sym,
+    place: Option<SymPlace>,
+    name: &[u8],
+    outputs: &mut Outputs<'_, O, E>,
+) -> Result<bool, Stop>
+    ensures reports { Reports O.Sink E.Sink result outputs.old outputs.new
+        (shown (placed_row form.options.now form.file.now elf.now.o symbol place name.now)) }
+    ensures leaves { LeavesOutputs O.Sink E.Sink ⊥ result outputs.old outputs.new }
+{
+    outputs.show(&SymbolRow {
+        options: form.options,
+        class: elf.ehdr().class,
+        file: form.file,
+        undefined: is_undefined(place),
+        symbol,
+        letter: symbol_letter(elf, &symbol, place),
+        name,
+    })
+}
+
+/// Shows the row of symbol `i`.
+fn show_placed<S: Source, O: Sink, E: Sink>(
+    elf: &mut Elf<S>,
+    t: Tables,
+    form: Form<'_>,
+    symbol: Sym,
     row: &Row<'_>,
     outputs: &mut Outputs<'_, O, E>,
 ) -> Result<bool, Stop>
-    requires tables { AreTables elf.now t.now }
-    requires hand { AreAtHand elf.now t.now }
-    ensures reports { IsTrue elf.now.told → Reports O.Sink E.Sink result outputs.old outputs.new
-        (entry_report shown.options.now shown.file.now elf.now.o t.now.symbols.0 row.now.index
-        row.now.name.now) }
-    ensures leaves { LeavesOutputs O.Sink E.Sink ⊥ result outputs.old outputs.new }
+    requires { AreTables elf.old.o t }
+    ensures { ReportsElf S.Source O.Sink E.Sink (λ o. shown (symbol_row form.options.now
+        form.file.now o t.symbols.0 row.now.index row.now.name.now symbol))
+        result elf.old elf.new outputs.old outputs.new }
 {
-    match symbol(elf, t, row.index) {
-        Some(x) => {
-            let place = place(elf, t, row.index, &x);
-            outputs.show(&SymbolRow {
-                options: shown.options,
-                class: elf.ehdr().class,
-                file: shown.file,
-                undefined: is_undefined(place),
-                symbol: x,
-                letter: symbol_letter(elf, &x, place),
-                name: row.name,
-            })
-        }
-        None => Ok(false),
+    match place_at(elf, t, row.index, symbol) {
+        Ok(place) => show_symbol(elf, form, symbol, place, row.name, outputs),
+        Err(stop) => Err(stop),
+    }
+}
+
+/// Shows the row of a symbol by its index, where it is there.
+fn show_row<S: Source, O: Sink, E: Sink>(
+    elf: &mut Elf<S>,
+    t: Tables,
+    form: Form<'_>,
+    row: &Row<'_>,
+    outputs: &mut Outputs<'_, O, E>,
+) -> Result<bool, Stop>
+    requires { AreTables elf.old.o t }
+    ensures { ReportsElf S.Source O.Sink E.Sink (λ o. entry_report form.options.now
+        form.file.now o t.symbols.0 row.now.index row.now.name.now)
+        result elf.old elf.new outputs.old outputs.new }
+{
+    match symbol_at(elf, t, row.index) {
+        Ok(Some(symbol)) => show_placed(elf, t, form, symbol, row, outputs),
+        Ok(None) => Ok(false),
+        Err(stop) => Err(stop),
     }
 }
 
 /// Shows rows, one after another.
 fn show_rows<S: Source, O: Sink, E: Sink>(
-    elf: &Elf<S>,
-    t: &Tables,
-    shown: Shown<'_>,
+    elf: &mut Elf<S>,
+    t: Tables,
+    form: Form<'_>,
     rows: &[Row<'_>],
     outputs: &mut Outputs<'_, O, E>,
 ) -> Result<bool, Stop>
-    requires tables { AreTables elf.now t.now }
-    requires hand { AreAtHand elf.now t.now }
-    ensures reports { IsTrue elf.now.told → Reports O.Sink E.Sink result outputs.old outputs.new
-        (reports_of (λ r. entry_report shown.options.now shown.file.now elf.now.o
-        t.now.symbols.0 r.index r.name.now) rows.now) }
-    ensures leaves { LeavesOutputs O.Sink E.Sink ⊥ result outputs.old outputs.new }
+    requires { AreTables elf.old.o t }
+    ensures { ReportsElf S.Source O.Sink E.Sink
+        (λ o. reports_of (row_report form.options.now form.file.now o t.symbols.0) rows.now)
+        result elf.old elf.new outputs.old outputs.new }
 {
     let mut refused = false;
     for row in rows {
-        let was_refused = show_row(elf, t, shown, row, outputs)?;
+        let was_refused = show_row(elf, t, form, row, outputs)?;
         refused = refused | was_refused;
     }
     Ok(refused)
 }
 
-/// Shows a row for each symbol of a table that is listed, in their order.
-fn show_listed<S: Source, O: Sink, E: Sink>(
-    elf: &Elf<S>,
-    t: &Tables,
-    count: u64,
-    shown: Shown<'_>,
+/// Shows a row for each symbol of a pool, in their order.
+fn show_pool<S: Source, O: Sink, E: Sink>(
+    elf: &mut Elf<S>,
+    t: Tables,
+    form: Form<'_>,
+    pool: &Pool,
     outputs: &mut Outputs<'_, O, E>,
 ) -> Result<bool, Stop>
-    requires tables { AreTables elf.now t.now }
-    requires hand { AreAtHand elf.now t.now }
-    requires count { count ≡ length (stated_symbols elf.now.o t.now.symbols.0) }
-    ensures reports { IsTrue elf.now.told → Reports O.Sink E.Sink result outputs.old outputs.new
-        (rows_report shown.options.now shown.file.now elf.now.o t.now.symbols.0) }
-    ensures leaves { LeavesOutputs O.Sink E.Sink ⊥ result outputs.old outputs.new }
+    requires tables { AreTables elf.old.o t }
+    requires pool { IsPool pool.now }
+    ensures { ReportsElf S.Source O.Sink E.Sink
+        (λ o. pool_report form.options.now form.file.now o t.symbols.0 pool.now)
+        result elf.old elf.new outputs.old outputs.new }
 {
-    match listed(elf.alloc(), elf, t, shown.options, count) {
+    match rows_of(elf.alloc(), pool, form.options.by_value) {
         Ok(rows) => {
-            let rows = sorted(rows, shown.options.by_value);
-            show_rows(elf, t, shown, &rows, outputs)
+            let rows = sorted(rows, form.options.by_value);
+            show_rows(elf, t, form, &rows, outputs)
         }
         Err(e) => Err(Stop::want_of(e)),
     }
 }
 
-/// Reads the tables of a section whose symbols can be told, and shows its rows.
+/// Shows the rows of a section whose symbols can be told.
 fn show_told<S: Source, O: Sink, E: Sink>(
     elf: &mut Elf<S>,
     s: ScnId,
     count: u64,
-    shown: Shown<'_>,
+    form: Form<'_>,
     outputs: &mut Outputs<'_, O, E>,
 ) -> Result<bool, Stop>
     requires section { s.0 < length elf.old.o.sections }
     requires passed { lend_refusal elf.old.o kinds.Sym s.0 0 ≡ None }
     requires count { count ≡ length (stated_symbols elf.old.o s.0) }
     ensures { ReportsElf S.Source O.Sink E.Sink
-        (λ o. rows_report shown.options.now shown.file.now o s.0)
+        (λ o. rows_report form.options.now form.file.now o s.0)
         result elf.old elf.new outputs.old outputs.new }
 {
     let t = tables_of(elf, s);
-    match load_tables(elf, t) {
-        Ok(()) => show_listed(elf, &t, count, shown, outputs),
+    match pool_of(elf.alloc(), elf, t, form.options, count) {
+        Ok(pool) => show_pool(elf, t, form, &pool, outputs),
         Err(stop) => Err(stop),
     }
 }
@@ -143,12 +174,12 @@ fn show_told<S: Source, O: Sink, E: Sink>(
 fn show_table<S: Source, O: Sink, E: Sink>(
     elf: &mut Elf<S>,
     s: ScnId,
-    shown: Shown<'_>,
+    form: Form<'_>,
     outputs: &mut Outputs<'_, O, E>,
 ) -> Result<bool, Stop>
     requires { s.0 < length elf.old.o.sections }
     ensures { ReportsElf S.Source O.Sink E.Sink
-        (λ o. table_report shown.options.now shown.file.now o s.0
+        (λ o. table_report form.options.now form.file.now o s.0
         (lend_refusal o kinds.Sym s.0 0))
         result elf.old elf.new outputs.old outputs.new }
 {
@@ -157,10 +188,10 @@ fn show_table<S: Source, O: Sink, E: Sink>(
         piece: 0,
     };
     match item_count::<S, Sym>(elf, d) {
-        Ok(count) => show_told(elf, s, count, shown, outputs),
+        Ok(count) => show_told(elf, s, count, form, outputs),
         Err(e) => outputs.refuse(&Message {
             command: "nm",
-            name: shown.file,
+            name: form.file,
             text: e,
         }),
     }
@@ -191,17 +222,17 @@ fn symbol_table<S: Source>(elf: &Elf<S>) -> Option<ScnId>
 /// Shows the symbols of an object, or says that it has none, which refuses nothing.
 fn show_symbols<S: Source, O: Sink, E: Sink>(
     elf: &mut Elf<S>,
-    shown: Shown<'_>,
+    form: Form<'_>,
     outputs: &mut Outputs<'_, O, E>,
 ) -> Result<bool, Stop>
-    ensures { ReportsElf S.Source O.Sink E.Sink (nm_report shown.options.now shown.file.now)
+    ensures { ReportsElf S.Source O.Sink E.Sink (nm_report form.options.now form.file.now)
         result elf.old elf.new outputs.old outputs.new }
 {
     match symbol_table(elf) {
-        Some(s) => show_table(elf, s, shown, outputs),
+        Some(s) => show_table(elf, s, form, outputs),
         None => outputs.note(&Message {
             command: "nm",
-            name: shown.file,
+            name: form.file,
             text: "no symbols",
         }),
     }
@@ -231,11 +262,11 @@ impl ObjectTool for NmTool<'_> {
         name: &FileName<'_>,
         outputs: &mut Outputs<'_, O, E>,
     ) -> Result<bool, Stop> {
-        let shown = Shown {
+        let form = Form {
             options: self.options,
             file: name,
         };
-        show_symbols(elf, shown, outputs)
+        show_symbols(elf, form, outputs)
     }
 }
 

@@ -30,12 +30,8 @@ impl<S: Source> Elf<S> {
         self.body.fetch(&mut self.src, d, T::kind())
     }
 
-    /// Item `i` of a piece of the item's kind that is at hand: it is own, or its home is loaded. It
-    /// refuses `NoEntry` alone, exactly where the index is not below the number of items. It reads
-    /// nothing and takes no memory.
-    ///
-    /// Source: gelf_getsym of gelf(3E) and its like.
-    pub fn entry<T: Item>(&self, d: DataId, i: u64) -> Result<T, ElfError>
+    /// Item `i` of a piece of the item's kind that is at hand; else `NoEntry`.
+    fn entry<T: Item>(&self, d: DataId, i: u64) -> Result<T, ElfError>
         requires passed { lend_refusal self.now.o T.kind d.section d.piece ≡ None }
         requires hand { IsTrue (is_some (piece_at self.now.o d.section d.piece).own
             || is_loaded self.now.loaded d.section) }

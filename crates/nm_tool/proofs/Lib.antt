@@ -1,0 +1,4 @@
+pub mod Kept
+mod Digits
+mod Unique
+mod Sorting
