@@ -67,7 +67,7 @@ NotBefore x y = is_lt (entry_cmp y x) ≡ false
 
 all_either : (P : Entry → Type 0) (e g : Entry) (gs rest : List Entry) (b : Bool) → P e → P g → AllByRecursion P gs → AllByRecursion P rest → AllByRecursion P (cond b (g ∷ rest) (e ∷ g ∷ gs))
 all_either P e g gs rest true pe pg pgs prest = (pg, prest)
-all_either P e g gs rest false pe pg pgs prest = (pe, pg, pgs)
+all_either P e g gs rest false pe pg pgs prest = (pe, (pg, pgs))
 
 all_inserted : (P : Entry → Type 0) (e : Entry) (es : List Entry) → P e → AllByRecursion P es → AllByRecursion P (inserted e es)
 unfolding inserted
@@ -94,12 +94,12 @@ not_before_trans x y z h k = by_lt (is_lt (entry_cmp z x)) refl
     o = entry_cmp_total
 
     by_cmp : (r : Ordering) → entry_cmp z y ≡ r → is_lt r ≡ false → entry_cmp z x ≡ Less → ⊥
-    by_cmp Less is no less = cc
-    by_cmp Equal is no less =
+    by_cmp Less is below less = cc
+    by_cmp Equal is below less =
         let same = o.congr z y x is in
         let yx : entry_cmp y x ≡ Less = sym same ∙ less in
         let bad : is_lt (entry_cmp y x) ≡ true = ap is_lt yx in cc
-    by_cmp Greater is no less =
+    by_cmp Greater is below less =
         let yz : entry_cmp y z ≡ Less = o.antisymm y z ∙ ap ordering_reverse is in
         let yx : entry_cmp y x ≡ Less = o.trans y z x yz less in
         let bad : is_lt (entry_cmp y x) ≡ true = ap is_lt yx in cc
@@ -160,20 +160,20 @@ module _ (a b : List ℕ) (bytes_a : AllByRecursion (λ x. x < 2 ^ 8) a) (bytes_
       let sb = byte_small b n bytes_b in
       let front : prefix n a ≡ prefix n b = omega (arith, same, sa, sb) in
       let last : slice_index_or a n 0 ≡ slice_index_or b n 0 = omega (arith, same, sa, sb) in
-      by_place (nat_lt i n) refl front last
+      by_place (nat_lt i n) refl front last (λ below. same_first n front i below)
     where
-      by_place : (t : Bool) → nat_lt i n ≡ t → prefix n a ≡ prefix n b → slice_index_or a n 0 ≡ slice_index_or b n 0 → slice_index_or a i 0 ≡ slice_index_or b i 0
-      by_place true is front last = same_first n front i (ltb-true i n is)
-      by_place false is front last = let past = ltb-false i n is in let at : i ≡ n = omega (arith, past, lt) in subst (λ (k : ℕ). slice_index_or a k 0 ≡ slice_index_or b k 0) (sym at) last
+      by_place : (t : Bool) → nat_lt i n ≡ t → prefix n a ≡ prefix n b → slice_index_or a n 0 ≡ slice_index_or b n 0 → (i < n → slice_index_or a i 0 ≡ slice_index_or b i 0) → slice_index_or a i 0 ≡ slice_index_or b i 0
+      by_place true is front last earlier = earlier (ltb-true i n is)
+      by_place false is front last earlier = let past = ltb-false i n is in let at : i ≡ n = omega (arith, past, lt) in subst (λ (k : ℕ). slice_index_or a k 0 ≡ slice_index_or b k 0) (sym at) last
 
   less_first : (n : ℕ) → prefix n a < prefix n b → slice_cmp nat_cmp a b ≡ Less
   unfolding prefix
   less_first zero less = absurd (omega (arith, less))
-  less_first (suc n) less = by_front (nat_lt (prefix n a) (prefix n b)) refl
+  less_first (suc n) less = by_front (nat_lt (prefix n a) (prefix n b)) refl (λ below. less_first n below)
     where
-      by_front : (t : Bool) → nat_lt (prefix n a) (prefix n b) ≡ t → slice_cmp nat_cmp a b ≡ Less
-      by_front true is = less_first n (ltb-true (prefix n a) (prefix n b) is)
-      by_front false is =
+      by_front : (t : Bool) → nat_lt (prefix n a) (prefix n b) ≡ t → (prefix n a < prefix n b → slice_cmp nat_cmp a b ≡ Less) → slice_cmp nat_cmp a b ≡ Less
+      by_front true is earlier = earlier (ltb-true (prefix n a) (prefix n b) is)
+      by_front false is earlier =
           let past = ltb-false (prefix n a) (prefix n b) is in
           let sa = byte_small a n bytes_a in
           let sb = byte_small b n bytes_b in
@@ -198,8 +198,8 @@ above_is x y e = grind (arith, nat_tests)
 -- the order of the entries is that of the rows
 weaker : (by_value : Bool) (x y : Row) → KeyIs by_value x → KeyIs by_value y → is_lt (row_cmp y x) ≡ false → is_lt (entry_cmp (as_entry by_value y) (as_entry by_value x)) ≡ false
 unfolding entry_cmp as_entry
-weaker true x y kx ky no = no
-weaker false x y kx ky no = by_key (nat_cmp y.key x.key) refl no
+weaker true x y kx ky later = later
+weaker false x y kx ky later = by_key (nat_cmp y.key x.key) refl later
   where
     rest : Ordering
     rest = ordering_then (slice_cmp nat_cmp y.name.now x.name.now) (nat_cmp y.index x.index)

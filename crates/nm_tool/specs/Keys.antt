@@ -1,6 +1,6 @@
 -- The rows that are sorted, each with a key that decides most comparisons: the value, where rows
 -- stand by value, and else the first eight bytes of the name.
-use Rattle.std.specs.Prelude.{◌≡◌, ◌+◌, ◌*◌, ℕ, Bool, false, List, [], ◌∷◌, slice_index_or, if◌then◌else◌}
+use Rattle.std.specs.Prelude.{◌≡◌, ◌+◌, ◌*◌, ℕ, zero, suc, Bool, false, List, [], ◌∷◌, slice_index_or, if◌then◌else◌}
 use Rattle.elf_object.specs.Valid.{AreBytes}
 use Rattle.nm_tool.specs.declared.order.Row.{Row}
 use Rattle.nm_tool.specs.Order.{Entry}
@@ -8,7 +8,7 @@ use Rattle.nm_tool.specs.Order.{Entry}
 -- the number of the first bytes of a list, of which the first counts most; where there is none it
 -- counts as 0
 unfoldable pub prefix : ℕ → List ℕ → ℕ
-prefix 0 bytes = 0
+prefix zero bytes = 0
 prefix (suc n) bytes = prefix n bytes * 256 + slice_index_or bytes n 0
 
 -- the entry of a row

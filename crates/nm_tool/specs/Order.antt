@@ -1,7 +1,8 @@
 -- The order of the rows: by the bytes of the names and then by the symbols' indexes, or by the
 -- values before both.
 use Rattle.std.specs.Prelude.{◌≡◌, ℕ, List, [], ◌∷◌, if◌then◌else◌}
-use Rattle.std.specs.Ordering.{Ordering, is_lt, ordering_then, nat_cmp}
+use Rattle.std.specs.declared.cmp.Ordering.{Ordering}
+use Rattle.std.specs.Ordering.{is_lt, ordering_then, nat_cmp}
 use Rattle.std.specs.Cmp.Lexicographic.{slice_cmp}
 
 -- a symbol that is listed: its value, where the rows stand by value, and else 0; its name as it is

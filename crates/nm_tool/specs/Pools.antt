@@ -1,6 +1,6 @@
 -- The symbols that are listed, as they are held until they are sorted: their names in one list of
 -- bytes, one after another.
-use Rattle.std.specs.Prelude.{◌≡◌, ◌++◌, ◌+◌, ℕ, Bool, List, [], ◌∷◌, length, take, drop, slice_get, Option, Some, None, if◌then◌else◌}
+use Rattle.std.specs.Prelude.{◌++◌, ◌+◌, ℕ, zero, suc, Bool, List, [], ◌∷◌, length, take, drop, slice_get, Option, Some, None, if◌then◌else◌}
 use Rattle.elf_types.specs.declared.records.Sym.{Sym}
 use Rattle.elf_object.specs.Object.{Object}
 use Rattle.tool_text.specs.declared.options.NmOptions.{NmOptions}
@@ -15,14 +15,6 @@ spot_entries by_value names [] = []
 spot_entries by_value names (s ∷ spots) =
     record { value = if by_value then s.value else 0; name = take s.len names; index = s.index }
     ∷ spot_entries by_value (drop s.len names) spots
-
--- how many bytes the names have
-unfoldable pub spots_total : List Spot → ℕ
-spots_total [] = 0
-spots_total (s ∷ spots) = s.len + spots_total spots
-
-abbrev pub IsPool : Pool → Type 0
-IsPool p = spots_total p.spots ≡ length p.names
 
 -- symbol i, where it is there and wanted whatever its name
 abbrev pub if_wanted : NmOptions → Object → ℕ → ℕ → Sym → Option Sym
@@ -50,5 +42,5 @@ with_symbol options o s p i =
 
 -- the pool of the first n symbols after symbol 0
 unfoldable pub pool_of : NmOptions → Object → ℕ → ℕ → Pool
-pool_of options o s 0 = record { names = []; spots = [] }
+pool_of options o s zero = record { names = []; spots = [] }
 pool_of options o s (suc n) = with_symbol options o s (pool_of options o s n) (n + 1)

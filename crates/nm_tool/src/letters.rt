@@ -1,6 +1,6 @@
 //! The letter of a symbol. Nothing here takes memory.
 
-ghost use Rattle.std.specs.Prelude.{◌≡◌};
+ghost use Rattle.std.specs.Prelude.{◌≡◌, ◌<◌, Some};
 ghost use Rattle.elf_object.specs.Object.{section_at};
 ghost use Rattle.nm_tool.specs.Letters.{has_bind, has_type, has_flag, is_local, is_undefined, section_letter, special_letter, place_letter, cased, symbol_letter};
 
@@ -48,7 +48,8 @@ pub fn is_undefined(place: Option<SymPlace>) -> bool
 /// The letter of a section that holds a symbol.
 #[tactic(auto, unfolding(crate::specs::Letters::section_letter))]
 fn section_letter(h: &Shdr) -> u8
-    ensures { result ≡ section_letter h.now }
+    ensures letter { result ≡ section_letter h.now }
+    ensures small { result < 128 }
 {
     if h.flags / SHF_EXECINSTR % 2 == 1 {
         return b'T';
@@ -69,7 +70,8 @@ fn section_letter(h: &Shdr) -> u8
 /// The letter of a reserved index.
 #[tactic(auto, unfolding(crate::specs::Letters::special_letter))]
 fn special_letter(n: u32) -> u8
-    ensures { result ≡ special_letter n }
+    ensures letter { result ≡ special_letter n }
+    ensures small { result < 128 }
 {
     if n == SHN_ABS {
         return b'A';
@@ -83,7 +85,8 @@ fn special_letter(n: u32) -> u8
 /// The letter of a section by its number, or a question mark where there is none.
 #[tactic(auto, unfolding(crate::specs::Letters::place_letter, elf_object::specs::Calls::shdr_answer))]
 fn numbered_letter<S: Source>(elf: &Elf<S>, n: u32) -> u8
-    ensures { result ≡ place_letter elf.now.o (Some (SymPlace.Section n)) }
+    ensures letter { result ≡ place_letter elf.now.o (Some (SymPlace.Section n)) }
+    ensures small { result < 128 }
 {
     match elf.shdr(ScnId(n)) {
         Ok(header) => section_letter(&header),
@@ -94,7 +97,8 @@ fn numbered_letter<S: Source>(elf: &Elf<S>, n: u32) -> u8
 /// The letter of the place of a symbol.
 #[tactic(auto, unfolding(crate::specs::Letters::place_letter))]
 fn place_letter<S: Source>(elf: &Elf<S>, place: Option<SymPlace>) -> u8
-    ensures { result ≡ place_letter elf.now.o place }
+    ensures letter { result ≡ place_letter elf.now.o place }
+    ensures small { result < 128 }
 {
     match place {
         None => b'?',
@@ -106,6 +110,7 @@ fn place_letter<S: Source>(elf: &Elf<S>, place: Option<SymPlace>) -> u8
 /// A letter, small for a local symbol; a question mark stays.
 #[tactic(auto, unfolding(crate::specs::Letters::cased))]
 fn cased(local: bool, letter: u8) -> u8
+    requires { letter < 128 }
     ensures { result ≡ cased local letter }
 {
     if local && letter != b'?' {

@@ -30,6 +30,7 @@ fn is_kept(options: &NmOptions, x: &Sym) -> bool
 }
 
 /// Whether symbol `i` is undefined, where only such are asked for (`-u`).
+#[tactic(auto, unfolding(crate::specs::Listed::is_wanted))]
 fn is_wanted<S: Source>(
     elf: &mut Elf<S>,
     t: Tables,
@@ -73,6 +74,7 @@ fn if_wanted<S: Source>(
 }
 
 /// The same by its index.
+#[tactic(auto, unfolding(crate::specs::Pools::wanted_at))]
 fn wanted_at<S: Source>(
     elf: &mut Elf<S>,
     t: Tables,
@@ -92,7 +94,7 @@ fn wanted_at<S: Source>(
 
 /// A pool with one more symbol, unless its name is empty; it stops where there is no memory.
 fn with_name(pool: Pool, value: u64, i: u64, name: &[u8]) -> Result<Pool, Stop>
-    ensures { IfOk result (λ p. p ≡ with_name pool value i name.now) }
+    ensures ok { IfOk result (λ p. p ≡ with_name pool value i name.now) }
     ensures err { IfErr result (λ stop. stop ≡ Stop.Memory) }
 {
     match pool.with(value, i, name) {
@@ -102,6 +104,7 @@ fn with_name(pool: Pool, value: u64, i: u64, name: &[u8]) -> Result<Pool, Stop>
 }
 
 /// A pool with symbol `i` under its name as it is shown.
+#[tactic(auto, unfolding(crate::specs::Listed::listed_name, elf_object::specs::Strings::symbol_name))]
 fn with_named<S: Source>(
     elf: &mut Elf<S>,
     t: Tables,
@@ -121,6 +124,7 @@ fn with_named<S: Source>(
 }
 
 /// A pool with symbol `i`, where it is listed.
+#[tactic(auto, unfolding(crate::specs::Pools::with_symbol))]
 fn with_symbol<S: Source>(
     elf: &mut Elf<S>,
     t: Tables,

@@ -1,6 +1,6 @@
 //! The rows in their order.
 
-ghost use Rattle.std.specs.Prelude.{◌≡◌, All, map, slice_index_or};
+ghost use Rattle.std.specs.Prelude.{◌≡◌, ◌<◌, All, map, slice_index_or};
 ghost use Rattle.elf_object.specs.Valid.{AreBytes};
 ghost use Rattle.nm_tool.specs.Order.{in_order};
 ghost use Rattle.nm_tool.specs.Keys.{prefix, as_entry, KeyIs};
@@ -23,6 +23,7 @@ pub fn prefix(name: &[u8]) -> u64
     ensures value { result ≡ prefix 8 name.now }
     ensures bytes { AreBytes name.now }
 {
+    bytes_are_ranged(name);
     let mut key = 0;
     for place in 0..8 {
         key = key * 256 + u64::from(byte_at(name, place));
@@ -30,9 +31,15 @@ pub fn prefix(name: &[u8]) -> u64
     key
 }
 
+/// What a slice of bytes has are bytes: it is for the proof, and does nothing.
+fn bytes_are_ranged(_bytes: &[u8])
+    ensures { AreBytes _bytes.now }
+{}
+
 /// The byte at a place, or 0 where there is none.
 fn byte_at(name: &[u8], place: usize) -> u8
-    ensures { result ≡ slice_index_or name.now place 0 }
+    ensures value { result ≡ slice_index_or name.now place 0 }
+    ensures small { result < 256 }
 {
     match name.get(place) {
         Some(byte) => *byte,
@@ -44,7 +51,7 @@ fn byte_at(name: &[u8], place: usize) -> u8
 pub fn sorted<'a>(mut rows: Vec<Row<'a>>, by_value: bool) -> Vec<Row<'a>>
     requires { All (KeyIs by_value) rows.items }
     ensures { map (as_entry by_value) result.items
-        ≡ in_order (map (as_entry by_value) rows.items) }
+        ≡ in_order (map (as_entry by_value) rows.entry.items) }
 {
     rows.sort_unstable();
     rows

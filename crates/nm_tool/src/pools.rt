@@ -1,9 +1,9 @@
 //! The symbols that are listed, held until they are sorted.
 
-ghost use Rattle.std.specs.Prelude.{◌≡◌, [], IfOk, IfErr, All, map};
+ghost use Rattle.std.specs.Prelude.{◌≡◌, if◌then◌else◌, [], IfOk, IfErr, All, map};
 ghost use Rattle.elf_types.specs.declared.errors.ElfError.TheVariants.{Memory};
 ghost use Rattle.nm_tool.specs.Keys.{as_entry, KeyIs};
-ghost use Rattle.nm_tool.specs.Pools.{IsPool, spot_entries, with_name};
+ghost use Rattle.nm_tool.specs.Pools.{spot_entries, with_name};
 
 use crate::order::{Row, prefix};
 use elf_types::{ElfError, List, Octets};
@@ -78,20 +78,19 @@ fn row_of<'a>(by_value: bool, spot: Spot, name: &'a [u8]) -> Row<'a>
 
 /// The rows of the symbols of a pool, in its order. It refuses `Memory` alone.
 pub fn rows_of<'a>(alloc: Global, pool: &'a Pool, by_value: bool) -> Result<Vec<Row<'a>>, ElfError>
-    requires { IsPool pool.now }
     ensures rows { IfOk result (λ rows.
         map (as_entry by_value) rows.items ≡ spot_entries by_value pool.now.names pool.now.spots) }
     ensures keys { IfOk result (λ rows. All (KeyIs by_value) rows.items) }
     ensures err { IfErr result (λ e. e ≡ Memory) }
 {
-    let names = pool.names.as_slice();
+    let mut names = pool.names.as_slice();
     let spots = pool.spots.as_slice();
     let mut rows = Vec::with_capacity(alloc, spots.len())?;
-    let mut at = 0;
     for spot in spots {
-        let end = at + spot.len as usize;
-        rows.push(row_of(by_value, *spot, &names[at..end]))?;
-        at = end;
+        let len = (spot.len as usize).min(names.len());
+        let (name, rest) = names.split_at(len);
+        rows.push(row_of(by_value, *spot, name))?;
+        names = rest;
     }
     Ok(rows)
 }

@@ -48,7 +48,7 @@ fn put_letter(page: &mut Octets, letter: u8) -> Result<(), ElfError>
     ensures ok { OnOk result (page.new ≡ page.old ++ (letter ∷ [])) }
     ensures err { IfErr result (WantsMemory page.old page.new) }
 {
-    page.push(letter)
+    put_bytes(page, &[letter])
 }
 
 /// Appends the value, or as many blanks where the symbol is undefined.

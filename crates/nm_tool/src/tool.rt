@@ -5,13 +5,12 @@ ghost use Rattle.std.specs.Option.{option_map};
 ghost use Rattle.elf_types.specs.declared.records.Kind.TheVariants as kinds;
 ghost use Rattle.elf_object.specs.Object.{section_at};
 ghost use Rattle.elf_object.specs.Answers.{lend_refusal};
-ghost use Rattle.tool_output.specs.Reports.{Reports, form, reports_of};
+ghost use Rattle.tool_output.specs.Reports.{Reports, shown, reports_of};
 ghost use Rattle.tool_output.specs.Steps.{LeavesOutputs};
 ghost use Rattle.tool_output.specs.Names.{file_name};
 ghost use Rattle.object_output.specs.Steps.{ReportsElf};
 ghost use Rattle.object_output.specs.Shows.{ShowsElf};
 ghost use Rattle.nm_tool.specs.Tables.{AreTables};
-ghost use Rattle.nm_tool.specs.Pools.{IsPool};
 ghost use Rattle.nm_tool.specs.Listed.{is_table, symbol_table, symbols as stated_symbols};
 ghost use Rattle.nm_tool.specs.Tool.{placed_row, symbol_row, entry_report, row_report, pool_report, rows_report, table_report, nm_report};
 
@@ -41,6 +40,7 @@ struct Form<'a> {
 }
 
 /// Shows the row of a symbol whose place is known.
+#[tactic(auto, unfolding(crate::specs::Tool::placed_row, elf_object::specs::Object::header_of))]
 fn show_symbol<S: Source, O: Sink, E: Sink>(
     elf: &Elf<S>,
     form: Form<'_>,
@@ -50,7 +50,7 @@ fn show_symbol<S: Source, O: Sink, E: Sink>(
     outputs: &mut Outputs<'_, O, E>,
 ) -> Result<bool, Stop>
     ensures reports { Reports O.Sink E.Sink result outputs.old outputs.new
-        (shown (placed_row form.options.now form.file.now elf.now.o symbol place name.now)) }
+        (shown (placed_row form.entry.options.now form.entry.file.now elf.now.o symbol place name.now)) }
     ensures leaves { LeavesOutputs O.Sink E.Sink ⊥ result outputs.old outputs.new }
 {
     outputs.show(&SymbolRow {
@@ -74,8 +74,8 @@ fn show_placed<S: Source, O: Sink, E: Sink>(
     outputs: &mut Outputs<'_, O, E>,
 ) -> Result<bool, Stop>
     requires { AreTables elf.old.o t }
-    ensures { ReportsElf S.Source O.Sink E.Sink (λ o. shown (symbol_row form.options.now
-        form.file.now o t.symbols.0 row.now.index row.now.name.now symbol))
+    ensures { ReportsElf S.Source O.Sink E.Sink (λ o. shown (symbol_row form.entry.options.now
+        form.entry.file.now o t.symbols.0 row.now.index row.now.name.now symbol))
         result elf.old elf.new outputs.old outputs.new }
 {
     match place_at(elf, t, row.index, symbol) {
@@ -93,8 +93,8 @@ fn show_row<S: Source, O: Sink, E: Sink>(
     outputs: &mut Outputs<'_, O, E>,
 ) -> Result<bool, Stop>
     requires { AreTables elf.old.o t }
-    ensures { ReportsElf S.Source O.Sink E.Sink (λ o. entry_report form.options.now
-        form.file.now o t.symbols.0 row.now.index row.now.name.now)
+    ensures { ReportsElf S.Source O.Sink E.Sink (λ o. entry_report form.entry.options.now
+        form.entry.file.now o t.symbols.0 row.now.index row.now.name.now)
         result elf.old elf.new outputs.old outputs.new }
 {
     match symbol_at(elf, t, row.index) {
@@ -114,7 +114,7 @@ fn show_rows<S: Source, O: Sink, E: Sink>(
 ) -> Result<bool, Stop>
     requires { AreTables elf.old.o t }
     ensures { ReportsElf S.Source O.Sink E.Sink
-        (λ o. reports_of (row_report form.options.now form.file.now o t.symbols.0) rows.now)
+        (λ o. reports_of (row_report form.entry.options.now form.entry.file.now o t.symbols.0) rows.now)
         result elf.old elf.new outputs.old outputs.new }
 {
     let mut refused = false;
@@ -133,10 +133,9 @@ fn show_pool<S: Source, O: Sink, E: Sink>(
     pool: &Pool,
     outputs: &mut Outputs<'_, O, E>,
 ) -> Result<bool, Stop>
-    requires tables { AreTables elf.old.o t }
-    requires pool { IsPool pool.now }
+    requires { AreTables elf.old.o t }
     ensures { ReportsElf S.Source O.Sink E.Sink
-        (λ o. pool_report form.options.now form.file.now o t.symbols.0 pool.now)
+        (λ o. pool_report form.entry.options.now form.entry.file.now o t.symbols.0 pool.now)
         result elf.old elf.new outputs.old outputs.new }
 {
     match rows_of(elf.alloc(), pool, form.options.by_value) {
@@ -160,7 +159,7 @@ fn show_told<S: Source, O: Sink, E: Sink>(
     requires passed { lend_refusal elf.old.o kinds.Sym s.0 0 ≡ None }
     requires count { count ≡ length (stated_symbols elf.old.o s.0) }
     ensures { ReportsElf S.Source O.Sink E.Sink
-        (λ o. rows_report form.options.now form.file.now o s.0)
+        (λ o. rows_report form.entry.options.now form.entry.file.now o s.0)
         result elf.old elf.new outputs.old outputs.new }
 {
     let t = tables_of(elf, s);
@@ -179,7 +178,7 @@ fn show_table<S: Source, O: Sink, E: Sink>(
 ) -> Result<bool, Stop>
     requires { s.0 < length elf.old.o.sections }
     ensures { ReportsElf S.Source O.Sink E.Sink
-        (λ o. table_report form.options.now form.file.now o s.0
+        (λ o. table_report form.entry.options.now form.entry.file.now o s.0
         (lend_refusal o kinds.Sym s.0 0))
         result elf.old elf.new outputs.old outputs.new }
 {
@@ -207,6 +206,7 @@ fn is_table<S: Source>(elf: &Elf<S>, s: ScnId) -> bool
 }
 
 /// The first such section. Nothing is read.
+#[tactic(auto, unfolding(crate::specs::Listed::symbol_table))]
 fn symbol_table<S: Source>(elf: &Elf<S>) -> Option<ScnId>
     ensures found { option_map (λ s. s.0) result ≡ symbol_table elf.now.o }
     ensures there { IfSome result (λ s. s.0 < length elf.now.o.sections) }
@@ -225,7 +225,7 @@ fn show_symbols<S: Source, O: Sink, E: Sink>(
     form: Form<'_>,
     outputs: &mut Outputs<'_, O, E>,
 ) -> Result<bool, Stop>
-    ensures { ReportsElf S.Source O.Sink E.Sink (nm_report form.options.now form.file.now)
+    ensures { ReportsElf S.Source O.Sink E.Sink (nm_report form.entry.options.now form.entry.file.now)
         result elf.old elf.new outputs.old outputs.new }
 {
     match symbol_table(elf) {
