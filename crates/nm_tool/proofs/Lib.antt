@@ -7,3 +7,4 @@ mod PoolLemmas
 mod ToolLemmas
 mod Keys
 mod FoundTable
+mod RowLemmas

@@ -93,7 +93,7 @@ module _ (options : NmOptions) (o : Object) (s : ℕ) where
   left_by : (n : ℕ) → n + 1 ≤ length (symbols o s) - 1 → entries (pool_of options o s n) ++ listed_from options o s (n + 1) (drop (n + 1) (symbols o s)) ≡ listed options o s
       → ((x : Sym) × (n + 1 < length (symbols o s)) × (slice_get (symbols o s) (n + 1) ≡ Some x) × (get_or (symbols o s) (n + 1) x ≡ x)) ⊎ ((length (symbols o s) ≤ n + 1) × (slice_get (symbols o s) (n + 1) ≡ None))
       → entries (pool_of options o s (suc n)) ++ listed_from options o s (n + 1 + 1) (drop (n + 1 + 1) (symbols o s)) ≡ listed options o s
-  left_by n le before (inl there) = next_left n there.0 there.2.0 there.1 (sym there.2.1) ∙ before
+  left_by n le before (inl there) = next_left n there.0 there.2 there.1 (sym there.3) ∙ before
   left_by n le before (inr past) = absurd (omega (arith, past.0, le))
 
   pool_left : (n : ℕ) → n ≤ length (symbols o s) - 1 → entries (pool_of options o s n) ++ listed_from options o s (n + 1) (drop (n + 1) (symbols o s)) ≡ listed options o s

@@ -60,6 +60,7 @@ impl Pool {
 }
 
 /// The row of a symbol that has this name.
+#[tactic(auto, unfolding(crate::specs::Keys::as_entry))]
 fn row_of<'a>(by_value: bool, spot: Spot, name: &'a [u8]) -> Row<'a>
     ensures entry { as_entry by_value result ≡ record {
       value = if by_value then spot.value else 0;
@@ -69,10 +70,15 @@ fn row_of<'a>(by_value: bool, spot: Spot, name: &'a [u8]) -> Row<'a>
     ensures key { KeyIs by_value result }
 {
     let first = prefix(name);
+    let index = spot.index;
+    if by_value {
+        let key = spot.value;
+        return Row { key, name, index };
+    }
     Row {
-        key: if by_value { spot.value } else { first },
+        key: first,
         name,
-        index: spot.index,
+        index,
     }
 }
 

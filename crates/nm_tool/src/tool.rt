@@ -12,7 +12,7 @@ ghost use Rattle.object_output.specs.Steps.{ReportsElf};
 ghost use Rattle.object_output.specs.Shows.{ShowsElf};
 ghost use Rattle.nm_tool.specs.Tables.{AreTables};
 ghost use Rattle.nm_tool.specs.Listed.{is_table, symbol_table, symbols as stated_symbols};
-ghost use Rattle.nm_tool.specs.Tool.{placed_row, symbol_row, entry_report, row_report, pool_report, rows_report, table_report, nm_report};
+ghost use Rattle.nm_tool.specs.Tool.{placed_row, symbol_row, row_report, pool_report, rows_report, table_report, nm_report};
 
 use crate::letters::{is_undefined, symbol_letter};
 use crate::listed::pool_of;
@@ -93,8 +93,8 @@ fn show_row<S: Source, O: Sink, E: Sink>(
     outputs: &mut Outputs<'_, O, E>,
 ) -> Result<bool, Stop>
     requires { AreTables elf.old.o t }
-    ensures { ReportsElf S.Source O.Sink E.Sink (λ o. entry_report form.entry.options.now
-        form.entry.file.now o t.symbols.0 row.now.index row.now.name.now)
+    ensures { ReportsElf S.Source O.Sink E.Sink
+        (λ o. row_report form.entry.options.now form.entry.file.now o t.symbols.0 row.now)
         result elf.old elf.new outputs.old outputs.new }
 {
     match symbol_at(elf, t, row.index) {
@@ -141,7 +141,7 @@ fn show_pool<S: Source, O: Sink, E: Sink>(
     match rows_of(elf.alloc(), pool, form.options.by_value) {
         Ok(rows) => {
             let rows = sorted(rows, form.options.by_value);
-            show_rows(elf, t, form, &rows, outputs)
+            show_rows(elf, t, form, rows.as_slice(), outputs)
         }
         Err(e) => Err(Stop::want_of(e)),
     }

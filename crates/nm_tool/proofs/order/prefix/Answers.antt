@@ -15,7 +15,8 @@ overflow_mul-key c =
 pub overflow_add-key : goal.overflow_add-key
 overflow_add-key c =
     let byte : c.from.result < 256 = omega (arith, c.from.ensures, c.byte_at.ensures.small) in
-    key_fits c.loop-place.place c.loop-place.key c.from.result c.loop-place-test.true c.loop-place.invariant.small byte
+    let fits = key_fits c.loop-place.place c.loop-place.key c.from.result c.loop-place-test.true c.loop-place.invariant.small byte in
+    omega (arith, fits)
 
 pub loop-place-preserved : goal.loop-place-preserved
 loop-place-preserved c =

@@ -19,7 +19,7 @@ loop-row-preserved g c =
     let f = c.args.form in
     let s = c.args.t.symbols.0 in
     let i = c.loop-row.row-index in
-    elf_goes_on c.loop-row.invariant (λ o. row_report f.options.now f.file.now o s c.loop-row.row.now)
+    elf_goes_on c.loop-row.invariant _
     (λ o. reports_of (row_report f.options.now f.file.now o s) (drop (i + 1) c.args.rows.now))
     (λ told. reports_left (row_report f.options.now f.file.now c.args.elf.now.o s) c.args.rows.now i _ c.loop-row-test.true (search rules))
     c.in_ok-was_refused.ensures refl
@@ -30,7 +30,7 @@ returns-in_err-was_refused g c =
     let s = c.args.t.symbols.0 in
     let i = c.loop-row.row-index in
     let p = err_from_is_err_and c.from_residual.result c.from_residual.ensures.1 in
-    rw (p.1, p.2) (elf_stops_at c.loop-row.invariant (λ o. row_report f.options.now f.file.now o s c.loop-row.row.now)
+    rw (p.1, p.2) (elf_stops_at c.loop-row.invariant _
     (λ o. reports_of (row_report f.options.now f.file.now o s) (drop (i + 1) c.args.rows.now))
     (λ told. reports_left (row_report f.options.now f.file.now c.args.elf.now.o s) c.args.rows.now i _ c.loop-row-test.true (search rules))
     c.in_err-was_refused.ensures)
