@@ -3,8 +3,8 @@ use Rattle.std.proofs.Common.{◌≡◌, ◌++◌, ◌+◌, ◌-◌, ◌<◌, �
 use Rattle.std.specs.Prelude.{nat_le, if◌then◌else◌}
 use Rattle.std.proofs.lemmas.Bool.{leb-true, leb-false}
 use Rattle.std.proofs.Math.Seq.{take-length, drop-length}
-use Rattle.std.proofs.Math.ListN.{take_of_length-le, drop_of_length-le}
-use Rattle.std.proofs.lemmas.List.{at_drop_more, at_drop_all}
+use Rattle.std.proofs.Math.ListN.{drop_of_length-le}
+use Rattle.std.proofs.lemmas.List.{at_drop_more, at_drop_all, take-append-drop}
 use Rattle.nm_tool.specs.declared.pools.Spot.{Spot}
 use Rattle.nm_tool.specs.declared.order.Row.{Row}
 use Rattle.nm_tool.specs.Order.{Entry}
@@ -18,8 +18,12 @@ by_least P l n f below above = by_test (nat_le l n) refl
     by_test true is = let le = leb-true l n is in let least : min l n ≡ l = omega (arith, le) in subst (λ (k : ℕ). P (f k)) (sym least) (below le)
     by_test false is = let lt = leb-false l n is in let least : min l n ≡ n = omega (arith, lt) in subst (λ (k : ℕ). P (f k)) (sym least) (above lt)
 
+take_whole : (l : ℕ) (xs : List ℕ) → length xs ≤ l → take l xs ≡ xs
+take_whole l xs le =
+    sym (append-nil (take l xs)) ∙ ap (λ (rest : List ℕ). take l xs ++ rest) (sym (drop_of_length-le xs le)) ∙ take-append-drop l xs
+
 pub take_least : (l : ℕ) (xs : List ℕ) → take (min l (length xs)) xs ≡ take l xs
-take_least l xs = by_least (λ ys. ys ≡ take l xs) l (length xs) (λ n. take n xs) (λ le. refl) (λ lt. take-length xs ∙ sym (take_of_length-le xs (omega (arith, lt))))
+take_least l xs = by_least (λ ys. ys ≡ take l xs) l (length xs) (λ n. take n xs) (λ le. refl) (λ lt. take-length xs ∙ sym (take_whole l xs (omega (arith, lt))))
 
 pub drop_least : (l : ℕ) (xs : List ℕ) → drop (min l (length xs)) xs ≡ drop l xs
 drop_least l xs = by_least (λ ys. ys ≡ drop l xs) l (length xs) (λ n. drop n xs) (λ le. refl) (λ lt. drop-length xs ∙ sym (drop_of_length-le xs (omega (arith, lt))))
