@@ -41,7 +41,7 @@ fn put_library(bytes: &mut Octets, long_name: &[u8], object: &[u8]) -> Result<()
 }
 
 /// That archive.
-fn library(alloc: Global, long_name: &[u8]) -> Result<Octets, ElfError> {
+pub fn library(alloc: Global, long_name: &[u8]) -> Result<Octets, ElfError> {
     let object = symbol_object(alloc, Class::C64, Order::Least)?;
     let mut bytes = Octets::new(alloc);
     match put_library(&mut bytes, long_name, object.bytes.as_slice()) {

@@ -10,4 +10,4 @@ pub returns-clause-does : goal.returns-clause-does
 unfolding readelf_outcome readelf_files
 returns-clause-does g c = λ told.
     let t = told (sym c.if-not-are_built.ensures) in
-    rw (← c.if-not-are_built.ensures) (rw (← c.len.ensures) (c.each_object.ensures.does t))
+    rw (← c.if-not-are_built.ensures) (rw (← c.len.ensures) (rw (← c.under.ensures) (c.each_object.ensures.does t)))
