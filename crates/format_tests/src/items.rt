@@ -79,7 +79,7 @@ fn are_refused(alloc: Global, good: Value, others: &[Value]) -> bool {
     stated
 }
 
-/// Whether bytes hold their items in their forms, and the other items are refused behind a good one.
+/// Whether bytes hold their items in their forms, and the others are refused behind a good one.
 fn are_translated(alloc: Global, rows: &[Row], good: Value, others: &[Value]) -> bool {
     are_held(alloc, rows) && are_refused(alloc, good, others)
 }
