@@ -1,0 +1,18 @@
+//! Tests of the commands over files and outputs in memory, one file a command. They stand in a
+//! crate of their own, since a crate with tests is proved twice.
+#![tactic(auto)]
+
+#[cfg(test)]
+mod archives;
+#[cfg(test)]
+mod faults;
+#[cfg(test)]
+mod lines;
+#[cfg(test)]
+mod parts;
+#[cfg(test)]
+mod readelf;
+#[cfg(test)]
+mod runs;
+#[cfg(test)]
+mod words;
