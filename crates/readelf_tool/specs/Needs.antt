@@ -17,10 +17,13 @@ unfoldable pub verneed_line : Option (List ℕ) → List ℕ
 verneed_line file = codes "  need " ++ bracketed file ++ codes "\n"
 
 -- `    version NAME ndx N flags 0xF hash 0xH`
+unfoldable pub vernaux_end : Vernaux → List ℕ
+vernaux_end x =
+    decimal_column (codes "ndx") x.other ++ hex_column (codes "flags") x.flags
+    ++ hex_column (codes "hash") x.hash ++ codes "\n"
+
 unfoldable pub vernaux_line : Vernaux → Option (List ℕ) → List ℕ
-vernaux_line x name =
-    codes "    version " ++ bracketed name ++ decimal_column (codes "ndx") x.other
-    ++ hex_column (codes "flags") x.flags ++ hex_column (codes "hash") x.hash ++ codes "\n"
+vernaux_line x name = codes "    version " ++ bracketed name ++ vernaux_end x
 
 -- the needs at a place, with their versions
 unfoldable pub verneed_report : Name → Object → ℕ → (ℕ × Verneed) → Report

@@ -1,4 +1,4 @@
-use Rattle.std.proofs.Common.{◌≡◌, ◌<◌, ℕ, Option, None, length, sym, ap, ◌∙◌, subst, refl}
+use Rattle.std.proofs.Common.{◌≡◌, ◌<◌, ℕ, Option, None, length, sym, ap, ◌∙◌, subst, refl, true}
 use Rattle.elf_types.specs.declared.records.Kind.TheVariants as kinds
 use Rattle.elf_types.specs.Text.{error_text}
 use Rattle.elf_object.specs.Object.{Object}
@@ -46,5 +46,5 @@ returns-in-Err g c =
     elf_refuses g.S.Source g.O.Sink g.E.Sink (λ o. bytes_report records.title name o s (records.report name o s)) (Option ℕ) c.in-Err.e (refused name (error_text c.in-Err.e)) _ c.args.elf.now _ c.args.outputs.now _
     (queried g.S.Source _ _ _ c.args.elf.now _ c.in-Err.ensures.queries) c.in-Err.ensures.queries.reads.source.read
     (λ told none. told_refused name (chain_lines records.title o s (records.report name o s)) (lend_refusal o kinds.Bytes s 0) c.in-Err.e
-    (first_refused o s c.in-Err.e (answers_stated _ _ c.in-Err.e (first_entry_answer o s 0) c.in-Err.ensures.answer none)))
+    (first_refused o s c.in-Err.e (answers_stated true _ c.in-Err.e (first_entry_answer o s 0) c.in-Err.ensures.answer none)))
     c.refuse_by.ensures.reports c.refuse_by.ensures.stops c.refuse_by.ensures.leaves

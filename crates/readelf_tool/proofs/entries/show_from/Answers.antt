@@ -28,16 +28,16 @@ returns-in_err-ended-in-Ok g c =
     rw (p.1, p.2) (entry_stopped name s (λ o. entry.report name o s) (λ o. entry.entries o s 0) c.entries.at (entry.behind c.in-Ok.entry) c.in-Ok.entry c.entries.invariant _ c.in-Ok.ensures.looked.elf c.in-Ok.ensures.chain
     c.in_err-ended-in-Ok.ensures)
 
-pub returns-then-ended-in-Ok : goal.returns-then-ended-in-Ok
-returns-then-ended-in-Ok g c =
+pub returns-then-ended : goal.returns-then-ended
+returns-then-ended g c =
     let s = c.args.s.0 in
     let name = c.args.name.now in
     let entry = g.R.Entry in
     entry_ends name s (λ o. entry.report name o s) (λ o. entry.entries o s 0) c.entries.at (entry.behind c.in-Ok.entry) c.in-Ok.entry c.entries.invariant _ c.in-Ok.ensures.looked.elf c.in-Ok.ensures.chain
     _ c.in_ok-ended-in-Ok.ensures (ap Ok c.if-ended.true)
 
-pub returns-in-None-in-Ok : goal.returns-in-None-in-Ok
-returns-in-None-in-Ok g c =
+pub returns-in-None : goal.returns-in-None
+returns-in-None g c =
     let s = c.args.s.0 in
     let name = c.args.name.now in
     let entry = g.R.Entry in
@@ -65,7 +65,7 @@ returns-in-Err g c =
     let name = c.args.name.now in
     let entry = g.R.Entry in
     elf_ends_with c.entries.invariant _ (λ o. entries_report name s (entry.report name o s) (entry.entries o s 0 c.entries.at)) (λ told. refl)
-    (elf_refuses g.S.Source g.O.Sink g.E.Sink (λ o. entries_report name s (entry.report name o s) (entry.entries o s 0 c.entries.at)) g.R.Denot c.in-Err.e (refused name (in_section s (error_text c.in-Err.e))) _ c.entries.elf _ c.entries.outputs _
+    (elf_refuses g.S.Source g.O.Sink g.E.Sink (λ o. entries_report name s (entry.report name o s) (entry.entries o s 0 c.entries.at)) g.row.R.Denot c.in-Err.e (refused name (in_section s (error_text c.in-Err.e))) _ c.entries.elf _ c.entries.outputs _
     c.in-Err.ensures.looked.elf c.in-Err.ensures.looked.read
     (λ told none. entries_broken name s (entry.report name c.entries.elf.o s) c.in-Err.e _ (led_broken c.in-Err.e _ _ (c.in-Err.ensures.chain told) none))
     c.refuse_records.ensures.reports c.refuse_records.ensures.stops c.refuse_records.ensures.leaves)

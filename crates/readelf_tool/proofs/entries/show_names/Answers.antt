@@ -70,7 +70,7 @@ returns-in-Err g c =
     let aux = g.A.Aux in
     elf_ends_with c.names.invariant _ (λ o. chain_report name s (λ y. shown (aux.line y (linked_string o s (aux.string y)))) (aux.names o s 0 c.names.place)) (λ told. refl)
     (elf_refuses g.S.Source g.O.Sink g.E.Sink (λ o. chain_report name s (λ y. shown (aux.line y (linked_string o s (aux.string y)))) (aux.names o s 0 c.names.place))
-    (Option g.A.Denot) c.in-Err.e (refused name (in_section s (error_text c.in-Err.e))) _ c.names.elf _ c.names.outputs _
+    (Option g.row.A.Denot) c.in-Err.e (refused name (in_section s (error_text c.in-Err.e))) _ c.names.elf _ c.names.outputs _
     c.in-Err.ensures.looked.elf c.in-Err.ensures.looked.read
     (λ told none. chain_broken name s (λ y. shown (aux.line y (linked_string c.names.elf.o s (aux.string y)))) c.in-Err.e _ (led_broken c.in-Err.e _ _ (c.in-Err.ensures.chain told) none))
     c.refuse_records.ensures.reports c.refuse_records.ensures.stops c.refuse_records.ensures.leaves)
