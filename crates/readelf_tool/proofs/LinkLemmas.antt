@@ -6,6 +6,7 @@ use Rattle.std.proofs.lemmas.List.{get_or_past}
 use Rattle.elf_types.specs.declared.errors.ElfError.{ElfError}
 use Rattle.elf_types.specs.declared.errors.ElfError.TheVariants.{NoSection}
 use Rattle.elf_types.specs.Answers.{refused_if}
+use Rattle.elf_ident.specs.Front.{zero_shdr}
 use Rattle.elf_object.specs.Object.{Object, Section, section_at, absent_section}
 use Rattle.elf_object.specs.Answers.{no_section}
 use Rattle.elf_object.specs.Calls.{shdr_answer}
@@ -23,7 +24,7 @@ string_is o names at offset is = ap (λ (n : ℕ). readable (string_answer o nam
 
 -- a section that is not there links to 0
 pub absent_link : (o : Object) (s : ℕ) (e : ElfError) → shdr_answer o s ≡ Err e → 0 ≡ (section_at o s).header.link
-unfolding shdr_answer section_at
+unfolding shdr_answer section_at zero_shdr
 absent_link o s e is = by_test (nat_le (length o.sections) s) refl (answered_refusal (no_section o s) (section_at o s).header e is)
   where
     by_test : (t : Bool) → nat_le (length o.sections) s ≡ t → refused_if t (NoSection s (length o.sections)) ≡ Some e → 0 ≡ (section_at o s).header.link

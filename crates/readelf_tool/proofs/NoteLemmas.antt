@@ -1,5 +1,5 @@
 -- The notes of a section, and the texts of their lines.
-use Rattle.std.proofs.Common.{◌≡◌, ◌++◌, ◌+◌, ◌<◌, ◌≤◌, ◌==◌, ℕ, Bool, true, false, not, List, [], ◌∷◌, length, take, drop, get_or, Option, Some, None, refl, sym, ap, ◌∙◌, arith, append_assoc}
+use Rattle.std.proofs.Common.{◌≡◌, ◌++◌, ◌+◌, ◌<◌, ◌≤◌, ◌==◌, ◌||◌, ℕ, Bool, true, false, not, List, [], ◌∷◌, length, take, drop, get_or, Option, Some, None, refl, sym, ap, ◌∙◌, arith, append_assoc}
 use Rattle.std.specs.Prelude.{take_while, flat_map, if◌then◌else◌}
 use Rattle.std.specs.List.{list_any}
 use Rattle.std.proofs.lemmas.Bool.{cond-true, cond-false}
@@ -23,11 +23,12 @@ use Rattle.readelf_tool.proofs.ChainLemmas.{chain_leading, chain_ended, chain_br
 -- a name without a NUL is all of the owner
 no_nul : (name : List ℕ) → has_nul name ≡ false → take_while (λ b. not (b == 0)) name ≡ name
 no_nul [] is = refl
-no_nul (b ∷ name) is = by_test (b == 0) is
+no_nul (b ∷ name) is = by_test (no_nul name) (b == 0) is
   where
-    by_test : (t : Bool) → (if t then true else has_nul name) ≡ false → (if not t then b ∷ take_while (λ b. not (b == 0)) name else []) ≡ b ∷ name
-    by_test true is = cc
-    by_test false is = ap (λ (l : List ℕ). b ∷ l) (no_nul name is)
+    by_test : (has_nul name ≡ false → take_while (λ b. not (b == 0)) name ≡ name) → (t : Bool) → (t || has_nul name) ≡ false
+        → (if not t then b ∷ take_while (λ b. not (b == 0)) name else []) ≡ b ∷ name
+    by_test rest true is = cc
+    by_test rest false is = ap (λ (l : List ℕ). b ∷ l) (rest is)
 
 module _ (name : List ℕ) where
   pub owner_found : (owner : List ℕ) → Some owner ≡ string_front name → owner ≡ owner_of name

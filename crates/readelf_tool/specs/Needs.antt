@@ -17,13 +17,14 @@ unfoldable pub verneed_line : Option (List ℕ) → List ℕ
 verneed_line file = codes "  need " ++ bracketed file ++ codes "\n"
 
 -- `    version NAME ndx N flags 0xF hash 0xH`
-unfoldable pub vernaux_end : Vernaux → List ℕ
-vernaux_end x =
+unfoldable pub vernaux_numbers : Vernaux → List ℕ
+vernaux_numbers x =
     decimal_column (codes "ndx") x.other ++ hex_column (codes "flags") x.flags
-    ++ hex_column (codes "hash") x.hash ++ codes "\n"
+    ++ hex_column (codes "hash") x.hash
 
 unfoldable pub vernaux_line : Vernaux → Option (List ℕ) → List ℕ
-vernaux_line x name = codes "    version " ++ bracketed name ++ vernaux_end x
+vernaux_line x name =
+    codes "    version " ++ bracketed name ++ vernaux_numbers x ++ codes "\n"
 
 -- the needs at a place, with their versions
 unfoldable pub verneed_report : Name → Object → ℕ → (ℕ × Verneed) → Report

@@ -30,10 +30,14 @@ unfoldable pub desc_text : List ℕ → List ℕ
 desc_text [] = []
 desc_text (b ∷ bytes) = codes " desc " ++ flat_map hex_byte (b ∷ bytes)
 
--- `  owner [OWNER] type T size N desc HEX`
+-- `  owner [OWNER]`
+unfoldable pub owner_text : List ℕ → List ℕ
+owner_text owner = codes "  owner [" ++ owner ++ codes "]"
+
+-- and then ` type T size N desc HEX`
 unfoldable pub note_line : NoteAt → List ℕ → List ℕ → List ℕ
 note_line note owner desc =
-    codes "  owner [" ++ owner ++ codes "]"
+    owner_text owner
     ++ decimal_column (codes "type") note.ntype
     ++ decimal_column (codes "size") note.descsz
     ++ desc_text desc ++ codes "\n"

@@ -7,7 +7,7 @@ ghost use Rattle.elf_object.specs.Strings as strings;
 ghost use Rattle.gelf_view.specs.Chains.{verneeds, vernauxs};
 ghost use Rattle.tool_output.specs.Reports.{shown};
 ghost use Rattle.object_output.specs.Steps.{ReportsElf};
-ghost use Rattle.readelf_tool.specs.Needs.{verneed_line, vernaux_end, vernaux_line, verneed_report, needs_title, needs_records, needs_of_section};
+ghost use Rattle.readelf_tool.specs.Needs.{verneed_line, vernaux_numbers, vernaux_line, verneed_report, needs_title, needs_records, needs_of_section};
 
 use crate::chains::{Records, show_records};
 use crate::entries::{Aux, Entry, show_entries, show_names};
@@ -56,16 +56,15 @@ fn show_file<S: Source, O: Sink, E: Sink>(
     }
 }
 
-/// Appends ` ndx N flags 0xF hash 0xH` and the newline.
-#[tactic(auto, using(crate::proofs::Rows::kept), unfolding(crate::specs::Needs::vernaux_end))]
-fn put_end(page: &mut Octets, x: &Vernaux) -> Result<(), ElfError>
-    ensures ok { OnOk result (page.new ≡ page.old ++ vernaux_end x.now) }
+/// Appends ` ndx N flags 0xF hash 0xH`.
+#[tactic(auto, using(crate::proofs::Rows::kept), unfolding(crate::specs::Needs::vernaux_numbers))]
+fn put_numbers(page: &mut Octets, x: Vernaux) -> Result<(), ElfError>
+    ensures ok { OnOk result (page.new ≡ page.old ++ vernaux_numbers x) }
     ensures err { IfErr result (WantsMemory page.old page.new) }
 {
     put_decimal_column(page, "ndx", u64::from(x.other))?;
     put_hex_column(page, "flags", u64::from(x.flags))?;
-    put_hex_column(page, "hash", u64::from(x.hash))?;
-    put_text(page, "\n")
+    put_hex_column(page, "hash", u64::from(x.hash))
 }
 
 impl Aux for Vernaux {
@@ -91,7 +90,8 @@ impl Aux for Vernaux {
     fn put_line(&self, page: &mut Octets, text: Option<&[u8]>) -> Result<(), ElfError> {
         put_text(page, "    version ")?;
         Bracketed { name: text }.put(page)?;
-        put_end(page, self)
+        put_numbers(page, *self)?;
+        put_text(page, "\n")
     }
 }
 

@@ -8,7 +8,7 @@ ghost use Rattle.tool_output.specs.Reports.{shown};
 ghost use Rattle.object_output.specs.Steps.{ReportsElf};
 ghost use Rattle.gelf_view.specs.Notes.{IsNoteWithin};
 ghost use Rattle.readelf_tool.specs.Chains.{section_bytes};
-ghost use Rattle.readelf_tool.specs.Notes.{part_of, owner_of, hex_byte, desc_text, note_line, note_text, notes_from, notes_title, notes_of_section, holds_notes, notes_report};
+ghost use Rattle.readelf_tool.specs.Notes.{part_of, owner_of, hex_byte, desc_text, owner_text, note_line, note_text, notes_from, notes_title, notes_of_section, holds_notes, notes_report};
 
 use crate::chains::{Records, refuse_records, show_records};
 use crate::data::{Part, each_plain};
@@ -34,6 +34,7 @@ fn put_hex_byte(page: &mut Octets, b: u8) -> Result<(), ElfError>
 }
 
 /// Appends bytes in hexadecimal digits.
+#[tactic(auto, using(crate::proofs::Rows::kept))]
 fn put_hex_bytes(page: &mut Octets, bytes: &[u8]) -> Result<(), ElfError>
     ensures ok { OnOk result (page.new ≡ page.old ++ flat_map hex_byte bytes.now) }
     ensures err { IfErr result (WantsMemory page.old page.new) }
@@ -57,6 +58,17 @@ fn put_desc(page: &mut Octets, desc: &[u8]) -> Result<(), ElfError>
     put_hex_bytes(page, desc)
 }
 
+/// Appends `  owner [OWNER]`.
+#[tactic(auto, using(crate::proofs::Rows::kept), unfolding(crate::specs::Notes::owner_text))]
+fn put_owner(page: &mut Octets, owner: &[u8]) -> Result<(), ElfError>
+    ensures ok { OnOk result (page.new ≡ page.old ++ owner_text owner.now) }
+    ensures err { IfErr result (WantsMemory page.old page.new) }
+{
+    put_text(page, "  owner [")?;
+    put_bytes(page, owner)?;
+    put_text(page, "]")
+}
+
 /// The line of a note.
 #[derive(Clone, Copy)]
 struct NoteLine<'a> {
@@ -73,9 +85,7 @@ impl Line for NoteLine<'_> {
 
     #[tactic(auto, using(crate::proofs::Rows::kept), unfolding(crate::specs::Notes::note_line))]
     fn put(&self, page: &mut Octets) -> Result<(), ElfError> {
-        put_text(page, "  owner [")?;
-        put_bytes(page, self.owner)?;
-        put_text(page, "]")?;
+        put_owner(page, self.owner)?;
         put_decimal_column(page, "type", u64::from(self.note.ntype))?;
         put_decimal_column(page, "size", self.note.descsz)?;
         put_desc(page, self.desc)?;

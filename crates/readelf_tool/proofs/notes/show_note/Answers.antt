@@ -1,4 +1,5 @@
 use Rattle.std.proofs.Common.{Bool, ◌∙◌, arith}
+use Rattle.elf_descriptor.specs.Reads.{wanted}
 use Rattle.gelf_view.specs.Calls as calls
 use Rattle.tool_output.specs.Reports.{shown}
 use Rattle.object_output.proofs.ElfSteps.{elf_says, elf_unread}
@@ -27,7 +28,7 @@ returns-in-Ok g c =
     let o = c.args.elf.now.o in
     elf_says g.S.Source g.O.Sink g.E.Sink (λ o. shown (note_text (section_bytes o s) c.args.note)) _ c.args.elf.now _ c.args.outputs.now _
     (queried g.S.Source _ _ c.bytes.result c.args.elf.now _ c.bytes.follows.holds-at-none)
-    (λ told. rw (note_text_is (section_bytes o s) c.in-Ok.bytes.now c.args.note _ _ _ (bytes_are o s c.args.elf.now.told _ c.in-Ok.bytes.now c.requires.passed c.in-Ok.ensures.answer told)
+    (λ told. rw (note_text_is (section_bytes o s) c.in-Ok.bytes.now c.args.note _ _ _ (bytes_are o s c.args.elf.now.told (wanted (calls.bytes s 0) c.args.elf.now) c.in-Ok.bytes.now c.requires.passed c.in-Ok.ensures.answer told)
     c.part_in.ensures c.owner_in-owner.ensures c.part_in-desc.ensures) c.show.ensures.reports)
     c.show.ensures.leaves
 

@@ -1,4 +1,4 @@
-use Rattle.std.proofs.Common.{◌+◌, drop, refl, ◌∙◌}
+use Rattle.std.proofs.Common.{◌+◌, drop, refl, rules, ◌∙◌}
 use Rattle.std.proofs.lemmas.Result.{err_from_is_err_and}
 use Rattle.tool_output.specs.Reports.{reports_of}
 use Rattle.tool_output.proofs.UnderWayLemmas.{reports_left, no_reports_left}
@@ -19,12 +19,11 @@ pub loop-letter-preserved : goal.loop-letter-preserved
 loop-letter-preserved g c =
     let parts = c.args.parts.now in
     let name = c.args.name.now in
-    let i = c.loop-letter.letter-index in
-    let letter = c.letter-item.result in record {
-      report = elf_goes_on c.loop-letter.invariant.report (letter_part parts name letter) (λ o. reports_of (λ l. letter_part parts name l o) (drop (i + 1) LETTERS))
-          (λ told. reports_left (λ l. letter_part parts name l c.args.elf.now.o) LETTERS i letter c.loop-letter-test.true c.letter-item.is)
+    let i = c.loop-letter.letter-index in record {
+      report = elf_goes_on c.loop-letter.invariant.report _ (λ o. reports_of (λ l. letter_part parts name l o) (drop (i + 1) LETTERS))
+          (λ told. reports_left (λ l. letter_part parts name l c.args.elf.now.o) LETTERS i _ c.loop-letter-test.true (search rules))
           c.in_ok-was_refused.ensures.reports refl;
-      unread = λ off. c.in_ok-was_refused.ensures.unread (part_unread parts letter i c.loop-letter-test.true c.letter-item.is off) ∙ c.loop-letter.invariant.unread off;
+      unread = λ off. c.in_ok-was_refused.ensures.unread (part_unread parts _ i c.loop-letter-test.true (search rules) off) ∙ c.loop-letter.invariant.unread off;
     }
 
 pub returns-in_err-was_refused-clause-reports : goal.returns-in_err-was_refused-clause-reports
@@ -32,15 +31,14 @@ returns-in_err-was_refused-clause-reports g c =
     let parts = c.args.parts.now in
     let name = c.args.name.now in
     let i = c.loop-letter.letter-index in
-    let letter = c.letter-item.result in
     let p = err_from_is_err_and c.from_residual.result c.from_residual.ensures.1 in
-    rw (p.1, p.2) (elf_stops_at c.loop-letter.invariant.report (letter_part parts name letter) (λ o. reports_of (λ l. letter_part parts name l o) (drop (i + 1) LETTERS))
-    (λ told. reports_left (λ l. letter_part parts name l c.args.elf.now.o) LETTERS i letter c.loop-letter-test.true c.letter-item.is)
+    rw (p.1, p.2) (elf_stops_at c.loop-letter.invariant.report _ (λ o. reports_of (λ l. letter_part parts name l o) (drop (i + 1) LETTERS))
+    (λ told. reports_left (λ l. letter_part parts name l c.args.elf.now.o) LETTERS i _ c.loop-letter-test.true (search rules))
     c.in_err-was_refused.ensures.reports)
 
 pub returns-in_err-was_refused-clause-unread : goal.returns-in_err-was_refused-clause-unread
 returns-in_err-was_refused-clause-unread g c = λ off.
-    c.in_err-was_refused.ensures.unread (part_unread c.args.parts.now c.letter-item.result c.loop-letter.letter-index c.loop-letter-test.true c.letter-item.is off) ∙ c.loop-letter.invariant.unread off
+    c.in_err-was_refused.ensures.unread (part_unread c.args.parts.now _ c.loop-letter.letter-index c.loop-letter-test.true (search rules) off) ∙ c.loop-letter.invariant.unread off
 
 pub returns-clause-reports : goal.returns-clause-reports
 returns-clause-reports g c =
