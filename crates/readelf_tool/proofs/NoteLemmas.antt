@@ -2,7 +2,7 @@
 use Rattle.std.proofs.Common.{◌≡◌, ◌++◌, ◌+◌, ◌<◌, ◌≤◌, ◌==◌, ◌||◌, ℕ, Bool, true, false, not, List, [], ◌∷◌, length, take, drop, get_or, Option, Some, None, refl, sym, ap, ◌∙◌, arith, append_assoc}
 use Rattle.std.specs.Prelude.{take_while, flat_map, if◌then◌else◌}
 use Rattle.std.specs.List.{list_any}
-use Rattle.std.proofs.lemmas.Bool.{cond-true, cond-false}
+use Rattle.std.proofs.lemmas.List.Sums.{take_while-cons}
 use Rattle.elf_object.specs.Object.{Object}
 use Rattle.elf_object.specs.Strings.{has_nul}
 use Rattle.gelf_view.specs.Records.{string_front}
@@ -23,7 +23,7 @@ use Rattle.readelf_tool.proofs.ChainLemmas.{chain_leading, chain_ended, chain_br
 -- a name without a NUL is all of the owner
 no_nul : (name : List ℕ) → has_nul name ≡ false → take_while (λ b. not (b == 0)) name ≡ name
 no_nul [] is = refl
-no_nul (b ∷ name) is = by_test (no_nul name) (b == 0) is
+no_nul (b ∷ name) is = take_while-cons (λ b. not (b == 0)) b name ∙ by_test (no_nul name) (b == 0) is
   where
     by_test : (has_nul name ≡ false → take_while (λ b. not (b == 0)) name ≡ name) → (t : Bool) → (t || has_nul name) ≡ false
         → (if not t then b ∷ take_while (λ b. not (b == 0)) name else []) ≡ b ∷ name

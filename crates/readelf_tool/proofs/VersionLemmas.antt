@@ -32,8 +32,8 @@ module _ (name : Name) (o : Object) (s : ℕ) where
 
 -- four texts, one after another
 pub put_four : {T E : Type 0} (r : Result T E) (p a b d z x y w v : List ℕ) → a ≡ p ++ x → b ≡ a ++ y → d ≡ b ++ w → OnOk r (z ≡ d ++ v)
-    → OnOk r (z ≡ p ++ x ++ y ++ w ++ v)
+    → OnOk r (z ≡ p ++ (((x ++ y) ++ w) ++ v))
 put_four (Ok t) p a b d z x y w v e1 e2 e3 e4 =
-    e4 ∙ ap (λ (l : List ℕ). l ++ v) (e3 ∙ ap (λ (l : List ℕ). l ++ w) (e2 ∙ ap (λ (l : List ℕ). l ++ y) e1))
-    ∙ append_assoc ((p ++ x) ++ y) w v ∙ append_assoc (p ++ x) y (w ++ v) ∙ append_assoc p x (y ++ w ++ v)
+    e4 ∙ ap (λ (l : List ℕ). l ++ v) (e3 ∙ ap (λ (l : List ℕ). l ++ w) (e2 ∙ ap (λ (l : List ℕ). l ++ y) e1 ∙ append_assoc p x y) ∙ append_assoc p (x ++ y) w)
+    ∙ append_assoc p ((x ++ y) ++ w) v
 put_four (Err e) p a b d z x y w v e1 e2 e3 e4 = tt
