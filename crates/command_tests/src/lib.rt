@@ -9,6 +9,8 @@ mod faults;
 #[cfg(test)]
 mod lines;
 #[cfg(test)]
+mod nm;
+#[cfg(test)]
 mod parts;
 #[cfg(test)]
 mod readelf;

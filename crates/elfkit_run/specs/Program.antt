@@ -13,10 +13,11 @@ use Rattle.tool_text.specs.Reading.{reading}
 use Rattle.elfkit_run.specs.Sentences.{says, not_built}
 use Rattle.elfkit_run.specs.Readelf.{readelf_outcome}
 use Rattle.elfkit_run.specs.Lines.{lines_outcome}
+use Rattle.elfkit_run.specs.Nm.{nm_outcome}
 
 unfoldable pub command_outcome : Command → Map → Outcome
 command_outcome (Readelf parts files) named = readelf_outcome parts files named
-command_outcome (Nm options files) named = not_built
+command_outcome (Nm options files) named = nm_outcome options files named
 command_outcome (Size files) named = not_built
 command_outcome (Strings options files) named = not_built
 command_outcome (Strip options file) named = not_built
@@ -45,7 +46,7 @@ program words named = outcome_by (reading words) named
 -- a command of a form that is built
 unfoldable pub is_built : Command → Bool
 is_built (Readelf parts files) = true
-is_built (Nm options files) = false
+is_built (Nm options files) = true
 is_built (Size files) = false
 is_built (Strings options files) = false
 is_built (Strip options file) = false

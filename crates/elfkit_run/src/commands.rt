@@ -10,11 +10,13 @@ ghost use Rattle.elfkit_run.specs.Sentences.{line_of, not_built};
 ghost use Rattle.elfkit_run.specs.Program.{command_outcome, is_built};
 
 pub mod lines;
+pub mod nm;
 pub mod readelf;
 
 use crate::sentences::say;
 use elf_outside::{Files, Sink};
 use lines::lines;
+use nm::nm;
 use readelf::readelf;
 use std::alloc::Global;
 use tool_output::{Outputs, Side, Stop};
@@ -64,7 +66,10 @@ pub fn run_command<F: Files, O: Sink, E: Sink>(
             parts,
             files: names,
         } => readelf(alloc, parts, names, files, outputs),
-        Command::Nm { .. } => not_built(files, outputs),
+        Command::Nm {
+            options,
+            files: names,
+        } => nm(alloc, options, names, files, outputs),
         Command::Size { .. } => not_built(files, outputs),
         Command::Strings { .. } => not_built(files, outputs),
         Command::Strip { .. } => not_built(files, outputs),

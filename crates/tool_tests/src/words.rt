@@ -10,6 +10,8 @@ mod writing;
 
 use elf_types::ElfError;
 use std::alloc::Global;
+use std::process::Abort;
+use std::test::Fail;
 use tool_text::{Args, Command, Text, WordsFault, read_words};
 
 /// A line, and a text that tells what it is to be read as.
@@ -60,6 +62,12 @@ fn first_wrong<C: Comparison>(
         }
     }
     Ok(None)
+}
+
+/// Asserts that each row is read as it tells.
+fn all_hold<C: Comparison>(rt: &impl Abort, alloc: Global, rows: &[Row]) -> Result<(), Fail> {
+    assert_eq!(rt; first_wrong::<C>(alloc, rows)?, None);
+    Ok(())
 }
 
 /// Whether a text is this one.

@@ -7,7 +7,7 @@ ghost use Rattle.tool_output.specs.Outcomes.{Does};
 ghost use Rattle.elfkit_run.specs.Readelf.{readelf_outcome};
 
 use crate::objects::each_object;
-use crate::titles::Titled;
+use crate::titles::{Title, Titled};
 use elf_outside::{Files, Sink};
 use readelf_tool::ReadelfTool;
 use std::alloc::Global;
@@ -33,11 +33,11 @@ pub fn readelf<F: Files, O: Sink, E: Sink>(
     let tool = &ReadelfTool { parts };
     let of_file = Titled {
         tool,
-        has_title: names.len() > 1,
+        title: Title::File.under(names.len() > 1),
     };
     let of_member = Titled {
         tool,
-        has_title: true,
+        title: Title::File,
     };
     each_object(alloc, &of_file, &of_member, names, files, outputs)
 }

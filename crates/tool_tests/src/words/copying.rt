@@ -1,6 +1,6 @@
 //! The changes of copy. What is wanted of a list stands behind its letter, each item behind a bar.
 
-use super::{Comparison, Reading, Row, are, first_wrong, is};
+use super::{Comparison, Reading, Row, all_hold, are, is};
 use elf_types::List;
 use std::test::Fail;
 use tool_text::{Command, CopyChanges, NamedBits, NamedFile, Renaming, Text};
@@ -152,7 +152,6 @@ impl Comparison for Items {
 
 #[test]
 fn copy_has_a_list_for_each_letter(rt: HostRuntime) -> Result<(), Fail> {
-    assert_eq!(rt; first_wrong::<Letters>(rt.alloc(), &LETTERS)?, None);
-    assert_eq!(rt; first_wrong::<Items>(rt.alloc(), &ITEMS)?, None);
-    Ok(())
+    all_hold::<Letters>(&rt, rt.alloc(), &LETTERS)?;
+    all_hold::<Items>(&rt, rt.alloc(), &ITEMS)
 }

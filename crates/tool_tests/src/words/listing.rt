@@ -1,6 +1,6 @@
 //! The commands that list what files hold.
 
-use super::{Comparison, Reading, Row, are, first_wrong};
+use super::{Comparison, Reading, Row, all_hold, are};
 use std::test::Fail;
 use tool_text::{Args, Command, NmOptions, Radix, ReadelfParts, StringsOptions};
 
@@ -186,24 +186,20 @@ impl Comparison for Operands {
 
 #[test]
 fn readelf_takes_letters(rt: HostRuntime) -> Result<(), Fail> {
-    assert_eq!(rt; first_wrong::<Readelf>(rt.alloc(), &READELF)?, None);
-    Ok(())
+    all_hold::<Readelf>(&rt, rt.alloc(), &READELF)
 }
 
 #[test]
 fn nm_takes_letters_and_the_last_radix(rt: HostRuntime) -> Result<(), Fail> {
-    assert_eq!(rt; first_wrong::<Nm>(rt.alloc(), &NM)?, None);
-    Ok(())
+    all_hold::<Nm>(&rt, rt.alloc(), &NM)
 }
 
 #[test]
 fn strings_takes_letters_the_last_radix_and_the_last_length(rt: HostRuntime) -> Result<(), Fail> {
-    assert_eq!(rt; first_wrong::<Strings>(rt.alloc(), &STRINGS)?, None);
-    Ok(())
+    all_hold::<Strings>(&rt, rt.alloc(), &STRINGS)
 }
 
 #[test]
 fn files_are_the_words_behind_the_options(rt: HostRuntime) -> Result<(), Fail> {
-    assert_eq!(rt; first_wrong::<Operands>(rt.alloc(), &OPERANDS)?, None);
-    Ok(())
+    all_hold::<Operands>(&rt, rt.alloc(), &OPERANDS)
 }

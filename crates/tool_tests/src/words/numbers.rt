@@ -32,16 +32,26 @@ const OF_SCRIPTS: [(&str, Option<u64>); 13] = [
     ("", None),
 ];
 
+/// Whether a word is this number of the command line.
+fn is_word_number(word: &str, wanted: Option<u64>) -> bool {
+    word_number(word) == wanted
+}
+
+/// Whether it is this number of a script.
+fn is_script_number(word: &str, wanted: Option<u64>) -> bool {
+    script_number(word) == wanted
+}
+
 #[test]
 fn numbers_of_words_have_at_most_nine_digits(rt: HostRuntime) {
     for (word, wanted) in OF_WORDS.iter() {
-        assert_eq!(rt; word_number(word), *wanted);
+        assert!(rt; is_word_number(word, *wanted));
     }
 }
 
 #[test]
 fn numbers_of_scripts_are_decimal_or_hexadecimal(rt: HostRuntime) {
     for (word, wanted) in OF_SCRIPTS.iter() {
-        assert_eq!(rt; script_number(word), *wanted);
+        assert!(rt; is_script_number(word, *wanted));
     }
 }

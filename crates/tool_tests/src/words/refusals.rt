@@ -3,6 +3,7 @@
 use super::{Comparison, Reading, are_read_as, is_read_as};
 use elf_types::ElfError;
 use std::alloc::Global;
+use std::process::Abort;
 use std::test::Fail;
 use tool_text::{Args, Usage, WordsFault};
 
@@ -216,20 +217,24 @@ fn first_wrong(alloc: Global, lines: &[&'static str]) -> Result<Option<&'static 
     Ok(None)
 }
 
-#[test]
-fn words_that_name_no_command_are_refused(rt: HostRuntime) -> Result<(), Fail> {
-    let none = Args::new(rt.alloc());
-    assert!(rt; are_read_as::<Refused>(rt.alloc(), &none, ""));
-    assert_eq!(rt; first_wrong(rt.alloc(), &NO_COMMAND)?, None);
+/// Asserts that each line is refused so.
+fn are_refused(rt: &impl Abort, alloc: Global, lines: &[&'static str]) -> Result<(), Fail> {
+    assert_eq!(rt; first_wrong(alloc, lines)?, None);
     Ok(())
 }
 
 #[test]
+fn words_that_name_no_command_are_refused(rt: HostRuntime) -> Result<(), Fail> {
+    let none = Args::new(rt.alloc());
+    assert!(rt; are_read_as::<Refused>(rt.alloc(), &none, ""));
+    are_refused(&rt, rt.alloc(), &NO_COMMAND)
+}
+
+#[test]
 fn commands_are_refused_with_their_usage_line(rt: HostRuntime) -> Result<(), Fail> {
-    assert_eq!(rt; first_wrong(rt.alloc(), &LISTING)?, None);
-    assert_eq!(rt; first_wrong(rt.alloc(), &WRITING)?, None);
-    assert_eq!(rt; first_wrong(rt.alloc(), &COPY)?, None);
-    Ok(())
+    are_refused(&rt, rt.alloc(), &LISTING)?;
+    are_refused(&rt, rt.alloc(), &WRITING)?;
+    are_refused(&rt, rt.alloc(), &COPY)
 }
 
 /// The commands by their names, and their usage lines.
@@ -267,9 +272,14 @@ const USAGE_LINES: [(&str, &str); 13] = [
     ),
 ];
 
+/// Whether this is the usage line of a command.
+fn is_usage_line(name: &str, line: &str) -> bool {
+    usage_named(name).line() == line
+}
+
 #[test]
 fn usage_lines_are_the_stated_ones(rt: HostRuntime) {
     for (name, line) in USAGE_LINES.iter() {
-        assert_eq!(rt; usage_named(name).line(), *line);
+        assert!(rt; is_usage_line(name, line));
     }
 }

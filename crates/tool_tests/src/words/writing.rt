@@ -1,6 +1,6 @@
 //! The commands that write a file, but for the changes of copy.
 
-use super::{Comparison, Reading, Row, are, are_two, first_wrong, is};
+use super::{Comparison, Reading, Row, all_hold, are, are_two, is};
 use std::test::Fail;
 use tool_text::{CallsOutput, Command, StripOptions, Text};
 
@@ -185,21 +185,18 @@ impl Comparison for Unstrip {
 
 #[test]
 fn strip_takes_names_and_the_last_files(rt: HostRuntime) -> Result<(), Fail> {
-    assert_eq!(rt; first_wrong::<Strip>(rt.alloc(), &STRIP)?, None);
-    assert_eq!(rt; first_wrong::<StripNames>(rt.alloc(), &STRIP_NAMES)?, None);
-    Ok(())
+    all_hold::<Strip>(&rt, rt.alloc(), &STRIP)?;
+    all_hold::<StripNames>(&rt, rt.alloc(), &STRIP_NAMES)
 }
 
 #[test]
 fn calls_takes_two_files_and_the_last_output_or_none(rt: HostRuntime) -> Result<(), Fail> {
-    assert_eq!(rt; first_wrong::<Output>(rt.alloc(), &OUTPUTS)?, None);
-    assert_eq!(rt; first_wrong::<TwoFiles>(rt.alloc(), &TWO_FILES)?, None);
-    Ok(())
+    all_hold::<Output>(&rt, rt.alloc(), &OUTPUTS)?;
+    all_hold::<TwoFiles>(&rt, rt.alloc(), &TWO_FILES)
 }
 
 #[test]
 fn selftest_and_unstrip_take_the_last_output(rt: HostRuntime) -> Result<(), Fail> {
-    assert_eq!(rt; first_wrong::<Count>(rt.alloc(), &COUNTS)?, None);
-    assert_eq!(rt; first_wrong::<Unstrip>(rt.alloc(), &UNSTRIP)?, None);
-    Ok(())
+    all_hold::<Count>(&rt, rt.alloc(), &COUNTS)?;
+    all_hold::<Unstrip>(&rt, rt.alloc(), &UNSTRIP)
 }

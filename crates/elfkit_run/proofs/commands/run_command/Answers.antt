@@ -10,6 +10,14 @@ pub returns-in-Readelf-clause-untouched : goal.returns-in-Readelf-clause-untouch
 unfolding is_built
 returns-in-Readelf-clause-untouched g c = rw c.in-Readelf.is (λ no. cc)
 
+pub returns-in-Nm-clause-does : goal.returns-in-Nm-clause-does
+unfolding command_outcome is_built
+returns-in-Nm-clause-does g c = rw c.in-Nm.is (λ told. c.nm.ensures.does (told refl))
+
+pub returns-in-Nm-clause-untouched : goal.returns-in-Nm-clause-untouched
+unfolding is_built
+returns-in-Nm-clause-untouched g c = rw c.in-Nm.is (λ no. cc)
+
 pub returns-in-Lines-clause-does : goal.returns-in-Lines-clause-does
 unfolding command_outcome is_built
 returns-in-Lines-clause-does g c = rw c.in-Lines.is (λ told. c.lines.ensures.does (told refl))

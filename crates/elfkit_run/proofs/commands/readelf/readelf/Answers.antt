@@ -3,4 +3,4 @@ use Rattle.elfkit_run.proofs.commands.readelf.readelf.Goals as goal
 
 pub returns-clause-does : goal.returns-clause-does
 unfolding readelf_outcome
-returns-clause-does g c = λ told. rw (← c.len.ensures) (c.each_object.ensures.does told)
+returns-clause-does g c = λ told. rw (← c.len.ensures) (rw (← c.under.ensures) (c.each_object.ensures.does told))
