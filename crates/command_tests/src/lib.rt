@@ -15,6 +15,8 @@ mod parts;
 #[cfg(test)]
 mod readelf;
 #[cfg(test)]
+mod records;
+#[cfg(test)]
 mod runs;
 #[cfg(test)]
 mod words;

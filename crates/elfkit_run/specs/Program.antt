@@ -11,7 +11,7 @@ use Rattle.tool_text.specs.declared.commands.Command.TheVariants.{Readelf, Nm, S
 use Rattle.tool_text.specs.Usages.{usage_line}
 use Rattle.tool_text.specs.Reading.{reading}
 use Rattle.elfkit_run.specs.Sentences.{says, not_built}
-use Rattle.elfkit_run.specs.Readelf.{are_built, readelf_outcome}
+use Rattle.elfkit_run.specs.Readelf.{readelf_outcome}
 use Rattle.elfkit_run.specs.Lines.{lines_outcome}
 use Rattle.elfkit_run.specs.Nm.{nm_outcome}
 use Rattle.elfkit_run.specs.Size.{size_outcome}
@@ -46,7 +46,7 @@ program words named = outcome_by (reading words) named
 
 -- a command of a form that is built
 unfoldable pub is_built : Command → Bool
-is_built (Readelf parts files) = are_built parts
+is_built (Readelf parts files) = true
 is_built (Nm options files) = true
 is_built (Size files) = true
 is_built (Strings options files) = false

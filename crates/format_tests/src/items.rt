@@ -46,22 +46,19 @@ fn is_written(alloc: Global, items: &Items, form: Form, bytes: &[u8]) -> Result<
 /// A form, bytes, and the item that they hold in it.
 type Row = (Form, &'static [u8], Value);
 
-/// Whether bytes hold an item in a form, alone and in a list, and are written for it again.
+/// Whether bytes hold an item in a form, in a list, and are written for it again.
 fn is_held(alloc: Global, form: Form, bytes: &[u8], value: Value) -> bool {
     match to_memory(alloc, kind(value), form.0, form.1, bytes) {
-        Ok(items) => {
-            let read = is_first(&items, value) && is_single(form, bytes, value);
-            read && is_written(alloc, &items, form, bytes) == Ok(true)
-        }
+        Ok(items) => is_first(&items, value) && is_written(alloc, &items, form, bytes) == Ok(true),
         Err(_) => false,
     }
 }
 
-/// Whether it is so of each row.
+/// Whether it is so of each row, and the bytes hold the item alone.
 fn are_held(alloc: Global, rows: &[Row]) -> bool {
     let mut stated = true;
     for (form, bytes, value) in rows {
-        stated &= is_held(alloc, *form, bytes, *value);
+        stated &= is_single(*form, bytes, *value) && is_held(alloc, *form, bytes, *value);
     }
     stated
 }
@@ -82,7 +79,7 @@ fn are_refused(alloc: Global, good: Value, others: &[Value]) -> bool {
     stated
 }
 
-/// Whether bytes hold their items in their forms, and the other items are refused behind a good one.
+/// Whether bytes hold their items in their forms, and the others are refused behind a good one.
 fn are_translated(alloc: Global, rows: &[Row], good: Value, others: &[Value]) -> bool {
     are_held(alloc, rows) && are_refused(alloc, good, others)
 }

@@ -3,7 +3,7 @@
 ghost use Rattle.std.specs.Prelude.{◌≡◌, IsTrue, length};
 ghost use Rattle.elf_xlate.specs.Items.{item_size};
 
-use elf_types::{Class, Dyn, ElfError, Kind, List, Order, Rel, Rela, Sym};
+use elf_types::{Class, Dyn, Kind, List, Order, Rel, Rela, Sym};
 use elf_xlate::{
     Items, get_addr, get_dyn, get_half, get_rel, get_rela, get_sym, get_word, item_size,
 };
@@ -79,19 +79,12 @@ pub fn is_single(form: Form, bytes: &[u8], value: Value) -> bool {
     }
 }
 
-/// Appends two items.
-fn put_both<T: Copy + Drop>(list: &mut List<T>, first: T, second: T) -> Result<(), ElfError> {
-    list.push(first)?;
-    list.push(second)
-}
-
 /// A list of two items, or of fewer where there is no memory.
 fn pair<T: Copy + Drop>(alloc: Global, first: T, second: T) -> List<T> {
     let mut list = List::new(alloc);
-    match put_both(&mut list, first, second) {
-        Ok(()) => list,
-        Err(_) => List::new(alloc),
-    }
+    let _first_done = list.push(first).is_ok();
+    let _second_done = list.push(second).is_ok();
+    list
 }
 
 /// Two items of one kind, and none where their kinds differ, are those of numbers that fit each
