@@ -1,14 +1,11 @@
 //! What readelf shows of the members of an archive.
 
 use crate::runs::{Bytes, Ending, REFUSED, ends, shows};
-use elf_outside::{MemSink, MemSource, Sink, Source};
-use elf_types::{Addrs, Class, ElfError, Octets, Order};
-use object_output::show_file;
-use readelf_tool::ReadelfTool;
+use elf_types::{Class, ElfError, Octets, Order};
 use std::alloc::Global;
 use std::test::Fail;
 use test_images::symbol_object;
-use tool_output::Outputs;
+use test_runs::asked;
 use tool_text::ReadelfParts;
 
 /// Appends a text, and spaces up to a width.
@@ -44,7 +41,7 @@ fn put_library(bytes: &mut Octets, long_name: &[u8], object: &[u8]) -> Result<()
 }
 
 /// That archive.
-fn library(alloc: Global, long_name: &[u8]) -> Result<Octets, ElfError> {
+pub fn library(alloc: Global, long_name: &[u8]) -> Result<Octets, ElfError> {
     let object = symbol_object(alloc, Class::C64, Order::Least)?;
     let mut bytes = Octets::new(alloc);
     match put_library(&mut bytes, long_name, object.bytes.as_slice()) {
@@ -183,7 +180,9 @@ const TWINS: Ending = Ending {
 };
 
 #[test]
-fn an_archive_in_an_archive_is_no_image(rt: HostRuntime) -> Result<(), Fail> {
+fn an_inner_archive_is_no_image_and_an_empty_one_shows_nothing(
+    rt: HostRuntime,
+) -> Result<(), Fail> {
     let bytes = twins(rt.alloc())?;
     assert!(rt; ends(rt.alloc(), "readelf -l F", bytes, &TWINS)?);
     let empty = Bytes(b"!<arch>\n");
@@ -203,33 +202,10 @@ const HEADER: ReadelfParts = ReadelfParts {
     versions: false,
 };
 
-/// Shows the headers of a source's members, and gives it back.
-fn show_headers<S: Source, O: Sink, E: Sink>(
-    alloc: Global,
-    source: S,
-    out: &mut O,
-    err: &mut E,
-) -> S {
-    let tool = ReadelfTool { parts: &HEADER };
-    let mut page = Octets::new(alloc);
-    let mut outputs = Outputs::new(out, err, &mut page);
-    let (source, shown) = show_file(alloc, &tool, &tool, source, b"F", &mut outputs);
-    let _refused = outputs.end(shown);
-    source
-}
-
-/// How many bytes of an archive are asked for when its members' headers are shown.
-fn asked(alloc: Global, archive: Octets, out: &mut MemSink, err: &mut MemSink) -> u64 {
-    let source = MemSource::new(archive, Addrs::new(alloc));
-    show_headers(alloc, source, out, err).asked()
-}
-
-/// The same of the archive above.
+/// How many bytes of the archive above are asked for when its members' headers are shown.
 fn asked_of_library(alloc: Global) -> Result<u64, ElfError> {
-    let mut out = MemSink::new(alloc, 1 << 12, Addrs::new(alloc))?;
-    let mut err = MemSink::new(alloc, 1 << 12, Addrs::new(alloc))?;
     match library(alloc, b"/0") {
-        Ok(archive) => Ok(asked(alloc, archive, &mut out, &mut err)),
+        Ok(archive) => asked(alloc, archive.as_slice(), &HEADER),
         Err(e) => Err(e),
     }
 }

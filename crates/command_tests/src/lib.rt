@@ -9,13 +9,15 @@ mod faults;
 #[cfg(test)]
 mod lines;
 #[cfg(test)]
+mod nm;
+#[cfg(test)]
 mod parts;
 #[cfg(test)]
 mod readelf;
 #[cfg(test)]
-mod runs;
+mod records;
 #[cfg(test)]
-mod size;
+mod runs;
 #[cfg(test)]
 mod strings;
 #[cfg(test)]

@@ -151,7 +151,7 @@ fn ends_over(alloc: Global, table: &Table) -> Result<bool, ElfError> {
 }
 
 #[test]
-fn units_are_shown_up_to_one_that_is_cut(rt: HostRuntime) -> Result<(), Fail> {
+fn units_of_both_forms_are_shown_up_to_one_that_is_cut(rt: HostRuntime) -> Result<(), Fail> {
     for table in TABLES.iter() {
         assert!(rt; ends_over(rt.alloc(), table)?);
     }

@@ -1,18 +1,12 @@
 //! The parts of readelf that its own call shows of a descriptor over a small object.
 
-use elf_descriptor::Elf;
-use elf_outside::{MemSink, MemSource, Sink, Source};
-use elf_types::{Addrs, Class, Dyn, Dyns, ElfError, Octets, Order};
+use elf_types::{Class, Dyn, Dyns, ElfError, Order};
 use elf_xlate::Items;
-use readelf_tool::readelf;
 use std::alloc::Global;
 use std::test::Fail;
 use test_images::{Field, HeaderField, Image, SectionField, symbol_object};
-use tool_output::Stop;
+use test_runs::readelf_of;
 use tool_text::ReadelfParts;
-
-/// The room of each output, more than a test writes.
-const ROOM: u64 = 1 << 16;
 
 /// No part.
 const NONE: ReadelfParts = ReadelfParts {
@@ -43,80 +37,6 @@ const DYNAMIC: ReadelfParts = ReadelfParts {
     dynamic: true,
     ..NONE
 };
-
-/// What was said of an image, and whether something was refused.
-#[derive(Drop)]
-struct Said {
-    refused: Result<bool, Stop>,
-    out: Octets,
-    err: Octets,
-}
-
-impl Said {
-    /// Whether it is said so.
-    fn is(&self, refused: bool, out: &[u8], err: &[u8]) -> bool {
-        self.refused == Ok(refused) && self.out.as_slice() == out && self.err.as_slice() == err
-    }
-}
-
-/// What readelf answers of a descriptor under the name F.
-fn answered<S: Source, O: Sink, E: Sink>(
-    alloc: Global,
-    elf: &mut Elf<S>,
-    parts: &ReadelfParts,
-    out: &mut O,
-    err: &mut E,
-) -> Result<bool, Stop> {
-    readelf(alloc, elf, parts, b"F", out, err)
-}
-
-/// What it says over outputs, which are opened.
-fn said_over<S: Source>(
-    alloc: Global,
-    elf: &mut Elf<S>,
-    parts: &ReadelfParts,
-    mut out: MemSink,
-    mut err: MemSink,
-) -> Said {
-    let refused = answered(alloc, elf, parts, &mut out, &mut err);
-    Said {
-        refused,
-        out: out.into_bytes(),
-        err: err.into_bytes(),
-    }
-}
-
-/// What it says of a descriptor that is lent.
-fn said_on<S: Source>(
-    alloc: Global,
-    elf: &mut Elf<S>,
-    parts: &ReadelfParts,
-) -> Result<Said, ElfError> {
-    let out = MemSink::new(alloc, ROOM, Addrs::new(alloc))?;
-    let err = MemSink::new(alloc, ROOM, Addrs::new(alloc))?;
-    Ok(said_over(alloc, elf, parts, out, err))
-}
-
-/// What it says of a source.
-fn said_of<S: Source + Drop>(
-    alloc: Global,
-    source: S,
-    parts: &ReadelfParts,
-) -> Result<Said, ElfError> {
-    match Elf::begin(alloc, source) {
-        Ok(mut elf) => {
-            let said = said_on(alloc, &mut elf, parts);
-            let _source = elf.end();
-            said
-        }
-        Err((_, e)) => Err(e),
-    }
-}
-
-/// What it says of an image.
-fn readelf_of(alloc: Global, image: Image, parts: &ReadelfParts) -> Result<Said, ElfError> {
-    said_of(alloc, MemSource::new(image.bytes, Addrs::new(alloc)), parts)
-}
 
 /// Whether this text is shown of an image, and nothing is refused.
 fn shows(alloc: Global, image: Image, parts: &ReadelfParts, text: &[u8]) -> Result<bool, ElfError> {
@@ -180,7 +100,7 @@ const NAMELESS_LINE: &[u8] = b"  2 <none> 0x70000001 flags 0x0 addr 0x0 offset 0
       link 1 info 1 align 4 entsize 16\n";
 
 #[test]
-fn section_headers_are_shown(rt: HostRuntime) -> Result<(), Fail> {
+fn section_headers_are_shown_and_numbers_stand_for_names(rt: HostRuntime) -> Result<(), Fail> {
     let alloc = rt.alloc();
     let named = wide_with(alloc, &NAMED)?;
     assert!(rt; shows(alloc, named, &SECTIONS, HEADERS)?);

@@ -40,7 +40,7 @@ const LOADED: Phdr = Phdr {
 };
 
 #[test]
-fn headers_are_shown_in_both_classes(rt: HostRuntime) -> Result<(), Fail> {
+fn headers_and_program_headers_are_shown_in_both_classes(rt: HostRuntime) -> Result<(), Fail> {
     let wide = header_alone(rt.alloc(), Class::C64, Order::Least)?;
     assert!(rt; shows(rt.alloc(), "readelf -h F", wide, HEADER)?);
     let narrow = symbol_object(rt.alloc(), Class::C32, Order::Greatest)?;

@@ -1,4 +1,5 @@
 pub mod Lines
+pub mod Nm
 pub mod Objects
 pub mod Program
 pub mod Readelf

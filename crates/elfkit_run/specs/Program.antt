@@ -11,14 +11,15 @@ use Rattle.tool_text.specs.declared.commands.Command.TheVariants.{Readelf, Nm, S
 use Rattle.tool_text.specs.Usages.{usage_line}
 use Rattle.tool_text.specs.Reading.{reading}
 use Rattle.elfkit_run.specs.Sentences.{says, not_built}
-use Rattle.elfkit_run.specs.Readelf.{are_built, readelf_outcome}
+use Rattle.elfkit_run.specs.Readelf.{readelf_outcome}
 use Rattle.elfkit_run.specs.Lines.{lines_outcome}
+use Rattle.elfkit_run.specs.Nm.{nm_outcome}
 use Rattle.elfkit_run.specs.Size.{size_outcome}
 use Rattle.elfkit_run.specs.Strings.{strings_outcome}
 
 unfoldable pub command_outcome : Command → Map → Outcome
 command_outcome (Readelf parts files) named = readelf_outcome parts files named
-command_outcome (Nm options files) named = not_built
+command_outcome (Nm options files) named = nm_outcome options files named
 command_outcome (Size files) named = size_outcome files named
 command_outcome (Strings options files) named = strings_outcome options files named
 command_outcome (Strip options file) named = not_built
@@ -46,8 +47,8 @@ program words named = outcome_by (reading words) named
 
 -- a command of a form that is built
 unfoldable pub is_built : Command → Bool
-is_built (Readelf parts files) = are_built parts
-is_built (Nm options files) = false
+is_built (Readelf parts files) = true
+is_built (Nm options files) = true
 is_built (Size files) = true
 is_built (Strings options files) = true
 is_built (Strip options file) = false

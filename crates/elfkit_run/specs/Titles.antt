@@ -3,15 +3,27 @@ use Rattle.std.specs.Prelude.{◌++◌, ℕ, List, Bool, codes, if◌then◌else
 use Rattle.elf_object.specs.Object.{Object}
 use Rattle.tool_output.specs.Names.{Name, shown_name}
 use Rattle.tool_output.specs.Reports.{Report, no_report, shown, joined}
+use Rattle.elfkit_run.specs.declared.titles.Title.{Title}
+use Rattle.elfkit_run.specs.declared.titles.Title.TheVariants.{Untitled, File, Name as OfName}
 
 -- `File: NAME`
-unfoldable pub title : Name → List ℕ
-title name = codes "File: " ++ shown_name name ++ codes "\n"
+unfoldable pub file_title : Name → List ℕ
+file_title name = codes "File: " ++ shown_name name ++ codes "\n"
+
+-- `NAME:`
+unfoldable pub name_title : Name → List ℕ
+name_title name = shown_name name ++ codes ":\n"
+
+-- a title under a condition
+abbrev pub title_if : Bool → Title → Title
+title_if has_title title = if has_title then title else Untitled
 
 -- the title of an image that has one
-unfoldable pub title_report : Bool → Name → Report
-title_report has_title name = if has_title then shown (title name) else no_report
+unfoldable pub title_report : Title → Name → Report
+title_report Untitled name = no_report
+title_report File name = shown (file_title name)
+title_report OfName name = shown (name_title name)
 
 -- a report behind its title
-unfoldable pub titled_report : Bool → (Name → Object → Report) → Name → Object → Report
-titled_report has_title report name o = joined (title_report has_title name) (report name o)
+unfoldable pub titled_report : Title → (Name → Object → Report) → Name → Object → Report
+titled_report title report name o = joined (title_report title name) (report name o)

@@ -10,6 +10,7 @@ ghost use Rattle.elfkit_run.specs.Sentences.{line_of, not_built};
 ghost use Rattle.elfkit_run.specs.Program.{command_outcome, is_built};
 
 pub mod lines;
+pub mod nm;
 pub mod readelf;
 pub mod size;
 pub mod strings;
@@ -17,6 +18,7 @@ pub mod strings;
 use crate::sentences::say;
 use elf_outside::{Files, Sink};
 use lines::lines;
+use nm::nm;
 use readelf::readelf;
 use size::size;
 use std::alloc::Global;
@@ -68,7 +70,10 @@ pub fn run_command<F: Files, O: Sink, E: Sink>(
             parts,
             files: names,
         } => readelf(alloc, parts, names, files, outputs),
-        Command::Nm { .. } => not_built(files, outputs),
+        Command::Nm {
+            options,
+            files: names,
+        } => nm(alloc, options, names, files, outputs),
         Command::Size { files: names } => size(alloc, names, files, outputs),
         Command::Strings {
             options,

@@ -3,7 +3,7 @@
 ghost use Rattle.std.specs.Prelude.{◌≡◌, ◌++◌};
 ghost use Rattle.tool_output.specs.Reports.{Reports};
 ghost use Rattle.tool_output.specs.Steps.{LeavesOutputs};
-ghost use Rattle.elfkit_run.specs.Titles.{title, title_report, titled_report};
+ghost use Rattle.elfkit_run.specs.Titles.{title_if, file_title, name_title, title_report, titled_report};
 
 use elf_descriptor::Elf;
 use elf_outside::{Sink, Source};
@@ -11,17 +11,37 @@ use elf_types::{ElfError, Octets, put_text};
 use object_output::ObjectTool;
 use tool_output::{FileName, Line, Outputs, Stop};
 
-/// `File: NAME`, the line before what is shown of an image.
+/// The form of the line before what is shown of an image.
+#[derive(Clone, Copy, Debug, PartialEq, Eq)]
+pub enum Title {
+    /// There is none.
+    Untitled,
+    /// `File: NAME`.
+    File,
+    /// `NAME:`.
+    Name,
+}
+
+impl Title {
+    /// This title under a condition, and else none.
+    pub fn under(self, has_title: bool) -> Title
+        ensures { result ≡ title_if has_title self }
+    {
+        if has_title { self } else { Title::Untitled }
+    }
+}
+
+/// `File: NAME`.
 #[derive(Clone, Copy)]
-struct Title<'a> {
+struct FileTitle<'a> {
     /// The file, or the member of an archive.
     name: &'a FileName<'a>,
 }
 
-impl Line for Title<'_> {
-    ghost text = { λ t. title t.name.now };
+impl Line for FileTitle<'_> {
+    ghost text = { λ t. file_title t.name.now };
 
-    #[tactic(auto, using(crate::proofs::Rows::kept), unfolding(crate::specs::Titles::title))]
+    #[tactic(auto, using(crate::proofs::Rows::kept), unfolding(crate::specs::Titles::file_title))]
     fn put(&self, page: &mut Octets) -> Result<(), ElfError> {
         put_text(page, "File: ")?;
         self.name.put(page)?;
@@ -29,20 +49,38 @@ impl Line for Title<'_> {
     }
 }
 
+/// `NAME:`.
+#[derive(Clone, Copy)]
+struct NameTitle<'a> {
+    /// The file, or the member of an archive.
+    name: &'a FileName<'a>,
+}
+
+impl Line for NameTitle<'_> {
+    ghost text = { λ t. name_title t.name.now };
+
+    #[tactic(auto, using(crate::proofs::Rows::kept), unfolding(crate::specs::Titles::name_title))]
+    fn put(&self, page: &mut Octets) -> Result<(), ElfError> {
+        self.name.put(page)?;
+        put_text(page, ":\n")
+    }
+}
+
 /// Shows the title of an image, where it has one.
+#[tactic(auto, unfolding(crate::specs::Titles::title_report))]
 fn show_title<O: Sink, E: Sink>(
-    has_title: bool,
+    title: Title,
     name: &FileName<'_>,
     outputs: &mut Outputs<'_, O, E>,
 ) -> Result<bool, Stop>
     ensures reports { Reports O.Sink E.Sink result outputs.old outputs.new
-        (title_report has_title name.now) }
+        (title_report title name.now) }
     ensures leaves { LeavesOutputs O.Sink E.Sink ⊥ result outputs.old outputs.new }
 {
-    if has_title {
-        outputs.show(&Title { name })
-    } else {
-        Ok(false)
+    match title {
+        Title::Untitled => Ok(false),
+        Title::File => outputs.show(&FileTitle { name }),
+        Title::Name => outputs.show(&NameTitle { name }),
     }
 }
 
@@ -51,14 +89,14 @@ fn show_title<O: Sink, E: Sink>(
 pub struct Titled<'a, T> {
     /// The tool.
     pub tool: &'a T,
-    /// Whether the reports have titles.
-    pub has_title: bool,
+    /// The title of each of its reports.
+    pub title: Title,
 }
 
 impl<T: ObjectTool> ObjectTool for Titled<'_, T> {
     ghost command = { λ t. T.command t.tool.now };
 
-    ghost report = { λ t. titled_report t.has_title (T.report t.tool.now) };
+    ghost report = { λ t. titled_report t.title (T.report t.tool.now) };
 
     ghost asks = { λ t. T.asks t.tool.now };
 
@@ -72,7 +110,7 @@ impl<T: ObjectTool> ObjectTool for Titled<'_, T> {
         name: &FileName<'_>,
         outputs: &mut Outputs<'_, O, E>,
     ) -> Result<bool, Stop> {
-        let title = show_title(self.has_title, name, outputs)?;
+        let title = show_title(self.title, name, outputs)?;
         let shown = self.tool.show(elf, name, outputs)?;
         Ok(title | shown)
     }

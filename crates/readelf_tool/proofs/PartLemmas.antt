@@ -1,13 +1,16 @@
 -- What the letters that are asked for show, and ask for.
-use Rattle.std.proofs.Common.{◌≡◌, ◌≤◌, ◌+◌, ℕ, Bool, true, false, List, Option, Some, None, refl, ap, ◌∙◌, arith}
+use Rattle.std.proofs.Common.{◌≡◌, ◌≤◌, ◌<◌, ◌+◌, ◌&&◌, ℕ, Bool, true, false, List, length, drop, get_or, Option, Some, None, refl, sym, ap, ◌∙◌, arith}
 use Rattle.std.specs.Prelude.{if◌then◌else◌, IfSome}
+use Rattle.std.specs.List.{list_any}
+use Rattle.std.proofs.lemmas.List.Folds.{list_any_at}
 use Rattle.tool_text.specs.declared.options.ReadelfParts.{ReadelfParts}
 use Rattle.elf_object.specs.Object.{Object}
 use Rattle.tool_output.specs.Names.{Name}
 use Rattle.tool_output.specs.Files.{IsWithin}
-use Rattle.tool_output.specs.Reports.{Report, joined}
-use Rattle.tool_output.proofs.ReportLemmas.{joined_none}
-use Rattle.readelf_tool.specs.Parts.{if_asked, shows_sections, front_report, data_report, readelf_report, readelf_asks}
+use Rattle.tool_output.specs.Reports.{Report, no_report}
+use Rattle.readelf_tool.specs.declared.parts.Letter.{Letter}
+use Rattle.readelf_tool.specs.declared.parts.TheConstants.{LETTERS}
+use Rattle.readelf_tool.specs.Parts.{is_asked, reads_sections, letter_report, letter_part, shows_sections, readelf_asks}
 
 -- without a part that reads sections nothing is
 pub asks_within : (parts : ReadelfParts) (holds : Option (List ℕ)) (a b : ℕ) → (shows_sections parts ≡ false → b ≡ a)
@@ -20,11 +23,24 @@ asks_within parts (Some image) a b same = by_test (shows_sections parts) same
     by_test true same = tt
     by_test false same = let is = same refl in omega arith
 
-module _ (parts : ReadelfParts) (name : Name) (o : Object) where
-  -- the report without a part that reads sections
-  pub front_alone : shows_sections parts ≡ false → readelf_report parts name o ≡ front_report parts o
-  unfolding readelf_report
-  front_alone off = ap (λ (b : Bool). joined (front_report parts o) (if_asked b (data_report parts name o))) off ∙ joined_none (front_report parts o)
+module _ (parts : ReadelfParts) (letter : Letter) where
+  module _ (name : Name) (o : Object) where
+    pub part_asked : is_asked parts letter ≡ true → letter_part parts name letter o ≡ letter_report letter name o
+    unfolding letter_part
+    part_asked is = ap (λ (t : Bool). if t then letter_report letter name o else no_report) is
 
-  pub data_asked : shows_sections parts ≡ true → if_asked (shows_sections parts) (data_report parts name o) ≡ data_report parts name o
-  data_asked on = ap (λ (b : Bool). if_asked b (data_report parts name o)) on
+    pub part_not_asked : is_asked parts letter ≡ false → letter_part parts name letter o ≡ no_report
+    unfolding letter_part
+    part_not_asked is = ap (λ (t : Bool). if t then letter_report letter name o else no_report) is
+
+  -- where no part reads sections, that of no letter does
+  pub part_unread : (i : ℕ) → i < length LETTERS → letter ≡ get_or LETTERS i letter → shows_sections parts ≡ false → (is_asked parts letter && reads_sections letter) ≡ false
+  unfolding shows_sections
+  part_unread i lt is off = by_test (is_asked parts letter && reads_sections letter) refl
+    where
+      by_test : (t : Bool) → (is_asked parts letter && reads_sections letter) ≡ t → (is_asked parts letter && reads_sections letter) ≡ false
+      by_test false was = was
+      by_test true was =
+          let read = list_any_at (λ l. is_asked parts l && reads_sections l) LETTERS i letter lt (sym (ap (λ (l : Letter). is_asked parts l && reads_sections l) is) ∙ was) in
+          let no : false ≡ true = sym off ∙ read in
+          cc

@@ -6,13 +6,13 @@ use Rattle.elf_types.specs.declared.records.Kind.TheVariants as kinds
 use Rattle.elf_types.specs.declared.constants.TheConstants.{SHT_DYNAMIC}
 use Rattle.elf_types.specs.Names.{tag_name_of}
 use Rattle.elf_types.specs.Text.{hex}
-use Rattle.elf_object.specs.Object.{Object, section_at}
+use Rattle.elf_object.specs.Object.{Object}
 use Rattle.elf_object.specs.Answers.{items_at, dyns_of, lend_refusal}
-use Rattle.elf_object.specs.Strings.{string_answer, readable}
 use Rattle.tool_output.specs.Names.{Name}
 use Rattle.tool_output.specs.Reports.{Report}
 use Rattle.object_output.specs.Sections.{bracketed}
 use Rattle.readelf_tool.specs.Fields.{name_or_hex, row_start}
+use Rattle.readelf_tool.specs.Links.{linked_string}
 use Rattle.readelf_tool.specs.Tables.{if_told, table_lines, each_plain}
 
 -- the tags whose value is the offset of a string: DT_NEEDED, DT_SONAME, DT_RPATH, DT_RUNPATH (gABI
@@ -33,13 +33,10 @@ dyn_name_line i x name = dyn_start i x.tag ++ codes " " ++ bracketed name ++ cod
 unfoldable pub dyn_value_line : ℕ → Dyn → List ℕ
 dyn_value_line i x = dyn_start i x.tag ++ codes " 0x" ++ hex x.val ++ codes "\n"
 
--- the string of an entry of a section, in the section to which that links
-unfoldable pub dyn_name : Object → ℕ → Dyn → Option (List ℕ)
-dyn_name o s x = readable (string_answer o (section_at o s).header.link x.val)
-
+-- its string stands in the linked section
 unfoldable pub dyn_row : Object → ℕ → ℕ → Dyn → List ℕ
 dyn_row o s i x =
-    if names_string x.tag then dyn_name_line i x (dyn_name o s x) else dyn_value_line i x
+    if names_string x.tag then dyn_name_line i x (linked_string o s x.val) else dyn_value_line i x
 
 unfoldable pub dynamic_title : List ℕ
 dynamic_title = codes "Dynamic section "

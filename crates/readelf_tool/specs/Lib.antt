@@ -2,7 +2,15 @@ pub mod Fields
 pub mod Header
 pub mod Segments
 pub mod Sections
+pub mod Links
 pub mod Tables
 pub mod Symbols
+pub mod Relocations
 pub mod Dynamic
+pub mod Chains
+pub mod Notes
+pub mod Entries
+pub mod Definitions
+pub mod Needs
+pub mod Versions
 pub mod Parts

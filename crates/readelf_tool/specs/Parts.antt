@@ -1,42 +1,69 @@
--- What readelf shows of an object: the parts that are asked for, in their order.
-use Rattle.std.specs.Prelude.{Bool, true, false, ◌||◌, ℕ, List, Option, Some, None, if◌then◌else◌}
+-- What readelf shows of an object: the parts that are asked for by their letters, in their order.
+use Rattle.std.specs.Prelude.{Bool, true, false, ◌&&◌, ℕ, List, Option, Some, None, if◌then◌else◌}
+use Rattle.std.specs.List.{list_any}
 use Rattle.elf_object.specs.Object.{Object, header_of}
 use Rattle.tool_text.specs.declared.options.ReadelfParts.{ReadelfParts}
 use Rattle.tool_output.specs.Names.{Name}
-use Rattle.tool_output.specs.Reports.{Report, no_report, joined}
+use Rattle.tool_output.specs.Reports.{Report, no_report, reports_of}
+use Rattle.readelf_tool.specs.declared.parts.Letter.{Letter}
+use Rattle.readelf_tool.specs.declared.parts.Letter.TheVariants.{Header, Segments, Sections, Symbols, Relocations, Dynamic, Notes, Versions}
+use Rattle.readelf_tool.specs.declared.parts.TheConstants.{LETTERS}
 use Rattle.readelf_tool.specs.Header.{header_report}
 use Rattle.readelf_tool.specs.Segments.{segments_report}
 use Rattle.readelf_tool.specs.Sections.{sections_report}
 use Rattle.readelf_tool.specs.Symbols.{symbols_report}
+use Rattle.readelf_tool.specs.Relocations.{relocations_report}
 use Rattle.readelf_tool.specs.Dynamic.{dynamic_report}
+use Rattle.readelf_tool.specs.Notes.{notes_report}
+use Rattle.readelf_tool.specs.Versions.{versions_report}
 
--- a part, where it is asked for
-abbrev pub if_asked : Bool → Report → Report
-if_asked true part = part
-if_asked false part = no_report
+-- whether a letter is asked for
+unfoldable pub is_asked : ReadelfParts → Letter → Bool
+is_asked parts Header = parts.header
+is_asked parts Segments = parts.segments
+is_asked parts Sections = parts.sections
+is_asked parts Symbols = parts.symbols
+is_asked parts Relocations = parts.relocations
+is_asked parts Dynamic = parts.dynamic
+is_asked parts Notes = parts.notes
+is_asked parts Versions = parts.versions
+
+-- what each letter shows
+unfoldable pub letter_report : Letter → Name → Object → Report
+letter_report Header name o = header_report (header_of o)
+letter_report Segments name o = segments_report o.phdrs
+letter_report Sections name o = sections_report o
+letter_report Symbols name o = symbols_report name o
+letter_report Relocations name o = relocations_report name o
+letter_report Dynamic name o = dynamic_report name o
+letter_report Notes name o = notes_report name o
+letter_report Versions name o = versions_report name o
+
+-- that of a letter, where it is asked for
+unfoldable pub letter_part : ReadelfParts → Name → Letter → Object → Report
+letter_part parts name letter o =
+    if is_asked parts letter then letter_report letter name o else no_report
+
+-- all of them
+unfoldable pub readelf_report : ReadelfParts → Name → Object → Report
+readelf_report parts name o = reports_of (λ letter. letter_part parts name letter o) LETTERS
+
+-- ---- What is asked for
 
 -- The letters h and l show what the front has, and ask for nothing more. For the other letters,
 -- which read sections, no bound is promised.
+unfoldable pub reads_sections : Letter → Bool
+reads_sections Header = false
+reads_sections Segments = false
+reads_sections Sections = true
+reads_sections Symbols = true
+reads_sections Relocations = true
+reads_sections Dynamic = true
+reads_sections Notes = true
+reads_sections Versions = true
+
 unfoldable pub shows_sections : ReadelfParts → Bool
-shows_sections parts = parts.sections || parts.symbols || parts.relocations
-    || parts.dynamic || parts.notes || parts.versions
+shows_sections parts = list_any (λ letter. is_asked parts letter && reads_sections letter) LETTERS
 
 unfoldable pub readelf_asks : ReadelfParts → List ℕ → Option ℕ
 readelf_asks parts image = if shows_sections parts then None else Some 0
-
--- the header, then the program headers
-unfoldable pub front_report : ReadelfParts → Object → Report
-front_report parts o =
-    joined (if_asked parts.header (header_report (header_of o)))
-    (if_asked parts.segments (segments_report o.phdrs))
-
--- the section headers, then the symbol tables and the dynamic sections
-unfoldable pub data_report : ReadelfParts → Name → Object → Report
-data_report parts name o =
-    joined (if_asked parts.sections (sections_report o))
-    (joined (if_asked parts.symbols (symbols_report name o))
-    (if_asked parts.dynamic (dynamic_report name o)))
-
-unfoldable pub readelf_report : ReadelfParts → Name → Object → Report
-readelf_report parts name o =
-    joined (front_report parts o) (if_asked (shows_sections parts) (data_report parts name o))

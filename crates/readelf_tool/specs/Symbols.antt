@@ -10,12 +10,15 @@ use Rattle.elf_object.specs.Object.{Object}
 use Rattle.elf_object.specs.Answers.{items_at, syms_of, lend_refusal}
 use Rattle.elf_object.specs.Strings.{symbol_name}
 use Rattle.elf_object.specs.SymbolSections.{place_of_symbol}
+use Rattle.gelf_view.specs.Calls.{IsTable}
 use Rattle.gelf_view.specs.declared.symbols.SymPlace.{SymPlace}
 use Rattle.gelf_view.specs.declared.symbols.SymPlace.TheVariants.{Special, Section}
 use Rattle.tool_output.specs.Names.{Name}
 use Rattle.tool_output.specs.Reports.{Report}
 use Rattle.object_output.specs.Sections.{bracketed}
 use Rattle.readelf_tool.specs.Fields.{hex_column, decimal_column, name_column, row_start}
+use Rattle.readelf_tool.specs.declared.links.Links.{Links}
+use Rattle.readelf_tool.specs.Links.{AreLinks}
 use Rattle.readelf_tool.specs.Tables.{if_told, table_lines, each_plain}
 
 -- ---- Where a symbol is defined
@@ -82,3 +85,8 @@ holds_symbols stype = stype == SHT_SYMTAB || stype == SHT_DYNSYM
 -- those of each such section, by number
 unfoldable pub symbols_report : Name → Object → Report
 symbols_report name o = each_plain holds_symbols name o (symbols_of_section name o)
+
+-- what a symbol's row needs: the links, and the table of extended indexes of the section
+pub record SymbolsFit (o : Object) (s : ℕ) (links : Links) : Type 0 where
+  pub named : AreLinks o s links
+  pub indexes : IsTable o s links.indexes

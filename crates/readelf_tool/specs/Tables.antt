@@ -1,13 +1,14 @@
 -- Sections whose data is a table: a title, and a row for each item. The parts `s`, `r` and `d` are
 -- such, and the version indexes of `V`.
-use Rattle.std.specs.Prelude.{◌++◌, ℕ, List, [], length, slice_get, Bool, Option, Some, None, codes, decimal, if◌then◌else◌}
+use Rattle.std.specs.Prelude.{◌≡◌, ◌++◌, ◌<◌, ℕ, List, [], length, slice_get, Bool, Option, Some, None, codes, decimal, if◌then◌else◌}
 use Rattle.elf_types.specs.declared.records.Kind.{Kind}
 use Rattle.elf_types.specs.declared.errors.ElfError.{ElfError}
 use Rattle.elf_types.specs.declared.errors.ElfError.TheVariants.{OutOfFile}
 use Rattle.elf_types.specs.Text.{error_text}
 use Rattle.elf_types.specs.Kinds.{is_compressed}
 use Rattle.elf_object.specs.Object.{Object, section_at}
-use Rattle.elf_object.specs.Answers.{lend_refusal}
+use Rattle.elf_xlate.specs.declared.content.Items.{Items}
+use Rattle.elf_object.specs.Answers.{items_at, lend_refusal}
 use Rattle.elf_object.specs.Due.{all_sections}
 use Rattle.elf_object.specs.Strings.{section_name}
 use Rattle.tool_output.specs.Names.{Name}
@@ -15,6 +16,8 @@ use Rattle.tool_output.specs.Messages.{in_section}
 use Rattle.tool_output.specs.Lines.{numbered_lines}
 use Rattle.tool_output.specs.Reports.{Report, shown, refusal, joined, reports_of}
 use Rattle.object_output.specs.Sections.{bracketed, report_if}
+use Rattle.readelf_tool.specs.declared.links.Links.{Links}
+use Rattle.readelf_tool.specs.declared.tables.Table.{Table}
 
 -- ---- What stands in place of a section's lines
 
@@ -64,3 +67,13 @@ unfoldable pub table_lines : {A : Type 0} → List ℕ → (Object → ℕ → �
 table_lines title line o s items =
     joined (shown (table_title title s (section_name o s) (length items)))
     (shown (numbered_lines (line o s) 0 items))
+
+-- ---- What the rows of a table need
+
+-- the section is there, its items can be told and are so many, and the links are as they need them
+pub record HasRows {A : Type 0} (kind : Kind) (list_of : Items → List A)
+    (fits : Object → ℕ → Links → Type 0) (o : Object) (table : Table) : Type 0 where
+  pub section : table.section.0 < length o.sections
+  pub passed : lend_refusal o kind table.section.0 0 ≡ None
+  pub count : table.count ≡ length (list_of (items_at o table.section.0 0))
+  pub fit : fits o table.section.0 table.links

@@ -1,7 +1,7 @@
 //! What is said of the data of each section of some types. A section that is out of the file, or
 //! whose data is compressed, has its message in place of its lines, and the next one follows.
 
-ghost use Rattle.std.specs.Prelude.{◌≡◌, ◌<◌, ℕ, Bool as TheBool, length};
+ghost use Rattle.std.specs.Prelude.{◌≡◌, ◌==◌, ◌<◌, ℕ, Bool as TheBool, length};
 ghost use Rattle.elf_object.specs.Object.{Object, section_at};
 ghost use Rattle.tool_output.specs.Names.{Name};
 ghost use Rattle.tool_output.specs.Reports.{Report};
@@ -53,6 +53,14 @@ fn is_out<S: Source>(elf: &Elf<S>, s: ScnId) -> bool
         Ok(out) => out,
         Err(_) => unreachable!(),
     }
+}
+
+/// Whether the present type of a section that is there is this one.
+pub fn is_of_type<S: Source>(elf: &Elf<S>, s: ScnId, stype: u32) -> bool
+    requires { s.0 < length elf.now.o.sections }
+    ensures { result ≡ ((section_at elf.now.o s.0).header.stype == stype) }
+{
+    section_header(elf, s).stype == stype
 }
 
 /// Shows the data of a section that is there, or the message that stands in its place.

@@ -1,20 +1,23 @@
 //! The lines of the dynamic sections.
 
-ghost use Rattle.std.specs.Prelude.{◌≡◌, ◌++◌, ◌<◌, length, OnOk, IfErr};
+ghost use Rattle.std.specs.Prelude.{◌≡◌, ◌++◌, OnOk, IfErr};
 ghost use Rattle.std.specs.Option.{option_copied};
 ghost use Rattle.elf_types.specs.Writers.{WantsMemory};
+ghost use Rattle.elf_object.specs.Strings as strings;
 ghost use Rattle.tool_output.specs.Reports.{shown};
 ghost use Rattle.object_output.specs.Steps.{ReportsElf};
-ghost use Rattle.readelf_tool.specs.Dynamic.{names_string, dyn_start, dyn_name_line, dyn_value_line, dyn_name, dyn_row, dynamic_title, dynamic_of_section, holds_dynamic, dynamic_report};
+ghost use Rattle.readelf_tool.specs.Links.{AreLinks};
+ghost use Rattle.readelf_tool.specs.Dynamic.{names_string, dyn_start, dyn_name_line, dyn_value_line, dyn_row, dynamic_title, dynamic_of_section, holds_dynamic, dynamic_report};
 
 use crate::data::{Part, each_plain};
 use crate::fields::{put_name_or_hex, put_row_start};
+use crate::links::{Links, links_of};
 use crate::tables::{Row, show_table};
 use elf_descriptor::Elf;
 use elf_outside::{Sink, Source};
 use elf_types::constants::SHT_DYNAMIC;
 use elf_types::{Dyn, ElfError, Octets, ScnId, put_hex, put_text, tag_name};
-use object_output::{Bracketed, section_header, string_at};
+use object_output::{Bracketed, string_at};
 use tool_output::{FileName, Line, Outputs, Stop};
 
 /// Whether the value of an entry is the offset of a string, by its tag: `DT_NEEDED`, `DT_SONAME`,
@@ -82,21 +85,18 @@ impl Line for ValueLine {
     }
 }
 
-/// Shows the line of an entry with its string, which stands in the section to which that of the
-/// entry links.
+/// Shows the line of an entry with its string, which stands in a section.
 fn show_name<S: Source, O: Sink, E: Sink>(
     elf: &mut Elf<S>,
-    s: ScnId,
+    names: ScnId,
     index: u64,
     entry: Dyn,
     outputs: &mut Outputs<'_, O, E>,
 ) -> Result<bool, Stop>
-    requires { s.0 < length elf.old.o.sections }
-    ensures { ReportsElf S.Source O.Sink E.Sink
-        (λ o. shown (dyn_name_line index entry (dyn_name o s.0 entry)))
+    ensures { ReportsElf S.Source O.Sink E.Sink (λ o. shown (dyn_name_line index entry
+        (strings.readable (strings.string_answer o names.0 entry.val))))
         result elf.old elf.new outputs.old outputs.new }
 {
-    let names = ScnId(section_header(elf, s).link);
     match string_at(elf, names, entry.val) {
         Ok(name) => outputs.show(&NameLine { index, entry, name }),
         Err(stop) => Err(stop),
@@ -108,11 +108,15 @@ impl Row for Dyn {
 
     ghost line = { dyn_row };
 
-    ghost fits = { λ _ _ _. Unit {0} };
+    ghost fits = { AreLinks };
 
     #[tactic(auto, unfolding(crate::specs::Dynamic::dynamic_title))]
     fn title() -> &'static str {
         "Dynamic section "
+    }
+
+    fn links<S: Source>(elf: &Elf<S>, s: ScnId) -> Links {
+        links_of(elf, s)
     }
 
     fn show<S: Source, O: Sink, E: Sink>(
@@ -120,11 +124,11 @@ impl Row for Dyn {
         elf: &mut Elf<S>,
         s: ScnId,
         i: u64,
-        _table: Option<ScnId>,
+        links: Links,
         outputs: &mut Outputs<'_, O, E>,
     ) -> Result<bool, Stop> {
         if names_string(&self) {
-            return show_name(elf, s, i, self, outputs);
+            return show_name(elf, links.linked, i, self, outputs);
         }
         outputs.show(&ValueLine {
             index: i,
@@ -154,7 +158,7 @@ impl Part for Dynamic {
         s: ScnId,
         outputs: &mut Outputs<'_, O, E>,
     ) -> Result<bool, Stop> {
-        show_table::<Dyn, S, O, E>(name, elf, s, None, outputs)
+        show_table::<Dyn, S, O, E>(name, elf, s, outputs)
     }
 }
 

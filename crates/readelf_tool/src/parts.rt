@@ -1,24 +1,19 @@
-//! What readelf shows of an object.
+//! What readelf shows of an object: the parts that are asked for by their letters, in their order.
 
-ghost use Rattle.std.specs.Prelude.{◌≡◌, codes, false};
-ghost use Rattle.elf_object.specs.Object.{header_of};
-ghost use Rattle.tool_output.specs.Reports.{Reports, joined};
-ghost use Rattle.tool_output.specs.Steps.{LeavesOutputs};
+ghost use Rattle.std.specs.Prelude.{◌≡◌, ◌&&◌, codes, false};
 ghost use Rattle.tool_output.specs.Names.{file_name};
 ghost use Rattle.object_output.specs.Steps.{ReportsElf};
 ghost use Rattle.object_output.specs.Shows.{ShowsElf};
-ghost use Rattle.readelf_tool.specs.Header.{header_report};
-ghost use Rattle.readelf_tool.specs.Segments.{segments_report};
-ghost use Rattle.readelf_tool.specs.Sections.{sections_report};
-ghost use Rattle.readelf_tool.specs.Symbols.{symbols_report};
-ghost use Rattle.readelf_tool.specs.Dynamic.{dynamic_report};
-ghost use Rattle.readelf_tool.specs.Parts.{if_asked, front_report, data_report, readelf_report, shows_sections, readelf_asks};
+ghost use Rattle.readelf_tool.specs.Parts.{is_asked, reads_sections, letter_report, letter_part, readelf_report, shows_sections, readelf_asks};
 
 use crate::dynamic::show_dynamic;
 use crate::headers::show_header;
+use crate::notes::show_notes;
+use crate::relocations::show_relocations;
 use crate::sections::show_sections;
 use crate::segments::show_segments;
 use crate::symbols::show_symbols;
+use crate::versions::show_versions;
 use elf_descriptor::Elf;
 use elf_outside::{Sink, Source};
 use object_output::{ObjectTool, show_object};
@@ -26,156 +21,102 @@ use std::alloc::Global;
 use tool_output::{FileName, Outputs, Stop};
 use tool_text::ReadelfParts;
 
-/// Shows the header, where it is asked for.
-fn show_header_part<S: Source, O: Sink, E: Sink>(
-    asked: bool,
-    elf: &Elf<S>,
-    outputs: &mut Outputs<'_, O, E>,
-) -> Result<bool, Stop>
-    ensures reports { Reports O.Sink E.Sink result outputs.old outputs.new
-        (if_asked asked (header_report (header_of elf.now.o))) }
-    ensures leaves { LeavesOutputs O.Sink E.Sink ⊥ result outputs.old outputs.new }
+/// A letter of readelf.
+#[derive(Clone, Copy)]
+pub enum Letter {
+    /// `-h`: the ELF header.
+    Header,
+    /// `-l`: the program headers.
+    Segments,
+    /// `-S`: the section headers.
+    Sections,
+    /// `-s`: the symbol tables.
+    Symbols,
+    /// `-r`: the relocations.
+    Relocations,
+    /// `-d`: the dynamic sections.
+    Dynamic,
+    /// `-n`: the notes.
+    Notes,
+    /// `-V`: the version sections.
+    Versions,
+}
+
+/// The letters, in the order of their parts.
+pub const LETTERS: [Letter; 8] = [
+    Letter::Header,
+    Letter::Segments,
+    Letter::Sections,
+    Letter::Symbols,
+    Letter::Relocations,
+    Letter::Dynamic,
+    Letter::Notes,
+    Letter::Versions,
+];
+
+/// Whether a letter is asked for.
+#[tactic(auto, unfolding(crate::specs::Parts::is_asked))]
+fn is_asked(parts: &ReadelfParts, letter: Letter) -> bool
+    ensures { result ≡ is_asked parts.now letter }
 {
-    if asked {
-        show_header(&elf.ehdr(), outputs)
-    } else {
-        Ok(false)
+    match letter {
+        Letter::Header => parts.header,
+        Letter::Segments => parts.segments,
+        Letter::Sections => parts.sections,
+        Letter::Symbols => parts.symbols,
+        Letter::Relocations => parts.relocations,
+        Letter::Dynamic => parts.dynamic,
+        Letter::Notes => parts.notes,
+        Letter::Versions => parts.versions,
     }
 }
 
-/// Shows the program headers, where they are asked for.
-fn show_segments_part<S: Source, O: Sink, E: Sink>(
-    asked: bool,
-    elf: &Elf<S>,
-    outputs: &mut Outputs<'_, O, E>,
-) -> Result<bool, Stop>
-    ensures reports { Reports O.Sink E.Sink result outputs.old outputs.new
-        (if_asked asked (segments_report elf.now.o.phdrs)) }
-    ensures leaves { LeavesOutputs O.Sink E.Sink ⊥ result outputs.old outputs.new }
-{
-    if asked {
-        show_segments(elf, outputs)
-    } else {
-        Ok(false)
-    }
-}
-
-/// Shows the parts of the front that are asked for: the header (`h`), then the program headers
-/// (`l`). It reads nothing. The answer tells whether something was refused.
-fn show_front<S: Source, O: Sink, E: Sink>(
-    elf: &Elf<S>,
-    parts: &ReadelfParts,
-    outputs: &mut Outputs<'_, O, E>,
-) -> Result<bool, Stop>
-    ensures reports { Reports O.Sink E.Sink result outputs.old outputs.new
-        (front_report parts.now elf.now.o) }
-    ensures leaves { LeavesOutputs O.Sink E.Sink ⊥ result outputs.old outputs.new }
-{
-    let header = show_header_part(parts.header, elf, outputs)?;
-    let segments = show_segments_part(parts.segments, elf, outputs)?;
-    Ok(header | segments)
-}
-
-/// Shows the section headers, where they are asked for.
-fn show_sections_part<S: Source, O: Sink, E: Sink>(
-    asked: bool,
-    elf: &mut Elf<S>,
-    outputs: &mut Outputs<'_, O, E>,
-) -> Result<bool, Stop>
-    ensures { ReportsElf S.Source O.Sink E.Sink (λ o. if_asked asked (sections_report o))
-        result elf.old elf.new outputs.old outputs.new }
-{
-    if asked {
-        show_sections(elf, outputs)
-    } else {
-        Ok(false)
-    }
-}
-
-/// Shows the symbol tables, where they are asked for.
-fn show_symbols_part<S: Source, O: Sink, E: Sink>(
-    asked: bool,
-    name: &FileName<'_>,
-    elf: &mut Elf<S>,
-    outputs: &mut Outputs<'_, O, E>,
-) -> Result<bool, Stop>
-    ensures { ReportsElf S.Source O.Sink E.Sink (λ o. if_asked asked (symbols_report name.now o))
-        result elf.old elf.new outputs.old outputs.new }
-{
-    if asked {
-        show_symbols(name, elf, outputs)
-    } else {
-        Ok(false)
-    }
-}
-
-/// Shows the dynamic sections, where they are asked for.
-fn show_dynamic_part<S: Source, O: Sink, E: Sink>(
-    asked: bool,
-    name: &FileName<'_>,
-    elf: &mut Elf<S>,
-    outputs: &mut Outputs<'_, O, E>,
-) -> Result<bool, Stop>
-    ensures { ReportsElf S.Source O.Sink E.Sink (λ o. if_asked asked (dynamic_report name.now o))
-        result elf.old elf.new outputs.old outputs.new }
-{
-    if asked {
-        show_dynamic(name, elf, outputs)
-    } else {
-        Ok(false)
-    }
-}
-
-/// Shows the symbol tables (`s`) and the dynamic sections (`d`), as far as they are asked for.
-fn show_tables<S: Source, O: Sink, E: Sink>(
-    name: &FileName<'_>,
-    elf: &mut Elf<S>,
-    parts: &ReadelfParts,
-    outputs: &mut Outputs<'_, O, E>,
-) -> Result<bool, Stop>
-    ensures { ReportsElf S.Source O.Sink E.Sink (λ o.
-        joined (if_asked parts.now.symbols (symbols_report name.now o))
-        (if_asked parts.now.dynamic (dynamic_report name.now o)))
-        result elf.old elf.new outputs.old outputs.new }
-{
-    let symbols = show_symbols_part(parts.symbols, name, elf, outputs)?;
-    let dynamic = show_dynamic_part(parts.dynamic, name, elf, outputs)?;
-    Ok(symbols | dynamic)
-}
-
-/// Shows the parts that read sections, as far as they are asked for: the section headers (`S`),
-/// then the tables.
-fn show_data<S: Source, O: Sink, E: Sink>(
-    name: &FileName<'_>,
-    elf: &mut Elf<S>,
-    parts: &ReadelfParts,
-    outputs: &mut Outputs<'_, O, E>,
-) -> Result<bool, Stop>
-    ensures { ReportsElf S.Source O.Sink E.Sink (data_report parts.now name.now)
-        result elf.old elf.new outputs.old outputs.new }
-{
-    let sections = show_sections_part(parts.sections, elf, outputs)?;
-    let tables = show_tables(name, elf, parts, outputs)?;
-    Ok(sections | tables)
-}
-
-/// Whether a part is asked for that reads sections.
-#[tactic(auto, unfolding(crate::specs::Parts::shows_sections))]
-pub fn shows_sections(parts: &ReadelfParts) -> bool
-    ensures { result ≡ shows_sections parts.now }
-{
-    parts.sections
-        || parts.symbols
-        || parts.relocations
-        || parts.dynamic
-        || parts.notes
-        || parts.versions
-}
-
-/// Shows the parts of an object that are asked for, in their order: the header (`h`), the program
-/// headers (`l`), the section headers (`S`), the symbol tables (`s`) and the dynamic sections
-/// (`d`). Where no part reads sections, nothing is read. The
+/// Shows the part of a letter. That of the header and of the program headers reads nothing. The
 /// answer tells whether something was refused.
+fn show_letter<S: Source, O: Sink, E: Sink>(
+    letter: Letter,
+    name: &FileName<'_>,
+    elf: &mut Elf<S>,
+    outputs: &mut Outputs<'_, O, E>,
+) -> Result<bool, Stop>
+    ensures reports { ReportsElf S.Source O.Sink E.Sink (letter_report letter name.now)
+        result elf.old elf.new outputs.old outputs.new }
+    ensures unread { reads_sections letter ≡ false → elf.new ≡ elf.old }
+{
+    match letter {
+        Letter::Header => show_header(&elf.ehdr(), outputs),
+        Letter::Segments => show_segments(elf, outputs),
+        Letter::Sections => show_sections(elf, outputs),
+        Letter::Symbols => show_symbols(name, elf, outputs),
+        Letter::Relocations => show_relocations(name, elf, outputs),
+        Letter::Dynamic => show_dynamic(name, elf, outputs),
+        Letter::Notes => show_notes(name, elf, outputs),
+        Letter::Versions => show_versions(name, elf, outputs),
+    }
+}
+
+/// Shows the part of a letter, where it is asked for.
+fn show_part<S: Source, O: Sink, E: Sink>(
+    parts: &ReadelfParts,
+    letter: Letter,
+    name: &FileName<'_>,
+    elf: &mut Elf<S>,
+    outputs: &mut Outputs<'_, O, E>,
+) -> Result<bool, Stop>
+    ensures reports { ReportsElf S.Source O.Sink E.Sink (letter_part parts.now name.now letter)
+        result elf.old elf.new outputs.old outputs.new }
+    ensures unread { (is_asked parts.now letter && reads_sections letter) ≡ false →
+        elf.new ≡ elf.old }
+{
+    if is_asked(parts, letter) {
+        show_letter(letter, name, elf, outputs)
+    } else {
+        Ok(false)
+    }
+}
+
+/// Shows the parts of an object that are asked for, in the order of `LETTERS`. Where no part reads
+/// sections, nothing is read. The answer tells whether something was refused.
 pub fn show_parts<S: Source, O: Sink, E: Sink>(
     name: &FileName<'_>,
     elf: &mut Elf<S>,
@@ -186,12 +127,12 @@ pub fn show_parts<S: Source, O: Sink, E: Sink>(
         result elf.old elf.new outputs.old outputs.new }
     ensures unread { shows_sections parts.now ≡ false → elf.new ≡ elf.old }
 {
-    let front = show_front(elf, parts, outputs)?;
-    if !shows_sections(parts) {
-        return Ok(front);
+    let mut refused = false;
+    for letter in LETTERS {
+        let was_refused = show_part(parts, letter, name, elf, outputs)?;
+        refused = refused | was_refused;
     }
-    let data = show_data(name, elf, parts, outputs)?;
-    Ok(front | data)
+    Ok(refused)
 }
 
 /// The tool of the command readelf: these parts of an object.

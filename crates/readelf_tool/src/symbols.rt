@@ -1,6 +1,6 @@
 //! The lines of the symbol tables.
 
-ghost use Rattle.std.specs.Prelude.{◌≡◌, ◌++◌, ◌<◌, length, OnOk, IfErr};
+ghost use Rattle.std.specs.Prelude.{◌≡◌, ◌++◌, OnOk, IfErr};
 ghost use Rattle.std.specs.Option.{option_copied};
 ghost use Rattle.elf_types.specs.Writers.{WantsMemory};
 ghost use Rattle.elf_object.specs.Strings as strings;
@@ -8,10 +8,11 @@ ghost use Rattle.elf_types.specs.declared.constants.TheConstants.{SHN_XINDEX};
 ghost use Rattle.gelf_view.specs.Calls.{IsTable};
 ghost use Rattle.tool_output.specs.Reports.{shown};
 ghost use Rattle.object_output.specs.Steps.{ReportsElf, Learns};
-ghost use Rattle.readelf_tool.specs.Symbols.{special_text, place_text, symbol_start, symbol_names, symbol_end, symbol_line, symbol_place as stated_place, symbol_row, symbols_title, symbols_of_section, holds_symbols, symbols_report};
+ghost use Rattle.readelf_tool.specs.Symbols.{SymbolsFit, special_text, place_text, symbol_start, symbol_names, symbol_end, symbol_line, symbol_place as stated_place, symbol_row, symbols_title, symbols_of_section, holds_symbols, symbols_report};
 
 use crate::data::{Part, each_plain};
 use crate::fields::{put_decimal_column, put_hex_column, put_name_column, put_row_start};
+use crate::links::{Links, links_of};
 use crate::tables::{Row, show_table};
 use elf_descriptor::Elf;
 use elf_outside::{Sink, Source};
@@ -21,7 +22,7 @@ use elf_types::{
     symbol_type_name, vis, visibility_name,
 };
 use gelf_view::{SymPlace, shndx_table, symbol_place};
-use object_output::{Bracketed, section_header, string_at};
+use object_output::{Bracketed, string_at};
 use tool_output::{FileName, Line, Outputs, Stop};
 
 /// Appends a reserved index, by its name or in hexadecimal.
@@ -151,21 +152,19 @@ fn place_of<S: Source>(
     }
 }
 
-/// Shows the line of a symbol of a section that is there, whose place is known.
+/// Shows the line of a symbol whose place is known, and whose name stands in a section.
 fn show_symbol<S: Source, O: Sink, E: Sink>(
     elf: &mut Elf<S>,
-    s: ScnId,
+    names: ScnId,
     index: u64,
     symbol: Sym,
     place: Option<SymPlace>,
     outputs: &mut Outputs<'_, O, E>,
 ) -> Result<bool, Stop>
-    requires { s.0 < length elf.old.o.sections }
-    ensures { ReportsElf S.Source O.Sink E.Sink (λ o. shown
-        (symbol_line index symbol place (strings.symbol_name o s.0 symbol)))
+    ensures { ReportsElf S.Source O.Sink E.Sink (λ o. shown (symbol_line index symbol place
+        (strings.readable (strings.string_answer o names.0 symbol.name))))
         result elf.old elf.new outputs.old outputs.new }
 {
-    let names = ScnId(section_header(elf, s).link);
     match string_at(elf, names, u64::from(symbol.name)) {
         Ok(name) => outputs.show(&SymbolLine {
             index,
@@ -182,11 +181,21 @@ impl Row for Sym {
 
     ghost line = { symbol_row };
 
-    ghost fits = { IsTable };
+    ghost fits = { SymbolsFit };
 
     #[tactic(auto, unfolding(crate::specs::Symbols::symbols_title))]
     fn title() -> &'static str {
         "Symbols of section "
+    }
+
+    fn links<S: Source>(elf: &Elf<S>, s: ScnId) -> Links {
+        let links = links_of(elf, s);
+        let indexes = shndx_table(elf, s);
+        Links {
+            linked: links.linked,
+            strings: links.strings,
+            indexes,
+        }
     }
 
     fn show<S: Source, O: Sink, E: Sink>(
@@ -194,11 +203,11 @@ impl Row for Sym {
         elf: &mut Elf<S>,
         s: ScnId,
         i: u64,
-        table: Option<ScnId>,
+        links: Links,
         outputs: &mut Outputs<'_, O, E>,
     ) -> Result<bool, Stop> {
-        match place_of(elf, s, i, self, table) {
-            Ok(place) => show_symbol(elf, s, i, self, place, outputs),
+        match place_of(elf, s, i, self, links.indexes) {
+            Ok(place) => show_symbol(elf, links.linked, i, self, place, outputs),
             Err(stop) => Err(stop),
         }
     }
@@ -225,8 +234,7 @@ impl Part for Symbols {
         s: ScnId,
         outputs: &mut Outputs<'_, O, E>,
     ) -> Result<bool, Stop> {
-        let table = shndx_table(elf, s);
-        show_table::<Sym, S, O, E>(name, elf, s, table, outputs)
+        show_table::<Sym, S, O, E>(name, elf, s, outputs)
     }
 }
 

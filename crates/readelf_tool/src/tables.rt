@@ -5,8 +5,6 @@ ghost use Rattle.std.specs.Prelude.{◌≡◌, ◌++◌, ◌<◌, ℕ, List, len
 ghost use Rattle.std.specs.Option.{option_copied};
 ghost use Rattle.elf_types.specs.Writers.{WantsMemory};
 ghost use Rattle.tool_output.specs.Stops.{stop_of};
-ghost use Rattle.elf_types.specs.declared.records.ScnId.{ScnId as TheScnId};
-ghost use Rattle.std.specs.Prelude.{Option as TheOption};
 ghost use Rattle.elf_xlate.specs.declared.content.Items.{Items as TheItems};
 ghost use Rattle.elf_xlate.specs.Translation.{items_kind, items_count};
 ghost use Rattle.elf_object.specs.Object.{Object};
@@ -15,8 +13,10 @@ ghost use Rattle.elf_object.specs.Strings as strings;
 ghost use Rattle.tool_output.specs.Lines.{numbered_lines};
 ghost use Rattle.tool_output.specs.Reports.{shown};
 ghost use Rattle.object_output.specs.Steps.{ReportsElf, ReadsElf};
-ghost use Rattle.readelf_tool.specs.Tables.{data_title, table_title, table_lines, if_told, row_at};
+ghost use Rattle.readelf_tool.specs.declared.links.Links.{Links as TheLinks};
+ghost use Rattle.readelf_tool.specs.Tables.{data_title, table_title, table_lines, if_told, row_at, HasRows};
 
+use crate::links::Links;
 use elf_descriptor::Elf;
 use elf_outside::{Sink, Source};
 use elf_types::{DataId, ElfError, Octets, ScnId, put_decimal, put_text};
@@ -29,17 +29,22 @@ use tool_output::{FileName, Line, Message, Outputs, Stop};
 ///
 /// - `title` is what stands before the section's number in its title.
 /// - `line` is the row of an item of a section, by the object, the section and the item's index.
-/// - `fits` says of the section of extended indexes that is handed in what a row needs.
+/// - `fits` says of the links of a section what its rows need.
 pub trait Row: Item {
     ghost title: { List ℕ };
 
     ghost line: { Object → ℕ → ℕ → Self → List ℕ };
 
-    ghost fits: { Object → ℕ → TheOption TheScnId → Type 0 };
+    ghost fits: { Object → ℕ → TheLinks → Type 0 };
 
     /// What stands before the section's number in its title.
     fn title() -> &'static str
         ensures { result.now ≡ title };
+
+    /// The links of a section that is there, as its rows need them.
+    fn links<S: Source>(elf: &Elf<S>, s: ScnId) -> Links
+        requires { s.0 < length elf.now.o.sections }
+        ensures { fits elf.now.o s.0 result };
 
     /// Shows the row of item `i` of a section that is there.
     fn show<S: Source, O: Sink, E: Sink>(
@@ -47,13 +52,24 @@ pub trait Row: Item {
         elf: &mut Elf<S>,
         s: ScnId,
         i: u64,
-        table: Option<ScnId>,
+        links: Links,
         outputs: &mut Outputs<'_, O, E>,
     ) -> Result<bool, Stop>
         requires section { s.0 < length elf.old.o.sections }
-        requires fits { fits elf.old.o s.0 table }
+        requires fits { fits elf.old.o s.0 links }
         ensures { ReportsElf S.Source O.Sink E.Sink (λ o. shown (line o s.0 i self))
             result elf.old elf.new outputs.old outputs.new };
+}
+
+/// A section that is there and whose items can be told.
+#[derive(Clone, Copy)]
+struct Table {
+    /// The section.
+    section: ScnId,
+    /// How many items it has.
+    count: u64,
+    /// Its links.
+    links: Links,
 }
 
 /// Appends `TITLE S NAME`.
@@ -124,7 +140,7 @@ fn show_title<S: Source, O: Sink, E: Sink>(
 }
 
 /// The stop of an error that is no refusal.
-fn stop_for(e: ElfError) -> Stop
+pub fn stop_for(e: ElfError) -> Stop
     requires { IsSome (stop_of e) }
     ensures { stop_of e ≡ Some result }
 {
@@ -152,85 +168,72 @@ pub fn item_there<S: Source, T: Item>(elf: &mut Elf<S>, d: DataId, i: u64) -> Re
 /// Shows the row of an item that is there.
 fn show_row<T: Row, S: Source, O: Sink, E: Sink>(
     elf: &mut Elf<S>,
-    s: ScnId,
+    table: Table,
     i: u64,
-    table: Option<ScnId>,
     outputs: &mut Outputs<'_, O, E>,
 ) -> Result<bool, Stop>
-    requires section { s.0 < length elf.old.o.sections }
-    requires passed { lend_refusal elf.old.o T.kind s.0 0 ≡ None }
-    requires there { i < length (T.list_of (items_at elf.old.o s.0 0)) }
-    requires fits { T.fits elf.old.o s.0 table }
+    requires rows { HasRows T.kind T.list_of T.fits elf.old.o table }
+    requires there { i < table.count }
     ensures { ReportsElf S.Source O.Sink E.Sink
-        (λ o. shown (row_at (T.line o s.0) (T.list_of (items_at o s.0 0)) i))
+        (λ o. shown (row_at (T.line o table.section.0) (T.list_of (items_at o table.section.0 0)) i))
         result elf.old elf.new outputs.old outputs.new }
 {
+    let s = table.section;
     let d = DataId {
         section: s.0,
         piece: 0,
     };
     match item_there::<S, T>(elf, d, i) {
-        Ok(item) => item.show(elf, s, i, table, outputs),
+        Ok(item) => item.show(elf, s, i, table.links, outputs),
         Err(stop) => Err(stop),
     }
 }
 
-/// Shows a row for each item of a section that is there.
+/// Shows a row for each item of a section.
 fn show_rows<T: Row, S: Source, O: Sink, E: Sink>(
     elf: &mut Elf<S>,
-    s: ScnId,
-    count: u64,
-    table: Option<ScnId>,
+    table: Table,
     outputs: &mut Outputs<'_, O, E>,
 ) -> Result<bool, Stop>
-    requires section { s.0 < length elf.old.o.sections }
-    requires passed { lend_refusal elf.old.o T.kind s.0 0 ≡ None }
-    requires count { count ≡ length (T.list_of (items_at elf.old.o s.0 0)) }
-    requires fits { T.fits elf.old.o s.0 table }
-    ensures { ReportsElf S.Source O.Sink E.Sink
-        (λ o. shown (numbered_lines (T.line o s.0) 0 (T.list_of (items_at o s.0 0))))
+    requires { HasRows T.kind T.list_of T.fits elf.old.o table }
+    ensures { let s = table.section.0 in ReportsElf S.Source O.Sink E.Sink
+        (λ o. shown (numbered_lines (T.line o s) 0 (T.list_of (items_at o s 0))))
         result elf.old elf.new outputs.old outputs.new }
 {
     let mut refused = false;
-    for i in 0..count {
-        let was_refused = show_row::<T, S, O, E>(elf, s, i, table, outputs)?;
+    for i in 0..table.count {
+        let was_refused = show_row::<T, S, O, E>(elf, table, i, outputs)?;
         refused = refused | was_refused;
     }
     Ok(refused)
 }
 
-/// Shows the title of a section whose items can be told, and a row for each.
+/// Shows the title of a section, and a row for each of its items.
 fn show_table_lines<T: Row, S: Source, O: Sink, E: Sink>(
     elf: &mut Elf<S>,
-    s: ScnId,
-    count: u64,
-    table: Option<ScnId>,
+    table: Table,
     outputs: &mut Outputs<'_, O, E>,
 ) -> Result<bool, Stop>
-    requires section { s.0 < length elf.old.o.sections }
-    requires passed { lend_refusal elf.old.o T.kind s.0 0 ≡ None }
-    requires count { count ≡ length (T.list_of (items_at elf.old.o s.0 0)) }
-    requires fits { T.fits elf.old.o s.0 table }
-    ensures { ReportsElf S.Source O.Sink E.Sink
-        (λ o. table_lines T.title T.line o s.0 (T.list_of (items_at o s.0 0)))
+    requires { HasRows T.kind T.list_of T.fits elf.old.o table }
+    ensures { let s = table.section.0 in ReportsElf S.Source O.Sink E.Sink
+        (λ o. table_lines T.title T.line o s (T.list_of (items_at o s 0)))
         result elf.old elf.new outputs.old outputs.new }
 {
-    let titled = show_title(T::title(), elf, s, count, outputs)?;
-    let rows = show_rows::<T, S, O, E>(elf, s, count, table, outputs)?;
+    let titled = show_title(T::title(), elf, table.section, table.count, outputs)?;
+    let rows = show_rows::<T, S, O, E>(elf, table, outputs)?;
     Ok(titled | rows)
 }
 
 /// Shows the table of a section that is there, or refuses the object for that section where its
-/// items can not be told. A list of the items has as many as are counted.
+/// items can not be told. A list of the items has as many as are counted. What the rows name is
+/// looked for once.
 pub fn show_table<T: Row, S: Source, O: Sink, E: Sink>(
     name: &FileName<'_>,
     elf: &mut Elf<S>,
     s: ScnId,
-    table: Option<ScnId>,
     outputs: &mut Outputs<'_, O, E>,
 ) -> Result<bool, Stop>
     requires section { s.0 < length elf.old.o.sections }
-    requires fits { T.fits elf.old.o s.0 table }
     requires counted { (items : TheItems) → items_kind items ≡ T.kind →
         length (T.list_of items) ≡ items_count items }
     ensures { ReportsElf S.Source O.Sink E.Sink (λ o.
@@ -243,7 +246,15 @@ pub fn show_table<T: Row, S: Source, O: Sink, E: Sink>(
         piece: 0,
     };
     match item_count::<S, T>(elf, d) {
-        Ok(count) => show_table_lines::<T, S, O, E>(elf, s, count, table, outputs),
+        Ok(count) => {
+            let links = T::links(elf, s);
+            let table = Table {
+                section: s,
+                count,
+                links,
+            };
+            show_table_lines::<T, S, O, E>(elf, table, outputs)
+        }
         Err(e) => outputs.refuse(&Message {
             command: "readelf",
             name,

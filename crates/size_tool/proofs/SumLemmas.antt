@@ -30,7 +30,7 @@ module _ (counts : Shdr → Bool) where
   unfolding section_at
   size_added o i h before added b lt is so_far test more =
       let last : added ≡ size_if (counts (get_or o.sections i absent_section).header) (get_or o.sections i absent_section).header.size =
-          more ∙ ap (λ (q : Bool). size_if q h.size) test ∙ ap (λ (x : Shdr). size_if (counts x) x.size) is in
+      more ∙ ap (λ (q : Bool). size_if q h.size) test ∙ ap (λ (x : Shdr). size_if (counts x) x.size) is in
       omega (arith, so_far, last, size_more o.sections i absent_section lt)
 
   pub size_all : (xs : List Section) (i n : ℕ) → length xs ≤ i → n ≡ size_of counts (take i xs) → n ≡ size_of counts xs

@@ -19,7 +19,10 @@ impl Line for SizeTitle {
 
     #[tactic(auto, using(crate::proofs::Kept::kept), unfolding(crate::specs::Rows::size_title))]
     fn put(&self, page: &mut Octets) -> Result<(), ElfError> {
-        put_text(page, "   text\t   data\t    bss\t    dec\t    hex\tfilename\n")
+        put_text(
+            page,
+            "   text\t   data\t    bss\t    dec\t    hex\tfilename\n",
+        )
     }
 }
 

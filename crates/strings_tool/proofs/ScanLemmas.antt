@@ -6,8 +6,7 @@ use Rattle.tool_text.specs.declared.options.StringsOptions.{StringsOptions}
 use Rattle.tool_output.specs.declared.stops.Stop.{Stop}
 use Rattle.tool_output.specs.declared.outputs.Outputs.{Outputs}
 use Rattle.tool_output.specs.Reports.{Report, Reports, no_report, joined, shown, UnderWay}
-use Rattle.tool_output.proofs.UnderWayLemmas.{begins, line_shown, stops_at, goes_on, shown_append}
-use Rattle.tool_output.proofs.ReportLemmas.{joined_none}
+use Rattle.tool_output.proofs.UnderWayLemmas.{begins, line_shown, stops_at, goes_on, ends_with, shown_append}
 use Rattle.strings_tool.specs.Runs.{is_printable, Skips}
 use Rattle.strings_tool.specs.Texts.{least_len, range_text, piece_text, left_text}
 use Rattle.strings_tool.proofs.RunLemmas.{front_len}
@@ -33,6 +32,13 @@ abbrev pub rest_of : List ℕ → ℕ → List ℕ
 rest_of bytes used = take (length bytes - used) (drop used bytes)
 
 module _ {O E : Type 0} (o : Ghosts O) (e : Ghosts E) (options : StringsOptions) where
+  -- one part of a text after another
+  pub ways_join : {s t u : Outputs O E} {whole a b : Report} → UnderWay o e false s t whole a → UnderWay o e false t u a b → UnderWay o e false s u whole b
+  ways_join {s} {t} {u} {whole} {a} {b} h k = goes_on h k.done b (sym k.left) k.given refl
+
+  pub way_then_stop : {s t u : Outputs O E} {whole a : Report} {stop : Stop} → UnderWay o e false s t whole a → Reports o e (Err stop) t u a → Reports o e (Err stop) s u whole
+  way_then_stop {s} {t} {u} {whole} {a} {stop} h k = ends_with h (Err stop) a refl refl k
+
   -- nothing was used
   pub scan_begins : (t : Outputs O E) (at : ℕ) (bytes later : List ℕ)
       → UnderWay o e false t t (shown (range_text options at (bytes ++ later))) (shown (range_text options (at + 0) (drop 0 bytes ++ later)))
@@ -122,7 +128,7 @@ module _ {O E : Type 0} (o : Ghosts O) (e : Ghosts E) (options : StringsOptions)
     open_stops {u} {stop} r =
         stops_at (begins o e t (shown (left_text options true at (bytes ++ later)))) (shown open_piece) (shown (behind (not ends))) (parts _ open_piece (behind (not ends)) is_rest) r
 
-    module _ (done : not ends ≡ false) {u v : Outputs O E} {y : Bool} (first : Reports o e (Ok y) t u (shown open_piece)) where
+    module _ (done : not ends ≡ false) {u : Outputs O E} {y : Bool} (first : Reports o e (Ok y) t u (shown open_piece)) where
       shown_first : UnderWay o e false t u (shown (left_text options true at (bytes ++ later))) (shown (range_text options (at + n) (rest_of bytes n ++ later)))
       unfolding left_text
       shown_first =
@@ -130,16 +136,16 @@ module _ {O E : Type 0} (o : Ghosts O) (e : Ghosts E) (options : StringsOptions)
           (open_shows false done first)
 
       -- the line that was open ended, and what follows was looked at
-      pub rest_then : (used : ℕ) (is_open : Bool)
+      pub rest_then : {v : Outputs O E} (used : ℕ) (is_open : Bool)
           → UnderWay o e false u v (shown (range_text options (at + n) (rest_of bytes n ++ later))) (shown (left_text options is_open (at + n + used) (drop used (rest_of bytes n) ++ later)))
           → UnderWay o e false t v (shown (left_text options true at (bytes ++ later))) (shown (left_text options is_open (at + (n + used)) (drop (n + used) bytes ++ later)))
-      rest_then used is_open k =
+      rest_then {v} used is_open k =
           ways_join shown_first
           (subst (λ (p : ℕ). UnderWay o e false u v (shown (range_text options (at + n) (rest_of bytes n ++ later))) (shown (left_text options is_open p (drop (n + used) bytes ++ later))))
           (let same_place : at + n + used ≡ at + (n + used) = omega arith in same_place)
           (subst (λ (l : List ℕ). UnderWay o e false u v (shown (range_text options (at + n) (rest_of bytes n ++ later))) (shown (left_text options is_open (at + n + used) (l ++ later))))
           (ap (drop used) (rest_is bytes n) ∙ drop-drop used n bytes) k))
 
-      pub rest_then_stop : {stop : Stop} → Reports o e (Err stop) u v (shown (range_text options (at + n) (rest_of bytes n ++ later)))
+      pub rest_then_stop : {v : Outputs O E} {stop : Stop} → Reports o e (Err stop) u v (shown (range_text options (at + n) (rest_of bytes n ++ later)))
           → Reports o e (Err stop) t v (shown (left_text options true at (bytes ++ later)))
-      rest_then_stop {stop} k = way_then_stop shown_first k
+      rest_then_stop {v} {stop} k = way_then_stop shown_first k

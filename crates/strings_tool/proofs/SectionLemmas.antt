@@ -22,8 +22,9 @@ use Rattle.tool_output.specs.Reports.{Report, Reports, no_report, joined, shown,
 use Rattle.tool_output.specs.Sources.{ReportsOn}
 use Rattle.tool_output.proofs.StepLemmas.{keeps_none}
 use Rattle.tool_output.proofs.SourceLemmas.{reads_weaker}
-use Rattle.tool_output.proofs.ReportLemmas.{reports_none}
+use Rattle.tool_output.proofs.ReportLemmas.{or_false, reports_none}
 use Rattle.tool_output.proofs.UnderWayLemmas.{shown_none}
+use Rattle.object_output.proofs.SourceSteps.{OnWay, way_last}
 use Rattle.object_output.proofs.SectionLemmas.{number_left, no_number_left}
 use Rattle.strings_tool.specs.Texts.{least_len, range_text}
 use Rattle.strings_tool.specs.Homes.{range_report, home_report, section_by, section_report, sections_report}
@@ -113,3 +114,9 @@ module _ {S O E : Type 0} (s : SourceGhosts S) (o : SinkGhosts O) (e : SinkGhost
 
   pub says_nothing_on : (f : List ℕ → Report) (a : S) (t : Outputs O E) → IfSome (s.holds a) (λ image. f image ≡ no_report) → ReportsOn s o e f (Ok false) a a t t
   says_nothing_on f a t same = says_on f no_report (Ok false) a t t same (reports_none o e t) (record { keeps = keeps_none o e t; read = tt; write = tt })
+
+  -- nothing is left of a report that is given in steps
+  pub way_given : {x : Bool} {a b : S} {t u : Outputs O E} {whole rest : List ℕ → Report} → OnWay s o e x a b t u whole rest
+      → IfSome (s.holds b) (λ image. rest image ≡ no_report) → ReportsOn s o e whole (Ok x) a b t u
+  way_given {x} {a} {b} {t} {u} {whole} {rest} h none =
+      subst (λ (y : Bool). ReportsOn s o e whole (Ok y) a b t u) (or_false x) (way_last h (says_nothing_on rest b u none))

@@ -23,7 +23,8 @@ pub struct Scan {
 
 /// The least length of a run that is shown.
 pub fn least_len(options: &StringsOptions) -> usize
-    ensures { result ≡ least_len options.now }
+    ensures is { result ≡ least_len options.now }
+    ensures within { result < 2 ^ 32 }
 {
     options.least.max(1) as usize
 }

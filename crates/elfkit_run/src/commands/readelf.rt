@@ -1,31 +1,22 @@
 //! readelf: the parts of each file that it names.
 
-ghost use Rattle.std.specs.Prelude.{false, ◌≡◌, IsTrue};
-ghost use Rattle.tool_output.specs.Steps.{OnRead};
+ghost use Rattle.std.specs.Prelude.{IsTrue};
 ghost use Rattle.tool_output.specs.Files.{LeavesFiles};
 ghost use Rattle.tool_output.specs.Statuses.{refused_status};
 ghost use Rattle.tool_output.specs.Outcomes.{Does};
-ghost use Rattle.elfkit_run.specs.Readelf.{are_built, readelf_outcome};
+ghost use Rattle.elfkit_run.specs.Readelf.{readelf_outcome};
 
-use crate::commands::not_built;
 use crate::objects::each_object;
-use crate::titles::Titled;
+use crate::titles::{Title, Titled};
 use elf_outside::{Files, Sink};
 use readelf_tool::ReadelfTool;
 use std::alloc::Global;
 use tool_output::{Outputs, Stop};
 use tool_text::{Args, ReadelfParts};
 
-/// Whether all parts that are asked for are built: `h`, `l`, `S`, `s` and `d` are.
-#[tactic(auto, unfolding(crate::specs::Readelf::are_built))]
-fn are_built(parts: &ReadelfParts) -> bool
-    ensures { result ≡ are_built parts.now }
-{
-    !(parts.relocations || parts.notes || parts.versions)
-}
-
-/// The command readelf: the parts of each file, in the order of the names. The answer tells whether
-/// something was refused.
+/// The command readelf: the parts of each file, in the order of the names, and of each member of one
+/// that is an archive. The answer tells whether something was refused.
+#[tactic(auto, unfolding(crate::specs::Readelf::readelf_outcome))]
 pub fn readelf<F: Files, O: Sink, E: Sink>(
     alloc: Global,
     parts: &ReadelfParts,
@@ -33,26 +24,20 @@ pub fn readelf<F: Files, O: Sink, E: Sink>(
     files: &mut F,
     outputs: &mut Outputs<'_, O, E>,
 ) -> Result<bool, Stop>
-    ensures does { (IsTrue (are_built parts.now) → IsTrue (F.tells files.old)) →
-        Does F.Files O.Sink E.Sink refused_status
+    ensures does { IsTrue (F.tells files.old) → Does F.Files O.Sink E.Sink refused_status
         (readelf_outcome parts.now names.now (F.named files.old))
         result files.old files.new outputs.old outputs.new }
-    ensures untouched { are_built parts.now ≡ false →
-        (files.new ≡ files.old) × OnRead result ⊥ }
     ensures leaves { LeavesFiles F.Files O.Sink E.Sink
         result files.old files.new outputs.old outputs.new }
 {
-    if !are_built(parts) {
-        return not_built(files, outputs);
-    }
     let tool = &ReadelfTool { parts };
     let of_file = Titled {
         tool,
-        has_title: names.len() > 1,
+        title: Title::File.under(names.len() > 1),
     };
     let of_member = Titled {
         tool,
-        has_title: true,
+        title: Title::File,
     };
     each_object(alloc, &of_file, &of_member, names, files, outputs)
 }

@@ -4,11 +4,19 @@ use Rattle.elfkit_run.proofs.commands.run_command.Goals as goal
 
 pub returns-in-Readelf-clause-does : goal.returns-in-Readelf-clause-does
 unfolding command_outcome is_built
-returns-in-Readelf-clause-does g c = rw c.in-Readelf.is c.readelf.ensures.does
+returns-in-Readelf-clause-does g c = rw c.in-Readelf.is (λ told. c.readelf.ensures.does (told refl))
 
 pub returns-in-Readelf-clause-untouched : goal.returns-in-Readelf-clause-untouched
 unfolding is_built
-returns-in-Readelf-clause-untouched g c = rw c.in-Readelf.is c.readelf.ensures.untouched
+returns-in-Readelf-clause-untouched g c = rw c.in-Readelf.is (λ no. cc)
+
+pub returns-in-Nm-clause-does : goal.returns-in-Nm-clause-does
+unfolding command_outcome is_built
+returns-in-Nm-clause-does g c = rw c.in-Nm.is (λ told. c.nm.ensures.does (told refl))
+
+pub returns-in-Nm-clause-untouched : goal.returns-in-Nm-clause-untouched
+unfolding is_built
+returns-in-Nm-clause-untouched g c = rw c.in-Nm.is (λ no. cc)
 
 pub returns-in-Lines-clause-does : goal.returns-in-Lines-clause-does
 unfolding command_outcome is_built

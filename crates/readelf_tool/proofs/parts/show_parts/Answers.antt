@@ -1,40 +1,46 @@
-use Rattle.std.proofs.Common.{refl, sym, ◌∙◌}
+use Rattle.std.proofs.Common.{◌+◌, drop, refl, rules, ◌∙◌}
 use Rattle.std.proofs.lemmas.Result.{err_from_is_err_and}
-use Rattle.object_output.proofs.ElfSteps.{elf_left, elf_says, elf_as, elf_stop, elf_then, elf_then_stop}
-use Rattle.readelf_tool.specs.Parts.{if_asked, shows_sections, front_report, data_report, readelf_report}
-use Rattle.readelf_tool.proofs.PartLemmas.{front_alone, data_asked}
+use Rattle.tool_output.specs.Reports.{reports_of}
+use Rattle.tool_output.proofs.UnderWayLemmas.{reports_left, no_reports_left}
+use Rattle.object_output.proofs.ElfSteps.{elf_begins, elf_goes_on, elf_stops_at, elf_is_given}
+use Rattle.readelf_tool.specs.declared.parts.TheConstants.{LETTERS}
+use Rattle.readelf_tool.specs.Parts.{letter_part, readelf_report}
+use Rattle.readelf_tool.proofs.PartLemmas.{part_unread}
 use Rattle.readelf_tool.proofs.parts.show_parts.Goals as goal
 
-pub returns-in_err-front-clause-reports : goal.returns-in_err-front-clause-reports
+pub loop-letter-init : goal.loop-letter-init
 unfolding readelf_report
-returns-in_err-front-clause-reports g c =
+loop-letter-init g c = record {
+  report = elf_begins g.S.Source g.O.Sink g.E.Sink c.args.elf.now c.args.outputs.now _;
+  unread = λ off. refl;
+}
+
+pub loop-letter-preserved : goal.loop-letter-preserved
+loop-letter-preserved g c =
+    let parts = c.args.parts.now in
+    let name = c.args.name.now in
+    let i = c.loop-letter.letter-index in record {
+      report = elf_goes_on c.loop-letter.invariant.report _ (λ o. reports_of (λ l. letter_part parts name l o) (drop (i + 1) LETTERS))
+          (λ told. reports_left (λ l. letter_part parts name l c.args.elf.now.o) LETTERS i _ c.loop-letter-test.true (search rules))
+          c.in_ok-was_refused.ensures.reports refl;
+      unread = λ off. c.in_ok-was_refused.ensures.unread (part_unread parts _ i c.loop-letter-test.true (search rules) off) ∙ c.loop-letter.invariant.unread off;
+    }
+
+pub returns-in_err-was_refused-clause-reports : goal.returns-in_err-was_refused-clause-reports
+returns-in_err-was_refused-clause-reports g c =
+    let parts = c.args.parts.now in
+    let name = c.args.name.now in
+    let i = c.loop-letter.letter-index in
     let p = err_from_is_err_and c.from_residual.result c.from_residual.ensures.1 in
-    let parts = c.args.parts.now in
-    rw (p.1, p.2) (elf_stop g.S.Source g.O.Sink g.E.Sink (front_report parts) (λ o. if_asked (shows_sections parts) (data_report parts c.args.name.now o)) c.args.elf.now _ c.args.outputs.now _ _
-    (elf_says g.S.Source g.O.Sink g.E.Sink (front_report parts) _ c.args.elf.now _ c.args.outputs.now _ (elf_left g.S.Source c.args.elf.now) (λ told. c.in_err-front.ensures.reports) c.in_err-front.ensures.leaves))
+    rw (p.1, p.2) (elf_stops_at c.loop-letter.invariant.report _ (λ o. reports_of (λ l. letter_part parts name l o) (drop (i + 1) LETTERS))
+    (λ told. reports_left (λ l. letter_part parts name l c.args.elf.now.o) LETTERS i _ c.loop-letter-test.true (search rules))
+    c.in_err-was_refused.ensures.reports)
 
-pub returns-then-not-shows_sections-clause-reports : goal.returns-then-not-shows_sections-clause-reports
-returns-then-not-shows_sections-clause-reports g c =
-    let parts = c.args.parts.now in
-    elf_as g.S.Source g.O.Sink g.E.Sink (front_report parts) (readelf_report parts c.args.name.now) _ c.args.elf.now _ c.args.outputs.now _
-    (λ told. front_alone parts c.args.name.now c.args.elf.now.o (sym c.shows_sections.ensures ∙ c.if-not-shows_sections.true))
-    (elf_says g.S.Source g.O.Sink g.E.Sink (front_report parts) _ c.args.elf.now _ c.args.outputs.now _ (elf_left g.S.Source c.args.elf.now) (λ told. c.in_ok-front.ensures.reports) c.in_ok-front.ensures.leaves)
-
-pub returns-in_err-data-clause-reports : goal.returns-in_err-data-clause-reports
-unfolding readelf_report
-returns-in_err-data-clause-reports g c =
-    let p = err_from_is_err_and c.from_residual-in_err-data.result c.from_residual-in_err-data.ensures.1 in
-    let parts = c.args.parts.now in
-    rw (p.1, p.2) (elf_then_stop g.S.Source g.O.Sink g.E.Sink (front_report parts) (λ o. if_asked (shows_sections parts) (data_report parts c.args.name.now o)) c.args.elf.now _ _ c.args.outputs.now _ _ _ _
-    (elf_says g.S.Source g.O.Sink g.E.Sink (front_report parts) _ c.args.elf.now _ c.args.outputs.now _ (elf_left g.S.Source c.args.elf.now) (λ told. c.in_ok-front.ensures.reports) c.in_ok-front.ensures.leaves)
-    (elf_as g.S.Source g.O.Sink g.E.Sink (data_report parts c.args.name.now) (λ o. if_asked (shows_sections parts) (data_report parts c.args.name.now o)) _ c.args.elf.now _ _ _
-    (λ told. data_asked parts c.args.name.now c.args.elf.now.o (sym c.shows_sections.ensures ∙ c.if-not-shows_sections.false)) c.in_err-data.ensures))
+pub returns-in_err-was_refused-clause-unread : goal.returns-in_err-was_refused-clause-unread
+returns-in_err-was_refused-clause-unread g c = λ off.
+    c.in_err-was_refused.ensures.unread (part_unread c.args.parts.now _ c.loop-letter.letter-index c.loop-letter-test.true (search rules) off) ∙ c.loop-letter.invariant.unread off
 
 pub returns-clause-reports : goal.returns-clause-reports
-unfolding readelf_report
 returns-clause-reports g c =
-    let parts = c.args.parts.now in
-    elf_then g.S.Source g.O.Sink g.E.Sink (front_report parts) (λ o. if_asked (shows_sections parts) (data_report parts c.args.name.now o)) c.args.elf.now _ _ c.args.outputs.now _ _ _ _ _ refl
-    (elf_says g.S.Source g.O.Sink g.E.Sink (front_report parts) _ c.args.elf.now _ c.args.outputs.now _ (elf_left g.S.Source c.args.elf.now) (λ told. c.in_ok-front.ensures.reports) c.in_ok-front.ensures.leaves)
-    (elf_as g.S.Source g.O.Sink g.E.Sink (data_report parts c.args.name.now) (λ o. if_asked (shows_sections parts) (data_report parts c.args.name.now o)) _ c.args.elf.now _ _ _
-    (λ told. data_asked parts c.args.name.now c.args.elf.now.o (sym c.shows_sections.ensures ∙ c.if-not-shows_sections.false)) c.in_ok-data.ensures)
+    elf_is_given c.loop-letter.invariant.report
+    (λ told. no_reports_left (λ l. letter_part c.args.parts.now c.args.name.now l c.args.elf.now.o) LETTERS c.loop-letter.letter-index c.loop-letter-test.false)

@@ -8,5 +8,5 @@ use Rattle.readelf_tool.proofs.tables.show_rows.Given as goal
 abbrev pub invariant-loop-i : goal.invariant-loop-i
 invariant-loop-i g l =
     ElfUnderWay g.S.Source g.O.Sink g.E.Sink l.refused l.initial.elf l.elf l.initial.outputs l.outputs
-    (λ o. shown (numbered_lines (g.T.Row.line o l.s.0) 0 (g.T.Listed.list_of (items_at o l.s.0 0))))
-    (λ o. shown (numbered_lines (g.T.Row.line o l.s.0) l.i (drop l.i (g.T.Listed.list_of (items_at o l.s.0 0)))))
+    (λ o. shown (numbered_lines (g.T.Row.line o l.table.section.0) 0 (g.T.Listed.list_of (items_at o l.table.section.0 0))))
+    (λ o. shown (numbered_lines (g.T.Row.line o l.table.section.0) l.i (drop l.i (g.T.Listed.list_of (items_at o l.table.section.0 0)))))

@@ -6,15 +6,17 @@ use Rattle.readelf_tool.specs.Tables.{if_told, table_lines}
 use Rattle.readelf_tool.proofs.TableLemmas.{told_lines, told_refused, count_is}
 use Rattle.readelf_tool.proofs.tables.show_table.Goals as goal
 
-pub show_table_lines-requires-clause-passed : goal.show_table_lines-requires-clause-passed
-show_table_lines-requires-clause-passed g c =
-    (answered_value (lend_refusal c.args.elf.now.o g.T.Listed.kind c.args.s.0 0) (count_at c.args.elf.now.o c.args.s.0 0) c.in-Ok.count (sym c.in-Ok.ensures.answer)).0
-
-pub show_table_lines-requires-clause-count : goal.show_table_lines-requires-clause-count
-show_table_lines-requires-clause-count g c =
+pub show_table_lines-requires : goal.show_table_lines-requires
+show_table_lines-requires g c =
     let o = c.args.elf.now.o in
-    let value = answered_value (lend_refusal o g.T.Listed.kind c.args.s.0 0) (count_at o c.args.s.0 0) c.in-Ok.count (sym c.in-Ok.ensures.answer) in
-    value.1 ∙ count_is o c.args.s.0 0 ∙ sym (c.requires.counted (items_at o c.args.s.0 0) (lend_kind o g.T.Listed.kind c.args.s.0 0 value.0))
+    let s = c.args.s.0 in
+    let value = answered_value (lend_refusal o g.T.Listed.kind s 0) (count_at o s 0) c.in-Ok.count (sym c.in-Ok.ensures.answer) in
+    record {
+      section = c.requires.section;
+      passed = value.0;
+      count = value.1 ∙ count_is o s 0 ∙ sym (c.requires.counted (items_at o s 0) (lend_kind o g.T.Listed.kind s 0 value.0));
+      fit = c.links-links.ensures;
+    }
 
 pub returns-in-Ok : goal.returns-in-Ok
 returns-in-Ok g c =

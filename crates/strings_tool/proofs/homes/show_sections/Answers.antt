@@ -1,5 +1,10 @@
-use Rattle.object_output.proofs.SourceSteps.{way_begins, way_goes_on, way_stops_at, way_ends}
-use Rattle.strings_tool.specs.Homes.{sections_report}
+use Rattle.std.proofs.Common.{◌+◌, ℕ, List, length, arith, refl, rules}
+use Rattle.std.proofs.lemmas.Result.{err_from_is_err_and}
+use Rattle.ar_members.proofs.Told.{told_by}
+use Rattle.elf_object.specs.Open.{opened_section}
+use Rattle.object_output.proofs.SourceSteps.{way_begins, way_goes_on, way_stops_at}
+use Rattle.strings_tool.specs.Homes.{section_report, sections_report}
+use Rattle.strings_tool.proofs.SectionLemmas.{left_sections, sections_left, no_sections_left, way_given}
 use Rattle.strings_tool.proofs.homes.show_sections.Goals as goal
 
 pub loop-i-init : goal.loop-i-init
@@ -10,10 +15,30 @@ loop-i-init g c = record {
 }
 
 pub returns-in_err-was_refused : goal.returns-in_err-was_refused
-returns-in_err-was_refused g c = ?
+returns-in_err-was_refused g c =
+    let options = c.args.options.now in
+    let name = c.args.name.now in
+    let headers = c.args.headers.now in
+    let i = c.loop-i.i in
+    let p = err_from_is_err_and c.from_residual.result c.from_residual.ensures.1 in
+    rw (p.1, p.2) (way_stops_at c.loop-i.invariant.way _ (λ image. left_sections options name headers image (i + 1))
+    (told_by (g.S.Source.holds c.loop-i.src) (λ image there. sections_left options name headers image i _ c.loop-i-test.true (search rules)))
+    c.in_err-was_refused.ensures.reports)
 
 pub loop-i-preserved : goal.loop-i-preserved
-loop-i-preserved g c = ?
+loop-i-preserved g c =
+    let options = c.args.options.now in
+    let name = c.args.name.now in
+    let headers = c.args.headers.now in
+    let i = c.loop-i.i in
+    let room = c.loop-i.invariant.room in record {
+      way = way_goes_on c.loop-i.invariant.way _ (λ image. left_sections options name headers image (i + 1))
+          (told_by (g.S.Source.holds c.loop-i.src) (λ image there. sections_left options name headers image i _ c.loop-i-test.true (search rules)))
+          c.in_ok-was_refused.ensures.reports refl;
+      room = omega (arith, c.in_ok-was_refused.ensures.room, room);
+    }
 
 pub returns : goal.returns
-returns g c = ?
+returns g c =
+    way_given g.S.Source g.O.Sink g.E.Sink c.loop-i.invariant.way
+    (told_by (g.S.Source.holds c.loop-i.src) (λ image there. no_sections_left c.args.options.now c.args.name.now c.args.headers.now image c.loop-i.i c.loop-i-test.false))

@@ -13,7 +13,7 @@ runs-init g c = record {
 pub returns-then-bytes-used-clause-carries : goal.returns-then-bytes-used-clause-carries
 returns-then-bytes-used-clause-carries g c = λ later.
     scan_skips g.O.Sink g.E.Sink c.args.options.now c.args.bytes.now later c.args.at c.runs.used c.next_run-used.result (c.runs.invariant.text later)
-    c.least_len-least.result c.least_len-least.ensures c.next_run-used.ensures.skips
+    c.least_len-least.result c.least_len-least.ensures.is c.next_run-used.ensures.skips
 
 pub overflow_add-end : goal.overflow_add-end
 overflow_add-end g c =
@@ -37,7 +37,7 @@ returns-in_err-show-clause-carries g c =
     let rest = length-drop c.runs.used bytes in
     rw (p.1, p.2) (λ later.
     scan_stops g.O.Sink g.E.Sink c.args.options.now bytes later c.args.at c.runs.used t (c.runs.invariant.text later)
-    c.least_len-least.result c.least_len-least.ensures c.next_run-used.ensures.skips
+    c.least_len-least.result c.least_len-least.ensures.is c.next_run-used.ensures.skips
     n (used + n - used) (nat_lt (used + n) (length bytes)) refl c.run_len-len.ensures.len (omega (arith, inside, long, rest, there))
     (c.next_run-used.ensures.found (omega (arith, inside, long, rest, there))) (omega arith)
     c.in_err-show.ensures.reports)
@@ -54,7 +54,7 @@ returns-then-not-ends-clause-carries g c =
     let rest = length-drop c.runs.used bytes in
     λ later.
     scan_shows g.O.Sink g.E.Sink c.args.options.now bytes later c.args.at c.runs.used t (c.runs.invariant.text later)
-    c.least_len-least.result c.least_len-least.ensures c.next_run-used.ensures.skips
+    c.least_len-least.result c.least_len-least.ensures.is c.next_run-used.ensures.skips
     n (used + n - used) (nat_lt (used + n) (length bytes)) refl c.run_len-len.ensures.len (omega (arith, inside, long, rest, there))
     (c.next_run-used.ensures.found (omega (arith, inside, long, rest, there))) (omega arith)
     true (search rules) c.in_ok-show.ensures.reports
@@ -73,7 +73,7 @@ runs-preserved g c =
       within = omega (arith, inside, long, rest, there, ahead, length-take (length bytes - used) (drop used bytes), length-drop used bytes);
       text = λ later.
     scan_ended g.O.Sink g.E.Sink c.args.options.now bytes later c.args.at c.runs.used t (c.runs.invariant.text later)
-    c.least_len-least.result c.least_len-least.ensures c.next_run-used.ensures.skips
+    c.least_len-least.result c.least_len-least.ensures.is c.next_run-used.ensures.skips
     n (used + n - used) (nat_lt (used + n) (length bytes)) refl c.run_len-len.ensures.len (omega (arith, inside, long, rest, there))
     (c.next_run-used.ensures.found (omega (arith, inside, long, rest, there))) (omega arith)
     (search rules) c.in_ok-show.ensures.reports;

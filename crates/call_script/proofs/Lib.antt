@@ -1,0 +1,5 @@
+pub mod Pieces
+pub mod Values
+pub mod Narrowed
+pub mod TextWords
+pub mod LinesRead

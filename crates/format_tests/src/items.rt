@@ -1,0 +1,415 @@
+//! The items of sections against bytes written by hand from the tables of the gABI.
+
+mod values;
+
+use elf_types::{Class, Dyn, ElfError, Kind, Octets, Order, Rel, Rela, Sym};
+use elf_xlate::{Items, XlateError, fsize, number, put_items, to_file, to_memory, unfit};
+use std::alloc::Global;
+use values::{Form, Value, is_first, is_single, kind, of_two};
+
+const NARROW_LEAST: Form = (Class::C32, Order::Least);
+
+const NARROW_GREATEST: Form = (Class::C32, Order::Greatest);
+
+const BROAD_LEAST: Form = (Class::C64, Order::Least);
+
+const BROAD_GREATEST: Form = (Class::C64, Order::Greatest);
+
+/// Whether items that fit are written as these bytes, into as many, as the range of all of them.
+fn is_range(items: &Items, form: Form, bytes: &[u8], out: &mut [u8]) -> bool {
+    let Some(size) = fsize(items.kind(), form.0, items.count()) else {
+        return false;
+    };
+    if out.len() as u64 != size || unfit(items, form.0).is_some() {
+        return false;
+    }
+    put_items(items, form.0, form.1, 0, items.count(), out);
+    *out == *bytes
+}
+
+/// Whether items are written as these bytes behind a byte that stays.
+fn is_appended(items: &Items, form: Form, bytes: &[u8], out: &mut Octets) -> bool {
+    let written = to_file(items, form.0, form.1, out).is_ok();
+    written && out.as_slice().strip_prefix(&[7]) == Some(bytes)
+}
+
+/// Whether items are written as these bytes, behind others and as a range.
+fn is_written(alloc: Global, items: &Items, form: Form, bytes: &[u8]) -> Result<bool, ElfError> {
+    let mut range = vec![in alloc; 0u8; bytes.len()]?;
+    if !is_range(items, form, bytes, range.as_mut_slice()) {
+        return Ok(false);
+    }
+    let mut out = Octets::from_slice(alloc, &[7])?;
+    Ok(is_appended(items, form, bytes, &mut out))
+}
+
+/// A form, bytes, and the item that they hold in it.
+type Row = (Form, &'static [u8], Value);
+
+/// Whether bytes hold an item in a form, in a list, and are written for it again.
+fn is_held(alloc: Global, form: Form, bytes: &[u8], value: Value) -> bool {
+    match to_memory(alloc, kind(value), form.0, form.1, bytes) {
+        Ok(items) => is_first(&items, value) && is_written(alloc, &items, form, bytes) == Ok(true),
+        Err(_) => false,
+    }
+}
+
+/// Whether it is so of each row, and the bytes hold the item alone.
+fn are_held(alloc: Global, rows: &[Row]) -> bool {
+    let mut stated = true;
+    for (form, bytes, value) in rows {
+        stated &= is_single(*form, bytes, *value) && is_held(alloc, *form, bytes, *value);
+    }
+    stated
+}
+
+/// Whether two items are refused in class 32 by the second, with nothing written, and fit class 64.
+fn is_refused(items: &Items, out: &mut Octets) -> bool {
+    let refused = to_file(items, Class::C32, Order::Least, out);
+    let narrow = refused == Err(XlateError::Unfit { index: 1 }) && out.is_empty();
+    narrow && unfit(items, Class::C64).is_none()
+}
+
+/// Whether each of the items is refused behind one that fits.
+fn are_refused(alloc: Global, good: Value, others: &[Value]) -> bool {
+    let mut stated = true;
+    for other in others {
+        stated &= is_refused(&of_two(alloc, good, *other), &mut Octets::new(alloc));
+    }
+    stated
+}
+
+/// Whether bytes hold their items in their forms, and the others are refused behind a good one.
+fn are_translated(alloc: Global, rows: &[Row], good: Value, others: &[Value]) -> bool {
+    are_held(alloc, rows) && are_refused(alloc, good, others)
+}
+
+const NARROW_SYM: Sym = Sym {
+    name: 0x0102_0304,
+    info: 0x12,
+    other: 3,
+    shndx: 0xfff1,
+    value: 0xffff_ffff,
+    size: 0x10,
+};
+
+const BROAD_SYM: Sym = Sym {
+    name: 0x0102_0304,
+    info: 0x12,
+    other: 3,
+    shndx: 0xfff1,
+    value: 0x1122_3344_5566_7788,
+    size: 0xff00_0000_0000_0001,
+};
+
+const SYMBOLS: [Row; 4] = [
+    (
+        NARROW_LEAST,
+        b"\x04\x03\x02\x01\xff\xff\xff\xff\x10\0\0\0\x12\x03\xf1\xff",
+        Value::Sym(NARROW_SYM),
+    ),
+    (
+        NARROW_GREATEST,
+        b"\x01\x02\x03\x04\xff\xff\xff\xff\0\0\0\x10\x12\x03\xff\xf1",
+        Value::Sym(NARROW_SYM),
+    ),
+    (
+        BROAD_LEAST,
+        b"\x04\x03\x02\x01\x12\x03\xf1\xff\x88wfUD3\"\x11\x01\0\0\0\0\0\0\xff",
+        Value::Sym(BROAD_SYM),
+    ),
+    (
+        BROAD_GREATEST,
+        b"\x01\x02\x03\x04\x12\x03\xff\xf1\x11\"3DUfw\x88\xff\0\0\0\0\0\0\x01",
+        Value::Sym(BROAD_SYM),
+    ),
+];
+
+const UNFIT_SYMBOLS: [Value; 2] = [
+    Value::Sym(Sym {
+        value: 1 << 32,
+        ..NARROW_SYM
+    }),
+    Value::Sym(Sym {
+        size: 1 << 32,
+        ..NARROW_SYM
+    }),
+];
+
+#[test]
+fn symbols(rt: HostRuntime) {
+    assert!(rt; are_translated(rt.alloc(), &SYMBOLS, Value::Sym(NARROW_SYM), &UNFIT_SYMBOLS));
+}
+
+const NARROW_REL: Rel = Rel {
+    offset: 0xffff_fffe,
+    sym: 0x00ab_cdef,
+    rtype: 0xff,
+};
+
+const BROAD_REL: Rel = Rel {
+    offset: 0x0102_0304_0506_0708,
+    sym: 0x89ab_cdef,
+    rtype: 0xffff_fffe,
+};
+
+const RELOCATIONS: [Row; 4] = [
+    (
+        NARROW_LEAST,
+        b"\xfe\xff\xff\xff\xff\xef\xcd\xab",
+        Value::Rel(NARROW_REL),
+    ),
+    (
+        NARROW_GREATEST,
+        b"\xff\xff\xff\xfe\xab\xcd\xef\xff",
+        Value::Rel(NARROW_REL),
+    ),
+    (
+        BROAD_LEAST,
+        b"\x08\x07\x06\x05\x04\x03\x02\x01\xfe\xff\xff\xff\xef\xcd\xab\x89",
+        Value::Rel(BROAD_REL),
+    ),
+    (
+        BROAD_GREATEST,
+        b"\x01\x02\x03\x04\x05\x06\x07\x08\x89\xab\xcd\xef\xff\xff\xff\xfe",
+        Value::Rel(BROAD_REL),
+    ),
+];
+
+const UNFIT_RELOCATIONS: [Value; 3] = [
+    Value::Rel(Rel {
+        offset: 1 << 32,
+        ..NARROW_REL
+    }),
+    Value::Rel(Rel {
+        sym: 1 << 24,
+        ..NARROW_REL
+    }),
+    Value::Rel(Rel {
+        rtype: 1 << 8,
+        ..NARROW_REL
+    }),
+];
+
+#[test]
+fn relocations(rt: HostRuntime) {
+    assert!(rt;
+        are_translated(
+            rt.alloc(),
+            &RELOCATIONS,
+            Value::Rel(NARROW_REL),
+            &UNFIT_RELOCATIONS
+        )
+    );
+}
+
+/// A relocation of the symbol 3 and the type 2 at the place 1, with the addend 0.
+const RELA: Rela = Rela {
+    offset: 1,
+    sym: 3,
+    rtype: 2,
+    addend: 0,
+};
+
+const WITH_ADDENDS: [Row; 4] = [
+    (
+        NARROW_LEAST,
+        b"\x01\0\0\0\x02\x03\0\0\0\0\0\x80",
+        Value::Rela(Rela {
+            addend: -0x8000_0000,
+            ..RELA
+        }),
+    ),
+    (
+        NARROW_GREATEST,
+        b"\0\0\0\x01\0\0\x03\x02\x7f\xff\xff\xff",
+        Value::Rela(Rela {
+            addend: 0x7fff_ffff,
+            ..RELA
+        }),
+    ),
+    (
+        BROAD_LEAST,
+        b"\x01\0\0\0\0\0\0\0\x02\0\0\0\x03\0\0\0\0\0\0\0\0\0\0\x80",
+        Value::Rela(Rela {
+            addend: i64::MIN,
+            ..RELA
+        }),
+    ),
+    (
+        BROAD_GREATEST,
+        b"\0\0\0\0\0\0\0\x01\0\0\0\x03\0\0\0\x02\xff\xff\xff\xff\xff\xff\xff\xfe",
+        Value::Rela(Rela { addend: -2, ..RELA }),
+    ),
+];
+
+const UNFIT_ADDENDS: [Value; 2] = [
+    Value::Rela(Rela {
+        addend: -0x8000_0001,
+        ..RELA
+    }),
+    Value::Rela(Rela {
+        addend: 0x8000_0000,
+        ..RELA
+    }),
+];
+
+#[test]
+fn relocations_with_addends(rt: HostRuntime) {
+    assert!(rt; are_translated(rt.alloc(), &WITH_ADDENDS, Value::Rela(RELA), &UNFIT_ADDENDS));
+}
+
+const NARROW_DYN: Dyn = Dyn {
+    tag: 0x7fff_ffff,
+    val: 0xffff_ffff,
+};
+
+const DYNAMIC: [Row; 4] = [
+    (
+        NARROW_LEAST,
+        b"\xff\xff\xff\x7f\xff\xff\xff\xff",
+        Value::Dyn(NARROW_DYN),
+    ),
+    (
+        NARROW_GREATEST,
+        b"\xff\xff\xff\xfe\0\0\0\x05",
+        Value::Dyn(Dyn { tag: -2, val: 5 }),
+    ),
+    (
+        BROAD_LEAST,
+        b"\xff\xff\xff\xff\xff\xff\xff\x7f\0\0\0\0\0\0\0\x80",
+        Value::Dyn(Dyn {
+            tag: i64::MAX,
+            val: 1 << 63,
+        }),
+    ),
+    (
+        BROAD_GREATEST,
+        b"\xff\xff\xff\xff\xff\xff\xff\xff\0\0\0\0\0\0\0\x01",
+        Value::Dyn(Dyn { tag: -1, val: 1 }),
+    ),
+];
+
+const UNFIT_DYNAMIC: [Value; 2] = [
+    Value::Dyn(Dyn {
+        tag: 1 << 31,
+        val: 0,
+    }),
+    Value::Dyn(Dyn {
+        tag: 0,
+        val: 1 << 32,
+    }),
+];
+
+#[test]
+fn dynamic_entries(rt: HostRuntime) {
+    assert!(rt; are_translated(rt.alloc(), &DYNAMIC, Value::Dyn(NARROW_DYN), &UNFIT_DYNAMIC));
+}
+
+const NUMBERS: [Row; 8] = [
+    (NARROW_LEAST, b"\x01\x02", Value::Half(0x0201)),
+    (NARROW_GREATEST, b"\x01\x02", Value::Half(0x0102)),
+    (NARROW_LEAST, b"\xff\0\0\x80", Value::Word(0x8000_00ff)),
+    (NARROW_GREATEST, b"\xff\0\0\x80", Value::Word(0xff00_0080)),
+    (NARROW_LEAST, b"\xff\0\0\x80", Value::Addr(0x8000_00ff)),
+    (NARROW_GREATEST, b"\xff\0\0\x80", Value::Addr(0xff00_0080)),
+    (
+        BROAD_LEAST,
+        b"\x01\x02\x03\x04\xff\0\0\x80",
+        Value::Addr(0x8000_00ff_0403_0201),
+    ),
+    (
+        BROAD_GREATEST,
+        b"\x01\x02\x03\x04\xff\0\0\x80",
+        Value::Addr(0x0102_0304_ff00_0080),
+    ),
+];
+
+const UNFIT_ADDRESSES: [Value; 2] = [Value::Addr(1 << 32), Value::Addr(u64::MAX)];
+
+#[test]
+fn numbers_alone(rt: HostRuntime) {
+    let good = Value::Addr(0xffff_ffff);
+    assert!(rt; are_translated(rt.alloc(), &NUMBERS, good, &UNFIT_ADDRESSES));
+}
+
+/// The numbers that three bytes hold in the two orders.
+fn both_of_three() -> (u64, u64) {
+    let bytes = b"\x01\x02\x03";
+    (number(Order::Least, bytes), number(Order::Greatest, bytes))
+}
+
+#[test]
+fn a_number_of_three_bytes(rt: HostRuntime) {
+    assert!(rt; both_of_three() == (0x03_0201, 0x01_0203));
+}
+
+/// A kind, and the size of an item in class 32 and in class 64.
+const SIZES: [(Kind, u64, u64); 7] = [
+    (Kind::Half, 2, 2),
+    (Kind::Word, 4, 4),
+    (Kind::Addr, 4, 8),
+    (Kind::Sym, 16, 24),
+    (Kind::Rel, 8, 16),
+    (Kind::Rela, 12, 24),
+    (Kind::Dyn, 8, 16),
+];
+
+/// How many items of a kind three bytes hold in class 64.
+fn count_in_three(alloc: Global, kind: Kind) -> Result<u64, XlateError> {
+    match to_memory(alloc, kind, Class::C64, Order::Least, b"odd") {
+        Ok(items) => Ok(items.count()),
+        Err(e) => Err(e),
+    }
+}
+
+/// Whether the items of a kind have these sizes, and are not read of fewer bytes.
+fn has_sizes(alloc: Global, kind: Kind, narrow: u64, broad: u64) -> bool {
+    let sizes = fsize(kind, Class::C32, 3) == Some(narrow.wrapping_mul(3))
+        && fsize(kind, Class::C64, 1) == Some(broad);
+    sizes && count_in_three(alloc, kind) == Err(XlateError::Ragged)
+}
+
+/// Whether the kinds have those sizes.
+fn sizes_are_told(alloc: Global) -> bool {
+    let mut stated = fsize(Kind::Half, Class::C64, 1 << 63).is_none();
+    stated &= count_in_three(alloc, Kind::Empty) == Ok(0);
+    for (kind, narrow, broad) in SIZES {
+        stated &= has_sizes(alloc, kind, narrow, broad);
+    }
+    stated
+}
+
+#[test]
+fn sizes(rt: HostRuntime) {
+    assert!(rt; sizes_are_told(rt.alloc()));
+}
+
+/// Errors and their texts.
+const TEXTS: [(XlateError, &str); 3] = [
+    (XlateError::Memory, "out of memory"),
+    (XlateError::Ragged, "ragged"),
+    (XlateError::Unfit { index: 12 }, "unfit index 12"),
+];
+
+/// Whether an error has a text.
+fn has_text(alloc: Global, error: &XlateError, text: &str) -> bool {
+    match format!(in alloc; "{error}") {
+        Ok(shown) => shown.as_str() == text,
+        Err(_) => false,
+    }
+}
+
+/// Whether the errors have those texts.
+fn texts_are_shown(alloc: Global) -> bool {
+    let mut stated = true;
+    for (error, text) in TEXTS {
+        stated &= has_text(alloc, &error, text);
+    }
+    stated
+}
+
+#[test]
+fn texts_of_errors(rt: HostRuntime) {
+    assert!(rt; texts_are_shown(rt.alloc()));
+}

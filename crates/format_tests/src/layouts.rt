@@ -1,0 +1,451 @@
+//! The places of the parts of worked images, and the parts that share bytes.
+
+use elf_layout::{PartAt, Parts, Places, overlap, place, ranks_by_position, rounded_within};
+use elf_types::{Class, ElfError, Part};
+use std::alloc::Global;
+
+/// A number, an alignment, a limit, and the next multiple within the limit.
+type Rounding = (u64, u64, u64, Option<u64>);
+
+const ROUNDINGS: [Rounding; 9] = [
+    (67, 0, 100, Some(67)),
+    (67, 1, 100, Some(67)),
+    (67, 8, 72, Some(72)),
+    (67, 8, 71, None),
+    (72, 8, 72, Some(72)),
+    (67, 3, 100, Some(69)),
+    (1, u64::MAX, u64::MAX, Some(u64::MAX)),
+    (u64::MAX, 2, u64::MAX, None),
+    (101, 1, 100, None),
+];
+
+/// Whether the numbers are rounded as stated.
+fn are_rounded() -> bool {
+    let mut stated = true;
+    for (n, align, limit, multiple) in ROUNDINGS {
+        stated &= rounded_within(n, align, limit) == multiple;
+    }
+    stated
+}
+
+#[test]
+fn rounds_up_to_any_alignment(rt: HostRuntime) {
+    assert!(rt; are_rounded());
+}
+
+/// A part with bytes in the file: its position, its length and its alignment.
+type Row = (Part, u64, u64, u64);
+
+/// A part that has its bytes in the file.
+fn filled(row: Row) -> PartAt {
+    let (part, at, len, align) = row;
+    PartAt {
+        part,
+        at,
+        len,
+        align,
+        filled: true,
+    }
+}
+
+/// A part that has no bytes in the file.
+fn bare(row: Row) -> PartAt {
+    let (part, at, len, align) = row;
+    PartAt {
+        part,
+        at,
+        len,
+        align,
+        filled: false,
+    }
+}
+
+/// Adds parts with bytes.
+fn add(parts: &mut Parts, rows: &[Row]) -> Result<(), ElfError> {
+    for row in rows {
+        parts.push(filled(*row))?;
+    }
+    Ok(())
+}
+
+/// Parts with bytes.
+fn parts_of(alloc: Global, rows: &[Row]) -> Result<Parts, ElfError> {
+    let mut parts = Parts::new(alloc);
+    add(&mut parts, rows)?;
+    Ok(parts)
+}
+
+/// Whether parts are placed at these positions, and the image ends there.
+fn stand_at(placed: Result<Places, ElfError>, positions: &[u64], end: u64) -> bool {
+    match placed {
+        Ok(places) => places.at.as_slice() == positions && places.end == end,
+        Err(_) => false,
+    }
+}
+
+/// A string table and a symbol table in class 64, in an image of 312 bytes.
+const WIDE: [Row; 5] = [
+    (Part::Header, 0, 64, 1),
+    (Part::Segments, 64, 0, 1),
+    (Part::Section(1), 64, 3, 1),
+    (Part::Section(2), 72, 48, 8),
+    (Part::Table, 120, 192, 8),
+];
+
+/// Their positions.
+const WIDE_AT: [u64; 5] = [0, 64, 64, 72, 120];
+
+/// The same in class 32, in an image of 208 bytes.
+const NARROW: [Row; 5] = [
+    (Part::Header, 0, 52, 1),
+    (Part::Segments, 52, 0, 1),
+    (Part::Section(1), 52, 3, 1),
+    (Part::Section(2), 56, 32, 4),
+    (Part::Table, 88, 120, 4),
+];
+
+/// Their positions.
+const NARROW_AT: [u64; 5] = [0, 52, 52, 56, 88];
+
+/// Whether parts are placed at these positions, in order and where the caller puts them.
+fn stay_at(alloc: Global, parts: &Parts, positions: &[u64], length: u64, class: Class) -> bool {
+    let moved = place(alloc, parts, false, length, class);
+    stand_at(moved, positions, length)
+        && stand_at(place(alloc, parts, true, length, class), positions, length)
+}
+
+/// Whether each part is placed where it stands, and the image keeps its length.
+fn stays(
+    alloc: Global,
+    rows: &[Row],
+    positions: &[u64],
+    length: u64,
+    class: Class,
+) -> Result<bool, ElfError> {
+    let parts = parts_of(alloc, rows)?;
+    Ok(stay_at(alloc, &parts, positions, length, class))
+}
+
+/// Whether both images stay.
+fn both_stay(alloc: Global) -> Result<bool, ElfError> {
+    let wide = stays(alloc, &WIDE, &WIDE_AT, 312, Class::C64)?;
+    let narrow = stays(alloc, &NARROW, &NARROW_AT, 208, Class::C32)?;
+    Ok(wide && narrow)
+}
+
+#[test]
+fn an_image_stands_where_it_stood(rt: HostRuntime) {
+    assert!(rt; both_stay(rt.alloc()) == Ok(true));
+}
+
+/// The parts of an image of class 64, the position of each, and the image's length.
+struct Image {
+    parts: &'static [Row],
+    positions: &'static [u64],
+    end: u64,
+}
+
+const IMAGES: [Image; 4] = [
+    // data, a symbol table and two string tables
+    Image {
+        parts: &[
+            (Part::Header, 0, 64, 1),
+            (Part::Segments, 0, 0, 1),
+            (Part::Section(1), 0, 2, 1),
+            (Part::Section(2), 0, 48, 8),
+            (Part::Section(3), 0, 4, 1),
+            (Part::Section(4), 0, 31, 1),
+            (Part::Table, 0, 320, 8),
+        ],
+        positions: &[0, 64, 64, 72, 120, 124, 160],
+        end: 480,
+    },
+    // a program header and a third section with an alignment of 4
+    Image {
+        parts: &[
+            (Part::Header, 0, 64, 1),
+            (Part::Segments, 0, 56, 1),
+            (Part::Section(1), 0, 3, 1),
+            (Part::Section(2), 0, 48, 8),
+            (Part::Section(3), 0, 2, 4),
+            (Part::Table, 0, 256, 8),
+        ],
+        positions: &[0, 64, 120, 128, 176, 184],
+        end: 440,
+    },
+    // one section of two pieces moves those behind it
+    Image {
+        parts: &[
+            (Part::Header, 0, 64, 1),
+            (Part::Segments, 0, 0, 1),
+            (Part::Section(1), 0, 8, 8),
+            (Part::Section(2), 0, 16, 8),
+            (Part::Section(3), 0, 8, 8),
+            (Part::Table, 0, 256, 8),
+        ],
+        positions: &[0, 64, 64, 72, 88, 96],
+        end: 352,
+    },
+    // a name table without names
+    Image {
+        parts: &[
+            (Part::Header, 0, 64, 1),
+            (Part::Segments, 0, 0, 1),
+            (Part::Section(1), 0, 1, 1),
+            (Part::Table, 0, 128, 8),
+        ],
+        positions: &[0, 64, 64, 72],
+        end: 200,
+    },
+];
+
+/// Whether an image is laid out as stated.
+fn is_laid_out(alloc: Global, image: &Image) -> Result<bool, ElfError> {
+    let parts = parts_of(alloc, image.parts)?;
+    let placed = place(alloc, &parts, false, 0, Class::C64);
+    Ok(stand_at(placed, image.positions, image.end))
+}
+
+/// Whether the images are.
+fn are_laid_out(alloc: Global) -> Result<bool, ElfError> {
+    let mut stated = true;
+    for image in IMAGES.iter() {
+        stated &= is_laid_out(alloc, image)?;
+    }
+    Ok(stated)
+}
+
+#[test]
+fn sections_follow_the_program_headers(rt: HostRuntime) {
+    assert!(rt; are_laid_out(rt.alloc()) == Ok(true));
+}
+
+/// The position, the length and the alignment of sections 1 to 3.
+type Three = [(u64, u64, u64); 3];
+
+/// Sections 1 to 3.
+fn three(alloc: Global, rows: &Three) -> Result<Parts, ElfError> {
+    let [a, b, c] = *rows;
+    parts_of(
+        alloc,
+        &[
+            (Part::Section(1), a.0, a.1, a.2),
+            (Part::Section(2), b.0, b.1, b.2),
+            (Part::Section(3), c.0, c.1, c.2),
+        ],
+    )
+}
+
+/// Three sections, their positions behind one another, and where they end.
+type Following = (Three, [u64; 3], u64);
+
+const FOLLOWING: [Following; 3] = [
+    // alignments of 0 and 3
+    ([(9, 64, 0), (9, 3, 0), (9, 5, 3)], [0, 64, 69], 74),
+    // an empty section moves the end to its alignment, and is no part of the length
+    ([(9, 65, 1), (9, 0, 16), (9, 1, 1)], [0, 80, 80], 81),
+    ([(9, 65, 1), (9, 0, 16), (9, 0, 1)], [0, 80, 80], 65),
+];
+
+/// Whether sections follow one another as stated.
+fn follow(alloc: Global, following: &Following) -> Result<bool, ElfError> {
+    let parts = three(alloc, &following.0)?;
+    let placed = place(alloc, &parts, false, 1000, Class::C32);
+    Ok(stand_at(placed, &following.1, following.2))
+}
+
+/// Adds sections 1 to 3, of which the second has no bytes in the file.
+fn add_around_bare(parts: &mut Parts) -> Result<(), ElfError> {
+    parts.push(filled((Part::Section(1), 9, 65, 1)))?;
+    parts.push(bare((Part::Section(2), 9, 100, 16)))?;
+    parts.push(filled((Part::Section(3), 9, 1, 1)))
+}
+
+/// The positions of those.
+const AROUND_BARE: [u64; 3] = [0, 80, 65];
+
+/// Whether a section without bytes has a position of its own and moves nothing.
+fn bare_moves_nothing(alloc: Global) -> Result<bool, ElfError> {
+    let mut parts = Parts::new(alloc);
+    add_around_bare(&mut parts)?;
+    let placed = place(alloc, &parts, false, 1000, Class::C32);
+    Ok(stand_at(placed, &AROUND_BARE, 66))
+}
+
+/// Whether all do.
+fn all_follow(alloc: Global) -> Result<bool, ElfError> {
+    let mut stated = true;
+    for following in FOLLOWING.iter() {
+        stated &= follow(alloc, following)?;
+    }
+    Ok(stated)
+}
+
+#[test]
+fn parts_follow_one_another(rt: HostRuntime) {
+    assert!(rt; all_follow(rt.alloc()) == Ok(true));
+}
+
+#[test]
+fn a_part_without_bytes_moves_nothing(rt: HostRuntime) {
+    assert!(rt; bare_moves_nothing(rt.alloc()) == Ok(true));
+}
+
+/// Three sections, and the first of them that a later one meets, with that one.
+type Meeting = (Three, Option<(Part, Part)>);
+
+const MEETINGS: [Meeting; 8] = [
+    // they touch, and share one byte
+    ([(0, 64, 1), (64, 3, 1), (67, 1, 1)], None),
+    ([(0, 64, 1), (63, 1, 1), (64, 1, 1)], FIRST_TWO),
+    // an empty part lies anywhere
+    ([(0, 64, 1), (10, 0, 1), (64, 1, 1)], None),
+    // at one position the rank decides
+    ([(8, 4, 1), (8, 4, 1), (0, 8, 1)], FIRST_TWO),
+    // the first that a later one meets, and the one next after it
+    ([(40, 2, 1), (0, 50, 1), (20, 5, 1)], LAST_TWO),
+    ([(0, 5, 1), (10, 9, 1), (12, 1, 1)], LAST_TWO),
+    // ends past 2^64
+    ([(u64::MAX, 2, 1), (u64::MAX - 1, 1, 1), (0, 1, 1)], None),
+    (
+        [(u64::MAX - 1, u64::MAX, 1), (u64::MAX, 1, 1), (0, 1, 1)],
+        FIRST_TWO,
+    ),
+];
+
+/// The second section meets the first.
+const FIRST_TWO: Option<(Part, Part)> = Some((Part::Section(1), Part::Section(2)));
+
+/// The third section meets the second.
+const LAST_TWO: Option<(Part, Part)> = Some((Part::Section(2), Part::Section(3)));
+
+/// The parts that share bytes where the caller places them, if that is what is refused, and none
+/// where nothing is but the length.
+fn refused_pair(placed: Result<Places, ElfError>) -> Result<Option<(Part, Part)>, ElfError> {
+    match placed {
+        Ok(_) | Err(ElfError::TooLarge) => Ok(None),
+        Err(ElfError::Overlap { a, b }) => Ok(Some((a, b))),
+        Err(e) => Err(e),
+    }
+}
+
+/// Whether sections meet as stated, and are refused so where the caller places them.
+fn meet(alloc: Global, meeting: &Meeting) -> Result<bool, ElfError> {
+    let parts = three(alloc, &meeting.0)?;
+    let refused = refused_pair(place(alloc, &parts, true, 0, Class::C64));
+    Ok(refused == Ok(meeting.1) && overlap(alloc, parts.as_slice()) == Ok(meeting.1))
+}
+
+/// Whether all do.
+fn all_meet(alloc: Global) -> Result<bool, ElfError> {
+    let mut stated = true;
+    for meeting in MEETINGS.iter() {
+        stated &= meet(alloc, meeting)?;
+    }
+    Ok(stated)
+}
+
+#[test]
+fn parts_share_no_byte(rt: HostRuntime) {
+    assert!(rt; all_meet(rt.alloc()) == Ok(true));
+}
+
+/// Three sections, and the ranks of those that are not empty, by their positions.
+type Ranking = (Three, &'static [usize]);
+
+const RANKINGS: [Ranking; 3] = [
+    ([(40, 2, 1), (0, 50, 1), (20, 5, 1)], &[1, 2, 0]),
+    // at one position the rank decides
+    ([(8, 4, 1), (8, 4, 1), (0, 8, 1)], &[2, 0, 1]),
+    // an empty part has none
+    ([(5, 1, 1), (0, 0, 1), (4, 9, 1)], &[2, 0]),
+];
+
+/// Whether parts are ranked as stated.
+fn have_ranks(alloc: Global, parts: &[PartAt], ranks: &[usize]) -> Result<bool, ElfError> {
+    Ok(ranks_by_position(alloc, parts)?.as_slice() == ranks)
+}
+
+/// Whether sections are.
+fn are_ranked(alloc: Global, ranking: &Ranking) -> Result<bool, ElfError> {
+    let parts = three(alloc, &ranking.0)?;
+    have_ranks(alloc, parts.as_slice(), ranking.1)
+}
+
+/// Whether all are.
+fn all_are_ranked(alloc: Global) -> Result<bool, ElfError> {
+    let mut stated = true;
+    for ranking in RANKINGS.iter() {
+        stated &= are_ranked(alloc, ranking)?;
+    }
+    Ok(stated)
+}
+
+#[test]
+fn ranks_go_by_position(rt: HostRuntime) {
+    assert!(rt; all_are_ranked(rt.alloc()) == Ok(true));
+}
+
+/// How parts are refused, if they are.
+fn refusal_of(alloc: Global, parts: &[PartAt], layout: bool, class: Class) -> Option<ElfError> {
+    match Parts::from_slice(alloc, parts) {
+        Ok(parts) => place(alloc, &parts, layout, 0, class).err(),
+        Err(e) => Some(e),
+    }
+}
+
+/// The header of an image of class 64.
+const HEADER: Row = (Part::Header, 0, 64, 1);
+
+/// Whether an image is refused as stated that reaches an end by its header, in order and where the
+/// caller places it.
+fn long_header_is(alloc: Global, class: Class, end: u64, stated: Option<ElfError>) -> bool {
+    let long = [filled((Part::Header, 0, end, 1))];
+    refusal_of(alloc, &long, false, class) == stated
+        && refusal_of(alloc, &long, true, class) == stated
+}
+
+/// Whether one is that reaches it by the bytes that are there already.
+fn long_base_is(alloc: Global, class: Class, end: u64, stated: Option<ElfError>) -> bool {
+    place(alloc, &Parts::new(alloc), true, end, class).err() == stated
+}
+
+/// Whether one is that reaches it by the alignment of a part without bytes, whose position is not
+/// the caller's; the caller's is free.
+fn far_part_is(alloc: Global, class: Class, end: u64, stated: Option<ElfError>) -> bool {
+    let far = bare((Part::Section(1), 0, 9, end));
+    let free = bare((Part::Section(1), u64::MAX, 9, end));
+    refusal_of(alloc, &[filled(HEADER), far], false, class) == stated
+        && refusal_of(alloc, &[filled(HEADER), free], true, class).is_none()
+}
+
+/// Whether a part is refused whose numbers are the greatest that there are.
+fn is_past(alloc: Global, class: Class, layout: bool) -> bool {
+    let past = filled((Part::Section(1), u64::MAX, u64::MAX, u64::MAX));
+    refusal_of(alloc, &[filled(HEADER), past], layout, class) == Some(ElfError::TooLarge)
+}
+
+/// A class, an end, and the refusal of an image that reaches it.
+const LIMITS: [(Class, u64, Option<ElfError>); 4] = [
+    (Class::C32, (1 << 32) - 1, None),
+    (Class::C32, 1 << 32, Some(ElfError::TooLarge)),
+    (Class::C64, 1 << 40, None),
+    (Class::C64, (1 << 40) + 1, Some(ElfError::TooLarge)),
+];
+
+/// Whether images are limited so.
+fn are_limited(alloc: Global) -> bool {
+    let mut stated = true;
+    for (class, end, refusal) in LIMITS {
+        stated &= long_header_is(alloc, class, end, refusal);
+        stated &= long_base_is(alloc, class, end, refusal);
+        stated &= far_part_is(alloc, class, end, refusal);
+        stated &= is_past(alloc, class, false) && is_past(alloc, class, true);
+    }
+    stated
+}
+
+#[test]
+fn images_have_limits(rt: HostRuntime) {
+    assert!(rt; are_limited(rt.alloc()));
+}

@@ -1,0 +1,24 @@
+-- The key of a name is a number of eight bytes.
+use Rattle.std.proofs.Common.{◌≡◌, ◌+◌, ◌*◌, ◌^◌, ◌<◌, ◌≤◌, ℕ, suc, List, sym, ap, ◌∙◌, subst, arith}
+use Rattle.std.specs.Prelude.{slice_index_or}
+use Rattle.std.proofs.Math.Nat.{pow-suc, pow-le-pow_right}
+use Rattle.nm_tool.specs.Keys.{prefix}
+
+-- one more byte
+pub key_more : (place key byte : ℕ) → key < 256 ^ place → byte < 256 → key * 256 + byte < 256 ^ (place + 1)
+key_more place key byte small b =
+    let next : 256 ^ suc place ≡ 256 ^ place * 256 = pow-suc 256 place in
+    let at : place + 1 ≡ suc place = omega arith in
+    subst (λ (n : ℕ). key * 256 + byte < 256 ^ n) (sym at) (omega (arith, next, small, b))
+
+pub key_fits : (place key byte : ℕ) → place < 8 → key < 256 ^ place → byte < 256 → key * 256 + byte < 2 ^ 64
+key_fits place key byte lt small b =
+    let top : 256 ^ (place + 1) ≤ 256 ^ 8 = pow-le-pow_right {n = 256} (omega arith) {i = place + 1} {j = 8} (omega (arith, lt)) in
+    let whole : 256 ^ 8 ≤ 2 ^ 64 = omega arith in
+    omega (arith, key_more place key byte small b, top, whole)
+
+pub prefix_next : (place key byte : ℕ) (name : List ℕ) → key ≡ prefix place name → byte ≡ slice_index_or name place 0 → key * 256 + byte ≡ prefix (place + 1) name
+unfolding prefix
+prefix_next place key byte name is b =
+    let at : suc place ≡ place + 1 = omega arith in
+    ap (λ (k : ℕ). k * 256 + byte) is ∙ ap (λ (c : ℕ). prefix place name * 256 + c) b ∙ ap (λ (n : ℕ). prefix n name) at

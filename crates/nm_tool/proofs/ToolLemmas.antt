@@ -1,0 +1,90 @@
+-- What nm says of an object, by the ways of the code.
+use Rattle.std.proofs.Common.{◌≡◌, ◌∙◌, ℕ, Bool, List, [], ◌∷◌, ◌-◌, length, map, Option, Some, None, Result, Ok, Err, IsTrue, codes, refl, sym, ap, subst}
+use Rattle.std.specs.Prelude.{slice_get}
+use Rattle.std.specs.Option.{option_map}
+use Rattle.std.proofs.lemmas.Simd.{map-map}
+use Rattle.elf_types.specs.declared.records.Kind.TheVariants as kinds
+use Rattle.elf_types.specs.declared.records.ScnId.{ScnId}
+use Rattle.elf_types.specs.declared.errors.ElfError.{ElfError}
+use Rattle.elf_types.specs.Text.{error_text}
+use Rattle.elf_xlate.specs.declared.content.Items.{Items}
+use Rattle.elf_xlate.specs.declared.content.Items.TheVariants as items
+use Rattle.elf_xlate.specs.Translation.{items_kind, items_count}
+use Rattle.elf_outside.specs.declared.sources.Source.{Ghosts as SourceGhosts}
+use Rattle.elf_outside.specs.declared.sinks.Sink.{Ghosts as SinkGhosts}
+use Rattle.elf_object.specs.Object.{Object}
+use Rattle.elf_object.specs.Answers.{count_at, items_at, syms_of, lend_refusal}
+use Rattle.elf_descriptor.specs.State.{State}
+use Rattle.tool_text.specs.declared.options.NmOptions.{NmOptions}
+use Rattle.tool_output.specs.declared.stops.Stop.{Stop}
+use Rattle.tool_output.specs.declared.stops.Stop.TheVariants.{Memory}
+use Rattle.tool_output.specs.declared.outputs.Outputs.{Outputs}
+use Rattle.tool_output.specs.Names.{Name}
+use Rattle.tool_output.specs.Reports.{Report, noted, refusal, all_joined, reports_of}
+use Rattle.object_output.specs.Steps.{ReadsElf, ReportsElf}
+use Rattle.object_output.proofs.ElfSteps.{elf_left, elf_unread}
+use Rattle.nm_tool.specs.declared.order.Row.{Row}
+use Rattle.nm_tool.specs.declared.pools.Pool.{Pool}
+use Rattle.nm_tool.specs.Order.{Entry, in_order}
+use Rattle.nm_tool.specs.Keys.{as_entry}
+use Rattle.nm_tool.specs.Listed.{symbols, symbol_table, listed}
+use Rattle.nm_tool.specs.Pools.{spot_entries, pool_of}
+use Rattle.nm_tool.specs.Tool.{entry_report, entries_report, rows_report, row_report, pool_report, table_report, object_report, nm_report}
+use Rattle.nm_tool.proofs.PoolLemmas.{pool_entries}
+
+-- ---- Rows
+
+module _ (options : NmOptions) (file : Name) (o : Object) (s : ℕ) where
+  -- the rows that are sorted are those of the pool's entries
+  pub rows_reported : (old new : List Row) (pool : Pool) → map (as_entry options.by_value) old ≡ spot_entries options.by_value pool.names pool.spots
+      → map (as_entry options.by_value) new ≡ in_order (map (as_entry options.by_value) old)
+      → pool_report options file o s pool ≡ reports_of (row_report options file o s) new
+  unfolding reports_of pool_report entries_report row_report as_entry
+  rows_reported old new pool made sorted =
+      let line = λ (e : Entry). entry_report options file o s e.index e.name in
+      ap (λ (es : List Entry). all_joined (map line (in_order es))) (sym made)
+      ∙ ap (λ (es : List Entry). all_joined (map line es)) (sym sorted)
+      ∙ ap all_joined (map-map line (as_entry options.by_value) new)
+
+  -- those of the whole table
+  pub pool_reported : (count : ℕ) → count ≡ length (symbols o s) → rows_report options file o s ≡ pool_report options file o s (pool_of options o s (count - 1))
+  unfolding rows_report pool_report
+  pool_reported count is = ap (entries_report options file o s) (sym (pool_entries options o s count is))
+
+  pub table_told : (r : Option ElfError) → r ≡ None → table_report options file o s r ≡ rows_report options file o s
+  unfolding table_report
+  table_told r is = ap (table_report options file o s) is
+
+  pub table_refused : (r : Option ElfError) (e : ElfError) → r ≡ Some e → table_report options file o s r ≡ refusal (codes "nm") file (error_text e)
+  unfolding table_report
+  table_refused r e is = ap (table_report options file o s) is
+
+some_is : {X : Type 0} {x y : X} → Some x ≡ Some y → x ≡ y
+some_is h = cc
+
+module _ (options : NmOptions) (file : Name) (o : Object) where
+  pub table_found : (s : ScnId) → option_map (λ (x : ScnId). x.0) (Some s) ≡ symbol_table o → nm_report options file o ≡ table_report options file o s.0 (lend_refusal o kinds.Sym s.0 0)
+  unfolding nm_report object_report
+  table_found s is = ap (object_report options file o) (sym is)
+
+  pub table_absent : None ≡ symbol_table o → nm_report options file o ≡ noted (codes "nm") file (codes "no symbols")
+  unfolding nm_report object_report
+  table_absent is = ap (object_report options file o) (sym is)
+
+-- ---- Symbols
+
+pub syms_counted : (items : Items) → items_kind items ≡ kinds.Sym → length (syms_of items) ≡ items_count items
+syms_counted (items.Sym l) is = refl
+syms_counted items is = cc
+
+pub count_is : (o : Object) (s p : ℕ) → count_at o s p ≡ items_count (items_at o s p)
+unfolding count_at
+count_is o s p = refl
+
+-- ---- Want of memory
+
+pub no_memory : {S O E : Type 0} (s : SourceGhosts S) (o : SinkGhosts O) (e : SinkGhosts E) (report : Object → Report) (stop : Stop) (a : State S) (t : Outputs O E) → stop ≡ Memory
+    → ReportsElf s o e report (Err stop) a a t t
+no_memory s o e report stop a t is =
+    subst (λ (x : Stop). ReportsElf s o e report (Err x) a a t t) (sym is)
+    (elf_unread s o e Bool Memory report a a t (record { elf = elf_left s a; read = tt; write = tt }))

@@ -1,0 +1,11 @@
+use Rattle.std.proofs.Common.{◌-◌, ◌≤◌, Ok}
+use Rattle.object_output.specs.Steps.{Learns}
+use Rattle.nm_tool.specs.Pools.{pool_of}
+use Rattle.nm_tool.proofs.listed.pool_of.Given as goal
+
+abbrev pub invariant-loop-i : goal.invariant-loop-i
+invariant-loop-i g l = record {
+  begun : 1 ≤ l.i;
+  within : l.i - 1 ≤ l.count - 1;
+  learned : Learns g.S.Source (λ o. pool_of l.options o l.t.symbols.0 (l.i - 1)) (Ok l.pool) l.initial.elf l.elf;
+}

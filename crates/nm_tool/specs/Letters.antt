@@ -1,0 +1,93 @@
+-- The letter of a symbol: what it is, and where it is defined (POSIX nm, STDOUT; gABI chapter 4,
+-- "Symbol Table", st_info and st_shndx; the letters i, u, v and V are GNU's).
+use Rattle.std.specs.Prelude.{ℕ, ◌+◌, ◌/◌, ◌%◌, ◌==◌, ◌&&◌, nat_lt, Bool, true, false, List, [], ◌∷◌, length, Option, Some, None, Result, Ok, Err, if◌then◌else◌}
+use Rattle.std.specs.Str.{byte}
+use Rattle.elf_types.specs.declared.records.Shdr.{Shdr}
+use Rattle.elf_types.specs.declared.records.Sym.{Sym}
+use Rattle.elf_types.specs.declared.errors.ElfError.{ElfError}
+use Rattle.elf_types.specs.declared.constants.TheConstants.{SHN_UNDEF, SHN_ABS, SHN_COMMON, SHT_NOBITS, SHF_WRITE, SHF_ALLOC, SHF_EXECINSTR, STB_LOCAL, STB_WEAK, STB_GNU_UNIQUE, STT_OBJECT, STT_GNU_IFUNC}
+use Rattle.elf_object.specs.Object.{Object, section_at}
+use Rattle.elf_object.specs.SymbolSections.{place_of_symbol}
+use Rattle.gelf_view.specs.declared.symbols.SymPlace.{SymPlace}
+use Rattle.gelf_view.specs.declared.symbols.SymPlace.TheVariants.{Special, Section}
+
+-- ---- What a letter rests on
+
+-- ELF64_ST_BIND and ELF64_ST_TYPE
+abbrev pub has_bind : ℕ → Sym → Bool
+has_bind binding x = x.info / 16 == binding
+
+abbrev pub has_type : ℕ → Sym → Bool
+has_type kind x = x.info % 16 == kind
+
+abbrev pub is_local : Sym → Bool
+is_local x = has_bind STB_LOCAL x
+
+abbrev pub place_found : Result SymPlace ElfError → Option SymPlace
+place_found (Ok place) = Some place
+place_found (Err e) = None
+
+-- the section of symbol i of section s, or none where its extended index can not be told
+unfoldable pub symbol_place : Object → ℕ → ℕ → Sym → Option SymPlace
+symbol_place o s i x = place_found (place_of_symbol Special Section o s i x)
+
+abbrev pub is_undefined : Option SymPlace → Bool
+is_undefined None = false
+is_undefined (Some (Special n)) = false
+is_undefined (Some (Section n)) = n == SHN_UNDEF
+
+-- whether a section header has a flag, by its place among the bits
+abbrev pub has_flag : ℕ → Shdr → Bool
+has_flag flag h = h.flags / flag % 2 == 1
+
+-- ---- The letters
+
+-- the letter of the first row whose test holds, and else the last one
+abbrev pub first_letter : List (Bool × ℕ) → ℕ → ℕ
+first_letter [] last = last
+first_letter (row ∷ rows) last = if row.0 then row.1 else first_letter rows last
+
+-- of a section that holds a symbol
+unfoldable pub section_letter : Shdr → ℕ
+section_letter h = first_letter
+    ((has_flag SHF_EXECINSTR h, byte "T")
+    ∷ (has_flag SHF_ALLOC h && h.stype == SHT_NOBITS, byte "B")
+    ∷ (has_flag SHF_ALLOC h && has_flag SHF_WRITE h, byte "D")
+    ∷ (has_flag SHF_ALLOC h, byte "R")
+    ∷ [])
+    (byte "N")
+
+unfoldable pub special_letter : ℕ → ℕ
+special_letter n =
+    first_letter ((n == SHN_ABS, byte "A") ∷ (n == SHN_COMMON, byte "C") ∷ []) (byte "?")
+
+-- of the place of a symbol; of one that no section has it is a question mark
+unfoldable pub place_letter : Object → Option SymPlace → ℕ
+place_letter o None = byte "?"
+place_letter o (Some (Special n)) = special_letter n
+place_letter o (Some (Section n)) =
+    if nat_lt n (length o.sections) then section_letter (section_at o n).header else byte "?"
+
+-- a small letter for a local symbol; a question mark stays
+unfoldable pub cased : Bool → ℕ → ℕ
+cased local letter = if local && not_asked letter then letter + 32 else letter
+  where
+    not_asked : ℕ → Bool
+    not_asked c = if c == byte "?" then false else true
+
+-- of a symbol whose place is this
+unfoldable pub symbol_letter : Object → Sym → Option SymPlace → ℕ
+symbol_letter o x place =
+    let undefined = is_undefined place in
+    let weak = has_bind STB_WEAK x in
+    let object = has_type STT_OBJECT x in
+    first_letter
+    ((undefined && (weak && object), byte "v")
+    ∷ (undefined && weak, byte "w")
+    ∷ (undefined, byte "U")
+    ∷ (has_bind STB_GNU_UNIQUE x, byte "u")
+    ∷ (has_type STT_GNU_IFUNC x, byte "i")
+    ∷ (weak && object, byte "V")
+    ∷ (weak, byte "W")
+    ∷ [])
+    (cased (is_local x) (place_letter o place))

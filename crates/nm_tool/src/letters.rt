@@ -1,0 +1,153 @@
+//! The letter of a symbol. Nothing here takes memory.
+
+ghost use Rattle.std.specs.Prelude.{◌≡◌, ◌<◌, Some};
+ghost use Rattle.elf_object.specs.Object.{section_at};
+ghost use Rattle.nm_tool.specs.Letters.{has_bind, has_type, has_flag, is_local, is_undefined, section_letter, special_letter, place_letter, cased, symbol_letter};
+
+use elf_descriptor::Elf;
+use elf_outside::Source;
+use elf_types::constants::{
+    SHF_ALLOC, SHF_EXECINSTR, SHF_WRITE, SHN_ABS, SHN_COMMON, SHN_UNDEF, SHT_NOBITS,
+    STB_GNU_UNIQUE, STB_LOCAL, STB_WEAK, STT_GNU_IFUNC, STT_OBJECT,
+};
+use elf_types::{ScnId, Shdr, Sym, bind, stt};
+use gelf_view::SymPlace;
+
+/// Whether a symbol has this binding.
+pub fn has_bind(x: &Sym, binding: u8) -> bool
+    ensures { result ≡ has_bind binding x.now }
+{
+    bind(x.info) == binding
+}
+
+/// Whether a symbol is of this type.
+pub fn has_type(x: &Sym, kind: u8) -> bool
+    ensures { result ≡ has_type kind x.now }
+{
+    stt(x.info) == kind
+}
+
+/// Whether a symbol is local.
+pub fn is_local(x: &Sym) -> bool
+    ensures { result ≡ is_local x.now }
+{
+    has_bind(x, STB_LOCAL)
+}
+
+/// Whether a symbol whose place this is is undefined.
+pub fn is_undefined(place: Option<SymPlace>) -> bool
+    ensures { result ≡ is_undefined place }
+{
+    match place {
+        None => false,
+        Some(SymPlace::Special(_)) => false,
+        Some(SymPlace::Section(n)) => n == SHN_UNDEF,
+    }
+}
+
+/// The letter of a section that holds a symbol.
+#[tactic(auto, unfolding(crate::specs::Letters::section_letter))]
+fn section_letter(h: &Shdr) -> u8
+    ensures letter { result ≡ section_letter h.now }
+    ensures small { result < 128 }
+{
+    if h.flags / SHF_EXECINSTR % 2 == 1 {
+        return b'T';
+    }
+    let alloc = h.flags / SHF_ALLOC % 2 == 1;
+    if alloc && h.stype == SHT_NOBITS {
+        return b'B';
+    }
+    if alloc && h.flags / SHF_WRITE % 2 == 1 {
+        return b'D';
+    }
+    if alloc {
+        return b'R';
+    }
+    b'N'
+}
+
+/// The letter of a reserved index.
+#[tactic(auto, unfolding(crate::specs::Letters::special_letter))]
+fn special_letter(n: u32) -> u8
+    ensures letter { result ≡ special_letter n }
+    ensures small { result < 128 }
+{
+    if n == SHN_ABS {
+        return b'A';
+    }
+    if n == SHN_COMMON {
+        return b'C';
+    }
+    b'?'
+}
+
+/// The letter of a section by its number, or a question mark where there is none.
+#[tactic(auto, unfolding(crate::specs::Letters::place_letter, elf_object::specs::Calls::shdr_answer))]
+fn numbered_letter<S: Source>(elf: &Elf<S>, n: u32) -> u8
+    ensures letter { result ≡ place_letter elf.now.o (Some (SymPlace.Section n)) }
+    ensures small { result < 128 }
+{
+    match elf.shdr(ScnId(n)) {
+        Ok(header) => section_letter(&header),
+        Err(_) => b'?',
+    }
+}
+
+/// The letter of the place of a symbol.
+#[tactic(auto, unfolding(crate::specs::Letters::place_letter))]
+fn place_letter<S: Source>(elf: &Elf<S>, place: Option<SymPlace>) -> u8
+    ensures letter { result ≡ place_letter elf.now.o place }
+    ensures small { result < 128 }
+{
+    match place {
+        None => b'?',
+        Some(SymPlace::Special(n)) => special_letter(u32::from(n)),
+        Some(SymPlace::Section(n)) => numbered_letter(elf, n),
+    }
+}
+
+/// A letter, small for a local symbol; a question mark stays.
+#[tactic(auto, unfolding(crate::specs::Letters::cased))]
+fn cased(local: bool, letter: u8) -> u8
+    requires { letter < 128 }
+    ensures { result ≡ cased local letter }
+{
+    if local && letter != b'?' {
+        letter + 32
+    } else {
+        letter
+    }
+}
+
+/// The letter of a symbol whose place this is: the first of its tests that holds tells it.
+#[tactic(auto, unfolding(crate::specs::Letters::symbol_letter))]
+pub fn symbol_letter<S: Source>(elf: &Elf<S>, x: &Sym, place: Option<SymPlace>) -> u8
+    ensures { result ≡ symbol_letter elf.now.o x.now place }
+{
+    let undefined = is_undefined(place);
+    let weak = has_bind(x, STB_WEAK);
+    let object = has_type(x, STT_OBJECT);
+    if undefined && (weak && object) {
+        return b'v';
+    }
+    if undefined && weak {
+        return b'w';
+    }
+    if undefined {
+        return b'U';
+    }
+    if has_bind(x, STB_GNU_UNIQUE) {
+        return b'u';
+    }
+    if has_type(x, STT_GNU_IFUNC) {
+        return b'i';
+    }
+    if weak && object {
+        return b'V';
+    }
+    if weak {
+        return b'W';
+    }
+    cased(is_local(x), place_letter(elf, place))
+}

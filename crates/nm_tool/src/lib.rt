@@ -1,0 +1,13 @@
+//! nm: the symbols of an object as lines of text (POSIX nm).
+#![tactic(auto)]
+
+mod letters;
+mod listed;
+mod numbers;
+mod order;
+mod pools;
+mod rows;
+mod symbols;
+mod tool;
+
+pub use tool::{NmTool, nm};

@@ -1,0 +1,148 @@
+//! The row of a symbol as a line.
+
+ghost use Rattle.std.specs.Prelude.{◌≡◌, ◌++◌, ◌∷◌, [], OnOk, IfErr};
+ghost use Rattle.elf_types.specs.Writers.{WantsMemory};
+ghost use Rattle.nm_tool.specs.Rows.{file_column, value_column, value_and_size, plain_row, portable_row, row_by, row_text};
+
+use crate::numbers::{put_blanks, put_number, put_value, width_of};
+use elf_types::{Class, ElfError, Octets, Sym, put_bytes, put_text};
+use tool_output::{FileName, Line};
+use tool_text::{NmOptions, Radix};
+
+/// The row of a symbol.
+#[derive(Clone, Copy)]
+pub struct SymbolRow<'a> {
+    /// The options.
+    pub options: &'a NmOptions,
+    /// The class of the object.
+    pub class: Class,
+    /// The file, or the member of an archive.
+    pub file: &'a FileName<'a>,
+    /// Whether the symbol is undefined.
+    pub undefined: bool,
+    /// The symbol.
+    pub symbol: Sym,
+    /// Its letter.
+    pub letter: u8,
+    /// Its name, as it is shown.
+    pub name: &'a [u8],
+}
+
+/// Appends the file's name, where each row has it.
+#[tactic(auto, using(crate::proofs::Kept::kept), unfolding(crate::specs::Rows::file_column))]
+fn put_file(page: &mut Octets, name_each: bool, file: &FileName<'_>) -> Result<(), ElfError>
+    ensures ok { OnOk result (page.new ≡ page.old ++ file_column name_each file.now) }
+    ensures err { IfErr result (WantsMemory page.old page.new) }
+{
+    if name_each {
+        file.put(page)?;
+        put_text(page, ": ")
+    } else {
+        Ok(())
+    }
+}
+
+/// Appends a letter.
+#[tactic(auto, using(crate::proofs::Kept::kept))]
+fn put_letter(page: &mut Octets, letter: u8) -> Result<(), ElfError>
+    ensures ok { OnOk result (page.new ≡ page.old ++ (letter ∷ [])) }
+    ensures err { IfErr result (WantsMemory page.old page.new) }
+{
+    put_bytes(page, &[letter])
+}
+
+/// Appends the value, or as many blanks where the symbol is undefined.
+#[tactic(auto, unfolding(crate::specs::Rows::value_column))]
+fn put_column(
+    page: &mut Octets,
+    radix: Radix,
+    class: Class,
+    undefined: bool,
+    value: u64,
+) -> Result<(), ElfError>
+    ensures ok { OnOk result
+        (page.new ≡ page.old ++ value_column radix class undefined value) }
+    ensures err { IfErr result (WantsMemory page.old page.new) }
+{
+    let width = width_of(class);
+    if undefined {
+        put_blanks(page, width)
+    } else {
+        put_value(page, radix, width, value)
+    }
+}
+
+/// Appends ` VALUE SIZE`, which an undefined symbol does not have.
+#[tactic(auto, using(crate::proofs::Kept::kept), unfolding(crate::specs::Rows::value_and_size))]
+fn put_value_and_size(
+    page: &mut Octets,
+    radix: Radix,
+    undefined: bool,
+    x: &Sym,
+) -> Result<(), ElfError>
+    ensures ok { OnOk result (page.new ≡ page.old ++ value_and_size radix undefined x.now) }
+    ensures err { IfErr result (WantsMemory page.old page.new) }
+{
+    if undefined {
+        return Ok(());
+    }
+    put_text(page, " ")?;
+    put_number(page, radix, x.value)?;
+    put_text(page, " ")?;
+    put_number(page, radix, x.size)
+}
+
+/// Appends `VALUE LETTER NAME` and the newline.
+#[tactic(auto, using(crate::proofs::Kept::kept), unfolding(crate::specs::Rows::plain_row))]
+fn put_plain(page: &mut Octets, row: &SymbolRow<'_>) -> Result<(), ElfError>
+    ensures ok { OnOk result (page.new ≡ page.old ++ plain_row row.now.options.now.radix
+        row.now.class row.now.undefined row.now.symbol row.now.letter row.now.name.now) }
+    ensures err { IfErr result (WantsMemory page.old page.new) }
+{
+    let radix = row.options.radix;
+    put_column(page, radix, row.class, row.undefined, row.symbol.value)?;
+    put_text(page, " ")?;
+    put_letter(page, row.letter)?;
+    put_text(page, " ")?;
+    put_bytes(page, row.name)?;
+    put_text(page, "\n")
+}
+
+/// Appends `NAME LETTER VALUE SIZE` and the newline.
+#[tactic(auto, using(crate::proofs::Kept::kept), unfolding(crate::specs::Rows::portable_row))]
+fn put_portable(page: &mut Octets, row: &SymbolRow<'_>) -> Result<(), ElfError>
+    ensures ok { OnOk result (page.new ≡ page.old ++ portable_row row.now.options.now.radix
+        row.now.undefined row.now.symbol row.now.letter row.now.name.now) }
+    ensures err { IfErr result (WantsMemory page.old page.new) }
+{
+    put_bytes(page, row.name)?;
+    put_text(page, " ")?;
+    put_letter(page, row.letter)?;
+    put_value_and_size(page, row.options.radix, row.undefined, &row.symbol)?;
+    put_text(page, "\n")
+}
+
+/// Appends the columns of a row in the format that is asked for.
+#[tactic(auto, unfolding(crate::specs::Rows::row_by))]
+fn put_columns(page: &mut Octets, row: &SymbolRow<'_>) -> Result<(), ElfError>
+    ensures ok { OnOk result (page.new ≡ page.old ++ row_by row.now.options.now
+        row.now.class row.now.undefined row.now.symbol row.now.letter row.now.name.now) }
+    ensures err { IfErr result (WantsMemory page.old page.new) }
+{
+    if row.options.portable {
+        put_portable(page, row)
+    } else {
+        put_plain(page, row)
+    }
+}
+
+impl Line for SymbolRow<'_> {
+    ghost text = { λ r. row_text r.options.now r.class r.file.now r.undefined r.symbol r.letter
+        r.name.now };
+
+    #[tactic(auto, using(crate::proofs::Kept::kept), unfolding(crate::specs::Rows::row_text))]
+    fn put(&self, page: &mut Octets) -> Result<(), ElfError> {
+        put_file(page, self.options.name_each, self.file)?;
+        put_columns(page, self)
+    }
+}

@@ -1,0 +1,297 @@
+//! The tool of the command nm.
+
+ghost use Rattle.std.specs.Prelude.{◌≡◌, ◌<◌, None, length, IfSome, codes};
+ghost use Rattle.std.specs.Option.{option_map};
+ghost use Rattle.elf_types.specs.declared.records.Kind.TheVariants as kinds;
+ghost use Rattle.elf_object.specs.Object.{section_at};
+ghost use Rattle.elf_object.specs.Answers.{lend_refusal};
+ghost use Rattle.tool_output.specs.Reports.{Reports, shown, reports_of};
+ghost use Rattle.tool_output.specs.Steps.{LeavesOutputs};
+ghost use Rattle.tool_output.specs.Names.{file_name};
+ghost use Rattle.object_output.specs.Steps.{ReportsElf};
+ghost use Rattle.object_output.specs.Shows.{ShowsElf};
+ghost use Rattle.nm_tool.specs.Tables.{AreTables};
+ghost use Rattle.nm_tool.specs.Listed.{is_table, symbol_table, symbols as stated_symbols};
+ghost use Rattle.nm_tool.specs.Tool.{placed_row, symbol_row, row_report, pool_report, rows_report, table_report, nm_report};
+
+use crate::letters::{is_undefined, symbol_letter};
+use crate::listed::pool_of;
+use crate::order::{Row, sorted};
+use crate::pools::{Pool, rows_of};
+use crate::rows::SymbolRow;
+use crate::symbols::{Tables, place_at, symbol_at, tables_of};
+use elf_descriptor::Elf;
+use elf_outside::{Sink, Source};
+use elf_types::constants::SHT_SYMTAB;
+use elf_types::{DataId, ScnId, Sym, is_compressed};
+use gelf_view::{SymPlace, item_count};
+use object_output::{ObjectTool, section_header, show_object};
+use std::alloc::Global;
+use tool_output::{FileName, Message, Outputs, Stop};
+use tool_text::NmOptions;
+
+/// What the rows of a table show besides its symbols.
+#[derive(Clone, Copy)]
+struct Form<'a> {
+    /// The options.
+    options: &'a NmOptions,
+    /// The file, or the member of an archive.
+    file: &'a FileName<'a>,
+}
+
+/// Shows the row of a symbol whose place is known.
+#[tactic(auto, unfolding(crate::specs::Tool::placed_row, elf_object::specs::Object::header_of))]
+fn show_symbol<S: Source, O: Sink, E: Sink>(
+    elf: &Elf<S>,
+    form: Form<'_>,
+    symbol: Sym,
+    place: Option<SymPlace>,
+    name: &[u8],
+    outputs: &mut Outputs<'_, O, E>,
+) -> Result<bool, Stop>
+    ensures reports { Reports O.Sink E.Sink result outputs.old outputs.new
+        (shown (placed_row form.entry.options.now form.entry.file.now elf.now.o symbol place name.now)) }
+    ensures leaves { LeavesOutputs O.Sink E.Sink ⊥ result outputs.old outputs.new }
+{
+    outputs.show(&SymbolRow {
+        options: form.options,
+        class: elf.ehdr().class,
+        file: form.file,
+        undefined: is_undefined(place),
+        symbol,
+        letter: symbol_letter(elf, &symbol, place),
+        name,
+    })
+}
+
+/// Shows the row of symbol `i`.
+fn show_placed<S: Source, O: Sink, E: Sink>(
+    elf: &mut Elf<S>,
+    t: Tables,
+    form: Form<'_>,
+    symbol: Sym,
+    row: &Row<'_>,
+    outputs: &mut Outputs<'_, O, E>,
+) -> Result<bool, Stop>
+    requires { AreTables elf.old.o t }
+    ensures { ReportsElf S.Source O.Sink E.Sink (λ o. shown (symbol_row form.entry.options.now
+        form.entry.file.now o t.symbols.0 row.now.index row.now.name.now symbol))
+        result elf.old elf.new outputs.old outputs.new }
+{
+    match place_at(elf, t, row.index, symbol) {
+        Ok(place) => show_symbol(elf, form, symbol, place, row.name, outputs),
+        Err(stop) => Err(stop),
+    }
+}
+
+/// Shows the row of a symbol by its index, where it is there.
+fn show_row<S: Source, O: Sink, E: Sink>(
+    elf: &mut Elf<S>,
+    t: Tables,
+    form: Form<'_>,
+    row: &Row<'_>,
+    outputs: &mut Outputs<'_, O, E>,
+) -> Result<bool, Stop>
+    requires { AreTables elf.old.o t }
+    ensures { ReportsElf S.Source O.Sink E.Sink
+        (λ o. row_report form.entry.options.now form.entry.file.now o t.symbols.0 row.now)
+        result elf.old elf.new outputs.old outputs.new }
+{
+    match symbol_at(elf, t, row.index) {
+        Ok(Some(symbol)) => show_placed(elf, t, form, symbol, row, outputs),
+        Ok(None) => Ok(false),
+        Err(stop) => Err(stop),
+    }
+}
+
+/// Shows rows, one after another.
+fn show_rows<S: Source, O: Sink, E: Sink>(
+    elf: &mut Elf<S>,
+    t: Tables,
+    form: Form<'_>,
+    rows: &[Row<'_>],
+    outputs: &mut Outputs<'_, O, E>,
+) -> Result<bool, Stop>
+    requires { AreTables elf.old.o t }
+    ensures { ReportsElf S.Source O.Sink E.Sink
+        (λ o. reports_of (row_report form.entry.options.now form.entry.file.now o t.symbols.0) rows.now)
+        result elf.old elf.new outputs.old outputs.new }
+{
+    let mut refused = false;
+    for row in rows {
+        let was_refused = show_row(elf, t, form, row, outputs)?;
+        refused = refused | was_refused;
+    }
+    Ok(refused)
+}
+
+/// Shows a row for each symbol of a pool, in their order.
+fn show_pool<S: Source, O: Sink, E: Sink>(
+    elf: &mut Elf<S>,
+    t: Tables,
+    form: Form<'_>,
+    pool: &Pool,
+    outputs: &mut Outputs<'_, O, E>,
+) -> Result<bool, Stop>
+    requires { AreTables elf.old.o t }
+    ensures { ReportsElf S.Source O.Sink E.Sink
+        (λ o. pool_report form.entry.options.now form.entry.file.now o t.symbols.0 pool.now)
+        result elf.old elf.new outputs.old outputs.new }
+{
+    match rows_of(elf.alloc(), pool, form.options.by_value) {
+        Ok(rows) => {
+            let rows = sorted(rows, form.options.by_value);
+            show_rows(elf, t, form, rows.as_slice(), outputs)
+        }
+        Err(e) => Err(Stop::want_of(e)),
+    }
+}
+
+/// Shows the rows of a section whose symbols can be told.
+fn show_told<S: Source, O: Sink, E: Sink>(
+    elf: &mut Elf<S>,
+    s: ScnId,
+    count: u64,
+    form: Form<'_>,
+    outputs: &mut Outputs<'_, O, E>,
+) -> Result<bool, Stop>
+    requires section { s.0 < length elf.old.o.sections }
+    requires passed { lend_refusal elf.old.o kinds.Sym s.0 0 ≡ None }
+    requires count { count ≡ length (stated_symbols elf.old.o s.0) }
+    ensures { ReportsElf S.Source O.Sink E.Sink
+        (λ o. rows_report form.entry.options.now form.entry.file.now o s.0)
+        result elf.old elf.new outputs.old outputs.new }
+{
+    let t = tables_of(elf, s);
+    match pool_of(elf.alloc(), elf, t, form.options, count) {
+        Ok(pool) => show_pool(elf, t, form, &pool, outputs),
+        Err(stop) => Err(stop),
+    }
+}
+
+/// Shows the symbols of a section that is there, or refuses the object where they can not be told.
+fn show_table<S: Source, O: Sink, E: Sink>(
+    elf: &mut Elf<S>,
+    s: ScnId,
+    form: Form<'_>,
+    outputs: &mut Outputs<'_, O, E>,
+) -> Result<bool, Stop>
+    requires { s.0 < length elf.old.o.sections }
+    ensures { ReportsElf S.Source O.Sink E.Sink
+        (λ o. table_report form.entry.options.now form.entry.file.now o s.0
+        (lend_refusal o kinds.Sym s.0 0))
+        result elf.old elf.new outputs.old outputs.new }
+{
+    let d = DataId {
+        section: s.0,
+        piece: 0,
+    };
+    match item_count::<S, Sym>(elf, d) {
+        Ok(count) => show_told(elf, s, count, form, outputs),
+        Err(e) => outputs.refuse(&Message {
+            command: "nm",
+            name: form.file,
+            text: e,
+        }),
+    }
+}
+
+/// Whether a section that is there is of type `SHT_SYMTAB`, and its data not compressed.
+fn is_table<S: Source>(elf: &Elf<S>, s: ScnId) -> bool
+    requires { s.0 < length elf.now.o.sections }
+    ensures { result ≡ is_table (section_at elf.now.o s.0) }
+{
+    let header = section_header(elf, s);
+    header.stype == SHT_SYMTAB && !is_compressed(header.flags)
+}
+
+/// The first such section. Nothing is read.
+#[tactic(auto, unfolding(crate::specs::Listed::symbol_table))]
+fn symbol_table<S: Source>(elf: &Elf<S>) -> Option<ScnId>
+    ensures found { option_map (λ s. s.0) result ≡ symbol_table elf.now.o }
+    ensures there { IfSome result (λ s. s.0 < length elf.now.o.sections) }
+{
+    for s in 0..elf.shnum() {
+        if is_table(elf, ScnId(s)) {
+            return Some(ScnId(s));
+        }
+    }
+    None
+}
+
+/// Shows the symbols of an object, or says that it has none, which refuses nothing.
+fn show_symbols<S: Source, O: Sink, E: Sink>(
+    elf: &mut Elf<S>,
+    form: Form<'_>,
+    outputs: &mut Outputs<'_, O, E>,
+) -> Result<bool, Stop>
+    ensures { ReportsElf S.Source O.Sink E.Sink (nm_report form.entry.options.now form.entry.file.now)
+        result elf.old elf.new outputs.old outputs.new }
+{
+    match symbol_table(elf) {
+        Some(s) => show_table(elf, s, form, outputs),
+        None => outputs.note(&Message {
+            command: "nm",
+            name: form.file,
+            text: "no symbols",
+        }),
+    }
+}
+
+/// The tool of the command nm.
+#[derive(Clone, Copy)]
+pub struct NmTool<'a> {
+    /// The options.
+    pub options: &'a NmOptions,
+}
+
+impl ObjectTool for NmTool<'_> {
+    ghost command = { λ _. codes "nm" };
+
+    ghost report = { λ t. nm_report t.options.now };
+
+    ghost asks = { λ _ _. None };
+
+    fn command(&self) -> &'static str {
+        "nm"
+    }
+
+    fn show<S: Source, O: Sink, E: Sink>(
+        &self,
+        elf: &mut Elf<S>,
+        name: &FileName<'_>,
+        outputs: &mut Outputs<'_, O, E>,
+    ) -> Result<bool, Stop> {
+        let form = Form {
+            options: self.options,
+            file: name,
+        };
+        show_symbols(elf, form, outputs)
+    }
+}
+
+/// Shows the symbols of the first section of type `SHT_SYMTAB` whose data is not compressed, as the
+/// command nm does, on two outputs. Messages, and rows with `-A`, name the object by `name`. The
+/// answer tells whether something was refused. It stops by `Read` where a read of the source failed,
+/// by `Write` where a put failed, and by `Memory`.
+pub fn nm<S: Source, O: Sink, E: Sink>(
+    alloc: Global,
+    elf: &mut Elf<S>,
+    options: &NmOptions,
+    name: &[u8],
+    out: &mut O,
+    err: &mut E,
+) -> Result<bool, Stop>
+    ensures { ShowsElf S.Source O.Sink E.Sink
+        (nm_report options.now (file_name name.now))
+        result elf.old elf.new out.old out.new err.old err.new }
+{
+    show_object(
+        alloc,
+        &NmTool { options },
+        elf,
+        &FileName::of(name),
+        out,
+        err,
+    )
+}

@@ -1,0 +1,141 @@
+//! Devices in memory.
+
+use crate::steps::Step::{Append, Read, SetLen, Write};
+use crate::steps::{Step, answers_all, reads};
+use elf_outside::writes::{set_len, write_at};
+use elf_outside::{Device, MemDevice};
+use elf_types::{Addrs, ElfError};
+use std::alloc::Global;
+
+/// A device in memory: its bytes, its room, and the numbers of the reads and the writes that fail.
+pub struct Made {
+    pub bytes: &'static [u8],
+    pub room: u64,
+    pub bad_reads: &'static [u64],
+    pub bad_writes: &'static [u64],
+}
+
+/// A device, or none where the bytes pass the room.
+pub fn device(alloc: Global, made: &Made) -> Result<Option<MemDevice>, ElfError> {
+    if made.bytes.len() as u64 > made.room {
+        return Ok(None);
+    }
+    let bad_reads = Addrs::from_slice(alloc, made.bad_reads)?;
+    let bad_writes = Addrs::from_slice(alloc, made.bad_writes)?;
+    match MemDevice::new(alloc, made.bytes, made.room, bad_reads, bad_writes) {
+        Ok(device) => Ok(Some(device)),
+        Err(e) => Err(e),
+    }
+}
+
+/// A device, steps, how many bytes they ask for, and the bytes that they leave.
+struct Row {
+    made: Made,
+    steps: &'static [Step],
+    asked: u64,
+    left: &'static [u8],
+}
+
+/// A device that grows up to its room.
+const GROWING: Row = Row {
+    made: Made {
+        bytes: b"ab",
+        room: 7,
+        bad_reads: &[],
+        bad_writes: &[],
+    },
+    steps: &[
+        Append(b"cde", true),
+        Append(b"fgh", false),
+        Append(b"fg", true),
+        Append(b"", true),
+        Write(5, b"XY", true),
+        Read(3, 4, Some(b"deXY")),
+        SetLen(8, false),
+        SetLen(2, true),
+        SetLen(7, true),
+    ],
+    asked: 4,
+    left: b"ab\0\0\0\0\0",
+};
+
+/// A device whose first read and second, third and fourth write fail.
+const FAILING: Row = Row {
+    made: Made {
+        bytes: b"ab",
+        room: 8,
+        bad_reads: &[1],
+        bad_writes: &[2, 3, 4],
+    },
+    steps: &[
+        Read(0, 2, None),
+        Write(0, b"x", true),
+        Write(1, b"y", false),
+        Read(0, 2, Some(b"xb")),
+        SetLen(1, false),
+        Append(b"z", false),
+        Append(b"z", true),
+        Read(1, 2, Some(b"bz")),
+    ],
+    asked: 6,
+    left: b"xbz",
+};
+
+/// Whether the steps are answered, ask for so much and leave these bytes.
+fn is_left(alloc: Global, row: &Row) -> Result<bool, ElfError> {
+    let Some(mut device) = device(alloc, &row.made)? else {
+        return Ok(false);
+    };
+    let stated = answers_all(&mut device, row.steps) && device.asked() == row.asked;
+    Ok(stated && device.into_bytes().as_slice() == row.left)
+}
+
+#[test]
+fn a_device_grows_up_to_its_room(rt: HostRuntime) {
+    assert!(rt; is_left(rt.alloc(), &GROWING) == Ok(true));
+}
+
+#[test]
+fn the_reads_and_the_writes_that_were_named_fail(rt: HostRuntime) {
+    assert!(rt; is_left(rt.alloc(), &FAILING) == Ok(true));
+}
+
+/// A device whose third write fails.
+const PATCHED: Made = Made {
+    bytes: b"abcd",
+    room: 6,
+    bad_reads: &[],
+    bad_writes: &[3],
+};
+
+/// Whether a write over a range that lies in a device is answered so.
+fn patches<D: Device>(device: &mut D, at: u64, piece: &[u8], told: Result<(), ElfError>) -> bool {
+    let len = device.len();
+    if at > len || piece.len() as u64 > len - at {
+        return false;
+    }
+    write_at(device, at, piece) == told
+}
+
+/// Whether a device of four bytes is patched, and a write that fails is an error.
+fn is_patched<D: Device>(device: &mut D) -> bool {
+    let refused = Err(ElfError::Write);
+    let mut stated = patches(device, 1, b"XY", Ok(()));
+    stated &= set_len(device, 6) == Ok(());
+    stated &= patches(device, 4, b"ef", refused);
+    stated &= set_len(device, 7) == refused;
+    stated && reads(device, 0, 6, Some(b"aXYd\0\0"))
+}
+
+/// Whether it is so of a device in memory.
+fn memory_is_patched(alloc: Global) -> Result<bool, ElfError> {
+    let Some(mut device) = device(alloc, &PATCHED)? else {
+        return Ok(false);
+    };
+    Ok(is_patched(&mut device))
+}
+
+#[test]
+fn a_device_is_patched(rt: HostRuntime) {
+    assert!(rt; memory_is_patched(rt.alloc()) == Ok(true));
+}

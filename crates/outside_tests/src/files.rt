@@ -1,0 +1,139 @@
+//! Sets of files in memory.
+
+use crate::steps::Step::{Append, Read, SetLen};
+use crate::visits::{Told, Way, hand_out, is_visited};
+use elf_outside::{Files, MemFiles, OpenFault};
+use elf_types::{Addrs, ElfError, Octets};
+use std::alloc::Global;
+
+/// What is asked of a set, and what it is to answer.
+#[derive(Clone, Copy)]
+enum Call {
+    /// A file of a name is handed out, used and closed, or is not handed out.
+    Visit(Way, &'static str, Told),
+    /// The bytes of a name.
+    Bytes(&'static str, Option<&'static [u8]>),
+}
+
+/// A set with one name, in which each file has room for four bytes or for its own: the name's bytes
+/// and the numbers of the reads that fail of a file of that name; the numbers of the calls that
+/// fail, and of the writes that fail of a file that is made; and calls.
+struct Row {
+    bytes: &'static [u8],
+    bad_reads: &'static [u64],
+    bad_opens: &'static [u64],
+    bad_writes: &'static [u64],
+    calls: &'static [Call],
+}
+
+/// Files that are changed, made and read.
+const KEPT: Row = Row {
+    bytes: b"abcdef",
+    bad_reads: &[1],
+    bad_opens: &[],
+    bad_writes: &[],
+    calls: &[
+        Call::Visit(
+            Way::Edit,
+            "a",
+            Ok(&[
+                Read(0, 2, None),
+                Read(0, 2, Some(b"ab")),
+                Append(b"g", false),
+                SetLen(3, true),
+            ]),
+        ),
+        Call::Bytes("a", Some(b"abc")),
+        Call::Visit(Way::Create, "b", Ok(&[Append(b"wxyz", true)])),
+        Call::Bytes("b", Some(b"wxyz")),
+        Call::Bytes("a", Some(b"abc")),
+        Call::Visit(Way::Open, "b", Ok(&[Read(1, 2, Some(b"xy"))])),
+    ],
+};
+
+/// Calls that fail.
+const FAILING: Row = Row {
+    bytes: b"abc",
+    bad_reads: &[],
+    bad_opens: &[1, 3, 4],
+    bad_writes: &[1],
+    calls: &[
+        Call::Visit(Way::Open, "none", Err(OpenFault::NotThere)),
+        Call::Visit(Way::Create, "a", Ok(&[Append(b"x", false)])),
+        Call::Bytes("a", Some(b"")),
+        Call::Visit(Way::Edit, "a", Err(OpenFault::Failed)),
+        Call::Visit(Way::Create, "b", Err(OpenFault::Failed)),
+        Call::Bytes("b", None),
+        Call::Visit(Way::Create, "b", Ok(&[])),
+        Call::Bytes("b", Some(b"")),
+    ],
+};
+
+/// The set of a row without its name.
+fn empty_set(alloc: Global, row: &Row) -> Result<MemFiles, ElfError> {
+    let bad_opens = Addrs::from_slice(alloc, row.bad_opens)?;
+    let bad_writes = Addrs::from_slice(alloc, row.bad_writes)?;
+    Ok(MemFiles::new(alloc, 4, bad_opens, bad_writes))
+}
+
+/// Adds the name of a row.
+fn add_name(alloc: Global, files: &mut MemFiles, row: &Row) -> Result<(), ElfError> {
+    let bytes = Octets::from_slice(alloc, row.bytes)?;
+    let bad_reads = Addrs::from_slice(alloc, row.bad_reads)?;
+    files.add("a", bytes, bad_reads, Addrs::new(alloc))
+}
+
+/// Whether a call is answered so.
+fn answers(alloc: Global, files: &mut MemFiles, call: Call) -> bool {
+    match call {
+        Call::Visit(way, name, told) => is_visited(alloc, files, way, name, told),
+        Call::Bytes(name, bytes) => files.bytes(name) == bytes,
+    }
+}
+
+/// Whether the name can be added, and the calls are answered so, one after another.
+fn answers_all(alloc: Global, files: &mut MemFiles, row: &Row) -> bool {
+    let mut stated = add_name(alloc, files, row) == Ok(());
+    for call in row.calls {
+        stated &= answers(alloc, files, *call);
+    }
+    stated
+}
+
+/// Whether the set of a row answers its calls.
+fn is_answered(alloc: Global, row: &Row) -> Result<bool, ElfError> {
+    let mut files = empty_set(alloc, row)?;
+    Ok(answers_all(alloc, &mut files, row))
+}
+
+#[test]
+fn a_name_holds_what_was_closed_under_it(rt: HostRuntime) {
+    assert!(rt; is_answered(rt.alloc(), &KEPT) == Ok(true));
+}
+
+#[test]
+fn the_calls_that_were_named_fail(rt: HostRuntime) {
+    assert!(rt; is_answered(rt.alloc(), &FAILING) == Ok(true));
+}
+
+/// Whether a file that was made under one name can be closed under another, which stays away.
+fn stays_away(alloc: Global, files: &mut MemFiles) -> bool {
+    match hand_out(alloc, files, Way::Create, "a") {
+        Ok(file) => {
+            files.close("other", file);
+            files.bytes("other").is_none()
+        }
+        Err(_) => false,
+    }
+}
+
+/// Whether it is so of a set without names.
+fn stays_away_in_memory(alloc: Global) -> Result<bool, ElfError> {
+    let mut files = empty_set(alloc, &KEPT)?;
+    Ok(stays_away(alloc, &mut files))
+}
+
+#[test]
+fn a_name_that_is_not_there_stays_away(rt: HostRuntime) {
+    assert!(rt; stays_away_in_memory(rt.alloc()) == Ok(true));
+}

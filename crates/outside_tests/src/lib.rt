@@ -1,0 +1,24 @@
+//! The tests of sources, devices, sinks and sets of files, over their contracts alone. They stand
+//! in a crate of their own, since a crate with tests is proved twice.
+#![tactic(auto)]
+
+#[cfg(test)]
+mod devices;
+#[cfg(test)]
+mod files;
+#[cfg(test)]
+mod read_ahead;
+#[cfg(test)]
+mod sinks;
+#[cfg(test)]
+mod sources;
+#[cfg(test)]
+mod steps;
+#[cfg(test)]
+mod system;
+#[cfg(test)]
+mod transfers;
+#[cfg(test)]
+mod visits;
+#[cfg(test)]
+mod windows;

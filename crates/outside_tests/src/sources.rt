@@ -1,0 +1,110 @@
+//! Sources in memory, and reads whose failure is an error.
+
+use crate::steps::{Read, reads_all};
+use elf_outside::reads::{read_array, read_range};
+use elf_outside::{MemSource, Source};
+use elf_types::{Addrs, ElfError, Octets};
+use std::alloc::Global;
+
+/// A source of these bytes, of which the reads of these numbers fail.
+pub fn source(alloc: Global, bytes: &[u8], bad_reads: &[u64]) -> Result<MemSource, ElfError> {
+    let bytes = Octets::from_slice(alloc, bytes)?;
+    let bad_reads = Addrs::from_slice(alloc, bad_reads)?;
+    Ok(MemSource::new(bytes, bad_reads))
+}
+
+/// Reads of four bytes, of which the second and the fourth are to fail.
+const NAMED: [Read; 5] = [
+    (0, 2, Some(b"ab")),
+    (1, 2, None),
+    (1, 2, Some(b"bc")),
+    (0, 4, None),
+    (4, 0, Some(b"")),
+];
+
+/// Empty reads at each place of four bytes.
+const EMPTY: [Read; 5] = [
+    (0, 0, Some(b"")),
+    (1, 0, Some(b"")),
+    (2, 0, Some(b"")),
+    (3, 0, Some(b"")),
+    (4, 0, Some(b"")),
+];
+
+/// Whether reads of four bytes are answered so, ask for so much and leave the bytes.
+fn reads_are_answered(
+    alloc: Global,
+    bad_reads: &[u64],
+    rows: &[Read],
+    asked: u64,
+) -> Result<bool, ElfError> {
+    let mut source = source(alloc, b"abcd", bad_reads)?;
+    let stated = reads_all(&mut source, rows) && source.asked() == asked;
+    Ok(stated && source.into_bytes().as_slice() == b"abcd".as_slice())
+}
+
+#[test]
+fn the_reads_that_were_named_fail(rt: HostRuntime) {
+    assert!(rt; reads_are_answered(rt.alloc(), &[2, 4], &NAMED, 10) == Ok(true));
+}
+
+#[test]
+fn no_read_fails_where_none_was_named(rt: HostRuntime) {
+    assert!(rt; reads_are_answered(rt.alloc(), &[], &EMPTY, 0) == Ok(true));
+}
+
+/// The first four bytes, where the source has six.
+fn first_four<S: Source>(source: &mut S) -> Result<[u8; 4], ElfError> {
+    if source.len() != 6 {
+        return Err(ElfError::Short);
+    }
+    read_array(source, 0)
+}
+
+/// Whether a range of a source with six bytes is read, or refused, so.
+fn is_range<S: Source>(
+    alloc: Global,
+    source: &mut S,
+    at: u64,
+    len: u64,
+    wanted: Result<&[u8], ElfError>,
+) -> bool {
+    if source.len() != 6 || 0 < len && (at > 6 || len > 6 - at) {
+        return false;
+    }
+    match (read_range(alloc, source, at, len), wanted) {
+        (Ok(bytes), Ok(wanted)) => bytes.as_slice() == wanted,
+        (Err(e), Err(wanted)) => e == wanted,
+        _ => false,
+    }
+}
+
+/// Whether the ranges of six bytes are read whole; an empty one may stand anywhere.
+fn ranges_are_read<S: Source>(alloc: Global, source: &mut S) -> bool {
+    let mut stated = first_four(source) == Ok(*b"abcd");
+    stated &= is_range(alloc, source, 2, 4, Ok(b"cdef"));
+    stated && is_range(alloc, source, 99, 0, Ok(b""))
+}
+
+/// How many bytes the reads of those ranges ask for, if they are answered so.
+fn asked_for_ranges(alloc: Global) -> Result<Option<u64>, ElfError> {
+    let mut source = source(alloc, b"abcdef", &[])?;
+    let stated = ranges_are_read(alloc, &mut source);
+    Ok(if stated { Some(source.asked()) } else { None })
+}
+
+#[test]
+fn ranges_are_read_whole(rt: HostRuntime) {
+    assert!(rt; asked_for_ranges(rt.alloc()) == Ok(Some(8)));
+}
+
+/// Whether a range whose read fails is refused.
+fn failed_range_is_refused(alloc: Global) -> Result<bool, ElfError> {
+    let mut source = source(alloc, b"abcdef", &[1])?;
+    Ok(is_range(alloc, &mut source, 0, 6, Err(ElfError::Read)))
+}
+
+#[test]
+fn a_failed_read_is_an_error(rt: HostRuntime) {
+    assert!(rt; failed_range_is_refused(rt.alloc()) == Ok(true));
+}

@@ -1,0 +1,94 @@
+//! Steps over sources, devices and sinks that are lent, with what each call is to answer.
+
+ghost use Rattle.std.specs.Prelude.{◌+◌, ◌≤◌, length};
+
+use elf_outside::{Device, Failed, Sink, Source};
+
+/// A read of a length from a place on, and its bytes, or None where it is to fail.
+pub type Read = (u64, usize, Option<&'static [u8]>);
+
+/// A piece that is put, and whether it is taken.
+pub type Put = (&'static [u8], bool);
+
+/// A call on a device, and what it is to answer.
+#[derive(Clone, Copy)]
+pub enum Step {
+    /// A read.
+    Read(u64, usize, Option<&'static [u8]>),
+    /// A piece over the bytes at a place, and whether the write succeeds.
+    Write(u64, &'static [u8], bool),
+    /// A length, and whether the device takes it.
+    SetLen(u64, bool),
+    /// A piece after the last byte, and whether the write succeeds.
+    Append(&'static [u8], bool),
+}
+
+/// The most bytes that a step reads.
+const MOST: usize = 8;
+
+/// Whether a read into a buffer gives these bytes, or fails where there are none.
+fn gives<S: Source>(source: &mut S, at: u64, buf: &mut [u8], wanted: Option<&[u8]>) -> bool
+    requires { at + length buf.old ≤ S.size source.old }
+{
+    match (source.read_at(at, buf), wanted) {
+        (Ok(()), Some(bytes)) => *buf == *bytes,
+        (Err(Failed), None) => true,
+        _ => false,
+    }
+}
+
+/// Whether a range lies in a source, and a read of it is answered so.
+pub fn reads<S: Source>(source: &mut S, at: u64, n: usize, wanted: Option<&[u8]>) -> bool {
+    let mut buf = [0u8; MOST];
+    let len = source.len();
+    if n > MOST || at > len || n as u64 > len - at {
+        return false;
+    }
+    gives(source, at, &mut buf[..n], wanted)
+}
+
+/// Whether the reads are answered so, one after another.
+pub fn reads_all<S: Source>(source: &mut S, rows: &[Read]) -> bool {
+    let mut stated = true;
+    for (at, n, wanted) in rows {
+        stated &= reads(source, *at, *n, *wanted);
+    }
+    stated
+}
+
+/// Whether a range lies in a device, and a write over it is answered so.
+fn writes<D: Device>(device: &mut D, at: u64, piece: &[u8], done: bool) -> bool {
+    let len = device.len();
+    if at > len || piece.len() as u64 > len - at {
+        return false;
+    }
+    device.write_at(at, piece).is_ok() == done
+}
+
+/// Whether a step is answered so.
+fn answers<D: Device>(device: &mut D, step: Step) -> bool {
+    match step {
+        Step::Read(at, n, wanted) => reads(device, at, n, wanted),
+        Step::Write(at, piece, done) => writes(device, at, piece, done),
+        Step::SetLen(n, done) => device.set_len(n).is_ok() == done,
+        Step::Append(piece, done) => device.append(piece).is_ok() == done,
+    }
+}
+
+/// Whether the steps are answered so, one after another.
+pub fn answers_all<D: Device>(device: &mut D, steps: &[Step]) -> bool {
+    let mut stated = true;
+    for step in steps {
+        stated &= answers(device, *step);
+    }
+    stated
+}
+
+/// Whether the puts are answered so, one after another.
+pub fn puts_all<K: Sink>(sink: &mut K, puts: &[Put]) -> bool {
+    let mut stated = true;
+    for (piece, done) in puts {
+        stated &= sink.put(*piece).is_ok() == *done;
+    }
+    stated
+}

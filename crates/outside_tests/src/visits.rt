@@ -1,0 +1,81 @@
+//! Files that are handed out by a set of files, used, and closed.
+
+use crate::steps::{Step, answers_all};
+use elf_outside::{Files, OpenFault};
+use std::alloc::Global;
+
+/// A call that hands out a file.
+#[derive(Clone, Copy)]
+pub enum Way {
+    /// To read.
+    Open,
+    /// To read and write.
+    Edit,
+    /// Made empty.
+    Create,
+}
+
+/// The steps that a file answers that is handed out, or why none is.
+pub type Told = Result<&'static [Step], OpenFault>;
+
+/// Asks for a file.
+pub fn hand_out<F: Files>(
+    alloc: Global,
+    files: &mut F,
+    way: Way,
+    name: &str,
+) -> Result<F::File, OpenFault> {
+    match way {
+        Way::Open => files.open(alloc, name),
+        Way::Edit => files.edit(alloc, name),
+        Way::Create => files.create(alloc, name),
+    }
+}
+
+/// Whether a file answers the steps, before it is closed.
+fn answers_and_closes<F: Files>(
+    files: &mut F,
+    name: &str,
+    mut file: F::File,
+    steps: &[Step],
+) -> bool {
+    let stated = answers_all(&mut file, steps);
+    files.close(name, file);
+    stated
+}
+
+/// Whether a file is handed out that answers these steps before it is closed, or none is for this
+/// reason.
+pub fn is_visited<F: Files>(
+    alloc: Global,
+    files: &mut F,
+    way: Way,
+    name: &str,
+    told: Result<&[Step], OpenFault>,
+) -> bool
+where
+    F::File: Drop,
+{
+    match (hand_out(alloc, files, way, name), told) {
+        (Ok(file), Ok(steps)) => answers_and_closes(files, name, file, steps),
+        (Err(fault), Err(wanted)) => fault == wanted,
+        _ => false,
+    }
+}
+
+/// Whether a name is visited so, one visit after another.
+pub fn are_visited<F: Files>(
+    alloc: Global,
+    files: &mut F,
+    name: &str,
+    visits: &[(Way, Told)],
+) -> bool
+where
+    F::File: Drop,
+{
+    let mut stated = true;
+    for (way, told) in visits {
+        stated &= is_visited(alloc, files, *way, name, *told);
+    }
+    stated
+}

@@ -1,0 +1,45 @@
+-- The symbols of relocations.
+use Rattle.std.proofs.Common.{◌≡◌, ℕ, ◌==◌, Bool, true, false, List, Option, Some, None, Result, Ok, Err, IsTrue, sym, ap, ◌∙◌}
+use Rattle.std.specs.Prelude.{if◌then◌else◌}
+use Rattle.elf_types.specs.declared.records.Sym.{Sym}
+use Rattle.elf_types.specs.declared.errors.ElfError.{ElfError}
+use Rattle.elf_types.specs.declared.constants.TheConstants.{SHT_RELA}
+use Rattle.elf_object.specs.Words.{Wants, Answers}
+use Rattle.elf_object.specs.Object.{Object, section_at}
+use Rattle.elf_object.specs.Calls.{sym_answer}
+use Rattle.tool_output.specs.Stops.{stop_of}
+use Rattle.tool_output.specs.Names.{Name}
+use Rattle.tool_output.specs.Reports.{Report}
+use Rattle.readelf_tool.specs.declared.links.Links.{Links}
+use Rattle.readelf_tool.specs.Links.{AreLinks}
+use Rattle.readelf_tool.specs.Relocations.{found, symbol_in, name_by, relocation_name, rels_of_section, relas_of_section, relocations_of_section}
+use Rattle.readelf_tool.proofs.SymbolLemmas.{answers_stated}
+
+module _ (told : Bool) (wants : Wants) (o : Object) (table y : ℕ) where
+  pub symbol_is : (x : Sym) → Answers told wants (Ok x) (sym_answer o table 0 y) → IsTrue told → Some x ≡ symbol_in o table y
+  unfolding symbol_in
+  symbol_is x came is = sym (ap found (came.1 is))
+
+  pub symbol_is_none : (e : ElfError) → stop_of e ≡ None → Answers told wants (Err e) (sym_answer o table 0 y) → None ≡ symbol_in o table y
+  unfolding symbol_in
+  symbol_is_none e none came = sym (ap found (answers_stated told wants e (sym_answer o table 0 y) came none))
+
+pub relocation_name_is : (o : Object) (s y : ℕ) (links : Links) → AreLinks o s links → relocation_name o s y ≡ name_by o links.strings.0 (symbol_in o links.linked.0 y)
+unfolding relocation_name
+relocation_name_is o s y links are =
+    ap (λ (n : ℕ). name_by o (section_at o n).header.link (symbol_in o n y)) (sym are.linked)
+    ∙ ap (λ (n : ℕ). name_by o n (symbol_in o links.linked.0 y)) (sym are.strings)
+
+-- ---- Which relocations a section has
+
+module _ (name : Name) (o : Object) (s : ℕ) where
+  abbrev by : Bool → Report
+  by rela = if rela then relas_of_section name o s else rels_of_section name o s
+
+  pub relas_shown : ((section_at o s).header.stype == SHT_RELA) ≡ true → relocations_of_section name o s ≡ relas_of_section name o s
+  unfolding relocations_of_section
+  relas_shown is = ap by is
+
+  pub rels_shown : ((section_at o s).header.stype == SHT_RELA) ≡ false → relocations_of_section name o s ≡ rels_of_section name o s
+  unfolding relocations_of_section
+  rels_shown is = ap by is

@@ -1,0 +1,14 @@
+//! Runs of elfkit and of its tools over files, objects and outputs in memory, for the tests of the
+//! commands. No call here has a clause: so what a test proves holds nothing of the definitions that
+//! the program's clauses cite, which are many, and a test that is added proves nothing again but
+//! its own crate.
+#![tactic(auto)]
+
+mod objects;
+mod runs;
+
+pub use objects::{Said, asked, readelf_of};
+pub use runs::{
+    Bytes, DONE, Ending, Failing, Given, NOTHING, REFUSED, Ran, add_file, ends, numbered, refuses,
+    run_line, run_words, shows,
+};

@@ -1,0 +1,240 @@
+//! Runs of elfkit on the words of a line, over files and outputs in memory.
+
+use elf_outside::{Files, MemFiles, MemSink, Sink};
+use elf_types::{Addrs, ElfError, Octets};
+use elfkit_run::run;
+use std::alloc::Global;
+use test_images::Image;
+use tool_output::Status;
+use tool_text::Args;
+
+/// The room of each output, more than a test writes.
+const ROOM: u64 = 1 << 20;
+
+/// How a run ends, and what it writes on both outputs.
+#[derive(Clone, Copy)]
+pub struct Ending {
+    /// The status.
+    pub status: Status,
+    /// What stands on standard output.
+    pub out: &'static [u8],
+    /// What stands on standard error.
+    pub err: &'static [u8],
+}
+
+/// Nothing is refused, and nothing is written.
+pub const DONE: Ending = Ending {
+    status: Status::Done,
+    out: b"",
+    err: b"",
+};
+
+/// Something is refused.
+pub const REFUSED: Ending = Ending {
+    status: Status::Refused,
+    ..DONE
+};
+
+/// What a run answered, and what it wrote.
+#[derive(Drop)]
+pub struct Ran {
+    /// The status.
+    pub status: Status,
+    /// What stands on standard output.
+    pub out: Octets,
+    /// What stands on standard error.
+    pub err: Octets,
+}
+
+impl Ran {
+    /// Whether the run ended so.
+    pub fn is(&self, ending: &Ending) -> bool {
+        self.status == ending.status
+            && self.out.as_slice() == ending.out
+            && self.err.as_slice() == ending.err
+    }
+}
+
+/// The failing calls of a run, as their numbers from 1; 0 stands for none.
+#[derive(Clone, Copy)]
+pub struct Failing {
+    /// The file that is not handed out.
+    pub open: u64,
+    /// The put to standard output that fails.
+    pub out: u64,
+    /// The put to standard error that fails.
+    pub err: u64,
+}
+
+/// No call fails.
+pub const NOTHING: Failing = Failing {
+    open: 0,
+    out: 0,
+    err: 0,
+};
+
+/// A list of one number, or of none where it is 0.
+pub fn numbered(alloc: Global, number: u64) -> Result<Addrs, ElfError> {
+    let mut list = Addrs::new(alloc);
+    if number != 0 {
+        list.push(number)?;
+    }
+    Ok(list)
+}
+
+/// The files that a run finds.
+pub trait Given {
+    /// Adds them under their names.
+    fn add_to(&self, alloc: Global, files: &mut MemFiles) -> Result<(), ElfError>;
+}
+
+/// Adds a file of these bytes, of which no call fails.
+pub fn add_file(
+    alloc: Global,
+    files: &mut MemFiles,
+    name: &str,
+    bytes: &[u8],
+) -> Result<(), ElfError> {
+    let bytes = Octets::from_slice(alloc, bytes)?;
+    files.add(name, bytes, Addrs::new(alloc), Addrs::new(alloc))
+}
+
+/// The image is the file F.
+impl Given for Image {
+    fn add_to(&self, alloc: Global, files: &mut MemFiles) -> Result<(), ElfError> {
+        add_file(alloc, files, "F", self.bytes.as_slice())
+    }
+}
+
+/// The bytes are the file F.
+impl Given for Octets {
+    fn add_to(&self, alloc: Global, files: &mut MemFiles) -> Result<(), ElfError> {
+        add_file(alloc, files, "F", self.as_slice())
+    }
+}
+
+/// These bytes are the file F.
+#[derive(Clone, Copy)]
+pub struct Bytes(pub &'static [u8]);
+
+impl Given for Bytes {
+    fn add_to(&self, alloc: Global, files: &mut MemFiles) -> Result<(), ElfError> {
+        add_file(alloc, files, "F", self.0)
+    }
+}
+
+/// The words, which a space separates.
+fn words_of(alloc: Global, line: &str) -> Result<Args, ElfError> {
+    let mut words = Args::new(alloc);
+    for word in line.split(' ') {
+        words.add(word)?;
+    }
+    Ok(words)
+}
+
+/// An output of which the put with a number fails.
+fn sink(alloc: Global, failing: u64) -> Result<MemSink, ElfError> {
+    MemSink::new(alloc, ROOM, numbered(alloc, failing)?)
+}
+
+/// The files that are given.
+fn files_of<G: Given>(alloc: Global, given: &G, failing: Failing) -> Result<MemFiles, ElfError> {
+    let opens = numbered(alloc, failing.open)?;
+    let mut files = MemFiles::new(alloc, 0, opens, Addrs::new(alloc));
+    match given.add_to(alloc, &mut files) {
+        Ok(()) => Ok(files),
+        Err(e) => Err(e),
+    }
+}
+
+/// The status of a run.
+fn status_of<F: Files, O: Sink, E: Sink>(
+    alloc: Global,
+    words: &Args,
+    files: &mut F,
+    out: &mut O,
+    err: &mut E,
+) -> Status {
+    run(alloc, words, files, out, err)
+}
+
+/// A run over outputs, which are opened.
+fn run_over(
+    alloc: Global,
+    words: &Args,
+    files: &mut MemFiles,
+    mut out: MemSink,
+    mut err: MemSink,
+) -> Ran {
+    let status = status_of(alloc, words, files, &mut out, &mut err);
+    Ran {
+        status,
+        out: out.into_bytes(),
+        err: err.into_bytes(),
+    }
+}
+
+/// A run over files that are lent.
+fn run_on(
+    alloc: Global,
+    words: &Args,
+    files: &mut MemFiles,
+    failing: Failing,
+) -> Result<Ran, ElfError> {
+    let out = sink(alloc, failing.out)?;
+    let err = sink(alloc, failing.err)?;
+    Ok(run_over(alloc, words, files, out, err))
+}
+
+/// A run of words over the files that are given.
+pub fn run_words<G: Given>(
+    alloc: Global,
+    words: &Args,
+    given: &G,
+    failing: Failing,
+) -> Result<Ran, ElfError> {
+    let mut files = files_of(alloc, given, failing)?;
+    run_on(alloc, words, &mut files, failing)
+}
+
+/// A run of the words of a line.
+pub fn run_line<G: Given>(
+    alloc: Global,
+    line: &str,
+    given: &G,
+    failing: Failing,
+) -> Result<Ran, ElfError> {
+    let words = words_of(alloc, line)?;
+    run_words(alloc, &words, given, failing)
+}
+
+/// Whether a run of the words of a line ends so, where no call of the outside fails. What is given
+/// is taken by value, so that a test that leaves by `?` owns nothing.
+pub fn ends<G: Given + Drop>(
+    alloc: Global,
+    line: &str,
+    given: G,
+    ending: &Ending,
+) -> Result<bool, ElfError> {
+    Ok(run_line(alloc, line, &given, NOTHING)?.is(ending))
+}
+
+/// Whether a run of the words of a line shows this, and refuses nothing.
+pub fn shows<G: Given + Drop>(
+    alloc: Global,
+    line: &str,
+    given: G,
+    out: &'static [u8],
+) -> Result<bool, ElfError> {
+    ends(alloc, line, given, &Ending { out, ..DONE })
+}
+
+/// Whether a run of the words of a line refuses something by this message, and shows nothing.
+pub fn refuses<G: Given + Drop>(
+    alloc: Global,
+    line: &str,
+    given: G,
+    err: &'static [u8],
+) -> Result<bool, ElfError> {
+    ends(alloc, line, given, &Ending { err, ..REFUSED })
+}

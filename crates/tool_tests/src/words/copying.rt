@@ -1,0 +1,157 @@
+//! The changes of copy. What is wanted of a list stands behind its letter, each item behind a bar.
+
+use super::{Comparison, Reading, Row, all_hold, are, is};
+use elf_types::List;
+use std::test::Fail;
+use tool_text::{Command, CopyChanges, NamedBits, NamedFile, Renaming, Text};
+
+/// The lists of copy that have items, for the output O and the file F.
+struct Letters;
+
+const LETTERS: [Row; 10] = [
+    ("copy|-oO|F", ""),
+    ("copy|-o|O|--|F", ""),
+    ("copy|-oF|-o|O|F", ""),
+    ("copy|-R.a|-oO|F", "R"),
+    ("copy|-u.a=A|-oO|F", "u"),
+    ("copy|-n.a=.b|-oO|F", "n"),
+    ("copy|-f.a=1|-oO|F", "f"),
+    ("copy|-a.a=A|-oO|F", "a"),
+    ("copy|-un=F|-oO|F", "u"),
+    ("copy|-a.a=A|-f.a=1|-n.a=.b|-u.a=A|-R.a|-oO|F", "Runfa"),
+];
+
+/// The changes of copy for the output O and the file F.
+fn changes(read: &Reading) -> Option<&CopyChanges> {
+    match read {
+        Ok(Command::Copy { changes, out, file }) if is(out, "O") && is(file, "F") => Some(changes),
+        _ => None,
+    }
+}
+
+/// Whether just the lists of these letters have items.
+fn have_items(changes: &CopyChanges, letters: &str) -> bool {
+    changes.remove.is_empty() != letters.contains('R')
+        && changes.update.is_empty() != letters.contains('u')
+        && changes.rename.is_empty() != letters.contains('n')
+        && changes.flags.is_empty() != letters.contains('f')
+        && changes.add.is_empty() != letters.contains('a')
+}
+
+impl Comparison for Letters {
+    fn holds(read: &Reading, wanted: &str) -> bool {
+        match changes(read) {
+            Some(changes) => have_items(changes, wanted),
+            None => false,
+        }
+    }
+}
+
+/// The items of the list of a letter.
+struct Items;
+
+const ITEMS: [Row; 12] = [
+    ("copy|-R.a|-oO|F", "R|.a"),
+    (
+        "copy|-R|.b|-R||-u.a=A|-R.a|-R|-R|-R=|-oO|F",
+        "R|.b||.a|-R|=",
+    ),
+    ("copy|-u.a=A|-oO|F", "u|.a=A"),
+    (
+        "copy|-u|.b=B|-a.c=C|-u.a=F=G|-un=F|-u|-u=|-oO|F",
+        "u|.b=B|.a=F=G|n=F|-u=",
+    ),
+    ("copy|-a.a=A|-oO|F", "a|.a=A"),
+    ("copy|-a|.b=|-u.c=C|-a.a==|-a|-a=-|-oO|F", "a|.b=|.a==|-a=-"),
+    ("copy|-n.a=.b|-oO|F", "n|.a=.b"),
+    (
+        "copy|-n|.b=.a|-u.c=C|-n.a==|-n|.c=|-oO|F",
+        "n|.b=.a|.a==|.c=",
+    ),
+    ("copy|-f.a=6|-oO|F", "f|.a=6"),
+    ("copy|-f|.b=0x1F|-f.a=00|-oO|F", "f|.b=31|.a=0"),
+    (
+        "copy|-f.a=18446744073709551615|-oO|F",
+        "f|.a=18446744073709551615",
+    ),
+    (
+        "copy|-f.a=0xfFffffffffffffff|-oO|F",
+        "f|.a=18446744073709551615",
+    ),
+];
+
+/// Whether a word is these two texts with `=` between them.
+fn is_pair(word: &str, first: &Text, second: &Text) -> bool {
+    word.split_once('=') == Some((first.as_str(), second.as_str()))
+}
+
+/// Whether a word is this name, `=` and these flags.
+fn is_bits(word: &str, named: &NamedBits) -> bool {
+    match word.split_once('=') {
+        Some((name, bits)) => is(&named.name, name) && bits.parse() == Ok(named.bits),
+        None => false,
+    }
+}
+
+/// Whether these are the files.
+fn are_files(named: &List<NamedFile>, wanted: &str) -> bool {
+    let mut words = wanted.split('|').skip(1);
+    for each in named.as_slice() {
+        match words.next() {
+            Some(word) if is_pair(word, &each.name, &each.file) => {}
+            _ => return false,
+        }
+    }
+    words.next().is_none()
+}
+
+/// Whether these are the new names.
+fn are_renamings(renamings: &List<Renaming>, wanted: &str) -> bool {
+    let mut words = wanted.split('|').skip(1);
+    for each in renamings.as_slice() {
+        match words.next() {
+            Some(word) if is_pair(word, &each.old, &each.new) => {}
+            _ => return false,
+        }
+    }
+    words.next().is_none()
+}
+
+/// Whether these are the flags.
+fn are_flags(named: &List<NamedBits>, wanted: &str) -> bool {
+    let mut words = wanted.split('|').skip(1);
+    for each in named.as_slice() {
+        match words.next() {
+            Some(word) if is_bits(word, each) => {}
+            _ => return false,
+        }
+    }
+    words.next().is_none()
+}
+
+/// Whether the list of the letter that the text begins with has these items.
+fn are_items(changes: &CopyChanges, wanted: &str) -> bool {
+    match wanted.as_bytes().first() {
+        Some(b'R') => are(&changes.remove, wanted),
+        Some(b'u') => are_files(&changes.update, wanted),
+        Some(b'n') => are_renamings(&changes.rename, wanted),
+        Some(b'f') => are_flags(&changes.flags, wanted),
+        Some(b'a') => are_files(&changes.add, wanted),
+        _ => false,
+    }
+}
+
+impl Comparison for Items {
+    fn holds(read: &Reading, wanted: &str) -> bool {
+        match changes(read) {
+            Some(changes) => are_items(changes, wanted),
+            None => false,
+        }
+    }
+}
+
+#[test]
+fn copy_has_a_list_for_each_letter(rt: HostRuntime) -> Result<(), Fail> {
+    all_hold::<Letters>(&rt, rt.alloc(), &LETTERS)?;
+    all_hold::<Items>(&rt, rt.alloc(), &ITEMS)
+}

@@ -1,0 +1,57 @@
+//! Words that are numbers.
+
+use tool_text::{script_number, word_number};
+
+/// Words, and the number of the command line that each is.
+const OF_WORDS: [(&str, Option<u64>); 9] = [
+    ("0", Some(0)),
+    ("004", Some(4)),
+    ("999999999", Some(999_999_999)),
+    ("0000000001", None),
+    ("", None),
+    ("+1", None),
+    ("-1", None),
+    ("1 ", None),
+    ("a", None),
+];
+
+/// Words, and the number of a script that each is.
+const OF_SCRIPTS: [(&str, Option<u64>); 13] = [
+    ("00000000000000000010", Some(10)),
+    ("18446744073709551615", Some(0xffff_ffff_ffff_ffff)),
+    ("18446744073709551616", None),
+    ("000000000000000000010", None),
+    ("0xfF", Some(255)),
+    ("0xffffffffffffffff", Some(0xffff_ffff_ffff_ffff)),
+    ("0x00000000000000001", None),
+    ("0x", None),
+    ("0X1", None),
+    ("+1", None),
+    ("-0x1", None),
+    ("0x+1", None),
+    ("", None),
+];
+
+/// Whether a word is this number of the command line.
+fn is_word_number(word: &str, wanted: Option<u64>) -> bool {
+    word_number(word) == wanted
+}
+
+/// Whether it is this number of a script.
+fn is_script_number(word: &str, wanted: Option<u64>) -> bool {
+    script_number(word) == wanted
+}
+
+#[test]
+fn numbers_of_words_have_at_most_nine_digits(rt: HostRuntime) {
+    for (word, wanted) in OF_WORDS.iter() {
+        assert!(rt; is_word_number(word, *wanted));
+    }
+}
+
+#[test]
+fn numbers_of_scripts_are_decimal_or_hexadecimal(rt: HostRuntime) {
+    for (word, wanted) in OF_SCRIPTS.iter() {
+        assert!(rt; is_script_number(word, *wanted));
+    }
+}

@@ -1,0 +1,120 @@
+//! Notes in bytes, and in a piece.
+
+use crate::questions::{Question, add_bytes, is_answered};
+use elf_descriptor::Elf;
+use elf_outside::Source;
+use elf_types::{DataId, ElfError, Order};
+use gelf_view::{NoteAt, note, note_align, note_in};
+use std::test::Fail;
+
+/// A note of type 7 with the name `GNU` and a descriptor of one byte.
+static ONE_NOTE: [u8; 17] = [4, 0, 0, 0, 1, 0, 0, 0, 7, 0, 0, 0, b'G', b'N', b'U', 0, 9];
+
+/// Where its parts are.
+const PARTS: NoteAt = NoteAt {
+    ntype: 7,
+    name_at: 12,
+    namesz: 4,
+    desc_at: 16,
+    descsz: 1,
+    next: 17,
+};
+
+/// Places, and the note there.
+const CASES: [(u64, Result<Option<NoteAt>, ElfError>); 5] = [
+    (0, Ok(Some(PARTS))),
+    (5, Err(ElfError::BadChain { at: 5 })),
+    (6, Err(ElfError::BadChain { at: 6 })),
+    (17, Ok(None)),
+    (18, Err(ElfError::BadChain { at: 18 })),
+];
+
+/// Whether a note is there.
+fn is_note(at: u64, want: Result<Option<NoteAt>, ElfError>) -> bool {
+    note_in(&ONE_NOTE, at, 4, Order::Least) == want
+}
+
+#[test]
+fn notes_lie_in_their_piece(rt: HostRuntime) -> Result<(), Fail> {
+    for (at, want) in CASES {
+        assert!(rt; is_note(at, want));
+    }
+    Ok(())
+}
+
+/// A note of type 1 with a name of five bytes and no descriptor, and the pad to the next note.
+static NAME_ALONE: [u8; 24] = [
+    0, 0, 0, 5, 0, 0, 0, 0, 0, 0, 0, 1, b'a', b'b', b'c', b'd', 0, 0, 0, 0, 0, 0, 0, 0,
+];
+
+/// The alignment of a section, how many of those bytes it has, and where the descriptor and the
+/// next note begin.
+const ALIGNED: [(u64, usize, u64); 4] = [(1, 24, 20), (8, 24, 24), (8, 20, 20), (4, 17, 17)];
+
+/// Whether they begin there.
+fn begins_at(addralign: u64, bytes: &[u8], place: u64) -> bool {
+    match note_in(bytes, 0, note_align(addralign), Order::Greatest) {
+        Ok(Some(note)) => note.desc_at == place && note.next == place,
+        _ => false,
+    }
+}
+
+/// Whether they do in the first bytes, so many.
+fn begins_in(addralign: u64, size: usize, place: u64) -> bool {
+    match NAME_ALONE.get(..size) {
+        Some(bytes) => begins_at(addralign, bytes, place),
+        None => false,
+    }
+}
+
+#[test]
+fn notes_are_aligned_by_their_section(rt: HostRuntime) -> Result<(), Fail> {
+    for (addralign, size, place) in ALIGNED {
+        assert!(rt; begins_in(addralign, size, place));
+    }
+    Ok(())
+}
+
+/// A note of type 3 with the name `GNU` and a descriptor of four bytes.
+const NOTE: &[u8] = b"\x04\0\0\0\x04\0\0\0\x03\0\0\0GNU\0\x01\x02\x03\x04";
+
+/// The same without its last byte.
+const CUT: &[u8] = b"\x04\0\0\0\x04\0\0\0\x03\0\0\0GNU\0\x01\x02\x03";
+
+/// The note at a place of a piece.
+fn note_at<S: Source>(elf: &mut Elf<S>, d: DataId, at: u64) -> Result<Option<NoteAt>, ElfError> {
+    note(elf, d, at)
+}
+
+/// The type of the first note, and whether no other comes after it.
+fn one_note<S: Source>(elf: &mut Elf<S>, d: DataId) -> Result<(u32, bool), ElfError> {
+    match note_at(elf, d, 0)? {
+        Some(first) => {
+            let next = note_at(elf, d, first.next)?;
+            Ok((first.ntype, next.is_none()))
+        }
+        None => Ok((0, true)),
+    }
+}
+
+/// The same of a piece of these bytes.
+fn one_note_of<S: Source>(elf: &mut Elf<S>, bytes: &[u8]) -> Result<(u32, bool), ElfError> {
+    let d = add_bytes(elf, bytes)?;
+    one_note(elf, d)
+}
+
+/// A note is walked to its end, and one that is a byte shorter is refused.
+struct Walk;
+
+impl Question for Walk {
+    fn is_answered<S: Source>(&self, elf: &mut Elf<S>) -> bool {
+        one_note_of(elf, NOTE) == Ok((3, true))
+            && one_note_of(elf, CUT) == Err(ElfError::BadChain { at: 0 })
+    }
+}
+
+#[test]
+fn notes_end_with_their_piece(rt: HostRuntime) -> Result<(), Fail> {
+    assert!(rt; is_answered(rt.alloc(), &Walk)?);
+    Ok(())
+}

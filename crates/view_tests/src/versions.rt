@@ -1,0 +1,116 @@
+//! Version records in a piece.
+
+use crate::questions::{Question, add_bytes, is_answered};
+use elf_descriptor::Elf;
+use elf_outside::Source;
+use elf_types::{DataId, ElfError};
+use gelf_view::{AuxPlace, Verdaux, Verdef, first_entry, next_verdaux, verdaux, verdef};
+use std::test::Fail;
+
+/// A definition at 0 with one name, which is at 20.
+static DEFINITION: [u8; 28] = [
+    1, 0, 0, 0, 1, 0, 1, 0, 0xcf, 0x6c, 0, 0, 20, 0, 0, 0, 0, 0, 0, 0, 1, 0, 0, 0, 0, 0, 0, 0,
+];
+
+/// That definition.
+const BASE: Verdef = Verdef {
+    version: 1,
+    flags: 0,
+    ndx: 1,
+    cnt: 1,
+    hash: 0x6ccf,
+    aux: 20,
+    next: 0,
+};
+
+/// Its name.
+const NAME: Verdaux = Verdaux { name: 1, next: 0 };
+
+/// The same with two names.
+const TWO_NAMES: Verdef = Verdef { cnt: 2, ..BASE };
+
+/// The same with a distance that is meant to point backwards.
+const BACK: Verdef = Verdef {
+    next: u32::MAX - 19,
+    ..BASE
+};
+
+/// Whether the first definition is at a place.
+fn begins_at<S: Source>(elf: &mut Elf<S>, d: DataId, want: Option<u64>) -> bool {
+    first_entry(elf, d) == Ok(want)
+}
+
+/// Whether a definition is at a place.
+fn is_definition<S: Source>(
+    elf: &mut Elf<S>,
+    d: DataId,
+    at: u64,
+    want: Result<Verdef, ElfError>,
+) -> bool {
+    verdef(elf, d, at) == want
+}
+
+/// Whether a name is.
+fn is_name<S: Source>(
+    elf: &mut Elf<S>,
+    d: DataId,
+    at: u64,
+    want: Result<Verdaux, ElfError>,
+) -> bool {
+    verdaux(elf, d, at) == want
+}
+
+/// Whether the next name of a walk is found, or why not.
+fn next_name<S: Source>(
+    elf: &mut Elf<S>,
+    d: DataId,
+    place: &mut AuxPlace,
+) -> Result<bool, ElfError> {
+    match next_verdaux(elf, d, place) {
+        Ok(found) => Ok(found.is_some()),
+        Err(e) => Err(e),
+    }
+}
+
+/// Whether no second name is found behind one that says that it is the last.
+fn last_name_is_last<S: Source>(elf: &mut Elf<S>, d: DataId) -> bool {
+    let mut place = TWO_NAMES.first_aux(0);
+    next_name(elf, d, &mut place) == Ok(true)
+        && next_name(elf, d, &mut place) == Err(ElfError::BadChain { at: 20 })
+}
+
+/// Whether an entry that tells a greater distance than there is leads to none.
+fn backwards_is_nowhere<S: Source>(elf: &mut Elf<S>, d: DataId) -> bool {
+    match BACK.next_place(20) {
+        Some(at) => is_definition(elf, d, at, Err(ElfError::BadChain { at })),
+        None => false,
+    }
+}
+
+/// The definition and its name are read, and none at another place.
+struct Walk;
+
+/// Whether they are in a piece.
+fn is_walked<S: Source>(elf: &mut Elf<S>, d: DataId) -> bool {
+    begins_at(elf, d, Some(0))
+        && is_definition(elf, d, 0, Ok(BASE))
+        && is_name(elf, d, 20, Ok(NAME))
+        && is_definition(elf, d, 9, Err(ElfError::BadChain { at: 9 }))
+        && last_name_is_last(elf, d)
+        && backwards_is_nowhere(elf, d)
+}
+
+impl Question for Walk {
+    fn is_answered<S: Source>(&self, elf: &mut Elf<S>) -> bool {
+        match add_bytes(elf, &DEFINITION) {
+            Ok(d) => is_walked(elf, d),
+            Err(_) => false,
+        }
+    }
+}
+
+#[test]
+fn versions_are_walked(rt: HostRuntime) -> Result<(), Fail> {
+    assert!(rt; is_answered(rt.alloc(), &Walk)?);
+    Ok(())
+}
