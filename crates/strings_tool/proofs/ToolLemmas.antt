@@ -53,7 +53,35 @@ module _ (options : StringsOptions) (name : Name) where
       at_refusal : (image : List ℕ) → front image ≡ Err d → opened_report (opened image) options name image ≡ range_report options 0 image
       at_refusal image is = rw is refl
 
+  -- ---- By the options
+
+  pub whole_is : (image : List ℕ) → options.all ≡ true → strings_report options name image ≡ range_report options 0 image
+  unfolding strings_report
+  whole_is image on = rw on refl
+
+  pub homes_are : (image : List ℕ) → options.all ≡ false → strings_report options name image ≡ opened_report (opened image) options name image
+  unfolding strings_report
+  homes_are image off = rw off refl
+
+pub whole_asks : (options : StringsOptions) (image : List ℕ) (before now : ℕ) → options.all ≡ true → now ≤ before + length image
+    → IsWithin (strings_asks options image) before now
+unfolding strings_asks
+whole_asks options image before now on le = rw on le
+
+pub homes_ask : (options : StringsOptions) (image : List ℕ) (before now : ℕ) → options.all ≡ false → IsWithin (strings_asks options image) before now
+unfolding strings_asks
+homes_ask options image before now off = rw off tt
+
 module _ {S O E : Type 0} (s : SourceGhosts S) (o : SinkGhosts O) (e : SinkGhosts E) where
+  -- no memory
+  pub stopped_by_memory : (report : List ℕ → Report) (a : S) (t : Outputs O E) → ReportsOn s o e report (Err Memory) a a t t
+  stopped_by_memory report a t = record {
+    reports = told_by (s.holds a) (λ image there. reports_nothing o e t Memory (report image));
+    source = record { same_len = refl; same_bytes = refl; same_rest = refl };
+    later = omega arith;
+    leaves = record { keeps = keeps_none o e t; read = tt; write = tt };
+  }
+
   -- a read that stops the tool
   pub stopped_reading : {T : Type 0} (report : List ℕ → Report) (d : ElfError) (stop : Stop) (n : ℕ) (a b : S) (t : Outputs O E) → Some stop ≡ stop_of d
       → Asks {T = T} s (Err d) a b n → ReportsOn s o e report (Err stop) a b t t
