@@ -1,5 +1,5 @@
 -- A range of a source, by what was read of it and what is left.
-use Rattle.std.proofs.Common.{◌≡◌, ◌+◌, ◌-◌, ◌<◌, ◌≤◌, ◌++◌, ℕ, zero, suc, Bool, true, false, List, [], ◌∷◌, length, take, drop, Option, Some, None, IfSome, Result, Ok, Err, OnOk, refl, sym, ap, ◌∙◌, subst, arith, drop-drop, take-add, length-take, length-drop}
+use Rattle.std.proofs.Common.{◌≡◌, ◌+◌, ◌-◌, ◌<◌, ◌≤◌, ◌++◌, ℕ, zero, suc, Bool, true, false, List, [], ◌∷◌, length, take, drop, Option, IfSome, Result, Ok, Err, OnOk, refl, sym, ap, ◌∙◌, subst, arith, drop-drop, take-add, length-take}
 use Rattle.std.proofs.lemmas.List.{drop-append-le}
 use Rattle.elf_outside.specs.Asks.{Leaves}
 use Rattle.elf_outside.specs.Counts.{Rose}
@@ -11,11 +11,11 @@ use Rattle.tool_output.specs.declared.stops.Stop.{Stop}
 use Rattle.tool_output.specs.declared.stops.Stop.TheVariants.{Read, Write, Memory}
 use Rattle.tool_output.specs.declared.outputs.Outputs.{Outputs}
 use Rattle.tool_output.specs.Steps.{KeepsSinks, LeavesOutputs}
-use Rattle.tool_output.specs.Reports.{Report, Reports, no_report, joined, shown, UnderWay}
+use Rattle.tool_output.specs.Reports.{Report, Reports, shown, UnderWay}
 use Rattle.tool_output.specs.Sources.{ReportsOn}
 use Rattle.tool_output.proofs.StepLemmas.{keeps_none, keeps_then}
-use Rattle.tool_output.proofs.ReportLemmas.{joined_none, reports_nothing}
-use Rattle.tool_output.proofs.UnderWayLemmas.{begins, stops_at, ends_with, shown_none}
+use Rattle.tool_output.proofs.ReportLemmas.{reports_nothing}
+use Rattle.tool_output.proofs.UnderWayLemmas.{begins, ends_with}
 use Rattle.tool_output.proofs.SourceLemmas.{reads_weaker}
 use Rattle.object_output.proofs.SourceSteps.{OnWay, leaves_then, left_after}
 use Rattle.strings_tool.specs.Texts.{least_len, range_text, end_text, left_text}

@@ -119,7 +119,7 @@ module _ (least : ℕ) where
       let all : least ≤ front_len (b ∷ bs) = omega (arith, front, long) in
       let run : Run = record { at = at; bytes = take_while is_printable (b ∷ bs) } in
       let same : filter is_long (run_if (is_printable b && not false) at (b ∷ bs)) ≡ run ∷ [] =
-          ap (λ (q : Bool). filter is_long (run_if (q && not false) at (b ∷ bs))) shown ∙ one_if at (b ∷ bs) all in
+      ap (λ (q : Bool). filter is_long (run_if (q && not false) at (b ∷ bs))) shown ∙ one_if at (b ∷ bs) all in
       after_cons false at b bs
       ∙ ap (λ (rs : List Run). rs ++ long_after (is_printable b) (at + 1) bs) same
       ∙ ap (λ (q : Bool). run ∷ long_after q (at + 1) bs) shown
@@ -165,7 +165,7 @@ module _ (least : ℕ) where
   pub is_skipped : (bytes : List ℕ) (i : ℕ) → i < length bytes → i < least → is_printable (get_or bytes i 0) ≡ false → Skips least bytes (i + 1)
   is_skipped bytes i there few plain =
       let parts : take i bytes ++ get_or bytes i 0 ∷ drop (suc i) bytes ≡ bytes =
-          ap (λ (l : List ℕ). take i bytes ++ l) (sym (drop-cons bytes i 0 there)) ∙ take-append-drop i bytes in
+      ap (λ (l : List ℕ). take i bytes ++ l) (sym (drop-cons bytes i 0 there)) ∙ take-append-drop i bytes in
       let len : length (take i bytes) ≡ i = length-take-le i bytes (omega (arith, there)) in
       subst (λ (n : ℕ). Skips least bytes (n + 1)) len
       (subst (λ (l : List ℕ). Skips least l (length (take i bytes) + 1)) parts

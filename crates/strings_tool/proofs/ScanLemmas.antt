@@ -1,11 +1,11 @@
 -- A look at bytes, by the pieces that it writes.
-use Rattle.std.proofs.Common.{◌≡◌, ◌+◌, ◌<◌, ◌≤◌, ◌-◌, ◌++◌, ℕ, Bool, true, false, not, nat_lt, List, length, take, drop, Result, Ok, Err, None, refl, sym, ap, ◌∙◌, subst, arith, length-drop, take_all, drop-drop, ltb-true, ltb-false}
+use Rattle.std.proofs.Common.{◌≡◌, ◌+◌, ◌<◌, ◌≤◌, ◌-◌, ◌++◌, ℕ, Bool, true, false, not, nat_lt, List, length, take, drop, Ok, Err, None, refl, sym, ap, ◌∙◌, subst, arith, length-drop, take_all, drop-drop, ltb-true, ltb-false}
 use Rattle.std.proofs.lemmas.List.Sums.{prefix_len-le-length}
 use Rattle.elf_outside.specs.declared.sinks.Sink.{Ghosts}
 use Rattle.tool_text.specs.declared.options.StringsOptions.{StringsOptions}
 use Rattle.tool_output.specs.declared.stops.Stop.{Stop}
 use Rattle.tool_output.specs.declared.outputs.Outputs.{Outputs}
-use Rattle.tool_output.specs.Reports.{Report, Reports, no_report, joined, shown, UnderWay}
+use Rattle.tool_output.specs.Reports.{Report, Reports, joined, shown, UnderWay}
 use Rattle.tool_output.proofs.UnderWayLemmas.{begins, line_shown, stops_at, goes_on, ends_with, shown_append}
 use Rattle.strings_tool.specs.Runs.{is_printable, Skips}
 use Rattle.strings_tool.specs.Texts.{least_len, range_text, piece_text, left_text}
@@ -20,9 +20,10 @@ parts all a b is = ap shown is ∙ shown_append a b
 end_at : (bytes : List ℕ) (from n : ℕ) (ends : Bool) → ends ≡ nat_lt (from + n) (length bytes) → n ≡ front_len (drop from bytes) → from ≤ length bytes
     → (ends ≡ true → front_len (drop from bytes) < length (drop from bytes)) × (ends ≡ false → length (drop from bytes) ≤ front_len (drop from bytes))
 end_at bytes from n ends is len le =
-    let long = length-drop from bytes in
-    ((λ on. let lt = ltb-true (from + n) (length bytes) (sym is ∙ on) in omega (arith, lt, long, len, le)),
-    (λ off. let ge = ltb-false (from + n) (length bytes) (sym is ∙ off) in omega (arith, ge, long, len, le)))
+    let long = length-drop from bytes in (
+      (λ on. let lt = ltb-true (from + n) (length bytes) (sym is ∙ on) in omega (arith, lt, long, len, le)),
+      (λ off. let ge = ltb-false (from + n) (length bytes) (sym is ∙ off) in omega (arith, ge, long, len, le)),
+    )
 
 -- the rest of bytes, as a slice of them is written
 pub rest_is : (bytes : List ℕ) (used : ℕ) → take (length bytes - used) (drop used bytes) ≡ drop used bytes
@@ -70,7 +71,7 @@ module _ {O E : Type 0} (o : Ghosts O) (e : Ghosts E) (options : StringsOptions)
       long : least_len options ≤ n
       long =
           let there : front_len (drop k (rest_of bytes used)) ≡ front_len (drop (used + k) bytes) =
-              ap (λ (l : List ℕ). front_len (drop k l)) (rest_is bytes used) ∙ ap front_len (drop-drop k used bytes) in
+          ap (λ (l : List ℕ). front_len (drop k l)) (rest_is bytes used) ∙ ap front_len (drop-drop k used bytes) in
           omega (arith, there, found, is_least, len)
 
       abbrev piece : List ℕ

@@ -1,18 +1,17 @@
 -- What is said of a section, and of sections by number.
-use Rattle.std.proofs.Common.{◌≡◌, ◌+◌, ◌<◌, ◌≤◌, ◌&&◌, ◌==◌, ℕ, Bool, true, false, not, nat_lt, List, [], length, take, drop, map, get_or, Option, Some, None, IfSome, Result, Ok, Err, codes, refl, sym, ap, ◌∙◌, subst, arith}
+use Rattle.std.proofs.Common.{◌≡◌, ◌+◌, ◌<◌, ◌≤◌, ◌&&◌, ◌==◌, ℕ, Bool, true, false, not, nat_lt, List, [], length, take, drop, map, get_or, IfSome, Result, Ok, codes, refl, sym, ap, ◌∙◌, subst, arith}
 use Rattle.std.specs.List.{range_with_len}
-use Rattle.std.proofs.lemmas.List.{take_all, length-map, get_or-map}
+use Rattle.std.proofs.lemmas.List.{length-map, get_or-map}
 use Rattle.elf_types.specs.declared.records.Shdr.{Shdr}
 use Rattle.elf_types.specs.declared.errors.ElfError.TheVariants.{OutOfFile}
 use Rattle.elf_types.specs.Text.{error_text}
-use Rattle.elf_outside.specs.Asks.{Leaves}
 use Rattle.elf_outside.specs.Counts.{Rose}
 use Rattle.elf_outside.specs.declared.sources.Source.{Ghosts as SourceGhosts}
 use Rattle.elf_outside.specs.declared.sinks.Sink.{Ghosts as SinkGhosts}
 use Rattle.elf_object.specs.Object.{absent_section}
 use Rattle.elf_object.specs.Open.{home_len, home_of, home_bytes, opened_section}
 use Rattle.command_objects.specs.Words.{is_allocated}
-use Rattle.ar_members.proofs.Told.{told_by, told_both, told_then}
+use Rattle.ar_members.proofs.Told.{told_both, told_then}
 use Rattle.tool_text.specs.declared.options.StringsOptions.{StringsOptions}
 use Rattle.tool_output.specs.declared.stops.Stop.{Stop}
 use Rattle.tool_output.specs.declared.outputs.Outputs.{Outputs}
@@ -26,7 +25,6 @@ use Rattle.tool_output.proofs.ReportLemmas.{or_false, reports_none}
 use Rattle.tool_output.proofs.UnderWayLemmas.{shown_none}
 use Rattle.object_output.proofs.SourceSteps.{OnWay, way_last}
 use Rattle.object_output.proofs.SectionLemmas.{number_left, no_number_left}
-use Rattle.strings_tool.specs.Texts.{least_len, range_text}
 use Rattle.strings_tool.specs.Homes.{range_report, home_report, section_by, section_report, sections_report}
 use Rattle.strings_tool.proofs.TextLemmas.{text_none}
 
@@ -79,7 +77,7 @@ module _ (options : StringsOptions) (name : Name) (headers : List Shdr) (image :
   sections_left i h there is =
       let report = λ (s : ℕ). section_report options name s (get_or (map (opened_section image) headers) s absent_section) in
       let same : get_or (map (opened_section image) headers) i absent_section ≡ opened_section image h =
-          get_or-map (opened_section image) headers i h absent_section there ∙ ap (opened_section image) (sym is) in
+      get_or-map (opened_section image) headers i h absent_section there ∙ ap (opened_section image) (sym is) in
       number_left report (length (map (opened_section image) headers)) i (omega (arith, length-map headers (opened_section image), there))
       ∙ ap (λ x. joined (section_report options name i x) (left_sections (i + 1))) same
 

@@ -3,7 +3,7 @@ use Rattle.std.proofs.Common.{◌≡◌, ◌+◌, ◌≤◌, inl, inr, ℕ, Bool
 use Rattle.elf_types.specs.declared.errors.ElfError.{ElfError}
 use Rattle.elf_types.specs.declared.errors.ElfError.TheVariants as error
 use Rattle.elf_types.specs.Answers.{Follows}
-use Rattle.elf_outside.specs.Asks.{Asks, Leaves, ReadRose}
+use Rattle.elf_outside.specs.Asks.{Asks, ReadRose}
 use Rattle.elf_outside.specs.Counts.{Rose}
 use Rattle.elf_outside.specs.declared.sources.Source.{Ghosts as SourceGhosts}
 use Rattle.elf_outside.specs.declared.sinks.Sink.{Ghosts as SinkGhosts}
@@ -42,6 +42,7 @@ module _ (options : StringsOptions) (name : Name) where
     where
       front_is : (image : List ℕ) → Follows (Ok f) (front image) → front image ≡ Ok f
       front_is image is = is
+
       at_front : (image : List ℕ) → front image ≡ Ok f → opened_report (opened image) options name image ≡ sections_report options name (map (opened_section image) f.shdrs)
       at_front image is = rw is refl
 

@@ -51,10 +51,7 @@ fn keep_unused(buffer: &mut [u8], used: usize, len: usize)
 }
 
 /// Ends the line of a run, where it is open.
-fn end_line<O: Sink, E: Sink>(
-    is_open: bool,
-    outputs: &mut Outputs<'_, O, E>,
-) -> Result<bool, Stop>
+fn end_line<O: Sink, E: Sink>(is_open: bool, outputs: &mut Outputs<'_, O, E>) -> Result<bool, Stop>
     ensures reports { Reports O.Sink E.Sink result outputs.old outputs.new
         (shown (end_text is_open)) }
     ensures leaves { LeavesOutputs O.Sink E.Sink ⊥ result outputs.old outputs.new }

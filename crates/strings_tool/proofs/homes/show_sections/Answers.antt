@@ -1,9 +1,8 @@
-use Rattle.std.proofs.Common.{◌+◌, ℕ, List, length, arith, refl, rules}
+use Rattle.std.proofs.Common.{◌+◌, arith, refl, rules}
 use Rattle.std.proofs.lemmas.Result.{err_from_is_err_and}
 use Rattle.ar_members.proofs.Told.{told_by}
-use Rattle.elf_object.specs.Open.{opened_section}
 use Rattle.object_output.proofs.SourceSteps.{way_begins, way_goes_on, way_stops_at}
-use Rattle.strings_tool.specs.Homes.{section_report, sections_report}
+use Rattle.strings_tool.specs.Homes.{sections_report}
 use Rattle.strings_tool.proofs.SectionLemmas.{left_sections, sections_left, no_sections_left, way_given}
 use Rattle.strings_tool.proofs.homes.show_sections.Goals as goal
 

@@ -1,4 +1,4 @@
-use Rattle.std.proofs.Common.{◌≡◌, ◌+◌, ◌-◌, ℕ, length, take, drop, IfSome, refl, sym, arith, rules, length-take}
+use Rattle.std.proofs.Common.{◌≡◌, ◌+◌, take, drop, refl, sym, arith, length-take}
 use Rattle.std.proofs.lemmas.Result.{err_from_is_err_and}
 use Rattle.ar_members.proofs.Told.{told_by, told_both, told_then, told_as}
 use Rattle.strings_tool.proofs.RangeLemmas.{range_begins, range_unread, range_goes_on, range_stops, range_ends, held_after, few_wait}
@@ -38,7 +38,7 @@ returns-in_err-scan-clause-reports g c =
     let read = c.in_default.ensures in
     let fits = c.min-count.ensures in
     let window = told_both (λ image. take l.held l.buffer ≡ take l.held (drop l.start image) → take there c.read_behind.new.buffer ≡ take there (drop l.start image))
-        (λ image. take l.held l.buffer ≡ take l.held (drop l.start image)) (s.holds l.src) read.bytes l.invariant.bytes (λ image joins before. joins before) in
+    (λ image. take l.held l.buffer ≡ take l.held (drop l.start image)) (s.holds l.src) read.bytes l.invariant.bytes (λ image joins before. joins before) in
     rw (p.1, p.2) (range_stops g.S.Source g.O.Sink g.E.Sink c.args.options.now l.is_open l.start l.held l.left l.invariant.way c.read_behind.new.src _
     (take there c.read_behind.new.buffer) count (omega (arith, fits)) read.leaves read.cause.later window _ c.in_err-scan.ensures.leaves c.in_err-scan.ensures.carries)
 
@@ -58,7 +58,7 @@ loop-left-preserved g c =
     let read = c.in_default.ensures in
     let fits = c.min-count.ensures in
     let window = told_both (λ image. take l.held l.buffer ≡ take l.held (drop l.start image) → take there c.read_behind.new.buffer ≡ take there (drop l.start image))
-        (λ image. take l.held l.buffer ≡ take l.held (drop l.start image)) (s.holds l.src) read.bytes l.invariant.bytes (λ image joins before. joins before) in
+    (λ image. take l.held l.buffer ≡ take l.held (drop l.start image)) (s.holds l.src) read.bytes l.invariant.bytes (λ image joins before. joins before) in
     let scan = c.in_ok-scan.ensures.scan in
     let long = length-take there c.read_behind.new.buffer in
     let room = l.invariant.room in

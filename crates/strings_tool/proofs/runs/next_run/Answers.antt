@@ -1,4 +1,4 @@
-use Rattle.std.proofs.Common.{◌+◌, ◌-◌, length, drop, arith, length-take, length-drop}
+use Rattle.std.proofs.Common.{◌+◌, ◌-◌, drop, arith, length-take, length-drop}
 use Rattle.strings_tool.proofs.RunLemmas.{skips_window, window_long}
 use Rattle.strings_tool.proofs.runs.next_run.Goals as goal
 

@@ -1,4 +1,4 @@
-use Rattle.std.proofs.Common.{◌+◌, ◌-◌, ℕ, true, false, nat_lt, length, take, drop, refl, arith, rules, length-take, length-drop}
+use Rattle.std.proofs.Common.{◌+◌, ◌-◌, true, nat_lt, length, drop, refl, arith, rules, length-take, length-drop}
 use Rattle.std.proofs.lemmas.Result.{err_from_is_err_and}
 use Rattle.strings_tool.proofs.ScanLemmas.{scan_begins, scan_skips, scan_shows, scan_ended, scan_stops}
 use Rattle.strings_tool.proofs.scans.show_runs.Goals as goal
@@ -72,10 +72,10 @@ runs-preserved g c =
     let ahead = c.run_len-len.ensures.within in record {
       within = omega (arith, inside, long, rest, there, ahead, length-take (length bytes - used) (drop used bytes), length-drop used bytes);
       text = λ later.
-    scan_ended g.O.Sink g.E.Sink c.args.options.now bytes later c.args.at c.runs.used t (c.runs.invariant.text later)
-    c.least_len-least.result c.least_len-least.ensures.is c.next_run-used.ensures.skips
-    n (used + n - used) (nat_lt (used + n) (length bytes)) refl c.run_len-len.ensures.len (omega (arith, inside, long, rest, there))
-    (c.next_run-used.ensures.found (omega (arith, inside, long, rest, there))) (omega arith)
-    (search rules) c.in_ok-show.ensures.reports;
+          scan_ended g.O.Sink g.E.Sink c.args.options.now bytes later c.args.at c.runs.used t (c.runs.invariant.text later)
+          c.least_len-least.result c.least_len-least.ensures.is c.next_run-used.ensures.skips
+          n (used + n - used) (nat_lt (used + n) (length bytes)) refl c.run_len-len.ensures.len (omega (arith, inside, long, rest, there))
+          (c.next_run-used.ensures.found (omega (arith, inside, long, rest, there))) (omega arith)
+          (search rules) c.in_ok-show.ensures.reports;
       keeps = search rules;
     }
