@@ -19,4 +19,6 @@ mod records;
 #[cfg(test)]
 mod runs;
 #[cfg(test)]
+mod size;
+#[cfg(test)]
 mod words;
