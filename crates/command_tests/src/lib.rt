@@ -19,6 +19,8 @@ mod records;
 #[cfg(test)]
 mod runs;
 #[cfg(test)]
+mod size;
+#[cfg(test)]
 mod strings;
 #[cfg(test)]
 mod words;

@@ -1,5 +1,5 @@
 -- Values that a step learns of an object, one after another.
-use Rattle.std.proofs.Common.{◌≡◌, ◌≤◌, ℕ, Bool, List, length, Option, Some, None, Result, Ok, Err, IsTrue, IfOk, refl, sym, ap, ◌∙◌, subst, arith}
+use Rattle.std.proofs.Common.{◌≡◌, ◌≤◌, ℕ, Bool, List, length, Option, Some, None, Result, Ok, Err, IsTrue, IfOk, refl, sym, ap, subst, arith}
 use Rattle.std.specs.Prelude.{slice_get}
 use Rattle.elf_types.specs.declared.errors.ElfError.{ElfError}
 use Rattle.elf_types.specs.declared.errors.ElfError.TheVariants as error
@@ -18,7 +18,7 @@ use Rattle.tool_output.specs.declared.stops.Stop.{Stop}
 use Rattle.tool_output.specs.declared.stops.Stop.TheVariants.{Read, Write, Memory}
 use Rattle.tool_output.specs.Steps.{OnRead, OnWrite}
 use Rattle.tool_output.specs.Stops.{stop_of}
-use Rattle.object_output.specs.Steps.{LeavesElf, ReadsElf, Learns, SourceRose}
+use Rattle.object_output.specs.Steps.{Learns, SourceRose}
 use Rattle.object_output.proofs.ElfSteps.{elf_left, elf_left_then, still_told}
 use Rattle.nm_tool.specs.Letters.{place_found, symbol_place}
 

@@ -1,6 +1,5 @@
 -- The order of the rows: what a sort by the rows' keys leaves is the list that is stated.
-use Rattle.std.proofs.Common.{◌≡◌, ℕ, ◌+◌, ◌*◌, ◌<◌, ◌≤◌, zero, suc, List, [], ◌∷◌, map, get_or, Bool, true, false, cond, nat_cmp, Ordering, ap, sym, ◌∙◌, refl, subst, arith}
-use Rattle.std.specs.Bool.{⊤}
+use Rattle.std.proofs.Common.{◌≡◌, ℕ, ◌+◌, ◌<◌, zero, suc, List, [], ◌∷◌, map, Bool, true, false, cond, nat_cmp, Ordering, ap, sym, ◌∙◌, refl, subst, arith}
 use Rattle.std.specs.Prelude.{◌^◌, All, slice_index_or, nat_lt}
 use Rattle.std.specs.Ordering.{is_lt, ordering_then, ordering_reverse}
 use Rattle.std.specs.declared.cmp.Ordering.TheVariants.{Less, Equal, Greater}
@@ -12,14 +11,14 @@ use Rattle.std.proofs.lemmas.Cmp.{nat_cmp_total, nat_list_cmp_total, then_total,
 use Rattle.std.proofs.lemmas.Map.Lookups.{exact_unsigned, exact_bytes}
 use Rattle.std.proofs.lemmas.List.Sums.{sum_by-cons}
 use Rattle.std.proofs.lemmas.List.Elements.{recursion_from_All}
-use Rattle.std.proofs.lemmas.List.Sorted.{sum_by-IsPermutation, IsPermutation-map, All-permutation}
+use Rattle.std.proofs.lemmas.List.Sorted.{sum_by-IsPermutation, IsPermutation-map, All-permutation, IsPermutation-refl, IsPermutation-sym, IsPermutation-trans, IsPermutation-cons, IsPermutation-middle}
 use Rattle.std.proofs.lemmas.Bool.{ltb-true, ltb-false}
 use Rattle.std.proofs.lemmas.Bool.Decides.{nat_tests}
 use Rattle.elf_object.specs.Valid.{AreBytes}
 use Rattle.nm_tool.specs.declared.order.Row.{Row}
-use Rattle.nm_tool.specs.Order.{Entry, entry_cmp, inserted, in_order}
+use Rattle.nm_tool.specs.Order.{Entry, entry_cmp, inserted, in_order, IsOrderOf, OrderLaw}
 use Rattle.nm_tool.specs.Keys.{prefix, as_entry, KeyIs}
-use Rattle.nm_tool.proofs.Unique.{Rises, Rises-from_sorted, unique}
+use Rattle.nm_tool.proofs.Unique.{Rises, Rises-from_sorted, IsSorted-from_rises, unique}
 
 -- ---- The order of entries
 
@@ -230,3 +229,38 @@ sorted_rows by_value old new keys moved sorted =
     (rises_entries by_value new (recursion_from_All (KeyIs by_value) new (All-permutation (KeyIs by_value) old new moved keys)) (Rises-from_sorted row_cmp row_cmp_total new sorted))
     (rises_in_order entries)
     (λ f. sum_by-IsPermutation f entries (map (as_entry by_value) new) (IsPermutation-map (as_entry by_value) old new moved) ∙ sym (sum_by-in_order f entries))
+
+-- ---- The law of the order
+
+either_moved : (e g : Entry) (gs rest : List Entry) (b : Bool) → IsPermutation (e ∷ gs) rest → IsPermutation (e ∷ g ∷ gs) (cond b (g ∷ rest) (e ∷ g ∷ gs))
+either_moved e g gs rest true moved =
+    IsPermutation-trans (e ∷ g ∷ gs) (g ∷ e ∷ gs) (g ∷ rest)
+    (IsPermutation-sym (g ∷ e ∷ gs) (e ∷ g ∷ gs) (IsPermutation-middle (g ∷ []) e gs))
+    (IsPermutation-cons g (e ∷ gs) rest moved)
+either_moved e g gs rest false moved = IsPermutation-refl (e ∷ g ∷ gs)
+
+moved_inserted : (e : Entry) (es : List Entry) → IsPermutation (e ∷ es) (inserted e es)
+unfolding inserted
+moved_inserted e [] = IsPermutation-refl (e ∷ [])
+moved_inserted e (g ∷ gs) = either_moved e g gs (inserted e gs) (is_lt (entry_cmp g e)) (moved_inserted e gs)
+
+moved_in_order : (es : List Entry) → IsPermutation es (in_order es)
+unfolding in_order
+moved_in_order [] = IsPermutation-refl []
+moved_in_order (e ∷ es) =
+    IsPermutation-trans (e ∷ es) (e ∷ in_order es) (inserted e (in_order es))
+    (IsPermutation-cons e es (in_order es) (moved_in_order es))
+    (moved_inserted e (in_order es))
+
+sorted_in_order : (es : List Entry) → IsSorted entry_cmp (in_order es)
+sorted_in_order es = IsSorted-from_rises entry_cmp (in_order es) (rises_in_order es)
+
+only_in_order : (es fs : List Entry) → IsOrderOf es fs → fs ≡ in_order es
+only_in_order es fs is =
+    unique entry_cmp entry_cmp_total entry_cmp_exact fs (in_order es)
+    (Rises-from_sorted entry_cmp entry_cmp_total fs is.sorted)
+    (rises_in_order es)
+    (λ f. sum_by-IsPermutation f es fs is.moved ∙ sym (sum_by-in_order f es))
+
+pub order_law : OrderLaw
+order_law = record { is = λ es. record { moved = moved_in_order es; sorted = sorted_in_order es }; only = only_in_order }

@@ -1,6 +1,5 @@
 -- What nm says of an object, by the ways of the code.
-use Rattle.std.proofs.Common.{◌≡◌, ◌∙◌, ℕ, Bool, List, [], ◌∷◌, ◌-◌, length, map, Option, Some, None, Result, Ok, Err, IsTrue, codes, refl, sym, ap, subst}
-use Rattle.std.specs.Prelude.{slice_get}
+use Rattle.std.proofs.Common.{◌≡◌, ◌∙◌, ℕ, Bool, List, ◌-◌, length, map, Option, Some, None, Err, codes, refl, sym, ap, subst}
 use Rattle.std.specs.Option.{option_map}
 use Rattle.std.proofs.lemmas.Simd.{map-map}
 use Rattle.elf_types.specs.declared.records.Kind.TheVariants as kinds
@@ -21,13 +20,13 @@ use Rattle.tool_output.specs.declared.stops.Stop.TheVariants.{Memory}
 use Rattle.tool_output.specs.declared.outputs.Outputs.{Outputs}
 use Rattle.tool_output.specs.Names.{Name}
 use Rattle.tool_output.specs.Reports.{Report, noted, refusal, all_joined, reports_of}
-use Rattle.object_output.specs.Steps.{ReadsElf, ReportsElf}
+use Rattle.object_output.specs.Steps.{ReportsElf}
 use Rattle.object_output.proofs.ElfSteps.{elf_left, elf_unread}
 use Rattle.nm_tool.specs.declared.order.Row.{Row}
 use Rattle.nm_tool.specs.declared.pools.Pool.{Pool}
 use Rattle.nm_tool.specs.Order.{Entry, in_order}
 use Rattle.nm_tool.specs.Keys.{as_entry}
-use Rattle.nm_tool.specs.Listed.{symbols, symbol_table, listed}
+use Rattle.nm_tool.specs.Listed.{symbols, symbol_table}
 use Rattle.nm_tool.specs.Pools.{spot_entries, pool_of}
 use Rattle.nm_tool.specs.Tool.{entry_report, entries_report, rows_report, row_report, pool_report, table_report, object_report, nm_report}
 use Rattle.nm_tool.proofs.PoolLemmas.{pool_entries}

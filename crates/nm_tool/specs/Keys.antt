@@ -1,6 +1,6 @@
 -- The rows that are sorted, each with a key that decides most comparisons: the value, where rows
 -- stand by value, and else the first eight bytes of the name.
-use Rattle.std.specs.Prelude.{◌≡◌, ◌+◌, ◌*◌, ℕ, zero, suc, Bool, false, List, [], ◌∷◌, slice_index_or, if◌then◌else◌}
+use Rattle.std.specs.Prelude.{◌≡◌, ◌+◌, ◌*◌, ℕ, zero, suc, Bool, false, List, slice_index_or, if◌then◌else◌}
 use Rattle.elf_object.specs.Valid.{AreBytes}
 use Rattle.nm_tool.specs.declared.order.Row.{Row}
 use Rattle.nm_tool.specs.Order.{Entry}

@@ -1,5 +1,5 @@
 -- The symbols that are listed.
-use Rattle.std.specs.Prelude.{◌≡◌, ◌++◌, ◌+◌, ◌==◌, ◌&&◌, ◌||◌, not, ℕ, Bool, List, [], ◌∷◌, drop, length, slice_get, Option, Some, None, codes, if◌then◌else◌}
+use Rattle.std.specs.Prelude.{◌++◌, ◌+◌, ◌==◌, ◌&&◌, ◌||◌, not, ℕ, Bool, List, [], ◌∷◌, drop, length, Option, Some, None, codes, if◌then◌else◌}
 use Rattle.std.specs.List.{position}
 use Rattle.elf_types.specs.declared.records.Sym.{Sym}
 use Rattle.elf_types.specs.declared.constants.TheConstants.{SHT_SYMTAB, STT_SECTION, STT_FILE}

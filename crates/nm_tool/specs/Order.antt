@@ -4,6 +4,7 @@ use Rattle.std.specs.Prelude.{◌≡◌, ℕ, List, [], ◌∷◌, if◌then◌e
 use Rattle.std.specs.declared.cmp.Ordering.{Ordering}
 use Rattle.std.specs.Ordering.{is_lt, ordering_then, nat_cmp}
 use Rattle.std.specs.Cmp.Lexicographic.{slice_cmp}
+use Rattle.std.specs.List.Sorted.{IsPermutation, IsSorted}
 
 -- a symbol that is listed: its value, where the rows stand by value, and else 0; its name as it is
 -- shown; its index in the table
@@ -22,8 +23,17 @@ unfoldable pub inserted : Entry → List Entry → List Entry
 inserted e [] = e ∷ []
 inserted e (f ∷ es) = if is_lt (entry_cmp f e) then f ∷ inserted e es else e ∷ f ∷ es
 
--- The entries in that order: a permutation of the list in which no entry comes before an earlier
--- one. No other is so, since the index tells all entries apart.
+-- the entries in that order
 unfoldable pub in_order : List Entry → List Entry
 in_order [] = []
 in_order (e ∷ es) = inserted e (in_order es)
+
+-- a list of these entries, each as often, in which none comes before an earlier one
+pub record IsOrderOf (es fs : List Entry) : Type 0 where
+  pub moved : IsPermutation es fs
+  pub sorted : IsSorted entry_cmp fs
+
+-- the entries in order are such a list, and no other list is one
+pub record OrderLaw : Type 0 where
+  pub is : (es : List Entry) → IsOrderOf es (in_order es)
+  pub only : (es fs : List Entry) → IsOrderOf es fs → fs ≡ in_order es

@@ -1,6 +1,7 @@
 //! nm: the symbols of an object as lines of text (POSIX nm).
 #![tactic(auto)]
 
+mod laws;
 mod letters;
 mod listed;
 mod numbers;
@@ -10,4 +11,5 @@ mod rows;
 mod symbols;
 mod tool;
 
+pub use laws::order_law;
 pub use tool::{NmTool, nm};

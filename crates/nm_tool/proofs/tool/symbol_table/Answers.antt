@@ -1,6 +1,6 @@
-use Rattle.std.proofs.Common.{◌≡◌, ◌<◌, length, sym, ◌∙◌, below_more, subst, arith}
+use Rattle.std.proofs.Common.{◌≡◌, length, sym, ◌∙◌, below_more, arith}
 use Rattle.elf_object.specs.Object.{section_at}
-use Rattle.nm_tool.proofs.FoundTable.{IsNotBelow, table_first, table_none}
+use Rattle.nm_tool.proofs.FoundTable.{table_first, table_none}
 use Rattle.nm_tool.proofs.tool.symbol_table.Goals as goal
 
 pub returns-then-is_table-clause-found : goal.returns-then-is_table-clause-found
