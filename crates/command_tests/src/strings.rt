@@ -1,6 +1,6 @@
 //! What strings shows of files and of images.
 
-use crate::runs::{Bytes, Ending, REFUSED, ends, run_line, shows, NOTHING};
+use crate::runs::{Bytes, Ending, NOTHING, REFUSED, ends, run_line, shows};
 use elf_types::constants::{SHF_ALLOC, SHT_PROGBITS};
 use elf_types::{Class, Ehdr, ElfError, Octets, Order, Shdr};
 use elf_xlate::shdr_size;
@@ -17,7 +17,11 @@ const SHOWN: [(&str, &[u8], &[u8]); 8] = [
         b"      4 abcd\n      9 a\tbc\n     14 wxyz\n",
     ),
     ("strings -t o F", b"\0\0\0\0\0\0\0\0abcd", b"     10 abcd\n"),
-    ("strings -t x F", b"\0\0\0\0\0\0\0\0\0\0abcd\n", b"      a abcd\n"),
+    (
+        "strings -t x F",
+        b"\0\0\0\0\0\0\0\0\0\0abcd\n",
+        b"      a abcd\n",
+    ),
     ("strings F", b"abc\x1fabcd\x7fabcde\x80", b"abcd\nabcde\n"),
     ("strings -n 1 F", b"a\0b\0\0cd", b"a\nb\ncd\n"),
     ("strings -n 5 F", b"abcd\0abcde", b"abcde\n"),

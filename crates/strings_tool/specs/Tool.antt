@@ -25,7 +25,7 @@ strings_report options name image =
     if options.all then range_report options 0 image
     else opened_report (opened image) options name image
 
--- how many bytes are asked for at most: of a whole file each once; of the homes no bound is promised
+-- how many bytes are asked for at most: of a whole file each once; of homes no bound is promised
 unfoldable pub strings_asks : StringsOptions → List ℕ → Option ℕ
 strings_asks options image = if options.all then Some (length image) else None
 

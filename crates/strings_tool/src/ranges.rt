@@ -18,7 +18,7 @@ use tool_text::StringsOptions;
 /// How many bytes are read at a time.
 pub const PIECE_SIZE: u64 = 65536;
 
-/// Reads bytes into a buffer, behind those of the source that it holds already, which stand at `at`.
+/// Reads bytes into a buffer, behind those of the source that it holds, which stand at `at`.
 fn read_behind<S: Source>(
     src: &mut S,
     at: u64,
