@@ -10,7 +10,7 @@ use Rattle.tool_output.specs.Marks.{said}
 use Rattle.tool_output.specs.Steps.{Writes, Performs}
 use Rattle.tool_output.specs.declared.statuses.Status.{Status}
 use Rattle.tool_output.specs.Statuses.{status_code, refused_status}
-use Rattle.tool_output.specs.Outcomes.{Outcome, Does}
+use Rattle.tool_output.specs.Outcomes.{Does}
 use Rattle.tool_output.specs.declared.statuses.Status.TheVariants.{BadWords}
 use Rattle.tool_output.proofs.StepLemmas.{stops_as, writes_went}
 use Rattle.tool_output.proofs.OutcomeLemmas.{says_done}
