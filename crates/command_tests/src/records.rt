@@ -257,7 +257,7 @@ fn with_items(
     };
     image.put_section(3, &section)?;
     image.put_items(512, items)?;
-    let size = image.bytes.len() - 512;
+    let size = image.bytes.len().saturating_sub(512);
     image.put_field(Field::Section(3, SectionField::Size), size);
     Ok(image)
 }
