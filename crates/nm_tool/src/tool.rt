@@ -50,7 +50,8 @@ fn show_symbol<S: Source, O: Sink, E: Sink>(
     outputs: &mut Outputs<'_, O, E>,
 ) -> Result<bool, Stop>
     ensures reports { Reports O.Sink E.Sink result outputs.old outputs.new
-        (shown (placed_row form.entry.options.now form.entry.file.now elf.now.o symbol place name.now)) }
+        (shown (placed_row form.entry.options.now form.entry.file.now elf.now.o symbol place
+        name.now)) }
     ensures leaves { LeavesOutputs O.Sink E.Sink ⊥ result outputs.old outputs.new }
 {
     outputs.show(&SymbolRow {
@@ -114,7 +115,8 @@ fn show_rows<S: Source, O: Sink, E: Sink>(
 ) -> Result<bool, Stop>
     requires { AreTables elf.old.o t }
     ensures { ReportsElf S.Source O.Sink E.Sink
-        (λ o. reports_of (row_report form.entry.options.now form.entry.file.now o t.symbols.0) rows.now)
+        (λ o. reports_of
+        (row_report form.entry.options.now form.entry.file.now o t.symbols.0) rows.now)
         result elf.old elf.new outputs.old outputs.new }
 {
     let mut refused = false;
@@ -225,7 +227,8 @@ fn show_symbols<S: Source, O: Sink, E: Sink>(
     form: Form<'_>,
     outputs: &mut Outputs<'_, O, E>,
 ) -> Result<bool, Stop>
-    ensures { ReportsElf S.Source O.Sink E.Sink (nm_report form.entry.options.now form.entry.file.now)
+    ensures { ReportsElf S.Source O.Sink E.Sink
+        (nm_report form.entry.options.now form.entry.file.now)
         result elf.old elf.new outputs.old outputs.new }
 {
     match symbol_table(elf) {
@@ -272,8 +275,8 @@ impl ObjectTool for NmTool<'_> {
 
 /// Shows the symbols of the first section of type `SHT_SYMTAB` whose data is not compressed, as the
 /// command nm does, on two outputs. Messages, and rows with `-A`, name the object by `name`. The
-/// answer tells whether something was refused. It stops by `Read` where a read of the source failed,
-/// by `Write` where a put failed, and by `Memory`.
+/// answer tells whether something was refused. It stops by `Read` where a read of the source
+/// failed, by `Write` where a put failed, and by `Memory`.
 pub fn nm<S: Source, O: Sink, E: Sink>(
     alloc: Global,
     elf: &mut Elf<S>,

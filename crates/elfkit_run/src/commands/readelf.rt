@@ -14,8 +14,8 @@ use std::alloc::Global;
 use tool_output::{Outputs, Stop};
 use tool_text::{Args, ReadelfParts};
 
-/// The command readelf: the parts of each file, in the order of the names, and of each member of one
-/// that is an archive. The answer tells whether something was refused.
+/// The command readelf: the parts of each file, in the order of the names, and of each member of
+/// one that is an archive. The answer tells whether something was refused.
 #[tactic(auto, unfolding(crate::specs::Readelf::readelf_outcome))]
 pub fn readelf<F: Files, O: Sink, E: Sink>(
     alloc: Global,
