@@ -1,4 +1,4 @@
--- The key of a name is a number of eight bytes.
+-- The key of a name is a number of sixteen bytes.
 use Rattle.std.proofs.Common.{◌≡◌, ◌+◌, ◌*◌, ◌^◌, ◌<◌, ◌≤◌, ℕ, suc, List, sym, ap, ◌∙◌, subst, arith}
 use Rattle.std.specs.Prelude.{slice_index_or}
 use Rattle.std.proofs.Math.Nat.{pow-suc, pow-le-pow_right}
@@ -11,10 +11,10 @@ key_more place key byte small b =
     let at : place + 1 ≡ suc place = omega arith in
     subst (λ (n : ℕ). key * 256 + byte < 256 ^ n) (sym at) (omega (arith, next, small, b))
 
-pub key_fits : (place key byte : ℕ) → place < 8 → key < 256 ^ place → byte < 256 → key * 256 + byte < 2 ^ 64
+pub key_fits : (place key byte : ℕ) → place < 16 → key < 256 ^ place → byte < 256 → key * 256 + byte < 2 ^ 128
 key_fits place key byte lt small b =
-    let top : 256 ^ (place + 1) ≤ 256 ^ 8 = pow-le-pow_right {n = 256} (omega arith) {i = place + 1} {j = 8} (omega (arith, lt)) in
-    let whole : 256 ^ 8 ≤ 2 ^ 64 = omega arith in
+    let top : 256 ^ (place + 1) ≤ 256 ^ 16 = pow-le-pow_right {n = 256} (omega arith) {i = place + 1} {j = 16} (omega (arith, lt)) in
+    let whole : 256 ^ 16 ≤ 2 ^ 128 = omega arith in
     omega (arith, key_more place key byte small b, top, whole)
 
 pub prefix_next : (place key byte : ℕ) (name : List ℕ) → key ≡ prefix place name → byte ≡ slice_index_or name place 0 → key * 256 + byte ≡ prefix (place + 1) name

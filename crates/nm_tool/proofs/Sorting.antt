@@ -207,8 +207,8 @@ weaker false x y kx ky later = by_key (nat_cmp y.key x.key) refl later
     by_key Less is bad = cc
     by_key Equal is same = same
     by_key Greater is above =
-        let less : prefix 8 x.name.now < prefix 8 y.name.now = subst (λ (n : ℕ). n < prefix 8 y.name.now) (kx.key refl) (subst (λ (n : ℕ). x.key < n) (ky.key refl) (above_is y.key x.key is)) in
-        let first = less_first x.name.now y.name.now (bytes_listed x.name.now kx.bytes) (bytes_listed y.name.now ky.bytes) 8 less in
+        let less : prefix 16 x.name.now < prefix 16 y.name.now = subst (λ (n : ℕ). n < prefix 16 y.name.now) (kx.key refl) (subst (λ (n : ℕ). x.key < n) (ky.key refl) (above_is y.key x.key is)) in
+        let first = less_first x.name.now y.name.now (bytes_listed x.name.now kx.bytes) (bytes_listed y.name.now ky.bytes) 16 less in
         let back : slice_cmp nat_cmp y.name.now x.name.now ≡ Greater = nat_list_cmp_total.antisymm y.name.now x.name.now ∙ ap ordering_reverse first in
         ap (λ (r : Ordering). is_lt (ordering_then r (nat_cmp y.index x.index))) back
 

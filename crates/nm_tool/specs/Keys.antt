@@ -1,5 +1,5 @@
 -- The rows that are sorted, each with a key that decides most comparisons: the value, where rows
--- stand by value, and else the first eight bytes of the name.
+-- stand by value, and else the first sixteen bytes of the name.
 use Rattle.std.specs.Prelude.{◌≡◌, ◌+◌, ◌*◌, ℕ, zero, suc, Bool, false, List, slice_index_or, if◌then◌else◌}
 use Rattle.elf_object.specs.Valid.{AreBytes}
 use Rattle.nm_tool.specs.declared.order.Row.{Row}
@@ -21,5 +21,5 @@ as_entry by_value r = record {
 
 -- its key is the one of its name, where rows do not stand by value
 pub record KeyIs (by_value : Bool) (r : Row) : Type 0 where
-  pub key : by_value ≡ false → r.key ≡ prefix 8 r.name.now
+  pub key : by_value ≡ false → r.key ≡ prefix 16 r.name.now
   pub bytes : AreBytes r.name.now

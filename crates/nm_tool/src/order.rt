@@ -8,25 +8,25 @@ ghost use Rattle.nm_tool.specs.Keys.{prefix, as_entry, KeyIs};
 /// A row as it is sorted: by its key, then by its name, then by its index.
 #[derive(Clone, Copy, PartialEq, Eq, PartialOrd, Ord)]
 pub struct Row<'a> {
-    /// The value, where rows stand by value, and else the first eight bytes of the name: a number
-    /// that decides most comparisons.
-    pub key: u64,
+    /// The value, where rows stand by value, and else the first sixteen bytes of the name: a
+    /// number that decides most comparisons.
+    pub key: u128,
     /// The name, as it is shown.
     pub name: &'a [u8],
     /// The symbol's index.
     pub index: u64,
 }
 
-/// The first eight bytes of a name as a number, the first of which counts most: names that differ
-/// in them are in the order of these numbers.
-pub fn prefix(name: &[u8]) -> u64
-    ensures value { result ≡ prefix 8 name.now }
+/// The first sixteen bytes of a name as a number, the first of which counts most: names that
+/// differ in them are in the order of these numbers.
+pub fn prefix(name: &[u8]) -> u128
+    ensures value { result ≡ prefix 16 name.now }
     ensures bytes { AreBytes name.now }
 {
     bytes_are_ranged(name);
     let mut key = 0;
-    for place in 0..8 {
-        key = key * 256 + u64::from(byte_at(name, place));
+    for place in 0..16 {
+        key = key * 256 + u128::from(byte_at(name, place));
     }
     key
 }

@@ -72,7 +72,7 @@ fn row_of<'a>(by_value: bool, spot: Spot, name: &'a [u8]) -> Row<'a>
     let first = prefix(name);
     let index = spot.index;
     if by_value {
-        let key = spot.value;
+        let key = u128::from(spot.value);
         return Row { key, name, index };
     }
     Row {
