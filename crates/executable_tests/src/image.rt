@@ -3,9 +3,9 @@
 use crate::contents::items_of;
 use crate::sections::{SECTIONS, Section};
 use crate::segments::SEGMENTS;
-use elf_types::{Class, Ehdr, ElfError, Order, Shdr};
+use elf_types::{Class, Ehdr, ElfError, Order};
 use std::alloc::Global;
-use test_images::{Image, NULL_SECTION, header_of};
+use test_images::{Field, Image, NULL_SECTION, SectionField, header_of};
 
 /// `e_type` of a shared object, and of an executable that is loaded at any address.
 const ET_DYN: u16 = 3;
@@ -48,24 +48,21 @@ fn put_section(
     alloc: Global,
     image: &mut Image,
     number: u64,
-    name: u32,
+    name: u64,
     section: &Section,
 ) -> Result<(), ElfError> {
-    let header = Shdr {
-        name,
-        ..section.header
-    };
-    image.put_section(number, &header)?;
-    image.put_bytes(NAMES_AT.saturating_add(u64::from(name)), section.name)?;
+    image.put_section(number, &section.header)?;
+    image.put_field(Field::Section(number, SectionField::Name), name);
+    image.put_bytes(NAMES_AT.saturating_add(name), section.name)?;
     put_content(alloc, image, section)
 }
 
 /// Puts the sections from 1 on, the name of each behind those before it.
 fn put_sections(alloc: Global, image: &mut Image) -> Result<(), ElfError> {
-    let mut name = 1u32;
+    let mut name = 1u64;
     for (i, section) in SECTIONS.iter().enumerate() {
         put_section(alloc, image, (i as u64).saturating_add(1), name, section)?;
-        name = name.saturating_add(section.name.len() as u32);
+        name = name.saturating_add(section.name.len() as u64);
     }
     Ok(())
 }

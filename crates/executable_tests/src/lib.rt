@@ -1,5 +1,6 @@
-//! Tests of the commands over a whole executable, which is made of constant tables: 31 sections and
-//! 14 program headers, as a linker writes them.
+//! Tests of the commands over a whole executable, which is made of constant tables: the 31 sections
+//! and 14 program headers of a program that is linked dynamically, in a layout of this project. Its
+//! section header table stands before what is not loaded.
 #![tactic(auto)]
 
 #[cfg(test)]
