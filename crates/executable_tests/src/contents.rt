@@ -133,7 +133,8 @@ pub const ENTRIES: [Dyn; 4] = [
     Dyn { tag: 0, val: 0 },
 ];
 
-/// The function that runs first, and the one that runs last.
+/// The function that runs first.
 pub const STARTS: [u64; 1] = [0x14a0];
 
+/// The one that runs last.
 pub const ENDS: [u64; 1] = [0x14a4];
