@@ -1,0 +1,15 @@
+//! Tests of the commands over a whole executable, which is made of constant tables: the 31 sections
+//! and 14 program headers of a program that is linked dynamically, in a layout of this project. Its
+//! section header table stands before what is not loaded.
+#![tactic(auto)]
+
+#[cfg(test)]
+mod commands;
+#[cfg(test)]
+mod contents;
+#[cfg(test)]
+mod image;
+#[cfg(test)]
+mod sections;
+#[cfg(test)]
+mod segments;
