@@ -1,0 +1,72 @@
+//! Looking a symbol up among all symbols.
+
+use crate::questions::{Hashes, NARROW, Question, WIDE, is_answered};
+use elf_descriptor::Elf;
+use elf_outside::Source;
+use elf_types::{ElfError, Kind, ScnId};
+use std::alloc::Global;
+use symbol_lookup::find_linear;
+
+/// A section, a name, and what the name finds there.
+type Row = (u32, &'static [u8], Result<Option<u64>, ElfError>);
+
+/// Of two symbols with a name the first is found. A local one, an undefined one, the empty name, a
+/// part of a name and names that have no end or stand in no string are not.
+const ROWS: [Row; 10] = [
+    (2, b"printf", Ok(Some(5))),
+    (2, b"hidden", Ok(None)),
+    (2, b"missing", Ok(None)),
+    (2, b"", Ok(None)),
+    (2, b"print", Ok(None)),
+    (2, b"printf\0exit", Ok(None)),
+    (2, b"tail", Ok(None)),
+    (2, b"absent", Ok(None)),
+    (1, b"printf", Err(ElfError::WrongKind { held: Kind::Bytes })),
+    (
+        9,
+        b"printf",
+        Err(ElfError::NoSection { index: 9, count: 5 }),
+    ),
+];
+
+/// Hash sections that are empty.
+const NO_HASHES: Hashes = Hashes {
+    sysv: &[],
+    head: [0; 4],
+    bloom: 0,
+    rest: &[],
+    size: 0,
+};
+
+/// Whether a row is as it is found.
+fn is_found<S: Source>(elf: &mut Elf<S>, row: &Row) -> bool {
+    find_linear(elf, ScnId(row.0), row.1) == row.2
+}
+
+/// All rows are as they are found.
+struct AllFound;
+
+impl Question for AllFound {
+    fn hashes(&self) -> Hashes {
+        NO_HASHES
+    }
+
+    fn is_answered<S: Source>(&self, elf: &mut Elf<S>) -> bool {
+        for row in ROWS.iter() {
+            if !is_found(elf, row) {
+                return false;
+            }
+        }
+        true
+    }
+}
+
+/// Whether they are in both classes and orders.
+fn are_all_found(alloc: Global) -> Result<bool, ElfError> {
+    Ok(is_answered(alloc, &AllFound, WIDE)? && is_answered(alloc, &AllFound, NARROW)?)
+}
+
+#[test]
+fn the_least_symbol_is_found(rt: HostRuntime) {
+    assert!(rt; are_all_found(rt.alloc()) == Ok(true));
+}
