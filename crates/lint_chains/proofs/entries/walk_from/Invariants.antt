@@ -1,0 +1,13 @@
+use Rattle.std.proofs.Common.{◌-◌}
+use Rattle.elf_object.specs.Answers.{count_at}
+use Rattle.lint_chains.specs.Chains.{entries_bad}
+use Rattle.lint_chains.proofs.WalkLemmas.{Walking}
+use Rattle.lint_chains.proofs.entries.walk_from.Given as goal
+
+abbrev pub invariant-entries : goal.invariant-entries
+invariant-entries g l =
+    let entry = g.R.Entry in
+    Walking g.S.Source l.initial.elf l.elf (λ o. entries_bad (entry.names_bad o l.fn.s.0) (entry.entries o l.fn.s.0 0 l.fn.first)) (λ o. entries_bad (entry.names_bad o l.fn.s.0) (entry.entries o l.fn.s.0 0 l.at))
+
+abbrev pub decreases-entries : goal.decreases-entries
+decreases-entries g l = count_at l.initial.elf.o l.fn.s.0 0 - l.at

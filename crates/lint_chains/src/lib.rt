@@ -1,0 +1,10 @@
+//! The rules of elflint on notes and version records, which stand in chains.
+#![tactic(auto)]
+
+mod by_chain;
+mod entries;
+mod notes;
+mod versions;
+
+pub use notes::bad_notes;
+pub use versions::bad_versions;

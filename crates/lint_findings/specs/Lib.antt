@@ -1,0 +1,3 @@
+pub mod Findings
+pub mod Looking
+pub mod Steps

@@ -1,0 +1,88 @@
+//! Rules that look at each section, and have at most one finding there.
+
+ghost use Rattle.std.specs.Prelude.{◌≡◌, ◌<◌, ℕ, List, Bool as TheBool, length};
+ghost use Rattle.elf_object.specs.Object.{Object};
+ghost use Rattle.elf_object.specs.Due.{all_sections};
+ghost use Rattle.object_output.specs.Steps.{Learns};
+ghost use Rattle.lint_findings.specs.declared.places.Place.TheVariants.{Section};
+ghost use Rattle.lint_findings.specs.Findings.{at_sections, finding, findings_shown, found_if};
+ghost use Rattle.lint_findings.specs.Steps.{FindsElf};
+
+use crate::findings::find_if;
+use crate::places::Place;
+use elf_descriptor::Elf;
+use elf_outside::{Sink, Source};
+use elf_types::ScnId;
+use object_output::{SectionTool, each_section};
+use tool_output::{FileName, Outputs, Stop};
+
+/// A rule that has at most one finding a section.
+///
+/// - `number` is its number, and `text` the text of its findings.
+/// - `finds` tells whether it has one, by the object and the section's number.
+pub trait SectionRule {
+    ghost number: { ℕ };
+
+    ghost text: { List ℕ };
+
+    ghost finds: { Object → ℕ → TheBool };
+
+    /// Its number.
+    fn number(&self) -> u32
+        ensures { result ≡ number };
+
+    /// The text of its findings.
+    fn text(&self) -> &'static str
+        ensures { result.now ≡ text };
+
+    /// Whether it has a finding at a section that is there. It stops by `Read` where a read of the
+    /// source failed, and by `Memory`.
+    fn finds<S: Source>(&self, elf: &mut Elf<S>, s: ScnId) -> Result<bool, Stop>
+        requires { s.0 < length elf.old.o.sections }
+        ensures { Learns S.Source (λ o. finds o s.0) result elf.old elf.new };
+}
+
+/// A rule under the name of a file.
+#[derive(Clone, Copy)]
+struct BySection<'a, R> {
+    /// The rule.
+    rule: &'a R,
+    /// The file.
+    name: &'a FileName<'a>,
+}
+
+impl<R: SectionRule> SectionTool for BySection<'_, R> {
+    ghost report = { λ t o s. findings_shown t.name.now
+        (found_if (R.finds o s) (finding R.number (Section s) R.text)) };
+
+    fn show<S: Source, O: Sink, E: Sink>(
+        &self,
+        elf: &mut Elf<S>,
+        s: ScnId,
+        outputs: &mut Outputs<'_, O, E>,
+    ) -> Result<bool, Stop> {
+        let rule = self.rule;
+        match rule.finds(elf, s) {
+            Ok(holds) => {
+                let place = Place::Section(s.0);
+                find_if(holds, self.name, rule.number(), place, rule.text(), outputs)
+            }
+            Err(stop) => Err(stop),
+        }
+    }
+}
+
+/// Says what a rule finds at each section, by number.
+#[tactic(auto, unfolding(crate::specs::Findings::at_sections))]
+pub fn each_section_by<R: SectionRule, S: Source, O: Sink, E: Sink>(
+    rule: &R,
+    name: &FileName<'_>,
+    elf: &mut Elf<S>,
+    outputs: &mut Outputs<'_, O, E>,
+) -> Result<bool, Stop>
+    ensures { FindsElf S.Source O.Sink E.Sink
+        (λ o. at_sections R.number R.text (R.finds o) (all_sections o)) name.now
+        result elf.old elf.new outputs.old outputs.new }
+{
+    each_section(&BySection { rule, name }, elf, outputs)
+}

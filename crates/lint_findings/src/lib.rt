@@ -1,0 +1,18 @@
+//! What the rules of elflint have in common: findings with their places and lines, what the rules
+//! look at, and the forms of a rule that looks at each section or each segment.
+#![tactic(auto)]
+
+pub mod by_section;
+pub mod by_segment;
+pub mod findings;
+pub mod looking;
+pub mod places;
+
+pub use by_section::{SectionRule, each_section_by};
+pub use by_segment::{SegmentRule, each_segment};
+pub use findings::{FindingLine, NoFindings, find, find_if};
+pub use looking::{
+    class, first_piece, info_is_section, is_allocated, is_intact, is_looked_at, is_out, is_plain,
+    is_plain_of, is_ragged, is_relocations, is_string_table, is_symbol_table, linked_header,
+};
+pub use places::Place;

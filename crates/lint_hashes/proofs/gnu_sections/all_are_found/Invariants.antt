@@ -1,0 +1,21 @@
+use Rattle.std.proofs.Common.{◌≡◌, ◌≤◌, ℕ, Bool, true, Option, Some, None, List, drop, IsTrue}
+use Rattle.std.specs.List.{list_all, enumerate_from}
+use Rattle.command_objects.specs.HashSections.{is_found_gnu}
+use Rattle.command_objects.specs.Listed.{listed_names}
+use Rattle.object_output.specs.Steps.{LeavesElf}
+use Rattle.lint_findings.specs.Looking.{data_bytes}
+use Rattle.lint_hashes.specs.Gnu.{section_of, IsRun}
+use Rattle.lint_hashes.proofs.gnu_sections.all_are_found.Given as goal
+
+abbrev pub invariant-loop-i : goal.invariant-loop-i
+invariant-loop-i g l =
+    let o = l.initial.elf.o in
+    let h = section_of l.t (data_bytes o l.s.0) in
+    let test : ℕ × Option (List ℕ) → Bool = λ row. elim (row.1) [ None ↦ true | Some name ↦ is_found_gnu l.t.class h l.t.count row.0 name ] in
+    let rows = enumerate_from 0 (listed_names o l.l.section.0) in
+    record {
+      begun : 1 ≤ l.i;
+      run : IsTrue l.initial.elf.told → IsRun h l.t.count l.i l.start;
+      left : IsTrue l.initial.elf.told → list_all test (drop l.i rows) ≡ list_all test rows;
+      elf : LeavesElf g.S.Source l.initial.elf l.elf;
+    }

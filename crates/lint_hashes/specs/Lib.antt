@@ -1,0 +1,4 @@
+pub mod Gnu
+pub mod Sysv
+pub mod Listed
+pub mod Hashes

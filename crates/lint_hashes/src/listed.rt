@@ -1,0 +1,156 @@
+//! The symbols that a hash section lists, by the hashes of their names.
+
+ghost use Rattle.std.specs.Prelude.{◌≡◌, ◌<◌, ◌==◌, ◌&&◌, not, length, is_some, slice_get, IfSome, Some};
+ghost use Rattle.std.specs.Option.{option_map};
+ghost use Rattle.command_objects.specs.Listed.{is_defined_global, listed_name, not_empty};
+ghost use Rattle.command_objects.specs.Words.{header_at};
+ghost use Rattle.object_output.specs.Steps.{Learns};
+ghost use Rattle.lint_findings.specs.Looking.{links_to_symbols, symbols};
+ghost use Rattle.lint_hashes.specs.Listed as listed;
+ghost use Rattle.lint_hashes.specs.Listed.{hash_by, AreListed};
+
+use elf_descriptor::Elf;
+use elf_outside::Source;
+use elf_types::constants::{SHN_UNDEF, STB_LOCAL};
+use elf_types::{DataId, ScnId, Sym, bind};
+use gelf_view::item_count;
+use lint_findings::{class, is_symbol_table, linked_header};
+use object_output::{section_header, string_at};
+use symbol_hashes::{elf_hash, gnu_hash};
+use tool_output::Stop;
+
+/// How a name is hashed.
+#[derive(Clone, Copy)]
+pub enum NameHash {
+    /// In a section of type `SHT_HASH`.
+    Sysv,
+    /// In GNU's hash section.
+    Gnu,
+}
+
+/// A symbol table to which a hash section links.
+#[derive(Clone, Copy)]
+pub struct Listed {
+    /// The section.
+    pub section: ScnId,
+    /// How many symbols it has.
+    pub count: u64,
+    /// The section of their names.
+    pub strings: ScnId,
+}
+
+/// The symbol table to which a section that is there links, or None where that is none, or its
+/// symbols can not be told. Nothing is read.
+#[tactic(auto, unfolding(lint_findings::specs::Looking::links_to_symbols))]
+pub fn linked_symbols<S: Source>(elf: &Elf<S>, s: ScnId) -> Option<Listed>
+    requires { s.0 < length elf.now.o.sections }
+    ensures there { is_some result ≡ links_to_symbols elf.now.o s.0 }
+    ensures linked { IfSome result (λ l. l.section.0 ≡ (header_at elf.now.o s.0).link) }
+    ensures listed { IfSome result (AreListed elf.now.o) }
+{
+    let linked = linked_header(elf, s);
+    let section = ScnId(section_header(elf, s).link);
+    if !is_symbol_table(class(elf), &linked) {
+        return None;
+    }
+    let d = DataId {
+        section: section.0,
+        piece: 0,
+    };
+    match item_count::<S, Sym>(elf, d) {
+        Ok(count) => Some(Listed {
+            section,
+            count,
+            strings: ScnId(linked.link),
+        }),
+        Err(_) => None,
+    }
+}
+
+/// The hash of a name.
+fn hash_of(by: NameHash, name: &[u8]) -> u32
+    ensures { result ≡ hash_by by name.now }
+{
+    match by {
+        NameHash::Sysv => elf_hash(name),
+        NameHash::Gnu => gnu_hash(name),
+    }
+}
+
+/// The hash of a name that is not empty.
+fn hash_unless_empty(by: NameHash, name: &[u8]) -> Option<u32>
+    ensures { result ≡ option_map (hash_by by) (not_empty (Some name.now)) }
+{
+    if name.is_empty() {
+        None
+    } else {
+        Some(hash_of(by, name))
+    }
+}
+
+/// Whether symbol `i` is listed where it has a name: it is not the first, not local, and defined.
+fn may_be_listed(i: u64, x: Sym) -> bool
+    ensures { result ≡ (not (i == 0) && is_defined_global x) }
+{
+    i != 0 && bind(x.info) != STB_LOCAL && u32::from(x.shndx) != SHN_UNDEF
+}
+
+/// Symbol `i`, or None where there is none.
+fn symbol_at<S: Source>(elf: &mut Elf<S>, l: Listed, i: u64) -> Result<Option<Sym>, Stop>
+    ensures { Learns S.Source (λ o. slice_get (symbols o l.section.0) i) result elf.old elf.new }
+{
+    let d = DataId {
+        section: l.section.0,
+        piece: 0,
+    };
+    match elf.item::<Sym>(d, i) {
+        Ok(x) => Ok(Some(x)),
+        Err(e) => match Stop::of(&e) {
+            Some(stop) => Err(stop),
+            None => Ok(None),
+        },
+    }
+}
+
+/// The hash of the name of symbol `i`, which was looked at, where it is listed.
+#[tactic(auto, unfolding(command_objects::specs::Listed::listed_name, elf_object::specs::Strings::symbol_name))]
+fn hash_if_listed<S: Source>(
+    elf: &mut Elf<S>,
+    by: NameHash,
+    l: Listed,
+    i: u64,
+    x: Sym,
+) -> Result<Option<u32>, Stop>
+    requires { AreListed elf.old.o l }
+    ensures { Learns S.Source (λ o. option_map (hash_by by) (listed_name o l.section.0 i x))
+        result elf.old elf.new }
+{
+    if !may_be_listed(i, x) {
+        return Ok(None);
+    }
+    match string_at(elf, l.strings, u64::from(x.name)) {
+        Ok(Some(name)) => Ok(hash_unless_empty(by, name)),
+        Ok(None) => Ok(None),
+        Err(stop) => Err(stop),
+    }
+}
+
+/// The hash of the name of symbol `i` of a table, where it is listed. It stops by `Read` where a
+/// read of the source failed, and by `Memory`.
+///
+/// Source: gABI chapter 5, "Hash Table".
+pub fn listed_hash<S: Source>(
+    elf: &mut Elf<S>,
+    by: NameHash,
+    l: Listed,
+    i: u64,
+) -> Result<Option<u32>, Stop>
+    requires { AreListed elf.old.o l }
+    ensures { Learns S.Source (λ o. listed.listed_hash by o l.section.0 i) result elf.old elf.new }
+{
+    match symbol_at(elf, l, i) {
+        Ok(Some(x)) => hash_if_listed(elf, by, l, i, x),
+        Ok(None) => Ok(None),
+        Err(stop) => Err(stop),
+    }
+}

@@ -1,0 +1,4 @@
+pub mod Headers
+pub mod Names
+pub mod Sections
+pub mod Layout

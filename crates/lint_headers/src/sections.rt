@@ -1,0 +1,403 @@
+//! The rules 4, 6 to 12 and 19: section headers. Nothing is read.
+
+ghost use Rattle.std.specs.Prelude.{◌≡◌, ◌==◌, not, codes};
+ghost use Rattle.std.specs.List.{list_any};
+ghost use Rattle.lint_findings.specs.Looking as looking;
+ghost use Rattle.lint_headers.specs.Sections as rule;
+ghost use Rattle.lint_findings.specs.Steps.{FindsElf};
+
+use elf_descriptor::Elf;
+use elf_outside::{Sink, Source};
+use elf_types::constants::SHF_TLS;
+use elf_types::{Kind, ScnId, Shdr, kind_of};
+use elf_xlate::item_size;
+use lint_findings::{
+    SectionRule, class, each_section_by, info_is_section, is_allocated, is_intact, is_looked_at,
+    is_out, is_ragged,
+};
+use object_output::section_header;
+use tool_output::{FileName, Outputs, Stop};
+
+/// Whether a field of section 0 that is to be 0 is not.
+fn has_reserved_field(h: &Shdr) -> bool
+    ensures { result ≡ list_any (λ n. not (n == 0)) (rule.reserved_fields h.now) }
+{
+    let front = h.name != 0 || h.stype != 0 || h.flags != 0;
+    front || h.addr != 0 || h.offset != 0 || h.addralign != 0 || h.entsize != 0
+}
+
+/// Whether the items of a kind are entries whose size a header tells.
+fn has_entries(kind: Kind) -> bool
+    ensures { result ≡ rule.has_entries kind }
+{
+    matches!(kind, Kind::Sym | Kind::Rel | Kind::Rela | Kind::Dyn)
+}
+
+/// Section 0 and its fields that are to be 0.
+#[derive(Clone, Copy)]
+struct Section0;
+
+impl SectionRule for Section0 {
+    ghost number = { 4 };
+
+    ghost text = { codes "section 0 is in use" };
+
+    ghost finds = { rule.is_used_section_0 };
+
+    fn number(&self) -> u32 {
+        4
+    }
+
+    fn text(&self) -> &'static str {
+        "section 0 is in use"
+    }
+
+    #[tactic(auto, unfolding(crate::specs::Sections::is_used_section_0))]
+    fn finds<S: Source>(&self, elf: &mut Elf<S>, s: ScnId) -> Result<bool, Stop> {
+        let h = section_header(elf, s);
+        Ok(s.0 == 0 && has_reserved_field(&h))
+    }
+}
+
+/// Rule 4, at section 0: a field other than size, link and info is not 0.
+///
+/// Source: gABI chapter 4, "Section Header", the entry at index 0.
+#[tactic(auto, unfolding(crate::specs::Sections::section_0_in_use))]
+pub fn section_0_in_use<S: Source, O: Sink, E: Sink>(
+    name: &FileName<'_>,
+    elf: &mut Elf<S>,
+    outputs: &mut Outputs<'_, O, E>,
+) -> Result<bool, Stop>
+    ensures { FindsElf S.Source O.Sink E.Sink rule.section_0_in_use name.now
+        result elf.old elf.new outputs.old outputs.new }
+{
+    each_section_by(&Section0, name, elf, outputs)
+}
+
+/// Bytes past the end of the file.
+#[derive(Clone, Copy)]
+struct OutsideTheFile;
+
+impl SectionRule for OutsideTheFile {
+    ghost number = { 6 };
+
+    ghost text = { codes "outside the file" };
+
+    ghost finds = { looking.is_out };
+
+    fn number(&self) -> u32 {
+        6
+    }
+
+    fn text(&self) -> &'static str {
+        "outside the file"
+    }
+
+    fn finds<S: Source>(&self, elf: &mut Elf<S>, s: ScnId) -> Result<bool, Stop> {
+        Ok(is_out(elf, s))
+    }
+}
+
+/// Rule 6, at each section: it has bytes in the file, and they pass its end.
+///
+/// Source: gABI chapter 4, "Section Header", sh_offset and sh_size.
+#[tactic(auto, unfolding(crate::specs::Sections::sections_outside_the_file))]
+pub fn sections_outside_the_file<S: Source, O: Sink, E: Sink>(
+    name: &FileName<'_>,
+    elf: &mut Elf<S>,
+    outputs: &mut Outputs<'_, O, E>,
+) -> Result<bool, Stop>
+    ensures { FindsElf S.Source O.Sink E.Sink rule.sections_outside_the_file name.now
+        result elf.old elf.new outputs.old outputs.new }
+{
+    each_section_by(&OutsideTheFile, name, elf, outputs)
+}
+
+/// Sizes that are no whole items.
+#[derive(Clone, Copy)]
+struct RaggedSections;
+
+impl SectionRule for RaggedSections {
+    ghost number = { 7 };
+
+    ghost text = { codes "size is no multiple of the item" };
+
+    ghost finds = { looking.is_ragged };
+
+    fn number(&self) -> u32 {
+        7
+    }
+
+    fn text(&self) -> &'static str {
+        "size is no multiple of the item"
+    }
+
+    fn finds<S: Source>(&self, elf: &mut Elf<S>, s: ScnId) -> Result<bool, Stop> {
+        Ok(is_ragged(elf, s))
+    }
+}
+
+/// Rule 7, at each section in the file: its size is no multiple of its item's.
+///
+/// Source: gABI chapter 4, "Section Header", sh_size.
+#[tactic(auto, unfolding(crate::specs::Sections::ragged_sections))]
+pub fn ragged_sections<S: Source, O: Sink, E: Sink>(
+    name: &FileName<'_>,
+    elf: &mut Elf<S>,
+    outputs: &mut Outputs<'_, O, E>,
+) -> Result<bool, Stop>
+    ensures { FindsElf S.Source O.Sink E.Sink rule.ragged_sections name.now
+        result elf.old elf.new outputs.old outputs.new }
+{
+    each_section_by(&RaggedSections, name, elf, outputs)
+}
+
+/// Alignments that are no powers of two.
+#[derive(Clone, Copy)]
+struct OddAlignments;
+
+impl SectionRule for OddAlignments {
+    ghost number = { 8 };
+
+    ghost text = { codes "alignment is no power of two" };
+
+    ghost finds = { rule.has_odd_alignment };
+
+    fn number(&self) -> u32 {
+        8
+    }
+
+    fn text(&self) -> &'static str {
+        "alignment is no power of two"
+    }
+
+    #[tactic(auto, unfolding(crate::specs::Sections::has_odd_alignment))]
+    fn finds<S: Source>(&self, elf: &mut Elf<S>, s: ScnId) -> Result<bool, Stop> {
+        let align = section_header(elf, s).addralign;
+        Ok(align != 0 && !align.is_power_of_two())
+    }
+}
+
+/// Rule 8, at each section: its alignment is neither 0 nor a power of two.
+///
+/// Source: gABI chapter 4, "Section Header", sh_addralign.
+#[tactic(auto, unfolding(crate::specs::Sections::odd_alignments))]
+pub fn odd_alignments<S: Source, O: Sink, E: Sink>(
+    name: &FileName<'_>,
+    elf: &mut Elf<S>,
+    outputs: &mut Outputs<'_, O, E>,
+) -> Result<bool, Stop>
+    ensures { FindsElf S.Source O.Sink E.Sink rule.odd_alignments name.now
+        result elf.old elf.new outputs.old outputs.new }
+{
+    each_section_by(&OddAlignments, name, elf, outputs)
+}
+
+/// Addresses that are not aligned.
+#[derive(Clone, Copy)]
+struct UnalignedAddresses;
+
+impl SectionRule for UnalignedAddresses {
+    ghost number = { 9 };
+
+    ghost text = { codes "address is not aligned" };
+
+    ghost finds = { rule.has_unaligned_address };
+
+    fn number(&self) -> u32 {
+        9
+    }
+
+    fn text(&self) -> &'static str {
+        "address is not aligned"
+    }
+
+    #[tactic(auto, unfolding(crate::specs::Sections::has_unaligned_address))]
+    fn finds<S: Source>(&self, elf: &mut Elf<S>, s: ScnId) -> Result<bool, Stop> {
+        let h = section_header(elf, s);
+        Ok(h.addralign > 1 && h.addr % h.addralign != 0)
+    }
+}
+
+/// Rule 9, at each section: its alignment is above 1 and does not divide its address.
+///
+/// Source: gABI chapter 4, "Section Header", sh_addr and sh_addralign.
+#[tactic(auto, unfolding(crate::specs::Sections::unaligned_addresses))]
+pub fn unaligned_addresses<S: Source, O: Sink, E: Sink>(
+    name: &FileName<'_>,
+    elf: &mut Elf<S>,
+    outputs: &mut Outputs<'_, O, E>,
+) -> Result<bool, Stop>
+    ensures { FindsElf S.Source O.Sink E.Sink rule.unaligned_addresses name.now
+        result elf.old elf.new outputs.old outputs.new }
+{
+    each_section_by(&UnalignedAddresses, name, elf, outputs)
+}
+
+/// Links to sections that are not there.
+#[derive(Clone, Copy)]
+struct LinksToNoSection;
+
+impl SectionRule for LinksToNoSection {
+    ghost number = { 10 };
+
+    ghost text = { codes "link to no section" };
+
+    ghost finds = { rule.links_nowhere };
+
+    fn number(&self) -> u32 {
+        10
+    }
+
+    fn text(&self) -> &'static str {
+        "link to no section"
+    }
+
+    #[tactic(auto, unfolding(crate::specs::Sections::links_nowhere))]
+    fn finds<S: Source>(&self, elf: &mut Elf<S>, s: ScnId) -> Result<bool, Stop> {
+        Ok(section_header(elf, s).link >= elf.shnum())
+    }
+}
+
+/// Rule 10, at each section: its link is not below the number of sections.
+///
+/// Source: gABI chapter 4, "Section Header", sh_link.
+#[tactic(auto, unfolding(crate::specs::Sections::links_to_no_section))]
+pub fn links_to_no_section<S: Source, O: Sink, E: Sink>(
+    name: &FileName<'_>,
+    elf: &mut Elf<S>,
+    outputs: &mut Outputs<'_, O, E>,
+) -> Result<bool, Stop>
+    ensures { FindsElf S.Source O.Sink E.Sink rule.links_to_no_section name.now
+        result elf.old elf.new outputs.old outputs.new }
+{
+    each_section_by(&LinksToNoSection, name, elf, outputs)
+}
+
+/// Numbers of sections that are not there.
+#[derive(Clone, Copy)]
+struct InfosOfNoSection;
+
+impl SectionRule for InfosOfNoSection {
+    ghost number = { 11 };
+
+    ghost text = { codes "info names no section" };
+
+    ghost finds = { rule.informs_of_nothing };
+
+    fn number(&self) -> u32 {
+        11
+    }
+
+    fn text(&self) -> &'static str {
+        "info names no section"
+    }
+
+    #[tactic(auto, unfolding(crate::specs::Sections::informs_of_nothing))]
+    fn finds<S: Source>(&self, elf: &mut Elf<S>, s: ScnId) -> Result<bool, Stop> {
+        let h = section_header(elf, s);
+        Ok(info_is_section(&h) && h.info >= elf.shnum())
+    }
+}
+
+/// Rule 11, at each section whose info is a section's number: that is not below their number.
+///
+/// Source: gABI chapter 4, "Section Header", sh_info; "Sections", SHF_INFO_LINK.
+#[tactic(auto, unfolding(crate::specs::Sections::infos_of_no_section))]
+pub fn infos_of_no_section<S: Source, O: Sink, E: Sink>(
+    name: &FileName<'_>,
+    elf: &mut Elf<S>,
+    outputs: &mut Outputs<'_, O, E>,
+) -> Result<bool, Stop>
+    ensures { FindsElf S.Source O.Sink E.Sink rule.infos_of_no_section name.now
+        result elf.old elf.new outputs.old outputs.new }
+{
+    each_section_by(&InfosOfNoSection, name, elf, outputs)
+}
+
+/// Entry sizes that are not those of the items.
+#[derive(Clone, Copy)]
+struct WrongEntrySizes;
+
+impl SectionRule for WrongEntrySizes {
+    ghost number = { 12 };
+
+    ghost text = { codes "wrong entry size" };
+
+    ghost finds = { rule.has_wrong_entry_size };
+
+    fn number(&self) -> u32 {
+        12
+    }
+
+    fn text(&self) -> &'static str {
+        "wrong entry size"
+    }
+
+    #[tactic(auto, unfolding(crate::specs::Sections::has_wrong_entry_size))]
+    fn finds<S: Source>(&self, elf: &mut Elf<S>, s: ScnId) -> Result<bool, Stop> {
+        let h = section_header(elf, s);
+        let class = class(elf);
+        let kind = kind_of(class, &h);
+        let wrong = has_entries(kind) && h.entsize != item_size(kind, class);
+        Ok(is_looked_at(elf, s) && wrong)
+    }
+}
+
+/// Rule 12, at each section of symbols, relocations or dynamic entries: its entry size is not
+/// theirs.
+///
+/// Source: gABI chapter 4, "Section Header", sh_entsize.
+#[tactic(auto, unfolding(crate::specs::Sections::wrong_entry_sizes))]
+pub fn wrong_entry_sizes<S: Source, O: Sink, E: Sink>(
+    name: &FileName<'_>,
+    elf: &mut Elf<S>,
+    outputs: &mut Outputs<'_, O, E>,
+) -> Result<bool, Stop>
+    ensures { FindsElf S.Source O.Sink E.Sink rule.wrong_entry_sizes name.now
+        result elf.old elf.new outputs.old outputs.new }
+{
+    each_section_by(&WrongEntrySizes, name, elf, outputs)
+}
+
+/// Thread-local storage that is not allocated.
+#[derive(Clone, Copy)]
+struct UnallocatedStorage;
+
+impl SectionRule for UnallocatedStorage {
+    ghost number = { 19 };
+
+    ghost text = { codes "thread-local but not allocated" };
+
+    ghost finds = { rule.is_unallocated_storage };
+
+    fn number(&self) -> u32 {
+        19
+    }
+
+    fn text(&self) -> &'static str {
+        "thread-local but not allocated"
+    }
+
+    #[tactic(auto, unfolding(crate::specs::Sections::is_unallocated_storage))]
+    fn finds<S: Source>(&self, elf: &mut Elf<S>, s: ScnId) -> Result<bool, Stop> {
+        let h = section_header(elf, s);
+        let is_local = h.flags / SHF_TLS % 2 == 1;
+        Ok(is_intact(elf, s) && is_local && !is_allocated(&h))
+    }
+}
+
+/// Rule 19, at each section of thread-local storage: it is not in memory when the program runs.
+///
+/// Source: gABI chapter 4, "Sections", SHF_TLS and SHF_ALLOC.
+#[tactic(auto, unfolding(crate::specs::Sections::unallocated_thread_storage))]
+pub fn unallocated_thread_storage<S: Source, O: Sink, E: Sink>(
+    name: &FileName<'_>,
+    elf: &mut Elf<S>,
+    outputs: &mut Outputs<'_, O, E>,
+) -> Result<bool, Stop>
+    ensures { FindsElf S.Source O.Sink E.Sink rule.unallocated_thread_storage name.now
+        result elf.old elf.new outputs.old outputs.new }
+{
+    each_section_by(&UnallocatedStorage, name, elf, outputs)
+}

@@ -1,0 +1,3 @@
+pub mod Links
+pub mod StringTables
+pub mod Dynamic

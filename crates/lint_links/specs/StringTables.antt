@@ -1,0 +1,41 @@
+-- The rules 13 and 14: string tables (gABI chapter 4, "String Table"). A table's first byte is a
+-- NUL, and so is its last; an empty one is allowed.
+use Rattle.std.specs.Prelude.{ℕ, ◌-◌, ◌==◌, ◌&&◌, not, Bool, false, List, length, slice_get, Option, Some, None, codes}
+use Rattle.elf_object.specs.Object.{Object}
+use Rattle.elf_object.specs.Due.{all_sections}
+use Rattle.command_objects.specs.Words.{header_at}
+use Rattle.lint_findings.specs.Findings.{Rule, at_sections}
+use Rattle.lint_findings.specs.Looking.{is_plain, is_string_table, data_bytes}
+
+-- there is a byte, and it is no NUL
+abbrev pub is_other_byte : Option ℕ → Bool
+is_other_byte None = false
+is_other_byte (Some b) = not (b == 0)
+
+abbrev pub first_byte : List ℕ → Option ℕ
+first_byte bytes = slice_get bytes 0
+
+abbrev pub last_byte : List ℕ → Option ℕ
+last_byte bytes = slice_get bytes (length bytes - 1)
+
+-- a string table whose data a rule looks at
+unfoldable pub holds_strings : Object → ℕ → Bool
+holds_strings o s = is_plain o s && is_string_table (header_at o s)
+
+-- ---- 13: it begins with another byte
+
+unfoldable pub lacks_first_nul : Object → ℕ → Bool
+lacks_first_nul o s = holds_strings o s && is_other_byte (first_byte (data_bytes o s))
+
+unfoldable pub tables_without_first_nul : Rule
+tables_without_first_nul o =
+    at_sections 13 (codes "no NUL at the start") (lacks_first_nul o) (all_sections o)
+
+-- ---- 14: it ends with another byte
+
+unfoldable pub lacks_last_nul : Object → ℕ → Bool
+lacks_last_nul o s = holds_strings o s && is_other_byte (last_byte (data_bytes o s))
+
+unfoldable pub tables_without_last_nul : Rule
+tables_without_last_nul o =
+    at_sections 14 (codes "no NUL at the end") (lacks_last_nul o) (all_sections o)

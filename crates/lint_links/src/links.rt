@@ -1,0 +1,195 @@
+//! The rules 15 to 18: what sections of some types link to. Nothing is read.
+
+ghost use Rattle.std.specs.Prelude.{◌≡◌, codes};
+ghost use Rattle.lint_links.specs.Links as rule;
+ghost use Rattle.lint_findings.specs.Steps.{FindsElf};
+
+use elf_descriptor::Elf;
+use elf_outside::{Sink, Source};
+use elf_types::constants::{SHN_UNDEF, SHT_DYNAMIC, SHT_GNU_HASH, SHT_GNU_VERSYM, SHT_HASH};
+use elf_types::{ScnId, Shdr};
+use lint_findings::{
+    SectionRule, class, each_section_by, is_looked_at, is_relocations, is_string_table,
+    is_symbol_table, linked_header,
+};
+use object_output::section_header;
+use tool_output::{FileName, Outputs, Stop};
+
+/// Whether a section goes by the symbols of a table: a hash section or version indexes.
+fn goes_by_symbols(h: &Shdr) -> bool
+    ensures { result ≡ rule.goes_by_symbols h.now }
+{
+    h.stype == SHT_HASH || h.stype == SHT_GNU_HASH || h.stype == SHT_GNU_VERSYM
+}
+
+/// Links of symbol tables.
+#[derive(Clone, Copy)]
+struct SymbolLinks;
+
+impl SectionRule for SymbolLinks {
+    ghost number = { 15 };
+
+    ghost text = { codes "link is no string table" };
+
+    ghost finds = { rule.symbols_lack_strings };
+
+    fn number(&self) -> u32 {
+        15
+    }
+
+    fn text(&self) -> &'static str {
+        "link is no string table"
+    }
+
+    #[tactic(auto, unfolding(crate::specs::Links::symbols_lack_strings))]
+    fn finds<S: Source>(&self, elf: &mut Elf<S>, s: ScnId) -> Result<bool, Stop> {
+        let h = section_header(elf, s);
+        let linked = linked_header(elf, s);
+        let lacks = is_symbol_table(class(elf), &h) && !is_string_table(&linked);
+        Ok(is_looked_at(elf, s) && lacks)
+    }
+}
+
+/// Rule 15, at each symbol table: it links to no string table.
+///
+/// Source: gABI chapter 4, "Section Header", sh_link.
+#[tactic(auto, unfolding(crate::specs::Links::symbols_without_strings))]
+pub fn symbols_without_strings<S: Source, O: Sink, E: Sink>(
+    name: &FileName<'_>,
+    elf: &mut Elf<S>,
+    outputs: &mut Outputs<'_, O, E>,
+) -> Result<bool, Stop>
+    ensures { FindsElf S.Source O.Sink E.Sink rule.symbols_without_strings name.now
+        result elf.old elf.new outputs.old outputs.new }
+{
+    each_section_by(&SymbolLinks, name, elf, outputs)
+}
+
+/// Links of relocations.
+#[derive(Clone, Copy)]
+struct RelocationLinks;
+
+impl SectionRule for RelocationLinks {
+    ghost number = { 16 };
+
+    ghost text = { codes "link is no symbol table" };
+
+    ghost finds = { rule.relocations_lack_symbols };
+
+    fn number(&self) -> u32 {
+        16
+    }
+
+    fn text(&self) -> &'static str {
+        "link is no symbol table"
+    }
+
+    #[tactic(auto, unfolding(crate::specs::Links::relocations_lack_symbols))]
+    fn finds<S: Source>(&self, elf: &mut Elf<S>, s: ScnId) -> Result<bool, Stop> {
+        let h = section_header(elf, s);
+        let linked = linked_header(elf, s);
+        let lacks = h.link != SHN_UNDEF && !is_symbol_table(class(elf), &linked);
+        Ok(is_looked_at(elf, s) && is_relocations(&h) && lacks)
+    }
+}
+
+/// Rule 16, at each section of relocations with a link: that is no symbol table.
+///
+/// Source: gABI chapter 4, "Section Header", sh_link.
+#[tactic(auto, unfolding(crate::specs::Links::relocations_without_symbols))]
+pub fn relocations_without_symbols<S: Source, O: Sink, E: Sink>(
+    name: &FileName<'_>,
+    elf: &mut Elf<S>,
+    outputs: &mut Outputs<'_, O, E>,
+) -> Result<bool, Stop>
+    ensures { FindsElf S.Source O.Sink E.Sink rule.relocations_without_symbols name.now
+        result elf.old elf.new outputs.old outputs.new }
+{
+    each_section_by(&RelocationLinks, name, elf, outputs)
+}
+
+/// Links of hash sections and of version indexes.
+#[derive(Clone, Copy)]
+struct HashLinks;
+
+impl SectionRule for HashLinks {
+    ghost number = { 17 };
+
+    ghost text = { codes "link is no symbol table" };
+
+    ghost finds = { rule.hashes_lack_symbols };
+
+    fn number(&self) -> u32 {
+        17
+    }
+
+    fn text(&self) -> &'static str {
+        "link is no symbol table"
+    }
+
+    #[tactic(auto, unfolding(crate::specs::Links::hashes_lack_symbols))]
+    fn finds<S: Source>(&self, elf: &mut Elf<S>, s: ScnId) -> Result<bool, Stop> {
+        let h = section_header(elf, s);
+        let linked = linked_header(elf, s);
+        let lacks = goes_by_symbols(&h) && !is_symbol_table(class(elf), &linked);
+        Ok(is_looked_at(elf, s) && lacks)
+    }
+}
+
+/// Rule 17, at each hash section and each section of version indexes: it links to no symbol table.
+///
+/// Source: gABI chapter 4, "Section Header", sh_link.
+#[tactic(auto, unfolding(crate::specs::Links::hashes_without_symbols))]
+pub fn hashes_without_symbols<S: Source, O: Sink, E: Sink>(
+    name: &FileName<'_>,
+    elf: &mut Elf<S>,
+    outputs: &mut Outputs<'_, O, E>,
+) -> Result<bool, Stop>
+    ensures { FindsElf S.Source O.Sink E.Sink rule.hashes_without_symbols name.now
+        result elf.old elf.new outputs.old outputs.new }
+{
+    each_section_by(&HashLinks, name, elf, outputs)
+}
+
+/// Links of dynamic sections.
+#[derive(Clone, Copy)]
+struct DynamicLinks;
+
+impl SectionRule for DynamicLinks {
+    ghost number = { 18 };
+
+    ghost text = { codes "link is no string table" };
+
+    ghost finds = { rule.dynamic_lacks_strings };
+
+    fn number(&self) -> u32 {
+        18
+    }
+
+    fn text(&self) -> &'static str {
+        "link is no string table"
+    }
+
+    #[tactic(auto, unfolding(crate::specs::Links::dynamic_lacks_strings))]
+    fn finds<S: Source>(&self, elf: &mut Elf<S>, s: ScnId) -> Result<bool, Stop> {
+        let h = section_header(elf, s);
+        let linked = linked_header(elf, s);
+        let lacks = h.stype == SHT_DYNAMIC && !is_string_table(&linked);
+        Ok(is_looked_at(elf, s) && lacks)
+    }
+}
+
+/// Rule 18, at each dynamic section: it links to no string table.
+///
+/// Source: gABI chapter 4, "Section Header", sh_link.
+#[tactic(auto, unfolding(crate::specs::Links::dynamic_without_strings))]
+pub fn dynamic_without_strings<S: Source, O: Sink, E: Sink>(
+    name: &FileName<'_>,
+    elf: &mut Elf<S>,
+    outputs: &mut Outputs<'_, O, E>,
+) -> Result<bool, Stop>
+    ensures { FindsElf S.Source O.Sink E.Sink rule.dynamic_without_strings name.now
+        result elf.old elf.new outputs.old outputs.new }
+{
+    each_section_by(&DynamicLinks, name, elf, outputs)
+}

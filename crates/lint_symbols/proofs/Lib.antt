@@ -1,0 +1,3 @@
+mod ItemLemmas
+mod TableLemmas
+mod RelocationLemmas

@@ -1,0 +1,18 @@
+use Rattle.std.proofs.Common.{drop}
+use Rattle.std.specs.Prelude.{codes}
+use Rattle.std.specs.List.{flat_map, enumerate_from}
+use Rattle.elf_object.specs.Answers.{items_at}
+use Rattle.object_output.specs.Steps.{ElfUnderWay}
+use Rattle.lint_findings.specs.declared.places.Place.TheVariants.{Item}
+use Rattle.lint_findings.specs.Findings.{at_items, finding, findings_shown, found_if}
+use Rattle.lint_symbols.specs.Relocations.{passes_bound}
+use Rattle.lint_symbols.proofs.by_relocation.each_of.Given as goal
+
+abbrev pub invariant-loop-i : goal.invariant-loop-i
+invariant-loop-i g l =
+    let s = l.r.section.0 in
+    let symbol = g.T.Relocation.symbol in
+    let list_of = g.T.Listed.list_of in
+    ElfUnderWay g.S.Source g.O.Sink g.E.Sink l.found l.initial.elf l.elf l.initial.outputs l.outputs
+    (λ o. findings_shown l.name (at_items 27 (codes "relocation by no symbol") s (λ i x. passes_bound l.r.bound (symbol x)) (list_of (items_at o s 0))))
+    (λ o. findings_shown l.name (flat_map (λ row. found_if (passes_bound l.r.bound (symbol row.1)) (finding 27 (Item s row.0) (codes "relocation by no symbol"))) (drop l.i (enumerate_from 0 (list_of (items_at o s 0))))))

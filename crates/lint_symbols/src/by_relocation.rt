@@ -1,0 +1,178 @@
+//! The relocations of a section, one by one, by the numbers of their symbols.
+
+ghost use Rattle.std.specs.Prelude.{◌≡◌, ◌<◌, ℕ, length, map, codes, IfSome, IfNone, [], None};
+ghost use Rattle.elf_xlate.specs.declared.content.Items.{Items as TheItems};
+ghost use Rattle.elf_xlate.specs.Translation.{items_kind, items_count};
+ghost use Rattle.elf_object.specs.Answers.{items_at, lend_refusal};
+ghost use Rattle.object_output.proofs.ListCounts.{rels_counted, relas_counted};
+ghost use Rattle.lint_findings.specs.Findings.{at_items};
+ghost use Rattle.lint_findings.specs.Looking.{if_lent};
+ghost use Rattle.lint_findings.specs.Steps.{FindsElf};
+ghost use Rattle.lint_symbols.specs.Relocations.{has_relocations, symbol_bound, symbol_numbers_of, passes_bound, AreRelocations};
+
+use crate::items::item_there;
+use elf_descriptor::Elf;
+use elf_outside::{Sink, Source};
+use elf_types::constants::SHN_UNDEF;
+use elf_types::{DataId, Rel, Rela, ScnId, Sym};
+use gelf_view::item_count;
+use lint_findings::{
+    Place, class, find_if, is_plain, is_relocations, is_symbol_table, linked_header,
+};
+use object_output::section_header;
+use section_data::Item;
+use tool_output::{FileName, Outputs, Stop};
+
+/// The relocations of a section that a rule looks at.
+#[derive(Clone, Copy)]
+pub struct Relocations {
+    /// The section.
+    pub section: ScnId,
+    /// How many symbols there are for them; None where nothing bounds their numbers.
+    pub bound: Option<u64>,
+}
+
+/// A relocation.
+///
+/// - `symbol` is the number of its symbol, `ELF32_R_SYM` or `ELF64_R_SYM`.
+pub trait Relocation: Item {
+    ghost symbol: { Self → ℕ };
+
+    /// The number of its symbol.
+    fn symbol(&self) -> u32
+        ensures { result ≡ symbol self.now };
+
+    // A list of them in items of their kind has as many.
+    ghost counted_in: { (items : TheItems) → items_kind items ≡ Self.Listed.kind →
+        length (Self.Listed.list_of items) ≡ items_count items };
+}
+
+impl Relocation for Rel {
+    ghost symbol = { λ x. x.sym };
+
+    fn symbol(&self) -> u32 {
+        self.sym
+    }
+
+    ghost counted_in = { rels_counted };
+}
+
+impl Relocation for Rela {
+    ghost symbol = { λ x. x.sym };
+
+    fn symbol(&self) -> u32 {
+        self.sym
+    }
+
+    ghost counted_in = { relas_counted };
+}
+
+/// How many symbols there are for the relocations of a section that is there: one without a symbol
+/// table, and else those of the table, where they can be told. Nothing is read.
+///
+/// Source: gABI chapter 4, "Relocation" and "Symbol Table", `STN_UNDEF`.
+fn symbol_bound<S: Source>(elf: &Elf<S>, s: ScnId) -> Option<u64>
+    requires { s.0 < length elf.now.o.sections }
+    ensures { result ≡ symbol_bound elf.now.o s.0 }
+{
+    let link = section_header(elf, s).link;
+    if link == SHN_UNDEF {
+        return Some(1);
+    }
+    if !is_symbol_table(class(elf), &linked_header(elf, s)) {
+        return None;
+    }
+    let d = DataId {
+        section: link,
+        piece: 0,
+    };
+    match item_count::<S, Sym>(elf, d) {
+        Ok(count) => Some(count),
+        Err(_) => None,
+    }
+}
+
+/// Whether a rule looks at the relocations of a section that is there.
+#[tactic(auto, unfolding(crate::specs::Relocations::has_relocations))]
+fn has_relocations<S: Source>(elf: &Elf<S>, s: ScnId) -> bool
+    requires { s.0 < length elf.now.o.sections }
+    ensures { result ≡ has_relocations elf.now.o s.0 }
+{
+    is_plain(elf, s) && is_relocations(&section_header(elf, s))
+}
+
+/// The relocations of a section that is there, or None where a rule looks at none of it.
+#[tactic(auto, unfolding(crate::specs::Relocations::symbol_numbers_of))]
+pub fn relocations_of<S: Source>(elf: &Elf<S>, s: ScnId) -> Option<Relocations>
+    requires { s.0 < length elf.now.o.sections }
+    ensures section { IfSome result (λ r. r.section ≡ s) }
+    ensures are { IfSome result (λ r. AreRelocations elf.now.o r) }
+    ensures none { IfNone result (symbol_numbers_of elf.now.o s.0 ≡ []) }
+{
+    if !has_relocations(elf, s) {
+        return None;
+    }
+    let bound = symbol_bound(elf, s);
+    Some(Relocations { section: s, bound })
+}
+
+/// Whether a relocation by that symbol names one that is not there.
+fn passes_bound(bound: Option<u64>, y: u32) -> bool
+    ensures { result ≡ passes_bound bound y }
+{
+    match bound {
+        None => false,
+        Some(count) => u64::from(y) >= count,
+    }
+}
+
+/// Says what the rule finds at each of so many relocations of a section, by index.
+fn each_of<T: Relocation, S: Source, O: Sink, E: Sink>(
+    name: &FileName<'_>,
+    elf: &mut Elf<S>,
+    r: Relocations,
+    count: u64,
+    outputs: &mut Outputs<'_, O, E>,
+) -> Result<bool, Stop>
+    requires passed { lend_refusal elf.old.o T.kind r.section.0 0 ≡ None }
+    requires count { count ≡ length (T.list_of (items_at elf.old.o r.section.0 0)) }
+    ensures { FindsElf S.Source O.Sink E.Sink
+        (λ o. at_items 27 (codes "relocation by no symbol") r.section.0
+        (λ i x. passes_bound r.bound (T.symbol x)) (T.list_of (items_at o r.section.0 0)))
+        name.now result elf.old elf.new outputs.old outputs.new }
+{
+    let mut found = false;
+    for i in 0..count {
+        let x = item_there::<T, S>(elf, r.section, i)?;
+        let holds = passes_bound(r.bound, x.symbol());
+        let place = Place::Item(r.section.0, i);
+        let was_found = find_if(holds, name, 27, place, "relocation by no symbol", outputs)?;
+        found = found | was_found;
+    }
+    Ok(found)
+}
+
+/// Says what the rule finds at each relocation of a section, by index. A section whose relocations
+/// can not be told has none.
+pub fn each_relocation<T: Relocation, S: Source, O: Sink, E: Sink>(
+    name: &FileName<'_>,
+    elf: &mut Elf<S>,
+    r: Relocations,
+    outputs: &mut Outputs<'_, O, E>,
+) -> Result<bool, Stop>
+    ensures { FindsElf S.Source O.Sink E.Sink
+        (λ o. at_items 27 (codes "relocation by no symbol") r.section.0
+        (λ i y. passes_bound r.bound y)
+        (map T.symbol (if_lent (lend_refusal o T.kind r.section.0 0)
+        (T.list_of (items_at o r.section.0 0)))))
+        name.now result elf.old elf.new outputs.old outputs.new }
+{
+    let d = DataId {
+        section: r.section.0,
+        piece: 0,
+    };
+    match item_count::<S, T>(elf, d) {
+        Ok(count) => each_of::<T, S, O, E>(name, elf, r, count, outputs),
+        Err(_) => Ok(false),
+    }
+}

@@ -1,0 +1,202 @@
+//! Rules that look at each symbol of each symbol table. Its symbols are told one by one, so a table
+//! is held once, as the bytes of its section, whatever the number of rules.
+
+ghost use Rattle.std.specs.Prelude.{◌≡◌, ◌<◌, ℕ, List, Bool as TheBool, length, IfSome, IfNone, None, [], true};
+ghost use Rattle.elf_types.specs.declared.records.Sym.{Sym as TheSym};
+ghost use Rattle.elf_types.specs.declared.records.Kind.TheVariants as kinds;
+ghost use Rattle.elf_object.specs.Object.{Object};
+ghost use Rattle.elf_object.specs.Answers.{lend_refusal};
+ghost use Rattle.object_output.specs.Steps.{Learns};
+ghost use Rattle.lint_findings.specs.declared.places.Place.TheVariants.{Item};
+ghost use Rattle.lint_findings.specs.Findings.{at_items, finding, findings_shown, found_if};
+ghost use Rattle.lint_findings.specs.Looking.{symbols as stated_symbols};
+ghost use Rattle.lint_findings.specs.Steps.{FindsElf};
+ghost use Rattle.lint_symbols.specs.Symbols.{at_symbols, at_symbols_of, has_symbols, symbols_of, IsTable};
+
+use crate::items::item_there;
+use elf_descriptor::Elf;
+use elf_outside::{Sink, Source};
+use elf_types::{DataId, ScnId, Sym};
+use gelf_view::item_count;
+use lint_findings::{
+    Place, class, find_if, is_plain, is_string_table, is_symbol_table, linked_header,
+};
+use object_output::{SectionTool, each_section, section_header};
+use tool_output::{FileName, Outputs, Stop};
+
+/// A symbol table that rules look at: what their tests need of its header, looked for once a table.
+#[derive(Clone, Copy)]
+pub struct Table {
+    /// The section.
+    pub section: ScnId,
+    /// How many symbols it has.
+    pub count: u64,
+    /// The section to which it links.
+    pub strings: ScnId,
+    /// Whether that is a string table.
+    pub named: bool,
+    /// `sh_info`, the index of the first symbol that is not local.
+    pub first_other: u32,
+}
+
+/// A rule that has at most one finding a symbol.
+///
+/// - `number` is its number, and `text` the text of its findings.
+/// - `finds` tells whether it has one, by the object, the section's number, and the symbol with its
+///   index.
+pub trait SymbolRule {
+    ghost number: { ℕ };
+
+    ghost text: { List ℕ };
+
+    ghost finds: { Object → ℕ → ℕ → TheSym → TheBool };
+
+    /// Its number.
+    fn number(&self) -> u32
+        ensures { result ≡ number };
+
+    /// The text of its findings.
+    fn text(&self) -> &'static str
+        ensures { result.now ≡ text };
+
+    /// Whether it has a finding at symbol `i` of a table. It stops by `Read` where a read of the
+    /// source failed, and by `Memory`.
+    fn finds<S: Source>(&self, elf: &mut Elf<S>, t: Table, i: u64, x: Sym) -> Result<bool, Stop>
+        requires { IsTable elf.old.o t }
+        ensures { Learns S.Source (λ o. finds o t.section.0 i x) result elf.old elf.new };
+}
+
+/// The table of a section that is there, with so many symbols.
+fn table_with<S: Source>(elf: &Elf<S>, s: ScnId, count: u64) -> Table
+    requires there { s.0 < length elf.now.o.sections }
+    requires looked { has_symbols elf.now.o s.0 ≡ true }
+    requires passed { lend_refusal elf.now.o kinds.Sym s.0 0 ≡ None }
+    requires count { count ≡ length (stated_symbols elf.now.o s.0) }
+    ensures section { result.section ≡ s }
+    ensures is { IsTable elf.now.o result }
+{
+    let header = section_header(elf, s);
+    Table {
+        section: s,
+        count,
+        strings: ScnId(header.link),
+        named: is_string_table(&linked_header(elf, s)),
+        first_other: header.info,
+    }
+}
+
+/// Whether rules look at the symbols of a section that is there.
+#[tactic(auto, unfolding(crate::specs::Symbols::has_symbols))]
+fn has_symbols<S: Source>(elf: &Elf<S>, s: ScnId) -> bool
+    requires { s.0 < length elf.now.o.sections }
+    ensures { result ≡ has_symbols elf.now.o s.0 }
+{
+    is_plain(elf, s) && is_symbol_table(class(elf), &section_header(elf, s))
+}
+
+/// The symbol table of a section that is there, or None where rules look at no symbols of it.
+/// Nothing is read.
+pub fn table_of<S: Source>(elf: &Elf<S>, s: ScnId) -> Option<Table>
+    requires { s.0 < length elf.now.o.sections }
+    ensures section { IfSome result (λ t. t.section ≡ s) }
+    ensures is { IfSome result (λ t. IsTable elf.now.o t) }
+    ensures none { IfNone result (symbols_of elf.now.o s.0 ≡ []) }
+{
+    if !has_symbols(elf, s) {
+        return None;
+    }
+    let d = DataId {
+        section: s.0,
+        piece: 0,
+    };
+    match item_count::<S, Sym>(elf, d) {
+        Ok(count) => Some(table_with(elf, s, count)),
+        Err(_) => None,
+    }
+}
+
+/// Says what a rule finds at symbol `i` of a table.
+fn show_symbol<R: SymbolRule, S: Source, O: Sink, E: Sink>(
+    rule: &R,
+    name: &FileName<'_>,
+    elf: &mut Elf<S>,
+    t: Table,
+    i: u64,
+    x: Sym,
+    outputs: &mut Outputs<'_, O, E>,
+) -> Result<bool, Stop>
+    requires { IsTable elf.old.o t }
+    ensures { FindsElf S.Source O.Sink E.Sink
+        (λ o. found_if (R.finds o t.section.0 i x) (finding R.number (Item t.section.0 i) R.text))
+        name.now result elf.old elf.new outputs.old outputs.new }
+{
+    match rule.finds(elf, t, i, x) {
+        Ok(holds) => {
+            let place = Place::Item(t.section.0, i);
+            find_if(holds, name, rule.number(), place, rule.text(), outputs)
+        }
+        Err(stop) => Err(stop),
+    }
+}
+
+/// Says what a rule finds at each symbol of a table, by index.
+fn each_symbol<R: SymbolRule, S: Source, O: Sink, E: Sink>(
+    rule: &R,
+    name: &FileName<'_>,
+    elf: &mut Elf<S>,
+    t: Table,
+    outputs: &mut Outputs<'_, O, E>,
+) -> Result<bool, Stop>
+    requires { IsTable elf.old.o t }
+    ensures { FindsElf S.Source O.Sink E.Sink
+        (λ o. at_items R.number R.text t.section.0 (R.finds o t.section.0)
+        (stated_symbols o t.section.0))
+        name.now result elf.old elf.new outputs.old outputs.new }
+{
+    let mut found = false;
+    for i in 0..t.count {
+        let x = item_there::<Sym, S>(elf, t.section, i)?;
+        let was_found = show_symbol(rule, name, elf, t, i, x, outputs)?;
+        found = found | was_found;
+    }
+    Ok(found)
+}
+
+/// A rule under the name of a file.
+#[derive(Clone, Copy)]
+struct BySymbol<'a, R> {
+    /// The rule.
+    rule: &'a R,
+    /// The file.
+    name: &'a FileName<'a>,
+}
+
+impl<R: SymbolRule> SectionTool for BySymbol<'_, R> {
+    ghost report = { λ t o s. findings_shown t.name.now
+        (at_symbols_of R.number R.text R.finds o s) };
+
+    fn show<S: Source, O: Sink, E: Sink>(
+        &self,
+        elf: &mut Elf<S>,
+        s: ScnId,
+        outputs: &mut Outputs<'_, O, E>,
+    ) -> Result<bool, Stop> {
+        match table_of(elf, s) {
+            Some(t) => each_symbol(self.rule, self.name, elf, t, outputs),
+            None => Ok(false),
+        }
+    }
+}
+
+/// Says what a rule finds at the symbols of each symbol table, by section and index.
+pub fn each_symbol_by<R: SymbolRule, S: Source, O: Sink, E: Sink>(
+    rule: &R,
+    name: &FileName<'_>,
+    elf: &mut Elf<S>,
+    outputs: &mut Outputs<'_, O, E>,
+) -> Result<bool, Stop>
+    ensures { FindsElf S.Source O.Sink E.Sink (at_symbols R.number R.text R.finds) name.now
+        result elf.old elf.new outputs.old outputs.new }
+{
+    each_section(&BySymbol { rule, name }, elf, outputs)
+}

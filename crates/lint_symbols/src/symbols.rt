@@ -1,0 +1,264 @@
+//! The rules 21 to 25: the symbols of each symbol table.
+
+ghost use Rattle.std.specs.Prelude.{◌≡◌, codes};
+ghost use Rattle.lint_findings.specs.Findings.{findings_shown};
+ghost use Rattle.lint_findings.specs.Looking.{symbols as stated_symbols};
+ghost use Rattle.lint_symbols.specs.Symbols as rule;
+ghost use Rattle.lint_symbols.specs.Symbols.{IsTable};
+ghost use Rattle.lint_findings.specs.Steps.{FindsElf};
+
+use crate::by_symbol::{SymbolRule, Table, each_symbol_by, table_of};
+use crate::items::item_there;
+use elf_descriptor::Elf;
+use elf_outside::{Sink, Source};
+use elf_types::constants::{SHN_LORESERVE, STB_LOCAL};
+use elf_types::{ScnId, Sym, bind};
+use lint_findings::{Place, find_if};
+use object_output::{SectionTool, each_section, string_at};
+use tool_output::{FileName, Outputs, Stop};
+
+/// Whether a field of a symbol is not 0.
+#[tactic(auto, unfolding(crate::specs::Symbols::is_used))]
+fn is_used(x: Sym) -> bool
+    ensures { result ≡ rule.is_used x }
+{
+    let named = x.name != 0 || x.info != 0 || x.other != 0;
+    named || x.shndx != 0 || x.value != 0 || x.size != 0
+}
+
+/// Whether a symbol is local.
+fn is_local(x: Sym) -> bool
+    ensures { result ≡ rule.is_local x }
+{
+    bind(x.info) == STB_LOCAL
+}
+
+/// Says what rule 21 finds at symbol 0 of a table, where there is one.
+fn show_symbol_0<S: Source, O: Sink, E: Sink>(
+    name: &FileName<'_>,
+    elf: &mut Elf<S>,
+    t: Table,
+    outputs: &mut Outputs<'_, O, E>,
+) -> Result<bool, Stop>
+    requires { IsTable elf.old.o t }
+    ensures { FindsElf S.Source O.Sink E.Sink
+        (λ o. rule.at_symbol_0 t.section.0 (stated_symbols o t.section.0)) name.now
+        result elf.old elf.new outputs.old outputs.new }
+{
+    if t.count == 0 {
+        return Ok(false);
+    }
+    match item_there::<Sym, S>(elf, t.section, 0) {
+        Ok(x) => {
+            let place = Place::Item(t.section.0, 0);
+            find_if(is_used(x), name, 21, place, "symbol 0 is in use", outputs)
+        }
+        Err(stop) => Err(stop),
+    }
+}
+
+/// Rule 21 under the name of a file.
+#[derive(Clone, Copy)]
+struct Symbol0<'a> {
+    /// The file.
+    name: &'a FileName<'a>,
+}
+
+impl SectionTool for Symbol0<'_> {
+    ghost report = { λ t o s. findings_shown t.name.now (rule.symbol_0_of o s) };
+
+    fn show<S: Source, O: Sink, E: Sink>(
+        &self,
+        elf: &mut Elf<S>,
+        s: ScnId,
+        outputs: &mut Outputs<'_, O, E>,
+    ) -> Result<bool, Stop> {
+        match table_of(elf, s) {
+            Some(t) => show_symbol_0(self.name, elf, t, outputs),
+            None => Ok(false),
+        }
+    }
+}
+
+/// Rule 21, at symbol 0 of each symbol table: it is not all 0.
+///
+/// Source: gABI chapter 4, "Symbol Table", STN_UNDEF.
+pub fn symbol_0_in_use<S: Source, O: Sink, E: Sink>(
+    name: &FileName<'_>,
+    elf: &mut Elf<S>,
+    outputs: &mut Outputs<'_, O, E>,
+) -> Result<bool, Stop>
+    ensures { FindsElf S.Source O.Sink E.Sink rule.symbol_0_in_use name.now
+        result elf.old elf.new outputs.old outputs.new }
+{
+    each_section(&Symbol0 { name }, elf, outputs)
+}
+
+/// Names of symbols that cannot be read.
+#[derive(Clone, Copy)]
+struct SymbolNames;
+
+impl SymbolRule for SymbolNames {
+    ghost number = { 22 };
+
+    ghost text = { codes "name cannot be read" };
+
+    ghost finds = { rule.has_no_name };
+
+    fn number(&self) -> u32 {
+        22
+    }
+
+    fn text(&self) -> &'static str {
+        "name cannot be read"
+    }
+
+    #[tactic(auto, unfolding(crate::specs::Symbols::has_no_name))]
+    fn finds<S: Source>(&self, elf: &mut Elf<S>, t: Table, _i: u64, x: Sym) -> Result<bool, Stop> {
+        if !t.named {
+            return Ok(false);
+        }
+        match string_at(elf, t.strings, u64::from(x.name)) {
+            Ok(Some(_)) => Ok(false),
+            Ok(None) => Ok(true),
+            Err(stop) => Err(stop),
+        }
+    }
+}
+
+/// Rule 22, at each symbol of a table that links to a string table: its name cannot be read.
+///
+/// Source: gABI chapter 4, "Symbol Table", st_name.
+#[tactic(auto, unfolding(crate::specs::Symbols::unreadable_symbol_names))]
+pub fn unreadable_symbol_names<S: Source, O: Sink, E: Sink>(
+    name: &FileName<'_>,
+    elf: &mut Elf<S>,
+    outputs: &mut Outputs<'_, O, E>,
+) -> Result<bool, Stop>
+    ensures { FindsElf S.Source O.Sink E.Sink rule.unreadable_symbol_names name.now
+        result elf.old elf.new outputs.old outputs.new }
+{
+    each_symbol_by(&SymbolNames, name, elf, outputs)
+}
+
+/// Local symbols behind the first other one.
+#[derive(Clone, Copy)]
+struct LateLocals;
+
+impl SymbolRule for LateLocals {
+    ghost number = { 23 };
+
+    ghost text = { codes "local symbol among the others" };
+
+    ghost finds = { rule.is_late_local };
+
+    fn number(&self) -> u32 {
+        23
+    }
+
+    fn text(&self) -> &'static str {
+        "local symbol among the others"
+    }
+
+    #[tactic(auto, unfolding(crate::specs::Symbols::is_late_local))]
+    fn finds<S: Source>(&self, _elf: &mut Elf<S>, t: Table, i: u64, x: Sym) -> Result<bool, Stop> {
+        Ok(is_local(x) && i >= u64::from(t.first_other))
+    }
+}
+
+/// Rule 23, at each local symbol: its index is not below that of the first other.
+///
+/// Source: gABI chapter 4, "Symbol Table", STB_LOCAL; "Section Header", sh_info.
+#[tactic(auto, unfolding(crate::specs::Symbols::local_symbols_among_the_others))]
+pub fn local_symbols_among_the_others<S: Source, O: Sink, E: Sink>(
+    name: &FileName<'_>,
+    elf: &mut Elf<S>,
+    outputs: &mut Outputs<'_, O, E>,
+) -> Result<bool, Stop>
+    ensures { FindsElf S.Source O.Sink E.Sink rule.local_symbols_among_the_others name.now
+        result elf.old elf.new outputs.old outputs.new }
+{
+    each_symbol_by(&LateLocals, name, elf, outputs)
+}
+
+/// Other symbols before the first other one.
+#[derive(Clone, Copy)]
+struct EarlyOthers;
+
+impl SymbolRule for EarlyOthers {
+    ghost number = { 24 };
+
+    ghost text = { codes "symbol among the local ones" };
+
+    ghost finds = { rule.is_early_other };
+
+    fn number(&self) -> u32 {
+        24
+    }
+
+    fn text(&self) -> &'static str {
+        "symbol among the local ones"
+    }
+
+    #[tactic(auto, unfolding(crate::specs::Symbols::is_early_other))]
+    fn finds<S: Source>(&self, _elf: &mut Elf<S>, t: Table, i: u64, x: Sym) -> Result<bool, Stop> {
+        Ok(!is_local(x) && i < u64::from(t.first_other))
+    }
+}
+
+/// Rule 24, at each symbol that is not local: its index is below that of the first such.
+///
+/// Source: gABI chapter 4, "Symbol Table", STB_LOCAL; "Section Header", sh_info.
+#[tactic(auto, unfolding(crate::specs::Symbols::other_symbols_among_the_local))]
+pub fn other_symbols_among_the_local<S: Source, O: Sink, E: Sink>(
+    name: &FileName<'_>,
+    elf: &mut Elf<S>,
+    outputs: &mut Outputs<'_, O, E>,
+) -> Result<bool, Stop>
+    ensures { FindsElf S.Source O.Sink E.Sink rule.other_symbols_among_the_local name.now
+        result elf.old elf.new outputs.old outputs.new }
+{
+    each_symbol_by(&EarlyOthers, name, elf, outputs)
+}
+
+/// Sections of symbols that are not there.
+#[derive(Clone, Copy)]
+struct SymbolSections;
+
+impl SymbolRule for SymbolSections {
+    ghost number = { 25 };
+
+    ghost text = { codes "symbol of no section" };
+
+    ghost finds = { rule.is_of_no_section };
+
+    fn number(&self) -> u32 {
+        25
+    }
+
+    fn text(&self) -> &'static str {
+        "symbol of no section"
+    }
+
+    #[tactic(auto, unfolding(crate::specs::Symbols::is_of_no_section))]
+    fn finds<S: Source>(&self, elf: &mut Elf<S>, _t: Table, _i: u64, x: Sym) -> Result<bool, Stop> {
+        let index = u32::from(x.shndx);
+        Ok(index >= elf.shnum() && index < SHN_LORESERVE)
+    }
+}
+
+/// Rule 25, at each symbol: its section index is not reserved, and is not below the number of
+/// sections.
+///
+/// Source: gABI chapter 4, "Symbol Table", st_shndx.
+#[tactic(auto, unfolding(crate::specs::Symbols::symbols_of_no_section))]
+pub fn symbols_of_no_section<S: Source, O: Sink, E: Sink>(
+    name: &FileName<'_>,
+    elf: &mut Elf<S>,
+    outputs: &mut Outputs<'_, O, E>,
+) -> Result<bool, Stop>
+    ensures { FindsElf S.Source O.Sink E.Sink rule.symbols_of_no_section name.now
+        result elf.old elf.new outputs.old outputs.new }
+{
+    each_symbol_by(&SymbolSections, name, elf, outputs)
+}
