@@ -1,0 +1,9 @@
+mod Rows
+pub mod OnceSums
+pub mod HomeSteps
+mod StatedSteps
+mod ReadLemmas
+mod RunLemmas
+mod Built
+mod ScriptLemmas
+mod FileLemmas

@@ -1,0 +1,120 @@
+//! The lines of answers. Each call refuses `Memory` alone; what the page held then still stands,
+//! some bytes behind it.
+
+ghost use Rattle.std.specs.Prelude.{◌≡◌, ◌++◌, OnOk, IfErr};
+ghost use Rattle.elf_types.specs.Writers.{WantsMemory};
+ghost use Rattle.calls_tool.specs.Lines.{data_text, raw_text, str_text, note_text, refused_text, answer_text, answer_line};
+
+mod columns;
+mod headers;
+mod items;
+
+use crate::lines::columns::{put_decimal_after, put_hex_after, put_hex_bytes};
+use crate::lines::headers::{put_ehdr, put_phdr, put_shdr};
+use crate::lines::items::put_item;
+use elf_calls::Answer;
+use elf_types::{
+    ElfError, Kind, Octets, Part, kind_name, put_bytes, put_error, put_part, put_text,
+};
+use gelf_view::NoteAt;
+use tool_output::Line;
+
+/// Appends the text of an answer.
+#[tactic(auto, using(crate::proofs::Rows::kept), unfolding(crate::specs::Lines::answer_text))]
+fn put_answer_text(page: &mut Octets, answer: &Answer) -> Result<(), ElfError>
+    ensures ok { OnOk result (page.new ≡ page.old ++ answer_text answer.now) }
+    ensures err { IfErr result (WantsMemory page.old page.new) }
+{
+    match answer {
+        Answer::Ehdr(h) => put_ehdr(page, h),
+        Answer::Phdr(h) => put_phdr(page, h),
+        Answer::Shdr(h) => put_shdr(page, h),
+        Answer::Pieces(n) => put_decimal_after(page, "pieces ", u64::from(*n)),
+        Answer::Data { kind, count } => put_data(page, *kind, *count),
+        Answer::Raw(bytes) => put_raw(page, bytes.as_slice()),
+        Answer::Item(item) => put_item(page, item),
+        Answer::Str(bytes) => put_str(page, bytes.as_slice()),
+        Answer::Note(note) => put_note(page, note),
+        Answer::NoteEnd => put_text(page, "note end"),
+        Answer::Found(i) => put_decimal_after(page, "found ", *i),
+        Answer::FoundNone => put_text(page, "found none"),
+        Answer::Done => put_text(page, "ok"),
+        Answer::Changed(n) => put_decimal_after(page, "changed ", *n),
+        Answer::Section(s) => put_part(page, Part::Section(*s)),
+        Answer::Piece { s, p } => put_part(page, Part::Piece(*s, *p)),
+        Answer::Flags(flags) => put_hex_after(page, "flags ", u64::from(*flags)),
+        Answer::Size(n) => put_decimal_after(page, "size ", *n),
+        Answer::Refused(e) => put_refused(page, e),
+    }
+}
+
+/// Appends a kind and a number of items.
+#[tactic(auto, using(crate::proofs::Rows::kept), unfolding(crate::specs::Lines::data_text))]
+fn put_data(page: &mut Octets, kind: Kind, count: u64) -> Result<(), ElfError>
+    ensures ok { OnOk result (page.new ≡ page.old ++ data_text kind count) }
+    ensures err { IfErr result (WantsMemory page.old page.new) }
+{
+    put_text(page, "kind ")?;
+    put_text(page, kind_name(kind))?;
+    put_decimal_after(page, " count ", count)
+}
+
+/// Appends the bytes of a section.
+#[tactic(auto, using(crate::proofs::Rows::kept), unfolding(crate::specs::Lines::raw_text))]
+fn put_raw(page: &mut Octets, bytes: &[u8]) -> Result<(), ElfError>
+    ensures ok { OnOk result (page.new ≡ page.old ++ raw_text bytes.now) }
+    ensures err { IfErr result (WantsMemory page.old page.new) }
+{
+    put_text(page, "raw ")?;
+    put_hex_bytes(page, bytes)
+}
+
+/// Appends a string.
+#[tactic(auto, using(crate::proofs::Rows::kept), unfolding(crate::specs::Lines::str_text))]
+fn put_str(page: &mut Octets, bytes: &[u8]) -> Result<(), ElfError>
+    ensures ok { OnOk result (page.new ≡ page.old ++ str_text bytes.now) }
+    ensures err { IfErr result (WantsMemory page.old page.new) }
+{
+    put_text(page, "str [")?;
+    put_bytes(page, bytes)?;
+    put_text(page, "]")
+}
+
+/// Appends a note.
+#[tactic(auto, using(crate::proofs::Rows::kept), unfolding(crate::specs::Lines::note_text))]
+fn put_note(page: &mut Octets, note: &NoteAt) -> Result<(), ElfError>
+    ensures ok { OnOk result (page.new ≡ page.old ++ note_text note.now) }
+    ensures err { IfErr result (WantsMemory page.old page.new) }
+{
+    put_decimal_after(page, "note type ", u64::from(note.ntype))?;
+    put_decimal_after(page, " namesz ", u64::from(note.namesz))?;
+    put_decimal_after(page, " descsz ", u64::from(note.descsz))?;
+    put_decimal_after(page, " next ", note.next)
+}
+
+/// Appends a refusal.
+#[tactic(auto, using(crate::proofs::Rows::kept), unfolding(crate::specs::Lines::refused_text))]
+fn put_refused(page: &mut Octets, e: &ElfError) -> Result<(), ElfError>
+    ensures ok { OnOk result (page.new ≡ page.old ++ refused_text e.now) }
+    ensures err { IfErr result (WantsMemory page.old page.new) }
+{
+    put_text(page, "refused ")?;
+    put_error(page, e)
+}
+
+/// The line of an answer.
+#[derive(Clone, Copy)]
+pub struct AnswerLine<'a> {
+    /// The answer.
+    pub answer: &'a Answer,
+}
+
+impl Line for AnswerLine<'_> {
+    ghost text = { λ l. answer_line l.answer.now };
+
+    #[tactic(auto, using(crate::proofs::Rows::kept), unfolding(crate::specs::Lines::answer_line))]
+    fn put(&self, page: &mut Octets) -> Result<(), ElfError> {
+        put_answer_text(page, self.answer)?;
+        put_text(page, "\n")
+    }
+}

@@ -1,0 +1,76 @@
+-- What lists of items are, by their kind: how many there are, and what a number is added to.
+use Rattle.std.proofs.Common.{◌≡◌, ℕ, length, map, refl}
+use Rattle.elf_types.specs.declared.records.Kind.TheVariants as kinds
+use Rattle.elf_xlate.specs.declared.content.Items.{Items}
+use Rattle.elf_xlate.specs.declared.content.Items.TheVariants as items
+use Rattle.elf_xlate.specs.Translation.{items_kind, items_count}
+use Rattle.elf_object.specs.Answers.{bytes_of, halves_of, words_of, addrs_of, syms_of, rels_of, relas_of, dyns_of}
+use Rattle.elf_object.specs.Runs.{added, more, more_sym, more_rel, more_rela, more_dyn}
+
+pub bytes_added : (n : ℕ) (l : Items) → items_kind l ≡ kinds.Bytes → added n l ≡ items.Bytes (map (more 8 n) (bytes_of l))
+unfolding added
+bytes_added n (items.Bytes l) is = refl
+bytes_added n l is = cc
+
+pub halves_added : (n : ℕ) (l : Items) → items_kind l ≡ kinds.Half → added n l ≡ items.Half (map (more 16 n) (halves_of l))
+unfolding added
+halves_added n (items.Half l) is = refl
+halves_added n l is = cc
+
+pub words_added : (n : ℕ) (l : Items) → items_kind l ≡ kinds.Word → added n l ≡ items.Word (map (more 32 n) (words_of l))
+unfolding added
+words_added n (items.Word l) is = refl
+words_added n l is = cc
+
+pub addrs_added : (n : ℕ) (l : Items) → items_kind l ≡ kinds.Addr → added n l ≡ items.Addr (map (more 64 n) (addrs_of l))
+unfolding added
+addrs_added n (items.Addr l) is = refl
+addrs_added n l is = cc
+
+pub syms_added : (n : ℕ) (l : Items) → items_kind l ≡ kinds.Sym → added n l ≡ items.Sym (map (more_sym n) (syms_of l))
+unfolding added
+syms_added n (items.Sym l) is = refl
+syms_added n l is = cc
+
+pub rels_added : (n : ℕ) (l : Items) → items_kind l ≡ kinds.Rel → added n l ≡ items.Rel (map (more_rel n) (rels_of l))
+unfolding added
+rels_added n (items.Rel l) is = refl
+rels_added n l is = cc
+
+pub relas_added : (n : ℕ) (l : Items) → items_kind l ≡ kinds.Rela → added n l ≡ items.Rela (map (more_rela n) (relas_of l))
+unfolding added
+relas_added n (items.Rela l) is = refl
+relas_added n l is = cc
+
+pub dyns_added : (n : ℕ) (l : Items) → items_kind l ≡ kinds.Dyn → added n l ≡ items.Dyn (map (more_dyn n) (dyns_of l))
+unfolding added
+dyns_added n (items.Dyn l) is = refl
+dyns_added n l is = cc
+
+pub halves_counted : (l : Items) → items_kind l ≡ kinds.Half → length (halves_of l) ≡ items_count l
+halves_counted (items.Half l) is = refl
+halves_counted l is = cc
+
+pub words_counted : (l : Items) → items_kind l ≡ kinds.Word → length (words_of l) ≡ items_count l
+words_counted (items.Word l) is = refl
+words_counted l is = cc
+
+pub addrs_counted : (l : Items) → items_kind l ≡ kinds.Addr → length (addrs_of l) ≡ items_count l
+addrs_counted (items.Addr l) is = refl
+addrs_counted l is = cc
+
+pub syms_counted : (l : Items) → items_kind l ≡ kinds.Sym → length (syms_of l) ≡ items_count l
+syms_counted (items.Sym l) is = refl
+syms_counted l is = cc
+
+pub rels_counted : (l : Items) → items_kind l ≡ kinds.Rel → length (rels_of l) ≡ items_count l
+rels_counted (items.Rel l) is = refl
+rels_counted l is = cc
+
+pub relas_counted : (l : Items) → items_kind l ≡ kinds.Rela → length (relas_of l) ≡ items_count l
+relas_counted (items.Rela l) is = refl
+relas_counted l is = cc
+
+pub dyns_counted : (l : Items) → items_kind l ≡ kinds.Dyn → length (dyns_of l) ≡ items_count l
+dyns_counted (items.Dyn l) is = refl
+dyns_counted l is = cc

@@ -1,0 +1,9 @@
+pub mod ByKind
+pub mod Answered
+pub mod Refusing
+pub mod ReadLaws
+pub mod Meeting
+pub mod Setting
+pub mod AddLaws
+pub mod ItemForms
+pub mod SetFields
