@@ -1,6 +1,8 @@
 -- The symbols of relocations.
-use Rattle.std.proofs.Common.{◌≡◌, ℕ, ◌==◌, Bool, true, false, List, Option, Some, None, Result, Ok, Err, IsTrue, sym, ap, ◌∙◌}
+use Rattle.std.proofs.Common.{◌≡◌, ℕ, ◌==◌, Bool, true, false, List, Option, Some, None, Result, Ok, Err, IsTrue, refl, sym, ap, ◌∙◌}
 use Rattle.std.specs.Prelude.{if◌then◌else◌}
+use Rattle.elf_types.specs.declared.records.Rel.{Rel}
+use Rattle.elf_types.specs.declared.records.Rela.{Rela}
 use Rattle.elf_types.specs.declared.records.Sym.{Sym}
 use Rattle.elf_types.specs.declared.errors.ElfError.{ElfError}
 use Rattle.elf_types.specs.declared.constants.TheConstants.{SHT_RELA}
@@ -12,7 +14,8 @@ use Rattle.tool_output.specs.Names.{Name}
 use Rattle.tool_output.specs.Reports.{Report}
 use Rattle.readelf_tool.specs.declared.links.Links.{Links}
 use Rattle.readelf_tool.specs.Links.{AreLinks}
-use Rattle.readelf_tool.specs.Relocations.{found, symbol_in, name_by, relocation_name, rels_of_section, relas_of_section, relocations_of_section}
+use Rattle.readelf_tool.specs.Relocations.{found, symbol_in, name_by, relocation_name, rel_row, rela_row, rels_of_section, relas_of_section, relocations_of_section}
+use Rattle.readelf_tool.specs.Blocks.{entry_row, rel_entry, rela_entry}
 use Rattle.readelf_tool.proofs.SymbolLemmas.{answers_stated}
 
 module _ (told : Bool) (wants : Wants) (o : Object) (table y : ℕ) where
@@ -29,6 +32,16 @@ unfolding relocation_name
 relocation_name_is o s y links are =
     ap (λ (n : ℕ). name_by o (section_at o n).header.link (symbol_in o n y)) (sym are.linked)
     ∙ ap (λ (n : ℕ). name_by o n (symbol_in o links.linked.0 y)) (sym are.strings)
+
+-- ---- Rows by their entries
+
+pub rel_rows_are : (o : Object) (s i : ℕ) (x : Rel) → rel_row o s i x ≡ entry_row o s (rel_entry i x)
+unfolding rel_row
+rel_rows_are o s i x = refl
+
+pub rela_rows_are : (o : Object) (s i : ℕ) (x : Rela) → rela_row o s i x ≡ entry_row o s (rela_entry i x)
+unfolding rela_row
+rela_rows_are o s i x = refl
 
 -- ---- Which relocations a section has
 

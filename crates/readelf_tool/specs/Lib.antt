@@ -6,6 +6,8 @@ pub mod Links
 pub mod Tables
 pub mod Symbols
 pub mod Relocations
+pub mod AtHand
+pub mod Blocks
 pub mod Dynamic
 pub mod Chains
 pub mod Notes

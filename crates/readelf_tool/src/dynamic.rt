@@ -12,7 +12,7 @@ ghost use Rattle.readelf_tool.specs.Dynamic.{names_string, dyn_start, dyn_name_l
 use crate::data::{Part, each_plain};
 use crate::fields::{put_name_or_hex, put_row_start};
 use crate::links::{Links, links_of};
-use crate::tables::{Row, show_table};
+use crate::tables::{Row, Rows, Table, show_each, show_table};
 use elf_descriptor::Elf;
 use elf_outside::{Sink, Source};
 use elf_types::constants::SHT_DYNAMIC;
@@ -134,6 +134,16 @@ impl Row for Dyn {
             index: i,
             entry: self,
         })
+    }
+}
+
+impl Rows for Dyn {
+    fn show_rows<S: Source, O: Sink, E: Sink>(
+        elf: &mut Elf<S>,
+        table: Table,
+        outputs: &mut Outputs<'_, O, E>,
+    ) -> Result<bool, Stop> {
+        show_each::<Dyn, S, O, E>(elf, table, outputs)
     }
 }
 

@@ -1,6 +1,8 @@
 //! readelf: the parts of an object as lines of text.
 #![tactic(auto)]
 
+pub mod at_hand;
+pub mod blocks;
 pub mod chains;
 pub mod data;
 pub mod definitions;
@@ -12,6 +14,7 @@ pub mod links;
 pub mod needs;
 pub mod notes;
 pub mod parts;
+pub mod relocation_lines;
 pub mod relocations;
 pub mod sections;
 pub mod segments;

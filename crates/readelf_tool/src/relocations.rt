@@ -1,87 +1,25 @@
 //! The lines of the relocations.
 
-ghost use Rattle.std.specs.Prelude.{◌≡◌, ◌++◌, ◌<◌, length, OnOk, IfErr};
-ghost use Rattle.std.specs.Option.{option_copied};
-ghost use Rattle.elf_types.specs.Writers.{WantsMemory};
+ghost use Rattle.std.specs.Prelude.{◌<◌, length};
 ghost use Rattle.elf_object.specs.Strings as strings;
 ghost use Rattle.tool_output.specs.Reports.{shown};
 ghost use Rattle.object_output.specs.Steps.{ReportsElf, Learns};
+ghost use Rattle.readelf_tool.specs.Blocks.{rel_entry, rela_entry};
 ghost use Rattle.readelf_tool.specs.Links.{AreLinks};
-ghost use Rattle.readelf_tool.specs.Relocations.{symbol_in, name_by, relocation_name, relocation_start, addend_text, relocation_line, rel_row, rela_row, relocations_title, rels_of_section, relas_of_section, relocations_of_section, holds_relocations, relocations_report};
+ghost use Rattle.readelf_tool.specs.Relocations.{symbol_in, name_by, relocation_name, relocation_line, rel_row, rela_row, relocations_title, rels_of_section, relas_of_section, relocations_of_section, holds_relocations, relocations_report};
 
+use crate::blocks::{Relocation, show_relocations_of};
 use crate::data::{Part, each_plain, is_of_type};
-use crate::fields::{put_decimal_column, put_hex_column, put_row_start};
 use crate::links::{Links, links_of};
-use crate::tables::{Row, show_table};
+use crate::relocation_lines::{Entry, RelocationLine};
+use crate::tables::{Row, Rows, Table, show_table};
 use elf_descriptor::Elf;
 use elf_outside::{Sink, Source};
 use elf_types::constants::{SHT_REL, SHT_RELA};
-use elf_types::{DataId, ElfError, Octets, Rel, Rela, ScnId, Sym, put_signed, put_text};
+use elf_types::{DataId, Rel, Rela, ScnId, Sym};
 use gelf_view::sym;
-use object_output::{Bracketed, string_at};
-use tool_output::{FileName, Line, Outputs, Stop};
-
-/// Appends `  I offset 0xO type T sym Y NAME`.
-#[tactic(auto, using(crate::proofs::Rows::kept), unfolding(crate::specs::Relocations::relocation_start))]
-fn put_start(page: &mut Octets, i: u64, x: &Rel, name: Option<&[u8]>) -> Result<(), ElfError>
-    ensures ok { OnOk result
-        (page.new ≡ page.old ++ relocation_start i x.now (option_copied name.entry)) }
-    ensures err { IfErr result (WantsMemory page.old page.new) }
-{
-    put_row_start(page, i)?;
-    put_hex_column(page, "offset", x.offset)?;
-    put_decimal_column(page, "type", u64::from(x.rtype))?;
-    put_decimal_column(page, "sym", u64::from(x.sym))?;
-    put_text(page, " ")?;
-    Bracketed { name }.put(page)
-}
-
-/// Appends ` addend A`, where there is one.
-#[tactic(auto, using(crate::proofs::Rows::kept), unfolding(crate::specs::Relocations::addend_text))]
-fn put_addend(page: &mut Octets, addend: Option<i64>) -> Result<(), ElfError>
-    ensures ok { OnOk result (page.new ≡ page.old ++ addend_text addend) }
-    ensures err { IfErr result (WantsMemory page.old page.new) }
-{
-    match addend {
-        None => Ok(()),
-        Some(addend) => {
-            put_text(page, " addend ")?;
-            put_signed(page, addend)
-        }
-    }
-}
-
-/// A relocation of a table, with its addend where it has one.
-#[derive(Clone, Copy)]
-struct Entry {
-    /// Its index.
-    index: u64,
-    /// The relocation without its addend.
-    rel: Rel,
-    /// The addend.
-    addend: Option<i64>,
-}
-
-/// The line of a relocation.
-#[derive(Clone, Copy)]
-struct RelocationLine<'a> {
-    /// The relocation.
-    entry: Entry,
-    /// The name of its symbol.
-    name: Option<&'a [u8]>,
-}
-
-impl Line for RelocationLine<'_> {
-    ghost text = { λ l. relocation_line l.entry.index l.entry.rel l.entry.addend
-        (option_copied l.name) };
-
-    #[tactic(auto, using(crate::proofs::Rows::kept), unfolding(crate::specs::Relocations::relocation_line))]
-    fn put(&self, page: &mut Octets) -> Result<(), ElfError> {
-        put_start(page, self.entry.index, &self.entry.rel, self.name)?;
-        put_addend(page, self.entry.addend)?;
-        put_text(page, "\n")
-    }
-}
+use object_output::string_at;
+use tool_output::{FileName, Outputs, Stop};
 
 /// Symbol `y` of a section, or None where that can not be told. It stops by `Read` where a read of
 /// the source failed, and by `Memory`.
@@ -191,6 +129,28 @@ impl Row for Rel {
     }
 }
 
+impl Relocation for Rel {
+    ghost entry_of = { rel_entry };
+
+    fn entry(self, i: u64) -> Entry {
+        Entry {
+            index: i,
+            rel: self,
+            addend: None,
+        }
+    }
+}
+
+impl Rows for Rel {
+    fn show_rows<S: Source, O: Sink, E: Sink>(
+        elf: &mut Elf<S>,
+        table: Table,
+        outputs: &mut Outputs<'_, O, E>,
+    ) -> Result<bool, Stop> {
+        show_relocations_of::<Rel, S, O, E>(elf, table, outputs)
+    }
+}
+
 impl Row for Rela {
     ghost title = { relocations_title };
 
@@ -227,6 +187,33 @@ impl Row for Rela {
             addend: Some(self.addend),
         };
         show_relocation(elf, s, links, entry, outputs)
+    }
+}
+
+impl Relocation for Rela {
+    ghost entry_of = { rela_entry };
+
+    fn entry(self, i: u64) -> Entry {
+        let rel = Rel {
+            offset: self.offset,
+            sym: self.sym,
+            rtype: self.rtype,
+        };
+        Entry {
+            index: i,
+            rel,
+            addend: Some(self.addend),
+        }
+    }
+}
+
+impl Rows for Rela {
+    fn show_rows<S: Source, O: Sink, E: Sink>(
+        elf: &mut Elf<S>,
+        table: Table,
+        outputs: &mut Outputs<'_, O, E>,
+    ) -> Result<bool, Stop> {
+        show_relocations_of::<Rela, S, O, E>(elf, table, outputs)
     }
 }
 

@@ -13,7 +13,7 @@ ghost use Rattle.readelf_tool.specs.Symbols.{SymbolsFit, special_text, place_tex
 use crate::data::{Part, each_plain};
 use crate::fields::{put_decimal_column, put_hex_column, put_name_column, put_row_start};
 use crate::links::{Links, links_of};
-use crate::tables::{Row, show_table};
+use crate::tables::{Row, Rows, Table, show_each, show_table};
 use elf_descriptor::Elf;
 use elf_outside::{Sink, Source};
 use elf_types::constants::{SHN_ABS, SHN_COMMON, SHN_UNDEF, SHT_DYNSYM, SHT_SYMTAB};
@@ -210,6 +210,16 @@ impl Row for Sym {
             Ok(place) => show_symbol(elf, links.linked, i, self, place, outputs),
             Err(stop) => Err(stop),
         }
+    }
+}
+
+impl Rows for Sym {
+    fn show_rows<S: Source, O: Sink, E: Sink>(
+        elf: &mut Elf<S>,
+        table: Table,
+        outputs: &mut Outputs<'_, O, E>,
+    ) -> Result<bool, Stop> {
+        show_each::<Sym, S, O, E>(elf, table, outputs)
     }
 }
 

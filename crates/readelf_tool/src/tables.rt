@@ -63,13 +63,27 @@ pub trait Row: Item {
 
 /// A section that is there and whose items can be told.
 #[derive(Clone, Copy)]
-struct Table {
+pub struct Table {
     /// The section.
-    section: ScnId,
+    pub section: ScnId,
     /// How many items it has.
-    count: u64,
+    pub count: u64,
     /// Its links.
-    links: Links,
+    pub links: Links,
+}
+
+/// An item whose rows are shown table by table.
+pub trait Rows: Row {
+    /// Shows a row for each item of a section.
+    fn show_rows<S: Source, O: Sink, E: Sink>(
+        elf: &mut Elf<S>,
+        table: Table,
+        outputs: &mut Outputs<'_, O, E>,
+    ) -> Result<bool, Stop>
+        requires { HasRows Self.kind Self.list_of Self.fits elf.old.o table }
+        ensures { let s = table.section.0 in ReportsElf S.Source O.Sink E.Sink
+            (λ o. shown (numbered_lines (Self.line o s) 0 (Self.list_of (items_at o s 0))))
+            result elf.old elf.new outputs.old outputs.new };
 }
 
 /// Appends `TITLE S NAME`.
@@ -189,8 +203,8 @@ fn show_row<T: Row, S: Source, O: Sink, E: Sink>(
     }
 }
 
-/// Shows a row for each item of a section.
-fn show_rows<T: Row, S: Source, O: Sink, E: Sink>(
+/// Shows a row for each item of a section, one after the other.
+pub fn show_each<T: Row, S: Source, O: Sink, E: Sink>(
     elf: &mut Elf<S>,
     table: Table,
     outputs: &mut Outputs<'_, O, E>,
@@ -209,7 +223,7 @@ fn show_rows<T: Row, S: Source, O: Sink, E: Sink>(
 }
 
 /// Shows the title of a section, and a row for each of its items.
-fn show_table_lines<T: Row, S: Source, O: Sink, E: Sink>(
+fn show_table_lines<T: Rows, S: Source, O: Sink, E: Sink>(
     elf: &mut Elf<S>,
     table: Table,
     outputs: &mut Outputs<'_, O, E>,
@@ -220,14 +234,14 @@ fn show_table_lines<T: Row, S: Source, O: Sink, E: Sink>(
         result elf.old elf.new outputs.old outputs.new }
 {
     let titled = show_title(T::title(), elf, table.section, table.count, outputs)?;
-    let rows = show_rows::<T, S, O, E>(elf, table, outputs)?;
+    let rows = T::show_rows(elf, table, outputs)?;
     Ok(titled | rows)
 }
 
 /// Shows the table of a section that is there, or refuses the object for that section where its
 /// items can not be told. A list of the items has as many as are counted. What the rows name is
 /// looked for once.
-pub fn show_table<T: Row, S: Source, O: Sink, E: Sink>(
+pub fn show_table<T: Rows, S: Source, O: Sink, E: Sink>(
     name: &FileName<'_>,
     elf: &mut Elf<S>,
     s: ScnId,

@@ -12,7 +12,7 @@ use crate::definitions::show_definitions;
 use crate::fields::{put_decimal_column, put_row_start};
 use crate::links::{Links, links_of};
 use crate::needs::show_needs;
-use crate::tables::{Row, show_table};
+use crate::tables::{Row, Rows, Table, show_each, show_table};
 use elf_descriptor::Elf;
 use elf_outside::{Sink, Source};
 use elf_types::constants::{SHT_GNU_VERDEF, SHT_GNU_VERNEED, SHT_GNU_VERSYM};
@@ -83,6 +83,16 @@ impl Row for u16 {
             index: i,
             version: self,
         })
+    }
+}
+
+impl Rows for u16 {
+    fn show_rows<S: Source, O: Sink, E: Sink>(
+        elf: &mut Elf<S>,
+        table: Table,
+        outputs: &mut Outputs<'_, O, E>,
+    ) -> Result<bool, Stop> {
+        show_each::<u16, S, O, E>(elf, table, outputs)
     }
 }
 

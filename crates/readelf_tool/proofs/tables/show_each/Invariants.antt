@@ -3,7 +3,7 @@ use Rattle.elf_object.specs.Answers.{items_at}
 use Rattle.tool_output.specs.Lines.{numbered_lines}
 use Rattle.tool_output.specs.Reports.{shown}
 use Rattle.object_output.specs.Steps.{ElfUnderWay}
-use Rattle.readelf_tool.proofs.tables.show_rows.Given as goal
+use Rattle.readelf_tool.proofs.tables.show_each.Given as goal
 
 abbrev pub invariant-loop-i : goal.invariant-loop-i
 invariant-loop-i g l =

@@ -8,7 +8,7 @@ use Rattle.tool_output.proofs.UnderWayLemmas.{no_lines_left}
 use Rattle.object_output.proofs.ElfSteps.{elf_begins, elf_goes_on, elf_stops_at, elf_is_given}
 use Rattle.readelf_tool.specs.Tables.{row_at, HasRows}
 use Rattle.readelf_tool.proofs.TableLemmas.{row_left}
-use Rattle.readelf_tool.proofs.tables.show_rows.Goals as goal
+use Rattle.readelf_tool.proofs.tables.show_each.Goals as goal
 
 pub loop-i-init : goal.loop-i-init
 loop-i-init g c = elf_begins g.S.Source g.O.Sink g.E.Sink c.args.elf.now c.args.outputs.now _
