@@ -5,6 +5,10 @@
 #[cfg(test)]
 mod archives;
 #[cfg(test)]
+mod calls;
+#[cfg(test)]
+mod elflint;
+#[cfg(test)]
 mod faults;
 #[cfg(test)]
 mod lines;

@@ -33,7 +33,7 @@ const SAID: [Said; 6] = [
             unstrip|lines\n",
     ),
     ("strip -g -o O -- -x", Status::Refused, NOT_BUILT),
-    ("elflint F", Status::Refused, NOT_BUILT),
+    ("rehash -o O F", Status::Refused, NOT_BUILT),
 ];
 
 /// The form is not built.

@@ -1,3 +1,4 @@
+pub mod CallsLemmas
 pub mod CommandLemmas
 pub mod Rows
 pub mod TitleLemmas

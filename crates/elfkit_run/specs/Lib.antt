@@ -1,3 +1,5 @@
+pub mod Calls
+pub mod Elflint
 pub mod Lines
 pub mod Nm
 pub mod Objects

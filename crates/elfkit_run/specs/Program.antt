@@ -1,5 +1,5 @@
 -- What the program does, by the words and the bytes of the files.
-use Rattle.std.specs.Prelude.{◌≡◌, ◌<◌, ℕ, List, Bool, true, false, IsTrue, Result, Ok, Err}
+use Rattle.std.specs.Prelude.{◌≡◌, ◌<◌, ℕ, List, Bool, true, false, IsTrue, Option, Some, None, Result, Ok, Err}
 use Rattle.elf_outside.specs.Names.{Map}
 use Rattle.tool_output.specs.declared.statuses.Status.{Status}
 use Rattle.tool_output.specs.declared.statuses.Status.TheVariants.{BadWords}
@@ -11,8 +11,10 @@ use Rattle.tool_text.specs.declared.commands.Command.TheVariants.{Readelf, Nm, S
 use Rattle.tool_text.specs.Usages.{usage_line}
 use Rattle.tool_text.specs.Reading.{reading}
 use Rattle.elfkit_run.specs.Sentences.{says, not_built}
+use Rattle.elfkit_run.specs.Calls.{calls_outcome}
 use Rattle.elfkit_run.specs.Readelf.{readelf_outcome}
 use Rattle.elfkit_run.specs.Lines.{lines_outcome}
+use Rattle.elfkit_run.specs.Elflint.{elflint_outcome}
 use Rattle.elfkit_run.specs.Nm.{nm_outcome}
 use Rattle.elfkit_run.specs.Size.{size_outcome}
 use Rattle.elfkit_run.specs.Strings.{strings_outcome}
@@ -23,8 +25,9 @@ command_outcome (Nm options files) named = nm_outcome options files named
 command_outcome (Size files) named = size_outcome files named
 command_outcome (Strings options files) named = strings_outcome options files named
 command_outcome (Strip options file) named = not_built
-command_outcome (Elflint files) named = not_built
-command_outcome (Calls output file script) named = not_built
+command_outcome (Elflint files) named = elflint_outcome files named
+command_outcome (Calls None file script) named = calls_outcome file script named
+command_outcome (Calls (Some output) file script) named = not_built
 command_outcome (Selftest out count) named = not_built
 command_outcome (Rehash out file) named = not_built
 command_outcome (Copy changes out file) named = not_built
@@ -52,8 +55,9 @@ is_built (Nm options files) = true
 is_built (Size files) = true
 is_built (Strings options files) = true
 is_built (Strip options file) = false
-is_built (Elflint files) = false
-is_built (Calls output file script) = false
+is_built (Elflint files) = true
+is_built (Calls None file script) = true
+is_built (Calls (Some output) file script) = false
 is_built (Selftest out count) = false
 is_built (Rehash out file) = false
 is_built (Copy changes out file) = false

@@ -9,6 +9,8 @@ ghost use Rattle.tool_output.specs.Outcomes.{Does};
 ghost use Rattle.elfkit_run.specs.Sentences.{line_of, not_built};
 ghost use Rattle.elfkit_run.specs.Program.{command_outcome, is_built};
 
+pub mod calls;
+pub mod elflint;
 pub mod lines;
 pub mod nm;
 pub mod readelf;
@@ -16,7 +18,9 @@ pub mod size;
 pub mod strings;
 
 use crate::sentences::say;
+use calls::calls;
 use elf_outside::{Files, Sink};
+use elflint::elflint;
 use lines::lines;
 use nm::nm;
 use readelf::readelf;
@@ -24,7 +28,7 @@ use size::size;
 use std::alloc::Global;
 use strings::strings;
 use tool_output::{Outputs, Side, Stop};
-use tool_text::Command;
+use tool_text::{CallsOutput, Command, Text};
 
 /// Says a sentence on standard error, which counts as a refusal.
 fn refuse<O: Sink, E: Sink>(outputs: &mut Outputs<'_, O, E>, text: &str) -> Result<bool, Stop>
@@ -46,6 +50,31 @@ fn not_built<F: Files, O: Sink, E: Sink>(
     ensures leaves { LeavesOutputs O.Sink E.Sink ⊥ result outputs.old outputs.new }
 {
     refuse(outputs, "elfkit: form not built")
+}
+
+/// Runs calls where the image that they leave is written nowhere: the other forms are not built.
+fn calls_if_built<F: Files, O: Sink, E: Sink>(
+    alloc: Global,
+    output: &Option<CallsOutput>,
+    file: &Text,
+    script: &Text,
+    files: &mut F,
+    outputs: &mut Outputs<'_, O, E>,
+) -> Result<bool, Stop>
+    ensures does { (IsTrue (is_built (Command.Calls output.now file.now script.now))
+        → IsTrue (F.tells files.old)) →
+        Does F.Files O.Sink E.Sink refused_status
+        (command_outcome (Command.Calls output.now file.now script.now) (F.named files.old))
+        result files.old files.new outputs.old outputs.new }
+    ensures untouched { is_built (Command.Calls output.now file.now script.now) ≡ false →
+        (files.new ≡ files.old) × OnRead result ⊥ }
+    ensures leaves { LeavesFiles F.Files O.Sink E.Sink
+        result files.old files.new outputs.old outputs.new }
+{
+    match output {
+        None => calls(alloc, file, script, files, outputs),
+        Some(_) => not_built(files, outputs),
+    }
 }
 
 /// Runs a command that was read.
@@ -80,8 +109,12 @@ pub fn run_command<F: Files, O: Sink, E: Sink>(
             files: names,
         } => strings(alloc, options, names, files, outputs),
         Command::Strip { .. } => not_built(files, outputs),
-        Command::Elflint { .. } => not_built(files, outputs),
-        Command::Calls { .. } => not_built(files, outputs),
+        Command::Elflint { files: names } => elflint(alloc, names, files, outputs),
+        Command::Calls {
+            output,
+            file,
+            script,
+        } => calls_if_built(alloc, output, file, script, files, outputs),
         Command::Selftest { .. } => not_built(files, outputs),
         Command::Rehash { .. } => not_built(files, outputs),
         Command::Copy { .. } => not_built(files, outputs),

@@ -44,7 +44,7 @@ pub trait FileTool {
 
 /// Opens a file, gives it to a tool, and closes it; only then is the tool's answer looked at. A
 /// name that is not there has its message.
-fn one_file<T: FileTool, F: Files, O: Sink, E: Sink>(
+pub fn one_file<T: FileTool, F: Files, O: Sink, E: Sink>(
     alloc: Global,
     tool: &T,
     file_name: &str,

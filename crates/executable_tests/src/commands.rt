@@ -219,8 +219,9 @@ fn readelf_shows_all_parts_in_one_order(rt: HostRuntime) -> Result<(), Fail> {
 }
 
 /// The line of each other command, and what it shows: the function; the bytes of loaded sections,
-/// of which 20 are in no file; and the one run of four printable bytes in a loaded section.
-const TOOLS: [(&str, &[u8]); 3] = [
+/// of which 20 are in no file; the one run of four printable bytes in a loaded section; and that no
+/// rule finds anything.
+const TOOLS: [(&str, &[u8]); 4] = [
     ("nm F", b"00000000000014a0 T f\n"),
     (
         "size F",
@@ -228,10 +229,11 @@ const TOOLS: [(&str, &[u8]); 3] = [
     324\t    128\t     20\t    472\t    1d8\tF\n",
     ),
     ("strings F", b"l.so\n"),
+    ("elflint F", b"F: no findings\n"),
 ];
 
 #[test]
-fn nm_size_and_strings_read_an_executable(rt: HostRuntime) -> Result<(), Fail> {
+fn each_other_command_reads_an_executable(rt: HostRuntime) -> Result<(), Fail> {
     for (line, out) in TOOLS.iter() {
         assert!(rt; is_shown(rt.alloc(), line, out)?);
     }

@@ -41,3 +41,17 @@ returns-in-Strings-clause-does g c = rw c.in-Strings.is (λ told. c.strings.ensu
 pub returns-in-Strings-clause-untouched : goal.returns-in-Strings-clause-untouched
 unfolding is_built
 returns-in-Strings-clause-untouched g c = rw c.in-Strings.is (λ no. cc)
+
+pub returns-in-Elflint-clause-does : goal.returns-in-Elflint-clause-does
+unfolding command_outcome is_built
+returns-in-Elflint-clause-does g c = rw c.in-Elflint.is (λ told. c.elflint.ensures.does (told refl))
+
+pub returns-in-Elflint-clause-untouched : goal.returns-in-Elflint-clause-untouched
+unfolding is_built
+returns-in-Elflint-clause-untouched g c = rw c.in-Elflint.is (λ no. cc)
+
+pub returns-in-Calls-clause-does : goal.returns-in-Calls-clause-does
+returns-in-Calls-clause-does g c = rw c.in-Calls.is c.calls_if_built.ensures.does
+
+pub returns-in-Calls-clause-untouched : goal.returns-in-Calls-clause-untouched
+returns-in-Calls-clause-untouched g c = rw c.in-Calls.is c.calls_if_built.ensures.untouched
