@@ -6,4 +6,4 @@ pub mod Placed
 mod Ranks
 mod Sorting
 mod Successive
-mod Unique
+pub mod Unique

@@ -1,5 +1,5 @@
 -- A sorted list is the only one with its items: what a sort leaves is known from what it was given.
-use Rattle.std.proofs.Common.{◌≡◌, ℕ, ◌+◌, List, [], ◌∷◌, get_or, suc, Bool, true, false, cond, Ordering, sym, ap, subst, refl, arith}
+use Rattle.std.proofs.Common.{◌≡◌, ℕ, ◌+◌, List, [], ◌∷◌, get_or, zero, suc, Bool, true, false, cond, Ordering, sym, ap, subst, refl, arith}
 use Rattle.std.specs.Bool.{⊤}
 use Rattle.std.specs.Ordering.{is_lt, ordering_reverse}
 use Rattle.std.specs.declared.cmp.Ordering.TheVariants.{Less, Equal, Greater}
@@ -29,6 +29,16 @@ Rises-from_sorted {X} R o (x ∷ xs) sorted = (
       (λ k d h. sorted_far (λ y z. is_lt (R y z)) (ranks_by o (λ (y : X). y)) (x ∷ xs) sorted 0 (suc k) d (omega arith) (omega arith)),
   Rises-from_sorted R o xs (IsSorted-tail R x xs sorted),
 )
+
+-- and back
+pub IsSorted-from_rises : {X : Type 0} (R : X → X → Ordering) (xs : List X) → Rises R xs → IsSorted R xs
+IsSorted-from_rises R [] rises k d low inside = absurd (omega (arith, inside))
+IsSorted-from_rises R (x ∷ []) rises k d low inside = absurd (omega (arith, inside))
+IsSorted-from_rises R (x ∷ y ∷ ys) rises zero d low inside = rises.0.0
+IsSorted-from_rises R (x ∷ y ∷ ys) rises (suc k) d low inside =
+    let g : suc k + 1 ≡ suc (k + 1) = omega arith in
+    let rest = IsSorted-from_rises R (y ∷ ys) rises.1 k d (omega arith) (omega (arith, inside)) in
+    subst (λ (n : ℕ). is_lt (R (get_or (x ∷ y ∷ ys) n d) (get_or (y ∷ ys) k d)) ≡ false) (sym g) rest
 
 sum_by-none : {X : Type 0} (f : X → ℕ) (xs : List X) → AllByRecursion (λ x. f x ≡ 0) xs → sum_by f xs ≡ 0
 sum_by-none f [] none = refl

@@ -1,11 +1,10 @@
 mod NulLemmas
 mod NumberLemmas
 mod NoteLemmas
-mod Words
 mod Rules
 mod PieceBytes
 mod FetchLemmas
-mod LendLemmas
+pub mod LendLemmas
 mod FoundLemmas
 mod NoteAnswers
 mod StackLemmas

@@ -200,3 +200,10 @@ module _ {S O E : Type 0} {s : SourceGhosts S} {o : SinkGhosts O} {e : SinkGhost
     elf = h.elf;
     leaves = record { keeps = h.keeps; read = tt; write = tt };
   }
+
+-- a call that reads, and then a report
+pub elf_after : {S O E : Type 0} (s : SourceGhosts S) (o : SinkGhosts O) (e : SinkGhosts E) (p q : Object → Report) (r : Result Bool Stop) (a b c : State S) (t u : Outputs O E)
+    → LeavesElf s a b → ReportsElf s o e p r b c t u → (IsTrue a.told → q a.o ≡ p a.o) → ReportsElf s o e q r a c t u
+elf_after s o e p q r a b c t u h k same =
+    elf_as s o e p q r a c t u same
+    (elf_learns s o e {T = Unit {0}} (λ m. tt) a b tt (λ v. p) r c t u (record { value = λ told. refl; reads = record { elf = h; read = tt; write = tt } }) k)

@@ -1,6 +1,8 @@
+pub mod AnswerLemmas
 pub mod ElfSteps
 pub mod FileLemmas
 pub mod ImageLemmas
+pub mod LearnLemmas
 pub mod ListCounts
 pub mod MemberLemmas
 pub mod NameLemmas

@@ -12,7 +12,7 @@ use Rattle.elf_descriptor.specs.Reads.{Queries}
 use Rattle.tool_output.specs.declared.stops.Stop.{Stop}
 use Rattle.tool_output.specs.Steps.{OnRead, OnWrite}
 use Rattle.tool_output.specs.Stops.{stop_of}
-use Rattle.object_output.specs.Steps.{LeavesElf, ReadsElf, SourceRose}
+use Rattle.object_output.specs.Steps.{LeavesElf, Looked, ReadsElf, SourceRose}
 
 -- it leaves the object
 pub queried : {S A T : Type 0} (s : SourceGhosts S) (c : Call A) (holding : List ℕ) (r : Result T ElfError) (a b : State S)
@@ -23,6 +23,11 @@ queried s c holding r a b h = record {
   source = h.reads.source.leaves;
   later = h.reads.source.later;
 }
+
+-- it looks at the object
+pub looked_by : {S A T : Type 0} (s : SourceGhosts S) (c : Call A) (holding : List ℕ) (r : Result T ElfError) (a b : State S)
+    → Queries s c holding r a b → Looked s r a b
+looked_by s c holding r a b h = record { elf = queried s c holding r a b h; read = h.reads.source.read }
 
 some_is : {T : Type 0} {x y : T} → Some x ≡ Some y → x ≡ y
 some_is h = cc

@@ -14,14 +14,14 @@ use Rattle.object_output.specs.Steps.{ReportsElf, SourceRose}
 use Rattle.object_output.specs.Shows.{ShowsElf}
 
 module _ {S O E : Type 0} (s : SourceGhosts S) (o : SinkGhosts O) (e : SinkGhosts E) where
-  read_kept : (r result : Result Bool Stop) (P : Type 0) → OnKept result (result ≡ r) → OnRead r P → OnRead result P
+  pub read_kept : (r result : Result Bool Stop) (P : Type 0) → OnKept result (result ≡ r) → OnRead r P → OnRead result P
   read_kept r (Ok x) P same h = tt
   read_kept r (Err Read) P same h = subst (λ (q : Result Bool Stop). OnRead q P) (sym same) h
   read_kept r (Err Write) P same h = tt
   read_kept r (Err Memory) P same h = tt
 
   module _ (t u : Outputs O E) (out : O) (err : E) (k : LeavesSinks o e t.out.now u.out.now t.err.now u.err.now) (l : LeavesSinks o e u.out.now out u.err.now err) where
-    abbrev Rises : Type 0
+    abbrev pub Rises : Type 0
     Rises = SinkRose o e t.out.now out t.err.now err
 
     last_failed : SinkRose o e u.out.now out u.err.now err → Rises
@@ -32,7 +32,7 @@ module _ {S O E : Type 0} (s : SourceGhosts S) (o : SinkGhosts O) (e : SinkGhost
     step_failed (inl rose) = inl (let p = l.out_later in omega arith)
     step_failed (inr rose) = inr (let p = l.err_later in omega arith)
 
-    write_kept : (r result : Result Bool Stop) → OnWrite result (OnKept r (SinkRose o e u.out.now out u.err.now err))
+    pub write_kept : (r result : Result Bool Stop) → OnWrite result (OnKept r (SinkRose o e u.out.now out u.err.now err))
         → OnWrite r (SinkRose o e t.out.now u.out.now t.err.now u.err.now) → OnWrite result Rises
     write_kept r (Ok x) last step = tt
     write_kept r (Err Read) last step = tt
@@ -42,7 +42,7 @@ module _ {S O E : Type 0} (s : SourceGhosts S) (o : SinkGhosts O) (e : SinkGhost
     write_kept (Err Memory) (Err Write) last step = last_failed last
     write_kept (Err Write) (Err Write) last step = step_failed step
 
-    sinks_kept : LeavesSinks o e t.out.now out t.err.now err
+    pub sinks_kept : LeavesSinks o e t.out.now out t.err.now err
     sinks_kept = record {
       out_rest = l.out_rest ∙ k.out_rest;
       err_rest = l.err_rest ∙ k.err_rest;

@@ -1,6 +1,7 @@
 -- What a step of a tool over a descriptor and the two outputs does.
 use Rattle.std.specs.Prelude.{◌≡◌, ◌≤◌, Bool, IsTrue, Result, IfOk}
-use Rattle.elf_outside.specs.Asks.{Leaves}
+use Rattle.elf_types.specs.declared.errors.ElfError.{ElfError}
+use Rattle.elf_outside.specs.Asks.{Leaves, ReadRose}
 use Rattle.elf_outside.specs.Counts.{Rose}
 use Rattle.elf_outside.specs.declared.sources.Source.{Ghosts as SourceGhosts}
 use Rattle.elf_outside.specs.declared.sinks.Sink.{Ghosts as SinkGhosts}
@@ -30,6 +31,13 @@ pub record ReportsElf {S O E : Type 0} (s : SourceGhosts S) (o : SinkGhosts O) (
   pub reports : IsTrue old.told → Reports o e result outputs_old outputs_new (report old.o)
   pub elf : LeavesElf s old new
   pub leaves : LeavesOutputs o e (SourceRose s old new) result outputs_old outputs_new
+
+-- A call of the library is asked: it leaves the object, and answers Read only where a read of the
+-- source failed.
+pub record Looked {S T : Type 0} (s : SourceGhosts S) (result : Result T ElfError)
+    (old new : State S) : Type 0 where
+  pub elf : LeavesElf s old new
+  pub read : ReadRose result (s.faults old.source) (s.faults new.source)
 
 -- It writes nothing and leaves the object. It stops by Read only where a read of the source failed,
 -- and never by Write.

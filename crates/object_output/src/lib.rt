@@ -8,6 +8,7 @@
 pub mod archives;
 pub mod files;
 pub mod images;
+pub mod items;
 pub mod names;
 pub mod sections;
 pub mod tools;
@@ -15,6 +16,7 @@ pub mod tools;
 pub use archives::show_archive;
 pub use files::show_file;
 pub use images::{begin_image, show_image};
+pub use items::{item_there, phdr_at, stop_for};
 pub use names::{Bracketed, each_section_named, is_named, section_name, string_at};
 pub use sections::{SectionTool, each_section, section_header};
 pub use tools::{ObjectTool, show_object};
