@@ -1,13 +1,12 @@
 -- What the letters that are asked for show, and ask for.
-use Rattle.std.proofs.Common.{◌≡◌, ◌≤◌, ◌<◌, ◌+◌, ◌&&◌, ℕ, Bool, true, false, List, length, drop, get_or, Option, Some, None, refl, sym, ap, ◌∙◌, arith}
+use Rattle.std.proofs.Common.{◌≡◌, ◌<◌, ◌&&◌, ℕ, Bool, true, false, List, length, get_or, Option, Some, None, refl, sym, ap, ◌∙◌, arith}
 use Rattle.std.specs.Prelude.{if◌then◌else◌, IfSome}
-use Rattle.std.specs.List.{list_any}
 use Rattle.std.proofs.lemmas.List.Folds.{list_any_at}
 use Rattle.tool_text.specs.declared.options.ReadelfParts.{ReadelfParts}
 use Rattle.elf_object.specs.Object.{Object}
 use Rattle.tool_output.specs.Names.{Name}
 use Rattle.tool_output.specs.Files.{IsWithin}
-use Rattle.tool_output.specs.Reports.{Report, no_report}
+use Rattle.tool_output.specs.Reports.{no_report}
 use Rattle.readelf_tool.specs.declared.parts.Letter.{Letter}
 use Rattle.readelf_tool.specs.declared.parts.TheConstants.{LETTERS}
 use Rattle.readelf_tool.specs.Parts.{is_asked, reads_sections, letter_report, letter_part, shows_sections, readelf_asks}

@@ -8,13 +8,13 @@ use Rattle.tool_output.specs.Reports.{Report, no_report, reports_of}
 use Rattle.readelf_tool.specs.declared.parts.Letter.{Letter}
 use Rattle.readelf_tool.specs.declared.parts.Letter.TheVariants.{Header, Segments, Sections, Symbols, Relocations, Dynamic, Notes, Versions}
 use Rattle.readelf_tool.specs.declared.parts.TheConstants.{LETTERS}
-use Rattle.readelf_tool.specs.Header.{header_report}
-use Rattle.readelf_tool.specs.Segments.{segments_report}
-use Rattle.readelf_tool.specs.Sections.{sections_report}
-use Rattle.readelf_tool.specs.Symbols.{symbols_report}
-use Rattle.readelf_tool.specs.Relocations.{relocations_report}
-use Rattle.readelf_tool.specs.Dynamic.{dynamic_report}
-use Rattle.readelf_tool.specs.Notes.{notes_report}
+use Rattle.readelf_headers.specs.Header.{header_report}
+use Rattle.readelf_headers.specs.Segments.{segments_report}
+use Rattle.readelf_headers.specs.Sections.{sections_report}
+use Rattle.readelf_tables.specs.Symbols.{symbols_report}
+use Rattle.readelf_tables.specs.Relocations.{relocations_report}
+use Rattle.readelf_tables.specs.Dynamic.{dynamic_report}
+use Rattle.readelf_chains.specs.Notes.{notes_report}
 use Rattle.readelf_tool.specs.Versions.{versions_report}
 
 -- whether a letter is asked for

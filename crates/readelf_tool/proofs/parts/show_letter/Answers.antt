@@ -1,16 +1,13 @@
 use Rattle.std.proofs.Common.{◌≡◌, false, sym, ap, ◌∙◌}
-use Rattle.elf_object.specs.Object.{header_of}
 use Rattle.object_output.proofs.ElfSteps.{elf_left, elf_as, elf_says}
 use Rattle.object_output.proofs.SectionLemmas.{ok_is}
 use Rattle.readelf_tool.specs.declared.parts.Letter.{Letter}
 use Rattle.readelf_tool.specs.declared.parts.Letter.TheVariants as letters
-use Rattle.readelf_tool.specs.Header.{header_report}
-use Rattle.readelf_tool.specs.Segments.{segments_report}
-use Rattle.readelf_tool.specs.Sections.{sections_report}
-use Rattle.readelf_tool.specs.Symbols.{symbols_report}
-use Rattle.readelf_tool.specs.Relocations.{relocations_report}
-use Rattle.readelf_tool.specs.Dynamic.{dynamic_report}
-use Rattle.readelf_tool.specs.Notes.{notes_report}
+use Rattle.readelf_headers.specs.Sections.{sections_report}
+use Rattle.readelf_tables.specs.Symbols.{symbols_report}
+use Rattle.readelf_tables.specs.Relocations.{relocations_report}
+use Rattle.readelf_tables.specs.Dynamic.{dynamic_report}
+use Rattle.readelf_chains.specs.Notes.{notes_report}
 use Rattle.readelf_tool.specs.Versions.{versions_report}
 use Rattle.readelf_tool.specs.Parts.{reads_sections, letter_report}
 use Rattle.readelf_tool.proofs.parts.show_letter.Goals as goal

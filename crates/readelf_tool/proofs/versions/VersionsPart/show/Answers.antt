@@ -1,8 +1,9 @@
 use Rattle.std.proofs.Common.{sym, ◌∙◌}
 use Rattle.object_output.proofs.ElfSteps.{elf_as}
-use Rattle.readelf_tool.specs.Definitions.{definitions_of_section}
-use Rattle.readelf_tool.specs.Needs.{needs_of_section}
-use Rattle.readelf_tool.specs.Versions.{indexes_of_section, versions_of_section}
+use Rattle.readelf_chains.specs.Definitions.{definitions_of_section}
+use Rattle.readelf_chains.specs.Needs.{needs_of_section}
+use Rattle.readelf_tables.specs.Indexes.{indexes_of_section}
+use Rattle.readelf_tool.specs.Versions.{versions_of_section}
 use Rattle.readelf_tool.proofs.VersionLemmas.{indexes_shown, definitions_shown, needs_shown}
 use Rattle.readelf_tool.proofs.versions.VersionsPart.show.Goals as goal
 

@@ -1,0 +1,3 @@
+pub mod AtHandLemmas
+pub mod BlockLemmas
+mod Rows

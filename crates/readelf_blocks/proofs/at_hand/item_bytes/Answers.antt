@@ -1,0 +1,9 @@
+use Rattle.std.proofs.Common.{sym}
+use Rattle.elf_object.proofs.AnswerLaws.{answered_value}
+use Rattle.readelf_blocks.proofs.AtHandLemmas.{some_weaker, holds_items}
+use Rattle.readelf_blocks.proofs.at_hand.item_bytes.Goals as goal
+
+pub returns-in-Ok : goal.returns-in-Ok
+returns-in-Ok g c =
+    let passed = (answered_value _ _ c.in-Ok.field-0 (sym c.in-Ok.ensures.answer)).0 in
+    some_weaker _ _ c.held_bytes.result (λ b held. holds_items g.T.Listed.kind g.T.Listed.list_of c.args.elf.now c.args.s.0 b.now passed held) c.held_bytes.ensures

@@ -1,0 +1,3 @@
+pub mod RelocationLines
+pub mod AtHand
+pub mod Blocks

@@ -1,0 +1,11 @@
+//! The lines of a table of relocations whose bytes are at hand: they are told from bytes alone, a
+//! block of rows at a time.
+#![tactic(auto)]
+
+pub mod at_hand;
+pub mod blocks;
+pub mod relocation_lines;
+
+pub use at_hand::{TableBytes, load_table, table_at_hand};
+pub use blocks::{Relocation, show_blocks};
+pub use relocation_lines::{Entry, RelocationLine};

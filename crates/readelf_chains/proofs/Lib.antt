@@ -1,0 +1,4 @@
+mod ChainLemmas
+mod NoteLemmas
+mod EntryLemmas
+mod Rows

@@ -1,0 +1,10 @@
+use Rattle.readelf_rows.proofs.TextLemmas.{text_then, texts_end}
+use Rattle.readelf_headers.specs.Segments.{count_line}
+use Rattle.readelf_headers.proofs.segments.SegmentsTitleLine.put.Goals as goal
+
+pub returns-clause-ok : goal.returns-clause-ok
+unfolding count_line
+returns-clause-ok c =
+    let p = c.args.page.now in
+    let two = text_then p _ _ _ _ c.in_ok-put_text.ensures.ok c.in_ok-put_decimal.ensures.ok in
+    rw (← c.from.ensures) (texts_end c.put_text-2.result p _ _ _ _ two c.put_text-2.ensures.ok)

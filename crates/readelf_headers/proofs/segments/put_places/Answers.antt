@@ -1,0 +1,10 @@
+use Rattle.readelf_rows.proofs.TextLemmas.{text_then, texts_end}
+use Rattle.readelf_headers.specs.Segments.{segment_places}
+use Rattle.readelf_headers.proofs.segments.put_places.Goals as goal
+
+pub returns-clause-ok : goal.returns-clause-ok
+unfolding segment_places
+returns-clause-ok c =
+    let p = c.args.page.now in
+    let two = text_then p _ _ _ _ c.in_ok-put_hex_column.ensures.ok c.in_ok-put_hex_column-2.ensures.ok in
+    texts_end c.put_hex_column-3.result p _ _ _ _ two c.put_hex_column-3.ensures.ok

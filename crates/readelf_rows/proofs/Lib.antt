@@ -1,0 +1,4 @@
+pub mod DataLemmas
+pub mod LinkLemmas
+pub mod TextLemmas
+mod Rows

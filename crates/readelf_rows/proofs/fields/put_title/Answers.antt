@@ -1,0 +1,10 @@
+use Rattle.readelf_rows.proofs.TextLemmas.{text_then, texts_end}
+use Rattle.readelf_rows.specs.Fields.{field_title}
+use Rattle.readelf_rows.proofs.fields.put_title.Goals as goal
+
+pub returns-clause-ok : goal.returns-clause-ok
+unfolding field_title
+returns-clause-ok c =
+    let p = c.args.page.now in
+    let two = text_then p _ _ _ _ c.in_ok-put_text.ensures.ok c.in_ok-put_text-2.ensures.ok in
+    texts_end c.put_text-3.result p _ _ _ _ two c.put_text-3.ensures.ok

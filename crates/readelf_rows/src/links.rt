@@ -1,0 +1,56 @@
+//! The sections that the rows of a table name, looked for once a table.
+
+ghost use Rattle.std.specs.Prelude.{◌≡◌, ◌<◌, length};
+ghost use Rattle.elf_object.specs.Object.{section_at};
+ghost use Rattle.readelf_rows.specs.Links.{AreLinks};
+
+use elf_descriptor::Elf;
+use elf_outside::Source;
+use elf_types::ScnId;
+use object_output::section_header;
+
+/// The sections that the rows of a table name.
+#[derive(Clone, Copy)]
+pub struct Links {
+    /// The section to which that of the table links.
+    pub linked: ScnId,
+    /// The section to which that one links in turn.
+    pub strings: ScnId,
+    /// The table of extended indexes, where the rows are symbols that have one.
+    pub indexes: Option<ScnId>,
+}
+
+/// A section that is there and whose items can be told.
+#[derive(Clone, Copy)]
+pub struct Table {
+    /// The section.
+    pub section: ScnId,
+    /// How many items it has.
+    pub count: u64,
+    /// Its links.
+    pub links: Links,
+}
+
+/// The section to which a section links, or 0 where it is not there.
+#[tactic(auto, unfolding(elf_object::specs::Calls::shdr_answer))]
+fn link_of<S: Source>(elf: &Elf<S>, s: ScnId) -> u32
+    ensures { result ≡ (section_at elf.now.o s.0).header.link }
+{
+    match elf.shdr(s) {
+        Ok(header) => header.link,
+        Err(_) => 0,
+    }
+}
+
+/// The links of a section that is there.
+pub fn links_of<S: Source>(elf: &Elf<S>, s: ScnId) -> Links
+    requires { s.0 < length elf.now.o.sections }
+    ensures { AreLinks elf.now.o s.0 result }
+{
+    let linked = ScnId(section_header(elf, s).link);
+    Links {
+        linked,
+        strings: ScnId(link_of(elf, linked)),
+        indexes: None,
+    }
+}

@@ -1,0 +1,5 @@
+mod TableLemmas
+mod SymbolLemmas
+mod RelocationLemmas
+mod DynamicLemmas
+mod Rows

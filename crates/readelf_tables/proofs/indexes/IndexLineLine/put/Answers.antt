@@ -1,0 +1,11 @@
+use Rattle.readelf_rows.proofs.TextLemmas.{text_then, texts_end}
+use Rattle.readelf_tables.specs.Indexes.{index_line}
+use Rattle.readelf_tables.proofs.indexes.IndexLineLine.put.Goals as goal
+
+pub returns-clause-ok : goal.returns-clause-ok
+unfolding index_line
+returns-clause-ok c =
+    let p = c.args.page.now in
+    let two = text_then p _ _ _ _ c.in_ok-put_row_start.ensures.ok c.in_ok-put_decimal_column.ensures.ok in
+    let three = text_then p _ _ _ _ two c.in_ok-put_hidden.ensures.ok in
+    rw (← c.from.ensures) (texts_end c.put_text.result p _ _ _ _ three c.put_text.ensures.ok)

@@ -1,0 +1,5 @@
+pub mod Tables
+pub mod Symbols
+pub mod Relocations
+pub mod Dynamic
+pub mod Indexes

@@ -1,9 +1,0 @@
-use Rattle.readelf_tool.proofs.ChainLemmas.{looked_by}
-use Rattle.readelf_tool.proofs.EntryLemmas.{fewer_left}
-use Rattle.readelf_tool.proofs.definitions.VerdauxAux.next_of.Goals as goal
-
-pub returns-clause-fewer : goal.returns-clause-fewer
-returns-clause-fewer g c = fewer_left c.next_verdaux.result (λ x. x.next) c.args.place.now _ c.next_verdaux.ensures.behind
-
-pub returns-clause-looked : goal.returns-clause-looked
-returns-clause-looked g c = looked_by g.S.Source _ _ c.next_verdaux.result c.args.elf.now _ c.next_verdaux.ensures.queries

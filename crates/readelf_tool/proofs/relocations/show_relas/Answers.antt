@@ -1,5 +1,0 @@
-use Rattle.object_output.proofs.ListCounts.{relas_counted}
-use Rattle.readelf_tool.proofs.relocations.show_relas.Goals as goal
-
-pub show_table-requires-clause-counted : goal.show_table-requires-clause-counted
-show_table-requires-clause-counted g c = relas_counted

@@ -1,5 +1,0 @@
-use Rattle.object_output.proofs.ListCounts.{rels_counted}
-use Rattle.readelf_tool.proofs.relocations.show_rels.Goals as goal
-
-pub show_table-requires-clause-counted : goal.show_table-requires-clause-counted
-show_table-requires-clause-counted g c = rels_counted
