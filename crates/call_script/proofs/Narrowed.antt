@@ -41,7 +41,7 @@ unfolding read_below
 refused_word bound (Some v) words why e = absurd (cc)
 refused_word bound None words why e = cc
 
-refused_as : (bound : ℕ) (words : List (List ℕ)) (why : Why) → number (2 ^ 64) words ≡ Err why → number bound words ≡ Err why
+pub refused_as : (bound : ℕ) (words : List (List ℕ)) (why : Why) → number (2 ^ 64) words ≡ Err why → number bound words ≡ Err why
 unfolding number read_below
 refused_as bound [] why e = cc
 refused_as bound (w ∷ ws) why e = refused_word bound (number_of w) ws why e

@@ -4,5 +4,6 @@ pub mod Left
 pub mod Lines
 pub mod Numbers
 pub mod Parts
+pub mod Said
 pub mod Script
 pub mod Texts

@@ -3,7 +3,7 @@
 use elf_types::{DataId, List, Octets, Part, ScnId};
 
 /// A field of the ELF header, with the value that it gets (gABI, "ELF Header").
-#[derive(Clone, Copy, Debug, PartialEq, Eq)]
+#[derive(Clone, Copy)]
 pub enum EhdrSet {
     /// `osabi`: `e_ident[EI_OSABI]`.
     Osabi(u8),
@@ -26,7 +26,7 @@ pub enum EhdrSet {
 }
 
 /// A field of a program header, with the value that it gets (gABI, "Program Header").
-#[derive(Clone, Copy, Debug, PartialEq, Eq)]
+#[derive(Clone, Copy)]
 pub enum PhdrSet {
     /// `type`: `p_type`.
     Ptype(u32),
@@ -47,7 +47,7 @@ pub enum PhdrSet {
 }
 
 /// A field of a section header, with the value that it gets (gABI, "Section Header").
-#[derive(Clone, Copy, Debug, PartialEq, Eq)]
+#[derive(Clone, Copy)]
 pub enum ShdrSet {
     /// `name`: `sh_name`.
     Name(u32),
@@ -73,7 +73,7 @@ pub enum ShdrSet {
 
 /// A field of an item of a section, with the value that it gets. The kind of the item is that of
 /// the variant.
-#[derive(Clone, Copy, Debug, PartialEq, Eq)]
+#[derive(Clone, Copy)]
 pub enum ItemSet {
     /// `half .. value`: a two-byte number.
     Half(u16),

@@ -65,7 +65,7 @@ impl From<ElfError> for ScriptFault {
 }
 
 /// Why a part of a line is refused, without the line, which its caller knows.
-#[derive(Clone, Copy, Debug)]
+#[derive(Clone, Copy)]
 pub(crate) enum Stop {
     /// There is no memory.
     Memory,

@@ -5,6 +5,7 @@ ghost use Rattle.elf_types.specs.Answers.{FollowsBy};
 ghost use Rattle.call_script.specs.Causes.{why_of};
 ghost use Rattle.call_script.specs.Parts.{one_of};
 ghost use Rattle.call_script.specs.Lines.{object_parts, flag_words, flag_line};
+ghost use Rattle.call_script.specs.Said.{Says};
 
 use crate::calls::Call;
 use crate::faults::{Stop, Why};
@@ -12,31 +13,34 @@ use crate::words::Words;
 use elf_types::Part;
 
 /// `flag PART set BITS` and `flag PART clear BITS`.
-#[tactic(auto, unfolding(crate::specs::Lines::flag_line))]
-pub(crate) fn read_flag(words: &mut Words) -> Result<Option<Call>, Stop>
-    ensures { FollowsBy (λ call. (call, words.new)) why_of result (flag_line words.old) }
+#[tactic(auto, using(crate::proofs::Said::said), unfolding(crate::specs::Lines::flag_line))]
+pub(crate) fn read_flag(words: &mut Words) -> Result<(Call, bool), Stop>
+    ensures { Says flag_line words.old result words.new }
 {
-    let part = read_part(words)?;
+    let (part, part_fits) = read_part(words)?;
     let set = read_flag_word(words)?;
-    let bits = words.read_u32()?;
-    Ok(
-        part.zip(bits)
-            .map(|(part, bits)| Call::Flag { part, set, bits }),
-    )
+    let (bits, bits_fit) = words.read_u32()?;
+    Ok((Call::Flag { part, set, bits }, part_fits & bits_fit))
 }
 
 /// PART: a part of an object.
-#[tactic(auto, unfolding(crate::specs::Lines::object_parts))]
-fn read_part(words: &mut Words) -> Result<Option<Part>, Stop>
-    ensures { FollowsBy (λ part. (part, words.new)) why_of result (one_of object_parts words.old) }
+#[tactic(auto, using(crate::proofs::Said::said), unfolding(crate::specs::Lines::object_parts))]
+fn read_part(words: &mut Words) -> Result<(Part, bool), Stop>
+    ensures { Says (one_of object_parts) words.old result words.new }
 {
     let part = words.read_text()?;
     match part {
-        "object" => Ok(Some(Part::Object)),
-        "header" => Ok(Some(Part::Header)),
-        "segments" => Ok(Some(Part::Segments)),
-        "section" => Ok(words.read_u32()?.map(Part::Section)),
-        "piece" => Ok(words.read_piece()?.map(|d| Part::Piece(d.section, d.piece))),
+        "object" => Ok((Part::Object, true)),
+        "header" => Ok((Part::Header, true)),
+        "segments" => Ok((Part::Segments, true)),
+        "section" => {
+            let (section, fits) = words.read_u32()?;
+            Ok((Part::Section(section), fits))
+        }
+        "piece" => {
+            let (d, fits) = words.read_piece()?;
+            Ok((Part::Piece(d.section, d.piece), fits))
+        }
         _ => Err(Stop::Why(Why::BadWords)),
     }
 }

@@ -1,6 +1,7 @@
 //! The words of a script that stand for numbers and bytes.
 
-ghost use Rattle.std.specs.Prelude.{◌≡◌, ◌≤◌, ◌+◌, ◌*◌, ◌^◌, true, option_map, option_and_then};
+ghost use Rattle.std.specs.Prelude.{◌≡◌, ◌≤◌, ◌+◌, ◌*◌, ◌^◌, true, option_map, option_and_then, IfErr};
+ghost use Rattle.std.specs.Bool.{then_some};
 ghost use Rattle.std.specs.Str.Parse.{digits_value};
 ghost use Rattle.elf_types.specs.Answers.{or_refused};
 ghost use Rattle.call_script.specs.Causes.{Reads};
@@ -15,8 +16,9 @@ use std::alloc::Global;
 /// form.
 #[tactic(auto, unfolding(crate::specs::Numbers::number_of))]
 pub(crate) fn read_number(word: &[u8]) -> Result<Option<u64>, Stop>
-    ensures { Reads result
+    ensures value { Reads result
         (or_refused (option_map (below (2 ^ 64)) (number_of word.now)) Why.BadWords) }
+    ensures why { IfErr result (λ stop. stop ≡ Stop.Why Why.BadWords) }
 {
     if word.starts_with(b"0x") {
         return read_digits(&word[2..], 16, 16);
@@ -45,8 +47,9 @@ pub(crate) fn read_signed(word: &[u8]) -> Result<Option<i64>, Stop>
 fn read_digits(word: &[u8], radix: u32, most: usize) -> Result<Option<u64>, Stop>
     requires low { 2 ≤ radix }
     requires high { radix ≤ 36 }
-    ensures { Reads result
+    ensures value { Reads result
         (or_refused (option_map (below (2 ^ 64)) (digits_of radix most word.now)) Why.BadWords) }
+    ensures why { IfErr result (λ stop. stop ≡ Stop.Why Why.BadWords) }
 {
     if word.is_empty() || word.len() > most || !are_digits(word, radix) {
         return Err(Stop::Why(Why::BadWords));
@@ -87,25 +90,91 @@ fn with_digit(value: u64, radix: u32, digit: u32) -> Option<u64>
         .checked_add(u64::from(digit))
 }
 
-/// A number that is below 2^32.
-pub(crate) fn to_u32(n: Option<u64>) -> Option<u32>
-    ensures { result ≡ option_and_then (below (2 ^ 32)) n }
-{
-    u32::try_from(n?).ok()
+/// A number at each width: it, and whether it is in the width's range. Where it is not, the value is
+/// 0.
+#[derive(Clone, Copy)]
+pub(crate) struct Number {
+    /// It as one byte.
+    pub byte: u8,
+    /// Whether it is below 2^8.
+    pub is_byte: bool,
+    /// It as two bytes.
+    pub half: u16,
+    /// Whether it is below 2^16.
+    pub is_half: bool,
+    /// It as four bytes.
+    pub word: u32,
+    /// Whether it is below 2^32.
+    pub is_word: bool,
+    /// It as eight bytes.
+    pub xword: u64,
+    /// Whether it is below 2^64.
+    pub is_xword: bool,
 }
 
-/// A number that is below 2^16.
-pub(crate) fn to_u16(n: Option<u64>) -> Option<u16>
-    ensures { result ≡ option_and_then (below (2 ^ 16)) n }
-{
-    u16::try_from(n?).ok()
+impl Number {
+    /// A number below 2^64 at each width, or one that is in no range.
+    pub fn of(n: Option<u64>) -> Number
+        ensures byte { then_some result.is_byte result.byte ≡ option_and_then (below (2 ^ 8)) n }
+        ensures half { then_some result.is_half result.half ≡ option_and_then (below (2 ^ 16)) n }
+        ensures word { then_some result.is_word result.word ≡ option_and_then (below (2 ^ 32)) n }
+        ensures xword { then_some result.is_xword result.xword ≡ n }
+    {
+        let (byte, is_byte) = to_u8(n);
+        let (half, is_half) = to_u16(n);
+        let (word, is_word) = to_u32(n);
+        let (xword, is_xword) = to_u64(n);
+        Number {
+            byte,
+            is_byte,
+            half,
+            is_half,
+            word,
+            is_word,
+            xword,
+            is_xword,
+        }
+    }
 }
 
-/// A number that is below 2^8.
-pub(crate) fn to_u8(n: Option<u64>) -> Option<u8>
-    ensures { result ≡ option_and_then (below (2 ^ 8)) n }
+/// A number as eight bytes, and whether it is below 2^64.
+pub(crate) fn to_u64(n: Option<u64>) -> (u64, bool)
+    ensures { then_some result.1 result.0 ≡ n }
 {
-    u8::try_from(n?).ok()
+    match n {
+        Some(n) => (n, true),
+        None => (0, false),
+    }
+}
+
+/// A number as four bytes, and whether it is below 2^32.
+pub(crate) fn to_u32(n: Option<u64>) -> (u32, bool)
+    ensures { then_some result.1 result.0 ≡ option_and_then (below (2 ^ 32)) n }
+{
+    match n {
+        Some(n) if n < 1 << 32 => (n as u32, true),
+        _ => (0, false),
+    }
+}
+
+/// A number as two bytes, and whether it is below 2^16.
+fn to_u16(n: Option<u64>) -> (u16, bool)
+    ensures { then_some result.1 result.0 ≡ option_and_then (below (2 ^ 16)) n }
+{
+    match n {
+        Some(n) if n < 1 << 16 => (n as u16, true),
+        _ => (0, false),
+    }
+}
+
+/// A number as one byte, and whether it is below 2^8.
+fn to_u8(n: Option<u64>) -> (u8, bool)
+    ensures { then_some result.1 result.0 ≡ option_and_then (below (2 ^ 8)) n }
+{
+    match n {
+        Some(n) if n < 1 << 8 => (n as u8, true),
+        _ => (0, false),
+    }
 }
 
 /// The bytes of a word: none for `-`, else two hexadecimal digits for each. It refuses `BadWords`

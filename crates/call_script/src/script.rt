@@ -89,10 +89,10 @@ fn read_words(alloc: Global, line: &[u8]) -> Result<Call, Stop>
     ensures { Reads result (call_of (words_of line.now)) }
 {
     let mut words = Words::new(line);
-    let call = read_call(alloc, &mut words)?;
+    let (call, fits) = read_call(alloc, &mut words)?;
     words.read_end()?;
-    match call {
-        Some(call) => Ok(call),
-        None => Err(Stop::Why(Why::BadNumber)),
+    if !fits {
+        return Err(Stop::Why(Why::BadNumber));
     }
+    Ok(call)
 }

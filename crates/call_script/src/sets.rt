@@ -1,11 +1,10 @@
 //! The lines of `set`.
 
 ghost use Rattle.std.specs.Prelude.{◌≡◌};
-ghost use Rattle.elf_types.specs.Answers.{FollowsBy};
-ghost use Rattle.call_script.specs.Causes.{why_of};
 ghost use Rattle.call_script.specs.Parts.{◌&◌, ◌⇒◌, one_of, u32};
 ghost use Rattle.call_script.specs.Fields.{ehdr_fields, phdr_fields, shdr_fields};
 ghost use Rattle.call_script.specs.Lines.{section, item_set, set_line};
+ghost use Rattle.call_script.specs.Said.{Says};
 
 use crate::calls::Call;
 use crate::faults::{Stop, Why};
@@ -14,9 +13,8 @@ use crate::words::Words;
 use elf_types::Kind;
 
 /// What follows `set`.
-#[tactic(auto, unfolding(crate::specs::Lines::sets, crate::specs::Lines::set_line))]
-pub(crate) fn read_set(words: &mut Words) -> Result<Option<Call>, Stop>
-    ensures { FollowsBy (λ call. (call, words.new)) why_of result (set_line words.old) }
+pub(crate) fn read_set(words: &mut Words) -> Result<(Call, bool), Stop>
+    ensures { Says set_line words.old result words.new }
 {
     let target = words.read_text()?;
     match target {
@@ -35,44 +33,43 @@ pub(crate) fn read_set(words: &mut Words) -> Result<Option<Call>, Stop>
 }
 
 /// `set ehdr FIELD N`.
-fn set_ehdr(words: &mut Words) -> Result<Option<Call>, Stop>
-    ensures { FollowsBy (λ call. (call, words.new)) why_of result
-        ((one_of ehdr_fields ⇒ λ set. Call.SetEhdr set) words.old) }
+#[tactic(auto, using(crate::proofs::Said::said))]
+fn set_ehdr(words: &mut Words) -> Result<(Call, bool), Stop>
+    ensures { Says (one_of ehdr_fields ⇒ λ set. Call.SetEhdr set) words.old result words.new }
 {
-    let set = read_ehdr_field(words)?;
-    Ok(set.map(|set| Call::SetEhdr { set }))
+    let (set, fits) = read_ehdr_field(words)?;
+    Ok((Call::SetEhdr { set }, fits))
 }
 
 /// `set phdr I FIELD N`.
-fn set_phdr(words: &mut Words) -> Result<Option<Call>, Stop>
-    ensures { FollowsBy (λ call. (call, words.new)) why_of result
-        ((u32 & one_of phdr_fields ⇒ λ (i, set). Call.SetPhdr i set) words.old) }
+#[tactic(auto, using(crate::proofs::Said::said))]
+fn set_phdr(words: &mut Words) -> Result<(Call, bool), Stop>
+    ensures { Says (u32 & one_of phdr_fields ⇒ λ (i, set). Call.SetPhdr i set)
+        words.old result words.new }
 {
-    let i = words.read_u32()?;
-    let set = read_phdr_field(words)?;
-    Ok(i.zip(set).map(|(i, set)| Call::SetPhdr { i, set }))
+    let (i, i_fits) = words.read_u32()?;
+    let (set, set_fits) = read_phdr_field(words)?;
+    Ok((Call::SetPhdr { i, set }, i_fits & set_fits))
 }
 
 /// `set shdr S FIELD N`.
-fn set_shdr(words: &mut Words) -> Result<Option<Call>, Stop>
-    ensures { FollowsBy (λ call. (call, words.new)) why_of result
-        ((section & one_of shdr_fields ⇒ λ (s, set). Call.SetShdr s set) words.old) }
+#[tactic(auto, using(crate::proofs::Said::said))]
+fn set_shdr(words: &mut Words) -> Result<(Call, bool), Stop>
+    ensures { Says (section & one_of shdr_fields ⇒ λ (s, set). Call.SetShdr s set)
+        words.old result words.new }
 {
-    let s = words.read_section()?;
-    let set = read_shdr_field(words)?;
-    Ok(s.zip(set).map(|(s, set)| Call::SetShdr { s, set }))
+    let (s, s_fits) = words.read_section()?;
+    let (set, set_fits) = read_shdr_field(words)?;
+    Ok((Call::SetShdr { s, set }, s_fits & set_fits))
 }
 
 /// `set KIND S P I FIELD N`.
-fn set_item(words: &mut Words, kind: Kind) -> Result<Option<Call>, Stop>
-    ensures { FollowsBy (λ call. (call, words.new)) why_of result (item_set kind words.old) }
+#[tactic(auto, using(crate::proofs::Said::said))]
+fn set_item(words: &mut Words, kind: Kind) -> Result<(Call, bool), Stop>
+    ensures { Says (item_set kind) words.old result words.new }
 {
-    let d = words.read_piece()?;
-    let i = words.read_u64()?;
-    let set = read_item_field(words, kind)?;
-    Ok(
-        d.zip(i)
-            .zip(set)
-            .map(|((d, i), set)| Call::SetItem { d, i, set }),
-    )
+    let (d, d_fits) = words.read_piece()?;
+    let (i, i_fits) = words.read_u64()?;
+    let (set, set_fits) = read_item_field(words, kind)?;
+    Ok((Call::SetItem { d, i, set }, d_fits & i_fits & set_fits))
 }

@@ -1,16 +1,18 @@
 //! The words of a line, read one after the other.
 
 ghost use Rattle.std.specs.Prelude.{◌≡◌, ◌∷◌, ◌==◌, Some, Ok, IfOk, IfErr, length, position};
+ghost use Rattle.std.specs.Bool.{then_some};
 ghost use Rattle.std.specs.Option.{option_copied};
 ghost use Rattle.std.specs.Str.{byte};
 ghost use Rattle.elf_types.specs.Answers.{FollowsBy};
 ghost use Rattle.call_script.specs.Causes.{why_of, Reads};
 ghost use Rattle.call_script.specs.Parts.{pieces_between, words_of, next_word, no_words, u8 as u8_part, u16 as u16_part, u32 as u32_part, u64 as u64_part, i64 as i64_part, hex, name};
+ghost use Rattle.call_script.specs.Said.{Says};
 ghost use Rattle.call_script.specs.Lines.{section, piece};
 ghost use Rattle.call_script.specs.Left.{pieces_left, IsNoText};
 
 use crate::faults::{Stop, Why};
-use crate::numbers::{read_bytes, read_number, read_signed, to_u8, to_u16, to_u32};
+use crate::numbers::{Number, read_bytes, read_number, read_signed, to_u32, to_u64};
 use elf_types::{DataId, Octets, ScnId};
 use std::alloc::Global;
 use std::marker::Model;
@@ -35,7 +37,8 @@ fn find(bytes: &[u8], separator: u8) -> Option<usize>
 
 /// The words of a line that are left to read, which contracts see as their list. Each call takes
 /// what it reads off the front, and refuses `BadWords` where the words have another form; what is
-/// left then is open. A number is None where it is out of its range.
+/// left then is open. Beside a value with numbers stands whether each of them is in its range; where
+/// one is not, the value is open.
 #[derive(Drop)]
 pub(crate) struct Words<'a> {
     /// What is left of the line, or None behind its last word.
@@ -86,46 +89,58 @@ impl<'a> Words<'a> {
         }
     }
 
-    /// A number below 2^64.
+    /// A number, or None where it is 2^64 or greater.
     #[tactic(auto, unfolding(crate::specs::Parts::number))]
-    pub fn read_u64(&mut self) -> Result<Option<u64>, Stop>
-        ensures { FollowsBy (λ n. (n, self.new)) why_of result (u64_part self.old) }
+    fn read_digits(&mut self) -> Result<Option<u64>, Stop>
+        ensures value { FollowsBy (λ n. (n, self.new)) why_of result (u64_part self.old) }
+        ensures why { IfErr result (λ stop. stop ≡ Stop.Why Why.BadWords) }
     {
         let word = self.read_word()?;
         read_number(word)
     }
 
+    /// A number at each width.
+    pub fn read_number(&mut self) -> Result<Number, Stop>
+        ensures byte { FollowsBy (λ n. (then_some n.is_byte n.byte, self.new)) why_of result
+            (u8_part self.old) }
+        ensures half { FollowsBy (λ n. (then_some n.is_half n.half, self.new)) why_of result
+            (u16_part self.old) }
+        ensures word { FollowsBy (λ n. (then_some n.is_word n.word, self.new)) why_of result
+            (u32_part self.old) }
+        ensures xword { FollowsBy (λ n. (then_some n.is_xword n.xword, self.new)) why_of result
+            (u64_part self.old) }
+        ensures why { IfErr result (λ stop. stop ≡ Stop.Why Why.BadWords) }
+    {
+        let n = self.read_digits()?;
+        Ok(Number::of(n))
+    }
+
+    /// A number below 2^64.
+    pub fn read_u64(&mut self) -> Result<(u64, bool), Stop>
+        ensures { Says u64_part self.old result self.new }
+    {
+        let n = self.read_digits()?;
+        Ok(to_u64(n))
+    }
+
     /// A number below 2^32.
-    pub fn read_u32(&mut self) -> Result<Option<u32>, Stop>
-        ensures { FollowsBy (λ n. (n, self.new)) why_of result (u32_part self.old) }
+    pub fn read_u32(&mut self) -> Result<(u32, bool), Stop>
+        ensures { Says u32_part self.old result self.new }
     {
-        let n = self.read_u64()?;
+        let n = self.read_digits()?;
         Ok(to_u32(n))
-    }
-
-    /// A number below 2^16.
-    pub fn read_u16(&mut self) -> Result<Option<u16>, Stop>
-        ensures { FollowsBy (λ n. (n, self.new)) why_of result (u16_part self.old) }
-    {
-        let n = self.read_u64()?;
-        Ok(to_u16(n))
-    }
-
-    /// A number below 2^8.
-    pub fn read_u8(&mut self) -> Result<Option<u8>, Stop>
-        ensures { FollowsBy (λ n. (n, self.new)) why_of result (u8_part self.old) }
-    {
-        let n = self.read_u64()?;
-        Ok(to_u8(n))
     }
 
     /// An addend or a tag: a number from -2^63 to 2^63 - 1.
     #[tactic(auto, unfolding(crate::specs::Parts::i64))]
-    pub fn read_i64(&mut self) -> Result<Option<i64>, Stop>
-        ensures { FollowsBy (λ n. (n, self.new)) why_of result (i64_part self.old) }
+    pub fn read_i64(&mut self) -> Result<(i64, bool), Stop>
+        ensures { Says i64_part self.old result self.new }
     {
         let word = self.read_word()?;
-        read_signed(word)
+        match read_signed(word)? {
+            Some(n) => Ok((n, true)),
+            None => Ok((0, false)),
+        }
     }
 
     /// HEX: bytes.
@@ -152,24 +167,22 @@ impl<'a> Words<'a> {
     }
 
     /// S: a section.
-    pub fn read_section(&mut self) -> Result<Option<ScnId>, Stop>
-        ensures { FollowsBy (λ s. (s, self.new)) why_of result (section self.old) }
+    #[tactic(auto, using(crate::proofs::Said::said))]
+    pub fn read_section(&mut self) -> Result<(ScnId, bool), Stop>
+        ensures { Says section self.old result self.new }
     {
-        let section = self.read_u32()?;
-        Ok(section.map(ScnId))
+        let (section, fits) = self.read_u32()?;
+        Ok((ScnId(section), fits))
     }
 
     /// S P: a piece of a section.
-    pub fn read_piece(&mut self) -> Result<Option<DataId>, Stop>
-        ensures { FollowsBy (λ d. (d, self.new)) why_of result (piece self.old) }
+    #[tactic(auto, using(crate::proofs::Said::said))]
+    pub fn read_piece(&mut self) -> Result<(DataId, bool), Stop>
+        ensures { Says piece self.old result self.new }
     {
-        let section = self.read_u32()?;
-        let piece = self.read_u32()?;
-        Ok(
-            section
-                .zip(piece)
-                .map(|(section, piece)| DataId { section, piece }),
-        )
+        let (section, section_fits) = self.read_u32()?;
+        let (piece, piece_fits) = self.read_u32()?;
+        Ok((DataId { section, piece }, section_fits & piece_fits))
     }
 
     /// Whether no word is left.

@@ -1,6 +1,6 @@
 -- No script says a call that is not built.
-use Rattle.std.proofs.Common.{◌≡◌, ◌≢◌, ◌+◌, ℕ, Bool, true, false, List, [], ◌∷◌, ◌++◌, Option, Some, None, Result, Ok, Err, IfSome, refl, sym, ap, ◌∙◌, subst}
-use Rattle.std.specs.Prelude.{if◌then◌else◌, bytes_eq, nat_lt, All, option_map, option_to_list, ◌==◌, length}
+use Rattle.std.proofs.Common.{◌≡◌, ◌+◌, ℕ, Bool, true, false, List, [], ◌∷◌, ◌++◌, Option, Some, None, Result, Ok, Err, IfSome, refl, sym, subst}
+use Rattle.std.specs.Prelude.{if◌then◌else◌, bytes_eq, nat_lt, option_map, option_to_list, length}
 use Rattle.std.proofs.lemmas.List.Elements.{All-nil, All-cons}
 use Rattle.elf_types.specs.Answers.{or_refused, ◌>>=◌}
 use Rattle.elf_types.specs.declared.records.ScnId.{ScnId}
@@ -11,7 +11,7 @@ use Rattle.call_script.specs.declared.calls.Call.{Call}
 use Rattle.call_script.specs.declared.calls.Call.TheVariants as call
 use Rattle.call_script.specs.declared.faults.Why.{Why}
 use Rattle.call_script.specs.declared.faults.Why.TheVariants.{TooLong, BadCall, BadWords, BadNumber}
-use Rattle.call_script.specs.Parts.{Part, ◌&◌, ◌⇒◌, just, not_built, optional, one_of, in_table, value_in, next_word, no_words, words_of, u8, u32, u64, hex, name}
+use Rattle.call_script.specs.Parts.{Part, ◌&◌, ◌⇒◌, just, not_built, optional, one_of, value_in, no_words, words_of, u8, u32, u64, hex, name}
 use Rattle.call_script.specs.Lines.{section, piece, new_data, item_set, object_parts, flag_words, sets, phdr_line, shdr_line, pieces_line, data_line, raw_line, item_line, str_line, note_line, find_line, set_line, addall_line, newphdr_line, newdata_line, fill_line, replace_line, flag_line, calls}
 use Rattle.call_script.specs.Fields.{ehdr_fields, phdr_fields, shdr_fields, item_fields}
 use Rattle.call_script.specs.Script.{call_at, call_of, on_line, is_passed_over, line_call, calls_from, lines_of, calls_of}

@@ -1,5 +1,5 @@
 -- The calls of a script on what a file holds.
-use Rattle.std.proofs.Common.{◌≡◌, ℕ, ◌+◌, ◌≤◌, Bool, true, false, List, [], Option, Some, None, Result, Ok, Err, IfSome, IfNone, IsTrue, codes, refl, sym, ◌∙◌, subst, arith}
+use Rattle.std.proofs.Common.{◌≡◌, ℕ, ◌+◌, ◌≤◌, Bool, false, List, [], Option, Some, None, Result, Ok, Err, IfSome, codes, refl, arith}
 use Rattle.std.specs.Prelude.{is_some}
 use Rattle.elf_types.specs.declared.errors.ElfError.{ElfError}
 use Rattle.elf_types.specs.Answers.{Follows}
@@ -16,7 +16,7 @@ use Rattle.tool_output.specs.declared.stops.Stop.{Stop}
 use Rattle.tool_output.specs.declared.outputs.Outputs.{Outputs}
 use Rattle.tool_output.specs.Stops.{stop_of}
 use Rattle.tool_output.specs.Names.{Name}
-use Rattle.tool_output.specs.Reports.{Report, Reports, refusal}
+use Rattle.tool_output.specs.Reports.{Reports, refusal}
 use Rattle.tool_output.specs.Sources.{ReportsOn}
 use Rattle.tool_output.proofs.SourceLemmas.{stated_error, refuses_after}
 use Rattle.object_output.specs.Images.{file_object}
@@ -24,7 +24,7 @@ use Rattle.object_output.specs.Refusals.{Refuses}
 use Rattle.object_output.proofs.SourceSteps.{leaves_then, rose_from_first}
 use Rattle.call_script.specs.declared.calls.Call.{Call}
 use Rattle.calls_tool.specs.Reads.{read_by, homes_read}
-use Rattle.calls_tool.specs.Runs.{stated_calls, calls_report, RunsCalls}
+use Rattle.calls_tool.specs.Runs.{stated_calls, RunsCalls}
 use Rattle.calls_tool.specs.Files.{calls_file_report, calls_asks}
 
 none_loaded : (i : ℕ) → is_loaded [] i ≡ false

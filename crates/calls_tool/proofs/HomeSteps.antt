@@ -1,9 +1,7 @@
 -- No edit changes the home of a section, and a new section has an empty one.
-use Rattle.std.proofs.Common.{◌≡◌, ◌≢◌, ℕ, zero, suc, ◌+◌, ◌<◌, ◌≤◌, Bool, true, false, List, [], ◌∷◌, ◌++◌, length, get_or, set, Result, Ok, Err, refl, sym, ap, ◌∙◌, subst, arith}
-use Rattle.std.specs.Prelude.{if◌then◌else◌, ◌==◌, ◌||◌, ◌&&◌, nat_le}
-use Rattle.std.specs.List.{sum_by}
+use Rattle.std.proofs.Common.{◌≡◌, ℕ, zero, suc, ◌+◌, Bool, true, false, List, [], ◌∷◌, ◌++◌, length, get_or, set, Result, Ok, Err, refl, ◌∙◌, arith}
+use Rattle.std.specs.Prelude.{if◌then◌else◌, ◌==◌, ◌&&◌}
 use Rattle.std.proofs.lemmas.Bool.{eqb-true}
-use Rattle.std.proofs.lemmas.List.{set_past, get_or-set_same, get_or-set_other}
 use Rattle.elf_types.specs.declared.records.Part.{Part}
 use Rattle.elf_types.specs.declared.records.Part.TheVariants as part
 use Rattle.elf_types.specs.declared.records.Ehdr.{Ehdr}
@@ -13,8 +11,8 @@ use Rattle.elf_types.specs.declared.records.Kind.{Kind}
 use Rattle.elf_types.specs.declared.records.Kind.TheVariants as kinds
 use Rattle.elf_types.specs.declared.errors.ElfError.{ElfError}
 use Rattle.elf_xlate.specs.declared.content.Items.{Items}
-use Rattle.elf_object.specs.Object.{Object, Section, Piece, Home, section_at, piece_at, absent_section, new_section, no_home}
-use Rattle.elf_object.specs.Steps.{with_section, with_piece_at, with_ehdr, with_phdrs, with_phdr, with_new_phdrs, with_shdr, with_sections, with_new_section, with_new_piece, with_own, own_piece, with_mark, with_layout, with_flags, with_fill, is_whole}
+use Rattle.elf_object.specs.Object.{Object, Section, Piece, section_at, piece_at, absent_section, new_section}
+use Rattle.elf_object.specs.Steps.{with_section, with_piece_at, with_ehdr, with_phdrs, with_phdr, with_new_phdrs, with_shdr, with_new_section, with_new_piece, with_own, own_piece, with_mark, with_layout, with_flags, with_fill, is_whole}
 use Rattle.elf_object.specs.Answers.{has_dirty, has_layout}
 use Rattle.elf_object.specs.Runs.{or_same, after_look}
 

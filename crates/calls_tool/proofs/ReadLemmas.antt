@@ -1,15 +1,15 @@
 -- What calls read, one after another.
-use Rattle.std.proofs.Common.{◌≡◌, ◌≢◌, ℕ, zero, suc, ◌+◌, ◌<◌, ◌≤◌, Bool, true, false, List, [], ◌∷◌, length, get_or, map, drop, Result, Ok, Err, refl, sym, ap, ◌∙◌, subst, arith}
-use Rattle.std.specs.Prelude.{if◌then◌else◌, ◌||◌, ◌==◌, Contains, IsTrue, OnOk}
-use Rattle.std.specs.List.{sum_by}
+use Rattle.std.proofs.Common.{◌≡◌, ℕ, zero, suc, ◌+◌, ◌<◌, Bool, true, false, List, [], ◌∷◌, length, get_or, drop, Ok, Err, refl, sym, ap, ◌∙◌, arith}
+use Rattle.std.specs.Prelude.{if◌then◌else◌, ◌||◌, ◌==◌, Contains, IsTrue}
 use Rattle.std.proofs.lemmas.Bool.{eq-eqb}
 use Rattle.std.proofs.lemmas.List.{at_drop_more}
 use Rattle.elf_outside.specs.declared.sources.Source.{Ghosts}
-use Rattle.elf_object.specs.Object.{Object, Home, section_at}
+use Rattle.elf_object.specs.Object.{Object, Home}
 use Rattle.elf_object.specs.Due.{is_loaded, home_due, homes_due}
 use Rattle.elf_object.specs.Calls as calls
 use Rattle.elf_object.specs.Calls.{step}
 use Rattle.elf_descriptor.specs.State.{State}
+use Rattle.symbol_lookup.proofs.SearchLaws.{one_stays}
 use Rattle.tool_output.specs.declared.stops.Stop.{Stop}
 use Rattle.calls_tool.specs.Reads.{read_by, LeavesState, ReadsHomes}
 use Rattle.calls_tool.proofs.OnceSums.{has, Once, sums_same, sum_within, went_within, first_in_both, second_in_both, is_out}
@@ -24,17 +24,6 @@ due_same a b loaded s keeps = ap (λ (h : Home). if is_loaded loaded s || h.out 
 pub dues_same : (a b : Object) (loaded : List Bool) (l : List ℕ) → KeepsHomes a b → homes_due b loaded l ≡ homes_due a loaded l
 unfolding homes_due
 dues_same a b loaded l keeps = sums_same (home_due b loaded) (home_due a loaded) l (λ s. due_same a b loaded s keeps)
-
--- no more is due once more is loaded
-due_stays : (o : Object) (before after : List Bool) (s : ℕ) → (IsTrue (is_loaded before s) → IsTrue (is_loaded after s)) → home_due o after s ≤ home_due o before s
-unfolding home_due
-due_stays o before after s stays = by_loaded (is_loaded before s) (is_loaded after s) (section_at o s).home.out stays
-  where
-    by_loaded : (a b out : Bool) → (IsTrue a → IsTrue b)
-        → (if b || out then 0 else (section_at o s).home.len) ≤ (if a || out then 0 else (section_at o s).home.len)
-    by_loaded a true out stays = omega arith
-    by_loaded true false out stays = let is = stays refl in cc
-    by_loaded false false out stays = omega arith
 
 -- ---- What is in a list
 
@@ -115,7 +104,7 @@ module _ {S : Type 0} (g : Ghosts S) where
         let after = dues_same a.o b.o c.loaded some homes in
         let became = next.became in
         let went = went_within some all (home_due a.o b.loaded) (home_due a.o c.loaded) (g.taken b.source) (g.taken c.source) once sub
-        (λ i. due_stays a.o b.loaded c.loaded i (stays i)) (omega (arith, became, before, after)) in
+        (one_stays a.o b.loaded c.loaded stays) (omega (arith, became, before, after)) in
         let so_far = first.became in record {
           loads = λ i out. next.loads i (not_within some all i sub out) ∙ first.loads i out;
           became = omega (arith, went, so_far);

@@ -1,5 +1,5 @@
 -- The lines of answers. A number after `0x` is hexadecimal, any other is decimal.
-use Rattle.std.specs.Prelude.{◌++◌, ℕ, ℤ, ◌/◌, ◌%◌, List, [], ◌∷◌, flat_map, slice_index, codes, decimal}
+use Rattle.std.specs.Prelude.{◌++◌, ℕ, ◌/◌, ◌%◌, List, [], ◌∷◌, flat_map, slice_index, codes, decimal}
 use Rattle.std.specs.Fmt.{signed_decimal}
 use Rattle.elf_types.specs.declared.records.Class.{Class}
 use Rattle.elf_types.specs.declared.records.Class.TheVariants.{C32, C64}
@@ -19,20 +19,25 @@ use Rattle.elf_types.specs.Text.{hex, kind_text, part_text, error_text}
 use Rattle.elf_calls.specs.declared.answers.Item.{Item as ItemRecord}
 use Rattle.elf_calls.specs.declared.answers.Item.TheVariants as items
 use Rattle.gelf_view.specs.declared.notes.NoteAt.{NoteAt}
+use Rattle.calls_tool.specs.declared.lines.columns.Number.{Number}
+use Rattle.calls_tool.specs.declared.lines.columns.Number.TheVariants.{Decimal, Hex, Signed}
 use Rattle.elf_calls.specs.declared.answers.Answer.{Answer}
 use Rattle.elf_calls.specs.declared.answers.Answer.TheVariants.{Ehdr, Phdr, Shdr, Pieces, Data, Raw, Item, Str, Note, NoteEnd, Found, FoundNone, Done, Changed, Section, Piece, Flags, Size, Refused}
 
 -- ---- Columns
 
+-- a number, by the way it is written
+unfoldable pub number_text : Number → List ℕ
+number_text (Decimal n) = decimal n
+number_text (Hex n) = codes "0x" ++ hex n
+number_text (Signed n) = signed_decimal n
+
 -- a text and a number
-unfoldable pub with_hex : List ℕ → ℕ → List ℕ
-with_hex text n = text ++ codes "0x" ++ hex n
+unfoldable pub column_text : List ℕ → Number → List ℕ
+column_text text number = text ++ number_text number
 
-unfoldable pub with_decimal : List ℕ → ℕ → List ℕ
-with_decimal text n = text ++ decimal n
-
-unfoldable pub with_signed : List ℕ → ℤ → List ℕ
-with_signed text n = text ++ signed_decimal n
+abbrev pub columns_text : List (List ℕ × Number) → List ℕ
+columns_text columns = flat_map (λ c. column_text c.0 c.1) columns
 
 unfoldable pub hex_digits : List ℕ
 hex_digits = codes "0123456789abcdef"
@@ -56,127 +61,94 @@ unfoldable pub order_text : Order → List ℕ
 order_text Least = codes " order least"
 order_text Greatest = codes " order greatest"
 
-unfoldable pub ehdr_data : EhdrRecord → List ℕ
-ehdr_data h = class_text h.class ++ order_text h.order
-
-unfoldable pub ehdr_system : EhdrRecord → List ℕ
-ehdr_system h =
-    with_decimal (codes " osabi ") h.osabi ++ with_decimal (codes " abiversion ") h.abiversion
-
-unfoldable pub ehdr_kind : EhdrRecord → List ℕ
-ehdr_kind h =
-    with_decimal (codes " type ") h.etype
-    ++ with_decimal (codes " machine ") h.machine
-    ++ with_decimal (codes " version ") h.version
-
-unfoldable pub ehdr_places : EhdrRecord → List ℕ
-ehdr_places h =
-    with_hex (codes " entry ") h.entry
-    ++ with_decimal (codes " phoff ") h.phoff
-    ++ with_decimal (codes " shoff ") h.shoff
-    ++ with_hex (codes " flags ") h.flags
-
-unfoldable pub ehdr_counts : EhdrRecord → List ℕ
-ehdr_counts h =
-    with_decimal (codes " ehsize ") h.ehsize
-    ++ with_decimal (codes " phentsize ") h.phentsize
-    ++ with_decimal (codes " phnum ") h.phnum
-
-unfoldable pub ehdr_sections : EhdrRecord → List ℕ
-ehdr_sections h =
-    with_decimal (codes " shentsize ") h.shentsize
-    ++ with_decimal (codes " shnum ") h.shnum
-    ++ with_decimal (codes " shstrndx ") h.shstrndx
+unfoldable pub ehdr_numbers : EhdrRecord → List ℕ
+ehdr_numbers h = columns_text
+    ((codes " osabi ", Decimal h.osabi)
+    ∷ (codes " abiversion ", Decimal h.abiversion)
+    ∷ (codes " type ", Decimal h.etype)
+    ∷ (codes " machine ", Decimal h.machine)
+    ∷ (codes " version ", Decimal h.version)
+    ∷ (codes " entry ", Hex h.entry)
+    ∷ (codes " phoff ", Decimal h.phoff)
+    ∷ (codes " shoff ", Decimal h.shoff)
+    ∷ (codes " flags ", Hex h.flags)
+    ∷ (codes " ehsize ", Decimal h.ehsize)
+    ∷ (codes " phentsize ", Decimal h.phentsize)
+    ∷ (codes " phnum ", Decimal h.phnum)
+    ∷ (codes " shentsize ", Decimal h.shentsize)
+    ∷ (codes " shnum ", Decimal h.shnum)
+    ∷ (codes " shstrndx ", Decimal h.shstrndx)
+    ∷ [])
 
 unfoldable pub ehdr_text : EhdrRecord → List ℕ
-ehdr_text h =
-    ehdr_data h
-    ++ ehdr_system h
-    ++ ehdr_kind h
-    ++ ehdr_places h
-    ++ ehdr_counts h
-    ++ ehdr_sections h
-
-unfoldable pub phdr_places : PhdrRecord → List ℕ
-phdr_places h =
-    with_hex (codes "phdr type ") h.ptype
-    ++ with_hex (codes " flags ") h.flags
-    ++ with_hex (codes " offset ") h.offset
-    ++ with_hex (codes " vaddr ") h.vaddr
-
-unfoldable pub phdr_sizes : PhdrRecord → List ℕ
-phdr_sizes h =
-    with_hex (codes " paddr ") h.paddr
-    ++ with_hex (codes " filesz ") h.filesz
-    ++ with_hex (codes " memsz ") h.memsz
-    ++ with_hex (codes " align ") h.align
+ehdr_text h = class_text h.class ++ order_text h.order ++ ehdr_numbers h
 
 unfoldable pub phdr_text : PhdrRecord → List ℕ
-phdr_text h = phdr_places h ++ phdr_sizes h
-
-unfoldable pub shdr_kind : ShdrRecord → List ℕ
-shdr_kind h =
-    with_decimal (codes "shdr name ") h.name
-    ++ with_hex (codes " type ") h.stype
-    ++ with_hex (codes " flags ") h.flags
-
-unfoldable pub shdr_places : ShdrRecord → List ℕ
-shdr_places h =
-    with_hex (codes " addr ") h.addr
-    ++ with_hex (codes " offset ") h.offset
-    ++ with_hex (codes " size ") h.size
-
-unfoldable pub shdr_end : ShdrRecord → List ℕ
-shdr_end h =
-    with_decimal (codes " link ") h.link
-    ++ with_decimal (codes " info ") h.info
-    ++ with_decimal (codes " addralign ") h.addralign
-    ++ with_decimal (codes " entsize ") h.entsize
+phdr_text h = columns_text
+    ((codes "phdr type ", Hex h.ptype)
+    ∷ (codes " flags ", Hex h.flags)
+    ∷ (codes " offset ", Hex h.offset)
+    ∷ (codes " vaddr ", Hex h.vaddr)
+    ∷ (codes " paddr ", Hex h.paddr)
+    ∷ (codes " filesz ", Hex h.filesz)
+    ∷ (codes " memsz ", Hex h.memsz)
+    ∷ (codes " align ", Hex h.align)
+    ∷ [])
 
 unfoldable pub shdr_text : ShdrRecord → List ℕ
-shdr_text h = shdr_kind h ++ shdr_places h ++ shdr_end h
+shdr_text h = columns_text
+    ((codes "shdr name ", Decimal h.name)
+    ∷ (codes " type ", Hex h.stype)
+    ∷ (codes " flags ", Hex h.flags)
+    ∷ (codes " addr ", Hex h.addr)
+    ∷ (codes " offset ", Hex h.offset)
+    ∷ (codes " size ", Hex h.size)
+    ∷ (codes " link ", Decimal h.link)
+    ∷ (codes " info ", Decimal h.info)
+    ∷ (codes " addralign ", Decimal h.addralign)
+    ∷ (codes " entsize ", Decimal h.entsize)
+    ∷ [])
 
 -- ---- Items
 
-unfoldable pub sym_value : SymRecord → List ℕ
-sym_value s =
-    with_decimal (codes "sym name ") s.name
-    ++ with_hex (codes " value ") s.value
-    ++ with_decimal (codes " size ") s.size
-
-unfoldable pub sym_kind : SymRecord → List ℕ
-sym_kind s =
-    with_hex (codes " info ") s.info
-    ++ with_hex (codes " other ") s.other
-    ++ with_hex (codes " shndx ") s.shndx
-
 unfoldable pub sym_text : SymRecord → List ℕ
-sym_text s = sym_value s ++ sym_kind s
+sym_text s = columns_text
+    ((codes "sym name ", Decimal s.name)
+    ∷ (codes " value ", Hex s.value)
+    ∷ (codes " size ", Decimal s.size)
+    ∷ (codes " info ", Hex s.info)
+    ∷ (codes " other ", Hex s.other)
+    ∷ (codes " shndx ", Hex s.shndx)
+    ∷ [])
 
 unfoldable pub rel_text : RelRecord → List ℕ
-rel_text r =
-    with_hex (codes "rel offset ") r.offset
-    ++ with_decimal (codes " sym ") r.sym
-    ++ with_decimal (codes " type ") r.rtype
+rel_text r = columns_text
+    ((codes "rel offset ", Hex r.offset)
+    ∷ (codes " sym ", Decimal r.sym)
+    ∷ (codes " type ", Decimal r.rtype)
+    ∷ [])
 
 unfoldable pub rela_place : RelaRecord → List ℕ
-rela_place r = with_hex (codes "rela offset ") r.offset ++ with_decimal (codes " sym ") r.sym
-
-unfoldable pub rela_value : RelaRecord → List ℕ
-rela_value r =
-    with_decimal (codes " type ") r.rtype ++ with_signed (codes " addend ") r.addend
+rela_place r = columns_text
+    ((codes "rela offset ", Hex r.offset)
+    ∷ (codes " sym ", Decimal r.sym)
+    ∷ (codes " type ", Decimal r.rtype)
+    ∷ [])
 
 unfoldable pub rela_text : RelaRecord → List ℕ
-rela_text r = rela_place r ++ rela_value r
+rela_text r = rela_place r ++ column_text (codes " addend ") (Signed r.addend)
 
 unfoldable pub dyn_text : DynRecord → List ℕ
-dyn_text d = with_signed (codes "dyn tag ") d.tag ++ with_hex (codes " val ") d.val
+dyn_text d = columns_text
+    ((codes "dyn tag ", Signed d.tag)
+    ∷ (codes " val ", Hex d.val)
+    ∷ [])
 
 unfoldable pub item_text : ItemRecord → List ℕ
-item_text (items.Byte n) = with_hex (codes "byte ") n
-item_text (items.Half n) = with_hex (codes "half ") n
-item_text (items.Word n) = with_hex (codes "word ") n
-item_text (items.Addr n) = with_hex (codes "addr ") n
+item_text (items.Byte n) = column_text (codes "byte ") (Hex n)
+item_text (items.Half n) = column_text (codes "half ") (Hex n)
+item_text (items.Word n) = column_text (codes "word ") (Hex n)
+item_text (items.Addr n) = column_text (codes "addr ") (Hex n)
 item_text (items.Sym s) = sym_text s
 item_text (items.Rel r) = rel_text r
 item_text (items.Rela r) = rela_text r
@@ -185,7 +157,8 @@ item_text (items.Dyn d) = dyn_text d
 -- ---- Answers
 
 unfoldable pub data_text : Kind → ℕ → List ℕ
-data_text kind count = codes "kind " ++ kind_text kind ++ with_decimal (codes " count ") count
+data_text kind count =
+    codes "kind " ++ kind_text kind ++ column_text (codes " count ") (Decimal count)
 
 unfoldable pub raw_text : List ℕ → List ℕ
 raw_text bytes = codes "raw " ++ bytes_text bytes
@@ -194,11 +167,12 @@ unfoldable pub str_text : List ℕ → List ℕ
 str_text bytes = codes "str [" ++ bytes ++ codes "]"
 
 unfoldable pub note_text : NoteAt → List ℕ
-note_text n =
-    with_decimal (codes "note type ") n.ntype
-    ++ with_decimal (codes " namesz ") n.namesz
-    ++ with_decimal (codes " descsz ") n.descsz
-    ++ with_decimal (codes " next ") n.next
+note_text n = columns_text
+    ((codes "note type ", Decimal n.ntype)
+    ∷ (codes " namesz ", Decimal n.namesz)
+    ∷ (codes " descsz ", Decimal n.descsz)
+    ∷ (codes " next ", Decimal n.next)
+    ∷ [])
 
 unfoldable pub refused_text : ElfError → List ℕ
 refused_text e = codes "refused " ++ error_text e
@@ -207,21 +181,21 @@ unfoldable pub answer_text : Answer → List ℕ
 answer_text (Ehdr h) = ehdr_text h
 answer_text (Phdr h) = phdr_text h
 answer_text (Shdr h) = shdr_text h
-answer_text (Pieces n) = with_decimal (codes "pieces ") n
+answer_text (Pieces n) = column_text (codes "pieces ") (Decimal n)
 answer_text (Data kind count) = data_text kind count
 answer_text (Raw bytes) = raw_text bytes
 answer_text (Item item) = item_text item
 answer_text (Str bytes) = str_text bytes
 answer_text (Note n) = note_text n
 answer_text NoteEnd = codes "note end"
-answer_text (Found i) = with_decimal (codes "found ") i
+answer_text (Found i) = column_text (codes "found ") (Decimal i)
 answer_text FoundNone = codes "found none"
 answer_text Done = codes "ok"
-answer_text (Changed n) = with_decimal (codes "changed ") n
+answer_text (Changed n) = column_text (codes "changed ") (Decimal n)
 answer_text (Section s) = part_text (parts.Section s)
 answer_text (Piece s p) = part_text (parts.Piece s p)
-answer_text (Flags f) = with_hex (codes "flags ") f
-answer_text (Size n) = with_decimal (codes "size ") n
+answer_text (Flags f) = column_text (codes "flags ") (Hex f)
+answer_text (Size n) = column_text (codes "size ") (Decimal n)
 answer_text (Refused e) = refused_text e
 
 -- the line of an answer

@@ -1,5 +1,5 @@
 -- A script in a file: its calls, or why it is refused.
-use Rattle.std.specs.Prelude.{◌≡◌, ◌≤◌, ◌+◌, ◌++◌, ℕ, List, length, codes, decimal, Option, Some, None, IfSome, IfOk, IfErr, Result, Ok, Err}
+use Rattle.std.specs.Prelude.{◌≡◌, ◌≤◌, ◌+◌, ◌++◌, ℕ, List, codes, decimal, Option, Some, None, IfSome, IfOk, IfErr, Result, Ok, Err}
 use Rattle.elf_outside.specs.Asks.{Leaves}
 use Rattle.elf_outside.specs.Counts.{Rose}
 use Rattle.elf_outside.specs.declared.sources.Source.{Ghosts}

@@ -9,7 +9,8 @@ mod columns;
 mod headers;
 mod items;
 
-use crate::lines::columns::{put_decimal_after, put_hex_after, put_hex_bytes};
+use crate::lines::columns::Number::{Decimal, Hex};
+use crate::lines::columns::{put_column, put_columns, put_hex_bytes};
 use crate::lines::headers::{put_ehdr, put_phdr, put_shdr};
 use crate::lines::items::put_item;
 use elf_calls::Answer;
@@ -20,7 +21,7 @@ use gelf_view::NoteAt;
 use tool_output::Line;
 
 /// Appends the text of an answer.
-#[tactic(auto, using(crate::proofs::Rows::kept), unfolding(crate::specs::Lines::answer_text))]
+#[tactic(auto, unfolding(crate::specs::Lines::answer_text))]
 fn put_answer_text(page: &mut Octets, answer: &Answer) -> Result<(), ElfError>
     ensures ok { OnOk result (page.new ≡ page.old ++ answer_text answer.now) }
     ensures err { IfErr result (WantsMemory page.old page.new) }
@@ -29,21 +30,21 @@ fn put_answer_text(page: &mut Octets, answer: &Answer) -> Result<(), ElfError>
         Answer::Ehdr(h) => put_ehdr(page, h),
         Answer::Phdr(h) => put_phdr(page, h),
         Answer::Shdr(h) => put_shdr(page, h),
-        Answer::Pieces(n) => put_decimal_after(page, "pieces ", u64::from(*n)),
+        Answer::Pieces(n) => put_column(page, "pieces ", Decimal(u64::from(*n))),
         Answer::Data { kind, count } => put_data(page, *kind, *count),
         Answer::Raw(bytes) => put_raw(page, bytes.as_slice()),
         Answer::Item(item) => put_item(page, item),
         Answer::Str(bytes) => put_str(page, bytes.as_slice()),
         Answer::Note(note) => put_note(page, note),
         Answer::NoteEnd => put_text(page, "note end"),
-        Answer::Found(i) => put_decimal_after(page, "found ", *i),
+        Answer::Found(i) => put_column(page, "found ", Decimal(*i)),
         Answer::FoundNone => put_text(page, "found none"),
         Answer::Done => put_text(page, "ok"),
-        Answer::Changed(n) => put_decimal_after(page, "changed ", *n),
+        Answer::Changed(n) => put_column(page, "changed ", Decimal(*n)),
         Answer::Section(s) => put_part(page, Part::Section(*s)),
         Answer::Piece { s, p } => put_part(page, Part::Piece(*s, *p)),
-        Answer::Flags(flags) => put_hex_after(page, "flags ", u64::from(*flags)),
-        Answer::Size(n) => put_decimal_after(page, "size ", *n),
+        Answer::Flags(flags) => put_column(page, "flags ", Hex(u64::from(*flags))),
+        Answer::Size(n) => put_column(page, "size ", Decimal(*n)),
         Answer::Refused(e) => put_refused(page, e),
     }
 }
@@ -56,7 +57,7 @@ fn put_data(page: &mut Octets, kind: Kind, count: u64) -> Result<(), ElfError>
 {
     put_text(page, "kind ")?;
     put_text(page, kind_name(kind))?;
-    put_decimal_after(page, " count ", count)
+    put_column(page, " count ", Decimal(count))
 }
 
 /// Appends the bytes of a section.
@@ -81,15 +82,20 @@ fn put_str(page: &mut Octets, bytes: &[u8]) -> Result<(), ElfError>
 }
 
 /// Appends a note.
-#[tactic(auto, using(crate::proofs::Rows::kept), unfolding(crate::specs::Lines::note_text))]
+#[tactic(auto, unfolding(crate::specs::Lines::note_text))]
 fn put_note(page: &mut Octets, note: &NoteAt) -> Result<(), ElfError>
     ensures ok { OnOk result (page.new ≡ page.old ++ note_text note.now) }
     ensures err { IfErr result (WantsMemory page.old page.new) }
 {
-    put_decimal_after(page, "note type ", u64::from(note.ntype))?;
-    put_decimal_after(page, " namesz ", u64::from(note.namesz))?;
-    put_decimal_after(page, " descsz ", u64::from(note.descsz))?;
-    put_decimal_after(page, " next ", note.next)
+    put_columns(
+        page,
+        &[
+            ("note type ", Decimal(u64::from(note.ntype))),
+            (" namesz ", Decimal(note.namesz)),
+            (" descsz ", Decimal(note.descsz)),
+            (" next ", Decimal(note.next)),
+        ],
+    )
 }
 
 /// Appends a refusal.

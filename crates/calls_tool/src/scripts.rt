@@ -13,7 +13,7 @@ use std::alloc::Global;
 use tool_output::{FileName, Line, Message, Outputs, Stop};
 
 /// The first bad line of a script, as it is shown: `line N: TEXT`.
-#[derive(Clone, Copy, Debug, PartialEq, Eq)]
+#[derive(Clone, Copy)]
 pub struct BadLine {
     /// Its number, from 1; 0 where the script is too long.
     pub line: u32,

@@ -1,7 +1,8 @@
 -- A number that is added to each item of a piece, by the lend of the kind that it holds.
-use Rattle.std.proofs.Common.{◌≡◌, ℕ, Bool, true, false, not, List, [], ◌∷◌, length, map, Option, Some, None, Result, Ok, Err, refl, sym, ap, ◌∙◌, subst, inl}
+use Rattle.std.proofs.Common.{◌≡◌, ℕ, ◌+◌, ◌<◌, Bool, true, false, not, List, [], ◌∷◌, ◌++◌, length, map, take, drop, get_or, set, Option, Some, None, Result, Ok, Err, refl, sym, ap, ◌∙◌, subst, inl}
 use Rattle.std.specs.Prelude.{IsTrue}
 use Rattle.std.proofs.lemmas.List.{length-map}
+use Rattle.std.proofs.lemmas.List.Edits.{map_over_more}
 use Rattle.elf_types.specs.declared.records.DataId.{DataId}
 use Rattle.elf_types.specs.declared.records.Kind.{Kind}
 use Rattle.elf_types.specs.declared.records.Kind.TheVariants as kinds
@@ -31,6 +32,11 @@ use Rattle.elf_calls.specs.declared.answers.Answer.TheVariants as answer
 use Rattle.elf_calls.specs.Applies.{Meets, all_early, at_any_step, unless_empty}
 use Rattle.elf_calls.proofs.Answered.{by_equal, by_error, by_refusal}
 use Rattle.elf_calls.proofs.ReadLaws.{owned_read, error_read, value_read, nothing_read, none_in}
+
+-- one item more that a number was added to
+pub one_more : {A : Type 0} (plus : A → A) (items there : List A) (i : ℕ) (old new : A) → i < length items → there ≡ map plus (take i items) ++ drop i items → old ≡ get_or there i old
+    → new ≡ plus old → set there i new ≡ map plus (take (i + 1) items) ++ drop (i + 1) items
+one_more plus items there i old new within so_far is added = ap (λ x. set there i x) added ∙ map_over_more plus items there i old within so_far is
 
 -- of a kind that has items the stepped object counts, and the piece is changed
 filled : (kind : Kind) (old stepped : Object) → same_kind kind kinds.Empty ≡ false → or_same kind old stepped ≡ stepped

@@ -40,6 +40,14 @@ module _ {A B : Type 0} (f : A → B) where
   by_reads told w q (Err e) stated (inl came) = inl (came.0, ap (λ (s : Result A ElfError). result_map f s) came.1)
   by_reads told w q (Err e) stated (inr came) = inr (came.0, came.1, λ t. ap (λ (s : Result A ElfError). result_map f s) (came.2 t))
 
+-- the answer of a call that reads, in its own form
+pub by_itself : {B : Type 0} (told : Bool) (w : Wants) (r stated : Result B ElfError) → Answers told w r stated → AnswersRead told at_any_step (all_early stated) r stated
+by_itself told w (Ok x) (Ok y) came = (refl, came.1)
+by_itself told w (Ok x) (Err e) came = cc
+by_itself told w (Err Memory) stated came = (refl, refl)
+by_itself told w (Err Read) stated came = (refl, refl)
+by_itself {B} told w (Err e) stated came = inl (ap (λ (s : Result B ElfError). err_of s) came, came)
+
 -- a refusal that is stated
 pub by_refusal : {B : Type 0} (exact : Bool) (e : ElfError) (stated : Result B ElfError) → stated ≡ Err e → AnswersRead exact at_any_step (all_early stated) (Err e) stated
 by_refusal exact Memory stated is = (refl, refl)

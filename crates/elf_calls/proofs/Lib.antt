@@ -7,3 +7,4 @@ pub mod Setting
 pub mod AddLaws
 pub mod ItemForms
 pub mod SetFields
+pub mod Forms

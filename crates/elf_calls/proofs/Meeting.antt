@@ -1,6 +1,6 @@
 -- Calls of the library that meet those of a script.
-use Rattle.std.proofs.Common.{◌≡◌, ℕ, Bool, List, [], Option, None, Result, Ok, Err, refl, sym, ap, ◌∙◌, subst}
-use Rattle.std.specs.Prelude.{IfErr}
+use Rattle.std.proofs.Common.{◌≡◌, ℕ, Bool, true, false, not, List, [], Option, Some, None, Result, Ok, Err, refl, sym, ap, ◌∙◌, subst}
+use Rattle.std.specs.Prelude.{IfErr, ◌||◌}
 use Rattle.elf_types.specs.declared.records.DataId.{DataId}
 use Rattle.elf_types.specs.declared.errors.ElfError.{ElfError}
 use Rattle.elf_types.specs.declared.errors.ElfError.TheVariants.{Memory}
@@ -18,9 +18,9 @@ use Rattle.elf_descriptor.specs.State.{State}
 use Rattle.elf_descriptor.specs.Reads.{Reads}
 use Rattle.elf_descriptor.specs.Edits.{StepsTo}
 use Rattle.elf_calls.specs.Stated.{done, refusal_alone, copying}
-use Rattle.elf_calls.specs.Applies.{Meets, Leaves, all_early, at_any_step}
-use Rattle.elf_calls.proofs.Answered.{by_equal, by_refusal, by_value}
-use Rattle.elf_calls.proofs.ReadLaws.{nothing_read, value_read, error_read}
+use Rattle.elf_calls.specs.Applies.{Meets, Sets, Leaves, all_early, at_any_step, set_refusals}
+use Rattle.elf_calls.proofs.Answered.{by_equal, by_reads, by_refusal, by_value}
+use Rattle.elf_calls.proofs.ReadLaws.{nothing_read, value_read, error_read, form_read}
 
 -- ---- Calls that leave the object
 
@@ -141,9 +141,12 @@ edits_meet {S} {A} {B} g f c exact holding (Err e) old new left came refuses aft
     stepped_meets g f c exact holding (Err e) old new old.ready (sym came.0) (refuses e came.0) came.1
 
 -- what was handed back is dropped
-pub dropped_back : {A B E : Type 0} (items : B) (stated : Result A E) → refusal_alone (handing_back items stated) ≡ stated
+dropped_back : {A B E : Type 0} (items : B) (stated : Result A E) → refusal_alone (handing_back items stated) ≡ stated
 dropped_back items (Ok x) = refl
 dropped_back items (Err e) = refl
+
+pub came_back : {A B E : Type 0} (items : B) (stated : Result A E) (r : Result A (B × E)) (q : Result A E) → q ≡ refusal_alone r → r ≡ handing_back items stated → q ≡ stated
+came_back {A} {B} {E} items stated r q is came = is ∙ ap (λ (s : Result A (B × E)). refusal_alone s) came ∙ dropped_back items stated
 
 pub dropped_steps : {A B E S : Type 0} (r : Result A (B × E)) (old new stepped : S) → StepsTo r old new stepped → StepsTo (refusal_alone r) old new stepped
 dropped_steps (Ok x) old new stepped left = left
@@ -163,3 +166,25 @@ pub copying_meets : {S B : Type 0} (g : Ghosts S) (c : calls.Call B) (q : Refusa
     → Meets g c q exact None holding r old new → Meets g (copying c) q exact None holding r old new
 copying_meets g c q exact holding (Ok x) old new meets = record { answers = meets.answers; leaves = meets.leaves; reads = meets.reads }
 copying_meets g c q exact holding (Err e) old new meets = record { answers = meets.answers; leaves = meets.leaves; reads = meets.reads }
+
+-- ---- The edit of an item, in the form of its answer
+
+done_answers : (keeps exact : Bool) (d : DataId) (i : ℕ) (r stated : Result (Unit {0}) ElfError) → AnswersRead exact at_any_step (set_refusals keeps d i stated) r stated
+    → AnswersRead exact at_any_step (set_refusals keeps d i (result_map done stated)) (result_map done r) (result_map done stated)
+done_answers true exact d i r (Ok x) came = by_reads done exact at_any_step (set_refusals {A = Unit {0}} true d i (Ok x)) r (Ok x) came
+done_answers true exact d i r (Err e) came = by_reads done exact at_any_step (set_refusals {A = Unit {0}} true d i (Err e)) r (Err e) came
+done_answers false exact d i r (Ok x) came = by_reads done exact at_any_step (set_refusals {A = Unit {0}} false d i (Ok x)) r (Ok x) came
+done_answers false exact d i r (Err e) came = by_reads done exact at_any_step (set_refusals {A = Unit {0}} false d i (Err e)) r (Err e) came
+
+done_leaves : (told : Bool) (c : calls.Call (Unit {0})) (d : DataId) (r : Result (Unit {0}) ElfError) (old new : Object) → Leaves told c (Some d) r old new
+    → Leaves told (mapped done c) (Some d) (result_map done r) old new
+done_leaves told c d (Ok x) old new left = left
+done_leaves told c d (Err e) old new left = left
+
+pub done_meets : {S : Type 0} (g : Ghosts S) (c : calls.Call (Unit {0})) (keeps : Bool) (d : DataId) (i : ℕ) (r : Result (Unit {0}) ElfError) (old new : State S) → Sets g c keeps d i r old new
+    → Meets g (mapped done c) (set_refusals keeps d i ((mapped done c).answer old.o)) (not keeps || old.told) (Some d) ((mapped done c).reads old.o) (result_map done r) old new
+done_meets g c keeps d i r old new sets = record {
+  answers = done_answers keeps (not keeps || old.told) d i r (c.answer old.o) sets.answers;
+  leaves = done_leaves old.told c d r old.o new.o sets.leaves;
+  reads = form_read g done r old new (c.reads old.o) (c.reads old.o) (due c old.o old.loaded) sets.reads;
+}

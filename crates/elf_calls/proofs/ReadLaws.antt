@@ -7,6 +7,7 @@ use Rattle.elf_outside.specs.Asks.{Asks, ReadRose}
 use Rattle.elf_outside.proofs.AskLemmas.{asks_then, read_rose_before, read_rose_on}
 use Rattle.elf_object.specs.Object.{Object}
 use Rattle.elf_object.specs.Due.{is_loaded, homes_due}
+use Rattle.elf_object.specs.Words.{result_map}
 use Rattle.elf_descriptor.specs.State.{State}
 use Rattle.elf_descriptor.specs.Reads.{Reads}
 use Rattle.elf_descriptor.specs.Lends.{ReadsToOwn}
@@ -69,6 +70,28 @@ module _ {S : Type 0} (g : Ghosts S) (old new : State S) (sections holding : Lis
     holds = reads.holds;
     first_use = λ refused. reads.first_use (rw is tt);
   }
+
+-- another form of the answer
+pub form_read : {S T U : Type 0} (g : Ghosts S) (f : T → U) (r : Result T ElfError) (old new : State S) (sections holding : List ℕ) (due : ℕ)
+    → ReadsAtFirst g r old new sections holding due → ReadsAtFirst g (result_map f r) old new sections holding due
+form_read {S} {T} {U} g f (Ok x) old new sections holding due reads = record {
+  source = asks_then g (Ok x) (Ok (f x)) old.source new.source due reads.source tt;
+  told = reads.told;
+  loads = reads.loads;
+  stays = reads.stays;
+  holds = reads.holds;
+  first_use = reads.first_use;
+}
+form_read {S} {T} {U} g f (Err e) old new sections holding due reads =
+    let r : Result T ElfError = Err e in
+    let q : Result U ElfError = Err e in record {
+      source = asks_then g r q old.source new.source due reads.source (read_rose_on T U e (g.faults old.source) (g.faults new.source) reads.source.read);
+      told = reads.told;
+      loads = reads.loads;
+      stays = reads.stays;
+      holds = reads.holds;
+      first_use = reads.first_use;
+    }
 
 -- two calls in a row, of which the first gave a value and left the object, and which may read the same homes
 pub two_read : {S T U : Type 0} (g : Ghosts S) (old mid new : State S) (sections : List ℕ) (r : Result T ElfError) (x : T) (q : Result U ElfError)

@@ -1,6 +1,6 @@
 -- One field of an item: the item's getter, and then the update with what it gave, one field changed.
 use Rattle.std.proofs.Common.{◌≡◌, ℕ, ◌<◌, Bool, true, false, not, List, [], ◌∷◌, ◌++◌, length, Option, Some, None, Result, Ok, Err, refl, sym, ap, ◌∙◌, subst, inl, inr, eq-eqb}
-use Rattle.std.specs.Prelude.{IsTrue, OnOk, OnErr, ◌==◌, ◌||◌, filter, slice_get, nat_le, is_none, if◌then◌else◌}
+use Rattle.std.specs.Prelude.{IsTrue, OnOk, OnErr, ◌==◌, ◌||◌, filter, slice_get, is_none, if◌then◌else◌}
 use Rattle.std.specs.List.{list_any}
 use Rattle.std.proofs.lemmas.Bool.{lt-leb}
 use Rattle.std.proofs.lemmas.List.Sums.{sum_by-append}
@@ -10,18 +10,18 @@ use Rattle.elf_types.specs.declared.records.DataId.{DataId}
 use Rattle.elf_types.specs.declared.records.Kind.{Kind}
 use Rattle.elf_types.specs.declared.records.Part.TheVariants as part
 use Rattle.elf_types.specs.declared.errors.ElfError.{ElfError}
-use Rattle.elf_types.specs.declared.errors.ElfError.TheVariants.{Memory, Read, NoEntry, Unfit, NoSection, NoData, WrongKind, OutOfFile, Ragged}
+use Rattle.elf_types.specs.declared.errors.ElfError.TheVariants.{Memory, Read, NoEntry, Unfit}
 use Rattle.elf_types.specs.Answers.{answered, err_of, first_refusal, refused_if, ◌>>=◌}
 use Rattle.elf_xlate.specs.declared.content.Items.{Items}
-use Rattle.elf_xlate.specs.Translation.{decoded, items_kind, items_count}
+use Rattle.elf_xlate.specs.Translation.{items_kind, items_count}
 use Rattle.elf_outside.specs.declared.sources.Source.{Ghosts}
-use Rattle.elf_object.specs.Object.{Object, piece_at, section_at}
-use Rattle.elf_object.specs.Answers.{content, no_section, no_data, no_entry, wrong_kind, no_content, same_kind, kind_at, count_at, piece_count, items_at, lend_refusal, item_refusal, entry_answer}
-use Rattle.elf_object.specs.Words.{Wants, Answers, AnswersRead, result_map}
+use Rattle.elf_object.specs.Object.{Object, piece_at}
+use Rattle.elf_object.specs.Answers.{no_entry, count_at, items_at, lend_refusal, item_refusal, entry_answer}
+use Rattle.elf_object.specs.Words.{Wants, Answers, AnswersRead}
 use Rattle.elf_object.specs.Calls as calls
 use Rattle.elf_object.specs.Calls.{due, update_item_refusal}
 use Rattle.elf_object.specs.Due.{home_due, homes_due, unless_refused, when_piece_clean, with_others}
-use Rattle.elf_object.specs.Runs.{looked, after_look, mapped}
+use Rattle.elf_object.specs.Runs.{looked, after_look}
 use Rattle.elf_object.specs.Steps.{BecomesOwn}
 use Rattle.elf_object.proofs.AnswerLaws.{entry_value, lend_kind}
 use Rattle.elf_descriptor.specs.State.{State}
@@ -29,37 +29,14 @@ use Rattle.elf_descriptor.specs.Entries.{entry}
 use Rattle.elf_descriptor.specs.Reads.{Reads, Queries, Looks}
 use Rattle.elf_descriptor.specs.Stores.{store, EditsItems}
 use Rattle.elf_descriptor.specs.Lends.{ReadsToOwn}
-use Rattle.elf_descriptor.proofs.Refusals.{IsUnread, unread_if, unread_first}
+use Rattle.elf_descriptor.proofs.Refusals.{IsUnread}
 use Rattle.elf_descriptor.proofs.ReadsLaws.{reads_wider}
-use Rattle.elf_calls.specs.declared.answers.Answer.{Answer}
-use Rattle.elf_calls.specs.declared.answers.Answer.TheVariants as answer
-use Rattle.elf_calls.specs.Stated.{done}
+use Rattle.gelf_view.proofs.LendLemmas.{lend_unread}
 use Rattle.elf_calls.specs.Applies.{Sets, Leaves, ReadsAtFirst, set_refusals, all_early, at_any_step, unless_unfit}
-use Rattle.elf_calls.proofs.Answered.{by_answers}
+use Rattle.elf_calls.proofs.Answered.{by_itself}
 use Rattle.elf_calls.proofs.ReadLaws.{error_read, owned_read, two_read, none_in}
 
 -- ---- How a getter of items is refused
-
-content_unread : (o : Object) (s p : ℕ) → IsUnread (no_content o s p)
-unfolding no_content content
-content_unread o s p = by_own (piece_at o s p).own
-  where
-    by_made : (out : Bool) (made : Option Items) → IsUnread (err_of (if out then Err (OutOfFile s) else (elim made [ None ↦ Err (Ragged s) | Some items ↦ Ok items ])))
-    by_made true made = inr refl
-    by_made false None = inr refl
-    by_made false (Some items) = inl refl
-
-    by_own : (own : Option Items) → IsUnread (elim own [ None ↦ err_of (content o s) | Some items ↦ None ])
-    by_own (Some items) = inl refl
-    by_own None = by_made (section_at o s).home.out (decoded (section_at o s).home.kind o.header.class o.header.order (section_at o s).raw)
-
-lend_unread : (o : Object) (kind : Kind) (s p : ℕ) → IsUnread (lend_refusal o kind s p)
-unfolding lend_refusal
-lend_unread o kind s p =
-    unread_first (no_section o s) (no_data o s p ∷ wrong_kind o kind s p ∷ no_content o s p ∷ []) (unread_if (nat_le (length o.sections) s) (NoSection s (length o.sections)) refl)
-    (unread_first (no_data o s p) (wrong_kind o kind s p ∷ no_content o s p ∷ []) (unread_if (nat_le (piece_count o s) p) (NoData p (piece_count o s)) refl)
-    (unread_first (wrong_kind o kind s p) (no_content o s p ∷ []) (unread_if (not (same_kind (kind_at o s p) kind)) (WrongKind (kind_at o s p)) refl)
-    (unread_first (no_content o s p) [] (content_unread o s p) (inl refl))))
 
 -- never as an item that does not fit
 entry_fits : {A : Type 0} (refusal : Option ElfError) (l : List A) (i : ℕ) (e : ElfError) → IsUnread refusal → entry_answer refusal l i ≡ Err e → unless_unfit (Some e) ≡ Some e
@@ -84,15 +61,15 @@ single (Some e) = refl
 -- the getter is refused
 refused_answers : {A : Type 0} (told exact keeps : Bool) (d : DataId) (i : ℕ) (w : Wants) (e : ElfError) (first : Result A ElfError) (next : A → Result (Unit {0}) ElfError)
     → ((f : ElfError) → first ≡ Err f → unless_unfit (Some f) ≡ Some f) → Answers told w (Err e) first
-    → AnswersRead exact at_any_step (set_refusals keeps d i (result_map done (first >>= next))) (Err e) (result_map done (first >>= next))
+    → AnswersRead exact at_any_step (set_refusals keeps d i (first >>= next)) (Err e) (first >>= next)
 refused_answers told exact true d i w Memory first next fits came = (refl, refl)
 refused_answers told exact false d i w Memory first next fits came = (refl, refl)
 refused_answers told exact true d i w Read first next fits came = (refl, refl)
 refused_answers told exact false d i w Read first next fits came = (refl, refl)
 refused_answers {A} told exact false d i w e first next fits came =
-    inl (ap (λ (s : Result A ElfError). err_of (result_map done (s >>= next))) came, ap (λ (s : Result A ElfError). result_map done (s >>= next)) came)
+    inl (ap (λ (s : Result A ElfError). err_of (s >>= next)) came, ap (λ (s : Result A ElfError). s >>= next) came)
 refused_answers {A} told exact true d i w e first next fits came =
-    inl (ap (λ (s : Result A ElfError). unless_unfit (err_of (result_map done (s >>= next)))) came ∙ fits e came, ap (λ (s : Result A ElfError). result_map done (s >>= next)) came)
+    inl (ap (λ (s : Result A ElfError). unless_unfit (err_of (s >>= next))) came ∙ fits e came, ap (λ (s : Result A ElfError). s >>= next) came)
 
 unfit : DataId → ℕ → Bool → Result (Unit {0}) ElfError
 unfit d i fits = answered (refused_if (not fits) (Unfit (part.Piece d.section d.piece) i)) (tt {0})
@@ -100,7 +77,7 @@ unfit d i fits = answered (refused_if (not fits) (Unfit (part.Piece d.section d.
 -- the update of a record: whether it fits may rest on bytes that are not told
 fitting_answers : (told : Bool) (d : DataId) (i : ℕ) (w : Wants) (came_fits stated_fits : Bool) (r : Result (Unit {0}) ElfError)
     → (IsTrue told → stated_fits ≡ came_fits) → Answers true w r (unfit d i came_fits)
-    → AnswersRead told at_any_step (set_refusals true d i (result_map done (unfit d i stated_fits))) (result_map done r) (result_map done (unfit d i stated_fits))
+    → AnswersRead told at_any_step (set_refusals true d i (unfit d i stated_fits)) r (unfit d i stated_fits)
 unfolding unfit
 fitting_answers told d i w true true (Ok x) same came = (refl, λ t. refl)
 fitting_answers told d i w true false (Ok x) same came = (refl, λ t. let differ = same t in cc)
@@ -109,7 +86,7 @@ fitting_answers told d i w came_fits stated (Err Memory) same came = (refl, refl
 fitting_answers told d i w came_fits stated (Err Read) same came = (refl, refl)
 fitting_answers told d i w true stated (Err e) same came = cc
 fitting_answers told d i w false true (Err e) same came = inr (refl, cc, λ t. let differ = same t in cc)
-fitting_answers told d i w false false (Err e) same came = inr (refl, cc, λ t. ap (λ (r : Result (Unit {0}) ElfError). result_map done r) came)
+fitting_answers told d i w false false (Err e) same came = inr (refl, cc, λ t. came)
 
 -- ---- The calls
 
@@ -202,16 +179,16 @@ module _ {S A : Type 0} (g : Ghosts S) (kind : Kind) (variant : List A → Items
 
   put_own : (old mid new : State S) (x y : A) (r : Result (Unit {0}) ElfError) (v : Unit {0}) → (entry kind list_of d.section d.piece i).answer old.o ≡ Ok y → mid.o ≡ old.o → r ≡ Ok v
       → EditsItems g (store kind variant list_of fitting d.section d.piece i (change x)) d.section d.piece r mid new
-      → ReadsAtFirst g (Ok answer.Done) mid new (when_piece_clean old.o d.section d.piece) (when_piece_clean old.o d.section d.piece) (homes_due mid.o mid.loaded (when_piece_clean old.o d.section d.piece))
+      → ReadsAtFirst {T = Unit {0}} g (Ok v) mid new (when_piece_clean old.o d.section d.piece) (when_piece_clean old.o d.section d.piece) (homes_due mid.o mid.loaded (when_piece_clean old.o d.section d.piece))
   put_own old mid new x y r v is same ok edits =
       let put = store kind variant list_of fitting d.section d.piece i (change x) in
       let reads = ap (λ (o : Object). put.reads o) same ∙ put_reads old.o (change x) y is in
-      owned_read g mid new (when_piece_clean old.o d.section d.piece) (when_piece_clean old.o d.section d.piece) r v answer.Done (homes_due mid.o mid.loaded (when_piece_clean old.o d.section d.piece)) ok
+      owned_read g mid new (when_piece_clean old.o d.section d.piece) (when_piece_clean old.o d.section d.piece) r v v (homes_due mid.o mid.loaded (when_piece_clean old.o d.section d.piece)) ok
       (subst (λ (l : List ℕ). ReadsToOwn g r mid new l (homes_due mid.o mid.loaded l)) reads edits.reads)
 
   put_none : (old mid new : State S) (x y : A) (r : Result (Unit {0}) ElfError) (e : ElfError) → (entry kind list_of d.section d.piece i).answer old.o ≡ Ok y → mid.o ≡ old.o → r ≡ Err e
       → Queries g (store kind variant list_of fitting d.section d.piece i (change x)) [] r mid new
-      → ReadsAtFirst {T = Answer} g (Err e) mid new (when_piece_clean old.o d.section d.piece) (when_piece_clean old.o d.section d.piece) (homes_due mid.o mid.loaded (when_piece_clean old.o d.section d.piece))
+      → ReadsAtFirst {T = Unit {0}} g (Err e) mid new (when_piece_clean old.o d.section d.piece) (when_piece_clean old.o d.section d.piece) (homes_due mid.o mid.loaded (when_piece_clean old.o d.section d.piece))
   put_none old mid new x y r e is same err query =
       let put = store kind variant list_of fitting d.section d.piece i (change x) in
       let reads = ap (λ (o : Object). put.reads o) same ∙ put_reads old.o (change x) y is in
@@ -222,7 +199,7 @@ module _ {S A : Type 0} (g : Ghosts S) (kind : Kind) (variant : List A → Items
   put_leaves : (old mid new : State S) (w : Wants) (x : A) (r : Result (Unit {0}) ElfError) → Answers old.told w (Ok x) ((entry kind list_of d.section d.piece i).answer old.o) → mid.o ≡ old.o → mid.told ≡ old.told
       → OnOk r (EditsItems g (store kind variant list_of fitting d.section d.piece i (change x)) d.section d.piece r mid new)
       → OnErr r (Queries g (store kind variant list_of fitting d.section d.piece i (change x)) [] r mid new)
-      → Leaves old.told (mapped done (set_by kind variant list_of fitting change d i)) (Some d) (result_map done r) old.o new.o
+      → Leaves old.told (set_by kind variant list_of fitting change d i) (Some d) r old.o new.o
   put_leaves old mid new w x (Err e) came same told edits query = query.object ∙ same
   put_leaves old mid new w x (Ok v) came same told edits query =
       let get = entry kind list_of d.section d.piece i in
@@ -237,14 +214,14 @@ module _ {S A : Type 0} (g : Ghosts S) (kind : Kind) (variant : List A → Items
       → Looks g (entry kind list_of d.section d.piece i) first old mid
       → OnOk r (EditsItems g (store kind variant list_of fitting d.section d.piece i (change x)) d.section d.piece r mid new)
       → OnErr r (Queries g (store kind variant list_of fitting d.section d.piece i (change x)) [] r mid new)
-      → ReadsAtFirst g (result_map done r) old new (when_piece_clean old.o d.section d.piece) (when_piece_clean old.o d.section d.piece) (homes_due old.o old.loaded (when_piece_clean old.o d.section d.piece))
+      → ReadsAtFirst g r old new (when_piece_clean old.o d.section d.piece) (when_piece_clean old.o d.section d.piece) (homes_due old.o old.loaded (when_piece_clean old.o d.section d.piece))
   put_reading old mid new x y first r was is looks edits query =
       let early = subst (λ (l : List ℕ). Reads g first old mid l l (homes_due old.o old.loaded l)) (get_reads old.o y is) looks.reads in
-      two_read g old mid new (when_piece_clean old.o d.section d.piece) first x (result_map done r) was looks.object early (by_answer r edits query)
+      two_read g old mid new (when_piece_clean old.o d.section d.piece) first x r was looks.object early (by_answer r edits query)
     where
       by_answer : (r : Result (Unit {0}) ElfError) → OnOk r (EditsItems g (store kind variant list_of fitting d.section d.piece i (change x)) d.section d.piece r mid new)
           → OnErr r (Queries g (store kind variant list_of fitting d.section d.piece i (change x)) [] r mid new)
-          → ReadsAtFirst g (result_map done r) mid new (when_piece_clean old.o d.section d.piece) (when_piece_clean old.o d.section d.piece) (homes_due mid.o mid.loaded (when_piece_clean old.o d.section d.piece))
+          → ReadsAtFirst g r mid new (when_piece_clean old.o d.section d.piece) (when_piece_clean old.o d.section d.piece) (homes_due mid.o mid.loaded (when_piece_clean old.o d.section d.piece))
       by_answer (Ok v) edits query = put_own old mid new x y (Ok v) v is looks.object refl edits
       by_answer (Err e) edits query = put_none old mid new x y (Err e) e is looks.object refl query
 
@@ -254,10 +231,10 @@ module _ {S A : Type 0} (g : Ghosts S) (kind : Kind) (variant : List A → Items
       (edits : OnOk r (EditsItems g (store kind variant list_of fitting d.section d.piece i (change x)) d.section d.piece r mid new))
       (query : OnErr r (Queries g (store kind variant list_of fitting d.section d.piece i (change x)) [] r mid new)) where
     reading : (y : A) → (entry kind list_of d.section d.piece i).answer old.o ≡ Ok y
-        → ReadsAtFirst g (result_map done r) old new ((set_by kind variant list_of fitting change d i).reads old.o) ((set_by kind variant list_of fitting change d i).reads old.o)
+        → ReadsAtFirst g r old new ((set_by kind variant list_of fitting change d i).reads old.o) ((set_by kind variant list_of fitting change d i).reads old.o)
         (due (set_by kind variant list_of fitting change d i) old.o old.loaded)
     reading y is =
-        subst (λ (l : List ℕ). ReadsAtFirst g (result_map done r) old new l l (homes_due old.o old.loaded l)) (sym (both_reads old.o y is)) (put_reading old mid new x y first r was is looks edits query)
+        subst (λ (l : List ℕ). ReadsAtFirst g r old new l l (homes_due old.o old.loaded l)) (sym (both_reads old.o y is)) (put_reading old mid new x y first r was is looks edits query)
 
     stated_put : (y : A) → (entry kind list_of d.section d.piece i).answer old.o ≡ Ok y → Answers true v r (unfit d i (fitting old.o.header.class (change x)))
     stated_put y is =
@@ -265,10 +242,10 @@ module _ {S A : Type 0} (g : Ghosts S) (kind : Kind) (variant : List A → Items
         (ap (λ (o : Object). (store kind variant list_of fitting d.section d.piece i (change x)).answer o) looks.object ∙ put_answer old.o (change x) y is) update
 
     -- a field of a record
-    pub set_field : Sets g (set_by kind variant list_of fitting change d i) true d i (result_map done r) old new
+    pub set_field : Sets g (set_by kind variant list_of fitting change d i) true d i r old new
     set_field =
         let item = stated_item old.told w x ((entry kind list_of d.section d.piece i).answer old.o) came in record {
-          answers = subst (λ (s : Result (Unit {0}) ElfError). AnswersRead old.told at_any_step (set_refusals true d i (result_map done s)) (result_map done r) (result_map done s)) (sym (both_answer old.o item.0 item.1))
+          answers = subst (λ (s : Result (Unit {0}) ElfError). AnswersRead old.told at_any_step (set_refusals true d i s) r s) (sym (both_answer old.o item.0 item.1))
               (fitting_answers old.told d i v (fitting old.o.header.class (change x)) (fitting old.o.header.class (change item.0)) r
               (λ t. ap (λ (z : A). fitting old.o.header.class (change z)) (item.2 t)) (stated_put item.0 item.1));
           leaves = put_leaves old mid new w x r came looks.object looks.reads.told edits query;
@@ -276,12 +253,12 @@ module _ {S A : Type 0} (g : Ghosts S) (kind : Kind) (variant : List A → Items
         }
 
     -- a number, which does not rest on the one that was there
-    pub set_number : ((y z : A) → change y ≡ change z) → Sets g (set_by kind variant list_of fitting change d i) false d i (result_map done r) old new
+    pub set_number : ((y z : A) → change y ≡ change z) → Sets g (set_by kind variant list_of fitting change d i) false d i r old new
     set_number fixed =
         let item = stated_item old.told w x ((entry kind list_of d.section d.piece i).answer old.o) came in record {
-          answers = subst (λ (s : Result (Unit {0}) ElfError). AnswersRead true at_any_step (all_early (result_map done s)) (result_map done r) (result_map done s))
+          answers = subst (λ (s : Result (Unit {0}) ElfError). AnswersRead true at_any_step (all_early s) r s)
               (ap (λ (z : A). unfit d i (fitting old.o.header.class z)) (fixed x item.0) ∙ sym (both_answer old.o item.0 item.1))
-              (by_answers done true v r (unfit d i (fitting old.o.header.class (change x))) (stated_put item.0 item.1));
+              (by_itself true v r (unfit d i (fitting old.o.header.class (change x))) (stated_put item.0 item.1));
           leaves = put_leaves old mid new w x r came looks.object looks.reads.told edits query;
           reads = reading item.0 item.1;
         }

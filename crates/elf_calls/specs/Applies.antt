@@ -24,8 +24,7 @@ use Rattle.call_script.specs.declared.calls.ItemSet.{ItemSet}
 use Rattle.call_script.specs.declared.calls.ItemSet.TheVariants as set
 use Rattle.elf_calls.specs.declared.answers.Answer.{Answer}
 use Rattle.elf_calls.specs.declared.answers.Answer.TheVariants as answer
-use Rattle.elf_object.specs.Runs.{mapped}
-use Rattle.elf_calls.specs.Stated.{stated, done}
+use Rattle.elf_calls.specs.Stated.{stated}
 
 -- an answer as a value or a refusal
 abbrev pub result_of : Answer → Result Answer ElfError
@@ -59,7 +58,7 @@ unless_unfit (Some (Unfit part i)) = None
 unless_unfit refusal = refusal
 
 -- that a record does not fit its class is met in the bytes of its other fields
-abbrev pub set_refusals : Bool → DataId → ℕ → Result Answer ElfError → Refusals
+abbrev pub set_refusals : {A : Type 0} → Bool → DataId → ℕ → Result A ElfError → Refusals
 set_refusals true d i answer = record {
   unread = None;
   early = unless_unfit (err_of answer);
@@ -155,12 +154,12 @@ Applies g c result old new =
     Meets g (stated c) (refusals c old.o) (not (shows_bytes c) || old.told)
     (changed_piece c old.o) (holding c old.o) result old new
 
--- the same of a call that sets an item, which may keep fields that stand in the file
+-- the same of the call that sets an item, which may keep fields that stand in the file
 abbrev pub Sets : {S : Type 0} → Ghosts S → calls.Call (Unit {0}) → Bool → DataId → ℕ
-    → Result Answer ElfError → State S → State S → Type 0
+    → Result (Unit {0}) ElfError → State S → State S → Type 0
 Sets g c keeps d i result old new =
-    Meets g (mapped done c) (set_refusals keeps d i ((mapped done c).answer old.o))
-    (not keeps || old.told) (Some d) (c.reads old.o) result old new
+    Meets g c (set_refusals keeps d i (c.answer old.o)) (not keeps || old.told) (Some d)
+    (c.reads old.o) result old new
 
 -- an answer that holds a copy of bytes, which may want memory
 abbrev pub IsCopied : Answer → Result Answer ElfError → Type 0

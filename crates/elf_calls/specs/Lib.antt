@@ -1,3 +1,4 @@
 pub mod Applies
 pub mod Fields
+pub mod Forms
 pub mod Stated

@@ -9,7 +9,7 @@ use elf_types::{Dyn, Ehdr, ElfError, Kind, Octets, Phdr, Rel, Rela, Shdr, Sym};
 use gelf_view::NoteAt;
 
 /// An item of a piece. The variant is its kind.
-#[derive(Clone, Copy, Debug, PartialEq, Eq)]
+#[derive(Clone, Copy)]
 pub enum Item {
     /// A byte.
     Byte(u8),

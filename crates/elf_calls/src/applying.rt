@@ -1,7 +1,8 @@
 //! One call of a script, applied to a descriptor.
 
-ghost use Rattle.std.specs.Prelude.{◌≡◌, true};
+ghost use Rattle.std.specs.Prelude.{◌≡◌, true, IfOk};
 ghost use Rattle.elf_calls.specs.Applies.{Applies, result_of};
+ghost use Rattle.elf_calls.specs.Forms.{IsAnswerOf};
 ghost use Rattle.elf_calls.specs.Stated.{is_built};
 
 use crate::answers::Answer;
@@ -18,12 +19,14 @@ use elf_outside::Source;
 
 /// Applies a call to a descriptor. It answers what the call of the plain object answers, `Refused`
 /// with its refusal where it is refused, and leaves the object as that call does. `Memory` and
-/// `Read` may come at any step and leave the object; `Read` only where the source failed.
+/// `Read` may come at any step and leave the object; `Read` only where the source failed. What is
+/// answered has the form that is the call's also where the source does not tell its bytes.
 ///
 /// It reads no home but those that the call names, each at its first use.
 pub fn apply<S: Source>(elf: &mut Elf<S>, call: &Call) -> Answer
     requires { is_built call.now ≡ true }
-    ensures { Applies S.Source call.now (result_of result) elf.old elf.new }
+    ensures meets { Applies S.Source call.now (result_of result) elf.old elf.new }
+    ensures form { IfOk (result_of result) (IsAnswerOf call.now elf.old.o) }
 {
     match call {
         Call::Ehdr => show_ehdr(elf),

@@ -1,10 +1,11 @@
 //! The calls that show what stands in a section, which they read at its first use.
 
-ghost use Rattle.std.specs.Prelude.{◌≡◌, Ok};
+ghost use Rattle.std.specs.Prelude.{◌≡◌, Ok, IfOk};
 ghost use Rattle.elf_object.specs.Runs.{entry_of};
 ghost use Rattle.elf_object.specs.Words.{result_map};
 ghost use Rattle.elf_calls.specs.Stated.{item_in as stated_item, note_shown, found_shown};
 ghost use Rattle.elf_calls.specs.Applies.{Applies, IsCopied, result_of};
+ghost use Rattle.elf_calls.specs.Forms.{IsAnswerOf};
 ghost use Rattle.elf_calls.specs.declared.answers.Answer.TheVariants as answer;
 ghost use Rattle.call_script.specs.declared.calls.Call.TheVariants as call;
 
@@ -42,7 +43,8 @@ fn raw_answer(alloc: Global, bytes: &[u8]) -> Answer
 
 /// `raw`: the bytes of a section as they stand in the file.
 pub(crate) fn show_raw<S: Source>(elf: &mut Elf<S>, s: ScnId) -> Answer
-    ensures { Applies S.Source (call.Raw s) (result_of result) elf.old elf.new }
+    ensures meets { Applies S.Source (call.Raw s) (result_of result) elf.old elf.new }
+    ensures form { IfOk (result_of result) (IsAnswerOf (call.Raw s) elf.old.o) }
 {
     let alloc = elf.alloc();
     match elf.raw(s) {
@@ -83,7 +85,8 @@ fn item_answer(items: &Items, i: u64) -> Answer
 
 /// `item`: an item of a piece.
 pub(crate) fn show_item<S: Source>(elf: &mut Elf<S>, d: DataId, i: u64) -> Answer
-    ensures { Applies S.Source (call.Item d i) (result_of result) elf.old elf.new }
+    ensures meets { Applies S.Source (call.Item d i) (result_of result) elf.old elf.new }
+    ensures form { IfOk (result_of result) (IsAnswerOf (call.Item d i) elf.old.o) }
 {
     match elf.data(d) {
         Ok(items) => item_answer(items, i),
@@ -103,7 +106,8 @@ fn string_answer(alloc: Global, string: &[u8]) -> Answer
 
 /// `str`: a string of a section.
 pub(crate) fn show_str<S: Source>(elf: &mut Elf<S>, s: ScnId, off: u64) -> Answer
-    ensures { Applies S.Source (call.Str s off) (result_of result) elf.old elf.new }
+    ensures meets { Applies S.Source (call.Str s off) (result_of result) elf.old elf.new }
+    ensures form { IfOk (result_of result) (IsAnswerOf (call.Str s off) elf.old.o) }
 {
     let alloc = elf.alloc();
     match strptr(elf, s, off) {
@@ -124,7 +128,8 @@ fn note_answer(found: Option<NoteAt>) -> Answer
 
 /// `note`: a note of a piece, or that there is none at its end.
 pub(crate) fn show_note<S: Source>(elf: &mut Elf<S>, d: DataId, at: u64) -> Answer
-    ensures { Applies S.Source (call.Note d at) (result_of result) elf.old elf.new }
+    ensures meets { Applies S.Source (call.Note d at) (result_of result) elf.old elf.new }
+    ensures form { IfOk (result_of result) (IsAnswerOf (call.Note d at) elf.old.o) }
 {
     match note(elf, d, at) {
         Ok(found) => note_answer(found),
@@ -144,7 +149,8 @@ fn found_answer(found: Option<u64>) -> Answer
 
 /// The index of a symbol with these bytes as its name.
 fn show_find<S: Source>(elf: &mut Elf<S>, s: ScnId, name: &[u8]) -> Answer
-    ensures { Applies S.Source (call.Find s name.now) (result_of result) elf.old elf.new }
+    ensures meets { Applies S.Source (call.Find s name.now) (result_of result) elf.old elf.new }
+    ensures form { IfOk (result_of result) (IsAnswerOf (call.Find s name.now) elf.old.o) }
 {
     match find_linear(elf, s, name) {
         Ok(found) => found_answer(found),
@@ -154,7 +160,8 @@ fn show_find<S: Source>(elf: &mut Elf<S>, s: ScnId, name: &[u8]) -> Answer
 
 /// `find`: the index of a symbol with a name.
 pub(crate) fn find_named<S: Source>(elf: &mut Elf<S>, s: ScnId, name: &Octets) -> Answer
-    ensures { Applies S.Source (call.Find s name.now) (result_of result) elf.old elf.new }
+    ensures meets { Applies S.Source (call.Find s name.now) (result_of result) elf.old elf.new }
+    ensures form { IfOk (result_of result) (IsAnswerOf (call.Find s name.now) elf.old.o) }
 {
     show_find(elf, s, name.as_slice())
 }

@@ -3,8 +3,7 @@ use Rattle.std.proofs.Common.{◌≡◌, ℕ, zero, suc, ◌*◌, ◌<◌, ◌�
 use Rattle.std.specs.Prelude.{IsTrue, IfErr, ◌⊎◌, nat_lt, is_none, Contains, slice_index_or, slice_get, if◌then◌else◌, get_or, ◌==◌}
 use Rattle.std.specs.List.{list_any}
 use Rattle.std.proofs.lemmas.List.{length-map, get_or-map, get_or_past}
-use Rattle.std.proofs.lemmas.Bool.{or_left, or_right, lt-ltb}
-use borrow.Author.Tests.{ltb-true}
+use Rattle.std.proofs.lemmas.Bool.{or_left, or_right, lt-ltb, ltb-true}
 use Rattle.elf_types.specs.declared.records.Kind.TheVariants as kinds
 use Rattle.elf_types.specs.declared.errors.ElfError.{ElfError}
 use Rattle.elf_types.specs.declared.errors.ElfError.TheVariants.{Memory, Read, Write, NoEntry, BadChain}

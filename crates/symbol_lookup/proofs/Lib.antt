@@ -1,4 +1,4 @@
-mod SearchLaws
+pub mod SearchLaws
 mod FollowLaws
 mod CallLaws
 mod StepLaws

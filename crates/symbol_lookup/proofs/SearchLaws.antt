@@ -3,8 +3,7 @@
 use Rattle.std.proofs.Common.{◌≡◌, ℕ, zero, suc, ◌+◌, ◌<◌, ◌≤◌, Bool, true, false, not, List, [], ◌∷◌, length, Result, Ok, Err, refl, sym, ◌∙◌, subst, inl, inr, arith}
 use Rattle.std.specs.Prelude.{IsTrue, IfErr, ◌||◌, ◌⊎◌, nat_lt, Contains, slice_index_or}
 use Rattle.std.specs.List.{list_any}
-use Rattle.std.proofs.lemmas.Bool.{or_left, or_right, lt-ltb}
-use borrow.Author.Tests.{ltb-true}
+use Rattle.std.proofs.lemmas.Bool.{or_left, or_right, lt-ltb, ltb-true}
 use Rattle.std.proofs.lemmas.List.Sums.{sum_by-cons}
 use Rattle.elf_types.specs.declared.errors.ElfError.{ElfError}
 use Rattle.elf_types.specs.declared.errors.ElfError.TheVariants.{Memory, Read, BadChain}
@@ -38,7 +37,7 @@ module _ (o : Object) (before after : List Bool) (stays : (i : ℕ) → IsTrue (
   unfolding homes_due
   alone_due loaded k = omega (arith, sum_by-cons (home_due o loaded) k [])
 
-  one_stays : (k : ℕ) → home_due o after k ≤ home_due o before k
+  pub one_stays : (k : ℕ) → home_due o after k ≤ home_due o before k
   one_stays k = omega (arith, dues_stay o before after (k ∷ []) stays, alone_due before k, alone_due after k)
 
   member_moved : (l : List ℕ) (j k : ℕ) → j < length l → slice_index_or l j k ≡ k → homes_due o after l + home_due o before k ≤ homes_due o before l + home_due o after k

@@ -1,4 +1,5 @@
-//! The words of a hash section.
+//! What lookups take of an object: its form, the first piece of a section, and the words of a hash
+//! section.
 
 ghost use Rattle.std.specs.Prelude.{◌≡◌, ◌<◌, ◌^◌, IsTrue, None};
 ghost use Rattle.elf_types.specs.Answers.{Follows};
@@ -10,7 +11,7 @@ ghost use Rattle.symbol_lookup.specs.Searches.{HasWords, Searches, Stays};
 
 use elf_descriptor::Elf;
 use elf_outside::Source;
-use elf_types::{DataId, ElfError, ScnId};
+use elf_types::{Class, DataId, ElfError, Order, ScnId};
 use gelf_view::word;
 
 /// The home piece of a section.
@@ -22,6 +23,16 @@ pub fn first_piece(s: ScnId) -> DataId
         section: s.0,
         piece: 0,
     }
+}
+
+/// The class and the byte order of an object.
+#[tactic(auto, unfolding(elf_object::specs::Object::header_of))]
+pub fn form<S: Source>(elf: &Elf<S>) -> (Class, Order)
+    ensures class { result.0 ≡ elf.now.o.header.class }
+    ensures order { result.1 ≡ elf.now.o.header.order }
+{
+    let header = elf.ehdr();
+    (header.class, header.order)
 }
 
 /// What a step meets in place of a word: a bad chain at its place, or want of memory, or a failed

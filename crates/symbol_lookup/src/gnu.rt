@@ -9,6 +9,7 @@ ghost use Rattle.symbol_lookup.specs.Walks as walks;
 ghost use Rattle.symbol_lookup.specs.Lookups.{IsBad, Needs};
 ghost use Rattle.symbol_lookup.specs.Searches.{HasBytes, IsGnuStart, IsIndex, Searches, Stays};
 
+use crate::fetching::form;
 use crate::walks::{GnuHead, Links, Start, Step};
 use elf_descriptor::Elf;
 use elf_outside::Source;
@@ -231,16 +232,6 @@ fn next_in(
         }),
         Err(e) => Err(e),
     }
-}
-
-/// The class and the byte order of an object.
-#[tactic(auto, unfolding(elf_object::specs::Object::header_of))]
-fn form<S: Source>(elf: &Elf<S>) -> (Class, Order)
-    ensures class { result.0 ≡ elf.now.o.header.class }
-    ensures order { result.1 ≡ elf.now.o.header.order }
-{
-    let header = elf.ehdr();
-    (header.class, header.order)
 }
 
 /// Where the walk of a hash begins; else a bad chain at the first word that is needed and is not

@@ -1,11 +1,10 @@
 //! Looking a symbol up among all symbols of a table.
 
-ghost use Rattle.std.specs.Prelude.{◌≡◌, ◌<◌, IsTrue, IfOk, IfErr, IfSome, None};
+ghost use Rattle.std.specs.Prelude.{◌≡◌, ◌<◌, IsTrue, IfOk, IfSome, None};
 ghost use Rattle.std.specs.List.{position};
-ghost use Rattle.elf_types.specs.Answers.{answered, Follows, IsRefusal};
+ghost use Rattle.elf_types.specs.Answers.{Follows};
 ghost use Rattle.elf_types.specs.declared.records.Kind.TheVariants as kinds;
 ghost use Rattle.elf_object.specs.Words.{Answers};
-ghost use Rattle.elf_object.specs.Object.{section_at};
 ghost use Rattle.elf_object.specs.Answers.{count_at, lend_refusal, no_section};
 ghost use Rattle.elf_object.specs.Strings.{is_name};
 ghost use Rattle.elf_descriptor.specs.Reads.{Looks, wanted};

@@ -7,6 +7,7 @@ ghost use Rattle.elf_object.specs.Answers.{lend_refusal};
 ghost use Rattle.symbol_lookup.specs.Lookups.{is_match, link_of};
 ghost use Rattle.symbol_lookup.specs.Searches.{LacksName, LacksSymbol, LacksWhenListed, StandsAtHand};
 
+use crate::fetching::form;
 use crate::matching::is_defined_global;
 use elf_descriptor::{Elf, Held};
 use elf_outside::Source;
@@ -109,36 +110,6 @@ fn pass_in(
     end
 }
 
-/// The same in either class: the sizes are constants in each arm.
-fn pass_by_class(
-    form: (Class, Order),
-    symbols: &[u8],
-    strings: &[u8],
-    name: &[u8],
-    from: u64,
-    end: u64,
-) -> u64
-    requires { from ≤ end }
-    ensures at { from ≤ result }
-    ensures passed { (j : ℕ) → from ≤ j → j < result
-        → LacksSymbol form.0 form.1 symbols.now strings.now name.now j }
-{
-    match form.0 {
-        Class::C32 => pass_in((Class::C32, form.1), symbols, strings, name, from, end),
-        Class::C64 => pass_in((Class::C64, form.1), symbols, strings, name, from, end),
-    }
-}
-
-/// The class and the byte order of an object.
-#[tactic(auto, unfolding(elf_object::specs::Object::header_of))]
-fn form<S: Source>(elf: &Elf<S>) -> (Class, Order)
-    ensures class { result.0 ≡ elf.now.o.header.class }
-    ensures order { result.1 ≡ elf.now.o.header.order }
-{
-    let header = elf.ehdr();
-    (header.class, header.order)
-}
-
 /// The bytes of the first piece of a section, where it is the clean home piece and its home is
 /// loaded.
 fn raw_at_hand<S: Source>(elf: &Elf<S>, s: ScnId) -> Option<&[u8]>
@@ -157,7 +128,7 @@ fn raw_at_hand<S: Source>(elf: &Elf<S>, s: ScnId) -> Option<&[u8]>
 
 /// The first symbol of a table from one on that may be listed by a name, or a number from its end
 /// on: those before it are surely not. Where the bytes of the table or of its strings are not at
-/// hand none is passed over.
+/// hand none is passed over. The sizes are constants in the arm of each class.
 pub fn pass_over<S: Source>(
     elf: &Elf<S>,
     s: ScnId,
@@ -179,5 +150,9 @@ pub fn pass_over<S: Source>(
     let Some(bytes) = raw_at_hand(elf, strings) else {
         return from;
     };
-    pass_by_class(form(elf), symbols, bytes, name, from, end)
+    let (class, order) = form(elf);
+    match class {
+        Class::C32 => pass_in((Class::C32, order), symbols, bytes, name, from, end),
+        Class::C64 => pass_in((Class::C64, order), symbols, bytes, name, from, end),
+    }
 }

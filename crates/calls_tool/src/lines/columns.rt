@@ -1,41 +1,63 @@
-//! Numbers and bytes in the lines of answers. Each call refuses `Memory` alone; what the page held
-//! then still stands, some bytes behind it.
+//! Columns of a text and a number, and bytes, in the lines of answers. Each call refuses `Memory`
+//! alone; what the page held then still stands, some bytes behind it.
 
 ghost use Rattle.std.specs.Prelude.{◌≡◌, ◌++◌, ◌<◌, slice_index, flat_map, OnOk, IfErr};
 ghost use Rattle.elf_types.specs.Writers.{WantsMemory};
-ghost use Rattle.calls_tool.specs.Lines.{with_hex, with_decimal, with_signed, hex_digits, hex_pair, bytes_text};
+ghost use Rattle.calls_tool.specs.Lines.{number_text, column_text, hex_digits, hex_pair, bytes_text};
 
 use elf_types::{ElfError, Octets, put_bytes, put_decimal, put_hex, put_signed, put_text};
 
-/// Appends a text, `0x` and a number in hexadecimal.
-#[tactic(auto, using(crate::proofs::Rows::kept), unfolding(crate::specs::Lines::with_hex))]
-pub(super) fn put_hex_after(page: &mut Octets, text: &str, n: u64) -> Result<(), ElfError>
-    ensures ok { OnOk result (page.new ≡ page.old ++ with_hex text.now n) }
-    ensures err { IfErr result (WantsMemory page.old page.new) }
-{
-    put_text(page, text)?;
-    put_text(page, "0x")?;
-    put_hex(page, n)
+/// A number, by the way it is written.
+#[derive(Clone, Copy)]
+pub enum Number {
+    /// In decimal.
+    Decimal(u64),
+    /// In hexadecimal, behind `0x`.
+    Hex(u64),
+    /// With its sign, in decimal.
+    Signed(i64),
 }
 
-/// Appends a text and a number in decimal.
-#[tactic(auto, using(crate::proofs::Rows::kept), unfolding(crate::specs::Lines::with_decimal))]
-pub(super) fn put_decimal_after(page: &mut Octets, text: &str, n: u64) -> Result<(), ElfError>
-    ensures ok { OnOk result (page.new ≡ page.old ++ with_decimal text.now n) }
+/// A text, and the number behind it.
+pub(super) type Column = (&'static str, Number);
+
+/// Appends a number.
+#[tactic(auto, using(crate::proofs::Rows::kept), unfolding(crate::specs::Lines::number_text))]
+fn put_number(page: &mut Octets, number: Number) -> Result<(), ElfError>
+    ensures ok { OnOk result (page.new ≡ page.old ++ number_text number) }
     ensures err { IfErr result (WantsMemory page.old page.new) }
 {
-    put_text(page, text)?;
-    put_decimal(page, n)
+    match number {
+        Number::Decimal(n) => put_decimal(page, n),
+        Number::Hex(n) => {
+            put_text(page, "0x")?;
+            put_hex(page, n)
+        }
+        Number::Signed(n) => put_signed(page, n),
+    }
 }
 
-/// Appends a text and a signed number in decimal.
-#[tactic(auto, using(crate::proofs::Rows::kept), unfolding(crate::specs::Lines::with_signed))]
-pub(super) fn put_signed_after(page: &mut Octets, text: &str, n: i64) -> Result<(), ElfError>
-    ensures ok { OnOk result (page.new ≡ page.old ++ with_signed text.now n) }
+/// Appends a text and a number.
+#[tactic(auto, using(crate::proofs::Rows::kept), unfolding(crate::specs::Lines::column_text))]
+pub(super) fn put_column(page: &mut Octets, text: &str, number: Number) -> Result<(), ElfError>
+    ensures ok { OnOk result (page.new ≡ page.old ++ column_text text.now number) }
     ensures err { IfErr result (WantsMemory page.old page.new) }
 {
     put_text(page, text)?;
-    put_signed(page, n)
+    put_number(page, number)
+}
+
+/// Appends columns, one after another.
+#[tactic(auto, using(crate::proofs::Rows::kept))]
+pub(super) fn put_columns(page: &mut Octets, columns: &[Column]) -> Result<(), ElfError>
+    ensures ok { OnOk result
+        (page.new ≡ page.old ++ flat_map (λ c. column_text c.0.now c.1) columns.now) }
+    ensures err { IfErr result (WantsMemory page.old page.new) }
+{
+    for column in columns {
+        put_column(page, column.0, column.1)?;
+    }
+    Ok(())
 }
 
 /// Appends bytes, two hexadecimal digits each, or `-` where there are none.

@@ -8,4 +8,4 @@ pub returns : goal.returns
 returns g c =
     let q = c.args.call.now in
     call_run g.S.Source g.O.Sink g.E.Sink (stated q) (refusals q c.args.elf.now.o) (not (shows_bytes q)) (changed_piece q c.args.elf.now.o) (holding q c.args.elf.now.o)
-    c.args.elf.now _ c.args.outputs.now _ _ _ c.apply-answer.ensures c.show_answer.ensures
+    c.args.elf.now _ c.args.outputs.now _ _ _ c.apply-answer.ensures.meets c.show_answer.ensures

@@ -12,9 +12,8 @@ use Rattle.elf_calls.proofs.items.set_addr.Goals as goal
 pub returns-in-Ok : goal.returns-in-Ok
 unfolding addr_answer
 returns-in-Ok g c =
-    rw c.done.ensures
-    (set_number g.S.Source kinds.Addr items.Addr addrs_of (fits) (λ x. c.args.v) addrs_counted c.args.d c.args.i c.args.elf.now c.addr.new.elf c.update_addr.new.elf at_any_step _ c.in-Ok.field-0 c.addr.result c.update_addr.result c.in-Ok.is c.in-Ok.ensures.answer c.addr.ensures.looks
-    c.update_addr.ensures.answer c.update_addr.ensures.edits c.update_addr.ensures.refused (λ y z. refl))
+    set_number g.S.Source kinds.Addr items.Addr addrs_of (fits) (λ x. c.args.v) addrs_counted c.args.d c.args.i c.args.elf.now c.addr.new.elf c.update_addr.new.elf at_any_step _ c.in-Ok.field-0 c.addr.result c.update_addr.result c.in-Ok.is c.in-Ok.ensures.answer c.addr.ensures.looks
+    c.update_addr.ensures.answer c.update_addr.ensures.edits c.update_addr.ensures.refused (λ y z. refl)
 
 pub returns-in-Err : goal.returns-in-Err
 unfolding addr_answer

@@ -13,9 +13,8 @@ use Rattle.elf_calls.proofs.items.set_dyn.Goals as goal
 pub returns-in-Ok : goal.returns-in-Ok
 unfolding dyn_answer
 returns-in-Ok g c =
-    rw c.done.ensures
-    (set_field g.S.Source kinds.Dyn items.Dyn dyns_of (dyn_fits) (dyn_with c.args.set) dyns_counted c.args.d c.args.i c.args.elf.now c.dynent.new.elf c.update_dynent.new.elf at_any_step _ c.in-Ok.x c.dynent.result c.update_dynent.result c.in-Ok.is c.in-Ok.ensures.answer c.dynent.ensures.looks
-    (rw c.dyn_with.ensures at c.update_dynent.ensures.answer) (rw c.dyn_with.ensures at c.update_dynent.ensures.edits) (rw c.dyn_with.ensures at c.update_dynent.ensures.refused))
+    set_field g.S.Source kinds.Dyn items.Dyn dyns_of (dyn_fits) (dyn_with c.args.set) dyns_counted c.args.d c.args.i c.args.elf.now c.dynent.new.elf c.update_dynent.new.elf at_any_step _ c.in-Ok.x c.dynent.result c.update_dynent.result c.in-Ok.is c.in-Ok.ensures.answer c.dynent.ensures.looks
+    (rw c.dyn_with.ensures at c.update_dynent.ensures.answer) (rw c.dyn_with.ensures at c.update_dynent.ensures.edits) (rw c.dyn_with.ensures at c.update_dynent.ensures.refused)
 
 pub returns-in-Err : goal.returns-in-Err
 unfolding dyn_answer

@@ -11,9 +11,8 @@ use Rattle.elf_calls.proofs.items.set_half.Goals as goal
 pub returns-in-Ok : goal.returns-in-Ok
 unfolding half_answer
 returns-in-Ok g c =
-    rw c.done.ensures
-    (set_number g.S.Source kinds.Half items.Half halves_of (λ class x. true) (λ x. c.args.v) halves_counted c.args.d c.args.i c.args.elf.now c.half.new.elf c.update_half.new.elf at_any_step _ c.in-Ok.field-0 c.half.result c.update_half.result c.in-Ok.is c.in-Ok.ensures.answer c.half.ensures.looks
-    c.update_half.ensures.answer c.update_half.ensures.edits c.update_half.ensures.refused (λ y z. refl))
+    set_number g.S.Source kinds.Half items.Half halves_of (λ class x. true) (λ x. c.args.v) halves_counted c.args.d c.args.i c.args.elf.now c.half.new.elf c.update_half.new.elf at_any_step _ c.in-Ok.field-0 c.half.result c.update_half.result c.in-Ok.is c.in-Ok.ensures.answer c.half.ensures.looks
+    c.update_half.ensures.answer c.update_half.ensures.edits c.update_half.ensures.refused (λ y z. refl)
 
 pub returns-in-Err : goal.returns-in-Err
 unfolding half_answer

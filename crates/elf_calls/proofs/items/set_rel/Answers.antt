@@ -13,9 +13,8 @@ use Rattle.elf_calls.proofs.items.set_rel.Goals as goal
 pub returns-in-Ok : goal.returns-in-Ok
 unfolding rel_answer
 returns-in-Ok g c =
-    rw c.done.ensures
-    (set_field g.S.Source kinds.Rel items.Rel rels_of (rel_fits) (rel_with c.args.set) rels_counted c.args.d c.args.i c.args.elf.now c.rel.new.elf c.update_rel.new.elf at_any_step _ c.in-Ok.x c.rel.result c.update_rel.result c.in-Ok.is c.in-Ok.ensures.answer c.rel.ensures.looks
-    (rw c.rel_with.ensures at c.update_rel.ensures.answer) (rw c.rel_with.ensures at c.update_rel.ensures.edits) (rw c.rel_with.ensures at c.update_rel.ensures.refused))
+    set_field g.S.Source kinds.Rel items.Rel rels_of (rel_fits) (rel_with c.args.set) rels_counted c.args.d c.args.i c.args.elf.now c.rel.new.elf c.update_rel.new.elf at_any_step _ c.in-Ok.x c.rel.result c.update_rel.result c.in-Ok.is c.in-Ok.ensures.answer c.rel.ensures.looks
+    (rw c.rel_with.ensures at c.update_rel.ensures.answer) (rw c.rel_with.ensures at c.update_rel.ensures.edits) (rw c.rel_with.ensures at c.update_rel.ensures.refused)
 
 pub returns-in-Err : goal.returns-in-Err
 unfolding rel_answer

@@ -13,9 +13,8 @@ use Rattle.elf_calls.proofs.items.set_rela.Goals as goal
 pub returns-in-Ok : goal.returns-in-Ok
 unfolding rela_answer
 returns-in-Ok g c =
-    rw c.done.ensures
-    (set_field g.S.Source kinds.Rela items.Rela relas_of (rela_fits) (rela_with c.args.set) relas_counted c.args.d c.args.i c.args.elf.now c.rela.new.elf c.update_rela.new.elf at_any_step _ c.in-Ok.x c.rela.result c.update_rela.result c.in-Ok.is c.in-Ok.ensures.answer c.rela.ensures.looks
-    (rw c.rela_with.ensures at c.update_rela.ensures.answer) (rw c.rela_with.ensures at c.update_rela.ensures.edits) (rw c.rela_with.ensures at c.update_rela.ensures.refused))
+    set_field g.S.Source kinds.Rela items.Rela relas_of (rela_fits) (rela_with c.args.set) relas_counted c.args.d c.args.i c.args.elf.now c.rela.new.elf c.update_rela.new.elf at_any_step _ c.in-Ok.x c.rela.result c.update_rela.result c.in-Ok.is c.in-Ok.ensures.answer c.rela.ensures.looks
+    (rw c.rela_with.ensures at c.update_rela.ensures.answer) (rw c.rela_with.ensures at c.update_rela.ensures.edits) (rw c.rela_with.ensures at c.update_rela.ensures.refused)
 
 pub returns-in-Err : goal.returns-in-Err
 unfolding rela_answer

@@ -13,9 +13,8 @@ use Rattle.elf_calls.proofs.items.set_sym.Goals as goal
 pub returns-in-Ok : goal.returns-in-Ok
 unfolding sym_answer
 returns-in-Ok g c =
-    rw c.done.ensures
-    (set_field g.S.Source kinds.Sym items.Sym syms_of (sym_fits) (sym_with c.args.set) syms_counted c.args.d c.args.i c.args.elf.now c.sym.new.elf c.update_sym.new.elf at_any_step _ c.in-Ok.x c.sym.result c.update_sym.result c.in-Ok.is c.in-Ok.ensures.answer c.sym.ensures.looks
-    (rw c.sym_with.ensures at c.update_sym.ensures.answer) (rw c.sym_with.ensures at c.update_sym.ensures.edits) (rw c.sym_with.ensures at c.update_sym.ensures.refused))
+    set_field g.S.Source kinds.Sym items.Sym syms_of (sym_fits) (sym_with c.args.set) syms_counted c.args.d c.args.i c.args.elf.now c.sym.new.elf c.update_sym.new.elf at_any_step _ c.in-Ok.x c.sym.result c.update_sym.result c.in-Ok.is c.in-Ok.ensures.answer c.sym.ensures.looks
+    (rw c.sym_with.ensures at c.update_sym.ensures.answer) (rw c.sym_with.ensures at c.update_sym.ensures.edits) (rw c.sym_with.ensures at c.update_sym.ensures.refused)
 
 pub returns-in-Err : goal.returns-in-Err
 unfolding sym_answer

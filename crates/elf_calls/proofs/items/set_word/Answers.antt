@@ -11,9 +11,8 @@ use Rattle.elf_calls.proofs.items.set_word.Goals as goal
 pub returns-in-Ok : goal.returns-in-Ok
 unfolding word_answer
 returns-in-Ok g c =
-    rw c.done.ensures
-    (set_number g.S.Source kinds.Word items.Word words_of (λ class x. true) (λ x. c.args.v) words_counted c.args.d c.args.i c.args.elf.now c.word.new.elf c.update_word.new.elf at_any_step _ c.in-Ok.field-0 c.word.result c.update_word.result c.in-Ok.is c.in-Ok.ensures.answer c.word.ensures.looks
-    c.update_word.ensures.answer c.update_word.ensures.edits c.update_word.ensures.refused (λ y z. refl))
+    set_number g.S.Source kinds.Word items.Word words_of (λ class x. true) (λ x. c.args.v) words_counted c.args.d c.args.i c.args.elf.now c.word.new.elf c.update_word.new.elf at_any_step _ c.in-Ok.field-0 c.word.result c.update_word.result c.in-Ok.is c.in-Ok.ensures.answer c.word.ensures.looks
+    c.update_word.ensures.answer c.update_word.ensures.edits c.update_word.ensures.refused (λ y z. refl)
 
 pub returns-in-Err : goal.returns-in-Err
 unfolding word_answer

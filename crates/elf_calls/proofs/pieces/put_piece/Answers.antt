@@ -1,11 +1,11 @@
-use Rattle.std.proofs.Common.{ap, false, ◌∙◌}
+use Rattle.std.proofs.Common.{false}
 use Rattle.elf_object.specs.Calls as calls
 use Rattle.elf_xlate.specs.declared.content.Items.TheVariants as items
 use Rattle.elf_object.specs.Calls.{replace_refusal}
 use Rattle.elf_descriptor.specs.Edits.{stepped}
-use Rattle.elf_calls.specs.Stated.{stated, done, refusal_alone}
+use Rattle.elf_calls.specs.Stated.{stated, done}
 use Rattle.elf_calls.proofs.Refusing.{settled, replace_refuses}
-use Rattle.elf_calls.proofs.Meeting.{stepped_meets, copying_meets, dropped_back, dropped_steps}
+use Rattle.elf_calls.proofs.Meeting.{stepped_meets, copying_meets, came_back, dropped_steps}
 use Rattle.elf_object.specs.Runs.{mapped}
 use Rattle.elf_calls.proofs.pieces.put_piece.Goals as goal
 
@@ -14,7 +14,7 @@ unfolding stated
 returns g c =
     let o = c.args.elf.now.o in
     let put = calls.replace c.args.d.section c.args.d.piece (items.Bytes c.args.bytes) in
-    let came = c.refusal_alone.ensures ∙ ap (λ r. refusal_alone r) c.replace.ensures.answer ∙ dropped_back (items.Bytes c.args.bytes) (put.answer o) in
+    let came = came_back (items.Bytes c.args.bytes) (put.answer o) c.replace.result c.refusal_alone.result c.refusal_alone.ensures c.replace.ensures.answer in
     rw c.done.ensures
     (copying_meets g.S.Source (mapped done put) _ _ _ _ c.args.elf.now c.replace.new.self
     (stepped_meets g.S.Source done put _ _ c.refusal_alone.result c.args.elf.now c.replace.new.self false came

@@ -2,7 +2,8 @@ use Rattle.std.proofs.Common.{Ok}
 use Rattle.symbol_lookup.proofs.CallLaws.{bytes_found, bytes_lost}
 use Rattle.elf_types.specs.declared.records.Kind.TheVariants as kinds
 use Rattle.elf_object.specs.Answers.{bytes_of, items_at, lend_refusal}
-use Rattle.symbol_lookup.proofs.LendLaws.{lend_unread, lend_ended}
+use Rattle.gelf_view.proofs.LendLemmas.{lend_unread}
+use Rattle.symbol_lookup.proofs.LendLaws.{lend_ended}
 use Rattle.symbol_lookup.proofs.lookups.fetch.Goals as goal
 
 pub returns-in-Ok-clause-searches : goal.returns-in-Ok-clause-searches

@@ -1,5 +1,5 @@
-use Rattle.std.proofs.Common.{◌<◌, ◌∙◌, arith, length, set, get_or, ap}
-use Rattle.std.proofs.lemmas.List.Edits.{map_over_more}
+use Rattle.std.proofs.Common.{◌<◌, arith, length, get_or, ap}
+use Rattle.elf_calls.proofs.AddLaws.{one_more}
 use Rattle.elf_calls.proofs.items.adding.add_to_list.Goals as goal
 
 pub loop-item-preserved : goal.loop-item-preserved
@@ -8,5 +8,4 @@ loop-item-preserved g c =
     let items = c.as_mut_slice-item-items.result.now in
     let within : i < length items = omega (arith, c.loop-item-test.true, c.loop-item.auto.item-items) in
     let there = c.loop-item.item-items in
-    ap (λ x. set there i x) c.add.ensures
-    ∙ map_over_more (g.T.Adds.plus c.args.n) items there i (get_or there i c.item-item.result) within c.loop-item.invariant (ap (λ x. get_or there i x) c.item-item.is)
+    one_more (g.T.Adds.plus c.args.n) items there i _ _ within c.loop-item.invariant (ap (λ x. get_or there i x) c.item-item.is) c.add.ensures
