@@ -1,30 +1,18 @@
 -- What is said of a section.
-use Rattle.std.proofs.Common.{◌≡◌, ◌<◌, ℕ, Bool, true, false, List, length, None, Result, Ok, Err, codes, refl, arith}
+use Rattle.std.proofs.Common.{◌≡◌, ◌<◌, ℕ, true, false, List, length, Ok, Err, codes, refl, arith}
 use Rattle.elf_types.specs.declared.records.Class.{Class}
 use Rattle.elf_types.specs.declared.records.Order.{Order}
 use Rattle.elf_types.specs.declared.errors.ElfError.{ElfError}
 use Rattle.elf_types.specs.declared.errors.ElfError.TheVariants as error
 use Rattle.elf_types.specs.Text.{error_text}
 use Rattle.elf_types.specs.Kinds.{is_compressed}
-use Rattle.elf_object.specs.Words.{Wants, Answers}
 use Rattle.elf_object.specs.Object.{Object, section_at}
 use Rattle.elf_object.specs.Answers.{raw_refusal}
 use Rattle.elf_object.specs.Calls.{raw_answer}
 use Rattle.elf_descriptor.specs.Homes.{out_answer}
-use Rattle.tool_output.specs.Stops.{stop_of}
 use Rattle.tool_output.specs.Names.{Name}
 use Rattle.tool_output.specs.Reports.{refusal}
 use Rattle.lines_tool.specs.Tables.{section_refused, table_report, bytes_report, section_report}
-
--- an error that stops nothing is the stated one
-pub answers_stated : {A : Type 0} (told : Bool) (wants : Wants) (d : ElfError) (stated : Result A ElfError) → Answers told wants (Err d) stated
-    → stop_of d ≡ None → stated ≡ Err d
-answers_stated told wants error.Memory stated h none = cc
-answers_stated told wants error.Read stated h none = cc
-answers_stated told wants error.Write stated h none = cc
-answers_stated told wants d stated h none = h
-
--- ---- The report on a section
 
 module _ (name : Name) (o : Object) (s : ℕ) where
   -- its bytes are there

@@ -1,11 +1,10 @@
 -- What is left of the report on a section's units.
-use Rattle.std.proofs.Common.{◌≡◌, ◌+◌, ◌<◌, ◌≤◌, ℕ, suc, zero, Bool, false, List, [], ◌∷◌, length, Option, Some, None, Result, Ok, Err, refl, sym, ap, ◌∙◌, subst, arith}
+use Rattle.std.proofs.Common.{◌≡◌, ◌+◌, ◌<◌, ◌≤◌, ℕ, suc, zero, Bool, false, List, [], ◌∷◌, length, Option, Some, None, Result, Ok, Err, refl, sym, ap, ◌∙◌, arith}
 use Rattle.elf_types.specs.declared.records.Class.{Class}
 use Rattle.elf_types.specs.declared.records.Order.{Order}
 use Rattle.line_table.specs.declared.faults.LineWhy.{LineWhy}
 use Rattle.line_table.specs.declared.faults.LineFault.{LineFault}
 use Rattle.line_table.specs.declared.faults.LineFault.TheVariants.{Bad}
-use Rattle.line_table.specs.declared.rows.Row.{Row}
 use Rattle.line_table.specs.declared.units.Unit.{Unit as LineUnit}
 use Rattle.line_table.specs.Units.{unit_at}
 use Rattle.elf_outside.specs.declared.sinks.Sink.{Ghosts}

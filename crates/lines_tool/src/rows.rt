@@ -1,12 +1,22 @@
 //! The lines of a line table.
 
-ghost use Rattle.std.specs.Prelude.{◌≡◌, ◌++◌, OnOk, IfErr};
+ghost use Rattle.std.specs.Prelude.{◌≡◌, ◌++◌, decimal, OnOk, IfErr};
 ghost use Rattle.elf_types.specs.Writers.{WantsMemory};
 ghost use Rattle.lines_tool.specs.Rows.{table_title, unit_title, file_line, word_if, row_place, row_words, row_line, fault_text};
 
 use elf_types::{ElfError, Octets, put_bytes, put_decimal, put_hex, put_text};
 use line_table::{LineWhy, Row};
 use tool_output::Line;
+
+/// Appends a number behind the words that name it.
+#[tactic(auto, using(object_output::proofs::Rules::kept))]
+fn put_named(page: &mut Octets, words: &str, n: u64) -> Result<(), ElfError>
+    ensures ok { OnOk result (page.new ≡ page.old ++ (words.now ++ decimal n)) }
+    ensures err { IfErr result (WantsMemory page.old page.new) }
+{
+    put_text(page, words)?;
+    put_decimal(page, n)
+}
 
 /// The line before the units of a section.
 #[derive(Clone, Copy)]
@@ -18,10 +28,9 @@ pub struct TableTitle {
 impl Line for TableTitle {
     ghost text = { λ t. table_title t.section };
 
-    #[tactic(auto, using(crate::proofs::Kept::kept), unfolding(crate::specs::Rows::table_title))]
+    #[tactic(auto, using(object_output::proofs::Rules::kept), unfolding(crate::specs::Rows::table_title))]
     fn put(&self, page: &mut Octets) -> Result<(), ElfError> {
-        put_text(page, "Line table of section ")?;
-        put_decimal(page, u64::from(self.section))?;
+        put_named(page, "Line table of section ", u64::from(self.section))?;
         put_text(page, " [.debug_line]\n")
     }
 }
@@ -38,12 +47,10 @@ pub struct UnitTitle {
 impl Line for UnitTitle {
     ghost text = { λ t. unit_title t.at t.version };
 
-    #[tactic(auto, using(crate::proofs::Kept::kept), unfolding(crate::specs::Rows::unit_title))]
+    #[tactic(auto, using(object_output::proofs::Rules::kept), unfolding(crate::specs::Rows::unit_title))]
     fn put(&self, page: &mut Octets) -> Result<(), ElfError> {
-        put_text(page, "  unit at ")?;
-        put_decimal(page, self.at)?;
-        put_text(page, " version ")?;
-        put_decimal(page, u64::from(self.version))?;
+        put_named(page, "  unit at ", self.at)?;
+        put_named(page, " version ", u64::from(self.version))?;
         put_text(page, "\n")
     }
 }
@@ -60,10 +67,9 @@ pub struct FileLine<'a> {
 impl Line for FileLine<'_> {
     ghost text = { λ l. file_line l.number l.name.now };
 
-    #[tactic(auto, using(crate::proofs::Kept::kept), unfolding(crate::specs::Rows::file_line))]
+    #[tactic(auto, using(object_output::proofs::Rules::kept), unfolding(crate::specs::Rows::file_line))]
     fn put(&self, page: &mut Octets) -> Result<(), ElfError> {
-        put_text(page, "    file ")?;
-        put_decimal(page, self.number)?;
+        put_named(page, "    file ", self.number)?;
         put_text(page, " [")?;
         put_bytes(page, self.name)?;
         put_text(page, "]\n")
@@ -71,7 +77,7 @@ impl Line for FileLine<'_> {
 }
 
 /// Appends a word, where it holds.
-#[tactic(auto, using(crate::proofs::Kept::kept))]
+#[tactic(auto, using(object_output::proofs::Rules::kept))]
 fn put_if(page: &mut Octets, holds: bool, word: &str) -> Result<(), ElfError>
     ensures ok { OnOk result (page.new ≡ page.old ++ word_if holds word.now) }
     ensures err { IfErr result (WantsMemory page.old page.new) }
@@ -80,21 +86,18 @@ fn put_if(page: &mut Octets, holds: bool, word: &str) -> Result<(), ElfError>
 }
 
 /// Appends the file, the line and the column.
-#[tactic(auto, using(crate::proofs::Kept::kept), unfolding(crate::specs::Rows::row_place))]
+#[tactic(auto, using(object_output::proofs::Rules::kept), unfolding(crate::specs::Rows::row_place))]
 fn put_place(page: &mut Octets, row: &Row) -> Result<(), ElfError>
     ensures ok { OnOk result (page.new ≡ page.old ++ row_place row.now) }
     ensures err { IfErr result (WantsMemory page.old page.new) }
 {
-    put_text(page, " file ")?;
-    put_decimal(page, row.file)?;
-    put_text(page, " line ")?;
-    put_decimal(page, u64::from(row.line))?;
-    put_text(page, " column ")?;
-    put_decimal(page, row.column)
+    put_named(page, " file ", row.file)?;
+    put_named(page, " line ", u64::from(row.line))?;
+    put_named(page, " column ", row.column)
 }
 
 /// Appends the words of a row.
-#[tactic(auto, using(crate::proofs::Kept::kept), unfolding(crate::specs::Rows::row_words))]
+#[tactic(auto, using(object_output::proofs::Rules::kept), unfolding(crate::specs::Rows::row_words))]
 fn put_words(page: &mut Octets, row: &Row) -> Result<(), ElfError>
     ensures ok { OnOk result (page.new ≡ page.old ++ row_words row.now) }
     ensures err { IfErr result (WantsMemory page.old page.new) }
@@ -113,7 +116,7 @@ pub struct RowLine<'a> {
 impl Line for RowLine<'_> {
     ghost text = { λ l. row_line l.row.now };
 
-    #[tactic(auto, using(crate::proofs::Kept::kept), unfolding(crate::specs::Rows::row_line))]
+    #[tactic(auto, using(object_output::proofs::Rules::kept), unfolding(crate::specs::Rows::row_line))]
     fn put(&self, page: &mut Octets) -> Result<(), ElfError> {
         let row = self.row;
         put_text(page, "    0x")?;
@@ -136,10 +139,9 @@ pub struct FaultText {
 impl Line for FaultText {
     ghost text = { λ f. fault_text f.at f.why };
 
-    #[tactic(auto, using(crate::proofs::Kept::kept), unfolding(crate::specs::Rows::fault_text))]
+    #[tactic(auto, using(object_output::proofs::Rules::kept), unfolding(crate::specs::Rows::fault_text))]
     fn put(&self, page: &mut Octets) -> Result<(), ElfError> {
-        put_text(page, "bad line table at ")?;
-        put_decimal(page, self.at)?;
+        put_named(page, "bad line table at ", self.at)?;
         put_text(page, ": ")?;
         put_text(page, self.why.text())
     }

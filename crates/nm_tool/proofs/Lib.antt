@@ -1,8 +1,5 @@
-pub mod Kept
-mod Digits
-mod Unique
 mod Sorting
-mod LearnLemmas
+mod PlaceLemmas
 mod PoolLemmas
 mod ToolLemmas
 mod Keys

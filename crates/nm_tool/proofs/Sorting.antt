@@ -18,7 +18,7 @@ use Rattle.elf_object.specs.Valid.{AreBytes}
 use Rattle.nm_tool.specs.declared.order.Row.{Row}
 use Rattle.nm_tool.specs.Order.{Entry, entry_cmp, inserted, in_order, IsOrderOf, OrderLaw}
 use Rattle.nm_tool.specs.Keys.{prefix, as_entry, KeyIs}
-use Rattle.nm_tool.proofs.Unique.{Rises, Rises-from_sorted, IsSorted-from_rises, unique}
+use Rattle.elf_layout.proofs.Unique.{Rises, Rises-from_sorted, IsSorted-from_rises, unique}
 
 -- ---- The order of entries
 

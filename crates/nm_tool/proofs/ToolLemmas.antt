@@ -28,7 +28,8 @@ use Rattle.nm_tool.specs.Order.{Entry, in_order}
 use Rattle.nm_tool.specs.Keys.{as_entry}
 use Rattle.nm_tool.specs.Listed.{symbols, symbol_table}
 use Rattle.nm_tool.specs.Pools.{spot_entries, pool_of}
-use Rattle.nm_tool.specs.Tool.{entry_report, entries_report, rows_report, row_report, pool_report, table_report, object_report, nm_report}
+use Rattle.nm_tool.specs.Tool.{entry_report, entries_report, rows_report, table_report, object_report, nm_report}
+use Rattle.nm_tool.specs.PoolReports.{row_report, pool_report}
 use Rattle.nm_tool.proofs.PoolLemmas.{pool_entries}
 
 -- ---- Rows

@@ -1,9 +1,9 @@
 pub mod Letters
-pub mod Numbers
 pub mod Rows
 pub mod Order
 pub mod Listed
+pub mod Tool
 pub mod Keys
 pub mod Pools
 pub mod Tables
-pub mod Tool
+pub mod PoolReports

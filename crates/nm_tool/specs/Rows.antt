@@ -1,21 +1,26 @@
 -- The row of a symbol.
-use Rattle.std.specs.Prelude.{◌++◌, ◌∷◌, [], ℕ, List, Bool, take, codes, if◌then◌else◌}
+use Rattle.std.specs.Prelude.{◌++◌, ◌∷◌, [], ℕ, List, Bool, codes, if◌then◌else◌}
 use Rattle.elf_types.specs.declared.records.Class.{Class}
+use Rattle.elf_types.specs.declared.records.Class.TheVariants.{C32, C64}
 use Rattle.elf_types.specs.declared.records.Sym.{Sym}
 use Rattle.tool_text.specs.declared.options.NmOptions.{NmOptions}
 use Rattle.tool_text.specs.declared.options.Radix.{Radix}
 use Rattle.tool_output.specs.Names.{Name, shown_name}
-use Rattle.nm_tool.specs.Numbers.{number, padded, blanks, width_of}
+use Rattle.number_columns.specs.Columns.{number, spaces, zero_filled}
 
 -- the file's name, where each row has it (-A)
 unfoldable pub file_column : Bool → Name → List ℕ
 file_column name_each file = if name_each then shown_name file ++ codes ": " else []
 
+-- how many digits a value has at least
+abbrev pub width_of : Class → ℕ
+width_of C32 = 8
+width_of C64 = 16
+
 -- the value, or as many blanks where the symbol is undefined
 unfoldable pub value_column : Radix → Class → Bool → ℕ → List ℕ
 value_column radix class undefined value =
-    if undefined then take (width_of class) blanks
-    else padded (width_of class) (number radix value)
+    if undefined then spaces (width_of class) else zero_filled radix (width_of class) value
 
 -- ` VALUE SIZE`, which an undefined symbol does not have
 unfoldable pub value_and_size : Radix → Bool → Sym → List ℕ

@@ -14,9 +14,6 @@ use Rattle.gelf_view.specs.declared.symbols.SymPlace.{SymPlace}
 use Rattle.nm_tool.specs.Rows.{row_text}
 use Rattle.nm_tool.specs.Order.{Entry, in_order}
 use Rattle.nm_tool.specs.Listed.{symbol_table, symbols, listed}
-use Rattle.nm_tool.specs.declared.order.Row.{Row}
-use Rattle.nm_tool.specs.declared.pools.Pool.{Pool}
-use Rattle.nm_tool.specs.Pools.{spot_entries}
 
 -- the row of a symbol whose place is this, and whose name is shown as this
 unfoldable pub placed_row : NmOptions → Name → Object → Sym → Option SymPlace → List ℕ → List ℕ
@@ -57,13 +54,3 @@ object_report options file o (Some s) =
 
 unfoldable pub nm_report : NmOptions → Name → Object → Report
 nm_report options file o = object_report options file o (symbol_table o)
-
--- ---- As the program goes
-
--- of a row that is sorted, and of the symbols of a pool
-unfoldable pub row_report : NmOptions → Name → Object → ℕ → Row → Report
-row_report options file o s r = entry_report options file o s r.index r.name.now
-
-unfoldable pub pool_report : NmOptions → Name → Object → ℕ → Pool → Report
-pool_report options file o s pool =
-    entries_report options file o s (spot_entries options.by_value pool.names pool.spots)

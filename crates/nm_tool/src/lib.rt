@@ -4,7 +4,6 @@
 mod laws;
 mod letters;
 mod listed;
-mod numbers;
 mod order;
 mod pools;
 mod rows;

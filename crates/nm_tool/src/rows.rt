@@ -1,11 +1,12 @@
 //! The row of a symbol as a line.
 
-ghost use Rattle.std.specs.Prelude.{◌≡◌, ◌++◌, ◌∷◌, [], OnOk, IfErr};
+ghost use Rattle.std.specs.Prelude.{◌≡◌, ◌++◌, ◌∷◌, ◌≤◌, [], codes, OnOk, IfErr};
 ghost use Rattle.elf_types.specs.Writers.{WantsMemory};
-ghost use Rattle.nm_tool.specs.Rows.{file_column, value_column, value_and_size, plain_row, portable_row, row_by, row_text};
+ghost use Rattle.number_columns.specs.Columns.{number};
+ghost use Rattle.nm_tool.specs.Rows.{file_column, width_of, value_column, value_and_size, plain_row, portable_row, row_by, row_text};
 
-use crate::numbers::{put_blanks, put_number, put_value, width_of};
 use elf_types::{Class, ElfError, Octets, Sym, put_bytes, put_text};
+use number_columns::{put_number, put_spaces, put_zero_filled};
 use tool_output::{FileName, Line};
 use tool_text::{NmOptions, Radix};
 
@@ -29,7 +30,7 @@ pub struct SymbolRow<'a> {
 }
 
 /// Appends the file's name, where each row has it.
-#[tactic(auto, using(crate::proofs::Kept::kept), unfolding(crate::specs::Rows::file_column))]
+#[tactic(auto, using(object_output::proofs::Rules::kept), unfolding(crate::specs::Rows::file_column))]
 fn put_file(page: &mut Octets, name_each: bool, file: &FileName<'_>) -> Result<(), ElfError>
     ensures ok { OnOk result (page.new ≡ page.old ++ file_column name_each file.now) }
     ensures err { IfErr result (WantsMemory page.old page.new) }
@@ -42,18 +43,29 @@ fn put_file(page: &mut Octets, name_each: bool, file: &FileName<'_>) -> Result<(
     }
 }
 
-/// Appends a letter.
-#[tactic(auto, using(crate::proofs::Kept::kept))]
+/// Appends a space and a letter.
+#[tactic(auto, using(object_output::proofs::Rules::kept))]
 fn put_letter(page: &mut Octets, letter: u8) -> Result<(), ElfError>
-    ensures ok { OnOk result (page.new ≡ page.old ++ (letter ∷ [])) }
+    ensures ok { OnOk result (page.new ≡ page.old ++ (codes " " ++ (letter ∷ []))) }
     ensures err { IfErr result (WantsMemory page.old page.new) }
 {
-    put_bytes(page, &[letter])
+    put_bytes(page, &[b' ', letter])
+}
+
+/// How many digits a value has at least.
+fn width_of(class: Class) -> usize
+    ensures value { result ≡ width_of class }
+    ensures small { result ≤ 16 }
+{
+    match class {
+        Class::C32 => 8,
+        Class::C64 => 16,
+    }
 }
 
 /// Appends the value, or as many blanks where the symbol is undefined.
 #[tactic(auto, unfolding(crate::specs::Rows::value_column))]
-fn put_column(
+fn put_value(
     page: &mut Octets,
     radix: Radix,
     class: Class,
@@ -66,14 +78,24 @@ fn put_column(
 {
     let width = width_of(class);
     if undefined {
-        put_blanks(page, width)
+        put_spaces(page, width)
     } else {
-        put_value(page, radix, width, value)
+        put_zero_filled(page, u128::from(value), radix, width)
     }
 }
 
+/// Appends a space and a number.
+#[tactic(auto, using(object_output::proofs::Rules::kept))]
+fn put_spaced(page: &mut Octets, radix: Radix, n: u64) -> Result<(), ElfError>
+    ensures ok { OnOk result (page.new ≡ page.old ++ (codes " " ++ number radix n)) }
+    ensures err { IfErr result (WantsMemory page.old page.new) }
+{
+    put_text(page, " ")?;
+    put_number(page, u128::from(n), radix)
+}
+
 /// Appends ` VALUE SIZE`, which an undefined symbol does not have.
-#[tactic(auto, using(crate::proofs::Kept::kept), unfolding(crate::specs::Rows::value_and_size))]
+#[tactic(auto, using(object_output::proofs::Rules::kept), unfolding(crate::specs::Rows::value_and_size))]
 fn put_value_and_size(
     page: &mut Octets,
     radix: Radix,
@@ -86,22 +108,19 @@ fn put_value_and_size(
     if undefined {
         return Ok(());
     }
-    put_text(page, " ")?;
-    put_number(page, radix, x.value)?;
-    put_text(page, " ")?;
-    put_number(page, radix, x.size)
+    put_spaced(page, radix, x.value)?;
+    put_spaced(page, radix, x.size)
 }
 
 /// Appends `VALUE LETTER NAME` and the newline.
-#[tactic(auto, using(crate::proofs::Kept::kept), unfolding(crate::specs::Rows::plain_row))]
+#[tactic(auto, using(object_output::proofs::Rules::kept), unfolding(crate::specs::Rows::plain_row))]
 fn put_plain(page: &mut Octets, row: &SymbolRow<'_>) -> Result<(), ElfError>
     ensures ok { OnOk result (page.new ≡ page.old ++ plain_row row.now.options.now.radix
         row.now.class row.now.undefined row.now.symbol row.now.letter row.now.name.now) }
     ensures err { IfErr result (WantsMemory page.old page.new) }
 {
     let radix = row.options.radix;
-    put_column(page, radix, row.class, row.undefined, row.symbol.value)?;
-    put_text(page, " ")?;
+    put_value(page, radix, row.class, row.undefined, row.symbol.value)?;
     put_letter(page, row.letter)?;
     put_text(page, " ")?;
     put_bytes(page, row.name)?;
@@ -109,14 +128,13 @@ fn put_plain(page: &mut Octets, row: &SymbolRow<'_>) -> Result<(), ElfError>
 }
 
 /// Appends `NAME LETTER VALUE SIZE` and the newline.
-#[tactic(auto, using(crate::proofs::Kept::kept), unfolding(crate::specs::Rows::portable_row))]
+#[tactic(auto, using(object_output::proofs::Rules::kept), unfolding(crate::specs::Rows::portable_row))]
 fn put_portable(page: &mut Octets, row: &SymbolRow<'_>) -> Result<(), ElfError>
     ensures ok { OnOk result (page.new ≡ page.old ++ portable_row row.now.options.now.radix
         row.now.undefined row.now.symbol row.now.letter row.now.name.now) }
     ensures err { IfErr result (WantsMemory page.old page.new) }
 {
     put_bytes(page, row.name)?;
-    put_text(page, " ")?;
     put_letter(page, row.letter)?;
     put_value_and_size(page, row.options.radix, row.undefined, &row.symbol)?;
     put_text(page, "\n")
@@ -140,7 +158,7 @@ impl Line for SymbolRow<'_> {
     ghost text = { λ r. row_text r.options.now r.class r.file.now r.undefined r.symbol r.letter
         r.name.now };
 
-    #[tactic(auto, using(crate::proofs::Kept::kept), unfolding(crate::specs::Rows::row_text))]
+    #[tactic(auto, using(object_output::proofs::Rules::kept), unfolding(crate::specs::Rows::row_text))]
     fn put(&self, page: &mut Octets) -> Result<(), ElfError> {
         put_file(page, self.options.name_each, self.file)?;
         put_columns(page, self)

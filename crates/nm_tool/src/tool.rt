@@ -12,7 +12,8 @@ ghost use Rattle.object_output.specs.Steps.{ReportsElf};
 ghost use Rattle.object_output.specs.Shows.{ShowsElf};
 ghost use Rattle.nm_tool.specs.Tables.{AreTables};
 ghost use Rattle.nm_tool.specs.Listed.{is_table, symbol_table, symbols as stated_symbols};
-ghost use Rattle.nm_tool.specs.Tool.{placed_row, symbol_row, row_report, pool_report, rows_report, table_report, nm_report};
+ghost use Rattle.nm_tool.specs.Tool.{placed_row, symbol_row, rows_report, table_report, nm_report};
+ghost use Rattle.nm_tool.specs.PoolReports.{row_report, pool_report};
 
 use crate::letters::{is_undefined, symbol_letter};
 use crate::listed::pool_of;

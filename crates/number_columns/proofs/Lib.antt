@@ -1,3 +1,2 @@
-pub mod Rows
-mod Digits
-mod Spaces
+mod DigitLemmas
+mod Copies

@@ -1,104 +1,112 @@
 //! Numbers in columns. Each call refuses `Memory` alone; what the page held then still stands, some
 //! bytes behind it.
 
-ghost use Rattle.std.specs.Prelude.{◌≡◌, ◌++◌, ◌-◌, ◌≤◌, ◌<◌, ◌^◌, false, length, drop, OnOk, IfErr};
-ghost use Rattle.std.specs.Fmt.{digits, digit_glyph};
+ghost use Rattle.std.specs.Prelude.{◌≡◌, ◌++◌, ◌≤◌, length, OnOk, IfErr};
+ghost use Rattle.std.proofs.Math.ListN.{replicate};
 ghost use Rattle.elf_types.specs.Writers.{WantsMemory};
-ghost use Rattle.number_columns.specs.Columns.{base_of, spaces, padded, column};
+ghost use Rattle.number_columns.specs.Columns.{number, spaces, padded, column, zero_filled};
 
+use crate::digits::{MAX_DIGITS, fill_in};
 use elf_types::{ElfError, Octets, put_bytes};
 use tool_text::Radix;
-
-/// As many digits as a number of 128 bits has at most, in radix eight.
-const MAX_DIGITS: usize = 43;
 
 /// The places of a column.
 const COLUMN: usize = 7;
 
-/// The numbers of a radix below it.
-fn base_of(radix: Radix) -> u128
-    ensures base { result ≡ base_of radix }
-    ensures few { 2 ^ 128 ≤ result ^ 43 }
-    ensures range { (8 ≤ result) × (result ≤ 16) }
-{
-    match radix {
-        Radix::Octal => 8,
-        Radix::Decimal => 10,
-        Radix::Hex => 16,
-    }
-}
-
-fn glyph(digit: u128) -> u8
-    requires { digit < 16 }
-    ensures { result ≡ digit_glyph false digit }
-{
-    let digit = digit as u8;
-    if digit < 10 {
-        b'0' + digit
-    } else {
-        b'a' + (digit - 10)
-    }
-}
-
-/// Writes the digits so that they end with the buffer, and tells where they start.
-fn fill_digits(n: u128, base: u128, buffer: &mut [u8]) -> usize
-    requires len { length buffer.old ≡ 43 }
-    requires few { 2 ^ 128 ≤ base ^ 43 }
-    requires range { (8 ≤ base) × (base ≤ 16) }
-    ensures digits { drop result buffer.new ≡ digits base false n }
-    ensures len { length buffer.new ≡ 43 }
-    ensures start { result ≤ 43 }
-{
-    let mut left = n;
-    let mut at = MAX_DIGITS - 1;
-    buffer[at] = glyph(left % base);
-    while left >= base {
-        left /= base;
-        at -= 1;
-        buffer[at] = glyph(left % base);
-    }
-    at
-}
-
-/// Appends as many spaces as there are places in a column that a text leaves.
-fn put_spaces(page: &mut Octets, len: usize) -> Result<(), ElfError>
-    ensures ok { OnOk result (page.new ≡ page.old ++ spaces (7 - len)) }
+/// Appends so many copies of a byte.
+fn put_copies(page: &mut Octets, byte: u8, count: usize) -> Result<(), ElfError>
+    requires { count ≤ 16 }
+    ensures ok { OnOk result (page.new ≡ page.old ++ replicate count byte) }
     ensures err { IfErr result (WantsMemory page.old page.new) }
 {
-    put_bytes(page, &[b' '; COLUMN][..COLUMN.saturating_sub(len)])
+    put_bytes(page, &[byte; 16][..count])
 }
 
-/// Appends a text, right in a column.
-#[tactic(auto, using(crate::proofs::Rows::kept), unfolding(crate::specs::Columns::padded))]
-fn put_padded(page: &mut Octets, text: &[u8]) -> Result<(), ElfError>
-    ensures ok { OnOk result (page.new ≡ page.old ++ padded text.now) }
+/// Appends so many spaces, at most sixteen.
+#[tactic(auto, unfolding(crate::specs::Columns::spaces))]
+pub fn put_spaces(page: &mut Octets, count: usize) -> Result<(), ElfError>
+    requires { count ≤ 16 }
+    ensures ok { OnOk result (page.new ≡ page.old ++ spaces count) }
     ensures err { IfErr result (WantsMemory page.old page.new) }
 {
-    put_spaces(page, text.len())?;
+    put_copies(page, b' ', count)
+}
+
+/// Appends a text, right in so many places, with copies of a byte before it.
+#[tactic(auto, using(elf_types::proofs::Writers::stays), unfolding(crate::specs::Columns::padded))]
+fn put_padded(page: &mut Octets, byte: u8, width: usize, text: &[u8]) -> Result<(), ElfError>
+    requires { width ≤ 16 }
+    ensures ok { OnOk result (page.new ≡ page.old ++ padded byte width text.now) }
+    ensures err { IfErr result (WantsMemory page.old page.new) }
+{
+    put_copies(page, byte, width.saturating_sub(text.len()))?;
     put_bytes(page, text)
 }
 
-/// Appends a number by a buffer for its digits.
-#[tactic(auto, unfolding(crate::specs::Columns::column))]
-fn put_column_by(
+/// Appends a number in the same way, by a buffer for its digits.
+fn put_by(
     page: &mut Octets,
     n: u128,
     radix: Radix,
+    byte: u8,
+    width: usize,
     buffer: &mut [u8],
 ) -> Result<(), ElfError>
-    requires { length buffer.old ≡ 43 }
-    ensures ok { OnOk result (page.new ≡ page.old ++ column radix n) }
+    requires len { length buffer.old ≡ 43 }
+    requires width { width ≤ 16 }
+    ensures ok { OnOk result (page.new ≡ page.old ++ padded byte width (number radix n)) }
     ensures err { IfErr result (WantsMemory page.old page.new) }
 {
-    let start = fill_digits(n, base_of(radix), buffer);
-    put_padded(page, &buffer[start..])
+    let start = fill_in(n, radix, buffer);
+    put_padded(page, byte, width, &buffer[start..])
+}
+
+/// Appends a number in the same way.
+fn put_filled(
+    page: &mut Octets,
+    n: u128,
+    radix: Radix,
+    byte: u8,
+    width: usize,
+) -> Result<(), ElfError>
+    requires { width ≤ 16 }
+    ensures ok { OnOk result (page.new ≡ page.old ++ padded byte width (number radix n)) }
+    ensures err { IfErr result (WantsMemory page.old page.new) }
+{
+    let mut buffer = [0u8; MAX_DIGITS];
+    put_by(page, n, radix, byte, width, &mut buffer)
+}
+
+/// Appends a number in a radix, without leading zeros.
+#[tactic(auto, unfolding(crate::specs::Columns::padded))]
+pub fn put_number(page: &mut Octets, n: u128, radix: Radix) -> Result<(), ElfError>
+    ensures ok { OnOk result (page.new ≡ page.old ++ number radix n) }
+    ensures err { IfErr result (WantsMemory page.old page.new) }
+{
+    put_filled(page, n, radix, b'0', 0)
+}
+
+/// Appends a number in a radix, of at least `width` digits: zeros stand before it where it has
+/// fewer.
+#[tactic(auto, unfolding(crate::specs::Columns::zero_filled))]
+pub fn put_zero_filled(
+    page: &mut Octets,
+    n: u128,
+    radix: Radix,
+    width: usize,
+) -> Result<(), ElfError>
+    requires { width ≤ 16 }
+    ensures ok { OnOk result (page.new ≡ page.old ++ zero_filled radix width n) }
+    ensures err { IfErr result (WantsMemory page.old page.new) }
+{
+    put_filled(page, n, radix, b'0', width)
 }
 
 /// Appends a number in a radix, right in seven places; one with more digits has them all.
+#[tactic(auto, unfolding(crate::specs::Columns::column))]
 pub fn put_column(page: &mut Octets, n: u128, radix: Radix) -> Result<(), ElfError>
     ensures ok { OnOk result (page.new ≡ page.old ++ column radix n) }
     ensures err { IfErr result (WantsMemory page.old page.new) }
 {
-    let mut buffer = [0u8; MAX_DIGITS];
-    put_column_by(page, n, radix, &mut buffer)
+    put_filled(page, n, radix, b' ', COLUMN)
 }

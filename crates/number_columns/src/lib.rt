@@ -1,6 +1,8 @@
-//! Numbers in columns: the digits of a number of 128 bits, right in seven places.
+//! Numbers in columns: the digits of a number of 128 bits in a radix, with spaces or zeros before
+//! them.
 #![tactic(auto)]
 
 pub mod columns;
+pub mod digits;
 
-pub use columns::put_column;
+pub use columns::{put_column, put_number, put_spaces, put_zero_filled};

@@ -41,9 +41,9 @@ impl ObjectTool for SizeTool {
 }
 
 /// Shows how much memory the sections of an object take, as a row of the command size, on two
-/// outputs: the bytes of text, of data and of sections that the file does not hold, and their sum in
-/// decimal and in hexadecimal. Nothing is read and nothing refused. It stops by `Write` where a put
-/// failed, and by `Memory`.
+/// outputs: the bytes of text, of data and of sections that the file does not hold, and their sum
+/// in decimal and in hexadecimal. Nothing is read and nothing refused. It stops by `Write` where a
+/// put failed, and by `Memory`.
 ///
 /// Source: gABI chapter 4, "Sections".
 pub fn size<S: Source, O: Sink, E: Sink>(

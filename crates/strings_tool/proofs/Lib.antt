@@ -1,4 +1,3 @@
-pub mod Rows
 pub mod RunLemmas
 pub mod TextLemmas
 pub mod ScanLemmas

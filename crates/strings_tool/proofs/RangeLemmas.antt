@@ -91,6 +91,15 @@ read_joins (Ok x) holds at held count k old piece new is both h =
     ∙ ap (λ (l : List ℕ). take held (drop at image) ++ l) (read ∙ ap (λ (n : ℕ). take n (drop (at + held) image)) is ∙ ap (take count) (sym (drop-drop held at image)))
     ∙ sym (take-add held count (drop at image)))
 
+-- the bytes at hand: those that waited, and those that were read behind them
+pub at_hand : (holds : Option (List ℕ)) (start held n : ℕ) (old new : List ℕ)
+    → IfSome holds (λ image. take held old ≡ take held (drop start image) → take n new ≡ take n (drop start image))
+    → IfSome holds (λ image. take held old ≡ take held (drop start image))
+    → IfSome holds (λ image. take n new ≡ take n (drop start image))
+at_hand holds start held n old new joins waits =
+    told_both (λ image. take held old ≡ take held (drop start image) → take n new ≡ take n (drop start image)) (λ image. take held old ≡ take held (drop start image))
+    holds joins waits (λ image join same. join same)
+
 -- fewer bytes wait than a long run has
 pub few_wait : (is_open : Bool) (used len least : ℕ) → (is_open ≡ true → used ≡ len) → (is_open ≡ false → len - used < least) → 0 < least → len - used < least
 few_wait true used len least whole short some = let e = whole refl in omega (arith, e, some)

@@ -5,7 +5,8 @@ use Rattle.std.proofs.lemmas.List.Elements.{filter-append}
 use Rattle.std.proofs.lemmas.List.Folds.{length-prefix_len}
 use Rattle.std.proofs.lemmas.List.Sums.{prefix_len-le-length}
 use borrow.Author.Tests.{le-leb, lt-leb}
-use Rattle.strings_tool.specs.Runs.{Run, is_printable, run_if, runs_after, long_runs, Skips}
+use Rattle.strings_tool.specs.Runs.{Run, is_printable, run_if, runs_after, long_runs}
+use Rattle.strings_tool.specs.Skips.{Skips}
 
 -- how many printable bytes stand at the front
 abbrev pub front_len : List ℕ → ℕ

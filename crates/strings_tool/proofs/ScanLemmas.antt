@@ -7,7 +7,8 @@ use Rattle.tool_output.specs.declared.stops.Stop.{Stop}
 use Rattle.tool_output.specs.declared.outputs.Outputs.{Outputs}
 use Rattle.tool_output.specs.Reports.{Report, Reports, joined, shown, UnderWay}
 use Rattle.tool_output.proofs.UnderWayLemmas.{begins, line_shown, stops_at, goes_on, ends_with, shown_append}
-use Rattle.strings_tool.specs.Runs.{is_printable, Skips}
+use Rattle.strings_tool.specs.Runs.{is_printable}
+use Rattle.strings_tool.specs.Skips.{Skips}
 use Rattle.strings_tool.specs.Texts.{least_len, range_text, piece_text, left_text}
 use Rattle.strings_tool.proofs.RunLemmas.{front_len}
 use Rattle.strings_tool.proofs.TextLemmas.{skipped, next_piece, rest_piece}
@@ -32,6 +33,44 @@ rest_is bytes used = take_all (length bytes - used) (drop used bytes) (omega (ar
 abbrev pub rest_of : List ℕ → ℕ → List ℕ
 rest_of bytes used = take (length bytes - used) (drop used bytes)
 
+-- ---- A run that was found
+
+-- It is of n bytes, behind `used` bytes and k that are passed over.
+pub record IsFound (options : StringsOptions) (bytes : List ℕ) (used k n : ℕ) : Type 0 where
+  pub skips : Skips (least_len options) (drop used bytes) k
+  pub within : used + k ≤ length bytes
+  pub len : n ≡ front_len (drop (used + k) bytes)
+  pub long : least_len options ≤ n
+
+module _ (options : StringsOptions) (bytes : List ℕ) (used k least : ℕ) (is_least : least ≡ least_len options) (passes : Skips least (rest_of bytes used) k) where
+  -- what is passed over of a slice
+  pub slice_skipped : Skips (least_len options) (drop used bytes) k
+  slice_skipped =
+      subst (λ (l : List ℕ). Skips (least_len options) l k) (rest_is bytes used)
+      (subst (λ (m : ℕ). Skips m (rest_of bytes used) k) is_least passes)
+
+  pub run_found : (n : ℕ) → used ≤ length bytes → k ≤ length (rest_of bytes used) → (k + least ≤ length (rest_of bytes used) → least ≤ front_len (drop k (rest_of bytes used)))
+      → least ≤ length bytes - (used + k) → 0 < least → n ≡ front_len (rest_of bytes (used + k)) → IsFound options bytes used k n
+  run_found n le inside found enough some is =
+      let rest : length (rest_of bytes used) ≡ length bytes - used = ap length (rest_is bytes used) ∙ length-drop used bytes in
+      let len : n ≡ front_len (drop (used + k) bytes) = is ∙ ap front_len (rest_is bytes (used + k)) in
+      let there : front_len (drop k (rest_of bytes used)) ≡ front_len (drop (used + k) bytes) =
+      ap (λ (l : List ℕ). front_len (drop k l)) (rest_is bytes used) ∙ ap front_len (drop-drop k used bytes) in
+      let front : least ≤ front_len (drop k (rest_of bytes used)) = found (omega (arith, rest, le, enough, some)) in
+      record {
+        skips = slice_skipped;
+        within = omega (arith, rest, le, inside);
+        len = len;
+        long = omega (arith, there, front, is_least, len);
+      }
+
+-- it ends in the bytes
+pub found_within : (options : StringsOptions) (bytes : List ℕ) (used k n : ℕ) → IsFound options bytes used k n → used + k + n ≤ length bytes
+found_within options bytes used k n f =
+    let front_le = prefix_len-le-length is_printable (drop (used + k) bytes) in
+    let rest = length-drop (used + k) bytes in
+    omega (arith, front_le, rest, f.len, f.within)
+
 module _ {O E : Type 0} (o : Ghosts O) (e : Ghosts E) (options : StringsOptions) where
   -- one part of a text after another
   pub ways_join : {s t u : Outputs O E} {whole a b : Report} → UnderWay o e false s t whole a → UnderWay o e false t u a b → UnderWay o e false s u whole b
@@ -48,31 +87,16 @@ module _ {O E : Type 0} (o : Ghosts O) (e : Ghosts E) (options : StringsOptions)
       (let same : at ≡ at + 0 = omega arith in same) (begins o e t (shown (range_text options at (bytes ++ later))))
 
   module _ {s t : Outputs O E} {whole : Report} (bytes later : List ℕ) (at used k : ℕ)
-      (h : UnderWay o e false s t whole (shown (range_text options (at + used) (drop used bytes ++ later))))
-      (least : ℕ) (is_least : least ≡ least_len options) (passes : Skips least (rest_of bytes used) k) where
-    skips : Skips (least_len options) (drop used bytes) k
-    skips =
-        subst (λ (l : List ℕ). Skips (least_len options) l k) (rest_is bytes used)
-        (subst (λ (n : ℕ). Skips n (rest_of bytes used) k) is_least passes)
-
+      (h : UnderWay o e false s t whole (shown (range_text options (at + used) (drop used bytes ++ later)))) where
     -- no run is left in the bytes
-    pub scan_skips : UnderWay o e false s t whole (shown (left_text options false (at + (used + k)) (drop (used + k) bytes ++ later)))
+    pub scan_skips : Skips (least_len options) (drop used bytes) k
+        → UnderWay o e false s t whole (shown (left_text options false (at + (used + k)) (drop (used + k) bytes ++ later)))
     unfolding left_text
-    scan_skips = subst (λ (text : List ℕ). UnderWay o e false s t whole (shown text)) (skipped options bytes later at used k skips) h
+    scan_skips skips = subst (λ (text : List ℕ). UnderWay o e false s t whole (shown text)) (skipped options bytes later at used k skips) h
 
-    module _ (n m : ℕ) (ends : Bool) (is_end : ends ≡ nat_lt (used + k + n) (length bytes)) (is_len : n ≡ front_len (rest_of bytes (used + k)))
-        (le : used + k ≤ length bytes) (found : least ≤ front_len (drop k (rest_of bytes used))) (same : m ≡ n) where
-      len : n ≡ front_len (drop (used + k) bytes)
-      len = is_len ∙ ap front_len (rest_is bytes (used + k))
-
+    module _ (n m : ℕ) (ends : Bool) (is_end : ends ≡ nat_lt (used + k + n) (length bytes)) (f : IsFound options bytes used k n) (same : m ≡ n) where
       within : n ≤ length (drop (used + k) bytes)
-      within = let front_le = prefix_len-le-length is_printable (drop (used + k) bytes) in omega (arith, front_le, len)
-
-      long : least_len options ≤ n
-      long =
-          let there : front_len (drop k (rest_of bytes used)) ≡ front_len (drop (used + k) bytes) =
-          ap (λ (l : List ℕ). front_len (drop k l)) (rest_is bytes used) ∙ ap front_len (drop-drop k used bytes) in
-          omega (arith, there, found, is_least, len)
+      within = let front_le = prefix_len-le-length is_printable (drop (used + k) bytes) in omega (arith, front_le, f.len)
 
       abbrev piece : List ℕ
       piece = piece_text options.place (at + (used + k)) (take m (drop (used + k) bytes)) ends
@@ -82,7 +106,7 @@ module _ {O E : Type 0} (o : Ghosts O) (e : Ghosts E) (options : StringsOptions)
 
       is_next : range_text options (at + used) (drop used bytes ++ later) ≡ piece ++ after (not ends)
       is_next =
-          next_piece options bytes later at used k skips n ends len (end_at bytes (used + k) n ends is_end len le) within long
+          next_piece options bytes later at used k f.skips n ends f.len (end_at bytes (used + k) n ends is_end f.len f.within) within f.long
           ∙ ap (λ (c : ℕ). piece_text options.place (at + (used + k)) (take c (drop (used + k) bytes)) ends ++ after (not ends)) (sym same)
 
       -- a run was shown, or a piece of one

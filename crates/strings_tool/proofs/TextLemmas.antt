@@ -4,7 +4,8 @@ use Rattle.std.proofs.lemmas.List.{take-append-le, drop-append-le, drop_all}
 use Rattle.std.proofs.lemmas.List.Concat.{flat_map-cons}
 use Rattle.std.proofs.lemmas.List.Folds.{prefix_len-append}
 use Rattle.tool_text.specs.declared.options.StringsOptions.{StringsOptions}
-use Rattle.strings_tool.specs.Runs.{is_printable, long_runs, Skips}
+use Rattle.strings_tool.specs.Runs.{is_printable, long_runs}
+use Rattle.strings_tool.specs.Skips.{Skips}
 use Rattle.strings_tool.specs.Texts.{place_text, run_line, least_len, range_text, end_text, piece_text, left_text}
 use Rattle.strings_tool.proofs.RunLemmas.{front_len, front_grows, opens, none_left}
 

@@ -1,5 +1,5 @@
 -- What is said of a file, by its front, and the public call.
-use Rattle.std.proofs.Common.{◌≡◌, ◌+◌, ◌≤◌, inl, inr, ℕ, Bool, true, false, List, [], length, take, drop, map, Option, Some, None, IfSome, Result, Ok, Err, refl, sym, ap, ◌∙◌, subst, arith, take_all}
+use Rattle.std.proofs.Common.{◌≡◌, ◌+◌, ◌≤◌, ℕ, Bool, true, false, List, [], length, take, drop, map, Option, Some, None, IfSome, Result, Ok, Err, refl, sym, ap, arith, take_all}
 use Rattle.elf_types.specs.declared.errors.ElfError.{ElfError}
 use Rattle.elf_types.specs.declared.errors.ElfError.TheVariants as error
 use Rattle.elf_types.specs.Answers.{Follows}
@@ -18,13 +18,14 @@ use Rattle.tool_output.specs.declared.outputs.Outputs.{Outputs}
 use Rattle.tool_output.specs.Names.{Name}
 use Rattle.tool_output.specs.Stops.{stop_of}
 use Rattle.tool_output.specs.Files.{IsWithin}
-use Rattle.tool_output.specs.Steps.{Ends, OnRead, OnWrite, OnKept, LeavesSinks, SinkRose, LeavesOutputs}
+use Rattle.tool_output.specs.Steps.{Ends, LeavesOutputs}
 use Rattle.tool_output.specs.Reports.{Report, Reports}
 use Rattle.tool_output.specs.Sources.{ReportsOn}
 use Rattle.tool_output.proofs.StepLemmas.{keeps_none}
 use Rattle.tool_output.proofs.ReportLemmas.{reports_nothing}
 use Rattle.tool_output.proofs.SourceLemmas.{stated_error}
 use Rattle.tool_output.proofs.EndLemmas.{ended_over, ok_at}
+use Rattle.object_output.proofs.ShowLemmas.{read_kept, write_kept, sinks_kept}
 use Rattle.strings_tool.specs.Homes.{range_report, sections_report}
 use Rattle.strings_tool.specs.Tool.{opened_report, strings_report, strings_asks, ShowsSource}
 
@@ -106,42 +107,6 @@ module _ {S O E : Type 0} (s : SourceGhosts S) (o : SinkGhosts O) (e : SinkGhost
 
   -- ---- The public call
 
-  read_kept : (r result : Result Bool Stop) (P : Type 0) → OnKept result (result ≡ r) → OnRead r P → OnRead result P
-  read_kept r (Ok x) P same h = tt
-  read_kept r (Err Read) P same h = subst (λ (q : Result Bool Stop). OnRead q P) (sym same) h
-  read_kept r (Err Write) P same h = tt
-  read_kept r (Err Memory) P same h = tt
-
-  module _ (t u : Outputs O E) (out : O) (err : E) (k : LeavesSinks o e t.out.now u.out.now t.err.now u.err.now) (l : LeavesSinks o e u.out.now out u.err.now err) where
-    abbrev Rises : Type 0
-    Rises = SinkRose o e t.out.now out t.err.now err
-
-    last_failed : SinkRose o e u.out.now out u.err.now err → Rises
-    last_failed (inl rose) = inl (let p = k.out_later in omega arith)
-    last_failed (inr rose) = inr (let p = k.err_later in omega arith)
-
-    step_failed : SinkRose o e t.out.now u.out.now t.err.now u.err.now → Rises
-    step_failed (inl rose) = inl (let p = l.out_later in omega arith)
-    step_failed (inr rose) = inr (let p = l.err_later in omega arith)
-
-    write_kept : (r result : Result Bool Stop) → OnWrite result (OnKept r (SinkRose o e u.out.now out u.err.now err))
-        → OnWrite r (SinkRose o e t.out.now u.out.now t.err.now u.err.now) → OnWrite result Rises
-    write_kept r (Ok x) last step = tt
-    write_kept r (Err Read) last step = tt
-    write_kept r (Err Memory) last step = tt
-    write_kept (Ok x) (Err Write) last step = last_failed last
-    write_kept (Err Read) (Err Write) last step = last_failed last
-    write_kept (Err Memory) (Err Write) last step = last_failed last
-    write_kept (Err Write) (Err Write) last step = step_failed step
-
-    sinks_kept : LeavesSinks o e t.out.now out t.err.now err
-    sinks_kept = record {
-      out_rest = l.out_rest ∙ k.out_rest;
-      err_rest = l.err_rest ∙ k.err_rest;
-      out_later = omega (arith, k.out_later, l.out_later);
-      err_later = omega (arith, k.err_later, l.err_later);
-    }
-
   pub shows : (report : List ℕ → Report) (r result : Result Bool Stop) (a b : S) (t u : Outputs O E) (out_old out_new out : O) (err_old err_new err : E)
       → t.page.now ≡ [] → t.out.now ≡ out_old → t.err.now ≡ err_old → out ≡ out_new → err ≡ err_new
       → ReportsOn s o e report r a b t u → Ends o e r result u out err
@@ -152,7 +117,7 @@ module _ {S O E : Type 0} (s : SourceGhosts S) (o : SinkGhosts O) (e : SinkGhost
     answer = told_then (λ image. Reports o e r t u (report image)) (s.holds a) h.reports
         (λ image given. ok_at r result (λ refused. refused ≡ (report image).refused) k.answer given.value_is);
     source = h.source;
-    sinks = rw (← p, ← q, ← x, ← y) (sinks_kept t u out err h.leaves.keeps.leaves k.leaves);
-    read = read_kept r result (Rose (s.faults a) (s.faults b)) k.answer h.leaves.read;
-    write = rw (← p, ← q, ← x, ← y) (write_kept t u out err h.leaves.keeps.leaves k.leaves r result k.cause h.leaves.write);
+    sinks = rw (← p, ← q, ← x, ← y) (sinks_kept s o e t u out err h.leaves.keeps.leaves k.leaves);
+    read = read_kept s o e r result (Rose (s.faults a) (s.faults b)) k.answer h.leaves.read;
+    write = rw (← p, ← q, ← x, ← y) (write_kept s o e t u out err h.leaves.keeps.leaves k.leaves r result k.cause h.leaves.write);
   }

@@ -1,5 +1,6 @@
 pub mod Runs
 pub mod Texts
-pub mod Scans
 pub mod Homes
 pub mod Tool
+pub mod Skips
+pub mod Scans

@@ -10,7 +10,7 @@ use tool_output::Line;
 use tool_text::Radix;
 
 /// Appends a run's place, where it is shown.
-#[tactic(auto, using(crate::proofs::Rows::kept), unfolding(crate::specs::Texts::place_text))]
+#[tactic(auto, using(object_output::proofs::Rules::kept), unfolding(crate::specs::Texts::place_text))]
 fn put_place(page: &mut Octets, place: Option<Radix>, at: u64) -> Result<(), ElfError>
     ensures ok { OnOk result (page.new ≡ page.old ++ place_text place at) }
     ensures err { IfErr result (WantsMemory page.old page.new) }
@@ -25,7 +25,7 @@ fn put_place(page: &mut Octets, place: Option<Radix>, at: u64) -> Result<(), Elf
 }
 
 /// Appends the end of a line, where it is there.
-#[tactic(auto, using(crate::proofs::Rows::kept), unfolding(crate::specs::Texts::end_text))]
+#[tactic(auto, using(object_output::proofs::Rules::kept), unfolding(crate::specs::Texts::end_text))]
 fn put_end(page: &mut Octets, ends: bool) -> Result<(), ElfError>
     ensures ok { OnOk result (page.new ≡ page.old ++ end_text ends) }
     ensures err { IfErr result (WantsMemory page.old page.new) }
@@ -50,7 +50,7 @@ pub struct Piece<'a> {
 impl Line for Piece<'_> {
     ghost text = { λ p. piece_text p.place p.at p.bytes.now p.ends };
 
-    #[tactic(auto, using(crate::proofs::Rows::kept), unfolding(crate::specs::Texts::piece_text))]
+    #[tactic(auto, using(object_output::proofs::Rules::kept), unfolding(crate::specs::Texts::piece_text))]
     fn put(&self, page: &mut Octets) -> Result<(), ElfError> {
         put_place(page, self.place, self.at)?;
         put_bytes(page, self.bytes)?;

@@ -2,7 +2,8 @@
 
 ghost use Rattle.std.specs.Prelude.{◌≡◌, ◌+◌, ◌≤◌, ◌<◌, false, length, drop, slice_index, IfSome, IfNone};
 ghost use Rattle.std.specs.List.{prefix_len};
-ghost use Rattle.strings_tool.specs.Runs.{is_printable, Skips};
+ghost use Rattle.strings_tool.specs.Runs.{is_printable};
+ghost use Rattle.strings_tool.specs.Skips.{Skips};
 
 /// Whether a byte is shown: 0x20 to 0x7e, or a tab.
 #[tactic(auto, unfolding(crate::specs::Runs::is_printable))]

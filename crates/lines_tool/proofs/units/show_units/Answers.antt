@@ -1,4 +1,3 @@
-use Rattle.std.proofs.Common.{refl, rules}
 use Rattle.std.proofs.lemmas.Result.{err_from_is_err_and}
 use Rattle.lines_tool.proofs.UnitLemmas.{none_shown, unit_shown, unit_stops, unit_wants, units_end, units_fail}
 use Rattle.lines_tool.proofs.units.show_units.Goals as goal

@@ -2,7 +2,7 @@ use Rattle.std.proofs.Common.{sym}
 use Rattle.elf_descriptor.specs.Reads.{wanted}
 use Rattle.gelf_view.specs.Calls as calls
 use Rattle.object_output.proofs.QueryLemmas.{reads_on, reads_stop}
-use Rattle.nm_tool.proofs.LearnLemmas.{place_is, place_is_none}
+use Rattle.nm_tool.proofs.PlaceLemmas.{place_is, place_is_none}
 use Rattle.nm_tool.proofs.symbols.place_at.Goals as goal
 
 pub returns-in-Ok : goal.returns-in-Ok

@@ -4,7 +4,7 @@ use Rattle.elf_object.specs.Answers.{items_at, syms_of, lend_refusal}
 use Rattle.elf_descriptor.specs.Entries.{entry}
 use Rattle.elf_descriptor.specs.Reads.{wanted}
 use Rattle.object_output.proofs.QueryLemmas.{reads_on, reads_stop}
-use Rattle.nm_tool.proofs.LearnLemmas.{item_is, item_none}
+use Rattle.object_output.proofs.AnswerLemmas.{item_is, item_none}
 use Rattle.nm_tool.proofs.symbols.symbol_at.Goals as goal
 
 pub returns-in-Ok : goal.returns-in-Ok

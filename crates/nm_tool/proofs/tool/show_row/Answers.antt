@@ -5,7 +5,8 @@ use Rattle.tool_output.specs.Reports.{no_report}
 use Rattle.object_output.proofs.ElfSteps.{elf_left, elf_says_none, elf_learns, elf_learns_none}
 use Rattle.nm_tool.specs.Listed.{symbols}
 use Rattle.nm_tool.specs.Tables.{AreTables}
-use Rattle.nm_tool.specs.Tool.{symbol_report, entry_report, row_report}
+use Rattle.nm_tool.specs.Tool.{symbol_report, entry_report}
+use Rattle.nm_tool.specs.PoolReports.{row_report}
 use Rattle.nm_tool.proofs.tool.show_row.Goals as goal
 
 pub show_placed-requires : goal.show_placed-requires

@@ -2,7 +2,8 @@ use Rattle.std.proofs.Common.{◌≡◌, ◌-◌, ℕ, sym, ap, subst}
 use Rattle.elf_types.specs.declared.records.ScnId.{ScnId}
 use Rattle.object_output.proofs.ElfSteps.{elf_as, elf_learns, elf_learns_none}
 use Rattle.nm_tool.specs.Pools.{pool_of}
-use Rattle.nm_tool.specs.Tool.{rows_report, pool_report}
+use Rattle.nm_tool.specs.Tool.{rows_report}
+use Rattle.nm_tool.specs.PoolReports.{pool_report}
 use Rattle.nm_tool.proofs.ToolLemmas.{pool_reported}
 use Rattle.nm_tool.proofs.tool.show_told.Goals as goal
 

@@ -1,4 +1,4 @@
-use Rattle.std.proofs.Common.{length, arith, sym}
+use Rattle.std.proofs.Common.{arith, sym}
 use Rattle.object_output.proofs.SectionLemmas.{ok_is}
 use Rattle.size_tool.specs.Sums.{is_text, is_data, is_bss}
 use Rattle.size_tool.proofs.SumLemmas.{size_none, size_added, sums_all}

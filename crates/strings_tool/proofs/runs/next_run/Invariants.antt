@@ -1,5 +1,5 @@
 use Rattle.std.proofs.Common.{◌≤◌, ◌-◌, length}
-use Rattle.strings_tool.specs.Runs.{Skips}
+use Rattle.strings_tool.specs.Skips.{Skips}
 use Rattle.strings_tool.proofs.runs.next_run.Given as goal
 
 abbrev pub invariant-loop-at : goal.invariant-loop-at

@@ -6,11 +6,12 @@ use Rattle.elf_types.specs.declared.errors.ElfError.{ElfError}
 use Rattle.elf_types.specs.Kinds.{is_compressed}
 use Rattle.elf_outside.specs.Asks.{ReadRose}
 use Rattle.elf_object.specs.Object.{header_of}
+use Rattle.object_output.proofs.AnswerLemmas.{answers_stated}
 use Rattle.object_output.proofs.ElfSteps.{elf_says, elf_refuses}
+use Rattle.object_output.proofs.QueryLemmas.{queried}
 use Rattle.object_output.proofs.SectionLemmas.{ok_is}
 use Rattle.lines_tool.specs.Tables.{section_report}
-use Rattle.object_output.proofs.QueryLemmas.{queried}
-use Rattle.lines_tool.proofs.TableLemmas.{answers_stated, section_out, section_table}
+use Rattle.lines_tool.proofs.TableLemmas.{section_out, section_table}
 use Rattle.lines_tool.proofs.tables.LineTablesSectionTool.show.Goals as goal
 
 pub returns-in-Ok : goal.returns-in-Ok
