@@ -1,5 +1,5 @@
--- Rules, one after another.
-use Rattle.std.proofs.Common.{◌≡◌, ◌||◌, Bool, true, false, List, [], ◌∷◌, Result, Ok, Err, refl, sym, ap, ◌∙◌}
+-- What is said of all findings.
+use Rattle.std.proofs.Common.{◌≡◌, Bool, true, false, List, [], ◌∷◌, Result, Ok, Err, refl, sym, ap, ◌∙◌}
 use Rattle.elf_outside.specs.declared.sources.Source.{Ghosts as SourceGhosts}
 use Rattle.elf_outside.specs.declared.sinks.Sink.{Ghosts as SinkGhosts}
 use Rattle.elf_object.specs.Object.{Object}
@@ -8,44 +8,11 @@ use Rattle.tool_output.specs.declared.stops.Stop.{Stop}
 use Rattle.tool_output.specs.declared.outputs.Outputs.{Outputs}
 use Rattle.tool_output.specs.Names.{Name}
 use Rattle.tool_output.specs.Reports.{Report, shown, no_report, joined}
-use Rattle.object_output.specs.Steps.{ElfUnderWay, ReportsElf}
-use Rattle.object_output.proofs.ElfSteps.{elf_begins, elf_goes_on, elf_stops_at, elf_is_given, elf_then, elf_then_stop}
-use Rattle.lint_findings.specs.Findings.{Finding, Rule, findings_shown, findings_report, no_findings_line}
-use Rattle.lint_findings.specs.Steps.{FindsElf}
-use Rattle.lint_findings.proofs.FindingLemmas.{no_findings, findings_append, found_none, none_where}
+use Rattle.object_output.specs.Steps.{ReportsElf}
+use Rattle.object_output.proofs.ElfSteps.{elf_then, elf_then_stop}
+use Rattle.lint_findings.specs.Findings.{Finding, findings_shown, findings_report, no_findings_line}
+use Rattle.lint_findings.proofs.FindingLemmas.{no_findings, found_none, none_where}
 use Rattle.tool_output.proofs.ReportLemmas.{none_joined, joined_none}
-use Rattle.elf_lint.specs.Rules.{found_by}
-
-rules_left : (name : Name) (r : Rule) (rs : List Rule) (o : Object) → findings_shown name (found_by (r ∷ rs) o) ≡ joined (findings_shown name (r o)) (findings_shown name (found_by rs o))
-unfolding found_by
-rules_left name r rs o = findings_append name (r o) (found_by rs o)
-
-none_left : (name : Name) (o : Object) → findings_shown name (found_by [] o) ≡ no_report
-unfolding found_by
-none_left name o = no_findings name
-
--- what is left of several rules
-abbrev pub left_of : Name → List Rule → Object → Report
-left_of name rules o = findings_shown name (found_by rules o)
-
-module _ {S O E : Type 0} (s : SourceGhosts S) (o : SinkGhosts O) (e : SinkGhosts E) (name : Name) (rules : List Rule) where
-  pub rules_begin : (a : State S) (t : Outputs O E) → ElfUnderWay s o e false a a t t (left_of name rules) (left_of name rules)
-  rules_begin a t = elf_begins s o e a t (left_of name rules)
-
-  module _ (x : Bool) (a b c : State S) (t u v : Outputs O E) (r : Rule) (rs : List Rule) (under : ElfUnderWay s o e x a b t u (left_of name rules) (left_of name (r ∷ rs))) where
-    -- the next rule has looked
-    pub rule_looked : (y : Bool) → FindsElf s o e r name (Ok y) b c u v → ElfUnderWay s o e (x || y) a c t v (left_of name rules) (left_of name rs)
-    rule_looked y found = elf_goes_on under (λ m. findings_shown name (r m)) (left_of name rs) (λ told. rules_left name r rs a.o) found refl
-
-    -- or it stopped
-    pub rule_stopped : (stop : Stop) → FindsElf s o e r name (Err stop) b c u v → FindsElf s o e (found_by rules) name (Err stop) a c t v
-    rule_stopped stop found = elf_stops_at under (λ m. findings_shown name (r m)) (left_of name rs) (λ told. rules_left name r rs a.o) found
-
-  -- all have
-  pub rules_done : (x : Bool) (a b : State S) (t u : Outputs O E) → ElfUnderWay s o e x a b t u (left_of name rules) (left_of name []) → FindsElf s o e (found_by rules) name (Ok x) a b t u
-  rules_done x a b t u under = elf_is_given under (λ told. none_left name a.o)
-
--- ---- The report
 
 -- of findings
 pub report_some : (name : Name) (fs : List Finding) → (findings_shown name fs).refused ≡ true → findings_report name fs ≡ findings_shown name fs

@@ -1,5 +1,6 @@
 -- The rules in their order, and what elflint says of an object.
-use Rattle.std.specs.Prelude.{List, [], ◌∷◌, flat_map}
+use Rattle.std.specs.Prelude.{List, [], ◌∷◌}
+use Rattle.std.specs.List.{flat_map}
 use Rattle.elf_object.specs.Object.{Object}
 use Rattle.tool_output.specs.Names.{Name}
 use Rattle.tool_output.specs.Reports.{Report}
@@ -15,39 +16,27 @@ use Rattle.lint_symbols.specs.Relocations.{relocations_by_no_symbol}
 use Rattle.lint_links.specs.Dynamic.{dynamic_without_end}
 use Rattle.lint_chains.specs.Chains.{bad_notes, bad_versions}
 use Rattle.lint_hashes.specs.Hashes.{hashes_not_whole, gnu_hashes_not_whole}
-
--- what several rules find, one after another
-unfoldable pub found_by : List Rule → Rule
-found_by rules o = flat_map (λ (finds : Rule). finds o) rules
+use Rattle.elf_lint.specs.declared.rules.LintRule.{LintRule}
+use Rattle.elf_lint.specs.declared.rules.LintRule.TheVariants as rules
 
 -- ---- The rules
 
--- 1 to 5
-unfoldable pub header_rules : List Rule
-header_rules =
+-- in their order
+abbrev pub all_rules : List Rule
+all_rules =
     wrong_header_size
     ∷ segments_outside_the_file
     ∷ missing_name_table
     ∷ section_0_in_use
     ∷ unreadable_section_names
-    ∷ []
-
--- 6 to 12
-unfoldable pub section_rules : List Rule
-section_rules =
-    sections_outside_the_file
+    ∷ sections_outside_the_file
     ∷ ragged_sections
     ∷ odd_alignments
     ∷ unaligned_addresses
     ∷ links_to_no_section
     ∷ infos_of_no_section
     ∷ wrong_entry_sizes
-    ∷ []
-
--- 13 to 20
-unfoldable pub table_rules : List Rule
-table_rules =
-    tables_without_first_nul
+    ∷ tables_without_first_nul
     ∷ tables_without_last_nul
     ∷ symbols_without_strings
     ∷ relocations_without_symbols
@@ -55,22 +44,12 @@ table_rules =
     ∷ dynamic_without_strings
     ∷ unallocated_thread_storage
     ∷ overlapping_parts
-    ∷ []
-
--- 21 to 25
-unfoldable pub symbol_rules : List Rule
-symbol_rules =
-    symbol_0_in_use
+    ∷ symbol_0_in_use
     ∷ unreadable_symbol_names
     ∷ local_symbols_among_the_others
     ∷ other_symbols_among_the_local
     ∷ symbols_of_no_section
-    ∷ []
-
--- 26 to 32
-unfoldable pub data_rules : List Rule
-data_rules =
-    segments_larger_than_memory
+    ∷ segments_larger_than_memory
     ∷ relocations_by_no_symbol
     ∷ dynamic_without_end
     ∷ bad_notes
@@ -79,21 +58,46 @@ data_rules =
     ∷ gnu_hashes_not_whole
     ∷ []
 
--- all of them, in five parts
-unfoldable pub all_rules : List Rule
-all_rules =
-    found_by header_rules
-    ∷ found_by section_rules
-    ∷ found_by table_rules
-    ∷ found_by symbol_rules
-    ∷ found_by data_rules
-    ∷ []
+-- what a rule finds
+abbrev pub finds : LintRule → Rule
+finds rules.WrongHeaderSize = wrong_header_size
+finds rules.SegmentsOutsideTheFile = segments_outside_the_file
+finds rules.MissingNameTable = missing_name_table
+finds rules.Section0InUse = section_0_in_use
+finds rules.UnreadableSectionNames = unreadable_section_names
+finds rules.SectionsOutsideTheFile = sections_outside_the_file
+finds rules.RaggedSections = ragged_sections
+finds rules.OddAlignments = odd_alignments
+finds rules.UnalignedAddresses = unaligned_addresses
+finds rules.LinksToNoSection = links_to_no_section
+finds rules.InfosOfNoSection = infos_of_no_section
+finds rules.WrongEntrySizes = wrong_entry_sizes
+finds rules.TablesWithoutFirstNul = tables_without_first_nul
+finds rules.TablesWithoutLastNul = tables_without_last_nul
+finds rules.SymbolsWithoutStrings = symbols_without_strings
+finds rules.RelocationsWithoutSymbols = relocations_without_symbols
+finds rules.HashesWithoutSymbols = hashes_without_symbols
+finds rules.DynamicWithoutStrings = dynamic_without_strings
+finds rules.UnallocatedThreadStorage = unallocated_thread_storage
+finds rules.OverlappingParts = overlapping_parts
+finds rules.Symbol0InUse = symbol_0_in_use
+finds rules.UnreadableSymbolNames = unreadable_symbol_names
+finds rules.LocalSymbolsAmongTheOthers = local_symbols_among_the_others
+finds rules.OtherSymbolsAmongTheLocal = other_symbols_among_the_local
+finds rules.SymbolsOfNoSection = symbols_of_no_section
+finds rules.SegmentsLargerThanMemory = segments_larger_than_memory
+finds rules.RelocationsByNoSymbol = relocations_by_no_symbol
+finds rules.DynamicWithoutEnd = dynamic_without_end
+finds rules.BadNotes = bad_notes
+finds rules.BadVersions = bad_versions
+finds rules.HashesNotWhole = hashes_not_whole
+finds rules.GnuHashesNotWhole = gnu_hashes_not_whole
 
 -- ---- Findings
 
 -- by rule, then by section or segment, then by item
 unfoldable pub findings : Object → List Finding
-findings o = found_by all_rules o
+findings o = flat_map (λ (rule : Rule). rule o) all_rules
 
 unfoldable pub lint_report : Name → Object → Report
 lint_report name o = findings_report name (findings o)

@@ -5,16 +5,14 @@ use Rattle.std.specs.Option.{option_or}
 use Rattle.elf_types.specs.declared.records.Kind.TheVariants as kinds
 use Rattle.elf_types.specs.declared.constants.TheConstants.{SHT_NOTE, SHT_GNU_VERDEF, SHT_GNU_VERNEED}
 use Rattle.elf_types.specs.declared.errors.ElfError.{ElfError}
-use Rattle.elf_types.specs.declared.errors.ElfError.TheVariants as error
 use Rattle.elf_types.specs.Answers.{answered, first_refusal, ◌>>=◌}
 use Rattle.elf_object.specs.Object.{Object}
 use Rattle.elf_object.specs.Answers.{bytes_of, items_at, lend_refusal}
 use Rattle.gelf_view.specs.declared.aux.AuxPlace.{AuxPlace}
 use Rattle.gelf_view.specs.Calls.{first_place, first_entry_answer}
-use Rattle.gelf_view.specs.Chains.{Chain, ended, broken, leading, entry_then, next_place, notes, verdefs, verneeds, IsBehind, IsLedBy}
+use Rattle.gelf_view.specs.Chains.{Chain, ended, broken, leading, entry_then, next_place, notes, verdefs, verneeds, IsBehind}
 use Rattle.command_objects.specs.Words.{header_at}
 use Rattle.gelf_view.specs.Records.{LiesAt}
-use Rattle.tool_output.specs.Stops.{stop_of}
 use Rattle.lint_findings.specs.Looking.{is_plain, if_lent, data_bytes}
 use Rattle.lint_chains.specs.Chains.{bad_place, entries_bad, section_bad, is_plain_of, note_bad, verdef_names_bad, verneed_names_bad, version_bad}
 
@@ -22,12 +20,6 @@ use Rattle.lint_chains.specs.Chains.{bad_place, entries_bad, section_bad, is_pla
 
 abbrev pub chain_bad : {A : Type 0} → Chain A → Option ℕ
 chain_bad chain = bad_place chain.bad
-
--- an answer that is a refusal is where the chain goes bad
-pub led_broken : {A B : Type 0} (e : ElfError) (behind : A → Chain B) (chain : Chain B) → IsLedBy (Err e) behind chain → stop_of e ≡ None → chain ≡ broken e
-led_broken error.Memory behind chain h none = cc
-led_broken error.Read behind chain h none = cc
-led_broken e behind chain h none = h
 
 -- ---- The entries of a section
 

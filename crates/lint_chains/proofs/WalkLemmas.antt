@@ -1,55 +1,16 @@
 -- Walks over an object that look for the place of a bad chain, step by step.
-use Rattle.std.proofs.Common.{◌≡◌, ◌≤◌, ℕ, List, Option, Some, None, Result, Ok, Err, IsTrue, IfOk, IfSome, IfNone, refl, sym, ◌∙◌, subst, arith}
+use Rattle.std.proofs.Common.{◌≡◌, ℕ, Option, Some, None, Result, Ok, Err, IsTrue, IfSome, IfNone, refl, sym, ◌∙◌, subst}
 use Rattle.elf_types.specs.declared.errors.ElfError.{ElfError}
 use Rattle.elf_types.specs.declared.errors.ElfError.TheVariants as error
-use Rattle.elf_outside.specs.Counts.{Rose}
 use Rattle.elf_outside.specs.declared.sources.Source.{Ghosts as SourceGhosts}
 use Rattle.elf_object.specs.Object.{Object}
-use Rattle.elf_object.specs.Calls.{Call}
 use Rattle.elf_descriptor.specs.State.{State}
-use Rattle.elf_descriptor.specs.Reads.{Queries}
 use Rattle.tool_output.specs.declared.stops.Stop.{Stop}
-use Rattle.tool_output.specs.declared.stops.Stop.TheVariants.{Read, Write, Memory}
-use Rattle.tool_output.specs.Steps.{OnRead}
 use Rattle.tool_output.specs.Stops.{stop_of}
-use Rattle.object_output.specs.Steps.{LeavesElf, Learns}
+use Rattle.object_output.specs.Steps.{LeavesElf, Learns, Looked}
 use Rattle.object_output.proofs.ElfSteps.{elf_left, elf_left_then, still_told}
-use Rattle.object_output.proofs.QueryLemmas.{queried}
-use Rattle.lint_chains.specs.Chains.{bad_place, Looked}
-
--- ---- A look
-
-pub looked_by : {S A T : Type 0} (s : SourceGhosts S) (c : Call A) (holding : List ℕ) (r : Result T ElfError) (a b : State S) → Queries s c holding r a b → Looked s r a b
-looked_by s c holding r a b h = record { elf = queried s c holding r a b h; read = h.reads.source.read }
-
-rose_before : {T : Type 0} (r : Result T Stop) (a b c : ℕ) → a ≤ b → OnRead r (Rose b c) → OnRead r (Rose a c)
-rose_before (Ok x) a b c h k = tt
-rose_before (Err Read) a b c h k = omega arith
-rose_before (Err Write) a b c h k = tt
-rose_before (Err Memory) a b c h k = tt
-
-module _ {S T : Type 0} (s : SourceGhosts S) (stated : Object → T) where
-  -- a value behind a look
-  pub learns_by : (v : T) (a b : State S) → LeavesElf s a b → (IsTrue a.told → v ≡ stated a.o) → Learns s stated (Ok v) a b
-  learns_by v a b h is = record { value = is; reads = record { elf = h; read = tt; write = tt } }
-
-  -- a step behind a look
-  pub learns_after : (r : Result T Stop) (a b c : State S) → LeavesElf s a b → Learns s stated r b c → Learns s stated r a c
-  learns_after r a b c h k = record {
-    value = λ told. subst (λ (m : Object). IfOk r (λ v. v ≡ stated m)) h.object (k.value (still_told s a b h told));
-    reads = record {
-      elf = elf_left_then s a b c h k.reads.elf;
-      read = rose_before r (s.faults a.source) (s.faults b.source) (s.faults c.source) h.later k.reads.read;
-      write = k.reads.write;
-    };
-  }
-
-  -- the same value, stated otherwise
-  pub learns_as : (other : Object → T) (r : Result T Stop) (a b : State S) → (IsTrue a.told → other a.o ≡ stated a.o) → Learns s other r a b → Learns s stated r a b
-  learns_as other r a b same h = record {
-    value = λ told. subst (λ (v : T). IfOk r (λ w. w ≡ v)) (same told) (h.value told);
-    reads = h.reads;
-  }
+use Rattle.object_output.proofs.LearnLemmas.{learns_after, learns_as}
+use Rattle.lint_chains.specs.Chains.{bad_place}
 
 -- a look met an error: the step stops by it, or this is where the chain goes bad
 pub met_bad : {S T : Type 0} (s : SourceGhosts S) (stated : Object → Option ℕ) (e : ElfError) (r : Result (Option ℕ) Stop) (a b : State S) → Looked {T = T} s (Err e) a b
@@ -83,8 +44,4 @@ module _ {S : Type 0} {s : SourceGhosts S} {a b : State S} {whole rest : Object 
   }
 
   pub walk_ends : (r : Result (Option ℕ) Stop) (c : State S) → Learns s rest r b c → Learns s whole r a c
-  walk_ends r c k =
-      let all = learns_after s rest r a b c h.elf k in record {
-        value = λ told. subst (λ (v : Option ℕ). IfOk r (λ w. w ≡ v)) (sym (h.same told)) (all.value told);
-        reads = all.reads;
-      }
+  walk_ends r c k = learns_as s whole rest r a c (λ told. sym (h.same told)) (learns_after s rest r a b c h.elf k)

@@ -1,23 +1,19 @@
 -- The rules 29 and 30: notes and version records, which stand in chains (gABI chapter 5, "Note
 -- Section"; GNU's version sections). A chain goes bad at a record that is not there.
-use Rattle.std.specs.Prelude.{ℕ, ◌==◌, ◌&&◌, Bool, List, [], ◌∷◌, flat_map, length, map, Option, Some, None, Result, if◌then◌else◌}
+use Rattle.std.specs.Prelude.{ℕ, ◌==◌, ◌&&◌, Bool, List, [], ◌∷◌, flat_map, length, map, Option, Some, None, if◌then◌else◌}
 use Rattle.std.specs.Option.{option_or}
 use Rattle.elf_types.specs.Answers.{first_refusal}
 use Rattle.elf_types.specs.Text.{error_text}
 use Rattle.elf_types.specs.declared.constants.TheConstants.{SHT_NOTE, SHT_GNU_VERDEF, SHT_GNU_VERNEED}
 use Rattle.elf_types.specs.declared.errors.ElfError.{ElfError}
 use Rattle.elf_types.specs.declared.errors.ElfError.TheVariants.{BadChain}
-use Rattle.elf_outside.specs.Asks.{ReadRose}
-use Rattle.elf_outside.specs.declared.sources.Source.{Ghosts}
 use Rattle.elf_object.specs.Object.{Object}
 use Rattle.elf_object.specs.Due.{all_sections}
-use Rattle.elf_descriptor.specs.State.{State}
 use Rattle.gelf_view.specs.declared.versions.Verdef.{Verdef}
 use Rattle.gelf_view.specs.declared.versions.Verneed.{Verneed}
 use Rattle.gelf_view.specs.Calls.{first_place}
 use Rattle.gelf_view.specs.Chains.{Chain, ended, notes, verdefs, verneeds, verdauxs, vernauxs, first_aux}
 use Rattle.command_objects.specs.Words.{header_at}
-use Rattle.object_output.specs.Steps.{LeavesElf}
 use Rattle.lint_findings.specs.declared.places.Place.TheVariants.{Section}
 use Rattle.lint_findings.specs.Findings.{Finding, finding}
 use Rattle.lint_findings.specs.Looking.{is_plain, data_bytes}
@@ -86,11 +82,3 @@ version_bad o s =
 
 unfoldable pub bad_versions : Object → List Finding
 bad_versions o = at_bad_chains 30 (version_bad o) (all_sections o)
-
--- ---- A look at a record
-
--- it leaves the object, and answers Read only where a read of the source failed
-pub record Looked {S T : Type 0} (s : Ghosts S) (result : Result T ElfError)
-    (old new : State S) : Type 0 where
-  pub elf : LeavesElf s old new
-  pub read : ReadRose result (s.faults old.source) (s.faults new.source)

@@ -18,16 +18,9 @@ use tool_output::{FileName, Outputs, Stop};
 
 /// A rule that looks for the first bad chain of a section.
 ///
-/// - `number` is its number.
 /// - `bad` is the place of that chain, by the object and the section's number.
 pub trait ChainRule {
-    ghost number: { ℕ };
-
     ghost bad: { Object → ℕ → TheOption ℕ };
-
-    /// Its number.
-    fn number(&self) -> u32
-        ensures { result ≡ number };
 
     /// The place of the first bad chain of a section that is there. It stops by `Read` where a read
     /// of the source failed, and by `Memory`.
@@ -58,16 +51,18 @@ pub fn met(e: ElfError) -> Result<Option<u64>, Stop>
 }
 
 /// A rule under the name of a file.
-#[derive(Clone, Copy)]
+#[derive(Drop)]
 struct ByChain<'a, R> {
     /// The rule.
     rule: &'a R,
+    /// Its number.
+    number: u32,
     /// The file.
     name: &'a FileName<'a>,
 }
 
 impl<R: ChainRule> SectionTool for ByChain<'_, R> {
-    ghost report = { λ t o s. findings_shown t.name.now (chain_found R.number s (R.bad o s)) };
+    ghost report = { λ t o s. findings_shown t.name.now (chain_found t.number s (R.bad o s)) };
 
     fn show<S: Source, O: Sink, E: Sink>(
         &self,
@@ -79,7 +74,7 @@ impl<R: ChainRule> SectionTool for ByChain<'_, R> {
         match rule.find_bad(elf, s) {
             Ok(Some(at)) => {
                 let text = ElfError::BadChain { at };
-                find(self.name, rule.number(), Place::Section(s.0), text, outputs)
+                find(self.name, self.number, Place::Section(s.0), text, outputs)
             }
             Ok(None) => Ok(false),
             Err(stop) => Err(stop),
@@ -87,16 +82,18 @@ impl<R: ChainRule> SectionTool for ByChain<'_, R> {
     }
 }
 
-/// Says what a rule finds in each section, by number.
+/// Says what a rule of that number finds in each section, by number.
 pub fn each_bad_chain<R: ChainRule, S: Source, O: Sink, E: Sink>(
     rule: &R,
+    number: u32,
     name: &FileName<'_>,
     elf: &mut Elf<S>,
     outputs: &mut Outputs<'_, O, E>,
 ) -> Result<bool, Stop>
     ensures { FindsElf S.Source O.Sink E.Sink
-        (λ o. at_bad_chains R.number (R.bad o) (all_sections o)) name.now
+        (λ o. at_bad_chains number (R.bad o) (all_sections o)) name.now
         result elf.old elf.new outputs.old outputs.new }
 {
-    each_section(&ByChain { rule, name }, elf, outputs)
+    let tool = ByChain { rule, number, name };
+    each_section(&tool, elf, outputs)
 }

@@ -8,9 +8,9 @@ ghost use Rattle.elf_object.specs.Answers.{count_at};
 ghost use Rattle.gelf_view.specs.Calls.{first_place};
 ghost use Rattle.gelf_view.specs.declared.aux.AuxPlace.{AuxPlace as TheAuxPlace};
 ghost use Rattle.gelf_view.specs.Chains.{Chain, aux_then, entry_then, next_place, IsLedBy};
-ghost use Rattle.object_output.specs.Steps.{Learns};
+ghost use Rattle.object_output.specs.Steps.{Learns, Looked};
 ghost use Rattle.lint_findings.specs.Looking.{data_bytes};
-ghost use Rattle.lint_chains.specs.Chains.{bad_place, entries_bad, from_first, Looked};
+ghost use Rattle.lint_chains.specs.Chains.{bad_place, entries_bad, from_first};
 
 use crate::by_chain::met;
 use elf_descriptor::Elf;

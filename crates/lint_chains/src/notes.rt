@@ -41,13 +41,7 @@ fn walk_notes<S: Source>(elf: &mut Elf<S>, s: ScnId) -> Result<Option<u64>, Stop
 struct Notes;
 
 impl ChainRule for Notes {
-    ghost number = { 29 };
-
     ghost bad = { rule.note_bad };
-
-    fn number(&self) -> u32 {
-        29
-    }
 
     fn find_bad<S: Source>(&self, elf: &mut Elf<S>, s: ScnId) -> Result<Option<u64>, Stop> {
         if is_plain_of(elf, s, SHT_NOTE) {
@@ -70,5 +64,5 @@ pub fn bad_notes<S: Source, O: Sink, E: Sink>(
     ensures { FindsElf S.Source O.Sink E.Sink rule.bad_notes name.now
         result elf.old elf.new outputs.old outputs.new }
 {
-    each_bad_chain(&Notes, name, elf, outputs)
+    each_bad_chain(&Notes, 29, name, elf, outputs)
 }

@@ -99,13 +99,7 @@ impl Entry for Verneed {
 struct Versions;
 
 impl ChainRule for Versions {
-    ghost number = { 30 };
-
     ghost bad = { rule.version_bad };
-
-    fn number(&self) -> u32 {
-        30
-    }
 
     fn find_bad<S: Source>(&self, elf: &mut Elf<S>, s: ScnId) -> Result<Option<u64>, Stop> {
         if is_plain_of(elf, s, SHT_GNU_VERDEF) {
@@ -131,5 +125,5 @@ pub fn bad_versions<S: Source, O: Sink, E: Sink>(
     ensures { FindsElf S.Source O.Sink E.Sink rule.bad_versions name.now
         result elf.old elf.new outputs.old outputs.new }
 {
-    each_bad_chain(&Versions, name, elf, outputs)
+    each_bad_chain(&Versions, 30, name, elf, outputs)
 }

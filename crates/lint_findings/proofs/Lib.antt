@@ -1,4 +1,4 @@
 pub mod FindingLemmas
 pub mod HeaderLemmas
 pub mod Kept
-pub mod LearnLemmas
+pub mod LentLemmas

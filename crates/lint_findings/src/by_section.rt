@@ -1,6 +1,6 @@
 //! Rules that look at each section, and have at most one finding there.
 
-ghost use Rattle.std.specs.Prelude.{◌≡◌, ◌<◌, ℕ, List, Bool as TheBool, length};
+ghost use Rattle.std.specs.Prelude.{◌<◌, ℕ, Bool as TheBool, length};
 ghost use Rattle.elf_object.specs.Object.{Object};
 ghost use Rattle.elf_object.specs.Due.{all_sections};
 ghost use Rattle.object_output.specs.Steps.{Learns};
@@ -18,22 +18,9 @@ use tool_output::{FileName, Outputs, Stop};
 
 /// A rule that has at most one finding a section.
 ///
-/// - `number` is its number, and `text` the text of its findings.
 /// - `finds` tells whether it has one, by the object and the section's number.
 pub trait SectionRule {
-    ghost number: { ℕ };
-
-    ghost text: { List ℕ };
-
     ghost finds: { Object → ℕ → TheBool };
-
-    /// Its number.
-    fn number(&self) -> u32
-        ensures { result ≡ number };
-
-    /// The text of its findings.
-    fn text(&self) -> &'static str
-        ensures { result.now ≡ text };
 
     /// Whether it has a finding at a section that is there. It stops by `Read` where a read of the
     /// source failed, and by `Memory`.
@@ -43,17 +30,21 @@ pub trait SectionRule {
 }
 
 /// A rule under the name of a file.
-#[derive(Clone, Copy)]
+#[derive(Drop)]
 struct BySection<'a, R> {
     /// The rule.
     rule: &'a R,
+    /// Its number.
+    number: u32,
+    /// The text of its findings.
+    text: &'static str,
     /// The file.
     name: &'a FileName<'a>,
 }
 
 impl<R: SectionRule> SectionTool for BySection<'_, R> {
     ghost report = { λ t o s. findings_shown t.name.now
-        (found_if (R.finds o s) (finding R.number (Section s) R.text)) };
+        (found_if (R.finds o s) (finding t.number (Section s) t.text.now)) };
 
     fn show<S: Source, O: Sink, E: Sink>(
         &self,
@@ -65,24 +56,32 @@ impl<R: SectionRule> SectionTool for BySection<'_, R> {
         match rule.finds(elf, s) {
             Ok(holds) => {
                 let place = Place::Section(s.0);
-                find_if(holds, self.name, rule.number(), place, rule.text(), outputs)
+                find_if(holds, self.name, self.number, place, self.text, outputs)
             }
             Err(stop) => Err(stop),
         }
     }
 }
 
-/// Says what a rule finds at each section, by number.
-#[tactic(auto, unfolding(crate::specs::Findings::at_sections))]
+/// Says what a rule of that number finds at each section, by number, with one text for all its
+/// findings.
 pub fn each_section_by<R: SectionRule, S: Source, O: Sink, E: Sink>(
     rule: &R,
+    number: u32,
+    text: &'static str,
     name: &FileName<'_>,
     elf: &mut Elf<S>,
     outputs: &mut Outputs<'_, O, E>,
 ) -> Result<bool, Stop>
     ensures { FindsElf S.Source O.Sink E.Sink
-        (λ o. at_sections R.number R.text (R.finds o) (all_sections o)) name.now
+        (λ o. at_sections number text.now (R.finds o) (all_sections o)) name.now
         result elf.old elf.new outputs.old outputs.new }
 {
-    each_section(&BySection { rule, name }, elf, outputs)
+    let tool = BySection {
+        rule,
+        number,
+        text,
+        name,
+    };
+    each_section(&tool, elf, outputs)
 }

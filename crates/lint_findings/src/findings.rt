@@ -30,7 +30,7 @@ fn put_start(
 }
 
 /// The line of a finding.
-#[derive(Clone, Copy)]
+#[derive(Drop)]
 pub struct FindingLine<'a, T> {
     /// The file, or the member of an archive.
     pub name: &'a FileName<'a>,

@@ -4,12 +4,14 @@
 
 pub mod by_section;
 pub mod by_segment;
+pub mod data;
 pub mod findings;
 pub mod looking;
 pub mod places;
 
 pub use by_section::{SectionRule, each_section_by};
 pub use by_segment::{SegmentRule, each_segment};
+pub use data::item_at;
 pub use findings::{FindingLine, NoFindings, find, find_if};
 pub use looking::{
     class, first_piece, info_is_section, is_allocated, is_intact, is_looked_at, is_out, is_plain,

@@ -7,7 +7,7 @@ use elf_types::{ElfError, Octets, put_numbered, put_numbered_twice, put_text};
 use tool_output::Line;
 
 /// The place of a finding.
-#[derive(Clone, Copy, Debug, PartialEq, Eq)]
+#[derive(Clone, Copy)]
 pub enum Place {
     /// The ELF header.
     Header,

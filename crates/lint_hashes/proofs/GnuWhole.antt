@@ -1,5 +1,5 @@
 -- When GNU's hash section is whole.
-use Rattle.std.proofs.Common.{◌≡◌, ◌⊎◌, inl, inr, ℕ, ◌%◌, ◌<◌, Bool, true, false, ◌&&◌, List, [], length, Option, Some, None, refl, sym, ap, ◌∙◌, arith}
+use Rattle.std.proofs.Common.{◌≡◌, ◌⊎◌, inl, inr, ℕ, ◌+◌, ◌%◌, ◌<◌, Bool, true, false, ◌&&◌, List, [], length, Option, Some, None, refl, sym, ap, ◌∙◌, subst, arith}
 use Rattle.std.specs.Prelude.{if◌then◌else◌}
 use Rattle.std.proofs.lemmas.Bool.{cases_Bool}
 use Rattle.std.proofs.lemmas.List.Folds.{list_all_at}
@@ -10,7 +10,7 @@ use Rattle.command_objects.specs.Hashes.{gnu_hash}
 use Rattle.command_objects.specs.HashSections.{GnuHash, gnu_in, gnu_chain_from, is_found_gnu, is_on_with, is_whole_gnu, ends, passes}
 use Rattle.lint_hashes.specs.declared.gnu.GnuTable.{GnuTable}
 use Rattle.lint_hashes.specs.Gnu.{has_parts, section_of, chains_end, is_sound, first_of, is_reached, next_run, run_after, all_are_found, IsTable, IsSound, IsRun, LiesIn}
-use Rattle.lint_hashes.proofs.GnuChains.{reached_is}
+use Rattle.lint_hashes.proofs.GnuChains.{reached_is, run_next}
 use Rattle.lint_hashes.proofs.ListedLemmas.{by_hash}
 
 -- ---- All but the symbols
@@ -74,12 +74,12 @@ module _ (c : Class) (h : GnuHash) (n start i : ℕ) where
   none_if true is = cc
   none_if false is = refl
 
-  pub run_some : (listed : Option ℕ) (next : ℕ) → Some next ≡ run_after c h n start i listed → (next ≡ next_run h n start i) × (by_hash found_at i listed ≡ true)
+  run_some : (listed : Option ℕ) (next : ℕ) → Some next ≡ run_after c h n start i listed → (next ≡ next_run h n start i) × (by_hash found_at i listed ≡ true)
   unfolding run_after
   run_some None next is = (cc, refl)
   run_some (Some hash) next is = some_if (found_at i hash) next is
 
-  pub run_none : (listed : Option ℕ) → None ≡ run_after c h n start i listed → by_hash found_at i listed ≡ false
+  run_none : (listed : Option ℕ) → None ≡ run_after c h n start i listed → by_hash found_at i listed ≡ false
   unfolding run_after
   run_none None is = cc
   run_none (Some hash) is = none_if (found_at i hash) is
@@ -97,10 +97,20 @@ module _ (c : Class) (h : GnuHash) (n start i : ℕ) (run : IsRun h n i start) (
       by_test (inr fails) =
           let both = sym (list_all_at (λ (first : ℕ). ends (gnu_chain_from h n first)) h.buckets (hash % length h.buckets) 0 (mod-lt hash some) fails) ∙ end in cc
 
-  pub found_is : (listed : Option ℕ) → by_hash (found_at c h n start i) i listed ≡ by_hash (found_by c h n) i listed
+  found_is : (listed : Option ℕ) → by_hash (found_at c h n start i) i listed ≡ by_hash (found_by c h n) i listed
   unfolding is_reached
   found_is None = refl
   found_is (Some hash) = ap (λ (b : Bool). passes c h hash && b) (reached_is h n i hash start (first_of h hash) run (bucket_ends hash))
+
+  -- a symbol that is not listed or is found, and the run of the next one
+  pub step_some : (listed : Option ℕ) (next : ℕ) → Some next ≡ run_after c h n start i listed → (IsRun h n (i + 1) next) × (by_hash (found_by c h n) i listed ≡ true)
+  step_some listed next is =
+      let both = run_some c h n start i listed next is in
+      (subst (λ (k : ℕ). IsRun h n (i + 1) k) (sym both.0) (run_next h n i start run), sym (found_is listed) ∙ both.1)
+
+  -- or one that is not found
+  pub step_none : (listed : Option ℕ) → None ≡ run_after c h n start i listed → by_hash (found_by c h n) i listed ≡ false
+  step_none listed is = sym (found_is listed) ∙ run_none c h n start i listed is
 
 -- as it is stated of names
 pub found_names : (c : Class) (h : GnuHash) (n : ℕ) (i : ℕ) (name : List ℕ) → found_by c h n i (gnu_hash name) ≡ is_found_gnu c h n i name

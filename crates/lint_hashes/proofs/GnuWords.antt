@@ -10,7 +10,7 @@ use Rattle.elf_types.specs.declared.records.Order.{Order}
 use Rattle.elf_xlate.specs.Numbers.{number_at}
 use Rattle.command_objects.specs.HashSections.{GnuHash, bloom_bytes, numbers_at, gnu_word, gnu_in, gnu_head, gnu_chains_at}
 use Rattle.lint_hashes.specs.declared.gnu.GnuTable.{GnuTable}
-use Rattle.lint_hashes.specs.Gnu.{has_parts, section_of, IsTable}
+use Rattle.lint_hashes.specs.Gnu.{has_parts, section_of, IsTable, LiesIn}
 
 module _ (order : Order) (bytes : List ℕ) (at width count : ℕ) where
   numbers_len : length (numbers_at order bytes at width count) ≡ count
@@ -82,6 +82,9 @@ module _ (t : GnuTable) (bytes : List ℕ) (k : ℕ) where
 pub bucket_count : (t : GnuTable) (bytes : List ℕ) → length (section_of t bytes).buckets ≡ t.nbuckets
 unfolding section_of
 bucket_count t bytes = numbers_len t.order bytes (16 + bloom_bytes t.class * t.size) 4 t.nbuckets
+
+pub bucket_some : (t : GnuTable) (bytes : List ℕ) → LiesIn (length bytes) t → 0 < length (section_of t bytes).buckets
+bucket_some t bytes lies = omega (arith, bucket_count t bytes, lies.some)
 
 pub bloom_count : (t : GnuTable) (bytes : List ℕ) → length (section_of t bytes).bloom ≡ t.size
 unfolding section_of

@@ -2,7 +2,6 @@ pub mod GnuWords
 pub mod GnuChains
 pub mod AllSteps
 pub mod LentLemmas
-pub mod LaterLemmas
 pub mod ListedLemmas
 pub mod SysvWords
 pub mod SysvWhole

@@ -1,22 +1,23 @@
 -- The symbols that a hash section lists, one by one.
-use Rattle.std.proofs.Common.{◌≡◌, ◌⊎◌, inl, inr, ℕ, ◌+◌, ◌<◌, ◌≤◌, Bool, true, false, List, [], ◌∷◌, length, drop, get_or, map, Option, Some, None, refl, sym, ap, ◌∙◌, arith}
+use Rattle.std.proofs.Common.{◌≡◌, ◌⊎◌, inl, inr, ℕ, ◌+◌, ◌<◌, ◌≤◌, Bool, true, false, List, [], ◌∷◌, length, drop, get_or, map, Option, Some, None, Ok, refl, sym, ap, ◌∙◌, arith}
 use Rattle.std.specs.Prelude.{slice_get}
 use Rattle.std.specs.List.{enumerate_from, list_all}
 use Rattle.std.specs.Option.{option_map}
 use Rattle.std.proofs.lemmas.List.{length-map}
 use Rattle.std.proofs.lemmas.List.FromFn.{length-enumerate_from, get_or-enumerate_from}
 use Rattle.std.proofs.lemmas.Option.{slice_get-map, slice_get-get_or, slice_get_past, slice_get_within, slice_get_cases, get_or_from_slice_get}
-use Rattle.elf_types.specs.declared.errors.ElfError.{ElfError}
+use Rattle.elf_types.specs.Answers.{answered}
 use Rattle.elf_types.specs.declared.records.Kind.TheVariants as kinds
 use Rattle.elf_types.specs.declared.records.Sym.{Sym}
 use Rattle.elf_object.specs.Object.{Object}
 use Rattle.elf_object.specs.Answers.{items_at, count_at, lend_refusal, syms_of}
 use Rattle.command_objects.specs.Listed.{listed_name, listed_names}
-use Rattle.lint_findings.specs.Looking.{if_lent, symbols}
+use Rattle.object_output.proofs.ListCounts.{syms_counted}
+use Rattle.lint_findings.specs.Looking.{symbols}
+use Rattle.lint_findings.proofs.LentLemmas.{lent_count, symbols_are}
 use Rattle.lint_hashes.specs.declared.listed.NameHash.{NameHash}
 use Rattle.lint_hashes.specs.Listed.{hash_by, if_there, listed_hash}
 use Rattle.lint_hashes.proofs.AllSteps.{all_more, all_fails, all_passed}
-use Rattle.lint_hashes.proofs.LentLemmas.{symbols_count}
 
 -- ---- A list with its indexes
 
@@ -48,16 +49,16 @@ by_hash test i (Some hash) = test i hash
 -- ---- Names
 
 module _ (o : Object) (s : ℕ) where
-  pub names_count : lend_refusal o kinds.Sym s 0 ≡ None → count_at o s 0 ≡ length (listed_names o s)
+  pub names_counted : (n : ℕ) → Ok n ≡ answered (lend_refusal o kinds.Sym s 0) (count_at o s 0) → (lend_refusal o kinds.Sym s 0 ≡ None) × (n ≡ length (listed_names o s))
   unfolding listed_names
-  names_count passed =
+  names_counted n is =
       let l = syms_of (items_at o s 0) in
-      symbols_count o s passed ∙ sym (length-map (enumerate_from 0 l) (λ row. listed_name o s row.0 row.1) ∙ length-enumerate_from 0 l)
+      let count = lent_count o s kinds.Sym syms_of syms_counted n is in
+      (count.0, count.1 ∙ sym (length-map (enumerate_from 0 l) (λ row. listed_name o s row.0 row.1) ∙ length-enumerate_from 0 l))
 
   module _ (by : NameHash) (i : ℕ) (passed : lend_refusal o kinds.Sym s 0 ≡ None) where
     lent : slice_get (symbols o s) i ≡ slice_get (syms_of (items_at o s 0)) i
-    unfolding symbols
-    lent = ap (λ (r : Option ElfError). slice_get (if_lent r (syms_of (items_at o s 0))) i) passed
+    lent = ap (λ (l : List Sym). slice_get l i) (symbols_are o s passed)
 
     abbrev name_of : ℕ × Sym → Option (List ℕ)
     name_of row = listed_name o s row.0 row.1

@@ -1,6 +1,6 @@
 //! The rules 31 and 32: hash sections that are not whole.
 
-ghost use Rattle.std.specs.Prelude.{◌≡◌, codes};
+ghost use Rattle.std.specs.Prelude.{◌≡◌};
 ghost use Rattle.elf_types.specs.declared.records.Kind.TheVariants as kinds;
 ghost use Rattle.elf_object.specs.Object.{section_at};
 ghost use Rattle.elf_object.specs.Answers.{same_kind};
@@ -39,19 +39,7 @@ fn is_hash_of_words(class: Class, h: &Shdr) -> bool
 struct Hashes;
 
 impl SectionRule for Hashes {
-    ghost number = { 31 };
-
-    ghost text = { codes "hash is not whole" };
-
     ghost finds = { rule.is_broken_hash };
-
-    fn number(&self) -> u32 {
-        31
-    }
-
-    fn text(&self) -> &'static str {
-        "hash is not whole"
-    }
 
     #[tactic(auto, unfolding(crate::specs::Hashes::is_broken_hash, crate::specs::Hashes::has_words_of_symbols))]
     fn finds<S: Source>(&self, elf: &mut Elf<S>, s: ScnId) -> Result<bool, Stop> {
@@ -81,7 +69,7 @@ pub fn hashes_not_whole<S: Source, O: Sink, E: Sink>(
     ensures { FindsElf S.Source O.Sink E.Sink rule.hashes_not_whole name.now
         result elf.old elf.new outputs.old outputs.new }
 {
-    each_section_by(&Hashes, name, elf, outputs)
+    each_section_by(&Hashes, 31, "hash is not whole", name, elf, outputs)
 }
 
 /// GNU's hash sections that are not whole.
@@ -89,19 +77,7 @@ pub fn hashes_not_whole<S: Source, O: Sink, E: Sink>(
 struct GnuHashes;
 
 impl SectionRule for GnuHashes {
-    ghost number = { 32 };
-
-    ghost text = { codes "hash is not whole" };
-
     ghost finds = { rule.is_broken_gnu_hash };
-
-    fn number(&self) -> u32 {
-        32
-    }
-
-    fn text(&self) -> &'static str {
-        "hash is not whole"
-    }
 
     #[tactic(auto, unfolding(crate::specs::Hashes::is_broken_gnu_hash, crate::specs::Hashes::has_bytes_of_symbols))]
     fn finds<S: Source>(&self, elf: &mut Elf<S>, s: ScnId) -> Result<bool, Stop> {
@@ -131,5 +107,5 @@ pub fn gnu_hashes_not_whole<S: Source, O: Sink, E: Sink>(
     ensures { FindsElf S.Source O.Sink E.Sink rule.gnu_hashes_not_whole name.now
         result elf.old elf.new outputs.old outputs.new }
 {
-    each_section_by(&GnuHashes, name, elf, outputs)
+    each_section_by(&GnuHashes, 32, "hash is not whole", name, elf, outputs)
 }

@@ -14,7 +14,7 @@ use elf_outside::Source;
 use elf_types::constants::{SHN_UNDEF, STB_LOCAL};
 use elf_types::{DataId, ScnId, Sym, bind};
 use gelf_view::item_count;
-use lint_findings::{class, is_symbol_table, linked_header};
+use lint_findings::{class, is_symbol_table, item_at, linked_header};
 use object_output::{section_header, string_at};
 use symbol_hashes::{elf_hash, gnu_hash};
 use tool_output::Stop;
@@ -96,20 +96,11 @@ fn may_be_listed(i: u64, x: Sym) -> bool
 }
 
 /// Symbol `i`, or None where there is none.
+#[tactic(auto, unfolding(lint_findings::specs::Looking::symbols))]
 fn symbol_at<S: Source>(elf: &mut Elf<S>, l: Listed, i: u64) -> Result<Option<Sym>, Stop>
     ensures { Learns S.Source (λ o. slice_get (symbols o l.section.0) i) result elf.old elf.new }
 {
-    let d = DataId {
-        section: l.section.0,
-        piece: 0,
-    };
-    match elf.item::<Sym>(d, i) {
-        Ok(x) => Ok(Some(x)),
-        Err(e) => match Stop::of(&e) {
-            Some(stop) => Err(stop),
-            None => Ok(None),
-        },
-    }
+    item_at::<S, Sym>(elf, l.section, i)
 }
 
 /// The hash of the name of symbol `i`, which was looked at, where it is listed.

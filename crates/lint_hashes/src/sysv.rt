@@ -21,6 +21,7 @@ use elf_descriptor::Elf;
 use elf_outside::Source;
 use elf_types::{DataId, ScnId};
 use gelf_view::item_count;
+use lint_findings::item_at;
 use tool_output::Stop;
 
 /// A hash section that has as many words as its two counts say.
@@ -36,20 +37,11 @@ pub struct SysvTable {
 
 /// The word at an index of a section of words, or None where it is not there. It stops by `Read`
 /// where a read of the source failed, and by `Memory`.
+#[tactic(auto, unfolding(lint_findings::specs::Looking::words))]
 fn word_at<S: Source>(elf: &mut Elf<S>, s: ScnId, i: u64) -> Result<Option<u32>, Stop>
     ensures { Learns S.Source (λ o. slice_get (words o s.0) i) result elf.old elf.new }
 {
-    let d = DataId {
-        section: s.0,
-        piece: 0,
-    };
-    match elf.item::<u32>(d, i) {
-        Ok(found) => Ok(Some(found)),
-        Err(e) => match Stop::of(&e) {
-            Some(stop) => Err(stop),
-            None => Ok(None),
-        },
-    }
+    item_at::<S, u32>(elf, s, i)
 }
 
 /// The table of a section's first two words, or None where they are not there.

@@ -1,6 +1,6 @@
 //! The rules 1, 2 and 26: the ELF header and the program headers. Nothing is read.
 
-ghost use Rattle.std.specs.Prelude.{◌≡◌, codes};
+ghost use Rattle.std.specs.Prelude.{◌≡◌};
 ghost use Rattle.lint_headers.specs.Headers as rule;
 ghost use Rattle.lint_findings.specs.Steps.{FindsElf};
 
@@ -41,19 +41,7 @@ pub fn wrong_header_size<S: Source, O: Sink, E: Sink>(
 struct OutsideTheFile;
 
 impl SegmentRule for OutsideTheFile {
-    ghost number = { 2 };
-
-    ghost text = { codes "outside the file" };
-
     ghost finds = { rule.ends_outside };
-
-    fn number(&self) -> u32 {
-        2
-    }
-
-    fn text(&self) -> &'static str {
-        "outside the file"
-    }
 
     #[tactic(auto, unfolding(crate::specs::Headers::ends_outside))]
     fn finds<S: Source>(&self, elf: &Elf<S>, p: &Phdr) -> bool {
@@ -75,7 +63,7 @@ pub fn segments_outside_the_file<S: Source, O: Sink, E: Sink>(
     ensures { FindsElf S.Source O.Sink E.Sink rule.segments_outside_the_file name.now
         result elf.old elf.new outputs.old outputs.new }
 {
-    each_segment(&OutsideTheFile, name, elf, outputs)
+    each_segment(&OutsideTheFile, 2, "outside the file", name, elf, outputs)
 }
 
 /// Segments that have more bytes in the file than in memory.
@@ -83,19 +71,7 @@ pub fn segments_outside_the_file<S: Source, O: Sink, E: Sink>(
 struct LargerThanMemory;
 
 impl SegmentRule for LargerThanMemory {
-    ghost number = { 26 };
-
-    ghost text = { codes "file size is greater than memory size" };
-
     ghost finds = { rule.is_larger_in_file };
-
-    fn number(&self) -> u32 {
-        26
-    }
-
-    fn text(&self) -> &'static str {
-        "file size is greater than memory size"
-    }
 
     #[tactic(auto, unfolding(crate::specs::Headers::is_larger_in_file))]
     fn finds<S: Source>(&self, _elf: &Elf<S>, p: &Phdr) -> bool {
@@ -115,5 +91,12 @@ pub fn segments_larger_than_memory<S: Source, O: Sink, E: Sink>(
     ensures { FindsElf S.Source O.Sink E.Sink rule.segments_larger_than_memory name.now
         result elf.old elf.new outputs.old outputs.new }
 {
-    each_segment(&LargerThanMemory, name, elf, outputs)
+    each_segment(
+        &LargerThanMemory,
+        26,
+        "file size is greater than memory size",
+        name,
+        elf,
+        outputs,
+    )
 }

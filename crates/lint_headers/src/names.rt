@@ -1,6 +1,6 @@
 //! The rules 3 and 5: the names of sections.
 
-ghost use Rattle.std.specs.Prelude.{◌≡◌, codes};
+ghost use Rattle.std.specs.Prelude.{◌≡◌};
 ghost use Rattle.lint_headers.specs.Names as rule;
 ghost use Rattle.lint_findings.specs.Steps.{FindsElf};
 
@@ -52,19 +52,7 @@ pub fn missing_name_table<S: Source, O: Sink, E: Sink>(
 struct SectionNames;
 
 impl SectionRule for SectionNames {
-    ghost number = { 5 };
-
-    ghost text = { codes "name cannot be read" };
-
     ghost finds = { rule.has_unreadable_name };
-
-    fn number(&self) -> u32 {
-        5
-    }
-
-    fn text(&self) -> &'static str {
-        "name cannot be read"
-    }
 
     #[tactic(auto, unfolding(crate::specs::Names::has_unreadable_name))]
     fn finds<S: Source>(&self, elf: &mut Elf<S>, s: ScnId) -> Result<bool, Stop> {
@@ -90,5 +78,5 @@ pub fn unreadable_section_names<S: Source, O: Sink, E: Sink>(
     ensures { FindsElf S.Source O.Sink E.Sink rule.unreadable_section_names name.now
         result elf.old elf.new outputs.old outputs.new }
 {
-    each_section_by(&SectionNames, name, elf, outputs)
+    each_section_by(&SectionNames, 5, "name cannot be read", name, elf, outputs)
 }

@@ -1,6 +1,6 @@
 //! The rules 4, 6 to 12 and 19: section headers. Nothing is read.
 
-ghost use Rattle.std.specs.Prelude.{◌≡◌, ◌==◌, not, codes};
+ghost use Rattle.std.specs.Prelude.{◌≡◌, ◌==◌, not};
 ghost use Rattle.std.specs.List.{list_any};
 ghost use Rattle.lint_findings.specs.Looking as looking;
 ghost use Rattle.lint_headers.specs.Sections as rule;
@@ -38,19 +38,7 @@ fn has_entries(kind: Kind) -> bool
 struct Section0;
 
 impl SectionRule for Section0 {
-    ghost number = { 4 };
-
-    ghost text = { codes "section 0 is in use" };
-
     ghost finds = { rule.is_used_section_0 };
-
-    fn number(&self) -> u32 {
-        4
-    }
-
-    fn text(&self) -> &'static str {
-        "section 0 is in use"
-    }
 
     #[tactic(auto, unfolding(crate::specs::Sections::is_used_section_0))]
     fn finds<S: Source>(&self, elf: &mut Elf<S>, s: ScnId) -> Result<bool, Stop> {
@@ -71,7 +59,7 @@ pub fn section_0_in_use<S: Source, O: Sink, E: Sink>(
     ensures { FindsElf S.Source O.Sink E.Sink rule.section_0_in_use name.now
         result elf.old elf.new outputs.old outputs.new }
 {
-    each_section_by(&Section0, name, elf, outputs)
+    each_section_by(&Section0, 4, "section 0 is in use", name, elf, outputs)
 }
 
 /// Bytes past the end of the file.
@@ -79,19 +67,7 @@ pub fn section_0_in_use<S: Source, O: Sink, E: Sink>(
 struct OutsideTheFile;
 
 impl SectionRule for OutsideTheFile {
-    ghost number = { 6 };
-
-    ghost text = { codes "outside the file" };
-
     ghost finds = { looking.is_out };
-
-    fn number(&self) -> u32 {
-        6
-    }
-
-    fn text(&self) -> &'static str {
-        "outside the file"
-    }
 
     fn finds<S: Source>(&self, elf: &mut Elf<S>, s: ScnId) -> Result<bool, Stop> {
         Ok(is_out(elf, s))
@@ -110,7 +86,7 @@ pub fn sections_outside_the_file<S: Source, O: Sink, E: Sink>(
     ensures { FindsElf S.Source O.Sink E.Sink rule.sections_outside_the_file name.now
         result elf.old elf.new outputs.old outputs.new }
 {
-    each_section_by(&OutsideTheFile, name, elf, outputs)
+    each_section_by(&OutsideTheFile, 6, "outside the file", name, elf, outputs)
 }
 
 /// Sizes that are no whole items.
@@ -118,19 +94,7 @@ pub fn sections_outside_the_file<S: Source, O: Sink, E: Sink>(
 struct RaggedSections;
 
 impl SectionRule for RaggedSections {
-    ghost number = { 7 };
-
-    ghost text = { codes "size is no multiple of the item" };
-
     ghost finds = { looking.is_ragged };
-
-    fn number(&self) -> u32 {
-        7
-    }
-
-    fn text(&self) -> &'static str {
-        "size is no multiple of the item"
-    }
 
     fn finds<S: Source>(&self, elf: &mut Elf<S>, s: ScnId) -> Result<bool, Stop> {
         Ok(is_ragged(elf, s))
@@ -149,7 +113,14 @@ pub fn ragged_sections<S: Source, O: Sink, E: Sink>(
     ensures { FindsElf S.Source O.Sink E.Sink rule.ragged_sections name.now
         result elf.old elf.new outputs.old outputs.new }
 {
-    each_section_by(&RaggedSections, name, elf, outputs)
+    each_section_by(
+        &RaggedSections,
+        7,
+        "size is no multiple of the item",
+        name,
+        elf,
+        outputs,
+    )
 }
 
 /// Alignments that are no powers of two.
@@ -157,19 +128,7 @@ pub fn ragged_sections<S: Source, O: Sink, E: Sink>(
 struct OddAlignments;
 
 impl SectionRule for OddAlignments {
-    ghost number = { 8 };
-
-    ghost text = { codes "alignment is no power of two" };
-
     ghost finds = { rule.has_odd_alignment };
-
-    fn number(&self) -> u32 {
-        8
-    }
-
-    fn text(&self) -> &'static str {
-        "alignment is no power of two"
-    }
 
     #[tactic(auto, unfolding(crate::specs::Sections::has_odd_alignment))]
     fn finds<S: Source>(&self, elf: &mut Elf<S>, s: ScnId) -> Result<bool, Stop> {
@@ -190,7 +149,14 @@ pub fn odd_alignments<S: Source, O: Sink, E: Sink>(
     ensures { FindsElf S.Source O.Sink E.Sink rule.odd_alignments name.now
         result elf.old elf.new outputs.old outputs.new }
 {
-    each_section_by(&OddAlignments, name, elf, outputs)
+    each_section_by(
+        &OddAlignments,
+        8,
+        "alignment is no power of two",
+        name,
+        elf,
+        outputs,
+    )
 }
 
 /// Addresses that are not aligned.
@@ -198,19 +164,7 @@ pub fn odd_alignments<S: Source, O: Sink, E: Sink>(
 struct UnalignedAddresses;
 
 impl SectionRule for UnalignedAddresses {
-    ghost number = { 9 };
-
-    ghost text = { codes "address is not aligned" };
-
     ghost finds = { rule.has_unaligned_address };
-
-    fn number(&self) -> u32 {
-        9
-    }
-
-    fn text(&self) -> &'static str {
-        "address is not aligned"
-    }
 
     #[tactic(auto, unfolding(crate::specs::Sections::has_unaligned_address))]
     fn finds<S: Source>(&self, elf: &mut Elf<S>, s: ScnId) -> Result<bool, Stop> {
@@ -231,7 +185,14 @@ pub fn unaligned_addresses<S: Source, O: Sink, E: Sink>(
     ensures { FindsElf S.Source O.Sink E.Sink rule.unaligned_addresses name.now
         result elf.old elf.new outputs.old outputs.new }
 {
-    each_section_by(&UnalignedAddresses, name, elf, outputs)
+    each_section_by(
+        &UnalignedAddresses,
+        9,
+        "address is not aligned",
+        name,
+        elf,
+        outputs,
+    )
 }
 
 /// Links to sections that are not there.
@@ -239,19 +200,7 @@ pub fn unaligned_addresses<S: Source, O: Sink, E: Sink>(
 struct LinksToNoSection;
 
 impl SectionRule for LinksToNoSection {
-    ghost number = { 10 };
-
-    ghost text = { codes "link to no section" };
-
     ghost finds = { rule.links_nowhere };
-
-    fn number(&self) -> u32 {
-        10
-    }
-
-    fn text(&self) -> &'static str {
-        "link to no section"
-    }
 
     #[tactic(auto, unfolding(crate::specs::Sections::links_nowhere))]
     fn finds<S: Source>(&self, elf: &mut Elf<S>, s: ScnId) -> Result<bool, Stop> {
@@ -271,7 +220,14 @@ pub fn links_to_no_section<S: Source, O: Sink, E: Sink>(
     ensures { FindsElf S.Source O.Sink E.Sink rule.links_to_no_section name.now
         result elf.old elf.new outputs.old outputs.new }
 {
-    each_section_by(&LinksToNoSection, name, elf, outputs)
+    each_section_by(
+        &LinksToNoSection,
+        10,
+        "link to no section",
+        name,
+        elf,
+        outputs,
+    )
 }
 
 /// Numbers of sections that are not there.
@@ -279,19 +235,7 @@ pub fn links_to_no_section<S: Source, O: Sink, E: Sink>(
 struct InfosOfNoSection;
 
 impl SectionRule for InfosOfNoSection {
-    ghost number = { 11 };
-
-    ghost text = { codes "info names no section" };
-
     ghost finds = { rule.informs_of_nothing };
-
-    fn number(&self) -> u32 {
-        11
-    }
-
-    fn text(&self) -> &'static str {
-        "info names no section"
-    }
 
     #[tactic(auto, unfolding(crate::specs::Sections::informs_of_nothing))]
     fn finds<S: Source>(&self, elf: &mut Elf<S>, s: ScnId) -> Result<bool, Stop> {
@@ -312,7 +256,14 @@ pub fn infos_of_no_section<S: Source, O: Sink, E: Sink>(
     ensures { FindsElf S.Source O.Sink E.Sink rule.infos_of_no_section name.now
         result elf.old elf.new outputs.old outputs.new }
 {
-    each_section_by(&InfosOfNoSection, name, elf, outputs)
+    each_section_by(
+        &InfosOfNoSection,
+        11,
+        "info names no section",
+        name,
+        elf,
+        outputs,
+    )
 }
 
 /// Entry sizes that are not those of the items.
@@ -320,19 +271,7 @@ pub fn infos_of_no_section<S: Source, O: Sink, E: Sink>(
 struct WrongEntrySizes;
 
 impl SectionRule for WrongEntrySizes {
-    ghost number = { 12 };
-
-    ghost text = { codes "wrong entry size" };
-
     ghost finds = { rule.has_wrong_entry_size };
-
-    fn number(&self) -> u32 {
-        12
-    }
-
-    fn text(&self) -> &'static str {
-        "wrong entry size"
-    }
 
     #[tactic(auto, unfolding(crate::specs::Sections::has_wrong_entry_size))]
     fn finds<S: Source>(&self, elf: &mut Elf<S>, s: ScnId) -> Result<bool, Stop> {
@@ -357,7 +296,7 @@ pub fn wrong_entry_sizes<S: Source, O: Sink, E: Sink>(
     ensures { FindsElf S.Source O.Sink E.Sink rule.wrong_entry_sizes name.now
         result elf.old elf.new outputs.old outputs.new }
 {
-    each_section_by(&WrongEntrySizes, name, elf, outputs)
+    each_section_by(&WrongEntrySizes, 12, "wrong entry size", name, elf, outputs)
 }
 
 /// Thread-local storage that is not allocated.
@@ -365,19 +304,7 @@ pub fn wrong_entry_sizes<S: Source, O: Sink, E: Sink>(
 struct UnallocatedStorage;
 
 impl SectionRule for UnallocatedStorage {
-    ghost number = { 19 };
-
-    ghost text = { codes "thread-local but not allocated" };
-
     ghost finds = { rule.is_unallocated_storage };
-
-    fn number(&self) -> u32 {
-        19
-    }
-
-    fn text(&self) -> &'static str {
-        "thread-local but not allocated"
-    }
 
     #[tactic(auto, unfolding(crate::specs::Sections::is_unallocated_storage))]
     fn finds<S: Source>(&self, elf: &mut Elf<S>, s: ScnId) -> Result<bool, Stop> {
@@ -399,5 +326,12 @@ pub fn unallocated_thread_storage<S: Source, O: Sink, E: Sink>(
     ensures { FindsElf S.Source O.Sink E.Sink rule.unallocated_thread_storage name.now
         result elf.old elf.new outputs.old outputs.new }
 {
-    each_section_by(&UnallocatedStorage, name, elf, outputs)
+    each_section_by(
+        &UnallocatedStorage,
+        19,
+        "thread-local but not allocated",
+        name,
+        elf,
+        outputs,
+    )
 }

@@ -1,17 +1,16 @@
 -- The entries of a dynamic section, one after another.
-use Rattle.std.proofs.Common.{◌≡◌, ◌||◌, ◌<◌, ◌≤◌, ℕ, zero, suc, Bool, true, false, List, [], ◌∷◌, length, Option, None, Ok, Err, refl, sym, ap, ◌∙◌, arith}
+use Rattle.std.proofs.Common.{◌≡◌, ◌||◌, ◌<◌, ◌≤◌, ℕ, zero, suc, Bool, true, false, List, [], ◌∷◌, length, Ok, Err, refl, sym, ap, ◌∙◌, arith}
 use Rattle.std.specs.Prelude.{slice_get}
 use Rattle.std.specs.List.{list_any}
 use Rattle.elf_types.specs.declared.records.Dyn.{Dyn}
 use Rattle.elf_types.specs.declared.records.Kind.TheVariants as kinds
 use Rattle.elf_types.specs.declared.errors.ElfError.{ElfError}
 use Rattle.elf_types.specs.Answers.{answered}
-use Rattle.elf_xlate.specs.Translation.{items_count}
 use Rattle.elf_object.specs.Object.{Object}
 use Rattle.elf_object.specs.Answers.{count_at, items_at, dyns_of, lend_refusal}
-use Rattle.elf_object.proofs.AnswerLaws.{answered_value, answered_refusal, lend_kind}
 use Rattle.object_output.proofs.ListCounts.{dyns_counted}
-use Rattle.lint_findings.specs.Looking.{if_lent, dyns}
+use Rattle.lint_findings.specs.Looking.{dyns}
+use Rattle.lint_findings.proofs.LentLemmas.{lent, lent_count, no_count}
 use Rattle.lint_links.specs.Dynamic.{is_null_tag, is_end}
 
 abbrev pub ends : Dyn → Bool
@@ -41,23 +40,12 @@ none_ends (x ∷ l) (suc n) le none =
 -- ---- The entries that can be told
 
 module _ (o : Object) (s : ℕ) where
-  pub dyns_told : lend_refusal o kinds.Dyn s 0 ≡ None → dyns_of (items_at o s 0) ≡ dyns o s
+  pub dyns_count : (n : ℕ) → Ok n ≡ answered (lend_refusal o kinds.Dyn s 0) (count_at o s 0) → n ≡ length (dyns o s)
   unfolding dyns
-  dyns_told passed = sym (ap (λ (r : Option ElfError). if_lent r (dyns_of (items_at o s 0))) passed)
-
-  count_is : count_at o s 0 ≡ items_count (items_at o s 0)
-  unfolding count_at
-  count_is = refl
-
-  pub dyns_count : (n : ℕ) → Ok n ≡ answered (lend_refusal o kinds.Dyn s 0) (count_at o s 0) → (lend_refusal o kinds.Dyn s 0 ≡ None) × (n ≡ length (dyns o s))
   dyns_count n is =
-      let value = answered_value (lend_refusal o kinds.Dyn s 0) (count_at o s 0) n (sym is) in (
-        value.0,
-        value.1 ∙ count_is ∙ sym (dyns_counted (items_at o s 0) (lend_kind o kinds.Dyn s 0 value.0)) ∙ ap length (dyns_told value.0),
-      )
+      let count = lent_count o s kinds.Dyn dyns_of dyns_counted n is in
+      count.1 ∙ ap length (sym (lent (lend_refusal o kinds.Dyn s 0) (dyns_of (items_at o s 0)) count.0))
 
   pub no_dyns : (e : ElfError) → Err e ≡ answered (lend_refusal o kinds.Dyn s 0) (count_at o s 0) → false ≡ list_any ends (dyns o s)
   unfolding dyns
-  no_dyns e is =
-      let refused = answered_refusal (lend_refusal o kinds.Dyn s 0) (count_at o s 0) e (sym is) in
-      sym (ap (λ (r : Option ElfError). list_any ends (if_lent r (dyns_of (items_at o s 0)))) refused)
+  no_dyns e is = ap (list_any ends) (sym (no_count o s kinds.Dyn dyns_of e is))

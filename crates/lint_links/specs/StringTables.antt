@@ -6,17 +6,18 @@ use Rattle.elf_object.specs.Due.{all_sections}
 use Rattle.command_objects.specs.Words.{header_at}
 use Rattle.lint_findings.specs.Findings.{Rule, at_sections}
 use Rattle.lint_findings.specs.Looking.{is_plain, is_string_table, data_bytes}
+use Rattle.lint_links.specs.declared.string_tables.End.{End}
+use Rattle.lint_links.specs.declared.string_tables.End.TheVariants.{First, Last}
 
 -- there is a byte, and it is no NUL
 abbrev pub is_other_byte : Option ℕ → Bool
 is_other_byte None = false
 is_other_byte (Some b) = not (b == 0)
 
-abbrev pub first_byte : List ℕ → Option ℕ
-first_byte bytes = slice_get bytes 0
-
-abbrev pub last_byte : List ℕ → Option ℕ
-last_byte bytes = slice_get bytes (length bytes - 1)
+-- the byte at one of the two ends of a list
+abbrev pub byte_at_end : End → List ℕ → Option ℕ
+byte_at_end First bytes = slice_get bytes 0
+byte_at_end Last bytes = slice_get bytes (length bytes - 1)
 
 -- a string table whose data a rule looks at
 unfoldable pub holds_strings : Object → ℕ → Bool
@@ -25,7 +26,7 @@ holds_strings o s = is_plain o s && is_string_table (header_at o s)
 -- ---- 13: it begins with another byte
 
 unfoldable pub lacks_first_nul : Object → ℕ → Bool
-lacks_first_nul o s = holds_strings o s && is_other_byte (first_byte (data_bytes o s))
+lacks_first_nul o s = holds_strings o s && is_other_byte (byte_at_end First (data_bytes o s))
 
 unfoldable pub tables_without_first_nul : Rule
 tables_without_first_nul o =
@@ -34,7 +35,7 @@ tables_without_first_nul o =
 -- ---- 14: it ends with another byte
 
 unfoldable pub lacks_last_nul : Object → ℕ → Bool
-lacks_last_nul o s = holds_strings o s && is_other_byte (last_byte (data_bytes o s))
+lacks_last_nul o s = holds_strings o s && is_other_byte (byte_at_end Last (data_bytes o s))
 
 unfoldable pub tables_without_last_nul : Rule
 tables_without_last_nul o =

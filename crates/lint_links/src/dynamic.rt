@@ -1,10 +1,8 @@
 //! The rule 28: the end of the dynamic section.
 
-ghost use Rattle.std.specs.Prelude.{◌≡◌, length, slice_get, None, codes};
+ghost use Rattle.std.specs.Prelude.{◌≡◌, length, slice_get};
 ghost use Rattle.std.specs.List.{list_any};
 ghost use Rattle.elf_types.specs.declared.records.Dyn.{Dyn as TheDyn};
-ghost use Rattle.elf_types.specs.declared.records.Kind.TheVariants as kinds;
-ghost use Rattle.elf_object.specs.Answers.{lend_refusal};
 ghost use Rattle.object_output.specs.Steps.{Learns};
 ghost use Rattle.lint_links.specs.Dynamic as rule;
 ghost use Rattle.lint_findings.specs.Looking.{dyns};
@@ -15,44 +13,39 @@ use elf_outside::{Sink, Source};
 use elf_types::constants::SHT_DYNAMIC;
 use elf_types::{DataId, Dyn, ScnId};
 use gelf_view::item_count;
-use lint_findings::{SectionRule, each_section_by, is_plain_of};
+use lint_findings::{SectionRule, each_section_by, is_plain_of, item_at};
 use tool_output::{FileName, Outputs, Stop};
 
 /// The tag of the last entry, `DT_NULL`.
 const DT_NULL: i64 = 0;
 
-/// Whether an entry is the last one by its tag.
-fn is_last(x: &Dyn) -> bool
-    ensures { result ≡ rule.is_null_tag x.now.tag }
+/// Whether there is an entry, and it is the last one by its tag.
+fn is_end(x: Option<Dyn>) -> bool
+    ensures { result ≡ rule.is_end x }
 {
-    x.tag == DT_NULL
+    match x {
+        Some(x) => x.tag == DT_NULL,
+        None => false,
+    }
 }
 
 /// Whether entry `i` of a section is there, and the last one by its tag. It stops by `Read` where a
 /// read of the source failed, and by `Memory`.
+#[tactic(auto, unfolding(lint_findings::specs::Looking::dyns))]
 fn ends_at<S: Source>(elf: &mut Elf<S>, s: ScnId, i: u64) -> Result<bool, Stop>
-    requires { lend_refusal elf.old.o kinds.Dyn s.0 0 ≡ None }
     ensures { Learns S.Source (λ o. rule.is_end (slice_get (dyns o s.0) i))
         result elf.old elf.new }
 {
-    let d = DataId {
-        section: s.0,
-        piece: 0,
-    };
-    match elf.item::<Dyn>(d, i) {
-        Ok(x) => Ok(is_last(&x)),
-        Err(e) => match Stop::of(&e) {
-            Some(stop) => Err(stop),
-            None => Ok(false),
-        },
+    match item_at::<S, Dyn>(elf, s, i) {
+        Ok(found) => Ok(is_end(found)),
+        Err(stop) => Err(stop),
     }
 }
 
 /// Whether one of the entries of a section, of which there are so many, is the last one by its tag.
 /// It stops as `ends_at` does.
 fn some_ends<S: Source>(elf: &mut Elf<S>, s: ScnId, count: u64) -> Result<bool, Stop>
-    requires passed { lend_refusal elf.old.o kinds.Dyn s.0 0 ≡ None }
-    requires count { count ≡ length (dyns elf.old.o s.0) }
+    requires { count ≡ length (dyns elf.old.o s.0) }
     ensures { Learns S.Source
         (λ o. list_any (λ (x : TheDyn). rule.is_null_tag x.tag) (dyns o s.0))
         result elf.old elf.new }
@@ -87,19 +80,7 @@ fn has_end<S: Source>(elf: &mut Elf<S>, s: ScnId) -> Result<bool, Stop>
 struct DynamicEnds;
 
 impl SectionRule for DynamicEnds {
-    ghost number = { 28 };
-
-    ghost text = { codes "no end" };
-
     ghost finds = { rule.dynamic_lacks_end };
-
-    fn number(&self) -> u32 {
-        28
-    }
-
-    fn text(&self) -> &'static str {
-        "no end"
-    }
 
     #[tactic(auto, unfolding(crate::specs::Dynamic::dynamic_lacks_end))]
     fn finds<S: Source>(&self, elf: &mut Elf<S>, s: ScnId) -> Result<bool, Stop> {
@@ -125,5 +106,5 @@ pub fn dynamic_without_end<S: Source, O: Sink, E: Sink>(
     ensures { FindsElf S.Source O.Sink E.Sink rule.dynamic_without_end name.now
         result elf.old elf.new outputs.old outputs.new }
 {
-    each_section_by(&DynamicEnds, name, elf, outputs)
+    each_section_by(&DynamicEnds, 28, "no end", name, elf, outputs)
 }

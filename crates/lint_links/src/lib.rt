@@ -1,9 +1,9 @@
 //! The rules of elflint on links between sections, string tables and dynamic sections.
 #![tactic(auto)]
 
-pub mod dynamic;
-pub mod links;
-pub mod string_tables;
+mod dynamic;
+mod links;
+mod string_tables;
 
 pub use dynamic::dynamic_without_end;
 pub use links::{

@@ -1,6 +1,6 @@
 //! The rules 15 to 18: what sections of some types link to. Nothing is read.
 
-ghost use Rattle.std.specs.Prelude.{◌≡◌, codes};
+ghost use Rattle.std.specs.Prelude.{◌≡◌};
 ghost use Rattle.lint_links.specs.Links as rule;
 ghost use Rattle.lint_findings.specs.Steps.{FindsElf};
 
@@ -27,19 +27,7 @@ fn goes_by_symbols(h: &Shdr) -> bool
 struct SymbolLinks;
 
 impl SectionRule for SymbolLinks {
-    ghost number = { 15 };
-
-    ghost text = { codes "link is no string table" };
-
     ghost finds = { rule.symbols_lack_strings };
-
-    fn number(&self) -> u32 {
-        15
-    }
-
-    fn text(&self) -> &'static str {
-        "link is no string table"
-    }
 
     #[tactic(auto, unfolding(crate::specs::Links::symbols_lack_strings))]
     fn finds<S: Source>(&self, elf: &mut Elf<S>, s: ScnId) -> Result<bool, Stop> {
@@ -62,7 +50,14 @@ pub fn symbols_without_strings<S: Source, O: Sink, E: Sink>(
     ensures { FindsElf S.Source O.Sink E.Sink rule.symbols_without_strings name.now
         result elf.old elf.new outputs.old outputs.new }
 {
-    each_section_by(&SymbolLinks, name, elf, outputs)
+    each_section_by(
+        &SymbolLinks,
+        15,
+        "link is no string table",
+        name,
+        elf,
+        outputs,
+    )
 }
 
 /// Links of relocations.
@@ -70,19 +65,7 @@ pub fn symbols_without_strings<S: Source, O: Sink, E: Sink>(
 struct RelocationLinks;
 
 impl SectionRule for RelocationLinks {
-    ghost number = { 16 };
-
-    ghost text = { codes "link is no symbol table" };
-
     ghost finds = { rule.relocations_lack_symbols };
-
-    fn number(&self) -> u32 {
-        16
-    }
-
-    fn text(&self) -> &'static str {
-        "link is no symbol table"
-    }
 
     #[tactic(auto, unfolding(crate::specs::Links::relocations_lack_symbols))]
     fn finds<S: Source>(&self, elf: &mut Elf<S>, s: ScnId) -> Result<bool, Stop> {
@@ -105,7 +88,14 @@ pub fn relocations_without_symbols<S: Source, O: Sink, E: Sink>(
     ensures { FindsElf S.Source O.Sink E.Sink rule.relocations_without_symbols name.now
         result elf.old elf.new outputs.old outputs.new }
 {
-    each_section_by(&RelocationLinks, name, elf, outputs)
+    each_section_by(
+        &RelocationLinks,
+        16,
+        "link is no symbol table",
+        name,
+        elf,
+        outputs,
+    )
 }
 
 /// Links of hash sections and of version indexes.
@@ -113,19 +103,7 @@ pub fn relocations_without_symbols<S: Source, O: Sink, E: Sink>(
 struct HashLinks;
 
 impl SectionRule for HashLinks {
-    ghost number = { 17 };
-
-    ghost text = { codes "link is no symbol table" };
-
     ghost finds = { rule.hashes_lack_symbols };
-
-    fn number(&self) -> u32 {
-        17
-    }
-
-    fn text(&self) -> &'static str {
-        "link is no symbol table"
-    }
 
     #[tactic(auto, unfolding(crate::specs::Links::hashes_lack_symbols))]
     fn finds<S: Source>(&self, elf: &mut Elf<S>, s: ScnId) -> Result<bool, Stop> {
@@ -148,7 +126,14 @@ pub fn hashes_without_symbols<S: Source, O: Sink, E: Sink>(
     ensures { FindsElf S.Source O.Sink E.Sink rule.hashes_without_symbols name.now
         result elf.old elf.new outputs.old outputs.new }
 {
-    each_section_by(&HashLinks, name, elf, outputs)
+    each_section_by(
+        &HashLinks,
+        17,
+        "link is no symbol table",
+        name,
+        elf,
+        outputs,
+    )
 }
 
 /// Links of dynamic sections.
@@ -156,19 +141,7 @@ pub fn hashes_without_symbols<S: Source, O: Sink, E: Sink>(
 struct DynamicLinks;
 
 impl SectionRule for DynamicLinks {
-    ghost number = { 18 };
-
-    ghost text = { codes "link is no string table" };
-
     ghost finds = { rule.dynamic_lacks_strings };
-
-    fn number(&self) -> u32 {
-        18
-    }
-
-    fn text(&self) -> &'static str {
-        "link is no string table"
-    }
 
     #[tactic(auto, unfolding(crate::specs::Links::dynamic_lacks_strings))]
     fn finds<S: Source>(&self, elf: &mut Elf<S>, s: ScnId) -> Result<bool, Stop> {
@@ -191,5 +164,12 @@ pub fn dynamic_without_strings<S: Source, O: Sink, E: Sink>(
     ensures { FindsElf S.Source O.Sink E.Sink rule.dynamic_without_strings name.now
         result elf.old elf.new outputs.old outputs.new }
 {
-    each_section_by(&DynamicLinks, name, elf, outputs)
+    each_section_by(
+        &DynamicLinks,
+        18,
+        "link is no string table",
+        name,
+        elf,
+        outputs,
+    )
 }

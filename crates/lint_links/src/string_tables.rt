@@ -1,6 +1,6 @@
 //! The rules 13 and 14: string tables.
 
-ghost use Rattle.std.specs.Prelude.{◌≡◌, codes};
+ghost use Rattle.std.specs.Prelude.{◌≡◌};
 ghost use Rattle.object_output.specs.Steps.{Learns};
 ghost use Rattle.lint_findings.specs.Looking.{data_bytes};
 ghost use Rattle.lint_links.specs.StringTables as rule;
@@ -14,35 +14,36 @@ use gelf_view::bytes;
 use lint_findings::{SectionRule, each_section_by, is_plain_of};
 use tool_output::{FileName, Outputs, Stop};
 
-/// The first byte of a section that is there, where it has any that can be told. It stops by `Read`
-/// where a read of the source failed, and by `Memory`.
-fn first_byte<S: Source>(elf: &mut Elf<S>, s: ScnId) -> Result<Option<u8>, Stop>
-    ensures { Learns S.Source (λ o. rule.first_byte (data_bytes o s.0)) result elf.old elf.new }
+/// One of the two ends of a list.
+#[derive(Clone, Copy)]
+pub enum End {
+    /// Where it begins.
+    First,
+    /// Where it ends.
+    Last,
+}
+
+/// The byte at an end, where there is any.
+fn byte_at_end(bytes: &[u8], end: End) -> Option<u8>
+    ensures { result ≡ rule.byte_at_end end bytes.now }
 {
-    let d = DataId {
-        section: s.0,
-        piece: 0,
-    };
-    match bytes(elf, d) {
-        Ok(bytes) => Ok(bytes.first().copied()),
-        Err(e) => match Stop::of(&e) {
-            Some(stop) => Err(stop),
-            None => Ok(None),
-        },
+    match end {
+        End::First => bytes.first().copied(),
+        End::Last => bytes.last().copied(),
     }
 }
 
-/// The last byte of a section that is there, where it has any that can be told. It stops as
-/// `first_byte` does.
-fn last_byte<S: Source>(elf: &mut Elf<S>, s: ScnId) -> Result<Option<u8>, Stop>
-    ensures { Learns S.Source (λ o. rule.last_byte (data_bytes o s.0)) result elf.old elf.new }
+/// The byte at an end of a section that is there, where it has any that can be told. It stops by
+/// `Read` where a read of the source failed, and by `Memory`.
+fn end_byte<S: Source>(elf: &mut Elf<S>, s: ScnId, end: End) -> Result<Option<u8>, Stop>
+    ensures { Learns S.Source (λ o. rule.byte_at_end end (data_bytes o s.0)) result elf.old elf.new }
 {
     let d = DataId {
         section: s.0,
         piece: 0,
     };
     match bytes(elf, d) {
-        Ok(bytes) => Ok(bytes.last().copied()),
+        Ok(bytes) => Ok(byte_at_end(bytes, end)),
         Err(e) => match Stop::of(&e) {
             Some(stop) => Err(stop),
             None => Ok(None),
@@ -65,26 +66,14 @@ fn is_other_byte(byte: Option<u8>) -> bool
 struct FirstBytes;
 
 impl SectionRule for FirstBytes {
-    ghost number = { 13 };
-
-    ghost text = { codes "no NUL at the start" };
-
     ghost finds = { rule.lacks_first_nul };
-
-    fn number(&self) -> u32 {
-        13
-    }
-
-    fn text(&self) -> &'static str {
-        "no NUL at the start"
-    }
 
     #[tactic(auto, unfolding(crate::specs::StringTables::lacks_first_nul, crate::specs::StringTables::holds_strings))]
     fn finds<S: Source>(&self, elf: &mut Elf<S>, s: ScnId) -> Result<bool, Stop> {
         if !is_plain_of(elf, s, SHT_STRTAB) {
             return Ok(false);
         }
-        match first_byte(elf, s) {
+        match end_byte(elf, s, End::First) {
             Ok(byte) => Ok(is_other_byte(byte)),
             Err(stop) => Err(stop),
         }
@@ -103,7 +92,7 @@ pub fn tables_without_first_nul<S: Source, O: Sink, E: Sink>(
     ensures { FindsElf S.Source O.Sink E.Sink rule.tables_without_first_nul name.now
         result elf.old elf.new outputs.old outputs.new }
 {
-    each_section_by(&FirstBytes, name, elf, outputs)
+    each_section_by(&FirstBytes, 13, "no NUL at the start", name, elf, outputs)
 }
 
 /// Last bytes of string tables.
@@ -111,26 +100,14 @@ pub fn tables_without_first_nul<S: Source, O: Sink, E: Sink>(
 struct LastBytes;
 
 impl SectionRule for LastBytes {
-    ghost number = { 14 };
-
-    ghost text = { codes "no NUL at the end" };
-
     ghost finds = { rule.lacks_last_nul };
-
-    fn number(&self) -> u32 {
-        14
-    }
-
-    fn text(&self) -> &'static str {
-        "no NUL at the end"
-    }
 
     #[tactic(auto, unfolding(crate::specs::StringTables::lacks_last_nul, crate::specs::StringTables::holds_strings))]
     fn finds<S: Source>(&self, elf: &mut Elf<S>, s: ScnId) -> Result<bool, Stop> {
         if !is_plain_of(elf, s, SHT_STRTAB) {
             return Ok(false);
         }
-        match last_byte(elf, s) {
+        match end_byte(elf, s, End::Last) {
             Ok(byte) => Ok(is_other_byte(byte)),
             Err(stop) => Err(stop),
         }
@@ -149,5 +126,5 @@ pub fn tables_without_last_nul<S: Source, O: Sink, E: Sink>(
     ensures { FindsElf S.Source O.Sink E.Sink rule.tables_without_last_nul name.now
         result elf.old elf.new outputs.old outputs.new }
 {
-    each_section_by(&LastBytes, name, elf, outputs)
+    each_section_by(&LastBytes, 14, "no NUL at the end", name, elf, outputs)
 }

@@ -1,6 +1,6 @@
 -- The relocations of a section, and how many symbols there are for them.
 use Rattle.std.proofs.Common.{◌≡◌, ◌++◌, ◌+◌, ℕ, Bool, true, false, List, [], ◌∷◌, length, map, Option, Some, None, refl, sym, ap, ◌∙◌}
-use Rattle.std.specs.Prelude.{◌&&◌, is_none, if◌then◌else◌, codes}
+use Rattle.std.specs.Prelude.{◌&&◌, is_none, if◌then◌else◌}
 use Rattle.std.specs.List.{flat_map, enumerate_from}
 use Rattle.std.proofs.lemmas.Bool.{ne_eqb, eq-eqb}
 use Rattle.std.proofs.lemmas.List.Concat.{flat_map-cons}
@@ -15,7 +15,7 @@ use Rattle.command_objects.specs.Words.{header_at}
 use Rattle.lint_findings.specs.declared.places.Place.TheVariants.{Item}
 use Rattle.lint_findings.specs.Findings.{Finding, at_items, finding, found_if}
 use Rattle.lint_findings.specs.Looking.{if_lent, is_symbol_table, linked_header, links_to_symbols, symbols, rels, relas}
-use Rattle.lint_symbols.specs.Relocations.{symbol_numbers, has_relocations, symbol_numbers_of, symbol_bound, passes_bound, is_by_no_symbol, relocations_of}
+use Rattle.lint_symbols.specs.Relocations.{symbol_numbers, has_relocations, symbol_numbers_of, symbol_bound, passes_bound, is_by_no_symbol, relocations_at}
 
 -- ---- How many symbols there are for them
 
@@ -78,31 +78,31 @@ module _ {X : Type 0} (number : ℕ) (text : List ℕ) (s : ℕ) (test : ℕ →
   unfolding at_items
   no_items xs is = ap (λ (l : List X). at_items number text s test (map f l)) is
 
-module _ (o : Object) (s : ℕ) (bound : Option ℕ) (looked : has_relocations o s ≡ true) (is : bound ≡ symbol_bound o s) where
+module _ (number : ℕ) (text : List ℕ) (o : Object) (s : ℕ) (bound : Option ℕ) (looked : has_relocations o s ≡ true) (is : bound ≡ symbol_bound o s) where
   numbers_are : symbol_numbers_of o s ≡ symbol_numbers o s
   unfolding symbol_numbers_of
   numbers_are = ap (λ (t : Bool). if t then symbol_numbers o s else []) looked
 
-  found_in : (ys : List ℕ) → symbol_numbers o s ≡ ys → relocations_of o s ≡ at_items 27 (codes "relocation by no symbol") s (λ i y. passes_bound bound y) ys
-  unfolding relocations_of is_by_no_symbol
+  found_in : (ys : List ℕ) → symbol_numbers o s ≡ ys → relocations_at number text o s ≡ at_items number text s (λ i y. passes_bound bound y) ys
+  unfolding relocations_at is_by_no_symbol
   found_in ys are =
-      ap (at_items 27 (codes "relocation by no symbol") s (λ i y. passes_bound (symbol_bound o s) y)) (numbers_are ∙ are)
-      ∙ ap (λ (b : Option ℕ). at_items 27 (codes "relocation by no symbol") s (λ i y. passes_bound b y) ys) (sym is)
+      ap (at_items number text s (λ i y. passes_bound (symbol_bound o s) y)) (numbers_are ∙ are)
+      ∙ ap (λ (b : Option ℕ). at_items number text s (λ i y. passes_bound b y) ys) (sym is)
 
   abbrev either : Bool → List ℕ
   either t = if t then map (λ (x : Rela). x.sym) (relas o s) else map (λ (x : Rel). x.sym) (rels o s)
 
   pub relas_found : (header_at o s).stype ≡ SHT_RELA
-      → relocations_of o s ≡ at_items 27 (codes "relocation by no symbol") s (λ i y. passes_bound bound y) (map (λ (x : Rela). x.sym) (if_lent (lend_refusal o kinds.Rela s 0) (relas_of (items_at o s 0))))
+      → relocations_at number text o s ≡ at_items number text s (λ i y. passes_bound bound y) (map (λ (x : Rela). x.sym) (if_lent (lend_refusal o kinds.Rela s 0) (relas_of (items_at o s 0))))
   unfolding symbol_numbers relas
   relas_found with_addends = found_in (map (λ (x : Rela). x.sym) (relas o s)) (ap either (eq-eqb (header_at o s).stype SHT_RELA with_addends))
 
   pub rels_found : ((header_at o s).stype ≡ SHT_RELA → ⊥)
-      → relocations_of o s ≡ at_items 27 (codes "relocation by no symbol") s (λ i y. passes_bound bound y) (map (λ (x : Rel). x.sym) (if_lent (lend_refusal o kinds.Rel s 0) (rels_of (items_at o s 0))))
+      → relocations_at number text o s ≡ at_items number text s (λ i y. passes_bound bound y) (map (λ (x : Rel). x.sym) (if_lent (lend_refusal o kinds.Rel s 0) (rels_of (items_at o s 0))))
   unfolding symbol_numbers rels
   rels_found without = found_in (map (λ (x : Rel). x.sym) (rels o s)) (ap either (ne_eqb (header_at o s).stype SHT_RELA without))
 
 -- none where the rule looks at none
-pub none_found : (o : Object) (s : ℕ) → symbol_numbers_of o s ≡ [] → relocations_of o s ≡ []
-unfolding relocations_of at_items
-none_found o s none = ap (at_items 27 (codes "relocation by no symbol") s (λ i y. is_by_no_symbol o s y)) none
+pub none_found : (number : ℕ) (text : List ℕ) (o : Object) (s : ℕ) → symbol_numbers_of o s ≡ [] → relocations_at number text o s ≡ []
+unfolding relocations_at at_items
+none_found number text o s none = ap (at_items number text s (λ i y. is_by_no_symbol o s y)) none

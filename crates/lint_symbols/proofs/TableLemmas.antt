@@ -1,5 +1,5 @@
 -- The symbols of a section, and what is found at them.
-use Rattle.std.proofs.Common.{◌≡◌, ℕ, Bool, true, false, List, [], ◌∷◌, length, take, Some, None, Ok, Err, refl, sym, ap, ◌∙◌, arith, append-nil}
+use Rattle.std.proofs.Common.{◌≡◌, ℕ, Bool, true, false, List, [], ◌∷◌, length, take, Some, Err, refl, sym, ap, ◌∙◌, arith, append-nil}
 use Rattle.std.specs.Prelude.{◌&&◌, slice_get, is_none, if◌then◌else◌, codes}
 use Rattle.std.proofs.lemmas.List.Concat.{flat_map-cons}
 use Rattle.elf_types.specs.declared.records.Kind.TheVariants as kinds
@@ -7,32 +7,16 @@ use Rattle.elf_types.specs.declared.records.Sym.{Sym}
 use Rattle.elf_types.specs.declared.errors.ElfError.{ElfError}
 use Rattle.elf_types.specs.Answers.{answered}
 use Rattle.elf_object.specs.Object.{Object}
-use Rattle.elf_object.specs.Answers.{count_at, items_at, syms_of, lend_refusal}
+use Rattle.elf_object.specs.Answers.{count_at, syms_of, lend_refusal}
 use Rattle.elf_object.specs.Strings.{string_answer, symbol_name, readable}
-use Rattle.elf_object.proofs.AnswerLaws.{answered_value, answered_refusal, lend_kind}
 use Rattle.command_objects.specs.Words.{header_at}
-use Rattle.object_output.proofs.ListCounts.{syms_counted}
 use Rattle.lint_findings.specs.declared.places.Place.TheVariants.{Item}
 use Rattle.lint_findings.specs.Findings.{at_items, finding, found_if}
 use Rattle.lint_findings.specs.Looking.{is_string_table, linked_header, symbols}
+use Rattle.lint_findings.proofs.LentLemmas.{no_count}
 use Rattle.lint_symbols.specs.Symbols.{has_symbols, symbols_of, at_symbols_of, is_used, at_symbol_0, symbol_0_of, has_no_name}
-use Rattle.lint_symbols.proofs.ItemLemmas.{count_is, lent, not_lent}
 
 module _ (o : Object) (s : ℕ) where
-  -- ---- Those that can be told
-
-  pub symbols_are : lend_refusal o kinds.Sym s 0 ≡ None → symbols o s ≡ syms_of (items_at o s 0)
-  unfolding symbols
-  symbols_are passed = lent (lend_refusal o kinds.Sym s 0) (syms_of (items_at o s 0)) passed
-
-  pub symbols_counted : (n : ℕ) → answered (lend_refusal o kinds.Sym s 0) (count_at o s 0) ≡ Ok n
-      → (lend_refusal o kinds.Sym s 0 ≡ None) × (n ≡ length (symbols o s))
-  symbols_counted n is =
-      let value = answered_value (lend_refusal o kinds.Sym s 0) (count_at o s 0) n is in (
-        value.0,
-        value.1 ∙ count_is o s 0 ∙ sym (syms_counted (items_at o s 0) (lend_kind o kinds.Sym s 0 value.0)) ∙ ap length (sym (symbols_are value.0)),
-      )
-
   -- ---- Those that rules look at
 
   pub looked_at : has_symbols o s ≡ true → symbols_of o s ≡ symbols o s
@@ -43,12 +27,12 @@ module _ (o : Object) (s : ℕ) where
   unfolding symbols_of
   passed_over is = ap (λ (t : Bool). if t then symbols o s else []) is
 
-  pub refused_none : (e : ElfError) → answered (lend_refusal o kinds.Sym s 0) (count_at o s 0) ≡ Err e → symbols_of o s ≡ []
+  pub refused_none : (e : ElfError) → Err e ≡ answered (lend_refusal o kinds.Sym s 0) (count_at o s 0) → symbols_of o s ≡ []
   unfolding symbols_of symbols
   refused_none e is = by_test (has_symbols o s)
     where
       by_test : (t : Bool) → (if t then symbols o s else []) ≡ []
-      by_test true = not_lent (lend_refusal o kinds.Sym s 0) (syms_of (items_at o s 0)) e (answered_refusal (lend_refusal o kinds.Sym s 0) (count_at o s 0) e is)
+      by_test true = no_count o s kinds.Sym syms_of e is
       by_test false = refl
 
 -- ---- What is found at them

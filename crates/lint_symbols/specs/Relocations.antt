@@ -42,13 +42,14 @@ is_by_no_symbol o s y = passes_bound (symbol_bound o s) y
 
 -- ---- 27: a relocation names a symbol that is not there
 
-unfoldable pub relocations_of : Object → ℕ → List Finding
-relocations_of o s =
-    at_items 27 (codes "relocation by no symbol") s (λ i y. is_by_no_symbol o s y)
-    (symbol_numbers_of o s)
+-- those of a section, with the rule's number and text
+unfoldable pub relocations_at : ℕ → List ℕ → Object → ℕ → List Finding
+relocations_at number text o s =
+    at_items number text s (λ i y. is_by_no_symbol o s y) (symbol_numbers_of o s)
 
 unfoldable pub relocations_by_no_symbol : Object → List Finding
-relocations_by_no_symbol o = flat_map (relocations_of o) (all_sections o)
+relocations_by_no_symbol o =
+    flat_map (relocations_at 27 (codes "relocation by no symbol") o) (all_sections o)
 
 -- ---- What the code looks for once a section
 

@@ -1,6 +1,6 @@
 //! The relocations of a section, one by one, by the numbers of their symbols.
 
-ghost use Rattle.std.specs.Prelude.{◌≡◌, ◌<◌, ℕ, length, map, codes, IfSome, IfNone, [], None};
+ghost use Rattle.std.specs.Prelude.{◌≡◌, ◌<◌, ℕ, length, map, IfSome, IfNone, [], None};
 ghost use Rattle.elf_xlate.specs.declared.content.Items.{Items as TheItems};
 ghost use Rattle.elf_xlate.specs.Translation.{items_kind, items_count};
 ghost use Rattle.elf_object.specs.Answers.{items_at, lend_refusal};
@@ -10,7 +10,6 @@ ghost use Rattle.lint_findings.specs.Looking.{if_lent};
 ghost use Rattle.lint_findings.specs.Steps.{FindsElf};
 ghost use Rattle.lint_symbols.specs.Relocations.{has_relocations, symbol_bound, symbol_numbers_of, passes_bound, AreRelocations};
 
-use crate::items::item_there;
 use elf_descriptor::Elf;
 use elf_outside::{Sink, Source};
 use elf_types::constants::SHN_UNDEF;
@@ -19,9 +18,20 @@ use gelf_view::item_count;
 use lint_findings::{
     Place, class, find_if, is_plain, is_relocations, is_symbol_table, linked_header,
 };
-use object_output::section_header;
+use object_output::{item_there, section_header};
 use section_data::Item;
 use tool_output::{FileName, Outputs, Stop};
+
+/// A rule on relocations under the name of a file.
+#[derive(Clone, Copy)]
+pub struct ByNoSymbol<'a> {
+    /// Its number.
+    pub number: u32,
+    /// The text of its findings.
+    pub text: &'static str,
+    /// The file.
+    pub name: &'a FileName<'a>,
+}
 
 /// The relocations of a section that a rule looks at.
 #[derive(Clone, Copy)]
@@ -128,7 +138,7 @@ fn passes_bound(bound: Option<u64>, y: u32) -> bool
 
 /// Says what the rule finds at each of so many relocations of a section, by index.
 fn each_of<T: Relocation, S: Source, O: Sink, E: Sink>(
-    name: &FileName<'_>,
+    by: &ByNoSymbol<'_>,
     elf: &mut Elf<S>,
     r: Relocations,
     count: u64,
@@ -137,16 +147,20 @@ fn each_of<T: Relocation, S: Source, O: Sink, E: Sink>(
     requires passed { lend_refusal elf.old.o T.kind r.section.0 0 ≡ None }
     requires count { count ≡ length (T.list_of (items_at elf.old.o r.section.0 0)) }
     ensures { FindsElf S.Source O.Sink E.Sink
-        (λ o. at_items 27 (codes "relocation by no symbol") r.section.0
+        (λ o. at_items by.now.number by.now.text.now r.section.0
         (λ i x. passes_bound r.bound (T.symbol x)) (T.list_of (items_at o r.section.0 0)))
-        name.now result elf.old elf.new outputs.old outputs.new }
+        by.now.name.now result elf.old elf.new outputs.old outputs.new }
 {
+    let d = DataId {
+        section: r.section.0,
+        piece: 0,
+    };
     let mut found = false;
     for i in 0..count {
-        let x = item_there::<T, S>(elf, r.section, i)?;
+        let x = item_there::<S, T>(elf, d, i)?;
         let holds = passes_bound(r.bound, x.symbol());
         let place = Place::Item(r.section.0, i);
-        let was_found = find_if(holds, name, 27, place, "relocation by no symbol", outputs)?;
+        let was_found = find_if(holds, by.name, by.number, place, by.text, outputs)?;
         found = found | was_found;
     }
     Ok(found)
@@ -155,24 +169,24 @@ fn each_of<T: Relocation, S: Source, O: Sink, E: Sink>(
 /// Says what the rule finds at each relocation of a section, by index. A section whose relocations
 /// can not be told has none.
 pub fn each_relocation<T: Relocation, S: Source, O: Sink, E: Sink>(
-    name: &FileName<'_>,
+    by: &ByNoSymbol<'_>,
     elf: &mut Elf<S>,
     r: Relocations,
     outputs: &mut Outputs<'_, O, E>,
 ) -> Result<bool, Stop>
     ensures { FindsElf S.Source O.Sink E.Sink
-        (λ o. at_items 27 (codes "relocation by no symbol") r.section.0
+        (λ o. at_items by.now.number by.now.text.now r.section.0
         (λ i y. passes_bound r.bound y)
         (map T.symbol (if_lent (lend_refusal o T.kind r.section.0 0)
         (T.list_of (items_at o r.section.0 0)))))
-        name.now result elf.old elf.new outputs.old outputs.new }
+        by.now.name.now result elf.old elf.new outputs.old outputs.new }
 {
     let d = DataId {
         section: r.section.0,
         piece: 0,
     };
     match item_count::<S, T>(elf, d) {
-        Ok(count) => each_of::<T, S, O, E>(name, elf, r, count, outputs),
+        Ok(count) => each_of::<T, S, O, E>(by, elf, r, count, outputs),
         Err(_) => Ok(false),
     }
 }

@@ -1,7 +1,7 @@
 //! Rules that look at each symbol of each symbol table. Its symbols are told one by one, so a table
 //! is held once, as the bytes of its section, whatever the number of rules.
 
-ghost use Rattle.std.specs.Prelude.{◌≡◌, ◌<◌, ℕ, List, Bool as TheBool, length, IfSome, IfNone, None, [], true};
+ghost use Rattle.std.specs.Prelude.{◌≡◌, ◌<◌, ℕ, Bool as TheBool, length, IfSome, IfNone, None, [], true};
 ghost use Rattle.elf_types.specs.declared.records.Sym.{Sym as TheSym};
 ghost use Rattle.elf_types.specs.declared.records.Kind.TheVariants as kinds;
 ghost use Rattle.elf_object.specs.Object.{Object};
@@ -13,7 +13,6 @@ ghost use Rattle.lint_findings.specs.Looking.{symbols as stated_symbols};
 ghost use Rattle.lint_findings.specs.Steps.{FindsElf};
 ghost use Rattle.lint_symbols.specs.Symbols.{at_symbols, at_symbols_of, has_symbols, symbols_of, IsTable};
 
-use crate::items::item_there;
 use elf_descriptor::Elf;
 use elf_outside::{Sink, Source};
 use elf_types::{DataId, ScnId, Sym};
@@ -21,7 +20,7 @@ use gelf_view::item_count;
 use lint_findings::{
     Place, class, find_if, is_plain, is_string_table, is_symbol_table, linked_header,
 };
-use object_output::{SectionTool, each_section, section_header};
+use object_output::{SectionTool, each_section, item_there, section_header};
 use tool_output::{FileName, Outputs, Stop};
 
 /// A symbol table that rules look at: what their tests need of its header, looked for once a table.
@@ -41,23 +40,10 @@ pub struct Table {
 
 /// A rule that has at most one finding a symbol.
 ///
-/// - `number` is its number, and `text` the text of its findings.
 /// - `finds` tells whether it has one, by the object, the section's number, and the symbol with its
 ///   index.
 pub trait SymbolRule {
-    ghost number: { ℕ };
-
-    ghost text: { List ℕ };
-
     ghost finds: { Object → ℕ → ℕ → TheSym → TheBool };
-
-    /// Its number.
-    fn number(&self) -> u32
-        ensures { result ≡ number };
-
-    /// The text of its findings.
-    fn text(&self) -> &'static str
-        ensures { result.now ≡ text };
 
     /// Whether it has a finding at symbol `i` of a table. It stops by `Read` where a read of the
     /// source failed, and by `Memory`.
@@ -115,10 +101,22 @@ pub fn table_of<S: Source>(elf: &Elf<S>, s: ScnId) -> Option<Table>
     }
 }
 
+/// A rule under the name of a file.
+#[derive(Drop)]
+struct BySymbol<'a, R> {
+    /// The rule.
+    rule: &'a R,
+    /// Its number.
+    number: u32,
+    /// The text of its findings.
+    text: &'static str,
+    /// The file.
+    name: &'a FileName<'a>,
+}
+
 /// Says what a rule finds at symbol `i` of a table.
 fn show_symbol<R: SymbolRule, S: Source, O: Sink, E: Sink>(
-    rule: &R,
-    name: &FileName<'_>,
+    by: &BySymbol<'_, R>,
     elf: &mut Elf<S>,
     t: Table,
     i: u64,
@@ -127,13 +125,15 @@ fn show_symbol<R: SymbolRule, S: Source, O: Sink, E: Sink>(
 ) -> Result<bool, Stop>
     requires { IsTable elf.old.o t }
     ensures { FindsElf S.Source O.Sink E.Sink
-        (λ o. found_if (R.finds o t.section.0 i x) (finding R.number (Item t.section.0 i) R.text))
-        name.now result elf.old elf.new outputs.old outputs.new }
+        (λ o. found_if (R.finds o t.section.0 i x)
+        (finding by.now.number (Item t.section.0 i) by.now.text.now)) by.now.name.now
+        result elf.old elf.new outputs.old outputs.new }
 {
+    let rule = by.rule;
     match rule.finds(elf, t, i, x) {
         Ok(holds) => {
             let place = Place::Item(t.section.0, i);
-            find_if(holds, name, rule.number(), place, rule.text(), outputs)
+            find_if(holds, by.name, by.number, place, by.text, outputs)
         }
         Err(stop) => Err(stop),
     }
@@ -141,39 +141,33 @@ fn show_symbol<R: SymbolRule, S: Source, O: Sink, E: Sink>(
 
 /// Says what a rule finds at each symbol of a table, by index.
 fn each_symbol<R: SymbolRule, S: Source, O: Sink, E: Sink>(
-    rule: &R,
-    name: &FileName<'_>,
+    by: &BySymbol<'_, R>,
     elf: &mut Elf<S>,
     t: Table,
     outputs: &mut Outputs<'_, O, E>,
 ) -> Result<bool, Stop>
     requires { IsTable elf.old.o t }
     ensures { FindsElf S.Source O.Sink E.Sink
-        (λ o. at_items R.number R.text t.section.0 (R.finds o t.section.0)
-        (stated_symbols o t.section.0))
-        name.now result elf.old elf.new outputs.old outputs.new }
+        (λ o. at_items by.now.number by.now.text.now t.section.0 (R.finds o t.section.0)
+        (stated_symbols o t.section.0)) by.now.name.now
+        result elf.old elf.new outputs.old outputs.new }
 {
+    let d = DataId {
+        section: t.section.0,
+        piece: 0,
+    };
     let mut found = false;
     for i in 0..t.count {
-        let x = item_there::<Sym, S>(elf, t.section, i)?;
-        let was_found = show_symbol(rule, name, elf, t, i, x, outputs)?;
+        let x = item_there::<S, Sym>(elf, d, i)?;
+        let was_found = show_symbol(by, elf, t, i, x, outputs)?;
         found = found | was_found;
     }
     Ok(found)
 }
 
-/// A rule under the name of a file.
-#[derive(Clone, Copy)]
-struct BySymbol<'a, R> {
-    /// The rule.
-    rule: &'a R,
-    /// The file.
-    name: &'a FileName<'a>,
-}
-
 impl<R: SymbolRule> SectionTool for BySymbol<'_, R> {
     ghost report = { λ t o s. findings_shown t.name.now
-        (at_symbols_of R.number R.text R.finds o s) };
+        (at_symbols_of t.number t.text.now R.finds o s) };
 
     fn show<S: Source, O: Sink, E: Sink>(
         &self,
@@ -182,21 +176,30 @@ impl<R: SymbolRule> SectionTool for BySymbol<'_, R> {
         outputs: &mut Outputs<'_, O, E>,
     ) -> Result<bool, Stop> {
         match table_of(elf, s) {
-            Some(t) => each_symbol(self.rule, self.name, elf, t, outputs),
+            Some(t) => each_symbol(self, elf, t, outputs),
             None => Ok(false),
         }
     }
 }
 
-/// Says what a rule finds at the symbols of each symbol table, by section and index.
+/// Says what a rule of that number finds at the symbols of each symbol table, by section and index,
+/// with one text for all its findings.
 pub fn each_symbol_by<R: SymbolRule, S: Source, O: Sink, E: Sink>(
     rule: &R,
+    number: u32,
+    text: &'static str,
     name: &FileName<'_>,
     elf: &mut Elf<S>,
     outputs: &mut Outputs<'_, O, E>,
 ) -> Result<bool, Stop>
-    ensures { FindsElf S.Source O.Sink E.Sink (at_symbols R.number R.text R.finds) name.now
+    ensures { FindsElf S.Source O.Sink E.Sink (at_symbols number text.now R.finds) name.now
         result elf.old elf.new outputs.old outputs.new }
 {
-    each_section(&BySymbol { rule, name }, elf, outputs)
+    let tool = BySymbol {
+        rule,
+        number,
+        text,
+        name,
+    };
+    each_section(&tool, elf, outputs)
 }

@@ -3,7 +3,6 @@
 
 mod by_relocation;
 mod by_symbol;
-mod items;
 mod relocations;
 mod symbols;
 

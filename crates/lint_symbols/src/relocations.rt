@@ -5,7 +5,7 @@ ghost use Rattle.lint_symbols.specs.Relocations as rule;
 ghost use Rattle.lint_symbols.specs.Relocations.{AreRelocations};
 ghost use Rattle.lint_findings.specs.Steps.{FindsElf};
 
-use crate::by_relocation::{Relocations, each_relocation, relocations_of};
+use crate::by_relocation::{ByNoSymbol, Relocations, each_relocation, relocations_of};
 use elf_descriptor::Elf;
 use elf_outside::{Sink, Source};
 use elf_types::constants::SHT_RELA;
@@ -15,32 +15,27 @@ use tool_output::{FileName, Outputs, Stop};
 
 /// Says what the rule finds at the relocations of a section.
 fn show_relocations<S: Source, O: Sink, E: Sink>(
-    name: &FileName<'_>,
+    by: &ByNoSymbol<'_>,
     elf: &mut Elf<S>,
     r: Relocations,
     outputs: &mut Outputs<'_, O, E>,
 ) -> Result<bool, Stop>
     requires { AreRelocations elf.old.o r }
-    ensures { FindsElf S.Source O.Sink E.Sink (λ o. rule.relocations_of o r.section.0) name.now
+    ensures { FindsElf S.Source O.Sink E.Sink
+        (λ o. rule.relocations_at by.now.number by.now.text.now o r.section.0) by.now.name.now
         result elf.old elf.new outputs.old outputs.new }
 {
     let stype = section_header(elf, r.section).stype;
     if stype == SHT_RELA {
-        each_relocation::<Rela, S, O, E>(name, elf, r, outputs)
+        each_relocation::<Rela, S, O, E>(by, elf, r, outputs)
     } else {
-        each_relocation::<Rel, S, O, E>(name, elf, r, outputs)
+        each_relocation::<Rel, S, O, E>(by, elf, r, outputs)
     }
 }
 
-/// The rule under the name of a file.
-#[derive(Clone, Copy)]
-struct ByNoSymbol<'a> {
-    /// The file.
-    name: &'a FileName<'a>,
-}
-
 impl SectionTool for ByNoSymbol<'_> {
-    ghost report = { λ t o s. findings_shown t.name.now (rule.relocations_of o s) };
+    ghost report = { λ t o s. findings_shown t.name.now
+        (rule.relocations_at t.number t.text.now o s) };
 
     fn show<S: Source, O: Sink, E: Sink>(
         &self,
@@ -49,7 +44,7 @@ impl SectionTool for ByNoSymbol<'_> {
         outputs: &mut Outputs<'_, O, E>,
     ) -> Result<bool, Stop> {
         match relocations_of(elf, s) {
-            Some(r) => show_relocations(self.name, elf, r, outputs),
+            Some(r) => show_relocations(self, elf, r, outputs),
             None => Ok(false),
         }
     }
@@ -67,5 +62,10 @@ pub fn relocations_by_no_symbol<S: Source, O: Sink, E: Sink>(
     ensures { FindsElf S.Source O.Sink E.Sink rule.relocations_by_no_symbol name.now
         result elf.old elf.new outputs.old outputs.new }
 {
-    each_section(&ByNoSymbol { name }, elf, outputs)
+    let tool = ByNoSymbol {
+        number: 27,
+        text: "relocation by no symbol",
+        name,
+    };
+    each_section(&tool, elf, outputs)
 }

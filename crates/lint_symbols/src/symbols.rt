@@ -1,6 +1,6 @@
 //! The rules 21 to 25: the symbols of each symbol table.
 
-ghost use Rattle.std.specs.Prelude.{◌≡◌, codes};
+ghost use Rattle.std.specs.Prelude.{◌≡◌};
 ghost use Rattle.lint_findings.specs.Findings.{findings_shown};
 ghost use Rattle.lint_findings.specs.Looking.{symbols as stated_symbols};
 ghost use Rattle.lint_symbols.specs.Symbols as rule;
@@ -8,13 +8,12 @@ ghost use Rattle.lint_symbols.specs.Symbols.{IsTable};
 ghost use Rattle.lint_findings.specs.Steps.{FindsElf};
 
 use crate::by_symbol::{SymbolRule, Table, each_symbol_by, table_of};
-use crate::items::item_there;
 use elf_descriptor::Elf;
 use elf_outside::{Sink, Source};
 use elf_types::constants::{SHN_LORESERVE, STB_LOCAL};
-use elf_types::{ScnId, Sym, bind};
+use elf_types::{DataId, ScnId, Sym, bind};
 use lint_findings::{Place, find_if};
-use object_output::{SectionTool, each_section, string_at};
+use object_output::{SectionTool, each_section, item_there, string_at};
 use tool_output::{FileName, Outputs, Stop};
 
 /// Whether a field of a symbol is not 0.
@@ -48,7 +47,11 @@ fn show_symbol_0<S: Source, O: Sink, E: Sink>(
     if t.count == 0 {
         return Ok(false);
     }
-    match item_there::<Sym, S>(elf, t.section, 0) {
+    let d = DataId {
+        section: t.section.0,
+        piece: 0,
+    };
+    match item_there::<S, Sym>(elf, d, 0) {
         Ok(x) => {
             let place = Place::Item(t.section.0, 0);
             find_if(is_used(x), name, 21, place, "symbol 0 is in use", outputs)
@@ -99,19 +102,7 @@ pub fn symbol_0_in_use<S: Source, O: Sink, E: Sink>(
 struct SymbolNames;
 
 impl SymbolRule for SymbolNames {
-    ghost number = { 22 };
-
-    ghost text = { codes "name cannot be read" };
-
     ghost finds = { rule.has_no_name };
-
-    fn number(&self) -> u32 {
-        22
-    }
-
-    fn text(&self) -> &'static str {
-        "name cannot be read"
-    }
 
     #[tactic(auto, unfolding(crate::specs::Symbols::has_no_name))]
     fn finds<S: Source>(&self, elf: &mut Elf<S>, t: Table, _i: u64, x: Sym) -> Result<bool, Stop> {
@@ -138,7 +129,7 @@ pub fn unreadable_symbol_names<S: Source, O: Sink, E: Sink>(
     ensures { FindsElf S.Source O.Sink E.Sink rule.unreadable_symbol_names name.now
         result elf.old elf.new outputs.old outputs.new }
 {
-    each_symbol_by(&SymbolNames, name, elf, outputs)
+    each_symbol_by(&SymbolNames, 22, "name cannot be read", name, elf, outputs)
 }
 
 /// Local symbols behind the first other one.
@@ -146,19 +137,7 @@ pub fn unreadable_symbol_names<S: Source, O: Sink, E: Sink>(
 struct LateLocals;
 
 impl SymbolRule for LateLocals {
-    ghost number = { 23 };
-
-    ghost text = { codes "local symbol among the others" };
-
     ghost finds = { rule.is_late_local };
-
-    fn number(&self) -> u32 {
-        23
-    }
-
-    fn text(&self) -> &'static str {
-        "local symbol among the others"
-    }
 
     #[tactic(auto, unfolding(crate::specs::Symbols::is_late_local))]
     fn finds<S: Source>(&self, _elf: &mut Elf<S>, t: Table, i: u64, x: Sym) -> Result<bool, Stop> {
@@ -178,7 +157,14 @@ pub fn local_symbols_among_the_others<S: Source, O: Sink, E: Sink>(
     ensures { FindsElf S.Source O.Sink E.Sink rule.local_symbols_among_the_others name.now
         result elf.old elf.new outputs.old outputs.new }
 {
-    each_symbol_by(&LateLocals, name, elf, outputs)
+    each_symbol_by(
+        &LateLocals,
+        23,
+        "local symbol among the others",
+        name,
+        elf,
+        outputs,
+    )
 }
 
 /// Other symbols before the first other one.
@@ -186,19 +172,7 @@ pub fn local_symbols_among_the_others<S: Source, O: Sink, E: Sink>(
 struct EarlyOthers;
 
 impl SymbolRule for EarlyOthers {
-    ghost number = { 24 };
-
-    ghost text = { codes "symbol among the local ones" };
-
     ghost finds = { rule.is_early_other };
-
-    fn number(&self) -> u32 {
-        24
-    }
-
-    fn text(&self) -> &'static str {
-        "symbol among the local ones"
-    }
 
     #[tactic(auto, unfolding(crate::specs::Symbols::is_early_other))]
     fn finds<S: Source>(&self, _elf: &mut Elf<S>, t: Table, i: u64, x: Sym) -> Result<bool, Stop> {
@@ -218,7 +192,14 @@ pub fn other_symbols_among_the_local<S: Source, O: Sink, E: Sink>(
     ensures { FindsElf S.Source O.Sink E.Sink rule.other_symbols_among_the_local name.now
         result elf.old elf.new outputs.old outputs.new }
 {
-    each_symbol_by(&EarlyOthers, name, elf, outputs)
+    each_symbol_by(
+        &EarlyOthers,
+        24,
+        "symbol among the local ones",
+        name,
+        elf,
+        outputs,
+    )
 }
 
 /// Sections of symbols that are not there.
@@ -226,19 +207,7 @@ pub fn other_symbols_among_the_local<S: Source, O: Sink, E: Sink>(
 struct SymbolSections;
 
 impl SymbolRule for SymbolSections {
-    ghost number = { 25 };
-
-    ghost text = { codes "symbol of no section" };
-
     ghost finds = { rule.is_of_no_section };
-
-    fn number(&self) -> u32 {
-        25
-    }
-
-    fn text(&self) -> &'static str {
-        "symbol of no section"
-    }
 
     #[tactic(auto, unfolding(crate::specs::Symbols::is_of_no_section))]
     fn finds<S: Source>(&self, elf: &mut Elf<S>, _t: Table, _i: u64, x: Sym) -> Result<bool, Stop> {
@@ -260,5 +229,12 @@ pub fn symbols_of_no_section<S: Source, O: Sink, E: Sink>(
     ensures { FindsElf S.Source O.Sink E.Sink rule.symbols_of_no_section name.now
         result elf.old elf.new outputs.old outputs.new }
 {
-    each_symbol_by(&SymbolSections, name, elf, outputs)
+    each_symbol_by(
+        &SymbolSections,
+        25,
+        "symbol of no section",
+        name,
+        elf,
+        outputs,
+    )
 }

@@ -1,61 +1,7 @@
-use Rattle.std.proofs.Common.{[], ◌∷◌}
-use Rattle.std.proofs.lemmas.Result.{err_from_is_err_and}
-use Rattle.elf_lint.specs.Rules.{found_by, all_rules, header_rules, section_rules, table_rules, symbol_rules, data_rules}
-use Rattle.elf_lint.proofs.RuleLemmas.{rules_begin, rule_looked, rule_stopped, rules_done}
+use Rattle.elf_lint.specs.Rules.{findings}
 use Rattle.elf_lint.proofs.rules.look_by_all_rules.Goals as goal
 
-pub returns-in_err-first : goal.returns-in_err-first
-unfolding all_rules
-returns-in_err-first g c =
-    let u0 = rules_begin g.S.Source g.O.Sink g.E.Sink c.args.name.now all_rules c.args.elf.now c.args.outputs.now in
-    let p = err_from_is_err_and c.from_residual.result c.from_residual.ensures.1 in
-    rw (p.1, p.2) (rule_stopped g.S.Source g.O.Sink g.E.Sink c.args.name.now all_rules _ c.args.elf.now _ _ c.args.outputs.now _ _ (found_by header_rules) ((found_by section_rules) ∷ (found_by table_rules) ∷ (found_by symbol_rules) ∷ (found_by data_rules) ∷ []) u0 _ c.in_err-first.ensures)
-
-pub returns-in_err-second : goal.returns-in_err-second
-unfolding all_rules
-returns-in_err-second g c =
-    let u0 = rules_begin g.S.Source g.O.Sink g.E.Sink c.args.name.now all_rules c.args.elf.now c.args.outputs.now in
-    let u1 = rule_looked g.S.Source g.O.Sink g.E.Sink c.args.name.now all_rules _ c.args.elf.now _ _ c.args.outputs.now _ _ (found_by header_rules) ((found_by section_rules) ∷ (found_by table_rules) ∷ (found_by symbol_rules) ∷ (found_by data_rules) ∷ []) u0 c.in_ok-first.first c.in_ok-first.ensures in
-    let p = err_from_is_err_and c.from_residual-in_err-second.result c.from_residual-in_err-second.ensures.1 in
-    rw (p.1, p.2) (rule_stopped g.S.Source g.O.Sink g.E.Sink c.args.name.now all_rules _ c.args.elf.now _ _ c.args.outputs.now _ _ (found_by section_rules) ((found_by table_rules) ∷ (found_by symbol_rules) ∷ (found_by data_rules) ∷ []) u1 _ c.in_err-second.ensures)
-
-pub returns-in_err-third : goal.returns-in_err-third
-unfolding all_rules
-returns-in_err-third g c =
-    let u0 = rules_begin g.S.Source g.O.Sink g.E.Sink c.args.name.now all_rules c.args.elf.now c.args.outputs.now in
-    let u1 = rule_looked g.S.Source g.O.Sink g.E.Sink c.args.name.now all_rules _ c.args.elf.now _ _ c.args.outputs.now _ _ (found_by header_rules) ((found_by section_rules) ∷ (found_by table_rules) ∷ (found_by symbol_rules) ∷ (found_by data_rules) ∷ []) u0 c.in_ok-first.first c.in_ok-first.ensures in
-    let u2 = rule_looked g.S.Source g.O.Sink g.E.Sink c.args.name.now all_rules _ c.args.elf.now _ _ c.args.outputs.now _ _ (found_by section_rules) ((found_by table_rules) ∷ (found_by symbol_rules) ∷ (found_by data_rules) ∷ []) u1 c.in_ok-second.second c.in_ok-second.ensures in
-    let p = err_from_is_err_and c.from_residual-in_err-third.result c.from_residual-in_err-third.ensures.1 in
-    rw (p.1, p.2) (rule_stopped g.S.Source g.O.Sink g.E.Sink c.args.name.now all_rules _ c.args.elf.now _ _ c.args.outputs.now _ _ (found_by table_rules) ((found_by symbol_rules) ∷ (found_by data_rules) ∷ []) u2 _ c.in_err-third.ensures)
-
-pub returns-in_err-fourth : goal.returns-in_err-fourth
-unfolding all_rules
-returns-in_err-fourth g c =
-    let u0 = rules_begin g.S.Source g.O.Sink g.E.Sink c.args.name.now all_rules c.args.elf.now c.args.outputs.now in
-    let u1 = rule_looked g.S.Source g.O.Sink g.E.Sink c.args.name.now all_rules _ c.args.elf.now _ _ c.args.outputs.now _ _ (found_by header_rules) ((found_by section_rules) ∷ (found_by table_rules) ∷ (found_by symbol_rules) ∷ (found_by data_rules) ∷ []) u0 c.in_ok-first.first c.in_ok-first.ensures in
-    let u2 = rule_looked g.S.Source g.O.Sink g.E.Sink c.args.name.now all_rules _ c.args.elf.now _ _ c.args.outputs.now _ _ (found_by section_rules) ((found_by table_rules) ∷ (found_by symbol_rules) ∷ (found_by data_rules) ∷ []) u1 c.in_ok-second.second c.in_ok-second.ensures in
-    let u3 = rule_looked g.S.Source g.O.Sink g.E.Sink c.args.name.now all_rules _ c.args.elf.now _ _ c.args.outputs.now _ _ (found_by table_rules) ((found_by symbol_rules) ∷ (found_by data_rules) ∷ []) u2 c.in_ok-third.third c.in_ok-third.ensures in
-    let p = err_from_is_err_and c.from_residual-in_err-fourth.result c.from_residual-in_err-fourth.ensures.1 in
-    rw (p.1, p.2) (rule_stopped g.S.Source g.O.Sink g.E.Sink c.args.name.now all_rules _ c.args.elf.now _ _ c.args.outputs.now _ _ (found_by symbol_rules) ((found_by data_rules) ∷ []) u3 _ c.in_err-fourth.ensures)
-
-pub returns-in_err-fifth : goal.returns-in_err-fifth
-unfolding all_rules
-returns-in_err-fifth g c =
-    let u0 = rules_begin g.S.Source g.O.Sink g.E.Sink c.args.name.now all_rules c.args.elf.now c.args.outputs.now in
-    let u1 = rule_looked g.S.Source g.O.Sink g.E.Sink c.args.name.now all_rules _ c.args.elf.now _ _ c.args.outputs.now _ _ (found_by header_rules) ((found_by section_rules) ∷ (found_by table_rules) ∷ (found_by symbol_rules) ∷ (found_by data_rules) ∷ []) u0 c.in_ok-first.first c.in_ok-first.ensures in
-    let u2 = rule_looked g.S.Source g.O.Sink g.E.Sink c.args.name.now all_rules _ c.args.elf.now _ _ c.args.outputs.now _ _ (found_by section_rules) ((found_by table_rules) ∷ (found_by symbol_rules) ∷ (found_by data_rules) ∷ []) u1 c.in_ok-second.second c.in_ok-second.ensures in
-    let u3 = rule_looked g.S.Source g.O.Sink g.E.Sink c.args.name.now all_rules _ c.args.elf.now _ _ c.args.outputs.now _ _ (found_by table_rules) ((found_by symbol_rules) ∷ (found_by data_rules) ∷ []) u2 c.in_ok-third.third c.in_ok-third.ensures in
-    let u4 = rule_looked g.S.Source g.O.Sink g.E.Sink c.args.name.now all_rules _ c.args.elf.now _ _ c.args.outputs.now _ _ (found_by symbol_rules) ((found_by data_rules) ∷ []) u3 c.in_ok-fourth.fourth c.in_ok-fourth.ensures in
-    let p = err_from_is_err_and c.from_residual-in_err-fifth.result c.from_residual-in_err-fifth.ensures.1 in
-    rw (p.1, p.2) (rule_stopped g.S.Source g.O.Sink g.E.Sink c.args.name.now all_rules _ c.args.elf.now _ _ c.args.outputs.now _ _ (found_by data_rules) [] u4 _ c.in_err-fifth.ensures)
-
+-- what each rule of the list finds is what the rules find in their order
 pub returns : goal.returns
-unfolding all_rules
-returns g c =
-    let u0 = rules_begin g.S.Source g.O.Sink g.E.Sink c.args.name.now all_rules c.args.elf.now c.args.outputs.now in
-    let u1 = rule_looked g.S.Source g.O.Sink g.E.Sink c.args.name.now all_rules _ c.args.elf.now _ _ c.args.outputs.now _ _ (found_by header_rules) ((found_by section_rules) ∷ (found_by table_rules) ∷ (found_by symbol_rules) ∷ (found_by data_rules) ∷ []) u0 c.in_ok-first.first c.in_ok-first.ensures in
-    let u2 = rule_looked g.S.Source g.O.Sink g.E.Sink c.args.name.now all_rules _ c.args.elf.now _ _ c.args.outputs.now _ _ (found_by section_rules) ((found_by table_rules) ∷ (found_by symbol_rules) ∷ (found_by data_rules) ∷ []) u1 c.in_ok-second.second c.in_ok-second.ensures in
-    let u3 = rule_looked g.S.Source g.O.Sink g.E.Sink c.args.name.now all_rules _ c.args.elf.now _ _ c.args.outputs.now _ _ (found_by table_rules) ((found_by symbol_rules) ∷ (found_by data_rules) ∷ []) u2 c.in_ok-third.third c.in_ok-third.ensures in
-    let u4 = rule_looked g.S.Source g.O.Sink g.E.Sink c.args.name.now all_rules _ c.args.elf.now _ _ c.args.outputs.now _ _ (found_by symbol_rules) ((found_by data_rules) ∷ []) u3 c.in_ok-fourth.fourth c.in_ok-fourth.ensures in
-    let u5 = rule_looked g.S.Source g.O.Sink g.E.Sink c.args.name.now all_rules _ c.args.elf.now _ _ c.args.outputs.now _ _ (found_by data_rules) [] u4 c.in_ok-fifth.fifth c.in_ok-fifth.ensures in
-    rules_done g.S.Source g.O.Sink g.E.Sink c.args.name.now all_rules _ c.args.elf.now _ c.args.outputs.now _ u5
+unfolding findings
+returns g c = c.look_by_each.ensures

@@ -11,4 +11,4 @@ returns g c =
     let r = g.R.ChainRule in
     let o = c.args.elf.now.o in
     elf_as g.S.Source g.O.Sink g.E.Sink _ _ _ c.args.elf.now _ c.args.outputs.now _
-    (λ told. sym (findings_of c.args.name.now (λ (s : ℕ). chain_found r.number s (r.bad o s)) (all_sections o))) c.each_section.ensures
+    (λ told. sym (findings_of c.args.name.now (λ (s : ℕ). chain_found c.args.number s (r.bad o s)) (all_sections o))) c.each_section.ensures

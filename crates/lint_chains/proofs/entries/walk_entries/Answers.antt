@@ -1,11 +1,11 @@
 use Rattle.std.proofs.Common.{ℕ, true, Option, Some, None, refl, ap, sym}
 use Rattle.std.specs.Prelude.{length}
 use Rattle.gelf_view.specs.Calls.{first_place}
+use Rattle.object_output.proofs.AnswerLemmas.{answers_stated}
+use Rattle.object_output.proofs.LearnLemmas.{learns_as, learns_by, learns_after}
 use Rattle.object_output.proofs.QueryLemmas.{queried}
 use Rattle.lint_findings.specs.Looking.{data_bytes}
-use Rattle.lint_findings.proofs.LearnLemmas.{answers_stated}
 use Rattle.lint_chains.specs.Chains.{entries_bad, from_first}
-use Rattle.lint_chains.proofs.WalkLemmas.{learns_as, learns_by, learns_after}
 use Rattle.lint_chains.proofs.ChainLemmas.{first_there, first_refused}
 use Rattle.lint_chains.proofs.entries.walk_entries.Goals as goal
 

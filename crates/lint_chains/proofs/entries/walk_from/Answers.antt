@@ -1,8 +1,8 @@
 use Rattle.std.proofs.lemmas.Result.{err_from_is_err_and}
 use Rattle.elf_object.specs.Object.{Object}
+use Rattle.object_output.proofs.LearnLemmas.{learns_stop, learns_after}
 use Rattle.lint_chains.specs.Chains.{entries_bad}
-use Rattle.lint_findings.proofs.LearnLemmas.{learns_stop}
-use Rattle.lint_chains.proofs.WalkLemmas.{learns_after, walk_begins, walk_ends}
+use Rattle.lint_chains.proofs.WalkLemmas.{walk_begins, walk_ends}
 use Rattle.lint_chains.proofs.entries.walk_from.Goals as goal
 
 pub entries-init : goal.entries-init

@@ -1,7 +1,9 @@
 use Rattle.std.proofs.Common.{Option, None, ap, sym}
+use Rattle.object_output.proofs.AnswerLemmas.{led_broken}
+use Rattle.object_output.proofs.LearnLemmas.{learns_by}
 use Rattle.lint_chains.specs.Chains.{bad_place}
-use Rattle.lint_chains.proofs.WalkLemmas.{learns_by, met_bad, walk_begins, walk_goes, walk_ends}
-use Rattle.lint_chains.proofs.ChainLemmas.{chain_bad, led_broken}
+use Rattle.lint_chains.proofs.WalkLemmas.{met_bad, walk_begins, walk_goes, walk_ends}
+use Rattle.lint_chains.proofs.ChainLemmas.{chain_bad}
 use Rattle.lint_chains.proofs.entries.walk_names.Goals as goal
 
 pub names-init : goal.names-init

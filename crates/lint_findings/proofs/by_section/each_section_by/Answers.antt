@@ -12,4 +12,4 @@ returns g c =
     let r = g.R.SectionRule in
     let o = c.args.elf.now.o in
     elf_as g.S.Source g.O.Sink g.E.Sink _ _ _ c.args.elf.now _ c.args.outputs.now _
-    (λ told. sym (findings_of c.args.name.now (λ (s : ℕ). found_if (r.finds o s) (finding r.number (Section s) r.text)) (all_sections o))) c.each_section.ensures
+    (λ told. sym (findings_of c.args.name.now (λ (s : ℕ). found_if (r.finds o s) (finding c.args.number (Section s) c.args.text.now)) (all_sections o))) c.each_section.ensures

@@ -17,10 +17,10 @@ loop-i-preserved g c =
     let count = ok_is _ _ c.phnum-i-end.ensures in
     let r = g.R.SegmentRule in
     let o = c.args.elf.now.o in
-    let f = λ (row : ℕ × Phdr). found_if (r.finds o row.1) (finding r.number (Segment row.0) r.text) in
+    let f = λ (row : ℕ × Phdr). found_if (r.finds o row.1) (finding c.args.number (Segment row.0) c.args.text.now) in
     record {
       report = goes_on c.loop-i.invariant.report _ _ (rows_left c.args.name.now f o.phdrs c.loop-i.i _ (omega (arith, count, c.loop-i-test.true)) c.phdr_at.ensures)
-          (rw (c.finds-holds.ensures, c.number.ensures, c.text.ensures) at c.in_ok-was_found.ensures.reports) refl;
+          (rw c.finds-holds.ensures at c.in_ok-was_found.ensures.reports) refl;
       keeps = search rules;
     }
 
@@ -29,15 +29,15 @@ returns-in_err-was_found-clause-reports g c =
     let count = ok_is _ _ c.phnum-i-end.ensures in
     let r = g.R.SegmentRule in
     let o = c.args.elf.now.o in
-    let f = λ (row : ℕ × Phdr). found_if (r.finds o row.1) (finding r.number (Segment row.0) r.text) in
+    let f = λ (row : ℕ × Phdr). found_if (r.finds o row.1) (finding c.args.number (Segment row.0) c.args.text.now) in
     let p = err_from_is_err_and c.from_residual.result c.from_residual.ensures.1 in
     rw (p.1, p.2) (stops_at c.loop-i.invariant.report _ _ (rows_left c.args.name.now f o.phdrs c.loop-i.i _ (omega (arith, count, c.loop-i-test.true)) c.phdr_at.ensures)
-    (rw (c.finds-holds.ensures, c.number.ensures, c.text.ensures) at c.in_err-was_found.ensures.reports))
+    (rw c.finds-holds.ensures at c.in_err-was_found.ensures.reports))
 
 pub returns-clause-reports : goal.returns-clause-reports
 returns-clause-reports g c =
     let count = ok_is _ _ c.phnum-i-end.ensures in
     let r = g.R.SegmentRule in
     let o = c.args.elf.now.o in
-    let f = λ (row : ℕ × Phdr). found_if (r.finds o row.1) (finding r.number (Segment row.0) r.text) in
+    let f = λ (row : ℕ × Phdr). found_if (r.finds o row.1) (finding c.args.number (Segment row.0) c.args.text.now) in
     is_given c.loop-i.invariant.report (no_rows_left c.args.name.now f o.phdrs c.loop-i.i (omega (arith, count, c.loop-i-test.false)))

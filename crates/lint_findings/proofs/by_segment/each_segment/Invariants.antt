@@ -10,7 +10,7 @@ abbrev pub invariant-loop-i : goal.invariant-loop-i
 invariant-loop-i g l =
     let r = g.R.SegmentRule in record {
       report : UnderWay g.O.Sink g.E.Sink l.found l.initial.outputs l.outputs
-          (findings_shown l.name (at_segments r.number r.text (r.finds l.elf.o) l.elf.o.phdrs))
-          (findings_shown l.name (flat_map (λ row. found_if (r.finds l.elf.o row.1) (finding r.number (Segment row.0) r.text)) (drop l.i (enumerate_from 0 l.elf.o.phdrs))));
+          (findings_shown l.name (at_segments l.number l.text (r.finds l.elf.o) l.elf.o.phdrs))
+          (findings_shown l.name (flat_map (λ row. found_if (r.finds l.elf.o row.1) (finding l.number (Segment row.0) l.text)) (drop l.i (enumerate_from 0 l.elf.o.phdrs))));
       keeps : KeepsSinks g.O.Sink g.E.Sink l.initial.outputs l.outputs;
     }

@@ -1,15 +1,16 @@
-use Rattle.std.proofs.Common.{◌+◌, ◌<◌, ℕ, List, length, true, false, Some, None, sym, ◌∙◌, subst, arith}
-use Rattle.object_output.proofs.ElfSteps.{elf_left, elf_left_then}
+use Rattle.std.proofs.Common.{◌+◌, ◌<◌, ℕ, List, true, false, Some, None, Ok, Err, IsTrue, arith}
+use Rattle.elf_object.specs.Object.{Object}
+use Rattle.object_output.proofs.ElfSteps.{elf_left}
+use Rattle.object_output.proofs.LearnLemmas.{learns_by, learns_after, learns_stop}
 use Rattle.command_objects.specs.HashSections.{is_found_gnu}
 use Rattle.command_objects.specs.Listed.{listed_names}
 use Rattle.lint_findings.specs.Looking.{data_bytes}
 use Rattle.lint_hashes.specs.declared.listed.NameHash.TheVariants.{Gnu}
 use Rattle.lint_hashes.specs.Listed.{listed_hash}
-use Rattle.lint_hashes.specs.Gnu.{section_of, run_after, all_are_found, IsRun}
-use Rattle.lint_hashes.proofs.GnuWords.{bucket_count}
-use Rattle.lint_hashes.proofs.GnuChains.{run_begins, run_next}
-use Rattle.lint_hashes.proofs.GnuWhole.{run_some, run_none, found_by, found_is}
-use Rattle.lint_hashes.proofs.LaterLemmas.{value_later, known_now, stop_later}
+use Rattle.lint_hashes.specs.Gnu.{section_of, run_after, all_are_found}
+use Rattle.lint_hashes.proofs.GnuWords.{bucket_some}
+use Rattle.lint_hashes.proofs.GnuChains.{run_begins}
+use Rattle.lint_hashes.proofs.GnuWhole.{found_by, step_some, step_none}
 use Rattle.lint_hashes.proofs.ListedLemmas.{after_first, each_more, each_fails, each_passed}
 use Rattle.lint_hashes.proofs.gnu_sections.all_are_found.Goals as goal
 
@@ -33,20 +34,14 @@ loop-i-preserved g c =
     let h = section_of t (data_bytes o s) in
     let names = c.args.l.section.0 in
     let i = c.loop-i.i in
-    let start = c.loop-i.start in
-    let listed = listed_hash Gnu o names i in
-    let some : 0 < length h.buckets = omega (arith, bucket_count t (data_bytes o s), c.requires.lies.some) in
-    let learned = rw c.in-Ok-Some.field-0-is at c.in-Ok-Some.ensures in record {
+    let next = c.in-Ok-Some.next in
+    let learned = learns_after g.S.Source (λ m. run_after t.class (section_of t (data_bytes m s)) t.count c.loop-i.start i (listed_hash Gnu m names i)) (Ok (Some next)) c.args.elf.now _ _ c.loop-i.invariant.elf (rw c.in-Ok-Some.field-0-is at c.in-Ok-Some.ensures) in
+    let step = λ (told : IsTrue c.args.elf.now.told). step_some t.class h t.count c.loop-i.start i (c.loop-i.invariant.run told) (bucket_some t (data_bytes o s) c.requires.lies) (c.requires.ends told) (listed_hash Gnu o names i) next (learned.value told) in
+    record {
       begun = omega arith;
-      run = λ told. subst (λ (k : ℕ). IsRun h t.count (i + 1) k)
-          (sym (run_some t.class h t.count start i listed c.in-Ok-Some.next
-          (value_later g.S.Source (λ m. run_after t.class (section_of t (data_bytes m s)) t.count start i (listed_hash Gnu m names i)) (Some c.in-Ok-Some.next) c.args.elf.now _ _ c.loop-i.invariant.elf learned told)).0)
-          (run_next h t.count i start (c.loop-i.invariant.run told));
-      left = λ told. each_more o names Gnu (found_by t.class h t.count) i (c.loop-i.invariant.left told) (omega (arith, c.requires.listed.count, c.loop-i-test.true))
-          (sym (found_is t.class h t.count start i (c.loop-i.invariant.run told) some (c.requires.ends told) listed)
-          ∙ (run_some t.class h t.count start i listed c.in-Ok-Some.next
-          (value_later g.S.Source (λ m. run_after t.class (section_of t (data_bytes m s)) t.count start i (listed_hash Gnu m names i)) (Some c.in-Ok-Some.next) c.args.elf.now _ _ c.loop-i.invariant.elf learned told)).1);
-      elf = elf_left_then g.S.Source c.args.elf.now _ _ c.loop-i.invariant.elf learned.reads.elf;
+      run = λ told. (step told).0;
+      left = λ told. each_more o names Gnu (found_by t.class h t.count) i (c.loop-i.invariant.left told) (omega (arith, c.requires.listed.count, c.loop-i-test.true)) (step told).1;
+      elf = learned.reads.elf;
     }
 
 pub returns-in-Ok-None : goal.returns-in-Ok-None
@@ -58,24 +53,19 @@ returns-in-Ok-None g c =
     let h = section_of t (data_bytes o s) in
     let names = c.args.l.section.0 in
     let i = c.loop-i.i in
-    let start = c.loop-i.start in
-    let listed = listed_hash Gnu o names i in
-    let some : 0 < length h.buckets = omega (arith, bucket_count t (data_bytes o s), c.requires.lies.some) in
-    let learned = rw c.in-Ok-None.field-0-is at c.in-Ok-None.ensures in
-    known_now g.S.Source (λ m. all_are_found t.class (section_of t (data_bytes m s)) t.count (listed_names m names)) false c.args.elf.now _
-    (elf_left_then g.S.Source c.args.elf.now _ _ c.loop-i.invariant.elf learned.reads.elf)
+    let learned = learns_after g.S.Source (λ m. run_after t.class (section_of t (data_bytes m s)) t.count c.loop-i.start i (listed_hash Gnu m names i)) (Ok None) c.args.elf.now _ _ c.loop-i.invariant.elf (rw c.in-Ok-None.field-0-is at c.in-Ok-None.ensures) in
+    learns_by g.S.Source (λ m. all_are_found t.class (section_of t (data_bytes m s)) t.count (listed_names m names)) false c.args.elf.now _ learned.reads.elf
     (λ told. each_fails o names Gnu (found_by t.class h t.count) i (c.loop-i.invariant.left told) (omega (arith, c.requires.listed.count, c.loop-i-test.true))
-    (sym (found_is t.class h t.count start i (c.loop-i.invariant.run told) some (c.requires.ends told) listed)
-    ∙ run_none t.class h t.count start i listed
-    (value_later g.S.Source (λ m. run_after t.class (section_of t (data_bytes m s)) t.count start i (listed_hash Gnu m names i)) None c.args.elf.now _ _ c.loop-i.invariant.elf learned told)))
+    (step_none t.class h t.count c.loop-i.start i (c.loop-i.invariant.run told) (bucket_some t (data_bytes o s) c.requires.lies) (c.requires.ends told) (listed_hash Gnu o names i) (learned.value told)))
 
 pub returns-in-Err : goal.returns-in-Err
 returns-in-Err g c =
     let t = c.args.t in
     let s = c.args.s.0 in
     let names = c.args.l.section.0 in
-    stop_later g.S.Source (λ m. run_after t.class (section_of t (data_bytes m s)) t.count c.loop-i.start c.loop-i.i (listed_hash Gnu m names c.loop-i.i))
-    (λ m. all_are_found t.class (section_of t (data_bytes m s)) t.count (listed_names m names)) c.in-Err.stop c.args.elf.now _ _ c.loop-i.invariant.elf c.in-Err.ensures
+    let run = λ (m : Object). run_after t.class (section_of t (data_bytes m s)) t.count c.loop-i.start c.loop-i.i (listed_hash Gnu m names c.loop-i.i) in
+    learns_stop g.S.Source run (λ m. all_are_found t.class (section_of t (data_bytes m s)) t.count (listed_names m names)) c.in-Err.stop c.args.elf.now _
+    (learns_after g.S.Source run (Err c.in-Err.stop) c.args.elf.now _ _ c.loop-i.invariant.elf c.in-Err.ensures)
 
 pub returns : goal.returns
 unfolding is_found_gnu
@@ -85,5 +75,5 @@ returns g c =
     let s = c.args.s.0 in
     let h = section_of t (data_bytes o s) in
     let names = c.args.l.section.0 in
-    known_now g.S.Source (λ m. all_are_found t.class (section_of t (data_bytes m s)) t.count (listed_names m names)) true c.args.elf.now _ c.loop-i.invariant.elf
+    learns_by g.S.Source (λ m. all_are_found t.class (section_of t (data_bytes m s)) t.count (listed_names m names)) true c.args.elf.now _ c.loop-i.invariant.elf
     (λ told. each_passed o names Gnu (found_by t.class h t.count) c.loop-i.i (c.loop-i.invariant.left told) (omega (arith, c.requires.listed.count, c.loop-i-test.false)))

@@ -2,10 +2,10 @@ use Rattle.std.proofs.Common.{◌≡◌, length, true, false, IsTrue, sym, ◌�
 use Rattle.elf_object.specs.Object.{Object}
 use Rattle.command_objects.specs.HashSections.{is_whole_gnu}
 use Rattle.command_objects.specs.Listed.{listed_names}
+use Rattle.object_output.proofs.LearnLemmas.{learns_by, learns_after, learns_as}
 use Rattle.lint_findings.specs.Looking.{data_bytes}
 use Rattle.lint_hashes.specs.Gnu.{section_of, chains_end, all_are_found, LiesIn}
 use Rattle.lint_hashes.proofs.GnuWhole.{whole_where, ends_where, not_whole}
-use Rattle.lint_hashes.proofs.LaterLemmas.{known_now, learns_by}
 use Rattle.lint_hashes.proofs.gnu_sections.is_whole.Goals as goal
 
 pub all_are_found-requires-clause-lies : goal.all_are_found-requires-clause-lies
@@ -30,15 +30,15 @@ returns-in-Ok-Some g c =
     let s = c.args.s.0 in
     let t = c.in-Ok-Some.t in
     let names = c.args.l.section.0 in
-    learns_by g.S.Source (λ m. all_are_found t.class (section_of t (data_bytes m s)) t.count (listed_names m names)) (λ m. is_whole_gnu m.header.class m.header.order (data_bytes m s) (listed_names m names)) _
-    c.args.elf.now _ _ c.in-Ok-Some.ensures.reads.elf
+    let found = λ (m : Object). all_are_found t.class (section_of t (data_bytes m s)) t.count (listed_names m names) in
+    learns_as g.S.Source (λ m. is_whole_gnu m.header.class m.header.order (data_bytes m s) (listed_names m names)) found _ c.args.elf.now _
     (λ told. whole_where o.header.class o.header.order (data_bytes o s) (listed_names o names) c.args.l.count c.requires.count t (rw c.in-Ok-Some.field-0-is at (c.in-Ok-Some.ensures.is told)))
-    c.all_are_found.ensures
+    (learns_after g.S.Source found _ c.args.elf.now _ _ c.in-Ok-Some.ensures.reads.elf c.all_are_found.ensures)
 
 pub returns-in-Ok-None : goal.returns-in-Ok-None
 returns-in-Ok-None g c =
     let o = c.args.elf.now.o in
     let s = c.args.s.0 in
     let names = c.args.l.section.0 in
-    known_now g.S.Source (λ m. is_whole_gnu m.header.class m.header.order (data_bytes m s) (listed_names m names)) false c.args.elf.now _ c.in-Ok-None.ensures.reads.elf
+    learns_by g.S.Source (λ m. is_whole_gnu m.header.class m.header.order (data_bytes m s) (listed_names m names)) false c.args.elf.now _ c.in-Ok-None.ensures.reads.elf
     (λ told. not_whole o.header.class o.header.order (data_bytes o s) (listed_names o names) c.args.l.count c.requires.count (rw c.in-Ok-None.field-0-is at (c.in-Ok-None.ensures.is told)))

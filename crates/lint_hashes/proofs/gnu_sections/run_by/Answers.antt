@@ -5,7 +5,8 @@ use Rattle.elf_descriptor.specs.Reads.{wanted}
 use Rattle.gelf_view.specs.Calls as calls
 use Rattle.object_output.proofs.QueryLemmas.{reads_on, reads_stop}
 use Rattle.lint_findings.specs.Looking.{data_bytes}
-use Rattle.lint_hashes.proofs.LentLemmas.{bytes_are, no_bytes, as_many_bytes}
+use Rattle.lint_findings.proofs.LentLemmas.{bytes_told, no_bytes}
+use Rattle.lint_hashes.proofs.LentLemmas.{as_many_bytes}
 use Rattle.lint_hashes.specs.Gnu.{section_of, run_after, LiesIn}
 use Rattle.lint_hashes.proofs.GnuWhole.{no_room}
 use Rattle.lint_hashes.proofs.gnu_sections.run_by.Goals as goal
@@ -18,24 +19,22 @@ run_after-requires-clause-lies g c =
     subst (λ (n : ℕ). LiesIn n c.args.t) (sym (as_many_bytes (bytes_of (items_at o s 0)) (lend_refusal o kinds.Bytes s 0) c.in-Ok.bytes.now c.in-Ok.ensures.like)) c.requires.lies
 
 pub returns-in-Ok : goal.returns-in-Ok
-unfolding data_bytes
 returns-in-Ok g c =
     let o = c.args.elf.now.o in
     let s = c.args.s.0 in
     let t = c.args.t in record {
       value = λ told. c.run_after.ensures
           ∙ ap (λ (b : List ℕ). run_after t.class (section_of t b) t.count c.args.start c.args.i c.args.listed)
-          (bytes_are c.args.elf.now.told (wanted (calls.bytes s 0) c.args.elf.now) (bytes_of (items_at o s 0)) (lend_refusal o kinds.Bytes s 0) c.in-Ok.bytes.now c.in-Ok.ensures.answer told);
+          (bytes_told o s c.args.elf.now.told (wanted (calls.bytes s 0) c.args.elf.now) c.in-Ok.bytes.now c.in-Ok.ensures.answer told);
       reads = reads_on g.S.Source (calls.bytes s 0) _ c.args.elf.now _ c.bytes.result _ c.bytes.follows.holds-at-none;
     }
 
 pub returns-in-None : goal.returns-in-None
-unfolding data_bytes
 returns-in-None g c =
     let o = c.args.elf.now.o in
     let s = c.args.s.0 in record {
       value = λ told. absurd (no_room c.args.t (data_bytes o s)
-          (no_bytes c.args.elf.now.told (wanted (calls.bytes s 0) c.args.elf.now) (bytes_of (items_at o s 0)) (lend_refusal o kinds.Bytes s 0) c.in-Err.e (sym c.in-None.ensures) c.in-Err.ensures.answer)
+          (no_bytes o s c.args.elf.now.told (wanted (calls.bytes s 0) c.args.elf.now) c.in-Err.e (sym c.in-None.ensures) c.in-Err.ensures.answer)
           c.requires.lies);
       reads = reads_on g.S.Source (calls.bytes s 0) _ c.args.elf.now _ c.bytes.result _ c.bytes.follows.holds-at-none;
     }

@@ -8,19 +8,19 @@ use Rattle.elf_descriptor.specs.Reads.{wanted}
 use Rattle.gelf_view.specs.Calls as calls
 use Rattle.object_output.proofs.QueryLemmas.{reads_on, reads_stop}
 use Rattle.lint_findings.specs.Looking.{data_bytes}
-use Rattle.lint_hashes.proofs.LentLemmas.{bytes_are, no_bytes, as_many_bytes}
+use Rattle.lint_findings.proofs.LentLemmas.{bytes_told, no_bytes}
+use Rattle.lint_hashes.proofs.LentLemmas.{as_many_bytes}
 use Rattle.lint_hashes.specs.Gnu.{IsSoundIn, LiesIn}
 use Rattle.lint_hashes.proofs.GnuWhole.{sound_of_none}
 use Rattle.lint_hashes.proofs.gnu_sections.table_of.Goals as goal
 
 pub returns-in-Ok-clause-is : goal.returns-in-Ok-clause-is
-unfolding data_bytes
 returns-in-Ok-clause-is g c = λ told.
     let o = c.args.elf.now.o in
     let s = c.args.s.0 in
     let n = c.args.count in
     let r = c.sound_in.result in
-    let is = bytes_are c.args.elf.now.told (wanted (calls.bytes s 0) c.args.elf.now) (bytes_of (items_at o s 0)) (lend_refusal o kinds.Bytes s 0) c.in-Ok.bytes.now c.in-Ok.ensures.answer told in
+    let is = bytes_told o s c.args.elf.now.told (wanted (calls.bytes s 0) c.args.elf.now) c.in-Ok.bytes.now c.in-Ok.ensures.answer told in
     subst (λ (k : Class). IsSoundIn k o.header.order (data_bytes o s) n r) c.class-of_class.ensures
     (subst (λ (k : Order). IsSoundIn c.class-of_class.result k (data_bytes o s) n r) c.order-of_order.ensures
     (subst (λ (b : List ℕ). IsSoundIn c.class-of_class.result c.order-of_order.result b n r) is c.sound_in.ensures.is))
@@ -36,12 +36,11 @@ pub returns-in-Ok-clause-reads : goal.returns-in-Ok-clause-reads
 returns-in-Ok-clause-reads g c = reads_on g.S.Source (calls.bytes c.args.s.0 0) _ c.args.elf.now _ c.bytes.result _ c.bytes.follows.holds-at-none
 
 pub returns-in-None-clause-is : goal.returns-in-None-clause-is
-unfolding data_bytes
 returns-in-None-clause-is g c = λ told.
     let o = c.args.elf.now.o in
     let s = c.args.s.0 in
     sound_of_none o.header.class o.header.order (data_bytes o s) c.args.count
-    (no_bytes c.args.elf.now.told (wanted (calls.bytes s 0) c.args.elf.now) (bytes_of (items_at o s 0)) (lend_refusal o kinds.Bytes s 0) c.in-Err.e (sym c.in-None.ensures) c.in-Err.ensures.answer)
+    (no_bytes o s c.args.elf.now.told (wanted (calls.bytes s 0) c.args.elf.now) c.in-Err.e (sym c.in-None.ensures) c.in-Err.ensures.answer)
 
 pub returns-in-None-clause-reads : goal.returns-in-None-clause-reads
 returns-in-None-clause-reads g c = reads_on g.S.Source (calls.bytes c.args.s.0 0) _ c.args.elf.now _ c.bytes.result _ c.bytes.follows.holds-at-none

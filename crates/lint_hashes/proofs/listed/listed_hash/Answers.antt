@@ -3,7 +3,7 @@ use Rattle.std.specs.Prelude.{slice_get}
 use Rattle.std.specs.Option.{option_map}
 use Rattle.command_objects.specs.Listed.{listed_name}
 use Rattle.lint_findings.specs.Looking.{symbols}
-use Rattle.lint_findings.proofs.LearnLemmas.{learns_map, learns_then}
+use Rattle.object_output.proofs.LearnLemmas.{learns_map, learns_then}
 use Rattle.lint_hashes.specs.Listed.{hash_by, listed_hash}
 use Rattle.lint_hashes.proofs.ListedLemmas.{listed_at, listed_none}
 use Rattle.lint_hashes.proofs.listed.listed_hash.Goals as goal

@@ -1,12 +1,12 @@
-use Rattle.std.proofs.Common.{ℕ, List, true, false, Some, sym, ◌∙◌, arith}
-use Rattle.object_output.proofs.ElfSteps.{elf_left, elf_left_then}
+use Rattle.std.proofs.Common.{ℕ, List, true, false, Some, Ok, sym, ◌∙◌, arith}
+use Rattle.object_output.proofs.ElfSteps.{elf_left}
+use Rattle.object_output.proofs.LearnLemmas.{learns_by, learns_after}
 use Rattle.command_objects.specs.Hashes.{elf_hash}
 use Rattle.command_objects.specs.Listed.{listed_names}
 use Rattle.lint_findings.specs.Looking.{words}
 use Rattle.lint_hashes.specs.declared.listed.NameHash.TheVariants.{Sysv}
 use Rattle.lint_hashes.specs.Listed.{listed_hash}
 use Rattle.lint_hashes.specs.Sysv.{is_found, all_are_found}
-use Rattle.lint_hashes.proofs.LaterLemmas.{value_later, known_now}
 use Rattle.lint_hashes.proofs.ListedLemmas.{after_first, each_more, each_fails, each_passed}
 use Rattle.lint_hashes.proofs.SysvWhole.{found_by_hash}
 use Rattle.lint_hashes.proofs.sysv.all_are_found.Goals as goal
@@ -26,12 +26,13 @@ loop-i-preserved g c =
     let t = c.args.t in
     let s = c.args.l.section.0 in
     let w = words o t.section.0 in
-    let i = c.loop-i.i in record {
+    let i = c.loop-i.i in
+    let learned = learns_after g.S.Source (λ m. is_found (words m t.section.0) t (listed_hash Sysv m s i) i) (Ok c.in_ok-found.found) c.args.elf.now _ _ c.loop-i.invariant.elf c.in_ok-found.ensures in
+    record {
       begun = omega arith;
       left = λ told. each_more o s Sysv (λ (k : ℕ) (hash : ℕ). is_found w t (Some hash) k) i (c.loop-i.invariant.left told) (omega (arith, c.requires.listed.count, c.loop-i-test.true))
-          (sym (found_by_hash w t (listed_hash Sysv o s i) i)
-          ∙ sym (value_later g.S.Source (λ m. is_found (words m t.section.0) t (listed_hash Sysv m s i) i) c.in_ok-found.found c.args.elf.now _ _ c.loop-i.invariant.elf c.in_ok-found.ensures told) ∙ (cc));
-      elf = elf_left_then g.S.Source c.args.elf.now _ _ c.loop-i.invariant.elf c.in_ok-found.ensures.reads.elf;
+          (sym (found_by_hash w t (listed_hash Sysv o s i) i) ∙ sym (learned.value told) ∙ (cc));
+      elf = learned.reads.elf;
     }
 
 pub returns-then-not-found : goal.returns-then-not-found
@@ -41,10 +42,10 @@ returns-then-not-found g c =
     let s = c.args.l.section.0 in
     let w = words o t.section.0 in
     let i = c.loop-i.i in
-    known_now g.S.Source (λ m. all_are_found (words m t.section.0) t (listed_names m s)) false c.args.elf.now _ (elf_left_then g.S.Source c.args.elf.now _ _ c.loop-i.invariant.elf c.in_ok-found.ensures.reads.elf)
+    let learned = learns_after g.S.Source (λ m. is_found (words m t.section.0) t (listed_hash Sysv m s i) i) (Ok c.in_ok-found.found) c.args.elf.now _ _ c.loop-i.invariant.elf c.in_ok-found.ensures in
+    learns_by g.S.Source (λ m. all_are_found (words m t.section.0) t (listed_names m s)) false c.args.elf.now _ learned.reads.elf
     (λ told. each_fails o s Sysv (λ (k : ℕ) (hash : ℕ). is_found w t (Some hash) k) i (c.loop-i.invariant.left told) (omega (arith, c.requires.listed.count, c.loop-i-test.true))
-    (sym (found_by_hash w t (listed_hash Sysv o s i) i)
-    ∙ sym (value_later g.S.Source (λ m. is_found (words m t.section.0) t (listed_hash Sysv m s i) i) c.in_ok-found.found c.args.elf.now _ _ c.loop-i.invariant.elf c.in_ok-found.ensures told) ∙ (cc)))
+    (sym (found_by_hash w t (listed_hash Sysv o s i) i) ∙ sym (learned.value told) ∙ (cc)))
 
 pub returns : goal.returns
 returns g c =
@@ -52,5 +53,5 @@ returns g c =
     let t = c.args.t in
     let s = c.args.l.section.0 in
     let w = words o t.section.0 in
-    known_now g.S.Source (λ m. all_are_found (words m t.section.0) t (listed_names m s)) true c.args.elf.now _ c.loop-i.invariant.elf
+    learns_by g.S.Source (λ m. all_are_found (words m t.section.0) t (listed_names m s)) true c.args.elf.now _ c.loop-i.invariant.elf
     (λ told. each_passed o s Sysv (λ (k : ℕ) (hash : ℕ). is_found w t (Some hash) k) c.loop-i.i (c.loop-i.invariant.left told) (omega (arith, c.requires.listed.count, c.loop-i-test.false)))

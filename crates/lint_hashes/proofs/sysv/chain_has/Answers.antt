@@ -1,9 +1,10 @@
-use Rattle.std.proofs.Common.{◌≡◌, ℕ, false, Some, None, ◌-◌, ◌+◌, suc, sym, ap, ◌∙◌, arith}
+use Rattle.std.proofs.Common.{◌≡◌, ℕ, false, Some, None, Ok, Err, ◌-◌, ◌+◌, suc, sym, ap, ◌∙◌, arith}
 use Rattle.std.specs.Prelude.{slice_get}
-use Rattle.object_output.proofs.ElfSteps.{elf_left, elf_left_then}
+use Rattle.elf_object.specs.Object.{Object}
+use Rattle.object_output.proofs.ElfSteps.{elf_left}
+use Rattle.object_output.proofs.LearnLemmas.{learns_by, learns_after, learns_stop}
 use Rattle.lint_findings.specs.Looking.{words}
 use Rattle.lint_hashes.specs.Sysv.{chain_has, section_of}
-use Rattle.lint_hashes.proofs.LaterLemmas.{value_later, known_now, stop_later}
 use Rattle.lint_hashes.proofs.SysvWords.{left, left_begins, left_ends, left_stops, left_more, left_past}
 use Rattle.lint_hashes.proofs.sysv.chain_has.Goals as goal
 
@@ -18,7 +19,7 @@ pub returns-then-at-eq0 : goal.returns-then-at-eq0
 returns-then-at-eq0 g c =
     let t = c.args.t in
     let w = words c.args.elf.now.o t.section.0 in
-    known_now g.S.Source _ _ c.args.elf.now _ c.loop-step.invariant.elf
+    learns_by g.S.Source _ _ c.args.elf.now _ c.loop-step.invariant.elf
     (λ told. left_ends w t c.args.i c.loop-step.met (t.nchain - c.loop-step.step)
     ∙ ap (λ (k : ℕ). left w t c.args.i c.loop-step.met (t.nchain - c.loop-step.step) k) (sym c.if-at-eq0.true) ∙ c.loop-step.invariant.known told)
 
@@ -26,7 +27,7 @@ pub returns-then-at-eq0-2 : goal.returns-then-at-eq0-2
 returns-then-at-eq0-2 g c =
     let t = c.args.t in
     let w = words c.args.elf.now.o t.section.0 in
-    known_now g.S.Source _ _ c.args.elf.now _ c.loop-step.invariant.elf
+    learns_by g.S.Source _ _ c.args.elf.now _ c.loop-step.invariant.elf
     (λ told. left_ends w t c.args.i c.loop-step.met (t.nchain - c.loop-step.step)
     ∙ ap (λ (k : ℕ). left w t c.args.i c.loop-step.met (t.nchain - c.loop-step.step) k) (sym c.if-at-eq0-2.true) ∙ c.loop-step.invariant.known told)
 
@@ -37,12 +38,12 @@ loop-step-preserved g c =
     let at = c.loop-step.at in
     let next = c.in-Ok-Some.next in
     let step = c.loop-step.step in
-    let learned = rw c.in-Ok-Some.field-0-is at c.in-Ok-Some.ensures in
-    let one : t.nchain - step ≡ suc (t.nchain - (step + 1)) = omega (arith, c.loop-step-test.true) in record {
-      known = λ told. left_more w t c.args.i c.loop-step.met (t.nchain - (step + 1)) (t.nchain - step) at c.from.result next one c.from.ensures c.if-at-eq0.false
-          (value_later g.S.Source (λ o. slice_get (section_of t (words o t.section.0)).chains at) (Some next) c.args.elf.now _ _ c.loop-step.invariant.elf learned told)
+    let one : t.nchain - step ≡ suc (t.nchain - (step + 1)) = omega (arith, c.loop-step-test.true) in
+    let learned = learns_after g.S.Source (λ o. slice_get (section_of t (words o t.section.0)).chains at) (Ok (Some next)) c.args.elf.now _ _ c.loop-step.invariant.elf (rw c.in-Ok-Some.field-0-is at c.in-Ok-Some.ensures) in
+    record {
+      known = λ told. left_more w t c.args.i c.loop-step.met (t.nchain - (step + 1)) (t.nchain - step) at c.from.result next one c.from.ensures c.if-at-eq0.false (learned.value told)
           ∙ c.loop-step.invariant.known told;
-      elf = elf_left_then g.S.Source c.args.elf.now _ _ c.loop-step.invariant.elf learned.reads.elf;
+      elf = learned.reads.elf;
     }
 
 pub returns-in-Ok-None : goal.returns-in-Ok-None
@@ -51,23 +52,22 @@ returns-in-Ok-None g c =
     let w = words c.args.elf.now.o t.section.0 in
     let at = c.loop-step.at in
     let step = c.loop-step.step in
-    let learned = rw c.in-Ok-None.field-0-is at c.in-Ok-None.ensures in
     let one : t.nchain - step ≡ suc (t.nchain - (step + 1)) = omega (arith, c.loop-step-test.true) in
-    known_now g.S.Source _ _ c.args.elf.now _ (elf_left_then g.S.Source c.args.elf.now _ _ c.loop-step.invariant.elf learned.reads.elf)
-    (λ told. left_past w t c.args.i c.loop-step.met (t.nchain - (step + 1)) (t.nchain - step) at one c.if-at-eq0.false
-    (value_later g.S.Source (λ o. slice_get (section_of t (words o t.section.0)).chains at) None c.args.elf.now _ _ c.loop-step.invariant.elf learned told)
-    ∙ c.loop-step.invariant.known told)
+    let learned = learns_after g.S.Source (λ o. slice_get (section_of t (words o t.section.0)).chains at) (Ok None) c.args.elf.now _ _ c.loop-step.invariant.elf (rw c.in-Ok-None.field-0-is at c.in-Ok-None.ensures) in
+    learns_by g.S.Source _ _ c.args.elf.now _ learned.reads.elf
+    (λ told. left_past w t c.args.i c.loop-step.met (t.nchain - (step + 1)) (t.nchain - step) at one c.if-at-eq0.false (learned.value told) ∙ c.loop-step.invariant.known told)
 
 pub returns-in-Err : goal.returns-in-Err
 returns-in-Err g c =
     let t = c.args.t in
-    stop_later g.S.Source (λ o. slice_get (section_of t (words o t.section.0)).chains c.loop-step.at) (λ o. chain_has (words o t.section.0) t c.args.first c.args.i) c.in-Err.stop c.args.elf.now _ _
-    c.loop-step.invariant.elf c.in-Err.ensures
+    let next = λ (o : Object). slice_get (section_of t (words o t.section.0)).chains c.loop-step.at in
+    learns_stop g.S.Source next (λ o. chain_has (words o t.section.0) t c.args.first c.args.i) c.in-Err.stop c.args.elf.now _
+    (learns_after g.S.Source next (Err c.in-Err.stop) c.args.elf.now _ _ c.loop-step.invariant.elf c.in-Err.ensures)
 
 pub returns : goal.returns
 returns g c =
     let t = c.args.t in
     let w = words c.args.elf.now.o t.section.0 in
     let none : 0 ≡ t.nchain - c.loop-step.step = omega (arith, c.loop-step-test.false) in
-    known_now g.S.Source _ _ c.args.elf.now _ c.loop-step.invariant.elf
+    learns_by g.S.Source _ _ c.args.elf.now _ c.loop-step.invariant.elf
     (λ told. left_stops w t c.args.i c.loop-step.met c.loop-step.at c.if-at-eq0-2.false ∙ ap (λ (n : ℕ). left w t c.args.i c.loop-step.met n c.loop-step.at) none ∙ c.loop-step.invariant.known told)

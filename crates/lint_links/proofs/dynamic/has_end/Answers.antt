@@ -1,14 +1,11 @@
-use Rattle.lint_findings.proofs.LearnLemmas.{learns_now}
 use Rattle.std.specs.List.{list_any}
+use Rattle.object_output.proofs.LearnLemmas.{learns_now}
 use Rattle.lint_findings.specs.Looking.{dyns}
 use Rattle.lint_links.proofs.DynamicLemmas.{ends, dyns_count, no_dyns}
 use Rattle.lint_links.proofs.dynamic.has_end.Goals as goal
 
-pub some_ends-requires-clause-passed : goal.some_ends-requires-clause-passed
-some_ends-requires-clause-passed g c = (dyns_count c.args.elf.now.o c.args.s.0 c.in-Ok.count c.in-Ok.ensures.answer).0
-
-pub some_ends-requires-clause-count : goal.some_ends-requires-clause-count
-some_ends-requires-clause-count g c = (dyns_count c.args.elf.now.o c.args.s.0 c.in-Ok.count c.in-Ok.ensures.answer).1
+pub some_ends-requires : goal.some_ends-requires
+some_ends-requires g c = dyns_count c.args.elf.now.o c.args.s.0 c.in-Ok.count c.in-Ok.ensures.answer
 
 pub returns-in-Err : goal.returns-in-Err
 returns-in-Err g c =

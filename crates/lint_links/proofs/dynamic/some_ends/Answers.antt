@@ -1,23 +1,17 @@
-use Rattle.std.proofs.Common.{◌≡◌, true, false, None, Ok, sym, subst, below_more, arith}
+use Rattle.std.proofs.Common.{◌≡◌, true, false, Ok, below_more, arith}
 use Rattle.std.specs.Prelude.{slice_get}
 use Rattle.std.specs.List.{list_any}
 use Rattle.std.proofs.lemmas.Result.{err_from_is_err_and}
-use Rattle.elf_types.specs.declared.records.Kind.TheVariants as kinds
 use Rattle.elf_object.specs.Object.{Object}
-use Rattle.elf_object.specs.Answers.{lend_refusal}
 use Rattle.object_output.proofs.ElfSteps.{elf_left}
 use Rattle.lint_findings.specs.Looking.{dyns}
-use Rattle.lint_findings.proofs.LearnLemmas.{learns_map, learns_stop}
+use Rattle.object_output.proofs.LearnLemmas.{learns_map, learns_stop, learns_after}
 use Rattle.lint_links.specs.Dynamic.{is_end}
-use Rattle.lint_links.proofs.DataLemmas.{learns_after}
 use Rattle.lint_links.proofs.DynamicLemmas.{ends, any_ends, none_ends}
 use Rattle.lint_links.proofs.dynamic.some_ends.Goals as goal
 
 pub loop-i-init : goal.loop-i-init
 loop-i-init g c = record { none = λ told k lt. absurd (omega arith); elf = elf_left g.S.Source c.args.elf.now }
-
-pub ends_at-requires : goal.ends_at-requires
-ends_at-requires g c = subst (λ (o : Object). lend_refusal o kinds.Dyn c.args.s.0 0 ≡ None) (sym c.loop-i.invariant.elf.object) c.requires.passed
 
 pub returns-in_err-ends_at : goal.returns-in_err-ends_at
 returns-in_err-ends_at g c =
@@ -48,6 +42,6 @@ loop-i-preserved g c =
 pub returns : goal.returns
 returns g c =
     let s = c.args.s.0 in record {
-      value = λ told. none_ends (dyns c.args.elf.now.o s) c.loop-i.i (omega (arith, c.requires.count, c.loop-i-test.false)) (c.loop-i.invariant.none told);
+      value = λ told. none_ends (dyns c.args.elf.now.o s) c.loop-i.i (omega (arith, c.requires, c.loop-i-test.false)) (c.loop-i.invariant.none told);
       reads = record { elf = c.loop-i.invariant.elf; read = tt; write = tt };
     }

@@ -1,5 +1,4 @@
 use Rattle.std.proofs.Common.{◌≡◌, ◌<◌, ℕ, length, None, refl, sym, subst, arith}
-use Rattle.std.specs.Prelude.{codes}
 use Rattle.std.proofs.lemmas.Result.{err_from_is_err_and}
 use Rattle.elf_object.specs.Object.{Object}
 use Rattle.elf_object.specs.Answers.{items_at, lend_refusal}
@@ -26,10 +25,10 @@ item_there-requires-clause-there g c =
 pub loop-i-preserved : goal.loop-i-preserved
 loop-i-preserved g c =
     let s = c.args.r.section.0 in
-    let name = c.args.name.now in
+    let name = c.args.by.now.name.now in
     let symbol = g.T.Relocation.symbol in
     let x = c.in_ok-x.x in
-    let f = λ (o : Object) (row : ℕ × g.row.T.Denot). found_if (passes_bound c.args.r.bound (symbol row.1)) (finding 27 (Item s row.0) (codes "relocation by no symbol")) in
+    let f = λ (o : Object) (row : ℕ × g.row.T.Denot). found_if (passes_bound c.args.r.bound (symbol row.1)) (finding c.args.by.now.number (Item s row.0) c.args.by.now.text.now) in
     item_found name f (λ o. g.T.Listed.list_of (items_at o s 0)) c.loop-i.i c.loop-i.invariant
     x c.item_there.new.elf c.in_ok-x.ensures.reads.elf c.in_ok-x.ensures.value
     (elf_says g.S.Source g.O.Sink g.E.Sink (λ o. findings_shown name (f o (c.loop-i.i, x))) _ c.item_there.new.elf _ c.loop-i.outputs _ (elf_left g.S.Source c.item_there.new.elf)
@@ -39,17 +38,17 @@ pub returns-in_err-x : goal.returns-in_err-x
 returns-in_err-x g c =
     let s = c.args.r.section.0 in
     let symbol = g.T.Relocation.symbol in
-    let f = λ (o : Object) (row : ℕ × g.row.T.Denot). found_if (passes_bound c.args.r.bound (symbol row.1)) (finding 27 (Item s row.0) (codes "relocation by no symbol")) in
+    let f = λ (o : Object) (row : ℕ × g.row.T.Denot). found_if (passes_bound c.args.r.bound (symbol row.1)) (finding c.args.by.now.number (Item s row.0) c.args.by.now.text.now) in
     let p = err_from_is_err_and c.from_residual.result c.from_residual.ensures.1 in
-    rw (p.1, p.2) (item_unread c.args.name.now f (λ o. g.T.Listed.list_of (items_at o s 0)) c.loop-i.i c.loop-i.invariant g.row.T.Denot c.item_there.new.elf _ c.in_err-x.ensures.reads)
+    rw (p.1, p.2) (item_unread c.args.by.now.name.now f (λ o. g.T.Listed.list_of (items_at o s 0)) c.loop-i.i c.loop-i.invariant g.row.T.Denot c.item_there.new.elf _ c.in_err-x.ensures.reads)
 
 pub returns-in_err-was_found : goal.returns-in_err-was_found
 returns-in_err-was_found g c =
     let s = c.args.r.section.0 in
-    let name = c.args.name.now in
+    let name = c.args.by.now.name.now in
     let symbol = g.T.Relocation.symbol in
     let x = c.in_ok-x.x in
-    let f = λ (o : Object) (row : ℕ × g.row.T.Denot). found_if (passes_bound c.args.r.bound (symbol row.1)) (finding 27 (Item s row.0) (codes "relocation by no symbol")) in
+    let f = λ (o : Object) (row : ℕ × g.row.T.Denot). found_if (passes_bound c.args.r.bound (symbol row.1)) (finding c.args.by.now.number (Item s row.0) c.args.by.now.text.now) in
     let p = err_from_is_err_and c.from_residual-in_err-was_found.result c.from_residual-in_err-was_found.ensures.1 in
     rw (p.1, p.2) (item_stopped name f (λ o. g.T.Listed.list_of (items_at o s 0)) c.loop-i.i c.loop-i.invariant
     x c.item_there.new.elf c.in_ok-x.ensures.reads.elf c.in_ok-x.ensures.value
@@ -61,5 +60,5 @@ returns g c =
     let s = c.args.r.section.0 in
     let symbol = g.T.Relocation.symbol in
     elf_is_given c.loop-i.invariant
-    (λ told. no_rows_left c.args.name.now (λ (row : ℕ × g.row.T.Denot). found_if (passes_bound c.args.r.bound (symbol row.1)) (finding 27 (Item s row.0) (codes "relocation by no symbol")))
+    (λ told. no_rows_left c.args.by.now.name.now (λ (row : ℕ × g.row.T.Denot). found_if (passes_bound c.args.r.bound (symbol row.1)) (finding c.args.by.now.number (Item s row.0) c.args.by.now.text.now))
     (g.T.Listed.list_of (items_at c.args.elf.now.o s 0)) c.loop-i.i (omega (arith, c.requires.count, c.loop-i-test.false)))

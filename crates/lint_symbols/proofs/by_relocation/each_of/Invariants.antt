@@ -1,5 +1,4 @@
 use Rattle.std.proofs.Common.{drop}
-use Rattle.std.specs.Prelude.{codes}
 use Rattle.std.specs.List.{flat_map, enumerate_from}
 use Rattle.elf_object.specs.Answers.{items_at}
 use Rattle.object_output.specs.Steps.{ElfUnderWay}
@@ -14,5 +13,5 @@ invariant-loop-i g l =
     let symbol = g.T.Relocation.symbol in
     let list_of = g.T.Listed.list_of in
     ElfUnderWay g.S.Source g.O.Sink g.E.Sink l.found l.initial.elf l.elf l.initial.outputs l.outputs
-    (λ o. findings_shown l.name (at_items 27 (codes "relocation by no symbol") s (λ i x. passes_bound l.r.bound (symbol x)) (list_of (items_at o s 0))))
-    (λ o. findings_shown l.name (flat_map (λ row. found_if (passes_bound l.r.bound (symbol row.1)) (finding 27 (Item s row.0) (codes "relocation by no symbol"))) (drop l.i (enumerate_from 0 (list_of (items_at o s 0))))))
+    (λ o. findings_shown l.by.name.now (at_items l.by.number l.by.text.now s (λ i x. passes_bound l.r.bound (symbol x)) (list_of (items_at o s 0))))
+    (λ o. findings_shown l.by.name.now (flat_map (λ row. found_if (passes_bound l.r.bound (symbol row.1)) (finding l.by.number (Item s row.0) l.by.text.now)) (drop l.i (enumerate_from 0 (list_of (items_at o s 0))))))

@@ -4,7 +4,7 @@ use Rattle.elf_types.specs.declared.records.Kind.TheVariants as kinds
 use Rattle.elf_object.specs.Answers.{count_at, lend_refusal}
 use Rattle.elf_object.proofs.AnswerLaws.{answered_refusal}
 use Rattle.lint_findings.specs.Looking.{is_symbol_table, symbols}
-use Rattle.lint_symbols.proofs.TableLemmas.{symbols_counted}
+use Rattle.lint_findings.proofs.LentLemmas.{symbols_counted}
 use Rattle.lint_symbols.proofs.RelocationLemmas.{bound_one, bound_counted, bound_no_table, bound_refused}
 use Rattle.lint_symbols.proofs.by_relocation.symbol_bound.Goals as goal
 
@@ -24,7 +24,7 @@ returns-in-Ok g c =
     let o = c.args.elf.now.o in
     let n = c.in-Ok.count in
     let here = ap (λ (h : Shdr). h.link) c.section_header-link.ensures in
-    let counted = subst (λ (l : ℕ). (lend_refusal o kinds.Sym l 0 ≡ None) × (n ≡ length (symbols o l))) here (symbols_counted o c.section_header-link.result.link n (sym c.in-Ok.ensures.answer)) in
+    let counted = subst (λ (l : ℕ). (lend_refusal o kinds.Sym l 0 ≡ None) × (n ≡ length (symbols o l))) here (symbols_counted o c.section_header-link.result.link n c.in-Ok.ensures.answer) in
     sym (bound_counted o c.args.s.0 n (λ e. c.if-link-eq-SHN_UNDEF.false (here ∙ e))
     (sym (c.is_symbol_table.ensures ∙ ap is_symbol_table c.linked_header.ensures) ∙ c.if-not-is_symbol_table.false) counted.0 counted.1)
 

@@ -10,8 +10,8 @@ use Rattle.lint_findings.specs.declared.places.Place.TheVariants.{Item}
 use Rattle.lint_findings.specs.Findings.{at_items, finding, found_if}
 use Rattle.lint_findings.specs.Looking.{symbols}
 use Rattle.lint_findings.proofs.FindingLemmas.{no_rows_left}
+use Rattle.lint_findings.proofs.LentLemmas.{symbols_are}
 use Rattle.lint_symbols.specs.Symbols.{IsTable}
-use Rattle.lint_symbols.proofs.TableLemmas.{symbols_are}
 use Rattle.lint_symbols.proofs.ItemLemmas.{item_found, item_stopped, item_unread}
 use Rattle.lint_symbols.proofs.by_symbol.each_symbol.Goals as goal
 
@@ -35,9 +35,10 @@ show_symbol-requires g c = subst (λ (o : Object). IsTable o c.args.t) (sym (c.i
 pub loop-i-preserved : goal.loop-i-preserved
 loop-i-preserved g c =
     let r = g.R.SymbolRule in
+    let by = c.args.by.now in
     let s = c.args.t.section.0 in
     let passed = subst (λ (o : Object). lend_refusal o kinds.Sym s 0 ≡ None) (sym c.loop-i.invariant.elf.object) c.requires.passed in
-    item_found c.args.name.now (λ (o : Object) (row : ℕ × Sym). found_if (r.finds o s row.0 row.1) (finding r.number (Item s row.0) r.text)) (λ o. symbols o s) c.loop-i.i c.loop-i.invariant
+    item_found by.name.now (λ (o : Object) (row : ℕ × Sym). found_if (r.finds o s row.0 row.1) (finding by.number (Item s row.0) by.text.now)) (λ o. symbols o s) c.loop-i.i c.loop-i.invariant
     c.in_ok-x.x c.item_there.new.elf c.in_ok-x.ensures.reads.elf
     (λ told. ap (λ (l : List Sym). slice_get l c.loop-i.i) (symbols_are c.loop-i.elf.o s passed) ∙ c.in_ok-x.ensures.value told)
     c.in_ok-was_found.ensures refl
@@ -45,18 +46,20 @@ loop-i-preserved g c =
 pub returns-in_err-x : goal.returns-in_err-x
 returns-in_err-x g c =
     let r = g.R.SymbolRule in
+    let by = c.args.by.now in
     let s = c.args.t.section.0 in
     let p = err_from_is_err_and c.from_residual.result c.from_residual.ensures.1 in
-    rw (p.1, p.2) (item_unread c.args.name.now (λ (o : Object) (row : ℕ × Sym). found_if (r.finds o s row.0 row.1) (finding r.number (Item s row.0) r.text)) (λ o. symbols o s) c.loop-i.i c.loop-i.invariant
+    rw (p.1, p.2) (item_unread by.name.now (λ (o : Object) (row : ℕ × Sym). found_if (r.finds o s row.0 row.1) (finding by.number (Item s row.0) by.text.now)) (λ o. symbols o s) c.loop-i.i c.loop-i.invariant
     Sym c.item_there.new.elf _ c.in_err-x.ensures.reads)
 
 pub returns-in_err-was_found : goal.returns-in_err-was_found
 returns-in_err-was_found g c =
     let r = g.R.SymbolRule in
+    let by = c.args.by.now in
     let s = c.args.t.section.0 in
     let passed = subst (λ (o : Object). lend_refusal o kinds.Sym s 0 ≡ None) (sym c.loop-i.invariant.elf.object) c.requires.passed in
     let p = err_from_is_err_and c.from_residual-in_err-was_found.result c.from_residual-in_err-was_found.ensures.1 in
-    rw (p.1, p.2) (item_stopped c.args.name.now (λ (o : Object) (row : ℕ × Sym). found_if (r.finds o s row.0 row.1) (finding r.number (Item s row.0) r.text)) (λ o. symbols o s) c.loop-i.i c.loop-i.invariant
+    rw (p.1, p.2) (item_stopped by.name.now (λ (o : Object) (row : ℕ × Sym). found_if (r.finds o s row.0 row.1) (finding by.number (Item s row.0) by.text.now)) (λ o. symbols o s) c.loop-i.i c.loop-i.invariant
     c.in_ok-x.x c.item_there.new.elf c.in_ok-x.ensures.reads.elf
     (λ told. ap (λ (l : List Sym). slice_get l c.loop-i.i) (symbols_are c.loop-i.elf.o s passed) ∙ c.in_ok-x.ensures.value told)
     c.in_err-was_found.ensures)
@@ -64,8 +67,9 @@ returns-in_err-was_found g c =
 pub returns : goal.returns
 returns g c =
     let r = g.R.SymbolRule in
+    let by = c.args.by.now in
     let s = c.args.t.section.0 in
     let o = c.args.elf.now.o in
     elf_is_given c.loop-i.invariant
-    (λ told. no_rows_left c.args.name.now (λ (row : ℕ × Sym). found_if (r.finds o s row.0 row.1) (finding r.number (Item s row.0) r.text)) (symbols o s) c.loop-i.i
+    (λ told. no_rows_left by.name.now (λ (row : ℕ × Sym). found_if (r.finds o s row.0 row.1) (finding by.number (Item s row.0) by.text.now)) (symbols o s) c.loop-i.i
     (omega (arith, c.requires.count, c.loop-i-test.false)))

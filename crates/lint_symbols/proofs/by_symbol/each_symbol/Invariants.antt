@@ -9,7 +9,8 @@ use Rattle.lint_symbols.proofs.by_symbol.each_symbol.Given as goal
 abbrev pub invariant-loop-i : goal.invariant-loop-i
 invariant-loop-i g l =
     let r = g.R.SymbolRule in
+    let by = l.by in
     let s = l.t.section.0 in
     ElfUnderWay g.S.Source g.O.Sink g.E.Sink l.found l.initial.elf l.elf l.initial.outputs l.outputs
-    (λ o. findings_shown l.name (at_items r.number r.text s (r.finds o s) (symbols o s)))
-    (λ o. findings_shown l.name (flat_map (λ row. found_if (r.finds o s row.0 row.1) (finding r.number (Item s row.0) r.text)) (drop l.i (enumerate_from 0 (symbols o s)))))
+    (λ o. findings_shown by.name.now (at_items by.number by.text.now s (r.finds o s) (symbols o s)))
+    (λ o. findings_shown by.name.now (flat_map (λ row. found_if (r.finds o s row.0 row.1) (finding by.number (Item s row.0) by.text.now)) (drop l.i (enumerate_from 0 (symbols o s)))))

@@ -11,4 +11,4 @@ returns g c =
     let r = g.R.SymbolRule in
     let o = c.args.elf.now.o in
     elf_as g.S.Source g.O.Sink g.E.Sink _ _ _ c.args.elf.now _ c.args.outputs.now _
-    (λ told. sym (findings_of c.args.name.now (at_symbols_of r.number r.text r.finds o) (all_sections o))) c.each_section.ensures
+    (λ told. sym (findings_of c.args.name.now (at_symbols_of c.args.number c.args.text.now r.finds o) (all_sections o))) c.each_section.ensures

@@ -1,5 +1,6 @@
 use Rattle.std.proofs.Common.{sym, ◌∙◌}
-use Rattle.lint_symbols.proofs.TableLemmas.{symbols_counted, passed_over, refused_none}
+use Rattle.lint_findings.proofs.LentLemmas.{symbols_counted}
+use Rattle.lint_symbols.proofs.TableLemmas.{passed_over, refused_none}
 use Rattle.lint_symbols.proofs.by_symbol.table_of.Goals as goal
 
 pub returns-then-not-has_symbols-clause-none : goal.returns-then-not-has_symbols-clause-none
@@ -9,10 +10,10 @@ pub table_with-requires-clause-looked : goal.table_with-requires-clause-looked
 table_with-requires-clause-looked g c = sym c.has_symbols.ensures ∙ c.if-not-has_symbols.false
 
 pub table_with-requires-clause-passed : goal.table_with-requires-clause-passed
-table_with-requires-clause-passed g c = (symbols_counted c.args.elf.now.o c.args.s.0 c.in-Ok.count (sym c.in-Ok.ensures.answer)).0
+table_with-requires-clause-passed g c = (symbols_counted c.args.elf.now.o c.args.s.0 c.in-Ok.count c.in-Ok.ensures.answer).0
 
 pub table_with-requires-clause-count : goal.table_with-requires-clause-count
-table_with-requires-clause-count g c = (symbols_counted c.args.elf.now.o c.args.s.0 c.in-Ok.count (sym c.in-Ok.ensures.answer)).1
+table_with-requires-clause-count g c = (symbols_counted c.args.elf.now.o c.args.s.0 c.in-Ok.count c.in-Ok.ensures.answer).1
 
 pub returns-in-Err-clause-none : goal.returns-in-Err-clause-none
-returns-in-Err-clause-none g c = refused_none c.args.elf.now.o c.args.s.0 _ (sym c.in-Err.ensures.answer)
+returns-in-Err-clause-none g c = refused_none c.args.elf.now.o c.args.s.0 _ c.in-Err.ensures.answer

@@ -1,8 +1,9 @@
 use Rattle.std.proofs.Common.{sym}
+use Rattle.std.specs.Prelude.{codes}
 use Rattle.elf_object.specs.Due.{all_sections}
 use Rattle.object_output.proofs.ElfSteps.{elf_as}
 use Rattle.lint_findings.proofs.FindingLemmas.{findings_of}
-use Rattle.lint_symbols.specs.Relocations.{relocations_of, relocations_by_no_symbol}
+use Rattle.lint_symbols.specs.Relocations.{relocations_at, relocations_by_no_symbol}
 use Rattle.lint_symbols.proofs.relocations.relocations_by_no_symbol.Goals as goal
 
 pub returns : goal.returns
@@ -10,4 +11,4 @@ unfolding relocations_by_no_symbol
 returns g c =
     let o = c.args.elf.now.o in
     elf_as g.S.Source g.O.Sink g.E.Sink _ _ _ c.args.elf.now _ c.args.outputs.now _
-    (λ told. sym (findings_of c.args.name.now (relocations_of o) (all_sections o))) c.each_section.ensures
+    (λ told. sym (findings_of c.args.name.now (relocations_at 27 (codes "relocation by no symbol") o) (all_sections o))) c.each_section.ensures

@@ -1,14 +1,14 @@
 use Rattle.std.proofs.Common.{List, length, ap, sym, ◌∙◌, arith}
 use Rattle.std.specs.Prelude.{codes, slice_get}
 use Rattle.elf_types.specs.declared.records.Sym.{Sym}
-use Rattle.object_output.proofs.ElfSteps.{elf_left, elf_as, elf_says, elf_says_none, elf_unread}
+use Rattle.object_output.proofs.ElfSteps.{elf_left, elf_after, elf_says, elf_says_none, elf_unread}
 use Rattle.lint_findings.specs.declared.places.Place.TheVariants.{Item}
 use Rattle.lint_findings.specs.Findings.{finding, findings_shown, found_if}
 use Rattle.lint_findings.specs.Looking.{symbols}
 use Rattle.lint_findings.proofs.FindingLemmas.{no_findings}
+use Rattle.lint_findings.proofs.LentLemmas.{symbols_are}
 use Rattle.lint_symbols.specs.Symbols.{is_used, at_symbol_0}
-use Rattle.lint_symbols.proofs.TableLemmas.{symbols_are, symbol_0_found, symbol_0_none}
-use Rattle.lint_symbols.proofs.ItemLemmas.{elf_after}
+use Rattle.lint_symbols.proofs.TableLemmas.{symbol_0_found, symbol_0_none}
 use Rattle.lint_symbols.proofs.symbols.show_symbol_0.Goals as goal
 
 pub returns-then-t-eq0 : goal.returns-then-t-eq0
@@ -32,11 +32,10 @@ returns-in-Ok g c =
     let x = c.in-Ok.x in
     let name = c.args.name.now in
     let one = findings_shown name (found_if (is_used x) (finding 21 (Item s 0) (codes "symbol 0 is in use"))) in
-    elf_as g.S.Source g.O.Sink g.E.Sink (λ o. one) (λ o. findings_shown name (at_symbol_0 s (symbols o s))) _ c.args.elf.now _ c.args.outputs.now _
-    (λ told. ap (findings_shown name) (symbol_0_found s (symbols o s) x (ap (λ (l : List Sym). slice_get l 0) (symbols_are o s c.requires.passed) ∙ c.in-Ok.ensures.value told)))
-    (elf_after g.S.Source g.O.Sink g.E.Sink (λ o. one) _ c.args.elf.now c.item_there.new.elf _ c.args.outputs.now _ c.in-Ok.ensures.reads.elf
+    elf_after g.S.Source g.O.Sink g.E.Sink (λ o. one) (λ o. findings_shown name (at_symbol_0 s (symbols o s))) _ c.args.elf.now c.item_there.new.elf _ c.args.outputs.now _ c.in-Ok.ensures.reads.elf
     (elf_says g.S.Source g.O.Sink g.E.Sink (λ o. one) _ c.item_there.new.elf _ c.args.outputs.now _ (elf_left g.S.Source c.item_there.new.elf)
-    (λ told. rw c.is_used.ensures at c.find_if.ensures.reports) c.find_if.ensures.leaves))
+    (λ told. rw c.is_used.ensures at c.find_if.ensures.reports) c.find_if.ensures.leaves)
+    (λ told. ap (findings_shown name) (symbol_0_found s (symbols o s) x (ap (λ (l : List Sym). slice_get l 0) (symbols_are o s c.requires.passed) ∙ c.in-Ok.ensures.value told)))
 
 pub returns-in-Err : goal.returns-in-Err
 returns-in-Err g c =

@@ -8,21 +8,22 @@ use Rattle.lint_chains.proofs.by_chain.ByChainSectionTool.show.Goals as goal
 
 pub returns-in-Ok-Some : goal.returns-in-Ok-Some
 returns-in-Ok-Some g c =
+    let t = c.args.self.now in
     let bad = λ (o : Object). g.R.ChainRule.bad o c.args.s.0 in
-    let report = λ (v : Option ℕ) (o : Object). findings_shown c.args.self.now.name.now (chain_found c.number.result c.args.s.0 v) in
-    rw (← c.number.ensures) (elf_learns g.S.Source g.O.Sink g.E.Sink bad c.args.elf.now _ (Some c.in-Ok-Some.at) report _ _ c.args.outputs.now _
+    let report = λ (v : Option ℕ) (o : Object). findings_shown t.name.now (chain_found t.number c.args.s.0 v) in
+    elf_learns g.S.Source g.O.Sink g.E.Sink bad c.args.elf.now _ (Some c.in-Ok-Some.at) report _ _ c.args.outputs.now _
     (rw c.in-Ok-Some.field-0-is at c.in-Ok-Some.ensures)
     (elf_says g.S.Source g.O.Sink g.E.Sink (report (Some c.in-Ok-Some.at)) _ c.find_bad.new.elf _ c.args.outputs.now _ (elf_left g.S.Source c.find_bad.new.elf)
-    (λ told. c.find.ensures.reports) c.find.ensures.leaves))
+    (λ told. c.find.ensures.reports) c.find.ensures.leaves)
 
 pub returns-in-Ok-None : goal.returns-in-Ok-None
 returns-in-Ok-None g c =
-    let name = c.args.self.now.name.now in
+    let t = c.args.self.now in
     let bad = λ (o : Object). g.R.ChainRule.bad o c.args.s.0 in
-    let report = λ (v : Option ℕ) (o : Object). findings_shown name (chain_found g.R.ChainRule.number c.args.s.0 v) in
+    let report = λ (v : Option ℕ) (o : Object). findings_shown t.name.now (chain_found t.number c.args.s.0 v) in
     elf_learns g.S.Source g.O.Sink g.E.Sink bad c.args.elf.now _ None report _ _ c.args.outputs.now _
     (rw c.in-Ok-None.field-0-is at c.in-Ok-None.ensures)
-    (elf_says_none g.S.Source g.O.Sink g.E.Sink (report None) c.find_bad.new.elf _ c.args.outputs.now (elf_left g.S.Source c.find_bad.new.elf) (λ told. no_findings name))
+    (elf_says_none g.S.Source g.O.Sink g.E.Sink (report None) c.find_bad.new.elf _ c.args.outputs.now (elf_left g.S.Source c.find_bad.new.elf) (λ told. no_findings t.name.now))
 
 pub returns-in-Err : goal.returns-in-Err
 returns-in-Err g c =

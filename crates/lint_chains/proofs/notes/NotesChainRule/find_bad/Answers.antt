@@ -1,8 +1,8 @@
 use Rattle.std.proofs.Common.{None, sym, ◌∙◌}
 use Rattle.gelf_view.specs.Chains.{notes}
 use Rattle.object_output.proofs.ElfSteps.{elf_left}
+use Rattle.object_output.proofs.LearnLemmas.{learns_as, learns_by}
 use Rattle.lint_chains.specs.Chains.{bad_place, note_bad}
-use Rattle.lint_chains.proofs.WalkLemmas.{learns_as, learns_by}
 use Rattle.lint_chains.proofs.ChainLemmas.{note_looked, note_passed}
 use Rattle.lint_chains.proofs.notes.NotesChainRule.find_bad.Goals as goal
 

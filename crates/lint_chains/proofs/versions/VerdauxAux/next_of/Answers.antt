@@ -1,4 +1,4 @@
-use Rattle.lint_chains.proofs.WalkLemmas.{looked_by}
+use Rattle.object_output.proofs.QueryLemmas.{looked_by}
 use Rattle.lint_chains.proofs.ChainLemmas.{fewer_left}
 use Rattle.lint_chains.proofs.versions.VerdauxAux.next_of.Goals as goal
 

@@ -1,6 +1,6 @@
 use Rattle.std.proofs.Common.{arith}
 use Rattle.gelf_view.specs.declared.versions.TheConstants.{VERDEF_SIZE}
-use Rattle.lint_chains.proofs.WalkLemmas.{looked_by}
+use Rattle.object_output.proofs.QueryLemmas.{looked_by}
 use Rattle.lint_chains.proofs.ChainLemmas.{lies_before}
 use Rattle.lint_chains.proofs.versions.VerdefEntry.entry_at.Goals as goal
 

@@ -9,13 +9,14 @@ use Rattle.lint_symbols.proofs.by_symbol.BySymbolSectionTool.show.Goals as goal
 pub returns-in-Some : goal.returns-in-Some
 returns-in-Some g c =
     let r = g.R.SymbolRule in
+    let by = c.args.self.now in
     elf_as g.S.Source g.O.Sink g.E.Sink _ _ _ c.args.elf.now _ c.args.outputs.now _
-    (λ told. ap (findings_shown c.args.self.now.name.now) (table_found r.number r.text r.finds c.args.elf.now.o c.args.s.0 c.in-Some.t.section.0 (ap (λ (x : ScnId). x.0) c.in-Some.ensures.section) c.in-Some.ensures.is.looked))
+    (λ told. ap (findings_shown by.name.now) (table_found by.number by.text.now r.finds c.args.elf.now.o c.args.s.0 c.in-Some.t.section.0 (ap (λ (x : ScnId). x.0) c.in-Some.ensures.section) c.in-Some.ensures.is.looked))
     c.each_symbol.ensures
 
 pub returns-in-None : goal.returns-in-None
 returns-in-None g c =
     let r = g.R.SymbolRule in
-    let name = c.args.self.now.name.now in
+    let by = c.args.self.now in
     elf_says_none g.S.Source g.O.Sink g.E.Sink _ c.args.elf.now _ c.args.outputs.now (elf_left g.S.Source c.args.elf.now)
-    (λ told. ap (findings_shown name) (table_none r.number r.text r.finds c.args.elf.now.o c.args.s.0 c.in-None.ensures.none) ∙ no_findings name)
+    (λ told. ap (findings_shown by.name.now) (table_none by.number by.text.now r.finds c.args.elf.now.o c.args.s.0 c.in-None.ensures.none) ∙ no_findings by.name.now)

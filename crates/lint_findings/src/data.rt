@@ -1,0 +1,32 @@
+//! The items of a section, where they can be told.
+
+ghost use Rattle.std.specs.Prelude.{slice_get};
+ghost use Rattle.elf_object.specs.Answers.{items_at, lend_refusal};
+ghost use Rattle.object_output.specs.Steps.{Learns};
+ghost use Rattle.lint_findings.specs.Looking.{if_lent};
+
+use elf_descriptor::Elf;
+use elf_outside::Source;
+use elf_types::{DataId, ScnId};
+use section_data::Item;
+use tool_output::Stop;
+
+/// Item `i` of a section, or None where it is not there or the items can not be told. It stops by
+/// `Read` where a read of the source failed, and by `Memory`.
+pub fn item_at<S: Source, T: Item>(elf: &mut Elf<S>, s: ScnId, i: u64) -> Result<Option<T>, Stop>
+    ensures { Learns S.Source (λ o. slice_get
+        (if_lent (lend_refusal o T.kind s.0 0) (T.list_of (items_at o s.0 0))) i)
+        result elf.old elf.new }
+{
+    let d = DataId {
+        section: s.0,
+        piece: 0,
+    };
+    match elf.item::<T>(d, i) {
+        Ok(item) => Ok(Some(item)),
+        Err(e) => match Stop::of(&e) {
+            Some(stop) => Err(stop),
+            None => Ok(None),
+        },
+    }
+}
