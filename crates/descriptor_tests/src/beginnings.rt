@@ -1,15 +1,15 @@
 //! Descriptors that begin over images of all forms, and each refusal, with the source handed back.
 
-use crate::questions::{Form, Question, SYMBOLS, WIDE, asked, is_answered_in_all_forms};
+use crate::questions::{Question, SYMBOLS, asked, is_answered_in_all_forms};
 use elf_descriptor::Elf;
-use elf_outside::Source;
+use elf_outside::{MemSource, Source};
 use elf_types::constants::{EI_CLASS, EI_DATA, EI_VERSION, MAX_IMAGE, MAX_SECTIONS};
 use elf_types::{Class, ElfError, Kind, ScnId};
 use elf_xlate::{ehdr_size, item_size, phdr_size, shdr_size};
 use std::alloc::Global;
-use std::test::Fail;
 use test_images::{
-    FORMS, Field, HeaderField, Image, SectionField, numbers_in_section_0, two_tables,
+    FORMS, Field, Form, HeaderField, Image, OBJECT, Recipe, SectionField, Start, WIDE,
+    numbers_in_section_0,
 };
 use test_sources::{Sparse, source};
 
@@ -19,37 +19,48 @@ pub fn front_size(class: Class, segments: u8, sections: u8) -> u64 {
     header as u64 + u64::from(segments) * segment as u64 + u64::from(sections) * section as u64
 }
 
-/// There are two program headers and three sections, and no mark; the counts stand in section 0, or
-/// in the header.
-struct Front {
-    extended: bool,
-}
+/// There are two program headers and three sections, and no mark.
+struct Front;
 
 impl Question for Front {
-    fn image(&self, alloc: Global, form: Form) -> Result<Image, ElfError> {
-        if self.extended {
-            numbers_in_section_0(alloc, form.0, form.1)
-        } else {
-            two_tables(alloc, form.0, form.1)
-        }
-    }
-
     fn is_answered<S: Source>(&self, elf: &mut Elf<S>) -> bool {
         let counts = elf.phnum() == 2 && elf.shnum() == 3;
         counts && !elf.dirty() && elf.pad() == *b"padding"
     }
 }
 
-#[test]
-fn the_front_is_read_and_nothing_else(rt: HostRuntime) -> Result<(), Fail> {
-    for form in FORMS {
-        let plain = asked(rt.alloc(), &Front { extended: false }, form, 0)?;
-        assert!(rt; plain == Some(front_size(form.0, 2, 3)));
-        // Section 0 is read besides, where the numbers stand.
-        let extended = asked(rt.alloc(), &Front { extended: true }, form, 0)?;
-        assert!(rt; extended == Some(front_size(form.0, 2, 4)));
+/// The counts stand in the header.
+const PLAIN: Recipe = Recipe {
+    start: Start::TwoTables,
+    ..OBJECT
+};
+
+/// They stand in section 0.
+const EXTENDED: Recipe = Recipe {
+    start: Start::NumbersInSection0,
+    ..OBJECT
+};
+
+/// Whether the front of an image in a form is read with so many section headers, and nothing else.
+fn is_front(alloc: Global, form: Form, recipe: &Recipe, sections: u8) -> bool {
+    asked(alloc, &Front, form, recipe, 0) == Ok(Some(front_size(form.0, 2, sections)))
+}
+
+/// Whether it is in all forms.
+fn are_fronts(alloc: Global, recipe: &Recipe, sections: u8) -> bool {
+    for form in FORMS.iter() {
+        if !is_front(alloc, *form, recipe, sections) {
+            return false;
+        }
     }
-    Ok(())
+    true
+}
+
+#[test]
+fn the_front_is_read_and_nothing_else(rt: HostRuntime) {
+    assert!(rt; are_fronts(rt.alloc(), &PLAIN, 3));
+    // Section 0 is read besides, where the numbers stand.
+    assert!(rt; are_fronts(rt.alloc(), &EXTENDED, 4));
 }
 
 /// The symbol table has its home and one piece.
@@ -65,9 +76,8 @@ impl Question for Table {
 }
 
 #[test]
-fn each_section_has_its_home_and_one_piece(rt: HostRuntime) -> Result<(), Fail> {
-    assert!(rt; is_answered_in_all_forms(rt.alloc(), &Table)?);
-    Ok(())
+fn each_section_has_its_home_and_one_piece(rt: HostRuntime) {
+    assert!(rt; is_answered_in_all_forms(rt.alloc(), &Table, &OBJECT));
 }
 
 /// A field of an image, a number for it, the length of the source, and the refusal then.
@@ -123,43 +133,93 @@ fn is_refused_twice(alloc: Global, src: Sparse, e: ElfError) -> bool {
     first == Some(e) && second == Some(e) && src.len() == len
 }
 
-/// Whether a fault of an image is refused as stated.
-fn is_refused(alloc: Global, form: Form, fault: &Fault) -> Result<bool, ElfError> {
-    let mut image = numbers_in_section_0(alloc, form.0, form.1)?;
+/// Whether an image, in which a fault is put, is refused as stated.
+fn is_refused_with(alloc: Global, mut image: Image, fault: &Fault) -> bool {
     image.put_field(fault.0, fault.1);
-    let src = Sparse::new(image.bytes, fault.2);
-    Ok(is_refused_twice(alloc, src, fault.3))
+    is_refused_twice(alloc, Sparse::new(image.bytes, fault.2), fault.3)
 }
 
-#[test]
-fn a_refused_source_comes_back(rt: HostRuntime) -> Result<(), Fail> {
-    for form in FORMS {
-        for fault in FAULTS.iter() {
-            assert!(rt; is_refused(rt.alloc(), form, fault)?);
+/// Whether a fault of an image is refused as stated.
+fn is_refused(alloc: Global, form: Form, fault: &Fault) -> bool {
+    match numbers_in_section_0(alloc, form.0, form.1) {
+        Ok(image) => is_refused_with(alloc, image, fault),
+        Err(_) => false,
+    }
+}
+
+/// Whether each fault is, in a form.
+fn are_refused_in(alloc: Global, form: Form, faults: &[Fault]) -> bool {
+    for fault in faults {
+        if !is_refused(alloc, form, fault) {
+            return false;
         }
     }
-    assert!(rt; is_refused(rt.alloc(), WIDE, &HUGE_COUNT)?);
-    Ok(())
+    true
 }
 
-/// How a source is refused whose read of a number fails, and how it is when it came back.
-fn refused_by_read(
-    alloc: Global,
-    bad_read: u64,
-) -> Result<(Option<ElfError>, Option<ElfError>), ElfError> {
-    let image = numbers_in_section_0(alloc, WIDE.0, WIDE.1)?;
-    let (src, first) = refusal(alloc, source(alloc, image.bytes, bad_read)?);
-    let (_src, second) = refusal(alloc, src);
-    Ok((first, second))
+/// Whether each is in all forms.
+fn are_refused(alloc: Global, faults: &[Fault]) -> bool {
+    for form in FORMS.iter() {
+        if !are_refused_in(alloc, *form, faults) {
+            return false;
+        }
+    }
+    true
 }
 
 #[test]
-fn a_source_whose_read_failed_comes_back(rt: HostRuntime) -> Result<(), Fail> {
-    // The identification, the rest of the header, section 0, and the two tables.
-    for bad_read in 1..6 {
-        assert!(rt; refused_by_read(rt.alloc(), bad_read)? == (Some(ElfError::Read), None));
+fn a_refused_source_comes_back(rt: HostRuntime) {
+    assert!(rt; are_refused(rt.alloc(), &FAULTS));
+    assert!(rt; is_refused(rt.alloc(), WIDE, &HUGE_COUNT));
+}
+
+/// How a source is refused, and how it is when it came back.
+type Twice = (Option<ElfError>, Option<ElfError>);
+
+/// How a source is refused twice.
+fn refused_twice(alloc: Global, src: MemSource) -> Twice {
+    let (src, first) = refusal(alloc, src);
+    let (_src, second) = refusal(alloc, src);
+    (first, second)
+}
+
+/// How a source is refused whose read of a number fails.
+fn refused_by_read(alloc: Global, bad_read: u64) -> Result<Twice, ElfError> {
+    let image = numbers_in_section_0(alloc, WIDE.0, WIDE.1)?;
+    match source(alloc, image.bytes, bad_read) {
+        Ok(src) => Ok(refused_twice(alloc, src)),
+        Err(e) => Err(e),
     }
-    // The sixth is the first of the descriptor after it.
-    assert!(rt; refused_by_read(rt.alloc(), 6)? == (None, Some(ElfError::Read)));
-    Ok(())
+}
+
+/// The read fails, and the source that came back is not refused.
+const AT_FIRST: Twice = (Some(ElfError::Read), None);
+
+/// The first read of the descriptor after it fails.
+const AT_LAST: Twice = (None, Some(ElfError::Read));
+
+/// Reads that fail, and the refusals then: of the identification, the rest of the header, section 0
+/// and the two tables, and the sixth.
+const READS: [(u64, Twice); 6] = [
+    (1, AT_FIRST),
+    (2, AT_FIRST),
+    (3, AT_FIRST),
+    (4, AT_FIRST),
+    (5, AT_FIRST),
+    (6, AT_LAST),
+];
+
+/// Whether they are refused so.
+fn come_back(alloc: Global, reads: &[(u64, Twice)]) -> bool {
+    for (bad_read, twice) in reads {
+        if refused_by_read(alloc, *bad_read) != Ok(*twice) {
+            return false;
+        }
+    }
+    true
+}
+
+#[test]
+fn a_source_whose_read_failed_comes_back(rt: HostRuntime) {
+    assert!(rt; come_back(rt.alloc(), &READS));
 }

@@ -1,80 +1,217 @@
 //! Cells over sources in memory.
 
-ghost use Rattle.std.specs.Prelude.{length};
+ghost use Rattle.std.specs.Prelude.{◌≡◌, length};
 ghost use Rattle.section_data.specs.Held.{HeldIs};
 ghost use Rattle.section_data.specs.Leaves.{LiesIn};
 
-use crate::questions::{Form, NARROW, WIDE};
+mod changes;
+
+use changes::{Change, Left, change_left};
 use elf_outside::MemSource;
 use elf_types::constants::{
     SHF_COMPRESSED, SHT_GNU_VERSYM, SHT_NOBITS, SHT_NULL, SHT_PROGBITS, SHT_REL, SHT_SYMTAB,
 };
-use elf_types::{Addrs, Class, ElfError, Kind, Octets, Order, Part, Shdr};
-use elf_xlate::Items;
+use elf_types::{Class, ElfError, Kind, Octets, Order, Shdr};
 use section_data::Cell;
 use std::alloc::Global;
-use std::test::Fail;
-use test_images::{FORMS, NULL_SECTION};
+use test_images::{FORMS, Form, NARROW, NULL_SECTION, WIDE};
 use test_sources::source;
 
-/// A question on the cell of a section, with its answer.
-trait CellQuestion {
-    /// Whether the cell, of which nothing is read, answers as it should over its source.
-    fn is_answered(
-        &self,
-        cell: &mut Cell,
-        source: &mut MemSource,
-        class: Class,
-        order: Order,
-    ) -> bool
-        requires lies { LiesIn cell.old (length source.old.bytes) }
-        requires items { HeldIs class order cell.old };
+/// What is asked of a cell of which nothing is read, and the answer.
+#[derive(Drop)]
+enum Asked {
+    /// The kind and the number of items, or how they are refused.
+    Data(Told),
+    /// A home of 48 bytes is read once, after a read that failed.
+    ReadOnce,
+    /// What a change leaves of the piece.
+    Changed(Change, Left),
+    /// The item at an index of a cell of halves.
+    Half(u64, Result<u16, ElfError>),
 }
 
-/// Whether a question is answered by the cell of section 5, by its header, over these bytes, where
-/// the read of a number fails, or none where that is 0.
-fn is_answered<Q: CellQuestion>(
-    alloc: Global,
-    q: &Q,
+/// The cell of section 5 by its header, over these bytes, where the read of a number fails, or none
+/// where that is 0; and what is asked of it.
+#[derive(Drop)]
+struct Row {
     form: Form,
-    h: &Shdr,
-    bytes: Octets,
+    header: Shdr,
+    bytes: &'static [u8],
     bad_read: u64,
-) -> Result<bool, ElfError> {
-    let (class, order) = form;
-    let len = bytes.len();
-    let mut source = source(alloc, bytes, bad_read)?;
-    match Cell::opened(alloc, 5, class, h, len) {
-        Ok(mut cell) => Ok(q.is_answered(&mut cell, &mut source, class, order)),
-        Err(e) => Err(e),
+    asked: Asked,
+}
+
+/// Whether a cell over its source answers as it should.
+fn answers(
+    alloc: Global,
+    asked: &Asked,
+    cell: &mut Cell,
+    source: &mut MemSource,
+    form: Form,
+) -> bool
+    requires lies { LiesIn cell.old (length source.old.bytes) }
+    requires items { HeldIs form.0 form.1 cell.old }
+{
+    match asked {
+        Asked::Data(told) => data_told(cell, source, form.0, form.1) == *told,
+        Asked::ReadOnce => is_read_once(cell, source, form.0, form.1),
+        Asked::Changed(by, left) => change_left(alloc, cell, source, form, *by) == *left,
+        Asked::Half(i, told) => half_at(cell, source, form, *i) == *told,
     }
 }
 
-/// The length of the image.
-const LEN: usize = 96;
+/// Whether the cell of a row does in a form, over a source of so many bytes.
+fn is_so_over(alloc: Global, form: Form, row: &Row, source: &mut MemSource, len: u64) -> bool
+    requires { len ≡ length source.old.bytes }
+{
+    match Cell::opened(alloc, 5, form.0, &row.header, len) {
+        Ok(mut cell) => answers(alloc, &row.asked, &mut cell, source, form),
+        Err(_) => false,
+    }
+}
 
-/// An image of zeros.
-fn zeros(alloc: Global) -> Result<Octets, ElfError> {
-    let bytes = vec![in alloc; 0u8; LEN]?;
-    Ok(Octets::from_vec(bytes))
+/// Whether it does over these bytes.
+fn is_so_of(alloc: Global, form: Form, row: &Row, bytes: Octets) -> bool {
+    let len = bytes.len();
+    match source(alloc, bytes, row.bad_read) {
+        Ok(mut source) => is_so_over(alloc, form, row, &mut source, len),
+        Err(_) => false,
+    }
+}
+
+/// Whether it does in a form, in place of its own.
+fn is_so_in(alloc: Global, form: Form, row: &Row) -> bool {
+    match Octets::from_slice(alloc, row.bytes) {
+        Ok(bytes) => is_so_of(alloc, form, row, bytes),
+        Err(_) => false,
+    }
+}
+
+/// Whether the cell of each row answers as it should.
+fn are_so(alloc: Global, rows: &[Row]) -> bool {
+    for row in rows {
+        if !is_so_in(alloc, row.form, row) {
+            return false;
+        }
+    }
+    true
+}
+
+/// Whether that of a row does in all forms.
+fn is_so(alloc: Global, row: &Row) -> bool {
+    for form in FORMS.iter() {
+        if !is_so_in(alloc, *form, row) {
+            return false;
+        }
+    }
+    true
+}
+
+/// Whether that of each row does.
+fn are_so_in_all_forms(alloc: Global, rows: &[Row]) -> bool {
+    for row in rows {
+        if !is_so(alloc, row) {
+            return false;
+        }
+    }
+    true
 }
 
 /// The kind and the number of items, or how they are refused.
 type Told = Result<(Kind, u64), ElfError>;
 
-/// A section in an image of zeros: its type, place, size and flags, and what its data are.
-type Row = (u32, u64, u64, u64, Told);
+/// A section of no type in an image of zeros, which is empty.
+const EMPTY: Row = Row {
+    form: WIDE,
+    header: NULL_SECTION,
+    bytes: &[0; 96],
+    bad_read: 0,
+    asked: Asked::Data(Ok((Kind::Empty, 0))),
+};
 
-/// Sections of all kinds.
+/// Sections of all kinds: the type, place, size and flags of each, and what its data are.
 const ROWS: [Row; 8] = [
-    (SHT_NULL, 0, 7, 0, Ok((Kind::Empty, 0))),
-    (SHT_NOBITS, 90, 1000, 0, Ok((Kind::Empty, 0))),
-    (SHT_PROGBITS, 10, 20, 0, Ok((Kind::Bytes, 20))),
-    (SHT_PROGBITS, 1000, 0, 0, Ok((Kind::Bytes, 0))),
-    (SHT_PROGBITS, 90, 7, 0, OUT),
-    (SHT_REL, 0, 17, 0, RAGGED),
-    (SHT_SYMTAB, 96, 48, 0, OUT),
-    (SHT_SYMTAB, 3, 17, SHF_COMPRESSED, Ok((Kind::Bytes, 17))),
+    Row {
+        header: Shdr {
+            stype: SHT_NULL,
+            offset: 0,
+            size: 7,
+            ..NULL_SECTION
+        },
+        asked: Asked::Data(Ok((Kind::Empty, 0))),
+        ..EMPTY
+    },
+    Row {
+        header: Shdr {
+            stype: SHT_NOBITS,
+            offset: 90,
+            size: 1000,
+            ..NULL_SECTION
+        },
+        asked: Asked::Data(Ok((Kind::Empty, 0))),
+        ..EMPTY
+    },
+    Row {
+        header: Shdr {
+            stype: SHT_PROGBITS,
+            offset: 10,
+            size: 20,
+            ..NULL_SECTION
+        },
+        asked: Asked::Data(Ok((Kind::Bytes, 20))),
+        ..EMPTY
+    },
+    Row {
+        header: Shdr {
+            stype: SHT_PROGBITS,
+            offset: 1000,
+            size: 0,
+            ..NULL_SECTION
+        },
+        asked: Asked::Data(Ok((Kind::Bytes, 0))),
+        ..EMPTY
+    },
+    Row {
+        header: Shdr {
+            stype: SHT_PROGBITS,
+            offset: 90,
+            size: 7,
+            ..NULL_SECTION
+        },
+        asked: Asked::Data(OUT),
+        ..EMPTY
+    },
+    Row {
+        header: Shdr {
+            stype: SHT_REL,
+            offset: 0,
+            size: 17,
+            ..NULL_SECTION
+        },
+        asked: Asked::Data(RAGGED),
+        ..EMPTY
+    },
+    Row {
+        header: Shdr {
+            stype: SHT_SYMTAB,
+            offset: 96,
+            size: 48,
+            ..NULL_SECTION
+        },
+        asked: Asked::Data(OUT),
+        ..EMPTY
+    },
+    Row {
+        header: Shdr {
+            stype: SHT_SYMTAB,
+            offset: 3,
+            size: 17,
+            flags: SHF_COMPRESSED,
+            ..NULL_SECTION
+        },
+        asked: Asked::Data(Ok((Kind::Bytes, 17))),
+        ..EMPTY
+    },
 ];
 
 /// The home passes the end of the image.
@@ -82,17 +219,6 @@ const OUT: Told = Err(ElfError::OutOfFile { section: 5 });
 
 /// The home is no whole items.
 const RAGGED: Told = Err(ElfError::Ragged { section: 5 });
-
-/// A header of a type, with a place, a size and flags.
-fn header(stype: u32, offset: u64, size: u64, flags: u64) -> Shdr {
-    Shdr {
-        stype,
-        offset,
-        size,
-        flags,
-        ..NULL_SECTION
-    }
-}
 
 /// What the data of a section are.
 fn data_told(
@@ -109,260 +235,38 @@ fn data_told(
     Ok((items.kind(), items.count()))
 }
 
-/// The data of a section are so.
-#[derive(Drop)]
-struct Data(Told);
-
-impl CellQuestion for Data {
-    fn is_answered(
-        &self,
-        cell: &mut Cell,
-        source: &mut MemSource,
-        class: Class,
-        order: Order,
-    ) -> bool {
-        data_told(cell, source, class, order) == self.0
-    }
-}
-
-/// Whether the data of a section are as its row says.
-fn is_told(alloc: Global, form: Form, row: &Row) -> Result<bool, ElfError> {
-    let (stype, offset, size, flags, told) = *row;
-    let h = header(stype, offset, size, flags);
-    is_answered(alloc, &Data(told), form, &h, zeros(alloc)?, 0)
-}
-
 #[test]
-fn sections_of_all_kinds_are_told_or_refused(rt: HostRuntime) -> Result<(), Fail> {
-    for row in ROWS.iter() {
-        for form in FORMS {
-            assert!(rt; is_told(rt.alloc(), form, row)?);
-        }
-    }
-    Ok(())
+fn sections_of_all_kinds_are_told_or_refused(rt: HostRuntime) {
+    assert!(rt; are_so_in_all_forms(rt.alloc(), &ROWS));
 }
 
-/// A home of 48 bytes is read once, after a read that failed.
-struct ReadOnce;
-
-impl CellQuestion for ReadOnce {
-    fn is_answered(
-        &self,
-        cell: &mut Cell,
-        source: &mut MemSource,
-        class: Class,
-        order: Order,
-    ) -> bool {
-        let failed = cell.prepare(source, 0, class, order) == Err(ElfError::Read);
-        let unread = !cell.is_loaded();
-        let read = cell.prepare(source, 0, class, order) == Ok(());
-        let again = cell.prepare(source, 0, class, order) == Ok(());
-        failed && unread && read && again && source.asked() == 96
-    }
-}
-
-#[test]
-fn a_failed_read_is_repeated_and_a_home_is_read_once(rt: HostRuntime) -> Result<(), Fail> {
-    let h = header(SHT_SYMTAB, 0, 48, 0);
-    let zeros = zeros(rt.alloc())?;
-    assert!(rt; is_answered(rt.alloc(), &ReadOnce, WIDE, &h, zeros, 1)?);
-    Ok(())
-}
-
-/// A call that changes the pieces of a cell.
-#[derive(Clone, Copy)]
-enum Change {
-    /// The first piece becomes own.
-    Claim,
-    /// A piece is lent as items of a kind.
-    Lend(u32, Kind),
-    /// A piece is given an address.
-    Replace(u32, u64),
-    /// A piece is added with an alignment, and an address in it.
-    Append(u64, u64),
-    /// The first piece is marked.
-    Mark,
-}
-
-/// An address as items.
-fn address(alloc: Global, at: u64) -> Result<Items, ElfError> {
-    Ok(Items::Addr(Addrs::from_slice(alloc, &[at])?))
-}
-
-/// Makes the first piece own.
-fn claim(
-    cell: &mut Cell,
-    source: &mut MemSource,
-    class: Class,
-    order: Order,
-) -> Result<u32, ElfError>
+/// Whether a home of 48 bytes is read once, after a read that failed.
+fn is_read_once(cell: &mut Cell, source: &mut MemSource, class: Class, order: Order) -> bool
     requires lies { LiesIn cell.old (length source.old.bytes) }
     requires items { HeldIs class order cell.old }
 {
-    cell.prepare(source, 0, class, order)?;
-    cell.claim(0);
-    Ok(0)
+    let failed = cell.prepare(source, 0, class, order) == Err(ElfError::Read);
+    let unread = !cell.is_loaded();
+    let read = cell.prepare(source, 0, class, order) == Ok(());
+    let again = cell.prepare(source, 0, class, order) == Ok(());
+    failed && unread && read && again && source.asked() == 96
 }
 
-/// Lends a piece as items of a kind.
-fn lend(
-    cell: &mut Cell,
-    source: &mut MemSource,
-    form: Form,
-    p: u32,
-    kind: Kind,
-) -> Result<u32, ElfError>
-    requires lies { LiesIn cell.old (length source.old.bytes) }
-    requires items { HeldIs form.0 form.1 cell.old }
-{
-    match cell.lend(p, kind, form.0, form.1, source) {
-        Ok(_) => Ok(p),
-        Err(e) => Err(e),
-    }
-}
-
-/// Gives a piece an address.
-fn replace(cell: &mut Cell, class: Class, p: u32, items: Items) -> Result<u32, ElfError> {
-    match cell.replace(p, class, items) {
-        Ok(()) => Ok(p),
-        Err((_, e)) => Err(e),
-    }
-}
-
-/// Adds a piece.
-fn append(cell: &mut Cell, class: Class, items: Items, align: u64) -> Result<u32, ElfError> {
-    match cell.append(class, items, align) {
-        Ok(p) => Ok(p),
-        Err((_, e)) => Err(e),
-    }
-}
-
-/// Marks the first piece.
-fn mark(cell: &mut Cell, class: Class) -> Result<u32, ElfError> {
-    cell.check(0, class)?;
-    cell.mark(0);
-    Ok(0)
-}
-
-/// Changes a cell, and answers the number of the piece that was changed.
-fn apply(
-    alloc: Global,
-    cell: &mut Cell,
-    source: &mut MemSource,
-    form: Form,
-    by: Change,
-) -> Result<u32, ElfError>
-    requires lies { LiesIn cell.old (length source.old.bytes) }
-    requires items { HeldIs form.0 form.1 cell.old }
-{
-    match by {
-        Change::Claim => claim(cell, source, form.0, form.1),
-        Change::Lend(p, kind) => lend(cell, source, form, p, kind),
-        Change::Replace(p, at) => replace(cell, form.0, p, address(alloc, at)?),
-        Change::Append(align, at) => append(cell, form.0, address(alloc, at)?, align),
-        Change::Mark => mark(cell, form.0),
-    }
-}
-
-/// Whether a piece is own, whether it is marked, its kind and its alignment, or why there was no
-/// change.
-type Left = Result<(bool, bool, Kind, u64), ElfError>;
-
-/// What is left of a piece.
-fn piece_left(cell: &Cell, p: u32, class: Class) -> Left {
-    cell.check(p, class)?;
-    Ok((
-        cell.is_own(p),
-        cell.is_marked(p),
-        cell.piece_kind(p),
-        cell.piece_align(p),
-    ))
-}
-
-/// A change leaves the piece so, or is refused so, in a section of 20 bytes.
-#[derive(Drop)]
-struct Changed {
-    alloc: Global,
-    by: Change,
-    left: Left,
-}
-
-impl CellQuestion for Changed {
-    fn is_answered(
-        &self,
-        cell: &mut Cell,
-        source: &mut MemSource,
-        class: Class,
-        order: Order,
-    ) -> bool {
-        match apply(self.alloc, cell, source, (class, order), self.by) {
-            Ok(p) => piece_left(cell, p, class) == self.left,
-            Err(e) => self.left == Err(e),
-        }
-    }
-}
-
-/// There is no second piece.
-const NO_DATA: Left = Err(ElfError::NoData { index: 1, count: 1 });
-
-/// The piece holds bytes.
-const WRONG_KIND: Left = Err(ElfError::WrongKind { held: Kind::Bytes });
-
-/// The alignment is no power of two.
-const BAD_ALIGN: Left = Err(ElfError::BadAlign { align: 12 });
-
-/// An item of the first piece does not fit.
-const UNFIT: Left = Err(ElfError::Unfit {
-    part: Part::Piece(5, 0),
-    index: 0,
-});
-
-/// One of a piece that is added does not.
-const UNFIT_NEW: Left = Err(ElfError::Unfit {
-    part: Part::Piece(5, 1),
-    index: 0,
-});
-
-/// An address that does not fit class 32.
-const LARGE: u64 = 1 << 32;
-
-/// Changes, and what each leaves.
-const CHANGES: [(Change, Left); 11] = [
-    (Change::Claim, Ok((true, true, Kind::Bytes, 1))),
-    (
-        Change::Lend(0, Kind::Bytes),
-        Ok((true, true, Kind::Bytes, 1)),
-    ),
-    (Change::Lend(1, Kind::Bytes), NO_DATA),
-    (Change::Lend(0, Kind::Word), WRONG_KIND),
-    (Change::Replace(0, 7), Ok((true, true, Kind::Addr, 1))),
-    (Change::Replace(1, 7), NO_DATA),
-    (Change::Replace(0, LARGE), UNFIT),
-    (Change::Append(16, 7), Ok((true, true, Kind::Addr, 16))),
-    (Change::Append(12, 7), BAD_ALIGN),
-    (Change::Append(16, LARGE), UNFIT_NEW),
-    (Change::Mark, Ok((false, true, Kind::Bytes, 1))),
-];
-
-/// Whether a change leaves what it should.
-fn is_changed(alloc: Global, by: Change, left: Left) -> Result<bool, ElfError> {
-    let h = header(SHT_PROGBITS, 10, 20, 0);
-    is_answered(
-        alloc,
-        &Changed { alloc, by, left },
-        NARROW,
-        &h,
-        zeros(alloc)?,
-        0,
-    )
-}
+/// Two symbols, of which the first read fails.
+const READ_ONCE: [Row; 1] = [Row {
+    header: Shdr {
+        stype: SHT_SYMTAB,
+        size: 48,
+        ..NULL_SECTION
+    },
+    bad_read: 1,
+    asked: Asked::ReadOnce,
+    ..EMPTY
+}];
 
 #[test]
-fn a_changed_piece_is_own_and_marked(rt: HostRuntime) -> Result<(), Fail> {
-    for (by, left) in CHANGES {
-        assert!(rt; is_changed(rt.alloc(), by, left)?);
-    }
-    Ok(())
+fn a_failed_read_is_repeated_and_a_home_is_read_once(rt: HostRuntime) {
+    assert!(rt; are_so(rt.alloc(), &READ_ONCE));
 }
 
 /// Item `i` of a cell of halves.
@@ -375,37 +279,33 @@ fn half_at(cell: &mut Cell, source: &mut MemSource, form: Form, i: u64) -> Resul
     cell.item::<u16>(0, i, form.0, form.1)
 }
 
-/// The item at an index is so.
-#[derive(Drop)]
-struct OneHalf {
-    i: u64,
-    told: Result<u16, ElfError>,
-}
+/// The first item of a section of two halves in class 32, the greatest byte first.
+const FIRST_HALF: Row = Row {
+    form: NARROW,
+    header: Shdr {
+        stype: SHT_GNU_VERSYM,
+        size: 4,
+        ..NULL_SECTION
+    },
+    bytes: &[0x12, 0x34, 0x56, 0x78],
+    asked: Asked::Half(0, Ok(0x1234)),
+    ..EMPTY
+};
 
-impl CellQuestion for OneHalf {
-    fn is_answered(
-        &self,
-        cell: &mut Cell,
-        source: &mut MemSource,
-        class: Class,
-        order: Order,
-    ) -> bool {
-        half_at(cell, source, (class, order), self.i) == self.told
-    }
-}
-
-/// Whether an item of a section of two halves is told so.
-fn is_half(alloc: Global, i: u64, told: Result<u16, ElfError>) -> Result<bool, ElfError> {
-    let h = header(SHT_GNU_VERSYM, 0, 4, 0);
-    let bytes = Octets::from_slice(alloc, &[0x12, 0x34, 0x56, 0x78])?;
-    is_answered(alloc, &OneHalf { i, told }, NARROW, &h, bytes, 0)
-}
+/// Each item, and one past them.
+const HALVES: [Row; 3] = [
+    FIRST_HALF,
+    Row {
+        asked: Asked::Half(1, Ok(0x5678)),
+        ..FIRST_HALF
+    },
+    Row {
+        asked: Asked::Half(2, Err(ElfError::NoEntry { index: 2, count: 2 })),
+        ..FIRST_HALF
+    },
+];
 
 #[test]
-fn items_are_told_one_by_one(rt: HostRuntime) -> Result<(), Fail> {
-    let past = Err(ElfError::NoEntry { index: 2, count: 2 });
-    for (i, told) in [(0, Ok(0x1234)), (1, Ok(0x5678)), (2, past)] {
-        assert!(rt; is_half(rt.alloc(), i, told)?);
-    }
-    Ok(())
+fn items_are_told_one_by_one(rt: HostRuntime) {
+    assert!(rt; are_so(rt.alloc(), &HALVES));
 }

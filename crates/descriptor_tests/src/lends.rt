@@ -1,33 +1,22 @@
 //! A list of each kind is lent and changed, and then one of its items is stored.
 
-use crate::questions::{Form, Question, is_answered_in_all_forms};
+use crate::questions::{Question, is_answered_in_all_forms};
 use elf_descriptor::Elf;
 use elf_outside::Source;
 use elf_types::constants::{
     SHT_DYNAMIC, SHT_GNU_VERSYM, SHT_INIT_ARRAY, SHT_PROGBITS, SHT_REL, SHT_RELA, SHT_SYMTAB,
     SHT_SYMTAB_SHNDX,
 };
-use elf_types::{DIRTY, DataId, Dyn, ElfError, Kind, List, Part, Rel, Rela, Sym};
-use elf_xlate::item_size;
+use elf_types::{DIRTY, DataId, Dyn, ElfError, List, Part, Rel, Rela, Sym};
 use section_data::Storable;
 use std::alloc::Global;
-use std::test::Fail;
-use test_images::{Field, Image, SectionField, five_sections};
+use test_images::{Content, Field, OBJECT, Put, Recipe, SectionField, Start};
 
 /// The piece that is lent.
 const PIECE: DataId = DataId {
     section: 1,
     piece: 0,
 };
-
-/// An object whose section 1 has a type, and one item of a kind.
-fn one_item(alloc: Global, form: Form, stype: u32, kind: Kind) -> Result<Image, ElfError> {
-    let mut image = five_sections(alloc, form.0, form.1)?;
-    let size = item_size(kind, form.0);
-    image.put_field(Field::Section(1, SectionField::Type), u64::from(stype));
-    image.put_field(Field::Section(1, SectionField::Size), size);
-    Ok(image)
-}
 
 /// A kind of items, which a call of its own lends.
 trait Kinded: Storable + PartialEq {
@@ -85,8 +74,6 @@ fn is_marked<S: Source>(elf: &Elf<S>) -> bool {
 /// An item is appended to a list that is lent, and then another is stored in place of the first.
 #[derive(Drop)]
 struct Lent<T> {
-    /// The type of the section.
-    stype: u32,
     appended: T,
     stored: T,
 }
@@ -97,10 +84,6 @@ fn append<T: Kinded, S: Source>(elf: &mut Elf<S>, item: T) -> Result<(), ElfErro
 }
 
 impl<T: Kinded> Question for Lent<T> {
-    fn image(&self, alloc: Global, form: Form) -> Result<Image, ElfError> {
-        one_item(alloc, form, self.stype, T::kind())
-    }
-
     fn is_answered<S: Source>(&self, elf: &mut Elf<S>) -> bool {
         let mut stated = append(elf, self.appended) == Ok(());
         stated &= elf.update_item(PIECE, 0, self.stored) == Ok(());
@@ -113,89 +96,176 @@ impl<T: Kinded> Question for Lent<T> {
 /// A byte is appended.
 struct LentBytes;
 
-/// Appends a byte, and answers how many there are.
-fn longer<S: Source>(elf: &mut Elf<S>) -> Result<u64, ElfError> {
-    elf.bytes_mut(PIECE)?.push(9)?;
-    Ok(elf.data(PIECE)?.count())
+/// Appends a byte.
+fn append_byte<S: Source>(elf: &mut Elf<S>) -> Result<(), ElfError> {
+    match elf.bytes_mut(PIECE) {
+        Ok(bytes) => bytes.push(9),
+        Err(e) => Err(e),
+    }
+}
+
+/// How many items there are.
+fn count<S: Source>(elf: &mut Elf<S>) -> Result<u64, ElfError> {
+    match elf.data(PIECE) {
+        Ok(items) => Ok(items.count()),
+        Err(e) => Err(e),
+    }
 }
 
 impl Question for LentBytes {
-    fn image(&self, alloc: Global, form: Form) -> Result<Image, ElfError> {
-        one_item(alloc, form, SHT_PROGBITS, Kind::Bytes)
-    }
-
     fn is_answered<S: Source>(&self, elf: &mut Elf<S>) -> bool {
-        longer(elf) == Ok(2) && is_marked(elf)
+        append_byte(elf) == Ok(()) && count(elf) == Ok(2) && is_marked(elf)
     }
 }
 
-/// Whether two items are lent and stored in all forms.
-fn are_lent<T: Kinded>(
-    alloc: Global,
-    stype: u32,
-    appended: T,
-    stored: T,
-) -> Result<bool, ElfError> {
-    let lent = Lent {
-        stype,
-        appended,
-        stored,
-    };
-    is_answered_in_all_forms(alloc, &lent)
+/// Whether an item is lent and another stored in all forms, of an object whose section 1 has one.
+fn is_lent<T: Kinded>(alloc: Global, recipe: &Recipe, appended: T, stored: T) -> bool {
+    is_answered_in_all_forms(alloc, &Lent { appended, stored }, recipe)
 }
 
-/// A symbol of a value.
-fn symbol(value: u64) -> Sym {
-    Sym {
-        name: 1,
-        info: 18,
-        other: 0,
-        shndx: 2,
-        value,
-        size: 4,
-    }
-}
+/// A symbol.
+const SYMBOL: Sym = Sym {
+    name: 1,
+    info: 18,
+    other: 0,
+    shndx: 2,
+    value: 7,
+    size: 4,
+};
 
-/// A relocation of an offset.
-fn relocation(offset: u64) -> Rel {
-    Rel {
-        offset,
-        sym: 1,
-        rtype: 2,
-    }
-}
+/// A relocation.
+const RELOCATION: Rel = Rel {
+    offset: 7,
+    sym: 1,
+    rtype: 2,
+};
 
 /// A relocation with an addend.
-fn adding(addend: i64) -> Rela {
-    Rela {
-        offset: 1,
-        sym: 2,
-        rtype: 3,
-        addend,
-    }
-}
+const ADDING: Rela = Rela {
+    offset: 1,
+    sym: 2,
+    rtype: 3,
+    addend: -7,
+};
 
 /// An entry of a dynamic section.
-fn entry(val: u64) -> Dyn {
-    Dyn { tag: -1, val }
-}
+const ENTRY: Dyn = Dyn { tag: -1, val: 7 };
+
+/// Five sections.
+const FIVE: Recipe = Recipe {
+    start: Start::FiveSections,
+    ..OBJECT
+};
+
+/// The first is one byte.
+const BYTES: Recipe = Recipe {
+    puts: &[
+        Put::Field(Field::Section(1, SectionField::Type), SHT_PROGBITS as u64),
+        Put::Home(1, Content::Bytes(&[1])),
+    ],
+    ..FIVE
+};
+
+/// The first is one half.
+const HALVES: Recipe = Recipe {
+    puts: &[
+        Put::Field(Field::Section(1, SectionField::Type), SHT_GNU_VERSYM as u64),
+        Put::Home(1, Content::Halves(&[1])),
+    ],
+    ..FIVE
+};
+
+/// It is one word.
+const WORDS: Recipe = Recipe {
+    puts: &[
+        Put::Field(
+            Field::Section(1, SectionField::Type),
+            SHT_SYMTAB_SHNDX as u64,
+        ),
+        Put::Home(1, Content::Words(&[1])),
+    ],
+    ..FIVE
+};
+
+/// It is one address.
+const ADDRESSES: Recipe = Recipe {
+    puts: &[
+        Put::Field(Field::Section(1, SectionField::Type), SHT_INIT_ARRAY as u64),
+        Put::Home(1, Content::Addrs(&[1])),
+    ],
+    ..FIVE
+};
 
 #[test]
-fn numbers_are_lent_and_stored(rt: HostRuntime) -> Result<(), Fail> {
+fn numbers_are_lent_and_stored(rt: HostRuntime) {
     let alloc = rt.alloc();
-    assert!(rt; is_answered_in_all_forms(alloc, &LentBytes)?);
-    assert!(rt; are_lent(alloc, SHT_GNU_VERSYM, 7u16, 8)?);
-    assert!(rt; are_lent(alloc, SHT_SYMTAB_SHNDX, 7u32, 8)?);
-    assert!(rt; are_lent(alloc, SHT_INIT_ARRAY, 7u64, 8)?);
-    Ok(())
+    assert!(rt; is_answered_in_all_forms(alloc, &LentBytes, &BYTES));
+    assert!(rt; is_lent(alloc, &HALVES, 7u16, 8));
+    assert!(rt; is_lent(alloc, &WORDS, 7u32, 8));
+    assert!(rt; is_lent(alloc, &ADDRESSES, 7u64, 8));
 }
 
+/// It is one symbol.
+const SYMBOLS: Recipe = Recipe {
+    puts: &[
+        Put::Field(Field::Section(1, SectionField::Type), SHT_SYMTAB as u64),
+        Put::Home(1, Content::Syms(&[SYMBOL])),
+    ],
+    ..FIVE
+};
+
+/// It is one relocation.
+const RELS: Recipe = Recipe {
+    puts: &[
+        Put::Field(Field::Section(1, SectionField::Type), SHT_REL as u64),
+        Put::Home(1, Content::Rels(&[RELOCATION])),
+    ],
+    ..FIVE
+};
+
+/// It is one with an addend.
+const RELAS: Recipe = Recipe {
+    puts: &[
+        Put::Field(Field::Section(1, SectionField::Type), SHT_RELA as u64),
+        Put::Home(1, Content::Relas(&[ADDING])),
+    ],
+    ..FIVE
+};
+
+/// It is one dynamic entry.
+const DYNS: Recipe = Recipe {
+    puts: &[
+        Put::Field(Field::Section(1, SectionField::Type), SHT_DYNAMIC as u64),
+        Put::Home(1, Content::Dyns(&[ENTRY])),
+    ],
+    ..FIVE
+};
+
 #[test]
-fn records_are_lent_and_stored(rt: HostRuntime) -> Result<(), Fail> {
+fn records_are_lent_and_stored(rt: HostRuntime) {
     let alloc = rt.alloc();
-    assert!(rt; are_lent(alloc, SHT_SYMTAB, symbol(7), symbol(8))?);
-    assert!(rt; are_lent(alloc, SHT_REL, relocation(7), relocation(8))?);
-    assert!(rt; are_lent(alloc, SHT_RELA, adding(-7), adding(8))?);
-    assert!(rt; are_lent(alloc, SHT_DYNAMIC, entry(7), entry(8))?);
-    Ok(())
+    assert!(rt; is_lent(alloc, &SYMBOLS, SYMBOL, Sym { value: 8, ..SYMBOL }));
+    assert!(rt;
+        is_lent(
+            alloc,
+            &RELS,
+            RELOCATION,
+            Rel {
+                offset: 8,
+                ..RELOCATION
+            }
+        )
+    );
+    assert!(rt;
+        is_lent(
+            alloc,
+            &RELAS,
+            ADDING,
+            Rela {
+                addend: 8,
+                ..ADDING
+            }
+        )
+    );
+    assert!(rt; is_lent(alloc, &DYNS, ENTRY, Dyn { val: 8, ..ENTRY }));
 }

@@ -1,20 +1,11 @@
 //! Questions on small images, put to descriptors over sources that tell their bytes or do not.
 
 use elf_descriptor::Elf;
-use elf_outside::Source;
-use elf_types::{Class, DataId, ElfError, Order};
+use elf_outside::{MemSource, Source};
+use elf_types::{DataId, ElfError};
 use std::alloc::Global;
-use test_images::{FORMS, Image, symbol_object};
+use test_images::{FORMS, Form, Recipe, image_in};
 use test_sources::{Sparse, source};
-
-/// A class and an order.
-pub type Form = (Class, Order);
-
-/// Class 64, and the least byte first.
-pub const WIDE: Form = (Class::C64, Order::Least);
-
-/// Class 32, and the greatest byte first.
-pub const NARROW: Form = (Class::C32, Order::Greatest);
 
 /// The piece of the strings in an object with two symbols.
 pub const STRINGS: DataId = DataId {
@@ -30,11 +21,6 @@ pub const SYMBOLS: DataId = DataId {
 
 /// A question on an image, with its answer.
 pub trait Question {
-    /// The image in a form: an object with two symbols, where nothing else is said.
-    fn image(&self, alloc: Global, form: Form) -> Result<Image, ElfError> {
-        symbol_object(alloc, form.0, form.1)
-    }
-
     /// Whether the descriptor that began over it answers as it should.
     fn is_answered<S: Source>(&self, elf: &mut Elf<S>) -> bool;
 }
@@ -50,38 +36,59 @@ pub fn is_answered_over<Q: Question, S: Source>(alloc: Global, q: &Q, src: S) ->
     }
 }
 
-/// How many bytes of a source in memory, of which the read of a number fails or none where that is
-/// 0, were asked for once a question was answered; none where it was not.
+/// How many bytes of a source were asked for once a question was answered; none where it was not.
+fn asked_of<Q: Question>(alloc: Global, q: &Q, src: MemSource) -> Option<u64> {
+    let (src, answered) = is_answered_over(alloc, q, src);
+    if answered { Some(src.asked()) } else { None }
+}
+
+/// The same of a source in memory of an image in a form, of which the read of a number fails or
+/// none where that is 0.
 pub fn asked<Q: Question>(
     alloc: Global,
     q: &Q,
     form: Form,
+    recipe: &Recipe,
     bad_read: u64,
 ) -> Result<Option<u64>, ElfError> {
-    let image = q.image(alloc, form)?;
-    let (src, answered) = is_answered_over(alloc, q, source(alloc, image.bytes, bad_read)?);
-    Ok(if answered { Some(src.asked()) } else { None })
+    let image = image_in(alloc, form, recipe)?;
+    match source(alloc, image.bytes, bad_read) {
+        Ok(src) => Ok(asked_of(alloc, q, src)),
+        Err(e) => Err(e),
+    }
 }
 
 /// Whether a question is answered over a source that does not tell its bytes.
-pub fn is_answered_untold<Q: Question>(alloc: Global, q: &Q, form: Form) -> Result<bool, ElfError> {
-    let image = q.image(alloc, form)?;
+pub fn is_answered_untold<Q: Question>(
+    alloc: Global,
+    q: &Q,
+    form: Form,
+    recipe: &Recipe,
+) -> Result<bool, ElfError> {
+    let image = image_in(alloc, form, recipe)?;
     let len = image.bytes.len();
-    let (_src, answered) = is_answered_over(alloc, q, Sparse::new(image.bytes, len));
-    Ok(answered)
+    Ok(is_answered_over(alloc, q, Sparse::new(image.bytes, len)).1)
 }
 
-/// Whether a question is answered over either source.
-pub fn is_answered<Q: Question>(alloc: Global, q: &Q, form: Form) -> Result<bool, ElfError> {
-    Ok(asked(alloc, q, form, 0)?.is_some() && is_answered_untold(alloc, q, form)?)
+/// Whether a question is answered over either source, of an image in a form.
+fn is_answered_in<Q: Question>(alloc: Global, q: &Q, form: Form, recipe: &Recipe) -> bool {
+    match asked(alloc, q, form, recipe, 0) {
+        Ok(Some(_)) => is_answered_untold(alloc, q, form, recipe) == Ok(true),
+        _ => false,
+    }
+}
+
+/// Whether it is.
+pub fn is_answered<Q: Question>(alloc: Global, q: &Q, recipe: &Recipe) -> bool {
+    is_answered_in(alloc, q, recipe.form, recipe)
 }
 
 /// Whether it is in all forms.
-pub fn is_answered_in_all_forms<Q: Question>(alloc: Global, q: &Q) -> Result<bool, ElfError> {
-    for form in FORMS {
-        if !is_answered(alloc, q, form)? {
-            return Ok(false);
+pub fn is_answered_in_all_forms<Q: Question>(alloc: Global, q: &Q, recipe: &Recipe) -> bool {
+    for form in FORMS.iter() {
+        if !is_answered_in(alloc, q, *form, recipe) {
+            return false;
         }
     }
-    Ok(true)
+    true
 }

@@ -3,7 +3,7 @@
 use crate::beginnings::front_size;
 use crate::callers::{first_two, long, symbol};
 use crate::questions::{
-    Form, Question, STRINGS, SYMBOLS, WIDE, asked, is_answered_in_all_forms, is_answered_untold,
+    Question, STRINGS, SYMBOLS, asked, is_answered_in_all_forms, is_answered_untold,
 };
 use elf_descriptor::{Elf, Held};
 use elf_outside::Source;
@@ -12,87 +12,125 @@ use elf_types::constants::{
 };
 use elf_types::{DataId, ElfError, Kind, ScnId, Sym};
 use std::alloc::Global;
-use std::test::Fail;
-use test_images::{FORMS, Field, Image, SectionField, five_sections};
+use test_images::{FORMS, Field, Form, OBJECT, Put, Recipe, SectionField, Start, WIDE};
 
 /// What the data of section 3 of five are once two fields are set.
 struct Row {
-    /// The fields that are set.
-    fields: [(SectionField, u64); 2],
+    /// The image.
+    recipe: Recipe,
     /// The kind and the number of its items, or the refusal.
     told: Result<(Kind, u64), ElfError>,
     /// How many bytes are asked for besides the front.
     asked: u64,
 }
 
+/// Five sections.
+const FIVE: Recipe = Recipe {
+    start: Start::FiveSections,
+    ..OBJECT
+};
+
 /// Sections of all kinds.
 const ROWS: [Row; 9] = [
     Row {
-        fields: [
-            (SectionField::Type, SHT_PROGBITS as u64),
-            (SectionField::Size, 8),
-        ],
+        recipe: Recipe {
+            puts: &[
+                Put::Field(Field::Section(3, SectionField::Type), SHT_PROGBITS as u64),
+                Put::Field(Field::Section(3, SectionField::Size), 8),
+            ],
+            ..FIVE
+        },
         told: Ok((Kind::Bytes, 8)),
         asked: 8,
     },
     Row {
-        fields: [
-            (SectionField::Type, SHT_NULL as u64),
-            (SectionField::Size, 7),
-        ],
+        recipe: Recipe {
+            puts: &[
+                Put::Field(Field::Section(3, SectionField::Type), SHT_NULL as u64),
+                Put::Field(Field::Section(3, SectionField::Size), 7),
+            ],
+            ..FIVE
+        },
         told: Ok((Kind::Empty, 0)),
         asked: 0,
     },
     Row {
-        fields: [
-            (SectionField::Type, SHT_NOBITS as u64),
-            (SectionField::Size, 100_000),
-        ],
+        recipe: Recipe {
+            puts: &[
+                Put::Field(Field::Section(3, SectionField::Type), SHT_NOBITS as u64),
+                Put::Field(Field::Section(3, SectionField::Size), 100_000),
+            ],
+            ..FIVE
+        },
         told: Ok((Kind::Empty, 0)),
         asked: 0,
     },
     Row {
-        fields: [(SectionField::Offset, 100_000), (SectionField::Size, 0)],
+        recipe: Recipe {
+            puts: &[
+                Put::Field(Field::Section(3, SectionField::Offset), 100_000),
+                Put::Field(Field::Section(3, SectionField::Size), 0),
+            ],
+            ..FIVE
+        },
         told: Ok((Kind::Bytes, 0)),
         asked: 0,
     },
     Row {
-        fields: [
-            (SectionField::Type, SHT_REL as u64),
-            (SectionField::Size, 7),
-        ],
+        recipe: Recipe {
+            puts: &[
+                Put::Field(Field::Section(3, SectionField::Type), SHT_REL as u64),
+                Put::Field(Field::Section(3, SectionField::Size), 7),
+            ],
+            ..FIVE
+        },
         told: Err(ElfError::Ragged { section: 3 }),
         asked: 0,
     },
     Row {
-        fields: [
-            (SectionField::Type, SHT_SYMTAB as u64),
-            (SectionField::Offset, 100_000),
-        ],
+        recipe: Recipe {
+            puts: &[
+                Put::Field(Field::Section(3, SectionField::Type), SHT_SYMTAB as u64),
+                Put::Field(Field::Section(3, SectionField::Offset), 100_000),
+            ],
+            ..FIVE
+        },
         told: Err(ElfError::OutOfFile { section: 3 }),
         asked: 0,
     },
     Row {
-        fields: [
-            (SectionField::Type, SHT_SYMTAB as u64),
-            (SectionField::Flags, SHF_COMPRESSED),
-        ],
+        recipe: Recipe {
+            puts: &[
+                Put::Field(Field::Section(3, SectionField::Type), SHT_SYMTAB as u64),
+                Put::Field(Field::Section(3, SectionField::Flags), SHF_COMPRESSED),
+            ],
+            ..FIVE
+        },
         told: Ok((Kind::Bytes, 8)),
         asked: 8,
     },
     Row {
-        fields: [
-            (SectionField::Type, 0x6000_1234),
-            (SectionField::Entsize, 4),
-        ],
+        recipe: Recipe {
+            puts: &[
+                Put::Field(Field::Section(3, SectionField::Type), 0x6000_1234),
+                Put::Field(Field::Section(3, SectionField::Entsize), 4),
+            ],
+            ..FIVE
+        },
         told: Ok((Kind::Bytes, 8)),
         asked: 8,
     },
     Row {
-        fields: [
-            (SectionField::Type, SHT_SYMTAB_SHNDX as u64),
-            (SectionField::Entsize, 4),
-        ],
+        recipe: Recipe {
+            puts: &[
+                Put::Field(
+                    Field::Section(3, SectionField::Type),
+                    SHT_SYMTAB_SHNDX as u64,
+                ),
+                Put::Field(Field::Section(3, SectionField::Entsize), 4),
+            ],
+            ..FIVE
+        },
         told: Ok((Kind::Word, 2)),
         asked: 8,
     },
@@ -108,53 +146,63 @@ fn data_of<S: Source>(elf: &mut Elf<S>) -> Result<(Kind, u64), ElfError> {
 }
 
 impl Question for Row {
-    fn image(&self, alloc: Global, form: Form) -> Result<Image, ElfError> {
-        let mut image = five_sections(alloc, form.0, form.1)?;
-        for (field, value) in self.fields {
-            image.put_field(Field::Section(3, field), value);
-        }
-        Ok(image)
-    }
-
     fn is_answered<S: Source>(&self, elf: &mut Elf<S>) -> bool {
         data_of(elf) == self.told && data_of(elf) == self.told
     }
 }
 
 /// Whether the data are told twice as the row says, and no more is asked for than once.
-fn is_told(alloc: Global, row: &Row, form: Form) -> Result<bool, ElfError> {
+fn is_told(alloc: Global, row: &Row, form: Form) -> bool {
     let due = front_size(form.0, 0, 6).saturating_add(row.asked);
-    Ok(asked(alloc, row, form, 0)? == Some(due) && is_answered_untold(alloc, row, form)?)
+    asked(alloc, row, form, &row.recipe, 0) == Ok(Some(due))
+        && is_answered_untold(alloc, row, form, &row.recipe) == Ok(true)
+}
+
+/// Whether those of each row are, in a form.
+fn are_told_in(alloc: Global, rows: &[Row], form: Form) -> bool {
+    for row in rows {
+        if !is_told(alloc, row, form) {
+            return false;
+        }
+    }
+    true
+}
+
+/// Whether they are in all forms.
+fn are_told(alloc: Global, rows: &[Row]) -> bool {
+    for form in FORMS.iter() {
+        if !are_told_in(alloc, rows, *form) {
+            return false;
+        }
+    }
+    true
 }
 
 #[test]
-fn sections_of_all_kinds_are_told_or_refused(rt: HostRuntime) -> Result<(), Fail> {
-    for row in ROWS.iter() {
-        for form in FORMS {
-            assert!(rt; is_told(rt.alloc(), row, form)?);
-        }
-    }
-    Ok(())
+fn sections_of_all_kinds_are_told_or_refused(rt: HostRuntime) {
+    assert!(rt; are_told(rt.alloc(), &ROWS));
 }
 
 /// A section whose first read fails is read again.
 struct FailsOnce;
 
 impl Question for FailsOnce {
-    fn image(&self, alloc: Global, form: Form) -> Result<Image, ElfError> {
-        five_sections(alloc, form.0, form.1)
-    }
-
     fn is_answered<S: Source>(&self, elf: &mut Elf<S>) -> bool {
         data_of(elf) == Err(ElfError::Read) && data_of(elf) == Ok((Kind::Bytes, 8))
     }
 }
 
+/// Whether such a section is; the first three reads are those of the front.
+fn is_repeated(alloc: Global) -> bool {
+    match asked(alloc, &FailsOnce, WIDE, &FIVE, 4) {
+        Ok(asked) => asked.is_some(),
+        Err(_) => false,
+    }
+}
+
 #[test]
-fn a_failed_read_is_repeated(rt: HostRuntime) -> Result<(), Fail> {
-    // The first three reads are those of the front.
-    assert!(rt; asked(rt.alloc(), &FailsOnce, WIDE, 4)?.is_some());
-    Ok(())
+fn a_failed_read_is_repeated(rt: HostRuntime) {
+    assert!(rt; is_repeated(rt.alloc()));
 }
 
 /// There are two symbols, a zero one and an absolute function of 4 bytes.
@@ -231,19 +279,14 @@ fn first_base<S: Source>(elf: &mut Elf<S>) -> Result<[u8; 2], ElfError> {
 }
 
 impl Question for Base {
-    fn image(&self, alloc: Global, form: Form) -> Result<Image, ElfError> {
-        five_sections(alloc, form.0, form.1)
-    }
-
     fn is_answered<S: Source>(&self, elf: &mut Elf<S>) -> bool {
         first_base(elf) == Ok(*b"\x7fE") && is_unread(elf, STRINGS)
     }
 }
 
 #[test]
-fn what_is_read_is_told_and_held(rt: HostRuntime) -> Result<(), Fail> {
-    assert!(rt; is_answered_in_all_forms(rt.alloc(), &Symbols)?);
-    assert!(rt; is_answered_in_all_forms(rt.alloc(), &Strings)?);
-    assert!(rt; is_answered_in_all_forms(rt.alloc(), &Base)?);
-    Ok(())
+fn what_is_read_is_told_and_held(rt: HostRuntime) {
+    assert!(rt; is_answered_in_all_forms(rt.alloc(), &Symbols, &OBJECT));
+    assert!(rt; is_answered_in_all_forms(rt.alloc(), &Strings, &OBJECT));
+    assert!(rt; is_answered_in_all_forms(rt.alloc(), &Base, &FIVE));
 }

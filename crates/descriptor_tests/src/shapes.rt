@@ -1,39 +1,33 @@
 //! Objects with two symbols of which some fields are set.
 
-use crate::questions::{Form, Question, SYMBOLS, WIDE, is_answered, is_answered_in_all_forms};
+use crate::questions::{Question, SYMBOLS, is_answered, is_answered_in_all_forms};
 use elf_descriptor::Elf;
 use elf_outside::Source;
 use elf_types::constants::{SHN_XINDEX, SHT_PROGBITS};
 use elf_types::{ElfError, Kind, ScnId, Shdr};
-use std::alloc::Global;
-use std::test::Fail;
-use test_images::{Field, HeaderField, Image, SectionField, symbol_object};
+use test_images::{Field, HeaderField, NARROW, OBJECT, Put, Recipe, SectionField};
 
-/// An object with two symbols, with these fields set.
-fn symbols_with(alloc: Global, form: Form, fields: &[(Field, u64)]) -> Result<Image, ElfError> {
-    let mut image = symbol_object(alloc, form.0, form.1)?;
-    for (field, value) in fields {
-        image.put_field(*field, *value);
-    }
-    Ok(image)
-}
+/// The object with two symbols in class 32, the greatest byte first.
+pub const NARROW_OBJECT: Recipe = Recipe {
+    form: NARROW,
+    ..OBJECT
+};
 
 /// There are three sections, and section 1 holds their names: both stand in section 0.
 pub struct ExtendedCounts;
 
-/// The fields of that image.
-const COUNTS: [(Field, u64); 4] = [
-    (Field::Header(HeaderField::Shnum), 0),
-    (Field::Header(HeaderField::Shstrndx), SHN_XINDEX as u64),
-    (Field::Section(0, SectionField::Size), 3),
-    (Field::Section(0, SectionField::Link), 1),
-];
+/// That image.
+pub const COUNTS: Recipe = Recipe {
+    puts: &[
+        Put::Field(Field::Header(HeaderField::Shnum), 0),
+        Put::Field(Field::Header(HeaderField::Shstrndx), SHN_XINDEX as u64),
+        Put::Field(Field::Section(0, SectionField::Size), 3),
+        Put::Field(Field::Section(0, SectionField::Link), 1),
+    ],
+    ..OBJECT
+};
 
 impl Question for ExtendedCounts {
-    fn image(&self, alloc: Global, form: Form) -> Result<Image, ElfError> {
-        symbols_with(alloc, form, &COUNTS)
-    }
-
     fn is_answered<S: Source>(&self, elf: &mut Elf<S>) -> bool {
         let header = elf.ehdr();
         header.shnum == 3 && header.shstrndx == 1
@@ -51,8 +45,14 @@ fn data_refusal<S: Source>(elf: &mut Elf<S>) -> Option<ElfError> {
 /// Section 2 has 25 bytes: they are no whole symbols, and are told as raw bytes alone.
 pub struct Ragged;
 
+/// That image.
+pub const RAGGED: Recipe = Recipe {
+    puts: &[Put::Field(Field::Section(2, SectionField::Size), 25)],
+    ..OBJECT
+};
+
 /// The zero symbol and the first byte of the function.
-const RAGGED: [u8; 25] = [
+const RAGGED_BYTES: [u8; 25] = [
     0, 0, 0, 0, 0, 0, 0, 0, 0, 0, 0, 0, 0, 0, 0, 0, 0, 0, 0, 0, 0, 0, 0, 0, 1,
 ];
 
@@ -65,26 +65,24 @@ fn is_raw<S: Source>(elf: &mut Elf<S>, bytes: &[u8]) -> bool {
 }
 
 impl Question for Ragged {
-    fn image(&self, alloc: Global, form: Form) -> Result<Image, ElfError> {
-        let size = (Field::Section(2, SectionField::Size), 25);
-        symbols_with(alloc, form, &[size])
-    }
-
     fn is_answered<S: Source>(&self, elf: &mut Elf<S>) -> bool {
         let ragged = Some(ElfError::Ragged { section: 2 });
-        data_refusal(elf) == ragged && is_raw(elf, &RAGGED)
+        data_refusal(elf) == ragged && is_raw(elf, &RAGGED_BYTES)
     }
 }
 
 /// Section 2 passes the end of the image: it is refused when it is read, and hinders no edit.
 pub struct OutOfFile;
 
-/// The fields of that image.
-const OUT: [(Field, u64); 3] = [
-    (Field::Section(2, SectionField::Type), SHT_PROGBITS as u64),
-    (Field::Section(2, SectionField::Offset), u64::MAX),
-    (Field::Section(2, SectionField::Size), 2),
-];
+/// That image.
+pub const OUT: Recipe = Recipe {
+    puts: &[
+        Put::Field(Field::Section(2, SectionField::Type), SHT_PROGBITS as u64),
+        Put::Field(Field::Section(2, SectionField::Offset), u64::MAX),
+        Put::Field(Field::Section(2, SectionField::Size), 2),
+    ],
+    ..OBJECT
+};
 
 /// How the raw bytes of section 2 are refused.
 fn raw_refusal<S: Source>(elf: &mut Elf<S>) -> Option<ElfError> {
@@ -102,10 +100,6 @@ fn set_flags<S: Source>(elf: &mut Elf<S>, flags: u64) -> Result<u64, ElfError> {
 }
 
 impl Question for OutOfFile {
-    fn image(&self, alloc: Global, form: Form) -> Result<Image, ElfError> {
-        symbols_with(alloc, form, &OUT)
-    }
-
     fn is_answered<S: Source>(&self, elf: &mut Elf<S>) -> bool {
         let out = Some(ElfError::OutOfFile { section: 2 });
         let mut stated = raw_refusal(elf) == out;
@@ -137,11 +131,10 @@ impl Question for HeaderAsOpened {
 }
 
 #[test]
-fn fields_decide_what_is_told(rt: HostRuntime) -> Result<(), Fail> {
+fn fields_decide_what_is_told(rt: HostRuntime) {
     let alloc = rt.alloc();
-    assert!(rt; is_answered_in_all_forms(alloc, &ExtendedCounts)?);
-    assert!(rt; is_answered(alloc, &Ragged, WIDE)?);
-    assert!(rt; is_answered_in_all_forms(alloc, &OutOfFile)?);
-    assert!(rt; is_answered_in_all_forms(alloc, &HeaderAsOpened)?);
-    Ok(())
+    assert!(rt; is_answered_in_all_forms(alloc, &ExtendedCounts, &COUNTS));
+    assert!(rt; is_answered(alloc, &Ragged, &RAGGED));
+    assert!(rt; is_answered_in_all_forms(alloc, &OutOfFile, &OUT));
+    assert!(rt; is_answered_in_all_forms(alloc, &HeaderAsOpened, &OBJECT));
 }

@@ -14,7 +14,8 @@ use std::alloc::Global;
 /// An image in memory. What is put past its end makes it longer, with zeros in between.
 #[derive(Drop)]
 pub struct Image {
-    alloc: Global,
+    /// The allocator of its bytes.
+    pub alloc: Global,
     /// The header that it was begun with, which names the class, the order and the tables' places.
     pub header: Ehdr,
     /// The bytes.

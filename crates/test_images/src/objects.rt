@@ -39,6 +39,16 @@ const NULL_SEGMENT: Phdr = Phdr {
     align: 0,
 };
 
+/// A symbol of zeros.
+const NULL_SYMBOL: Sym = Sym {
+    name: 0,
+    info: 0,
+    other: 0,
+    shndx: 0,
+    value: 0,
+    size: 0,
+};
+
 /// The header of an x86-64 object that has no table.
 pub fn header_of(class: Class, order: Order) -> Ehdr {
     Ehdr {
@@ -72,6 +82,14 @@ fn with_table(class: Class, order: Order, shoff: u64, shnum: u32) -> Ehdr {
     }
 }
 
+/// The same, where the section with a number holds the names.
+pub fn with_names(form: (Class, Order), shoff: u64, shnum: u32, shstrndx: u32) -> Ehdr {
+    Ehdr {
+        shstrndx,
+        ..with_table(form.0, form.1, shoff, shnum)
+    }
+}
+
 /// An executable that is a header alone; its entry is 0x401000.
 pub fn header_alone(alloc: Global, class: Class, order: Order) -> Result<Image, ElfError> {
     let header = Ehdr {
@@ -80,6 +98,22 @@ pub fn header_alone(alloc: Global, class: Class, order: Order) -> Result<Image, 
         ..header_of(class, order)
     };
     Image::new(alloc, header, [0; 7])
+}
+
+/// An image, once its parts are put, or why they were not.
+pub fn filled(image: Image, put: Result<(), ElfError>) -> Result<Image, ElfError> {
+    match put {
+        Ok(()) => Ok(image),
+        Err(e) => Err(e),
+    }
+}
+
+/// Puts these program headers, the first as number 0.
+fn put_segments(image: &mut Image, segments: &[Phdr]) -> Result<(), ElfError> {
+    for (i, segment) in segments.iter().enumerate() {
+        image.put_segment(i as u64, segment)?;
+    }
+    Ok(())
 }
 
 /// An executable with these program headers behind its header, and nothing else. It refuses
@@ -102,32 +136,72 @@ pub fn with_segments(
         ..header_of(class, order)
     };
     let mut image = Image::new(alloc, header, [0; 7])?;
-    for (i, segment) in segments.iter().enumerate() {
-        image.put_segment(i as u64, segment)?;
-    }
-    Ok(image)
+    let put = put_segments(&mut image, segments);
+    filled(image, put)
 }
 
 /// The symbols of [`symbol_object`]: a zero symbol, and an absolute function of 4 bytes at 0x1000.
-fn two_symbols(alloc: Global) -> Result<Items, ElfError> {
-    let mut symbols = Syms::new(alloc);
-    symbols.push(Sym {
-        name: 0,
-        info: 0,
-        other: 0,
-        shndx: 0,
-        value: 0,
-        size: 0,
-    })?;
-    symbols.push(Sym {
+const TWO_SYMBOLS: [Sym; 2] = [
+    NULL_SYMBOL,
+    Sym {
         name: 1,
         info: STB_GLOBAL * 16 + STT_FUNC,
-        other: 0,
         shndx: SHN_ABS as u16,
         value: 0x1000,
         size: 4,
-    })?;
-    Ok(Items::Sym(symbols))
+        ..NULL_SYMBOL
+    },
+];
+
+/// Puts those symbols at a place.
+fn put_two_symbols(image: &mut Image, alloc: Global, at: u64) -> Result<(), ElfError> {
+    let symbols = Items::Sym(Syms::from_slice(alloc, &TWO_SYMBOLS)?);
+    image.put_items(at, &symbols)
+}
+
+/// The header of the string table of [`symbol_object`].
+fn strings_at(offset: u64) -> Shdr {
+    Shdr {
+        stype: SHT_STRTAB,
+        offset,
+        size: 3,
+        addralign: 1,
+        ..NULL_SECTION
+    }
+}
+
+/// The header of its symbol table.
+fn symbols_at(class: Class, offset: u64) -> Shdr {
+    let entsize = item_size(Kind::Sym, class);
+    Shdr {
+        stype: SHT_SYMTAB,
+        offset,
+        size: 2 * entsize,
+        link: 1,
+        info: 1,
+        addralign: item_size(Kind::Addr, class),
+        entsize,
+        ..NULL_SECTION
+    }
+}
+
+/// Puts its three section headers.
+fn put_headers(image: &mut Image, strings: &Shdr, symbols: &Shdr) -> Result<(), ElfError> {
+    image.put_section(0, &NULL_SECTION)?;
+    image.put_section(1, strings)?;
+    image.put_section(2, symbols)
+}
+
+/// Puts its two sections.
+fn put_strings_and_symbols(
+    image: &mut Image,
+    alloc: Global,
+    strings: &Shdr,
+    symbols: &Shdr,
+) -> Result<(), ElfError> {
+    image.put_bytes(strings.offset, b"\0a\0")?;
+    put_two_symbols(image, alloc, symbols.offset)?;
+    put_headers(image, strings, symbols)
 }
 
 /// An object with a string table, section 1, which holds the name `a` at 1 and is the table of the
@@ -135,36 +209,39 @@ fn two_symbols(alloc: Global) -> Result<Items, ElfError> {
 /// the image.
 pub fn symbol_object(alloc: Global, class: Class, order: Order) -> Result<Image, ElfError> {
     let start = ehdr_size(class) as u64;
-    let size = item_size(Kind::Sym, class);
-    let align = item_size(Kind::Addr, class);
-    let strings = Shdr {
-        stype: SHT_STRTAB,
-        offset: start,
-        size: 3,
-        addralign: 1,
-        ..NULL_SECTION
-    };
-    let symbols = Shdr {
-        stype: SHT_SYMTAB,
-        offset: start + align,
-        size: 2 * size,
-        link: 1,
-        info: 1,
-        addralign: align,
-        entsize: size,
-        ..NULL_SECTION
-    };
+    let strings = strings_at(start);
+    let symbols = symbols_at(class, start.saturating_add(item_size(Kind::Addr, class)));
     let header = Ehdr {
         shstrndx: 1,
-        ..with_table(class, order, symbols.offset + symbols.size, 3)
+        ..with_table(class, order, symbols.offset.saturating_add(symbols.size), 3)
     };
     let mut image = Image::new(alloc, header, [0; 7])?;
-    image.put_bytes(strings.offset, b"\0a\0")?;
-    image.put_items(symbols.offset, &two_symbols(alloc)?)?;
+    let put = put_strings_and_symbols(&mut image, alloc, &strings, &symbols);
+    filled(image, put)
+}
+
+/// Puts a section of eight bytes that are its number, at a multiple of 8 behind that place, and its
+/// header.
+fn put_numbered(image: &mut Image, start: u64, number: u8) -> Result<(), ElfError> {
+    let offset = start.saturating_add(8 * u64::from(number.saturating_sub(1)));
+    image.put_bytes(offset, &[number; 8])?;
+    let section = Shdr {
+        stype: SHT_PROGBITS,
+        offset,
+        size: 8,
+        addralign: 8,
+        ..NULL_SECTION
+    };
+    image.put_section(u64::from(number), &section)
+}
+
+/// Puts section 0 and five such sections.
+fn put_five(image: &mut Image, start: u64) -> Result<(), ElfError> {
     image.put_section(0, &NULL_SECTION)?;
-    image.put_section(1, &strings)?;
-    image.put_section(2, &symbols)?;
-    Ok(image)
+    for number in 1..6u8 {
+        put_numbered(image, start, number)?;
+    }
+    Ok(())
 }
 
 /// An object with sections 1 to 5, each of eight bytes that are the section's number, one behind
@@ -174,19 +251,14 @@ pub fn five_sections(alloc: Global, class: Class, order: Order) -> Result<Image,
     let start = (ehdr_size(class) as u64).next_multiple_of(8);
     let header = with_table(class, order, start + 40, 6);
     let mut image = Image::new(alloc, header, [0; 7])?;
-    image.put_section(0, &NULL_SECTION)?;
-    for number in 1..6u8 {
-        let section = Shdr {
-            stype: SHT_PROGBITS,
-            offset: start + 8 * (u64::from(number) - 1),
-            size: 8,
-            addralign: 8,
-            ..NULL_SECTION
-        };
-        image.put_bytes(section.offset, &[number; 8])?;
-        image.put_section(u64::from(number), &section)?;
-    }
-    Ok(image)
+    let put = put_five(&mut image, start);
+    filled(image, put)
+}
+
+/// Puts program header 1 and section header 2, of zeros.
+fn put_last_headers(image: &mut Image) -> Result<(), ElfError> {
+    image.put_segment(1, &NULL_SEGMENT)?;
+    image.put_section(2, &NULL_SECTION)
 }
 
 /// An image with two program headers at 64 and three section headers at 192, all of zeros, at its
@@ -202,9 +274,8 @@ pub fn two_tables(alloc: Global, class: Class, order: Order) -> Result<Image, El
         ..with_table(class, order, 192, 3)
     };
     let mut image = Image::new(alloc, header, *b"padding")?;
-    image.put_segment(1, &NULL_SEGMENT)?;
-    image.put_section(2, &NULL_SECTION)?;
-    Ok(image)
+    let put = put_last_headers(&mut image);
+    filled(image, put)
 }
 
 /// The same with the counts of both tables in section 0, and the string index 70,000.

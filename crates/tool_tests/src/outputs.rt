@@ -3,7 +3,6 @@
 use elf_outside::{MemSink, Sink};
 use elf_types::{Addrs, ElfError, Octets};
 use std::alloc::Global;
-use std::test::Fail;
 use tool_output::{Outputs, PAGE_SIZE, Side, Stop};
 
 /// What both sinks hold in the end, and how the writing ended.
@@ -15,9 +14,11 @@ pub struct Written {
 }
 
 impl Written {
-    /// Whether the writing ended so, and the outputs hold these texts.
-    pub fn is(&self, ended: Result<bool, Stop>, out: &[u8], err: &[u8]) -> bool {
-        self.ended == ended && self.out.as_slice() == out && self.err.as_slice() == err
+    /// Whether the writing ended so, and the outputs hold its texts.
+    fn is(&self, ending: &Ending) -> bool {
+        self.ended == ending.ended
+            && self.out.as_slice() == ending.out
+            && self.err.as_slice() == ending.err
     }
 }
 
@@ -56,10 +57,27 @@ fn written_on<W: Writing>(alloc: Global, w: &W, mut out: MemSink, mut err: MemSi
 }
 
 /// What is written where the put with this number to standard output fails.
-pub fn written_by<W: Writing>(alloc: Global, w: &W, failing: u64) -> Result<Written, ElfError> {
+fn written_by<W: Writing>(alloc: Global, w: &W, failing: u64) -> Result<Written, ElfError> {
     let out = sink(alloc, failing)?;
     let err = sink(alloc, 0)?;
     Ok(written_on(alloc, w, out, err))
+}
+
+/// How a writing ends of which a put fails, or none where its number is 0, and what the outputs
+/// hold then.
+pub struct Ending {
+    pub failing: u64,
+    pub ended: Result<bool, Stop>,
+    pub out: &'static [u8],
+    pub err: &'static [u8],
+}
+
+/// Whether a writing ends so.
+pub fn ends_so<W: Writing>(alloc: Global, w: &W, ending: &Ending) -> bool {
+    match written_by(alloc, w, ending.failing) {
+        Ok(written) => written.is(ending),
+        Err(_) => false,
+    }
 }
 
 /// Two lines on either output, which take turns.
@@ -75,31 +93,48 @@ struct InTurns;
 
 impl Writing for InTurns {
     fn write<O: Sink, E: Sink>(&self, outputs: &mut Outputs<'_, O, E>) -> Result<bool, Stop> {
-        for (side, line) in TURNS {
-            outputs.put(side, &line)?;
+        for (side, line) in TURNS.iter() {
+            outputs.put(*side, line)?;
         }
         Ok(false)
     }
 }
 
-/// Whether their writing, of which a put fails, ends so.
-fn turns_end(
-    alloc: Global,
-    failing: u64,
-    ended: Result<bool, Stop>,
-    out: &[u8],
-    err: &[u8],
-) -> Result<bool, ElfError> {
-    Ok(written_by(alloc, &InTurns, failing)?.is(ended, out, err))
+/// How their writing ends where no put fails, and where the first or the second does.
+const TURNS_END: [Ending; 3] = [
+    Ending {
+        failing: 0,
+        ended: Ok(false),
+        out: b"a\nd\n",
+        err: b"b\nc\n",
+    },
+    Ending {
+        failing: 1,
+        ended: Err(Stop::Write),
+        out: b"",
+        err: b"",
+    },
+    Ending {
+        failing: 2,
+        ended: Err(Stop::Write),
+        out: b"a\n",
+        err: b"b\nc\n",
+    },
+];
+
+/// Whether it ends in each of these ways.
+fn turns_end(alloc: Global, endings: &[Ending]) -> bool {
+    for ending in endings {
+        if !ends_so(alloc, &InTurns, ending) {
+            return false;
+        }
+    }
+    true
 }
 
 #[test]
-fn lines_reach_both_outputs_up_to_a_failed_put(rt: HostRuntime) -> Result<(), Fail> {
-    let alloc = rt.alloc();
-    assert!(rt; turns_end(alloc, 0, Ok(false), b"a\nd\n", b"b\nc\n")?);
-    assert!(rt; turns_end(alloc, 1, Err(Stop::Write), b"", b"")?);
-    assert!(rt; turns_end(alloc, 2, Err(Stop::Write), b"a\n", b"b\nc\n")?);
-    Ok(())
+fn lines_reach_both_outputs_up_to_a_failed_put(rt: HostRuntime) {
+    assert!(rt; turns_end(rt.alloc(), &TURNS_END));
 }
 
 /// A line of 16 bytes is written so many times.
@@ -115,16 +150,19 @@ impl Writing for Many {
     }
 }
 
-/// How such a writing ends, whose second put fails, and how many bytes are put.
-fn ended_after(alloc: Global, count: u64) -> Result<(Result<bool, Stop>, u64), ElfError> {
-    let written = written_by(alloc, &Many(count), 2)?;
-    Ok((written.ended, written.out.len()))
+/// Whether such a writing, whose second put fails, ends so and puts a page.
+fn puts_a_page(alloc: Global, count: u64, ended: Result<bool, Stop>) -> bool {
+    match written_by(alloc, &Many(count), 2) {
+        Ok(written) => written.ended == ended && written.out.len() == PAGE_SIZE,
+        Err(_) => false,
+    }
 }
 
+/// As many such lines as a page holds.
+const FULL: u64 = PAGE_SIZE / 16;
+
 #[test]
-fn a_page_is_put_when_it_is_full(rt: HostRuntime) -> Result<(), Fail> {
-    let fits = PAGE_SIZE / 16;
-    assert!(rt; ended_after(rt.alloc(), fits)? == (Ok(false), PAGE_SIZE));
-    assert!(rt; ended_after(rt.alloc(), fits + 1)? == (Err(Stop::Write), PAGE_SIZE));
-    Ok(())
+fn a_page_is_put_when_it_is_full(rt: HostRuntime) {
+    assert!(rt; puts_a_page(rt.alloc(), FULL, Ok(false)));
+    assert!(rt; puts_a_page(rt.alloc(), FULL + 1, Err(Stop::Write)));
 }

@@ -9,7 +9,6 @@ use gelf_view::{
     addr, dynent, half, rel, rela, update_addr, update_dynent, update_half, update_rel,
     update_rela, update_word, word,
 };
-use std::test::Fail;
 
 /// A half that is stored in place of a zero one, and told.
 fn half_told<S: Source>(elf: &mut Elf<S>, x: u16) -> Result<u16, ElfError> {
@@ -96,7 +95,6 @@ impl Question for Told {
 }
 
 #[test]
-fn items_are_told_one_by_one(rt: HostRuntime) -> Result<(), Fail> {
-    assert!(rt; is_answered(rt.alloc(), &Told)?);
-    Ok(())
+fn items_are_told_one_by_one(rt: HostRuntime) {
+    assert!(rt; is_answered(rt.alloc(), &Told));
 }

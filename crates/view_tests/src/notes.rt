@@ -5,7 +5,6 @@ use elf_descriptor::Elf;
 use elf_outside::Source;
 use elf_types::{DataId, ElfError, Order};
 use gelf_view::{NoteAt, note, note_align, note_in};
-use std::test::Fail;
 
 /// A note of type 7 with the name `GNU` and a descriptor of one byte.
 static ONE_NOTE: [u8; 17] = [4, 0, 0, 0, 1, 0, 0, 0, 7, 0, 0, 0, b'G', b'N', b'U', 0, 9];
@@ -34,12 +33,19 @@ fn is_note(at: u64, want: Result<Option<NoteAt>, ElfError>) -> bool {
     note_in(&ONE_NOTE, at, 4, Order::Least) == want
 }
 
-#[test]
-fn notes_lie_in_their_piece(rt: HostRuntime) -> Result<(), Fail> {
-    for (at, want) in CASES {
-        assert!(rt; is_note(at, want));
+/// Whether the note at each place is as stated.
+fn are_notes() -> bool {
+    for (at, want) in CASES.iter() {
+        if !is_note(*at, *want) {
+            return false;
+        }
     }
-    Ok(())
+    true
+}
+
+#[test]
+fn notes_lie_in_their_piece(rt: HostRuntime) {
+    assert!(rt; are_notes());
 }
 
 /// A note of type 1 with a name of five bytes and no descriptor, and the pad to the next note.
@@ -67,12 +73,19 @@ fn begins_in(addralign: u64, size: usize, place: u64) -> bool {
     }
 }
 
-#[test]
-fn notes_are_aligned_by_their_section(rt: HostRuntime) -> Result<(), Fail> {
-    for (addralign, size, place) in ALIGNED {
-        assert!(rt; begins_in(addralign, size, place));
+/// Whether they do for each alignment.
+fn are_aligned() -> bool {
+    for (addralign, size, place) in ALIGNED.iter() {
+        if !begins_in(*addralign, *size, *place) {
+            return false;
+        }
     }
-    Ok(())
+    true
+}
+
+#[test]
+fn notes_are_aligned_by_their_section(rt: HostRuntime) {
+    assert!(rt; are_aligned());
 }
 
 /// A note of type 3 with the name `GNU` and a descriptor of four bytes.
@@ -114,7 +127,6 @@ impl Question for Walk {
 }
 
 #[test]
-fn notes_end_with_their_piece(rt: HostRuntime) -> Result<(), Fail> {
-    assert!(rt; is_answered(rt.alloc(), &Walk)?);
-    Ok(())
+fn notes_end_with_their_piece(rt: HostRuntime) {
+    assert!(rt; is_answered(rt.alloc(), &Walk));
 }

@@ -3,10 +3,10 @@
 
 use elf_descriptor::Elf;
 use elf_outside::Source;
-use elf_types::{Class, DataId, ElfError, Octets, Order, ScnId};
+use elf_types::{DataId, ElfError, Octets, ScnId};
 use elf_xlate::Items;
 use std::alloc::Global;
-use test_images::symbol_object;
+use test_images::{Form, WIDE, symbol_object};
 use test_sources::{Sparse, source};
 
 /// The first piece of section 1, the strings.
@@ -39,42 +39,47 @@ fn is_answered_over<Q: Question, S: Source + Drop>(alloc: Global, q: &Q, src: S)
     }
 }
 
-/// Whether it is over a source in memory.
-fn is_answered_told<Q: Question>(
-    alloc: Global,
-    q: &Q,
-    class: Class,
-    order: Order,
-) -> Result<bool, ElfError> {
-    let image = symbol_object(alloc, class, order)?;
-    Ok(is_answered_over(alloc, q, source(alloc, image.bytes, 0)?))
+/// Whether it is over a source in memory of these bytes.
+fn is_answered_told<Q: Question>(alloc: Global, q: &Q, bytes: Octets) -> bool {
+    match source(alloc, bytes, 0) {
+        Ok(src) => is_answered_over(alloc, q, src),
+        Err(_) => false,
+    }
 }
 
-/// Whether it is over one that does not tell its bytes.
-fn is_answered_untold<Q: Question>(
-    alloc: Global,
-    q: &Q,
-    class: Class,
-    order: Order,
-) -> Result<bool, ElfError> {
-    let image = symbol_object(alloc, class, order)?;
-    let len = image.bytes.len();
-    Ok(is_answered_over(alloc, q, Sparse::new(image.bytes, len)))
+/// Whether it is over one that does not tell them.
+fn is_answered_untold<Q: Question>(alloc: Global, q: &Q, bytes: Octets) -> bool {
+    let len = bytes.len();
+    is_answered_over(alloc, q, Sparse::new(bytes, len))
 }
 
-/// Whether it is over either, in a form.
-pub fn is_answered_in<Q: Question>(
-    alloc: Global,
-    q: &Q,
-    class: Class,
-    order: Order,
-) -> Result<bool, ElfError> {
-    Ok(is_answered_told(alloc, q, class, order)? && is_answered_untold(alloc, q, class, order)?)
+/// The bytes of the object in a form.
+fn bytes_in(alloc: Global, form: Form) -> Result<Octets, ElfError> {
+    match symbol_object(alloc, form.0, form.1) {
+        Ok(image) => Ok(image.bytes),
+        Err(e) => Err(e),
+    }
+}
+
+/// Whether it is over the first source, of the object in a form.
+fn is_answered_told_in<Q: Question>(alloc: Global, q: &Q, form: Form) -> bool {
+    match bytes_in(alloc, form) {
+        Ok(bytes) => is_answered_told(alloc, q, bytes),
+        Err(_) => false,
+    }
+}
+
+/// Whether it is over either.
+pub fn is_answered_in<Q: Question>(alloc: Global, q: &Q, form: Form) -> bool {
+    match bytes_in(alloc, form) {
+        Ok(bytes) => { is_answered_untold(alloc, q, bytes) && is_answered_told_in(alloc, q, form) }
+        Err(_) => false,
+    }
 }
 
 /// The same of class 64, the least byte first.
-pub fn is_answered<Q: Question>(alloc: Global, q: &Q) -> Result<bool, ElfError> {
-    is_answered_in(alloc, q, Class::C64, Order::Least)
+pub fn is_answered<Q: Question>(alloc: Global, q: &Q) -> bool {
+    is_answered_in(alloc, q, WIDE)
 }
 
 /// Adds a piece to section 1, at a multiple of 8.

@@ -2,7 +2,6 @@
 
 use elf_types::{ElfError, Order};
 use gelf_view::{Verdaux, Verdef, Vernaux, Verneed, verdaux_in, verdef_in, vernaux_in, verneed_in};
-use std::test::Fail;
 
 /// Bytes that tell their places, so that each number shows where it was read.
 static PLACES: [u8; 24] = [
@@ -48,12 +47,19 @@ fn is_definition(at: u64, order: Order, want: Result<Verdef, ElfError>) -> bool 
     verdef_in(&PLACES, at, order) == want
 }
 
-#[test]
-fn version_definitions_are_read(rt: HostRuntime) -> Result<(), Fail> {
-    for (at, order, want) in DEFINITIONS {
-        assert!(rt; is_definition(at, order, want));
+/// Whether the definition at each place is as stated.
+fn are_definitions() -> bool {
+    for (at, order, want) in DEFINITIONS.iter() {
+        if !is_definition(*at, *order, *want) {
+            return false;
+        }
     }
-    Ok(())
+    true
+}
+
+#[test]
+fn version_definitions_are_read(rt: HostRuntime) {
+    assert!(rt; are_definitions());
 }
 
 /// The name of a definition at 16, the least byte first.
@@ -95,12 +101,16 @@ fn is_version(at: u64, want: Result<Vernaux, ElfError>) -> bool {
     vernaux_in(&PLACES, at, Order::Greatest) == want
 }
 
+/// Whether a name, a file and a version are read, and none that passes the end.
+fn are_read() -> bool {
+    is_name(16, Ok(NAME))
+        && is_name(17, Err(ElfError::BadChain { at: 17 }))
+        && is_file(8, Ok(FILE))
+        && is_file(9, Err(ElfError::BadChain { at: 9 }))
+        && is_version(8, Ok(VERSION))
+}
+
 #[test]
-fn names_and_needs_are_read(rt: HostRuntime) -> Result<(), Fail> {
-    assert!(rt; is_name(16, Ok(NAME)));
-    assert!(rt; is_name(17, Err(ElfError::BadChain { at: 17 })));
-    assert!(rt; is_file(8, Ok(FILE)));
-    assert!(rt; is_file(9, Err(ElfError::BadChain { at: 9 })));
-    assert!(rt; is_version(8, Ok(VERSION)));
-    Ok(())
+fn names_and_needs_are_read(rt: HostRuntime) {
+    assert!(rt; are_read());
 }

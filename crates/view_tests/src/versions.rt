@@ -5,7 +5,6 @@ use elf_descriptor::Elf;
 use elf_outside::Source;
 use elf_types::{DataId, ElfError};
 use gelf_view::{AuxPlace, Verdaux, Verdef, first_entry, next_verdaux, verdaux, verdef};
-use std::test::Fail;
 
 /// A definition at 0 with one name, which is at 20.
 static DEFINITION: [u8; 28] = [
@@ -110,7 +109,6 @@ impl Question for Walk {
 }
 
 #[test]
-fn versions_are_walked(rt: HostRuntime) -> Result<(), Fail> {
-    assert!(rt; is_answered(rt.alloc(), &Walk)?);
-    Ok(())
+fn versions_are_walked(rt: HostRuntime) {
+    assert!(rt; is_answered(rt.alloc(), &Walk));
 }

@@ -1,11 +1,12 @@
 //! Items that are stored, and lists of items that are lent.
 
-use crate::questions::{NARROW, Question, STRINGS, SYMBOLS, WIDE, is_answered};
+use crate::questions::{Question, STRINGS, SYMBOLS, is_answered};
+use crate::shapes::NARROW_OBJECT;
 use elf_descriptor::Elf;
 use elf_outside::Source;
 use elf_types::{ElfError, Part, ScnId, Sym};
 use elf_xlate::Items;
-use std::test::Fail;
+use test_images::OBJECT;
 
 /// Symbol 1 of an object with two symbols.
 fn symbol<S: Source>(elf: &mut Elf<S>) -> Result<Sym, ElfError> {
@@ -96,10 +97,8 @@ impl Question for LeftBytes {
 }
 
 #[test]
-fn items_are_stored_and_left(rt: HostRuntime) -> Result<(), Fail> {
-    let alloc = rt.alloc();
-    assert!(rt; is_answered(alloc, &LargeValue, NARROW)?);
-    assert!(rt; is_answered(alloc, &LeftValues, NARROW)?);
-    assert!(rt; is_answered(alloc, &LeftBytes, WIDE)?);
-    Ok(())
+fn items_are_stored_and_left(rt: HostRuntime) {
+    assert!(rt; is_answered(rt.alloc(), &LargeValue, &NARROW_OBJECT));
+    assert!(rt; is_answered(rt.alloc(), &LeftValues, &NARROW_OBJECT));
+    assert!(rt; is_answered(rt.alloc(), &LeftBytes, &OBJECT));
 }

@@ -6,7 +6,6 @@ use elf_types::constants::{MAX_PIECES, MAX_SECTIONS, PN_XNUM};
 use elf_types::{Class, ElfError, Octets, Order, ScnId};
 use elf_xlate::Items;
 use std::alloc::Global;
-use std::test::Fail;
 
 /// An object without sections and program headers.
 pub fn created(alloc: Global) -> Elf<NoSource> {
@@ -64,11 +63,13 @@ fn pieces_are_limited(elf: &mut Elf<NoSource>) -> bool {
     stated
 }
 
+/// Whether there may be at most so many of each in an object without sections.
+fn all_are_limited(alloc: Global) -> bool {
+    let elf = &mut created(alloc);
+    segments_are_limited(elf) && sections_are_limited(elf) && pieces_are_limited(elf)
+}
+
 #[test]
-fn there_are_at_most_so_many(rt: HostRuntime) -> Result<(), Fail> {
-    let mut elf = created(rt.alloc());
-    assert!(rt; segments_are_limited(&mut elf));
-    assert!(rt; sections_are_limited(&mut elf));
-    assert!(rt; pieces_are_limited(&mut elf));
-    Ok(())
+fn there_are_at_most_so_many(rt: HostRuntime) {
+    assert!(rt; all_are_limited(rt.alloc()));
 }

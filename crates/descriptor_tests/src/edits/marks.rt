@@ -1,12 +1,10 @@
 //! Flags, and the program headers that are lent.
 
-use crate::questions::{Form, Question, WIDE, is_answered, is_answered_in_all_forms};
+use crate::questions::{Question, is_answered, is_answered_in_all_forms};
 use elf_descriptor::Elf;
 use elf_outside::Source;
 use elf_types::{DIRTY, ElfError, LAYOUT, Part};
-use std::alloc::Global;
-use std::test::Fail;
-use test_images::{Image, two_tables};
+use test_images::{OBJECT, Recipe, Start};
 
 /// Flags of the object that are set or cleared one after the other, and the answers.
 const FLAGS: [(bool, u32, Result<u32, ElfError>); 5] = [
@@ -23,8 +21,8 @@ struct ObjectFlags;
 /// Whether the flags of the object are answered as stated.
 fn are_answered<S: Source>(elf: &mut Elf<S>) -> bool {
     let mut stated = true;
-    for (set, bits, answer) in FLAGS {
-        stated &= elf.flag(Part::Object, set, bits) == answer;
+    for (set, bits, answer) in FLAGS.iter() {
+        stated &= elf.flag(Part::Object, *set, *bits) == *answer;
     }
     stated
 }
@@ -53,10 +51,6 @@ fn offsets<S: Source>(elf: &Elf<S>) -> Result<(u64, u64), ElfError> {
 }
 
 impl Question for LentSegments {
-    fn image(&self, alloc: Global, form: Form) -> Result<Image, ElfError> {
-        two_tables(alloc, form.0, form.1)
-    }
-
     fn is_answered<S: Source>(&self, elf: &mut Elf<S>) -> bool {
         put_offset(elf, 9);
         let marks = (elf.flags(Part::Segments), elf.flags(Part::Header));
@@ -64,9 +58,14 @@ impl Question for LentSegments {
     }
 }
 
+/// An object with two program headers.
+const TWO_TABLES: Recipe = Recipe {
+    start: Start::TwoTables,
+    ..OBJECT
+};
+
 #[test]
-fn parts_are_flagged_and_marked(rt: HostRuntime) -> Result<(), Fail> {
-    assert!(rt; is_answered(rt.alloc(), &ObjectFlags, WIDE)?);
-    assert!(rt; is_answered_in_all_forms(rt.alloc(), &LentSegments)?);
-    Ok(())
+fn parts_are_flagged_and_marked(rt: HostRuntime) {
+    assert!(rt; is_answered(rt.alloc(), &ObjectFlags, &OBJECT));
+    assert!(rt; is_answered_in_all_forms(rt.alloc(), &LentSegments, &TWO_TABLES));
 }

@@ -1,12 +1,12 @@
 //! Pieces that are added, and pieces whose items are replaced.
 
-use crate::questions::{Question, STRINGS, SYMBOLS, WIDE, is_answered, is_answered_in_all_forms};
+use crate::questions::{Question, STRINGS, SYMBOLS, is_answered, is_answered_in_all_forms};
 use elf_descriptor::Elf;
 use elf_outside::Source;
 use elf_types::{Class, DataId, ElfError, Kind, Octets, Part, ScnId, Sym, Syms};
 use elf_xlate::Items;
 use std::alloc::Global;
-use std::test::Fail;
+use test_images::OBJECT;
 
 /// So many bytes of the letter b.
 fn letters(alloc: Global, count: usize) -> Result<Items, ElfError> {
@@ -139,9 +139,8 @@ impl Question for LargeSymbol {
 }
 
 #[test]
-fn pieces_are_added_and_replaced(rt: HostRuntime) -> Result<(), Fail> {
-    assert!(rt; is_answered(rt.alloc(), &Emptied, WIDE)?);
-    assert!(rt; is_answered(rt.alloc(), &Aligned, WIDE)?);
-    assert!(rt; is_answered_in_all_forms(rt.alloc(), &LargeSymbol)?);
-    Ok(())
+fn pieces_are_added_and_replaced(rt: HostRuntime) {
+    assert!(rt; is_answered(rt.alloc(), &Emptied, &OBJECT));
+    assert!(rt; is_answered(rt.alloc(), &Aligned, &OBJECT));
+    assert!(rt; is_answered_in_all_forms(rt.alloc(), &LargeSymbol, &OBJECT));
 }

@@ -1,13 +1,12 @@
 //! Each refusal of an edit leaves every answer as it was.
 
-use crate::questions::{Form, NARROW, Question, asked, is_answered};
+use crate::questions::{Question, asked, is_answered};
 use elf_descriptor::Elf;
 use elf_outside::Source;
 use elf_types::{Addrs, DIRTY, DataId, Ehdr, ElfError, LAYOUT, Part, Phdr, ScnId, Shdr};
 use elf_xlate::Items;
 use std::alloc::Global;
-use std::test::Fail;
-use test_images::{Image, two_tables};
+use test_images::{NARROW, OBJECT, Recipe, Start};
 
 /// An edit.
 #[derive(Clone, Copy)]
@@ -239,6 +238,16 @@ fn leaves<S: Source, F: Source>(
     refused(elf, edit) == Some(refusal) && all_agree(elf, fresh)
 }
 
+/// Whether each refusal comes as stated and leaves what the other descriptor answers.
+fn all_leave<S: Source, F: Source>(elf: &mut Elf<S>, fresh: &Elf<F>) -> bool {
+    for (edit, refusal) in REFUSALS.iter() {
+        if !leaves(elf, fresh, *edit, *refusal) {
+            return false;
+        }
+    }
+    true
+}
+
 /// Each refusal comes as stated and leaves what another descriptor over the image answers.
 #[derive(Drop)]
 struct Refusals<'a, F: Source> {
@@ -246,38 +255,37 @@ struct Refusals<'a, F: Source> {
 }
 
 impl<F: Source> Question for Refusals<'_, F> {
-    fn image(&self, alloc: Global, form: Form) -> Result<Image, ElfError> {
-        two_tables(alloc, form.0, form.1)
-    }
-
     fn is_answered<S: Source>(&self, elf: &mut Elf<S>) -> bool {
-        let mut stated = true;
-        for (edit, refusal) in REFUSALS {
-            stated &= leaves(elf, self.fresh, edit, refusal);
-        }
-        stated
+        all_leave(elf, self.fresh)
     }
 }
+
+/// The object in class 32, the greatest byte first.
+const TWO_TABLES: Recipe = Recipe {
+    form: NARROW,
+    start: Start::TwoTables,
+    ..OBJECT
+};
 
 /// The same, begun with that other descriptor.
 struct BesideFresh;
 
 impl Question for BesideFresh {
-    fn image(&self, alloc: Global, form: Form) -> Result<Image, ElfError> {
-        two_tables(alloc, form.0, form.1)
-    }
-
     fn is_answered<S: Source>(&self, elf: &mut Elf<S>) -> bool {
-        let refusals = Refusals { fresh: &*elf };
-        match asked(elf.alloc(), &refusals, NARROW, 0) {
-            Ok(answered) => answered.is_some(),
+        match asked(
+            elf.alloc(),
+            &Refusals { fresh: &*elf },
+            NARROW,
+            &TWO_TABLES,
+            0,
+        ) {
+            Ok(asked) => asked.is_some(),
             Err(_) => false,
         }
     }
 }
 
 #[test]
-fn a_refused_edit_changes_nothing(rt: HostRuntime) -> Result<(), Fail> {
-    assert!(rt; is_answered(rt.alloc(), &BesideFresh, NARROW)?);
-    Ok(())
+fn a_refused_edit_changes_nothing(rt: HostRuntime) {
+    assert!(rt; is_answered(rt.alloc(), &BesideFresh, &TWO_TABLES));
 }

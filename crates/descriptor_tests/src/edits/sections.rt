@@ -1,13 +1,14 @@
 //! Sections that are added, and headers that are stored.
 
 use super::limits::created;
-use crate::questions::{Question, WIDE, is_answered, is_answered_in_all_forms};
+use crate::questions::{Question, is_answered, is_answered_in_all_forms};
 use elf_descriptor::Elf;
 use elf_outside::{NoSource, Source};
 use elf_types::constants::SHT_PROGBITS;
 use elf_types::{DIRTY, DataId, ElfError, LAYOUT, NULL_SECTION, Octets, Part, ScnId, Shdr};
 use elf_xlate::Items;
-use std::test::Fail;
+use std::alloc::Global;
+use test_images::OBJECT;
 
 /// The header of a section of bytes at a multiple of 4.
 const BYTES: Shdr = Shdr {
@@ -74,10 +75,9 @@ impl Question for Placed {
 }
 
 #[test]
-fn headers_are_added_and_stored(rt: HostRuntime) -> Result<(), Fail> {
-    assert!(rt; is_answered_in_all_forms(rt.alloc(), &Grown)?);
-    assert!(rt; is_answered(rt.alloc(), &Placed, WIDE)?);
-    Ok(())
+fn headers_are_added_and_stored(rt: HostRuntime) {
+    assert!(rt; is_answered_in_all_forms(rt.alloc(), &Grown, &OBJECT));
+    assert!(rt; is_answered(rt.alloc(), &Placed, &OBJECT));
 }
 
 /// Whether the first two sections of an object have the numbers 1 and 2, behind section 0.
@@ -99,11 +99,12 @@ fn is_made_once(elf: &mut Elf<NoSource>) -> bool {
     stated
 }
 
+/// Whether both are so of objects without sections.
+fn are_so(alloc: Global) -> bool {
+    are_numbered(&mut created(alloc)) && is_made_once(&mut created(alloc))
+}
+
 #[test]
-fn section_0_comes_with_the_first_or_alone(rt: HostRuntime) -> Result<(), Fail> {
-    let mut elf = created(rt.alloc());
-    assert!(rt; are_numbered(&mut elf));
-    let mut elf = created(rt.alloc());
-    assert!(rt; is_made_once(&mut elf));
-    Ok(())
+fn section_0_comes_with_the_first_or_alone(rt: HostRuntime) {
+    assert!(rt; are_so(rt.alloc()));
 }

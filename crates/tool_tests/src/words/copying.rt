@@ -1,9 +1,7 @@
 //! The changes of copy. What is wanted of a list stands behind its letter, each item behind a bar.
 
-use super::{Comparison, Reading, Row, all_hold, are, is};
-use elf_types::List;
-use std::test::Fail;
-use tool_text::{Command, CopyChanges, NamedBits, NamedFile, Renaming, Text};
+use super::{Comparison, Reading, Row, Worded, all_hold, are, are_two, is};
+use tool_text::{Command, CopyChanges, NamedBits, NamedFile, Renaming};
 
 /// The lists of copy that have items, for the output O and the file F.
 struct Letters;
@@ -80,63 +78,35 @@ const ITEMS: [Row; 12] = [
     ),
 ];
 
-/// Whether a word is these two texts with `=` between them.
-fn is_pair(word: &str, first: &Text, second: &Text) -> bool {
-    word.split_once('=') == Some((first.as_str(), second.as_str()))
-}
-
-/// Whether a word is this name, `=` and these flags.
-fn is_bits(word: &str, named: &NamedBits) -> bool {
-    match word.split_once('=') {
-        Some((name, bits)) => is(&named.name, name) && bits.parse() == Ok(named.bits),
-        None => false,
+impl Worded for NamedFile {
+    fn is_word(&self, word: &str) -> bool {
+        are_two(&self.name, &self.file, word, '=')
     }
 }
 
-/// Whether these are the files.
-fn are_files(named: &List<NamedFile>, wanted: &str) -> bool {
-    let mut words = wanted.split('|').skip(1);
-    for each in named.as_slice() {
-        match words.next() {
-            Some(word) if is_pair(word, &each.name, &each.file) => {}
-            _ => return false,
+impl Worded for Renaming {
+    fn is_word(&self, word: &str) -> bool {
+        are_two(&self.old, &self.new, word, '=')
+    }
+}
+
+impl Worded for NamedBits {
+    fn is_word(&self, word: &str) -> bool {
+        match word.split_once('=') {
+            Some((name, bits)) => is(&self.name, name) && bits.parse() == Ok(self.bits),
+            None => false,
         }
     }
-    words.next().is_none()
-}
-
-/// Whether these are the new names.
-fn are_renamings(renamings: &List<Renaming>, wanted: &str) -> bool {
-    let mut words = wanted.split('|').skip(1);
-    for each in renamings.as_slice() {
-        match words.next() {
-            Some(word) if is_pair(word, &each.old, &each.new) => {}
-            _ => return false,
-        }
-    }
-    words.next().is_none()
-}
-
-/// Whether these are the flags.
-fn are_flags(named: &List<NamedBits>, wanted: &str) -> bool {
-    let mut words = wanted.split('|').skip(1);
-    for each in named.as_slice() {
-        match words.next() {
-            Some(word) if is_bits(word, each) => {}
-            _ => return false,
-        }
-    }
-    words.next().is_none()
 }
 
 /// Whether the list of the letter that the text begins with has these items.
 fn are_items(changes: &CopyChanges, wanted: &str) -> bool {
     match wanted.as_bytes().first() {
-        Some(b'R') => are(&changes.remove, wanted),
-        Some(b'u') => are_files(&changes.update, wanted),
-        Some(b'n') => are_renamings(&changes.rename, wanted),
-        Some(b'f') => are_flags(&changes.flags, wanted),
-        Some(b'a') => are_files(&changes.add, wanted),
+        Some(b'R') => are(changes.remove.as_slice(), wanted),
+        Some(b'u') => are(changes.update.as_slice(), wanted),
+        Some(b'n') => are(changes.rename.as_slice(), wanted),
+        Some(b'f') => are(changes.flags.as_slice(), wanted),
+        Some(b'a') => are(changes.add.as_slice(), wanted),
         _ => false,
     }
 }
@@ -151,7 +121,7 @@ impl Comparison for Items {
 }
 
 #[test]
-fn copy_has_a_list_for_each_letter(rt: HostRuntime) -> Result<(), Fail> {
-    all_hold::<Letters>(&rt, rt.alloc(), &LETTERS)?;
-    all_hold::<Items>(&rt, rt.alloc(), &ITEMS)
+fn copy_has_a_list_for_each_letter(rt: HostRuntime) {
+    assert!(rt; all_hold::<Letters>(rt.alloc(), &LETTERS));
+    assert!(rt; all_hold::<Items>(rt.alloc(), &ITEMS));
 }

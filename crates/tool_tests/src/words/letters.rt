@@ -3,13 +3,14 @@
 use super::{Comparison, Reading, is_read_as};
 use elf_types::ElfError;
 use std::alloc::Global;
-use std::test::Fail;
 
 /// The two parts of a line, and the letters that can stand between them.
 type Row = (&'static str, &'static str, &'static str);
 
-// A dash makes the word `--`, behind which the operands stand.
-const ALONE: [Row; 12] = [
+/// First letters that stand alone, then those that take the rest of their word, and those that take
+/// the next word.
+const LETTERS: [Row; 31] = [
+    // A dash makes the word `--`, behind which the operands stand.
     ("readelf|-", "|F", "SVdhlnrs"),
     ("nm|-", "|F", "-APguv"),
     ("size|-", "|F", "-"),
@@ -22,10 +23,6 @@ const ALONE: [Row; 12] = [
     ("copy|-oO|-", "|F", "-"),
     ("unstrip|-oX|-", "|O|D", "-"),
     ("lines|-", "|F", "-"),
-];
-
-/// Letters that take the rest of their word.
-const JOINED: [Row; 13] = [
     ("readelf|-h|-", "x|F", ""),
     ("nm|-", "x|F", "t"),
     ("size|-", "x|F", ""),
@@ -39,10 +36,7 @@ const JOINED: [Row; 13] = [
     ("copy|-oO|-", "A=1|F", "Rafnou"),
     ("unstrip|-oX|-", "A|O|D", "o"),
     ("lines|-", "x|F", ""),
-];
-
-// The next word is no option of its own, so a letter that leaves it there is refused.
-const SEPARATE: [Row; 6] = [
+    // The next word is no option of its own, so a letter that leaves it there is refused.
     ("strip|-oO|-g", "|-A|--|F", "Rfo"),
     ("calls|-", "|-A|--|F|S", "o"),
     ("selftest|-oO|-", "|-A|--|1", "o"),
@@ -69,39 +63,36 @@ fn put_line(line: &mut String, before: &str, letter: char, after: &str) -> Resul
 }
 
 /// Whether a line with this letter between its parts is read.
-fn is_read(alloc: Global, row: &Row, letter: char) -> Result<bool, ElfError> {
+fn is_read(alloc: Global, row: &Row, letter: char) -> bool {
     let mut line = String::new(alloc);
     match put_line(&mut line, row.0, letter, row.1) {
         Ok(()) => is_read_as::<AnyCommand>(alloc, line.as_str(), ""),
-        Err(e) => Err(e),
+        Err(_) => false,
     }
 }
 
 /// Whether just the wanted ones of the characters from `!` to `z` can stand between the parts.
-fn is_so(alloc: Global, row: &Row) -> Result<bool, ElfError> {
+fn is_so(alloc: Global, row: &Row) -> bool {
     for byte in b'!'..=b'z' {
         let letter = char::from(byte);
-        if is_read(alloc, row, letter)? != row.2.contains(letter) {
-            return Ok(false);
+        if is_read(alloc, row, letter) != row.2.contains(letter) {
+            return false;
         }
     }
-    Ok(true)
+    true
 }
 
 /// Whether each row is so.
-fn are_so(alloc: Global, rows: &[Row]) -> Result<bool, ElfError> {
+fn are_so(alloc: Global, rows: &[Row]) -> bool {
     for row in rows {
-        if !is_so(alloc, row)? {
-            return Ok(false);
+        if !is_so(alloc, row) {
+            return false;
         }
     }
-    Ok(true)
+    true
 }
 
 #[test]
-fn each_command_has_these_letters(rt: HostRuntime) -> Result<(), Fail> {
-    assert!(rt; are_so(rt.alloc(), &ALONE)?);
-    assert!(rt; are_so(rt.alloc(), &JOINED)?);
-    assert!(rt; are_so(rt.alloc(), &SEPARATE)?);
-    Ok(())
+fn each_command_has_these_letters(rt: HostRuntime) {
+    assert!(rt; are_so(rt.alloc(), &LETTERS));
 }

@@ -1,7 +1,6 @@
 //! The commands that list what files hold.
 
 use super::{Comparison, Reading, Row, all_hold, are};
-use std::test::Fail;
 use tool_text::{Args, Command, NmOptions, Radix, ReadelfParts, StringsOptions};
 
 /// The letters of readelf's parts, for the file F.
@@ -40,7 +39,7 @@ impl Comparison for Readelf {
     fn holds(read: &Reading, wanted: &str) -> bool {
         match read {
             Ok(Command::Readelf { parts, files }) => *parts == parts_named(wanted)
-                && are(files, "|F"),
+                && are(files.as_slice(), "|F"),
             _ => false,
         }
     }
@@ -93,7 +92,8 @@ fn nm_named(letters: &str) -> NmOptions {
 impl Comparison for Nm {
     fn holds(read: &Reading, wanted: &str) -> bool {
         match read {
-            Ok(Command::Nm { options, files }) => *options == nm_named(wanted) && are(files, "|F"),
+            Ok(Command::Nm { options, files }) => *options == nm_named(wanted)
+                && are(files.as_slice(), "|F"),
             _ => false,
         }
     }
@@ -131,7 +131,7 @@ impl Comparison for Strings {
     fn holds(read: &Reading, wanted: &str) -> bool {
         match read {
             Ok(Command::Strings { options, files }) => {
-                are_options(options, wanted) && are(files, "|F")
+                are_options(options, wanted) && are(files.as_slice(), "|F")
             }
             _ => false,
         }
@@ -170,7 +170,7 @@ fn files(command: &Command) -> Option<&Args> {
 /// Whether a command lists these files.
 fn lists(command: &Command, wanted: &str) -> bool {
     match files(command) {
-        Some(files) => are(files, wanted),
+        Some(files) => are(files.as_slice(), wanted),
         None => false,
     }
 }
@@ -185,21 +185,21 @@ impl Comparison for Operands {
 }
 
 #[test]
-fn readelf_takes_letters(rt: HostRuntime) -> Result<(), Fail> {
-    all_hold::<Readelf>(&rt, rt.alloc(), &READELF)
+fn readelf_takes_letters(rt: HostRuntime) {
+    assert!(rt; all_hold::<Readelf>(rt.alloc(), &READELF));
 }
 
 #[test]
-fn nm_takes_letters_and_the_last_radix(rt: HostRuntime) -> Result<(), Fail> {
-    all_hold::<Nm>(&rt, rt.alloc(), &NM)
+fn nm_takes_letters_and_the_last_radix(rt: HostRuntime) {
+    assert!(rt; all_hold::<Nm>(rt.alloc(), &NM));
 }
 
 #[test]
-fn strings_takes_letters_the_last_radix_and_the_last_length(rt: HostRuntime) -> Result<(), Fail> {
-    all_hold::<Strings>(&rt, rt.alloc(), &STRINGS)
+fn strings_takes_letters_the_last_radix_and_the_last_length(rt: HostRuntime) {
+    assert!(rt; all_hold::<Strings>(rt.alloc(), &STRINGS));
 }
 
 #[test]
-fn files_are_the_words_behind_the_options(rt: HostRuntime) -> Result<(), Fail> {
-    all_hold::<Operands>(&rt, rt.alloc(), &OPERANDS)
+fn files_are_the_words_behind_the_options(rt: HostRuntime) {
+    assert!(rt; all_hold::<Operands>(rt.alloc(), &OPERANDS));
 }

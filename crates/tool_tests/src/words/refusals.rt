@@ -1,10 +1,7 @@
 //! The usage lines, and the words that they refuse.
 
 use super::{Comparison, Reading, are_read_as, is_read_as};
-use elf_types::ElfError;
 use std::alloc::Global;
-use std::process::Abort;
-use std::test::Fail;
 use tool_text::{Args, Usage, WordsFault};
 
 /// Lines that name no command.
@@ -22,8 +19,10 @@ const NO_COMMAND: [&str; 11] = [
     "nms|F",
 ];
 
-/// Lines of the commands that list: without a file, a letter or a good option-argument.
-const LISTING: [&str; 56] = [
+/// Lines of the commands that list: without a file, a letter or a good option-argument; of those that
+/// write: without a file, with too many, or with the same one twice; and of copy: the same, and bad
+/// option-arguments.
+const COMMANDS: [&str; 155] = [
     "readelf",
     "readelf|F",
     "readelf|-h",
@@ -80,10 +79,6 @@ const LISTING: [&str; 56] = [
     "lines",
     "lines|--",
     "lines|-l|F",
-];
-
-/// Lines of the commands that write: without a file, with too many, or with the same one twice.
-const WRITING: [&str; 60] = [
     "strip",
     "strip|F",
     "strip|-oO",
@@ -144,10 +139,6 @@ const WRITING: [&str; 60] = [
     "unstrip|-oX|O|O",
     "unstrip|-oX|-oD|O|D",
     "unstrip|-x|-oX|O|D",
-];
-
-/// Lines of copy: the same, and bad option-arguments.
-const COPY: [&str; 39] = [
     "copy",
     "copy|F",
     "copy|-oO",
@@ -207,34 +198,30 @@ impl Comparison for Refused {
     }
 }
 
-/// The first line that is not refused with the usage line of its command, or none.
-fn first_wrong(alloc: Global, lines: &[&'static str]) -> Result<Option<&'static str>, ElfError> {
+/// Whether each line is refused so.
+fn are_refused(alloc: Global, lines: &[&str]) -> bool {
     for line in lines {
-        if !is_read_as::<Refused>(alloc, line, line)? {
-            return Ok(Some(*line));
+        if !is_read_as::<Refused>(alloc, line, line) {
+            return false;
         }
     }
-    Ok(None)
+    true
 }
 
-/// Asserts that each line is refused so.
-fn are_refused(rt: &impl Abort, alloc: Global, lines: &[&'static str]) -> Result<(), Fail> {
-    assert_eq!(rt; first_wrong(alloc, lines)?, None);
-    Ok(())
-}
-
-#[test]
-fn words_that_name_no_command_are_refused(rt: HostRuntime) -> Result<(), Fail> {
-    let none = Args::new(rt.alloc());
-    assert!(rt; are_read_as::<Refused>(rt.alloc(), &none, ""));
-    are_refused(&rt, rt.alloc(), &NO_COMMAND)
+/// Whether no words at all are.
+fn none_is_refused(alloc: Global) -> bool {
+    are_read_as::<Refused>(alloc, &Args::new(alloc), "")
 }
 
 #[test]
-fn commands_are_refused_with_their_usage_line(rt: HostRuntime) -> Result<(), Fail> {
-    are_refused(&rt, rt.alloc(), &LISTING)?;
-    are_refused(&rt, rt.alloc(), &WRITING)?;
-    are_refused(&rt, rt.alloc(), &COPY)
+fn words_that_name_no_command_are_refused(rt: HostRuntime) {
+    assert!(rt; none_is_refused(rt.alloc()));
+    assert!(rt; are_refused(rt.alloc(), &NO_COMMAND));
+}
+
+#[test]
+fn commands_are_refused_with_their_usage_line(rt: HostRuntime) {
+    assert!(rt; are_refused(rt.alloc(), &COMMANDS));
 }
 
 /// The commands by their names, and their usage lines.
@@ -272,14 +259,17 @@ const USAGE_LINES: [(&str, &str); 13] = [
     ),
 ];
 
-/// Whether this is the usage line of a command.
-fn is_usage_line(name: &str, line: &str) -> bool {
-    usage_named(name).line() == line
+/// Whether these are the usage lines of the commands.
+fn are_usage_lines(rows: &[(&str, &str)]) -> bool {
+    for (name, line) in rows {
+        if usage_named(name).line() != *line {
+            return false;
+        }
+    }
+    true
 }
 
 #[test]
 fn usage_lines_are_the_stated_ones(rt: HostRuntime) {
-    for (name, line) in USAGE_LINES.iter() {
-        assert!(rt; is_usage_line(name, line));
-    }
+    assert!(rt; are_usage_lines(&USAGE_LINES));
 }

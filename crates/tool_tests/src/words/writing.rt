@@ -1,7 +1,6 @@
 //! The commands that write a file, but for the changes of copy.
 
 use super::{Comparison, Reading, Row, all_hold, are, are_two, is};
-use std::test::Fail;
 use tool_text::{CallsOutput, Command, StripOptions, Text};
 
 /// Whether a text is this one, behind `=`, or there is neither.
@@ -75,7 +74,7 @@ const STRIP_NAMES: [Row; 3] = [
 impl Comparison for StripNames {
     fn holds(read: &Reading, wanted: &str) -> bool {
         match strip_options(read) {
-            Some(options) => !options.debug_only && are(&options.names, wanted),
+            Some(options) => !options.debug_only && are(options.names.as_slice(), wanted),
             None => false,
         }
     }
@@ -133,8 +132,8 @@ const TWO_FILES: [Row; 9] = [
 impl Comparison for TwoFiles {
     fn holds(read: &Reading, wanted: &str) -> bool {
         match read {
-            Ok(Command::Calls { file, script, .. }) => are_two(file, script, wanted),
-            Ok(Command::Rehash { out, file }) => are_two(out, file, wanted),
+            Ok(Command::Calls { file, script, .. }) => are_two(file, script, wanted, '|'),
+            Ok(Command::Rehash { out, file }) => are_two(out, file, wanted, '|'),
             _ => false,
         }
     }
@@ -177,26 +176,26 @@ impl Comparison for Unstrip {
                     stripped,
                     debug,
                 },
-            ) => is(out, wanted) && are_two(stripped, debug, "S|D"),
+            ) => is(out, wanted) && are_two(stripped, debug, "S|D", '|'),
             _ => false,
         }
     }
 }
 
 #[test]
-fn strip_takes_names_and_the_last_files(rt: HostRuntime) -> Result<(), Fail> {
-    all_hold::<Strip>(&rt, rt.alloc(), &STRIP)?;
-    all_hold::<StripNames>(&rt, rt.alloc(), &STRIP_NAMES)
+fn strip_takes_names_and_the_last_files(rt: HostRuntime) {
+    assert!(rt; all_hold::<Strip>(rt.alloc(), &STRIP));
+    assert!(rt; all_hold::<StripNames>(rt.alloc(), &STRIP_NAMES));
 }
 
 #[test]
-fn calls_takes_two_files_and_the_last_output_or_none(rt: HostRuntime) -> Result<(), Fail> {
-    all_hold::<Output>(&rt, rt.alloc(), &OUTPUTS)?;
-    all_hold::<TwoFiles>(&rt, rt.alloc(), &TWO_FILES)
+fn calls_takes_two_files_and_the_last_output_or_none(rt: HostRuntime) {
+    assert!(rt; all_hold::<Output>(rt.alloc(), &OUTPUTS));
+    assert!(rt; all_hold::<TwoFiles>(rt.alloc(), &TWO_FILES));
 }
 
 #[test]
-fn selftest_and_unstrip_take_the_last_output(rt: HostRuntime) -> Result<(), Fail> {
-    all_hold::<Count>(&rt, rt.alloc(), &COUNTS)?;
-    all_hold::<Unstrip>(&rt, rt.alloc(), &UNSTRIP)
+fn selftest_and_unstrip_take_the_last_output(rt: HostRuntime) {
+    assert!(rt; all_hold::<Count>(rt.alloc(), &COUNTS));
+    assert!(rt; all_hold::<Unstrip>(rt.alloc(), &UNSTRIP));
 }
