@@ -1,8 +1,8 @@
 //! Scripts that are run on small images, over sources that tell their bytes or do not.
 
-use call_script::{Call, Calls, read_script};
+use calls_apply::apply;
+use calls_script::{Call, Calls, read_script};
 use calls_tool::AnswerLine;
-use elf_calls::apply;
 use elf_descriptor::Elf;
 use elf_outside::Source;
 use elf_types::{Class, ElfError, Octets, Order};

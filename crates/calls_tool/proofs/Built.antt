@@ -6,16 +6,16 @@ use Rattle.elf_types.specs.Answers.{or_refused, ◌>>=◌}
 use Rattle.elf_types.specs.declared.records.ScnId.{ScnId}
 use Rattle.elf_types.specs.declared.records.Kind.{Kind}
 use Rattle.elf_types.specs.declared.records.Kind.TheVariants as kinds
-use Rattle.call_script.specs.declared.script.TheConstants.{MAX_SCRIPT}
-use Rattle.call_script.specs.declared.calls.Call.{Call}
-use Rattle.call_script.specs.declared.calls.Call.TheVariants as call
-use Rattle.call_script.specs.declared.faults.Why.{Why}
-use Rattle.call_script.specs.declared.faults.Why.TheVariants.{TooLong, BadCall, BadWords, BadNumber}
-use Rattle.call_script.specs.Parts.{Part, ◌&◌, ◌⇒◌, just, not_built, optional, one_of, value_in, no_words, words_of, u8, u32, u64, hex, name}
-use Rattle.call_script.specs.Lines.{section, piece, new_data, item_set, object_parts, flag_words, sets, phdr_line, shdr_line, pieces_line, data_line, raw_line, item_line, str_line, note_line, find_line, set_line, addall_line, newphdr_line, newdata_line, fill_line, replace_line, flag_line, calls}
-use Rattle.call_script.specs.Fields.{ehdr_fields, phdr_fields, shdr_fields, item_fields}
-use Rattle.call_script.specs.Script.{call_at, call_of, on_line, is_passed_over, line_call, calls_from, lines_of, calls_of}
-use Rattle.elf_calls.specs.Stated.{is_built}
+use Rattle.calls_script.specs.declared.script.TheConstants.{MAX_SCRIPT}
+use Rattle.calls_script.specs.declared.calls.Call.{Call}
+use Rattle.calls_script.specs.declared.calls.Call.TheVariants as call
+use Rattle.calls_script.specs.declared.faults.Why.{Why}
+use Rattle.calls_script.specs.declared.faults.Why.TheVariants.{TooLong, BadCall, BadWords, BadNumber}
+use Rattle.calls_script.specs.Parts.{Part, ◌&◌, ◌⇒◌, just, not_built, optional, one_of, value_in, no_words, words_of, u8, u32, u64, hex, name}
+use Rattle.calls_script.specs.Lines.{section, piece, new_data, item_set, object_parts, flag_words, sets, phdr_line, shdr_line, pieces_line, data_line, raw_line, item_line, str_line, note_line, find_line, set_line, addall_line, newphdr_line, newdata_line, fill_line, replace_line, flag_line, calls}
+use Rattle.calls_script.specs.Fields.{ehdr_fields, phdr_fields, shdr_fields, item_fields}
+use Rattle.calls_script.specs.Script.{call_at, call_of, on_line, is_passed_over, line_call, calls_from, lines_of, calls_of}
+use Rattle.calls_apply.specs.Stated.{is_built}
 use Rattle.calls_tool.specs.Runs.{AreBuilt}
 
 abbrev IsBuilt : Call → Type 0

@@ -22,7 +22,7 @@ use Rattle.tool_output.proofs.SourceLemmas.{stated_error, refuses_after}
 use Rattle.object_output.specs.Images.{file_object}
 use Rattle.object_output.specs.Refusals.{Refuses}
 use Rattle.object_output.proofs.SourceSteps.{leaves_then, rose_from_first}
-use Rattle.call_script.specs.declared.calls.Call.{Call}
+use Rattle.calls_script.specs.declared.calls.Call.{Call}
 use Rattle.calls_tool.specs.Reads.{read_by, homes_read}
 use Rattle.calls_tool.specs.Runs.{stated_calls, RunsCalls}
 use Rattle.calls_tool.specs.Files.{calls_file_report, calls_asks}

@@ -27,10 +27,10 @@ use Rattle.tool_output.proofs.ReportLemmas.{reports_nothing}
 use Rattle.tool_output.proofs.UnderWayLemmas.{begins, goes_on, stops_at, is_given}
 use Rattle.object_output.specs.Steps.{SourceRose}
 use Rattle.object_output.proofs.SourceSteps.{left_after}
-use Rattle.call_script.specs.declared.calls.Call.{Call}
-use Rattle.elf_calls.specs.declared.answers.Answer.{Answer}
-use Rattle.elf_calls.specs.Stated.{stated}
-use Rattle.elf_calls.specs.Applies.{Meets, Leaves, at_any_step}
+use Rattle.calls_script.specs.declared.calls.Call.{Call}
+use Rattle.calls_apply.specs.declared.answers.Answer.{Answer}
+use Rattle.calls_apply.specs.Stated.{stated}
+use Rattle.calls_apply.specs.Applies.{Meets, Leaves, at_any_step}
 use Rattle.calls_tool.specs.Reads.{read_by, LeavesState, ReadsHomes}
 use Rattle.calls_tool.specs.Runs.{stated_calls, answer_report, calls_report, stop_in, ShowsAnswer, RunsCall, IsFrontOf, RunsCalls}
 use Rattle.calls_tool.proofs.OnceSums.{has}

@@ -12,12 +12,12 @@ use Rattle.elf_object.specs.Due.{unless_refused, is_refused_unread, when_clean, 
 use Rattle.elf_object.specs.Runs.{looked, after_look, set_item, added}
 use Rattle.elf_object.specs.Steps.{with_own}
 use Rattle.symbol_lookup.specs.Lookups.{link_of, linear_needs, linear_refusal, table_homes}
-use Rattle.call_script.specs.declared.calls.Call.{Call}
-use Rattle.call_script.specs.declared.calls.Call.TheVariants as call
-use Rattle.call_script.specs.declared.calls.ItemSet.{ItemSet}
-use Rattle.call_script.specs.declared.calls.ItemSet.TheVariants as set
-use Rattle.elf_calls.specs.Fields.{ehdr_with, phdr_with, shdr_with, sym_with, rel_with, rela_with, dyn_with}
-use Rattle.elf_calls.specs.Stated.{stated, item_set}
+use Rattle.calls_script.specs.declared.calls.Call.{Call}
+use Rattle.calls_script.specs.declared.calls.Call.TheVariants as call
+use Rattle.calls_script.specs.declared.calls.ItemSet.{ItemSet}
+use Rattle.calls_script.specs.declared.calls.ItemSet.TheVariants as set
+use Rattle.calls_apply.specs.Fields.{ehdr_with, phdr_with, shdr_with, sym_with, rel_with, rela_with, dyn_with}
+use Rattle.calls_apply.specs.Stated.{stated, item_set}
 use Rattle.calls_tool.proofs.OnceSums.{Once, once_none, once_one, once_others}
 use Rattle.calls_tool.proofs.HomeSteps.{KeepsHomes, homes_same, keeps_ehdr, keeps_phdr, keeps_shdr, keeps_own, keeps_or_same, keeps_look, keeps_new_section, keeps_new_phdrs, keeps_new_piece, keeps_fill, keeps_flags}
 

@@ -4,7 +4,7 @@ use Rattle.elf_ident.specs.Front.{front_bytes}
 use Rattle.tool_output.specs.Names.{Name}
 use Rattle.tool_output.specs.Reports.{Report}
 use Rattle.object_output.specs.Images.{file_object, object_report}
-use Rattle.call_script.specs.declared.calls.Call.{Call}
+use Rattle.calls_script.specs.declared.calls.Call.{Call}
 use Rattle.calls_tool.specs.Reads.{homes_read}
 use Rattle.calls_tool.specs.Runs.{calls_report, stated_calls}
 

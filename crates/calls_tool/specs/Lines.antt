@@ -16,13 +16,13 @@ use Rattle.elf_types.specs.declared.records.Rela.{Rela as RelaRecord}
 use Rattle.elf_types.specs.declared.records.Dyn.{Dyn as DynRecord}
 use Rattle.elf_types.specs.declared.errors.ElfError.{ElfError}
 use Rattle.elf_types.specs.Text.{hex, kind_text, part_text, error_text}
-use Rattle.elf_calls.specs.declared.answers.Item.{Item as ItemRecord}
-use Rattle.elf_calls.specs.declared.answers.Item.TheVariants as items
+use Rattle.calls_apply.specs.declared.answers.Item.{Item as ItemRecord}
+use Rattle.calls_apply.specs.declared.answers.Item.TheVariants as items
 use Rattle.gelf_view.specs.declared.notes.NoteAt.{NoteAt}
 use Rattle.calls_tool.specs.declared.lines.columns.Number.{Number}
 use Rattle.calls_tool.specs.declared.lines.columns.Number.TheVariants.{Decimal, Hex, Signed}
-use Rattle.elf_calls.specs.declared.answers.Answer.{Answer}
-use Rattle.elf_calls.specs.declared.answers.Answer.TheVariants.{Ehdr, Phdr, Shdr, Pieces, Data, Raw, Item, Str, Note, NoteEnd, Found, FoundNone, Done, Changed, Section, Piece, Flags, Size, Refused}
+use Rattle.calls_apply.specs.declared.answers.Answer.{Answer}
+use Rattle.calls_apply.specs.declared.answers.Answer.TheVariants.{Ehdr, Phdr, Shdr, Pieces, Data, Raw, Item, Str, Note, NoteEnd, Found, FoundNone, Done, Changed, Section, Piece, Flags, Size, Refused}
 
 -- ---- Columns
 

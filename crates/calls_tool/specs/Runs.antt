@@ -14,10 +14,10 @@ use Rattle.tool_output.specs.Stops.{stop_of}
 use Rattle.tool_output.specs.Reports.{Report, Reports, shown, found, reports_of}
 use Rattle.tool_output.specs.Steps.{LeavesOutputs}
 use Rattle.object_output.specs.Steps.{SourceRose}
-use Rattle.call_script.specs.declared.calls.Call.{Call}
-use Rattle.elf_calls.specs.declared.answers.Answer.{Answer}
-use Rattle.elf_calls.specs.declared.answers.Answer.TheVariants.{Refused}
-use Rattle.elf_calls.specs.Stated.{stated, is_built}
+use Rattle.calls_script.specs.declared.calls.Call.{Call}
+use Rattle.calls_apply.specs.declared.answers.Answer.{Answer}
+use Rattle.calls_apply.specs.declared.answers.Answer.TheVariants.{Refused}
+use Rattle.calls_apply.specs.Stated.{stated, is_built}
 use Rattle.calls_tool.specs.Lines.{answer_line}
 use Rattle.calls_tool.specs.Reads.{read_by, LeavesState, ReadsHomes}
 

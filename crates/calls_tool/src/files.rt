@@ -7,7 +7,7 @@ ghost use Rattle.calls_tool.specs.Runs.{AreBuilt};
 ghost use Rattle.calls_tool.specs.Files.{calls_file_report, calls_asks};
 
 use crate::runs::show_calls;
-use call_script::Call;
+use calls_script::Call;
 use elf_outside::{Sink, Source};
 use elf_types::ElfError;
 use object_output::begin_image;

@@ -13,7 +13,7 @@ use crate::lines::columns::Number::{Decimal, Hex};
 use crate::lines::columns::{put_column, put_columns, put_hex_bytes};
 use crate::lines::headers::{put_ehdr, put_phdr, put_shdr};
 use crate::lines::items::put_item;
-use elf_calls::Answer;
+use calls_apply::Answer;
 use elf_types::{
     ElfError, Kind, Octets, Part, kind_name, put_bytes, put_error, put_part, put_text,
 };

@@ -1,13 +1,13 @@
 //! The calls of a script, run on a descriptor one after another.
 
 ghost use Rattle.std.specs.Prelude.{◌≡◌, true};
-ghost use Rattle.elf_calls.specs.Applies.{result_of};
-ghost use Rattle.elf_calls.specs.Stated.{stated, is_built};
+ghost use Rattle.calls_apply.specs.Applies.{result_of};
+ghost use Rattle.calls_apply.specs.Stated.{stated, is_built};
 ghost use Rattle.calls_tool.specs.Runs.{AreBuilt, ShowsAnswer, RunsCall, RunsCalls};
 
 use crate::lines::AnswerLine;
-use call_script::Call;
-use elf_calls::{Answer, apply};
+use calls_apply::{Answer, apply};
+use calls_script::Call;
 use elf_descriptor::Elf;
 use elf_outside::{Sink, Source};
 use tool_output::{Outputs, Stop};

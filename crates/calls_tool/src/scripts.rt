@@ -5,7 +5,7 @@ ghost use Rattle.tool_output.specs.Reports.{refusal};
 ghost use Rattle.tool_output.specs.Steps.{Performs, LeavesOutputs};
 ghost use Rattle.calls_tool.specs.Scripts.{bad_line_text, ReadsScript, IsScript, TellsScript};
 
-use call_script::{Calls, MAX_SCRIPT, ScriptFault, Why, read_script};
+use calls_script::{Calls, MAX_SCRIPT, ScriptFault, Why, read_script};
 use elf_outside::reads::read_range;
 use elf_outside::{Sink, Source};
 use elf_types::{ElfError, Octets, put_decimal, put_text};

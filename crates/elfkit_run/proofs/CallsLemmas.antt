@@ -17,7 +17,7 @@ use Rattle.tool_output.specs.Outcomes.{Does, report_outcome}
 use Rattle.tool_output.proofs.StepLemmas.{keeps_then, writes_went, writes_then, writes_stop, writes_nothing, stops_as}
 use Rattle.tool_output.proofs.FileLemmas.{told_after, only_reads_then, totals_then, leaves_stop, report_on_same, asks_on_same}
 use Rattle.tool_output.proofs.OutcomeLemmas.{reads_done}
-use Rattle.call_script.specs.declared.calls.Call.{Call}
+use Rattle.calls_script.specs.declared.calls.Call.{Call}
 use Rattle.calls_tool.specs.Runs.{AreBuilt}
 use Rattle.calls_tool.specs.Scripts.{script_report, calls_if_any}
 use Rattle.calls_tool.specs.Files.{calls_file_report}

@@ -2,7 +2,7 @@
 use Rattle.std.specs.Prelude.{ℕ, List, None, codes}
 use Rattle.elf_outside.specs.Names.{Map}
 use Rattle.tool_output.specs.Outcomes.{Outcome}
-use Rattle.elf_lint.specs.Rules.{lint_report}
+use Rattle.elflint_tool.specs.Rules.{lint_report}
 use Rattle.elfkit_run.specs.Objects.{objects_outcome}
 
 -- the files in their order, and the members of one that is an archive; what it reads has no bound

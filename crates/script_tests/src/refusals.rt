@@ -1,7 +1,7 @@
 //! Why lines of a script are refused, and which of several causes counts.
 
 use crate::rows::{calls_in_comment, fault_of, fault_of_comment, first_accepted, first_misread};
-use call_script::{MAX_SCRIPT, Why};
+use calls_script::{MAX_SCRIPT, Why};
 use std::test::*;
 
 /// Lines whose first word is no call.

@@ -1,7 +1,7 @@
 //! Scripts in tables, and which row is not as it says.
 
 use crate::shown::put_call;
-use call_script::{ScriptFault, Why, read_script};
+use calls_script::{ScriptFault, Why, read_script};
 use elf_types::{ElfError, Octets};
 use std::alloc::Global;
 

@@ -1,6 +1,6 @@
 //! Calls as lines again.
 
-use call_script::{Call, EhdrSet, ItemSet, PhdrSet, ShdrSet};
+use calls_script::{Call, EhdrSet, ItemSet, PhdrSet, ShdrSet};
 use elf_types::{DataId, ElfError, Octets, put_decimal, put_part, put_signed, put_text};
 
 /// Appends a word and numbers, with a space before each, and a newline.

@@ -7,7 +7,7 @@ ghost use Rattle.calls_tool.specs.Lines.{sym_text, rel_text, rela_place, rela_te
 
 use crate::lines::columns::Number::{Decimal, Hex, Signed};
 use crate::lines::columns::{put_column, put_columns};
-use elf_calls::Item;
+use calls_apply::Item;
 use elf_types::{Dyn, ElfError, Octets, Rel, Rela, Sym};
 
 /// Appends a symbol.

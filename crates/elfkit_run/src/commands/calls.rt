@@ -9,7 +9,7 @@ ghost use Rattle.calls_tool.specs.Files.{calls_file_report, calls_asks};
 ghost use Rattle.elfkit_run.specs.Calls.{ReadsCalls, file_asks, calls_outcome};
 
 use crate::files::{FileTool, one_file};
-use call_script::{Call, Calls};
+use calls_script::{Call, Calls};
 use calls_tool::{refuse_script, show_calls_on, tell_script};
 use elf_outside::{Files, OpenFault, Sink, Source};
 use std::alloc::Global;

@@ -8,8 +8,8 @@ ghost use Rattle.tool_output.specs.Outcomes.{Does};
 ghost use Rattle.elfkit_run.specs.Elflint.{elflint_outcome};
 
 use crate::objects::each_object;
-use elf_lint::LintTool;
 use elf_outside::{Files, Sink};
+use elflint_tool::LintTool;
 use std::alloc::Global;
 use tool_output::{Outputs, Stop};
 use tool_text::Args;

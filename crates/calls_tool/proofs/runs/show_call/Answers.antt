@@ -1,6 +1,6 @@
 use Rattle.std.specs.Prelude.{not}
-use Rattle.elf_calls.specs.Applies.{refusals, shows_bytes, changed_piece, holding}
-use Rattle.elf_calls.specs.Stated.{stated}
+use Rattle.calls_apply.specs.Applies.{refusals, shows_bytes, changed_piece, holding}
+use Rattle.calls_apply.specs.Stated.{stated}
 use Rattle.calls_tool.proofs.RunLemmas.{call_run}
 use Rattle.calls_tool.proofs.runs.show_call.Goals as goal
 

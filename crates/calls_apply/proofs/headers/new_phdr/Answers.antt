@@ -1,0 +1,15 @@
+use Rattle.std.proofs.Common.{refl}
+use Rattle.elf_object.specs.Calls as calls
+use Rattle.elf_object.specs.Calls.{newphdr_refusal}
+use Rattle.elf_descriptor.specs.Edits.{stepped}
+use Rattle.calls_apply.specs.Stated.{stated, done}
+use Rattle.calls_apply.proofs.Refusing.{answer_refuses, newphdr_refuses}
+use Rattle.calls_apply.proofs.Meeting.{edits_meet}
+use Rattle.calls_apply.proofs.headers.new_phdr.Goals as goal
+
+pub returns : goal.returns
+unfolding stated
+returns g c =
+    rw c.done.ensures
+    (edits_meet g.S.Source done (calls.newphdr c.args.n) _ _ c.newphdr.result c.args.elf.now c.newphdr.new.self (stepped (calls.newphdr c.args.n) c.args.elf.now) c.newphdr.ensures
+    (λ e is. answer_refuses (newphdr_refusal c.args.n) tt e (newphdr_refuses c.args.n) is) refl refl refl (λ i. refl) (λ i. refl) refl)

@@ -1,0 +1,99 @@
+//! Why a script is refused.
+
+ghost use Rattle.std.specs.Prelude.{◌≡◌};
+ghost use Rattle.calls_script.specs.declared.faults.Stop.TheVariants.{Memory};
+
+use elf_types::ElfError;
+use std::alloc::{AllocError, AllocFailed};
+
+/// Why a script is refused.
+#[derive(Clone, Copy, Debug, PartialEq, Eq)]
+pub enum Why {
+    /// The script has more than 1,048,576 bytes.
+    TooLong,
+    /// The first word of the line is no call.
+    BadCall,
+    /// The first word is that of a line that is not built.
+    NotBuilt,
+    /// The number or the form of the words is another, or there is no such field.
+    BadWords,
+    /// A number is outside its range, or too great for its field.
+    BadNumber,
+}
+
+impl Why {
+    ghost use Rattle.calls_script.specs.Texts.{why_text};
+
+    /// The text under which the cause is shown. It takes no memory.
+    #[tactic(auto, unfolding(crate::specs::Texts::why_text))]
+    pub fn text(&self) -> &'static str
+        ensures { result.now ≡ why_text self.now }
+    {
+        match self {
+            Why::TooLong => "script too long",
+            Why::BadCall => "no such call",
+            Why::NotBuilt => "form not built",
+            Why::BadWords => "wrong words",
+            Why::BadNumber => "number out of range",
+        }
+    }
+}
+
+/// What `read_script` refuses.
+#[derive(Clone, Copy, Debug, PartialEq, Eq)]
+pub enum ScriptFault {
+    /// There is no memory for the calls.
+    Memory,
+    /// A line is no call, or the script is too long.
+    Line {
+        /// The number of the line, from 1; 0 where the script is too long.
+        line: u32,
+        /// The cause.
+        why: Why,
+    },
+}
+
+// A list refuses `Memory` alone.
+impl From<ElfError> for ScriptFault {
+    ghost use Rattle.calls_script.specs.declared.faults.ScriptFault.TheVariants as fault;
+
+    ghost from_gives = { λ _ e. e ≡ fault.Memory };
+
+    fn from(_e: ElfError) -> ScriptFault {
+        ScriptFault::Memory
+    }
+}
+
+/// Why a part of a line is refused, without the line, which its caller knows.
+#[derive(Clone, Copy)]
+pub(crate) enum Stop {
+    /// There is no memory.
+    Memory,
+    /// The line is no call.
+    Why(Why),
+}
+
+impl From<AllocError> for Stop {
+    ghost from_gives = { λ _ e. e ≡ Memory };
+
+    fn from(_e: AllocError) -> Stop {
+        Stop::Memory
+    }
+}
+
+impl<T: Drop> From<AllocFailed<T>> for Stop {
+    ghost from_gives = { λ _ e. e ≡ Memory };
+
+    fn from(_e: AllocFailed<T>) -> Stop {
+        Stop::Memory
+    }
+}
+
+// A list refuses `Memory` alone.
+impl From<ElfError> for Stop {
+    ghost from_gives = { λ _ e. e ≡ Memory };
+
+    fn from(_e: ElfError) -> Stop {
+        Stop::Memory
+    }
+}
