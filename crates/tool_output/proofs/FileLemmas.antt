@@ -1,5 +1,5 @@
 -- Steps over a set of files.
-use Rattle.std.proofs.Common.{◌≡◌, ◌≢◌, ◌⊎◌, inl, inr, ◌+◌, ◌<◌, ◌≤◌, ℕ, Bool, true, false, List, [], ◌∷◌, length, map, drop, get_or, codes, Option, Some, None, Result, Err, IsTrue, IsSome, IsNone, IfSome, refl, sym, ap, ◌∙◌, subst, arith, ◌-◌}
+use Rattle.std.proofs.Common.{◌≡◌, ◌≢◌, ◌⊎◌, inl, inr, ◌+◌, ◌<◌, ◌≤◌, ℕ, Bool, true, false, List, [], ◌∷◌, length, map, drop, get_or, codes, Option, Some, None, Result, Err, IsTrue, IsSome, IsNone, IfSome, refl, sym, ap, ◌∙◌, subst, arith}
 use Rattle.std.specs.Str.{bytes_eq}
 use Rattle.std.proofs.lemmas.List.{at_drop_more, at_drop_all}
 use Rattle.std.proofs.lemmas.Slice.Eq.{bytes_eq-Decides}
@@ -14,7 +14,7 @@ use Rattle.tool_output.specs.Names.{Name, file_name}
 use Rattle.tool_output.specs.Reports.{Report, Reports, refusal}
 use Rattle.tool_output.specs.Steps.{KeepsSinks, SinkRose}
 use Rattle.tool_output.proofs.StepLemmas.{keeps_then}
-use Rattle.tool_output.specs.Files.{report_on, asks_on, Totals, LeavesFiles, OnlyReads, IsWithin, IsWithinLeft, both_bounds, all_bounds}
+use Rattle.tool_output.specs.Files.{report_on, asks_on, Totals, LeavesFilesBy, LeavesFiles, OnlyReads, IsWithin, IsWithinLeft, both_bounds, all_bounds}
 
 -- ---- A file that was opened, read and closed
 
@@ -146,23 +146,51 @@ module _ {F D O E : Type 0} (f : FilesGhosts F D) (o : SinkGhosts O) (e : SinkGh
   wrote_later a b c s t u h k (inr (inl rose)) = inr (inl (let p = k.leaves.out_later in omega (arith, p, rose)))
   wrote_later a b c s t u h k (inr (inr rose)) = inr (inr (let p = k.leaves.err_later in omega (arith, p, rose)))
 
-  -- a step that stops, after others
-  pub leaves_stop : {T U : Type 0} (stop : Stop) (a b c : F) (s t u : Outputs O E) → Totals f a b → KeepsSinks o e s t
-      → LeavesFiles {T = T} f o e (Err stop) b c t u → LeavesFiles {T = U} f o e (Err stop) a c s u
-  leaves_stop Read a b c s t u h k l = record {
+  -- a step that stops, after others, and the cause of its stop by Read
+  pub leaves_stop_by : {T U : Type 0} (P Q : Type 0) (stop : Stop) (a b c : F) (s t u : Outputs O E)
+      → (P → Q) → Totals f a b → KeepsSinks o e s t
+      → LeavesFilesBy {T = T} f o e P (Err stop) b c t u
+      → LeavesFilesBy {T = U} f o e Q (Err stop) a c s u
+  leaves_stop_by P Q Read a b c s t u why h k l = record {
     totals = totals_then a b c h l.totals;
     keeps = keeps_then o e s t u k l.keeps;
-    read = omega (arith, h.read_faults, l.read);
+    read = why l.read;
     write = tt;
   }
-  leaves_stop Write a b c s t u h k l = record {
+  leaves_stop_by P Q Write a b c s t u why h k l = record {
     totals = totals_then a b c h l.totals;
     keeps = keeps_then o e s t u k l.keeps;
     read = tt;
     write = wrote_later a b c s t u h k l.write;
   }
-  leaves_stop Memory a b c s t u h k l =
-      record { totals = totals_then a b c h l.totals; keeps = keeps_then o e s t u k l.keeps; read = tt; write = tt }
+  leaves_stop_by P Q Memory a b c s t u why h k l = record {
+    totals = totals_then a b c h l.totals;
+    keeps = keeps_then o e s t u k l.keeps;
+    read = tt;
+    write = tt;
+  }
+
+  pub leaves_stop : {T U : Type 0} (stop : Stop) (a b c : F) (s t u : Outputs O E)
+      → Totals f a b → KeepsSinks o e s t
+      → LeavesFiles {T = T} f o e (Err stop) b c t u → LeavesFiles {T = U} f o e (Err stop) a c s u
+  leaves_stop stop a b c s t u h k l =
+      leaves_stop_by (Rose (f.read_faults b) (f.read_faults c))
+      (Rose (f.read_faults a) (f.read_faults c)) stop a b c s t u
+      (λ rose. let later = h.read_faults in omega (arith, later, rose)) h k l
+
+-- ---- Bounds
+
+-- of two steps, one after another
+pub within_both : (p q : Option ℕ) (a b c : ℕ) → IsWithin p a b → IsWithin q b c
+    → IsWithin (both_bounds p q) a c
+within_both None q a b c h k = tt
+within_both (Some n) None a b c h k = tt
+within_both (Some n) (Some m) a b c h k = omega (arith, h, k)
+
+-- of a step that asks for nothing
+pub within_unchanged : (bound : Option ℕ) (a b : ℕ) → b ≡ a → IsWithin bound a b
+within_unchanged None a b same = tt
+within_unchanged (Some n) a b same = omega (arith, same)
 
 -- ---- Bounds, by what is left of them
 

@@ -1,5 +1,6 @@
 pub mod EndLemmas
 pub mod FileLemmas
+pub mod MadeLemmas
 pub mod MarkLemmas
 pub mod OutcomeLemmas
 pub mod PageLemmas

@@ -116,7 +116,7 @@ stated_at_four : (w : Option FileWrite) (old held : Option (List ℕ)) → held 
 stated_at_four None old held h = h
 stated_at_four (Some w) old held h = subst (MayHoldBytes w.in_place 4 w.bytes old) (sym h) (whole_at_four w.in_place w.bytes old)
 
-may_hold_same : (status : ℕ) (w : Option FileWrite) (old : Option (List ℕ)) → MayHold status w old old
+pub may_hold_same : (status : ℕ) (w : Option FileWrite) (old : Option (List ℕ)) → MayHold status w old old
 may_hold_same status None old = refl
 may_hold_same status (Some w) old = bytes_same w.in_place old
   where
@@ -126,7 +126,7 @@ may_hold_same status (Some w) old = bytes_same w.in_place old
         record { unread = λ three. refl; unwritten = λ four. (before, refl, torn_old before w.bytes); wanting = λ five. inl refl }
     bytes_same false held = inl refl
 
-within_same : (bound : Option ℕ) (a : ℕ) → IsWithin bound a a
+pub within_same : (bound : Option ℕ) (a : ℕ) → IsWithin bound a a
 within_same None a = tt
 within_same (Some n) a = omega arith
 

@@ -40,16 +40,24 @@ pub record Totals {F D : Type 0} (f : FilesGhosts F D) (old new : F) : Type 0 wh
   pub given : f.given old ≤ f.given new
   pub live : f.live old < 2 ^ 64 - 8 → f.live new ≡ f.live old
 
--- What a step over files leaves, and the causes of its stops: of Read a failed read of a file, of
--- Write a failed write of a file or a failed put.
-pub record LeavesFiles {F D O E T : Type 0}
-    (f : FilesGhosts F D) (o : SinkGhosts O) (e : SinkGhosts E)
+-- What a step over files leaves, and the causes of its stops: of Read the one that is given, of
+-- Write a failed write of a file or a failed put. A file that is open while the step runs counts
+-- its failed reads by itself.
+pub record LeavesFilesBy {F D O E T : Type 0}
+    (f : FilesGhosts F D) (o : SinkGhosts O) (e : SinkGhosts E) (reads : Type 0)
     (result : Result T Stop) (files_old files_new : F) (old new : Outputs O E) : Type 0 where
   pub totals : Totals f files_old files_new
   pub keeps : KeepsSinks o e old new
-  pub read : OnRead result (Rose (f.read_faults files_old) (f.read_faults files_new))
+  pub read : OnRead result reads
   pub write : OnWrite result (Rose (f.write_faults files_old) (f.write_faults files_new)
       ⊎ SinkRose o e old.out.now new.out.now old.err.now new.err.now)
+
+-- of a step over files that are closed again: of Read a failed read of one of them
+abbrev pub LeavesFiles : {F D O E T : Type 0} → FilesGhosts F D → SinkGhosts O → SinkGhosts E
+    → Result T Stop → F → F → Outputs O E → Outputs O E → Type 0
+LeavesFiles f o e result files_old files_new old new =
+    LeavesFilesBy f o e (Rose (f.read_faults files_old) (f.read_faults files_new))
+    result files_old files_new old new
 
 -- no file is written: every name is as before, and nothing is handed to writes
 pub record OnlyReads {F D : Type 0} (f : FilesGhosts F D) (old new : F) : Type 0 where

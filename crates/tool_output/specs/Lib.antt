@@ -1,5 +1,6 @@
 pub mod Files
 pub mod Lines
+pub mod Made
 pub mod Marks
 pub mod Messages
 pub mod Names

@@ -1,7 +1,7 @@
 //! Why a tool stops.
 
 ghost use Rattle.std.specs.Prelude.{◌≡◌};
-ghost use Rattle.tool_output.specs.Stops.{stop_of};
+ghost use Rattle.tool_output.specs.Stops.{stop_of, value_or_stop};
 ghost use Rattle.elf_types.specs.declared.errors.ElfError.TheVariants.{Memory};
 
 use elf_types::ElfError;
@@ -31,6 +31,20 @@ impl Stop {
             ElfError::Read => Some(Stop::Read),
             ElfError::Write => Some(Stop::Write),
             _ => None,
+        }
+    }
+
+    /// What a call of the library answered: its value, None where it is refused, or the stop where
+    /// the error is no refusal.
+    pub fn unless_refused<T: Drop>(answer: Result<T, ElfError>) -> Result<Option<T>, Stop>
+        ensures { result ≡ value_or_stop answer }
+    {
+        match answer {
+            Ok(value) => Ok(Some(value)),
+            Err(e) => match Stop::of(&e) {
+                Some(stop) => Err(stop),
+                None => Ok(None),
+            },
         }
     }
 
