@@ -7,7 +7,7 @@ use Rattle.elf_object.specs.Refusal.{refusal}
 use Rattle.object_laws.specs.Laws.{ReopenLaw, SettlingKeepsItems}
 use Rattle.command_objects.specs.Files.{file_of}
 use Rattle.tool_output.specs.Reports.{shown}
-use Rattle.command_outcomes.specs.Outcomes.{written_outcome, outcome_with, made_file}
+use Rattle.tool_output.specs.Made.{written_outcome, outcome_with, made_file}
 use Rattle.command_outcomes.specs.Selftest.{selftest_done, selftest_outcome}
 use Rattle.command_laws.specs.SelftestSizes.{selftest_lines}
 use Rattle.command_laws.specs.SelftestLaw.{SelftestGives, SelftestLaw}

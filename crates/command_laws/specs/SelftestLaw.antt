@@ -5,7 +5,7 @@ use Rattle.elf_object.specs.Refusal.{refusal}
 use Rattle.elf_object.specs.Image.{image}
 use Rattle.tool_output.specs.Reports.{shown}
 use Rattle.command_objects.specs.Generated.{generated, generated_and_shifted}
-use Rattle.command_outcomes.specs.Outcomes.{outcome_with, made_file}
+use Rattle.tool_output.specs.Made.{outcome_with, made_file}
 use Rattle.command_outcomes.specs.Selftest.{selftest_outcome}
 use Rattle.command_laws.specs.SelftestSizes.{selftest_bytes, selftest_lines}
 

@@ -6,7 +6,7 @@ ghost use Rattle.elf_object.specs.Image.{image};
 ghost use Rattle.tool_output.specs.Marks.{said};
 ghost use Rattle.tool_output.specs.declared.outputs.Side.TheVariants.{Out};
 ghost use Rattle.command_objects.specs.Generated.{generated_and_shifted};
-ghost use Rattle.command_outcomes.specs.Outcomes.{made_file};
+ghost use Rattle.tool_output.specs.Made.{made_file};
 ghost use Rattle.command_outcomes.specs.Selftest.{selftest_outcome};
 ghost use Rattle.command_outcomes.specs.Samples.{ends_with};
 ghost use Rattle.command_laws.specs.Samples.{greatest_lines};

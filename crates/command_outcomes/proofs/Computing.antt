@@ -9,7 +9,8 @@ use Rattle.command_objects.proofs.Computing.{all_words as objects_words}
 use Rattle.tool_output.specs.Marks.{said}
 use Rattle.tool_output.specs.Reports.{shown, refusal}
 use Rattle.tool_output.specs.Outcomes.{write_of}
-use Rattle.command_outcomes.specs.Outcomes.{written_outcome}
+use Rattle.tool_output.specs.Made.{written_outcome}
+use Rattle.object_output.specs.Images.{object_by, file_object}
 use Rattle.command_outcomes.specs.Files.{bytes_named, object_named, bytes_of_each}
 use Rattle.command_outcomes.specs.Strip.{strip_alone, strip_split, strip_done, strip_outcome, unstrip_complaint, unstrip_done, unstrip_outcome}
 use Rattle.command_outcomes.specs.Copy.{copy_text, copy_done, copy_outcome, rehash_text, rehash_done, rehash_outcome}
@@ -19,7 +20,7 @@ use Rattle.command_outcomes.specs.Selftest.{selftest_done, selftest_outcome}
 unfoldable pub all_words : Bool
 unfolding objects_words numbered numbered_twice kind_text part_text unfit_text overlap_text
     held_text error_text file_kind message shown_name said shown refusal write_of
-    written_outcome bytes_named object_named bytes_of_each
+    written_outcome object_by file_object bytes_named object_named bytes_of_each
     strip_alone strip_split strip_done strip_outcome unstrip_complaint unstrip_done
     unstrip_outcome copy_text copy_done copy_outcome rehash_text rehash_done rehash_outcome
     selftest_done selftest_outcome

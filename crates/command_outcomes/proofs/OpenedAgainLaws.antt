@@ -18,7 +18,7 @@ use Rattle.elf_outside.specs.declared.memory.files.MemFiles.{MemFiles}
 use Rattle.tool_output.specs.declared.outputs.Side.{Side}
 use Rattle.tool_output.specs.Marks.{on}
 use Rattle.tool_output.specs.Outcomes.{FileWrite, write_of, MayHold}
-use Rattle.command_outcomes.specs.Outcomes.{made_file}
+use Rattle.tool_output.specs.Made.{made_file}
 use Rattle.command_outcomes.specs.OpenedAgain.{SecondOpenFails, OpensAgain, StopsWhereUnread}
 
 module _ (old new : MemFiles) (out bytes : List ℕ) (answer : Result MemDevice OpenFault) (run : OpensAgain old new out bytes answer) where

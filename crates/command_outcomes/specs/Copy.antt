@@ -10,7 +10,7 @@ use Rattle.command_objects.specs.Rehashed.{RehashFault, rehashed}
 use Rattle.command_objects.specs.Rehashed.RehashFault.{NoDynamicHash, Refused}
 use Rattle.command_objects.specs.Files.{file_of}
 use Rattle.tool_output.specs.Outcomes.{Outcome}
-use Rattle.command_outcomes.specs.Outcomes.{Done, Complaint, written_outcome, made, complaint, of_file}
+use Rattle.tool_output.specs.Made.{Done, Complaint, written_outcome, made, complaint, of_file}
 use Rattle.command_outcomes.specs.Files.{object_named, bytes_of_each}
 use Rattle.command_outcomes.specs.Strip.{or_complaint}
 

@@ -1,4 +1,3 @@
-pub mod Outcomes
 pub mod Files
 pub mod Strip
 pub mod Copy

@@ -9,7 +9,7 @@ use Rattle.elf_outside.specs.declared.file_sets.OpenFault.TheVariants.{Failed}
 use Rattle.elf_outside.specs.declared.memory.device.MemDevice.{MemDevice}
 use Rattle.elf_outside.specs.declared.memory.files.MemFiles.{MemFiles}
 use Rattle.tool_output.specs.Outcomes.{Outcome, Delivers}
-use Rattle.command_outcomes.specs.Outcomes.{made_file}
+use Rattle.tool_output.specs.Made.{made_file}
 
 -- no file was opened or made yet, and the second opening is to fail
 pub record SecondOpenFails (files : MemFiles) : Type 0 where

@@ -5,7 +5,7 @@ use Rattle.elf_object.specs.Open.{opened}
 use Rattle.command_objects.specs.Generated.{generated_and_shifted, told_lines}
 use Rattle.command_objects.specs.Files.{file_of}
 use Rattle.tool_output.specs.Outcomes.{Outcome}
-use Rattle.command_outcomes.specs.Outcomes.{Done, Complaint, written_outcome, made_file, of_file}
+use Rattle.tool_output.specs.Made.{Done, Complaint, written_outcome, made_file, of_file}
 
 unfoldable pub selftest_done : List ℕ → ℕ → Result Done Complaint
 selftest_done out n =

@@ -12,7 +12,7 @@ use Rattle.command_objects.specs.Split.{debug_of, removed_allocated, unstripped,
 use Rattle.command_objects.specs.Split.UnstripFault.{Elf, Debug, Mismatch}
 use Rattle.command_objects.specs.Files.{file_of}
 use Rattle.tool_output.specs.Outcomes.{Outcome}
-use Rattle.command_outcomes.specs.Outcomes.{Done, Complaint, written_outcome, made, made_file, complaint, of_file}
+use Rattle.tool_output.specs.Made.{Done, Complaint, written_outcome, made, made_file, complaint, of_file}
 use Rattle.command_outcomes.specs.Files.{object_named}
 
 -- ---- strip

@@ -10,7 +10,7 @@ ghost use Rattle.elf_object.specs.Samples.{small64};
 ghost use Rattle.tool_output.specs.Marks.{said};
 ghost use Rattle.command_objects.specs.Samples.{one_section64};
 ghost use Rattle.command_objects.specs.Executable.{stripped_executable64, debug_executable64, combined_executable64};
-ghost use Rattle.command_outcomes.specs.Outcomes.{made_file};
+ghost use Rattle.tool_output.specs.Made.{made_file};
 ghost use Rattle.tool_output.specs.declared.outputs.Side.TheVariants.{Out};
 ghost use Rattle.command_outcomes.specs.Strip.{strip_outcome, unstrip_outcome};
 ghost use Rattle.command_outcomes.specs.Copy.{copy_outcome, rehash_outcome};
