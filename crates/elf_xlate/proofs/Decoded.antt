@@ -37,7 +37,7 @@ listed_some {X} variant item size bytes = by_test (nat_eq (length bytes % size) 
     by_test false = refl
 
 -- what is listed is the items
-listed_is : {X : Type 0} (variant : List X → Items) (item : List ℕ → X) (size : ℕ) (bytes : List ℕ) (items : Items)
+pub listed_is : {X : Type 0} (variant : List X → Items) (item : List ℕ → X) (size : ℕ) (bytes : List ℕ) (items : Items)
     → option_map variant (listed item size bytes) ≡ Some items
     → (length bytes % size ≡ 0) × (items ≡ variant (items_of item size (length bytes / size) bytes))
 unfolding listed

@@ -11,10 +11,11 @@ use Rattle.elf_types.specs.declared.records.Ehdr.{Ehdr}
 use Rattle.elf_types.specs.declared.records.Phdr.{Phdr}
 use Rattle.elf_types.specs.declared.records.Shdr.{Shdr}
 use Rattle.elf_xlate.specs.Fields.{fits, numbers_in, laid}
-use Rattle.elf_xlate.specs.Headers.{ehdr_size, ehdr_fields, ehdr_from, ehdr_numbers, ehdr_of, ehdr_bytes, ehdr_fits, ident, HasNarrowCounts, IsEhdr, HoldsEhdr, phdr_size, phdr_fields, phdr_from, phdr_numbers, phdr_of, phdr_bytes, phdr_fits, IsPhdr, shdr_size, shdr_fields, shdr_from, shdr_numbers, shdr_of, shdr_bytes, shdr_fits, IsShdr}
+use Rattle.elf_xlate.specs.Headers.{ehdr_size, ehdr_fields, ehdr_numbers, ehdr_of, ehdr_bytes, ehdr_fits, ident, HasNarrowCounts, IsEhdr, HoldsEhdr, phdr_size, phdr_fields, phdr_numbers, phdr_of, phdr_bytes, phdr_fits, IsPhdr, shdr_size, shdr_fields, shdr_numbers, shdr_of, shdr_bytes, shdr_fits, IsShdr}
 use Rattle.elf_xlate.proofs.Digits.{AreBytes}
 use Rattle.elf_xlate.proofs.Laid.{Suit, spare, read_laid, length_laid, laid_back, laid_alike, laid_spares, covered_below, cover}
 use Rattle.elf_xlate.proofs.Tables.{ehdr_table, ehdr_covers, phdr_table, phdr_covers, shdr_table, shdr_covers}
+use Rattle.elf_xlate.proofs.Rows.{ehdr_from, phdr_from, shdr_from, ehdr_is}
 use Rattle.elf_xlate.proofs.EachItem.{record_read, record_written, length_record, fixed, native}
 
 -- ---- Program headers
@@ -171,7 +172,7 @@ room C32 = omega arith
 room C64 = omega arith
 
 pub ehdr_holds : (h : Ehdr) (pad : List ℕ) → IsEhdr h → HasNarrowCounts h → ehdr_fits h ≡ true → length pad ≡ 7 → HoldsEhdr h pad (ehdr_bytes h pad)
-unfolding ehdr_bytes ehdr_of
+unfolding ehdr_bytes
 ehdr_holds h pad is counts fit len =
     let first : List ℕ = ident h.class h.order pad in
     let zeros : List ℕ = replicate (ehdr_size h.class - 16) 0 in
@@ -189,7 +190,9 @@ ehdr_holds h pad is counts fit len =
           laid_spares h.class h.order (ehdr_size h.class) 9 7 ehdr_fields (ehdr_numbers h) blank len_blank (omega (arith, fits_in)) inside (spare_pad h.class)
           ∙ ap (take 7) (drop-append-le 9 first zeros (omega (arith, len_first)) ∙ ap (λ (l : List ℕ). l ++ zeros) (ident_pad h.class h.order pad))
           ∙ take_at pad zeros 7 len;
-      value = ap (ehdr_from h.class h.order) (read_laid h.class h.order (ehdr_size h.class) ehdr_fields (ehdr_numbers h) blank len_blank (ehdr_table h.class) (ehdr_suits h is counts fit));
+      value =
+          ehdr_is h.class h.order (laid h.class h.order ehdr_fields (ehdr_numbers h) blank)
+          ∙ ap (ehdr_from h.class h.order) (read_laid h.class h.order (ehdr_size h.class) ehdr_fields (ehdr_numbers h) blank len_blank (ehdr_table h.class) (ehdr_suits h is counts fit));
     }
 
 covers_seven : (class : Class) → cover class ehdr_fields 7 2 ≡ true
@@ -219,7 +222,7 @@ ehdr_held h pad bytes bs len holds =
     let size : ℕ = ehdr_size h.class in
     let inside = (ehdr_table h.class).within in
     let numbers : List ℕ = numbers_in h.class h.order bytes ehdr_fields in
-    let same : ehdr_numbers (ehdr_from h.class h.order (numbers_in h.class h.order bytes ehdr_fields)) ≡ numbers_in h.class h.order bytes ehdr_fields = unfold ehdr_fields in refl in
+    let same : ehdr_numbers (ehdr_of h.class h.order bytes) ≡ numbers_in h.class h.order bytes ehdr_fields = unfold ehdr_fields in refl in
     let is : numbers_in h.class h.order bytes ehdr_fields ≡ ehdr_numbers h = sym same ∙ ap ehdr_numbers holds.value in
     let count : length (ehdr_numbers h) ≡ length ehdr_fields = unfold ehdr_fields in refl in
     let start : take 7 bytes ≡ take 7 (ident h.class h.order pad ++ replicate (ehdr_size h.class - 16) 0) = holds.start ∙ sym (take-append-le 7 first zeros (omega (arith, len_first))) in

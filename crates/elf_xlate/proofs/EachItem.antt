@@ -16,7 +16,8 @@ use Rattle.elf_types.specs.declared.records.Rela.{Rela}
 use Rattle.elf_types.specs.declared.records.Dyn.{Dyn}
 use Rattle.elf_xlate.specs.Numbers.{number_of, number_at, signed_of, unsigned_of}
 use Rattle.elf_xlate.specs.Fields.{Field, field, place_in, number_in, numbers_in, record_bytes, fits, fits_signed, IsSigned}
-use Rattle.elf_xlate.specs.Items.{item_size, half_fields, half_of, half_bytes, word_fields, word_of, word_bytes, addr_fields, addr_of, addr_bytes, sym_fields, sym_from, sym_numbers, sym_of, sym_bytes, sym_fits, IsSym, type_range, info_fits, signed_width, rel_fields, rel_from, rel_numbers, rel_of, rel_bytes, rel_fits, IsRel, rela_fields, rela_from, rela_numbers, rela_of, rela_bytes, rela_fits, IsRela, dyn_fields, dyn_from, dyn_numbers, dyn_of, dyn_bytes, dyn_fits, IsDyn}
+use Rattle.elf_xlate.specs.Items.{item_size, half_fields, half_of, half_bytes, word_fields, word_of, word_bytes, addr_fields, addr_of, addr_bytes, sym_fields, sym_numbers, sym_of, sym_bytes, sym_fits, IsSym, type_range, info_fits, signed_width, rel_fields, rel_numbers, rel_of, rel_bytes, rel_fits, IsRel, rela_fields, rela_numbers, rela_of, rela_bytes, rela_fits, IsRela, dyn_fields, dyn_numbers, dyn_of, dyn_bytes, dyn_fits, IsDyn}
+use Rattle.elf_xlate.proofs.Rows.{sym_from, rel_from, rela_from, dyn_from}
 use Rattle.elf_xlate.proofs.Digits.{AreBytes, number_below, part_bytes}
 use Rattle.elf_xlate.proofs.Signed.{unsigned_signed, signed_unsigned, unsigned_below}
 use Rattle.elf_xlate.proofs.Laid.{IsTable, Suit, read_laid, laid_back, laid_is_record, length_laid, cover, lies_in}
@@ -57,14 +58,14 @@ pub native : (class : Class) (p q n : ℕ) → n < 2 ^ 64 → fits class n ≡ t
 native C32 p q n h small = ltb-true n (2 ^ 32) small
 native C64 p q n h small = h
 
-below : (order : Order) (place width : ℕ) (bytes : List ℕ) → AreBytes bytes → place + width ≤ length bytes → number_of order (take width (drop place bytes)) < 256 ^ width
+pub below : (order : Order) (place width : ℕ) (bytes : List ℕ) → AreBytes bytes → place + width ≤ length bytes → number_of order (take width (drop place bytes)) < 256 ^ width
 below order place width bytes bs room =
     let len : length (take width (drop place bytes)) ≡ width = length-take-le width (drop place bytes) (omega (arith, length-drop place bytes)) in
     let small = number_below order (take width (drop place bytes)) (part_bytes place width bytes bs) in
     rw len at small
 
 -- the number of a field of four bytes or of eight is below that power of 256
-read_native : (class : Class) (order : Order) (p q size : ℕ) (bytes : List ℕ) → AreBytes bytes → length bytes ≡ size → lies_in class size (field (p, 4) (q, 8)) ≡ true
+pub read_native : (class : Class) (order : Order) (p q size : ℕ) (bytes : List ℕ) → AreBytes bytes → length bytes ≡ size → lies_in class size (field (p, 4) (q, 8)) ≡ true
     → number_in class order bytes (field (p, 4) (q, 8)) < 256 ^ signed_width class
 unfolding number_in number_at
 read_native C32 order p q size bytes bs len h = below order p 4 bytes bs (omega (arith, len, leb-true (p + 4) size h))

@@ -1,7 +1,7 @@
 -- The three headers (gABI chapter 4, "ELF Header" and "Section Header", chapter 5, "Program
--- Header"). Each has one table for both classes, by which it is read and written: place and width
--- of each field in class 32, and then in class 64.
-use Rattle.std.specs.Prelude.{ℕ, ◌-◌, ◌^◌, ◌<◌, List, [], ◌∷◌, ◌++◌, length, take, drop, slice_index, Bool, ◌&&◌, ◌≡◌}
+-- Header"). Each has one table for both classes, by which it is read and written. A field has its
+-- name there: place and width in class 32, and then in class 64.
+use Rattle.std.specs.Prelude.{ℕ, ◌-◌, ◌^◌, ◌<◌, List, [], ◌∷◌, ◌++◌, length, take, drop, Bool, ◌&&◌, ◌≡◌}
 use Rattle.std.proofs.Math.ListN.{replicate}
 use Rattle.elf_types.specs.declared.constants.TheConstants.{EI_OSABI, EI_ABIVERSION, EI_NIDENT, ELFMAG, ELFCLASS32, ELFCLASS64, ELFDATA2LSB, ELFDATA2MSB, EV_CURRENT}
 use Rattle.elf_types.specs.declared.records.Class.{Class}
@@ -11,7 +11,7 @@ use Rattle.elf_types.specs.declared.records.Order.TheVariants.{Least, Greatest}
 use Rattle.elf_types.specs.declared.records.Ehdr.{Ehdr}
 use Rattle.elf_types.specs.declared.records.Phdr.{Phdr}
 use Rattle.elf_types.specs.declared.records.Shdr.{Shdr}
-use Rattle.elf_xlate.specs.Fields.{Field, field, numbers_in, laid, record_bytes, fits}
+use Rattle.elf_xlate.specs.Fields.{Field, field, number_in, laid, record_bytes, fits}
 
 -- ---- The ELF header ("ELF Header")
 
@@ -19,44 +19,55 @@ abbrev pub ehdr_size : Class → ℕ
 ehdr_size C32 = 52
 ehdr_size C64 = 64
 
+abbrev pub ei_osabi : Field
+ei_osabi = field (EI_OSABI, 1) (EI_OSABI, 1)
+
+abbrev pub ei_abiversion : Field
+ei_abiversion = field (EI_ABIVERSION, 1) (EI_ABIVERSION, 1)
+
+abbrev pub e_type : Field
+e_type = field (16, 2) (16, 2)
+
+abbrev pub e_machine : Field
+e_machine = field (18, 2) (18, 2)
+
+abbrev pub e_version : Field
+e_version = field (20, 4) (20, 4)
+
+abbrev pub e_entry : Field
+e_entry = field (24, 4) (24, 8)
+
+abbrev pub e_phoff : Field
+e_phoff = field (28, 4) (32, 8)
+
+abbrev pub e_shoff : Field
+e_shoff = field (32, 4) (40, 8)
+
+abbrev pub e_flags : Field
+e_flags = field (36, 4) (48, 4)
+
+abbrev pub e_ehsize : Field
+e_ehsize = field (40, 2) (52, 2)
+
+abbrev pub e_phentsize : Field
+e_phentsize = field (42, 2) (54, 2)
+
+abbrev pub e_phnum : Field
+e_phnum = field (44, 2) (56, 2)
+
+abbrev pub e_shentsize : Field
+e_shentsize = field (46, 2) (58, 2)
+
+abbrev pub e_shnum : Field
+e_shnum = field (48, 2) (60, 2)
+
+abbrev pub e_shstrndx : Field
+e_shstrndx = field (50, 2) (62, 2)
+
 unfoldable pub ehdr_fields : List Field
 ehdr_fields =
-    field (EI_OSABI, 1) (EI_OSABI, 1) ∷  -- e_ident[EI_OSABI]
-    field (EI_ABIVERSION, 1) (EI_ABIVERSION, 1) ∷  -- e_ident[EI_ABIVERSION]
-    field (16, 2) (16, 2) ∷  -- e_type
-    field (18, 2) (18, 2) ∷  -- e_machine
-    field (20, 4) (20, 4) ∷  -- e_version
-    field (24, 4) (24, 8) ∷  -- e_entry
-    field (28, 4) (32, 8) ∷  -- e_phoff
-    field (32, 4) (40, 8) ∷  -- e_shoff
-    field (36, 4) (48, 4) ∷  -- e_flags
-    field (40, 2) (52, 2) ∷  -- e_ehsize
-    field (42, 2) (54, 2) ∷  -- e_phentsize
-    field (44, 2) (56, 2) ∷  -- e_phnum
-    field (46, 2) (58, 2) ∷  -- e_shentsize
-    field (48, 2) (60, 2) ∷  -- e_shnum
-    field (50, 2) (62, 2) ∷ []  -- e_shstrndx
-
-abbrev pub ehdr_from : Class → Order → List ℕ → Ehdr
-ehdr_from class order ns = record {
-  class = class;
-  order = order;
-  osabi = slice_index ns 0;
-  abiversion = slice_index ns 1;
-  etype = slice_index ns 2;
-  machine = slice_index ns 3;
-  version = slice_index ns 4;
-  entry = slice_index ns 5;
-  phoff = slice_index ns 6;
-  shoff = slice_index ns 7;
-  flags = slice_index ns 8;
-  ehsize = slice_index ns 9;
-  phentsize = slice_index ns 10;
-  phnum = slice_index ns 11;
-  shentsize = slice_index ns 12;
-  shnum = slice_index ns 13;
-  shstrndx = slice_index ns 14;
-}
+    ei_osabi ∷ ei_abiversion ∷ e_type ∷ e_machine ∷ e_version ∷ e_entry ∷ e_phoff ∷ e_shoff ∷
+    e_flags ∷ e_ehsize ∷ e_phentsize ∷ e_phnum ∷ e_shentsize ∷ e_shnum ∷ e_shstrndx ∷ []
 
 abbrev pub ehdr_numbers : Ehdr → List ℕ
 ehdr_numbers h =
@@ -65,7 +76,25 @@ ehdr_numbers h =
 
 -- the header that bytes hold, with the counts and the string index as they stand there
 unfoldable pub ehdr_of : Class → Order → List ℕ → Ehdr
-ehdr_of class order bytes = ehdr_from class order (numbers_in class order bytes ehdr_fields)
+ehdr_of class order bytes = record {
+  class = class;
+  order = order;
+  osabi = number_in class order bytes ei_osabi;
+  abiversion = number_in class order bytes ei_abiversion;
+  etype = number_in class order bytes e_type;
+  machine = number_in class order bytes e_machine;
+  version = number_in class order bytes e_version;
+  entry = number_in class order bytes e_entry;
+  phoff = number_in class order bytes e_phoff;
+  shoff = number_in class order bytes e_shoff;
+  flags = number_in class order bytes e_flags;
+  ehsize = number_in class order bytes e_ehsize;
+  phentsize = number_in class order bytes e_phentsize;
+  phnum = number_in class order bytes e_phnum;
+  shentsize = number_in class order bytes e_shentsize;
+  shnum = number_in class order bytes e_shnum;
+  shstrndx = number_in class order bytes e_shstrndx;
+}
 
 -- e_ident[EI_CLASS]
 abbrev pub class_code : Class → ℕ
@@ -128,28 +157,33 @@ abbrev pub phdr_size : Class → ℕ
 phdr_size C32 = 32
 phdr_size C64 = 56
 
+abbrev pub p_type : Field
+p_type = field (0, 4) (0, 4)
+
+abbrev pub p_flags : Field
+p_flags = field (24, 4) (4, 4)
+
+abbrev pub p_offset : Field
+p_offset = field (4, 4) (8, 8)
+
+abbrev pub p_vaddr : Field
+p_vaddr = field (8, 4) (16, 8)
+
+abbrev pub p_paddr : Field
+p_paddr = field (12, 4) (24, 8)
+
+abbrev pub p_filesz : Field
+p_filesz = field (16, 4) (32, 8)
+
+abbrev pub p_memsz : Field
+p_memsz = field (20, 4) (40, 8)
+
+abbrev pub p_align : Field
+p_align = field (28, 4) (48, 8)
+
 unfoldable pub phdr_fields : List Field
 phdr_fields =
-    field (0, 4) (0, 4) ∷  -- p_type
-    field (24, 4) (4, 4) ∷  -- p_flags
-    field (4, 4) (8, 8) ∷  -- p_offset
-    field (8, 4) (16, 8) ∷  -- p_vaddr
-    field (12, 4) (24, 8) ∷  -- p_paddr
-    field (16, 4) (32, 8) ∷  -- p_filesz
-    field (20, 4) (40, 8) ∷  -- p_memsz
-    field (28, 4) (48, 8) ∷ []  -- p_align
-
-abbrev pub phdr_from : List ℕ → Phdr
-phdr_from ns = record {
-  ptype = slice_index ns 0;
-  flags = slice_index ns 1;
-  offset = slice_index ns 2;
-  vaddr = slice_index ns 3;
-  paddr = slice_index ns 4;
-  filesz = slice_index ns 5;
-  memsz = slice_index ns 6;
-  align = slice_index ns 7;
-}
+    p_type ∷ p_flags ∷ p_offset ∷ p_vaddr ∷ p_paddr ∷ p_filesz ∷ p_memsz ∷ p_align ∷ []
 
 abbrev pub phdr_numbers : Phdr → List ℕ
 phdr_numbers p =
@@ -157,7 +191,16 @@ phdr_numbers p =
 
 -- the program header that bytes hold
 unfoldable pub phdr_of : Class → Order → List ℕ → Phdr
-phdr_of class order bytes = phdr_from (numbers_in class order bytes phdr_fields)
+phdr_of class order bytes = record {
+  ptype = number_in class order bytes p_type;
+  flags = number_in class order bytes p_flags;
+  offset = number_in class order bytes p_offset;
+  vaddr = number_in class order bytes p_vaddr;
+  paddr = number_in class order bytes p_paddr;
+  filesz = number_in class order bytes p_filesz;
+  memsz = number_in class order bytes p_memsz;
+  align = number_in class order bytes p_align;
+}
 
 -- the bytes of a program header
 unfoldable pub phdr_bytes : Class → Order → Phdr → List ℕ
@@ -185,32 +228,40 @@ abbrev pub shdr_size : Class → ℕ
 shdr_size C32 = 40
 shdr_size C64 = 64
 
+abbrev pub sh_name : Field
+sh_name = field (0, 4) (0, 4)
+
+abbrev pub sh_type : Field
+sh_type = field (4, 4) (4, 4)
+
+abbrev pub sh_flags : Field
+sh_flags = field (8, 4) (8, 8)
+
+abbrev pub sh_addr : Field
+sh_addr = field (12, 4) (16, 8)
+
+abbrev pub sh_offset : Field
+sh_offset = field (16, 4) (24, 8)
+
+abbrev pub sh_size : Field
+sh_size = field (20, 4) (32, 8)
+
+abbrev pub sh_link : Field
+sh_link = field (24, 4) (40, 4)
+
+abbrev pub sh_info : Field
+sh_info = field (28, 4) (44, 4)
+
+abbrev pub sh_addralign : Field
+sh_addralign = field (32, 4) (48, 8)
+
+abbrev pub sh_entsize : Field
+sh_entsize = field (36, 4) (56, 8)
+
 unfoldable pub shdr_fields : List Field
 shdr_fields =
-    field (0, 4) (0, 4) ∷  -- sh_name
-    field (4, 4) (4, 4) ∷  -- sh_type
-    field (8, 4) (8, 8) ∷  -- sh_flags
-    field (12, 4) (16, 8) ∷  -- sh_addr
-    field (16, 4) (24, 8) ∷  -- sh_offset
-    field (20, 4) (32, 8) ∷  -- sh_size
-    field (24, 4) (40, 4) ∷  -- sh_link
-    field (28, 4) (44, 4) ∷  -- sh_info
-    field (32, 4) (48, 8) ∷  -- sh_addralign
-    field (36, 4) (56, 8) ∷ []  -- sh_entsize
-
-abbrev pub shdr_from : List ℕ → Shdr
-shdr_from ns = record {
-  name = slice_index ns 0;
-  stype = slice_index ns 1;
-  flags = slice_index ns 2;
-  addr = slice_index ns 3;
-  offset = slice_index ns 4;
-  size = slice_index ns 5;
-  link = slice_index ns 6;
-  info = slice_index ns 7;
-  addralign = slice_index ns 8;
-  entsize = slice_index ns 9;
-}
+    sh_name ∷ sh_type ∷ sh_flags ∷ sh_addr ∷ sh_offset ∷ sh_size ∷ sh_link ∷ sh_info ∷
+    sh_addralign ∷ sh_entsize ∷ []
 
 abbrev pub shdr_numbers : Shdr → List ℕ
 shdr_numbers h =
@@ -219,7 +270,18 @@ shdr_numbers h =
 
 -- the section header that bytes hold
 unfoldable pub shdr_of : Class → Order → List ℕ → Shdr
-shdr_of class order bytes = shdr_from (numbers_in class order bytes shdr_fields)
+shdr_of class order bytes = record {
+  name = number_in class order bytes sh_name;
+  stype = number_in class order bytes sh_type;
+  flags = number_in class order bytes sh_flags;
+  addr = number_in class order bytes sh_addr;
+  offset = number_in class order bytes sh_offset;
+  size = number_in class order bytes sh_size;
+  link = number_in class order bytes sh_link;
+  info = number_in class order bytes sh_info;
+  addralign = number_in class order bytes sh_addralign;
+  entsize = number_in class order bytes sh_entsize;
+}
 
 -- the bytes of a section header
 unfoldable pub shdr_bytes : Class → Order → Shdr → List ℕ

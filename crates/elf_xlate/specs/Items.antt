@@ -1,7 +1,7 @@
 -- The items of a section's data (gABI chapter 4, "Data Representation", "Symbol Table" and
 -- "Relocation", chapter 5, "Dynamic Section"). Each has one table for both classes, by which it is
--- read and written: place and width of each field in class 32, and then in class 64.
-use Rattle.std.specs.Prelude.{ℕ, ◌+◌, ◌*◌, ◌/◌, ◌%◌, ◌^◌, ◌<◌, List, [], ◌∷◌, slice_index, Bool, true, ◌&&◌, nat_lt}
+-- read and written. A field has its name there: place and width in class 32, and then in class 64.
+use Rattle.std.specs.Prelude.{ℕ, ◌+◌, ◌*◌, ◌/◌, ◌%◌, ◌^◌, ◌<◌, List, [], ◌∷◌, Bool, true, ◌&&◌, nat_lt}
 use Rattle.elf_types.specs.declared.records.Class.{Class}
 use Rattle.elf_types.specs.declared.records.Class.TheVariants.{C32, C64}
 use Rattle.elf_types.specs.declared.records.Order.{Order}
@@ -12,7 +12,7 @@ use Rattle.elf_types.specs.declared.records.Rel.{Rel}
 use Rattle.elf_types.specs.declared.records.Rela.{Rela}
 use Rattle.elf_types.specs.declared.records.Dyn.{Dyn}
 use Rattle.elf_xlate.specs.Numbers.{signed_of, unsigned_of}
-use Rattle.elf_xlate.specs.Fields.{Field, field, numbers_in, record_bytes, fits, fits_signed, IsSigned}
+use Rattle.elf_xlate.specs.Fields.{Field, field, number_in, record_bytes, fits, fits_signed, IsSigned}
 
 -- the number of bytes of an item in the file
 abbrev pub item_size : Kind → Class → ℕ
@@ -33,31 +33,40 @@ item_size kinds.Dyn C64 = 16
 
 -- ---- Numbers: Half, Word and Addr ("Data Representation")
 
+abbrev pub half_field : Field
+half_field = field (0, 2) (0, 2)
+
 unfoldable pub half_fields : List Field
-half_fields = field (0, 2) (0, 2) ∷ []
+half_fields = half_field ∷ []
 
 unfoldable pub half_of : Class → Order → List ℕ → ℕ
-half_of class order bytes = slice_index (numbers_in class order bytes half_fields) 0
+half_of class order bytes = number_in class order bytes half_field
 
 unfoldable pub half_bytes : Class → Order → ℕ → List ℕ
 half_bytes class order n =
     record_bytes class order (item_size kinds.Half class) half_fields (n ∷ [])
 
+abbrev pub word_field : Field
+word_field = field (0, 4) (0, 4)
+
 unfoldable pub word_fields : List Field
-word_fields = field (0, 4) (0, 4) ∷ []
+word_fields = word_field ∷ []
 
 unfoldable pub word_of : Class → Order → List ℕ → ℕ
-word_of class order bytes = slice_index (numbers_in class order bytes word_fields) 0
+word_of class order bytes = number_in class order bytes word_field
 
 unfoldable pub word_bytes : Class → Order → ℕ → List ℕ
 word_bytes class order n =
     record_bytes class order (item_size kinds.Word class) word_fields (n ∷ [])
 
+abbrev pub addr_field : Field
+addr_field = field (0, 4) (0, 8)
+
 unfoldable pub addr_fields : List Field
-addr_fields = field (0, 4) (0, 8) ∷ []
+addr_fields = addr_field ∷ []
 
 unfoldable pub addr_of : Class → Order → List ℕ → ℕ
-addr_of class order bytes = slice_index (numbers_in class order bytes addr_fields) 0
+addr_of class order bytes = number_in class order bytes addr_field
 
 unfoldable pub addr_bytes : Class → Order → ℕ → List ℕ
 addr_bytes class order n =
@@ -65,30 +74,40 @@ addr_bytes class order n =
 
 -- ---- Symbols ("Symbol Table")
 
+abbrev pub st_name : Field
+st_name = field (0, 4) (0, 4)
+
+abbrev pub st_info : Field
+st_info = field (12, 1) (4, 1)
+
+abbrev pub st_other : Field
+st_other = field (13, 1) (5, 1)
+
+abbrev pub st_shndx : Field
+st_shndx = field (14, 2) (6, 2)
+
+abbrev pub st_value : Field
+st_value = field (4, 4) (8, 8)
+
+abbrev pub st_size : Field
+st_size = field (8, 4) (16, 8)
+
 unfoldable pub sym_fields : List Field
 sym_fields =
-    field (0, 4) (0, 4) ∷  -- st_name
-    field (12, 1) (4, 1) ∷  -- st_info
-    field (13, 1) (5, 1) ∷  -- st_other
-    field (14, 2) (6, 2) ∷  -- st_shndx
-    field (4, 4) (8, 8) ∷  -- st_value
-    field (8, 4) (16, 8) ∷ []  -- st_size
-
-abbrev pub sym_from : List ℕ → Sym
-sym_from ns = record {
-  name = slice_index ns 0;
-  info = slice_index ns 1;
-  other = slice_index ns 2;
-  shndx = slice_index ns 3;
-  value = slice_index ns 4;
-  size = slice_index ns 5;
-}
+    st_name ∷ st_info ∷ st_other ∷ st_shndx ∷ st_value ∷ st_size ∷ []
 
 abbrev pub sym_numbers : Sym → List ℕ
 sym_numbers s = s.name ∷ s.info ∷ s.other ∷ s.shndx ∷ s.value ∷ s.size ∷ []
 
 unfoldable pub sym_of : Class → Order → List ℕ → Sym
-sym_of class order bytes = sym_from (numbers_in class order bytes sym_fields)
+sym_of class order bytes = record {
+  name = number_in class order bytes st_name;
+  info = number_in class order bytes st_info;
+  other = number_in class order bytes st_other;
+  shndx = number_in class order bytes st_shndx;
+  value = number_in class order bytes st_value;
+  size = number_in class order bytes st_size;
+}
 
 unfoldable pub sym_bytes : Class → Order → Sym → List ℕ
 sym_bytes class order s =
@@ -113,23 +132,25 @@ abbrev pub type_range : Class → ℕ
 type_range C32 = 2 ^ 8
 type_range C64 = 2 ^ 32
 
+abbrev pub r_offset : Field
+r_offset = field (0, 4) (0, 8)
+
+abbrev pub r_info : Field
+r_info = field (4, 4) (8, 8)
+
 unfoldable pub rel_fields : List Field
 rel_fields =
-    field (0, 4) (0, 8) ∷  -- r_offset
-    field (4, 4) (8, 8) ∷ []  -- r_info
-
-abbrev pub rel_from : Class → List ℕ → Rel
-rel_from class ns = record {
-  offset = slice_index ns 0;
-  sym = slice_index ns 1 / type_range class;
-  rtype = slice_index ns 1 % type_range class;
-}
+    r_offset ∷ r_info ∷ []
 
 abbrev pub rel_numbers : Class → Rel → List ℕ
 rel_numbers class r = r.offset ∷ (r.sym * type_range class + r.rtype) ∷ []
 
 unfoldable pub rel_of : Class → Order → List ℕ → Rel
-rel_of class order bytes = rel_from class (numbers_in class order bytes rel_fields)
+rel_of class order bytes = record {
+  offset = number_in class order bytes r_offset;
+  sym = number_in class order bytes r_info / type_range class;
+  rtype = number_in class order bytes r_info % type_range class;
+}
 
 unfoldable pub rel_bytes : Class → Order → Rel → List ℕ
 rel_bytes class order r =
@@ -149,31 +170,29 @@ pub record IsRel (r : Rel) : Type 0 where
   pub sym : r.sym < 2 ^ 32
   pub rtype : r.rtype < 2 ^ 32
 
+abbrev pub r_addend : Field
+r_addend = field (8, 4) (16, 8)  -- signed
+
 unfoldable pub rela_fields : List Field
 rela_fields =
-    field (0, 4) (0, 8) ∷  -- r_offset
-    field (4, 4) (8, 8) ∷  -- r_info
-    field (8, 4) (16, 8) ∷ []  -- r_addend, signed
+    r_offset ∷ r_info ∷ r_addend ∷ []
 
 -- the width of an addend, and of a tag
 abbrev pub signed_width : Class → ℕ
 signed_width C32 = 4
 signed_width C64 = 8
 
-abbrev pub rela_from : Class → List ℕ → Rela
-rela_from class ns = record {
-  offset = slice_index ns 0;
-  sym = slice_index ns 1 / type_range class;
-  rtype = slice_index ns 1 % type_range class;
-  addend = signed_of (signed_width class) (slice_index ns 2);
-}
-
 abbrev pub rela_numbers : Class → Rela → List ℕ
 rela_numbers class r =
     r.offset ∷ (r.sym * type_range class + r.rtype) ∷ unsigned_of (signed_width class) r.addend ∷ []
 
 unfoldable pub rela_of : Class → Order → List ℕ → Rela
-rela_of class order bytes = rela_from class (numbers_in class order bytes rela_fields)
+rela_of class order bytes = record {
+  offset = number_in class order bytes r_offset;
+  sym = number_in class order bytes r_info / type_range class;
+  rtype = number_in class order bytes r_info % type_range class;
+  addend = signed_of (signed_width class) (number_in class order bytes r_addend);
+}
 
 unfoldable pub rela_bytes : Class → Order → Rela → List ℕ
 rela_bytes class order r =
@@ -192,22 +211,24 @@ pub record IsRela (r : Rela) : Type 0 where
 
 -- ---- Entries of the dynamic section ("Dynamic Section")
 
+abbrev pub d_tag : Field
+d_tag = field (0, 4) (0, 8)  -- signed
+
+abbrev pub d_val : Field
+d_val = field (4, 4) (8, 8)
+
 unfoldable pub dyn_fields : List Field
 dyn_fields =
-    field (0, 4) (0, 8) ∷  -- d_tag, signed
-    field (4, 4) (8, 8) ∷ []  -- d_val
-
-abbrev pub dyn_from : Class → List ℕ → Dyn
-dyn_from class ns = record {
-  tag = signed_of (signed_width class) (slice_index ns 0);
-  val = slice_index ns 1;
-}
+    d_tag ∷ d_val ∷ []
 
 abbrev pub dyn_numbers : Class → Dyn → List ℕ
 dyn_numbers class d = unsigned_of (signed_width class) d.tag ∷ d.val ∷ []
 
 unfoldable pub dyn_of : Class → Order → List ℕ → Dyn
-dyn_of class order bytes = dyn_from class (numbers_in class order bytes dyn_fields)
+dyn_of class order bytes = record {
+  tag = signed_of (signed_width class) (number_in class order bytes d_tag);
+  val = number_in class order bytes d_val;
+}
 
 unfoldable pub dyn_bytes : Class → Order → Dyn → List ℕ
 dyn_bytes class order d =
