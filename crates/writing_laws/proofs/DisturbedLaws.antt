@@ -18,13 +18,13 @@ use Rattle.writing_laws.proofs.PlanLaws.{plan_line, fill_places_are}
 
 -- ---- Extents that meet
 
-record IsMeeting (a m b n : ℕ) : Type 0 where
-  some : 0 < m
-  other : 0 < n
-  before : a < b + n
-  after : b < a + m
+pub record IsMeeting (a m b n : ℕ) : Type 0 where
+  pub some : 0 < m
+  pub other : 0 < n
+  pub before : a < b + n
+  pub after : b < a + m
 
-meeting_from : (a m b n : ℕ) → extents_meet a m b n ≡ true → IsMeeting a m b n
+pub meeting_from : (a m b n : ℕ) → extents_meet a m b n ≡ true → IsMeeting a m b n
 unfolding extents_meet
 meeting_from a m b n h =
     let three = both_true (nat_lt 0 m && nat_lt 0 n && nat_lt a (b + n)) (nat_lt b (a + m)) h in
@@ -32,25 +32,25 @@ meeting_from a m b n h =
     let one = both_true (nat_lt 0 m) (nat_lt 0 n) two.0 in
     record { some = ltb-true 0 m one.0; other = ltb-true 0 n one.1; before = ltb-true a (b + n) two.1; after = ltb-true b (a + m) three.1 }
 
-meeting_to : (a m b n : ℕ) → IsMeeting a m b n → extents_meet a m b n ≡ true
+pub meeting_to : (a m b n : ℕ) → IsMeeting a m b n → extents_meet a m b n ≡ true
 unfolding extents_meet
 meeting_to a m b n is =
     rw (lt-ltb 0 m is.some, lt-ltb 0 n is.other, lt-ltb a (b + n) is.before, lt-ltb b (a + m) is.after) refl
 
-same_test : (x y : Bool) → (x ≡ true → y ≡ true) → (y ≡ true → x ≡ true) → x ≡ y
+pub same_test : (x y : Bool) → (x ≡ true → y ≡ true) → (y ≡ true → x ≡ true) → x ≡ y
 same_test true y there back = sym (there refl)
 same_test false true there back = back refl
 same_test false false there back = refl
 
-either_true : (x y : Bool) → (x || y) ≡ true → (x ≡ true) ⊎ (y ≡ true)
+pub either_true : (x y : Bool) → (x || y) ≡ true → (x ≡ true) ⊎ (y ≡ true)
 either_true true y h = inl refl
 either_true false y h = inr h
 
-left_true : (x y : Bool) → x ≡ true → (x || y) ≡ true
+pub left_true : (x y : Bool) → x ≡ true → (x || y) ≡ true
 left_true true y h = refl
 left_true false y h = cc
 
-right_true : (x y : Bool) → y ≡ true → (x || y) ≡ true
+pub right_true : (x y : Bool) → y ≡ true → (x || y) ≡ true
 right_true true y h = refl
 right_true false y h = h
 

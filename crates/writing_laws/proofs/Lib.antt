@@ -15,6 +15,9 @@ pub mod DisturbedLaws
 pub mod MarkLaws
 pub mod UnderWayLaws
 pub mod RankLaws
+pub mod SumLaws
+pub mod DueLaws
+pub mod BelowLaws
 pub mod DeviceLaws
 pub mod BasedSteps
 pub mod BasedBeginnings

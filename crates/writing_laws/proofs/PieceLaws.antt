@@ -17,7 +17,7 @@ use Rattle.writing_laws.proofs.LineLaws.{drop-spread}
 
 -- ---- A gap
 
-kept_at_most : (o : Object) → kept_base o ≤ length o.base
+pub kept_at_most : (o : Object) → kept_base o ≤ length o.base
 unfolding kept_base
 kept_at_most o = by_test o.layout
   where
@@ -60,7 +60,7 @@ gap_bytes o from end =
 
 -- ---- Pieces
 
-stacked_line : (end : ℕ) (ps : List (ℕ × List ℕ)) → AreInLine (last_end end (stacked end ps)) end (stacked end ps)
+pub stacked_line : (end : ℕ) (ps : List (ℕ × List ℕ)) → AreInLine (last_end end (stacked end ps)) end (stacked end ps)
 unfolding stacked last_end block_end
 stacked_line end [] = omega arith
 stacked_line end (p ∷ ps) = (rounded_up-ge end p.0, stacked_line (rounded_up end p.0 + length p.1) ps)

@@ -37,7 +37,7 @@ map_sorted f key other (x ∷ xs) each =
 
 -- ---- Blocks and their parts
 
-same_filled : (b : Block) (p : PartAt) → IsBlockOf b p → has_bytes p ≡ block_has_bytes b
+pub same_filled : (b : Block) (p : PartAt) → IsBlockOf b p → has_bytes p ≡ block_has_bytes b
 unfolding has_bytes
 same_filled b p of = by_test p.filled of.len
   where

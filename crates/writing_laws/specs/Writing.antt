@@ -1,6 +1,6 @@
 -- Laws on what a write leaves alone, in what order it may write, and what a write that failed
 -- leaves (elf_update with ELF_C_WRITE). Each is proved as the contract of a function.
-use Rattle.std.specs.Prelude.{◌≡◌, ℕ, ◌+◌, ◌-◌, ◌<◌, ◌≤◌, max, true, false, not, ◌&&◌, ◌||◌, nat_lt, List, ◌∷◌, ◌++◌, length, map, take, drop, slice_index, slice_get, sum_by, count_by, filter, All, Some, None}
+use Rattle.std.specs.Prelude.{◌≡◌, ℕ, ◌+◌, ◌-◌, ◌<◌, ◌≤◌, max, Bool, true, false, not, ◌&&◌, ◌||◌, nat_lt, List, ◌∷◌, ◌++◌, length, map, take, drop, slice_index, slice_get, sum_by, count_by, filter, All, Some, None}
 use Rattle.std.proofs.Math.ListN.{replicate}
 use Rattle.std.specs.List.{range_with_len}
 use Rattle.elf_types.specs.declared.records.Part.TheVariants as part
@@ -14,10 +14,11 @@ use Rattle.elf_object.specs.Image.{part_blocks, kept_base, uncovered_byte, image
 use Rattle.elf_object.specs.Refusal.{refusal}
 use Rattle.elf_object.specs.Settled.{settle}
 use Rattle.elf_object.specs.Changed.{changed_blocks, fill_places, changed_bytes, is_disturbed, torn}
+use Rattle.elf_object.specs.Due.{homes_due, clean_homes}
 use Rattle.elf_object.specs.Valid.{IsObject}
 use Rattle.object_laws.specs.Laws.{IsTornImage}
 use Rattle.writing_laws.specs.Lines.{HoldsBlock, AreInLine, in_line, gap_places, patched}
-use Rattle.writing_laws.specs.Plan.{plan, block_of_rank, places_below, base_gaps, written_blocks, meets_some}
+use Rattle.writing_laws.specs.Plan.{plan, block_of_rank, rank_due, places_below, base_gaps, fill_blocks, written_blocks, meets_some, written_below, rank_written_below}
 use Rattle.writing_laws.specs.Marks.{marked_all, moved_pieces}
 use Rattle.writing_laws.specs.Ready.{IsReady}
 use Rattle.writing_laws.specs.Based.{IsBased}
@@ -52,6 +53,14 @@ pub record GapsAreFill (o : Object) : Type 0 where
   pub base : IsReady o
       → count_by (λ k. not (is_covered (part_blocks (placed o)) k)) (range_with_len 0 (kept_base o))
       ≡ base_gaps (kept_base o) (image_length o) 0 (plan o)
+
+-- a writer that asks part by part, in the order of the plan, is due what the clean homes are due
+-- in the order of their numbers
+abbrev pub PlanDue : Object → Type 0
+PlanDue o =
+    (loaded : List Bool) → IsReady o
+    → sum_by (rank_due o loaded) (ranks_by_position (placed_parts o))
+    ≡ homes_due o loaded (clean_homes o)
 
 -- ---- Writing in place
 
@@ -101,6 +110,21 @@ DisturbedByWrites o =
     → is_disturbed o home
     ≡ (meets_some home (written_blocks o)
     || (nat_lt 0 home.len && nat_lt (image_length o) (home.at + home.len)))
+
+-- a home meets some blocks where more of their bytes stand below its end than below its place: so
+-- it is told from running sums
+abbrev pub MeetsBySums : Type 0
+MeetsBySums =
+    (home : Home) (blocks : List Block)
+    → meets_some home blocks
+    ≡ nat_lt (written_below blocks home.at) (written_below blocks (home.at + home.len))
+
+-- what is written below a place is summed over the plan, and over the fill
+abbrev pub WrittenByPlan : Object → Type 0
+WrittenByPlan o =
+    (x : ℕ) → IsReady o → written_below (written_blocks o) x
+    ≡ sum_by (rank_written_below o x) (ranks_by_position (placed_parts o))
+    + written_below (fill_blocks o) x
 
 -- ---- After an update in place
 

@@ -2,7 +2,7 @@
 //! function that does nothing.
 
 ghost use Rattle.elf_object.specs.Object.{Object};
-ghost use Rattle.writing_laws.specs.Writing.{DisturbedByWrites, InPlace, LeftStands, WrittenStands};
+ghost use Rattle.writing_laws.specs.Writing.{DisturbedByWrites, InPlace, LeftStands, MeetsBySums, WrittenByPlan, WrittenStands};
 
 /// Where something is dirty, an update is not refused, and what is not marked stands in the base, a
 /// place of the image in no part that changes and no gap that is filled has the base's byte.
@@ -28,4 +28,17 @@ pub fn in_place()
 #[tactic(auto, using(crate::proofs::DisturbedLaws::disturbed_by_writes))]
 pub fn disturbed_by_writes()
     ensures { (o : Object) → DisturbedByWrites o }
+{}
+
+/// A home meets some blocks where more of their bytes stand below its end than below its place. So
+/// which sections move is found by running sums, and not by each home against each block.
+#[tactic(auto, using(crate::proofs::BelowLaws::meets_by_sums))]
+pub fn meets_by_sums()
+    ensures { MeetsBySums }
+{}
+
+/// What an update in place writes below a place is summed over the plan, and over the fill.
+#[tactic(auto, using(crate::proofs::BelowLaws::written_by_plan))]
+pub fn written_by_plan()
+    ensures { (o : Object) → WrittenByPlan o }
 {}

@@ -2,7 +2,7 @@
 //! Each law is the contract of a function that does nothing.
 
 ghost use Rattle.elf_object.specs.Object.{Object};
-ghost use Rattle.writing_laws.specs.Writing.{GapBytes, GapsAreFill, PartsAreApart, PiecesInLine, PlanByRank, PlanIsImage};
+ghost use Rattle.writing_laws.specs.Writing.{GapBytes, GapsAreFill, PartsAreApart, PiecesInLine, PlanByRank, PlanDue, PlanIsImage};
 
 /// Where something is dirty and an update is not refused, no place is a byte of two parts, and each
 /// part that is not empty ends within the image.
@@ -23,6 +23,13 @@ pub fn plan_is_image()
 #[tactic(auto, using(crate::proofs::RankLaws::plan_by_rank))]
 pub fn plan_by_rank()
     ensures { (o : Object) → PlanByRank o }
+{}
+
+/// There a writer that asks part by part, in the order of the plan, is due what the clean homes are
+/// due in the order of their numbers: an empty part is due nothing.
+#[tactic(auto, using(crate::proofs::DueLaws::plan_due))]
+pub fn plan_due()
+    ensures { (o : Object) → PlanDue o }
 {}
 
 /// There the fill places are those between the parts from the base bytes that count on, and the

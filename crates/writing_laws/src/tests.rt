@@ -33,3 +33,11 @@ fn what_is_edited_is_written()
     ensures written { extents (written_blocks shifted32)
         ≡ (56, 32) ∷ (0, 0) ∷ (52, 0) ∷ (55, 1) ∷ (88, 0) ∷ (208, 0) ∷ [] }
 {}
+
+#[test]
+fn words_for_writers_compute() {
+    blocks_stand_in_a_line();
+    gaps_are_filled_behind_the_base();
+    a_device_is_patched();
+    what_is_edited_is_written();
+}
