@@ -96,10 +96,12 @@ unfolding meets_some written_below
 meets_by_sums home blocks =
     same_test
     (list_any (λ b. extents_meet home.at home.len b.at (length b.bytes)) blocks)
-    (nat_lt (sum_by (bytes_below home.at) blocks) (sum_by (bytes_below (home.at + home.len)) blocks))
+    (nat_lt (sum_by (bytes_below home.at) blocks)
+    (sum_by (bytes_below (home.at + home.len)) blocks))
     (λ h. lt-ltb _ _ (some_meets home.at home.len blocks h))
     (λ h. some_met home.at home.len blocks
-    (ltb-true (sum_by (bytes_below home.at) blocks) (sum_by (bytes_below (home.at + home.len)) blocks) h))
+    (ltb-true (sum_by (bytes_below home.at) blocks)
+    (sum_by (bytes_below (home.at + home.len)) blocks) h))
 
 -- ---- What is written below a place, over the plan
 
@@ -153,7 +155,8 @@ counts_of f g n (b ∷ bs) (p ∷ ps) are at none =
       (λ empty. none n (ap (λ (c : Block). length c.bytes) here
           ∙ ltb-false-zero (length b.bytes) (sym (same_filled b p are.0) ∙ empty))),
       counts_of f g (n + 1) bs ps are.1
-          (λ i h. let next : n + 1 + i ≡ n + suc i = omega arith in ap g next ∙ at (suc i) (omega arith))
+          (λ i h.
+          let next : n + 1 + i ≡ n + suc i = omega arith in ap g next ∙ at (suc i) (omega arith))
           none,
     )
   where
@@ -179,13 +182,15 @@ length-placed o = by_test (is_dirty o)
     by_test true = section_count-placed (places_of o) o
     by_test false = refl
 
-length-part_blocks : (o : Object) → length (part_blocks (placed o)) ≡ 2 + (length o.sections - 1 + 1)
+length-part_blocks : (o : Object)
+    → length (part_blocks (placed o)) ≡ 2 + (length o.sections - 1 + 1)
 unfolding part_blocks
 length-part_blocks o =
     let q : Object = placed o in
     let count = length-placed o in
     let size = length-map-range_with_len (section_block q) 1 (length q.sections - 1) in
-    let all = length-append (map (section_block q) (section_numbers q)) ((front_blocks q).table ∷ []) in
+    let all = length-append (map (section_block q) (section_numbers q))
+    ((front_blocks q).table ∷ []) in
     omega (arith, count, size, all)
 
 rank_at : (o : Object) (i : ℕ) → i < length (part_blocks (placed o))

@@ -59,7 +59,8 @@ clean_within class order c clean = by_pieces c.pieces clean
         (first_within p.align c.raw ps)
     by_own p ps (Some items) e clean = cc
 
-    by_pieces : (l : List Piece) → elim (slice_get l 0) [ None ↦ false | Some p ↦ is_none p.own ] ≡ true
+    by_pieces : (l : List Piece)
+        → elim (slice_get l 0) [ None ↦ false | Some p ↦ is_none p.own ] ≡ true
         → length c.raw
         ≤ last_end 0 (stacked 0 (map (λ p. (p.align, piece_bytes class order c.raw p)) l))
     by_pieces [] clean = cc
@@ -110,7 +111,8 @@ past_due : (o : Object) (loaded : List Bool) (s : ℕ) → length o.sections ≤
 unfolding section_due home_is_clean
 past_due o loaded s past =
     let absent = section_at-past o s past in
-    ap (λ (c : Section). if has_file_bytes s c && home_is_clean c then home_due o loaded s else 0) absent
+    ap (λ (c : Section). if has_file_bytes s c && home_is_clean c then home_due o loaded s else 0)
+    absent
     ∙ by_test (has_file_bytes s _)
   where
     by_test : (b : Bool) → (if b && false then home_due o loaded s else 0) ≡ 0
@@ -218,7 +220,8 @@ all_sections_due o loaded = by_count (length o.sections) refl
 -- the sections that hand on their homes
 clean_due : (o : Object) (loaded : List Bool) (a n : ℕ)
     → sum_by (home_due o loaded)
-    (filter (λ s. has_file_bytes s (section_at o s) && home_is_clean (section_at o s)) (range_with_len a n))
+    (filter (λ s. has_file_bytes s (section_at o s) && home_is_clean (section_at o s))
+    (range_with_len a n))
     ≡ sum_by (section_due o loaded) (range_with_len a n)
 unfolding section_due
 clean_due o loaded a zero = refl
@@ -237,7 +240,8 @@ clean_due o loaded a (suc n) =
         → sum_by (home_due o loaded) (filter test (range_with_len (a + 1) n))
         ≡ sum_by (section_due o loaded) (range_with_len (a + 1) n)
         → sum_by (home_due o loaded)
-        (cond b (a ∷ filter test (range_with_len (a + 1) n)) (filter test (range_with_len (a + 1) n)))
+        (cond b (a ∷ filter test (range_with_len (a + 1) n))
+        (filter test (range_with_len (a + 1) n)))
         ≡ sum_by (section_due o loaded) (range_with_len a (suc n))
     by_test true e rest =
         let here = sum_by-cons (home_due o loaded) a (filter test (range_with_len (a + 1) n)) in

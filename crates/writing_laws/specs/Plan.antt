@@ -36,7 +36,7 @@ section_due o loaded s =
     then home_due o loaded s else 0
 
 -- what the part with that rank is due: the ELF header has rank 0, the program header table 1, a
--- section its number and 1, and the section header table the next; header and tables are due nothing
+-- section its number and 1, and the section header table the next; only sections are due anything
 unfoldable pub rank_due : Object → List Bool → ℕ → ℕ
 rank_due o loaded rank = section_due o loaded (rank - 1)
 
