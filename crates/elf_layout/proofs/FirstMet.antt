@@ -16,7 +16,7 @@ unfolding has_bytes
 has_bytes-len p e = ltb-true 0 p.len (and_parts p.filled (nat_lt 0 p.len) e).1
 
 -- of two parts that are not empty the first, which does not begin later, meets the second where this begins before its end
-meets-in_order : (p q : PartAt) → has_bytes p ≡ true → has_bytes q ≡ true → p.at ≤ q.at → q.at < p.at + p.len → meets p q ≡ true
+pub meets-in_order : (p q : PartAt) → has_bytes p ≡ true → has_bytes q ≡ true → p.at ≤ q.at → q.at < p.at + p.len → meets p q ≡ true
 unfolding meets end_of
 meets-in_order p q full full' order close =
     let some = has_bytes-len q full' in

@@ -1,4 +1,5 @@
 mod Apart
+pub mod Capped
 mod FirstMet
 mod Lengths
 mod Neighbours

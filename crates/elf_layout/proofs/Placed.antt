@@ -48,7 +48,7 @@ pub placing_err : (parts : List PartAt) (layout : Bool) (base : ℕ) (class : Cl
 unfolding placing placing_within refusal_of
 placing_err parts layout base class error e = err_from _ _ _ e
 
-neither_from : (overlaps : Option ElfError) (too_large : Bool) → option_or overlaps (cond too_large (Some TooLarge) None) ≡ None → (overlaps ≡ None) × (too_large ≡ false)
+pub neither_from : (overlaps : Option ElfError) (too_large : Bool) → option_or overlaps (cond too_large (Some TooLarge) None) ≡ None → (overlaps ≡ None) × (too_large ≡ false)
 neither_from None true e = absurd (let h : ◌≡◌ {A = Option ElfError} (Some TooLarge) None = e in cc)
 neither_from None false e = (refl, refl)
 neither_from (Some error) too_large e = absurd (let h : ◌≡◌ {A = Option ElfError} (Some error) None = e in cc)

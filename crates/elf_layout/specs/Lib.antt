@@ -1,3 +1,4 @@
 pub mod Extents
+pub mod Capping
 pub mod Layout
 pub mod Meeting

@@ -3,12 +3,14 @@
 #![tactic(auto)]
 
 mod caller;
+mod capping;
 mod meeting;
 mod order;
 mod parts;
 mod placing;
 mod rounding;
 
+pub use capping::capping_law;
 pub use meeting::{overlap, ranks_by_position};
 pub use parts::{PartAt, Parts, Places};
 pub use placing::place;
