@@ -11,6 +11,7 @@ mod StackLemmas
 mod HomeLemmas
 mod StringLemmas
 mod StringCalls
+mod NameCalls
 mod IndexTables
 mod SymbolLemmas
 mod SymbolCalls

@@ -4,3 +4,4 @@ pub mod Notes
 pub mod Strings
 pub mod Calls
 pub mod Chains
+pub mod SectionNames

@@ -1,0 +1,89 @@
+//! The names of sections.
+
+ghost use Rattle.std.specs.Prelude.{◌≡◌, ◌<◌, length, []};
+ghost use Rattle.std.specs.Borrow.{sem};
+ghost use Rattle.elf_object.specs.Object.{section_at};
+ghost use Rattle.elf_object.specs.Words.{Answers};
+ghost use Rattle.elf_descriptor.specs.Reads.{Queries, wanted};
+ghost use Rattle.elf_descriptor.specs.Rests.{Rests};
+ghost use Rattle.gelf_view.specs.SectionNames.{is_refusal, seen_name, readable_string, section_name, is_named};
+
+use crate::string_calls::strptr;
+use elf_descriptor::Elf;
+use elf_outside::Source;
+use elf_types::{ElfError, ScnId};
+
+/// Whether an error is a refusal that a definition states.
+fn is_refusal(e: &ElfError) -> bool
+    ensures { result ≡ is_refusal e.now }
+{
+    !matches!(e, ElfError::Memory | ElfError::Read | ElfError::Write)
+}
+
+/// The string at an offset of a section, or None where `strptr` refuses it. `Memory` and `Read` may
+/// come where it may want them.
+fn readable_string<S: Source>(
+    elf: &mut Elf<S>,
+    s: ScnId,
+    offset: u64,
+) -> Result<Option<&[u8]>, ElfError>
+    ensures answer { Answers elf.old.told (wanted (readable_string s.0 offset) elf.old)
+        (seen_name result) ((readable_string s.0 offset).answer elf.old.o) }
+    ensures* rests { sem 𝓛 (Rests S.row S.Source elf.entry (λ new.
+        Queries S.Source (readable_string s.0 offset) [] result elf.old new)) }
+{
+    match strptr(elf, s, offset) {
+        Ok(name) => Ok(Some(name)),
+        Err(e) => { if is_refusal(&e) { Ok(None) } else { Err(e) } }
+    }
+}
+
+/// The name field of the present header of a section that is there.
+#[tactic(auto, unfolding(elf_object::specs::Calls::shdr_answer))]
+fn name_field<S: Source>(elf: &Elf<S>, s: ScnId) -> u32
+    requires { s.0 < length elf.now.o.sections }
+    ensures { result ≡ (section_at elf.now.o s.0).header.name }
+{
+    match elf.shdr(s) {
+        Ok(header) => header.name,
+        Err(_) => unreachable!(),
+    }
+}
+
+/// The name of a section that is there: the string at its `sh_name` in the section of the names, or
+/// None where there is no such section or `strptr` refuses the string. `Memory` and `Read` may come
+/// where the names are not at hand, and nothing is refused. It reads the home of the names at the
+/// first use, and marks nothing dirty.
+///
+/// Source: gABI chapter 4, "Section Header", sh_name, and "Special Sections", e_shstrndx.
+pub fn section_name<S: Source>(elf: &mut Elf<S>, s: ScnId) -> Result<Option<&[u8]>, ElfError>
+    requires { s.0 < length elf.old.o.sections }
+    ensures answer { Answers elf.old.told (wanted (section_name s.0) elf.old)
+        (seen_name result) ((section_name s.0).answer elf.old.o) }
+    ensures* rests { sem 𝓛 (Rests S.row S.Source elf.entry (λ new.
+        Queries S.Source (section_name s.0) [] result elf.old new)) }
+{
+    let names = elf.shstrndx();
+    if names == 0 {
+        return Ok(None);
+    }
+    let at = name_field(elf, s);
+    readable_string(elf, ScnId(names), u64::from(at))
+}
+
+/// Whether a section that is there has this name. It reads, and wants memory, as `section_name`
+/// does, and refuses nothing.
+///
+/// Source: gABI chapter 4, "Section Header", sh_name.
+pub fn is_named<S: Source>(elf: &mut Elf<S>, s: ScnId, name: &[u8]) -> Result<bool, ElfError>
+    requires { s.0 < length elf.old.o.sections }
+    ensures answer { Answers elf.old.told (wanted (is_named s.0 name.now) elf.old) result
+        ((is_named s.0 name.now).answer elf.old.o) }
+    ensures queries { Queries S.Source (is_named s.0 name.now) [] result elf.old elf.new }
+{
+    match section_name(elf, s) {
+        Ok(Some(found)) => Ok(found == name),
+        Ok(None) => Ok(false),
+        Err(e) => Err(e),
+    }
+}
