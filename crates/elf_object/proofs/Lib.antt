@@ -6,3 +6,8 @@ pub mod HomeLaws
 pub mod PieceLaws
 pub mod Sizes
 pub mod Computing
+pub mod DueLaws
+pub mod ItemCounts
+pub mod RefusalLaws
+pub mod RunningEnds
+pub mod SettledSections

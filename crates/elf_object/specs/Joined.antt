@@ -23,6 +23,10 @@ piece_blocks o s = stacked 0 (aligned_pieces o.header.class o.header.order (sect
 unfoldable pub pieces_end : Object → ℕ → ℕ
 pieces_end o s = last_end 0 (piece_blocks o s)
 
+-- the same of a section by itself, in a class and a byte order
+abbrev pub section_end : Class → Order → Section → ℕ
+section_end class order s = last_end 0 (stacked 0 (aligned_pieces class order s))
+
 -- the bytes of a section in the file: SHT_NULL, SHT_NOBITS and section 0 have none, whatever their
 -- pieces are. Strings are looked up in the pieces (`piece_blocks`, `pieces_end`), which section 0
 -- may have too.

@@ -1,14 +1,14 @@
 -- The plain object: an ELF image as lists of headers and sections (gABI chapter 4, "Object Files").
 -- Each section has what the image held of it when it was opened, and pieces of data, which edits
 -- change.
-use Rattle.std.specs.Prelude.{ℕ, Bool, true, false, not, ◌==◌, ◌&&◌, ◌||◌, List, [], length, slice_get, slice_index_or, Option, Some, None, is_none}
+use Rattle.std.specs.Prelude.{ℕ, ◌/◌, ◌%◌, Bool, true, false, not, ◌==◌, ◌&&◌, ◌||◌, List, [], length, slice_get, slice_index_or, Option, Some, None, is_none}
 use Rattle.std.specs.List.{list_any}
 use Rattle.elf_types.specs.declared.records.Kind.{Kind}
 use Rattle.elf_types.specs.declared.records.Kind.TheVariants as kinds
 use Rattle.elf_types.specs.declared.records.Ehdr.{Ehdr}
 use Rattle.elf_types.specs.declared.records.Phdr.{Phdr}
 use Rattle.elf_types.specs.declared.records.Shdr.{Shdr}
-use Rattle.elf_types.specs.declared.constants.TheConstants.{SHT_NULL, SHT_NOBITS}
+use Rattle.elf_types.specs.declared.constants.TheConstants.{SHT_NULL, SHT_NOBITS, SHF_ALLOC}
 use Rattle.elf_xlate.specs.declared.content.Items.{Items}
 use Rattle.elf_ident.specs.Front.{zero_shdr}
 use Rattle.elf_object.specs.Blocks.{Block}
@@ -105,6 +105,14 @@ is_null h = h.stype == SHT_NULL
 -- a section of type SHT_NULL or SHT_NOBITS occupies no space in the file
 abbrev pub occupies_file : Shdr → Bool
 occupies_file h = not (h.stype == SHT_NULL || h.stype == SHT_NOBITS)
+
+-- whether a flag of sh_flags is set, a power of two (gABI chapter 4, "Sections", sh_flags)
+abbrev pub has_flag : ℕ → Shdr → Bool
+has_flag flag h = h.flags / flag % 2 == 1
+
+-- SHF_ALLOC: the section is in memory when the program runs
+unfoldable pub is_allocated : Shdr → Bool
+is_allocated h = has_flag SHF_ALLOC h
 
 -- whether the image holds bytes of the section with this number, empty or not
 unfoldable pub has_file_bytes : ℕ → Section → Bool

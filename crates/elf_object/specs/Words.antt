@@ -7,7 +7,7 @@
 use Rattle.std.specs.Prelude.{◌≡◌, ℕ, Bool, true, false, IsTrue, List, length, Option, Some, None, Result, Ok, Err, IsOk, ◌⊎◌}
 use Rattle.std.specs.Borrow.{Bor}
 use Rattle.elf_types.specs.declared.errors.ElfError.{ElfError}
-use Rattle.elf_types.specs.declared.errors.ElfError.TheVariants.{Memory, Read, NoEntry, Unfit, BadChain, Unended, Overlap, TooLarge}
+use Rattle.elf_types.specs.declared.errors.ElfError.TheVariants.{Memory, Read, Write, NoEntry, Unfit, BadChain, Unended, Overlap, TooLarge}
 use Rattle.elf_xlate.specs.declared.content.Items.{Items}
 use Rattle.elf_xlate.specs.Translation.{items_kind, items_count}
 
@@ -124,3 +124,13 @@ abbrev pub Updates : {A S : Type 0} → Result A ElfError → S → S → Result
 Updates (Ok x) old new stated stepped = (stated ≡ Ok x) × (new ≡ stepped)
 Updates (Err Memory) old new stated stepped = MayWantMemory stated × (new ≡ old)
 Updates (Err e) old new stated stepped = (stated ≡ Err e) × (new ≡ old)
+
+-- of any update, over any source and to any sink or device: a value and a refusal are the stated
+-- ones. It fails to read or to write only where it is not refused, and each of the two has its cause
+-- in a count of the outside. What it leaves is stated beside.
+abbrev pub UpdateAnswers : {A : Type 0} → Result A ElfError → Result A ElfError → Type 0
+UpdateAnswers (Ok x) stated = stated ≡ Ok x
+UpdateAnswers (Err Memory) stated = MayWantMemory stated
+UpdateAnswers (Err Read) stated = IsOk stated
+UpdateAnswers (Err Write) stated = IsOk stated
+UpdateAnswers (Err e) stated = stated ≡ Err e

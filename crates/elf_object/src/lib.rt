@@ -6,7 +6,7 @@ pub mod derived;
 pub mod sections;
 
 pub use derived::{derived_header, numbered_shdr, stored_ehdr, written_header};
-pub use sections::{home_len, is_piece_align, occupies_file};
+pub use sections::{home_len, is_allocated, is_piece_align, occupies_file};
 
 #[cfg(test)]
 mod call_tests;

@@ -1,14 +1,12 @@
 -- Settling keeps the items of a piece that stands alone in its section.
-use Rattle.std.proofs.Common.{◌≡◌, ◌≢◌, ℕ, zero, suc, ◌+◌, ◌-◌, ◌%◌, ◌<◌, max, Bool, true, false, not, ◌&&◌, ◌||◌, List, [], ◌∷◌, length, take, drop, get_or, Option, Some, None, Result, Ok, Err, refl, sym, ap, ◌∙◌, subst, arith}
+use Rattle.std.proofs.Common.{◌≡◌, ◌≢◌, ℕ, zero, suc, ◌+◌, ◌<◌, Bool, true, false, not, ◌&&◌, ◌||◌, List, [], ◌∷◌, length, take, drop, get_or, Option, Some, None, Result, Ok, Err, refl, sym, ap, ◌∙◌, subst, arith}
 use Rattle.std.specs.Prelude.{All, IfSome, IsTrue, nat_lt, if◌then◌else◌, ◌==◌, map}
 use Rattle.std.specs.List.{enumerate_from, list_any}
 use Rattle.std.specs.Option.{option_map}
 use Rattle.std.proofs.lemmas.Bool.{eq-eqb, ne_eqb}
-use Rattle.std.proofs.lemmas.List.{get_or-map, take_all}
-use Rattle.std.proofs.lemmas.List.FromFn.{length-enumerate_from, get_or-enumerate_from}
+use Rattle.std.proofs.lemmas.List.{take_all}
 use Rattle.std.proofs.lemmas.List.Elements.{All-head}
 use Rattle.std.proofs.lemmas.List.Folds.{list_any_at}
-use Rattle.std.proofs.Math.Nat.{mod_self, mod-eq_of_lt}
 use Rattle.elf_types.specs.Kinds.{section_kind}
 use Rattle.elf_types.specs.declared.records.Class.{Class}
 use Rattle.elf_types.specs.declared.records.Order.{Order}
@@ -21,7 +19,6 @@ use Rattle.elf_types.specs.declared.errors.ElfError.TheVariants.{OutOfFile, Ragg
 use Rattle.elf_xlate.specs.declared.content.Items.{Items}
 use Rattle.elf_xlate.specs.Translation.{DecodesAsEncoded, decoded, encoded, first_unfit, items_kind}
 use Rattle.elf_layout.specs.declared.parts.Places.{Places}
-use Rattle.elf_layout.specs.Layout.{rounded_up}
 use Rattle.elf_types.specs.Answers.{first_refusal}
 use Rattle.elf_object.specs.Blocks.{block_end, stacked, last_end, spread}
 use Rattle.object_laws.proofs.BlockLaws.{length-spread, take-drop-spread}
@@ -37,6 +34,8 @@ use Rattle.elf_object.specs.Settled.{settled_section, settled_over}
 use Rattle.elf_object.specs.Valid.{IsPiece}
 use Rattle.object_laws.proofs.ImageLaws.{section_at-placed, placed-dirty}
 use Rattle.elf_object.proofs.PassedLaws.{none_first, none_rest}
+use Rattle.elf_object.proofs.RunningEnds.{first_place}
+use Rattle.elf_object.proofs.SettledSections.{section_at-settled}
 use Rattle.object_laws.proofs.KeepLaws.{section_at_is}
 use Rattle.object_laws.proofs.PlacedLaws.{update_passes}
 use Rattle.object_laws.proofs.StandLaws.{section_count-placed, joined-placed}
@@ -45,16 +44,6 @@ use Rattle.object_laws.proofs.SettledLaws.{unrefused, section_raw, section_exten
 use Rattle.object_laws.specs.Laws.{SettlingKeepsItems}
 
 -- ---- One piece alone
-
-first_multiple : (n : ℕ) → 0 < n → 0 + (n - 0 % n) % n ≡ 0
-first_multiple n some =
-    let none : 0 % n ≡ 0 = mod-eq_of_lt some in
-    let whole : n - 0 ≡ n = omega arith in
-    rw (none, whole, mod_self n) refl
-
-first_place : (align : ℕ) → rounded_up 0 align ≡ 0
-unfolding rounded_up
-first_place align = first_multiple (max align 1) (omega arith)
 
 -- one block that is all
 whole_spread : (bytes : List ℕ) (fill : ℕ) → spread (0 + length bytes) (λ _. fill) (record { at = 0; bytes = bytes } ∷ []) ≡ bytes
@@ -157,16 +146,6 @@ content_made class order s c kind bytes items out same raw read =
     ∙ ap (λ (k : Kind). elim (decoded k class order c.raw) [ None ↦ Err (Ragged s) | Some l ↦ Ok l ]) same
     ∙ ap (λ (l : List ℕ). elim (decoded kind class order l) [ None ↦ Err (Ragged s) | Some l ↦ Ok l ]) raw
     ∙ ap (λ (x : Option Items). elim x [ None ↦ Err (Ragged s) | Some l ↦ Ok l ]) read
-
-section_at-settled : (image : List ℕ) (q : Object) (s : ℕ) → s < length q.sections → section_at (settled_over image q) s ≡ settled_section (length image) (file_bytes q s) (section_at q s).header
-unfolding section_at settled_over
-section_at-settled image q s h =
-    let count = length-enumerate_from 0 q.sections in
-    let row : get_or (enumerate_from 0 q.sections) s (0, absent_section) ≡ (0 + s, get_or q.sections s absent_section) = get_or-enumerate_from 0 q.sections s (0, absent_section) h in
-    let number : 0 + s ≡ s = omega arith in
-    get_or-map (λ (r : ℕ × Section). settled_section (length image) (file_bytes q r.0) r.1.header) (enumerate_from 0 q.sections) s (0, absent_section) absent_section (omega arith)
-    ∙ ap (λ (r : ℕ × Section). settled_section (length image) (file_bytes q r.0) r.1.header) row
-    ∙ ap (λ (k : ℕ). settled_section (length image) (file_bytes q k) (get_or q.sections s absent_section).header) number
 
 content_settled : (image : List ℕ) (q : Object) (s : ℕ) → content (settled_over image q) s ≡ content_of q.header.class q.header.order s (section_at (settled_over image q) s)
 unfolding content content_of settled_over

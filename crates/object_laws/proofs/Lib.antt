@@ -1,6 +1,7 @@
 pub mod BlockLaws
 pub mod RangeLaws
 pub mod PlaceLaws
+pub mod CapLaws
 pub mod KeepLaws
 pub mod KeepItemLaws
 pub mod PlacedLaws

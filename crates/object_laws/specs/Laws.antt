@@ -1,5 +1,5 @@
 -- Laws over the definitions, each proved as the contract of a function.
-use Rattle.std.specs.Prelude.{◌≡◌, ◌≢◌, ℕ, ◌<◌, ◌≤◌, ◌^◌, min, take, drop, All, Bool, true, false, List, [], ◌∷◌, length, slice_get, slice_index, Some, None, ◌⊎◌, Ok, IsErr}
+use Rattle.std.specs.Prelude.{◌≡◌, ◌≢◌, ℕ, ◌<◌, ◌≤◌, ◌^◌, min, take, drop, All, Bool, true, false, List, [], ◌∷◌, length, map, slice_get, slice_index, Some, None, ◌⊎◌, Ok, IsErr}
 use Rattle.elf_types.specs.Kinds.{section_kind}
 use Rattle.elf_types.specs.declared.records.Class.{Class}
 use Rattle.elf_types.specs.declared.records.Order.{Order}
@@ -19,15 +19,17 @@ use Rattle.elf_xlate.specs.Translation.{AreItems, items_kind}
 use Rattle.elf_ident.specs.declared.fronts.Front.{Front}
 use Rattle.elf_ident.specs.Reading.{IsFittingFront, IsCounted}
 use Rattle.elf_layout.specs.declared.parts.PartAt.{PartAt}
+use Rattle.elf_layout.specs.Capping.{capped}
+use Rattle.elf_layout.specs.Layout.{placing, refusal_of}
 use Rattle.elf_layout.specs.Meeting.{meets}
 use Rattle.elf_object.specs.Blocks.{Block}
 use Rattle.elf_object.specs.Object.{Object, Piece, section_at, has_file_bytes, is_dirty}
 use Rattle.elf_object.specs.Open.{begun, opened, created_over}
 use Rattle.elf_object.specs.Answers.{content}
 use Rattle.elf_object.specs.Joined.{file_bytes, pieces_end}
-use Rattle.elf_object.specs.Layout.{placed, placed_parts}
+use Rattle.elf_object.specs.Layout.{parts_of, placed, placed_parts}
 use Rattle.elf_object.specs.Image.{image, image_length, part_blocks}
-use Rattle.elf_object.specs.Refusal.{refusal}
+use Rattle.elf_object.specs.Refusal.{placing_refusal, refusal}
 use Rattle.elf_object.specs.Settled.{settle}
 use Rattle.elf_object.specs.Changed.{torn}
 use Rattle.elf_object.specs.Calls.{Call, step}
@@ -171,6 +173,18 @@ PartsDoNotMeet =
     (o : Object) (i j : ℕ) (p q : PartAt) → o.layout ≡ false → i < j
     → slice_get (placed_parts o) i ≡ Some p → slice_get (placed_parts o) j ≡ Some q
     → meets p q ≡ false
+
+-- Parts may be told with lengths of at most 2^64 - 1: a section's bytes may be more. They are
+-- refused and placed as the object's parts are, and are these where nothing is refused.
+pub record IsCappedAlike (o : Object) : Type 0 where
+  pub refused : refusal_of (map capped (parts_of o)) o.layout (length o.base) o.header.class
+      ≡ placing_refusal o
+  pub placed : placing (map capped (parts_of o)) o.layout (length o.base) o.header.class
+      ≡ placing (parts_of o) o.layout (length o.base) o.header.class
+  pub same : placing_refusal o ≡ None → map capped (parts_of o) ≡ parts_of o
+
+abbrev pub PartsMayBeCapped : Type 0
+PartsMayBeCapped = (o : Object) → IsObject o → IsCappedAlike o
 
 -- where the update is not refused, the places that are stored stay where nothing else is edited
 abbrev pub PlacedStays : Object → Type 0

@@ -1,7 +1,7 @@
 //! Laws over the definitions. Each is the contract of a function that does nothing: what it ensures
 //! holds of every object, and is proved.
 
-ghost use Rattle.object_laws.specs.Laws.{BegunFits, BeginningsAre, BeginningsAreTied, CleanStays, EveryStepKeeps, EveryStepKeepsTied, PartsDoNotMeet, PartsStand, PlacedStays, RefusedStays, ReopenLaw, SettlingKeepsItems, SizesAreLengths, TornLaw, UpdatesKeep, UpdatesTie};
+ghost use Rattle.object_laws.specs.Laws.{BegunFits, BeginningsAre, BeginningsAreTied, CleanStays, EveryStepKeeps, EveryStepKeepsTied, PartsDoNotMeet, PartsMayBeCapped, PartsStand, PlacedStays, RefusedStays, ReopenLaw, SettlingKeepsItems, SizesAreLengths, TornLaw, UpdatesKeep, UpdatesTie};
 ghost use Rattle.elf_object.specs.Object.{Object};
 
 use elf_xlate::{decodes_as_encoded, ehdr_both_ways, phdr_both_ways, shdr_both_ways};
@@ -62,6 +62,12 @@ pub fn sizes_are_lengths()
 #[tactic(auto, using(crate::proofs::LawsHold::parts_do_not_meet))]
 pub fn parts_do_not_meet()
     ensures { PartsDoNotMeet }
+{}
+
+/// The parts of an object may be told with lengths of at most 2^64 - 1 where a section's bytes are
+/// more: they are refused and placed as they are.
+pub fn parts_may_be_capped()
+    ensures { PartsMayBeCapped }
 {}
 
 /// Where something is dirty and an update is not refused, each part stands in the image, at the
