@@ -5,8 +5,8 @@ use Rattle.elf_types.specs.declared.errors.ElfError.{ElfError}
 use Rattle.elf_types.specs.declared.errors.ElfError.TheVariants.{Read, Write}
 use Rattle.elf_outside.specs.Writes.{written_over, WritesOver, IsTornBy, TearsOver}
 use Rattle.elf_outside.specs.Puts.{WriteRose, UsesSink, Puts}
-use Rattle.elf_outside.specs.Asks.{ReadRose}
-use Rattle.elf_outside.specs.Patches.{DeviceReadRose, UsesDevice, Patches}
+use Rattle.elf_outside.specs.Asks.{ReadRose, DeviceReadRose}
+use Rattle.elf_outside.specs.Patches.{UsesDevice, Patches}
 use Rattle.elf_outside.specs.declared.sinks.Sink.{Ghosts}
 use Rattle.elf_outside.specs.declared.sources.Source.{Ghosts as SourceGhosts}
 use Rattle.elf_outside.specs.declared.devices.Device.{Ghosts as DeviceGhosts}

@@ -1,14 +1,23 @@
 -- What was written by one call after another.
-use Rattle.std.proofs.Common.{◌≡◌, ◌⊎◌, ◌+◌, ◌-◌, ◌<◌, ◌≤◌, ℕ, List, ◌++◌, Option, Some, None, length, take, drop, min, slice_index, inl, inr, sym, ap, ◌∙◌, subst, append_assoc, length-append, arith}
+use Rattle.std.proofs.Common.{◌≡◌, ◌⊎◌, ◌+◌, ◌-◌, ◌<◌, ◌≤◌, ℕ, List, ◌++◌, Option, Some, None, length, take, drop, min, slice_index, [], inl, inr, refl, sym, ap, ◌∙◌, subst, append_assoc, length-append, arith}
 use Rattle.std.specs.Option.{option_map}
 use Rattle.std.proofs.Math.Seq.{take-append-add}
 use Rattle.std.proofs.lemmas.Bool.{cases_lt}
 use Rattle.std.proofs.lemmas.Grind.{common_steps}
-use Rattle.std.proofs.lemmas.List.{take-append-le, take_min, take_at, length-take-le}
+use Rattle.std.proofs.lemmas.List.{append-nil, take-append-le, take_min, take_at, length-take-le}
 use Rattle.std.proofs.lemmas.Slice.{drop-append-drop}
 use Rattle.elf_outside.specs.Writes.{Appends, AppendsFront, written_over, IsTornBy}
 
 -- ---- Texts that were appended
+
+-- nothing was appended
+pub appends_none : (a : Option (List ℕ)) → Appends a a []
+appends_none None = refl
+appends_none (Some w) = ap Some (sym (append-nil w))
+
+-- so a front of any text was
+pub front_none : (a : Option (List ℕ)) (text : List ℕ) → AppendsFront a a text
+front_none a text = (0, appends_none a)
 
 -- one text after another
 pub appends_both : (a b c : Option (List ℕ)) (x y : List ℕ) → Appends a b x → Appends b c y → Appends a c (x ++ y)

@@ -1,17 +1,12 @@
 -- What a call that is generic over a device does to it, as Asks says of one over a source.
-use Rattle.std.specs.Prelude.{◌≡◌, ◌≤◌, ℕ, List, Result, Err, OnOk, OnErr}
+use Rattle.std.specs.Prelude.{◌≡◌, ◌≤◌, ℕ, List, Result, OnOk, OnErr}
 use Rattle.elf_types.specs.declared.errors.ElfError.{ElfError}
-use Rattle.elf_types.specs.declared.errors.ElfError.TheVariants.{Read}
-use Rattle.elf_outside.specs.Counts.{Rose, RaisedAtMost}
+use Rattle.elf_outside.specs.Counts.{RaisedAtMost}
+use Rattle.elf_outside.specs.Asks.{DeviceReadRose}
 use Rattle.elf_outside.specs.Writes.{WritesOver, TearsOver}
 use Rattle.elf_outside.specs.Puts.{WriteRose}
 use Rattle.elf_outside.specs.declared.sources.Source.{Ghosts as SourceGhosts}
 use Rattle.elf_outside.specs.declared.devices.Device.{Ghosts as DeviceGhosts}
-
--- the call answers Read only where the device's count of failed reads rose in it
-abbrev pub DeviceReadRose : {T : Type 0} → Result T ElfError → ℕ → ℕ → Type 0
-DeviceReadRose (Err Read) before now = Rose before now
-DeviceReadRose _ before now = Unit {0}
 
 -- a call that reads and writes a device, whatever it writes: what it leaves, how its faults show,
 -- and that it asks for at most `asked` bytes and gives at most `handed`

@@ -39,4 +39,8 @@ impl<D: Device> Sink for DeviceSink<D> {
     fn put(&mut self, buf: &[u8]) -> Result<(), Failed> {
         self.device.append(buf)
     }
+
+    fn put_zeros(&mut self, n: u64) -> Result<(), Failed> {
+        self.device.append_zeros(n)
+    }
 }

@@ -1,7 +1,7 @@
 //! What is read and written in place.
 
-ghost use Rattle.std.specs.Prelude.{◌≡◌, ℕ, ◌+◌, ◌≤◌, ◌∷◌, [], List, length, OnOk, OnErr};
-ghost use Rattle.elf_outside.specs.Counts.{HasCause, RaisedBy};
+ghost use Rattle.std.specs.Prelude.{◌≡◌, ℕ, ◌+◌, ◌≤◌, ◌∷◌, [], List, length, replicate, OnOk, OnErr};
+ghost use Rattle.elf_outside.specs.Counts.{HasCause, RaisedBy, RaisedAtMost};
 ghost use Rattle.elf_outside.specs.Writes.{WritesOver, TearsOver, Resizes, ResizesOrNot, Lengthens, LengthensByFront};
 
 use crate::sources::{Failed, Source};
@@ -61,6 +61,19 @@ pub trait Device: Source {
             (Self.holds self.old) (Self.holds self.new) buf.now) }
         ensures cause { HasCause (write_faults self.old) (write_faults self.new) result }
         ensures given { RaisedBy (given self.old) (given self.new) (length buf.now) }
+        ensures faults { Self.faults self.new ≡ Self.faults self.old }
+        ensures taken { Self.taken self.new ≡ Self.taken self.old }
+        ensures rest_after { rest_after self.new ≡ rest_after self.old };
+
+    /// Puts `n` zero bytes after the last byte, as `append` puts a buffer that holds them. They
+    /// count in `given` where they are handed to writes, and not where the device is lengthened.
+    fn append_zeros(&mut self, n: u64) -> Result<(), Failed>
+        ensures ok { OnOk result (Lengthens (Self.size self.old) (Self.size self.new)
+            (Self.holds self.old) (Self.holds self.new) (replicate n 0)) }
+        ensures err { OnErr result (LengthensByFront (Self.size self.old) (Self.size self.new)
+            (Self.holds self.old) (Self.holds self.new) (replicate n 0)) }
+        ensures cause { HasCause (write_faults self.old) (write_faults self.new) result }
+        ensures given { RaisedAtMost (given self.old) (given self.new) n }
         ensures faults { Self.faults self.new ≡ Self.faults self.old }
         ensures taken { Self.taken self.new ≡ Self.taken self.old }
         ensures rest_after { rest_after self.new ≡ rest_after self.old };

@@ -1,11 +1,13 @@
 //! The outside of the system: its files and streams. None of them tells its bytes.
 
+pub mod failure;
 pub mod files;
 pub mod read_ahead;
 pub mod sink;
 pub mod system_file;
 pub mod transfers;
 
+pub use failure::{Attempt, Failure};
 pub use files::RealFiles;
 use read_ahead::ReadAhead;
 pub use sink::RealSink;

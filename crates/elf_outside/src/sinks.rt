@@ -1,6 +1,6 @@
 //! What is written from its beginning to its end.
 
-ghost use Rattle.std.specs.Prelude.{◌≡◌, ℕ, List, Option, OnOk, OnErr};
+ghost use Rattle.std.specs.Prelude.{◌≡◌, ℕ, List, Option, replicate, OnOk, OnErr};
 ghost use Rattle.elf_outside.specs.Counts.{HasCause};
 ghost use Rattle.elf_outside.specs.Writes.{Appends, AppendsFront};
 
@@ -24,6 +24,15 @@ pub trait Sink {
     fn put(&mut self, buf: &[u8]) -> Result<(), Failed>
         ensures ok { OnOk result (Appends (wrote self.old) (wrote self.new) buf.now) }
         ensures err { OnErr result (AppendsFront (wrote self.old) (wrote self.new) buf.now) }
+        ensures leaves { rest self.new ≡ rest self.old }
+        ensures cause { HasCause (faults self.old) (faults self.new) result };
+
+    /// Appends `n` zero bytes, as `put` appends a buffer that holds them.
+    fn put_zeros(&mut self, n: u64) -> Result<(), Failed>
+        ensures ok { OnOk result
+            (Appends (wrote self.old) (wrote self.new) (replicate n 0)) }
+        ensures err { OnErr result
+            (AppendsFront (wrote self.old) (wrote self.new) (replicate n 0)) }
         ensures leaves { rest self.new ≡ rest self.old }
         ensures cause { HasCause (faults self.old) (faults self.new) result };
 }

@@ -1,6 +1,6 @@
 //! Writes to a sink and to a device whose failure is an error of the library.
 
-ghost use Rattle.std.specs.Prelude.{◌≡◌, ◌+◌, ◌≤◌, length, OnOk, OnErr, IfErr};
+ghost use Rattle.std.specs.Prelude.{◌≡◌, ◌+◌, ◌≤◌, length, replicate, OnOk, OnErr, IfErr};
 ghost use Rattle.elf_outside.specs.Writes.{Resizes, ResizesOrNot};
 ghost use Rattle.elf_outside.specs.Puts.{Puts};
 ghost use Rattle.elf_outside.specs.Patches.{UsesDevice, Patches};
@@ -16,6 +16,17 @@ pub fn put<K: Sink>(out: &mut K, text: &[u8]) -> Result<(), ElfError>
     ensures err { IfErr result (λ e. e ≡ ElfError.Write) }
 {
     match out.put(text) {
+        Ok(()) => Ok(()),
+        Err(Failed) => Err(ElfError::Write),
+    }
+}
+
+/// Appends `n` zero bytes to a sink. It refuses `Write` alone and takes no memory.
+pub fn put_zeros<K: Sink>(out: &mut K, n: u64) -> Result<(), ElfError>
+    ensures puts { Puts K.Sink result out.old out.new (replicate n 0) }
+    ensures err { IfErr result (λ e. e ≡ ElfError.Write) }
+{
+    match out.put_zeros(n) {
         Ok(()) => Ok(()),
         Err(Failed) => Err(ElfError::Write),
     }

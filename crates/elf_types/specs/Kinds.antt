@@ -6,6 +6,10 @@ use Rattle.elf_types.specs.declared.records.Kind.TheVariants.{Empty, Bytes, Half
 use Rattle.elf_types.specs.declared.records.Shdr.{Shdr}
 use Rattle.elf_types.specs.declared.constants.TheConstants.{SHT_NULL, SHT_SYMTAB, SHT_RELA, SHT_HASH, SHT_DYNAMIC, SHT_NOBITS, SHT_REL, SHT_DYNSYM, SHT_INIT_ARRAY, SHT_FINI_ARRAY, SHT_PREINIT_ARRAY, SHT_GROUP, SHT_SYMTAB_SHNDX, SHT_GNU_VERSYM, SHF_COMPRESSED}
 
+-- whether a section header has a flag, which is a power of two
+abbrev pub has_flag : ℕ → Shdr → Bool
+has_flag flag h = h.flags / flag % 2 == 1
+
 -- whether the flag SHF_COMPRESSED, bit 11, is set
 unfoldable pub is_compressed : ℕ → Bool
 is_compressed flags = flags / SHF_COMPRESSED % 2 == 1

@@ -1,6 +1,10 @@
 pub mod Answers
+pub mod Constants
+pub mod Digits
 pub mod Kinds
 pub mod Lists
 pub mod Names
+pub mod Symbols
+pub mod Tables
 pub mod Text
 pub mod Writers

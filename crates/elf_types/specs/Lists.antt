@@ -1,10 +1,14 @@
 -- Words on `List`, which a contract sees as the list of its items.
-use Rattle.std.specs.Prelude.{◌++◌, List, length, take, drop}
+use Rattle.std.specs.Prelude.{◌++◌, ◌<◌, ◌^◌, ℕ, List, All, length, take, drop}
 use Rattle.std.specs.Borrow.{Lends, Fml}
 use denote.RattleType.{RattleType}
 use denote.Array.{Array}
 use denote.Ref.{MutBor}
 use Rattle.elf_types.specs.contracts.lists.List.{the_row}
+
+-- each number is a byte
+abbrev pub AreBytes : List ℕ → Type 0
+AreBytes l = All (λ n. n < 2 ^ 8) l
 
 -- the list after a loan of its items: what the borrower left, of the list's length
 abbrev pub refilled : {X : Type 0} → List X → List X → List X

@@ -1,6 +1,9 @@
 //! The constants of the System V gABI under their own names, and the limits of elfkit. The
 //! definitions in specs/ cite them as the code does.
 
+ghost use Rattle.std.specs.Prelude.{◌≡◌, true};
+ghost use Rattle.elf_types.specs.Constants.{are_numbers, identification, numbering, section_types, section_flags, segments, symbols, limits, part_flags, elf_magic, archive_magic};
+
 // ---- ELF identification (gABI chapter 4, "ELF Identification")
 
 /// The place of the class.
@@ -152,3 +155,18 @@ pub const MAX_SEGMENTS: u64 = 1 << 20;
 pub const MAX_PIECES: u64 = 1 << 20;
 /// The greatest alignment of a piece in its section.
 pub const MAX_PIECE_ALIGN: u64 = 1 << 20;
+
+/// Each constant is the number that stands beside its name in the tables of specs/Constants. It is
+/// for the reader and for proofs, and does nothing.
+pub fn constants_are()
+    ensures identification { are_numbers identification ≡ true }
+    ensures numbering { are_numbers numbering ≡ true }
+    ensures section_types { are_numbers section_types ≡ true }
+    ensures section_flags { are_numbers section_flags ≡ true }
+    ensures segments { are_numbers segments ≡ true }
+    ensures symbols { are_numbers symbols ≡ true }
+    ensures limits { are_numbers limits ≡ true }
+    ensures part_flags { are_numbers part_flags ≡ true }
+    ensures elf_magic { ELFMAG ≡ elf_magic }
+    ensures archive_magic { ARMAG ≡ archive_magic }
+{}

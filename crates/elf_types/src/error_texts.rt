@@ -3,7 +3,7 @@
 //! Each call refuses `Memory` alone; what the list held then still stands, some bytes behind it.
 
 ghost use Rattle.std.specs.Prelude.{◌≡◌, ◌++◌, [], OnOk, IfOk, IfErr, codes};
-ghost use Rattle.elf_types.specs.Writers.{WantsMemory};
+ghost use Rattle.elf_types.specs.Writers.{WantsMemory, Extends};
 ghost use Rattle.elf_types.specs.Text.{numbered, numbered_twice, kind_text, part_text, unfit_text, overlap_text, held_text, error_text};
 
 use crate::errors::ElfError;
@@ -78,58 +78,53 @@ pub fn put_part(out: &mut Octets, part: Part) -> Result<(), ElfError>
 /// Appends a part and the index of its item that does not fit.
 #[tactic(auto, using(crate::proofs::Writers::stays), unfolding(crate::specs::Text::unfit_text))]
 fn put_unfit(out: &mut Octets, part: Part, index: u64) -> Result<(), ElfError>
-    ensures ok { OnOk result (out.new ≡ out.old ++ unfit_text part index) }
-    ensures err { IfErr result (WantsMemory out.old out.new) }
+    ensures { Extends result out.old out.new (unfit_text part index) }
 {
     put_text(out, "unfit ")?;
     put_part(out, part)?;
-    put_numbered(out, " index ", index, "")
+    put_numbered(out, " index ", index, "")?;
+    Ok(())
 }
 
 /// Appends two parts that meet.
 #[tactic(auto, using(crate::proofs::Writers::stays), unfolding(crate::specs::Text::overlap_text))]
 fn put_overlap(out: &mut Octets, a: Part, b: Part) -> Result<(), ElfError>
-    ensures ok { OnOk result (out.new ≡ out.old ++ overlap_text a b) }
-    ensures err { IfErr result (WantsMemory out.old out.new) }
+    ensures { Extends result out.old out.new (overlap_text a b) }
 {
     put_text(out, "overlap ")?;
     put_part(out, a)?;
     put_text(out, " ")?;
-    put_part(out, b)
+    put_part(out, b)?;
+    Ok(())
 }
 
 /// Appends the kind that a piece holds.
 #[tactic(auto, using(crate::proofs::Writers::stays), unfolding(crate::specs::Text::held_text))]
 fn put_held(out: &mut Octets, kind: Kind) -> Result<(), ElfError>
-    ensures ok { OnOk result (out.new ≡ out.old ++ held_text kind) }
-    ensures err { IfErr result (WantsMemory out.old out.new) }
+    ensures { Extends result out.old out.new (held_text kind) }
 {
     put_text(out, "held kind ")?;
-    put_text(out, kind_name(kind))
+    put_text(out, kind_name(kind))?;
+    Ok(())
 }
 
 /// Appends a number of which there are only so many: an index and a count, an offset and a size.
 fn put_missing(out: &mut Octets, before: &str, index: u64, count: u64) -> Result<(), ElfError>
-    ensures ok { OnOk result
-        (out.new ≡ out.old ++ numbered_twice before.now index (codes " of ") count) }
-    ensures err { IfErr result (WantsMemory out.old out.new) }
+    ensures { Extends result out.old out.new (numbered_twice before.now index (codes " of ") count) }
 {
     put_numbered_twice(out, before, index, " of ", count)
 }
 
 /// Appends the index of a section or a piece, and how many there are.
 fn put_missing_index(out: &mut Octets, before: &str, index: u32, count: u32) -> Result<(), ElfError>
-    ensures ok { OnOk result
-        (out.new ≡ out.old ++ numbered_twice before.now index (codes " of ") count) }
-    ensures err { IfErr result (WantsMemory out.old out.new) }
+    ensures { Extends result out.old out.new (numbered_twice before.now index (codes " of ") count) }
 {
     put_missing(out, before, u64::from(index), u64::from(count))
 }
 
 /// Appends what is wrong with a section.
 fn put_section(out: &mut Octets, section: u32, fault: &str) -> Result<(), ElfError>
-    ensures ok { OnOk result (out.new ≡ out.old ++ numbered (codes "section ") section fault.now) }
-    ensures err { IfErr result (WantsMemory out.old out.new) }
+    ensures { Extends result out.old out.new (numbered (codes "section ") section fault.now) }
 {
     put_numbered(out, "section ", u64::from(section), fault)
 }

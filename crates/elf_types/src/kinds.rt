@@ -1,7 +1,7 @@
 //! What a section's data consists of.
 
-ghost use Rattle.std.specs.Prelude.{◌≡◌};
-ghost use Rattle.elf_types.specs.Kinds.{is_compressed, kind_of_type, section_kind};
+ghost use Rattle.std.specs.Prelude.{◌≡◌, ◌<◌};
+ghost use Rattle.elf_types.specs.Kinds.{has_flag, is_compressed, kind_of_type, section_kind};
 
 use crate::constants::{
     SHF_COMPRESSED, SHT_DYNAMIC, SHT_DYNSYM, SHT_FINI_ARRAY, SHT_GNU_VERSYM, SHT_GROUP, SHT_HASH,
@@ -16,6 +16,15 @@ pub fn is_compressed(flags: u64) -> bool
     ensures { result ≡ is_compressed flags }
 {
     flags / SHF_COMPRESSED % 2 == 1
+}
+
+/// Whether a section header has a flag, which is a power of two (gABI chapter 4, "Sections",
+/// sh_flags). It takes no memory.
+pub fn has_flag(h: &Shdr, flag: u64) -> bool
+    requires { 0 < flag }
+    ensures { result ≡ has_flag flag h.now }
+{
+    h.flags / flag % 2 == 1
 }
 
 /// The kind by a section's type.

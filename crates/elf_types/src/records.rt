@@ -1,5 +1,7 @@
 //! The records of an ELF image (gABI, chapters 4 and 5) in one form for both classes.
 
+ghost use Rattle.std.specs.Prelude.{◌≡◌};
+
 /// The class of an image, `e_ident[EI_CLASS]` (gABI, "ELF Identification").
 #[derive(Clone, Copy, Debug, PartialEq, Eq)]
 pub enum Class {
@@ -52,6 +54,18 @@ pub struct DataId {
     pub section: u32,
     /// The piece's number in the section.
     pub piece: u32,
+}
+
+impl DataId {
+    /// Piece 0 of a section, its home piece. It takes no memory.
+    pub fn home(s: ScnId) -> DataId
+        ensures { result ≡ record { section = s.0; piece = 0 } }
+    {
+        DataId {
+            section: s.0,
+            piece: 0,
+        }
+    }
 }
 
 /// A part of an object, as flags and refusals name it.

@@ -1,6 +1,6 @@
 //! Devices in memory.
 
-use crate::steps::Step::{Append, Read, SetLen, Write};
+use crate::steps::Step::{Append, AppendZeros, Read, SetLen, Write};
 use crate::steps::{Step, answers_all, reads};
 use elf_outside::writes::{set_len, write_at};
 use elf_outside::{Device, MemDevice};
@@ -81,6 +81,28 @@ const FAILING: Row = Row {
     left: b"xbz",
 };
 
+/// A device that grows by zeros up to its room, and whose third write fails.
+const ZEROS: Row = Row {
+    made: Made {
+        bytes: b"ab",
+        room: 8,
+        bad_reads: &[],
+        bad_writes: &[3],
+    },
+    steps: &[
+        AppendZeros(3, true),
+        AppendZeros(4, false),
+        AppendZeros(1, false),
+        AppendZeros(0, true),
+        Append(b"c", true),
+        AppendZeros(u64::MAX, false),
+        AppendZeros(2, true),
+        AppendZeros(1, false),
+    ],
+    asked: 0,
+    left: b"ab\0\0\0c\0\0",
+};
+
 /// Whether the steps are answered, ask for so much and leave these bytes.
 fn is_left(alloc: Global, row: &Row) -> Result<bool, ElfError> {
     let Some(mut device) = device(alloc, &row.made)? else {
@@ -93,6 +115,11 @@ fn is_left(alloc: Global, row: &Row) -> Result<bool, ElfError> {
 #[test]
 fn a_device_grows_up_to_its_room(rt: HostRuntime) {
     assert!(rt; is_left(rt.alloc(), &GROWING) == Ok(true));
+}
+
+#[test]
+fn a_device_grows_by_zeros_up_to_its_room(rt: HostRuntime) {
+    assert!(rt; is_left(rt.alloc(), &ZEROS) == Ok(true));
 }
 
 #[test]

@@ -10,6 +10,9 @@ pub type Read = (u64, usize, Option<&'static [u8]>);
 /// A piece that is put, and whether it is taken.
 pub type Put = (&'static [u8], bool);
 
+/// So many zeros that are put, and whether they are taken.
+pub type Zeros = (u64, bool);
+
 /// A call on a device, and what it is to answer.
 #[derive(Clone, Copy)]
 pub enum Step {
@@ -21,6 +24,8 @@ pub enum Step {
     SetLen(u64, bool),
     /// A piece after the last byte, and whether the write succeeds.
     Append(&'static [u8], bool),
+    /// So many zeros after the last byte, and whether the write succeeds.
+    AppendZeros(u64, bool),
 }
 
 /// The most bytes that a step reads.
@@ -72,6 +77,7 @@ fn answers<D: Device>(device: &mut D, step: Step) -> bool {
         Step::Write(at, piece, done) => writes(device, at, piece, done),
         Step::SetLen(n, done) => device.set_len(n).is_ok() == done,
         Step::Append(piece, done) => device.append(piece).is_ok() == done,
+        Step::AppendZeros(n, done) => device.append_zeros(n).is_ok() == done,
     }
 }
 
@@ -89,6 +95,15 @@ pub fn puts_all<K: Sink>(sink: &mut K, puts: &[Put]) -> bool {
     let mut stated = true;
     for (piece, done) in puts {
         stated &= sink.put(*piece).is_ok() == *done;
+    }
+    stated
+}
+
+/// Whether the puts of zeros are answered so, one after another.
+pub fn zeros_all<K: Sink>(sink: &mut K, puts: &[Zeros]) -> bool {
+    let mut stated = true;
+    for (n, done) in puts {
+        stated &= sink.put_zeros(*n).is_ok() == *done;
     }
     stated
 }

@@ -1,9 +1,11 @@
 //! The edge to the system: a file, what is no file, and a stream.
 
-use crate::steps::Step::{Append, Read, SetLen, Write};
-use crate::steps::{Put, puts_all};
+use crate::steps::Step::{Append, AppendZeros, Read, SetLen, Write};
+use crate::steps::{Put, puts_all, zeros_all};
 use crate::visits::{Told, Way, are_visited};
-use elf_outside::{OpenFault, RealFiles, RealSink};
+use elf_outside::{Attempt, Failure, Files, OpenFault, RealFiles, RealSink};
+use std::io::ErrorKind;
+use std::os::unix::fs::MetadataExt;
 use std::test::Fail;
 use std::{env, fs, process};
 
@@ -76,6 +78,68 @@ fn a_file_is_made_changed_and_read_back(rt: HostRuntime) -> Result<(), Fail> {
     Ok(())
 }
 
+/// The length of a gap of zeros.
+const GAP: u64 = 1 << 20;
+
+/// A file with a gap of zeros.
+const GAPPED: [(Way, Told); 2] = [
+    (
+        Way::Create,
+        Ok(&[
+            AppendZeros(GAP, true),
+            AppendZeros(u64::MAX, false),
+            AppendZeros(0, true),
+        ]),
+    ),
+    (
+        Way::Open,
+        Ok(&[Read(GAP - 2, 2, Some(b"\0\0")), Read(GAP, 0, Some(b""))]),
+    ),
+];
+
+/// Whether a gap of zeros takes no blocks, or hardly any.
+fn is_hole(rt: &HostRuntime, path: &str) -> Result<bool, Fail> {
+    let made = is_so(rt, path, &GAPPED)?;
+    let about = fs::metadata(rt, path)?;
+    fs::remove_file(rt, path)?;
+    Ok(made && about.len() == GAP && about.blocks() <= 8)
+}
+
+/// Whether it is so of a path that is not there.
+fn gap_is_a_hole(rt: &HostRuntime) -> Result<bool, Fail> {
+    let path = path_of(rt, "gap")?;
+    is_hole(rt, path.as_str())
+}
+
+#[test]
+fn a_gap_of_zeros_in_a_file_is_a_hole(rt: HostRuntime) -> Result<(), Fail> {
+    assert!(rt; gap_is_a_hole(&rt)?);
+    Ok(())
+}
+
+/// A file whose length is told as 0 is read to its end as it is opened.
+const TOLD_AS_EMPTY: [(Way, Told); 1] = [(Way::Open, Ok(&[Read(0, 5, Some(b"Linux"))]))];
+
+/// What has no length gets its zeros written, and gives none of them.
+const SINK_OF_ALL: [(Way, Told); 2] = [
+    (
+        Way::Create,
+        Ok(&[AppendZeros(5000, true), Append(b"a", true)]),
+    ),
+    (Way::Open, Ok(&[Read(0, 0, Some(b""))])),
+];
+
+/// Whether what has no length is read and written so.
+fn no_length_is_served(rt: &HostRuntime) -> Result<bool, Fail> {
+    Ok(is_so(rt, "/proc/version", &TOLD_AS_EMPTY)? && is_so(rt, "/dev/null", &SINK_OF_ALL)?)
+}
+
+#[test]
+fn what_has_no_length_is_read_to_its_end(rt: HostRuntime) -> Result<(), Fail> {
+    assert!(rt; no_length_is_served(&rt)?);
+    Ok(())
+}
+
 /// A folder is no file.
 const FOLDER: [(Way, Told); 3] = [
     (Way::Open, Err(OpenFault::Failed)),
@@ -132,5 +196,62 @@ fn stream_is_reached(rt: &HostRuntime) -> Result<bool, Fail> {
 #[test]
 fn a_put_reaches_the_stream(rt: HostRuntime) -> Result<(), Fail> {
     assert!(rt; stream_is_reached(&rt)?);
+    Ok(())
+}
+
+/// Whether the stream of a full device takes neither bytes nor zeros, and says why.
+fn says_full(rt: &HostRuntime) -> Result<bool, Fail> {
+    let mut full = RealSink::new(fs::File::create(rt, "/dev/full")?);
+    let silent = full.failure().is_none();
+    let refused = puts_all(&mut full, &[(b"a", false)]) && zeros_all(&mut full, &[(1, false)]);
+    let Some(why) = full.failure() else {
+        return Ok(false);
+    };
+    Ok(silent && refused && why.kind() == ErrorKind::StorageFull)
+}
+
+/// Whether a failure is of this name, attempt and kind.
+fn is_kept(kept: Option<&Failure>, name: &str, attempt: Attempt, said: ErrorKind) -> bool {
+    match kept {
+        Some(f) => f.name.as_str() == name && f.attempt == attempt && f.why.kind() == said,
+        None => false,
+    }
+}
+
+/// Whether the last call that failed is kept: one that hands out no file, and one on a file that
+/// was closed.
+fn failures_are_kept(rt: &HostRuntime) -> Result<bool, Fail> {
+    let mut files = RealFiles::new(rt.clone()?);
+    let mut kept = files.last_failure().is_none();
+    kept &= files.open(rt.alloc(), "/dev").is_err();
+    kept &= is_kept(
+        files.last_failure(),
+        "/dev",
+        Attempt::Read,
+        ErrorKind::IsADirectory,
+    );
+    kept &= files.create(rt.alloc(), "/dev").is_err();
+    kept &= is_kept(
+        files.last_failure(),
+        "/dev",
+        Attempt::Create,
+        ErrorKind::IsADirectory,
+    );
+    kept &= are_visited(rt.alloc(), &mut files, "/dev/full", &FULL);
+    kept &= is_kept(
+        files.last_failure(),
+        "/dev/full",
+        Attempt::Write,
+        ErrorKind::StorageFull,
+    );
+    Ok(kept)
+}
+
+/// A device that takes nothing.
+const FULL: [(Way, Told); 1] = [(Way::Edit, Ok(&[Append(b"a", false)]))];
+
+#[test]
+fn what_the_system_says_is_kept(rt: HostRuntime) -> Result<(), Fail> {
+    assert!(rt; says_full(&rt)? && failures_are_kept(&rt)?);
     Ok(())
 }

@@ -1,6 +1,8 @@
 //! Files and streams that are interrupted, and give and take little at a time.
 
-use elf_outside::real::transfers::{read_from, write_from, write_to};
+use elf_outside::real::transfers::{
+    read_from, write_from, write_to, write_zeros_from, write_zeros_to,
+};
 use std::cell::Cell;
 use std::io;
 use std::io::{Error, ErrorKind, Write};
@@ -83,37 +85,64 @@ impl Write for Trickle {
     }
 }
 
-/// Whether the bytes from a place on are read into five, or those that there are.
-fn is_read(at: u8, wanted: &[u8]) -> bool {
+/// What the system said before a transfer.
+fn unsaid() -> Error {
+    Error::from(ErrorKind::Other)
+}
+
+/// Whether the bytes from a place on are read into five, or those that there are, and what is said
+/// then.
+fn is_read(at: u8, wanted: &[u8], said: ErrorKind) -> bool {
     let mut buf = [0u8; 5];
-    let n = read_from(&new_drip(), u64::from(at), &mut buf);
-    n == wanted.len() && buf.starts_with(wanted)
+    let mut why = unsaid();
+    let n = read_from(&new_drip(), u64::from(at), &mut buf, &mut why);
+    n == wanted.len() && buf.starts_with(wanted) && why.kind() == said
 }
 
 #[test]
 fn a_file_that_gives_little_is_read_whole(rt: HostRuntime) {
-    assert!(rt; is_read(1, b"bcdef"));
-    assert!(rt; is_read(4, b"efg"));
-    assert!(rt; is_read(9, b""));
+    assert!(rt; is_read(1, b"bcdef", ErrorKind::Other));
+    assert!(rt; is_read(4, b"efg", ErrorKind::UnexpectedEof));
+    assert!(rt; is_read(9, b"", ErrorKind::UnexpectedEof));
 }
 
-/// Whether so many bytes of a piece are written from a place on, and have that sum.
-fn is_written(at: u8, piece: &[u8; 5], done: usize, sum: u64) -> bool {
+/// Whether so many bytes of a piece are written from a place on, and have that sum, and what is
+/// said then.
+fn is_written(at: u8, piece: &[u8; 5], done: usize, sum: u64, said: ErrorKind) -> bool {
     let file = new_drip();
-    write_from(&file, u64::from(at), piece) == done && file.sum.get() == sum
+    let mut why = unsaid();
+    let n = write_from(&file, u64::from(at), piece, &mut why);
+    n == done && file.sum.get() == sum && why.kind() == said
 }
 
 #[test]
 fn a_file_that_takes_little_is_written_whole(rt: HostRuntime) {
-    assert!(rt; is_written(0, &[1, 2, 4, 8, 16], 5, 31));
-    assert!(rt; is_written(6, &[1, 2, 4, 8, 16], 3, 7));
+    assert!(rt; is_written(0, &[1, 2, 4, 8, 16], 5, 31, ErrorKind::Other));
+    assert!(rt; is_written(6, &[1, 2, 4, 8, 16], 3, 7, ErrorKind::WriteZero));
 }
 
-/// Whether a stream takes five bytes, and then the two for which there is room.
+/// Whether zeros are written from a place on, of which a file takes those from places below 7.
+fn zeros_are_written(at: u8, n: u64, done: u64) -> bool {
+    write_zeros_from(&new_drip(), u64::from(at), n, &mut unsaid()) == done
+}
+
+#[test]
+fn zeros_are_written_as_far_as_the_file_takes_them(rt: HostRuntime) {
+    assert!(rt; zeros_are_written(1, 0, 0));
+    assert!(rt; zeros_are_written(1, 5, 5));
+    assert!(rt; zeros_are_written(1, 10000, 6));
+}
+
+/// Whether a stream takes three bytes, two zeros, and then the two bytes for which there is room.
 fn is_filled(stream: &mut Trickle) -> bool {
-    let mut stated = write_to(stream, b"abcde") == 5;
-    stated &= write_to(stream, b"fgh") == 2;
-    stated && stream.bytes.as_slice() == b"abcdefg".as_slice()
+    let mut why = unsaid();
+    let mut stated = write_to(stream, b"abc", &mut why) == 3;
+    stated &= write_zeros_to(stream, 2, &mut why) == 2;
+    stated &= why.kind() == ErrorKind::Other;
+    stated &= write_to(stream, b"fgh", &mut why) == 2;
+    stated &= write_zeros_to(stream, 5000, &mut why) == 0;
+    stated &= why.kind() == ErrorKind::WriteZero;
+    stated && stream.bytes.as_slice() == b"abc\0\0fg".as_slice()
 }
 
 #[test]

@@ -1,6 +1,6 @@
 //! A device in memory.
 
-ghost use Rattle.std.specs.Prelude.{refl, ◌≡◌, ◌⊎◌, ◌↔◌, ◌+◌, ◌≤◌, ◌<◌, ◌++◌, ◌∷◌, [], Some, Contains, IsErr, length, take, drop, vec_len, vec_capacity, OnOk, OnErr, IfOk, IfErr};
+ghost use Rattle.std.specs.Prelude.{refl, ◌≡◌, ◌⊎◌, ◌↔◌, ◌+◌, ◌≤◌, ◌<◌, ◌++◌, ◌∷◌, [], Some, Contains, IsErr, length, take, drop, replicate, vec_len, vec_capacity, OnOk, OnErr, IfOk, IfErr};
 ghost use Rattle.std.proofs.Common.{rules};
 ghost use Rattle.elf_outside.specs.Counts.{HasCause, RaisedBy, next_count, faults_after};
 ghost use Rattle.elf_outside.specs.Writes.{written_over, resized};
@@ -197,6 +197,33 @@ impl Device for MemDevice {
             return Err(Failed);
         }
         self.bytes.extend_from_slice(buf).unwrap();
+        Ok(())
+    }
+
+    fn append_zeros(&mut self, n: u64) -> Result<(), Failed>
+        ensures ok { OnOk result (self.new.bytes.items ≡ self.old.bytes.items ++ replicate n 0) }
+        ensures err { OnErr result (self.new.bytes.items ≡ self.old.bytes.items) }
+        ensures cause { HasCause self.old.write_faults self.new.write_faults result }
+        ensures given { RaisedBy self.old.given self.new.given n }
+        ensures leaves { (self.new.reads ≡ self.old.reads) × (self.new.faults ≡ self.old.faults)
+            × (self.new.taken ≡ self.old.taken) × (self.new.room ≡ self.old.room) }
+
+        // which writes fail
+        ensures number { self.new.writes.made ≡ next_count self.old.writes.made }
+        ensures bad { self.new.writes.bad ≡ self.old.writes.bad }
+        ensures fails { IsErr result
+            ↔ (Contains self.old.writes.bad self.new.writes.made
+            ⊎ self.old.room < vec_len self.old.bytes + n) }
+        ensures counted { self.new.write_faults ≡ faults_after result self.old.write_faults }
+    {
+        self.given = self.given.saturating_add(n);
+        let room_left = self.room - self.bytes.len() as u64;
+        if self.writes.next_fails() || room_left < n {
+            self.write_faults = self.write_faults.saturating_add(1);
+            return Err(Failed);
+        }
+        let longer = self.bytes.len() + n as usize;
+        self.bytes.resize(longer, 0).unwrap();
         Ok(())
     }
 

@@ -1,6 +1,6 @@
 //! A sink in memory.
 
-ghost use Rattle.std.specs.Prelude.{◌≡◌, ◌⊎◌, ◌↔◌, ◌+◌, ◌≤◌, ◌<◌, ◌++◌, [], Some, Contains, IsErr, length, vec_len, vec_capacity, OnOk, OnErr, IfOk, IfErr};
+ghost use Rattle.std.specs.Prelude.{◌≡◌, ◌⊎◌, ◌↔◌, ◌+◌, ◌≤◌, ◌<◌, ◌++◌, [], Some, Contains, IsErr, length, replicate, vec_len, vec_capacity, OnOk, OnErr, IfOk, IfErr};
 ghost use Rattle.elf_outside.specs.Counts.{HasCause, next_count, faults_after};
 
 use crate::memory::calls::Calls;
@@ -74,6 +74,29 @@ impl Sink for MemSink {
             return Err(Failed);
         }
         self.bytes.extend_from_slice(buf).unwrap();
+        Ok(())
+    }
+
+    fn put_zeros(&mut self, n: u64) -> Result<(), Failed>
+        ensures ok { OnOk result (self.new.bytes.items ≡ self.old.bytes.items ++ replicate n 0) }
+        ensures err { OnErr result (self.new.bytes.items ≡ self.old.bytes.items) }
+        ensures leaves { (self.new.room ≡ self.old.room) × (self.new.puts.bad ≡ self.old.puts.bad) }
+        ensures cause { HasCause self.old.faults self.new.faults result }
+
+        // which puts fail
+        ensures number { self.new.puts.made ≡ next_count self.old.puts.made }
+        ensures fails { IsErr result
+            ↔ (Contains self.old.puts.bad self.new.puts.made
+            ⊎ self.old.room < vec_len self.old.bytes + n) }
+        ensures counted { self.new.faults ≡ faults_after result self.old.faults }
+    {
+        let room_left = self.room - self.bytes.len() as u64;
+        if self.puts.next_fails() || room_left < n {
+            self.faults = self.faults.saturating_add(1);
+            return Err(Failed);
+        }
+        let longer = self.bytes.len() + n as usize;
+        self.bytes.resize(longer, 0).unwrap();
         Ok(())
     }
 }

@@ -1,18 +1,28 @@
 //! The files of the system.
 
 ghost use Rattle.std.specs.Prelude.{◌≡◌, ◌≤◌, false, None, IsErrOf, IfOk, OnOk, OnErr};
+ghost use Rattle.std.specs.Option.{option_copied};
 ghost use Rattle.elf_outside.specs.Counts.{Rose, next_count};
 
 use crate::file_sets::{Files, OpenFault};
 use crate::real::RealFile;
+use crate::real::failure::{Attempt, Failure};
 use crate::real::system_file::SystemFile;
+use elf_types::Octets;
 use std::alloc::Global;
 use std::fs::{File, OpenOptions};
-use std::io::{Error, ErrorKind};
+use std::io::{Error, ErrorKind, Read};
 use std::{io, rt};
 
-/// The files of the system by their paths. They tell no bytes. A directory is no file: to open one
-/// fails.
+/// The most bytes that are held of what has no length.
+const MOST_HELD: u64 = 1 << 30;
+
+/// The files of the system by their paths. They tell no bytes. What is opened to be read is read to
+/// its end at once where it is no regular file or tells the length 0, as a pipe or a file of /proc
+/// does; so to open a directory fails.
+///
+/// They keep what the system said of the last call that failed. Of the calls on a file they know
+/// once it was closed.
 #[derive(Drop)]
 pub struct RealFiles<R> {
     system: R,
@@ -21,6 +31,18 @@ pub struct RealFiles<R> {
     taken: u64,
     given: u64,
     live: u64,
+    last: Option<Failure>,
+}
+
+/// Why the system handed out no file.
+#[derive(Drop)]
+enum Refusal {
+    /// No file has that name.
+    NotThere,
+    /// There is no memory for the file.
+    Memory,
+    /// The system failed.
+    Failed(Failure),
 }
 
 impl<R: rt::Files<File = File>> RealFiles<R> {
@@ -37,7 +59,15 @@ impl<R: rt::Files<File = File>> RealFiles<R> {
             taken: 0,
             given: 0,
             live: 0,
+            last: None,
         }
+    }
+
+    /// The last call that failed, or None where none has. It takes no memory.
+    pub fn last_failure(&self) -> Option<&Failure>
+        ensures { option_copied result ≡ self.now.last }
+    {
+        self.last.as_ref()
     }
 
     /// Opens a file for reading, and for writing too where that is asked.
@@ -52,15 +82,15 @@ impl<R: rt::Files<File = File>> RealFiles<R> {
         ensures live { OnOk result (self.new.live ≡ next_count self.old.live) }
         ensures not_live { OnErr result (self.new.live ≡ self.old.live) }
     {
-        let mut how = OpenOptions::new();
-        how.read(true).write(writes);
-        match open_file(alloc, &self.system, &how, name) {
+        match open_file(alloc, &self.system, name, writes) {
             Ok(file) => {
                 self.live = self.live.saturating_add(1);
                 Ok(file)
             }
-            Err(e) if e.kind() == ErrorKind::NotFound => Err(OpenFault::NotThere),
-            Err(_) => {
+            Err(Refusal::NotThere) => Err(OpenFault::NotThere),
+            Err(Refusal::Memory) => Err(OpenFault::Memory),
+            Err(Refusal::Failed(failure)) => {
+                self.last = Some(failure);
                 self.read_faults = self.read_faults.saturating_add(1);
                 Err(OpenFault::Failed)
             }
@@ -94,14 +124,18 @@ impl<R: rt::Files<File = File>> Files for RealFiles<R> {
     }
 
     fn create(&mut self, alloc: Global, name: &str) -> Result<RealFile, OpenFault> {
-        let mut how = OpenOptions::new();
-        how.read(true).write(true).create(true).truncate(true);
-        let Ok(file) = how.open(&self.system, name) else {
-            self.write_faults = self.write_faults.saturating_add(1);
-            return Err(OpenFault::Failed);
-        };
-        self.live = self.live.saturating_add(1);
-        Ok(RealFile::new(alloc, SystemFile::new(file, 0)))
+        match create_file(alloc, &self.system, name) {
+            Ok(file) => {
+                self.live = self.live.saturating_add(1);
+                Ok(file)
+            }
+            Err(Refusal::Failed(failure)) => {
+                self.last = Some(failure);
+                self.write_faults = self.write_faults.saturating_add(1);
+                Err(OpenFault::Failed)
+            }
+            Err(_) => Err(OpenFault::Memory),
+        }
     }
 
     fn close(&mut self, _name: &str, file: RealFile) {
@@ -110,23 +144,90 @@ impl<R: rt::Files<File = File>> Files for RealFiles<R> {
         self.taken = self.taken.saturating_add(file.taken);
         self.given = self.given.saturating_add(file.inner.given);
         self.live = self.live.saturating_sub(1);
+        if file.faults > 0 || file.inner.write_faults > 0 {
+            self.last = Some(file.into_inner().into_failure());
+        }
     }
 }
 
-/// Opens a file, and asks for its length.
+/// Opens a file for reading, and for writing too where that is asked.
 fn open_file<R: rt::Files<File = File>>(
     alloc: Global,
     system: &R,
-    how: &OpenOptions,
     name: &str,
-) -> io::Result<RealFile>
+    writes: bool,
+) -> Result<RealFile, Refusal>
     ensures faults { IfOk result (λ f. (f.faults ≡ 0) × (f.inner.write_faults ≡ 0)) }
     ensures numbers { IfOk result (λ f. (f.taken ≡ 0) × (f.inner.given ≡ 0)) }
 {
-    let file = how.open(system, name)?;
-    let about = file.metadata()?;
-    if about.is_dir() {
-        return Err(Error::from(ErrorKind::IsADirectory));
+    let Ok(kept) = String::from_str(alloc, name) else {
+        return Err(Refusal::Memory);
+    };
+    let mut how = OpenOptions::new();
+    how.read(true).write(writes);
+    match how.open(system, name) {
+        Ok(file) => take_in(alloc, kept, file, writes),
+        Err(e) if e.kind() == ErrorKind::NotFound => Err(Refusal::NotThere),
+        Err(e) => Err(refused(kept, Attempt::Open, e)),
     }
-    Ok(RealFile::new(alloc, SystemFile::new(file, about.len())))
+}
+
+/// Makes a file of the name, or cuts the one that is there to nothing.
+fn create_file<R: rt::Files<File = File>>(
+    alloc: Global,
+    system: &R,
+    name: &str,
+) -> Result<RealFile, Refusal>
+    ensures faults { IfOk result (λ f. (f.faults ≡ 0) × (f.inner.write_faults ≡ 0)) }
+    ensures numbers { IfOk result (λ f. (f.taken ≡ 0) × (f.inner.given ≡ 0)) }
+    ensures empty { IfOk result (λ f. f.inner.len ≡ 0) }
+{
+    let Ok(kept) = String::from_str(alloc, name) else {
+        return Err(Refusal::Memory);
+    };
+    let mut how = OpenOptions::new();
+    how.read(true).write(true).create(true).truncate(true);
+    match how.open(system, name) {
+        Ok(file) => Ok(RealFile::new(alloc, SystemFile::new(kept, file, None, 0))),
+        Err(e) => Err(refused(kept, Attempt::Create, e)),
+    }
+}
+
+/// The refusal of a call that the system failed.
+fn refused(name: String, attempt: Attempt, why: Error) -> Refusal {
+    Refusal::Failed(Failure { name, attempt, why })
+}
+
+/// What was opened, with its length, or with its bytes where they are to be held.
+fn take_in(alloc: Global, name: String, file: File, writes: bool) -> Result<RealFile, Refusal>
+    ensures faults { IfOk result (λ f. (f.faults ≡ 0) × (f.inner.write_faults ≡ 0)) }
+    ensures numbers { IfOk result (λ f. (f.taken ≡ 0) × (f.inner.given ≡ 0)) }
+{
+    match length_of(alloc, &file, writes) {
+        Ok((held, len)) => Ok(RealFile::new(alloc, SystemFile::new(name, file, held, len))),
+        Err(e) if e.kind() == ErrorKind::OutOfMemory => Err(Refusal::Memory),
+        Err(e) => Err(refused(name, Attempt::Read, e)),
+    }
+}
+
+/// The length of a file that was opened, after its bytes where they are to be held.
+fn length_of(alloc: Global, file: &File, writes: bool) -> io::Result<(Option<Octets>, u64)> {
+    let about = file.metadata()?;
+    if writes || (about.is_file() && about.len() > 0) {
+        return Ok((None, about.len()));
+    }
+    let held = read_whole(alloc, file)?;
+    let len = held.len();
+    Ok((Some(held), len))
+}
+
+/// The bytes of a file up to its end.
+fn read_whole(alloc: Global, file: &File) -> io::Result<Octets> {
+    let mut bytes = Vec::new(alloc);
+    let mut start = file.take(MOST_HELD + 1);
+    start.read_to_end(&mut bytes)?;
+    if bytes.len() as u64 > MOST_HELD {
+        return Err(Error::from(ErrorKind::FileTooLarge));
+    }
+    Ok(Octets::from_vec(bytes))
 }

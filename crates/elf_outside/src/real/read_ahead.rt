@@ -181,5 +181,10 @@ impl<D: Device> Device for ReadAhead<D> {
         self.inner.append(buf)
     }
 
+    fn append_zeros(&mut self, n: u64) -> Result<(), Failed> {
+        self.forget();
+        self.inner.append_zeros(n)
+    }
+
     ghost rest_begins = { λ r. D.rest_begins r.inner };
 }
