@@ -1,10 +1,10 @@
 -- An update in place leaves an object, and so does one that failed (`IsObject`).
-use Rattle.std.proofs.Common.{◌≡◌, ℕ, ◌^◌, ◌<◌, Bool, true, false, List, [], ◌∷◌, length, get_or, None, refl, arith, sym, ap, ◌∙◌, subst}
+use Rattle.std.proofs.Common.{◌≡◌, ℕ, ◌^◌, ◌<◌, Bool, true, false, List, [], ◌∷◌, length, get_or, None, refl, arith, lit<, sym, ap, ◌∙◌, subst}
 use Rattle.std.specs.Prelude.{All, IsTrue, map, if◌then◌else◌}
 use Rattle.std.specs.List.{enumerate_from}
 use Rattle.std.proofs.lemmas.List.{length-map, nil_from_length}
 use Rattle.std.proofs.lemmas.List.FromFn.{length-enumerate_from}
-use Rattle.std.proofs.lemmas.List.Elements.{All-map, All-weaker}
+use Rattle.std.proofs.lemmas.List.Elements.{All-map, All-replicate, All-weaker}
 use Rattle.elf_types.specs.declared.records.Class.{Class}
 use Rattle.elf_types.specs.declared.records.Shdr.{Shdr}
 use Rattle.elf_xlate.specs.Headers.{IsShdr, shdr_fits}
@@ -14,10 +14,11 @@ use Rattle.elf_object.specs.Joined.{file_bytes}
 use Rattle.elf_object.specs.Open.{opened_section}
 use Rattle.elf_object.specs.Image.{image}
 use Rattle.elf_object.specs.Refusal.{refusal}
-use Rattle.elf_object.specs.Settled.{settled_section, settled_over, settle}
+use Rattle.elf_object.specs.Settled.{settled_section, settled_over, settle, blank, untold_section, untold, settled}
 use Rattle.elf_object.specs.Changed.{is_moved, marked_piece, torn_section, torn_over, torn}
 use Rattle.elf_object.specs.Valid.{AreBytes, IsPiece, OthersOwn, IsSection, IsObject}
 use Rattle.elf_object.proofs.PieceLaws.{IsOwn}
+use Rattle.elf_object.proofs.SettledSections.{length-blank}
 use Rattle.object_laws.specs.Laws.{UpdatesKeep}
 use Rattle.object_laws.proofs.ByteLaws.{image_are}
 use Rattle.object_laws.proofs.KeepLaws.{section_at_is, pieces_kept, marked_is}
@@ -86,6 +87,57 @@ settle_is o ok passed = by_test (is_dirty o) refl
         (settled_over_is (image o) (placed_by (places_of o) o) is (image_are o ok passed) (image_limited o ok dirty passed) each)
     by_test false clean = subst IsObject (sym (settle-clean o clean)) ok
 
+-- ---- Over a source that does not tell its bytes
+
+blank_are : (l : List ℕ) → AreBytes (blank l)
+blank_are l = All-replicate (λ n. n < 2 ^ 8) (length l) 0 (lit< tt)
+
+untold_section_is : (class : Class) (c : Section) → IsSection class c
+    → IsSection class (untold_section c)
+untold_section_is class c is = record {
+  header = is.header;
+  fitting = is.fitting;
+  home = record {
+    at = is.home.at;
+    len = is.home.len;
+    inside = λ stays. length-blank c.raw ∙ is.home.inside stays;
+    outside = λ out. ap blank (is.home.outside out);
+    empty = is.home.empty;
+    bytes = blank_are c.raw;
+  };
+  pieces = is.pieces;
+  others = is.others;
+  piece_count = is.piece_count;
+}
+
+untold_is : (o : Object) → IsObject o → IsObject (untold o)
+unfolding untold
+untold_is o is =
+    let count = length-map o.sections untold_section in
+    record {
+      header = is.header;
+      fitting = is.fitting;
+      phnum = is.phnum;
+      shnum = is.shnum ∙ sym count;
+      pad = is.pad;
+      pad_bytes = is.pad_bytes;
+      phdr_count = is.phdr_count;
+      sections = All-map (IsSection o.header.class) untold_section o.sections
+          (All-weaker (IsSection o.header.class)
+          (λ c. IsSection o.header.class (untold_section c)) (untold_section_is o.header.class)
+          o.sections is.sections);
+      section_count = rw length-map (is.section_count);
+      string_index = λ none. is.string_index (nil_from_length o.sections (sym count ∙ ap length none));
+      base = blank_are o.base;
+      base_length = let len = length-blank o.base in let small = is.base_length in omega arith;
+      fill = is.fill;
+    }
+
+left_is : (o : Object) (told : Bool) → IsObject o → refusal o ≡ None → IsObject (settled told o)
+unfolding settled
+left_is o true ok passed = settle_is o ok passed
+left_is o false ok passed = untold_is (settle o) (settle_is o ok passed)
+
 -- ---- An update that failed
 
 others_marked : (l : List Piece) → OthersOwn l → OthersOwn (map marked_piece l)
@@ -134,4 +186,9 @@ torn_is o bytes ok passed are small = by_test (is_dirty o)
 -- ---- The law
 
 pub updates_keep : (o : Object) → UpdatesKeep o
-updates_keep o = record { bytes = image_are o; settled = settle_is o; torn = torn_is o }
+updates_keep o = record {
+  bytes = image_are o;
+  left = left_is o;
+  settled = settle_is o;
+  torn = torn_is o;
+}

@@ -30,7 +30,7 @@ use Rattle.elf_object.specs.Joined.{file_bytes, pieces_end}
 use Rattle.elf_object.specs.Layout.{parts_of, placed, placed_parts}
 use Rattle.elf_object.specs.Image.{image, image_length, part_blocks}
 use Rattle.elf_object.specs.Refusal.{placing_refusal, refusal}
-use Rattle.elf_object.specs.Settled.{settle}
+use Rattle.elf_object.specs.Settled.{settle, settled}
 use Rattle.elf_object.specs.Changed.{torn}
 use Rattle.elf_object.specs.Calls.{Call, step}
 use Rattle.elf_object.specs.Calls as calls
@@ -222,9 +222,10 @@ ReopenLaw o =
     → opened (image o) ≡ Ok (as_opened (settle o))
 
 -- where the update is not refused, the image is made of bytes, and an update in place leaves an
--- object, and so does one that failed
+-- object, whether the source tells its bytes or not, and so does one that failed
 pub record UpdatesKeep (o : Object) : Type 0 where
   pub bytes : IsObject o → refusal o ≡ None → AreBytes (image o)
+  pub left : (told : Bool) → IsObject o → refusal o ≡ None → IsObject (settled told o)
   pub settled : IsObject o → refusal o ≡ None → IsObject (settle o)
   pub torn : (bytes : List ℕ) → IsObject o → refusal o ≡ None → AreBytes bytes
       → length bytes < 2 ^ 64 → IsObject (torn o bytes)
