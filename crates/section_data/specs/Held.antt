@@ -1,5 +1,5 @@
 -- What is held of a section's data in memory, and what its pieces hold.
-use Rattle.std.specs.Prelude.{◌≡◌, ℕ, ◌/◌, Bool, not, ◌&&◌, ◌||◌, List, Option, Some, None, IfSome, is_some, ◌<◌, length, IsTrue, Ok}
+use Rattle.std.specs.Prelude.{◌≡◌, ℕ, ◌/◌, Bool, not, ◌&&◌, ◌||◌, List, Option, Some, None, IfSome, is_some, ◌<◌, length, slice_get, is_none, false, IsTrue, Ok}
 use Rattle.std.specs.Option.{option_and_then}
 use Rattle.elf_types.specs.declared.records.Class.{Class}
 use Rattle.elf_types.specs.declared.records.Order.{Order}
@@ -81,6 +81,14 @@ count_in class c p =
 -- the home's bytes are no whole items
 abbrev pub is_ragged : Class → CellView → Bool
 is_ragged class c = not (is_whole c.home.kind class c.home.len)
+
+-- the first piece is the clean home piece and is not marked, so what it holds is what the image held
+unfoldable pub is_untouched : CellView → Bool
+is_untouched c =
+    elim (slice_get c.pieces 0) [
+      | None ↦ false
+      | Some piece ↦ is_none piece.own && not piece.marked
+    ]
 
 -- whether each item of a piece can be told: it is own, or the home is loaded and has whole items
 unfoldable pub is_at_hand : Class → CellView → ℕ → Bool

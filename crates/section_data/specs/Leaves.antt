@@ -1,5 +1,5 @@
 -- What a call leaves of a cell.
-use Rattle.std.specs.Prelude.{◌≡◌, ℕ, ◌+◌, ◌<◌, ◌≤◌, true, false, ◌++◌, List, [], ◌∷◌, length, slice_set, Option, Some, None, Result, is_some, IfSome, IfErr, ◌≢◌}
+use Rattle.std.specs.Prelude.{◌≡◌, ℕ, ◌+◌, ◌<◌, ◌≤◌, true, false, ◌++◌, List, [], ◌∷◌, length, slice_set, Option, Some, None, Result, is_some, IfSome, IfErr, ◌≢◌, ◌&&◌, if◌then◌else◌}
 use Rattle.elf_xlate.specs.declared.content.Items.{Items}
 use Rattle.elf_types.specs.declared.records.Class.{Class}
 use Rattle.elf_types.specs.declared.records.Order.{Order}
@@ -11,7 +11,7 @@ use Rattle.elf_object.specs.Object.{Home, Piece}
 use Rattle.elf_object.specs.Open.{home_bytes}
 use Rattle.elf_object.specs.Steps.{own_piece}
 use Rattle.section_data.specs.Views.{CellView}
-use Rattle.section_data.specs.Held.{piece_in, ready, cell_is_loaded, HeldIs}
+use Rattle.section_data.specs.Held.{piece_in, ready, cell_is_loaded, is_untouched, HeldIs}
 
 -- bytes that were read from a home: as many as it is long, and those of the home in the image where
 -- the source tells it
@@ -38,6 +38,21 @@ pub record Warms (image : Option (List ℕ)) (old new : CellView) : Type 0 where
   pub cell : new ≡ record old { raw = raw; held = held }
   pub bytes : RawBecomes image old.home old.raw raw
   pub items : IfSome old.held (λ items. held ≡ Some items)
+
+-- memory is kept aside for a home's bytes that are not held
+abbrev pub with_room : CellView → CellView
+with_room c = if cell_is_loaded c then c else record c { room = true }
+
+-- a load into memory that was kept aside: the home's bytes are held, and where they were read that
+-- memory is used up
+pub record FillsRoom (image : Option (List ℕ)) (old new : CellView) : Type 0 where
+  pub raw : List ℕ
+  pub cell : new ≡ record old { raw = Some raw; room = cell_is_loaded old && old.room }
+  pub bytes : RawBecomes image old.home old.raw (Some raw)
+
+-- what is held of the home is let go, where the image holds it too
+abbrev pub unloaded : CellView → CellView
+unloaded c = if is_untouched c then record c { raw = None; held = None } else c
 
 -- a piece that was ready became own and marked with its items; of the home's items that were held
 -- none may be left. An own piece stays as it is.

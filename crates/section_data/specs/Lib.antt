@@ -3,3 +3,4 @@ pub mod Held
 pub mod Refused
 pub mod Lends
 pub mod Leaves
+pub mod Sizes

@@ -1,5 +1,5 @@
 -- How each call on a cell is refused, what it is due, and where it may want memory.
-use Rattle.std.specs.Prelude.{ℕ, Bool, not, ◌||◌, nat_le, nat_lt, [], ◌∷◌, length, Option, Some, None, is_some, if◌then◌else◌}
+use Rattle.std.specs.Prelude.{ℕ, Bool, false, not, ◌||◌, nat_le, nat_lt, [], ◌∷◌, length, Option, Some, None, is_some, if◌then◌else◌}
 use Rattle.elf_types.specs.declared.records.Class.{Class}
 use Rattle.elf_types.specs.declared.records.Kind.{Kind}
 use Rattle.elf_types.specs.declared.records.Part.TheVariants as part
@@ -101,6 +101,10 @@ lend_due class c kind p = due_unless (kind_refused class c kind p) (piece_due c 
 -- in a call that only reads: where there is something to read
 abbrev pub loading : ℕ → Wants
 loading due = record { memory = nat_lt 0 due; read = nat_lt 0 due }
+
+-- in a call that reads into memory that was kept aside
+abbrev pub reading : ℕ → Wants
+reading due = record { memory = false; read = nat_lt 0 due }
 
 -- in a call that makes a piece hold its items: where it does not hold them
 abbrev pub preparing : CellView → ℕ → ℕ → Wants

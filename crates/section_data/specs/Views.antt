@@ -19,6 +19,7 @@ pub record CellView : Type 0 where
   pub home : Home
   pub raw : Option (List ℕ)  -- the home's bytes, once they are read
   pub held : Option Items  -- the home's items, where they are held in memory form
+  pub room : Bool  -- memory for the home's bytes is kept aside
   pub pieces : List Piece
 
 -- ---- What the program keeps, as a view
@@ -54,22 +55,24 @@ held_view raw Nothing = None
 held_view raw (Translated items) = Some items
 held_view raw (Raw room) = raw
 
-abbrev pub cell_view : ℕ → Home → Option Items → HomeItems → List Piece → CellView
-cell_view section home raw held pieces = record {
+abbrev pub cell_view : ℕ → Home → Option Items → HomeItems → Bool → List Piece → CellView
+cell_view section home raw held room pieces = record {
   section = section;
   home = home;
   raw = option_map bytes_of raw;
   held = held_view raw held;
+  room = room;
   pieces = pieces;
 }
 
 -- ---- What is true of each cell
 
--- Raw bytes are as many as the home is long; a home out of the file is never read; the pieces are
--- those of a section; a home of no kind is empty.
+-- Raw bytes are as many as the home is long; a home out of the file is never read, and no memory is
+-- kept aside for it; the pieces are those of a section; a home of no kind is empty.
 pub record IsCell (c : CellView) : Type 0 where
   pub sized : IfSome c.raw (λ bytes. length bytes ≡ c.home.len)
   pub outside : c.home.out ≡ true → c.raw ≡ None
+  pub no_room : c.home.out ≡ true → c.room ≡ false
   pub few : length c.pieces ≤ MAX_PIECES
   pub each : All IsPiece c.pieces
   pub others : OthersOwn c.pieces
@@ -96,8 +99,14 @@ passes_end size at len = not (len == 0) && nat_lt size (at + len)
 
 -- the cell of a section of an image: nothing is read, and the one piece is the clean home piece
 abbrev pub opened_cell : ℕ → Home → CellView
-opened_cell section home =
-    record { section = section; home = home; raw = None; held = None; pieces = home_piece ∷ [] }
+opened_cell section home = record {
+  section = section;
+  home = home;
+  raw = None;
+  held = None;
+  room = false;
+  pieces = home_piece ∷ [];
+}
 
 -- the cell of a new section
 abbrev pub new_cell : ℕ → CellView

@@ -1,0 +1,73 @@
+//! Memory for a home's bytes is kept aside, and what was read is let go.
+
+ghost use Rattle.std.specs.Prelude.{◌≡◌, ◌<◌, IsTrue, IfErr, OnOk, OnErr, ◌||◌};
+ghost use Rattle.elf_types.specs.declared.errors.ElfError.TheVariants.{Read};
+ghost use Rattle.elf_types.specs.Answers.{answered};
+ghost use Rattle.elf_outside.specs.Asks.{Asks};
+ghost use Rattle.elf_object.specs.Words.{Answers, Edits};
+ghost use Rattle.section_data.specs.Views.{IsCell};
+ghost use Rattle.section_data.specs.Held.{cell_is_loaded, is_untouched};
+ghost use Rattle.section_data.specs.Refused.{home_out, load_due, reading};
+ghost use Rattle.section_data.specs.Leaves.{LiesIn, FillsRoom, with_room, unloaded};
+
+use crate::cell::Cell;
+use elf_outside::Source;
+use elf_types::ElfError;
+
+impl Cell {
+    /// Keeps memory aside for the home's bytes where they are not held, so that `load_reserved`
+    /// takes none. It refuses in this order: `OutOfFile` exactly where the home passes the end of
+    /// the image, then `Memory`, and then the cell is as before. It reads nothing.
+    pub fn reserve(&mut self) -> Result<(), ElfError>
+        ensures edits { Edits result self.old self.new (answered (home_out self.old) tt)
+            (with_room self.old) }
+        ensures cell { IsCell self.new }
+    {
+        todo()
+    }
+
+    /// Reads the home's bytes into the memory that is kept aside for them, where they are not held;
+    /// then it is used up. It refuses `Read` alone, and then the cell is as before, so it can be
+    /// tried again. It takes no memory, and reads nothing where the section is loaded.
+    pub fn load_reserved<S: Source>(&mut self, src: &mut S) -> Result<(), ElfError>
+        requires lies { LiesIn self.old (S.size src.old) }
+        requires room { IsTrue (cell_is_loaded self.old || self.old.room) }
+        ensures answer { Answers true (reading (load_due self.old)) result
+            (answered (home_out self.old) tt) }
+        ensures fills { OnOk result (FillsRoom (S.holds src.old) self.old self.new) }
+        ensures unchanged { OnErr result (self.new ≡ self.old) }
+        ensures asks { Asks S.Source result src.old src.new (load_due self.old) }
+        ensures err { IfErr result (λ e. (e ≡ Read) × (0 < load_due self.old)) }
+        ensures cell { IsCell self.new }
+    {
+        todo()
+    }
+
+    /// Whether the first piece is the clean home piece and is not marked: what it holds is what the
+    /// image held. It takes no memory.
+    pub fn is_untouched(&self) -> bool
+        ensures { result ≡ is_untouched self.now }
+    {
+        todo()
+    }
+
+    /// Lets go of the home's bytes and items where the first piece is the clean home piece and is
+    /// not marked, so that they can be read again; else the cell stays as it is. It reads nothing,
+    /// takes no memory and cannot be refused.
+    pub fn unload(&mut self)
+        ensures value { self.new ≡ unloaded self.old }
+        ensures cell { IsCell self.new }
+    {
+        todo()
+    }
+
+    /// The size of the section's data in the file of a class: where its last piece ends, and
+    /// 2^64 - 1 where that is more. It takes no memory.
+    ///
+    /// Source: gABI chapter 4, "Sections", and elf_newdata of elf(3E).
+    pub fn size(&self, class: Class) -> u64
+        ensures { result ≡ min (data_size class self.now) (2 ^ 64 - 1) }
+    {
+        todo()
+    }
+}
