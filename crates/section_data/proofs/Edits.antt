@@ -1,18 +1,20 @@
 -- What edits leave.
-use Rattle.std.proofs.Common.{◌≡◌, ℕ, ◌<◌, Bool, true, false, List, [], ◌∷◌, ◌++◌, length, get_or, set, subst, Option, Some, None, Result, Ok, Err, refl, sym, ap, ◌∙◌, arith, length-append}
-use Rattle.std.specs.Prelude.{is_some, IsTrue, IfSome, OnOk, OnErr, slice_set}
+use Rattle.std.proofs.Common.{◌≡◌, ℕ, ◌<◌, ◌≤◌, ◌^◌, zero, suc, Bool, true, false, List, [], ◌∷◌, ◌++◌, length, get_or, set, subst, Option, Some, None, Result, Ok, Err, refl, sym, ap, ◌∙◌, arith, length-append}
+use Rattle.std.specs.Prelude.{is_some, IsTrue, IfSome, OnOk, OnErr, slice_set, All}
 use Rattle.elf_types.specs.declared.records.Kind.TheVariants as kinds
+use Rattle.std.specs.Prelude.{nat_le, ◌&&◌}
+use Rattle.std.specs.Int.{is_power_of_two}
+use Rattle.std.proofs.lemmas.Bool.{leb-true}
 use Rattle.std.proofs.lemmas.List.{set-get_or, length-set}
 use Rattle.std.proofs.lemmas.List.Elements.{All-nil, All-cons, All-set, All-push, All-get_or}
-use Rattle.elf_types.specs.declared.constants.TheConstants.{MAX_PIECES}
+use Rattle.elf_types.specs.declared.constants.TheConstants.{MAX_PIECES, MAX_PIECE_ALIGN}
 use Rattle.elf_xlate.specs.declared.content.Items.{Items}
 use Rattle.elf_object.specs.Object.{Home, Piece, home_piece}
 use Rattle.elf_object.specs.Steps.{own_piece}
 use Rattle.elf_object.specs.Calls.{is_piece_align}
 use Rattle.elf_object.specs.Valid.{IsPiece, OthersOwn}
 use Rattle.elf_object.proofs.PieceLaws.{IsOwn, others_set, others_push, own_piece_is, home_piece_is}
-use Rattle.section_data.specs.Views.{CellView, IsCell, IsKept, opened_cell, new_cell}
-use Rattle.section_data.specs.declared.held.HomeItems.{HomeItems}
+use Rattle.section_data.specs.Views.{CellView, IsCell, opened_cell, new_cell}
 use Rattle.section_data.specs.Held.{piece_in}
 use Rattle.section_data.specs.Leaves.{Claims, replaced, marked_piece}
 use Rattle.section_data.proofs.Holdings.{ready_own, ready_clean}
@@ -60,42 +62,40 @@ claims_clean old mid new p items clean there is after = record {
   same = λ own. let never = sym clean ∙ own in cc;
 }
 
-kept_set : (section : ℕ) (home : Home) (raw : Option Items) (held : HomeItems) (l : List Piece) (p : ℕ) (q : Piece)
-    → IsKept section home raw held l → IsPiece q → OthersOwn (set l p q) → IsKept section home raw held (set l p q)
-kept_set section home raw held l p q kept is others = record {
-  bytes = kept.bytes;
-  room = kept.room;
-  cell = record {
-    sized = kept.cell.sized;
-    outside = kept.cell.outside;
-    few = let same = length-set l p q in omega (arith, kept.cell.few, same);
-    each = All-set IsPiece l p q is kept.cell.each;
-    others = others;
-    empty = kept.cell.empty;
-  };
+-- ---- What is a cell
+
+cell_set : (c : CellView) (p : ℕ) (q : Piece) → IsCell c → IsPiece q → OthersOwn (set c.pieces p q)
+    → IsCell (record c { pieces = set c.pieces p q })
+cell_set c p q cell is others = record {
+  sized = cell.sized;
+  outside = cell.outside;
+  no_room = cell.no_room;
+  few = let same = length-set c.pieces p q in omega (arith, cell.few, same);
+  each = All-set IsPiece c.pieces p q is cell.each;
+  others = others;
+  empty = cell.empty;
 }
 
 -- a piece is given items of its own
-pub replaced_kept : (section : ℕ) (home : Home) (raw : Option Items) (held : HomeItems) (l : List Piece) (p : ℕ) (items : Items) (q r : Piece)
-    → IsKept section home raw held l → p < length l → q ≡ own_piece items r.align → r ≡ get_or l p home_piece
-    → IsKept section home raw held (set l p q)
-replaced_kept section home raw held l p items q r kept there is read =
-    let old : IsPiece r = subst IsPiece (sym read) (All-get_or IsPiece l p home_piece there kept.cell.each) in
+pub replaced_cell : (c : CellView) (p : ℕ) (items : Items) (q r : Piece) → IsCell c → p < length c.pieces
+    → q ≡ own_piece items r.align → r ≡ get_or c.pieces p home_piece → IsCell (record c { pieces = set c.pieces p q })
+replaced_cell c p items q r cell there is read =
+    let old : IsPiece r = subst IsPiece (sym read) (All-get_or IsPiece c.pieces p home_piece there cell.each) in
     let new = own_piece_is items r.align old.align in
-    subst (λ (q : Piece). IsKept section home raw held (set l p q)) (sym is)
-    (kept_set section home raw held l p (own_piece items r.align) kept new (others_set l p (own_piece items r.align) kept.cell.others refl))
+    subst (λ (q : Piece). IsCell (record c { pieces = set c.pieces p q })) (sym is)
+    (cell_set c p (own_piece items r.align) cell new (others_set c.pieces p (own_piece items r.align) cell.others refl))
 
-pub replaced_is : (v : CellView) (p : ℕ) (items : Items) (q r : Piece) → q ≡ own_piece items r.align → r ≡ get_or v.pieces p home_piece
-    → record v { pieces = set v.pieces p q } ≡ replaced v p items
+pub replaced_is : (c : CellView) (p : ℕ) (items : Items) (q r : Piece) → q ≡ own_piece items r.align
+    → r ≡ get_or c.pieces p home_piece → record c { pieces = set c.pieces p q } ≡ replaced c p items
 unfolding piece_in
-replaced_is v p items q r is read =
-    ap (λ (q : Piece). record v { pieces = set v.pieces p q }) (is ∙ ap (λ (r : Piece). own_piece items r.align) read)
+replaced_is c p items q r is read =
+    ap (λ (q : Piece). record c { pieces = set c.pieces p q }) (is ∙ ap (λ (r : Piece). own_piece items r.align) read)
 
-pub marked_is : (v : CellView) (p : ℕ) (q r : Piece) → q ≡ record r { marked = true } → r ≡ get_or v.pieces p home_piece
-    → record v { pieces = set v.pieces p q } ≡ marked_piece v p
+pub marked_is : (c : CellView) (p : ℕ) (q r : Piece) → q ≡ record r { marked = true }
+    → r ≡ get_or c.pieces p home_piece → record c { pieces = set c.pieces p q } ≡ marked_piece c p
 unfolding piece_in
-marked_is v p q r is read =
-    ap (λ (q : Piece). record v { pieces = set v.pieces p q }) (is ∙ ap (λ (r : Piece). record r { marked = true }) read)
+marked_is c p q r is read =
+    ap (λ (q : Piece). record c { pieces = set c.pieces p q }) (is ∙ ap (λ (r : Piece). record r { marked = true }) read)
 
 -- ---- Cells as they are made
 
@@ -103,6 +103,7 @@ pub opened_is : (section : ℕ) (home : Home) → (home.kind ≡ kinds.Empty →
 opened_is section home empty = record {
   sized = tt;
   outside = λ h. refl;
+  no_room = λ h. refl;
   few = omega arith;
   each = All-cons IsPiece home_piece [] home_piece_is (All-nil IsPiece);
   others = All-nil IsOwn;
@@ -113,34 +114,38 @@ pub new_is : (section : ℕ) → IsCell (new_cell section)
 new_is section = record {
   sized = tt;
   outside = λ h. refl;
+  no_room = λ h. refl;
   few = omega arith;
   each = All-nil IsPiece;
   others = tt;
   empty = λ h. refl;
 }
 
-pub appended_kept : (section : ℕ) (home : Home) (raw : Option Items) (held : HomeItems) (l : List Piece) (items : Items) (align : ℕ)
-    → IsKept section home raw held l → length l < MAX_PIECES → IsTrue (is_piece_align align)
-    → IsKept section home raw held (l ++ own_piece items align ∷ [])
-appended_kept section home raw held l items align kept room good = record {
-  bytes = kept.bytes;
-  room = kept.room;
-  cell = record {
-    sized = kept.cell.sized;
-    outside = kept.cell.outside;
-    few = omega (arith, room, length-append l (own_piece items align ∷ []));
-    each = All-push IsPiece l (own_piece items align) kept.cell.each (own_piece_is items align good);
-    others = others_push l (own_piece items align) kept.cell.others refl;
-    empty = kept.cell.empty;
-  };
+pub appended_cell : (c : CellView) (items : Items) (align : ℕ) → IsCell c → length c.pieces < MAX_PIECES
+    → IsTrue (is_piece_align align) → IsCell (record c { pieces = c.pieces ++ own_piece items align ∷ [] })
+appended_cell c items align cell few good = record {
+  sized = cell.sized;
+  outside = cell.outside;
+  no_room = cell.no_room;
+  few = omega (arith, few, length-append c.pieces (own_piece items align ∷ []));
+  each = All-push IsPiece c.pieces (own_piece items align) cell.each (own_piece_is items align good);
+  others = others_push c.pieces (own_piece items align) cell.others refl;
+  empty = cell.empty;
 }
 
 -- an own piece is pushed, or there is no memory for it
-pub pushed_kept : {A E : Type 0} (r : Result A E) (section : ℕ) (home : Home) (raw : Option Items) (held : HomeItems) (l now : List Piece)
-    (q : Piece) (items : Items) (align : ℕ) → IsKept section home raw held l → length l < MAX_PIECES → IsTrue (is_piece_align align)
-    → q ≡ own_piece items align → OnOk r (now ≡ l ++ q ∷ []) → OnErr r (now ≡ l) → IsKept section home raw held now
-pushed_kept (Ok x) section home raw held l now q items align kept room good is after same =
-    subst (λ (l : List Piece). IsKept section home raw held l) (sym (after ∙ ap (λ (q : Piece). l ++ q ∷ []) is))
-    (appended_kept section home raw held l items align kept room good)
-pushed_kept (Err e) section home raw held l now q items align kept room good is after same =
-    subst (λ (l : List Piece). IsKept section home raw held l) (sym same) kept
+pub pushed_cell : {A E : Type 0} (r : Result A E) (c now : CellView) (q : Piece) (items : Items) (align : ℕ) → IsCell c
+    → length c.pieces < MAX_PIECES → IsTrue (is_piece_align align) → q ≡ own_piece items align
+    → OnOk r (now ≡ record c { pieces = c.pieces ++ q ∷ [] }) → OnErr r (now ≡ c) → IsCell now
+pushed_cell (Ok x) c now q items align cell few good is after same =
+    subst IsCell (sym (after ∙ ap (λ (q : Piece). record c { pieces = c.pieces ++ q ∷ [] }) is)) (appended_cell c items align cell few good)
+pushed_cell (Err e) c now q items align cell few good is after same = subst IsCell (sym same) cell
+
+right_of : (a b : Bool) → (a && b) ≡ true → b ≡ true
+right_of true b both = both
+right_of false b both = cc
+
+-- an alignment of a piece fits four bytes
+pub small_align : (align : ℕ) → IsTrue (is_piece_align align) → align < 2 ^ 32
+unfolding is_piece_align
+small_align align good = let low = leb-true align MAX_PIECE_ALIGN (right_of (is_power_of_two align) (nat_le align MAX_PIECE_ALIGN) good) in omega (arith, low)

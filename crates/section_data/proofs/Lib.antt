@@ -5,3 +5,6 @@ pub mod Preparing
 pub mod Owning
 pub mod Edits
 pub mod Rules
+pub mod Sizes
+pub mod Keeping
+pub mod Reserving

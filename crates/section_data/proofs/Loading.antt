@@ -57,6 +57,16 @@ unfolding home_bytes
 read_from None home bytes inside len is = (len, tt)
 read_from (Some told) home bytes inside len is = (len, is ∙ sym (rw (home_bytes, inside) refl))
 
+-- the same of bytes that are held then
+pub kept_from : (image : Option (List ℕ)) (home : Home) (now : Option (List ℕ)) (bytes : List ℕ) (place len : ℕ) → home.out ≡ false
+    → place ≡ home.at → len ≡ home.len → now ≡ Some bytes → length bytes ≡ len
+    → IfSome image (λ told. bytes ≡ take len (drop place told)) → IsReadFrom image home (bytes_or_none now)
+kept_from image home now bytes place len inside place_is len_is is long told =
+    let here = subst (λ (n : ℕ). IfSome image (λ t. bytes ≡ take len (drop n t))) place_is told in
+    let there = subst (λ (n : ℕ). IfSome image (λ t. bytes ≡ take n (drop home.at t))) len_is here in
+    subst (λ (o : Option (List ℕ)). IsReadFrom image home (bytes_or_none o)) (sym is)
+    (read_from image home bytes inside (long ∙ len_is) there)
+
 -- room for a copy of raw bytes: the items that they hold are held
 pub held_bytes : (class : Class) (order : Order) (c : CellView) → c.home.kind ≡ kinds.Bytes
     → option_map items.Bytes c.raw ≡ c.held → HeldIs class order c

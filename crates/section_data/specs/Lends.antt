@@ -14,7 +14,7 @@ use Rattle.elf_object.specs.Object.{Piece}
 use Rattle.section_data.specs.contracts.piece.Piece.{the_row as piece_row}
 use Rattle.section_data.specs.contracts.cell.Cell.{the_row as cell_row}
 use Rattle.section_data.specs.Views.{CellView}
-use Rattle.section_data.specs.contracts.pieces.Pieces.{the_row as pieces_row}
+use Rattle.section_data.specs.contracts.kept.Kept.{the_row as kept_row}
 use Rattle.section_data.specs.Held.{piece_in}
 
 -- a piece with those items of its own
@@ -75,8 +75,9 @@ LendsItemList X variant image class order p cell r =
     (λ new left. IsLent image class order cell.now new p (variant left))
     (λ new. Stays image r cell.now new)
 
--- ---- One piece of a list
+-- ---- One piece of what is kept
 
-abbrev pub LendsPieceOf : ℕ → MutBor (List Piece) → MutBor Piece → Fml
-LendsPieceOf p pieces r =
-    Lends pieces_row piece_row pieces r (λ left. slice_set pieces.now p left)
+abbrev pub LendsPieceOf : ℕ → MutBor CellView → MutBor Piece → Fml
+LendsPieceOf p kept r =
+    Lends kept_row piece_row kept r
+    (λ left. record kept.now { pieces = slice_set kept.now.pieces p left })

@@ -1,4 +1,5 @@
 pub mod Views
+pub mod Kept
 pub mod Held
 pub mod Refused
 pub mod Lends

@@ -16,12 +16,16 @@ piece_size class home_len p =
       | Some items ↦ file_size (items_kind items) class (items_count items)
     ]
 
--- where pieces end that follow an end
+-- where a piece ends that stands next after an end
+unfoldable pub piece_end : Class → ℕ → ℕ → Piece → ℕ
+piece_end class home_len end p = rounded_up end p.align + piece_size class home_len p
+
+-- where the last of the pieces ends that stand after an end
 unfoldable pub stacked_end : Class → ℕ → ℕ → List Piece → ℕ
 stacked_end class home_len end [] = end
 stacked_end class home_len end (p ∷ ps) =
-    stacked_end class home_len (rounded_up end p.align + piece_size class home_len p) ps
+    stacked_end class home_len (piece_end class home_len end p) ps
 
--- where the last piece of a section ends
+-- the size of a section's data: where its last piece ends
 unfoldable pub data_size : Class → CellView → ℕ
 data_size class c = stacked_end class c.home.len 0 c.pieces

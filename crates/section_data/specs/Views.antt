@@ -1,17 +1,12 @@
 -- One section's cell, as contracts see it: where its data stands in the image as opened, what is
 -- held of it in memory, and its pieces (elf_getdata, elf_rawdata). Home and Piece are those of the
 -- plain object.
-use Rattle.std.specs.Prelude.{◌≡◌, ℕ, ◌+◌, ◌≤◌, Bool, true, false, not, ◌==◌, ◌&&◌, nat_lt, List, [], ◌∷◌, length, slice_index_or, All, Option, Some, None, IfSome, IsSome}
-use Rattle.std.specs.Option.{option_map}
+use Rattle.std.specs.Prelude.{◌≡◌, ℕ, ◌+◌, ◌≤◌, Bool, true, false, not, ◌==◌, ◌&&◌, nat_lt, List, [], ◌∷◌, length, slice_index_or, All, Option, Some, None, IfSome}
 use Rattle.elf_types.specs.declared.records.Kind.{Kind}
 use Rattle.elf_types.specs.declared.records.Kind.TheVariants as kinds
 use Rattle.elf_types.specs.declared.constants.TheConstants.{MAX_PIECES}
 use Rattle.elf_xlate.specs.declared.content.Items.{Items}
-use Rattle.elf_xlate.specs.Translation.{items_kind}
-use Rattle.section_data.specs.declared.held.HomeItems.{HomeItems}
-use Rattle.section_data.specs.declared.held.HomeItems.TheVariants.{Nothing, Translated, Raw}
 use Rattle.elf_object.specs.Object.{Home, Piece, no_home, home_piece}
-use Rattle.elf_object.specs.Answers.{bytes_of}
 use Rattle.elf_object.specs.Valid.{IsPiece, OthersOwn}
 
 pub record CellView : Type 0 where
@@ -22,7 +17,7 @@ pub record CellView : Type 0 where
   pub room : Bool  -- memory for the home's bytes is kept aside
   pub pieces : List Piece
 
--- ---- What the program keeps, as a view
+-- ---- Parts of a view
 
 -- the items of a piece, where they are its own
 abbrev pub when : Bool → Items → Option Items
@@ -44,27 +39,6 @@ piece_of pieces p = slice_index_or pieces p home_piece
 abbrev pub home_view : ℕ → ℕ → Kind → Bool → Home
 home_view at len kind out = record { at = at; len = len; kind = kind; out = out }
 
--- whether the home's items are held in memory form
-abbrev pub is_holding : HomeItems → Bool
-is_holding Nothing = false
-is_holding _ = true
-
--- They are those that were translated; or the raw bytes, beside which there is room for a copy.
-abbrev pub held_view : Option Items → HomeItems → Option Items
-held_view raw Nothing = None
-held_view raw (Translated items) = Some items
-held_view raw (Raw room) = raw
-
-abbrev pub cell_view : ℕ → Home → Option Items → HomeItems → Bool → List Piece → CellView
-cell_view section home raw held room pieces = record {
-  section = section;
-  home = home;
-  raw = option_map bytes_of raw;
-  held = held_view raw held;
-  room = room;
-  pieces = pieces;
-}
-
 -- ---- What is true of each cell
 
 -- Raw bytes are as many as the home is long; a home out of the file is never read, and no memory is
@@ -78,36 +52,27 @@ pub record IsCell (c : CellView) : Type 0 where
   pub others : OthersOwn c.pieces
   pub empty : c.home.kind ≡ kinds.Empty → c.home.len ≡ 0
 
--- room for a copy is kept of bytes that are read, and has place for all of them
-abbrev pub IsRoomFor : Option Items → Home → HomeItems → Type 0
-IsRoomFor raw home Nothing = Unit {0}
-IsRoomFor raw home (Translated items) = Unit {0}
-IsRoomFor raw home (Raw room) = IsSome raw × (home.len ≤ room)
-
--- the same of what the program keeps: the raw bytes are kept as items of kind Bytes
-pub record IsKept (section : ℕ) (home : Home) (raw : Option Items) (held : HomeItems)
-    (pieces : List Piece) : Type 0 where
-  pub bytes : IfSome raw (λ items. items_kind items ≡ kinds.Bytes)
-  pub room : IsRoomFor raw home held
-  pub cell : IsCell (cell_view section home raw held pieces)
-
 -- ---- Cells as they are made
 
 -- whether an extent that is not empty passes the end of an image
 abbrev pub passes_end : ℕ → ℕ → ℕ → Bool
 passes_end size at len = not (len == 0) && nat_lt size (at + len)
 
--- the cell of a section of an image: nothing is read, and the one piece is the clean home piece
-abbrev pub opened_cell : ℕ → Home → CellView
-opened_cell section home = record {
+-- a cell of which nothing is read, with the clean home piece or none
+abbrev pub made_cell : ℕ → Home → Bool → CellView
+made_cell section home has_piece = record {
   section = section;
   home = home;
   raw = None;
   held = None;
   room = false;
-  pieces = home_piece ∷ [];
+  pieces = pieces_view has_piece home_piece [];
 }
+
+-- the cell of a section of an image: nothing is read, and the one piece is the clean home piece
+abbrev pub opened_cell : ℕ → Home → CellView
+opened_cell section home = made_cell section home true
 
 -- the cell of a new section
 abbrev pub new_cell : ℕ → CellView
-new_cell section = record (opened_cell section no_home) { pieces = [] }
+new_cell section = made_cell section no_home false

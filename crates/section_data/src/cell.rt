@@ -4,17 +4,14 @@ ghost use Rattle.std.specs.Prelude.{◌≡◌, ◌<◌, true, Some, None, length
 ghost use Rattle.elf_types.specs.declared.errors.ElfError.TheVariants.{Memory};
 ghost use Rattle.elf_types.specs.declared.records.Kind.TheVariants as kinds;
 ghost use Rattle.elf_object.specs.Open.{home_of};
-ghost use Rattle.section_data.specs.declared.held.HomeItems.TheVariants.{Nothing};
-ghost use Rattle.section_data.specs.Views.{IsCell, cell_view, home_view, passes_end, new_cell, opened_cell};
+ghost use Rattle.section_data.specs.Views.{IsCell, home_view, passes_end, new_cell, opened_cell};
 ghost use Rattle.section_data.specs.Leaves.{LiesIn};
 ghost use Rattle.section_data.specs.Held.{piece_in, kind_in, cell_is_loaded};
 
-use crate::held::HomeItems;
 use crate::home::Home;
+use crate::kept::Kept;
 use crate::piece::Piece;
-use crate::pieces::Pieces;
 use elf_types::{Class, ElfError, Kind, Shdr};
-use elf_xlate::Items;
 use std::alloc::Global;
 use std::marker::Model;
 
@@ -22,36 +19,29 @@ mod edits;
 mod items;
 mod lending;
 mod loading;
+mod reserving;
+mod sizes;
 mod storing;
 
 /// One section's data: its home in the image as opened, the home's bytes once they are read, its
 /// items once they are translated, and its pieces. A home of bytes is held once: its items are the
 /// home's bytes, and the cell keeps room for a copy of them once they were handed out, so that a
-/// loan of items that were handed out takes no memory. It keeps its allocator.
+/// loan of items that were handed out takes no memory. It keeps its allocator. A section that is
+/// never used takes 80 bytes and nothing besides.
 #[derive(Drop)]
 pub struct Cell {
     alloc: Global,
-    section: u32,
-    home: Home,
-    /// The home passes the end of the image.
-    out: bool,
-    /// The home's bytes, once they are read, as items of kind `Bytes`.
-    raw: Option<Items>,
-    /// The home's items where they are held in memory form.
-    held: HomeItems,
-    pieces: Pieces,
+    kept: Kept,
 }
 
 impl Model for Cell {
-    ghost use Rattle.section_data.specs.Views.{CellView, cell_view, home_view, IsKept};
+    ghost use Rattle.section_data.specs.Views.{CellView, IsCell};
 
     ghost Value = { CellView };
 
-    ghost view = { λ c. cell_view c.section
-        (home_view c.home.at c.home.len c.home.kind c.out) c.raw c.held c.pieces };
+    ghost view = { λ c. c.kept };
 
-    ghost invariant = { λ c. IsKept c.section
-        (home_view c.home.at c.home.len c.home.kind c.out) c.raw c.held c.pieces };
+    ghost invariant = { λ c. IsCell c.kept };
 }
 
 impl Cell {
@@ -69,30 +59,20 @@ impl Cell {
     {
         match home {
             Some(home) => {
-                let pieces = Pieces::of_home(alloc);
-                Ok(Cell::over(alloc, section, home, home.passes_end(base), pieces))
+                let out = home.passes_end(base);
+                Ok(Cell::of(alloc, Kept::over(section, home, out, true)))
             }
-            None => Ok(Cell::over(alloc, section, Home::none(), false, Pieces::none(alloc))),
+            None => Ok(Cell::of(alloc, Kept::over(section, Home::none(), false, false))),
         }
     }
 
-    /// The cell over a home of which nothing is read.
-    fn over(alloc: Global, section: u32, home: Home, out: bool, pieces: Pieces) -> Cell
-        requires { IsCell (cell_view section (home_view home.at home.len home.kind out) None Nothing
-            pieces) }
-        ensures value { result ≡ cell_view section (home_view home.at home.len home.kind out) None
-            Nothing pieces }
+    /// The cell of what is kept.
+    fn of(alloc: Global, kept: Kept) -> Cell
+        requires { IsCell kept }
+        ensures value { result ≡ kept }
         ensures cell { IsCell result }
     {
-        Cell {
-            alloc,
-            section,
-            home,
-            out,
-            raw: None,
-            held: HomeItems::Nothing,
-            pieces,
-        }
+        Cell { alloc, kept }
     }
 
     /// The cell of a section of an image of `size` bytes, by its number and its header. It refuses
@@ -119,7 +99,7 @@ impl Cell {
     pub fn section(&self) -> u32
         ensures { result ≡ self.now.section }
     {
-        self.section
+        self.kept.section()
     }
 
     /// The home. It takes no memory.
@@ -128,14 +108,14 @@ impl Cell {
         ensures len { result.len ≡ self.now.home.len }
         ensures kind { result.kind ≡ self.now.home.kind }
     {
-        self.home
+        self.kept.home()
     }
 
     /// Whether the home passes the end of the image as opened. It takes no memory.
     pub fn out(&self) -> bool
         ensures { result ≡ self.now.home.out }
     {
-        self.out
+        self.kept.out()
     }
 
     /// Whether the home's bytes are held. It takes no memory.
@@ -143,7 +123,7 @@ impl Cell {
         ensures value { result ≡ cell_is_loaded self.now }
         ensures cell { IsCell self.now }
     {
-        self.raw.is_some()
+        self.kept.is_loaded()
     }
 
     /// The number of pieces, at most 2^20. It takes no memory.
@@ -151,7 +131,7 @@ impl Cell {
         ensures value { result ≡ length self.now.pieces }
         ensures cell { IsCell self.now }
     {
-        self.pieces.len()
+        self.kept.count()
     }
 
     /// The piece with that number.
@@ -161,7 +141,7 @@ impl Cell {
         ensures value { result.now ≡ piece_in self.now p }
         ensures cell { IsCell self.now }
     {
-        self.pieces.get(p)
+        self.kept.get(p)
     }
 
     /// Whether a piece has items of its own; an own piece is marked. It takes no memory.
@@ -200,7 +180,7 @@ impl Cell {
         if piece.is_own() {
             piece.items().kind()
         } else {
-            self.home.kind
+            self.kept.home().kind
         }
     }
 }

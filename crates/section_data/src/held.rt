@@ -1,7 +1,7 @@
 //! The items of a home, as far as they are held in memory form.
 
 ghost use Rattle.std.specs.Prelude.{◌≡◌};
-ghost use Rattle.section_data.specs.Views.{is_holding};
+ghost use Rattle.section_data.specs.Kept.{is_holding};
 
 use crate::room::Room;
 use elf_xlate::Items;

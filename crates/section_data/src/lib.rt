@@ -11,11 +11,12 @@ mod cell;
 mod held;
 mod home;
 mod item;
+mod kept;
 mod listed;
 mod piece;
-mod pieces;
 mod room;
 mod storable;
+mod used;
 
 pub use cell::Cell;
 pub use home::Home;

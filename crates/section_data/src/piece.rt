@@ -17,9 +17,9 @@ use std::mem;
 /// marked dirty. Contracts see it as a piece of the plain object.
 #[derive(Drop)]
 pub struct Piece {
-    own: bool,
     items: Items,
-    align: u64,
+    align: u32,
+    own: bool,
     marked: bool,
 }
 
@@ -43,22 +43,23 @@ impl Piece {
         ensures { result ≡ home_piece }
     {
         Piece {
-            own: false,
             items: Items::Empty,
             align: 1,
+            own: false,
             marked: false,
         }
     }
 
     /// A piece with items of its own.
+    #[tactic(auto, using(crate::proofs::Edits::small_align))]
     pub(crate) fn with_own(items: Items, align: u64) -> Piece
         requires { IsTrue (is_piece_align align) }
         ensures { result ≡ own_piece items align }
     {
         Piece {
-            own: true,
             items,
-            align,
+            align: align as u32,
+            own: true,
             marked: true,
         }
     }
@@ -75,7 +76,7 @@ impl Piece {
     pub(crate) fn align(&self) -> u64
         ensures { result ≡ self.now.align }
     {
-        self.align
+        u64::from(self.align)
     }
 
     /// Whether the piece is marked dirty.

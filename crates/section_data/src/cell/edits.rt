@@ -25,7 +25,7 @@ impl Cell {
         match unfit(items, class) {
             None => Ok(()),
             Some(index) => Err(ElfError::Unfit {
-                part: Part::Piece(self.section, p),
+                part: Part::Piece(self.section(), p),
                 index,
             }),
         }
@@ -51,7 +51,7 @@ impl Cell {
         ensures err { IfErr result IsRefusal }
         ensures cell { IsCell self.now }
     {
-        let count = self.pieces.len();
+        let count = self.kept.count();
         if u64::from(count) >= MAX_PIECES {
             return Err(ElfError::TooMany);
         }
@@ -67,7 +67,7 @@ impl Cell {
         ensures value { self.new ≡ replaced self.old p items }
         ensures cell { IsCell self.new }
     {
-        let piece = self.pieces.get_mut(p);
+        let piece = self.kept.get_mut(p);
         piece.set(items);
     }
 
@@ -109,10 +109,10 @@ impl Cell {
         if let Err(e) = self.check_append(class, &items, align) {
             return Err((items, e));
         }
-        let p = self.pieces.len();
-        match self.pieces.push(Piece::with_own(items, align)) {
+        let p = self.kept.count();
+        match self.kept.push(self.alloc, Piece::with_own(items, align)) {
             Ok(()) => Ok(p),
-            Err(refused) => Err((refused.value.into_items(), ElfError::Memory)),
+            Err(piece) => Err((piece.into_items(), ElfError::Memory)),
         }
     }
 
@@ -124,7 +124,7 @@ impl Cell {
         ensures value { self.new ≡ marked_piece self.old p }
         ensures cell { IsCell self.new }
     {
-        let piece = self.pieces.get_mut(p);
+        let piece = self.kept.get_mut(p);
         piece.mark();
     }
 }

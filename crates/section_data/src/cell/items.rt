@@ -1,40 +1,16 @@
 //! The items of a piece.
 
-ghost use Rattle.std.specs.Prelude.{◌≡◌, ◌<◌, length, true, false, is_some, IsTrue, IsSome, IfSome, Some};
+ghost use Rattle.std.specs.Prelude.{◌≡◌, ◌<◌, length, true, false, is_some, IsTrue, IfSome};
 ghost use Rattle.elf_object.specs.Answers.{entry_at};
 ghost use Rattle.section_data.specs.Views.{IsCell};
 ghost use Rattle.section_data.specs.Held.{piece_in, kind_in, items_in, is_at_hand, ready, piece_holds_items, TellsItem};
 
 use crate::cell::Cell;
-use crate::held::HomeItems;
 use crate::item::{Item, entry, item_if_whole, item_in};
 use elf_types::{Class, ElfError, Kind, Order};
 use elf_xlate::Items;
 
-/// Items that are there.
-fn there(slot: &Option<Items>) -> &Items
-    requires { IsSome slot.now }
-    ensures { slot.now ≡ Some result.now }
-{
-    match slot {
-        Some(items) => items,
-        None => unreachable!(),
-    }
-}
-
 impl Cell {
-    /// The home's items, which are held.
-    fn home_items(&self) -> &Items
-        requires { IsSome self.now.held }
-        ensures { self.now.held ≡ Some result.now }
-    {
-        match &self.held {
-            HomeItems::Translated(items) => items,
-            HomeItems::Raw(_) => there(&self.raw),
-            HomeItems::Nothing => unreachable!(),
-        }
-    }
-
     /// The items of a piece that holds them. It takes no memory.
     #[tactic(auto, using(crate::proofs::Holdings::ready_own, crate::proofs::Holdings::ready_clean))]
     pub fn items(&self, p: u32) -> &Items
@@ -47,7 +23,7 @@ impl Cell {
         if piece.is_own() {
             return piece.items();
         }
-        self.home_items()
+        self.kept.items()
     }
 
     /// Item `i` of a piece of the item's kind that is own, or whose home is loaded and has whole
@@ -75,14 +51,14 @@ impl Cell {
         ensures there { result ≡ true → p < length self.now.pieces }
         ensures clean { result ≡ true → is_some (piece_in self.now p).own ≡ false }
     {
-        self.pieces.is_clean_home(p)
+        self.kept.is_clean_home(p)
     }
 
     /// Whether the home holds items of a kind.
     fn is_home_of(&self, kind: Kind) -> bool
         ensures { result ≡ true → self.now.home.kind ≡ kind }
     {
-        self.home.kind == kind
+        self.kept.home().kind == kind
     }
 
     /// Item `i` of a clean piece of the item's kind, where it can be told at once: the home is

@@ -13,12 +13,10 @@ ghost use Rattle.section_data.specs.Refused.{kind_refused, wrong_piece_kind, len
 ghost use Rattle.section_data.specs.Leaves.{LiesIn, Claims, Owns, OwnsKind, Stays};
 
 use crate::cell::Cell;
-use crate::held::HomeItems;
 use crate::listed::Listed;
 use elf_outside::Source;
 use elf_types::{Class, ElfError, Kind, List, Order};
 use elf_xlate::Items;
-use std::mem;
 
 impl Cell {
     ghost use Rattle.section_data.specs.Lends.{LendsCell, LendsCellItems, LendsItems, LendsItemList};
@@ -54,20 +52,6 @@ impl Cell {
         self.check_home(p, class)
     }
 
-    /// The home's items, which are held, for a piece to own: the translated items go, and of raw
-    /// bytes, which stay, it is a copy in the room for it. It takes no memory.
-    fn take_home(&mut self) -> Items
-        requires { IsSome self.old.held }
-        ensures value { self.old.held ≡ Some result }
-        ensures after { self.new ≡ record self.old { held = None } }
-    {
-        match mem::replace(&mut self.held, HomeItems::Nothing) {
-            HomeItems::Translated(items) => items,
-            HomeItems::Raw(room) => Items::Bytes(room.fill(self.bytes())),
-            HomeItems::Nothing => unreachable!(),
-        }
-    }
-
     /// Makes a piece that holds its items own and marked with them. Afterwards the clean home piece
     /// holds none. It refuses nothing and takes no memory.
     #[tactic(auto, unfolding(crate::specs::Held::ready))]
@@ -80,7 +64,7 @@ impl Cell {
         if self.is_own(p) {
             return;
         }
-        let items = self.take_home();
+        let items = self.kept.take_items();
         self.set_piece(p, items);
     }
 
@@ -190,7 +174,7 @@ impl Cell {
         ensures counted { IfSome (piece_in self.old p).own (λ items.
             length result.now ≡ items_count items) }
     {
-        let piece = self.pieces.get_mut(p);
+        let piece = self.kept.get_mut(p);
         piece.list_mut::<T>()
     }
 
@@ -202,7 +186,7 @@ impl Cell {
         ensures* lends { sem 𝓛 (LendsCellItems p self.entry result) }
         ensures value { (piece_in self.old p).own ≡ Some result.now }
     {
-        let piece = self.pieces.get_mut(p);
+        let piece = self.kept.get_mut(p);
         piece.items_mut()
     }
 }

@@ -15,15 +15,12 @@ ghost use Rattle.section_data.specs.Refused.{no_piece, no_home_items, items_refu
 ghost use Rattle.section_data.specs.Leaves.{LiesIn, Warms, IsReadFrom, bytes_or_none};
 
 use crate::cell::Cell;
-use crate::held::HomeItems;
 use crate::home::Home;
-use crate::room::Room;
 use elf_outside::Source;
 use elf_outside::reads::read_range;
 use elf_types::{Class, ElfError, Kind, Octets, Order};
 use elf_xlate::{Items, XlateError, item_size, to_memory};
 use std::alloc::Global;
-use std::mem;
 
 /// The bytes of a home. An empty one is not read, and takes no memory.
 fn read_home<S: Source>(alloc: Global, src: &mut S, home: Home) -> Result<Octets, ElfError>
@@ -65,13 +62,6 @@ fn is_whole(kind: Kind, class: Class, len: u64) -> bool
     kind == Kind::Empty || len % item_size(kind, class) == 0
 }
 
-/// Puts a value in the place of another.
-fn put<T: Drop>(slot: &mut T, value: T)
-    ensures { slot.new ≡ value }
-{
-    let _before = mem::replace(slot, value);
-}
-
 impl Cell {
     /// Reads the home's bytes, which are not held.
     fn read_raw<S: Source>(&mut self, src: &mut S) -> Result<(), ElfError>
@@ -87,8 +77,10 @@ impl Cell {
         ensures asks { Asks S.Source result src.old src.new self.old.home.len }
         ensures cell { IsCell self.new }
     {
-        let bytes = read_home(self.alloc, src, self.home)?;
-        put(&mut self.raw, Some(Items::Bytes(bytes)));
+        let bytes = read_home(self.alloc, src, self.kept.home())?;
+        if let Err(e) = self.kept.keep_bytes(self.alloc, bytes) {
+            return Err(e);
+        }
         Ok(())
     }
 
@@ -126,10 +118,7 @@ impl Cell {
         ensures len { length result.now ≡ self.now.home.len }
         ensures cell { IsCell self.now }
     {
-        match &self.raw {
-            Some(Items::Bytes(bytes)) => bytes.as_slice(),
-            _ => unreachable!(),
-        }
+        self.kept.bytes()
     }
 
     /// Whether there is a piece with that number; else `NoData`. It takes no memory.
@@ -139,7 +128,7 @@ impl Cell {
         ensures err { IfErr result IsRefusal }
         ensures cell { IsCell self.now }
     {
-        let count = self.pieces.len();
+        let count = self.kept.count();
         if p < count {
             Ok(())
         } else {
@@ -154,14 +143,15 @@ impl Cell {
         ensures answer { result ≡ answered (no_home_items class self.now p) tt }
         ensures err { IfErr result IsRefusal }
     {
-        let section = self.section;
+        let section = self.section();
         if self.is_own(p) {
             return Ok(());
         }
-        if self.out {
+        if self.out() {
             return Err(ElfError::OutOfFile { section });
         }
-        if !is_whole(self.home.kind, class, self.home.len) {
+        let home = self.home();
+        if !is_whole(home.kind, class, home.len) {
             return Err(ElfError::Ragged { section });
         }
         Ok(())
@@ -210,7 +200,7 @@ impl Cell {
         ensures value { result ≡ piece_holds_items self.now p }
         ensures cell { IsCell self.now }
     {
-        self.is_own(p) || self.held.is_some()
+        self.is_own(p) || self.kept.holds_items()
     }
 
     /// Translates a home that is loaded. It refuses `Memory` alone, and then the cell is as before.
@@ -224,17 +214,17 @@ impl Cell {
         ensures unchanged { OnErr result (self.new ≡ self.old) }
         ensures cell { IsCell self.new }
     {
-        let items = translated(self.alloc, self.home.kind, class, order, self.bytes())?;
-        put(&mut self.held, HomeItems::Translated(items));
-        Ok(())
+        let items = translated(self.alloc, self.home().kind, class, order, self.bytes())?;
+        self.kept.keep_items(self.alloc, items)
     }
 
-    /// Makes room for a copy of a home that is loaded and of bytes. It refuses `Memory` alone, and
+    /// Makes room for a copy of a home that is loaded, of bytes and not empty. It refuses `Memory` alone, and
     /// then the cell is as before.
     #[tactic(auto, using(crate::proofs::Loading::held_bytes))]
     fn keep_room(&mut self) -> Result<(), ElfError>
         requires loaded { IsTrue (cell_is_loaded self.old) }
         requires kind { self.old.home.kind ≡ kinds.Bytes }
+        requires some { 0 < self.old.home.len }
         ensures ok { OnOk result (IsSome self.new.held) }
         ensures held { OnOk result (self.new ≡ record self.old { held = self.new.held }) }
         ensures items { (class : TheClass) (order : TheOrder) →
@@ -243,9 +233,7 @@ impl Cell {
         ensures unchanged { OnErr result (self.new ≡ self.old) }
         ensures cell { IsCell self.new }
     {
-        let room = Room::of(self.alloc, self.home.len)?;
-        put(&mut self.held, HomeItems::Raw(room));
-        Ok(())
+        self.kept.keep_copy(self.alloc)
     }
 
     /// Holds the items of a home that is loaded and has whole items. It refuses `Memory` alone, and
@@ -260,10 +248,11 @@ impl Cell {
         ensures unchanged { OnErr result (self.new ≡ self.old) }
         ensures cell { IsCell self.new }
     {
-        match self.home().kind {
-            Kind::Bytes => self.keep_room(),
-            _ => self.translate(class, order),
+        let home = self.home();
+        if home.kind == Kind::Bytes && home.len > 0 {
+            return self.keep_room();
         }
+        self.translate(class, order)
     }
 
     /// Reads a home that lies in the file and has whole items, where it is not read, and translates

@@ -1,6 +1,6 @@
 //! Memory for a home's bytes is kept aside, and what was read is let go.
 
-ghost use Rattle.std.specs.Prelude.{◌≡◌, ◌<◌, IsTrue, IfErr, OnOk, OnErr, ◌||◌};
+ghost use Rattle.std.specs.Prelude.{◌≡◌, ◌<◌, true, IsTrue, IfErr, OnOk, OnErr, ◌||◌};
 ghost use Rattle.elf_types.specs.declared.errors.ElfError.TheVariants.{Read};
 ghost use Rattle.elf_types.specs.Answers.{answered};
 ghost use Rattle.elf_outside.specs.Asks.{Asks};
@@ -21,9 +21,21 @@ impl Cell {
     pub fn reserve(&mut self) -> Result<(), ElfError>
         ensures edits { Edits result self.old self.new (answered (home_out self.old) tt)
             (with_room self.old) }
+        ensures ready { OnOk result (IsTrue (cell_is_loaded self.new || self.new.room)) }
         ensures cell { IsCell self.new }
     {
-        todo()
+        if self.is_loaded() {
+            return Ok(());
+        }
+        if self.out() {
+            return Err(ElfError::OutOfFile {
+                section: self.section(),
+            });
+        }
+        if let Err(e) = self.kept.reserve(self.alloc) {
+            return Err(e);
+        }
+        Ok(())
     }
 
     /// Reads the home's bytes into the memory that is kept aside for them, where they are not held;
@@ -40,7 +52,10 @@ impl Cell {
         ensures err { IfErr result (λ e. (e ≡ Read) × (0 < load_due self.old)) }
         ensures cell { IsCell self.new }
     {
-        todo()
+        if self.is_loaded() {
+            return Ok(());
+        }
+        self.kept.fill_room(src)
     }
 
     /// Whether the first piece is the clean home piece and is not marked: what it holds is what the
@@ -48,7 +63,7 @@ impl Cell {
     pub fn is_untouched(&self) -> bool
         ensures { result ≡ is_untouched self.now }
     {
-        todo()
+        self.kept.is_untouched()
     }
 
     /// Lets go of the home's bytes and items where the first piece is the clean home piece and is
@@ -58,16 +73,8 @@ impl Cell {
         ensures value { self.new ≡ unloaded self.old }
         ensures cell { IsCell self.new }
     {
-        todo()
-    }
-
-    /// The size of the section's data in the file of a class: where its last piece ends, and
-    /// 2^64 - 1 where that is more. It takes no memory.
-    ///
-    /// Source: gABI chapter 4, "Sections", and elf_newdata of elf(3E).
-    pub fn size(&self, class: Class) -> u64
-        ensures { result ≡ min (data_size class self.now) (2 ^ 64 - 1) }
-    {
-        todo()
+        if self.is_untouched() {
+            self.kept.forget();
+        }
     }
 }

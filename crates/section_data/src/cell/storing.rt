@@ -21,7 +21,7 @@ impl Cell {
         if piece.is_own() {
             return T::list(piece.items()).len();
         }
-        self.home.len / T::size(class) as u64
+        self.kept.home().len / T::size(class) as u64
     }
 
     /// Whether item `i` of a piece of the item's kind can be given that value. It refuses in this
@@ -50,7 +50,7 @@ impl Cell {
         }
         if !item.fits(class) {
             return Err(ElfError::Unfit {
-                part: Part::Piece(self.section, p),
+                part: Part::Piece(self.section(), p),
                 index: i,
             });
         }

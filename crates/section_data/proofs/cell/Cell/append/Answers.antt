@@ -5,7 +5,7 @@ use Rattle.elf_types.specs.declared.errors.ElfError.{ElfError}
 use Rattle.elf_types.specs.Answers.{answered}
 use Rattle.elf_object.proofs.AnswerLaws.{edit_refused}
 use Rattle.section_data.specs.Refused.{append_refused}
-use Rattle.section_data.proofs.Edits.{pushed_kept}
+use Rattle.section_data.proofs.Edits.{pushed_cell}
 use Rattle.section_data.proofs.cell.Cell.append.Goals as goal
 
 refused_by : (refusal : Option ElfError) (e : ElfError) → answered refusal (tt {0}) ≡ Err e → refusal ≡ Some e
@@ -22,6 +22,6 @@ returns-in-Err-clause-edits c = (
 pub invariant_of-self : goal.invariant_of-self
 invariant_of-self c =
     let count = ap (λ (v : CellView). length v.pieces) c.self.view_is in
-    let room : length c.self.inside.pieces < MAX_PIECES = omega (arith, count, c.in_default.ensures.room) in
-    pushed_kept c.push.result _ _ _ _ c.self.inside.pieces _ _ c.args.items c.args.align c.self.invariant room c.in_default.ensures.align
+    let few : length c.self.inside.kept.pieces < MAX_PIECES = omega (arith, count, c.in_default.ensures.room) in
+    pushed_cell c.push.result c.self.inside.kept _ _ _ _ c.self.invariant few c.in_default.ensures.align
     c.with_own.ensures c.push.ensures.ok c.push.ensures.unchanged

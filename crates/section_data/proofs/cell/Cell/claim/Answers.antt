@@ -1,4 +1,5 @@
-use Rattle.std.proofs.Common.{sym, ◌∙◌}
+use Rattle.std.proofs.Common.{None, sym, ap, ◌∙◌}
+use Rattle.section_data.specs.Views.{CellView}
 use Rattle.section_data.proofs.Edits.{claims_own, claims_clean}
 use Rattle.section_data.proofs.cell.Cell.claim.Goals as goal
 
@@ -8,5 +9,6 @@ returns-then-is_own-clause-claims c =
 
 pub returns-clause-claims : goal.returns-clause-claims
 returns-clause-claims c =
-    claims_clean c.args.self.now _ _ c.args.p c.take_home-items.result (sym c.is_own.ensures.value ∙ c.if-is_own.false)
-    c.take_home-items.ensures.value c.take_home-items.ensures.after c.set_piece.ensures.value
+    claims_clean c.args.self.now _ _ c.args.p c.take_items-items.result (sym c.is_own.ensures.value ∙ c.if-is_own.false)
+    (ap (λ (v : CellView). v.held) (sym c.self.view_is) ∙ c.take_items-items.ensures.value)
+    (c.take_items-items.ensures.after ∙ ap (λ (v : CellView). record v { held = None }) c.self.view_is) c.set_piece.ensures.value

@@ -24,6 +24,7 @@ returns g c =
     let clean : is_some (c.piece-piece.result.now).own ≡ _ = sym c.is_own.ensures.value ∙ c.if-is_own.false in
     let there = ap (λ (q : Piece). is_some q.own) (sym c.piece-piece.ensures.value) ∙ clean in
     let kind = sym (kind_clean c.args.self.now c.args.p there) ∙ c.requires.kind in
-    ap (λ n. c.self.inside.home.len / n) (c.size.ensures ∙ ap (λ (k : Kind). item_size k c.args.class) (sym kind))
+    ap (λ n. c.home.result.len / n) (c.size.ensures ∙ ap (λ (k : Kind). item_size k c.args.class) (sym kind))
+    ∙ ap (λ n. n / item_size c.args.self.now.home.kind c.args.class) c.home.ensures.len
     ∙ ap (λ n. n.home.len / item_size c.args.self.now.home.kind c.args.class) c.self.view_is
     ∙ sym (count_clean c.args.class c.args.self.now c.args.p there)

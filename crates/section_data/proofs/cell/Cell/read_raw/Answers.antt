@@ -1,8 +1,11 @@
-use Rattle.section_data.proofs.Loading.{read_from}
+use Rattle.std.proofs.Common.{ap, ◌∙◌}
+use Rattle.section_data.specs.Views.{CellView}
+use Rattle.section_data.proofs.Loading.{kept_from}
 use Rattle.section_data.proofs.cell.Cell.read_raw.Goals as goal
 
 pub returns-clause-bytes : goal.returns-clause-bytes
 returns-clause-bytes g c =
-    let inside = rw (← c.self.view_is) at c.requires.inside in
-    rw (c.put.ensures, ← c.self.view_is)
-    (read_from _ _ c.in_ok-bytes.bytes inside c.in_ok-bytes.ensures.len c.in_ok-bytes.ensures.bytes)
+    kept_from _ c.args.self.now.home c.keep_bytes.new.self.raw c.in_ok-bytes.bytes c.home.result.at c.home.result.len c.requires.inside
+    (c.home.ensures.at ∙ ap (λ (v : CellView). v.home.at) c.self.view_is)
+    (c.home.ensures.len ∙ ap (λ (v : CellView). v.home.len) c.self.view_is)
+    (ap (λ (v : CellView). v.raw) c.in_default.ensures.ok) c.in_ok-bytes.ensures.len c.in_ok-bytes.ensures.bytes

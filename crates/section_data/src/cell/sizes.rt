@@ -1,0 +1,60 @@
+//! The size of a section's data.
+
+ghost use Rattle.std.specs.Prelude.{◌≡◌, ◌-◌, ◌^◌, ◌<◌, min};
+ghost use Rattle.std.specs.Option.{SomeIff};
+ghost use Rattle.section_data.specs.Sizes.{piece_size, piece_end, data_size};
+
+use crate::cell::Cell;
+use crate::piece::Piece;
+use elf_layout::rounded_within;
+use elf_types::Class;
+use elf_xlate::fsize;
+
+/// The number of bytes of a piece in the file of a class, in a section whose home has so many; None
+/// exactly where it passes 2^64 - 1.
+#[tactic(auto, unfolding(crate::specs::Sizes::piece_size))]
+fn piece_size(piece: &Piece, class: Class, home_len: u64) -> Option<u64>
+    ensures { SomeIff result (piece_size class home_len piece.now < 2 ^ 64)
+        (piece_size class home_len piece.now) }
+{
+    if !piece.is_own() {
+        return Some(home_len);
+    }
+    let items = piece.items();
+    fsize(items.kind(), class, items.count())
+}
+
+/// Where a piece ends that stands next after an end; None exactly where that passes 2^64 - 1.
+#[tactic(auto, unfolding(crate::specs::Sizes::piece_end))]
+fn piece_end(piece: &Piece, class: Class, home_len: u64, end: u64) -> Option<u64>
+    ensures { SomeIff result (piece_end class home_len end piece.now < 2 ^ 64)
+        (piece_end class home_len end piece.now) }
+{
+    let Some(len) = piece_size(piece, class, home_len) else {
+        return None;
+    };
+    let Some(at) = rounded_within(end, piece.align(), u64::MAX) else {
+        return None;
+    };
+    at.checked_add(len)
+}
+
+impl Cell {
+    /// The size of the section's data in the file of a class: where its last piece ends, and
+    /// 2^64 - 1 where that is more. It takes no memory.
+    ///
+    /// Source: gABI chapter 4, "Sections", and elf_newdata of elf(3E).
+    pub fn size(&self, class: Class) -> u64
+        ensures { result ≡ min (data_size class self.now) (2 ^ 64 - 1) }
+    {
+        let home_len = self.home().len;
+        let mut end = 0;
+        for p in 0..self.piece_count() {
+            match piece_end(self.piece(p), class, home_len, end) {
+                Some(next) => end = next,
+                None => return u64::MAX,
+            }
+        }
+        end
+    }
+}
