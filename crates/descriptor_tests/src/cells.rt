@@ -1,10 +1,11 @@
 //! Cells over sources in memory.
 
-ghost use Rattle.std.specs.Prelude.{◌≡◌, length};
-ghost use Rattle.section_data.specs.Held.{HeldIs};
+ghost use Rattle.std.specs.Prelude.{◌≡◌, false, length};
+ghost use Rattle.section_data.specs.Held.{HeldIs, cell_is_loaded};
 ghost use Rattle.section_data.specs.Leaves.{LiesIn};
 
 mod changes;
+mod rooms;
 
 use changes::{Change, Left, change_left};
 use elf_outside::MemSource;
@@ -12,6 +13,7 @@ use elf_types::constants::{
     SHF_COMPRESSED, SHT_GNU_VERSYM, SHT_NOBITS, SHT_NULL, SHT_PROGBITS, SHT_REL, SHT_SYMTAB,
 };
 use elf_types::{Class, ElfError, Kind, Octets, Order, Shdr};
+use rooms::{is_read_again, is_room_kept};
 use section_data::Cell;
 use std::alloc::Global;
 use test_images::{FORMS, Form, NARROW, NULL_SECTION, WIDE};
@@ -26,6 +28,10 @@ enum Asked {
     ReadOnce,
     /// What a change leaves of the piece.
     Changed(Change, Left),
+    /// A home of 48 bytes is read into memory that is kept aside, after a read that failed.
+    RoomKept,
+    /// A home of 48 bytes is read again once it was let go.
+    ReadAgain,
     /// The item at an index of a cell of halves.
     Half(u64, Result<u16, ElfError>),
 }
@@ -51,11 +57,14 @@ fn answers(
 ) -> bool
     requires lies { LiesIn cell.old (length source.old.bytes) }
     requires items { HeldIs form.0 form.1 cell.old }
+    requires unread { cell_is_loaded cell.old ≡ false }
 {
     match asked {
         Asked::Data(told) => data_told(cell, source, form.0, form.1) == *told,
         Asked::ReadOnce => is_read_once(cell, source, form.0, form.1),
         Asked::Changed(by, left) => change_left(alloc, cell, source, form, *by) == *left,
+        Asked::RoomKept => is_room_kept(cell, source),
+        Asked::ReadAgain => is_read_again(cell, source),
         Asked::Half(i, told) => half_at(cell, source, form, *i) == *told,
     }
 }

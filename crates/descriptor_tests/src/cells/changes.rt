@@ -22,6 +22,8 @@ pub enum Change {
     Lend(u32, Kind),
     /// A piece is given an address.
     Replace(u32, u64),
+    /// The same, and then what is held of the home is let go.
+    ReplaceAndUnload(u32, u64),
     /// A piece is added with an alignment, and an address in it.
     Append(u64, u64),
     /// The first piece is marked.
@@ -73,6 +75,18 @@ fn replace(cell: &mut Cell, class: Class, p: u32, items: Items) -> Result<u32, E
     }
 }
 
+/// Gives a piece an address, and lets go of what is held of the home.
+fn replace_and_unload(
+    cell: &mut Cell,
+    class: Class,
+    p: u32,
+    items: Items,
+) -> Result<u32, ElfError> {
+    let p = replace(cell, class, p, items)?;
+    cell.unload();
+    Ok(p)
+}
+
 /// Adds a piece.
 fn append(cell: &mut Cell, class: Class, items: Items, align: u64) -> Result<u32, ElfError> {
     match cell.append(class, items, align) {
@@ -103,6 +117,9 @@ fn apply(
         Change::Claim => claim(cell, source, form.0, form.1),
         Change::Lend(p, kind) => lend(cell, source, form, p, kind),
         Change::Replace(p, at) => replace(cell, form.0, p, address(alloc, at)?),
+        Change::ReplaceAndUnload(p, at) => {
+            replace_and_unload(cell, form.0, p, address(alloc, at)?)
+        }
         Change::Append(align, at) => append(cell, form.0, address(alloc, at)?, align),
         Change::Mark => mark(cell, form.0),
     }
@@ -178,7 +195,7 @@ const TWENTY: Row = Row {
 };
 
 /// Changes of that section, and what each leaves.
-const CHANGES: [Row; 11] = [
+const CHANGES: [Row; 12] = [
     TWENTY,
     Row {
         asked: Asked::Changed(
@@ -197,6 +214,13 @@ const CHANGES: [Row; 11] = [
     },
     Row {
         asked: Asked::Changed(Change::Replace(0, 7), Ok((true, true, Kind::Addr, 1))),
+        ..TWENTY
+    },
+    Row {
+        asked: Asked::Changed(
+            Change::ReplaceAndUnload(0, 7),
+            Ok((true, true, Kind::Addr, 1)),
+        ),
         ..TWENTY
     },
     Row {

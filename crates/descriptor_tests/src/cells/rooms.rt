@@ -1,0 +1,80 @@
+//! Homes that are read into memory kept aside, and homes that are let go.
+
+ghost use Rattle.std.specs.Prelude.{◌≡◌, false, length};
+ghost use Rattle.section_data.specs.Held.{cell_is_loaded};
+ghost use Rattle.section_data.specs.Leaves.{LiesIn};
+
+use super::{Asked, EMPTY, Row, are_so};
+use elf_outside::MemSource;
+use elf_types::constants::SHT_SYMTAB;
+use elf_types::{Class, ElfError, Shdr};
+use section_data::Cell;
+use test_images::NULL_SECTION;
+
+/// Whether a home of 48 bytes is read into memory that is kept aside, after a read that failed.
+pub fn is_room_kept(cell: &mut Cell, source: &mut MemSource) -> bool
+    requires { LiesIn cell.old (length source.old.bytes) }
+{
+    if let Err(_) = cell.reserve() {
+        return false;
+    }
+    match cell.load_reserved(source) {
+        Ok(()) => false,
+        Err(e) => {
+            e == ElfError::Read
+                && !cell.is_loaded()
+                && cell.load_reserved(source) == Ok(())
+                && cell.is_loaded()
+                && source.asked() == 96
+        }
+    }
+}
+
+/// Whether a home of 48 bytes is read again once it was let go.
+pub fn is_read_again(cell: &mut Cell, source: &mut MemSource) -> bool
+    requires lies { LiesIn cell.old (length source.old.bytes) }
+    requires unread { cell_is_loaded cell.old ≡ false }
+{
+    let read = cell.load(source) == Ok(());
+    cell.unload();
+    let gone = !cell.is_loaded();
+    let again = cell.load(source) == Ok(());
+    read && gone && again && cell.is_loaded() && source.asked() == 96
+}
+
+/// Two symbols.
+const SYMBOLS: Row = Row {
+    header: Shdr {
+        stype: SHT_SYMTAB,
+        size: 48,
+        ..NULL_SECTION
+    },
+    ..EMPTY
+};
+
+#[test]
+fn a_failed_read_leaves_the_memory_that_is_kept_aside(rt: HostRuntime) {
+    assert!(rt;
+        are_so(
+            rt.alloc(),
+            &[Row {
+                bad_read: 1,
+                asked: Asked::RoomKept,
+                ..SYMBOLS
+            }]
+        )
+    );
+}
+
+#[test]
+fn a_home_that_was_let_go_is_read_again(rt: HostRuntime) {
+    assert!(rt;
+        are_so(
+            rt.alloc(),
+            &[Row {
+                asked: Asked::ReadAgain,
+                ..SYMBOLS
+            }]
+        )
+    );
+}
