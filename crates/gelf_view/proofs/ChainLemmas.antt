@@ -1,12 +1,13 @@
 -- Chains of records: the count of their steps does not cut them, and what stands behind each answer.
 use Rattle.std.proofs.Common.{◌≡◌, ◌≢◌, ℕ, zero, suc, ◌+◌, ◌-◌, ◌<◌, ◌≤◌, ◌==◌, Bool, true, false, List, [], ◌∷◌, length, Option, Some, None, Result, Ok, Err, refl, sym, ap, ◌∙◌, subst, inl, inr, arith}
-use Rattle.std.specs.Prelude.{IsTrue, ◌⊎◌, if◌then◌else◌}
+use Rattle.std.specs.Prelude.{◌^◌, IsTrue, IfOk, IfSome, OnOk, ◌⊎◌, if◌then◌else◌}
 use Rattle.std.proofs.lemmas.Bool.{cond-true, cond-false, ne_eqb, eqb-true}
 use Rattle.elf_types.specs.declared.errors.ElfError.{ElfError}
 use Rattle.elf_types.specs.declared.errors.ElfError.TheVariants.{Memory, Read, BadChain}
 use Rattle.elf_object.specs.Words.{Wants, Refusals, Answers, AnswersRead, result_map}
 use Rattle.gelf_view.specs.declared.notes.NoteAt.{NoteAt}
 use Rattle.gelf_view.specs.declared.aux.AuxPlace.{AuxPlace}
+use Rattle.gelf_view.specs.Records.{LiesAt}
 use Rattle.gelf_view.specs.Chains.{Chain, ended, broken, leading, led_by, IsLedBy, note_then, notes_upto, next_place, entry_then, entries_upto, entries, aux_upto, aux_from, next_aux, aux_answer, IsBehind, aux_then}
 
 -- ---- The chain behind an answer that came
@@ -155,3 +156,26 @@ module _ {A : Type 0} (read : ℕ → Result A ElfError) (next : A → ℕ) wher
   aux_led told wants (Err Memory) old new is came behind = tt
   aux_led told wants (Err Read) old new is came behind = tt
   aux_led told wants (Err e) old new is came behind = gone_bad old.left old.at old.last e came
+
+-- ---- What the calls tell of a walk
+
+pub lies_before : {A E : Type 0} (r : Result A E) (at size count : ℕ) → 0 < size → OnOk r (LiesAt at size count)
+    → OnOk r ((at < count) × (at < 2 ^ 63))
+lies_before (Ok x) at size count some lies = (omega (arith, some, lies.0), omega (arith, lies.0, lies.1))
+lies_before (Err e) at size count some lies = tt
+
+pub fewer_left : {A E : Type 0} (r : Result (Option A) E) (next : A → ℕ) (old new : AuxPlace) → IsBehind r next old new
+    → IfOk r (λ found. IfSome found (λ x. new.left < old.left))
+fewer_left (Ok (Some x)) next old new is =
+    let left : new.left ≡ old.left - 1 = ap (λ (p : AuxPlace). p.left) is.1 in
+    omega (arith, is.0, left)
+fewer_left (Ok None) next old new is = tt
+fewer_left (Err e) next old new is = tt
+
+-- the next entry stands behind
+pub next_behind : (at n place : ℕ) → Some place ≡ next_place at n → at < place
+next_behind at n place is = by_test (n == 0) refl is
+  where
+    by_test : (t : Bool) → (n == 0) ≡ t → Some place ≡ (if t then None else Some (at + n)) → at < place
+    by_test true last is = cc
+    by_test false some is = grind arith

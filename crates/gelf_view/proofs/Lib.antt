@@ -2,7 +2,7 @@ mod NulLemmas
 mod NumberLemmas
 mod NoteLemmas
 mod Rules
-mod PieceBytes
+pub mod PieceBytes
 mod FetchLemmas
 pub mod LendLemmas
 mod FoundLemmas
@@ -15,6 +15,6 @@ mod NameCalls
 mod IndexTables
 mod SymbolLemmas
 mod SymbolCalls
-mod ChainLemmas
+pub mod ChainLemmas
 mod ChainCalls
 mod CountLemmas

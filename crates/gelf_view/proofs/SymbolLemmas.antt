@@ -14,7 +14,6 @@ use Rattle.elf_types.specs.declared.errors.ElfError.{ElfError}
 use Rattle.elf_types.specs.declared.errors.ElfError.TheVariants.{Memory, Read, NoEntry, NoData, WrongKind}
 use Rattle.elf_types.specs.Answers.{refused_if, first_refusal, err_of, ◌>>=◌}
 use Rattle.elf_xlate.specs.declared.content.Items.{Items}
-use Rattle.elf_xlate.specs.declared.content.Items.TheVariants as items
 use Rattle.elf_xlate.specs.Translation.{items_kind, items_count}
 use Rattle.elf_object.specs.Object.{Object, section_at, piece_at}
 use Rattle.elf_object.specs.Answers.{no_section, no_data, no_entry, wrong_kind, no_content, same_kind, piece_count, kind_at, count_at, items_at, syms_of, words_of, entry_at, entry_answer, lend_refusal, item_refusal}
@@ -23,24 +22,14 @@ use Rattle.elf_object.specs.Words.{result_map}
 use Rattle.elf_object.specs.Calls.{sym_answer, word_answer}
 use Rattle.elf_object.specs.SymbolSections.{shndx_table, extended_index, is_extended, table_read, place_of_symbol, word_reads}
 use Rattle.elf_object.proofs.AnswerLaws.{sym_value, lend_passed, lend_kind}
+use Rattle.elf_object.proofs.ItemCounts.{syms_counted}
 use Rattle.elf_descriptor.proofs.Refusals.{unless_entry}
 
 -- ---- The symbol
 
-syms_count : (content : Items) → items_kind content ≡ kinds.Sym → length (syms_of content) ≡ items_count content
-syms_count items.Empty is = cc
-syms_count (items.Bytes l) is = cc
-syms_count (items.Half l) is = cc
-syms_count (items.Word l) is = cc
-syms_count (items.Addr l) is = cc
-syms_count (items.Sym l) is = refl
-syms_count (items.Rel l) is = cc
-syms_count (items.Rela l) is = cc
-syms_count (items.Dyn l) is = cc
-
 symbols_counted : (o : Object) (s p : ℕ) → lend_refusal o kinds.Sym s p ≡ None → length (syms_of (items_at o s p)) ≡ count_at o s p
 unfolding count_at
-symbols_counted o s p passed = syms_count (items_at o s p) (lend_kind o kinds.Sym s p passed)
+symbols_counted o s p passed = syms_counted (items_at o s p) (lend_kind o kinds.Sym s p passed)
 
 -- a symbol that is there is not refused
 pub sym_passed : (o : Object) (s p i : ℕ) (x : Sym) → sym_answer o s p i ≡ Ok x → (lend_refusal o kinds.Sym s p ≡ None) × (item_refusal o kinds.Sym s p i ≡ None)

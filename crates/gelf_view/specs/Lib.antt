@@ -5,3 +5,4 @@ pub mod Strings
 pub mod Calls
 pub mod Chains
 pub mod SectionNames
+pub mod Constants

@@ -41,8 +41,10 @@ impl Aux for Vernaux {
     }
 }
 
-/// The record that a place looks for, and the place behind it.
-fn next_record<S: Source, R: Aux>(
+/// Reads the record at a place, and moves the place behind it. It gives None where none of the
+/// entry's records is left. It refuses `BadChain` with the place where the record before said that it
+/// is the last one, and else as `read_record` does; the place stays then.
+fn read_next_aux<S: Source, R: Aux>(
     elf: &mut Elf<S>,
     d: DataId,
     place: &mut AuxPlace,
@@ -94,7 +96,7 @@ pub fn next_verdaux<S: Source>(
     ensures queries { Queries S.Source (calls.verdaux d.section d.piece place.old.at) [] result
         elf.old elf.new }
 {
-    next_record::<S, Verdaux>(elf, d, place)
+    read_next_aux::<S, Verdaux>(elf, d, place)
 }
 
 /// The next version that is needed of a file, in the byte order of the image, or None exactly where
@@ -118,5 +120,5 @@ pub fn next_vernaux<S: Source>(
     ensures queries { Queries S.Source (calls.vernaux d.section d.piece place.old.at) [] result
         elf.old elf.new }
 {
-    next_record::<S, Vernaux>(elf, d, place)
+    read_next_aux::<S, Vernaux>(elf, d, place)
 }

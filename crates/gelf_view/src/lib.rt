@@ -22,6 +22,7 @@ mod symbol_calls;
 mod symbols;
 mod updates;
 mod version_calls;
+mod version_chains;
 mod versions;
 
 pub use aux::AuxPlace;
@@ -31,6 +32,7 @@ pub use items::{addr, dynent, half, rel, rela, sym, word};
 pub use note_calls::note;
 pub use notes::{NoteAt, note_align, note_in};
 pub use piece_bytes::bytes;
+pub use records::constants_are;
 pub use section_names::{is_named, section_name};
 pub use string_calls::strptr;
 pub use strings::string_in;
@@ -40,6 +42,7 @@ pub use updates::{
     update_addr, update_dynent, update_half, update_rel, update_rela, update_sym, update_word,
 };
 pub use version_calls::{first_entry, verdaux, verdef, vernaux, verneed};
+pub use version_chains::{VersionEntry, VersionName};
 pub use versions::{
     Verdaux, Verdef, Vernaux, Verneed, verdaux_in, verdef_in, vernaux_in, verneed_in,
 };

@@ -1,10 +1,12 @@
 //! Records of bytes, and the numbers in them.
 
-ghost use Rattle.std.specs.Prelude.{ℕ, List, ◌≡◌, ◌+◌, ◌≤◌, length, IfOk, OnOk};
+ghost use Rattle.std.specs.Prelude.{ℕ, List, ◌≡◌, ◌+◌, ◌≤◌, length, true, IfOk, OnOk};
+ghost use Rattle.elf_types.specs.Constants.{are_numbers};
 ghost use Rattle.elf_xlate.specs.Numbers.{number_at};
 ghost use Rattle.elf_types.specs.declared.records.Order.{Order as TheOrder};
 ghost use Rattle.elf_object.specs.Words.{result_map, seen};
 ghost use Rattle.gelf_view.specs.Records.{record_at};
+ghost use Rattle.gelf_view.specs.Constants.{record_sizes};
 
 use elf_types::{Class, ElfError, Order};
 use elf_xlate::{get_half, get_word};
@@ -56,3 +58,9 @@ pub fn word_at(bytes: &[u8], place: usize, order: Order) -> u32
 {
     get_word(Class::C32, order, &bytes[place..place + 4])
 }
+
+/// Each constant is the number that stands beside its name in the tables of specs/Constants. It is
+/// for the reader and for proofs, and does nothing.
+pub fn constants_are()
+    ensures { are_numbers record_sizes ≡ true }
+{}

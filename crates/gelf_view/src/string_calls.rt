@@ -8,7 +8,7 @@ ghost use Rattle.elf_types.specs.declared.errors.ElfError.TheVariants.{Unended};
 ghost use Rattle.elf_types.specs.declared.records.Kind.TheVariants as kinds;
 ghost use Rattle.elf_object.specs.Words.{AnswersRead, seen};
 ghost use Rattle.elf_object.specs.Object.{section_at, piece_at};
-ghost use Rattle.elf_object.specs.Valid.{AreBytes, IsObject, OthersOwn};
+ghost use Rattle.elf_object.specs.Valid.{IsObject, OthersOwn};
 ghost use Rattle.elf_object.specs.Answers.{kind_at, lend_refusal, no_section, piece_count, piece_refusal, same_kind};
 ghost use Rattle.elf_object.specs.Due.{is_loaded};
 ghost use Rattle.elf_object.specs.Strings as strings;
@@ -24,7 +24,7 @@ use crate::strings::string_in;
 use elf_descriptor::Elf;
 use elf_outside::Source;
 use elf_types::constants::SHT_STRTAB;
-use elf_types::{DataId, ElfError, Kind, ScnId};
+use elf_types::{DataId, ElfError, Kind, ScnId, bytes_are_ranged};
 
 /// Whether a piece that is there holds bytes.
 #[tactic(auto, unfolding(elf_object::specs::Calls::piece_kind_answer))]
@@ -188,11 +188,6 @@ fn fetch_start<S: Source>(elf: &mut Elf<S>, s: ScnId, offset: u64) -> Result<Sta
         Err(e) => Err(e),
     }
 }
-
-/// What a slice of bytes has are bytes: it is for the proofs of callers, and does nothing.
-fn bytes_are_ranged(_bytes: &[u8])
-    ensures { AreBytes _bytes.now }
-{}
 
 /// The bytes from a place on.
 fn bytes_from(bytes: &[u8], place: u64) -> &[u8]

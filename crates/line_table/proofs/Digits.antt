@@ -4,8 +4,8 @@ use Rattle.std.proofs.Math.Nat.{add-mod-mod, mod-add-mod}
 use Rattle.std.proofs.lemmas.Nat.{mul-mod_first}
 use Rattle.std.proofs.lemmas.Bool.{lt-ltb, le-ltb}
 use Rattle.line_table.specs.declared.faults.LineWhy.{LineWhy}
-use Rattle.line_table.specs.declared.faults.Stop.{Stop}
-use Rattle.line_table.specs.declared.faults.Stop.TheVariants.{Memory, Why}
+use Rattle.line_table.specs.declared.faults.UnitFault.{UnitFault}
+use Rattle.line_table.specs.declared.faults.UnitFault.TheVariants.{Memory, Why}
 use Rattle.elf_types.specs.Answers.{◌>>=◌}
 use Rattle.line_table.specs.Reading.{byte_at, digit, leb128}
 use Rattle.line_table.specs.Outcomes.{why_of}
@@ -70,7 +70,7 @@ raised_last signed number worth b bytes rest lt e =
     last_digit number worth d m = ap (λ (k : ℕ). (number + k) % m) (omega arith) ∙ sym (add-mod-mod number (d * worth) m)
 
 -- no byte is left
-pub raised_refused : (e : Stop) (signed : Bool) (number worth : ℕ) (bytes : List ℕ) (total : Result (ℕ × List ℕ) LineWhy) → IfSome (why_of e) (λ w. byte_at bytes ≡ Err w) → raised number worth (leb128 signed bytes) ≡ total → IfSome (why_of e) (λ w. total ≡ Err w)
+pub raised_refused : (e : UnitFault) (signed : Bool) (number worth : ℕ) (bytes : List ℕ) (total : Result (ℕ × List ℕ) LineWhy) → IfSome (why_of e) (λ w. byte_at bytes ≡ Err w) → raised number worth (leb128 signed bytes) ≡ total → IfSome (why_of e) (λ w. total ≡ Err w)
 unfolding byte_at
 raised_refused Memory signed number worth bytes total h same = tt
 raised_refused (Why why) signed number worth [] total h same = sym same ∙ h

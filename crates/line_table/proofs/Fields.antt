@@ -7,7 +7,7 @@ use Rattle.elf_types.specs.declared.records.Class.{Class}
 use Rattle.elf_types.specs.declared.records.Order.{Order}
 use Rattle.line_table.specs.declared.faults.LineWhy.{LineWhy}
 use Rattle.line_table.specs.declared.faults.LineWhy.TheVariants.{Cut, Version, Ops}
-use Rattle.line_table.specs.declared.faults.Stop.{Stop}
+use Rattle.line_table.specs.declared.faults.UnitFault.{UnitFault}
 use Rattle.elf_types.specs.Answers.{refused_if, first_refusal, answered, FollowsBy, ◌>>=◌}
 use Rattle.line_table.specs.Reading.{byte_at, bytes_at, number, number_at}
 use Rattle.line_table.specs.Header.{UnitHeader, field, signed_byte, operations_len, operations_at, operations_of, unit_header, tables_of, field_refusal, unit_header_at}
@@ -216,5 +216,5 @@ module _ (class : Class) (order : Order) (body : List ℕ) where
       ])
       short_at
 
-pub as_read : {X : Type 0} (view : X → UnitHeader × List ℕ) (r : Result X Stop) (class : Class) (order : Order) (body : List ℕ) → FollowsBy view why_of r (fields_read class order body) → FollowsBy view why_of r (unit_header_at class order body)
+pub as_read : {X : Type 0} (view : X → UnitHeader × List ℕ) (r : Result X UnitFault) (class : Class) (order : Order) (body : List ℕ) → FollowsBy view why_of r (fields_read class order body) → FollowsBy view why_of r (unit_header_at class order body)
 as_read view r class order body h = subst (FollowsBy view why_of r) (fields_read_is class order body) h

@@ -4,8 +4,8 @@ use Rattle.elf_types.specs.declared.records.Class.{Class}
 use Rattle.elf_types.specs.declared.records.Order.{Order}
 use Rattle.line_table.specs.declared.faults.LineFault.{LineFault}
 use Rattle.line_table.specs.declared.faults.LineFault.TheVariants as LineFaults
-use Rattle.line_table.specs.declared.faults.Stop.{Stop}
-use Rattle.line_table.specs.declared.faults.Stop.TheVariants as Stops
+use Rattle.line_table.specs.declared.faults.UnitFault.{UnitFault}
+use Rattle.line_table.specs.declared.faults.UnitFault.TheVariants as UnitFaults
 use Rattle.line_table.specs.declared.rows.Row.{Row}
 use Rattle.line_table.specs.Header.{OpenedUnit, unit_length, program_of, opened_unit}
 use Rattle.line_table.specs.Units.{executed, unit_of}
@@ -13,10 +13,10 @@ use Rattle.line_table.specs.Outcomes.{why_of, stated_fault, fault_at}
 
 module _ (class : Class) (order : Order) (section : List ℕ) (at : ℕ) where
   -- the unit is refused before its program is executed
-  pub unit_refused : (e : Stop) → IfSome (why_of e) (λ w. opened_unit class order (drop at section) ≡ Err w) → IfSome (stated_fault (fault_at e at)) (λ f. unit_of class order section at ≡ Err f)
+  pub unit_refused : (e : UnitFault) → IfSome (why_of e) (λ w. opened_unit class order (drop at section) ≡ Err w) → IfSome (stated_fault (fault_at e at)) (λ f. unit_of class order section at ≡ Err f)
   unfolding unit_of
-  unit_refused Stops.Memory h = tt
-  unit_refused (Stops.Why why) h = rw h refl
+  unit_refused UnitFaults.Memory h = tt
+  unit_refused (UnitFaults.Why why) h = rw h refl
 
   -- the program is refused
   pub unit_faulted : (e : LineFault) (o : OpenedUnit) (place : ℕ) → opened_unit class order (drop at section) ≡ Ok o → place ≡ at + 4 + program_of o.header

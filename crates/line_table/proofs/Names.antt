@@ -2,8 +2,8 @@
 use Rattle.std.proofs.Common.{◌≡◌, ℕ, ◌<◌, true, false, eqb, List, [], ◌∷◌, ◌++◌, length, Some, None, Ok, Err, IfSome, refl, ap, arith}
 use Rattle.std.proofs.lemmas.Bool.{eqb-true}
 use Rattle.line_table.specs.declared.faults.LineWhy.{LineWhy}
-use Rattle.line_table.specs.declared.faults.Stop.{Stop}
-use Rattle.line_table.specs.declared.faults.Stop.TheVariants.{Memory, Why}
+use Rattle.line_table.specs.declared.faults.UnitFault.{UnitFault}
+use Rattle.line_table.specs.declared.faults.UnitFault.TheVariants.{Memory, Why}
 use Rattle.elf_types.specs.Answers.{◌>>=◌}
 use Rattle.line_table.specs.Reading.{string_at, Listed, list_at}
 use Rattle.line_table.specs.Header.{unless_empty, directory_at, named_file_at, files_at}
@@ -37,7 +37,7 @@ passed_end bytes text rest whole p e empty =
     let one : directory_at bytes ≡ Ok (None, rest) = rw (e, unless_nothing text empty) refl in
     ap (λ (l : Listing). l.after) (left_end directory_at bytes p.0 whole rest p.1 one)
 
-pub passed_refused : (e : Stop) (bytes : List ℕ) (whole : Listing) → Passed bytes whole → IfSome (why_of e) (λ w. string_at bytes ≡ Err w) → IfSome (why_of e) (λ w. whole.after ≡ Err w)
+pub passed_refused : (e : UnitFault) (bytes : List ℕ) (whole : Listing) → Passed bytes whole → IfSome (why_of e) (λ w. string_at bytes ≡ Err w) → IfSome (why_of e) (λ w. whole.after ≡ Err w)
 unfolding directory_at
 passed_refused Memory bytes whole p h = tt
 passed_refused (Why why) bytes whole p h =
@@ -49,7 +49,7 @@ unfolding files_at
 files_end bytes all rest names l e =
     ap (λ (l : Listing). l.after >>= λ after. Ok (l.items, after)) (left_end named_file_at bytes names (list_at named_file_at all) rest l e)
 
-pub files_refused : (e : Stop) (bytes all : List ℕ) (names : List (List ℕ)) → Left named_file_at bytes names (list_at named_file_at all) → IfSome (why_of e) (λ w. named_file_at bytes ≡ Err w) → IfSome (why_of e) (λ w. files_at all ≡ Err w)
+pub files_refused : (e : UnitFault) (bytes all : List ℕ) (names : List (List ℕ)) → Left named_file_at bytes names (list_at named_file_at all) → IfSome (why_of e) (λ w. named_file_at bytes ≡ Err w) → IfSome (why_of e) (λ w. files_at all ≡ Err w)
 unfolding files_at
 files_refused Memory bytes all names l h = tt
 files_refused (Why why) bytes all names l h =

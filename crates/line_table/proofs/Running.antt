@@ -5,8 +5,8 @@ use Rattle.std.proofs.lemmas.List.{append-nil}
 use Rattle.line_table.specs.declared.faults.LineWhy.{LineWhy}
 use Rattle.line_table.specs.declared.faults.LineFault.{LineFault}
 use Rattle.line_table.specs.declared.faults.LineFault.TheVariants.{Bad}
-use Rattle.line_table.specs.declared.faults.Stop.{Stop}
-use Rattle.line_table.specs.declared.faults.Stop.TheVariants as Stops
+use Rattle.line_table.specs.declared.faults.UnitFault.{UnitFault}
+use Rattle.line_table.specs.declared.faults.UnitFault.TheVariants as UnitFaults
 use Rattle.line_table.specs.declared.operations.Operation.{Operation}
 use Rattle.line_table.specs.declared.rows.Row.{Row}
 use Rattle.line_table.specs.declared.rows.Table.{Table}
@@ -184,11 +184,11 @@ module _ (u : UnitHeader) (end : ℕ) where
           → rows_from u t.registers (here bytes operation ∷ later) ≡ Err (Bad (end - length bytes) why)
       no_row bytes t operation later why h = rw h refl
 
-  pub running_stopped : (e : Stop) (at : ℕ) (files : List (List ℕ)) (program bytes : List ℕ) (t : Table) → Running u end files (ops u at program) bytes t → 0 < length bytes
+  pub running_stopped : (e : UnitFault) (at : ℕ) (files : List (List ℕ)) (program bytes : List ℕ) (t : Table) → Running u end files (ops u at program) bytes t → 0 < length bytes
       → IfSome (why_of e) (λ w. turn u t bytes ≡ Err w) → IfSome (stated_fault (fault_at e (end - length bytes))) (λ f. executed u at files program ≡ Err f)
   unfolding turn
-  running_stopped Stops.Memory at files program bytes t r lt h = tt
-  running_stopped (Stops.Why why) at files program bytes t r lt h = stopped (operation_at u bytes) refl
+  running_stopped UnitFaults.Memory at files program bytes t r lt h = tt
+  running_stopped (UnitFaults.Why why) at files program bytes t r lt h = stopped (operation_at u bytes) refl
     where
       goes : Result (Operation × List ℕ) LineWhy → Result (Table × List ℕ) LineWhy
       goes o = o >>= λ x. stepped u t x.0 >>= λ table. Ok (table, x.1)

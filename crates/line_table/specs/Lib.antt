@@ -1,6 +1,7 @@
 pub mod Reading
 pub mod Outcomes
 pub mod Header
+pub mod Constants
 pub mod Program
 pub mod Rows
 pub mod Table

@@ -3,11 +3,11 @@ use Rattle.std.specs.Prelude.{ℕ, Option, Some, None}
 use Rattle.line_table.specs.declared.faults.LineWhy.{LineWhy}
 use Rattle.line_table.specs.declared.faults.LineFault.{LineFault}
 use Rattle.line_table.specs.declared.faults.LineFault.TheVariants as LineFaults
-use Rattle.line_table.specs.declared.faults.Stop.{Stop}
-use Rattle.line_table.specs.declared.faults.Stop.TheVariants.{Memory, Why}
+use Rattle.line_table.specs.declared.faults.UnitFault.{UnitFault}
+use Rattle.line_table.specs.declared.faults.UnitFault.TheVariants.{Memory, Why}
 
 -- the cause of a refusal, or None where memory ran out
-abbrev pub why_of : Stop → Option LineWhy
+abbrev pub why_of : UnitFault → Option LineWhy
 why_of Memory = None
 why_of (Why why) = Some why
 
@@ -17,6 +17,6 @@ stated_fault LineFaults.Memory = None
 stated_fault (LineFaults.Bad at why) = Some (LineFaults.Bad at why)
 
 -- the fault of a refusal at a place
-abbrev pub fault_at : Stop → ℕ → LineFault
+abbrev pub fault_at : UnitFault → ℕ → LineFault
 fault_at Memory at = LineFaults.Memory
 fault_at (Why why) at = LineFaults.Bad at why

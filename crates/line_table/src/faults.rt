@@ -1,7 +1,7 @@
 //! Why a unit is refused.
 
 ghost use Rattle.std.specs.Prelude.{◌≡◌};
-ghost use Rattle.line_table.specs.declared.faults.Stop.TheVariants.{Memory};
+ghost use Rattle.line_table.specs.declared.faults.UnitFault.TheVariants.{Memory};
 
 use elf_types::ElfError;
 use std::alloc::{AllocError, AllocFailed};
@@ -64,14 +64,14 @@ pub enum LineFault {
 
 /// Why a part of a unit is refused, without the place, which its caller knows.
 #[derive(Clone, Copy, Debug)]
-pub enum Stop {
+pub enum UnitFault {
     /// There is no memory.
     Memory,
     /// The part is not well formed.
     Why(LineWhy),
 }
 
-impl Stop {
+impl UnitFault {
     ghost use Rattle.line_table.specs.Outcomes.{fault_at};
 
     /// The fault of a refusal at a place of the section.
@@ -79,16 +79,16 @@ impl Stop {
         ensures { result ≡ fault_at self at }
     {
         match self {
-            Stop::Memory => LineFault::Memory,
-            Stop::Why(why) => LineFault::Bad { at, why },
+            UnitFault::Memory => LineFault::Memory,
+            UnitFault::Why(why) => LineFault::Bad { at, why },
         }
     }
 }
 
-impl From<ElfError> for Stop {
+impl From<ElfError> for UnitFault {
     ghost from_gives = { λ _ e. e ≡ Memory };
 
-    fn from(_e: ElfError) -> Stop {
-        Stop::Memory
+    fn from(_e: ElfError) -> UnitFault {
+        UnitFault::Memory
     }
 }

@@ -5,7 +5,7 @@ ghost use Rattle.elf_types.specs.Answers.{FollowsBy};
 ghost use Rattle.line_table.specs.Header.{unit_body_at, unit_length, signed_byte, operations_at, unit_header_at};
 ghost use Rattle.line_table.specs.Outcomes.{why_of};
 
-use crate::faults::{LineWhy, Stop};
+use crate::faults::{LineWhy, UnitFault};
 use crate::reader::Reader;
 use elf_types::{Class, Order};
 
@@ -42,7 +42,7 @@ pub struct Header<'a> {
 /// The body of the unit at the front of bytes, which is what `unit_length` counts. It refuses `Cut`
 /// where that field passes the bytes, then `Form`, and then `Cut` where the body passes them.
 #[tactic(auto, unfolding(crate::proofs::Words::body))]
-pub fn read_body(bytes: &[u8], order: Order) -> Result<&[u8], Stop>
+pub fn read_body(bytes: &[u8], order: Order) -> Result<&[u8], UnitFault>
     ensures value { FollowsBy (λ b. b.now) why_of result (unit_body_at order bytes.now) }
     ensures size { IfOk result
         (λ b. (length b.now ≡ unit_length order bytes.now)
@@ -51,7 +51,7 @@ pub fn read_body(bytes: &[u8], order: Order) -> Result<&[u8], Stop>
     let mut reader = Reader::new(bytes);
     let length = reader.read_u32(order)?;
     if length >= FIRST_RESERVED_LENGTH {
-        return Err(Stop::Why(LineWhy::Form));
+        return Err(UnitFault::Why(LineWhy::Form));
     }
     reader.read_bytes(u64::from(length))
 }
@@ -68,7 +68,7 @@ fn signed(byte: u8) -> u32
 }
 
 /// `maximum_operations_per_instruction`, which version 4 has alone; 1 stands for it elsewhere.
-fn read_maximum_operations(version: u16, reader: &mut Reader) -> Result<u8, Stop>
+fn read_maximum_operations(version: u16, reader: &mut Reader) -> Result<u8, UnitFault>
     ensures value { FollowsBy (λ n. (n, reader.new)) why_of result
         (operations_at version reader.old) }
 {
@@ -89,14 +89,14 @@ impl<'a> Header<'a> {
         body: &'a [u8],
         class: Class,
         order: Order,
-    ) -> Result<(Header<'a>, Reader<'a>), Stop>
+    ) -> Result<(Header<'a>, Reader<'a>), UnitFault>
         ensures { FollowsBy (λ x. (seen x.0, x.1)) why_of result
             (unit_header_at class order body.now) }
     {
         let mut reader = Reader::new(body);
         let version = reader.read_u16(order)?;
         if !matches!(version, 2..=4) {
-            return Err(Stop::Why(LineWhy::Version));
+            return Err(UnitFault::Why(LineWhy::Version));
         }
         let header_length = reader.read_u32(order)?;
         let minimum_instruction_length = reader.read_u8()?;
@@ -107,7 +107,7 @@ impl<'a> Header<'a> {
         let opcode_base = reader.read_u8()?;
         let operand_counts = reader.read_bytes(u64::from(opcode_base.saturating_sub(1)))?;
         if maximum_operations != 1 {
-            return Err(Stop::Why(LineWhy::Ops));
+            return Err(UnitFault::Why(LineWhy::Ops));
         }
         let header = Header {
             class,

@@ -18,5 +18,6 @@ mod tables;
 mod units;
 
 pub use faults::{LineFault, LineWhy};
+pub use opcodes::constants_are;
 pub use rows::{FileNames, Row, Rows};
 pub use units::{Unit, unit_at};

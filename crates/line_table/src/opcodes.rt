@@ -1,5 +1,9 @@
 //! The opcodes of a line number program (DWARF 4, 7.21).
 
+ghost use Rattle.std.specs.Prelude.{◌≡◌, true};
+ghost use Rattle.elf_types.specs.Constants.{are_numbers};
+ghost use Rattle.line_table.specs.Constants.{extended_opcodes, lengths, standard_opcodes};
+
 /// A row is appended.
 pub const DW_LNS_COPY: u8 = 1;
 /// Further in addresses, by instructions.
@@ -34,3 +38,11 @@ pub const DW_LNE_END_SEQUENCE: u8 = 1;
 pub const DW_LNE_SET_ADDRESS: u8 = 2;
 /// A file more.
 pub const DW_LNE_DEFINE_FILE: u8 = 3;
+
+/// Each constant is the number that stands beside its name in the tables of specs/Constants. It is
+/// for the reader and for proofs, and does nothing.
+pub fn constants_are()
+    ensures standard { are_numbers standard_opcodes ≡ true }
+    ensures extended { are_numbers extended_opcodes ≡ true }
+    ensures lengths { are_numbers lengths ≡ true }
+{}

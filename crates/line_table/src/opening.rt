@@ -6,7 +6,7 @@ ghost use Rattle.line_table.specs.Header.{unit_length, program_of, program_at, o
 ghost use Rattle.line_table.specs.Outcomes.{why_of};
 ghost use Rattle.line_table.specs.Views.{seen, seen_opened, IsPlaced};
 
-use crate::faults::{LineWhy, Stop};
+use crate::faults::{LineWhy, UnitFault};
 use crate::header::{Header, read_body};
 use crate::reader::Reader;
 use crate::rows::FileNames;
@@ -36,7 +36,7 @@ pub fn open<'a>(
     bytes: &'a [u8],
     class: Class,
     order: Order,
-) -> Result<Opened<'a>, Stop>
+) -> Result<Opened<'a>, UnitFault>
     ensures value { FollowsBy seen_opened why_of result (opened_unit class order bytes.now) }
     ensures placed { IfOk result
         (λ o. IsPlaced o (unit_length order bytes.now) (length bytes.now)) }
@@ -55,7 +55,11 @@ pub fn open<'a>(
 
 /// The program in a unit's body, where a reader stands behind the files.
 #[tactic(auto, unfolding(crate::specs::Header::program_at, crate::specs::Header::program_refusal))]
-fn find_program<'a>(header: &Header, body: &'a [u8], after_files: &Reader) -> Result<&'a [u8], Stop>
+fn find_program<'a>(
+    header: &Header,
+    body: &'a [u8],
+    after_files: &Reader,
+) -> Result<&'a [u8], UnitFault>
     ensures value { FollowsBy (λ p. p.now) why_of result
         (program_at (seen header.now) body.now after_files.now) }
     ensures size { IfOk result
@@ -63,12 +67,12 @@ fn find_program<'a>(header: &Header, body: &'a [u8], after_files: &Reader) -> Re
 {
     let begin = 6 + header.header_length as usize;
     if header.opcode_base == 0 || begin > body.len() {
-        return Err(Stop::Why(LineWhy::Header));
+        return Err(UnitFault::Why(LineWhy::Header));
     }
     let (_, program) = body.split_at(begin);
     // Where the files end past the program's begin, less is left behind them than the program has.
     if after_files.len() < program.len() {
-        return Err(Stop::Why(LineWhy::Header));
+        return Err(UnitFault::Why(LineWhy::Header));
     }
     Ok(program)
 }

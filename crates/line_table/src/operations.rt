@@ -6,7 +6,7 @@ ghost use Rattle.line_table.specs.Program.{operation_at, extended_at, extended_i
 ghost use Rattle.line_table.specs.Outcomes.{why_of};
 ghost use Rattle.line_table.specs.Views.{seen};
 
-use crate::faults::{LineWhy, Stop};
+use crate::faults::{LineWhy, UnitFault};
 use crate::header::Header;
 use crate::opcodes::{
     DW_LNE_DEFINE_FILE, DW_LNE_END_SEQUENCE, DW_LNE_SET_ADDRESS, DW_LNS_ADVANCE_LINE,
@@ -56,7 +56,7 @@ pub fn read_operation(
     alloc: Global,
     header: &Header,
     reader: &mut Reader,
-) -> Result<Operation, Stop>
+) -> Result<Operation, UnitFault>
     ensures value { FollowsBy (λ o. (o, reader.new)) why_of result
         (operation_at (seen header.now) reader.old) }
     ensures shorter { OnOk result (length reader.new < length reader.old) }
@@ -73,7 +73,7 @@ pub fn read_operation(
 
 /// The instruction of a standard opcode, which was read.
 #[tactic(auto, unfolding(crate::proofs::Words::standard))]
-fn read_standard(header: &Header, opcode: u8, reader: &mut Reader) -> Result<Operation, Stop>
+fn read_standard(header: &Header, opcode: u8, reader: &mut Reader) -> Result<Operation, UnitFault>
     requires above { 0 < opcode }
     requires below { opcode < header.now.opcode_base }
     ensures value { FollowsBy (λ o. (o, reader.new)) why_of result
@@ -104,7 +104,7 @@ fn read_standard(header: &Header, opcode: u8, reader: &mut Reader) -> Result<Ope
 }
 
 /// Passes over the operands of an opcode that has no meaning here.
-fn pass_operands(count: u8, reader: &mut Reader) -> Result<(), Stop>
+fn pass_operands(count: u8, reader: &mut Reader) -> Result<(), UnitFault>
     ensures value { FollowsBy (λ _. reader.new) why_of result (passed count reader.old) }
     ensures no_longer { OnOk result (length reader.new ≤ length reader.old) }
 {
@@ -117,7 +117,11 @@ fn pass_operands(count: u8, reader: &mut Reader) -> Result<(), Stop>
 /// The instruction of an extended opcode, whose 0 was read: it is as long as it says, whatever it
 /// holds.
 #[tactic(auto, unfolding(crate::specs::Program::extended_at))]
-fn read_extended(alloc: Global, header: &Header, reader: &mut Reader) -> Result<Operation, Stop>
+fn read_extended(
+    alloc: Global,
+    header: &Header,
+    reader: &mut Reader,
+) -> Result<Operation, UnitFault>
     ensures value { FollowsBy (λ o. (o, reader.new)) why_of result
         (extended_at (seen header.now) reader.old) }
     ensures no_longer { OnOk result (length reader.new ≤ length reader.old) }
@@ -129,7 +133,7 @@ fn read_extended(alloc: Global, header: &Header, reader: &mut Reader) -> Result<
 
 /// The instruction in the bytes of an extended opcode.
 #[tactic(auto, unfolding(crate::specs::Program::extended_in))]
-fn extended_operation(alloc: Global, header: &Header, bytes: &[u8]) -> Result<Operation, Stop>
+fn extended_operation(alloc: Global, header: &Header, bytes: &[u8]) -> Result<Operation, UnitFault>
     ensures value { FollowsBy (λ o. o) why_of result (extended_in (seen header.now) bytes.now) }
 {
     let mut reader = Reader::new(bytes);
@@ -146,12 +150,12 @@ fn extended_operation(alloc: Global, header: &Header, bytes: &[u8]) -> Result<Op
 
 /// The address that is all of what is left.
 #[tactic(auto, unfolding(crate::proofs::Words::address))]
-fn read_address(header: &Header, reader: &mut Reader) -> Result<u64, Stop>
+fn read_address(header: &Header, reader: &mut Reader) -> Result<u64, UnitFault>
     ensures value { FollowsBy (λ n. n) why_of result (address_in (seen header.now) reader.old) }
 {
     match header.class {
         Class::C32 if reader.len() == 4 => Ok(u64::from(reader.read_u32(header.order)?)),
         Class::C64 if reader.len() == 8 => reader.read_u64(header.order),
-        _ => Err(Stop::Why(LineWhy::Address)),
+        _ => Err(UnitFault::Why(LineWhy::Address)),
     }
 }

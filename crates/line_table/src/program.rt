@@ -7,7 +7,7 @@ ghost use Rattle.line_table.specs.Units.{executed};
 ghost use Rattle.line_table.specs.Outcomes.{why_of, stated_fault};
 ghost use Rattle.line_table.specs.Views.{seen};
 
-use crate::faults::{LineFault, Stop};
+use crate::faults::{LineFault, UnitFault};
 use crate::header::Header;
 use crate::operations::read_operation;
 use crate::reader::Reader;
@@ -52,7 +52,7 @@ fn execute_next(
     header: &Header,
     reader: &mut Reader,
     table: &mut Table,
-) -> Result<(), Stop>
+) -> Result<(), UnitFault>
     ensures value { FollowsBy (λ _. (table.new, reader.new)) why_of result
         (turn (seen header.now) table.old reader.old) }
     ensures shorter { OnOk result (length reader.new < length reader.old) }

@@ -8,7 +8,7 @@ ghost use Rattle.line_table.specs.Reading.{byte_at, bytes_at, number_at, leb128_
 ghost use Rattle.line_table.specs.Header.{named_file_at};
 ghost use Rattle.line_table.specs.Outcomes.{why_of};
 
-use crate::faults::{LineWhy, Stop};
+use crate::faults::{LineWhy, UnitFault};
 use elf_types::Order;
 use std::marker::Model;
 
@@ -52,12 +52,12 @@ impl<'a> Reader<'a> {
 
     /// A byte.
     #[tactic(auto, unfolding(crate::specs::Reading::byte_at))]
-    pub fn read_u8(&mut self) -> Result<u8, Stop>
+    pub fn read_u8(&mut self) -> Result<u8, UnitFault>
         ensures value { FollowsBy (λ b. (b, self.new)) why_of result (byte_at self.old) }
         ensures shorter { OnOk result (length self.new < length self.old) }
     {
         match self.rest {
-            [] => Err(Stop::Why(LineWhy::Cut)),
+            [] => Err(UnitFault::Why(LineWhy::Cut)),
             [first, rest @ ..] => {
                 self.rest = rest;
                 Ok(*first)
@@ -67,12 +67,12 @@ impl<'a> Reader<'a> {
 
     /// A number of bytes.
     #[tactic(auto, unfolding(crate::specs::Reading::bytes_at))]
-    pub fn read_bytes(&mut self, count: u64) -> Result<&'a [u8], Stop>
+    pub fn read_bytes(&mut self, count: u64) -> Result<&'a [u8], UnitFault>
         ensures value { FollowsBy (λ b. (b.now, self.new)) why_of result (bytes_at count self.old) }
         ensures no_longer { OnOk result (length self.new ≤ length self.old) }
     {
         if (self.rest.len() as u64) < count {
-            return Err(Stop::Why(LineWhy::Cut));
+            return Err(UnitFault::Why(LineWhy::Cut));
         }
         let (front, rest) = self.rest.split_at(count as usize);
         self.rest = rest;
@@ -81,13 +81,13 @@ impl<'a> Reader<'a> {
 
     /// A number of two bytes.
     #[tactic(auto, unfolding(crate::proofs::Words::numbers))]
-    pub fn read_u16(&mut self, order: Order) -> Result<u16, Stop>
+    pub fn read_u16(&mut self, order: Order) -> Result<u16, UnitFault>
         ensures value { FollowsBy (λ n. (n, self.new)) why_of result
             (number_at order w16 self.old) }
         ensures no_longer { OnOk result (length self.new ≤ length self.old) }
     {
         let Some((front, rest)) = self.rest.split_first_chunk::<2>() else {
-            return Err(Stop::Why(LineWhy::Cut));
+            return Err(UnitFault::Why(LineWhy::Cut));
         };
         self.rest = rest;
         Ok(match order {
@@ -98,13 +98,13 @@ impl<'a> Reader<'a> {
 
     /// A number of four bytes.
     #[tactic(auto, unfolding(crate::proofs::Words::numbers))]
-    pub fn read_u32(&mut self, order: Order) -> Result<u32, Stop>
+    pub fn read_u32(&mut self, order: Order) -> Result<u32, UnitFault>
         ensures value { FollowsBy (λ n. (n, self.new)) why_of result
             (number_at order w32 self.old) }
         ensures no_longer { OnOk result (length self.new ≤ length self.old) }
     {
         let Some((front, rest)) = self.rest.split_first_chunk::<4>() else {
-            return Err(Stop::Why(LineWhy::Cut));
+            return Err(UnitFault::Why(LineWhy::Cut));
         };
         self.rest = rest;
         Ok(match order {
@@ -115,13 +115,13 @@ impl<'a> Reader<'a> {
 
     /// A number of eight bytes.
     #[tactic(auto, unfolding(crate::proofs::Words::numbers))]
-    pub fn read_u64(&mut self, order: Order) -> Result<u64, Stop>
+    pub fn read_u64(&mut self, order: Order) -> Result<u64, UnitFault>
         ensures value { FollowsBy (λ n. (n, self.new)) why_of result
             (number_at order w64 self.old) }
         ensures no_longer { OnOk result (length self.new ≤ length self.old) }
     {
         let Some((front, rest)) = self.rest.split_first_chunk::<8>() else {
-            return Err(Stop::Why(LineWhy::Cut));
+            return Err(UnitFault::Why(LineWhy::Cut));
         };
         self.rest = rest;
         Ok(match order {
@@ -132,7 +132,7 @@ impl<'a> Reader<'a> {
 
     /// A LEB128 number, signed or not, modulo 2 to the power of 64 and of any length.
     #[tactic(auto, unfolding(crate::specs::Reading::leb128_at))]
-    pub fn read_leb128(&mut self, signed: bool) -> Result<u64, Stop>
+    pub fn read_leb128(&mut self, signed: bool) -> Result<u64, UnitFault>
         ensures value { FollowsBy (λ n. (n, self.new)) why_of result (leb128_at signed self.old) }
         ensures no_longer { OnOk result (length self.new ≤ length self.old) }
     {
@@ -151,13 +151,13 @@ impl<'a> Reader<'a> {
 
     /// A string, which a byte 0 ends.
     #[tactic(auto, unfolding(crate::specs::Reading::string_at))]
-    pub fn read_string(&mut self) -> Result<&'a [u8], Stop>
+    pub fn read_string(&mut self) -> Result<&'a [u8], UnitFault>
         ensures value { FollowsBy (λ text. (text.now, self.new)) why_of result
             (string_at self.old) }
         ensures shorter { OnOk result (length self.new < length self.old) }
     {
         let Some(end) = first_zero(self.rest) else {
-            return Err(Stop::Why(LineWhy::Cut));
+            return Err(UnitFault::Why(LineWhy::Cut));
         };
         let text = &self.rest[..end];
         self.rest = &self.rest[end + 1..];
@@ -168,7 +168,7 @@ impl<'a> Reader<'a> {
     ///
     /// Source: DWARF 4, 6.2.4, item 12, and `DW_LNE_define_file` of 6.2.5.3.
     #[tactic(auto, unfolding(crate::specs::Reading::file_at))]
-    pub fn read_file(&mut self) -> Result<&'a [u8], Stop>
+    pub fn read_file(&mut self) -> Result<&'a [u8], UnitFault>
         ensures value { FollowsBy (λ name. (name.now, self.new)) why_of result (file_at self.old) }
         ensures shorter { OnOk result (length self.new < length self.old) }
     {
@@ -181,13 +181,13 @@ impl<'a> Reader<'a> {
 
     /// The name of a file in a list of files, or None where a byte 0 ends the list.
     #[tactic(auto, unfolding(crate::specs::Header::named_file_at))]
-    pub fn read_named_file(&mut self) -> Result<Option<&'a [u8]>, Stop>
+    pub fn read_named_file(&mut self) -> Result<Option<&'a [u8]>, UnitFault>
         ensures value { FollowsBy (λ o. (option_copied o, self.new)) why_of result
             (named_file_at self.old) }
         ensures shorter { OnOk result (length self.new < length self.old) }
     {
         match self.rest {
-            [] => Err(Stop::Why(LineWhy::Cut)),
+            [] => Err(UnitFault::Why(LineWhy::Cut)),
             [0, rest @ ..] => {
                 self.rest = rest;
                 Ok(None)

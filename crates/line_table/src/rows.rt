@@ -5,7 +5,7 @@ ghost use Rattle.elf_types.specs.Answers.{FollowsBy};
 ghost use Rattle.line_table.specs.Outcomes.{why_of};
 ghost use Rattle.line_table.specs.Views.{seen};
 
-use crate::faults::{LineWhy, Stop};
+use crate::faults::{LineWhy, UnitFault};
 use crate::header::Header;
 use crate::operations::Operation;
 use elf_types::{List, Octets};
@@ -104,12 +104,12 @@ impl Registers {
 
     /// Goes on in addresses and in lines, by a special opcode less `opcode_base`. It refuses
     /// `Range` where `line_range` is 0.
-    fn advance_special(&mut self, header: &Header, adjusted: u8) -> Result<(), Stop>
+    fn advance_special(&mut self, header: &Header, adjusted: u8) -> Result<(), UnitFault>
         ensures { FollowsBy (λ _. self.new) why_of result
             (ranged (seen header.now) (advanced_special (seen header.now) adjusted self.old)) }
     {
         if header.line_range == 0 {
-            return Err(Stop::Why(LineWhy::Range));
+            return Err(UnitFault::Why(LineWhy::Range));
         }
         self.advance_pc(header, u64::from(adjusted / header.line_range));
         self.advance_line(u64::from(header.line_base) + u64::from(adjusted % header.line_range));
@@ -118,12 +118,12 @@ impl Registers {
 
     /// Goes on in addresses as the special opcode 255 does. It refuses `Range` where `line_range`
     /// is 0.
-    fn const_add_pc(&mut self, header: &Header) -> Result<(), Stop>
+    fn const_add_pc(&mut self, header: &Header) -> Result<(), UnitFault>
         ensures { FollowsBy (λ _. self.new) why_of result
             (ranged (seen header.now) (const_added (seen header.now) self.old)) }
     {
         if header.line_range == 0 {
-            return Err(Stop::Why(LineWhy::Range));
+            return Err(UnitFault::Why(LineWhy::Range));
         }
         let count = (255 - header.opcode_base) / header.line_range;
         self.advance_pc(header, u64::from(count));
@@ -147,7 +147,7 @@ impl Table {
 
     /// Executes an instruction. It refuses `Range` where it would divide by a `line_range` of 0.
     #[tactic(auto, unfolding(crate::specs::Rows::effect))]
-    pub fn execute(&mut self, header: &Header, operation: Operation) -> Result<(), Stop>
+    pub fn execute(&mut self, header: &Header, operation: Operation) -> Result<(), UnitFault>
         ensures { FollowsBy (λ _. self.new) why_of result
             (stepped (seen header.now) self.old operation) }
     {
@@ -176,7 +176,7 @@ impl Table {
     }
 
     /// Appends the row that the registers make. It refuses `Memory` alone.
-    fn append_row(&mut self, end: bool) -> Result<(), Stop>
+    fn append_row(&mut self, end: bool) -> Result<(), UnitFault>
         ensures { FollowsBy (λ _. self.new) why_of result (Ok (shown_in end self.old)) }
     {
         self.rows.push(self.registers.row(end))?;

@@ -5,7 +5,7 @@ ghost use Rattle.line_table.specs.Reading.{list_at};
 ghost use Rattle.line_table.specs.Header.{directory_at, files_at, tables_at};
 ghost use Rattle.line_table.specs.Outcomes.{why_of};
 
-use crate::faults::Stop;
+use crate::faults::UnitFault;
 use crate::reader::Reader;
 use crate::rows::FileNames;
 use elf_types::{List, Octets};
@@ -13,7 +13,7 @@ use std::alloc::Global;
 
 /// The names of the files. It refuses `Cut` where a string or a file passes the unit.
 #[tactic(auto, unfolding(crate::specs::Header::tables_at))]
-pub fn read_tables(alloc: Global, reader: &mut Reader) -> Result<FileNames, Stop>
+pub fn read_tables(alloc: Global, reader: &mut Reader) -> Result<FileNames, UnitFault>
     ensures { FollowsBy (λ names. (names, reader.new)) why_of result (tables_at reader.old) }
 {
     pass_directories(reader)?;
@@ -21,7 +21,7 @@ pub fn read_tables(alloc: Global, reader: &mut Reader) -> Result<FileNames, Stop
 }
 
 /// Passes over the directories, which are strings that an empty one ends.
-fn pass_directories(reader: &mut Reader) -> Result<(), Stop>
+fn pass_directories(reader: &mut Reader) -> Result<(), UnitFault>
     ensures { FollowsBy (λ _. reader.new) why_of result (list_at directory_at reader.old).after }
 {
     loop {
@@ -33,7 +33,7 @@ fn pass_directories(reader: &mut Reader) -> Result<(), Stop>
 }
 
 /// The names of the files, which a byte 0 ends.
-fn read_files(alloc: Global, reader: &mut Reader) -> Result<FileNames, Stop>
+fn read_files(alloc: Global, reader: &mut Reader) -> Result<FileNames, UnitFault>
     ensures { FollowsBy (λ names. (names, reader.new)) why_of result (files_at reader.old) }
 {
     let mut names = List::new(alloc);

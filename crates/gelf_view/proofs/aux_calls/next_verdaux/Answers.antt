@@ -10,5 +10,5 @@ pub returns-clause-chain : goal.returns-clause-chain
 unfolding verdaux_answer verdaux_at verdauxs
 returns-clause-chain g c = λ told.
     aux_led (verdaux_answer c.args.elf.now.o c.args.d.section c.args.d.piece) (λ x. x.next) c.args.elf.now.told
-    (wanted (in_bytes c.args.d.section c.args.d.piece (record_found VERDAUX_SIZE verdaux_of c.args.place.now.at)) c.args.elf.now) c.next_record.result c.args.place.now c.next_record.new.place
-    told c.next_record.ensures.answer c.next_record.ensures.behind
+    (wanted (in_bytes c.args.d.section c.args.d.piece (record_found VERDAUX_SIZE verdaux_of c.args.place.now.at)) c.args.elf.now) c.read_next_aux.result c.args.place.now c.read_next_aux.new.place
+    told c.read_next_aux.ensures.answer c.read_next_aux.ensures.behind
