@@ -5,7 +5,7 @@ use Rattle.std.proofs.lemmas.Option.{IfSome_then}
 use Rattle.elf_types.specs.Answers.{or_refused, ◌>>=◌}
 use Rattle.calls_script.specs.declared.faults.Why.{Why}
 use Rattle.calls_script.specs.declared.faults.Why.TheVariants.{BadWords}
-use Rattle.calls_script.specs.declared.faults.Stop.{Stop}
+use Rattle.calls_script.specs.declared.faults.CallFault.{CallFault}
 use Rattle.calls_script.specs.Causes.{why_of}
 use Rattle.calls_script.specs.Numbers.{number_of, below}
 use Rattle.calls_script.specs.Parts.{number}
@@ -47,6 +47,6 @@ refused_as bound [] why e = cc
 refused_as bound (w ∷ ws) why e = refused_word bound (number_of w) ws why e
 
 -- what is refused as a number is refused whatever its bound
-pub narrowed_refused : (bound : ℕ) (words : List (List ℕ)) (stop : Stop)
+pub narrowed_refused : (bound : ℕ) (words : List (List ℕ)) (stop : CallFault)
     → IfSome (why_of stop) (λ why. number (2 ^ 64) words ≡ Err why) → IfSome (why_of stop) (λ why. number bound words ≡ Err why)
 narrowed_refused bound words stop h = IfSome_then (why_of stop) h (λ why is. refused_as bound words why is)

@@ -9,7 +9,8 @@ use Rattle.calls_script.specs.declared.calls.Call.{Call}
 use Rattle.calls_script.specs.declared.faults.Why.{Why}
 use Rattle.calls_script.specs.declared.faults.Why.TheVariants.{BadCall, BadWords}
 use Rattle.calls_script.specs.Lines.{calls, sets, set_line}
-use Rattle.calls_script.specs.Parts.{Part, in_table, one_of, next_word, value_in}
+use Rattle.elf_types.specs.Tables.{value_in}
+use Rattle.calls_script.specs.Parts.{Phrase, in_table, one_of, next_word}
 use Rattle.calls_script.specs.Script.{call_at}
 
 -- no row has the word
@@ -25,27 +26,27 @@ none_of (row ∷ rows) word n =
 
 -- ---- Tables of parts
 
-pub in_said : {X : Type 0} (table : List (List ℕ × Part X)) (word text : List ℕ) (words : List (List ℕ)) (part : Part X)
+pub in_said : {X : Type 0} (table : List (List ℕ × Phrase X)) (word text : List ℕ) (words : List (List ℕ)) (part : Phrase X)
     → word ≡ text → value_in table text ≡ Some part → in_table table word words ≡ part words
 in_said table word text words part is row =
     ap (λ w. in_table table w words) is ∙ ap (λ found. or_refused found BadWords >>= λ p. p words) row
 
-pub one_said : {X : Type 0} (table : List (List ℕ × Part X)) (words : List (List ℕ)) (word text : List ℕ) (rest : List (List ℕ)) (part : Part X)
+pub one_said : {X : Type 0} (table : List (List ℕ × Phrase X)) (words : List (List ℕ)) (word text : List ℕ) (rest : List (List ℕ)) (part : Phrase X)
     → next_word words ≡ Ok (word, rest) → word ≡ text → value_in table text ≡ Some part → one_of table words ≡ part rest
 one_said table words word text rest part e is row =
     ap (λ r. r >>= λ next. in_table table next.0 next.1) e ∙ in_said table word text rest part is row
 
-pub in_other : {X : Type 0} (table : List (List ℕ × Part X)) (word : List ℕ) (words : List (List ℕ)) → NoRow table word
+pub in_other : {X : Type 0} (table : List (List ℕ × Phrase X)) (word : List ℕ) (words : List (List ℕ)) → NoRow table word
     → in_table table word words ≡ Err BadWords
 in_other table word words n = ap (λ found. or_refused found BadWords >>= λ p. p words) (none_of table word n)
 
-pub one_other : {X : Type 0} (table : List (List ℕ × Part X)) (words : List (List ℕ)) (word : List ℕ) (rest : List (List ℕ))
+pub one_other : {X : Type 0} (table : List (List ℕ × Phrase X)) (words : List (List ℕ)) (word : List ℕ) (rest : List (List ℕ))
     → next_word words ≡ Ok (word, rest) → NoRow table word → one_of table words ≡ Err BadWords
 one_other table words word rest e n = ap (λ r. r >>= λ next. in_table table next.0 next.1) e ∙ in_other table word rest n
 
 -- ---- The calls
 
-called : List ℕ → Part Call
+called : List ℕ → Phrase Call
 called word words = or_refused (value_in calls word) BadCall >>= λ part. part words
 
 at_first : (words : List (List ℕ)) (word : List ℕ) (rest : List (List ℕ)) → next_word words ≡ Ok (word, rest) → call_at words ≡ called word rest
@@ -58,7 +59,7 @@ at_first (w ∷ ws) word rest e =
     pair_of : (x y : List ℕ × List (List ℕ)) → (let r : Result (List ℕ × List (List ℕ)) Why = Ok x in r) ≡ Ok y → x ≡ y
     pair_of x y e = cc
 
-pub call_said : (words : List (List ℕ)) (word text : List ℕ) (rest : List (List ℕ)) (part : Part Call)
+pub call_said : (words : List (List ℕ)) (word text : List ℕ) (rest : List (List ℕ)) (part : Phrase Call)
     → next_word words ≡ Ok (word, rest) → word ≡ text → value_in calls text ≡ Some part → call_at words ≡ part rest
 unfolding called
 call_said words word text rest part e is row =
@@ -72,7 +73,7 @@ call_other words word rest e n =
 
 -- ---- The lines of `set`
 
-pub set_said : (words : List (List ℕ)) (word text : List ℕ) (rest : List (List ℕ)) (part : Part Call)
+pub set_said : (words : List (List ℕ)) (word text : List ℕ) (rest : List (List ℕ)) (part : Phrase Call)
     → next_word words ≡ Ok (word, rest) → word ≡ text → value_in sets text ≡ Some part → set_line words ≡ part rest
 unfolding set_line
 set_said words word text rest part e is row = one_said sets words word text rest part e is row

@@ -9,13 +9,14 @@ use Rattle.std.proofs.lemmas.Str.{IsUtf8-from_ascii}
 use Rattle.elf_types.specs.declared.records.Kind.{Kind}
 use Rattle.elf_types.specs.declared.records.Kind.TheVariants.{Empty, Bytes, Half, Word, Addr, Sym, Rel, Rela, Dyn}
 use Rattle.calls_script.specs.declared.faults.Why.TheVariants.{BadCall, BadWords}
-use Rattle.calls_script.specs.declared.faults.Stop.{Stop}
+use Rattle.calls_script.specs.declared.faults.CallFault.{CallFault}
 use Rattle.calls_script.specs.Causes.{why_of}
 use Rattle.calls_script.specs.Fields.{item_fields}
 use Rattle.calls_script.specs.Lines.{calls}
 use Rattle.calls_script.specs.Script.{call_at}
 use Rattle.calls_script.specs.Left.{HasNoText, IsNoText}
-use Rattle.calls_script.specs.Parts.{Part, one_of, value_in}
+use Rattle.elf_types.specs.Tables.{value_in}
+use Rattle.calls_script.specs.Parts.{Phrase, one_of}
 
 -- each word of a table is ASCII
 abbrev pub has_texts : {X : Type 0} → List (List ℕ × X) → Bool
@@ -38,15 +39,15 @@ in_no_row (row ∷ rows) word t n =
     let parts = and_parts _ _ t in
     rw (differs word row.0 parts.0 n) (in_no_row rows word parts.1 n)
 
-refused_as : {X : Type 0} (table : List (List ℕ × Part X)) (words : List (List ℕ)) → has_texts table ≡ true
+refused_as : {X : Type 0} (table : List (List ℕ × Phrase X)) (words : List (List ℕ)) → has_texts table ≡ true
     → HasNoText words → one_of table words ≡ Err BadWords
 refused_as table [] t h = refl
 refused_as table (w ∷ ws) t h = rw (in_no_row table w t h) refl
 
-pub refused_words : {X : Type 0} (table : List (List ℕ × Part X)) (words : List (List ℕ)) (stop : Stop) → has_texts table ≡ true
+pub refused_words : {X : Type 0} (table : List (List ℕ × Phrase X)) (words : List (List ℕ)) (stop : CallFault) → has_texts table ≡ true
     → IsNoText stop words → IfSome (why_of stop) (λ why. one_of table words ≡ Err why)
 refused_words table words stop t h =
-    subst (λ (s : Stop). IfSome (why_of s) (λ why. one_of table words ≡ Err why)) (sym h.0) (refused_as table words t h.1)
+    subst (λ (s : CallFault). IfSome (why_of s) (λ why. one_of table words ≡ Err why)) (sym h.0) (refused_as table words t h.1)
 
 -- a first word that is no text is no call
 pub no_call : (words : List (List ℕ)) → HasNoText words → call_at words ≡ Err BadCall

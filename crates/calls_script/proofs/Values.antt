@@ -5,7 +5,8 @@ use Rattle.std.specs.Str.Parse.{digits_value, digits_value_after}
 use Rattle.std.proofs.lemmas.Bool.{and_parts, ltb-true, lt-ltb}
 use Rattle.std.proofs.lemmas.Bool.Decides.{nat_tests}
 use Rattle.std.proofs.lemmas.List.{drop_more, drop_all}
-use Rattle.calls_script.specs.Numbers.{are_digits, below}
+use Rattle.elf_types.specs.Digits.{are_digits}
+use Rattle.calls_script.specs.Numbers.{below}
 
 of_below : (bound n m : ℕ) → below bound n ≡ Some m → (m ≡ n) × (m < bound)
 of_below bound n m e = from_cases (ltb n bound) refl

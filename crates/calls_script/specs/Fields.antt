@@ -10,9 +10,9 @@ use Rattle.calls_script.specs.declared.calls.ShdrSet.{ShdrSet}
 use Rattle.calls_script.specs.declared.calls.ShdrSet.TheVariants as Shdr
 use Rattle.calls_script.specs.declared.calls.ItemSet.{ItemSet}
 use Rattle.calls_script.specs.declared.calls.ItemSet.TheVariants.{Half, Word, Addr, SymName, SymValue, SymSize, SymInfo, SymOther, SymShndx, RelOffset, RelSym, RelType, RelaOffset, RelaSym, RelaType, RelaAddend, DynTag, DynVal}
-use Rattle.calls_script.specs.Parts.{Part, ◌⇒◌, u8, u16, u32, u64, i64}
+use Rattle.calls_script.specs.Parts.{Phrase, ◌⇒◌, u8, u16, u32, u64, i64}
 
-unfoldable pub ehdr_fields : List (List ℕ × Part EhdrSet)
+unfoldable pub ehdr_fields : List (List ℕ × Phrase EhdrSet)
 ehdr_fields =
     (codes "osabi", u8 ⇒ Ehdr.Osabi) ∷
     (codes "abiversion", u8 ⇒ Ehdr.Abiversion) ∷
@@ -24,7 +24,7 @@ ehdr_fields =
     (codes "flags", u32 ⇒ Ehdr.Flags) ∷
     (codes "shstrndx", u32 ⇒ Ehdr.Shstrndx) ∷ []
 
-unfoldable pub phdr_fields : List (List ℕ × Part PhdrSet)
+unfoldable pub phdr_fields : List (List ℕ × Phrase PhdrSet)
 phdr_fields =
     (codes "type", u32 ⇒ Phdr.Ptype) ∷
     (codes "flags", u32 ⇒ Phdr.Flags) ∷
@@ -35,7 +35,7 @@ phdr_fields =
     (codes "memsz", u64 ⇒ Phdr.Memsz) ∷
     (codes "align", u64 ⇒ Phdr.Align) ∷ []
 
-unfoldable pub shdr_fields : List (List ℕ × Part ShdrSet)
+unfoldable pub shdr_fields : List (List ℕ × Phrase ShdrSet)
 shdr_fields =
     (codes "name", u32 ⇒ Shdr.Name) ∷
     (codes "type", u32 ⇒ Shdr.Stype) ∷
@@ -49,7 +49,7 @@ shdr_fields =
     (codes "entsize", u64 ⇒ Shdr.Entsize) ∷ []
 
 -- the fields of an item of a kind
-unfoldable pub item_fields : Kind → List (List ℕ × Part ItemSet)
+unfoldable pub item_fields : Kind → List (List ℕ × Phrase ItemSet)
 item_fields Kinds.Half = (codes "value", u16 ⇒ Half) ∷ []
 item_fields Kinds.Word = (codes "value", u32 ⇒ Word) ∷ []
 item_fields Kinds.Addr = (codes "value", u64 ⇒ Addr) ∷ []

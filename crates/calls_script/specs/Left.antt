@@ -1,8 +1,8 @@
 -- What is left of a line, and a first word that no table has.
 use Rattle.std.specs.Prelude.{◌≡◌, ℕ, List, [], ◌∷◌, Option, Some, None}
 use Rattle.std.specs.Str.{IsUtf8}
-use Rattle.calls_script.specs.declared.faults.Stop.{Stop}
-use Rattle.calls_script.specs.declared.faults.Stop.TheVariants.{Why}
+use Rattle.calls_script.specs.declared.faults.CallFault.{CallFault}
+use Rattle.calls_script.specs.declared.faults.CallFault.TheVariants.{Why}
 use Rattle.calls_script.specs.declared.faults.Why.TheVariants.{BadWords}
 use Rattle.calls_script.specs.Parts.{pieces_between}
 
@@ -17,5 +17,5 @@ HasNoText [] = Unit {0}
 HasNoText (w ∷ ws) = ¬ (IsUtf8 w)
 
 -- the refusal of such words
-abbrev pub IsNoText : Stop → List (List ℕ) → Type 0
+abbrev pub IsNoText : CallFault → List (List ℕ) → Type 0
 IsNoText stop words = (stop ≡ Why BadWords) × HasNoText words

@@ -7,3 +7,4 @@ pub mod Parts
 pub mod Said
 pub mod Script
 pub mod Texts
+pub mod Constants

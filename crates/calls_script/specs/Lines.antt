@@ -4,23 +4,23 @@ use Rattle.elf_types.specs.declared.records.Kind.{Kind}
 use Rattle.elf_types.specs.declared.records.Kind.TheVariants as Kinds
 use Rattle.elf_types.specs.declared.records.ScnId.{ScnId}
 use Rattle.elf_types.specs.declared.records.DataId.{DataId}
-use Rattle.elf_types.specs.declared.records.Part.{Part as ObjectPart}
+use Rattle.elf_types.specs.declared.records.Part.{Part}
 use Rattle.elf_types.specs.declared.records.Part.TheVariants.{Object, Header, Segments, Section, Piece}
 use Rattle.calls_script.specs.declared.calls.Call.{Call}
 use Rattle.calls_script.specs.declared.calls.Call.TheVariants.{Ehdr, Phdr, Shdr, Pieces, Data, Raw, Item, Str, Note, Find, SetEhdr, SetPhdr, SetShdr, SetItem, AddAll, NewScn, NewPhdr, NewData, NewDataAligned, Fill, Replace, Flag}
-use Rattle.calls_script.specs.Parts.{Part, ◌&◌, ◌⇒◌, not_built, just, optional, one_of, u8, u32, u64, hex, name}
+use Rattle.calls_script.specs.Parts.{Phrase, ◌&◌, ◌⇒◌, not_built, just, optional, one_of, u8, u32, u64, hex, name}
 use Rattle.calls_script.specs.Fields.{ehdr_fields, phdr_fields, shdr_fields, item_fields}
 
 -- S
-abbrev pub section : Part ScnId
+abbrev pub section : Phrase ScnId
 section words = (u32 ⇒ λ s. record { 0 = s }) words
 
 -- S P
-abbrev pub piece : Part DataId
+abbrev pub piece : Phrase DataId
 piece words = (u32 & u32 ⇒ λ (s, p). record { section = s; piece = p }) words
 
 -- PART
-unfoldable pub object_parts : List (List ℕ × Part ObjectPart)
+unfoldable pub object_parts : List (List ℕ × Phrase Part)
 object_parts =
     (codes "object", just Object) ∷
     (codes "header", just Header) ∷
@@ -28,16 +28,16 @@ object_parts =
     (codes "section", u32 ⇒ Section) ∷
     (codes "piece", piece ⇒ λ d. Piece d.section d.piece) ∷ []
 
-unfoldable pub flag_words : List (List ℕ × Part Bool)
+unfoldable pub flag_words : List (List ℕ × Phrase Bool)
 flag_words = (codes "set", just true) ∷ (codes "clear", just false) ∷ []
 
 -- S P I FIELD N, for a kind of items
-abbrev pub item_set : Kind → Part Call
+abbrev pub item_set : Kind → Phrase Call
 item_set kind words =
     (piece & u64 & one_of (item_fields kind) ⇒ λ (at, set). SetItem at.0 at.1 set) words
 
 -- what follows `set`
-unfoldable pub sets : List (List ℕ × Part Call)
+unfoldable pub sets : List (List ℕ × Phrase Call)
 sets =
     (codes "ehdr", one_of ehdr_fields ⇒ SetEhdr) ∷
     (codes "phdr", u32 & one_of phdr_fields ⇒ λ (i, set). SetPhdr i set) ∷
@@ -53,51 +53,51 @@ sets =
 -- ---- The lines of calls, each behind its first word
 
 -- phdr I
-unfoldable pub phdr_line : Part Call
+unfoldable pub phdr_line : Phrase Call
 phdr_line words = (u32 ⇒ Phdr) words
 
 -- shdr S
-unfoldable pub shdr_line : Part Call
+unfoldable pub shdr_line : Phrase Call
 shdr_line words = (section ⇒ Shdr) words
 
 -- pieces S
-unfoldable pub pieces_line : Part Call
+unfoldable pub pieces_line : Phrase Call
 pieces_line words = (section ⇒ Pieces) words
 
 -- data S P
-unfoldable pub data_line : Part Call
+unfoldable pub data_line : Phrase Call
 data_line words = (piece ⇒ Data) words
 
 -- raw S
-unfoldable pub raw_line : Part Call
+unfoldable pub raw_line : Phrase Call
 raw_line words = (section ⇒ Raw) words
 
 -- item S P I
-unfoldable pub item_line : Part Call
+unfoldable pub item_line : Phrase Call
 item_line words = (piece & u64 ⇒ λ (d, i). Item d i) words
 
 -- str S OFF
-unfoldable pub str_line : Part Call
+unfoldable pub str_line : Phrase Call
 str_line words = (section & u64 ⇒ λ (s, off). Str s off) words
 
 -- note S P AT
-unfoldable pub note_line : Part Call
+unfoldable pub note_line : Phrase Call
 note_line words = (piece & u64 ⇒ λ (d, at). Note d at) words
 
 -- find S NAME
-unfoldable pub find_line : Part Call
+unfoldable pub find_line : Phrase Call
 find_line words = (section & name ⇒ λ (s, text). Find s text) words
 
 -- set ..
-unfoldable pub set_line : Part Call
+unfoldable pub set_line : Phrase Call
 set_line words = one_of sets words
 
 -- addall S P N
-unfoldable pub addall_line : Part Call
+unfoldable pub addall_line : Phrase Call
 addall_line words = (piece & u64 ⇒ λ (d, n). AddAll d n) words
 
 -- newphdr N
-unfoldable pub newphdr_line : Part Call
+unfoldable pub newphdr_line : Phrase Call
 newphdr_line words = (u32 ⇒ NewPhdr) words
 
 -- the new piece, with an alignment or without
@@ -106,24 +106,24 @@ new_data s bytes None = NewData s bytes
 new_data s bytes (Some n) = NewDataAligned s bytes n
 
 -- newdata S HEX, newdata S HEX N
-unfoldable pub newdata_line : Part Call
+unfoldable pub newdata_line : Phrase Call
 newdata_line words = (section & hex & optional u64 ⇒ λ (at, n). new_data at.0 at.1 n) words
 
 -- fill N
-unfoldable pub fill_line : Part Call
+unfoldable pub fill_line : Phrase Call
 fill_line words = (u8 ⇒ Fill) words
 
 -- replace S P HEX
-unfoldable pub replace_line : Part Call
+unfoldable pub replace_line : Phrase Call
 replace_line words = (piece & hex ⇒ λ (d, bytes). Replace d bytes) words
 
 -- flag PART set BITS, flag PART clear BITS
-unfoldable pub flag_line : Part Call
+unfoldable pub flag_line : Phrase Call
 flag_line words =
     (one_of object_parts & one_of flag_words & u32 ⇒ λ (at, bits). Flag at.0 at.1 bits) words
 
 -- each call by its first word, and what follows that word
-unfoldable pub calls : List (List ℕ × Part Call)
+unfoldable pub calls : List (List ℕ × Phrase Call)
 calls =
     (codes "ehdr", just Ehdr) ∷
     (codes "phdr", phdr_line) ∷

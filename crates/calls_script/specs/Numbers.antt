@@ -1,15 +1,11 @@
 -- The words of a script that stand for numbers and bytes: their form, and what they stand for. The
 -- form of a number is its digits and how many there are, whatever its range.
 use Rattle.std.specs.Prelude.{ℕ, ℤ, pos, negsuc, neg_ℤ, ◌^◌, ◌&&◌, Bool, List, [], length, drop, nat_le, nat_lt, nat_eq, bytes_eq, Option, Some, None, option_map, codes, if◌then◌else◌}
-use Rattle.std.specs.List.{list_all, starts_with}
-use Rattle.std.specs.Char.{is_digit}
+use Rattle.std.specs.List.{starts_with}
 use Rattle.std.specs.Result.{result_ok}
 use Rattle.std.specs.Str.Parse.{digits_value}
 use Rattle.hex.specs.Hex.{decode_of}
-
--- each byte is a digit in the radix, in either case
-abbrev pub are_digits : ℕ → List ℕ → Bool
-are_digits radix word = list_all (λ c. is_digit c radix) word
+use Rattle.elf_types.specs.Digits.{are_digits}
 
 -- the number that one to `most` digits stand for
 unfoldable pub digits_of : ℕ → ℕ → List ℕ → Option ℕ

@@ -8,7 +8,8 @@ use Rattle.calls_script.specs.declared.faults.Why.{Why}
 use Rattle.calls_script.specs.declared.faults.Why.TheVariants.{TooLong, BadCall, BadNumber}
 use Rattle.calls_script.specs.declared.faults.ScriptFault.{ScriptFault}
 use Rattle.calls_script.specs.declared.faults.ScriptFault.TheVariants.{Memory, Line}
-use Rattle.calls_script.specs.Parts.{Part, pieces_between, words_of, value_in, no_words}
+use Rattle.elf_types.specs.Tables.{value_in}
+use Rattle.calls_script.specs.Parts.{Phrase, pieces_between, words_of, no_words}
 use Rattle.calls_script.specs.Lines.{calls}
 
 -- an empty line, and one that begins with `#`, is passed over
@@ -16,7 +17,7 @@ abbrev pub is_passed_over : List ℕ → Bool
 is_passed_over line = length line == 0 || slice_index line 0 == byte "#"
 
 -- what the first word of a line says, with the words after it
-abbrev pub call_at : Part Call
+abbrev pub call_at : Phrase Call
 call_at [] = Err BadCall
 call_at (w ∷ ws) = or_refused (value_in calls w) BadCall >>= λ part. part ws
 

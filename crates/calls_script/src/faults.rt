@@ -1,7 +1,7 @@
 //! Why a script is refused.
 
 ghost use Rattle.std.specs.Prelude.{◌≡◌};
-ghost use Rattle.calls_script.specs.declared.faults.Stop.TheVariants.{Memory};
+ghost use Rattle.calls_script.specs.declared.faults.CallFault.TheVariants.{Memory};
 
 use elf_types::ElfError;
 use std::alloc::{AllocError, AllocFailed};
@@ -66,34 +66,34 @@ impl From<ElfError> for ScriptFault {
 
 /// Why a part of a line is refused, without the line, which its caller knows.
 #[derive(Clone, Copy)]
-pub(crate) enum Stop {
+pub(crate) enum CallFault {
     /// There is no memory.
     Memory,
     /// The line is no call.
     Why(Why),
 }
 
-impl From<AllocError> for Stop {
+impl From<AllocError> for CallFault {
     ghost from_gives = { λ _ e. e ≡ Memory };
 
-    fn from(_e: AllocError) -> Stop {
-        Stop::Memory
+    fn from(_e: AllocError) -> CallFault {
+        CallFault::Memory
     }
 }
 
-impl<T: Drop> From<AllocFailed<T>> for Stop {
+impl<T: Drop> From<AllocFailed<T>> for CallFault {
     ghost from_gives = { λ _ e. e ≡ Memory };
 
-    fn from(_e: AllocFailed<T>) -> Stop {
-        Stop::Memory
+    fn from(_e: AllocFailed<T>) -> CallFault {
+        CallFault::Memory
     }
 }
 
 // A list refuses `Memory` alone.
-impl From<ElfError> for Stop {
+impl From<ElfError> for CallFault {
     ghost from_gives = { λ _ e. e ≡ Memory };
 
-    fn from(_e: ElfError) -> Stop {
-        Stop::Memory
+    fn from(_e: ElfError) -> CallFault {
+        CallFault::Memory
     }
 }

@@ -6,12 +6,12 @@ ghost use Rattle.calls_script.specs.Fields.{ehdr_fields, phdr_fields, shdr_field
 ghost use Rattle.calls_script.specs.Said.{Says};
 
 use crate::calls::{EhdrSet, ItemSet, PhdrSet, ShdrSet};
-use crate::faults::{Stop, Why};
+use crate::faults::{CallFault, Why};
 use crate::words::Words;
 use elf_types::Kind;
 
 /// A field of the ELF header, and its value.
-pub(crate) fn read_ehdr_field(words: &mut Words) -> Result<(EhdrSet, bool), Stop>
+pub(crate) fn read_ehdr_field(words: &mut Words) -> Result<(EhdrSet, bool), CallFault>
     ensures { Says (one_of ehdr_fields) words.old result words.new }
 {
     let field = words.read_text()?;
@@ -26,12 +26,12 @@ pub(crate) fn read_ehdr_field(words: &mut Words) -> Result<(EhdrSet, bool), Stop
         "shoff" => Ok((EhdrSet::Shoff(n.xword), n.is_xword)),
         "flags" => Ok((EhdrSet::Flags(n.word), n.is_word)),
         "shstrndx" => Ok((EhdrSet::Shstrndx(n.word), n.is_word)),
-        _ => Err(Stop::Why(Why::BadWords)),
+        _ => Err(CallFault::Why(Why::BadWords)),
     }
 }
 
 /// A field of a program header, and its value.
-pub(crate) fn read_phdr_field(words: &mut Words) -> Result<(PhdrSet, bool), Stop>
+pub(crate) fn read_phdr_field(words: &mut Words) -> Result<(PhdrSet, bool), CallFault>
     ensures { Says (one_of phdr_fields) words.old result words.new }
 {
     let field = words.read_text()?;
@@ -45,12 +45,12 @@ pub(crate) fn read_phdr_field(words: &mut Words) -> Result<(PhdrSet, bool), Stop
         "filesz" => Ok((PhdrSet::Filesz(n.xword), n.is_xword)),
         "memsz" => Ok((PhdrSet::Memsz(n.xword), n.is_xword)),
         "align" => Ok((PhdrSet::Align(n.xword), n.is_xword)),
-        _ => Err(Stop::Why(Why::BadWords)),
+        _ => Err(CallFault::Why(Why::BadWords)),
     }
 }
 
 /// A field of a section header, and its value.
-pub(crate) fn read_shdr_field(words: &mut Words) -> Result<(ShdrSet, bool), Stop>
+pub(crate) fn read_shdr_field(words: &mut Words) -> Result<(ShdrSet, bool), CallFault>
     ensures { Says (one_of shdr_fields) words.old result words.new }
 {
     let field = words.read_text()?;
@@ -66,13 +66,13 @@ pub(crate) fn read_shdr_field(words: &mut Words) -> Result<(ShdrSet, bool), Stop
         "info" => Ok((ShdrSet::Info(n.word), n.is_word)),
         "addralign" => Ok((ShdrSet::Addralign(n.xword), n.is_xword)),
         "entsize" => Ok((ShdrSet::Entsize(n.xword), n.is_xword)),
-        _ => Err(Stop::Why(Why::BadWords)),
+        _ => Err(CallFault::Why(Why::BadWords)),
     }
 }
 
 /// A field of an item of a kind, and its value. Items of the kinds `Empty` and `Bytes` have none.
 #[tactic(auto, unfolding(crate::specs::Fields::item_fields))]
-pub(crate) fn read_item_field(words: &mut Words, kind: Kind) -> Result<(ItemSet, bool), Stop>
+pub(crate) fn read_item_field(words: &mut Words, kind: Kind) -> Result<(ItemSet, bool), CallFault>
     ensures { Says (one_of (item_fields kind)) words.old result words.new }
 {
     let field = words.read_text()?;
@@ -84,17 +84,17 @@ pub(crate) fn read_item_field(words: &mut Words, kind: Kind) -> Result<(ItemSet,
         Kind::Rel => read_rel_field(field, words),
         Kind::Rela => read_rela_field(field, words),
         Kind::Dyn => read_dyn_field(field, words),
-        Kind::Empty | Kind::Bytes => Err(Stop::Why(Why::BadWords)),
+        Kind::Empty | Kind::Bytes => Err(CallFault::Why(Why::BadWords)),
     }
 }
 
 /// The value of a two-byte number.
 #[tactic(auto, using(crate::proofs::Said::said), unfolding(crate::specs::Fields::item_fields))]
-fn read_half_field(field: &str, words: &mut Words) -> Result<(ItemSet, bool), Stop>
+fn read_half_field(field: &str, words: &mut Words) -> Result<(ItemSet, bool), CallFault>
     ensures { Says (in_table (item_fields Kind.Half) field.now) words.old result words.new }
 {
     if field != "value" {
-        return Err(Stop::Why(Why::BadWords));
+        return Err(CallFault::Why(Why::BadWords));
     }
     let n = words.read_number()?;
     Ok((ItemSet::Half(n.half), n.is_half))
@@ -102,11 +102,11 @@ fn read_half_field(field: &str, words: &mut Words) -> Result<(ItemSet, bool), St
 
 /// The value of a four-byte number.
 #[tactic(auto, using(crate::proofs::Said::said), unfolding(crate::specs::Fields::item_fields))]
-fn read_word_field(field: &str, words: &mut Words) -> Result<(ItemSet, bool), Stop>
+fn read_word_field(field: &str, words: &mut Words) -> Result<(ItemSet, bool), CallFault>
     ensures { Says (in_table (item_fields Kind.Word) field.now) words.old result words.new }
 {
     if field != "value" {
-        return Err(Stop::Why(Why::BadWords));
+        return Err(CallFault::Why(Why::BadWords));
     }
     let (n, fits) = words.read_u32()?;
     Ok((ItemSet::Word(n), fits))
@@ -114,18 +114,18 @@ fn read_word_field(field: &str, words: &mut Words) -> Result<(ItemSet, bool), St
 
 /// The value of an address.
 #[tactic(auto, using(crate::proofs::Said::said), unfolding(crate::specs::Fields::item_fields))]
-fn read_addr_field(field: &str, words: &mut Words) -> Result<(ItemSet, bool), Stop>
+fn read_addr_field(field: &str, words: &mut Words) -> Result<(ItemSet, bool), CallFault>
     ensures { Says (in_table (item_fields Kind.Addr) field.now) words.old result words.new }
 {
     if field != "value" {
-        return Err(Stop::Why(Why::BadWords));
+        return Err(CallFault::Why(Why::BadWords));
     }
     let (n, fits) = words.read_u64()?;
     Ok((ItemSet::Addr(n), fits))
 }
 
 /// The value of a field of a symbol.
-fn read_sym_field(field: &str, words: &mut Words) -> Result<(ItemSet, bool), Stop>
+fn read_sym_field(field: &str, words: &mut Words) -> Result<(ItemSet, bool), CallFault>
     ensures { Says (in_table (item_fields Kind.Sym) field.now) words.old result words.new }
 {
     let n = words.read_number()?;
@@ -136,12 +136,12 @@ fn read_sym_field(field: &str, words: &mut Words) -> Result<(ItemSet, bool), Sto
         "info" => Ok((ItemSet::SymInfo(n.byte), n.is_byte)),
         "other" => Ok((ItemSet::SymOther(n.byte), n.is_byte)),
         "shndx" => Ok((ItemSet::SymShndx(n.half), n.is_half)),
-        _ => Err(Stop::Why(Why::BadWords)),
+        _ => Err(CallFault::Why(Why::BadWords)),
     }
 }
 
 /// The value of a field of a relocation without an addend.
-fn read_rel_field(field: &str, words: &mut Words) -> Result<(ItemSet, bool), Stop>
+fn read_rel_field(field: &str, words: &mut Words) -> Result<(ItemSet, bool), CallFault>
     ensures { Says (in_table (item_fields Kind.Rel) field.now) words.old result words.new }
 {
     let n = words.read_number()?;
@@ -149,13 +149,13 @@ fn read_rel_field(field: &str, words: &mut Words) -> Result<(ItemSet, bool), Sto
         "offset" => Ok((ItemSet::RelOffset(n.xword), n.is_xword)),
         "sym" => Ok((ItemSet::RelSym(n.word), n.is_word)),
         "type" => Ok((ItemSet::RelType(n.word), n.is_word)),
-        _ => Err(Stop::Why(Why::BadWords)),
+        _ => Err(CallFault::Why(Why::BadWords)),
     }
 }
 
 /// The value of a field of a relocation with an addend.
 #[tactic(auto, using(crate::proofs::Said::said), unfolding(crate::specs::Fields::item_fields))]
-fn read_rela_field(field: &str, words: &mut Words) -> Result<(ItemSet, bool), Stop>
+fn read_rela_field(field: &str, words: &mut Words) -> Result<(ItemSet, bool), CallFault>
     ensures { Says (in_table (item_fields Kind.Rela) field.now) words.old result words.new }
 {
     match field {
@@ -175,13 +175,13 @@ fn read_rela_field(field: &str, words: &mut Words) -> Result<(ItemSet, bool), St
             let (addend, fits) = words.read_i64()?;
             Ok((ItemSet::RelaAddend(addend), fits))
         }
-        _ => Err(Stop::Why(Why::BadWords)),
+        _ => Err(CallFault::Why(Why::BadWords)),
     }
 }
 
 /// The value of a field of an entry of the dynamic section.
 #[tactic(auto, using(crate::proofs::Said::said), unfolding(crate::specs::Fields::item_fields))]
-fn read_dyn_field(field: &str, words: &mut Words) -> Result<(ItemSet, bool), Stop>
+fn read_dyn_field(field: &str, words: &mut Words) -> Result<(ItemSet, bool), CallFault>
     ensures { Says (in_table (item_fields Kind.Dyn) field.now) words.old result words.new }
 {
     match field {
@@ -193,6 +193,6 @@ fn read_dyn_field(field: &str, words: &mut Words) -> Result<(ItemSet, bool), Sto
             let (val, fits) = words.read_u64()?;
             Ok((ItemSet::DynVal(val), fits))
         }
-        _ => Err(Stop::Why(Why::BadWords)),
+        _ => Err(CallFault::Why(Why::BadWords)),
     }
 }

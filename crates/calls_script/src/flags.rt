@@ -8,13 +8,13 @@ ghost use Rattle.calls_script.specs.Lines.{object_parts, flag_words, flag_line};
 ghost use Rattle.calls_script.specs.Said.{Says};
 
 use crate::calls::Call;
-use crate::faults::{Stop, Why};
+use crate::faults::{CallFault, Why};
 use crate::words::Words;
 use elf_types::Part;
 
 /// `flag PART set BITS` and `flag PART clear BITS`.
 #[tactic(auto, using(crate::proofs::Said::said), unfolding(crate::specs::Lines::flag_line))]
-pub(crate) fn read_flag(words: &mut Words) -> Result<(Call, bool), Stop>
+pub(crate) fn read_flag(words: &mut Words) -> Result<(Call, bool), CallFault>
     ensures { Says flag_line words.old result words.new }
 {
     let (part, part_fits) = read_part(words)?;
@@ -25,7 +25,7 @@ pub(crate) fn read_flag(words: &mut Words) -> Result<(Call, bool), Stop>
 
 /// PART: a part of an object.
 #[tactic(auto, using(crate::proofs::Said::said), unfolding(crate::specs::Lines::object_parts))]
-fn read_part(words: &mut Words) -> Result<(Part, bool), Stop>
+fn read_part(words: &mut Words) -> Result<(Part, bool), CallFault>
     ensures { Says (one_of object_parts) words.old result words.new }
 {
     let part = words.read_text()?;
@@ -41,19 +41,19 @@ fn read_part(words: &mut Words) -> Result<(Part, bool), Stop>
             let (d, fits) = words.read_piece()?;
             Ok((Part::Piece(d.section, d.piece), fits))
         }
-        _ => Err(Stop::Why(Why::BadWords)),
+        _ => Err(CallFault::Why(Why::BadWords)),
     }
 }
 
 /// `set` or `clear`: whether the flags are set.
 #[tactic(auto, unfolding(crate::specs::Lines::flag_words))]
-fn read_flag_word(words: &mut Words) -> Result<bool, Stop>
+fn read_flag_word(words: &mut Words) -> Result<bool, CallFault>
     ensures { FollowsBy (λ set. (Some set, words.new)) why_of result (one_of flag_words words.old) }
 {
     let word = words.read_text()?;
     match word {
         "set" => Ok(true),
         "clear" => Ok(false),
-        _ => Err(Stop::Why(Why::BadWords)),
+        _ => Err(CallFault::Why(Why::BadWords)),
     }
 }

@@ -17,4 +17,4 @@ mod words;
 
 pub use calls::{Call, Calls, EhdrSet, ItemSet, PhdrSet, ShdrSet};
 pub use faults::{ScriptFault, Why};
-pub use script::{MAX_SCRIPT, read_script};
+pub use script::{MAX_SCRIPT, constants_are, read_script};

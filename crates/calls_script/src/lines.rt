@@ -6,7 +6,7 @@ ghost use Rattle.calls_script.specs.Said.{Says};
 ghost use Rattle.calls_script.specs.Script.{call_at};
 
 use crate::calls::Call;
-use crate::faults::{Stop, Why};
+use crate::faults::{CallFault, Why};
 use crate::flags::read_flag;
 use crate::sets::read_set;
 use crate::words::Words;
@@ -15,11 +15,11 @@ use std::alloc::Global;
 /// The call that the words of a line say, and whether each number is in its range. It refuses
 /// `BadCall` where the first word is no call, `NotBuilt` where it is that of a line that is not
 /// built, and then `BadWords`.
-pub(crate) fn read_call(alloc: Global, words: &mut Words) -> Result<(Call, bool), Stop>
+pub(crate) fn read_call(alloc: Global, words: &mut Words) -> Result<(Call, bool), CallFault>
     ensures { Says call_at words.old result words.new }
 {
     let Ok(name) = words.read_text() else {
-        return Err(Stop::Why(Why::BadCall));
+        return Err(CallFault::Why(Why::BadCall));
     };
     match name {
         "ehdr" => Ok((Call::Ehdr, true)),
@@ -40,14 +40,14 @@ pub(crate) fn read_call(alloc: Global, words: &mut Words) -> Result<(Call, bool)
         "fill" => read_fill(words),
         "replace" => read_replace(alloc, words),
         "flag" => read_flag(words),
-        "null" => Err(Stop::Why(Why::NotBuilt)),
-        _ => Err(Stop::Why(Why::BadCall)),
+        "null" => Err(CallFault::Why(Why::NotBuilt)),
+        _ => Err(CallFault::Why(Why::BadCall)),
     }
 }
 
 /// `phdr I`.
 #[tactic(auto, using(crate::proofs::Said::said), unfolding(crate::specs::Lines::phdr_line))]
-fn read_phdr(words: &mut Words) -> Result<(Call, bool), Stop>
+fn read_phdr(words: &mut Words) -> Result<(Call, bool), CallFault>
     ensures { Says phdr_line words.old result words.new }
 {
     let (i, fits) = words.read_u32()?;
@@ -56,7 +56,7 @@ fn read_phdr(words: &mut Words) -> Result<(Call, bool), Stop>
 
 /// `shdr S`.
 #[tactic(auto, using(crate::proofs::Said::said), unfolding(crate::specs::Lines::shdr_line))]
-fn read_shdr(words: &mut Words) -> Result<(Call, bool), Stop>
+fn read_shdr(words: &mut Words) -> Result<(Call, bool), CallFault>
     ensures { Says shdr_line words.old result words.new }
 {
     let (s, fits) = words.read_section()?;
@@ -65,7 +65,7 @@ fn read_shdr(words: &mut Words) -> Result<(Call, bool), Stop>
 
 /// `pieces S`.
 #[tactic(auto, using(crate::proofs::Said::said), unfolding(crate::specs::Lines::pieces_line))]
-fn read_pieces(words: &mut Words) -> Result<(Call, bool), Stop>
+fn read_pieces(words: &mut Words) -> Result<(Call, bool), CallFault>
     ensures { Says pieces_line words.old result words.new }
 {
     let (s, fits) = words.read_section()?;
@@ -74,7 +74,7 @@ fn read_pieces(words: &mut Words) -> Result<(Call, bool), Stop>
 
 /// `data S P`.
 #[tactic(auto, using(crate::proofs::Said::said), unfolding(crate::specs::Lines::data_line))]
-fn read_data(words: &mut Words) -> Result<(Call, bool), Stop>
+fn read_data(words: &mut Words) -> Result<(Call, bool), CallFault>
     ensures { Says data_line words.old result words.new }
 {
     let (d, fits) = words.read_piece()?;
@@ -83,7 +83,7 @@ fn read_data(words: &mut Words) -> Result<(Call, bool), Stop>
 
 /// `raw S`.
 #[tactic(auto, using(crate::proofs::Said::said), unfolding(crate::specs::Lines::raw_line))]
-fn read_raw(words: &mut Words) -> Result<(Call, bool), Stop>
+fn read_raw(words: &mut Words) -> Result<(Call, bool), CallFault>
     ensures { Says raw_line words.old result words.new }
 {
     let (s, fits) = words.read_section()?;
@@ -92,7 +92,7 @@ fn read_raw(words: &mut Words) -> Result<(Call, bool), Stop>
 
 /// `item S P I`.
 #[tactic(auto, using(crate::proofs::Said::said), unfolding(crate::specs::Lines::item_line))]
-fn read_item(words: &mut Words) -> Result<(Call, bool), Stop>
+fn read_item(words: &mut Words) -> Result<(Call, bool), CallFault>
     ensures { Says item_line words.old result words.new }
 {
     let (d, d_fits) = words.read_piece()?;
@@ -102,7 +102,7 @@ fn read_item(words: &mut Words) -> Result<(Call, bool), Stop>
 
 /// `str S OFF`.
 #[tactic(auto, using(crate::proofs::Said::said), unfolding(crate::specs::Lines::str_line))]
-fn read_str(words: &mut Words) -> Result<(Call, bool), Stop>
+fn read_str(words: &mut Words) -> Result<(Call, bool), CallFault>
     ensures { Says str_line words.old result words.new }
 {
     let (s, s_fits) = words.read_section()?;
@@ -112,7 +112,7 @@ fn read_str(words: &mut Words) -> Result<(Call, bool), Stop>
 
 /// `note S P AT`.
 #[tactic(auto, using(crate::proofs::Said::said), unfolding(crate::specs::Lines::note_line))]
-fn read_note(words: &mut Words) -> Result<(Call, bool), Stop>
+fn read_note(words: &mut Words) -> Result<(Call, bool), CallFault>
     ensures { Says note_line words.old result words.new }
 {
     let (d, d_fits) = words.read_piece()?;
@@ -122,7 +122,7 @@ fn read_note(words: &mut Words) -> Result<(Call, bool), Stop>
 
 /// `find S NAME`.
 #[tactic(auto, using(crate::proofs::Said::said), unfolding(crate::specs::Lines::find_line))]
-fn read_find(alloc: Global, words: &mut Words) -> Result<(Call, bool), Stop>
+fn read_find(alloc: Global, words: &mut Words) -> Result<(Call, bool), CallFault>
     ensures { Says find_line words.old result words.new }
 {
     let (s, fits) = words.read_section()?;
@@ -132,7 +132,7 @@ fn read_find(alloc: Global, words: &mut Words) -> Result<(Call, bool), Stop>
 
 /// `addall S P N`.
 #[tactic(auto, using(crate::proofs::Said::said), unfolding(crate::specs::Lines::addall_line))]
-fn read_addall(words: &mut Words) -> Result<(Call, bool), Stop>
+fn read_addall(words: &mut Words) -> Result<(Call, bool), CallFault>
     ensures { Says addall_line words.old result words.new }
 {
     let (d, d_fits) = words.read_piece()?;
@@ -142,7 +142,7 @@ fn read_addall(words: &mut Words) -> Result<(Call, bool), Stop>
 
 /// `newphdr N`.
 #[tactic(auto, using(crate::proofs::Said::said), unfolding(crate::specs::Lines::newphdr_line))]
-fn read_newphdr(words: &mut Words) -> Result<(Call, bool), Stop>
+fn read_newphdr(words: &mut Words) -> Result<(Call, bool), CallFault>
     ensures { Says newphdr_line words.old result words.new }
 {
     let (n, fits) = words.read_u32()?;
@@ -151,7 +151,7 @@ fn read_newphdr(words: &mut Words) -> Result<(Call, bool), Stop>
 
 /// `newdata S HEX` and `newdata S HEX N`.
 #[tactic(auto, using(crate::proofs::Said::said), unfolding(crate::specs::Lines::newdata_line))]
-fn read_newdata(alloc: Global, words: &mut Words) -> Result<(Call, bool), Stop>
+fn read_newdata(alloc: Global, words: &mut Words) -> Result<(Call, bool), CallFault>
     ensures { Says newdata_line words.old result words.new }
 {
     let (s, s_fits) = words.read_section()?;
@@ -166,7 +166,7 @@ fn read_newdata(alloc: Global, words: &mut Words) -> Result<(Call, bool), Stop>
 
 /// `fill N`.
 #[tactic(auto, using(crate::proofs::Said::said), unfolding(crate::specs::Lines::fill_line))]
-fn read_fill(words: &mut Words) -> Result<(Call, bool), Stop>
+fn read_fill(words: &mut Words) -> Result<(Call, bool), CallFault>
     ensures { Says fill_line words.old result words.new }
 {
     let n = words.read_number()?;
@@ -175,7 +175,7 @@ fn read_fill(words: &mut Words) -> Result<(Call, bool), Stop>
 
 /// `replace S P HEX`.
 #[tactic(auto, using(crate::proofs::Said::said), unfolding(crate::specs::Lines::replace_line))]
-fn read_replace(alloc: Global, words: &mut Words) -> Result<(Call, bool), Stop>
+fn read_replace(alloc: Global, words: &mut Words) -> Result<(Call, bool), CallFault>
     ensures { Says replace_line words.old result words.new }
 {
     let (d, fits) = words.read_piece()?;

@@ -4,21 +4,22 @@ ghost use Rattle.std.specs.Prelude.{◌≡◌, ◌≤◌, ◌+◌, ◌*◌, ◌^
 ghost use Rattle.std.specs.Bool.{then_some};
 ghost use Rattle.std.specs.Str.Parse.{digits_value};
 ghost use Rattle.elf_types.specs.Answers.{or_refused};
+ghost use Rattle.elf_types.specs.Digits.{are_digits};
 ghost use Rattle.calls_script.specs.Causes.{Reads};
-ghost use Rattle.calls_script.specs.Numbers.{are_digits, digits_of, number_of, signed_of, below, within_64_bits, hex_of};
+ghost use Rattle.calls_script.specs.Numbers.{digits_of, number_of, signed_of, below, within_64_bits, hex_of};
 
-use crate::faults::{Stop, Why};
-use elf_types::Octets;
+use crate::faults::{CallFault, Why};
+use elf_types::{Octets, are_digits};
 use hex::FromHexError;
 use std::alloc::Global;
 
 /// A number, or None where it is 2^64 or greater. It refuses `BadWords` where the word has another
 /// form.
 #[tactic(auto, unfolding(crate::specs::Numbers::number_of))]
-pub(crate) fn read_number(word: &[u8]) -> Result<Option<u64>, Stop>
+pub(crate) fn read_number(word: &[u8]) -> Result<Option<u64>, CallFault>
     ensures value { Reads result
         (or_refused (option_map (below (2 ^ 64)) (number_of word.now)) Why.BadWords) }
-    ensures why { IfErr result (λ stop. stop ≡ Stop.Why Why.BadWords) }
+    ensures why { IfErr result (λ stop. stop ≡ CallFault.Why Why.BadWords) }
 {
     if word.starts_with(b"0x") {
         return read_digits(&word[2..], 16, 16);
@@ -29,7 +30,7 @@ pub(crate) fn read_number(word: &[u8]) -> Result<Option<u64>, Stop>
 /// A number that may be below 0, or None where it is not from -2^63 to 2^63 - 1. It refuses
 /// `BadWords` where the word has another form.
 #[tactic(auto, unfolding(crate::specs::Numbers::signed_of))]
-pub(crate) fn read_signed(word: &[u8]) -> Result<Option<i64>, Stop>
+pub(crate) fn read_signed(word: &[u8]) -> Result<Option<i64>, CallFault>
     ensures { Reads result
         (or_refused (option_map within_64_bits (signed_of word.now)) Why.BadWords) }
 {
@@ -44,26 +45,17 @@ pub(crate) fn read_signed(word: &[u8]) -> Result<Option<i64>, Stop>
 /// The number that one to `most` digits stand for, or None where it is 2^64 or greater. It refuses
 /// `BadWords` where the word has another form.
 #[tactic(auto, unfolding(crate::specs::Numbers::digits_of))]
-fn read_digits(word: &[u8], radix: u32, most: usize) -> Result<Option<u64>, Stop>
+fn read_digits(word: &[u8], radix: u32, most: usize) -> Result<Option<u64>, CallFault>
     requires low { 2 ≤ radix }
     requires high { radix ≤ 36 }
     ensures value { Reads result
         (or_refused (option_map (below (2 ^ 64)) (digits_of radix most word.now)) Why.BadWords) }
-    ensures why { IfErr result (λ stop. stop ≡ Stop.Why Why.BadWords) }
+    ensures why { IfErr result (λ stop. stop ≡ CallFault.Why Why.BadWords) }
 {
     if word.is_empty() || word.len() > most || !are_digits(word, radix) {
-        return Err(Stop::Why(Why::BadWords));
+        return Err(CallFault::Why(Why::BadWords));
     }
     Ok(value_of(word, radix))
-}
-
-/// Whether each byte is a digit in the radix, in either case.
-fn are_digits(word: &[u8], radix: u32) -> bool
-    requires low { 2 ≤ radix }
-    requires high { radix ≤ 36 }
-    ensures { result ≡ are_digits radix word.now }
-{
-    word.iter().all(|byte| char::from(*byte).is_digit(radix))
 }
 
 /// The number that digits stand for, or None where it is 2^64 or greater.
@@ -180,18 +172,18 @@ fn to_u8(n: Option<u64>) -> (u8, bool)
 /// The bytes of a word: none for `-`, else two hexadecimal digits for each. It refuses `BadWords`
 /// where the word has another form.
 #[tactic(auto, unfolding(crate::specs::Numbers::hex_of))]
-pub(crate) fn read_bytes(alloc: Global, word: &[u8]) -> Result<Octets, Stop>
+pub(crate) fn read_bytes(alloc: Global, word: &[u8]) -> Result<Octets, CallFault>
     ensures { Reads result (or_refused (hex_of word.now) Why.BadWords) }
 {
     if word == b"-".as_slice() {
         return Ok(Octets::new(alloc));
     }
     if word.is_empty() {
-        return Err(Stop::Why(Why::BadWords));
+        return Err(CallFault::Why(Why::BadWords));
     }
     match hex::decode(alloc, word) {
         Ok(bytes) => Ok(Octets::from_vec(bytes)),
-        Err(FromHexError::OutOfMemory) => Err(Stop::Memory),
-        Err(_) => Err(Stop::Why(Why::BadWords)),
+        Err(FromHexError::OutOfMemory) => Err(CallFault::Memory),
+        Err(_) => Err(CallFault::Why(Why::BadWords)),
     }
 }

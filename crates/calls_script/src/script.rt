@@ -1,13 +1,15 @@
 //! Reading a script.
 
-ghost use Rattle.std.specs.Prelude.{◌≡◌, ◌≤◌, ◌++◌, length, option_to_list, OnOk, IfErr};
+ghost use Rattle.std.specs.Prelude.{◌≡◌, ◌≤◌, ◌++◌, length, option_to_list, true, OnOk, IfErr};
 ghost use Rattle.elf_types.specs.Answers.{FollowsBy};
+ghost use Rattle.elf_types.specs.Constants.{are_numbers};
 ghost use Rattle.calls_script.specs.Causes.{Reads};
+ghost use Rattle.calls_script.specs.Constants.{limits};
 ghost use Rattle.calls_script.specs.Parts.{words_of};
 ghost use Rattle.calls_script.specs.Script.{ScriptFollows, stated_fault, calls_of, calls_from, lines_of, line_call, call_of};
 
 use crate::calls::{Call, Calls};
-use crate::faults::{ScriptFault, Stop, Why};
+use crate::faults::{ScriptFault, CallFault, Why};
 use crate::lines::read_call;
 use crate::words::{Words, cut};
 use std::alloc::Global;
@@ -77,22 +79,28 @@ fn read_line(alloc: Global, number: u32, line: &[u8]) -> Result<Option<Call>, Sc
     }
     match read_words(alloc, line) {
         Ok(call) => Ok(Some(call)),
-        Err(Stop::Memory) => Err(ScriptFault::Memory),
-        Err(Stop::Why(why)) => Err(ScriptFault::Line { line: number, why }),
+        Err(CallFault::Memory) => Err(ScriptFault::Memory),
+        Err(CallFault::Why(why)) => Err(ScriptFault::Line { line: number, why }),
     }
 }
 
 /// The call of a line that is not passed over. It refuses `BadCall`, then `NotBuilt`, then
 /// `BadWords`, then `BadNumber`.
 #[tactic(auto, unfolding(crate::specs::Script::call_of))]
-fn read_words(alloc: Global, line: &[u8]) -> Result<Call, Stop>
+fn read_words(alloc: Global, line: &[u8]) -> Result<Call, CallFault>
     ensures { Reads result (call_of (words_of line.now)) }
 {
     let mut words = Words::new(line);
     let (call, fits) = read_call(alloc, &mut words)?;
     words.read_end()?;
     if !fits {
-        return Err(Stop::Why(Why::BadNumber));
+        return Err(CallFault::Why(Why::BadNumber));
     }
     Ok(call)
 }
+
+/// Each constant is the number that stands beside its name in the tables of specs/Constants. It is
+/// for the reader and for proofs, and does nothing.
+pub fn constants_are()
+    ensures { are_numbers limits ≡ true }
+{}

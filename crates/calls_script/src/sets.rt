@@ -7,13 +7,13 @@ ghost use Rattle.calls_script.specs.Lines.{section, item_set, set_line};
 ghost use Rattle.calls_script.specs.Said.{Says};
 
 use crate::calls::Call;
-use crate::faults::{Stop, Why};
+use crate::faults::{CallFault, Why};
 use crate::fields::{read_ehdr_field, read_item_field, read_phdr_field, read_shdr_field};
 use crate::words::Words;
 use elf_types::Kind;
 
 /// What follows `set`.
-pub(crate) fn read_set(words: &mut Words) -> Result<(Call, bool), Stop>
+pub(crate) fn read_set(words: &mut Words) -> Result<(Call, bool), CallFault>
     ensures { Says set_line words.old result words.new }
 {
     let target = words.read_text()?;
@@ -28,13 +28,13 @@ pub(crate) fn read_set(words: &mut Words) -> Result<(Call, bool), Stop>
         "rel" => set_item(words, Kind::Rel),
         "rela" => set_item(words, Kind::Rela),
         "dyn" => set_item(words, Kind::Dyn),
-        _ => Err(Stop::Why(Why::BadWords)),
+        _ => Err(CallFault::Why(Why::BadWords)),
     }
 }
 
 /// `set ehdr FIELD N`.
 #[tactic(auto, using(crate::proofs::Said::said))]
-fn set_ehdr(words: &mut Words) -> Result<(Call, bool), Stop>
+fn set_ehdr(words: &mut Words) -> Result<(Call, bool), CallFault>
     ensures { Says (one_of ehdr_fields ⇒ λ set. Call.SetEhdr set) words.old result words.new }
 {
     let (set, fits) = read_ehdr_field(words)?;
@@ -43,7 +43,7 @@ fn set_ehdr(words: &mut Words) -> Result<(Call, bool), Stop>
 
 /// `set phdr I FIELD N`.
 #[tactic(auto, using(crate::proofs::Said::said))]
-fn set_phdr(words: &mut Words) -> Result<(Call, bool), Stop>
+fn set_phdr(words: &mut Words) -> Result<(Call, bool), CallFault>
     ensures { Says (u32 & one_of phdr_fields ⇒ λ (i, set). Call.SetPhdr i set)
         words.old result words.new }
 {
@@ -54,7 +54,7 @@ fn set_phdr(words: &mut Words) -> Result<(Call, bool), Stop>
 
 /// `set shdr S FIELD N`.
 #[tactic(auto, using(crate::proofs::Said::said))]
-fn set_shdr(words: &mut Words) -> Result<(Call, bool), Stop>
+fn set_shdr(words: &mut Words) -> Result<(Call, bool), CallFault>
     ensures { Says (section & one_of shdr_fields ⇒ λ (s, set). Call.SetShdr s set)
         words.old result words.new }
 {
@@ -65,7 +65,7 @@ fn set_shdr(words: &mut Words) -> Result<(Call, bool), Stop>
 
 /// `set KIND S P I FIELD N`.
 #[tactic(auto, using(crate::proofs::Said::said))]
-fn set_item(words: &mut Words, kind: Kind) -> Result<(Call, bool), Stop>
+fn set_item(words: &mut Words, kind: Kind) -> Result<(Call, bool), CallFault>
     ensures { Says (item_set kind) words.old result words.new }
 {
     let (d, d_fits) = words.read_piece()?;

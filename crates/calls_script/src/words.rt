@@ -11,7 +11,7 @@ ghost use Rattle.calls_script.specs.Said.{Says};
 ghost use Rattle.calls_script.specs.Lines.{section, piece};
 ghost use Rattle.calls_script.specs.Left.{pieces_left, IsNoText};
 
-use crate::faults::{Stop, Why};
+use crate::faults::{CallFault, Why};
 use crate::numbers::{Number, read_bytes, read_number, read_signed, to_u32, to_u64};
 use elf_types::{DataId, Octets, ScnId};
 use std::alloc::Global;
@@ -65,12 +65,12 @@ impl<'a> Words<'a> {
     }
 
     /// A word.
-    pub fn read_word(&mut self) -> Result<&'a [u8], Stop>
+    pub fn read_word(&mut self) -> Result<&'a [u8], CallFault>
         ensures value { FollowsBy (λ w. (w.now, self.new)) why_of result (next_word self.old) }
-        ensures why { IfErr result (λ stop. stop ≡ Stop.Why Why.BadWords) }
+        ensures why { IfErr result (λ stop. stop ≡ CallFault.Why Why.BadWords) }
     {
         let Some(rest) = self.rest else {
-            return Err(Stop::Why(Why::BadWords));
+            return Err(CallFault::Why(Why::BadWords));
         };
         let (word, after) = cut(rest, b' ');
         self.rest = after;
@@ -78,29 +78,29 @@ impl<'a> Words<'a> {
     }
 
     /// A word that is text. It refuses `BadWords` where there is no word, and where it is no text.
-    pub fn read_text(&mut self) -> Result<&'a str, Stop>
+    pub fn read_text(&mut self) -> Result<&'a str, CallFault>
         ensures ok { IfOk result (λ text. next_word self.old ≡ Ok (text.now, self.new)) }
         ensures err { IfErr result (λ stop. IsNoText stop self.old) }
     {
         let word = self.read_word()?;
         match str::from_utf8(word) {
             Ok(text) => Ok(text),
-            Err(_) => Err(Stop::Why(Why::BadWords)),
+            Err(_) => Err(CallFault::Why(Why::BadWords)),
         }
     }
 
     /// A number, or None where it is 2^64 or greater.
     #[tactic(auto, unfolding(crate::specs::Parts::number))]
-    fn read_digits(&mut self) -> Result<Option<u64>, Stop>
+    fn read_digits(&mut self) -> Result<Option<u64>, CallFault>
         ensures value { FollowsBy (λ n. (n, self.new)) why_of result (u64_part self.old) }
-        ensures why { IfErr result (λ stop. stop ≡ Stop.Why Why.BadWords) }
+        ensures why { IfErr result (λ stop. stop ≡ CallFault.Why Why.BadWords) }
     {
         let word = self.read_word()?;
         read_number(word)
     }
 
     /// A number at each width.
-    pub fn read_number(&mut self) -> Result<Number, Stop>
+    pub fn read_number(&mut self) -> Result<Number, CallFault>
         ensures byte { FollowsBy (λ n. (then_some n.is_byte n.byte, self.new)) why_of result
             (u8_part self.old) }
         ensures half { FollowsBy (λ n. (then_some n.is_half n.half, self.new)) why_of result
@@ -109,14 +109,14 @@ impl<'a> Words<'a> {
             (u32_part self.old) }
         ensures xword { FollowsBy (λ n. (then_some n.is_xword n.xword, self.new)) why_of result
             (u64_part self.old) }
-        ensures why { IfErr result (λ stop. stop ≡ Stop.Why Why.BadWords) }
+        ensures why { IfErr result (λ stop. stop ≡ CallFault.Why Why.BadWords) }
     {
         let n = self.read_digits()?;
         Ok(Number::of(n))
     }
 
     /// A number below 2^64.
-    pub fn read_u64(&mut self) -> Result<(u64, bool), Stop>
+    pub fn read_u64(&mut self) -> Result<(u64, bool), CallFault>
         ensures { Says u64_part self.old result self.new }
     {
         let n = self.read_digits()?;
@@ -124,7 +124,7 @@ impl<'a> Words<'a> {
     }
 
     /// A number below 2^32.
-    pub fn read_u32(&mut self) -> Result<(u32, bool), Stop>
+    pub fn read_u32(&mut self) -> Result<(u32, bool), CallFault>
         ensures { Says u32_part self.old result self.new }
     {
         let n = self.read_digits()?;
@@ -133,7 +133,7 @@ impl<'a> Words<'a> {
 
     /// An addend or a tag: a number from -2^63 to 2^63 - 1.
     #[tactic(auto, unfolding(crate::specs::Parts::i64))]
-    pub fn read_i64(&mut self) -> Result<(i64, bool), Stop>
+    pub fn read_i64(&mut self) -> Result<(i64, bool), CallFault>
         ensures { Says i64_part self.old result self.new }
     {
         let word = self.read_word()?;
@@ -145,7 +145,7 @@ impl<'a> Words<'a> {
 
     /// HEX: bytes.
     #[tactic(auto, unfolding(crate::specs::Parts::hex))]
-    pub fn read_hex(&mut self, alloc: Global) -> Result<Octets, Stop>
+    pub fn read_hex(&mut self, alloc: Global) -> Result<Octets, CallFault>
         ensures { FollowsBy (λ bytes. (Some bytes, self.new)) why_of result (hex self.old) }
     {
         let word = self.read_word()?;
@@ -154,7 +154,7 @@ impl<'a> Words<'a> {
 
     /// NAME: all that is left of the line, which is not empty.
     #[tactic(auto, unfolding(crate::specs::Parts::name))]
-    pub fn read_name(&mut self, alloc: Global) -> Result<Octets, Stop>
+    pub fn read_name(&mut self, alloc: Global) -> Result<Octets, CallFault>
         ensures { FollowsBy (λ text. (Some text, self.new)) why_of result (name self.old) }
     {
         match self.rest {
@@ -162,13 +162,13 @@ impl<'a> Words<'a> {
                 self.rest = None;
                 Ok(Octets::from_slice(alloc, rest)?)
             }
-            _ => Err(Stop::Why(Why::BadWords)),
+            _ => Err(CallFault::Why(Why::BadWords)),
         }
     }
 
     /// S: a section.
     #[tactic(auto, using(crate::proofs::Said::said))]
-    pub fn read_section(&mut self) -> Result<(ScnId, bool), Stop>
+    pub fn read_section(&mut self) -> Result<(ScnId, bool), CallFault>
         ensures { Says section self.old result self.new }
     {
         let (section, fits) = self.read_u32()?;
@@ -177,7 +177,7 @@ impl<'a> Words<'a> {
 
     /// S P: a piece of a section.
     #[tactic(auto, using(crate::proofs::Said::said))]
-    pub fn read_piece(&mut self) -> Result<(DataId, bool), Stop>
+    pub fn read_piece(&mut self) -> Result<(DataId, bool), CallFault>
         ensures { Says piece self.old result self.new }
     {
         let (section, section_fits) = self.read_u32()?;
@@ -193,11 +193,11 @@ impl<'a> Words<'a> {
     }
 
     /// The end of the line.
-    pub fn read_end(&self) -> Result<(), Stop>
+    pub fn read_end(&self) -> Result<(), CallFault>
         ensures { Reads result (no_words self.now) }
     {
         if !self.is_empty() {
-            return Err(Stop::Why(Why::BadWords));
+            return Err(CallFault::Why(Why::BadWords));
         }
         Ok(())
     }
