@@ -11,7 +11,8 @@ use Rattle.calls_script.specs.declared.calls.Call.{Call}
 use Rattle.calls_script.specs.declared.calls.Call.TheVariants as call
 use Rattle.calls_script.specs.declared.faults.Why.{Why}
 use Rattle.calls_script.specs.declared.faults.Why.TheVariants.{TooLong, BadCall, BadWords, BadNumber}
-use Rattle.calls_script.specs.Parts.{Part, ◌&◌, ◌⇒◌, just, not_built, optional, one_of, value_in, no_words, words_of, u8, u32, u64, hex, name}
+use Rattle.elf_types.specs.Tables.{value_in}
+use Rattle.calls_script.specs.Parts.{Phrase, ◌&◌, ◌⇒◌, just, not_built, optional, one_of, no_words, words_of, u8, u32, u64, hex, name}
 use Rattle.calls_script.specs.Lines.{section, piece, new_data, item_set, object_parts, flag_words, sets, phdr_line, shdr_line, pieces_line, data_line, raw_line, item_line, str_line, note_line, find_line, set_line, addall_line, newphdr_line, newdata_line, fill_line, replace_line, flag_line, calls}
 use Rattle.calls_script.specs.Fields.{ehdr_fields, phdr_fields, shdr_fields, item_fields}
 use Rattle.calls_script.specs.Script.{call_at, call_of, on_line, is_passed_over, line_call, calls_from, lines_of, calls_of}
@@ -24,7 +25,7 @@ IsBuilt c = is_built c ≡ true
 -- ---- Parts of a line
 
 -- a part that says no call but built ones
-abbrev SaysBuilt : Part Call → Type 0
+abbrev SaysBuilt : Phrase Call → Type 0
 SaysBuilt part = (words : List (List ℕ)) (read : Option Call × List (List ℕ)) → part words ≡ Ok read → IfSome read.0 IsBuilt
 
 says_just : (c : Call) → IsBuilt c → SaysBuilt (just c)
@@ -34,7 +35,7 @@ says_none : SaysBuilt not_built
 says_none words read is = cc
 
 -- what a part says, made a call
-says_made : {A : Type 0} (part : Part A) (made : A → Call) → ((a : A) → IsBuilt (made a)) → SaysBuilt (part ⇒ made)
+says_made : {A : Type 0} (part : Phrase A) (made : A → Call) → ((a : A) → IsBuilt (made a)) → SaysBuilt (part ⇒ made)
 says_made {A} part made built words read is = by_result (part words) is
   where
     by_said : (said : Option A) → IfSome (option_map made said) IsBuilt
@@ -47,11 +48,11 @@ says_made {A} part made built words read is = by_result (part words) is
 
 -- ---- Tables of parts
 
-SayBuilt : List (List ℕ × Part Call) → Type 0
+SayBuilt : List (List ℕ × Phrase Call) → Type 0
 SayBuilt [] = Unit {0}
 SayBuilt (row ∷ rows) = SaysBuilt row.1 × SayBuilt rows
 
-row_says : (rows : List (List ℕ × Part Call)) (word : List ℕ) (part : Part Call) → SayBuilt rows → value_in rows word ≡ Some part → SaysBuilt part
+row_says : (rows : List (List ℕ × Phrase Call)) (word : List ℕ) (part : Phrase Call) → SayBuilt rows → value_in rows word ≡ Some part → SaysBuilt part
 unfolding SayBuilt
 row_says [] word part say is = cc
 row_says (row ∷ rows) word part say is = by_test (bytes_eq word row.0) is (row_says rows word part say.1)
@@ -60,12 +61,12 @@ row_says (row ∷ rows) word part say is = by_test (bytes_eq word row.0) is (row
     by_test true same later = let this : row.1 ≡ part = cc in subst SaysBuilt this say.0
     by_test false same later = later same
 
-says_in : (found : Option (Part Call)) (why : Why) (words : List (List ℕ)) (read : Option Call × List (List ℕ))
-    → ((part : Part Call) → found ≡ Some part → SaysBuilt part) → (or_refused found why >>= λ part. part words) ≡ Ok read → IfSome read.0 IsBuilt
+says_in : (found : Option (Phrase Call)) (why : Why) (words : List (List ℕ)) (read : Option Call × List (List ℕ))
+    → ((part : Phrase Call) → found ≡ Some part → SaysBuilt part) → (or_refused found why >>= λ part. part words) ≡ Ok read → IfSome read.0 IsBuilt
 says_in None why words read say is = cc
 says_in (Some part) why words read say is = say part refl words read is
 
-says_one : (table : List (List ℕ × Part Call)) → SayBuilt table → SaysBuilt (one_of table)
+says_one : (table : List (List ℕ × Phrase Call)) → SayBuilt table → SaysBuilt (one_of table)
 says_one table say [] read is = cc
 says_one table say (word ∷ words) read is = says_in (value_in table word) BadWords words read (λ part found. row_says table word part say found) is
 
