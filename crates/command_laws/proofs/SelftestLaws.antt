@@ -6,8 +6,8 @@ use Rattle.elf_object.specs.Image.{image}
 use Rattle.elf_object.specs.Refusal.{refusal}
 use Rattle.object_laws.specs.Laws.{ReopenLaw, SettlingKeepsItems}
 use Rattle.command_objects.specs.Files.{file_of}
-use Rattle.tool_output.specs.Reports.{shown}
-use Rattle.tool_output.specs.Made.{written_outcome, outcome_with, made_file}
+use Rattle.tool_output.specs.Made.{Done, written_outcome, made_file}
+use Rattle.command_objects.specs.Generated.{generated_and_shifted}
 use Rattle.command_outcomes.specs.Selftest.{selftest_done, selftest_outcome}
 use Rattle.command_laws.specs.SelftestSizes.{selftest_lines}
 use Rattle.command_laws.specs.SelftestLaw.{SelftestGives, SelftestLaw}
@@ -17,27 +17,35 @@ use Rattle.command_laws.proofs.GeneratedImage.{refusal_passes, length-selftest}
 use Rattle.command_laws.proofs.GeneratedAgain.{again, reopened}
 use Rattle.command_laws.proofs.LookupLemmas.{told}
 
-module _ (reopens : (o : Object) → ReopenLaw o) (keeps : (o : Object) → SettlingKeepsItems o) (out : List ℕ) (n : ℕ) (from : 1 ≤ n) (small : n ≤ 60000) where
+module _
+    (reopens : (o : Object) → ReopenLaw o) (keeps : (o : Object) → SettlingKeepsItems o)
+    (out : List ℕ) (n : ℕ) (from : 1 ≤ n) (small : n ≤ 60000) where
   written : file_of (shifted n) ≡ Ok (image (shifted n))
   unfolding file_of
   written = rw (refusal_passes n small) refl
 
-  done : selftest_done out n ≡ Ok (record { shown = selftest_lines n; writes = made_file out (image (shifted n)) ∷ [] })
-  unfolding selftest_done
-  done =
+  -- the lines, and an object's image as OUT
+  given_of : Object → Done
+  given_of o = record { shown = selftest_lines n; writes = made_file out (image o) ∷ [] }
+
+  done_shifted : selftest_done out n ≡ Ok (given_of (shifted n))
+  unfolding selftest_done given_of
+  done_shifted =
       let is = reopened n from small reopens keeps in
       let opens = is.opens in
       let lines = told n (again n from small reopens keeps) from small is (length-selftest n small) in
       rw (shifted_is n, written, opens, lines) refl
 
+  done_is : selftest_done out n ≡ Ok (given_of (generated_and_shifted n))
+  done_is = done_shifted ∙ ap (λ o. Ok (given_of o)) (sym (shifted_is n))
+
   pub gives : SelftestGives out n
-  unfolding selftest_outcome written_outcome
+  unfolding selftest_outcome written_outcome given_of
   gives = record {
     object = generated_object n small;
     updated = ap refusal (shifted_is n) ∙ refusal_passes n small;
-    outcome =
-        ap (written_outcome (codes "selftest")) done
-        ∙ ap (λ (o : Object). outcome_with (shown (selftest_lines n)) (made_file out (image o) ∷ [])) (sym (shifted_is n));
+    done = done_is;
+    outcome = ap (written_outcome (codes "selftest")) done_is;
     bytes = ap (λ (o : Object). length (image o)) (shifted_is n) ∙ length-selftest n small;
   }
 

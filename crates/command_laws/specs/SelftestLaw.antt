@@ -1,19 +1,24 @@
 -- What the self test gives, for each number of sections that it takes.
-use Rattle.std.specs.Prelude.{◌≡◌, ℕ, ◌≤◌, List, [], ◌∷◌, length, None}
+use Rattle.std.specs.Prelude.{◌≡◌, ℕ, ◌≤◌, List, [], ◌∷◌, length, None, Ok}
 use Rattle.elf_object.specs.Valid.{IsObject}
 use Rattle.elf_object.specs.Refusal.{refusal}
 use Rattle.elf_object.specs.Image.{image}
 use Rattle.tool_output.specs.Reports.{shown}
 use Rattle.command_objects.specs.Generated.{generated, generated_and_shifted}
 use Rattle.tool_output.specs.Made.{outcome_with, made_file}
-use Rattle.command_outcomes.specs.Selftest.{selftest_outcome}
+use Rattle.command_outcomes.specs.Selftest.{selftest_done, selftest_outcome}
 use Rattle.command_laws.specs.SelftestSizes.{selftest_bytes, selftest_lines}
 
 -- what is generated is an object, its update is not refused, and the command makes its image, whose
--- length is stated, and shows the lines that are stated
+-- length is stated, and shows the lines that are stated; the file that it opens again is not refused
 pub record SelftestGives (out : List ℕ) (n : ℕ) : Type 0 where
   pub object : IsObject (generated n)
   pub updated : refusal (generated_and_shifted n) ≡ None
+  pub done : selftest_done out n
+      ≡ Ok (record {
+        shown = selftest_lines n;
+        writes = made_file out (image (generated_and_shifted n)) ∷ [];
+      })
   pub outcome : selftest_outcome out n
       ≡ outcome_with
       (shown (selftest_lines n))

@@ -3,6 +3,7 @@
 -- say what is loaded of the file).
 use Rattle.std.specs.Prelude.{ℕ, ◌+◌, ◌*◌, min, true, not, ◌==◌, ◌&&◌, ◌||◌, nat_eq, List, [], ◌∷◌, ◌++◌, length, take, map, filter, slice_index, if◌then◌else◌, Option, Some, None, Result, Ok}
 use Rattle.std.specs.List.{position, enumerate_from}
+use Rattle.std.specs.Option.{option_map}
 use Rattle.elf_types.specs.Answers.{refused_if, answered}
 use Rattle.elf_types.specs.declared.records.Phdr.{Phdr}
 use Rattle.elf_types.specs.declared.errors.ElfError.{ElfError}
@@ -61,26 +62,34 @@ movable o =
     (λ s. not (is_null (header_at o s)) && not (is_allocated (header_at o s)))
     (section_numbers o)
 
--- they and the section header table, as they stand without ELF_F_LAYOUT, from the tail on
-unfoldable pub parts_from : Object → ℕ → List PartAt
-parts_from o tail = in_order_from tail (map (section_part o) (movable o) ++ table_part o ∷ [])
+-- the section header table, where there are sections
+abbrev pub table_parts : Object → List PartAt
+table_parts o = if length o.sections == 0 then [] else table_part o ∷ []
 
--- the place of a section: among those that are placed, or its own
-unfoldable pub place_from : Object → ℕ → ℕ → ℕ
-place_from o tail s = elim (position (nat_eq s) (movable o)) [
-  | None ↦ (header_at o s).offset
-  | Some i ↦ slice_index (positions (parts_from o tail)) i
-]
+-- they and the table, as they stand without ELF_F_LAYOUT, from the tail on
+unfoldable pub parts_from : Object → ℕ → List PartAt
+parts_from o tail = in_order_from tail (map (section_part o) (movable o) ++ table_parts o)
+
+-- the place of a section among those that are placed
+unfoldable pub place_from : Object → ℕ → ℕ → Option ℕ
+place_from o tail s =
+    option_map (slice_index (positions (parts_from o tail))) (position (nat_eq s) (movable o))
 
 abbrev pub table_place_from : Object → ℕ → ℕ
 table_place_from o tail = slice_index (positions (parts_from o tail)) (length (movable o))
 
+-- what is placed is marked, as gelf_update_shdr marks it
 unfoldable pub section_from : Object → ℕ → ℕ → Section → Section
-section_from o tail s c = record c { header = record c.header { offset = place_from o tail s } }
+section_from o tail s c = elim (place_from o tail s) [
+  | None ↦ c
+  | Some place ↦ record c { header = record c.header { offset = place }; marked = true }
+]
 
--- the object with these places in its headers
+-- the object with these places in its headers; without sections there is nothing to place
 unfoldable pub placed_from : Object → ℕ → Object
-placed_from o tail = with_ehdr
+placed_from o tail =
+    if length o.sections == 0 then o
+    else with_ehdr
     (record o {
       sections = map (λ row. section_from o tail row.0 row.1) (enumerate_from 0 o.sections);
     })

@@ -113,11 +113,12 @@ with_added o change =
 
 -- ---- The table of the names, written anew
 
--- a section's header with the place of its name
+-- a section's header with the place of its name; it is marked, as gelf_update_shdr marks it
 abbrev pub named_section : List (List ℕ) → ℕ → Section → Section
 named_section names s c =
     let name = slice_index_or ([] ∷ names) s [] in
-    if s == 0 then c else record c { header = record c.header { name = place_of name names } }
+    if s == 0 then c
+    else (record c { header = record c.header { name = place_of name names }; marked = true })
 
 -- each section's name in the table, and the table in the section of the names
 unfoldable pub with_names : Object → List (List ℕ) → Object

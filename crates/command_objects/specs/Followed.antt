@@ -96,14 +96,13 @@ followed_word m word = elim (renumbered m word) [
 ]
 
 -- the word of a symbol counts: its index is extended, and the word is a section's number
-abbrev pub word_counts : Renumbering → Sym → Option ℕ → Bool
-word_counts m x None = false
-word_counts m x (Some word) = is_extended x && is_section_number m word
+abbrev pub word_counts : Renumbering → Sym → ℕ → Bool
+word_counts m x word = is_extended x && is_section_number m word
 
 abbrev pub followed_by_word : Renumbering → Option ℕ → Sym → Sym
 followed_by_word m None x = followed_sym m x
 followed_by_word m (Some word) x =
-    if word_counts m x (Some word) then followed_extended m word x else followed_sym m x
+    if word_counts m x word then followed_extended m word x else followed_sym m x
 
 -- symbols, with the words of their extended indexes, of which there may be fewer or none
 unfoldable pub followed_syms : Renumbering → List ℕ → List Sym → List Sym
@@ -112,7 +111,7 @@ followed_syms m words syms =
 
 abbrev pub word_of_sym : Renumbering → ℕ → Option Sym → ℕ
 word_of_sym m word None = word
-word_of_sym m word (Some x) = if word_counts m x (Some word) then followed_word m word else word
+word_of_sym m word (Some x) = if word_counts m x word then followed_word m word else word
 
 -- those words, with the symbols
 unfoldable pub followed_words : Renumbering → List Sym → List ℕ → List ℕ

@@ -109,7 +109,8 @@ generated_and_shifted n = step (addall (n + 1) 0 n) (generated n)
 abbrev pub line_of : List ℕ → List ℕ → List ℕ
 line_of word number = word ++ codes " " ++ number ++ codes "\n"
 
--- what a lookup found
+-- what a lookup found. In the image that was written it finds the symbol (`SelftestLaw` of
+-- command_laws); where somebody else changed the file since, it may find none.
 abbrev pub found_text : Option ℕ → List ℕ
 found_text (Some i) = decimal i
 found_text None = codes "none"

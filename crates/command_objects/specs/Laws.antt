@@ -7,13 +7,13 @@ use Rattle.elf_types.specs.declared.records.Class.{Class}
 use Rattle.elf_types.specs.declared.records.Phdr.{Phdr}
 use Rattle.elf_types.specs.declared.records.Sym.{Sym}
 use Rattle.elf_types.specs.declared.errors.ElfError.{ElfError}
-use Rattle.elf_types.specs.declared.constants.TheConstants.{PT_LOAD, SHN_LORESERVE, PN_XNUM, SHT_REL, SHT_RELA}
+use Rattle.elf_types.specs.declared.constants.TheConstants.{PT_LOAD, SHT_REL, SHT_RELA}
 use Rattle.elf_xlate.specs.Fields.{Field, field, place_in}
 use Rattle.elf_xlate.specs.Headers.{ehdr_size, shdr_size}
 use Rattle.elf_ident.specs.declared.fronts.Front.{Front}
-use Rattle.elf_ident.specs.Front.{front}
+use Rattle.elf_ident.specs.Front.{front, needs_first}
 use Rattle.elf_object.specs.Object.{Object}
-use Rattle.elf_object.specs.Open.{begun, opened}
+use Rattle.elf_object.specs.Open.{begun, opened, standing_header}
 use Rattle.elf_object.specs.Answers.{items_at, syms_of, rels_of, relas_of}
 use Rattle.elf_object.specs.Derived.{where_any}
 use Rattle.elf_object.specs.Valid.{AreBytes, IsObject}
@@ -28,14 +28,9 @@ use Rattle.command_objects.specs.HashSections.{is_whole_sysv, is_whole_gnu}
 use Rattle.command_objects.specs.Hashes.{gnu_hash}
 use Rattle.command_objects.specs.BuiltHashes.{GnuShape, buckets_of, gnu_order_of, first_unsorted, build_sysv_answer, build_gnu_answer}
 use Rattle.command_objects.specs.Rehashed.{dynamic_symbols, rehashed}
+use Rattle.command_objects.specs.Reordered.{reordered}
 
 -- ---- What is made is an object
-
--- an object that an image gives
-pub record IsOpened (o : Object) : Type 0 where
-  pub image : List ℕ
-  pub bytes : AreBytes image
-  pub object : opened image ≡ Ok o
 
 -- changes whose bytes and flags are in their ranges
 pub record AreChanges (c : Changes) : Type 0 where
@@ -44,31 +39,32 @@ pub record AreChanges (c : Changes) : Type 0 where
   pub rename : All (λ change. AreBytes change.1) c.rename
   pub add : All (λ change. AreBytes change.0 × AreBytes change.1) c.add
 
+-- of each object, whether its source tells its bytes or not
 pub record MadeAreObjects : Type 0 where
   pub rebuilt :
-      (o : Object) (removed : List ℕ) (r : Rebuilt) → IsOpened o → rebuilt o removed ≡ Ok r
+      (o : Object) (removed : List ℕ) (r : Rebuilt) → IsObject o → rebuilt o removed ≡ Ok r
       → IsObject r.object
   pub copied :
-      (o : Object) (c : Changes) (r : Rebuilt) → IsOpened o → AreChanges c → copied c o ≡ Ok r
+      (o : Object) (c : Changes) (r : Rebuilt) → IsObject o → AreChanges c → copied c o ≡ Ok r
       → IsObject r.object
-  pub rehashed : (o p : Object) → IsOpened o → rehashed o ≡ Ok p → IsObject p
-  pub debug : (o p : Object) → IsOpened o → debug_of o ≡ Ok p → IsObject p
+  pub reordered :
+      (o : Object) (s : ℕ) (order : List ℕ) → IsObject o → length order ≤ 2 ^ 32
+      → IsObject (reordered o s order)
+  pub rehashed : (o p : Object) → IsObject o → rehashed o ≡ Ok p → IsObject p
+  pub debug : (o p : Object) → IsObject o → debug_of o ≡ Ok p → IsObject p
   pub combined :
-      (o d : Object) (r : Rebuilt) → IsOpened o → IsOpened d → unstripped o d ≡ Ok r
+      (o d : Object) (r : Rebuilt) → IsObject o → IsObject d → unstripped o d ≡ Ok r
       → IsObject r.object
 
 -- ---- Loadable bytes stay
 
--- a header as linkers write it: nothing in bytes 9 to 15, the sizes of its class, and each count
--- in its own field
+-- a header as linkers write it: nothing in bytes 9 to 15, the sizes of its class, and no number of
+-- its own in section 0
 pub record IsUsual (f : Front) : Type 0 where
   pub pad : f.pad ≡ replicate 7 0
   pub ehsize : f.ehdr.ehsize ≡ ehdr_size f.ehdr.class
   pub shentsize : f.ehdr.shentsize ≡ where_any (length f.shdrs) (shdr_size f.ehdr.class)
-  pub written : f.written ≡ f.ehdr.phnum ∷ f.ehdr.shnum ∷ f.ehdr.shstrndx ∷ []
-  pub phnum : f.ehdr.phnum < PN_XNUM
-  pub shnum : f.ehdr.shnum < SHN_LORESERVE
-  pub shstrndx : f.ehdr.shstrndx < SHN_LORESERVE
+  pub numbers : needs_first (standing_header f) ≡ false
 
 -- the fields that strip may change: e_shoff, e_shnum and e_shstrndx
 unfoldable pub changing_fields : List Field

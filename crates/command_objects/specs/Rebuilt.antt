@@ -90,7 +90,8 @@ rebuilt_section o removed s =
 -- ---- The new image
 
 -- an object with the stored fields of a header, another string index, the program headers and
--- these sections
+-- these sections. The program headers are made by gelf_newphdr, also where there are none, and so
+-- they are marked.
 unfoldable pub assembled : Object → Object → ℕ → List Section → Object
 assembled empty o index sections =
     with_ehdr
