@@ -1,18 +1,18 @@
 -- The pieces of a section one after the other: the first that covers an offset, and where the last one ends.
-use Rattle.std.proofs.Common.{◌≡◌, ℕ, suc, ◌+◌, ◌-◌, ◌<◌, ◌≤◌, ◌&&◌, Bool, true, false, List, [], ◌∷◌, length, drop, get_or, map, Option, Some, None, refl, sym, ap, ◌∙◌, subst, add-one, arith}
+use Rattle.std.proofs.Common.{◌≡◌, ℕ, ◌+◌, ◌-◌, ◌<◌, ◌≤◌, ◌&&◌, Bool, true, false, List, [], ◌∷◌, length, drop, map, Option, Some, None, refl, sym, ap, ◌∙◌, subst, arith}
 use Rattle.std.specs.Prelude.{◌^◌, min, nat_le, nat_lt, slice_get, filter, is_none}
-use Rattle.std.proofs.Math.Seq.{drop-cons}
 use Rattle.std.proofs.Math.ListN.{drop_of_length-le}
 use Rattle.std.proofs.lemmas.Bool.{lt-leb, leb-true, ltb-true, and_left, cond-true, cond-false}
-use Rattle.std.proofs.lemmas.List.{drop-map, length-map}
+use Rattle.std.proofs.lemmas.List.{length-map}
 use Rattle.elf_types.specs.declared.errors.ElfError.TheVariants.{NoString}
 use Rattle.elf_types.specs.Answers.{refused_if}
 use Rattle.elf_layout.specs.Layout.{rounded_up}
 use Rattle.elf_object.specs.Blocks.{Block, block_end, block_covers, stacked, last_end}
-use Rattle.elf_object.specs.Object.{Object, Section, Piece, section_at, piece_at, home_piece}
+use Rattle.elf_object.specs.Object.{Object, Piece, section_at, piece_at}
 use Rattle.elf_object.specs.Answers.{piece_count}
 use Rattle.elf_object.specs.Joined.{piece_bytes, aligned_pieces, piece_blocks, pieces_end}
 use Rattle.elf_object.specs.Strings.{piece_over, no_string}
+use Rattle.elf_object.proofs.RunningEnds.{end_later, pieces_from}
 use Rattle.gelf_view.specs.declared.string_places.Stand.{Stand}
 use Rattle.gelf_view.specs.declared.string_places.Stand.TheVariants.{Covers, Ends, Past}
 use Rattle.gelf_view.specs.Strings.{bytes_in, is_in, IsOver, Stands}
@@ -72,15 +72,6 @@ over_none end (p ∷ ps) offset before =
     over_others end p.0 p.1 ps offset (and_left (nat_le (rounded_up end p.0) offset) (nat_lt offset (rounded_up end p.0 + length p.1)) (lt-leb (rounded_up end p.0) offset (omega (arith, up, before))))
     ∙ over_none (rounded_up end p.0 + length p.1) ps offset (omega (arith, up, before))
 
--- they end at the earliest where they begin
-pub end_later : (end : ℕ) (ps : List (ℕ × List ℕ)) → end ≤ last_end end (stacked end ps)
-unfolding stacked last_end block_end
-end_later end [] = omega arith
-end_later end (p ∷ ps) =
-    let up = rounded_up_le end p.0 in
-    let later = end_later (rounded_up end p.0 + length p.1) ps in
-    omega (arith, up, later)
-
 -- ---- The pieces of a section
 
 module _ (o : Object) (s offset : ℕ) where
@@ -101,23 +92,17 @@ module _ (o : Object) (s offset : ℕ) where
   abbrev next_piece : ℕ → ℕ × List ℕ
   next_piece p = ((piece_at o s p).align, bytes_in o s p)
 
-  pieces_from : (p : ℕ) → p < piece_count o s
+  next_from : (p : ℕ) → p < piece_count o s
       → drop p (aligned_pieces o.header.class o.header.order (section_at o s)) ≡ next_piece p ∷ drop (p + 1) (aligned_pieces o.header.class o.header.order (section_at o s))
-  unfolding aligned_pieces bytes_in piece_at piece_count
-  pieces_from p there =
-      let form : Piece → ℕ × List ℕ = λ q. (q.align, piece_bytes o.header.class o.header.order (section_at o s).raw q) in
-      let pieces = (section_at o s).pieces in
-      let first : drop p pieces ≡ get_or pieces p home_piece ∷ drop (p + 1) pieces = rw add-one (drop-cons pieces p home_piece there) in
-      drop-map form p pieces
-      ∙ ap (λ (l : List Piece). map form l) first
-      ∙ ap (λ (l : List (ℕ × List ℕ)). form (get_or pieces p home_piece) ∷ l) (sym (drop-map form (p + 1) pieces))
+  unfolding bytes_in
+  next_from p there = pieces_from o s p there
 
   -- a piece that covers it
   pub left_covers : (end p : ℕ) → p < piece_count o s → IsLeft end p → is_in end (piece_at o s p).align (length (bytes_in o s p)) offset ≡ true
       → piece_over o s offset ≡ Some (record { at = rounded_up end (piece_at o s p).align; bytes = bytes_in o s p })
   left_covers end p there left within =
       left.over
-      ∙ ap (λ (l : List (ℕ × List ℕ)). first_over (stacked end l) offset) (pieces_from p there)
+      ∙ ap (λ (l : List (ℕ × List ℕ)). first_over (stacked end l) offset) (next_from p there)
       ∙ over_first end (piece_at o s p).align (bytes_in o s p) (drop (p + 1) (aligned_pieces o.header.class o.header.order (section_at o s))) offset within
 
   -- one that does not
@@ -127,10 +112,10 @@ module _ (o : Object) (s offset : ℕ) where
       let rest = drop (p + 1) (aligned_pieces o.header.class o.header.order (section_at o s)) in
       record {
         over = left.over
-            ∙ ap (λ (l : List (ℕ × List ℕ)). first_over (stacked end l) offset) (pieces_from p there)
+            ∙ ap (λ (l : List (ℕ × List ℕ)). first_over (stacked end l) offset) (next_from p there)
             ∙ over_others end (piece_at o s p).align (bytes_in o s p) rest offset past;
         size = left.size
-            ∙ ap (λ (l : List (ℕ × List ℕ)). last_end end (stacked end l)) (pieces_from p there)
+            ∙ ap (λ (l : List (ℕ × List ℕ)). last_end end (stacked end l)) (next_from p there)
             ∙ end_after end (piece_at o s p).align (bytes_in o s p) rest offset;
       }
 
