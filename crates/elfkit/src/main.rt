@@ -3,6 +3,9 @@
 
 ghost use Rattle.std.specs.Prelude.{◌≡◌, ◌⊎◌, IfErr};
 
+mod failures;
+
+use crate::failures::{say_no_memory, say_why};
 use elf_outside::{RealFiles, RealSink, Sink};
 use elfkit_run::run;
 use std::env;
@@ -30,9 +33,10 @@ fn read_arguments(rt: &(impl Env + AllocGlobal)) -> Result<Args, Status>
     Ok(words)
 }
 
-/// The status of a run whose words can't be had. Words that are not text have a message first.
+/// The status of a run whose words can't be had, after a message.
 fn end_without_words(rt: &HostRuntime, status: Status) -> Status {
     if status != Status::BadWords {
+        say_no_memory(rt);
         return status;
     }
     match RealSink::new(rt.stderr()).put(b"elfkit: an argument is not text in UTF-8\n") {
@@ -48,12 +52,15 @@ fn start(rt: &HostRuntime) -> Status {
         Err(status) => return end_without_words(rt, status),
     };
     let Ok(system) = rt.clone() else {
+        say_no_memory(rt);
         return Status::NoMemory;
     };
     let mut files = RealFiles::new(system);
     let mut out = RealSink::new(rt.stdout());
     let mut err = RealSink::new(rt.stderr());
-    run(rt.alloc(), &words, &mut files, &mut out, &mut err)
+    let status = run(rt.alloc(), &words, &mut files, &mut out, &mut err);
+    say_why(rt, status, &files, &out, &err);
+    status
 }
 
 fn main(rt: HostRuntime) -> ExitCode {
