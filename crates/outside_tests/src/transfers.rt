@@ -122,8 +122,8 @@ fn a_file_that_takes_little_is_written_whole(rt: HostRuntime) {
 }
 
 /// Whether zeros are written from a place on, of which a file takes those from places below 7.
-fn zeros_are_written(at: u8, n: u64, done: u64) -> bool {
-    write_zeros_from(&new_drip(), u64::from(at), n, &mut unsaid()) == done
+fn zeros_are_written(at: u8, n: u16, done: u64) -> bool {
+    write_zeros_from(&new_drip(), u64::from(at), u64::from(n), &mut unsaid()) == done
 }
 
 #[test]
