@@ -1,5 +1,4 @@
 mod Rows
-pub mod OnceSums
 pub mod HomeSteps
 mod StatedSteps
 mod ReadLemmas

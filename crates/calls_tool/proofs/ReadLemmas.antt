@@ -12,7 +12,7 @@ use Rattle.elf_descriptor.specs.State.{State}
 use Rattle.symbol_lookup.proofs.SearchLaws.{one_stays}
 use Rattle.tool_output.specs.declared.stops.Stop.{Stop}
 use Rattle.calls_tool.specs.Reads.{read_by, LeavesState, ReadsHomes}
-use Rattle.calls_tool.proofs.OnceSums.{has, Once, sums_same, sum_within, went_within, first_in_both, second_in_both, is_out}
+use Rattle.object_output.proofs.OnceSums.{has, Once, sums_same, sum_within, went_within, first_in_both, second_in_both, is_out}
 use Rattle.calls_tool.proofs.HomeSteps.{KeepsHomes}
 
 -- ---- What is due

@@ -33,7 +33,7 @@ use Rattle.calls_apply.specs.Stated.{stated}
 use Rattle.calls_apply.specs.Applies.{Meets, Leaves, at_any_step}
 use Rattle.calls_tool.specs.Reads.{read_by, LeavesState, ReadsHomes}
 use Rattle.calls_tool.specs.Runs.{stated_calls, answer_report, calls_report, stop_in, ShowsAnswer, RunsCall, IsFrontOf, RunsCalls}
-use Rattle.calls_tool.proofs.OnceSums.{has}
+use Rattle.object_output.proofs.OnceSums.{has}
 use Rattle.calls_tool.proofs.HomeSteps.{KeepsHomes, homes_same, homes_then}
 use Rattle.calls_tool.proofs.StatedSteps.{stated_keeps, stated_once}
 use Rattle.calls_tool.proofs.ReadLemmas.{next_reads, rest_reads, state_none, state_then, reads_none, reads_more, reads_stop}

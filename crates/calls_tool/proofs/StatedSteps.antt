@@ -18,7 +18,8 @@ use Rattle.calls_script.specs.declared.calls.ItemSet.{ItemSet}
 use Rattle.calls_script.specs.declared.calls.ItemSet.TheVariants as set
 use Rattle.calls_apply.specs.Fields.{ehdr_with, phdr_with, shdr_with, sym_with, rel_with, rela_with, dyn_with}
 use Rattle.calls_apply.specs.Stated.{stated, item_set}
-use Rattle.calls_tool.proofs.OnceSums.{Once, once_none, once_one, once_others}
+use Rattle.object_output.proofs.OnceSums.{Once, once_none, once_one, once_others}
+use Rattle.object_output.proofs.OnceReads.{once_unless, once_piece, once_clean, once_read}
 use Rattle.calls_tool.proofs.HomeSteps.{KeepsHomes, homes_same, keeps_ehdr, keeps_phdr, keeps_shdr, keeps_own, keeps_or_same, keeps_look, keeps_new_section, keeps_new_phdrs, keeps_new_piece, keeps_fill, keeps_flags}
 
 -- ---- What is left
@@ -89,21 +90,6 @@ stated_keeps q o = keeps_step (stated q) o (keeps_after q o)
 
 -- ---- What is read
 
-once_if : (test : Bool) (a b : List ℕ) → Once a → Once b → Once (if test then a else b)
-once_if true a b one other = one
-once_if false a b one other = other
-
-once_unless : (r : Option ElfError) (l : List ℕ) → Once l → Once (unless_refused r l)
-once_unless r l once = once_if (is_refused_unread r) [] l once_none once
-
-once_piece : (o : Object) (s p : ℕ) → Once (when_piece_clean o s p)
-unfolding when_piece_clean
-once_piece o s p = once_if (is_none (piece_at o s p).own) (s ∷ []) [] (once_one s) once_none
-
-once_clean : (o : Object) (s : ℕ) → Once (when_clean o s)
-unfolding when_clean
-once_clean o s = once_if (home_is_clean (section_at o s)) (s ∷ []) [] (once_one s) once_none
-
 once_find : (o : Object) (s : ℕ) → Once (unless_refused (linear_refusal o s) (linear_needs o s).homes)
 unfolding linear_needs table_homes
 once_find o s =
@@ -117,9 +103,6 @@ once_looked : {A B : Type 0} (first : calls.Call A) (second : A → calls.Call B
     → Once ((looked first second).reads o)
 once_looked first second o one other =
     once_others (first.reads o) (after_look (first.answer o) (λ x. (second x).reads o) []) one (once_look (first.answer o) (λ x. (second x).reads o) other)
-
-once_read : {A : Type 0} (s p : ℕ) (o : Object) (answer : Result A ElfError) → Once (piece_reads s p o answer)
-once_read s p o answer = once_unless (err_of answer) (when_piece_clean o s p) (once_piece o s p)
 
 once_set : {A : Type 0} (get : calls.Call A) (update : A → calls.Call (Unit {0})) (change : A → A) (o : Object) → Once (get.reads o) → ((x : A) → Once ((update x).reads o))
     → Once ((set_item get update change).reads o)

@@ -16,7 +16,7 @@ use Rattle.tool_output.specs.Steps.{LeavesOutputs}
 use Rattle.object_output.specs.Steps.{SourceRose}
 use Rattle.calls_script.specs.declared.calls.Call.{Call}
 use Rattle.calls_apply.specs.declared.answers.Answer.{Answer}
-use Rattle.calls_apply.specs.declared.answers.Answer.TheVariants.{Refused}
+use Rattle.calls_apply.specs.declared.answers.Answer.TheVariants.{Refused, Size}
 use Rattle.calls_apply.specs.Stated.{stated, is_built}
 use Rattle.calls_tool.specs.Lines.{answer_line}
 use Rattle.calls_tool.specs.Reads.{read_by, LeavesState, ReadsHomes}
@@ -39,6 +39,11 @@ answer_report (Err e) = found (answer_line (Refused e))
 -- the lines of the answers, in the order of the calls
 unfoldable pub calls_report : List Call → Object → Report
 calls_report cs o = reports_of answer_report (answers_to (stated_calls cs) o)
+
+-- what is said of the update that follows the calls: the length of the image, or the refusal
+unfoldable pub update_report : Result ℕ ElfError → Report
+update_report (Ok n) = shown (answer_line (Size n))
+update_report (Err e) = found (answer_line (Refused e))
 
 -- ---- An answer
 

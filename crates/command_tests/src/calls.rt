@@ -228,24 +228,24 @@ const REFUSALS: [(&[u8], &[u8]); 6] = [
     (b" ehdr\n", b"calls: S: line 1: no such call\n"),
 ];
 
-/// A script as the file S, and no other file.
+/// A script as the file S, and a file F of no bytes.
 #[derive(Clone, Copy)]
 struct Script(&'static [u8]);
 
 impl Given for Script {
     fn add_to(&self, alloc: Global, files: &mut MemFiles) -> Result<(), ElfError> {
+        add_file(alloc, files, "F", b"")?;
         add_file(alloc, files, "S", self.0)
     }
 }
 
-/// Whether a script is refused by a message, though there is no file F.
+/// The second file is not handed out: a run that asks for it ends with 3.
+const SECOND_FAILS: Failing = Failing { open: 2, ..NOTHING };
+
+/// Whether a script is refused by a message, and no other file is opened.
 fn is_refused(alloc: Global, script: &'static [u8], err: &'static [u8]) -> Result<bool, ElfError> {
-    ends(
-        alloc,
-        "calls F S",
-        Script(script),
-        &Ending { err, ..REFUSED },
-    )
+    let ran = run_line(alloc, "calls F S", &Script(script), SECOND_FAILS)?;
+    Ok(ran.is(&Ending { err, ..REFUSED }))
 }
 
 #[test]

@@ -11,6 +11,7 @@ use test_images::{
     FORMS, Field, HeaderField, Image, NULL_SECTION, SectionField, header_of, symbol_object,
     with_segments,
 };
+use test_runs::{Elflint, said_by};
 use tool_output::Status;
 
 /// No rule finds anything.
@@ -315,4 +316,15 @@ fn hash_sections_that_are_not_whole_are_found(rt: HostRuntime) -> Result<(), Fai
         assert!(rt; writes(rt.alloc(), broken)?);
     }
     Ok(())
+}
+
+/// Whether elflint's own call finds nothing in a sound object.
+fn own_call_finds_nothing(alloc: Global) -> Result<bool, ElfError> {
+    let object = symbol_object(alloc, Class::C64, Order::Least)?;
+    Ok(said_by(alloc, &Elflint, object)?.is(false, b"F: no findings\n", b""))
+}
+
+#[test]
+fn the_own_call_looks_over_two_outputs(rt: HostRuntime) {
+    assert!(rt; own_call_finds_nothing(rt.alloc()) == Ok(true));
 }

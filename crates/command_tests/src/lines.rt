@@ -7,6 +7,7 @@ use elf_xlate::shdr_size;
 use std::alloc::Global;
 use std::test::Fail;
 use test_images::{Field, Image, NULL_SECTION, SectionField, header_of};
+use test_runs::{Lines, said_by};
 
 /// The names of the sections.
 const NAMES: &[u8] = b"\0.debug_line\0";
@@ -198,4 +199,15 @@ fn other_sections_are_refused_or_passed_over(rt: HostRuntime) -> Result<(), Fail
     }
     assert!(rt; refuses(rt.alloc(), "lines G", Bytes(b""), b"lines: G: not found\n")?);
     Ok(())
+}
+
+/// Whether the own call of lines shows the rows of a table.
+fn own_call_shows_the_rows(alloc: Global) -> Result<bool, ElfError> {
+    let object = with_lines(alloc, Class::C64, Order::Least, UNIT)?;
+    Ok(said_by(alloc, &Lines, object)?.is(false, LINES, b""))
+}
+
+#[test]
+fn the_own_call_shows_rows_over_two_outputs(rt: HostRuntime) {
+    assert!(rt; own_call_shows_the_rows(rt.alloc()) == Ok(true));
 }

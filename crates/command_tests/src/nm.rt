@@ -10,6 +10,8 @@ use std::test::Fail;
 use test_images::{
     Field, Image, NULL_SECTION, SectionField, header_alone, header_of, symbol_object,
 };
+use test_runs::{Nm, said_by};
+use tool_text::{NmOptions, Radix};
 
 /// Where the fields of the symbol stand in the object of class 64.
 const NAME: u64 = 96;
@@ -240,6 +242,27 @@ fn rows_have_their_letters(rt: HostRuntime) -> Result<(), Fail> {
         assert!(rt; shows_so(rt.alloc(), change)?);
     }
     Ok(())
+}
+
+/// No options.
+const PLAIN: NmOptions = NmOptions {
+    name_each: false,
+    globals: false,
+    undefined: false,
+    by_value: false,
+    portable: false,
+    radix: Radix::Hex,
+};
+
+/// Whether nm's own call shows the row of the object.
+fn own_call_shows_the_row(alloc: Global) -> Result<bool, ElfError> {
+    let object = symbol_object(alloc, Class::C64, Order::Least)?;
+    Ok(said_by(alloc, &Nm(&PLAIN), object)?.is(false, b"0000000000001000 A a\n", b""))
+}
+
+#[test]
+fn the_own_call_shows_rows_over_two_outputs(rt: HostRuntime) {
+    assert!(rt; own_call_shows_the_row(rt.alloc()) == Ok(true));
 }
 
 /// Whether nm shows the row of the object of class 32, greatest byte first.

@@ -7,6 +7,7 @@ use elf_xlate::shdr_size;
 use std::alloc::Global;
 use std::test::Fail;
 use test_images::{Image, NULL_SECTION, header_of};
+use test_runs::{Size, said_by};
 use tool_output::Status;
 
 /// A section of a type with flags and a size, of which the file need not hold the bytes.
@@ -115,4 +116,21 @@ fn the_first_line_stands_where_all_is_refused(rt: HostRuntime) -> Result<(), Fai
     assert!(rt; ends(rt.alloc(), "size F G", Bytes(b"abc"), &TITLE_ALONE)?);
     assert!(rt; ends(rt.alloc(), "size", Bytes(b""), &USAGE)?);
     Ok(())
+}
+
+/// Whether size's own call shows the row of an object, without the first line.
+fn own_call_shows_the_row(alloc: Global) -> Result<bool, ElfError> {
+    let sections = [
+        (SHT_PROGBITS, 6, 32),
+        (SHT_PROGBITS, 3, 16),
+        (SHT_NOBITS, 3, 256),
+    ];
+    let object = with_sections(alloc, &sections)?;
+    let row = b"     32\t     16\t    256\t    304\t    130\tF\n";
+    Ok(said_by(alloc, &Size, object)?.is(false, row, b""))
+}
+
+#[test]
+fn the_own_call_shows_a_row_over_two_outputs(rt: HostRuntime) {
+    assert!(rt; own_call_shows_the_row(rt.alloc()) == Ok(true));
 }

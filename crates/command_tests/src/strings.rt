@@ -7,7 +7,9 @@ use elf_xlate::shdr_size;
 use std::alloc::Global;
 use std::test::Fail;
 use test_images::{Field, Image, NULL_SECTION, SectionField, header_of};
+use test_runs::strings_of;
 use tool_output::Status;
+use tool_text::{Radix, StringsOptions};
 
 /// Words, the bytes of the file F, and what is shown.
 const SHOWN: [(&str, &[u8], &[u8]); 8] = [
@@ -170,4 +172,21 @@ fn each_home_is_shown_by_itself(rt: HostRuntime) -> Result<(), Fail> {
         assert!(rt; ends_changed(rt.alloc(), *field, *value, ending)?);
     }
     Ok(())
+}
+
+/// All bytes, runs of four, and their places in decimal.
+const PLACED: StringsOptions = StringsOptions {
+    all: true,
+    least: 4,
+    place: Some(Radix::Decimal),
+};
+
+/// Whether the own call of strings shows the runs of bytes.
+fn own_call_shows_the_runs(alloc: Global) -> Result<bool, ElfError> {
+    Ok(strings_of(alloc, b"abc\0abcd", &PLACED)?.is(false, b"      4 abcd\n", b""))
+}
+
+#[test]
+fn the_own_call_shows_runs_over_two_outputs(rt: HostRuntime) {
+    assert!(rt; own_call_shows_the_runs(rt.alloc()) == Ok(true));
 }

@@ -1,6 +1,7 @@
 -- The command calls: a script is read, and then a file.
 use Rattle.std.proofs.Common.{◌≡◌, ◌≢◌, ◌⊎◌, inl, inr, ◌+◌, ◌≤◌, ℕ, Bool, true, List, [], ◌∷◌, length, codes, Option, Some, None, Result, Ok, Err, IfSome, IfOk, IsTrue, refl, sym, ap, ◌∙◌, subst, arith}
 use Rattle.std.specs.Prelude.{OnOk}
+use Rattle.std.proofs.lemmas.Result.{on_ok_weaker}
 use Rattle.elf_outside.specs.Counts.{Rose}
 use Rattle.elf_outside.specs.Names.{Map}
 use Rattle.elf_outside.specs.declared.sinks.Sink.{Ghosts as SinkGhosts}
@@ -15,7 +16,7 @@ use Rattle.tool_output.specs.Statuses.{refused_status}
 use Rattle.tool_output.specs.Files.{report_on, asks_on, both_bounds, IsWithin, OnlyReads, LeavesFiles, ReportsFiles}
 use Rattle.tool_output.specs.Outcomes.{Does, report_outcome}
 use Rattle.tool_output.proofs.StepLemmas.{keeps_then, writes_went, writes_then, writes_stop, writes_nothing, stops_as}
-use Rattle.tool_output.proofs.FileLemmas.{told_after, only_reads_then, totals_then, leaves_stop, report_on_same, asks_on_same}
+use Rattle.tool_output.proofs.FileLemmas.{within_both, told_after, only_reads_then, totals_then, leaves_stop, report_on_same, asks_on_same}
 use Rattle.tool_output.proofs.OutcomeLemmas.{reads_done}
 use Rattle.calls_script.specs.declared.calls.Call.{Call}
 use Rattle.calls_tool.specs.Runs.{AreBuilt}
@@ -25,24 +26,15 @@ use Rattle.elfkit_run.specs.Calls.{script_of, script_asks, ReadsCalls, calls_rep
 
 -- ---- Bounds
 
-within_both : (p q : Option ℕ) (a b c : ℕ) → IsWithin p a b → IsWithin q b c → IsWithin (both_bounds p q) a c
-within_both None q a b c h k = tt
-within_both (Some m) None a b c h k = tt
-within_both (Some m) (Some n) a b c h k = omega (arith, h, k)
-
 within_none : (p : Option ℕ) (a b : ℕ) → IsWithin p a b → IsWithin (both_bounds p (Some 0)) a b
 within_none p a b h = within_both p (Some 0) a b b h (omega arith)
-
-asked_if : {P : Type 0} (q : Result Bool Stop) → P → OnOk q P
-asked_if (Ok x) p = p
-asked_if (Err stop) p = tt
 
 -- ---- The outcome, by what the script says
 
 module _ {F D O E : Type 0} (f : FilesGhosts F D) (o : SinkGhosts O) (e : SinkGhosts E) (file script : List ℕ) (a b : F) (s t : Outputs O E) where
   module _ (c : F) (u : Outputs O E) (cs : List Call) (r : Result Bool Stop) (h : ReadsCalls f o e script (Ok (Some cs)) a b s t)
       (k : ReportsFiles f o e (λ named. report_on (codes "calls") (calls_file_report cs) named file) r b c t u)
-      (within : IsTrue (f.tells b) → IsWithin (asks_on (file_asks cs) (f.named b) file) (f.taken b) (f.taken c)) where
+      (within : IsTrue (f.tells b) → OnOk r (IsWithin (asks_on (file_asks cs) (f.named b) file) (f.taken b) (f.taken c))) where
     -- the script has calls, and they were run
     pub calls_done : IsTrue (f.tells a) → Does f o e refused_status (calls_outcome file script (f.named a)) r a c s u
     unfolding calls_outcome script_report no_report
@@ -62,10 +54,12 @@ module _ {F D O E : Type 0} (f : FilesGhosts F D) (o : SinkGhosts O) (e : SinkGh
         by_script (Ok calls) said asked =
             let these : cs ≡ calls = cc in
             let reports = report_on_same o e r t u (codes "calls") (calls_file_report cs) (f.named a) (f.named b) file file same refl (k.reports after) in
-            let asks = asks_on_same (file_asks cs) (f.named a) (f.named b) file file (f.taken b) (f.taken c) same refl (within after) in
+            let asks = λ (w : IsWithin (asks_on (file_asks cs) (f.named b) file) (f.taken b) (f.taken c)).
+            within_both (asks_on script_asks (f.named a) script) (asks_on (file_asks cs) (f.named a) file) (f.taken a) (f.taken b) (f.taken c) asked
+            (asks_on_same (file_asks cs) (f.named a) (f.named b) file file (f.taken b) (f.taken c) same refl w) in
             rw (← these) (reads_done f o e a c s u (report_on (codes "calls") (calls_file_report cs) (f.named a) file)
             (both_bounds (asks_on script_asks (f.named a) script) (asks_on (file_asks cs) (f.named a) file)) r told (only_reads_then f o e a b c h.reads k.reads)
-            (asked_if r (within_both (asks_on script_asks (f.named a) script) (asks_on (file_asks cs) (f.named a) file) (f.taken a) (f.taken b) (f.taken c) asked asks))
+            (on_ok_weaker r asks (within after))
             (record {
               writes = writes_then o e (Some cs) r s t u [] (report_on (codes "calls") (calls_file_report cs) (f.named a) file).marks said.writes reports.writes;
               value_is = reports.value_is;
@@ -144,7 +138,3 @@ performs_nothing o e stop s marks value = record { writes = writes_nothing o e s
 pub none_are_built : (r : Result (Option (List Call)) Stop) → IfOk r (λ calls. calls ≡ None) → IfOk r (λ calls. IfSome calls AreBuilt)
 none_are_built (Ok calls) is = rw is tt
 none_are_built (Err stop) is = tt
-
-pub asks_nothing : (p : Option ℕ) (before after : ℕ) → after ≡ before → IsWithin p before after
-asks_nothing None before after same = tt
-asks_nothing (Some n) before after same = omega (arith, same)

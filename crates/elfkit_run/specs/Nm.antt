@@ -1,5 +1,5 @@
 -- The command nm: the symbols of each file that it names.
-use Rattle.std.specs.Prelude.{ℕ, List, not, ◌&&◌, length, nat_lt, None, codes}
+use Rattle.std.specs.Prelude.{ℕ, List, not, ◌&&◌, length, nat_lt, true, codes}
 use Rattle.elf_outside.specs.Names.{Map}
 use Rattle.tool_output.specs.Outcomes.{Outcome}
 use Rattle.tool_text.specs.declared.options.NmOptions.{NmOptions}
@@ -11,7 +11,6 @@ use Rattle.elfkit_run.specs.Objects.{objects_outcome}
 
 -- The files in their order, each image under a title where more than one file is named, and each
 -- member of an archive under its own; where each row has the file's name (-A) there are no titles.
--- What it reads has no bound that is promised.
 unfoldable pub nm_outcome : NmOptions → List (List ℕ) → Map → Outcome
 nm_outcome options names named =
     let report = λ (title : Title). titled_report title (nm_report options) in
@@ -19,4 +18,4 @@ nm_outcome options names named =
     objects_outcome (codes "nm")
     (report (title_if (not options.name_each && many) Name))
     (report (title_if (not options.name_each) Name))
-    (λ image. None) names named
+    true names named

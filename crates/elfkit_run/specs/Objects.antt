@@ -1,5 +1,5 @@
 -- A command that speaks of the objects of files.
-use Rattle.std.specs.Prelude.{ℕ, List, map, Option}
+use Rattle.std.specs.Prelude.{ℕ, List, Bool, map}
 use Rattle.elf_outside.specs.Names.{Map}
 use Rattle.elf_object.specs.Object.{Object}
 use Rattle.tool_output.specs.Names.{Name}
@@ -17,10 +17,10 @@ unfoldable pub object_file_report : List ℕ → (Name → Object → Report) �
 object_file_report command report member_report =
     file_report (image_report command report) (archive_report command member_report)
 
--- it then asks for at most so many bytes of an image; the files in their order
+-- the files in their order; a command that reads no sections asks for nothing of them
 unfoldable pub objects_outcome : List ℕ → (Name → Object → Report) → (Name → Object → Report)
-    → (List ℕ → Option ℕ) → List (List ℕ) → Map → Outcome
-objects_outcome command report member_report asks names named =
+    → Bool → List (List ℕ) → Map → Outcome
+objects_outcome command report member_report reads names named =
     report_outcome
     (reports_of (report_on command (object_file_report command report member_report) named) names)
-    (all_bounds (map (asks_on (file_asks asks) named) names))
+    (all_bounds (map (asks_on (file_asks reads) named) names))

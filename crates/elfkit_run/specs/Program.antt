@@ -69,6 +69,31 @@ unfoldable pub opens_files : Result Command Usage → Bool
 opens_files (Ok command) = is_built command
 opens_files (Err usage) = false
 
+-- ---- Words that make a run write files
+
+-- a command that writes one, or is to
+unfoldable pub writes_files : Command → Bool
+writes_files (Readelf parts files) = false
+writes_files (Nm options files) = false
+writes_files (Size files) = false
+writes_files (Strings options files) = false
+writes_files (Strip options file) = true
+writes_files (Elflint files) = false
+writes_files (Calls None file script) = false
+writes_files (Calls (Some output) file script) = true
+writes_files (Selftest out count) = true
+writes_files (Rehash out file) = true
+writes_files (Copy changes out file) = true
+writes_files (Unstrip out stripped debug) = true
+writes_files (Lines files) = false
+
+-- words that are refused write none
+unfoldable pub hands_to_writes : Result Command Usage → Bool
+hands_to_writes (Ok command) = writes_files command
+hands_to_writes (Err usage) = false
+
+-- ---- The files
+
 -- the files are told, where the words make a run open any
 abbrev pub AreTold : List (List ℕ) → Bool → Type 0
 AreTold words tells = IsTrue (opens_files (reading words)) → IsTrue tells

@@ -1,5 +1,5 @@
 -- The command size: how much memory the sections of each object take.
-use Rattle.std.specs.Prelude.{◌++◌, ℕ, List, Some, codes}
+use Rattle.std.specs.Prelude.{◌++◌, ℕ, List, false, codes}
 use Rattle.elf_outside.specs.Names.{Map}
 use Rattle.tool_output.specs.declared.outputs.Side.TheVariants.{Out}
 use Rattle.tool_output.specs.Marks.{said}
@@ -17,4 +17,4 @@ behind text stated = record stated { marks = said Out text ++ stated.marks }
 unfoldable pub size_outcome : List (List ℕ) → Map → Outcome
 size_outcome names named =
     behind size_title
-    (objects_outcome (codes "size") size_report size_report (λ image. Some 0) names named)
+    (objects_outcome (codes "size") size_report size_report false names named)

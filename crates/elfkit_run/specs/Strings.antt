@@ -1,5 +1,5 @@
 -- The command strings: the printable runs of each file that it names.
-use Rattle.std.specs.Prelude.{ℕ, List, map, codes}
+use Rattle.std.specs.Prelude.{ℕ, List, Some, map, codes}
 use Rattle.elf_outside.specs.Names.{Map}
 use Rattle.tool_text.specs.declared.options.StringsOptions.{StringsOptions}
 use Rattle.tool_output.specs.Files.{report_on, asks_on, all_bounds}
@@ -12,4 +12,4 @@ unfoldable pub strings_outcome : StringsOptions → List (List ℕ) → Map → 
 strings_outcome options names named =
     report_outcome
     (reports_of (report_on (codes "strings") (strings_report options) named) names)
-    (all_bounds (map (asks_on (strings_asks options) named) names))
+    (all_bounds (map (asks_on (λ bytes. Some (strings_asks options bytes)) named) names))

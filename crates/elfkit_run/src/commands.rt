@@ -7,7 +7,8 @@ ghost use Rattle.tool_output.specs.Files.{LeavesFiles};
 ghost use Rattle.tool_output.specs.Statuses.{refused_status};
 ghost use Rattle.tool_output.specs.Outcomes.{Does};
 ghost use Rattle.elfkit_run.specs.Sentences.{line_of, not_built};
-ghost use Rattle.elfkit_run.specs.Program.{command_outcome, is_built};
+ghost use Rattle.tool_text.specs.Forms.{IsWellFormed};
+ghost use Rattle.elfkit_run.specs.Program.{command_outcome, is_built, writes_files};
 
 pub mod calls;
 pub mod elflint;
@@ -68,6 +69,7 @@ fn calls_if_built<F: Files, O: Sink, E: Sink>(
         result files.old files.new outputs.old outputs.new }
     ensures untouched { is_built (Command.Calls output.now file.now script.now) ≡ false →
         (files.new ≡ files.old) × OnRead result ⊥ }
+    ensures given { F.given files.new ≡ F.given files.old }
     ensures leaves { LeavesFiles F.Files O.Sink E.Sink
         result files.old files.new outputs.old outputs.new }
 {
@@ -78,19 +80,22 @@ fn calls_if_built<F: Files, O: Sink, E: Sink>(
 }
 
 /// Runs a command that was read.
-#[tactic(auto, unfolding(crate::specs::Program::command_outcome, crate::specs::Program::is_built))]
+#[tactic(auto, unfolding(crate::specs::Program::command_outcome, crate::specs::Program::is_built, crate::specs::Program::writes_files))]
 pub fn run_command<F: Files, O: Sink, E: Sink>(
     alloc: Global,
     command: &Command,
     files: &mut F,
     outputs: &mut Outputs<'_, O, E>,
 ) -> Result<bool, Stop>
+    requires { IsWellFormed command.now }
     ensures does { (IsTrue (is_built command.now) → IsTrue (F.tells files.old)) →
         Does F.Files O.Sink E.Sink refused_status
         (command_outcome command.now (F.named files.old))
         result files.old files.new outputs.old outputs.new }
     ensures untouched { is_built command.now ≡ false →
         (files.new ≡ files.old) × OnRead result ⊥ }
+    ensures given { writes_files command.now ≡ false →
+        F.given files.new ≡ F.given files.old }
     ensures leaves { LeavesFiles F.Files O.Sink E.Sink
         result files.old files.new outputs.old outputs.new }
 {

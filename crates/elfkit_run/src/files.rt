@@ -38,8 +38,8 @@ pub trait FileTool {
     ) -> (S, Result<bool, Stop>)
         ensures reports { ReportsOn S.Source O.Sink E.Sink (report self.now (file_name name.now))
             result.1 src result.0 outputs.old outputs.new }
-        ensures asks { IfSome (S.holds src)
-            (λ image. IsWithin (asks self.now image) (S.taken src) (S.taken result.0)) };
+        ensures asks { OnOk result.1 (IfSome (S.holds src)
+            (λ image. IsWithin (asks self.now image) (S.taken src) (S.taken result.0))) };
 }
 
 /// Opens a file, gives it to a tool, and closes it; only then is the tool's answer looked at. A
@@ -54,9 +54,9 @@ pub fn one_file<T: FileTool, F: Files, O: Sink, E: Sink>(
     ensures reports { ReportsFiles F.Files O.Sink E.Sink
         (λ named. report_on (T.command tool.now) (T.report tool.now) named file_name.now)
         result files.old files.new outputs.old outputs.new }
-    ensures asks { IsTrue (F.tells files.old) →
-        IsWithin (asks_on (T.asks tool.now) (F.named files.old) file_name.now)
-        (F.taken files.old) (F.taken files.new) }
+    ensures asks { IsTrue (F.tells files.old) → OnOk result
+        (IsWithin (asks_on (T.asks tool.now) (F.named files.old) file_name.now)
+        (F.taken files.old) (F.taken files.new)) }
 {
     let name = file_name.as_bytes();
     let file = match files.open(alloc, file_name) {

@@ -32,7 +32,7 @@ impl<T: ObjectTool> FileTool for OverFiles<'_, T> {
         (image_report (T.command o.tool.now) (T.report o.tool.now))
         (archive_report (T.command o.member_tool.now) (T.report o.member_tool.now)) };
 
-    ghost asks = { λ o. file_asks (T.asks o.tool.now) };
+    ghost asks = { λ o. file_asks (T.reads o.tool.now) };
 
     fn command(&self) -> &'static str {
         self.tool.command()
@@ -63,8 +63,9 @@ pub fn each_object<T: ObjectTool, F: Files, O: Sink, E: Sink>(
     requires { T.command member_tool.now ≡ T.command tool.now }
     ensures does { IsTrue (F.tells files.old) → Does F.Files O.Sink E.Sink refused_status
         (objects_outcome (T.command tool.now) (T.report tool.now) (T.report member_tool.now)
-        (T.asks tool.now) names.now (F.named files.old))
+        (T.reads tool.now) names.now (F.named files.old))
         result files.old files.new outputs.old outputs.new }
+    ensures given { F.given files.new ≡ F.given files.old }
     ensures leaves { LeavesFiles F.Files O.Sink E.Sink
         result files.old files.new outputs.old outputs.new }
 {

@@ -6,7 +6,7 @@ ghost use Rattle.tool_output.specs.Outcomes.{Does, Delivers, Costs, RunLeaves};
 ghost use Rattle.tool_output.specs.Statuses.{status_code};
 ghost use Rattle.tool_output.specs.Steps.{OnRead};
 ghost use Rattle.tool_output.specs.Files.{LeavesFiles};
-ghost use Rattle.elfkit_run.specs.Program.{opens_files, program, AreTold, IsStatusOf};
+ghost use Rattle.elfkit_run.specs.Program.{opens_files, hands_to_writes, program, AreTold, IsStatusOf};
 
 use crate::commands::run_command;
 use crate::sentences::say;
@@ -29,6 +29,8 @@ fn run_words<F: Files, O: Sink, E: Sink>(
     ensures status { IfOk result (IsStatusOf (reading words.now)) }
     ensures untouched { opens_files (reading words.now) ≡ false →
         (files.new ≡ files.old) × OnRead result ⊥ }
+    ensures given { hands_to_writes (reading words.now) ≡ false →
+        F.given files.new ≡ F.given files.old }
     ensures leaves { LeavesFiles F.Files O.Sink E.Sink
         result files.old files.new outputs.old outputs.new }
 {
@@ -55,7 +57,8 @@ fn run_words<F: Files, O: Sink, E: Sink>(
 ///
 /// With the last three the run stopped on the way: both outputs have gained what was written up to
 /// one point, and nothing after it. Each file that was opened is closed again. Words that are
-/// refused, or of a form that is not built, open no file.
+/// refused, or of a form that is not built, open no file. A command that writes no file hands
+/// nothing to writes, also over files that do not tell their bytes.
 pub fn run<F: Files, O: Sink, E: Sink>(
     alloc: Global,
     words: &Args,
@@ -70,6 +73,8 @@ pub fn run<F: Files, O: Sink, E: Sink>(
     ensures costs { AreTold words.now (F.tells files.old) →
         Costs (program words.now (F.named files.old)) (status_code result)
         (F.taken files.old) (F.taken files.new) (F.given files.old) (F.given files.new) }
+    ensures given { hands_to_writes (reading words.now) ≡ false →
+        F.given files.new ≡ F.given files.old }
     ensures used { result ≡ Status.BadWords → IsErr (reading words.now) }
     ensures untouched { opens_files (reading words.now) ≡ false →
         (files.new ≡ files.old) × ¬ (result ≡ Status.ReadFailed) }

@@ -1,6 +1,6 @@
 //! The tool of the command elflint.
 
-ghost use Rattle.std.specs.Prelude.{◌≡◌, None, codes};
+ghost use Rattle.std.specs.Prelude.{◌≡◌, true, codes};
 ghost use Rattle.tool_output.specs.Names.{file_name};
 ghost use Rattle.object_output.specs.Shows.{ShowsElf};
 ghost use Rattle.elflint_tool.specs.Rules.{lint_report};
@@ -22,7 +22,7 @@ impl ObjectTool for LintTool {
 
     ghost report = { λ _. lint_report };
 
-    ghost asks = { λ _ _. None };
+    ghost reads = { λ _. true };
 
     fn command(&self) -> &'static str {
         "elflint"

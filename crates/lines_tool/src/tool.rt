@@ -1,6 +1,6 @@
 //! The tool of the command lines.
 
-ghost use Rattle.std.specs.Prelude.{◌≡◌, None, codes};
+ghost use Rattle.std.specs.Prelude.{◌≡◌, true, codes};
 ghost use Rattle.tool_output.specs.Names.{file_name};
 ghost use Rattle.object_output.specs.Shows.{ShowsElf};
 ghost use Rattle.lines_tool.specs.Tool.{lines_report};
@@ -21,7 +21,7 @@ impl ObjectTool for LinesTool {
 
     ghost report = { λ _. lines_report };
 
-    ghost asks = { λ _ _. None };
+    ghost reads = { λ _. true };
 
     fn command(&self) -> &'static str {
         "lines"

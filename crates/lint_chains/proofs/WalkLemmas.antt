@@ -8,7 +8,7 @@ use Rattle.elf_descriptor.specs.State.{State}
 use Rattle.tool_output.specs.declared.stops.Stop.{Stop}
 use Rattle.tool_output.specs.Stops.{stop_of}
 use Rattle.object_output.specs.Steps.{LeavesElf, Learns, Looked}
-use Rattle.object_output.proofs.ElfSteps.{elf_left, elf_left_then, still_told}
+use Rattle.object_output.proofs.ElfSteps.{left_as, settled_elf, elf_left, elf_left_then, still_told}
 use Rattle.object_output.proofs.LearnLemmas.{learns_after, learns_as}
 use Rattle.lint_chains.specs.Chains.{bad_place}
 
@@ -17,10 +17,19 @@ pub met_bad : {S T : Type 0} (s : SourceGhosts S) (stated : Object → Option �
     → (IsTrue a.told → stop_of e ≡ None → stated a.o ≡ bad_place (Some e))
     → IfSome (stop_of e) (λ stop. r ≡ Err stop) → IfNone (stop_of e) (r ≡ Ok (bad_place (Some e)))
     → Learns s stated r a b
-met_bad s stated error.Memory r a b h same stops bad = rw stops (record { value = λ told. tt; reads = record { elf = h.elf; read = tt; write = tt } })
-met_bad s stated error.Read r a b h same stops bad = rw stops (record { value = λ told. tt; reads = record { elf = h.elf; read = h.read; write = tt } })
+met_bad s stated error.Memory r a b h same stops bad = rw stops (record {
+  value = λ told. tt;
+  reads = record { elf = left_as s ⊥ ⊥ a b (λ no. no) h.elf; read = tt; write = tt };
+})
+met_bad s stated error.Read r a b h same stops bad = rw stops (record {
+  value = λ told. tt;
+  reads = record { elf = left_as s ⊥ ⊥ a b (λ no. no) h.elf; read = h.read; write = tt };
+})
 met_bad s stated error.Write r a b h same stops bad = absurd h.read
-met_bad s stated e r a b h same stops bad = rw bad (record { value = λ told. sym (same told refl); reads = record { elf = h.elf; read = tt; write = tt } })
+met_bad s stated e r a b h same stops bad = rw bad (record {
+  value = λ told. sym (same told refl);
+  reads = record { elf = settled_elf s (Unit {0}) a b tt h.elf; read = tt; write = tt };
+})
 
 -- ---- A walk that is under way
 

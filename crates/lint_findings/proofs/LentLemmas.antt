@@ -12,7 +12,9 @@ use Rattle.elf_object.specs.Object.{Object}
 use Rattle.elf_object.specs.Answers.{items_at, count_at, bytes_of, syms_of, lend_refusal, entry_answer}
 use Rattle.elf_object.proofs.AnswerLaws.{answered_value, answered_refusal, entry_value, lend_kind}
 use Rattle.tool_output.specs.Stops.{stop_of}
-use Rattle.object_output.proofs.AnswerLemmas.{answers_stated, item_none}
+use Rattle.object_output.specs.Answers.{value_of}
+use Rattle.object_output.proofs.AnswerLemmas.{answers_stated}
+use Rattle.object_output.proofs.QueryLemmas.{value_there}
 use Rattle.object_output.proofs.ListCounts.{syms_counted}
 use Rattle.lint_findings.specs.Looking.{if_lent, data_bytes, symbols}
 
@@ -23,18 +25,15 @@ module _ {A : Type 0} (refusal : Option ElfError) (l : List A) where
   pub not_lent : (e : ElfError) → refusal ≡ Some e → if_lent refusal l ≡ []
   not_lent e is = ap (λ (r : Option ElfError). if_lent r l) is
 
+  -- an item
+  pub lent_value : (i : ℕ) → value_of (entry_answer refusal l i) ≡ slice_get (if_lent refusal l) i
+  lent_value i = by_refusal refusal
+    where
+      by_refusal : (r : Option ElfError) → value_of (entry_answer r l i) ≡ slice_get (if_lent r l) i
+      by_refusal None = value_there None l i refl
+      by_refusal (Some e) = refl
+
 module _ {A : Type 0} (told : Bool) (wants : Wants) where
-  -- ---- An item
-
-  pub lent_item : (refusal : Option ElfError) (l : List A) (i : ℕ) (x : A) → Answers told wants (Ok x) (entry_answer refusal l i) → IsTrue told → Some x ≡ slice_get (if_lent refusal l) i
-  lent_item refusal l i x came is =
-      let value = entry_value refusal l i x (came.1 is) in
-      sym value.1 ∙ ap (λ (k : List A). slice_get k i) (sym (lent refusal l value.0))
-
-  pub lent_no_item : (refusal : Option ElfError) (l : List A) (i : ℕ) (e : ElfError) → stop_of e ≡ None → Answers told wants (Err e) (entry_answer refusal l i) → None ≡ slice_get (if_lent refusal l) i
-  lent_no_item None l i e none came = item_none told wants None l i e refl none came
-  lent_no_item (Some d) l i e none came = refl
-
   -- ---- All of them
 
   lent_all : (refusal : Option ElfError) (l x : List A) → Answers told wants (Ok x) (answered refusal l) → IsTrue told → x ≡ if_lent refusal l

@@ -22,11 +22,5 @@ pub fn item_at<S: Source, T: Item>(elf: &mut Elf<S>, s: ScnId, i: u64) -> Result
         section: s.0,
         piece: 0,
     };
-    match elf.item::<T>(d, i) {
-        Ok(item) => Ok(Some(item)),
-        Err(e) => match Stop::of(&e) {
-            Some(stop) => Err(stop),
-            None => Ok(None),
-        },
-    }
+    Stop::unless_refused(elf.item::<T>(d, i))
 }

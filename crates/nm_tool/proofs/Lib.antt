@@ -1,5 +1,4 @@
 mod Sorting
-mod PlaceLemmas
 mod PoolLemmas
 mod ToolLemmas
 mod Keys

@@ -21,7 +21,7 @@ use Rattle.tool_output.specs.declared.outputs.Outputs.{Outputs}
 use Rattle.tool_output.specs.Names.{Name}
 use Rattle.tool_output.specs.Reports.{Report, noted, refusal, all_joined, reports_of}
 use Rattle.object_output.specs.Steps.{ReportsElf}
-use Rattle.object_output.proofs.ElfSteps.{elf_left, elf_unread}
+use Rattle.object_output.proofs.ElfSteps.{elf_left, left_as, elf_unread}
 use Rattle.nm_tool.specs.declared.order.Row.{Row}
 use Rattle.nm_tool.specs.declared.pools.Pool.{Pool}
 use Rattle.nm_tool.specs.Order.{Entry, in_order}
@@ -87,4 +87,8 @@ pub no_memory : {S O E : Type 0} (s : SourceGhosts S) (o : SinkGhosts O) (e : Si
     → ReportsElf s o e report (Err stop) a a t t
 no_memory s o e report stop a t is =
     subst (λ (x : Stop). ReportsElf s o e report (Err x) a a t t) (sym is)
-    (elf_unread s o e Bool Memory report a a t (record { elf = elf_left s a; read = tt; write = tt }))
+    (elf_unread s o e Bool Memory report a a t (record {
+      elf = left_as s (Unit {0}) ⊥ a a (λ went. tt) (elf_left s a);
+      read = tt;
+      write = tt;
+    }))

@@ -1,13 +1,11 @@
 -- The letter of a symbol: what it is, and where it is defined (POSIX nm, STDOUT; gABI chapter 4,
 -- "Symbol Table", st_info and st_shndx; the letters i, u, v and V are GNU's).
-use Rattle.std.specs.Prelude.{ℕ, ◌+◌, ◌/◌, ◌%◌, ◌==◌, ◌&&◌, nat_lt, Bool, true, false, List, [], ◌∷◌, length, Option, Some, None, Result, Ok, Err, if◌then◌else◌}
+use Rattle.std.specs.Prelude.{ℕ, ◌+◌, ◌/◌, ◌%◌, ◌==◌, ◌&&◌, nat_lt, Bool, true, false, List, [], ◌∷◌, length, Option, Some, None, if◌then◌else◌}
 use Rattle.std.specs.Str.{byte}
 use Rattle.elf_types.specs.declared.records.Shdr.{Shdr}
 use Rattle.elf_types.specs.declared.records.Sym.{Sym}
-use Rattle.elf_types.specs.declared.errors.ElfError.{ElfError}
 use Rattle.elf_types.specs.declared.constants.TheConstants.{SHN_UNDEF, SHN_ABS, SHN_COMMON, SHT_NOBITS, SHF_WRITE, SHF_ALLOC, SHF_EXECINSTR, STB_LOCAL, STB_WEAK, STB_GNU_UNIQUE, STT_OBJECT, STT_GNU_IFUNC}
 use Rattle.elf_object.specs.Object.{Object, section_at}
-use Rattle.elf_object.specs.SymbolSections.{place_of_symbol}
 use Rattle.gelf_view.specs.declared.symbols.SymPlace.{SymPlace}
 use Rattle.gelf_view.specs.declared.symbols.SymPlace.TheVariants.{Special, Section}
 
@@ -22,14 +20,6 @@ has_type kind x = x.info % 16 == kind
 
 abbrev pub is_local : Sym → Bool
 is_local x = has_bind STB_LOCAL x
-
-abbrev pub place_found : Result SymPlace ElfError → Option SymPlace
-place_found (Ok place) = Some place
-place_found (Err e) = None
-
--- the section of symbol i of section s, or none where its extended index can not be told
-unfoldable pub symbol_place : Object → ℕ → ℕ → Sym → Option SymPlace
-symbol_place o s i x = place_found (place_of_symbol Special Section o s i x)
 
 abbrev pub is_undefined : Option SymPlace → Bool
 is_undefined None = false

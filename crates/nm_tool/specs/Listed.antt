@@ -8,7 +8,8 @@ use Rattle.elf_object.specs.Object.{Object, Section}
 use Rattle.elf_object.specs.Answers.{items_at, syms_of}
 use Rattle.elf_object.specs.Strings.{symbol_name}
 use Rattle.tool_text.specs.declared.options.NmOptions.{NmOptions}
-use Rattle.nm_tool.specs.Letters.{has_type, is_local, is_undefined, symbol_place}
+use Rattle.object_output.specs.Symbols.{symbol_place}
+use Rattle.nm_tool.specs.Letters.{has_type, is_local, is_undefined}
 use Rattle.nm_tool.specs.Order.{Entry}
 
 -- ---- The table

@@ -9,7 +9,8 @@ use Rattle.elf_object.specs.Answers.{lend_refusal}
 use Rattle.tool_text.specs.declared.options.NmOptions.{NmOptions}
 use Rattle.tool_output.specs.Names.{Name}
 use Rattle.tool_output.specs.Reports.{Report, no_report, shown, noted, refusal, reports_of}
-use Rattle.nm_tool.specs.Letters.{is_undefined, symbol_letter, symbol_place}
+use Rattle.object_output.specs.Symbols.{symbol_place}
+use Rattle.nm_tool.specs.Letters.{is_undefined, symbol_letter}
 use Rattle.gelf_view.specs.declared.symbols.SymPlace.{SymPlace}
 use Rattle.nm_tool.specs.Rows.{row_text}
 use Rattle.nm_tool.specs.Order.{Entry, in_order}

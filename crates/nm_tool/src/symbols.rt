@@ -4,15 +4,15 @@ ghost use Rattle.std.specs.Prelude.{◌≡◌, ◌<◌, length, slice_get};
 ghost use Rattle.elf_object.specs.Object.{section_at};
 ghost use Rattle.gelf_view.specs.Calls.{IsTable};
 ghost use Rattle.object_output.specs.Steps.{Learns};
-ghost use Rattle.nm_tool.specs.Letters.{symbol_place};
+ghost use Rattle.object_output.specs.Symbols.{symbol_place};
 ghost use Rattle.nm_tool.specs.Listed.{symbols as stated_symbols};
 ghost use Rattle.nm_tool.specs.Tables.{AreTables};
 
 use elf_descriptor::Elf;
 use elf_outside::Source;
 use elf_types::{DataId, ScnId, Sym};
-use gelf_view::{SymPlace, shndx_table, symbol_place};
-use object_output::section_header;
+use gelf_view::{SymPlace, shndx_table};
+use object_output::{section_header, symbol_place};
 use tool_output::Stop;
 
 /// The tables of the symbols of a section.
@@ -51,13 +51,7 @@ pub fn symbol_at<S: Source>(elf: &mut Elf<S>, t: Tables, i: u64) -> Result<Optio
         section: t.symbols.0,
         piece: 0,
     };
-    match elf.item::<Sym>(d, i) {
-        Ok(x) => Ok(Some(x)),
-        Err(e) => match Stop::of(&e) {
-            Some(stop) => Err(stop),
-            None => Ok(None),
-        },
-    }
+    Stop::unless_refused(elf.item::<Sym>(d, i))
 }
 
 /// The place of symbol `i`, or None where its extended index can not be told. It stops as
@@ -71,11 +65,5 @@ pub fn place_at<S: Source>(
     requires { AreTables elf.old.o t }
     ensures { Learns S.Source (λ o. symbol_place o t.symbols.0 i x) result elf.old elf.new }
 {
-    match symbol_place(elf, t.symbols, i, x, t.indexes) {
-        Ok(place) => Ok(Some(place)),
-        Err(e) => match Stop::of(&e) {
-            Some(stop) => Err(stop),
-            None => Ok(None),
-        },
-    }
+    symbol_place(elf, t.symbols, i, x, t.indexes)
 }

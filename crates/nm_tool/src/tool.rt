@@ -1,6 +1,6 @@
 //! The tool of the command nm.
 
-ghost use Rattle.std.specs.Prelude.{◌≡◌, ◌<◌, None, length, IfSome, codes};
+ghost use Rattle.std.specs.Prelude.{◌≡◌, ◌<◌, None, true, length, IfSome, codes};
 ghost use Rattle.std.specs.Option.{option_map};
 ghost use Rattle.elf_types.specs.declared.records.Kind.TheVariants as kinds;
 ghost use Rattle.elf_object.specs.Object.{section_at};
@@ -254,7 +254,7 @@ impl ObjectTool for NmTool<'_> {
 
     ghost report = { λ t. nm_report t.options.now };
 
-    ghost asks = { λ _ _. None };
+    ghost reads = { λ _. true };
 
     fn command(&self) -> &'static str {
         "nm"

@@ -1,6 +1,8 @@
 -- Steps over a descriptor and the outputs, one after another.
-use Rattle.std.proofs.Common.{◌≡◌, ◌||◌, Bool, false, ℕ, List, None, Result, Ok, Err, IsTrue, IfNone, refl, ◌∙◌, subst, arith}
+use Rattle.std.proofs.Common.{◌≡◌, ◌||◌, ◌+◌, ◌≤◌, Bool, false, ℕ, List, None, Result, Ok, Err, IsTrue, IfNone, refl, ◌∙◌, subst, arith}
 use Rattle.elf_types.specs.declared.errors.ElfError.{ElfError}
+use Rattle.elf_types.specs.declared.errors.ElfError.TheVariants as error
+use Rattle.elf_types.specs.Answers.{IsRefusal}
 use Rattle.elf_outside.specs.Asks.{ReadRose}
 use Rattle.elf_outside.specs.declared.sources.Source.{Ghosts as SourceGhosts}
 use Rattle.elf_outside.specs.declared.sinks.Sink.{Ghosts as SinkGhosts}
@@ -16,10 +18,24 @@ use Rattle.tool_output.proofs.StepLemmas.{keeps_none, keeps_then}
 use Rattle.tool_output.proofs.SourceLemmas.{reads_weaker, refused_reports, refused_leaves, Stops}
 use Rattle.tool_output.proofs.ReportLemmas.{reports_none, reports_then, reports_then_stop, reports_stop, reports_nothing, shown_then}
 use Rattle.tool_output.proofs.UnderWayLemmas.{begins, goes_on, stops_at, is_given}
-use Rattle.object_output.specs.Steps.{LeavesElf, ReadsElf, ReportsElf, Learns, ElfUnderWay, SourceRose}
+use Rattle.object_output.specs.Steps.{LeavesElfBy, LeavesElf, WentOn, homes_left, ReadsElf, ReportsElf, Learns, ElfUnderWay, SourceRose}
 use Rattle.object_output.proofs.SourceSteps.{leaves_then, left_after}
 
 module _ {S : Type 0} (s : SourceGhosts S) where
+  -- where less is said of when it went well
+  pub left_as : (P Q : Type 0) (a b : State S) → (Q → P) → LeavesElfBy s P a b → LeavesElfBy s Q a b
+  left_as P Q a b when h = record {
+    object = h.object;
+    told = h.told;
+    source = h.source;
+    later = h.later;
+    asked = λ well. h.asked (when well);
+  }
+
+  -- it went well
+  pub settled_elf : (P : Type 0) (a b : State S) → P → LeavesElfBy s P a b → LeavesElf s a b
+  settled_elf P a b well h = left_as P (Unit {0}) a b (λ w. well) h
+
   -- nothing is done
   pub elf_left : (a : State S) → LeavesElf s a a
   elf_left a = record {
@@ -27,17 +43,25 @@ module _ {S : Type 0} (s : SourceGhosts S) where
     told = refl;
     source = record { same_len = refl; same_bytes = refl; same_rest = refl };
     later = omega arith;
+    asked = λ well. omega arith;
   }
 
-  pub elf_left_then : (a b c : State S) → LeavesElf s a b → LeavesElf s b c → LeavesElf s a c
+  pub elf_left_then : {P : Type 0} (a b c : State S) → LeavesElf s a b → LeavesElfBy s P b c
+      → LeavesElfBy s P a c
   elf_left_then a b c h k = record {
     object = k.object ∙ h.object;
     told = k.told ∙ h.told;
     source = leaves_then s a.source b.source c.source h.source k.source;
     later = omega (arith, h.later, k.later);
+    asked = λ well. asked_then (s.taken a.source) (s.taken b.source) (s.taken c.source)
+        (homes_left a) (homes_left b) (homes_left c) (h.asked tt) (k.asked well);
   }
+    where
+      asked_then : (x y z l m n : ℕ) → y + m ≤ x + l → z + n ≤ y + m → z + n ≤ x + l
+      asked_then x y z l m n h k = omega arith
 
-  pub still_told : (a b : State S) → LeavesElf s a b → IsTrue a.told → IsTrue b.told
+  pub still_told : {P : Type 0} (a b : State S) → LeavesElfBy s P a b → IsTrue a.told
+      → IsTrue b.told
   still_told a b h is = rw h.told is
 
 module _ {S O E : Type 0} (s : SourceGhosts S) (o : SinkGhosts O) (e : SinkGhosts E) where
@@ -55,7 +79,7 @@ module _ {S O E : Type 0} (s : SourceGhosts S) (o : SinkGhosts O) (e : SinkGhost
       → (IsTrue a.told → Reports o e r t u (report a.o)) → LeavesOutputs o e ⊥ r t u → ReportsElf s o e report r a b t u
   elf_says report r a b t u h k l = record {
     reports = k;
-    elf = h;
+    elf = left_as s (Unit {0}) (WentOn r) a b (λ well. tt) h;
     leaves = reads_weaker o e (SourceRose s a b) r t u l;
   }
 
@@ -118,14 +142,24 @@ module _ {S O E : Type 0} (s : SourceGhosts S) (o : SinkGhosts O) (e : SinkGhost
     leaves = h.leaves;
   }
 
+  went_refused : (d : ElfError) (r : Result Bool Stop) (t u : Outputs O E) → Stops o e r t u d
+      → WentOn r → IsRefusal d
+  went_refused error.Memory r t u stops went =
+      absurd (subst (λ (q : Result Bool Stop). WentOn q) stops.0 went)
+  went_refused error.Read r t u stops went =
+      absurd (subst (λ (q : Result Bool Stop). WentOn q) stops.0 went)
+  went_refused error.Write r t u stops went =
+      absurd (subst (λ (q : Result Bool Stop). WentOn q) stops.0 went)
+  went_refused d r t u stops went = tt
+
   -- a call answered an error, which refuses what is spoken of or stops the step
   pub elf_refuses : (report : Object → Report) (T : Type 0) (d : ElfError) (refused : Report) (r : Result Bool Stop) (a b : State S) (t u : Outputs O E)
-      → LeavesElf s a b → ReadRose {T = T} (Err d) (s.faults a.source) (s.faults b.source) → (IsTrue a.told → stop_of d ≡ None → report a.o ≡ refused)
+      → LeavesElfBy s (IsRefusal d) a b → ReadRose {T = T} (Err d) (s.faults a.source) (s.faults b.source) → (IsTrue a.told → stop_of d ≡ None → report a.o ≡ refused)
       → IfNone (stop_of d) (Reports o e r t u refused) → Stops o e r t u d → IfNone (stop_of d) (LeavesOutputs o e ⊥ r t u)
       → ReportsElf s o e report r a b t u
   elf_refuses report T d refused r a b t u h rose same k stops l = record {
     reports = λ told. refused_reports o e T d r t u (s.faults a.source) (s.faults b.source) (report a.o) refused rose (same told) k stops;
-    elf = h;
+    elf = left_as s (IsRefusal d) (WentOn r) a b (went_refused d r t u stops) h;
     leaves = refused_leaves o e T d r t u (s.faults a.source) (s.faults b.source) rose l stops;
   }
 

@@ -1,6 +1,7 @@
 -- An image that a tool is to speak of.
-use Rattle.std.proofs.Common.{◌≡◌, ◌≢◌, ◌+◌, ◌≤◌, ℕ, Bool, List, Option, Some, None, Result, Ok, Err, IfSome, IfOk, IsTrue, refl, sym, ap, ◌∙◌, subst, arith}
-use Rattle.std.specs.Prelude.{is_some}
+use Rattle.std.proofs.Common.{◌≡◌, ◌≢◌, ◌+◌, ◌≤◌, ℕ, Bool, false, true, List, [], Option, Some, None, Result, Ok, Err, IfSome, IfOk, IsTrue, refl, sym, ap, ◌∙◌, subst, arith}
+use Rattle.std.specs.Prelude.{is_some, OnOk, if◌then◌else◌}
+use Rattle.elf_types.specs.declared.constants.TheConstants.{MAX_IMAGE}
 use Rattle.elf_types.specs.declared.errors.ElfError.{ElfError}
 use Rattle.elf_types.specs.declared.errors.ElfError.TheVariants as error
 use Rattle.elf_types.specs.Answers.{Follows}
@@ -14,19 +15,21 @@ use Rattle.elf_ident.specs.declared.file_kinds.FileKind.TheVariants.{Archive, El
 use Rattle.elf_ident.specs.FileKinds.{file_kind}
 use Rattle.elf_object.specs.Object.{Object}
 use Rattle.elf_object.specs.Open.{opened}
+use Rattle.elf_object.specs.Due.{homes_due, all_sections}
 use Rattle.elf_ident.specs.Front.{front_bytes, most_front_bytes}
+use Rattle.elf_ident.specs.Reading.{HasTables}
 use Rattle.elf_descriptor.specs.State.{State}
 use Rattle.elf_descriptor.specs.Begun.{IsBegun, begun_state, begun_answer, source_after}
 use Rattle.tool_output.specs.declared.stops.Stop.{Stop}
 use Rattle.tool_output.specs.declared.outputs.Outputs.{Outputs}
 use Rattle.tool_output.specs.Stops.{stop_of}
 use Rattle.tool_output.specs.Names.{Name}
-use Rattle.tool_output.specs.Files.{IsWithin, both_bounds}
 use Rattle.tool_output.specs.Reports.{Report, Reports, refusal}
 use Rattle.tool_output.specs.Sources.{ReportsOn}
 use Rattle.tool_output.proofs.SourceLemmas.{stated_error}
-use Rattle.object_output.specs.Steps.{ReportsElf}
-use Rattle.object_output.specs.Images.{object_by, file_object, image_report, image_asks}
+use Rattle.object_output.specs.Steps.{ReportsElf, LeavesElfBy, WentOn, homes_left}
+use Rattle.object_output.specs.Images.{object_by, file_object, image_report, object_asks, image_asks}
+use Rattle.object_output.proofs.OnceReads.{due_at_first}
 use Rattle.object_output.proofs.SourceSteps.{leaves_then, rose_from_first}
 
 pub kind_is : (a b : FileKind) → ◌≡◌ {A = Result FileKind ElfError} (Ok a) (Ok b) → a ≡ b
@@ -93,6 +96,20 @@ module _ {S : Type 0} (s : SourceGhosts S) (src mid : S) where
       → Asks {T = Object} s (Err e) src mid (8 + most_front_bytes)
   kind_asks k e read h = asks_fewer s (Err e) src mid 8 (8 + most_front_bytes) (omega arith) (asks_then s k (Err e) src mid 8 h read)
 
+  -- it has begun over the source as it was
+  pub begun_over : (k : Result FileKind ElfError) (n : ℕ) (r : Result (State S) (S × ElfError))
+      → Asks s k src mid n → IfOk r (IsBegun s mid) → IfOk r (IsBegun s src)
+  begun_over k n (Err back) asks is = tt
+  begun_over k n (Ok a) asks is =
+      let same : s.size mid ≡ s.size src = asks.leaves.same_len in record {
+        front = is.front;
+        fitting = is.fitting;
+        counted = is.counted;
+        tables = subst (λ (len : ℕ). HasTables is.front.ehdr len) same is.tables;
+        small = subst (λ (len : ℕ). len ≤ MAX_IMAGE) same is.small;
+        state = is.state;
+      }
+
   -- a descriptor tells its bytes where the source does
   pub begun_told : (r : Result (State S) (S × ElfError)) (n : ℕ) → s.holds mid ≡ s.holds src → Asks s (begun_answer r) mid (source_after r) n
       → IfOk r (IsBegun s mid) → IfOk r (λ a. a.told ≡ is_some (s.holds src))
@@ -133,23 +150,57 @@ module _ (command : List ℕ) (report : Name → Object → Report) (name : Name
 
 -- ---- What is asked for in all
 
-pub both_within : (asks : Option ℕ) (n a b c : ℕ) → b ≤ a + n → IsWithin asks b c → IsWithin (both_bounds (Some n) asks) a c
-both_within None n a b c h k = tt
-both_within (Some m) n a b c h k = omega (arith, h, k)
+pub on_ok : {T : Type 0} (r : Result T Stop) (P : Type 0) → P → OnOk r P
+on_ok (Ok x) P h = h
+on_ok (Err stop) P h = tt
 
-pub image_within : (asks : List ℕ → Option ℕ) (holds left : Option (List ℕ)) (a b c : ℕ) → left ≡ holds → IfSome holds (λ image. b ≤ a + front_bytes image)
-    → IfSome left (λ image. IsWithin (asks image) b c) → IfSome holds (λ image. IsWithin (image_asks asks image) a c)
+-- of an object no more than its homes, and nothing by what reads none
+by_reads : (reads : Bool) (x : Object) (front before begun after left : ℕ) → begun ≤ before + front
+    → after ≤ begun + left → left ≤ homes_due x [] (all_sections x)
+    → (reads ≡ false → after ≡ begun) → after ≤ before + (front + object_asks reads x)
+unfolding object_asks
+by_reads true x front before begun after left h k l unread = omega (arith, h, k, l)
+by_reads false x front before begun after left h k l unread =
+    let same = unread refl in omega (arith, h, same)
+
+module _ {S : Type 0} (s : SourceGhosts S) (src : S) (reads : Bool) where
+  -- the object of the image was reported on
+  pub image_asked : (r : Result Bool Stop) (a b : State S)
+      → IfSome (s.holds src) (λ image. Follows (Ok a.o) (opened image))
+      → IfSome (s.holds src) (λ image. s.taken a.source ≤ s.taken src + front_bytes image)
+      → LeavesElfBy s (WentOn r) a b → (reads ≡ false → b ≡ a)
+      → OnOk r (IfSome (s.holds src) (λ image. s.taken b.source ≤ s.taken src + image_asks reads image))
+  unfolding image_asks
+  image_asked (Err stop) a b stated front left unread = tt
+  image_asked (Ok x) a b stated front left unread = on_image (s.holds src) stated front
+    where
+      on_image : (held : Option (List ℕ)) → IfSome held (λ image. Follows (Ok a.o) (opened image))
+          → IfSome held (λ image. s.taken a.source ≤ s.taken src + front_bytes image)
+          → IfSome held (λ image. s.taken b.source ≤ s.taken src + image_asks reads image)
+      on_image None is bound = tt
+      on_image (Some image) is bound =
+          rw is (by_reads reads a.o (front_bytes image) (s.taken src) (s.taken a.source)
+          (s.taken b.source) (homes_left a) bound
+          (asked_at (s.taken a.source) (s.taken b.source) (homes_left a) (homes_left b) (left.asked tt))
+          (due_at_first a.o a.loaded (all_sections a.o))
+          (λ off. ap (λ (z : State S). s.taken z.source) (unread off)))
+        where
+          asked_at : (x y l m : ℕ) → y + m ≤ x + l → y ≤ x + l
+          asked_at x y l m h = omega arith
+
+  -- and where sections are not read, no more than the front
+  pub image_unread : (a b : State S) → b ≡ a
+      → IfSome (s.holds src) (λ image. s.taken a.source ≤ s.taken src + front_bytes image)
+      → IfSome (s.holds src) (λ image. s.taken b.source ≤ s.taken src + front_bytes image)
+  image_unread a b same front =
+      subst (λ (z : State S). IfSome (s.holds src) (λ image. s.taken z.source ≤ s.taken src + front_bytes image))
+      (sym same) front
+
+-- what is no image asked for the front alone
+pub refused_asked : (r : Result Bool Stop) (reads : Bool) (holds : Option (List ℕ)) (a b : ℕ)
+    → IfSome holds (λ image. b ≤ a + front_bytes image)
+    → OnOk r (IfSome holds (λ image. b ≤ a + image_asks reads image))
 unfolding image_asks
-image_within asks None left a b c same h k = tt
-image_within asks (Some image) left a b c same h k =
-    both_within (asks image) (front_bytes image) a b c h (subst (λ (o : Option (List ℕ)). IfSome o (λ i. IsWithin (asks i) b c)) same k)
-
-pub within_first : (asks : Option ℕ) (n a b : ℕ) → b ≤ a + n → IsWithin (both_bounds (Some n) asks) a b
-within_first None n a b h = tt
-within_first (Some m) n a b h = omega (arith, h)
-
-pub refused_within : (asks : List ℕ → Option ℕ) (holds : Option (List ℕ)) (a b : ℕ) → IfSome holds (λ image. b ≤ a + front_bytes image)
-    → IfSome holds (λ image. IsWithin (image_asks asks image) a b)
-unfolding image_asks
-refused_within asks None a b h = tt
-refused_within asks (Some image) a b h = within_first (asks image) (front_bytes image) a b h
+refused_asked (Err stop) reads holds a b h = tt
+refused_asked (Ok x) reads None a b h = tt
+refused_asked (Ok x) reads (Some image) a b h = omega (arith, h)

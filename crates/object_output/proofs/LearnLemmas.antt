@@ -1,5 +1,5 @@
 -- Values that a step learns of an object, one after another.
-use Rattle.std.proofs.Common.{◌≡◌, ◌≤◌, ℕ, Result, Ok, Err, IsTrue, IfOk, subst, arith}
+use Rattle.std.proofs.Common.{◌≡◌, ◌≤◌, ℕ, Result, Ok, Err, IsTrue, IfOk, sym, subst, arith}
 use Rattle.elf_outside.specs.Counts.{Rose}
 use Rattle.elf_outside.specs.declared.sources.Source.{Ghosts as SourceGhosts}
 use Rattle.elf_object.specs.Object.{Object}
@@ -7,8 +7,8 @@ use Rattle.elf_descriptor.specs.State.{State}
 use Rattle.tool_output.specs.declared.stops.Stop.{Stop}
 use Rattle.tool_output.specs.declared.stops.Stop.TheVariants.{Read, Write, Memory}
 use Rattle.tool_output.specs.Steps.{OnRead, OnWrite}
-use Rattle.object_output.specs.Steps.{LeavesElf, Learns, SourceRose}
-use Rattle.object_output.proofs.ElfSteps.{elf_left, elf_left_then, still_told}
+use Rattle.object_output.specs.Steps.{LeavesElf, WentOn, ReadsElf, Learns, SourceRose}
+use Rattle.object_output.proofs.ElfSteps.{settled_elf, elf_left, elf_left_then, still_told}
 
 pub rose_before : {T : Type 0} (r : Result T Stop) (a b c : ℕ) → a ≤ b → OnRead r (Rose b c) → OnRead r (Rose a c)
 rose_before (Ok x) a b c h k = tt
@@ -62,6 +62,22 @@ module _ {S : Type 0} (s : SourceGhosts S) where
       write = second.reads.write;
     };
   }
+
+-- a step that reads and went on leaves the object
+pub elf_read : {S T : Type 0} (s : SourceGhosts S) (r : Result T Stop) (x : T) (a b : State S)
+    → r ≡ Ok x → ReadsElf s r a b → LeavesElf s a b
+elf_read {S} {T} s r x a b is h =
+    let went : WentOn r = subst (λ (q : Result T Stop). WentOn q) (sym is) tt in
+    settled_elf s (WentOn r) a b went h.elf
+
+-- a step that reads behind one that left the object
+pub reads_after : {S T : Type 0} (s : SourceGhosts S) (r : Result T Stop) (a b c : State S)
+    → LeavesElf s a b → ReadsElf s r b c → ReadsElf s r a c
+reads_after s r a b c h k = record {
+  elf = elf_left_then s a b c h k.elf;
+  read = rose_before r (s.faults a.source) (s.faults b.source) (s.faults c.source) h.later k.read;
+  write = k.write;
+}
 
 module _ {S T : Type 0} (s : SourceGhosts S) (stated : Object → T) where
   -- a value behind a step that left the object

@@ -6,6 +6,9 @@ pub mod LearnLemmas
 pub mod ListCounts
 pub mod MemberLemmas
 pub mod NameLemmas
+pub mod ObtainLemmas
+pub mod OnceReads
+pub mod OnceSums
 pub mod QueryLemmas
 pub mod Rules
 pub mod SectionLemmas

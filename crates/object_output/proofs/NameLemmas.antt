@@ -14,22 +14,6 @@ use Rattle.object_output.specs.Sections.{report_if}
 
 -- ---- The string of a name
 
-pub name_none : (o : Object) (s : ℕ) → o.header.shstrndx ≡ 0 → section_name o s ≡ None
-unfolding section_name
-name_none o s is = rw is refl
-
-name_read : (test : Bool) (r : Result (List ℕ) ElfError) → test ≡ false → (if test then None else readable r) ≡ readable r
-name_read true r is = cc
-name_read false r is = refl
-
--- where there is a section of the names, it is the string there
-pub name_by : (o : Object) (s names at : ℕ) → o.header.shstrndx ≡ names → (names ≡ 0 → ⊥) → at ≡ (section_at o s).header.name
-    → section_name o s ≡ readable (string_answer o names at)
-unfolding section_name
-name_by o s names at is some here =
-    name_read (o.header.shstrndx == 0) (string_answer o o.header.shstrndx (section_at o s).header.name) (ne_eqb o.header.shstrndx 0 (λ zero. some (sym is ∙ zero)))
-    ∙ ap (λ (n : ℕ). readable (string_answer o o.header.shstrndx n)) (sym here) ∙ ap (λ (n : ℕ). readable (string_answer o n at)) is
-
 -- an error that stops nothing is the stated one
 pub read_refused : {A : Type 0} (told : Bool) (wants : Wants) (r : Refusals) (d : ElfError) (stated : Result A ElfError) → AnswersRead told wants r (Err d) stated
     → stop_of d ≡ None → IsTrue told → stated ≡ Err d

@@ -10,10 +10,16 @@ use Rattle.tool_output.specs.declared.outputs.Outputs.{Outputs}
 use Rattle.tool_output.specs.Reports.{Report}
 use Rattle.tool_output.specs.Steps.{Ends, OnRead, OnWrite, OnKept, LeavesSinks, SinkRose}
 use Rattle.tool_output.proofs.EndLemmas.{ended_over, ok_at}
-use Rattle.object_output.specs.Steps.{ReportsElf, SourceRose}
+use Rattle.object_output.specs.Steps.{ReportsElf, WentOn, SourceRose}
 use Rattle.object_output.specs.Shows.{ShowsElf}
+use Rattle.object_output.proofs.ElfSteps.{left_as}
 
 module _ {S O E : Type 0} (s : SourceGhosts S) (o : SinkGhosts O) (e : SinkGhosts E) where
+  -- it went on only where the last step did
+  went_kept : (r result : Result Bool Stop) → OnKept result (result ≡ r) → WentOn result → WentOn r
+  went_kept r (Ok x) same went = subst (λ (q : Result Bool Stop). WentOn q) same tt
+  went_kept r (Err stop) same went = absurd went
+
   pub read_kept : (r result : Result Bool Stop) (P : Type 0) → OnKept result (result ≡ r) → OnRead r P → OnRead result P
   read_kept r (Ok x) P same h = tt
   read_kept r (Err Read) P same h = subst (λ (q : Result Bool Stop). OnRead q P) (sym same) h
@@ -57,7 +63,7 @@ module _ {S O E : Type 0} (s : SourceGhosts S) (o : SinkGhosts O) (e : SinkGhost
   shows report r result a b t u out_old out_new out err_old err_new err empty p q x y h k = record {
     ended = λ told. ended_over o e t u out_old out_new out err_old err_new err empty p q x y r result (report a.o).marks (h.reports told).writes k;
     answer = λ told. ok_at r result (λ refused. refused ≡ (report a.o).refused) k.answer (h.reports told).value_is;
-    elf = h.elf;
+    elf = left_as s (WentOn r) (WentOn result) a b (went_kept r result k.answer) h.elf;
     sinks = rw (← p, ← q, ← x, ← y) (sinks_kept t u out err h.leaves.keeps.leaves k.leaves);
     read = read_kept r result (SourceRose s a b) k.answer h.leaves.read;
     write = rw (← p, ← q, ← x, ← y) (write_kept t u out err h.leaves.keeps.leaves k.leaves r result k.cause h.leaves.write);

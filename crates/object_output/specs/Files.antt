@@ -1,10 +1,9 @@
 -- What a tool says of a file, an image or an archive by its first bytes.
-use Rattle.std.specs.Prelude.{ℕ, List, Option, Some, None}
+use Rattle.std.specs.Prelude.{ℕ, ◌+◌, Bool, List, Option, Some, None}
 use Rattle.elf_ident.specs.declared.file_kinds.FileKind.{FileKind}
 use Rattle.elf_ident.specs.declared.file_kinds.FileKind.TheVariants.{Archive, Elf, Other}
 use Rattle.elf_ident.specs.FileKinds.{file_kind}
 use Rattle.tool_output.specs.Names.{Name}
-use Rattle.tool_output.specs.Files.{both_bounds}
 use Rattle.tool_output.specs.Reports.{Report}
 use Rattle.object_output.specs.Images.{image_asks}
 
@@ -22,10 +21,10 @@ file_report of_image of_archive name bytes =
 
 -- How many bytes it asks for at most, where that is promised: of an image the kind takes eight, and
 -- the rest what is stated of it. Of an archive nothing is promised.
-abbrev pub asks_by : (List ℕ → Option ℕ) → FileKind → List ℕ → Option ℕ
-asks_by asks Archive bytes = None
-asks_by asks Elf bytes = both_bounds (Some 8) (image_asks asks bytes)
-asks_by asks Other bytes = both_bounds (Some 8) (image_asks asks bytes)
+abbrev pub asks_by : Bool → FileKind → List ℕ → Option ℕ
+asks_by reads Archive bytes = None
+asks_by reads Elf bytes = Some (8 + image_asks reads bytes)
+asks_by reads Other bytes = Some (8 + image_asks reads bytes)
 
-unfoldable pub file_asks : (List ℕ → Option ℕ) → List ℕ → Option ℕ
-file_asks asks bytes = asks_by asks (file_kind bytes) bytes
+unfoldable pub file_asks : Bool → List ℕ → Option ℕ
+file_asks reads bytes = asks_by reads (file_kind bytes) bytes

@@ -1,5 +1,5 @@
 -- What a tool says of an image: the report on its object, or why it is refused.
-use Rattle.std.specs.Prelude.{ℕ, List, Option, Some, Result, Ok, Err}
+use Rattle.std.specs.Prelude.{ℕ, ◌+◌, Bool, List, [], Result, Ok, Err, if◌then◌else◌}
 use Rattle.elf_types.specs.declared.errors.ElfError.{ElfError}
 use Rattle.elf_types.specs.declared.errors.ElfError.TheVariants.{Magic}
 use Rattle.elf_types.specs.Text.{error_text}
@@ -9,8 +9,8 @@ use Rattle.elf_ident.specs.FileKinds.{file_kind}
 use Rattle.elf_ident.specs.Front.{front_bytes}
 use Rattle.elf_object.specs.Object.{Object}
 use Rattle.elf_object.specs.Open.{opened}
+use Rattle.elf_object.specs.Due.{homes_due, all_sections}
 use Rattle.tool_output.specs.Names.{Name}
-use Rattle.tool_output.specs.Files.{both_bounds}
 use Rattle.tool_output.specs.Reports.{Report, refusal}
 
 -- the report on an object, or the message that says why there is none
@@ -24,10 +24,17 @@ object_report command report name (Err e) = refusal command name (error_text e)
 unfoldable pub image_report : List ℕ → (Name → Object → Report) → Name → List ℕ → Report
 image_report command report name image = object_report command report name (opened image)
 
--- How many bytes it asks for at most, where that is promised: the front what is stated of it, and
--- then what the tool asks for.
-unfoldable pub image_asks : (List ℕ → Option ℕ) → List ℕ → Option ℕ
-image_asks asks image = both_bounds (Some (front_bytes image)) (asks image)
+-- ---- How many bytes are asked for at most
+
+-- of an object, once it has begun: by a tool that reads sections, their homes that lie in the file,
+-- each once
+unfoldable pub object_asks : Bool → Object → ℕ
+object_asks reads o = if reads then homes_due o [] (all_sections o) else 0
+
+-- of an image: the front what is stated of it, and then what is asked of its object
+unfoldable pub image_asks : Bool → List ℕ → ℕ
+image_asks reads image =
+    front_bytes image + elim (opened image) [ Ok o ↦ object_asks reads o | Err e ↦ 0 ]
 
 -- ---- For a command that takes no archive
 

@@ -1,7 +1,10 @@
 pub mod Steps
+pub mod Answers
 pub mod Refusals
 pub mod Shows
 pub mod Images
 pub mod Archives
 pub mod Files
 pub mod Sections
+pub mod Symbols
+pub mod Obtains

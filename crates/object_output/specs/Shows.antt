@@ -7,7 +7,7 @@ use Rattle.elf_descriptor.specs.State.{State}
 use Rattle.tool_output.specs.declared.stops.Stop.{Stop}
 use Rattle.tool_output.specs.Reports.{Report}
 use Rattle.tool_output.specs.Steps.{Ended, OnRead, OnWrite, LeavesSinks, SinkRose}
-use Rattle.object_output.specs.Steps.{LeavesElf, SourceRose}
+use Rattle.object_output.specs.Steps.{LeavesElfBy, WentOn, SourceRose}
 
 -- Both sinks gained the marks of the report on the object, where its source tells its bytes, or a
 -- front of them where the call stops. The object stays. It stops by Read only where a read of the
@@ -18,7 +18,7 @@ pub record ShowsElf {S O E : Type 0} (s : SourceGhosts S) (o : SinkGhosts O) (e 
   pub ended : IsTrue old.told → Ended result (o.wrote out_old) (o.wrote out_new)
       (e.wrote err_old) (e.wrote err_new) (report old.o).marks
   pub answer : IsTrue old.told → IfOk result (λ refused. refused ≡ (report old.o).refused)
-  pub elf : LeavesElf s old new
+  pub elf : LeavesElfBy s (WentOn result) old new
   pub sinks : LeavesSinks o e out_old out_new err_old err_new
   pub read : OnRead result (SourceRose s old new)
   pub write : OnWrite result (SinkRose o e out_old out_new err_old err_new)

@@ -1,23 +1,43 @@
 -- What a step of a tool over a descriptor and the two outputs does.
-use Rattle.std.specs.Prelude.{◌≡◌, ◌≤◌, Bool, IsTrue, Result, IfOk}
+use Rattle.std.specs.Prelude.{◌≡◌, ◌≤◌, ◌+◌, ℕ, Bool, IsTrue, Result, Ok, Err, IfOk, IfErr}
 use Rattle.elf_types.specs.declared.errors.ElfError.{ElfError}
+use Rattle.elf_types.specs.Answers.{IsRefusal}
 use Rattle.elf_outside.specs.Asks.{Leaves, ReadRose}
 use Rattle.elf_outside.specs.Counts.{Rose}
 use Rattle.elf_outside.specs.declared.sources.Source.{Ghosts as SourceGhosts}
 use Rattle.elf_outside.specs.declared.sinks.Sink.{Ghosts as SinkGhosts}
 use Rattle.elf_object.specs.Object.{Object}
+use Rattle.elf_object.specs.Due.{homes_due, all_sections}
 use Rattle.elf_descriptor.specs.State.{State}
 use Rattle.tool_output.specs.declared.stops.Stop.{Stop}
 use Rattle.tool_output.specs.declared.outputs.Outputs.{Outputs}
 use Rattle.tool_output.specs.Reports.{Report, Reports, UnderWay}
 use Rattle.tool_output.specs.Steps.{OnRead, OnWrite, KeepsSinks, LeavesOutputs}
 
--- The object stays, and so does what the source holds. Of the descriptor more may be loaded.
-pub record LeavesElf {S : Type 0} (s : SourceGhosts S) (old new : State S) : Type 0 where
+-- how many bytes may still be asked for: those of the homes that lie in the file and are not loaded
+abbrev pub homes_left : {S : Type 0} → State S → ℕ
+homes_left e = homes_due e.o e.loaded (all_sections e.o)
+
+-- The object stays, and so does what the source holds. Of the descriptor more may be loaded. A step
+-- that went well asked for no more than the homes that became loaded, so that each home is asked
+-- for once by however many steps.
+pub record LeavesElfBy {S : Type 0} (s : SourceGhosts S) (well : Type 0) (old new : State S)
+    : Type 0 where
   pub object : new.o ≡ old.o
   pub told : new.told ≡ old.told
   pub source : Leaves s old.source new.source
   pub later : s.faults old.source ≤ s.faults new.source
+  pub asked : well
+      → s.taken new.source + homes_left new ≤ s.taken old.source + homes_left old
+
+-- of a step that went well
+abbrev pub LeavesElf : {S : Type 0} → SourceGhosts S → State S → State S → Type 0
+LeavesElf s old new = LeavesElfBy s (Unit {0}) old new
+
+-- a step did not stop
+abbrev pub WentOn : {T : Type 0} → Result T Stop → Type 0
+WentOn (Ok x) = Unit {0}
+WentOn (Err stop) = ⊥
 
 -- a read of the source failed
 abbrev pub SourceRose : {S : Type 0} → SourceGhosts S → State S → State S → Type 0
@@ -29,21 +49,21 @@ pub record ReportsElf {S O E : Type 0} (s : SourceGhosts S) (o : SinkGhosts O) (
     (report : Object → Report) (result : Result Bool Stop) (old new : State S)
     (outputs_old outputs_new : Outputs O E) : Type 0 where
   pub reports : IsTrue old.told → Reports o e result outputs_old outputs_new (report old.o)
-  pub elf : LeavesElf s old new
+  pub elf : LeavesElfBy s (WentOn result) old new
   pub leaves : LeavesOutputs o e (SourceRose s old new) result outputs_old outputs_new
 
 -- A call of the library is asked: it leaves the object, and answers Read only where a read of the
 -- source failed.
 pub record Looked {S T : Type 0} (s : SourceGhosts S) (result : Result T ElfError)
     (old new : State S) : Type 0 where
-  pub elf : LeavesElf s old new
+  pub elf : LeavesElfBy s (IfErr result IsRefusal) old new
   pub read : ReadRose result (s.faults old.source) (s.faults new.source)
 
 -- It writes nothing and leaves the object. It stops by Read only where a read of the source failed,
 -- and never by Write.
 pub record ReadsElf {S T : Type 0} (s : SourceGhosts S) (result : Result T Stop)
     (old new : State S) : Type 0 where
-  pub elf : LeavesElf s old new
+  pub elf : LeavesElfBy s (WentOn result) old new
   pub read : OnRead result (SourceRose s old new)
   pub write : OnWrite result ⊥
 

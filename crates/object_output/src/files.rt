@@ -1,6 +1,6 @@
 //! A file, which is an image or an archive of them.
 
-ghost use Rattle.std.specs.Prelude.{IfSome};
+ghost use Rattle.std.specs.Prelude.{IfSome, OnOk};
 ghost use Rattle.tool_output.specs.Names.{file_name};
 ghost use Rattle.tool_output.specs.Sources.{ReportsOn};
 ghost use Rattle.tool_output.specs.Files.{IsWithin};
@@ -32,8 +32,8 @@ pub fn show_file<T: ObjectTool, S: Source, O: Sink, E: Sink>(
         (archive_report (T.command member_tool.now) (T.report member_tool.now))
         (file_name file.now))
         result.1 src result.0 outputs.old outputs.new }
-    ensures asks { IfSome (S.holds src) (λ bytes.
-        IsWithin (file_asks (T.asks tool.now) bytes) (S.taken src) (S.taken result.0)) }
+    ensures asks { OnOk result.1 (IfSome (S.holds src) (λ bytes.
+        IsWithin (file_asks (T.reads tool.now) bytes) (S.taken src) (S.taken result.0))) }
 {
     let name = FileName::of(file);
     match kind_of_source(&mut src) {

@@ -1,12 +1,11 @@
 //! An image that a tool is to speak of.
 
-ghost use Rattle.std.specs.Prelude.{◌≡◌, ◌≤◌, ◌+◌, IfOk, IfSome, is_some};
+ghost use Rattle.std.specs.Prelude.{◌≡◌, ◌≤◌, ◌+◌, false, IfOk, OnOk, IfSome, is_some};
 ghost use Rattle.elf_types.specs.Answers.{Follows};
 ghost use Rattle.elf_outside.specs.Asks.{Asks};
 ghost use Rattle.elf_ident.specs.Front.{front_bytes, most_front_bytes};
-ghost use Rattle.elf_descriptor.specs.Begun.{begun_answer, source_after};
+ghost use Rattle.elf_descriptor.specs.Begun.{IsBegun, begun_answer, source_after};
 ghost use Rattle.tool_output.specs.Sources.{ReportsOn};
-ghost use Rattle.tool_output.specs.Files.{IsWithin};
 ghost use Rattle.object_output.specs.Images.{file_object, image_report, image_asks};
 
 use crate::tools::{ObjectTool, refuse};
@@ -23,6 +22,7 @@ use tool_output::{FileName, Outputs, Stop};
 pub fn begin_image<S: Source>(alloc: Global, mut src: S) -> Result<Elf<S>, (S, ElfError)>
     ensures answer { IfSome (S.holds src) (λ image.
         Follows (begun_answer result) (file_object image)) }
+    ensures begun { IfOk result (IsBegun S.Source src) }
     ensures told { IfOk result (λ e. e.told ≡ is_some (S.holds src)) }
     ensures asks { Asks S.Source (begun_answer result) src (source_after result)
         (8 + most_front_bytes) }
@@ -39,7 +39,8 @@ pub fn begin_image<S: Source>(alloc: Global, mut src: S) -> Result<Elf<S>, (S, E
 
 /// Gives a tool's report on the image that a source holds, under a name, and hands the source back.
 /// What has no front of an image has the message that says why. It stops by `Read` only where a
-/// read of the source failed.
+/// read of the source failed. Of each home that lies in the file no more than its bytes are asked
+/// for, and none by a tool that reads no sections.
 pub fn show_image<T: ObjectTool, S: Source, O: Sink, E: Sink>(
     alloc: Global,
     tool: &T,
@@ -50,8 +51,10 @@ pub fn show_image<T: ObjectTool, S: Source, O: Sink, E: Sink>(
     ensures reports { ReportsOn S.Source O.Sink E.Sink
         (image_report (T.command tool.now) (T.report tool.now) name.now)
         result.1 src result.0 outputs.old outputs.new }
-    ensures asks { IfSome (S.holds src) (λ image.
-        IsWithin (image_asks (T.asks tool.now) image) (S.taken src) (S.taken result.0)) }
+    ensures asks { OnOk result.1 (IfSome (S.holds src) (λ image.
+        S.taken result.0 ≤ S.taken src + image_asks (T.reads tool.now) image)) }
+    ensures unread { T.reads tool.now ≡ false → IfSome (S.holds src) (λ image.
+        S.taken result.0 ≤ S.taken src + front_bytes image) }
 {
     match Elf::begin(alloc, src) {
         Ok(mut elf) => {

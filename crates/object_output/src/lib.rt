@@ -11,6 +11,7 @@ pub mod images;
 pub mod items;
 pub mod names;
 pub mod sections;
+pub mod symbols;
 pub mod tools;
 
 pub use archives::show_archive;
@@ -19,4 +20,5 @@ pub use images::{begin_image, show_image};
 pub use items::{item_there, phdr_at, stop_for};
 pub use names::{Bracketed, each_section_named, is_named, section_name, string_at};
 pub use sections::{SectionTool, each_section, section_header};
+pub use symbols::symbol_place;
 pub use tools::{ObjectTool, show_object};

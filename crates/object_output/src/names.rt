@@ -9,7 +9,8 @@ ghost use Rattle.tool_output.specs.Reports.{reports_of};
 ghost use Rattle.object_output.specs.Steps.{ReportsElf, ReadsElf, Learns};
 ghost use Rattle.object_output.specs.Sections.{bracketed, report_if, sections_named};
 
-use crate::sections::{SectionTool, each_section, section_header};
+use crate::items::stop_for;
+use crate::sections::{SectionTool, each_section};
 use elf_descriptor::Elf;
 use elf_outside::{Sink, Source};
 use elf_types::{ElfError, Octets, ScnId, put_bytes, put_text};
@@ -69,12 +70,10 @@ pub fn section_name<S: Source>(elf: &mut Elf<S>, s: ScnId) -> Result<Option<&[u8
     ensures* rests { sem 𝓛 (Rests S.row S.Source elf.entry (λ new.
         ReadsElf S.Source result elf.old new)) }
 {
-    let names = elf.shstrndx();
-    if names == 0 {
-        return Ok(None);
+    match gelf_view::section_name(elf, s) {
+        Ok(name) => Ok(name),
+        Err(e) => Err(stop_for(e)),
     }
-    let at = section_header(elf, s).name;
-    string_at(elf, ScnId(names), u64::from(at))
 }
 
 /// Whether a section that is there has this name. It stops as `section_name` does.
@@ -83,10 +82,9 @@ pub fn is_named<S: Source>(elf: &mut Elf<S>, s: ScnId, name: &[u8]) -> Result<bo
     ensures { Learns S.Source (λ o. strings.is_name name.now (strings.section_name o s.0))
         result elf.old elf.new }
 {
-    match section_name(elf, s) {
-        Ok(Some(found)) => Ok(found == name),
-        Ok(None) => Ok(false),
-        Err(stop) => Err(stop),
+    match gelf_view::is_named(elf, s, name) {
+        Ok(is) => Ok(is),
+        Err(e) => Err(stop_for(e)),
     }
 }
 

@@ -1,10 +1,9 @@
 //! A tool that says something of an object.
 
-ghost use Rattle.std.specs.Prelude.{◌≡◌, ℕ, List, Option, IfSome};
+ghost use Rattle.std.specs.Prelude.{◌≡◌, ℕ, List, Bool, false};
 ghost use Rattle.elf_object.specs.Object.{Object};
 ghost use Rattle.tool_output.specs.Names.{Name};
 ghost use Rattle.tool_output.specs.Reports.{Report};
-ghost use Rattle.tool_output.specs.Files.{IsWithin};
 ghost use Rattle.object_output.specs.Steps.{ReportsElf};
 ghost use Rattle.object_output.specs.Refusals.{Refuses};
 ghost use Rattle.object_output.specs.Shows.{ShowsElf};
@@ -19,14 +18,14 @@ use tool_output::{FileName, Message, Outputs, Stop};
 ///
 /// - `command` is its name, which stands before its messages.
 /// - `report` is what it says of an object, under the name of its file.
-/// - `asks` is how many bytes it asks for at most once the descriptor has begun, by the bytes of
-///   the image, where that is promised.
+/// - `reads` is whether it reads homes of sections. One that does not leaves the descriptor as it
+///   was.
 pub trait ObjectTool {
     ghost command: { Self → List ℕ };
 
     ghost report: { Self → Name → Object → Report };
 
-    ghost asks: { Self → List ℕ → Option ℕ };
+    ghost reads: { Self → Bool };
 
     /// The command's name.
     fn command(&self) -> &'static str
@@ -43,8 +42,7 @@ pub trait ObjectTool {
     ) -> Result<bool, Stop>
         ensures reports { ReportsElf S.Source O.Sink E.Sink (report self.now name.now)
             result elf.old elf.new outputs.old outputs.new }
-        ensures asks { IfSome (S.holds elf.old.source) (λ image.
-            IsWithin (asks self.now image) (S.taken elf.old.source) (S.taken elf.new.source)) };
+        ensures unread { reads self.now ≡ false → elf.new ≡ elf.old };
 }
 
 /// Refuses a file, or a member of an archive, for an error of the library: gives its message, or
@@ -77,8 +75,9 @@ pub fn show_object<T: ObjectTool, S: Source, O: Sink, E: Sink>(
     out: &mut O,
     err: &mut E,
 ) -> Result<bool, Stop>
-    ensures { ShowsElf S.Source O.Sink E.Sink (T.report tool.now name.now)
+    ensures shows { ShowsElf S.Source O.Sink E.Sink (T.report tool.now name.now)
         result elf.old elf.new out.old out.new err.old err.new }
+    ensures unread { T.reads tool.now ≡ false → elf.new ≡ elf.old }
 {
     let mut page = Octets::new(alloc);
     let mut outputs = Outputs::new(out, err, &mut page);

@@ -36,7 +36,8 @@ use Rattle.elf_descriptor.specs.State.{State}
 use Rattle.elf_descriptor.specs.Held.{AreHeldBytes}
 use Rattle.section_data.specs.Held.{or_empty, items_of_bytes}
 use Rattle.gelf_view.specs.Records.{string_front}
-use Rattle.readelf_blocks.specs.RelocationLines.{found, symbol_in}
+use Rattle.readelf_blocks.specs.RelocationLines.{symbol_in}
+use Rattle.object_output.specs.Answers.{value_of}
 use Rattle.readelf_blocks.specs.AtHand.{HoldsItems, HoldsStrings, IsOneTable, IsAtHand}
 use Rattle.readelf_rows.specs.declared.links.Table.{Table}
 use Rattle.readelf_blocks.specs.declared.at_hand.TableBytes.{TableBytes}
@@ -100,7 +101,7 @@ holds_items {A} {S} kind list_of state s bytes passed held = record {
 
 -- ---- Symbols
 
-found_is : (g : Option Sym) (i n : ℕ) → found (elim g [ None ↦ Err (NoEntry i n) | Some x ↦ Ok x ]) ≡ g
+found_is : (g : Option Sym) (i n : ℕ) → value_of (elim g [ None ↦ Err (NoEntry i n) | Some x ↦ Ok x ]) ≡ g
 found_is None i n = refl
 found_is (Some x) i n = refl
 
@@ -109,7 +110,7 @@ pub symbols_are : {S : Type 0} (state : State S) (table : ℕ) (bytes : List ℕ
 unfolding symbol_in sym_answer
 symbols_are {S} state table bytes holds told y =
     let l = syms_of (items_at state.o table 0) in
-    ap (λ (r : Option ElfError). found (entry_answer r l y)) holds.lent
+    ap (λ (r : Option ElfError). value_of (entry_answer r l y)) holds.lent
     ∙ found_is (slice_get l y) y (length l)
     ∙ ap (λ (m : List Sym). slice_get m y) (holds.items told)
 

@@ -1,25 +1,21 @@
 -- The line of a relocation, with the name of its symbol.
-use Rattle.std.specs.Prelude.{◌++◌, ℕ, ℤ, List, [], Option, Some, None, Result, Ok, Err, codes}
+use Rattle.std.specs.Prelude.{◌++◌, ℕ, ℤ, List, [], Option, Some, None, codes}
 use Rattle.std.specs.Fmt.{signed_decimal}
 use Rattle.elf_types.specs.declared.records.Sym.{Sym}
 use Rattle.elf_types.specs.declared.records.Rel.{Rel}
 use Rattle.elf_types.specs.declared.records.Rela.{Rela}
-use Rattle.elf_types.specs.declared.errors.ElfError.{ElfError}
 use Rattle.elf_object.specs.Object.{Object, section_at}
 use Rattle.elf_object.specs.Calls.{sym_answer}
 use Rattle.elf_object.specs.Strings.{string_answer, readable}
+use Rattle.object_output.specs.Answers.{value_of}
 use Rattle.object_output.specs.Sections.{bracketed}
 use Rattle.readelf_rows.specs.Fields.{hex_column, decimal_column, row_start}
 
 -- ---- The symbol
 
-abbrev pub found : Result Sym ElfError → Option Sym
-found (Ok x) = Some x
-found (Err e) = None
-
 -- symbol y of a section, where that is one of symbols that can be told and has it
 unfoldable pub symbol_in : Object → ℕ → ℕ → Option Sym
-symbol_in o table y = found (sym_answer o table 0 y)
+symbol_in o table y = value_of (sym_answer o table 0 y)
 
 -- the name of a symbol, in a section of strings
 unfoldable pub name_by : Object → ℕ → Option Sym → Option (List ℕ)

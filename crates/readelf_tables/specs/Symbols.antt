@@ -1,21 +1,20 @@
 -- The lines of the symbol tables (the part `s`).
-use Rattle.std.specs.Prelude.{◌++◌, ◌/◌, ◌%◌, ◌==◌, ◌||◌, ℕ, List, Bool, Option, Some, None, Result, Ok, Err, codes, decimal, if◌then◌else◌}
+use Rattle.std.specs.Prelude.{◌++◌, ◌/◌, ◌%◌, ◌==◌, ◌||◌, ℕ, List, Bool, Option, Some, None, codes, decimal, if◌then◌else◌}
 use Rattle.elf_types.specs.declared.records.Sym.{Sym}
 use Rattle.elf_types.specs.declared.records.Kind.TheVariants as kinds
-use Rattle.elf_types.specs.declared.errors.ElfError.{ElfError}
 use Rattle.elf_types.specs.declared.constants.TheConstants.{SHN_UNDEF, SHN_ABS, SHN_COMMON, SHT_SYMTAB, SHT_DYNSYM}
 use Rattle.elf_types.specs.Names.{symbol_type_name_of, binding_name_of, visibility_name_of}
 use Rattle.elf_types.specs.Text.{hex}
 use Rattle.elf_object.specs.Object.{Object}
 use Rattle.elf_object.specs.Answers.{items_at, syms_of, lend_refusal}
 use Rattle.elf_object.specs.Strings.{symbol_name}
-use Rattle.elf_object.specs.SymbolSections.{place_of_symbol}
 use Rattle.gelf_view.specs.Calls.{IsTable}
 use Rattle.gelf_view.specs.declared.symbols.SymPlace.{SymPlace}
 use Rattle.gelf_view.specs.declared.symbols.SymPlace.TheVariants.{Special, Section}
 use Rattle.tool_output.specs.Names.{Name}
 use Rattle.tool_output.specs.Reports.{Report}
 use Rattle.object_output.specs.Sections.{bracketed}
+use Rattle.object_output.specs.Symbols.{symbol_place}
 use Rattle.readelf_rows.specs.Fields.{hex_column, decimal_column, name_column, row_start}
 use Rattle.readelf_rows.specs.declared.links.Links.{Links}
 use Rattle.readelf_rows.specs.Links.{AreLinks}
@@ -59,14 +58,6 @@ unfoldable pub symbol_line : ℕ → Sym → Option SymPlace → Option (List �
 symbol_line i x place name = symbol_start i x ++ symbol_names x ++ symbol_end x place name
 
 -- ---- The symbols of a section
-
-abbrev pub place_found : Result SymPlace ElfError → Option SymPlace
-place_found (Ok place) = Some place
-place_found (Err e) = None
-
--- the place of symbol i of a section, or none where its extended index can not be told
-unfoldable pub symbol_place : Object → ℕ → ℕ → Sym → Option SymPlace
-symbol_place o s i x = place_found (place_of_symbol Special Section o s i x)
 
 unfoldable pub symbol_row : Object → ℕ → ℕ → Sym → List ℕ
 symbol_row o s i x = symbol_line i x (symbol_place o s i x) (symbol_name o s x)

@@ -33,13 +33,7 @@ fn find_symbol<S: Source>(elf: &mut Elf<S>, table: ScnId, y: u32) -> Result<Opti
         section: table.0,
         piece: 0,
     };
-    match sym(elf, d, u64::from(y)) {
-        Ok(x) => Ok(Some(x)),
-        Err(e) => match Stop::of(&e) {
-            Some(stop) => Err(stop),
-            None => Ok(None),
-        },
-    }
+    Stop::unless_refused(sym(elf, d, u64::from(y)))
 }
 
 /// Shows the line of a relocation by a symbol whose name stands in a section.

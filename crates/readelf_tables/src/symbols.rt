@@ -4,11 +4,9 @@ ghost use Rattle.std.specs.Prelude.{◌≡◌, ◌++◌, OnOk, IfErr};
 ghost use Rattle.std.specs.Option.{option_copied};
 ghost use Rattle.elf_types.specs.Writers.{WantsMemory};
 ghost use Rattle.elf_object.specs.Strings as strings;
-ghost use Rattle.elf_types.specs.declared.constants.TheConstants.{SHN_XINDEX};
-ghost use Rattle.gelf_view.specs.Calls.{IsTable};
 ghost use Rattle.tool_output.specs.Reports.{shown};
-ghost use Rattle.object_output.specs.Steps.{ReportsElf, Learns};
-ghost use Rattle.readelf_tables.specs.Symbols.{SymbolsFit, special_text, place_text, symbol_start, symbol_names, symbol_end, symbol_line, symbol_place as stated_place, symbol_row, symbols_title, symbols_of_section, holds_symbols, symbols_report};
+ghost use Rattle.object_output.specs.Steps.{ReportsElf};
+ghost use Rattle.readelf_tables.specs.Symbols.{SymbolsFit, special_text, place_text, symbol_start, symbol_names, symbol_end, symbol_line, symbol_row, symbols_title, symbols_of_section, holds_symbols, symbols_report};
 
 use crate::tables::{Row, Rows, show_each, show_table};
 use elf_descriptor::Elf;
@@ -18,8 +16,8 @@ use elf_types::{
     ElfError, Octets, ScnId, Sym, bind, binding_name, put_decimal, put_hex, put_text, stt,
     symbol_type_name, vis, visibility_name,
 };
-use gelf_view::{SymPlace, shndx_table, symbol_place};
-use object_output::{Bracketed, string_at};
+use gelf_view::{SymPlace, shndx_table};
+use object_output::{Bracketed, string_at, symbol_place};
 use readelf_rows::{
     Links, Part, Table, each_plain, links_of, put_decimal_column, put_hex_column, put_name_column,
     put_row_start,
@@ -132,27 +130,6 @@ impl Line for SymbolLine<'_> {
     }
 }
 
-/// The section of symbol `i` of a section, which was looked at, or None where its extended index
-/// can not be told. It stops by `Read` where a read of the source failed, and by `Memory`.
-fn place_of<S: Source>(
-    elf: &mut Elf<S>,
-    s: ScnId,
-    i: u64,
-    x: Sym,
-    table: Option<ScnId>,
-) -> Result<Option<SymPlace>, Stop>
-    requires { x.shndx ≡ SHN_XINDEX → IsTable elf.old.o s.0 table }
-    ensures { Learns S.Source (λ o. stated_place o s.0 i x) result elf.old elf.new }
-{
-    match symbol_place(elf, s, i, x, table) {
-        Ok(place) => Ok(Some(place)),
-        Err(e) => match Stop::of(&e) {
-            Some(stop) => Err(stop),
-            None => Ok(None),
-        },
-    }
-}
-
 /// Shows the line of a symbol whose place is known, and whose name stands in a section.
 fn show_symbol<S: Source, O: Sink, E: Sink>(
     elf: &mut Elf<S>,
@@ -207,7 +184,7 @@ impl Row for Sym {
         links: Links,
         outputs: &mut Outputs<'_, O, E>,
     ) -> Result<bool, Stop> {
-        match place_of(elf, s, i, self, links.indexes) {
+        match symbol_place(elf, s, i, self, links.indexes) {
             Ok(place) => show_symbol(elf, links.linked, i, self, place, outputs),
             Err(stop) => Err(stop),
         }

@@ -1,26 +1,14 @@
--- What the letters that are asked for show, and ask for.
+-- What the letters that are asked for show, and which of them read sections.
 use Rattle.std.proofs.Common.{◌≡◌, ◌<◌, ◌&&◌, ℕ, Bool, true, false, List, length, get_or, Option, Some, None, refl, sym, ap, ◌∙◌, arith}
 use Rattle.std.specs.Prelude.{if◌then◌else◌, IfSome}
 use Rattle.std.proofs.lemmas.List.Folds.{list_any_at}
 use Rattle.tool_text.specs.declared.options.ReadelfParts.{ReadelfParts}
 use Rattle.elf_object.specs.Object.{Object}
 use Rattle.tool_output.specs.Names.{Name}
-use Rattle.tool_output.specs.Files.{IsWithin}
 use Rattle.tool_output.specs.Reports.{no_report}
 use Rattle.readelf_tool.specs.declared.parts.Letter.{Letter}
 use Rattle.readelf_tool.specs.declared.parts.TheConstants.{LETTERS}
-use Rattle.readelf_tool.specs.Parts.{is_asked, reads_sections, letter_report, letter_part, shows_sections, readelf_asks}
-
--- without a part that reads sections nothing is
-pub asks_within : (parts : ReadelfParts) (holds : Option (List ℕ)) (a b : ℕ) → (shows_sections parts ≡ false → b ≡ a)
-    → IfSome holds (λ image. IsWithin (readelf_asks parts image) a b)
-unfolding readelf_asks
-asks_within parts None a b same = tt
-asks_within parts (Some image) a b same = by_test (shows_sections parts) same
-  where
-    by_test : (test : Bool) → (test ≡ false → b ≡ a) → IsWithin (if test then None else Some 0) a b
-    by_test true same = tt
-    by_test false same = let is = same refl in omega arith
+use Rattle.readelf_tool.specs.Parts.{is_asked, reads_sections, letter_report, letter_part, shows_sections}
 
 module _ (parts : ReadelfParts) (letter : Letter) where
   module _ (name : Name) (o : Object) where

@@ -1,5 +1,5 @@
 -- What readelf shows of an object: the parts that are asked for by their letters, in their order.
-use Rattle.std.specs.Prelude.{Bool, true, false, ◌&&◌, ℕ, List, Option, Some, None, if◌then◌else◌}
+use Rattle.std.specs.Prelude.{Bool, true, false, ◌&&◌, ℕ, List, if◌then◌else◌}
 use Rattle.std.specs.List.{list_any}
 use Rattle.elf_object.specs.Object.{Object, header_of}
 use Rattle.tool_text.specs.declared.options.ReadelfParts.{ReadelfParts}
@@ -50,8 +50,8 @@ readelf_report parts name o = reports_of (λ letter. letter_part parts name lett
 
 -- ---- What is asked for
 
--- The letters h and l show what the front has, and ask for nothing more. For the other letters,
--- which read sections, no bound is promised.
+-- The letters h and l show what the front has, and ask for nothing more. The other letters read
+-- sections.
 unfoldable pub reads_sections : Letter → Bool
 reads_sections Header = false
 reads_sections Segments = false
@@ -64,6 +64,3 @@ reads_sections Versions = true
 
 unfoldable pub shows_sections : ReadelfParts → Bool
 shows_sections parts = list_any (λ letter. is_asked parts letter && reads_sections letter) LETTERS
-
-unfoldable pub readelf_asks : ReadelfParts → List ℕ → Option ℕ
-readelf_asks parts image = if shows_sections parts then None else Some 0

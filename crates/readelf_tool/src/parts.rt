@@ -4,7 +4,7 @@ ghost use Rattle.std.specs.Prelude.{◌≡◌, ◌&&◌, codes, false};
 ghost use Rattle.tool_output.specs.Names.{file_name};
 ghost use Rattle.object_output.specs.Steps.{ReportsElf};
 ghost use Rattle.object_output.specs.Shows.{ShowsElf};
-ghost use Rattle.readelf_tool.specs.Parts.{is_asked, reads_sections, letter_report, letter_part, readelf_report, shows_sections, readelf_asks};
+ghost use Rattle.readelf_tool.specs.Parts.{is_asked, reads_sections, letter_report, letter_part, readelf_report, shows_sections};
 
 use crate::versions::show_versions;
 use elf_descriptor::Elf;
@@ -143,7 +143,7 @@ impl ObjectTool for ReadelfTool<'_> {
 
     ghost report = { λ t name. readelf_report t.parts.now name };
 
-    ghost asks = { λ t. readelf_asks t.parts.now };
+    ghost reads = { λ t. shows_sections t.parts.now };
 
     fn command(&self) -> &'static str {
         "readelf"
@@ -170,9 +170,10 @@ pub fn readelf<S: Source, O: Sink, E: Sink>(
     out: &mut O,
     err: &mut E,
 ) -> Result<bool, Stop>
-    ensures { ShowsElf S.Source O.Sink E.Sink
+    ensures shows { ShowsElf S.Source O.Sink E.Sink
         (readelf_report parts.now (file_name name.now))
         result elf.old elf.new out.old out.new err.old err.new }
+    ensures unread { shows_sections parts.now ≡ false → elf.new ≡ elf.old }
 {
     show_object(
         alloc,

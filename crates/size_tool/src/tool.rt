@@ -1,6 +1,6 @@
 //! The tool of the command size.
 
-ghost use Rattle.std.specs.Prelude.{◌≡◌, Some, codes};
+ghost use Rattle.std.specs.Prelude.{◌≡◌, false, codes};
 ghost use Rattle.tool_output.specs.Names.{file_name};
 ghost use Rattle.object_output.specs.Shows.{ShowsElf};
 ghost use Rattle.size_tool.specs.Tool.{size_report};
@@ -22,7 +22,7 @@ impl ObjectTool for SizeTool {
 
     ghost report = { λ _. size_report };
 
-    ghost asks = { λ _ _. Some 0 };
+    ghost reads = { λ _. false };
 
     fn command(&self) -> &'static str {
         "size"
@@ -53,8 +53,9 @@ pub fn size<S: Source, O: Sink, E: Sink>(
     out: &mut O,
     err: &mut E,
 ) -> Result<bool, Stop>
-    ensures { ShowsElf S.Source O.Sink E.Sink (size_report (file_name name.now))
+    ensures shows { ShowsElf S.Source O.Sink E.Sink (size_report (file_name name.now))
         result elf.old elf.new out.old out.new err.old err.new }
+    ensures unread { elf.new ≡ elf.old }
 {
     show_object(alloc, &SizeTool, elf, &FileName::of(name), out, err)
 }

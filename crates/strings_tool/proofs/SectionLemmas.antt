@@ -1,14 +1,15 @@
 -- What is said of a section, and of sections by number.
-use Rattle.std.proofs.Common.{◌≡◌, ◌+◌, ◌<◌, ◌≤◌, ◌&&◌, ◌==◌, ℕ, Bool, true, false, not, nat_lt, List, [], length, take, drop, map, get_or, IfSome, Result, Ok, codes, refl, sym, ap, ◌∙◌, subst, arith}
+use Rattle.std.proofs.Common.{◌≡◌, ◌+◌, ◌<◌, ◌≤◌, ◌&&◌, ◌==◌, ℕ, Bool, true, false, not, nat_lt, List, [], ◌∷◌, length, take, drop, map, get_or, Option, Some, None, IfSome, Result, Ok, codes, refl, sym, ap, ◌∙◌, subst, arith}
 use Rattle.std.specs.List.{range_with_len}
-use Rattle.std.proofs.lemmas.List.{length-map, get_or-map}
+use Rattle.std.proofs.lemmas.List.{length-map, get_or-map, at_drop_more}
+use Rattle.std.proofs.lemmas.List.Sums.{sum_by-cons}
 use Rattle.elf_types.specs.declared.records.Shdr.{Shdr}
 use Rattle.elf_types.specs.declared.errors.ElfError.TheVariants.{OutOfFile}
 use Rattle.elf_types.specs.Text.{error_text}
 use Rattle.elf_outside.specs.Counts.{Rose}
 use Rattle.elf_outside.specs.declared.sources.Source.{Ghosts as SourceGhosts}
 use Rattle.elf_outside.specs.declared.sinks.Sink.{Ghosts as SinkGhosts}
-use Rattle.elf_object.specs.Object.{absent_section}
+use Rattle.elf_object.specs.Object.{Section, absent_section}
 use Rattle.elf_object.specs.Open.{home_len, home_of, home_bytes, opened_section}
 use Rattle.command_objects.specs.Words.{is_allocated}
 use Rattle.ar_members.proofs.Told.{told_both, told_then}
@@ -25,7 +26,7 @@ use Rattle.tool_output.proofs.ReportLemmas.{or_false, reports_none}
 use Rattle.tool_output.proofs.UnderWayLemmas.{shown_none}
 use Rattle.object_output.proofs.SourceSteps.{OnWay, way_last}
 use Rattle.object_output.proofs.SectionLemmas.{number_left, no_number_left}
-use Rattle.strings_tool.specs.Homes.{range_report, home_report, section_by, section_report, sections_report}
+use Rattle.strings_tool.specs.Homes.{range_report, home_report, section_by, section_report, sections_report, section_asks, sections_asks}
 use Rattle.strings_tool.proofs.TextLemmas.{text_none}
 
 -- ---- A section
@@ -52,6 +53,13 @@ module _ (options : StringsOptions) (name : Name) (s : ℕ) (h : Shdr) (image : 
       section_in on inside
       ∙ ap (λ (n : ℕ). range_report options h.offset (take n (drop h.offset image))) none
       ∙ ap shown (text_none options h.offset [] (omega arith)) ∙ shown_none
+
+-- what is asked for of a home that is shown
+pub asked_in : (h : Shdr) (image : List ℕ) → is_allocated h ≡ true
+    → (not (home_len h == 0) && nat_lt (length image) (h.offset + home_len h)) ≡ false
+    → section_asks (opened_section image h) ≡ home_len h
+unfolding section_asks opened_section home_of
+asked_in h image on inside = rw (on, inside) refl
 
 -- whether it is out of the file, as that is tested
 pub out_is : (h : Shdr) (image : List ℕ) (b : Bool) (len size : ℕ) → len ≡ home_len h → length image ≡ size → b ≡ (not (len == 0) && nat_lt size (h.offset + len))
@@ -85,6 +93,46 @@ module _ (options : StringsOptions) (name : Name) (headers : List Shdr) (image :
   no_sections_left i le =
       no_number_left (λ (s : ℕ). section_report options name s (get_or (map (opened_section image) headers) s absent_section))
       (length (map (opened_section image) headers)) i (omega (arith, length-map headers (opened_section image), le))
+
+-- ---- What is asked for, by what is left
+
+abbrev pub left_asks : List Shdr → List ℕ → ℕ → ℕ
+left_asks headers image i = sections_asks (drop i (map (opened_section image) headers))
+
+pub asks_begin : (headers : List Shdr) (holds : Option (List ℕ)) (a : ℕ)
+    → IfSome holds (λ image. a + left_asks headers image 0 ≤ a + left_asks headers image 0)
+asks_begin headers None a = tt
+asks_begin headers (Some image) a = omega arith
+
+next_asked : (headers : List Shdr) (image : List ℕ) (i : ℕ) (h : Shdr) → i < length headers
+    → h ≡ get_or headers i h
+    → left_asks headers image i
+    ≡ section_asks (opened_section image h) + left_asks headers image (i + 1)
+next_asked headers image i h lt is =
+    let all = map (opened_section image) headers in
+    let later = drop (i + 1) all in
+    at_drop_more sections_asks all i (opened_section image h)
+    (omega (arith, length-map headers (opened_section image), lt))
+    ∙ ap (λ (x : Section). sections_asks (x ∷ later))
+    (get_or-map (opened_section image) headers i h (opened_section image h) lt
+    ∙ ap (opened_section image) (sym is))
+    ∙ sum_by-cons section_asks (opened_section image h) later
+
+pub asks_go_on : (headers : List Shdr) (i : ℕ) (h : Shdr) (holds now : Option (List ℕ)) (a b c : ℕ)
+    → i < length headers → h ≡ get_or headers i h → now ≡ holds
+    → IfSome holds (λ image. b + left_asks headers image i ≤ a + left_asks headers image 0)
+    → IfSome now (λ image. c ≤ b + section_asks (opened_section image h))
+    → IfSome holds (λ image. c + left_asks headers image (i + 1) ≤ a + left_asks headers image 0)
+asks_go_on headers i h None now a b c lt is same before step = tt
+asks_go_on headers i h (Some image) now a b c lt is same before step =
+    let asked = subst (λ (o : Option (List ℕ)). IfSome o (λ image. c ≤ b + section_asks (opened_section image h))) same step in
+    omega (arith, next_asked headers image i h lt is, before, asked)
+
+pub asks_end : (headers : List Shdr) (i : ℕ) (holds : Option (List ℕ)) (a b : ℕ)
+    → IfSome holds (λ image. b + left_asks headers image i ≤ a + left_asks headers image 0)
+    → IfSome holds (λ image. b ≤ a + sections_asks (map (opened_section image) headers))
+asks_end headers i None a b h = tt
+asks_end headers i (Some image) a b h = omega (arith, h)
 
 -- ---- Reports on the bytes of a source
 

@@ -1,6 +1,6 @@
 -- What strings says of the sections of an object: the lines of the homes of those that take memory
 -- in a process (SHF_ALLOC of gABI chapter 4, "Sections"), each by itself.
-use Rattle.std.specs.Prelude.{ℕ, List, length, slice_index_or, Bool, true, false, codes}
+use Rattle.std.specs.Prelude.{ℕ, ◌&&◌, List, length, slice_index_or, Bool, true, false, not, sum_by, codes, if◌then◌else◌}
 use Rattle.std.specs.List.{range_with_len}
 use Rattle.elf_types.specs.declared.errors.ElfError.TheVariants.{OutOfFile}
 use Rattle.elf_types.specs.Text.{error_text}
@@ -36,3 +36,14 @@ sections_report options name sections =
     reports_of
     (λ s. section_report options name s (slice_index_or sections s absent_section))
     (range_with_len 0 (length sections))
+
+-- ---- How many bytes are asked for
+
+-- of a section: its home, where that is shown
+unfoldable pub section_asks : Section → ℕ
+section_asks section =
+    if is_allocated section.header && not section.home.out then section.home.len else 0
+
+-- of sections, each once
+abbrev pub sections_asks : List Section → ℕ
+sections_asks sections = sum_by section_asks sections

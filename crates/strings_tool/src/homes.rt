@@ -5,7 +5,7 @@ ghost use Rattle.elf_object.specs.Open.{opened_section};
 ghost use Rattle.command_objects.specs.Words.{is_allocated};
 ghost use Rattle.tool_output.specs.Sources.{ReportsOn};
 ghost use Rattle.strings_tool.specs.Texts.{least_len};
-ghost use Rattle.strings_tool.specs.Homes.{range_report, section_report, sections_report};
+ghost use Rattle.strings_tool.specs.Homes.{range_report, section_report, sections_report, section_asks, sections_asks};
 
 use crate::ranges::show_range;
 use elf_object::home_len;
@@ -64,6 +64,8 @@ fn show_section<S: Source, O: Sink, E: Sink>(
     ensures reports { ReportsOn S.Source O.Sink E.Sink
         (λ image. section_report options.now name.now section (opened_section image header.now))
         result src.old src.new outputs.old outputs.new }
+    ensures asks { IfSome (S.holds src.old) (λ image.
+        S.taken src.new ≤ S.taken src.old + section_asks (opened_section image header.now)) }
     ensures room { length buffer.new ≡ length buffer.old }
 {
     let at = header.offset;
@@ -84,7 +86,8 @@ fn show_section<S: Source, O: Sink, E: Sink>(
     show_range(src, at, len, buffer, options, outputs)
 }
 
-/// Shows the runs of the homes of sections by number. The answer tells whether one was refused.
+/// Shows the runs of the homes of sections by number. The answer tells whether one was refused. Each
+/// home that is shown is read once.
 pub fn show_sections<S: Source, O: Sink, E: Sink>(
     src: &mut S,
     name: &FileName<'_>,
@@ -95,9 +98,12 @@ pub fn show_sections<S: Source, O: Sink, E: Sink>(
 ) -> Result<bool, Stop>
     requires few { length headers.now ≤ 1048576 }
     requires room { length buffer.old ≡ 65536 + least_len options.now }
-    ensures { ReportsOn S.Source O.Sink E.Sink
+    ensures reports { ReportsOn S.Source O.Sink E.Sink
         (λ image. sections_report options.now name.now (map (opened_section image) headers.now))
         result src.old src.new outputs.old outputs.new }
+    ensures asks { IfSome (S.holds src.old) (λ image.
+        S.taken src.new
+        ≤ S.taken src.old + sections_asks (map (opened_section image) headers.now)) }
 {
     let mut refused = false;
     for (i, header) in headers.iter().enumerate() {

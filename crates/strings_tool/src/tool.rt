@@ -1,12 +1,12 @@
 //! The command strings.
 
-ghost use Rattle.std.specs.Prelude.{◌≡◌, ◌+◌, length, IfOk, IfErr, IfSome};
+ghost use Rattle.std.specs.Prelude.{◌≡◌, ◌+◌, ◌≤◌, length, IfOk, IfErr, IfSome};
 ghost use Rattle.tool_output.specs.Names.{file_name};
-ghost use Rattle.tool_output.specs.Files.{IsWithin};
 ghost use Rattle.tool_output.specs.Sources.{ReportsOn};
+ghost use Rattle.elf_ident.specs.Front.{front_bytes};
 ghost use Rattle.elf_object.specs.Open.{opened};
 ghost use Rattle.strings_tool.specs.Texts.{least_len};
-ghost use Rattle.strings_tool.specs.Tool.{opened_report, strings_report, strings_asks, ShowsSource};
+ghost use Rattle.strings_tool.specs.Tool.{opened_report, opened_asks, strings_report, strings_asks, ShowsSource};
 
 use crate::homes::{show_sections, show_whole};
 use crate::ranges::PIECE_SIZE;
@@ -40,9 +40,11 @@ fn show_homes<S: Source, O: Sink, E: Sink>(
     outputs: &mut Outputs<'_, O, E>,
 ) -> Result<bool, Stop>
     requires { length buffer.old ≡ 65536 + least_len options.now }
-    ensures { ReportsOn S.Source O.Sink E.Sink
+    ensures reports { ReportsOn S.Source O.Sink E.Sink
         (λ image. opened_report (opened image) options.now name.now image)
         result src.old src.new outputs.old outputs.new }
+    ensures asks { IfSome (S.holds src.old) (λ image. S.taken src.new
+        ≤ S.taken src.old + (front_bytes image + opened_asks (opened image) image)) }
 {
     match read_front(alloc, src) {
         Ok(front) => show_sections(src, name, front.shdrs.as_slice(), buffer, options, outputs),
@@ -57,7 +59,7 @@ fn show_homes<S: Source, O: Sink, E: Sink>(
 /// where the front is refused, those of all its bytes; else those of the homes of the sections that
 /// take memory in a process, by number, each home by itself. A section out of the file has its
 /// message and is passed over. The answer tells whether one was. It holds a piece of a fixed size
-/// and the front, whatever the length.
+/// and the front, whatever the length, and asks for no byte of a home twice.
 ///
 /// It stops by `Read` where a read of the source failed, by `Write` where a put failed, and by
 /// `Memory`.
@@ -71,7 +73,7 @@ pub fn show_strings<S: Source, O: Sink, E: Sink>(
     ensures reports { ReportsOn S.Source O.Sink E.Sink (strings_report options.now name.now)
         result src.old src.new outputs.old outputs.new }
     ensures asks { IfSome (S.holds src.old) (λ image.
-        IsWithin (strings_asks options.now image) (S.taken src.old) (S.taken src.new)) }
+        S.taken src.new ≤ S.taken src.old + strings_asks options.now image) }
 {
     let mut buffer = new_buffer(alloc, options)?;
     if options.all {
@@ -91,8 +93,11 @@ pub fn strings<S: Source, O: Sink, E: Sink>(
     out: &mut O,
     err: &mut E,
 ) -> Result<bool, Stop>
-    ensures { ShowsSource S.Source O.Sink E.Sink (strings_report options.now (file_name name.now))
+    ensures shows { ShowsSource S.Source O.Sink E.Sink
+        (strings_report options.now (file_name name.now))
         result src.old src.new out.old out.new err.old err.new }
+    ensures asks { IfSome (S.holds src.old) (λ image.
+        S.taken src.new ≤ S.taken src.old + strings_asks options.now image) }
 {
     let mut page = Octets::new(alloc);
     let mut outputs = Outputs::new(out, err, &mut page);

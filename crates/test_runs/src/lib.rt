@@ -7,7 +7,9 @@
 mod objects;
 mod runs;
 
-pub use objects::{Said, asked, readelf_of};
+pub use objects::{
+    Elflint, Lines, Nm, OwnCall, Readelf, Said, Size, asked, readelf_of, said_by, strings_of,
+};
 pub use runs::{
     Bytes, DONE, Ending, Failing, Given, NOTHING, REFUSED, Ran, add_file, ends, numbered, refuses,
     run_line, run_words, shows,

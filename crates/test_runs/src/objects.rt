@@ -1,14 +1,19 @@
-//! What readelf says of an object, and how much of a file it asks for.
+//! What the tools' own calls say of an object, and how much of a file readelf asks for.
 
 use elf_descriptor::Elf;
 use elf_outside::{MemSink, MemSource, Sink, Source};
 use elf_types::{Addrs, ElfError, Octets};
+use elflint_tool::elflint;
+use lines_tool::lines;
+use nm_tool::nm;
 use object_output::show_file;
 use readelf_tool::{ReadelfTool, readelf};
+use size_tool::size;
 use std::alloc::Global;
+use strings_tool::strings;
 use test_images::Image;
 use tool_output::{Outputs, Stop};
-use tool_text::ReadelfParts;
+use tool_text::{NmOptions, ReadelfParts, StringsOptions};
 
 /// The room of each output, more than a test writes.
 const ROOM: u64 = 1 << 16;
@@ -36,26 +41,107 @@ fn sink(alloc: Global) -> Result<MemSink, ElfError> {
     MemSink::new(alloc, ROOM, Addrs::new(alloc))
 }
 
-/// What readelf answers of a descriptor under the name F.
-fn answered<S: Source, O: Sink, E: Sink>(
-    alloc: Global,
-    elf: &mut Elf<S>,
-    parts: &ReadelfParts,
-    out: &mut O,
-    err: &mut E,
-) -> Result<bool, Stop> {
-    readelf(alloc, elf, parts, b"F", out, err)
+/// A tool's own call on an object, under the name F.
+pub trait OwnCall {
+    /// Makes it, over two outputs.
+    fn answer<S: Source, O: Sink, E: Sink>(
+        &self,
+        alloc: Global,
+        elf: &mut Elf<S>,
+        out: &mut O,
+        err: &mut E,
+    ) -> Result<bool, Stop>;
 }
 
-/// What it says over outputs, which are opened.
-fn said_over<S: Source>(
+/// The call of readelf, with its parts.
+#[derive(Clone, Copy)]
+pub struct Readelf<'a>(pub &'a ReadelfParts);
+
+impl OwnCall for Readelf<'_> {
+    fn answer<S: Source, O: Sink, E: Sink>(
+        &self,
+        alloc: Global,
+        elf: &mut Elf<S>,
+        out: &mut O,
+        err: &mut E,
+    ) -> Result<bool, Stop> {
+        readelf(alloc, elf, self.0, b"F", out, err)
+    }
+}
+
+/// The call of nm, with its options.
+#[derive(Clone, Copy)]
+pub struct Nm<'a>(pub &'a NmOptions);
+
+impl OwnCall for Nm<'_> {
+    fn answer<S: Source, O: Sink, E: Sink>(
+        &self,
+        alloc: Global,
+        elf: &mut Elf<S>,
+        out: &mut O,
+        err: &mut E,
+    ) -> Result<bool, Stop> {
+        nm(alloc, elf, self.0, b"F", out, err)
+    }
+}
+
+/// The call of size.
+#[derive(Clone, Copy)]
+pub struct Size;
+
+impl OwnCall for Size {
+    fn answer<S: Source, O: Sink, E: Sink>(
+        &self,
+        alloc: Global,
+        elf: &mut Elf<S>,
+        out: &mut O,
+        err: &mut E,
+    ) -> Result<bool, Stop> {
+        size(alloc, elf, b"F", out, err)
+    }
+}
+
+/// The call of elflint.
+#[derive(Clone, Copy)]
+pub struct Elflint;
+
+impl OwnCall for Elflint {
+    fn answer<S: Source, O: Sink, E: Sink>(
+        &self,
+        alloc: Global,
+        elf: &mut Elf<S>,
+        out: &mut O,
+        err: &mut E,
+    ) -> Result<bool, Stop> {
+        elflint(alloc, elf, b"F", out, err)
+    }
+}
+
+/// The call of lines.
+#[derive(Clone, Copy)]
+pub struct Lines;
+
+impl OwnCall for Lines {
+    fn answer<S: Source, O: Sink, E: Sink>(
+        &self,
+        alloc: Global,
+        elf: &mut Elf<S>,
+        out: &mut O,
+        err: &mut E,
+    ) -> Result<bool, Stop> {
+        lines(alloc, elf, b"F", out, err)
+    }
+}
+
+/// What is said of a descriptor over outputs, which are opened.
+fn said_over<C: OwnCall, S: Source>(
     alloc: Global,
+    call: &C,
     elf: &mut Elf<S>,
-    parts: &ReadelfParts,
     mut out: MemSink,
     mut err: MemSink,
 ) -> Said {
-    let refused = answered(alloc, elf, parts, &mut out, &mut err);
+    let refused = call.answer(alloc, elf, &mut out, &mut err);
     Said {
         refused,
         out: out.into_bytes(),
@@ -63,26 +149,26 @@ fn said_over<S: Source>(
     }
 }
 
-/// What it says of a descriptor that is lent.
-fn said_on<S: Source>(
+/// What is said of a descriptor that is lent.
+fn said_on<C: OwnCall, S: Source>(
     alloc: Global,
+    call: &C,
     elf: &mut Elf<S>,
-    parts: &ReadelfParts,
 ) -> Result<Said, ElfError> {
     let out = sink(alloc)?;
     let err = sink(alloc)?;
-    Ok(said_over(alloc, elf, parts, out, err))
+    Ok(said_over(alloc, call, elf, out, err))
 }
 
-/// What it says of a source.
-fn said_of<S: Source + Drop>(
+/// What is said of a source.
+fn said_of<C: OwnCall, S: Source + Drop>(
     alloc: Global,
+    call: &C,
     source: S,
-    parts: &ReadelfParts,
 ) -> Result<Said, ElfError> {
     match Elf::begin(alloc, source) {
         Ok(mut elf) => {
-            let said = said_on(alloc, &mut elf, parts);
+            let said = said_on(alloc, call, &mut elf);
             let _source = elf.end();
             said
         }
@@ -90,10 +176,52 @@ fn said_of<S: Source + Drop>(
     }
 }
 
-/// What readelf's own call says of the parts of an image under the name F. It refuses as the image
-/// is refused.
+/// What a tool's own call says of an image under the name F. It refuses as the image is refused.
+pub fn said_by<C: OwnCall>(alloc: Global, call: &C, image: Image) -> Result<Said, ElfError> {
+    said_of(alloc, call, MemSource::new(image.bytes, Addrs::new(alloc)))
+}
+
+/// What readelf's own call says of the parts of an image under the name F.
 pub fn readelf_of(alloc: Global, image: Image, parts: &ReadelfParts) -> Result<Said, ElfError> {
-    said_of(alloc, MemSource::new(image.bytes, Addrs::new(alloc)), parts)
+    said_by(alloc, &Readelf(parts), image)
+}
+
+/// What is said of bytes by the call of strings, over outputs, which are opened.
+fn strings_over(
+    alloc: Global,
+    bytes: Octets,
+    options: &StringsOptions,
+    mut out: MemSink,
+    mut err: MemSink,
+) -> Said {
+    let mut source = MemSource::new(bytes, Addrs::new(alloc));
+    let refused = strings_on(alloc, &mut source, options, &mut out, &mut err);
+    Said {
+        refused,
+        out: out.into_bytes(),
+        err: err.into_bytes(),
+    }
+}
+
+/// What the call of strings answers of a source under the name F.
+fn strings_on<S: Source, O: Sink, E: Sink>(
+    alloc: Global,
+    source: &mut S,
+    options: &StringsOptions,
+    out: &mut O,
+    err: &mut E,
+) -> Result<bool, Stop> {
+    strings(alloc, source, options, b"F", out, err)
+}
+
+/// What the call of strings says of bytes under the name F.
+pub fn strings_of(alloc: Global, bytes: &[u8], options: &StringsOptions) -> Result<Said, ElfError> {
+    let out = sink(alloc)?;
+    let err = sink(alloc)?;
+    match Octets::from_slice(alloc, bytes) {
+        Ok(bytes) => Ok(strings_over(alloc, bytes, options, out, err)),
+        Err(e) => Err(e),
+    }
 }
 
 /// Shows the parts of a file or of its members, and gives its source back.

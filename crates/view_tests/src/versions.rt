@@ -4,7 +4,9 @@ use crate::questions::{Question, add_bytes, is_answered};
 use elf_descriptor::Elf;
 use elf_outside::Source;
 use elf_types::{DataId, ElfError};
-use gelf_view::{AuxPlace, Verdaux, Verdef, first_entry, next_verdaux, verdaux, verdef};
+use gelf_view::{
+    AuxPlace, Verdaux, Verdef, Vernaux, first_entry, next_verdaux, verdaux, verdef, vernaux,
+};
 
 /// A definition at 0 with one name, which is at 20.
 static DEFINITION: [u8; 28] = [
@@ -111,4 +113,46 @@ impl Question for Walk {
 #[test]
 fn versions_are_walked(rt: HostRuntime) {
     assert!(rt; is_answered(rt.alloc(), &Walk));
+}
+
+/// A version of a need.
+static VERSION: [u8; 16] = [0xcf, 0x6c, 0, 0, 1, 0, 2, 0, 5, 0, 0, 0, 16, 0, 0, 0];
+
+/// That version.
+const NEEDED: Vernaux = Vernaux {
+    hash: 0x6ccf,
+    flags: 1,
+    other: 2,
+    name: 5,
+    next: 16,
+};
+
+/// Whether a version of a need is at a place.
+fn is_version<S: Source>(
+    elf: &mut Elf<S>,
+    d: DataId,
+    at: u64,
+    want: Result<Vernaux, ElfError>,
+) -> bool {
+    vernaux(elf, d, at) == want
+}
+
+/// The version is read, and none that passes the end.
+struct Needs;
+
+impl Question for Needs {
+    fn is_answered<S: Source>(&self, elf: &mut Elf<S>) -> bool {
+        match add_bytes(elf, &VERSION) {
+            Ok(d) => {
+                is_version(elf, d, 0, Ok(NEEDED))
+                    && is_version(elf, d, 1, Err(ElfError::BadChain { at: 1 }))
+            }
+            Err(_) => false,
+        }
+    }
+}
+
+#[test]
+fn versions_of_needs_are_read(rt: HostRuntime) {
+    assert!(rt; is_answered(rt.alloc(), &Needs));
 }

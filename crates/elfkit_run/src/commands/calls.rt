@@ -1,6 +1,6 @@
 //! calls: the calls of a script, run on an image.
 
-ghost use Rattle.std.specs.Prelude.{IsTrue, codes, Some};
+ghost use Rattle.std.specs.Prelude.{◌≡◌, IsTrue, codes, Some};
 ghost use Rattle.tool_output.specs.Files.{LeavesFiles};
 ghost use Rattle.tool_output.specs.Statuses.{refused_status};
 ghost use Rattle.tool_output.specs.Outcomes.{Does};
@@ -82,6 +82,7 @@ pub fn calls<F: Files, O: Sink, E: Sink>(
     ensures does { IsTrue (F.tells files.old) → Does F.Files O.Sink E.Sink refused_status
         (calls_outcome file.now script.now (F.named files.old))
         result files.old files.new outputs.old outputs.new }
+    ensures given { F.given files.new ≡ F.given files.old }
     ensures leaves { LeavesFiles F.Files O.Sink E.Sink
         result files.old files.new outputs.old outputs.new }
 {

@@ -1,7 +1,7 @@
 //! elflint: what the rules find in each file that it names, or in the members of one that is an
 //! archive.
 
-ghost use Rattle.std.specs.Prelude.{IsTrue};
+ghost use Rattle.std.specs.Prelude.{◌≡◌, IsTrue};
 ghost use Rattle.tool_output.specs.Files.{LeavesFiles};
 ghost use Rattle.tool_output.specs.Statuses.{refused_status};
 ghost use Rattle.tool_output.specs.Outcomes.{Does};
@@ -26,6 +26,7 @@ pub fn elflint<F: Files, O: Sink, E: Sink>(
     ensures does { IsTrue (F.tells files.old) → Does F.Files O.Sink E.Sink refused_status
         (elflint_outcome names.now (F.named files.old))
         result files.old files.new outputs.old outputs.new }
+    ensures given { F.given files.new ≡ F.given files.old }
     ensures leaves { LeavesFiles F.Files O.Sink E.Sink
         result files.old files.new outputs.old outputs.new }
 {

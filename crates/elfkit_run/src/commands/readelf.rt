@@ -1,6 +1,6 @@
 //! readelf: the parts of each file that it names.
 
-ghost use Rattle.std.specs.Prelude.{IsTrue};
+ghost use Rattle.std.specs.Prelude.{◌≡◌, IsTrue};
 ghost use Rattle.tool_output.specs.Files.{LeavesFiles};
 ghost use Rattle.tool_output.specs.Statuses.{refused_status};
 ghost use Rattle.tool_output.specs.Outcomes.{Does};
@@ -27,6 +27,7 @@ pub fn readelf<F: Files, O: Sink, E: Sink>(
     ensures does { IsTrue (F.tells files.old) → Does F.Files O.Sink E.Sink refused_status
         (readelf_outcome parts.now names.now (F.named files.old))
         result files.old files.new outputs.old outputs.new }
+    ensures given { F.given files.new ≡ F.given files.old }
     ensures leaves { LeavesFiles F.Files O.Sink E.Sink
         result files.old files.new outputs.old outputs.new }
 {

@@ -1,6 +1,6 @@
 //! strings: the printable runs of each file that it names.
 
-ghost use Rattle.std.specs.Prelude.{◌≡◌, IsTrue, codes};
+ghost use Rattle.std.specs.Prelude.{◌≡◌, IsTrue, Some, codes};
 ghost use Rattle.tool_output.specs.Files.{LeavesFiles};
 ghost use Rattle.tool_output.specs.Statuses.{refused_status};
 ghost use Rattle.tool_output.specs.Outcomes.{Does};
@@ -26,7 +26,7 @@ impl FileTool for StringsTool<'_> {
 
     ghost report = { λ t. strings_report t.options.now };
 
-    ghost asks = { λ t. strings_asks t.options.now };
+    ghost asks = { λ t bytes. Some (strings_asks t.options.now bytes) };
 
     fn command(&self) -> &'static str {
         "strings"
@@ -56,6 +56,7 @@ pub fn strings<F: Files, O: Sink, E: Sink>(
     ensures does { IsTrue (F.tells files.old) → Does F.Files O.Sink E.Sink refused_status
         (strings_outcome options.now names.now (F.named files.old))
         result files.old files.new outputs.old outputs.new }
+    ensures given { F.given files.new ≡ F.given files.old }
     ensures leaves { LeavesFiles F.Files O.Sink E.Sink
         result files.old files.new outputs.old outputs.new }
 {

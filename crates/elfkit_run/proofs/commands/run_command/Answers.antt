@@ -55,3 +55,39 @@ returns-in-Calls-clause-does g c = rw c.in-Calls.is c.calls_if_built.ensures.doe
 
 pub returns-in-Calls-clause-untouched : goal.returns-in-Calls-clause-untouched
 returns-in-Calls-clause-untouched g c = rw c.in-Calls.is c.calls_if_built.ensures.untouched
+
+pub returns-in-Readelf-clause-given : goal.returns-in-Readelf-clause-given
+returns-in-Readelf-clause-given g c = λ reading. c.readelf.ensures.given
+
+pub returns-in-Nm-clause-given : goal.returns-in-Nm-clause-given
+returns-in-Nm-clause-given g c = λ reading. c.nm.ensures.given
+
+pub returns-in-Lines-clause-given : goal.returns-in-Lines-clause-given
+returns-in-Lines-clause-given g c = λ reading. c.lines.ensures.given
+
+pub returns-in-Size-clause-given : goal.returns-in-Size-clause-given
+returns-in-Size-clause-given g c = λ reading. c.size.ensures.given
+
+pub returns-in-Strings-clause-given : goal.returns-in-Strings-clause-given
+returns-in-Strings-clause-given g c = λ reading. c.strings.ensures.given
+
+pub returns-in-Elflint-clause-given : goal.returns-in-Elflint-clause-given
+returns-in-Elflint-clause-given g c = λ reading. c.elflint.ensures.given
+
+pub returns-in-Calls-clause-given : goal.returns-in-Calls-clause-given
+returns-in-Calls-clause-given g c = λ reading. c.calls_if_built.ensures.given
+
+pub returns-in-Strip-clause-given : goal.returns-in-Strip-clause-given
+returns-in-Strip-clause-given g c = λ reading. refl
+
+pub returns-in-Selftest-clause-given : goal.returns-in-Selftest-clause-given
+returns-in-Selftest-clause-given g c = λ reading. refl
+
+pub returns-in-Rehash-clause-given : goal.returns-in-Rehash-clause-given
+returns-in-Rehash-clause-given g c = λ reading. refl
+
+pub returns-in-Copy-clause-given : goal.returns-in-Copy-clause-given
+returns-in-Copy-clause-given g c = λ reading. refl
+
+pub returns-in-Unstrip-clause-given : goal.returns-in-Unstrip-clause-given
+returns-in-Unstrip-clause-given g c = λ reading. refl

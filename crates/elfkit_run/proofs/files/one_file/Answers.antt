@@ -1,6 +1,8 @@
 use Rattle.std.proofs.Common.{rules, ◌∙◌}
-use Rattle.tool_output.proofs.FileLemmas.{closed_same, given_same, given_kept, report_absent, opened_reports, opened_asks}
+use Rattle.tool_output.proofs.FileLemmas.{closed_same, given_same, given_kept, report_absent, opened_reports, opened_asks, within_unchanged}
 use Rattle.tool_output.proofs.ReportLemmas.{reports_nothing}
+use Rattle.std.proofs.lemmas.Result.{on_ok_weaker}
+use Rattle.object_output.proofs.ImageLemmas.{on_ok}
 use Rattle.elfkit_run.proofs.files.one_file.Goals as goal
 
 pub returns-in-Err-NotThere-clause-reports : goal.returns-in-Err-NotThere-clause-reports
@@ -50,9 +52,15 @@ returns-clause-reports g c = record {
   leaves = search rules;
 }
 
+pub returns-in-Err-NotThere-clause-asks : goal.returns-in-Err-NotThere-clause-asks
+returns-in-Err-NotThere-clause-asks g c = λ told.
+    on_ok _ _ (within_unchanged _ _ _ c.in-Err-NotThere.ensures.hands.taken)
+
 pub returns-clause-asks : goal.returns-clause-asks
 returns-clause-asks g c = λ told.
     let t = g.T.FileTool in
+    on_ok_weaker c.show-file.result.1 (λ asked.
     opened_asks (t.command c.args.tool.now) (t.report c.args.tool.now) (t.asks c.args.tool.now) (g.F.Files.named c.args.files.now) c.args.file_name.now
     _ _ _ _ _ (c.in-Ok.ensures.bytes told) (λ none. let h = (c.in-Ok.ensures.not_there told).1 none in cc)
-    (rw c.in-Ok.ensures.hands.fresh.taken at c.show-file.ensures.asks) c.open.ensures.hands.taken c.close.ensures.taken.no_more
+    asked c.open.ensures.hands.taken c.close.ensures.taken.no_more)
+    (rw c.in-Ok.ensures.hands.fresh.taken at c.show-file.ensures.asks)

@@ -4,7 +4,7 @@ use Rattle.std.proofs.lemmas.Result.{err_from_is_err_and}
 use Rattle.tool_output.specs.Statuses.{status_code, refused_status}
 use Rattle.tool_output.proofs.StepLemmas.{read_as}
 use Rattle.tool_output.proofs.OutcomeLemmas.{nothing_done, does_as, stops_so}
-use Rattle.elfkit_run.specs.Program.{program, outcome_by, opens_files}
+use Rattle.elfkit_run.specs.Program.{program, outcome_by, opens_files, hands_to_writes}
 use Rattle.elfkit_run.proofs.CommandLemmas.{usage_done}
 use Rattle.elfkit_run.proofs.program.run_words.Goals as goal
 
@@ -44,3 +44,13 @@ returns-in_err-say-in-Err-Usage-clause-does g c = λ told.
 
 pub returns-in-Err-Memory-clause-does : goal.returns-in-Err-Memory-clause-does
 returns-in-Err-Memory-clause-does g c = λ told. nothing_done g.F.Files g.O.Sink g.E.Sink status_code _ _ c.args.files.now c.args.outputs.now
+
+pub returns-in_ok-refused-in-Ok-clause-given : goal.returns-in_ok-refused-in-Ok-clause-given
+unfolding hands_to_writes
+returns-in_ok-refused-in-Ok-clause-given g c =
+    rw c.in-Ok.ensures.value (λ reading. c.in_ok-refused-in-Ok.ensures.given reading)
+
+pub returns-in_err-refused-in-Ok-clause-given : goal.returns-in_err-refused-in-Ok-clause-given
+unfolding hands_to_writes
+returns-in_err-refused-in-Ok-clause-given g c =
+    rw c.in-Ok.ensures.value (λ reading. c.in_err-refused-in-Ok.ensures.given reading)

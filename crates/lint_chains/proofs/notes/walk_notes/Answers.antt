@@ -9,6 +9,7 @@ use Rattle.object_output.proofs.QueryLemmas.{queried, looked_by}
 use Rattle.lint_chains.specs.Chains.{bad_place}
 use Rattle.lint_chains.proofs.WalkLemmas.{met_bad, walk_begins, walk_goes, walk_ends}
 use Rattle.lint_chains.proofs.ChainLemmas.{chain_bad}
+use Rattle.object_output.proofs.OnceReads.{once_read}
 use Rattle.lint_chains.proofs.notes.walk_notes.Goals as goal
 
 pub notes-init : goal.notes-init
@@ -18,7 +19,7 @@ pub notes-preserved : goal.notes-preserved
 notes-preserved g c =
     let s = c.args.s.0 in
     let chain = rw c.in-Ok-Some.field-0-is at c.in-Ok-Some.ensures.chain in
-    walk_goes c.notes.invariant _ (λ o. bad_place (notes o s 0 c.in-Ok-Some.found.next).bad) (queried g.S.Source _ _ _ c.notes.elf _ c.in-Ok-Some.ensures.queries)
+    walk_goes c.notes.invariant _ (λ o. bad_place (notes o s 0 c.in-Ok-Some.found.next).bad) (queried g.S.Source _ _ _ c.notes.elf _ c.in-Ok-Some.ensures.queries (once_read _ _ _ _))
     (λ told. ap chain_bad (chain told))
 
 pub notes-smaller : goal.notes-smaller
@@ -33,13 +34,13 @@ pub returns-in-Ok-None : goal.returns-in-Ok-None
 returns-in-Ok-None g c =
     let s = c.args.s.0 in
     let chain = rw c.in-Ok-None.field-0-is at c.in-Ok-None.ensures.chain in
-    walk_ends c.notes.invariant _ _ (learns_by g.S.Source (λ o. bad_place (notes o s 0 c.notes.at).bad) None c.notes.elf _ (queried g.S.Source _ _ _ c.notes.elf _ c.in-Ok-None.ensures.queries)
+    walk_ends c.notes.invariant _ _ (learns_by g.S.Source (λ o. bad_place (notes o s 0 c.notes.at).bad) None c.notes.elf _ (queried g.S.Source _ _ _ c.notes.elf _ c.in-Ok-None.ensures.queries (once_read _ _ _ _))
     (λ told. sym (ap chain_bad (chain told))))
 
 pub returns-in-Err : goal.returns-in-Err
 returns-in-Err g c =
     let s = c.args.s.0 in
     let e = c.in-Err.e in
-    walk_ends c.notes.invariant _ _ (met_bad {T = Option NoteAt} g.S.Source (λ o. bad_place (notes o s 0 c.notes.at).bad) e _ c.notes.elf _ (looked_by g.S.Source _ _ _ c.notes.elf _ c.in-Err.ensures.queries)
+    walk_ends c.notes.invariant _ _ (met_bad {T = Option NoteAt} g.S.Source (λ o. bad_place (notes o s 0 c.notes.at).bad) e _ c.notes.elf _ (looked_by g.S.Source _ _ _ c.notes.elf _ c.in-Err.ensures.queries (once_read _ _ _ _))
     (λ told none. ap chain_bad (led_broken e _ _ (c.in-Err.ensures.chain told) none))
     c.met.ensures.stops c.met.ensures.bad)

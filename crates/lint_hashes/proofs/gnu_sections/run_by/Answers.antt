@@ -3,12 +3,13 @@ use Rattle.elf_types.specs.declared.records.Kind.TheVariants as kinds
 use Rattle.elf_object.specs.Answers.{items_at, bytes_of, lend_refusal}
 use Rattle.elf_descriptor.specs.Reads.{wanted}
 use Rattle.gelf_view.specs.Calls as calls
-use Rattle.object_output.proofs.QueryLemmas.{reads_on, reads_stop}
+use Rattle.object_output.proofs.QueryLemmas.{reads_on, reads_stop, settled_ok, settled_none}
 use Rattle.lint_findings.specs.Looking.{data_bytes}
 use Rattle.lint_findings.proofs.LentLemmas.{bytes_told, no_bytes}
 use Rattle.lint_hashes.proofs.LentLemmas.{as_many_bytes}
 use Rattle.lint_hashes.specs.Gnu.{section_of, run_after, LiesIn}
 use Rattle.lint_hashes.proofs.GnuWhole.{no_room}
+use Rattle.object_output.proofs.OnceReads.{once_read}
 use Rattle.lint_hashes.proofs.gnu_sections.run_by.Goals as goal
 
 pub run_after-requires-clause-lies : goal.run_after-requires-clause-lies
@@ -26,7 +27,7 @@ returns-in-Ok g c =
       value = λ told. c.run_after.ensures
           ∙ ap (λ (b : List ℕ). run_after t.class (section_of t b) t.count c.args.start c.args.i c.args.listed)
           (bytes_told o s c.args.elf.now.told (wanted (calls.bytes s 0) c.args.elf.now) c.in-Ok.bytes.now c.in-Ok.ensures.answer told);
-      reads = reads_on g.S.Source (calls.bytes s 0) _ c.args.elf.now _ c.bytes.result _ c.bytes.follows.holds-at-none;
+      reads = reads_on g.S.Source (calls.bytes s 0) _ c.args.elf.now _ c.bytes.result _ c.bytes.follows.holds-at-none (once_read _ _ _ _) (settled_ok c.in-Ok.is);
     }
 
 pub returns-in-None : goal.returns-in-None
@@ -36,7 +37,7 @@ returns-in-None g c =
       value = λ told. absurd (no_room c.args.t (data_bytes o s)
           (no_bytes o s c.args.elf.now.told (wanted (calls.bytes s 0) c.args.elf.now) c.in-Err.e (sym c.in-None.ensures) c.in-Err.ensures.answer)
           c.requires.lies);
-      reads = reads_on g.S.Source (calls.bytes s 0) _ c.args.elf.now _ c.bytes.result _ c.bytes.follows.holds-at-none;
+      reads = reads_on g.S.Source (calls.bytes s 0) _ c.args.elf.now _ c.bytes.result _ c.bytes.follows.holds-at-none (once_read _ _ _ _) (settled_none c.in-Err.is (sym c.in-None.ensures));
     }
 
 pub returns-in-Some : goal.returns-in-Some

@@ -6,12 +6,13 @@ use Rattle.elf_types.specs.declared.records.Kind.TheVariants as kinds
 use Rattle.elf_object.specs.Answers.{items_at, bytes_of, lend_refusal}
 use Rattle.elf_descriptor.specs.Reads.{wanted}
 use Rattle.gelf_view.specs.Calls as calls
-use Rattle.object_output.proofs.QueryLemmas.{reads_on, reads_stop}
+use Rattle.object_output.proofs.QueryLemmas.{reads_on, reads_stop, settled_ok, settled_none}
 use Rattle.lint_findings.specs.Looking.{data_bytes}
 use Rattle.lint_findings.proofs.LentLemmas.{bytes_told, no_bytes}
 use Rattle.lint_hashes.proofs.LentLemmas.{as_many_bytes}
 use Rattle.lint_hashes.specs.Gnu.{IsSoundIn, LiesIn}
 use Rattle.lint_hashes.proofs.GnuWhole.{sound_of_none}
+use Rattle.object_output.proofs.OnceReads.{once_read}
 use Rattle.lint_hashes.proofs.gnu_sections.table_of.Goals as goal
 
 pub returns-in-Ok-clause-is : goal.returns-in-Ok-clause-is
@@ -33,7 +34,7 @@ returns-in-Ok-clause-lies g c =
     subst (λ (n : ℕ). IfSome c.sound_in.result (LiesIn n)) (as_many_bytes (bytes_of (items_at o s 0)) (lend_refusal o kinds.Bytes s 0) c.in-Ok.bytes.now c.in-Ok.ensures.like) c.sound_in.ensures.lies
 
 pub returns-in-Ok-clause-reads : goal.returns-in-Ok-clause-reads
-returns-in-Ok-clause-reads g c = reads_on g.S.Source (calls.bytes c.args.s.0 0) _ c.args.elf.now _ c.bytes.result _ c.bytes.follows.holds-at-none
+returns-in-Ok-clause-reads g c = reads_on g.S.Source (calls.bytes c.args.s.0 0) _ c.args.elf.now _ c.bytes.result _ c.bytes.follows.holds-at-none (once_read _ _ _ _) (settled_ok c.in-Ok.is)
 
 pub returns-in-None-clause-is : goal.returns-in-None-clause-is
 returns-in-None-clause-is g c = λ told.
@@ -43,7 +44,7 @@ returns-in-None-clause-is g c = λ told.
     (no_bytes o s c.args.elf.now.told (wanted (calls.bytes s 0) c.args.elf.now) c.in-Err.e (sym c.in-None.ensures) c.in-Err.ensures.answer)
 
 pub returns-in-None-clause-reads : goal.returns-in-None-clause-reads
-returns-in-None-clause-reads g c = reads_on g.S.Source (calls.bytes c.args.s.0 0) _ c.args.elf.now _ c.bytes.result _ c.bytes.follows.holds-at-none
+returns-in-None-clause-reads g c = reads_on g.S.Source (calls.bytes c.args.s.0 0) _ c.args.elf.now _ c.bytes.result _ c.bytes.follows.holds-at-none (once_read _ _ _ _) (settled_none c.in-Err.is (sym c.in-None.ensures))
 
 pub returns-in-Some-clause-reads : goal.returns-in-Some-clause-reads
 returns-in-Some-clause-reads g c =

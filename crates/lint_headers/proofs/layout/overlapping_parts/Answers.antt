@@ -3,7 +3,7 @@ use Rattle.elf_types.specs.declared.records.Part.{Part}
 use Rattle.tool_output.specs.declared.stops.Stop.TheVariants.{Memory}
 use Rattle.lint_findings.specs.Findings.{findings_shown}
 use Rattle.lint_findings.proofs.FindingLemmas.{no_findings}
-use Rattle.object_output.proofs.ElfSteps.{elf_left, elf_says_none, elf_unread}
+use Rattle.object_output.proofs.ElfSteps.{elf_left, left_as, elf_says_none, elf_unread}
 use Rattle.lint_headers.specs.Layout.{overlapping_parts, overlap_found}
 use Rattle.lint_headers.proofs.layout.overlapping_parts.Goals as goal
 
@@ -17,4 +17,8 @@ returns-in-Ok-None g c =
 pub returns-in-Err : goal.returns-in-Err
 returns-in-Err g c =
     rw c.want_of.ensures
-    (elf_unread g.S.Source g.O.Sink g.E.Sink Bool Memory _ c.args.elf.now c.args.elf.now c.args.outputs.now (record { elf = elf_left g.S.Source c.args.elf.now; read = tt; write = tt }))
+    (elf_unread g.S.Source g.O.Sink g.E.Sink Bool Memory _ c.args.elf.now c.args.elf.now c.args.outputs.now (record {
+      elf = left_as g.S.Source (Unit {0}) ⊥ c.args.elf.now c.args.elf.now (λ went. tt) (elf_left g.S.Source c.args.elf.now);
+      read = tt;
+      write = tt;
+    }))

@@ -1,11 +1,12 @@
 use Rattle.std.proofs.Common.{◌≡◌, ℕ, [], Option, None, refl, sym, ap, ◌∙◌}
 use Rattle.elf_descriptor.specs.Reads.{wanted}
 use Rattle.gelf_view.specs.Calls as calls
-use Rattle.object_output.proofs.QueryLemmas.{reads_on, reads_stop}
+use Rattle.object_output.proofs.QueryLemmas.{reads_on, reads_stop, settled_ok, settled_none}
 use Rattle.lint_findings.proofs.LentLemmas.{bytes_told, no_bytes}
 use Rattle.lint_links.specs.declared.string_tables.End.{End}
 use Rattle.lint_links.specs.declared.string_tables.End.TheVariants.{First, Last}
 use Rattle.lint_links.specs.StringTables.{byte_at_end}
+use Rattle.object_output.proofs.OnceReads.{once_read}
 use Rattle.lint_links.proofs.string_tables.end_byte.Goals as goal
 
 no_byte : (end : End) → ◌≡◌ {A = Option ℕ} None (byte_at_end end [])
@@ -18,7 +19,7 @@ returns-in-Ok g c =
     let o = c.args.elf.now.o in record {
       value = λ told. c.byte_at_end.ensures
           ∙ ap (byte_at_end c.args.end) (bytes_told o s c.args.elf.now.told (wanted (calls.bytes s 0) c.args.elf.now) c.in-Ok.bytes.now c.in-Ok.ensures.answer told);
-      reads = reads_on g.S.Source _ _ c.args.elf.now _ c.bytes.result _ c.bytes.follows.holds-at-none;
+      reads = reads_on g.S.Source _ _ c.args.elf.now _ c.bytes.result _ c.bytes.follows.holds-at-none (once_read _ _ _ _) (settled_ok c.in-Ok.is);
     }
 
 pub returns-in-Some : goal.returns-in-Some
@@ -34,5 +35,5 @@ returns-in-None g c =
     let o = c.args.elf.now.o in record {
       value = λ told. no_byte c.args.end
           ∙ ap (byte_at_end c.args.end) (sym (no_bytes o s c.args.elf.now.told (wanted (calls.bytes s 0) c.args.elf.now) c.in-Err.e (sym c.in-None.ensures) c.in-Err.ensures.answer));
-      reads = reads_on g.S.Source _ _ c.args.elf.now _ c.bytes.result _ c.bytes.follows.holds-at-none;
+      reads = reads_on g.S.Source _ _ c.args.elf.now _ c.bytes.result _ c.bytes.follows.holds-at-none (once_read _ _ _ _) (settled_none c.in-Err.is (sym c.in-None.ensures));
     }

@@ -1,31 +1,21 @@
-use Rattle.std.proofs.Common.{sym}
+use Rattle.std.proofs.Common.{◌≡◌, Option, IfOk, subst}
 use Rattle.elf_types.specs.declared.records.Kind.TheVariants as kinds
-use Rattle.elf_object.specs.Answers.{items_at, syms_of, lend_refusal}
+use Rattle.elf_types.specs.declared.records.Sym.{Sym}
+use Rattle.elf_object.specs.Answers.{items_at, syms_of, lend_refusal, entry_answer}
 use Rattle.elf_descriptor.specs.Entries.{entry}
 use Rattle.elf_descriptor.specs.Reads.{wanted}
-use Rattle.object_output.proofs.QueryLemmas.{reads_on, reads_stop}
-use Rattle.object_output.proofs.AnswerLemmas.{item_is, item_none}
+use Rattle.tool_output.specs.Stops.{value_or_stop}
+use Rattle.object_output.proofs.OnceReads.{once_read}
+use Rattle.object_output.proofs.QueryLemmas.{learns_unless, unless_stated, value_there}
 use Rattle.nm_tool.proofs.symbols.symbol_at.Goals as goal
 
-pub returns-in-Ok : goal.returns-in-Ok
-returns-in-Ok g c =
+pub returns : goal.returns
+returns g c =
     let s = c.args.t.symbols.0 in
-    let o = c.args.elf.now.o in record {
-      value = λ is. item_is c.args.elf.now.told (wanted (entry kinds.Sym syms_of s 0 c.args.i) c.args.elf.now) (lend_refusal o kinds.Sym s 0) (syms_of (items_at o s 0)) c.args.i c.in-Ok.x c.in-Ok.ensures.answer is;
-      reads = reads_on g.S.Source (entry kinds.Sym syms_of s 0 c.args.i) _ c.args.elf.now _ c.item.result _ c.item.ensures.looks;
-    }
-
-pub returns-in-Some : goal.returns-in-Some
-returns-in-Some g c =
-    let s = c.args.t.symbols.0 in record {
-      value = λ is. tt;
-      reads = reads_stop g.S.Source (entry kinds.Sym syms_of s 0 c.args.i) _ c.args.elf.now _ c.in-Err.e _ (sym c.in-Some.ensures) c.in-Err.ensures.looks;
-    }
-
-pub returns-in-None : goal.returns-in-None
-returns-in-None g c =
-    let s = c.args.t.symbols.0 in
-    let o = c.args.elf.now.o in record {
-      value = λ is. item_none c.args.elf.now.told (wanted (entry kinds.Sym syms_of s 0 c.args.i) c.args.elf.now) (lend_refusal o kinds.Sym s 0) (syms_of (items_at o s 0)) c.args.i c.in-Err.e c.requires.passed (sym c.in-None.ensures) c.in-Err.ensures.answer;
-      reads = reads_on g.S.Source (entry kinds.Sym syms_of s 0 c.args.i) _ c.args.elf.now _ c.item.result _ c.item.ensures.looks;
-    }
+    let o = c.args.elf.now.o in
+    let call = entry kinds.Sym syms_of s 0 c.args.i in
+    rw c.unless_refused.ensures (learns_unless g.S.Source call _ c.args.elf.now _ (once_read _ _ _ _) _ c.item.result
+    (λ told. subst (λ (v : Option Sym). IfOk (value_or_stop c.item.result) (λ x. x ≡ v))
+    (value_there (lend_refusal o kinds.Sym s 0) (syms_of (items_at o s 0)) c.args.i c.requires.passed)
+    (unless_stated c.args.elf.now.told (wanted call c.args.elf.now) c.item.result (entry_answer (lend_refusal o kinds.Sym s 0) (syms_of (items_at o s 0)) c.args.i) c.item.ensures.answer told))
+    c.item.ensures.looks)

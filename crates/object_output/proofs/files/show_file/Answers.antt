@@ -18,7 +18,7 @@ returns-in-Ok-Archive-clause-reports g c =
 
 pub returns-in-Ok-Archive-clause-asks : goal.returns-in-Ok-Archive-clause-asks
 returns-in-Ok-Archive-clause-asks g c =
-    archive_within (g.T.ObjectTool.asks c.args.tool.now) (g.S.Source.holds c.args.src) _ _ (rw c.in-Ok-Archive.field-0-is at c.in-Ok-Archive.ensures.kind)
+    archive_within (g.T.ObjectTool.reads c.args.tool.now) _ (g.S.Source.holds c.args.src) _ _ (rw c.in-Ok-Archive.field-0-is at c.in-Ok-Archive.ensures.kind)
 
 pub returns-in-Ok-Elf-clause-reports : goal.returns-in-Ok-Elf-clause-reports
 returns-in-Ok-Elf-clause-reports g c =
@@ -32,7 +32,7 @@ returns-in-Ok-Elf-clause-reports g c =
 pub returns-in-Ok-Elf-clause-asks : goal.returns-in-Ok-Elf-clause-asks
 returns-in-Ok-Elf-clause-asks g c =
     let asks = c.in-Ok-Elf.ensures.asks in
-    file_within (g.T.ObjectTool.asks c.args.tool.now) (g.S.Source.holds c.args.src) _ _ _ _ _ asks.leaves.same_bytes
+    file_within (g.T.ObjectTool.reads c.args.tool.now) _ (g.S.Source.holds c.args.src) _ _ _ _ _ asks.leaves.same_bytes
     (rw c.in-Ok-Elf.field-0-is at c.in-Ok-Elf.ensures.kind) elf_is_no_archive asks.taken.no_more c.show_image.ensures.asks
 
 pub returns-in-Ok-Other-clause-reports : goal.returns-in-Ok-Other-clause-reports
@@ -47,7 +47,7 @@ returns-in-Ok-Other-clause-reports g c =
 pub returns-in-Ok-Other-clause-asks : goal.returns-in-Ok-Other-clause-asks
 returns-in-Ok-Other-clause-asks g c =
     let asks = c.in-Ok-Other.ensures.asks in
-    file_within (g.T.ObjectTool.asks c.args.tool.now) (g.S.Source.holds c.args.src) _ _ _ _ _ asks.leaves.same_bytes
+    file_within (g.T.ObjectTool.reads c.args.tool.now) _ (g.S.Source.holds c.args.src) _ _ _ _ _ asks.leaves.same_bytes
     (rw c.in-Ok-Other.field-0-is at c.in-Ok-Other.ensures.kind) other_is_no_archive asks.taken.no_more c.show_image-in-Ok-Other.ensures.asks
 
 pub returns-in-Err-clause-reports : goal.returns-in-Err-clause-reports
@@ -58,4 +58,4 @@ returns-in-Err-clause-reports g c =
 
 pub returns-in-Err-clause-asks : goal.returns-in-Err-clause-asks
 returns-in-Err-clause-asks g c =
-    unread_within (g.T.ObjectTool.asks c.args.tool.now) (g.S.Source.holds c.args.src) _ _ c.in-Err.ensures.asks.taken.no_more
+    unread_within (g.T.ObjectTool.reads c.args.tool.now) _ (g.S.Source.holds c.args.src) _ _ c.in-Err.ensures.asks.taken.no_more

@@ -1,5 +1,5 @@
 use Rattle.tool_output.proofs.SourceLemmas.{refuses_after}
-use Rattle.object_output.proofs.ImageLemmas.{image_shown, image_refused, image_within, refused_within}
+use Rattle.object_output.proofs.ImageLemmas.{image_shown, image_refused, image_asked, image_unread, refused_asked}
 use Rattle.object_output.proofs.images.show_image.Goals as goal
 
 pub returns-in-Ok-clause-reports : goal.returns-in-Ok-clause-reports
@@ -10,8 +10,14 @@ returns-in-Ok-clause-reports g c =
 
 pub returns-in-Ok-clause-asks : goal.returns-in-Ok-clause-asks
 returns-in-Ok-clause-asks g c =
-    rw c.end.ensures (image_within (g.T.ObjectTool.asks c.args.tool.now) (g.S.Source.holds c.args.src) _ _ _ _
-    c.in-Ok.ensures.asks.leaves.same_bytes c.in-Ok.ensures.bound c.show-shown.ensures.asks)
+    let shown = c.show-shown.ensures in
+    rw c.end.ensures (image_asked g.S.Source c.args.src (g.T.ObjectTool.reads c.args.tool.now) _ c.in-Ok.elf _
+    c.in-Ok.ensures.answer c.in-Ok.ensures.bound shown.reports.elf shown.unread)
+
+pub returns-in-Ok-clause-unread : goal.returns-in-Ok-clause-unread
+returns-in-Ok-clause-unread g c = λ off.
+    rw c.end.ensures (image_unread g.S.Source c.args.src (g.T.ObjectTool.reads c.args.tool.now) c.in-Ok.elf _
+    (c.show-shown.ensures.unread off) c.in-Ok.ensures.bound)
 
 pub returns-in-Err-clause-reports : goal.returns-in-Err-clause-reports
 returns-in-Err-clause-reports g c =
@@ -23,4 +29,7 @@ returns-in-Err-clause-reports g c =
 
 pub returns-in-Err-clause-asks : goal.returns-in-Err-clause-asks
 returns-in-Err-clause-asks g c =
-    refused_within (g.T.ObjectTool.asks c.args.tool.now) (g.S.Source.holds c.args.src) _ _ c.in-Err.ensures.bound
+    refused_asked _ (g.T.ObjectTool.reads c.args.tool.now) (g.S.Source.holds c.args.src) _ _ c.in-Err.ensures.bound
+
+pub returns-in-Err-clause-unread : goal.returns-in-Err-clause-unread
+returns-in-Err-clause-unread g c = λ off. c.in-Err.ensures.bound

@@ -3,6 +3,7 @@ use Rattle.elf_object.specs.Answers.{items_at, lend_refusal}
 use Rattle.elf_descriptor.specs.Entries.{entry}
 use Rattle.elf_descriptor.specs.Reads.{wanted}
 use Rattle.object_output.proofs.QueryLemmas.{reads_on, reads_stop}
+use Rattle.object_output.proofs.OnceReads.{once_read}
 use Rattle.object_output.proofs.AnswerLemmas.{item_is, item_stops}
 use Rattle.object_output.proofs.items.item_there.Goals as goal
 
@@ -14,7 +15,7 @@ returns-in-Ok-clause-value g c =
 
 pub returns-in-Ok-clause-reads : goal.returns-in-Ok-clause-reads
 returns-in-Ok-clause-reads g c =
-    reads_on g.S.Source (entry g.T.Listed.kind g.T.Listed.list_of c.args.d.section c.args.d.piece c.args.i) _ c.args.elf.now _ (Ok c.in-Ok.item) _ c.in-Ok.ensures.looks
+    reads_on g.S.Source (entry g.T.Listed.kind g.T.Listed.list_of c.args.d.section c.args.d.piece c.args.i) _ c.args.elf.now _ (Ok c.in-Ok.item) _ c.in-Ok.ensures.looks (once_read _ _ _ _) tt
 
 pub stop_for-requires : goal.stop_for-requires
 stop_for-requires g c =

@@ -1,24 +1,37 @@
-use Rattle.std.proofs.Common.{◌≡◌, ℕ, List, Option, IfOk, refl, sym, ap, ◌∙◌, subst}
-use Rattle.std.specs.Option.{option_copied}
-use Rattle.elf_types.specs.declared.records.Shdr.{Shdr}
-use Rattle.object_output.proofs.ElfSteps.{elf_left}
-use Rattle.object_output.proofs.SectionLemmas.{ok_is}
-use Rattle.object_output.proofs.NameLemmas.{name_none, name_by}
+use Rattle.std.proofs.Common.{refl}
+use Rattle.gelf_view.specs.SectionNames as names
+use Rattle.elf_descriptor.specs.Reads.{wanted}
+use Rattle.object_output.proofs.OnceReads.{once_name}
+use Rattle.object_output.proofs.QueryLemmas.{reads_on, reads_stop, settled_ok, plain_is, plain_stops}
 use Rattle.object_output.proofs.names.section_name.Goals as goal
 
-pub returns-then-names-eq0 : goal.returns-then-names-eq0
-returns-then-names-eq0 g c = (
-  (refl, (λ w. tt), record { elf = elf_left g.S.Source c.args.elf.now; read = tt; write = tt }),
-  record { value = λ told. sym (name_none c.args.elf.now.o c.args.s.0 (sym (ok_is _ _ c.shstrndx-names.ensures) ∙ c.if-names-eq0.true)); rests = tt },
-)
+pub returns-in-Ok : goal.returns-in-Ok
+returns-in-Ok g c =
+    let call = names.section_name c.args.s.0 in (
+      (
+        refl,
+        (λ w. tt),
+        reads_on g.S.Source call _ c.args.elf.now _ c.section_name.result _
+            c.section_name.follows.holds-at-none (once_name _ _) (settled_ok c.in-Ok.is),
+      ),
+      record {
+        value = λ told. plain_is c.args.elf.now.told (wanted call c.args.elf.now) _ _ c.in-Ok.ensures.answer told;
+        rests = tt;
+      },
+    )
 
-pub returns : goal.returns
-returns g c = (
-  (refl, (λ w. tt), c.string_at.follows.holds-at-none),
-  record {
-    value = λ told. subst (λ (x : Option (List ℕ)). IfOk c.string_at.result (λ name. option_copied name ≡ x))
-        (sym (name_by c.args.elf.now.o c.args.s.0 c.shstrndx-names.result c.from.result (sym (ok_is _ _ c.shstrndx-names.ensures)) c.if-names-eq0.false
-        (c.from.ensures ∙ ap (λ (h : Shdr). h.name) c.section_header-at.ensures))) (c.string_at.ensures.value told);
-    rests = tt;
-  },
-)
+pub stop_for-requires : goal.stop_for-requires
+stop_for-requires g c =
+    plain_stops c.args.elf.now.told (wanted (names.section_name c.args.s.0) c.args.elf.now) _ _ c.in-Err.ensures.answer
+
+pub returns-in-Err : goal.returns-in-Err
+returns-in-Err g c =
+    let call = names.section_name c.args.s.0 in (
+      (
+        refl,
+        (λ w. tt),
+        reads_stop g.S.Source call _ c.args.elf.now _ c.in-Err.e _ c.stop_for.ensures
+            (rw c.in-Err.is at c.section_name.follows.holds-at-none),
+      ),
+      record { value = λ told. tt; rests = tt },
+    )

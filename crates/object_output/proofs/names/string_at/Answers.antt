@@ -1,12 +1,13 @@
 use Rattle.std.proofs.Common.{refl, sym, ap}
 use Rattle.elf_object.specs.Strings.{readable, strptr_refusals}
-use Rattle.object_output.proofs.QueryLemmas.{reads_on}
+use Rattle.object_output.proofs.QueryLemmas.{reads_on, settled_ok, settled_none}
+use Rattle.object_output.proofs.OnceReads.{once_unless, once_clean}
 use Rattle.object_output.proofs.NameLemmas.{read_refused}
 use Rattle.object_output.proofs.names.string_at.Goals as goal
 
 pub returns-in-Ok : goal.returns-in-Ok
 returns-in-Ok g c = (
-  (refl, (λ w. tt), reads_on g.S.Source _ _ c.args.elf.now _ c.strptr.result _ c.strptr.follows.holds-at-none),
+  (refl, (λ w. tt), reads_on g.S.Source _ _ c.args.elf.now _ c.strptr.result _ c.strptr.follows.holds-at-none (once_unless _ _ (once_clean _ _)) (settled_ok c.in-Ok.is)),
   record {
     value = λ told. sym (ap readable (c.in-Ok.ensures.answer.1 told));
     rests = tt;
@@ -15,7 +16,7 @@ returns-in-Ok g c = (
 
 pub returns-in-None : goal.returns-in-None
 returns-in-None g c = (
-  (refl, (λ w. tt), reads_on g.S.Source _ _ c.args.elf.now _ c.strptr.result _ c.strptr.follows.holds-at-none),
+  (refl, (λ w. tt), reads_on g.S.Source _ _ c.args.elf.now _ c.strptr.result _ c.strptr.follows.holds-at-none (once_unless _ _ (once_clean _ _)) (settled_none c.in-Err.is (sym c.in-None.ensures))),
   record {
     value = λ told. sym (ap readable (read_refused c.args.elf.now.told _ (strptr_refusals c.args.elf.now.o c.args.s.0 c.args.offset) c.in-Err.e _ c.in-Err.ensures.answer (sym c.in-None.ensures) told));
     rests = tt;

@@ -16,6 +16,7 @@ use Rattle.readelf_chains.specs.Chains.{section_bytes}
 use Rattle.readelf_chains.specs.Notes.{note_text, notes_from}
 use Rattle.readelf_chains.proofs.ChainLemmas.{at_start, elf_line_shown, elf_ends_with}
 use Rattle.readelf_chains.proofs.NoteLemmas.{note_left, no_note_left, note_broken}
+use Rattle.object_output.proofs.OnceReads.{once_read}
 use Rattle.readelf_chains.proofs.notes.show_each_note.Goals as goal
 
 pub notes-init : goal.notes-init
@@ -38,7 +39,7 @@ notes-preserved g c =
     elf_line_shown c.notes.invariant (λ o. note_text (section_bytes o s) note) (λ o. notes_from name o s note.next)
     (λ told. note_left name c.notes.elf.o s c.notes.at note (chain told))
     (elf_after g.S.Source g.O.Sink g.E.Sink (λ o. shown (note_text (section_bytes o s) note)) (λ o. shown (note_text (section_bytes o s) note)) _ c.notes.elf _ _ c.notes.outputs _
-    (queried g.S.Source _ _ _ c.notes.elf _ c.in-Ok-Some.ensures.queries) c.in_ok-show_note-in-Ok-Some.ensures (λ told. refl))
+    (queried g.S.Source _ _ _ c.notes.elf _ c.in-Ok-Some.ensures.queries (once_read _ _ _ _)) c.in_ok-show_note-in-Ok-Some.ensures (λ told. refl))
 
 pub notes-smaller : goal.notes-smaller
 notes-smaller g c =
@@ -59,7 +60,7 @@ returns-in_err-show_note-in-Ok-Some g c =
     (at_start c.notes.invariant (λ (o : Object). notes_from name o s c.notes.at ≡ joined (shown (note_text (section_bytes o s) note)) (notes_from name o s note.next))
     (λ told. note_left name c.notes.elf.o s c.notes.at note (chain told)))
     (elf_after g.S.Source g.O.Sink g.E.Sink (λ o. shown (note_text (section_bytes o s) note)) (λ o. shown (note_text (section_bytes o s) note)) _ c.notes.elf _ _ c.notes.outputs _
-    (queried g.S.Source _ _ _ c.notes.elf _ c.in-Ok-Some.ensures.queries) c.in_err-show_note-in-Ok-Some.ensures (λ told. refl)))
+    (queried g.S.Source _ _ _ c.notes.elf _ c.in-Ok-Some.ensures.queries (once_read _ _ _ _)) c.in_err-show_note-in-Ok-Some.ensures (λ told. refl)))
 
 pub returns-in-Ok-None : goal.returns-in-Ok-None
 returns-in-Ok-None g c =
@@ -67,7 +68,7 @@ returns-in-Ok-None g c =
     let name = c.args.name.now in
     let chain = rw c.in-Ok-None.field-0-is at c.in-Ok-None.ensures.chain in
     elf_ends_with c.notes.invariant (Ok false) (λ o. no_report) (λ told. no_note_left name c.notes.elf.o s c.notes.at (chain told))
-    (elf_says_none g.S.Source g.O.Sink g.E.Sink (λ o. no_report) c.notes.elf _ c.notes.outputs (queried g.S.Source _ _ _ c.notes.elf _ c.in-Ok-None.ensures.queries) (λ told. refl))
+    (elf_says_none g.S.Source g.O.Sink g.E.Sink (λ o. no_report) c.notes.elf _ c.notes.outputs (queried g.S.Source _ _ _ c.notes.elf _ c.in-Ok-None.ensures.queries (once_read _ _ _ _)) (λ told. refl))
 
 pub returns-in-Err : goal.returns-in-Err
 returns-in-Err g c =
@@ -75,6 +76,6 @@ returns-in-Err g c =
     let name = c.args.name.now in
     elf_ends_with c.notes.invariant _ (λ o. notes_from name o s c.notes.at) (λ told. refl)
     (elf_refuses g.S.Source g.O.Sink g.E.Sink (λ o. notes_from name o s c.notes.at) (Option NoteAt) c.in-Err.e (refused name (in_section s (error_text c.in-Err.e))) _ c.notes.elf _ c.notes.outputs _
-    (queried g.S.Source _ _ _ c.notes.elf _ c.in-Err.ensures.queries) c.in-Err.ensures.queries.reads.source.read
+    (queried g.S.Source _ _ _ c.notes.elf _ c.in-Err.ensures.queries (once_read _ _ _ _)) c.in-Err.ensures.queries.reads.source.read
     (λ told none. note_broken name c.notes.elf.o s c.notes.at c.in-Err.e (led_broken c.in-Err.e _ _ (c.in-Err.ensures.chain told) none))
     c.refuse_records.ensures.reports c.refuse_records.ensures.stops c.refuse_records.ensures.leaves)

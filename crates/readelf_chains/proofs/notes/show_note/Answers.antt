@@ -3,11 +3,12 @@ use Rattle.elf_descriptor.specs.Reads.{wanted}
 use Rattle.gelf_view.specs.Calls as calls
 use Rattle.tool_output.specs.Reports.{shown}
 use Rattle.object_output.proofs.ElfSteps.{elf_says, elf_unread}
-use Rattle.object_output.proofs.QueryLemmas.{queried, reads_stop}
+use Rattle.object_output.proofs.QueryLemmas.{settled_by, settled_ok, reads_stop}
 use Rattle.readelf_chains.specs.Chains.{section_bytes}
 use Rattle.readelf_chains.specs.Notes.{note_text}
 use Rattle.readelf_chains.proofs.ChainLemmas.{bytes_stop, bytes_are, bytes_long}
 use Rattle.readelf_chains.proofs.NoteLemmas.{note_text_is}
+use Rattle.object_output.proofs.OnceReads.{once_read}
 use Rattle.readelf_chains.proofs.notes.show_note.Goals as goal
 
 pub part_in-requires : goal.part_in-requires
@@ -27,7 +28,7 @@ returns-in-Ok g c =
     let s = c.args.s.0 in
     let o = c.args.elf.now.o in
     elf_says g.S.Source g.O.Sink g.E.Sink (λ o. shown (note_text (section_bytes o s) c.args.note)) _ c.args.elf.now _ c.args.outputs.now _
-    (queried g.S.Source _ _ c.bytes.result c.args.elf.now _ c.bytes.follows.holds-at-none)
+    (settled_by g.S.Source _ _ c.bytes.result c.args.elf.now _ c.bytes.follows.holds-at-none (once_read _ _ _ _) (settled_ok c.in-Ok.is))
     (λ told. rw (note_text_is (section_bytes o s) c.in-Ok.bytes.now c.args.note _ _ _ (bytes_are o s c.args.elf.now.told (wanted (calls.bytes s 0) c.args.elf.now) c.in-Ok.bytes.now c.requires.passed c.in-Ok.ensures.answer told)
     c.part_in.ensures c.owner_in-owner.ensures c.part_in-desc.ensures) c.show.ensures.reports)
     c.show.ensures.leaves

@@ -1,29 +1,18 @@
-use Rattle.std.proofs.Common.{sym}
 use Rattle.elf_descriptor.specs.Reads.{wanted}
 use Rattle.elf_object.specs.Calls as calls
-use Rattle.object_output.proofs.QueryLemmas.{reads_on, reads_stop}
-use Rattle.readelf_tables.proofs.RelocationLemmas.{symbol_is, symbol_is_none}
+use Rattle.elf_object.specs.Calls.{sym_answer}
+use Rattle.object_output.proofs.OnceReads.{once_read}
+use Rattle.object_output.proofs.QueryLemmas.{learns_unless, unless_stated}
+use Rattle.readelf_blocks.specs.RelocationLines.{symbol_in}
 use Rattle.readelf_tables.proofs.relocations.find_symbol.Goals as goal
 
-pub returns-in-Ok : goal.returns-in-Ok
-returns-in-Ok g c =
-    let told = c.args.elf.now.told in
-    let call = calls.sym c.args.table.0 0 c.from.result in record {
-      value = λ is. rw (← c.from.ensures) (symbol_is told (wanted call c.args.elf.now) c.args.elf.now.o c.args.table.0 c.from.result c.in-Ok.x c.in-Ok.ensures.answer is);
-      reads = reads_on g.S.Source call _ c.args.elf.now _ c.sym.result _ c.sym.ensures.looks;
-    }
-
-pub returns-in-Some : goal.returns-in-Some
-returns-in-Some g c =
-    let call = calls.sym c.args.table.0 0 c.from.result in record {
-      value = λ is. tt;
-      reads = reads_stop g.S.Source call _ c.args.elf.now _ c.in-Err.e _ (sym c.in-Some.ensures) c.in-Err.ensures.looks;
-    }
-
-pub returns-in-None : goal.returns-in-None
-returns-in-None g c =
-    let told = c.args.elf.now.told in
-    let call = calls.sym c.args.table.0 0 c.from.result in record {
-      value = λ is. rw (← c.from.ensures) (symbol_is_none told (wanted call c.args.elf.now) c.args.elf.now.o c.args.table.0 c.from.result c.in-Err.e (sym c.in-None.ensures) c.in-Err.ensures.answer);
-      reads = reads_on g.S.Source call _ c.args.elf.now _ c.sym.result _ c.sym.ensures.looks;
-    }
+pub returns : goal.returns
+unfolding symbol_in
+returns g c =
+    let o = c.args.elf.now.o in
+    let s = c.args.table.0 in
+    let call = calls.sym s 0 c.from.result in
+    rw (c.unless_refused.ensures, ← c.from.ensures) (learns_unless g.S.Source call _ c.args.elf.now _ (once_read _ _ _ _)
+    (λ m. symbol_in m s c.from.result) c.sym.result
+    (unless_stated c.args.elf.now.told (wanted call c.args.elf.now) c.sym.result (sym_answer o s 0 c.from.result) c.sym.ensures.answer)
+    c.sym.ensures.looks)

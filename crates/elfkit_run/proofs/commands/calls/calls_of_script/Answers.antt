@@ -1,9 +1,9 @@
 use Rattle.std.proofs.Common.{rules, codes, ◌∙◌}
 use Rattle.tool_output.specs.Reports.{no_report}
 use Rattle.tool_output.specs.declared.stops.Stop.TheVariants as stops
-use Rattle.tool_output.proofs.FileLemmas.{closed_same, given_same, given_kept, opened_asks}
+use Rattle.tool_output.proofs.FileLemmas.{closed_same, given_same, given_kept, opened_asks, within_unchanged}
 use Rattle.elfkit_run.specs.Calls.{script_asks}
-use Rattle.elfkit_run.proofs.CallsLemmas.{script_absent, script_there, script_length, performs_nothing, none_are_built, asks_nothing}
+use Rattle.elfkit_run.proofs.CallsLemmas.{script_absent, script_there, script_length, performs_nothing, none_are_built}
 use Rattle.elfkit_run.proofs.commands.calls.calls_of_script.Goals as goal
 
 pub returns-in-Err-NotThere : goal.returns-in-Err-NotThere
@@ -12,7 +12,7 @@ returns-in-Err-NotThere g c = record {
       script_absent g.O.Sink g.E.Sink c.args.script.now (g.F.Files.named c.args.files.now) c.args.outputs.now _ _ ((c.in-Err-NotThere.ensures.not_there told).0 (search rules))
       (rw (c.of-name.ensures, c.as_bytes.ensures.value) at c.refuse_script.ensures.performs);
   built = none_are_built _ c.refuse_script.ensures.none;
-  asks = λ told. asks_nothing _ _ _ c.in-Err-NotThere.ensures.hands.taken;
+  asks = λ told. within_unchanged _ _ _ c.in-Err-NotThere.ensures.hands.taken;
   reads = search rules;
   leaves = search rules;
 }
@@ -21,7 +21,7 @@ pub returns-in-Err-Failed : goal.returns-in-Err-Failed
 returns-in-Err-Failed g c = record {
   says = λ told. performs_nothing g.O.Sink g.E.Sink stops.Read c.args.outputs.now _ _;
   built = tt;
-  asks = λ told. asks_nothing _ _ _ c.in-Err-Failed.ensures.hands.taken;
+  asks = λ told. within_unchanged _ _ _ c.in-Err-Failed.ensures.hands.taken;
   reads = search rules;
   leaves = search rules;
 }
@@ -30,7 +30,7 @@ pub returns-in-Err-Memory : goal.returns-in-Err-Memory
 returns-in-Err-Memory g c = record {
   says = λ told. performs_nothing g.O.Sink g.E.Sink stops.Memory c.args.outputs.now _ _;
   built = tt;
-  asks = λ told. asks_nothing _ _ _ c.in-Err-Memory.ensures.hands.taken;
+  asks = λ told. within_unchanged _ _ _ c.in-Err-Memory.ensures.hands.taken;
   reads = search rules;
   leaves = search rules;
 }

@@ -1,9 +1,10 @@
 use Rattle.object_output.proofs.QueryLemmas.{looked_by}
 use Rattle.readelf_chains.proofs.EntryLemmas.{fewer_left}
+use Rattle.object_output.proofs.OnceReads.{once_read}
 use Rattle.readelf_chains.proofs.needs.VernauxAux.next_of.Goals as goal
 
 pub returns-clause-fewer : goal.returns-clause-fewer
 returns-clause-fewer g c = fewer_left c.next_vernaux.result (λ x. x.next) c.args.place.now _ c.next_vernaux.ensures.behind
 
 pub returns-clause-looked : goal.returns-clause-looked
-returns-clause-looked g c = looked_by g.S.Source _ _ c.next_vernaux.result c.args.elf.now _ c.next_vernaux.ensures.queries
+returns-clause-looked g c = looked_by g.S.Source _ _ c.next_vernaux.result c.args.elf.now _ c.next_vernaux.ensures.queries (once_read _ _ _ _)

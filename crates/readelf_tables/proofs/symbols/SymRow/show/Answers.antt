@@ -2,7 +2,8 @@ use Rattle.std.proofs.Common.{ℕ, List, Option, refl, ap}
 use Rattle.elf_object.specs.Strings as strings
 use Rattle.tool_output.specs.Reports.{shown}
 use Rattle.object_output.proofs.ElfSteps.{elf_as, elf_learns, elf_learns_none}
-use Rattle.readelf_tables.specs.Symbols.{symbol_line, symbol_place, symbol_row}
+use Rattle.object_output.specs.Symbols.{symbol_place}
+use Rattle.readelf_tables.specs.Symbols.{symbol_line, symbol_row}
 use Rattle.readelf_tables.proofs.SymbolLemmas.{symbol_name_is}
 use Rattle.readelf_tables.proofs.symbols.SymRow.show.Goals as goal
 
@@ -22,5 +23,5 @@ pub returns-in-Err : goal.returns-in-Err
 returns-in-Err g c =
     elf_learns_none g.S.Source g.O.Sink g.E.Sink (λ o. symbol_place o c.args.s.0 c.args.i c.args.self) c.args.elf.now _ c.in-Err.stop (λ o. shown (symbol_row o c.args.s.0 c.args.i c.args.self)) c.args.outputs.now c.in-Err.ensures
 
-pub place_of-requires : goal.place_of-requires
-place_of-requires g c = λ extended. c.requires.fits.indexes
+pub symbol_place-requires : goal.symbol_place-requires
+symbol_place-requires g c = λ extended. c.requires.fits.indexes

@@ -95,6 +95,26 @@ pub went_within : (xs ys : List ℕ) (f g : ℕ → ℕ) (before now : ℕ) → 
 went_within xs ys f g before now once sub le h =
     omega (arith, h, parted f g xs le, parted f g ys le, sum_within xs ys (λ x. f x - g x) once sub)
 
+-- ---- What is zero outside a list
+
+all_at : (xs ys : List ℕ) (f : ℕ → ℕ) → ((x : ℕ) → has ys x ≡ false → f x ≡ 0)
+    → sum_by f xs ≡ sum_by (where_in ys f) xs
+all_at xs ys f none = sums_same f (where_in ys f) xs (λ x. by_test x (has ys x) refl)
+  where
+    by_test : (x : ℕ) (t : Bool) → has ys x ≡ t → f x ≡ (if t then f x else 0)
+    by_test x true is = refl
+    by_test x false is = none x is
+
+-- What went of a sum over a list went of the sum over one outside of which it is zero. The count
+-- rose by no more than went.
+pub went_outside : (xs ys : List ℕ) (f g : ℕ → ℕ) (before now : ℕ) → Once xs
+    → ((x : ℕ) → has ys x ≡ false → f x ≡ 0) → ((x : ℕ) → g x ≤ f x)
+    → now + sum_by g xs ≤ before + sum_by f xs → now + sum_by g ys ≤ before + sum_by f ys
+went_outside xs ys f g before now once none le h =
+    let went = λ (x : ℕ). f x - g x in
+    let fewer = all_at xs ys went (λ x out. let z = none x out in omega (arith, z)) in
+    omega (arith, h, parted f g xs le, parted f g ys le, fewer, within_list xs ys went once)
+
 -- ---- Lists in which each number stands once
 
 at_le : (s x : ℕ) (f : ℕ → ℕ) → at s f x ≤ f s
