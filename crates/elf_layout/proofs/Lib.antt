@@ -1,5 +1,6 @@
 mod Apart
 pub mod Capped
+mod CappedMeeting
 mod FirstMet
 mod Lengths
 mod Neighbours
