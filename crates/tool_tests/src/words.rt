@@ -4,19 +4,28 @@
 mod copying;
 mod letters;
 mod listing;
+mod notices;
 mod numbers;
 mod refusals;
 mod writing;
 
 use elf_types::ElfError;
 use std::alloc::Global;
-use tool_text::{Args, Command, Text, WordsFault, read_words};
+use tool_text::{Args, Command, Request, Text, WordsFault, read_words};
 
 /// A line, and a text that tells what it is to be read as.
 type Row = (&'static str, &'static str);
 
 /// What words are read as.
-type Reading = Result<Command, WordsFault>;
+type Reading = Result<Request, WordsFault>;
+
+/// The command that words are read as.
+fn command(read: &Reading) -> Option<&Command> {
+    match read {
+        Ok(Request::Run(command)) => Some(command),
+        _ => None,
+    }
+}
 
 /// What is compared of a reading.
 trait Comparison {

@@ -1,19 +1,22 @@
 -- Every command that is read is well formed.
-use Rattle.std.proofs.Common.{◌≡◌, ◌≢◌, ◌≤◌, ◌&&◌, ◌||◌, ◌==◌, List, [], ◌∷◌, ℕ, Bool, true, false, cond, bytes_eq, nat_le, length, Option, Some, None, IfSome, option_and_then, option_to_list, unwrap_or, refl, subst}
+use Rattle.std.proofs.Common.{◌≡◌, ◌≢◌, ◌≤◌, ◌&&◌, ◌||◌, ◌==◌, List, [], ◌∷◌, ℕ, Bool, true, false, cond, bytes_eq, nat_le, length, Option, Some, None, IfSome, option_map, option_and_then, option_to_list, unwrap_or, refl, subst}
 use Rattle.std.specs.Str.{byte}
 use Rattle.std.specs.List.{list_all, last_or}
 use Rattle.std.proofs.lemmas.Bool.{and_parts, and_from, or_parts, leb-true, not-true}
 use Rattle.std.proofs.lemmas.Bool.Decides.{not_from_Decides}
 use Rattle.std.proofs.lemmas.Slice.Eq.{bytes_eq-Decides}
-use Rattle.tool_text.specs.declared.usages.Usage.{Usage}
-use Rattle.tool_text.specs.declared.usages.Usage.TheVariants as usage
+use Rattle.usage_text.specs.declared.usages.Usage.{Usage}
+use Rattle.usage_text.specs.declared.usages.Usage.TheVariants as usage
 use Rattle.tool_text.specs.declared.splitting.CommandOption.{CommandOption}
 use Rattle.tool_text.specs.declared.splitting.Split.{Split}
 use Rattle.tool_text.specs.declared.commands.Command.{Command}
+use Rattle.tool_text.specs.declared.commands.Request.{Request}
+use Rattle.tool_text.specs.declared.commands.Request.TheVariants.{Run, Tell}
+use Rattle.usage_text.specs.declared.notices.Notice.TheVariants.{Help}
 use Rattle.tool_text.specs.Splitting.{split_of}
 use Rattle.tool_text.specs.Numbers.{word_number_of, script_number_of}
-use Rattle.tool_text.specs.Reading.{one_or_more, only_one, only_two, option_arguments, has_option, radix_of, split_at_equals, readelf_command, nm_command, size_command, strings_command, strip_command, elflint_command, calls_command, output_of, selftest_command, rehash_command, copy_command, changes_of, unstrip_command, lines_command, of_split, command_of, all_values, all_differ, last, least_of, number_within, name_of, named_file_of, renaming_of, named_bits_of, is_section_name, is_file_of}
-use Rattle.tool_text.specs.Forms.{IsWellFormed, ThreeDiffer, HasNames, IsOutputApart}
+use Rattle.tool_text.specs.Reading.{one_or_more, only_one, only_two, option_arguments, has_option, radix_of, split_at_equals, readelf_command, nm_command, size_command, strings_command, strip_command, elflint_command, calls_command, output_of, selftest_command, rehash_command, copy_command, changes_of, unstrip_command, lines_command, of_split, request_of, all_values, all_differ, last, least_of, number_within, name_of, named_file_of, renaming_of, named_bits_of, is_section_name, is_file_of}
+use Rattle.tool_text.specs.Forms.{IsGoodRequest, IsWellFormed, ThreeDiffer, HasNames, IsOutputApart}
 
 -- Q holds of the value, if there is one
 record Yields {A : Type 0} (Q : A → Type 0) (o : Option A) : Type 0 where
@@ -210,10 +213,19 @@ split_form usage.Unstrip split = unstrip_form split
 split_form usage.Lines split = lines_form split
 split_form usage.General split = record { holds = tt }
 
-command_form : (u : Usage) (words : List (List ℕ)) → Yields IsWellFormed (command_of u words)
-unfolding command_of
-command_form u words = bind_all (split_of u None words) (λ split _. split_form u split)
+run_all : (o : Option Command) → Yields IsWellFormed o → Yields IsGoodRequest (option_map Run o)
+run_all None h = record { holds = tt }
+run_all (Some command) h = record { holds = h.holds }
+
+-- a request for help, or what the words say
+either_form : (u : Usage) (split : Split) (asks : Bool) → Yields IsGoodRequest (cond asks (Some (Tell (Help u))) (option_map Run (of_split u split)))
+either_form u split true = some_all tt
+either_form u split false = run_all (of_split u split) (split_form u split)
+
+request_form : (u : Usage) (words : List (List ℕ)) → Yields IsGoodRequest (request_of u words)
+unfolding request_of
+request_form u words = bind_all (split_of u None words) (λ split _. either_form u split split.asks_help)
 
 -- what was read is well formed
-pub read_form : (u : Usage) (words : List (List ℕ)) (command : Command) → command_of u words ≡ Some command → IsWellFormed command
-read_form u words command is = at_some is (command_form u words)
+pub read_form : (u : Usage) (words : List (List ℕ)) (request : Request) → request_of u words ≡ Some request → IsGoodRequest request
+read_form u words request is = at_some is (request_form u words)

@@ -1,10 +1,13 @@
 -- The rules of option words leave no choice: two splits that follow them are one.
-use Rattle.std.proofs.Common.{◌≡◌, ◌≢◌, ◌+◌, ◌≤◌, List, [], ◌∷◌, ℕ, zero, suc, true, false, length, Option, refl, sym, ap, subst, ◌∙◌, ⊎_elim, arith}
+use Rattle.std.proofs.Common.{◌≡◌, ◌≢◌, ◌+◌, ◌≤◌, List, [], ◌∷◌, ℕ, zero, suc, true, false, length, bytes_eq, codes, Option, refl, sym, ap, subst, ◌∙◌, ⊎_elim, arith}
 use Rattle.std.specs.Str.{byte}
 use Rattle.std.proofs.lemmas.Bool.{and_right, ne_eqb, cases_eq, cases_Bool}
-use Rattle.tool_text.specs.declared.usages.Usage.{Usage}
+use Rattle.std.proofs.lemmas.Bool.Decides.{not_from_Decides}
+use Rattle.std.proofs.lemmas.Slice.Eq.{bytes_eq-Decides}
+use Rattle.usage_text.specs.declared.usages.Usage.{Usage}
 use Rattle.tool_text.specs.declared.splitting.Split.{Split}
-use Rattle.tool_text.specs.Splitting.{is_option_word, stands_alone, takes_option_argument, lone_option, option_with, split_after}
+use Rattle.usage_text.specs.Usages.{stands_alone, takes_option_argument}
+use Rattle.tool_text.specs.Splitting.{is_option_word, lone_option, option_with, split_after}
 use Rattle.tool_text.specs.Rules.{FollowsRules, dash}
 
 -- how much there is to read
@@ -24,7 +27,12 @@ module _ (usage : Usage) (s t : List (List ℕ) → Option Split) (F : FollowsRu
   at_dash : (letters : List ℕ) (words : List (List ℕ)) → Same (dash (byte "-" ∷ letters) ∷ words)
   unfolding Same
   at_dash [] words = F.end words ∙ sym (G.end words)
-  at_dash (next ∷ letters) words = F.other_dash letters next words ∙ sym (G.other_dash letters next words)
+  at_dash (next ∷ letters) words =
+      let d = bytes_eq-Decides (next ∷ letters) (codes "help") in
+      ⊎_elim
+      (λ t. subst (λ cs. Same (dash (byte "-" ∷ cs) ∷ words)) (sym (d.0 t)) (F.help words ∙ sym (G.help words)))
+      (λ f. let other = not_from_Decides _ d f in F.other_dash letters next words other ∙ sym (G.other_dash letters next words other))
+      (cases_Bool (bytes_eq (next ∷ letters) (codes "help")))
 
   -- where what is shorter is split alike
   module _ (n : ℕ) (shorter : (words : List (List ℕ)) → size words ≤ n → Same words) where

@@ -1,4 +1,4 @@
--- What holds of every command that is read.
+-- What holds of every request that is read.
 use Rattle.std.specs.Prelude.{◌≡◌, ◌≢◌, ◌≤◌, List, ℕ, true, false, Option, Some, None, IfSome}
 use Rattle.std.specs.List.{list_all}
 use Rattle.tool_text.specs.declared.commands.Command.{Command}
@@ -6,6 +6,8 @@ use Rattle.tool_text.specs.declared.commands.Command.TheVariants.{Readelf, Nm, S
 use Rattle.tool_text.specs.declared.commands.CallsOutput.{CallsOutput}
 use Rattle.tool_text.specs.declared.commands.CallsOutput.TheVariants.{To, InPlace}
 use Rattle.tool_text.specs.declared.commands.CopyChanges.{CopyChanges}
+use Rattle.tool_text.specs.declared.commands.Request.{Request}
+use Rattle.tool_text.specs.declared.commands.Request.TheVariants.{Run, Tell}
 use Rattle.tool_text.specs.Reading.{is_section_name, is_file_of}
 
 -- no two of three words are the same
@@ -49,3 +51,8 @@ IsWellFormed (Nm options files) = Unit {0}
 IsWellFormed (Size files) = Unit {0}
 IsWellFormed (Elflint files) = Unit {0}
 IsWellFormed (Lines files) = Unit {0}
+
+-- the command of a request is well formed
+abbrev pub IsGoodRequest : Request → Type 0
+IsGoodRequest (Run command) = IsWellFormed command
+IsGoodRequest (Tell notice) = Unit {0}

@@ -3,4 +3,3 @@ pub mod Numbers
 pub mod Reading
 pub mod Rules
 pub mod Splitting
-pub mod Usages

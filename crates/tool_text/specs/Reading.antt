@@ -1,10 +1,10 @@
--- The reading of the words: the command with its options and operands, or the usage line that is
--- due.
-use Rattle.std.specs.Prelude.{◌&&◌, ◌||◌, ◌==◌, List, [], ◌∷◌, ℕ, Bool, true, false, not, length, nat_le, nat_lt, bytes_eq, Option, Some, None, option_and_then, option_to_list, unwrap_or, ok_or, Result, Err, codes, if◌then◌else◌}
+-- The reading of the words: the command with its options and operands, or what elfkit is to tell of
+-- itself, or the usage line that is due.
+use Rattle.std.specs.Prelude.{◌&&◌, ◌||◌, ◌==◌, List, [], ◌∷◌, ℕ, Bool, true, false, not, length, nat_le, nat_lt, bytes_eq, Option, Some, None, option_map, option_and_then, option_to_list, unwrap_or, ok_or, Result, Ok, Err, codes, if◌then◌else◌}
 use Rattle.std.specs.List.{list_any, filter_map, last_or, position_or_len, before_first, after_first}
 use Rattle.std.specs.Str.{byte}
-use Rattle.tool_text.specs.declared.usages.Usage.{Usage}
-use Rattle.tool_text.specs.declared.usages.Usage.TheVariants as usage
+use Rattle.usage_text.specs.declared.usages.Usage.{Usage}
+use Rattle.usage_text.specs.declared.usages.Usage.TheVariants as usage
 use Rattle.tool_text.specs.declared.splitting.CommandOption.{CommandOption}
 use Rattle.tool_text.specs.declared.splitting.Split.{Split}
 use Rattle.tool_text.specs.declared.options.Radix.{Radix}
@@ -18,10 +18,15 @@ use Rattle.tool_text.specs.declared.commands.NamedFile.{NamedFile}
 use Rattle.tool_text.specs.declared.commands.Renaming.{Renaming}
 use Rattle.tool_text.specs.declared.commands.NamedBits.{NamedBits}
 use Rattle.tool_text.specs.declared.commands.CopyChanges.{CopyChanges}
+use Rattle.tool_text.specs.declared.commands.Request.{Request}
+use Rattle.tool_text.specs.declared.commands.Request.TheVariants.{Run, Tell}
 use Rattle.tool_text.specs.declared.commands.WordsFault.{WordsFault}
 use Rattle.tool_text.specs.declared.commands.WordsFault.TheVariants as fault
 use Rattle.tool_text.specs.Numbers.{word_number_of, script_number_of}
-use Rattle.tool_text.specs.Usages.{value_in, command_named}
+use Rattle.usage_text.specs.declared.notices.Notice.{Notice}
+use Rattle.usage_text.specs.declared.notices.Notice.TheVariants as notice
+use Rattle.usage_text.specs.Usages.{value_in, command_named}
+use Rattle.usage_text.specs.Notices.{notice_named}
 use Rattle.tool_text.specs.Splitting.{split_of}
 
 infixl 10 ◌>>=◌
@@ -271,19 +276,23 @@ of_split usage.Unstrip split = unstrip_command split
 of_split usage.Lines split = lines_command split
 of_split usage.General split = None
 
-unfoldable pub command_of : Usage → List (List ℕ) → Option Command
-command_of usage words = do
+-- Where help on a command is asked for, its words are no more looked at.
+unfoldable pub request_of : Usage → List (List ℕ) → Option Request
+request_of usage words = do
   split ← split_of usage None words
-  of_split usage split
+  if split.asks_help
+      then Some (Tell (notice.Help usage))
+      else option_map Run (of_split usage split)
 
--- The first word is the command.
-unfoldable pub reading : List (List ℕ) → Result Command Usage
+-- The first word is the command, or asks for a notice, whatever follows.
+unfoldable pub reading : List (List ℕ) → Result Request Usage
 reading [] = Err usage.General
-reading (name ∷ words) = of_name (command_named name) words
+reading (name ∷ words) = of_name (notice_named name) (command_named name) words
   where
-    of_name : Option Usage → List (List ℕ) → Result Command Usage
-    of_name None words = Err usage.General
-    of_name (Some usage) words = ok_or (command_of usage words) usage
+    of_name : Option Notice → Option Usage → List (List ℕ) → Result Request Usage
+    of_name (Some notice) named words = Ok (Tell notice)
+    of_name None None words = Err usage.General
+    of_name None (Some usage) words = ok_or (request_of usage words) usage
 
 -- the usage line by which words are refused; want of memory is free
 abbrev pub stated_usage : WordsFault → Option Usage

@@ -1,14 +1,14 @@
 -- The words after a command, as options and operands: the utility syntax of POSIX.1-2017 (base
--- definitions, chapter 12), where options come first and may be grouped behind one dash.
-use Rattle.std.specs.Prelude.{◌≡◌, ◌++◌, ◌&&◌, ◌==◌, List, [], ◌∷◌, ℕ, Bool, length, drop, nat_le, slice_index, bytes_eq, Option, Some, None, option_map, option_and_then, Result, Ok, Err, codes, if◌then◌else◌}
-use Rattle.std.specs.List.{list_any}
+-- definitions, chapter 12), where options come first and may be grouped behind one dash. The one
+-- long option is `--help` of the GNU Coding Standards (section 4.8).
+use Rattle.std.specs.Prelude.{◌≡◌, ◌++◌, ◌&&◌, ◌==◌, List, [], ◌∷◌, ℕ, Bool, true, false, length, drop, nat_le, slice_index, bytes_eq, Option, Some, None, option_map, option_and_then, Result, Ok, Err, codes, if◌then◌else◌}
 use Rattle.std.specs.Str.{byte}
 use Rattle.tool_text.specs.declared.faults.Fault.{Fault}
 use Rattle.tool_text.specs.declared.faults.Fault.TheVariants.{Memory, Words}
-use Rattle.tool_text.specs.declared.usages.Usage.{Usage}
+use Rattle.usage_text.specs.declared.usages.Usage.{Usage}
 use Rattle.tool_text.specs.declared.splitting.CommandOption.{CommandOption}
 use Rattle.tool_text.specs.declared.splitting.Split.{Split}
-use Rattle.tool_text.specs.Usages.{letters_alone, letters_with_option_argument}
+use Rattle.usage_text.specs.Usages.{stands_alone, takes_option_argument}
 
 -- what a part of the code returned is what the words say, unless memory ran out
 abbrev pub Reads : {X : Type 0} → Result X Fault → Option X → Type 0
@@ -19,14 +19,6 @@ Reads (Err Memory) stated = Unit {0}
 -- An option word has at least two characters and begins with a dash.
 abbrev pub is_option_word : List ℕ → Bool
 is_option_word word = nat_le 2 (length word) && (slice_index word 0 == byte "-")
-
--- a letter without an option-argument, and one with it
-abbrev pub stands_alone : Usage → ℕ → Bool
-stands_alone usage letter = list_any (λ c. c == letter) (letters_alone usage)
-
-abbrev pub takes_option_argument : Usage → ℕ → Bool
-takes_option_argument usage letter =
-    list_any (λ c. c == letter) (letters_with_option_argument usage)
 
 -- the option of such a letter
 abbrev pub lone_option : ℕ → List CommandOption
@@ -60,27 +52,38 @@ group_of usage (letter ∷ rest) =
     then group_after (lone_option letter) (group_of usage rest)
     else None)
 
+-- words that have no options
+abbrev pub operands_alone : List (List ℕ) → Split
+operands_alone words = record { options = []; operands = words; asks_help = false }
+
+-- `--help`
+abbrev pub help_alone : Split
+help_alone = record { options = []; operands = []; asks_help = true }
+
 -- the options before, and then those and the operands of the words after them
 abbrev pub split_after : List CommandOption → Option Split → Option Split
 split_after before split =
     option_map (λ (s : Split). record s { options = before ++ s.options }) split
 
 -- Option words come until the first word that is none, or until `--`, which is dropped. The rest
--- are operands. `waiting` is a letter before these words whose option-argument is the first of
--- them, whatever that is.
+-- are operands. Where `--help` comes before, help is asked for, and nothing after it is looked at.
+-- `waiting` is a letter before these words whose option-argument is the first of them, whatever
+-- that is.
 unfoldable pub split_of : Usage → Option ℕ → List (List ℕ) → Option Split
 split_of usage (Some letter) [] = None
 split_of usage (Some letter) (word ∷ words) =
     split_after (option_with letter word) (split_of usage None words)
-split_of usage None [] = Some (record { options = []; operands = [] })
+split_of usage None [] = Some (operands_alone [])
 split_of usage None (word ∷ words) =
     if is_option_word word
     then (if bytes_eq word (codes "--")
-    then Some (record { options = []; operands = words })
+    then Some (operands_alone words)
+    else (if bytes_eq word (codes "--help")
+    then Some help_alone
     else option_and_then
     (λ group. split_after group.options (split_of usage group.waiting words))
-    (group_of usage (drop 1 word)))
-    else Some (record { options = []; operands = word ∷ words })
+    (group_of usage (drop 1 word))))
+    else Some (operands_alone (word ∷ words))
 
 -- new is old with the options of a group of letters at its end
 abbrev pub AddsGroup : Usage → List ℕ → List CommandOption → List CommandOption

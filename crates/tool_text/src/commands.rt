@@ -3,8 +3,8 @@
 use crate::arguments::Args;
 use crate::options::{NmOptions, ReadelfParts, StringsOptions};
 use crate::texts::Text;
-use crate::usages::Usage;
 use elf_types::List;
+use usage_text::{Notice, Usage};
 
 /// A command with its options and operands.
 #[derive(Drop)]
@@ -160,8 +160,17 @@ pub struct NamedBits {
     pub bits: u64,
 }
 
-/// Why the words give no command.
-#[derive(Clone, Copy, Debug, PartialEq, Eq)]
+/// What the words ask for.
+#[derive(Drop)]
+pub enum Request {
+    /// A command.
+    Run(Command),
+    /// `--help` or `--version`: that elfkit tells of itself.
+    Tell(Notice),
+}
+
+/// Why the words give no request.
+#[derive(Clone, Copy, PartialEq, Eq)]
 pub enum WordsFault {
     /// There was no memory.
     Memory,

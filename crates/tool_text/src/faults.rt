@@ -7,7 +7,7 @@ use elf_types::ElfError;
 use std::alloc::{AllocError, AllocFailed};
 
 /// Why a part of the words is not read.
-#[derive(Clone, Copy, Debug, PartialEq, Eq)]
+#[derive(Clone, Copy, PartialEq, Eq)]
 pub(crate) enum Fault {
     /// There was no memory.
     Memory,

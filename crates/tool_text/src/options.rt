@@ -1,7 +1,7 @@
 //! The options of the commands that list, as the words say them.
 
 /// The radix in which numbers are shown: `-t d`, `-t o` and `-t x`.
-#[derive(Clone, Copy, Debug, PartialEq, Eq)]
+#[derive(Clone, Copy, PartialEq, Eq)]
 pub enum Radix {
     /// Ten.
     Decimal,
@@ -12,7 +12,7 @@ pub enum Radix {
 }
 
 /// The parts that readelf shows, one letter each.
-#[derive(Clone, Copy, Debug, PartialEq, Eq)]
+#[derive(Clone, Copy, PartialEq, Eq)]
 pub struct ReadelfParts {
     /// `-h`: the ELF header.
     pub header: bool,
@@ -33,7 +33,7 @@ pub struct ReadelfParts {
 }
 
 /// The options of nm.
-#[derive(Clone, Copy, Debug, PartialEq, Eq)]
+#[derive(Clone, Copy, PartialEq, Eq)]
 pub struct NmOptions {
     /// `-A`: the file's name stands before each row.
     pub name_each: bool,
@@ -50,7 +50,7 @@ pub struct NmOptions {
 }
 
 /// The options of strings.
-#[derive(Clone, Copy, Debug, PartialEq, Eq)]
+#[derive(Clone, Copy, PartialEq, Eq)]
 pub struct StringsOptions {
     /// `-a`: the whole file is read.
     pub all: bool,

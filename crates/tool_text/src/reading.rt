@@ -3,12 +3,14 @@
 ghost use Rattle.std.specs.Prelude.{◌≡◌, ◌∷◌, [], option_to_list, IfOk};
 ghost use Rattle.std.specs.Str.{byte};
 ghost use Rattle.elf_types.specs.Answers.{FollowsBy};
-ghost use Rattle.tool_text.specs.Forms.{IsWellFormed};
+ghost use Rattle.tool_text.specs.Forms.{IsGoodRequest};
 ghost use Rattle.tool_text.specs.Splitting.{Reads};
-ghost use Rattle.tool_text.specs.Reading.{reading, stated_usage, command_of, option_arguments, last, one_or_more, of_split, readelf_command, parts_of, nm_command, size_command, strings_command, strip_command, elflint_command, calls_command, selftest_command, rehash_command, copy_command, changes_of, unstrip_command, lines_command, all_differ, is_file_of};
+ghost use Rattle.tool_text.specs.Reading.{reading, stated_usage, request_of, option_arguments, last, one_or_more, of_split, readelf_command, parts_of, nm_command, size_command, strings_command, strip_command, elflint_command, calls_command, selftest_command, rehash_command, copy_command, changes_of, unstrip_command, lines_command, all_differ, is_file_of};
 
 use crate::arguments::Args;
-use crate::commands::{CallsOutput, Command, CopyChanges, NamedFile, StripOptions, WordsFault};
+use crate::commands::{
+    CallsOutput, Command, CopyChanges, NamedFile, Request, StripOptions, WordsFault,
+};
 use crate::faults::Fault;
 use crate::option_arguments::{
     all_values, has_option, last_option_argument, last_value, option_arguments,
@@ -16,37 +18,44 @@ use crate::option_arguments::{
 use crate::options::{NmOptions, Radix, ReadelfParts, StringsOptions};
 use crate::splitting::{CommandOption, Split, split_words};
 use crate::texts::Text;
-use crate::usages::Usage;
 use crate::values::number_within;
 use std::alloc::Global;
+use usage_text::{Notice, Usage};
 
-/// Reads the words after the program's name, of which the first is the command. It refuses with the
-/// usage line that is due exactly where the words are not of that form, and for want of memory.
+/// Reads the words after the program's name, of which the first is the command, or asks for a notice.
+/// It refuses with the usage line that is due exactly where the words are not of that form, and for
+/// want of memory.
 #[tactic(auto, unfolding(crate::specs::Reading::reading))]
-pub fn read_words(alloc: Global, words: &Args) -> Result<Command, WordsFault>
-    ensures value { FollowsBy (λ c. c) stated_usage result (reading words.now) }
-    ensures form { IfOk result IsWellFormed }
+pub fn read_words(alloc: Global, words: &Args) -> Result<Request, WordsFault>
+    ensures value { FollowsBy (λ r. r) stated_usage result (reading words.now) }
+    ensures form { IfOk result IsGoodRequest }
 {
     let Some((name, words)) = words.as_slice().split_first() else {
         return Err(WordsFault::Usage(Usage::General));
     };
+    if let Some(notice) = Notice::named(name.as_str()) {
+        return Ok(Request::Tell(notice));
+    }
     let Some(usage) = Usage::named(name.as_str()) else {
         return Err(WordsFault::Usage(Usage::General));
     };
-    match read_command(alloc, usage, words) {
-        Ok(command) => Ok(command),
+    match read_request(alloc, usage, words) {
+        Ok(request) => Ok(request),
         Err(Fault::Words) => Err(WordsFault::Usage(usage)),
         Err(Fault::Memory) => Err(WordsFault::Memory),
     }
 }
 
-/// The command whose name stands before these words.
-#[tactic(auto, unfolding(crate::specs::Reading::command_of))]
-fn read_command(alloc: Global, usage: Usage, words: &[Text]) -> Result<Command, Fault>
-    ensures { Reads result (command_of usage words.now) }
+/// What the words after a command's name ask for.
+#[tactic(auto, unfolding(crate::specs::Reading::request_of))]
+fn read_request(alloc: Global, usage: Usage, words: &[Text]) -> Result<Request, Fault>
+    ensures { Reads result (request_of usage words.now) }
 {
     let split = split_words(alloc, usage, words)?;
-    read_split(alloc, usage, split)
+    if split.asks_help {
+        return Ok(Request::Tell(Notice::Help(usage)));
+    }
+    Ok(Request::Run(read_split(alloc, usage, split)?))
 }
 
 /// The command with these options and operands.
@@ -94,7 +103,11 @@ fn output(alloc: Global, options: &[CommandOption]) -> Result<Text, Fault>
 fn readelf(split: Split) -> Option<Command>
     ensures { result ≡ readelf_command split }
 {
-    let Split { options, operands } = split;
+    let Split {
+        options,
+        operands,
+        ..
+    } = split;
     let files = one_or_more(operands)?;
     if options.is_empty() {
         return None;
@@ -127,7 +140,11 @@ fn parts(options: &[CommandOption]) -> ReadelfParts
 fn nm(alloc: Global, split: Split) -> Result<Command, Fault>
     ensures { Reads result (nm_command split) }
 {
-    let Split { options, operands } = split;
+    let Split {
+        options,
+        operands,
+        ..
+    } = split;
     let options = options.as_slice();
     let files = one_or_more(operands).ok_or(Fault::Words)?;
     let radix = last_value(alloc, options, b't')?.unwrap_or(Radix::Hex);
@@ -158,7 +175,11 @@ fn size(split: Split) -> Option<Command>
 fn strings(alloc: Global, split: Split) -> Result<Command, Fault>
     ensures { Reads result (strings_command split) }
 {
-    let Split { options, operands } = split;
+    let Split {
+        options,
+        operands,
+        ..
+    } = split;
     let options = options.as_slice();
     let files = one_or_more(operands).ok_or(Fault::Words)?;
     let least = last_value(alloc, options, b'n')?.unwrap_or(4);
@@ -178,7 +199,11 @@ fn strings(alloc: Global, split: Split) -> Result<Command, Fault>
 fn strip(alloc: Global, split: Split) -> Result<Command, Fault>
     ensures { Reads result (strip_command split) }
 {
-    let Split { options, operands } = split;
+    let Split {
+        options,
+        operands,
+        ..
+    } = split;
     let options = options.as_slice();
     let file = operands.into_one().ok_or(Fault::Words)?;
     let out = output(alloc, options)?;
@@ -230,7 +255,11 @@ fn elflint(split: Split) -> Option<Command>
 fn calls(alloc: Global, split: Split) -> Result<Command, Fault>
     ensures { Reads result (calls_command split) }
 {
-    let Split { options, operands } = split;
+    let Split {
+        options,
+        operands,
+        ..
+    } = split;
     let options = options.as_slice();
     let (file, script) = operands.into_two().ok_or(Fault::Words)?;
     let output = match (
@@ -256,7 +285,11 @@ fn calls(alloc: Global, split: Split) -> Result<Command, Fault>
 fn selftest(alloc: Global, split: Split) -> Result<Command, Fault>
     ensures { Reads result (selftest_command split) }
 {
-    let Split { options, operands } = split;
+    let Split {
+        options,
+        operands,
+        ..
+    } = split;
     let word = operands.into_one().ok_or(Fault::Words)?;
     let out = output(alloc, options.as_slice())?;
     let count = number_within(word.as_str(), 1, 60000).ok_or(Fault::Words)?;
@@ -268,7 +301,11 @@ fn selftest(alloc: Global, split: Split) -> Result<Command, Fault>
 fn rehash(alloc: Global, split: Split) -> Result<Command, Fault>
     ensures { Reads result (rehash_command split) }
 {
-    let Split { options, operands } = split;
+    let Split {
+        options,
+        operands,
+        ..
+    } = split;
     let file = operands.into_one().ok_or(Fault::Words)?;
     let out = output(alloc, options.as_slice())?;
     if out.is_same(&file) {
@@ -282,7 +319,11 @@ fn rehash(alloc: Global, split: Split) -> Result<Command, Fault>
 fn copy(alloc: Global, split: Split) -> Result<Command, Fault>
     ensures { Reads result (copy_command split) }
 {
-    let Split { options, operands } = split;
+    let Split {
+        options,
+        operands,
+        ..
+    } = split;
     let options = options.as_slice();
     let file = operands.into_one().ok_or(Fault::Words)?;
     let out = output(alloc, options)?;
@@ -328,7 +369,11 @@ fn is_file_of(word: &Text, named: &[NamedFile]) -> bool
 fn unstrip(alloc: Global, split: Split) -> Result<Command, Fault>
     ensures { Reads result (unstrip_command split) }
 {
-    let Split { options, operands } = split;
+    let Split {
+        options,
+        operands,
+        ..
+    } = split;
     let (stripped, debug) = operands.into_two().ok_or(Fault::Words)?;
     let out = output(alloc, options.as_slice())?;
     if !all_three_differ(&out, &stripped, &debug) {

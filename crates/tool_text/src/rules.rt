@@ -2,7 +2,7 @@
 
 ghost use Rattle.std.specs.Prelude.{◌≡◌, List, ℕ, Option, None};
 ghost use Rattle.tool_text.specs.declared.splitting.Split.{Split};
-ghost use Rattle.tool_text.specs.declared.usages.Usage.{Usage};
+ghost use Rattle.usage_text.specs.declared.usages.Usage.{Usage};
 ghost use Rattle.tool_text.specs.Rules.{FollowsRules};
 ghost use Rattle.tool_text.specs.Splitting.{split_of};
 

@@ -6,9 +6,9 @@ ghost use Rattle.tool_text.specs.Splitting.{Reads, is_option_word, split_of, Add
 use crate::arguments::Args;
 use crate::faults::Fault;
 use crate::texts::Text;
-use crate::usages::Usage;
 use elf_types::List;
 use std::alloc::Global;
+use usage_text::Usage;
 
 /// An option, as the words give it.
 #[derive(Drop)]
@@ -26,6 +26,8 @@ pub(crate) struct Split {
     pub options: List<CommandOption>,
     /// The operands, in the order of the words.
     pub operands: Args,
+    /// Whether `--help` stands where an option word is looked for. Nothing after it is looked at.
+    pub asks_help: bool,
 }
 
 /// Splits the words after a command into options and operands.
@@ -42,6 +44,13 @@ pub(crate) fn split_words(alloc: Global, usage: Usage, words: &[Text]) -> Result
         if word.as_str() == "--" {
             break;
         }
+        if word.as_str() == "--help" {
+            return Ok(Split {
+                options,
+                operands: Args::new(alloc),
+                asks_help: true,
+            });
+        }
         if let Some(letter) = read_group(alloc, &mut options, usage, word.as_str())? {
             let Some((option_argument, after)) = rest.split_first() else {
                 return Err(Fault::Words);
@@ -55,7 +64,11 @@ pub(crate) fn split_words(alloc: Global, usage: Usage, words: &[Text]) -> Result
         }
     }
     let operands = Args::copy_of(alloc, rest)?;
-    Ok(Split { options, operands })
+    Ok(Split {
+        options,
+        operands,
+        asks_help: false,
+    })
 }
 
 /// Whether a word is an option word, where one may stand.

@@ -1,6 +1,6 @@
 //! The changes of copy. What is wanted of a list stands behind its letter, each item behind a bar.
 
-use super::{Comparison, Reading, Row, Worded, all_hold, are, are_two, is};
+use super::{Comparison, Reading, Row, Worded, all_hold, are, are_two, command, is};
 use tool_text::{Command, CopyChanges, NamedBits, NamedFile, Renaming};
 
 /// The lists of copy that have items, for the output O and the file F.
@@ -21,8 +21,10 @@ const LETTERS: [Row; 10] = [
 
 /// The changes of copy for the output O and the file F.
 fn changes(read: &Reading) -> Option<&CopyChanges> {
-    match read {
-        Ok(Command::Copy { changes, out, file }) if is(out, "O") && is(file, "F") => Some(changes),
+    match command(read) {
+        Some(Command::Copy { changes, out, file }) if is(out, "O") && is(file, "F") => Some(
+            changes,
+        ),
         _ => None,
     }
 }

@@ -1,6 +1,6 @@
 //! The commands that list what files hold.
 
-use super::{Comparison, Reading, Row, all_hold, are};
+use super::{Comparison, Reading, Row, all_hold, are, command};
 use tool_text::{Args, Command, NmOptions, Radix, ReadelfParts, StringsOptions};
 
 /// The letters of readelf's parts, for the file F.
@@ -37,8 +37,8 @@ fn parts_named(letters: &str) -> ReadelfParts {
 
 impl Comparison for Readelf {
     fn holds(read: &Reading, wanted: &str) -> bool {
-        match read {
-            Ok(Command::Readelf { parts, files }) => *parts == parts_named(wanted)
+        match command(read) {
+            Some(Command::Readelf { parts, files }) => *parts == parts_named(wanted)
                 && are(files.as_slice(), "|F"),
             _ => false,
         }
@@ -91,8 +91,8 @@ fn nm_named(letters: &str) -> NmOptions {
 
 impl Comparison for Nm {
     fn holds(read: &Reading, wanted: &str) -> bool {
-        match read {
-            Ok(Command::Nm { options, files }) => *options == nm_named(wanted)
+        match command(read) {
+            Some(Command::Nm { options, files }) => *options == nm_named(wanted)
                 && are(files.as_slice(), "|F"),
             _ => false,
         }
@@ -129,8 +129,8 @@ fn are_options(options: &StringsOptions, wanted: &str) -> bool {
 
 impl Comparison for Strings {
     fn holds(read: &Reading, wanted: &str) -> bool {
-        match read {
-            Ok(Command::Strings { options, files }) => {
+        match command(read) {
+            Some(Command::Strings { options, files }) => {
                 are_options(options, wanted) && are(files.as_slice(), "|F")
             }
             _ => false,
@@ -177,9 +177,9 @@ fn lists(command: &Command, wanted: &str) -> bool {
 
 impl Comparison for Operands {
     fn holds(read: &Reading, wanted: &str) -> bool {
-        match read {
-            Ok(command) => lists(command, wanted),
-            Err(_) => false,
+        match command(read) {
+            Some(command) => lists(command, wanted),
+            None => false,
         }
     }
 }

@@ -5,13 +5,15 @@ use std::alloc::Global;
 use tool_text::{Args, Usage, WordsFault};
 
 /// Lines that name no command.
-const NO_COMMAND: [&str; 11] = [
+const NO_COMMAND: [&str; 13] = [
     "",
     "|nm",
     "--",
     "--|nm|F",
-    "--help",
-    "--version",
+    "--Help",
+    "--help=nm",
+    "--helping",
+    "--versio",
     "-h",
     "help",
     "Nm|F",
@@ -22,7 +24,7 @@ const NO_COMMAND: [&str; 11] = [
 /// Lines of the commands that list: without a file, a letter or a good option-argument; of those that
 /// write: without a file, with too many, or with the same one twice; and of copy: the same, and bad
 /// option-arguments.
-const COMMANDS: [&str; 155] = [
+const COMMANDS: [&str; 160] = [
     "readelf",
     "readelf|F",
     "readelf|-h",
@@ -32,12 +34,17 @@ const COMMANDS: [&str; 155] = [
     "readelf|-|-h",
     "readelf|-hx|F",
     "readelf|-h-|F",
-    "readelf|--help|F",
+    "readelf|--helps|F",
+    "readelf|-h--help|F",
     "nm",
     "nm|-g",
     "nm|--",
     "nm|-gx|F",
     "nm|--version|F",
+    "nm|-t|--help",
+    "nm|-t|--help|F",
+    "nm|-x|--help|F",
+    "nm|--hel|F",
     "nm|-t",
     "nm|-gt",
     "nm|-t|d",
@@ -72,7 +79,7 @@ const COMMANDS: [&str; 155] = [
     "size",
     "size|--",
     "size|-A|F",
-    "size|--help",
+    "size|--version",
     "elflint",
     "elflint|--",
     "elflint|-x|F",

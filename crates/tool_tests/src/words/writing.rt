@@ -1,6 +1,6 @@
 //! The commands that write a file, but for the changes of copy.
 
-use super::{Comparison, Reading, Row, all_hold, are, are_two, is};
+use super::{Comparison, Reading, Row, all_hold, are, are_two, command, is};
 use tool_text::{CallsOutput, Command, StripOptions, Text};
 
 /// Whether a text is this one, behind `=`, or there is neither.
@@ -32,8 +32,8 @@ const STRIP: [Row; 12] = [
 
 /// The options of strip for the output O and the file F.
 fn strip_options(read: &Reading) -> Option<&StripOptions> {
-    match read {
-        Ok(Command::Strip { options, file }) if is(file, "F") && is(&options.out, "O") => Some(
+    match command(read) {
+        Some(Command::Strip { options, file }) if is(file, "F") && is(&options.out, "O") => Some(
             options,
         ),
         _ => None,
@@ -107,8 +107,8 @@ fn is_output(output: &Option<CallsOutput>, wanted: &str) -> bool {
 
 impl Comparison for Output {
     fn holds(read: &Reading, wanted: &str) -> bool {
-        match read {
-            Ok(Command::Calls { output, .. }) => is_output(output, wanted),
+        match command(read) {
+            Some(Command::Calls { output, .. }) => is_output(output, wanted),
             _ => false,
         }
     }
@@ -131,9 +131,9 @@ const TWO_FILES: [Row; 9] = [
 
 impl Comparison for TwoFiles {
     fn holds(read: &Reading, wanted: &str) -> bool {
-        match read {
-            Ok(Command::Calls { file, script, .. }) => are_two(file, script, wanted, '|'),
-            Ok(Command::Rehash { out, file }) => are_two(out, file, wanted, '|'),
+        match command(read) {
+            Some(Command::Calls { file, script, .. }) => are_two(file, script, wanted, '|'),
+            Some(Command::Rehash { out, file }) => are_two(out, file, wanted, '|'),
             _ => false,
         }
     }
@@ -150,8 +150,8 @@ const COUNTS: [Row; 3] = [
 
 impl Comparison for Count {
     fn holds(read: &Reading, wanted: &str) -> bool {
-        match read {
-            Ok(Command::Selftest { out, count }) => is(out, "O") && wanted.parse() == Ok(*count),
+        match command(read) {
+            Some(Command::Selftest { out, count }) => is(out, "O") && wanted.parse() == Ok(*count),
             _ => false,
         }
     }
@@ -169,8 +169,8 @@ const UNSTRIP: [Row; 4] = [
 
 impl Comparison for Unstrip {
     fn holds(read: &Reading, wanted: &str) -> bool {
-        match read {
-            Ok(
+        match command(read) {
+            Some(
                 Command::Unstrip {
                     out,
                     stripped,

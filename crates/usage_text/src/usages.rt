@@ -2,11 +2,10 @@
 
 ghost use Rattle.std.specs.Prelude.{◌≡◌, ◌<◌};
 ghost use Rattle.std.specs.Bool.{OnTrue};
-ghost use Rattle.tool_text.specs.Splitting.{stands_alone, takes_option_argument};
-ghost use Rattle.tool_text.specs.Usages.{command_named, usage_line, letters_alone, letters_with_option_argument};
+ghost use Rattle.usage_text.specs.Usages.{command_named, usage_line, letters_alone, letters_with_option_argument, stands_alone, takes_option_argument};
 
 /// Which usage line is due: that of a command, or the general one.
-#[derive(Clone, Copy, Debug, PartialEq, Eq)]
+#[derive(Clone, Copy, PartialEq, Eq)]
 pub enum Usage {
     /// `elfkit readelf`.
     Readelf,
@@ -118,14 +117,14 @@ impl Usage {
     }
 
     /// Whether a letter is an option without an option-argument.
-    pub(crate) fn stands_alone(self, letter: u8) -> bool
+    pub fn stands_alone(self, letter: u8) -> bool
         ensures { result ≡ stands_alone self letter }
     {
         self.letters_alone().contains(&letter)
     }
 
     /// Whether a letter takes an option-argument. Such a letter is ASCII.
-    pub(crate) fn takes_option_argument(self, letter: u8) -> bool
+    pub fn takes_option_argument(self, letter: u8) -> bool
         ensures value { result ≡ takes_option_argument self letter }
         ensures ascii { OnTrue result (letter < 128) }
     {

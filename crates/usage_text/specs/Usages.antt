@@ -1,7 +1,8 @@
 -- The commands by their names, and the line that says how each is called.
-use Rattle.std.specs.Prelude.{List, [], ◌∷◌, ◌++◌, ℕ, Option, Some, None, codes, bytes_eq, if◌then◌else◌}
-use Rattle.tool_text.specs.declared.usages.Usage.{Usage}
-use Rattle.tool_text.specs.declared.usages.Usage.TheVariants.{Readelf, Nm, Size, Strings, Strip, Elflint, Calls, Selftest, Rehash, Copy, Unstrip, Lines, General}
+use Rattle.std.specs.Prelude.{◌++◌, ◌==◌, List, [], ◌∷◌, ℕ, Bool, Option, Some, None, codes, bytes_eq, if◌then◌else◌}
+use Rattle.std.specs.List.{list_any}
+use Rattle.usage_text.specs.declared.usages.Usage.{Usage}
+use Rattle.usage_text.specs.declared.usages.Usage.TheVariants.{Readelf, Nm, Size, Strings, Strip, Elflint, Calls, Selftest, Rehash, Copy, Unstrip, Lines, General}
 
 -- what a table gives a word: the value of its first row with the word
 abbrev pub value_in : {X : Type 0} → List (List ℕ × X) → List ℕ → Option X
@@ -68,3 +69,11 @@ letters_with_option_argument Rehash = codes "o"
 letters_with_option_argument Copy = codes "Runfao"
 letters_with_option_argument Unstrip = codes "o"
 letters_with_option_argument _ = []
+
+-- a letter without an option-argument, and one with it
+abbrev pub stands_alone : Usage → ℕ → Bool
+stands_alone usage letter = list_any (λ c. c == letter) (letters_alone usage)
+
+abbrev pub takes_option_argument : Usage → ℕ → Bool
+takes_option_argument usage letter =
+    list_any (λ c. c == letter) (letters_with_option_argument usage)

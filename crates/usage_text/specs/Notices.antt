@@ -1,0 +1,117 @@
+-- What elfkit tells of itself where it is asked for help or for its version, after the standards for
+-- command line interfaces of the GNU Coding Standards (section 4.8).
+use Rattle.std.specs.Prelude.{◌++◌, ◌-◌, List, [], ◌∷◌, ℕ, Option, codes, length, drop, replicate}
+use Rattle.std.specs.List.{flat_map}
+use Rattle.std.specs.Str.{byte}
+use Rattle.usage_text.specs.declared.usages.Usage.{Usage}
+use Rattle.usage_text.specs.declared.usages.Usage.TheVariants.{Readelf, Nm, Size, Strings, Strip, Elflint, Calls, Selftest, Rehash, Copy, Unstrip, Lines, General}
+use Rattle.usage_text.specs.declared.notices.Notice.{Notice}
+use Rattle.usage_text.specs.declared.notices.Notice.TheVariants.{Help, Version}
+use Rattle.usage_text.specs.Usages.{value_in, usage_line}
+
+-- the first words that ask for a notice
+unfoldable pub notices : List (List ℕ × Notice)
+notices = (codes "--help", Help General) ∷ (codes "--version", Version) ∷ []
+
+unfoldable pub notice_named : List ℕ → Option Notice
+notice_named word = value_in notices word
+
+-- a line: what is told of, in so many places behind two blanks, and what it does
+unfoldable pub told_line : ℕ → List ℕ × List ℕ → List ℕ
+told_line places row =
+    codes "  " ++ row.0 ++ replicate (places - length row.0) (byte " ") ++ row.1 ++ codes "\n"
+
+-- the letters of a command, each with its option-argument, in the order of its usage line
+unfoldable pub letters_told : Usage → List (List ℕ × List ℕ)
+letters_told Readelf =
+    (codes "-h", codes "the ELF header") ∷
+    (codes "-l", codes "program headers") ∷
+    (codes "-S", codes "section headers") ∷
+    (codes "-s", codes "symbols") ∷
+    (codes "-r", codes "relocations") ∷
+    (codes "-d", codes "the dynamic section") ∷
+    (codes "-n", codes "notes") ∷
+    (codes "-V", codes "version sections") ∷ []
+letters_told Nm =
+    (codes "-A", codes "the file before each symbol") ∷
+    (codes "-g", codes "no local symbols") ∷
+    (codes "-u", codes "undefined symbols alone") ∷
+    (codes "-v", codes "by value, and not by name") ∷
+    (codes "-P", codes "name, letter, value and size") ∷
+    (codes "-t d|o|x", codes "values in decimal, octal or hexadecimal") ∷ []
+letters_told Strings =
+    (codes "-a", codes "the whole file") ∷
+    (codes "-n N", codes "runs of at least N bytes, 1 to 4096; 4 without it") ∷
+    (codes "-t d|o|x", codes "the place of each run") ∷ []
+letters_told Strip =
+    (codes "-g", codes "debug sections alone") ∷
+    (codes "-R NAME", codes "also the sections of this name") ∷
+    (codes "-f DEBUG", codes "all that is removed goes into this file") ∷
+    (codes "-o OUT", codes "the file that is written") ∷ []
+letters_told Calls =
+    (codes "-o OUT", codes "the changed image goes into this file") ∷
+    (codes "-i", codes "FILE is changed in place") ∷ []
+letters_told Selftest = (codes "-o OUT", codes "the file that is written") ∷ []
+letters_told Rehash = (codes "-o OUT", codes "the file that is written") ∷ []
+letters_told Copy =
+    (codes "-R NAME", codes "the sections of this name are removed") ∷
+    (codes "-u NAME=FILE", codes "a section gets the bytes of a file") ∷
+    (codes "-n OLD=NEW", codes "a section gets another name") ∷
+    (codes "-f NAME=BITS", codes "a section gets other flags") ∷
+    (codes "-a NAME=FILE", codes "a section with the bytes of a file is added") ∷
+    (codes "-o OUT", codes "the file that is written") ∷ []
+letters_told Unstrip = (codes "-o OUT", codes "the file that is written") ∷ []
+letters_told _ = []
+
+-- the usage line of a command, and a line for each of its letters
+unfoldable pub command_help : Usage → List ℕ
+command_help usage =
+    usage_line usage ++ codes "\n" ++ flat_map (told_line 14) (letters_told usage)
+
+-- a usage line under the first one: blanks stand in place of `usage: `
+unfoldable pub next_usage : Usage → List ℕ
+next_usage usage = replicate 7 (byte " ") ++ drop 7 (usage_line usage) ++ codes "\n"
+
+-- the commands in their order
+unfoldable pub commands_told : List (List ℕ × List ℕ)
+commands_told = (
+  codes "readelf",
+  codes "headers, segments, sections, symbols, relocations, notes and versions",
+) ∷
+    (codes "nm", codes "symbols and their values") ∷
+    (codes "size", codes "the sizes of text, data and bss") ∷
+    (codes "strings", codes "printable runs of bytes") ∷
+    (codes "strip", codes "a copy without symbols and debug sections") ∷
+    (codes "elflint", codes "faults of form, by 32 rules") ∷
+    (codes "calls", codes "a script of library calls on a file") ∷
+    (codes "selftest", codes "an image made, changed, written and read again") ∷
+    (codes "rehash", codes "a copy whose hash sections are built anew") ∷
+    (codes "copy", codes "a copy with sections removed, replaced, renamed and added") ∷
+    (codes "unstrip", codes "a stripped file and its debug file, joined") ∷
+    (codes "lines", codes "line tables of DWARF 2 to 4") ∷ []
+
+-- those after the first, in the same order
+unfoldable pub other_commands : List Usage
+other_commands =
+    Nm ∷ Size ∷ Strings ∷ Strip ∷ Elflint ∷ Calls ∷ Selftest ∷ Rehash ∷ Copy ∷ Unstrip ∷ Lines ∷ []
+
+-- what elfkit is, how it is called, and a line for each command
+unfoldable pub general_help : List ℕ
+general_help =
+    codes "elfkit reads ELF object files, checks them, changes them and writes them.\n\n"
+    ++ usage_line Readelf ++ codes "\n"
+    ++ flat_map next_usage other_commands
+    ++ codes "       elfkit COMMAND --help\n       elfkit --version\n\n"
+    ++ flat_map (told_line 10) commands_told
+
+unfoldable pub help_text : Usage → List ℕ
+help_text General = general_help
+help_text usage = command_help usage
+
+-- the name and the version
+unfoldable pub version_text : List ℕ
+version_text = codes "elfkit 0.1.0\n"
+
+unfoldable pub notice_text : Notice → List ℕ
+notice_text (Help usage) = help_text usage
+notice_text Version = version_text
