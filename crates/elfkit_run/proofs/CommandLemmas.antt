@@ -5,21 +5,24 @@ use Rattle.tool_output.specs.declared.stops.Stop.{Stop}
 use Rattle.elf_outside.specs.declared.sinks.Sink.{Ghosts as SinkGhosts}
 use Rattle.elf_outside.specs.declared.file_sets.Files.{Ghosts as FilesGhosts}
 use Rattle.tool_output.specs.declared.outputs.Outputs.{Outputs}
-use Rattle.tool_output.specs.declared.outputs.Side.TheVariants.{Error}
+use Rattle.tool_output.specs.declared.outputs.Side.TheVariants.{Out, Error}
 use Rattle.tool_output.specs.Marks.{said}
 use Rattle.tool_output.specs.Steps.{Writes, Performs}
 use Rattle.tool_output.specs.declared.statuses.Status.{Status}
 use Rattle.tool_output.specs.Statuses.{status_code, refused_status}
 use Rattle.tool_output.specs.Outcomes.{Does}
-use Rattle.tool_output.specs.declared.statuses.Status.TheVariants.{BadWords}
+use Rattle.tool_output.specs.declared.statuses.Status.TheVariants.{Done, BadWords}
 use Rattle.tool_output.proofs.StepLemmas.{stops_as, writes_went}
 use Rattle.tool_output.proofs.OutcomeLemmas.{says_done}
-use Rattle.tool_text.specs.Usages.{usage_line}
-use Rattle.tool_text.specs.declared.usages.Usage.{Usage}
-use Rattle.tool_text.specs.declared.commands.Command.{Command}
+use Rattle.usage_text.specs.Usages.{usage_line}
+use Rattle.usage_text.specs.Notices.{notice_text}
+use Rattle.usage_text.specs.declared.usages.Usage.{Usage}
+use Rattle.usage_text.specs.declared.notices.Notice.{Notice}
+use Rattle.tool_text.specs.declared.commands.Request.{Request}
+use Rattle.tool_text.specs.declared.commands.Request.TheVariants.{Run, Tell}
 use Rattle.tool_text.specs.Reading.{reading}
 use Rattle.elfkit_run.specs.Sentences.{line_of, says, not_built}
-use Rattle.elfkit_run.specs.Program.{usage_outcome, outcome_by, program, IsStatusOf}
+use Rattle.elfkit_run.specs.Program.{usage_outcome, notice_outcome, outcome_by, program, IsStatusOf}
 
 -- a form that is not built ends with 1
 status_of_refusal : (result : Result Bool Stop) → IfOk result (λ refused. refused ≡ true) → IfOk result (λ refused. refused_status refused ≡ 1)
@@ -50,8 +53,26 @@ module _ {F D O E T : Type 0} (f : FilesGhosts F D) (o : SinkGhosts O) (e : Sink
   unfolding program outcome_by
   usage_done words text result is line h = rw is (does_usage result (rw line at h))
 
+-- what elfkit tells of itself
+abbrev pub told : {T : Type 0} → Result T Stop → Result Status Stop
+told (Ok said_so) = Ok Done
+told (Err stop) = Err stop
+
+module _ {F D O E T : Type 0} (f : FilesGhosts F D) (o : SinkGhosts O) (e : SinkGhosts E) (notice : Notice) (named : Map) (a : F) (s t : Outputs O E) where
+  does_notice : (result : Result T Stop) → Writes o e result s t (said Out (notice_text notice))
+      → Does f o e status_code (notice_outcome notice) (told result) a a s t
+  unfolding notice_outcome
+  does_notice (Ok said_so) h = says_done f o e a a s t status_code _ 0 (Ok Done) (writes_went o e Done s t _ h.ok) refl
+  does_notice (Err stop) h = says_done f o e a a s t status_code _ 0 (Err stop) (stops_as o e stop s t _ h) tt
+
+  pub notice_done : (words : List (List ℕ)) (text : List ℕ) (result : Result T Stop) → reading words ≡ Ok (Tell notice) → text ≡ notice_text notice
+      → Writes o e result s t (said Out text) → Does f o e status_code (program words named) (told result) a a s t
+  unfolding program outcome_by
+  notice_done words text result is line h = rw is (does_notice result (rw line at h))
+
 -- no status of a step is 3 or more
-pub below_three : (r : Result Command Usage) (answer : Result Status Stop) → IfOk answer (IsStatusOf r) → IfOk answer (λ status. status_code status < 3)
-below_three (Ok command) (Ok status) h = omega (arith, h)
+pub below_three : (r : Result Request Usage) (answer : Result Status Stop) → IfOk answer (IsStatusOf r) → IfOk answer (λ status. status_code status < 3)
+below_three (Ok (Run command)) (Ok status) h = omega (arith, h)
+below_three (Ok (Tell notice)) (Ok status) h = rw h (lit< tt)
 below_three (Err usage) (Ok status) h = rw h (lit< tt)
 below_three r (Err stop) h = tt

@@ -2,13 +2,19 @@
 use Rattle.std.specs.Prelude.{◌≡◌, ◌<◌, ℕ, List, Bool, true, false, IsTrue, Option, Some, None, Result, Ok, Err}
 use Rattle.elf_outside.specs.Names.{Map}
 use Rattle.tool_output.specs.declared.statuses.Status.{Status}
-use Rattle.tool_output.specs.declared.statuses.Status.TheVariants.{BadWords}
+use Rattle.tool_output.specs.declared.statuses.Status.TheVariants.{Done, BadWords}
 use Rattle.tool_output.specs.Statuses.{status_code}
-use Rattle.tool_output.specs.Outcomes.{Outcome}
-use Rattle.tool_text.specs.declared.usages.Usage.{Usage}
+use Rattle.tool_output.specs.declared.outputs.Side.TheVariants.{Out}
+use Rattle.tool_output.specs.Marks.{said}
+use Rattle.tool_output.specs.Outcomes.{Outcome, only_says}
+use Rattle.usage_text.specs.declared.usages.Usage.{Usage}
+use Rattle.usage_text.specs.declared.notices.Notice.{Notice}
+use Rattle.tool_text.specs.declared.commands.Request.{Request}
+use Rattle.tool_text.specs.declared.commands.Request.TheVariants.{Run, Tell}
 use Rattle.tool_text.specs.declared.commands.Command.{Command}
 use Rattle.tool_text.specs.declared.commands.Command.TheVariants.{Readelf, Nm, Size, Strings, Strip, Elflint, Calls, Selftest, Rehash, Copy, Unstrip, Lines}
-use Rattle.tool_text.specs.Usages.{usage_line}
+use Rattle.usage_text.specs.Usages.{usage_line}
+use Rattle.usage_text.specs.Notices.{notice_text}
 use Rattle.tool_text.specs.Reading.{reading}
 use Rattle.elfkit_run.specs.Sentences.{says, not_built}
 use Rattle.elfkit_run.specs.Calls.{calls_outcome}
@@ -38,8 +44,13 @@ command_outcome (Lines files) named = lines_outcome files named
 unfoldable pub usage_outcome : Usage → Outcome
 usage_outcome usage = says (usage_line usage) 2
 
-unfoldable pub outcome_by : Result Command Usage → Map → Outcome
-outcome_by (Ok command) named = command_outcome command named
+-- what elfkit tells of itself
+unfoldable pub notice_outcome : Notice → Outcome
+notice_outcome notice = only_says (said Out (notice_text notice)) 0
+
+unfoldable pub outcome_by : Result Request Usage → Map → Outcome
+outcome_by (Ok (Run command)) named = command_outcome command named
+outcome_by (Ok (Tell notice)) named = notice_outcome notice
 outcome_by (Err usage) named = usage_outcome usage
 
 -- the program
@@ -64,9 +75,10 @@ is_built (Copy changes out file) = false
 is_built (Unstrip out stripped debug) = false
 is_built (Lines files) = true
 
--- it opens none on words that are refused, nor for a form that is not built
-unfoldable pub opens_files : Result Command Usage → Bool
-opens_files (Ok command) = is_built command
+-- it opens none on words that are refused or ask for a notice, nor for a form that is not built
+unfoldable pub opens_files : Result Request Usage → Bool
+opens_files (Ok (Run command)) = is_built command
+opens_files (Ok (Tell notice)) = false
 opens_files (Err usage) = false
 
 -- ---- Words that make a run write files
@@ -101,6 +113,7 @@ AreTold words tells = IsTrue (opens_files (reading words)) → IsTrue tells
 -- ---- The statuses of a run that comes to its end
 
 -- words that are refused end with their own, and those that are read do not
-abbrev pub IsStatusOf : Result Command Usage → Status → Type 0
-IsStatusOf (Ok command) status = status_code status < 2
+abbrev pub IsStatusOf : Result Request Usage → Status → Type 0
+IsStatusOf (Ok (Run command)) status = status_code status < 2
+IsStatusOf (Ok (Tell notice)) status = status ≡ Done
 IsStatusOf (Err usage) status = status ≡ BadWords

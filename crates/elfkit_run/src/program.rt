@@ -9,14 +9,14 @@ ghost use Rattle.tool_output.specs.Files.{LeavesFiles};
 ghost use Rattle.elfkit_run.specs.Program.{opens_files, hands_to_writes, program, AreTold, IsStatusOf};
 
 use crate::commands::run_command;
-use crate::sentences::say;
+use crate::sentences::{say, tell};
 use elf_outside::{Files, Sink};
 use elf_types::Octets;
 use std::alloc::Global;
 use tool_output::{Outputs, Status, Stop};
-use tool_text::{Args, WordsFault, read_words};
+use tool_text::{Args, Request, WordsFault, read_words};
 
-/// Reads the words and runs their command, or says how they are to be.
+/// Reads the words and runs their command, or tells what they ask for, or says how they are to be.
 fn run_words<F: Files, O: Sink, E: Sink>(
     alloc: Global,
     words: &Args,
@@ -35,9 +35,13 @@ fn run_words<F: Files, O: Sink, E: Sink>(
         result files.old files.new outputs.old outputs.new }
 {
     match read_words(alloc, words) {
-        Ok(command) => {
+        Ok(Request::Run(command)) => {
             let refused = run_command(alloc, &command, files, outputs)?;
             Ok(Status::of_refused(refused))
+        }
+        Ok(Request::Tell(notice)) => {
+            tell(outputs, notice.text())?;
+            Ok(Status::Done)
         }
         Err(WordsFault::Usage(usage)) => {
             say(outputs, usage.line())?;
@@ -57,8 +61,9 @@ fn run_words<F: Files, O: Sink, E: Sink>(
 ///
 /// With the last three the run stopped on the way: both outputs have gained what was written up to
 /// one point, and nothing after it. Each file that was opened is closed again. Words that are
-/// refused, or of a form that is not built, open no file. A command that writes no file hands
-/// nothing to writes, also over files that do not tell their bytes.
+/// refused, that ask for help or for the version, or of a form that is not built, open no file. A
+/// command that writes no file hands nothing to writes, also over files that do not tell their
+/// bytes.
 pub fn run<F: Files, O: Sink, E: Sink>(
     alloc: Global,
     words: &Args,

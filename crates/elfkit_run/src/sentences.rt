@@ -26,6 +26,31 @@ impl Line for Sentence<'_> {
     }
 }
 
+/// A text whose lines have their newlines.
+#[derive(Clone, Copy)]
+struct Paragraph<'a> {
+    /// The text.
+    text: &'a str,
+}
+
+impl Line for Paragraph<'_> {
+    ghost text = { λ p. p.text.now };
+
+    #[tactic(auto, using(crate::proofs::Rows::kept))]
+    fn put(&self, page: &mut Octets) -> Result<(), ElfError> {
+        put_text(page, self.text)
+    }
+}
+
+/// Shows a text whose lines have their newlines on standard output.
+pub fn tell<O: Sink, E: Sink>(outputs: &mut Outputs<'_, O, E>, text: &str) -> Result<(), Stop>
+    ensures writes { Writes O.Sink E.Sink result outputs.old outputs.new
+        (said Side.Out text.now) }
+    ensures leaves { LeavesOutputs O.Sink E.Sink ⊥ result outputs.old outputs.new }
+{
+    outputs.put(Side::Out, &Paragraph { text })
+}
+
 /// Says a sentence on standard error.
 pub fn say<O: Sink, E: Sink>(outputs: &mut Outputs<'_, O, E>, text: &str) -> Result<(), Stop>
     ensures writes { Writes O.Sink E.Sink result outputs.old outputs.new
