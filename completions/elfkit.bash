@@ -3,7 +3,7 @@ _elfkit() {
     local word=${COMP_WORDS[COMP_CWORD]} letters=
     COMPREPLY=()
     if [ "$COMP_CWORD" -eq 1 ]; then
-        mapfile -t COMPREPLY < <(compgen -W "readelf nm size strings strip elflint calls selftest rehash copy unstrip lines" -- "$word")
+        mapfile -t COMPREPLY < <(compgen -W "readelf nm size strings strip elflint calls selftest rehash copy unstrip lines --help --version" -- "$word")
         return
     fi
     case ${COMP_WORDS[1]} in
@@ -16,7 +16,7 @@ _elfkit() {
         selftest | rehash | unstrip) letters="-o" ;;
     esac
     if [[ $word == -* ]]; then
-        mapfile -t COMPREPLY < <(compgen -W "$letters" -- "$word")
+        mapfile -t COMPREPLY < <(compgen -W "$letters --help" -- "$word")
     else
         compopt -o filenames
         mapfile -t COMPREPLY < <(compgen -f -- "$word")
