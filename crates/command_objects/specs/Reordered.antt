@@ -16,7 +16,8 @@ use Rattle.elf_xlate.specs.declared.content.Items.TheVariants as items
 use Rattle.elf_object.specs.Object.{Object}
 use Rattle.elf_object.specs.Answers.{items_at, count_at, syms_of, lend_refusal}
 use Rattle.elf_object.specs.Steps.{with_own, with_shdr}
-use Rattle.command_objects.specs.Words.{header_at, all_sections}
+use Rattle.elf_object.specs.Due.{all_sections}
+use Rattle.command_objects.specs.Words.{header_at}
 
 -- ---- Lists
 

@@ -19,8 +19,9 @@ use Rattle.elf_object.specs.Object.{Object, Section, section_at, new_section, oc
 use Rattle.elf_object.specs.Open.{created}
 use Rattle.elf_object.specs.Answers.{raw_refusal}
 use Rattle.elf_object.specs.Layout.{section_numbers}
+use Rattle.elf_object.specs.Due.{all_sections}
 use Rattle.elf_object.specs.Calls.{newphdr_refusal}
-use Rattle.command_objects.specs.Words.{is_allocated, header_at, all_sections, first_of}
+use Rattle.command_objects.specs.Words.{is_allocated, header_at, first_of}
 use Rattle.command_objects.specs.Arranged.{Rebuilt, tail_of, over_base, arranged}
 use Rattle.command_objects.specs.Rebuilt.{made_section, assembled, index_refusal}
 

@@ -1,6 +1,6 @@
 -- Words on section headers and on lists of section numbers (gABI chapter 4, "Sections").
 use Rattle.std.specs.Prelude.{ℕ, ◌/◌, ◌%◌, max, Bool, not, ◌==◌, ◌&&◌, ◌||◌, nat_eq, List, [], ◌∷◌, length, filter, slice_get, Option, Some, None, Result, Ok}
-use Rattle.std.specs.List.{list_any, range_with_len}
+use Rattle.std.specs.List.{list_any}
 use Rattle.elf_types.specs.Answers.{◌>>=◌}
 use Rattle.elf_types.specs.Kinds.{section_kind}
 use Rattle.elf_types.specs.declared.records.Kind.{Kind}
@@ -38,10 +38,6 @@ is_program o = not (length o.phdrs == 0)
 -- the present header of a section
 abbrev pub header_at : Object → ℕ → Shdr
 header_at o s = (section_at o s).header
-
--- the numbers of all sections
-abbrev pub all_sections : Object → List ℕ
-all_sections o = range_with_len 0 (length o.sections)
 
 -- ---- Lists of numbers
 
