@@ -1,12 +1,8 @@
 -- Words that are numbers.
-use Rattle.std.specs.Prelude.{◌&&◌, ◌^◌, List, ℕ, Bool, length, drop, nat_le, nat_lt, nat_eq, Option, Some, None, codes, if◌then◌else◌}
-use Rattle.std.specs.List.{list_all, starts_with}
-use Rattle.std.specs.Char.{is_digit}
+use Rattle.std.specs.Prelude.{◌&&◌, ◌^◌, List, ℕ, length, drop, nat_le, nat_lt, nat_eq, Option, Some, None, codes, if◌then◌else◌}
+use Rattle.std.specs.List.{starts_with}
 use Rattle.std.specs.Str.Parse.{digits_value}
-
--- each byte is a digit in the radix, in either case
-abbrev pub are_digits : ℕ → List ℕ → Bool
-are_digits radix word = list_all (λ c. is_digit c radix) word
+use Rattle.elf_types.specs.Digits.{are_digits}
 
 -- the number that a word of one to `most` digits stands for, where it is below 2 ^ 64
 unfoldable pub numeral : ℕ → ℕ → List ℕ → Option ℕ

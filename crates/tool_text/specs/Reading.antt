@@ -25,7 +25,8 @@ use Rattle.tool_text.specs.declared.commands.WordsFault.TheVariants as fault
 use Rattle.tool_text.specs.Numbers.{word_number_of, script_number_of}
 use Rattle.usage_text.specs.declared.notices.Notice.{Notice}
 use Rattle.usage_text.specs.declared.notices.Notice.TheVariants as notice
-use Rattle.usage_text.specs.Usages.{value_in, command_named}
+use Rattle.elf_types.specs.Tables.{value_in}
+use Rattle.usage_text.specs.Usages.{command_named}
 use Rattle.usage_text.specs.Notices.{notice_named}
 use Rattle.tool_text.specs.Splitting.{split_of}
 

@@ -1,16 +1,9 @@
 //! Words that are numbers.
 
 ghost use Rattle.std.specs.Prelude.{◌≡◌, ◌≤◌};
-ghost use Rattle.tool_text.specs.Numbers.{are_digits, numeral, word_number_of, script_number_of};
+ghost use Rattle.tool_text.specs.Numbers.{numeral, word_number_of, script_number_of};
 
-/// Whether each byte is a digit in the radix, in either case.
-fn are_digits(word: &[u8], radix: u32) -> bool
-    requires low { 2 ≤ radix }
-    requires high { radix ≤ 36 }
-    ensures { result ≡ are_digits radix word.now }
-{
-    word.iter().all(|byte| char::from(*byte).is_digit(radix))
-}
+use elf_types::are_digits;
 
 /// The number that a word of one to `most` digits stands for in a radix, or None exactly where the
 /// word has another form or the number is 2^64 or greater.

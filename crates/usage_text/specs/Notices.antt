@@ -3,11 +3,12 @@
 use Rattle.std.specs.Prelude.{◌++◌, ◌-◌, List, [], ◌∷◌, ℕ, Option, codes, length, drop, replicate}
 use Rattle.std.specs.List.{flat_map}
 use Rattle.std.specs.Str.{byte}
+use Rattle.elf_types.specs.Tables.{value_in}
 use Rattle.usage_text.specs.declared.usages.Usage.{Usage}
 use Rattle.usage_text.specs.declared.usages.Usage.TheVariants.{Readelf, Nm, Size, Strings, Strip, Elflint, Calls, Selftest, Rehash, Copy, Unstrip, Lines, General}
 use Rattle.usage_text.specs.declared.notices.Notice.{Notice}
 use Rattle.usage_text.specs.declared.notices.Notice.TheVariants.{Help, Version}
-use Rattle.usage_text.specs.Usages.{value_in, usage_line}
+use Rattle.usage_text.specs.Usages.{usage_line}
 
 -- the first words that ask for a notice
 unfoldable pub notices : List (List ℕ × Notice)

@@ -1,13 +1,9 @@
 -- The commands by their names, and the line that says how each is called.
-use Rattle.std.specs.Prelude.{◌++◌, ◌==◌, List, [], ◌∷◌, ℕ, Bool, Option, Some, None, codes, bytes_eq, if◌then◌else◌}
+use Rattle.std.specs.Prelude.{◌++◌, ◌==◌, List, [], ◌∷◌, ℕ, Bool, Option, codes}
 use Rattle.std.specs.List.{list_any}
+use Rattle.elf_types.specs.Tables.{value_in}
 use Rattle.usage_text.specs.declared.usages.Usage.{Usage}
 use Rattle.usage_text.specs.declared.usages.Usage.TheVariants.{Readelf, Nm, Size, Strings, Strip, Elflint, Calls, Selftest, Rehash, Copy, Unstrip, Lines, General}
-
--- what a table gives a word: the value of its first row with the word
-abbrev pub value_in : {X : Type 0} → List (List ℕ × X) → List ℕ → Option X
-value_in [] word = None
-value_in (row ∷ rows) word = if bytes_eq word row.0 then Some row.1 else value_in rows word
 
 -- the twelve commands
 unfoldable pub commands : List (List ℕ × Usage)
