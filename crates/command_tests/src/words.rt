@@ -1,4 +1,4 @@
-//! Words that are refused, forms that are not built, and operands.
+//! Words that are refused or ask for help, forms that are not built, and operands.
 
 use crate::runs::{Bytes, Ending, Failing, NOTHING, REFUSED, ends, run_line, run_words};
 use elf_types::{Class, ElfError, Order};
@@ -11,47 +11,63 @@ use tool_text::Args;
 /// The first file that is opened is not handed out.
 const UNOPENED: Failing = Failing { open: 1, ..NOTHING };
 
-/// Words, how they end, and the message.
-type Said = (&'static str, Status, &'static [u8]);
+/// Words, how they end, and what stands on both outputs.
+type Said = (&'static str, Status, &'static [u8], &'static [u8]);
 
-const SAID: [Said; 6] = [
-    ("size", Status::BadWords, b"usage: elfkit size FILE..\n"),
+const SAID: [Said; 9] = [
+    (
+        "size",
+        Status::BadWords,
+        b"",
+        b"usage: elfkit size FILE..\n",
+    ),
     (
         "strip -o A A",
         Status::BadWords,
+        b"",
         b"usage: elfkit strip [-g] [-R NAME].. [-f DEBUG] -o OUT FILE\n",
     ),
     (
         "readelf F",
         Status::BadWords,
+        b"",
         b"usage: elfkit readelf [-hlSsrdnV] FILE..\n",
     ),
     (
-        "--help",
+        "help",
         Status::BadWords,
+        b"",
         b"usage: elfkit readelf|nm|size|strings|strip|elflint|calls|selftest|rehash|copy|\
             unstrip|lines\n",
     ),
-    ("strip -g -o O -- -x", Status::Refused, NOT_BUILT),
-    ("rehash -o O F", Status::Refused, NOT_BUILT),
+    (
+        "size --help F",
+        Status::Done,
+        b"usage: elfkit size FILE..\n",
+        b"",
+    ),
+    ("rehash -o O --help", Status::Done, REHASH_HELP, b""),
+    ("--version F", Status::Done, b"elfkit 0.1.0\n", b""),
+    ("strip -g -o O -- -x", Status::Refused, b"", NOT_BUILT),
+    ("rehash -o O F", Status::Refused, b"", NOT_BUILT),
 ];
+
+/// Help on rehash.
+const REHASH_HELP: &[u8] =
+    b"usage: elfkit rehash -o OUT FILE\n  -o OUT        the file that is written\n";
 
 /// The form is not built.
 const NOT_BUILT: &[u8] = b"elfkit: form not built\n";
 
 /// Whether the words end so, though no file can be opened.
 fn ends_unopened(alloc: Global, said: &Said) -> Result<bool, ElfError> {
-    let (line, status, err) = *said;
+    let (line, status, out, err) = *said;
     let ran = run_line(alloc, line, &Bytes(b""), UNOPENED)?;
-    Ok(ran.is(&Ending {
-        status,
-        out: b"",
-        err,
-    }))
+    Ok(ran.is(&Ending { status, out, err }))
 }
 
 #[test]
-fn words_that_are_refused_or_not_built_open_no_file(rt: HostRuntime) -> Result<(), Fail> {
+fn words_that_are_refused_told_of_or_not_built_open_no_file(rt: HostRuntime) -> Result<(), Fail> {
     for said in SAID.iter() {
         assert!(rt; ends_unopened(rt.alloc(), said)?);
     }

@@ -22,7 +22,7 @@ use Rattle.tool_text.specs.declared.commands.Request.{Request}
 use Rattle.tool_text.specs.declared.commands.Request.TheVariants.{Run, Tell}
 use Rattle.tool_text.specs.Reading.{reading}
 use Rattle.elfkit_run.specs.Sentences.{line_of, says, not_built}
-use Rattle.elfkit_run.specs.Program.{usage_outcome, notice_outcome, outcome_by, program, IsStatusOf}
+use Rattle.elfkit_run.specs.Program.{usage_outcome, notice_outcome, request_outcome, outcome_by, program, IsStatusOf}
 
 -- a form that is not built ends with 1
 status_of_refusal : (result : Result Bool Stop) → IfOk result (λ refused. refused ≡ true) → IfOk result (λ refused. refused_status refused ≡ 1)
@@ -65,10 +65,11 @@ module _ {F D O E T : Type 0} (f : FilesGhosts F D) (o : SinkGhosts O) (e : Sink
   does_notice (Ok said_so) h = says_done f o e a a s t status_code _ 0 (Ok Done) (writes_went o e Done s t _ h.ok) refl
   does_notice (Err stop) h = says_done f o e a a s t status_code _ 0 (Err stop) (stops_as o e stop s t _ h) tt
 
-  pub notice_done : (words : List (List ℕ)) (text : List ℕ) (result : Result T Stop) → reading words ≡ Ok (Tell notice) → text ≡ notice_text notice
-      → Writes o e result s t (said Out text) → Does f o e status_code (program words named) (told result) a a s t
-  unfolding program outcome_by
-  notice_done words text result is line h = rw is (does_notice result (rw line at h))
+  pub notice_done : (text : List ℕ) (result : Result T Stop) → text ≡ notice_text notice
+      → Writes o e result s t (said Out text)
+      → Does f o e status_code (request_outcome (Tell notice) named) (told result) a a s t
+  unfolding request_outcome
+  notice_done text result line h = does_notice result (rw line at h)
 
 -- no status of a step is 3 or more
 pub below_three : (r : Result Request Usage) (answer : Result Status Stop) → IfOk answer (IsStatusOf r) → IfOk answer (λ status. status_code status < 3)

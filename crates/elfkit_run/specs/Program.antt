@@ -48,9 +48,13 @@ usage_outcome usage = says (usage_line usage) 2
 unfoldable pub notice_outcome : Notice → Outcome
 notice_outcome notice = only_says (said Out (notice_text notice)) 0
 
+-- what the words ask for
+unfoldable pub request_outcome : Request → Map → Outcome
+request_outcome (Run command) named = command_outcome command named
+request_outcome (Tell notice) named = notice_outcome notice
+
 unfoldable pub outcome_by : Result Request Usage → Map → Outcome
-outcome_by (Ok (Run command)) named = command_outcome command named
-outcome_by (Ok (Tell notice)) named = notice_outcome notice
+outcome_by (Ok request) named = request_outcome request named
 outcome_by (Err usage) named = usage_outcome usage
 
 -- the program
@@ -76,9 +80,12 @@ is_built (Unstrip out stripped debug) = false
 is_built (Lines files) = true
 
 -- it opens none on words that are refused or ask for a notice, nor for a form that is not built
+unfoldable pub needs_files : Request → Bool
+needs_files (Run command) = is_built command
+needs_files (Tell notice) = false
+
 unfoldable pub opens_files : Result Request Usage → Bool
-opens_files (Ok (Run command)) = is_built command
-opens_files (Ok (Tell notice)) = false
+opens_files (Ok request) = needs_files request
 opens_files (Err usage) = false
 
 -- ---- Words that make a run write files
@@ -99,9 +106,13 @@ writes_files (Copy changes out file) = true
 writes_files (Unstrip out stripped debug) = true
 writes_files (Lines files) = false
 
--- words that are refused write none
-unfoldable pub hands_to_writes : Result Command Usage → Bool
-hands_to_writes (Ok command) = writes_files command
+-- words that are refused or ask for a notice write none
+unfoldable pub needs_writes : Request → Bool
+needs_writes (Run command) = writes_files command
+needs_writes (Tell notice) = false
+
+unfoldable pub hands_to_writes : Result Request Usage → Bool
+hands_to_writes (Ok request) = needs_writes request
 hands_to_writes (Err usage) = false
 
 -- ---- The files
@@ -113,7 +124,10 @@ AreTold words tells = IsTrue (opens_files (reading words)) → IsTrue tells
 -- ---- The statuses of a run that comes to its end
 
 -- words that are refused end with their own, and those that are read do not
+abbrev pub IsStatusOfRequest : Request → Status → Type 0
+IsStatusOfRequest (Run command) status = status_code status < 2
+IsStatusOfRequest (Tell notice) status = status ≡ Done
+
 abbrev pub IsStatusOf : Result Request Usage → Status → Type 0
-IsStatusOf (Ok (Run command)) status = status_code status < 2
-IsStatusOf (Ok (Tell notice)) status = status ≡ Done
+IsStatusOf (Ok request) status = IsStatusOfRequest request status
 IsStatusOf (Err usage) status = status ≡ BadWords

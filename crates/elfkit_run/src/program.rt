@@ -1,12 +1,13 @@
 //! The program, from its words to its status.
 
-ghost use Rattle.std.specs.Prelude.{false, ◌≡◌, IfOk, IsErr};
+ghost use Rattle.std.specs.Prelude.{false, ◌≡◌, IfOk, IsErr, IsTrue};
+ghost use Rattle.tool_text.specs.Forms.{IsGoodRequest};
 ghost use Rattle.tool_text.specs.Reading.{reading};
 ghost use Rattle.tool_output.specs.Outcomes.{Does, Delivers, Costs, RunLeaves};
 ghost use Rattle.tool_output.specs.Statuses.{status_code};
 ghost use Rattle.tool_output.specs.Steps.{OnRead};
 ghost use Rattle.tool_output.specs.Files.{LeavesFiles};
-ghost use Rattle.elfkit_run.specs.Program.{opens_files, hands_to_writes, program, AreTold, IsStatusOf};
+ghost use Rattle.elfkit_run.specs.Program.{needs_files, needs_writes, opens_files, hands_to_writes, request_outcome, program, AreTold, IsStatusOf, IsStatusOfRequest};
 
 use crate::commands::run_command;
 use crate::sentences::{say, tell};
@@ -16,7 +17,39 @@ use std::alloc::Global;
 use tool_output::{Outputs, Status, Stop};
 use tool_text::{Args, Request, WordsFault, read_words};
 
-/// Reads the words and runs their command, or tells what they ask for, or says how they are to be.
+/// Runs the command that the words ask for, or tells what they ask for.
+#[tactic(auto, unfolding(crate::specs::Program::needs_files, crate::specs::Program::needs_writes))]
+fn run_request<F: Files, O: Sink, E: Sink>(
+    alloc: Global,
+    request: &Request,
+    files: &mut F,
+    outputs: &mut Outputs<'_, O, E>,
+) -> Result<Status, Stop>
+    requires { IsGoodRequest request.now }
+    ensures does { (IsTrue (needs_files request.now) → IsTrue (F.tells files.old)) →
+        Does F.Files O.Sink E.Sink status_code (request_outcome request.now (F.named files.old))
+        result files.old files.new outputs.old outputs.new }
+    ensures status { IfOk result (IsStatusOfRequest request.now) }
+    ensures given { needs_writes request.now ≡ false →
+        F.given files.new ≡ F.given files.old }
+    ensures untouched { needs_files request.now ≡ false →
+        (files.new ≡ files.old) × OnRead result ⊥ }
+    ensures leaves { LeavesFiles F.Files O.Sink E.Sink
+        result files.old files.new outputs.old outputs.new }
+{
+    match request {
+        Request::Run(command) => {
+            let refused = run_command(alloc, command, files, outputs)?;
+            Ok(Status::of_refused(refused))
+        }
+        Request::Tell(notice) => {
+            tell(outputs, notice.text())?;
+            Ok(Status::Done)
+        }
+    }
+}
+
+/// Reads the words and does what they ask for, or says how they are to be.
 fn run_words<F: Files, O: Sink, E: Sink>(
     alloc: Global,
     words: &Args,
@@ -35,14 +68,7 @@ fn run_words<F: Files, O: Sink, E: Sink>(
         result files.old files.new outputs.old outputs.new }
 {
     match read_words(alloc, words) {
-        Ok(Request::Run(command)) => {
-            let refused = run_command(alloc, &command, files, outputs)?;
-            Ok(Status::of_refused(refused))
-        }
-        Ok(Request::Tell(notice)) => {
-            tell(outputs, notice.text())?;
-            Ok(Status::Done)
-        }
+        Ok(request) => run_request(alloc, &request, files, outputs),
         Err(WordsFault::Usage(usage)) => {
             say(outputs, usage.line())?;
             Ok(Status::BadWords)
