@@ -1,5 +1,5 @@
 -- What readelf shows of an object: the parts that are asked for by their letters, in their order.
-use Rattle.std.specs.Prelude.{Bool, true, false, ◌&&◌, ℕ, List, if◌then◌else◌}
+use Rattle.std.specs.Prelude.{Bool, true, false, ◌&&◌, List, [], ◌∷◌, if◌then◌else◌}
 use Rattle.std.specs.List.{list_any}
 use Rattle.elf_object.specs.Object.{Object, header_of}
 use Rattle.tool_text.specs.declared.options.ReadelfParts.{ReadelfParts}
@@ -7,7 +7,6 @@ use Rattle.tool_output.specs.Names.{Name}
 use Rattle.tool_output.specs.Reports.{Report, no_report, reports_of}
 use Rattle.readelf_tool.specs.declared.parts.Letter.{Letter}
 use Rattle.readelf_tool.specs.declared.parts.Letter.TheVariants.{Header, Segments, Sections, Symbols, Relocations, Dynamic, Notes, Versions}
-use Rattle.readelf_tool.specs.declared.parts.TheConstants.{LETTERS}
 use Rattle.readelf_headers.specs.Header.{header_report}
 use Rattle.readelf_headers.specs.Segments.{segments_report}
 use Rattle.readelf_headers.specs.Sections.{sections_report}
@@ -16,6 +15,12 @@ use Rattle.readelf_tables.specs.Relocations.{relocations_report}
 use Rattle.readelf_tables.specs.Dynamic.{dynamic_report}
 use Rattle.readelf_chains.specs.Notes.{notes_report}
 use Rattle.readelf_tool.specs.Versions.{versions_report}
+
+-- the letters in the order of their parts, whatever their order in the words of the command: h, l,
+-- S, s, r, d, n, V
+abbrev pub letters : List Letter
+letters =
+    Header ∷ Segments ∷ Sections ∷ Symbols ∷ Relocations ∷ Dynamic ∷ Notes ∷ Versions ∷ []
 
 -- whether a letter is asked for
 unfoldable pub is_asked : ReadelfParts → Letter → Bool
@@ -46,7 +51,7 @@ letter_part parts name letter o =
 
 -- all of them
 unfoldable pub readelf_report : ReadelfParts → Name → Object → Report
-readelf_report parts name o = reports_of (λ letter. letter_part parts name letter o) LETTERS
+readelf_report parts name o = reports_of (λ letter. letter_part parts name letter o) letters
 
 -- ---- What is asked for
 
@@ -63,4 +68,4 @@ reads_sections Notes = true
 reads_sections Versions = true
 
 unfoldable pub shows_sections : ReadelfParts → Bool
-shows_sections parts = list_any (λ letter. is_asked parts letter && reads_sections letter) LETTERS
+shows_sections parts = list_any (λ letter. is_asked parts letter && reads_sections letter) letters

@@ -38,8 +38,8 @@ pub enum Letter {
     Versions,
 }
 
-/// The letters, in the order of their parts.
-pub const LETTERS: [Letter; 8] = [
+/// The letters, in the order of their parts, which is that of `letters` of specs/Parts.
+const LETTERS: [Letter; 8] = [
     Letter::Header,
     Letter::Segments,
     Letter::Sections,

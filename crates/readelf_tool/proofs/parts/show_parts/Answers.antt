@@ -3,8 +3,7 @@ use Rattle.std.proofs.lemmas.Result.{err_from_is_err_and}
 use Rattle.tool_output.specs.Reports.{reports_of}
 use Rattle.tool_output.proofs.UnderWayLemmas.{reports_left, no_reports_left}
 use Rattle.object_output.proofs.ElfSteps.{elf_begins, elf_goes_on, elf_stops_at, elf_is_given}
-use Rattle.readelf_tool.specs.declared.parts.TheConstants.{LETTERS}
-use Rattle.readelf_tool.specs.Parts.{letter_part, readelf_report}
+use Rattle.readelf_tool.specs.Parts.{letters, letter_part, readelf_report}
 use Rattle.readelf_tool.proofs.PartLemmas.{part_unread}
 use Rattle.readelf_tool.proofs.parts.show_parts.Goals as goal
 
@@ -20,8 +19,8 @@ loop-letter-preserved g c =
     let parts = c.args.parts.now in
     let name = c.args.name.now in
     let i = c.loop-letter.letter-index in record {
-      report = elf_goes_on c.loop-letter.invariant.report _ (λ o. reports_of (λ l. letter_part parts name l o) (drop (i + 1) LETTERS))
-          (λ told. reports_left (λ l. letter_part parts name l c.args.elf.now.o) LETTERS i _ c.loop-letter-test.true (search rules))
+      report = elf_goes_on c.loop-letter.invariant.report _ (λ o. reports_of (λ l. letter_part parts name l o) (drop (i + 1) letters))
+          (λ told. reports_left (λ l. letter_part parts name l c.args.elf.now.o) letters i _ c.loop-letter-test.true (search rules))
           c.in_ok-was_refused.ensures.reports refl;
       unread = λ off. c.in_ok-was_refused.ensures.unread (part_unread parts _ i c.loop-letter-test.true (search rules) off) ∙ c.loop-letter.invariant.unread off;
     }
@@ -32,8 +31,8 @@ returns-in_err-was_refused-clause-reports g c =
     let name = c.args.name.now in
     let i = c.loop-letter.letter-index in
     let p = err_from_is_err_and c.from_residual.result c.from_residual.ensures.1 in
-    rw (p.1, p.2) (elf_stops_at c.loop-letter.invariant.report _ (λ o. reports_of (λ l. letter_part parts name l o) (drop (i + 1) LETTERS))
-    (λ told. reports_left (λ l. letter_part parts name l c.args.elf.now.o) LETTERS i _ c.loop-letter-test.true (search rules))
+    rw (p.1, p.2) (elf_stops_at c.loop-letter.invariant.report _ (λ o. reports_of (λ l. letter_part parts name l o) (drop (i + 1) letters))
+    (λ told. reports_left (λ l. letter_part parts name l c.args.elf.now.o) letters i _ c.loop-letter-test.true (search rules))
     c.in_err-was_refused.ensures.reports)
 
 pub returns-in_err-was_refused-clause-unread : goal.returns-in_err-was_refused-clause-unread
@@ -43,4 +42,4 @@ returns-in_err-was_refused-clause-unread g c = λ off.
 pub returns-clause-reports : goal.returns-clause-reports
 returns-clause-reports g c =
     elf_is_given c.loop-letter.invariant.report
-    (λ told. no_reports_left (λ l. letter_part c.args.parts.now c.args.name.now l c.args.elf.now.o) LETTERS c.loop-letter.letter-index c.loop-letter-test.false)
+    (λ told. no_reports_left (λ l. letter_part c.args.parts.now c.args.name.now l c.args.elf.now.o) letters c.loop-letter.letter-index c.loop-letter-test.false)

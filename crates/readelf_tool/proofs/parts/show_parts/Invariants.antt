@@ -1,13 +1,12 @@
 use Rattle.std.proofs.Common.{◌≡◌, false, drop}
 use Rattle.tool_output.specs.Reports.{reports_of}
 use Rattle.object_output.specs.Steps.{ElfUnderWay}
-use Rattle.readelf_tool.specs.declared.parts.TheConstants.{LETTERS}
-use Rattle.readelf_tool.specs.Parts.{letter_part, readelf_report, shows_sections}
+use Rattle.readelf_tool.specs.Parts.{letters, letter_part, readelf_report, shows_sections}
 use Rattle.readelf_tool.proofs.parts.show_parts.Given as goal
 
 abbrev pub invariant-loop-letter : goal.invariant-loop-letter
 invariant-loop-letter g l = record {
   report : ElfUnderWay g.S.Source g.O.Sink g.E.Sink l.refused l.initial.elf l.elf l.initial.outputs l.outputs
-      (readelf_report l.parts l.name) (λ o. reports_of (λ letter. letter_part l.parts l.name letter o) (drop l.letter-index LETTERS));
+      (readelf_report l.parts l.name) (λ o. reports_of (λ letter. letter_part l.parts l.name letter o) (drop l.letter-index letters));
   unread : shows_sections l.parts ≡ false → l.elf ≡ l.initial.elf;
 }
