@@ -3,13 +3,14 @@
 #   make                       the program build/elfkit, a line for each crate that is proved
 #   make try ARGS="WORDS"      the program without any proof, for a first look
 #   make test                  the gate: all proofs, tests and edits that must fail
+#   make edits                 the edits of crates/*/edits/, which the gate does not try
 #   make bench                 the times of bench/ beside other programs, in one table
 #   make install PREFIX=..     the program, its manual page and its completion
 PREFIX ?= /usr/local
 ARGS ?= readelf -h -l /bin/true
 sources := $(shell find crates -path '*/out' -prune -o -type f -print)
 
-.PHONY: all try test bench install clean
+.PHONY: all try test edits bench install clean
 
 all: build/elfkit
 
@@ -21,6 +22,9 @@ try:
 
 test:
 	@tools/test
+
+edits:
+	@tools/try-edits
 
 bench: build/elfkit
 	@tools/bench
