@@ -18,4 +18,6 @@ mod questions;
 #[cfg(test)]
 mod reading;
 #[cfg(test)]
+mod rooms;
+#[cfg(test)]
 mod shapes;

@@ -1,6 +1,8 @@
 -- The answer of a call that begins a descriptor, once the front is read.
-use Rattle.std.proofs.Common.{◌≡◌, ℕ, ◌≤◌, List, Option, Some, None, Result, Ok, Err, sym, ap, ◌∙◌, subst}
-use Rattle.std.specs.Prelude.{IfSome, IfOk, IfErr}
+use Rattle.std.proofs.Common.{[], ◌∷◌, ◌≡◌, ℕ, ◌≤◌, List, Option, Some, None, Result, Ok, Err, sym, ap, ◌∙◌, subst, false, refl}
+use Rattle.std.specs.Prelude.{IfSome, IfOk, IfErr, ◌||◌, map}
+use Rattle.std.specs.List.{list_any}
+use Rattle.elf_types.specs.declared.records.Shdr.{Shdr}
 use Rattle.elf_types.specs.declared.constants.TheConstants.{MAX_IMAGE}
 use Rattle.elf_types.specs.declared.errors.ElfError.{ElfError}
 use Rattle.elf_types.specs.declared.errors.ElfError.TheVariants.{Memory}
@@ -11,10 +13,10 @@ use Rattle.elf_outside.proofs.AskLemmas.{asks_then}
 use Rattle.elf_ident.specs.declared.fronts.Front.{Front}
 use Rattle.elf_ident.specs.Front.{front}
 use Rattle.elf_ident.specs.Reading.{IsFittingFront, IsCounted, HasTables}
-use Rattle.elf_object.specs.Object.{Object}
-use Rattle.elf_object.specs.Open.{begun, begun_or_refused, opened}
+use Rattle.elf_object.specs.Object.{Object, is_dirty, some_section_marked, some_piece_marked}
+use Rattle.elf_object.specs.Open.{begun, begun_or_refused, opened, opened_section}
 use Rattle.elf_descriptor.specs.State.{State}
-use Rattle.elf_descriptor.specs.Views.{base_of}
+use Rattle.elf_descriptor.specs.Views.{source_bytes}
 use Rattle.elf_descriptor.specs.Begun.{begun_state, begun_answer, source_after, IsBegun}
 
 opened_by : (bytes : List ℕ) (r : Result Front ElfError) → front bytes ≡ r → opened bytes ≡ begun_or_refused r bytes
@@ -49,7 +51,7 @@ module _ {S : Type 0} (g : Ghosts S) (f : Front) (source : S) where
   over_object : (e : State S) (bytes : List ℕ) → g.holds source ≡ Some bytes → e ≡ begun_state g f source → e.o ≡ begun f bytes
   unfolding begun_state
   over_object e bytes holds state =
-      ap (λ (t : State S). t.o) state ∙ ap (λ (image : Option (List ℕ)). begun f (base_of None image (g.size source))) holds
+      ap (λ (t : State S). t.o) state ∙ ap (λ (image : Option (List ℕ)). begun f (source_bytes image (g.size source))) holds
 
   pub over_answers : (r : Result (State S) (S × ElfError)) (image : Option (List ℕ)) → g.holds source ≡ image → IfSome image (λ bytes. opened bytes ≡ Ok (begun f bytes))
       → IfOk r (λ e. e ≡ begun_state g f source) → IfErr r (λ back. (back.0 ≡ source) × (back.1 ≡ Memory)) → IfSome image (λ bytes. Follows (begun_answer r) (opened bytes))
@@ -84,3 +86,18 @@ module _ {S : Type 0} (g : Ghosts S) (f : Front) (source : S) where
       → IfOk r (λ e. e ≡ begun_state g f source) → IfErr r (λ back. (back.0 ≡ source) × (back.1 ≡ Memory)) → IfSome image (λ bytes. g.taken (source_after r) ≤ most bytes)
   over_bound r image most bound state back =
       subst (λ (s : S). IfSome image (λ bytes. g.taken s ≤ most bytes)) (sym (over_source r state back)) bound
+
+-- ---- What is begun is clean
+
+none_marked : (image : List ℕ) (headers : List Shdr) → list_any (λ s. s.marked || some_piece_marked s) (map (opened_section image) headers) ≡ false
+unfolding some_piece_marked opened_section
+none_marked image [] = refl
+none_marked image (h ∷ rest) = none_marked image rest
+
+-- nothing of what a descriptor begins is dirty
+pub begun_clean : {S : Type 0} (g : Ghosts S) (src : S) (e : State S) → IsBegun g src e → is_dirty e.o ≡ false
+unfolding is_dirty begun some_section_marked begun_state
+begun_clean {S} g src e is = subst (λ (t : State S). is_dirty t.o ≡ false) (sym is.state) (of_front is.front (source_bytes (g.holds e.source) (g.size e.source)))
+  where
+    of_front : (f : Front) (bytes : List ℕ) → is_dirty (begun f bytes) ≡ false
+    of_front f bytes = none_marked bytes f.shdrs

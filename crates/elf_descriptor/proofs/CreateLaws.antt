@@ -1,6 +1,6 @@
 -- What is created is an object over nothing that was read.
-use Rattle.std.proofs.Common.{◌≡◌, ℕ, ◌<◌, ◌^◌, Bool, List, [], ◌∷◌, length, map, Option, Some, None, refl, sym, ap, ◌∙◌, subst, true, false}
-use Rattle.std.specs.Prelude.{slice_get, is_some}
+use Rattle.std.proofs.Common.{◌≡◌, ℕ, ◌<◌, ◌^◌, Bool, List, [], ◌∷◌, length, map, Option, Some, None, refl, sym, ap, ◌∙◌, subst, true, false, ◌≤◌, arith}
+use Rattle.std.specs.Prelude.{slice_get, is_some, IfSome}
 use Rattle.elf_types.specs.declared.records.Class.{Class}
 use Rattle.elf_types.specs.declared.records.Order.{Order}
 use Rattle.elf_types.specs.declared.records.Phdr.{Phdr}
@@ -15,9 +15,12 @@ use Rattle.writing_laws.specs.Based.{BeginningsAreBased}
 use Rattle.section_data.specs.Held.{cell_is_loaded}
 use Rattle.elf_descriptor.specs.declared.scn.Scn.{Scn}
 use Rattle.elf_descriptor.specs.declared.body.Body.{Body}
+use Rattle.elf_descriptor.specs.declared.body.Written.{Written}
+use Rattle.elf_descriptor.specs.declared.body.Base.{Base}
+use Rattle.elf_descriptor.specs.declared.body.Base.TheVariants as bases
 use Rattle.elf_descriptor.specs.State.{State}
-use Rattle.elf_descriptor.specs.Views.{object_of, section_of, loaded_of, held_of, state_of}
-use Rattle.elf_descriptor.specs.Sound.{IsElf, IsSound}
+use Rattle.elf_descriptor.specs.Views.{object_of, section_of, loaded_of, held_of, state_of, room_of}
+use Rattle.elf_descriptor.specs.Sound.{IsElf, IsSound, IsStanding, source_part}
 use Rattle.elf_descriptor.specs.Created.{IsCreatedBody, IsCreated}
 use Rattle.elf_descriptor.proofs.EditLaws.{has_counts}
 
@@ -27,8 +30,9 @@ body_with header phdrs sections base = record {
   pad = 0 ∷ 0 ∷ 0 ∷ 0 ∷ 0 ∷ 0 ∷ 0 ∷ [];
   phdrs = phdrs;
   sections = sections;
-  base = Some base;
+  base = bases.Own base;
   written = None;
+  spare = None;
   layout = false;
   fill = 0;
   marked = false;
@@ -49,6 +53,8 @@ created_body class order base header phdrs sections header_is no_phdrs none = re
       ∙ ap (λ (l : List Phdr). object_with header l [] base) no_phdrs
       ∙ ap (λ (h : Ehdr). object_with h [] [] base) header_is;
   none = none;
+  base_is = refl;
+  written = refl;
   ready = refl;
 }
 
@@ -62,8 +68,10 @@ created_elf are tied based class order base b bytes len is =
     }) in
     record {
       long = refl;
+      within = subst (λ (kept : Base). source_part kept ≤ 0) (sym is.base_is) (omega arith);
       counts = has_counts (Some []) 0 b sound.object;
       cells = λ i s found. absurd (nothing i s (ap (λ (l : List Scn). slice_get l i) (sym is.none) ∙ found));
+      written = subst (λ (w : Option Written). IfSome w (IsStanding b.header.class b.header.order)) (sym is.written) tt;
       sound = sound;
     }
   where
@@ -72,11 +80,12 @@ created_elf are tied based class order base b bytes len is =
 
 pub created_state : {S : Type 0} (g : Ghosts S) (source : S) (class : Class) (order : Order) (base : List ℕ) (b : Body) → is_some (g.holds source) ≡ true → IsCreatedBody class order base b
     → IsCreated class order base (state_of g source b)
-unfolding loaded_of held_of
+unfolding loaded_of held_of room_of
 created_state g source class order base b told is = record {
   object = is.object (g.holds source) (g.size source);
   told = told;
   loaded = ap (λ (l : List Scn). map (λ s. cell_is_loaded s.cell) l) is.none;
   held = ap (λ (l : List Scn). map (λ s. is_some s.cell.held) l) is.none;
+  room = ap (λ (l : List Scn). map (λ s. s.cell.room) l) is.none;
   ready = is.ready;
 }

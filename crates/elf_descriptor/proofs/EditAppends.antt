@@ -19,7 +19,7 @@ use Rattle.section_data.specs.Refused.{append_refused, unfit_piece}
 use Rattle.elf_descriptor.specs.declared.scn.Scn.{Scn}
 use Rattle.elf_descriptor.specs.declared.body.Body.{Body}
 use Rattle.elf_descriptor.specs.State.{State}
-use Rattle.elf_descriptor.specs.Views.{object_of, section_of, state_of, scn_at, no_scn}
+use Rattle.elf_descriptor.specs.Views.{object_of, section_of, state_of, scn_at, no_scn, ready_of}
 use Rattle.elf_descriptor.specs.Edits.{IsStepped, numbers_of, stepped}
 use Rattle.elf_descriptor.proofs.Objects.{section_is, no_section_is}
 use Rattle.elf_descriptor.proofs.EditSteps.{pieces_stepped}
@@ -54,7 +54,7 @@ with_same (back, e) items old new stepped stated is = edits_same e old new stepp
 -- ---- The step
 
 pub piece_appended : (old new : Body) (s align : ℕ) (items : Items) (x : Scn) (cell : CellView) → x ≡ scn_at old s → new ≡ record old { sections = new.sections }
-    → new.sections.items ≡ set old.sections.items s (record x { cell = cell }) → cell ≡ appended x.cell items align → IsStepped (λ o. with_new_piece o s items align) old.ready old new
+    → new.sections.items ≡ set old.sections.items s (record x { cell = cell }) → cell ≡ appended x.cell items align → IsStepped (λ o. with_new_piece o s items align) (ready_of old) old new
 unfolding with_new_piece
 piece_appended old new s align items x cell read rest is there =
     pieces_stepped (λ o. with_new_piece o s items align) old.ready old new s x (λ l. l ++ own_piece items align ∷ []) read rest
@@ -62,7 +62,7 @@ piece_appended old new s align items x cell read rest is there =
 
 pub piece_refused : {A : Type 0} (old new : Body) (s : ℕ) (refused : Items × ElfError) (items : Items) (x : Scn) (cell stepped : CellView) (stated : Result A ElfError) → x ≡ scn_at old s
     → new ≡ record old { sections = new.sections } → new.sections.items ≡ set old.sections.items s (record x { cell = cell }) → EditsWith (Err refused) items x.cell cell stated stepped
-    → IsStepped (λ o. o) old.ready old new
+    → IsStepped (λ o. o) (ready_of old) old new
 piece_refused old new s refused items x cell stepped stated read rest is came =
     section_same old new s x read rest (is ∙ ap (λ (c : CellView). set old.sections.items s (record x { cell = c })) (with_same refused items x.cell cell stepped stated came))
 
@@ -119,8 +119,8 @@ with_left (back, e) items old new stepped stated is same = (is.0, edits_left e o
 module _ {S : Type 0} (g : Ghosts S) (source : S) where
   pub edits_with_to : {A D : Type 0} (c : Call A) (view : D → A) (r : Result D (Items × ElfError)) (items : Items) (old new : Body)
       → EditsWith (result_map view r) items (tt {0}) (tt {0}) (c.answer (object_of (g.holds source) (g.size source) old)) (tt {0})
-      → OnOk r (IsStepped c.after false old new) → OnErr r (IsStepped (λ o. o) old.ready old new)
+      → OnOk r (IsStepped c.after false old new) → OnErr r (IsStepped (λ o. o) (ready_of old) old new)
       → EditsWith (result_map view r) items (state_of g source old) (state_of g source new) (c.answer (state_of g source old).o) (stepped c (state_of g source old))
   edits_with_to c view (Ok x) items old new is step same = (is.0, state_stepped g source c.after false old new step)
   edits_with_to c view (Err e) items old new is step same =
-      with_left e items (state_of g source old) (state_of g source new) (stepped c (state_of g source old)) (c.answer (state_of g source old).o) is (state_stepped g source (λ o. o) old.ready old new same)
+      with_left e items (state_of g source old) (state_of g source new) (stepped c (state_of g source old)) (c.answer (state_of g source old).o) is (state_stepped g source (λ o. o) (ready_of old) old new same)

@@ -14,7 +14,7 @@ use Rattle.elf_object.specs.Words.{Edits}
 use Rattle.elf_object.specs.Calls.{Call}
 use Rattle.elf_object.proofs.AnswerLaws.{answered_refusal, answered_value, edited, edit_refused, edit_wants}
 use Rattle.elf_descriptor.specs.declared.body.Body.{Body}
-use Rattle.elf_descriptor.specs.Views.{object_of, state_of}
+use Rattle.elf_descriptor.specs.Views.{object_of, state_of, ready_of}
 use Rattle.elf_descriptor.specs.Edits.{IsStepped, homes_of, stepped}
 use Rattle.elf_descriptor.proofs.EditLaws.{state_stepped}
 use Rattle.elf_descriptor.proofs.EditPieces.{same_stepped}
@@ -50,11 +50,11 @@ edits_left e old new stepped stated is same = (is.0, same)
 
 module _ {S : Type 0} (g : Ghosts S) (source : S) where
   pub edits_to : {A : Type 0} (c : Call A) (r : Result A ElfError) (old new : Body) → Edits r (tt {0}) (tt {0}) (c.answer (object_of (g.holds source) (g.size source) old)) (tt {0})
-      → OnOk r (IsStepped c.after false old new) → OnErr r (IsStepped (λ o. o) old.ready old new)
+      → OnOk r (IsStepped c.after false old new) → OnErr r (IsStepped (λ o. o) (ready_of old) old new)
       → Edits r (state_of g source old) (state_of g source new) (c.answer (state_of g source old).o) (stepped c (state_of g source old))
   edits_to c (Ok x) old new is step same = (is.0, state_stepped g source c.after false old new step)
   edits_to c (Err e) old new is step same =
-      edits_left e (state_of g source old) (state_of g source new) (stepped c (state_of g source old)) (c.answer (state_of g source old).o) is (state_stepped g source (λ o. o) old.ready old new same)
+      edits_left e (state_of g source old) (state_of g source new) (stepped c (state_of g source old)) (c.answer (state_of g source old).o) is (state_stepped g source (λ o. o) (ready_of old) old new same)
 
 -- ---- Program headers
 
@@ -68,17 +68,19 @@ phdrs_zeroed old new n phdrs zeros is = subst (λ (b : Body). IsStepped (λ o. w
   homes = refl;
   class = refl;
   order = refl;
+  base = refl;
+  written = refl;
   ready = refl;
 })
 
-pub left_same : {A E : Type 0} (r : Result A E) (old new : Body) → OnErr r (new ≡ old) → OnErr r (IsStepped (λ o. o) old.ready old new)
+pub left_same : {A E : Type 0} (r : Result A E) (old new : Body) → OnErr r (new ≡ old) → OnErr r (IsStepped (λ o. o) (ready_of old) old new)
 left_same (Ok x) old new same = tt
-left_same (Err e) old new same = subst (λ (b : Body). IsStepped (λ o. o) old.ready old b) (sym same) (same_stepped old)
+left_same (Err e) old new same = subst (λ (b : Body). IsStepped (λ o. o) (ready_of old) old b) (sym same) (same_stepped old)
 
 -- what holds holds on an error
 pub on_err : {A E : Type 0} {P : Type 0} (r : Result A E) → P → OnErr r P
 on_err (Ok x) is = tt
 on_err (Err e) is = is
 
-pub left_alone : (old new : Body) → new ≡ old → IsStepped (λ o. o) old.ready old new
-left_alone old new same = subst (λ (b : Body). IsStepped (λ o. o) old.ready old b) (sym same) (same_stepped old)
+pub left_alone : (old new : Body) → new ≡ old → IsStepped (λ o. o) (ready_of old) old new
+left_alone old new same = subst (λ (b : Body). IsStepped (λ o. o) (ready_of old) old b) (sym same) (same_stepped old)

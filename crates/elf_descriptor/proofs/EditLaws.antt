@@ -18,11 +18,12 @@ use Rattle.section_data.specs.Leaves.{LiesIn}
 use Rattle.elf_descriptor.specs.declared.scn.Scn.{Scn}
 use Rattle.elf_descriptor.specs.declared.body.Body.{Body}
 use Rattle.elf_descriptor.specs.State.{State}
-use Rattle.elf_descriptor.specs.Views.{object_of, loaded_of, held_of, state_of, scn_at, absent_scn, HasCounts}
-use Rattle.elf_descriptor.specs.Sound.{IsElf, IsSound, CellIn}
+use Rattle.elf_descriptor.specs.Views.{object_of, loaded_of, held_of, state_of, scn_at, absent_scn, HasCounts, ready_of, is_of_source, room_of}
+use Rattle.elf_descriptor.specs.Sound.{IsElf, IsSound, CellIn, source_part}
 use Rattle.elf_descriptor.specs.Edits.{IsStepped, IsNumbered, StepsTo, homes_of, without_pieces, stepped, flagged}
 use Rattle.elf_descriptor.proofs.Objects.{section_count_is}
-use Rattle.elf_descriptor.proofs.Warming.{cell_at}
+use Rattle.elf_descriptor.proofs.Warming.{cell_at, part_within, cell_moved, standing_moved}
+use Rattle.elf_descriptor.specs.declared.body.Base.{Base}
 
 -- ---- The homes
 
@@ -45,33 +46,42 @@ held_without : (l : List Scn) → map (λ s. is_some s.cell.held) l ≡ map (λ 
 held_without [] = refl
 held_without (s ∷ l) = ap (λ (t : List Bool). is_some s.cell.held ∷ t) (held_without l)
 
-loaded_kept : (old new : Body) → homes_of new ≡ homes_of old → loaded_of new ≡ loaded_of old
+room_without : (l : List Scn) → map (λ s. s.cell.room) l ≡ map (λ c. c.room) (map without_pieces l)
+room_without [] = refl
+room_without (s ∷ l) = ap (λ (t : List Bool). s.cell.room ∷ t) (room_without l)
+
+pub loaded_kept : (old new : Body) → homes_of new ≡ homes_of old → loaded_of new ≡ loaded_of old
 unfolding homes_of loaded_of
 loaded_kept old new same = loaded_without new.sections.items ∙ ap (λ (l : List CellView). map cell_is_loaded l) same ∙ sym (loaded_without old.sections.items)
 
-held_kept : (old new : Body) → homes_of new ≡ homes_of old → held_of new ≡ held_of old
+pub held_kept : (old new : Body) → homes_of new ≡ homes_of old → held_of new ≡ held_of old
 unfolding homes_of held_of
 held_kept old new same = held_without new.sections.items ∙ ap (λ (l : List CellView). map (λ c. is_some c.held) l) same ∙ sym (held_without old.sections.items)
+
+pub room_kept : (old new : Body) → homes_of new ≡ homes_of old → room_of new ≡ room_of old
+unfolding homes_of room_of
+room_kept old new same = room_without new.sections.items ∙ ap (λ (l : List CellView). map (λ c. c.room) l) same ∙ sym (room_without old.sections.items)
 
 -- ---- What is true of each descriptor
 
 -- what is known of a section's data does not rest on its pieces
-abbrev IsDataOf : Class → Order → ℕ → ℕ → CellView → Type 0
-IsDataOf class order size i c = (c.section ≡ i) × LiesIn c size × HeldIs class order c
+abbrev IsDataOf : Class → Order → Base → ℕ → CellView → Type 0
+IsDataOf class order base i c =
+    (c.section ≡ i) × LiesIn c (source_part base) × (is_of_source base ≡ false → c.home.len ≡ 0) × HeldIs class order c
 
-pub cell_kept : (class : Class) (order : Order) (size i : ℕ) (x y : Scn) → without_pieces y ≡ without_pieces x → CellIn class order size i x → CellIn class order size i y
-cell_kept class order size i x y same is =
-    let known : IsDataOf class order size i (without_pieces y) = subst (λ (c : CellView). IsDataOf class order size i c) (sym same) (is.number, is.lies, is.items) in
-    record { number = known.0; lies = known.1; items = known.2 }
+pub cell_kept : (class : Class) (order : Order) (base : Base) (i : ℕ) (x y : Scn) → without_pieces y ≡ without_pieces x → CellIn class order base i x → CellIn class order base i y
+cell_kept class order base i x y same is =
+    let known : IsDataOf class order base i (without_pieces y) = subst (λ (c : CellView). IsDataOf class order base i c) (sym same) (is.number, is.lies, is.empty, is.items) in
+    record { number = known.0; lies = known.1; empty = known.2; items = known.3 }
 
-cells_kept : (image : Option (List ℕ)) (size : ℕ) (old new : Body) → homes_of new ≡ homes_of old → IsElf image size old
-    → (i : ℕ) (s : Scn) → slice_get new.sections.items i ≡ Some s → CellIn old.header.class old.header.order size i s
+pub cells_kept : (image : Option (List ℕ)) (size : ℕ) (old new : Body) → homes_of new ≡ homes_of old → IsElf image size old
+    → (i : ℕ) (s : Scn) → slice_get new.sections.items i ≡ Some s → CellIn old.header.class old.header.order old.base i s
 unfolding scn_at
 cells_kept image size old new homes is i s found =
     let there = slice_get_within new.sections.items i s found in
     let count = count_kept old new homes in
     let at : get_or new.sections.items i absent_scn ≡ s = get_or_from_slice_get new.sections.items i s absent_scn found in
-    cell_kept old.header.class old.header.order size i (scn_at old i) s (ap without_pieces (sym at) ∙ home_kept old new i homes)
+    cell_kept old.header.class old.header.order old.base i (scn_at old i) s (ap without_pieces (sym at) ∙ home_kept old new i homes)
     (cell_at image size old i is (omega (arith, there, count)))
 
 pub has_counts : (image : Option (List ℕ)) (size : ℕ) (b : Body) → IsObject (object_of image size b) → HasCounts b
@@ -96,10 +106,10 @@ stepped_elf c image size x ready old new keeps ties bases answer step is =
     let sound : IsSound image (object_of image size new) = subst (λ (p : Object). IsSound image p) (sym (step.object image size)) (step_sound c image (object_of image size old) x keeps ties bases answer is.sound) in
     record {
       long = is.long;
+      within = part_within old new size step.base is.within;
       counts = has_counts image size new sound.object;
-      cells = λ i s found.
-          subst (λ (class : Class). CellIn class new.header.order size i s) (sym step.class)
-          (subst (λ (order : Order). CellIn old.header.class order size i s) (sym step.order) (cells_kept image size old new step.homes is i s found));
+      cells = λ i s found. cell_moved old new step.class step.order step.base i s (cells_kept image size old new step.homes is i s found);
+      written = standing_moved old new step.class step.order step.written is.written;
       sound = sound;
     }
 
@@ -121,25 +131,25 @@ same_elf image size ready old new step is =
     let sound : IsSound image (object_of image size new) = subst (λ (p : Object). IsSound image p) (sym (step.object image size)) is.sound in
     record {
       long = is.long;
+      within = part_within old new size step.base is.within;
       counts = has_counts image size new sound.object;
-      cells = λ i s found.
-          subst (λ (class : Class). CellIn class new.header.order size i s) (sym step.class)
-          (subst (λ (order : Order). CellIn old.header.class order size i s) (sym step.order) (cells_kept image size old new step.homes is i s found));
+      cells = λ i s found. cell_moved old new step.class step.order step.base i s (cells_kept image size old new step.homes is i s found);
+      written = standing_moved old new step.class step.order step.written is.written;
       sound = sound;
     }
 
 pub kept_elf : {A E : Type 0} (c : Call A) (image : Option (List ℕ)) (size : ℕ) (r : Result A E) (ready : Bool) (old new : Body) → KeepsObject c → KeepsTied c → KeepsBased c
-    → IfOk r (λ x. c.answer (object_of image size old) ≡ Ok x) → OnOk r (IsStepped c.after ready old new) → OnErr r (IsStepped (λ o. o) old.ready old new)
+    → IfOk r (λ x. c.answer (object_of image size old) ≡ Ok x) → OnOk r (IsStepped c.after ready old new) → OnErr r (IsStepped (λ o. o) (ready_of old) old new)
     → IsElf image size old → IsElf image size new
 kept_elf c image size (Ok x) ready old new keeps ties bases answer step same is = stepped_elf c image size x ready old new keeps ties bases answer step is
-kept_elf c image size (Err e) ready old new keeps ties bases answer step same is = same_elf image size old.ready old new same is
+kept_elf c image size (Err e) ready old new keeps ties bases answer step same is = same_elf image size (ready_of old) old new same is
 
 -- one that answers what a view gives of it
 pub kept_by : {A D E : Type 0} (c : Call A) (view : D → A) (image : Option (List ℕ)) (size : ℕ) (r : Result D E) (ready : Bool) (old new : Body) → KeepsObject c → KeepsTied c → KeepsBased c
-    → IfOk r (λ x. c.answer (object_of image size old) ≡ Ok (view x)) → OnOk r (IsStepped c.after ready old new) → OnErr r (IsStepped (λ o. o) old.ready old new)
+    → IfOk r (λ x. c.answer (object_of image size old) ≡ Ok (view x)) → OnOk r (IsStepped c.after ready old new) → OnErr r (IsStepped (λ o. o) (ready_of old) old new)
     → IsElf image size old → IsElf image size new
 kept_by c view image size (Ok x) ready old new keeps ties bases answer step same is = stepped_elf c image size (view x) ready old new keeps ties bases answer step is
-kept_by c view image size (Err e) ready old new keeps ties bases answer step same is = same_elf image size old.ready old new same is
+kept_by c view image size (Err e) ready old new keeps ties bases answer step same is = same_elf image size (ready_of old) old new same is
 
 -- the data of each section has its number
 pub numbered : (image : Option (List ℕ)) (size : ℕ) (b : Body) (s : ℕ) → IsElf image size b → IsNumbered b s
@@ -148,29 +158,31 @@ numbered image size b s is = λ there. (cell_at image size b s is there).number
 -- ---- The state
 
 module _ {S : Type 0} (g : Ghosts S) (source : S) where
-  abbrev state_with : Object → List Bool → List Bool → Bool → State S
-  state_with o loaded held ready = record { o = o; told = is_some (g.holds source); loaded = loaded; held = held; ready = ready; source = source }
+  abbrev state_with : Object → List Bool → List Bool → List Bool → Bool → State S
+  state_with o loaded held room ready =
+      record { o = o; told = is_some (g.holds source); loaded = loaded; held = held; room = room; ready = ready; source = source }
 
   pub state_stepped : (after : Object → Object) (ready : Bool) (old new : Body) → IsStepped after ready old new
       → state_of g source new ≡ record (state_of g source old) { o = after (object_of (g.holds source) (g.size source) old); ready = ready }
   state_stepped after ready old new step =
       let o = after (object_of (g.holds source) (g.size source) old) in
-      ap (λ (p : Object). state_with p (loaded_of new) (held_of new) new.ready) (step.object (g.holds source) (g.size source))
-      ∙ ap (λ (l : List Bool). state_with o l (held_of new) new.ready) (loaded_kept old new step.homes)
-      ∙ ap (λ (l : List Bool). state_with o (loaded_of old) l new.ready) (held_kept old new step.homes)
-      ∙ ap (λ (b : Bool). state_with o (loaded_of old) (held_of old) b) step.ready
+      ap (λ (p : Object). state_with p (loaded_of new) (held_of new) (room_of new) (ready_of new)) (step.object (g.holds source) (g.size source))
+      ∙ ap (λ (l : List Bool). state_with o l (held_of new) (room_of new) (ready_of new)) (loaded_kept old new step.homes)
+      ∙ ap (λ (l : List Bool). state_with o (loaded_of old) l (room_of new) (ready_of new)) (held_kept old new step.homes)
+      ∙ ap (λ (l : List Bool). state_with o (loaded_of old) (held_of old) l (ready_of new)) (room_kept old new step.homes)
+      ∙ ap (λ (b : Bool). state_with o (loaded_of old) (held_of old) (room_of old) b) step.ready
 
   pub steps_to : {A E : Type 0} (c : Call A) (r : Result A E) (old new : Body) → OnOk r (IsStepped c.after false old new) → OnErr r (new ≡ old)
       → StepsTo r (state_of g source old) (state_of g source new) (stepped c (state_of g source old))
   steps_to c (Ok x) old new step unchanged = state_stepped c.after false old new step
   steps_to c (Err e) old new step unchanged = ap (λ (b : Body). state_of g source b) unchanged
 
-  pub flags_to : {A E : Type 0} (c : Call A) (r : Result A E) (old new : Body) → OnOk r (IsStepped c.after old.ready old new) → OnErr r (new ≡ old)
+  pub flags_to : {A E : Type 0} (c : Call A) (r : Result A E) (old new : Body) → OnOk r (IsStepped c.after (ready_of old) old new) → OnErr r (new ≡ old)
       → StepsTo r (state_of g source old) (state_of g source new) (flagged c (state_of g source old))
-  flags_to c (Ok x) old new step unchanged = state_stepped c.after old.ready old new step
+  flags_to c (Ok x) old new step unchanged = state_stepped c.after (ready_of old) old new step
   flags_to c (Err e) old new step unchanged = ap (λ (b : Body). state_of g source b) unchanged
 
-  pub kept_to : {A E : Type 0} (c : Call A) (r : Result A E) (old new : Body) → OnOk r (IsStepped c.after false old new) → OnErr r (IsStepped (λ o. o) old.ready old new)
+  pub kept_to : {A E : Type 0} (c : Call A) (r : Result A E) (old new : Body) → OnOk r (IsStepped c.after false old new) → OnErr r (IsStepped (λ o. o) (ready_of old) old new)
       → StepsTo r (state_of g source old) (state_of g source new) (stepped c (state_of g source old))
   kept_to c (Ok x) old new step same = state_stepped c.after false old new step
-  kept_to c (Err e) old new step same = state_stepped (λ o. o) old.ready old new same
+  kept_to c (Err e) old new step same = state_stepped (λ o. o) (ready_of old) old new same

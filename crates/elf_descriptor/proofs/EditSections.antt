@@ -31,13 +31,14 @@ use Rattle.section_data.specs.Held.{cell_is_loaded}
 use Rattle.elf_descriptor.specs.declared.scn.Scn.{Scn}
 use Rattle.elf_descriptor.specs.declared.body.Body.{Body}
 use Rattle.elf_descriptor.specs.State.{State}
-use Rattle.elf_descriptor.specs.Views.{object_of, section_of, raw_of, loaded_of, held_of, state_of, scn_at, absent_scn, HasCounts}
+use Rattle.elf_descriptor.specs.Views.{object_of, section_of, raw_of, loaded_of, held_of, state_of, scn_at, absent_scn, HasCounts, ready_of, room_of}
 use Rattle.elf_descriptor.specs.Sound.{IsElf, IsSound, CellIn}
 use Rattle.elf_descriptor.specs.Edits.{IsStepped, IsGrown, new_scn, new_scns, with_added, with_none, grown, nulled}
 use Rattle.elf_descriptor.proofs.Objects.{section_count_is}
-use Rattle.elf_descriptor.proofs.Warming.{cell_at}
+use Rattle.elf_descriptor.proofs.Warming.{cell_at, part_within, cell_moved, standing_moved}
 use Rattle.elf_descriptor.proofs.EditLaws.{has_counts, step_sound, same_elf, state_stepped}
 use Rattle.elf_descriptor.proofs.EditGrows.{edits_left, refused_alone, done_alone}
+use Rattle.elf_descriptor.specs.declared.body.Base.{Base}
 
 -- ---- New sections
 
@@ -88,7 +89,9 @@ scns_added old new count n count_is rest is = record {
   sections = is;
   class = ap (λ (b : Body). b.header.class) rest;
   order = ap (λ (b : Body). b.header.order) rest;
-  ready = ap (λ (b : Body). b.ready) rest;
+  base = ap (λ (b : Body). b.base) rest;
+  written = ap (λ (b : Body). b.written) rest;
+  ready = ap ready_of rest;
 }
 
 nothing_there : (l : List Scn) → length l ≡ 0 → l ≡ []
@@ -137,6 +140,8 @@ first_grown old new none step = record {
   sections = step.sections;
   class = step.class;
   order = step.order;
+  base = step.base;
+  written = step.written;
   ready = step.ready;
 }
   where
@@ -151,6 +156,8 @@ next_grown old new some step = record {
   sections = step.sections;
   class = step.class;
   order = step.order;
+  base = step.base;
+  written = step.written;
   ready = step.ready;
 }
   where
@@ -178,11 +185,11 @@ module _ (image : Option (List ℕ)) (size : ℕ) (b : Body) where
 
 -- ---- What is true of each descriptor
 
-new_cell_in : (class : Class) (order : Order) (size i : ℕ) → CellIn class order size i (new_scn i)
-new_cell_in class order size i = record { number = refl; lies = λ unread inside some. absurd (omega (arith, some)); items = tt }
+new_cell_in : (class : Class) (order : Order) (base : Base) (i : ℕ) → CellIn class order base i (new_scn i)
+new_cell_in class order base i = record { number = refl; lies = λ unread inside some. absurd (omega (arith, some)); empty = λ none. refl; items = tt }
 
 cells_grown : (after : Object → Object) (image : Option (List ℕ)) (size : ℕ) (old new : Body) → IsGrown after old new → IsElf image size old
-    → (i : ℕ) (s : Scn) → slice_get new.sections.items i ≡ Some s → CellIn old.header.class old.header.order size i s
+    → (i : ℕ) (s : Scn) → slice_get new.sections.items i ≡ Some s → CellIn old.header.class old.header.order old.base i s
 unfolding scn_at new_scns
 cells_grown after image size old new step is i s found = by_range (nat_lt i (length old.sections.items)) refl
   where
@@ -192,10 +199,10 @@ cells_grown after image size old new step is i s found = by_range (nat_lt i (len
     at : get_or (old.sections.items ++ new_scns first step.count) i absent_scn ≡ s
     at = ap (λ (l : List Scn). get_or l i absent_scn) (sym step.sections) ∙ get_or_from_slice_get new.sections.items i s absent_scn found
 
-    by_range : (t : Bool) → nat_lt i first ≡ t → CellIn old.header.class old.header.order size i s
+    by_range : (t : Bool) → nat_lt i first ≡ t → CellIn old.header.class old.header.order old.base i s
     by_range true e =
         let there = ltb-true i first e in
-        subst (λ (x : Scn). CellIn old.header.class old.header.order size i x) (sym (get_or_append_left old.sections.items (new_scns first step.count) absent_scn i there) ∙ at) (cell_at image size old i is there)
+        subst (λ (x : Scn). CellIn old.header.class old.header.order old.base i x) (sym (get_or_append_left old.sections.items (new_scns first step.count) absent_scn i there) ∙ at) (cell_at image size old i is there)
     by_range false e =
         let past = ltb-false i first e in
         let within = slice_get_within new.sections.items i s found in
@@ -204,9 +211,9 @@ cells_grown after image size old new step is i s found = by_range (nat_lt i (len
         let split : first + (i - first) ≡ i = omega (arith, past) in
         let value : get_or (new_scns first step.count) (i - first) absent_scn ≡ new_scn i =
         get_or-map-range_with_len new_scn first step.count (i - first) i absent_scn (omega (arith, past, within, total, more)) split in
-        subst (λ (x : Scn). CellIn old.header.class old.header.order size i x)
+        subst (λ (x : Scn). CellIn old.header.class old.header.order old.base i x)
         (sym value ∙ sym (get_or-append-add old.sections.items (new_scns first step.count) (i - first) absent_scn) ∙ ap (λ (k : ℕ). get_or (old.sections.items ++ new_scns first step.count) k absent_scn) split ∙ at)
-        (new_cell_in old.header.class old.header.order size i)
+        (new_cell_in old.header.class old.header.order old.base i)
 
 grown_elf : {A : Type 0} (c : Call A) (image : Option (List ℕ)) (size : ℕ) (x : A) (old new : Body) → KeepsObject c → KeepsTied c → KeepsBased c
     → c.answer (object_of image size old) ≡ Ok x → IsGrown c.after old new → IsElf image size old → IsElf image size new
@@ -214,18 +221,18 @@ grown_elf c image size x old new keeps ties bases answer step is =
     let sound : IsSound image (object_of image size new) = subst (λ (p : Object). IsSound image p) (sym (step.object image size)) (step_sound c image (object_of image size old) x keeps ties bases answer is.sound) in
     record {
       long = is.long;
+      within = part_within old new size step.base is.within;
       counts = has_counts image size new sound.object;
-      cells = λ i s found.
-          subst (λ (class : Class). CellIn class new.header.order size i s) (sym step.class)
-          (subst (λ (order : Order). CellIn old.header.class order size i s) (sym step.order) (cells_grown c.after image size old new step is i s found));
+      cells = λ i s found. cell_moved old new step.class step.order step.base i s (cells_grown c.after image size old new step is i s found);
+      written = standing_moved old new step.class step.order step.written is.written;
       sound = sound;
     }
 
 -- sections that are added keep what is true of each descriptor
 pub grown_by : {A D E : Type 0} (c : Call A) (view : D → A) (image : Option (List ℕ)) (size : ℕ) (r : Result D E) (old new : Body) → KeepsObject c → KeepsTied c → KeepsBased c
-    → IfOk r (λ x. c.answer (object_of image size old) ≡ Ok (view x)) → OnOk r (IsGrown c.after old new) → OnErr r (IsStepped (λ o. o) old.ready old new) → IsElf image size old → IsElf image size new
+    → IfOk r (λ x. c.answer (object_of image size old) ≡ Ok (view x)) → OnOk r (IsGrown c.after old new) → OnErr r (IsStepped (λ o. o) (ready_of old) old new) → IsElf image size old → IsElf image size new
 grown_by c view image size (Ok x) old new keeps ties bases answer step same is = grown_elf c image size (view x) old new keeps ties bases answer step is
-grown_by c view image size (Err e) old new keeps ties bases answer step same is = same_elf image size old.ready old new same is
+grown_by c view image size (Err e) old new keeps ties bases answer step same is = same_elf image size (ready_of old) old new same is
 
 -- ---- Section 0 alone
 
@@ -245,6 +252,8 @@ null_grown old new none step = record {
   sections = step.sections;
   class = step.class;
   order = step.order;
+  base = step.base;
+  written = step.written;
   ready = step.ready;
 }
 
@@ -284,28 +293,31 @@ marks_grown f none old new count total is total_is =
     ∙ ap (λ (l : List Bool). map f old.sections.items ++ l) (none_of f none (range_with_len first count) ∙ ap (λ (k : ℕ). replicate k false) counted)
 
 module _ {S : Type 0} (g : Ghosts S) (source : S) where
-  abbrev state_with : Object → List Bool → List Bool → Bool → State S
-  state_with o loaded held ready = record { o = o; told = is_some (g.holds source); loaded = loaded; held = held; ready = ready; source = source }
+  abbrev state_with : Object → List Bool → List Bool → List Bool → Bool → State S
+  state_with o loaded held room ready =
+      record { o = o; told = is_some (g.holds source); loaded = loaded; held = held; room = room; ready = ready; source = source }
 
   state_grown : {A : Type 0} (c : Call A) (old new : Body) → IsGrown c.after old new → state_of g source new ≡ grown c (state_of g source old)
-  unfolding loaded_of held_of
+  unfolding loaded_of held_of room_of
   state_grown c old new step =
       let o = c.after (object_of (g.holds source) (g.size source) old) in
       let total : length o.sections ≡ length new.sections.items =
       ap (λ (p : Object). length p.sections) (sym (step.object (g.holds source) (g.size source))) ∙ section_count_is (g.holds source) (g.size source) new in
       let loaded = marks_grown (λ s. cell_is_loaded s.cell) (λ n. refl) old new step.count (length o.sections) step.sections total in
       let held = marks_grown (λ s. is_some s.cell.held) (λ n. refl) old new step.count (length o.sections) step.sections total in
-      ap (λ (p : Object). state_with p (loaded_of new) (held_of new) new.ready) (step.object (g.holds source) (g.size source))
-      ∙ ap (λ (l : List Bool). state_with o l (held_of new) new.ready) loaded
-      ∙ ap (λ (l : List Bool). state_with o (with_none (length o.sections) (loaded_of old)) l new.ready) held
-      ∙ ap (λ (b : Bool). state_with o (with_none (length o.sections) (loaded_of old)) (with_none (length o.sections) (held_of old)) b) step.ready
+      let room = marks_grown (λ s. s.cell.room) (λ n. refl) old new step.count (length o.sections) step.sections total in
+      ap (λ (p : Object). state_with p (loaded_of new) (held_of new) (room_of new) (ready_of new)) (step.object (g.holds source) (g.size source))
+      ∙ ap (λ (l : List Bool). state_with o l (held_of new) (room_of new) (ready_of new)) loaded
+      ∙ ap (λ (l : List Bool). state_with o (with_none (length o.sections) (loaded_of old)) l (room_of new) (ready_of new)) held
+      ∙ ap (λ (l : List Bool). state_with o (with_none (length o.sections) (loaded_of old)) (with_none (length o.sections) (held_of old)) l (ready_of new)) room
+      ∙ ap (λ (b : Bool). state_with o (with_none (length o.sections) (loaded_of old)) (with_none (length o.sections) (held_of old)) (with_none (length o.sections) (room_of old)) b) step.ready
 
   pub grows_to : {A D : Type 0} (c : Call A) (view : D → A) (r : Result D ElfError) (old new : Body) → Edits (result_map view r) (tt {0}) (tt {0}) (c.answer (object_of (g.holds source) (g.size source) old)) (tt {0})
-      → OnOk r (IsGrown c.after old new) → OnErr r (IsStepped (λ o. o) old.ready old new)
+      → OnOk r (IsGrown c.after old new) → OnErr r (IsStepped (λ o. o) (ready_of old) old new)
       → Edits (result_map view r) (state_of g source old) (state_of g source new) (c.answer (state_of g source old).o) (grown c (state_of g source old))
   grows_to c view (Ok x) old new is step same = (is.0, state_grown c old new step)
   grows_to c view (Err e) old new is step same =
-      edits_left e (state_of g source old) (state_of g source new) (grown c (state_of g source old)) (c.answer (state_of g source old).o) is (state_stepped g source (λ o. o) old.ready old new same)
+      edits_left e (state_of g source old) (state_of g source new) (grown c (state_of g source old)) (c.answer (state_of g source old).o) is (state_stepped g source (λ o. o) (ready_of old) old new same)
 
   abbrev null_of : Bool → Body → State S
   null_of t old = if t then grown calls.newnull (state_of g source old) else state_of g source old

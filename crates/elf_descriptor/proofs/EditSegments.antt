@@ -32,6 +32,8 @@ refilled_step b left has = record {
   homes = refl;
   class = refl;
   order = refl;
+  base = refl;
+  written = refl;
   ready = refl;
 }
 

@@ -22,7 +22,7 @@ use Rattle.section_data.specs.Held.{piece_in}
 use Rattle.section_data.specs.Leaves.{marked_piece}
 use Rattle.elf_descriptor.specs.declared.scn.Scn.{Scn}
 use Rattle.elf_descriptor.specs.declared.body.Body.{Body}
-use Rattle.elf_descriptor.specs.Views.{object_of, section_of, raw_of, scn_at, absent_scn, no_scn, HasCounts}
+use Rattle.elf_descriptor.specs.Views.{object_of, section_of, raw_of, scn_at, absent_scn, no_scn, HasCounts, ready_of, has_spare, is_of_source, has_lengths}
 use Rattle.elf_descriptor.specs.Edits.{IsStepped, IsThere, homes_of, without_pieces}
 use Rattle.elf_descriptor.proofs.Objects.{section_count_is, section_is, no_section_is}
 use Rattle.elf_descriptor.proofs.Warming.{scn_written}
@@ -72,39 +72,41 @@ ehdr_stepped old h header is = record {
   homes = refl;
   class = ap (λ (x : Ehdr). x.class) is;
   order = ap (λ (x : Ehdr). x.order) is;
+  base = refl;
+  written = refl;
   ready = refl;
 }
 
-pub object_marked : (b : Body) (p : Part) → p ≡ part.Object → IsStepped (λ o. with_mark o p) b.ready b (record b { marked = true })
+pub object_marked : (b : Body) (p : Part) → p ≡ part.Object → IsStepped (λ o. with_mark o p) (ready_of b) b (record b { marked = true })
 unfolding object_of with_mark homes_of
-object_marked b p is = subst (λ (q : Part). IsStepped (λ o. with_mark o q) b.ready b (record b { marked = true })) (sym is) (record { object = λ image size. refl; homes = refl; class = refl; order = refl; ready = refl })
+object_marked b p is = subst (λ (q : Part). IsStepped (λ o. with_mark o q) (ready_of b) b (record b { marked = true })) (sym is) (record { object = λ image size. refl; homes = refl; class = refl; order = refl; base = refl; written = refl; ready = refl })
 
-pub table_marked : (b : Body) (p : Part) → p ≡ part.Table → IsStepped (λ o. with_mark o p) b.ready b (record b { marked = true })
+pub table_marked : (b : Body) (p : Part) → p ≡ part.Table → IsStepped (λ o. with_mark o p) (ready_of b) b (record b { marked = true })
 unfolding object_of with_mark homes_of
-table_marked b p is = subst (λ (q : Part). IsStepped (λ o. with_mark o q) b.ready b (record b { marked = true })) (sym is) (record { object = λ image size. refl; homes = refl; class = refl; order = refl; ready = refl })
+table_marked b p is = subst (λ (q : Part). IsStepped (λ o. with_mark o q) (ready_of b) b (record b { marked = true })) (sym is) (record { object = λ image size. refl; homes = refl; class = refl; order = refl; base = refl; written = refl; ready = refl })
 
-pub header_marked : (b : Body) (p : Part) → p ≡ part.Header → IsStepped (λ o. with_mark o p) b.ready b (record b { header_marked = true })
+pub header_marked : (b : Body) (p : Part) → p ≡ part.Header → IsStepped (λ o. with_mark o p) (ready_of b) b (record b { header_marked = true })
 unfolding object_of with_mark homes_of
-header_marked b p is = subst (λ (q : Part). IsStepped (λ o. with_mark o q) b.ready b (record b { header_marked = true })) (sym is) (record { object = λ image size. refl; homes = refl; class = refl; order = refl; ready = refl })
+header_marked b p is = subst (λ (q : Part). IsStepped (λ o. with_mark o q) (ready_of b) b (record b { header_marked = true })) (sym is) (record { object = λ image size. refl; homes = refl; class = refl; order = refl; base = refl; written = refl; ready = refl })
 
-pub segments_marked : (b : Body) (p : Part) → p ≡ part.Segments → IsStepped (λ o. with_mark o p) b.ready b (record b { segments_marked = true })
+pub segments_marked : (b : Body) (p : Part) → p ≡ part.Segments → IsStepped (λ o. with_mark o p) (ready_of b) b (record b { segments_marked = true })
 unfolding object_of with_mark homes_of
-segments_marked b p is = subst (λ (q : Part). IsStepped (λ o. with_mark o q) b.ready b (record b { segments_marked = true })) (sym is) (record { object = λ image size. refl; homes = refl; class = refl; order = refl; ready = refl })
+segments_marked b p is = subst (λ (q : Part). IsStepped (λ o. with_mark o q) (ready_of b) b (record b { segments_marked = true })) (sym is) (record { object = λ image size. refl; homes = refl; class = refl; order = refl; base = refl; written = refl; ready = refl })
 
 -- ---- Flags
 
 pub mark_then : (dirty : Bool) (p : Part) (ready : Bool) (old new : Body) → dirty ≡ true → IsStepped (λ o. with_mark o p) ready old new → IsStepped (λ o. if dirty then with_mark o p else o) ready old new
 mark_then dirty p ready old new is step = subst (λ (d : Bool). IsStepped (λ o. if d then with_mark o p else o) ready old new) (sym is) step
 
-pub mark_else : (dirty : Bool) (p : Part) (b : Body) → dirty ≡ false → IsStepped (λ o. if dirty then with_mark o p else o) b.ready b b
-mark_else dirty p b is = subst (λ (d : Bool). IsStepped (λ o. if d then with_mark o p else o) b.ready b b) (sym is) (record { object = λ image size. refl; homes = refl; class = refl; order = refl; ready = refl })
+pub mark_else : (dirty : Bool) (p : Part) (b : Body) → dirty ≡ false → IsStepped (λ o. if dirty then with_mark o p else o) (ready_of b) b b
+mark_else dirty p b is = subst (λ (d : Bool). IsStepped (λ o. if d then with_mark o p else o) (ready_of b) b b) (sym is) (record { object = λ image size. refl; homes = refl; class = refl; order = refl; base = refl; written = refl; ready = refl })
 
-pub layout_then : (whole layout : Bool) (b : Body) → whole ≡ true → IsStepped (λ o. if whole then with_layout o layout else o) b.ready b (record b { layout = layout })
+pub layout_then : (whole layout : Bool) (b : Body) → whole ≡ true → IsStepped (λ o. if whole then with_layout o layout else o) (ready_of b) b (record b { layout = layout })
 unfolding object_of homes_of
-layout_then whole layout b is = subst (λ (d : Bool). IsStepped (λ o. if d then with_layout o layout else o) b.ready b (record b { layout = layout })) (sym is) (record { object = λ image size. refl; homes = refl; class = refl; order = refl; ready = refl })
+layout_then whole layout b is = subst (λ (d : Bool). IsStepped (λ o. if d then with_layout o layout else o) (ready_of b) b (record b { layout = layout })) (sym is) (record { object = λ image size. refl; homes = refl; class = refl; order = refl; base = refl; written = refl; ready = refl })
 
-pub layout_else : (whole layout : Bool) (b : Body) → whole ≡ false → IsStepped (λ o. if whole then with_layout o layout else o) b.ready b b
-layout_else whole layout b is = subst (λ (d : Bool). IsStepped (λ o. if d then with_layout o layout else o) b.ready b b) (sym is) (record { object = λ image size. refl; homes = refl; class = refl; order = refl; ready = refl })
+pub layout_else : (whole layout : Bool) (b : Body) → whole ≡ false → IsStepped (λ o. if whole then with_layout o layout else o) (ready_of b) b b
+layout_else whole layout b is = subst (λ (d : Bool). IsStepped (λ o. if d then with_layout o layout else o) (ready_of b) b b) (sym is) (record { object = λ image size. refl; homes = refl; class = refl; order = refl; base = refl; written = refl; ready = refl })
 
 pub layout_there : (layout : Bool) (b : Body) (p : Part) → IsThere b p → IsThere (record b { layout = layout }) p
 unfolding scn_at
@@ -116,8 +118,8 @@ layout_there layout b (part.Section s) there = there
 layout_there layout b (part.Piece s p) there = there
 
 pub flags_stepped : (old mid new : Body) (p : Part) (set : Bool) (bits : ℕ) (dirty whole : Bool) → dirty ≡ (set && has_dirty bits) → whole ≡ (is_whole p && has_layout bits)
-    → IsStepped (λ o. if dirty then with_mark o p else o) old.ready old mid → IsStepped (λ o. if whole then with_layout o set else o) mid.ready mid new
-    → IsStepped (λ o. with_flags o p set bits) old.ready old new
+    → IsStepped (λ o. if dirty then with_mark o p else o) (ready_of old) old mid → IsStepped (λ o. if whole then with_layout o set else o) (ready_of mid) mid new
+    → IsStepped (λ o. with_flags o p set bits) (ready_of old) old new
 unfolding with_flags
 flags_stepped old mid new p set bits dirty whole dirty_is whole_is first second = record {
   object = λ image size.
@@ -128,6 +130,8 @@ flags_stepped old mid new p set bits dirty whole dirty_is whole_is first second 
   homes = second.homes ∙ first.homes;
   class = second.class ∙ first.class;
   order = second.order ∙ first.order;
+  base = second.base ∙ first.base;
+  written = second.written ∙ first.written;
   ready = second.ready ∙ first.ready;
 }
   where
@@ -145,19 +149,21 @@ phdr_stepped old new i p has is = subst (λ (b : Body). IsStepped (λ o. with_ph
   homes = refl;
   class = refl;
   order = refl;
+  base = refl;
+  written = refl;
   ready = refl;
 })
 
 pub fill_stepped : (old new : Body) (byte : ℕ) → new ≡ record old { fill = byte; ready = false } → IsStepped (λ o. with_fill o byte) false old new
 unfolding object_of with_fill homes_of
-fill_stepped old new byte is = subst (λ (b : Body). IsStepped (λ o. with_fill o byte) false old b) (sym is) (record { object = λ image size. refl; homes = refl; class = refl; order = refl; ready = refl })
+fill_stepped old new byte is = subst (λ (b : Body). IsStepped (λ o. with_fill o byte) false old b) (sym is) (record { object = λ image size. refl; homes = refl; class = refl; order = refl; base = refl; written = refl; ready = refl })
 
 -- ---- One section
 
 -- it is written, with the home that it had
 pub section_stepped : (after : Object → Object) (ready : Bool) (old new : Body) (s : ℕ) (y : Scn) → new ≡ record old { sections = new.sections; ready = ready }
     → new.sections.items ≡ set old.sections.items s y → without_pieces y ≡ without_pieces (scn_at old s)
-    → ((image : Option (List ℕ)) (size : ℕ) → with_section (object_of image size old) s (section_of image y) ≡ after (object_of image size old)) → IsStepped after ready old new
+    → ((image : Option (List ℕ)) (size : ℕ) → with_section (object_of image size old) s (section_of image y) ≡ after (object_of image size old)) → IsStepped after (ready && has_spare old) old new
 unfolding object_of with_section homes_of scn_at
 section_stepped after ready old new s y rest is home stepped = record {
   object = λ image size.
@@ -167,7 +173,9 @@ section_stepped after ready old new s y rest is home stepped = record {
   homes = ap (λ (l : List Scn). map without_pieces l) is ∙ map-set_same without_pieces old.sections.items s y absent_scn home;
   class = ap (λ (b : Body). b.header.class) rest;
   order = ap (λ (b : Body). b.header.order) rest;
-  ready = ap (λ (b : Body). b.ready) rest;
+  base = ap (λ (b : Body). b.base) rest;
+  written = ap (λ (b : Body). b.written) rest;
+  ready = ap ready_of rest ∙ ap (λ (n : ℕ). ready && (is_of_source old.base && has_lengths old.spare (length old.phdrs) n)) (ap length is ∙ length-set old.sections.items s y);
 }
 
 pub shdr_stepped : (old new : Body) (s : ℕ) (h : Shdr) (x : Scn) → x ≡ scn_at old s → new ≡ record old { sections = new.sections; ready = false }
@@ -178,7 +186,7 @@ shdr_stepped old new s h x read rest is =
     (λ image size. ap (λ (c : Section). with_section (object_of image size old) s (record c { header = h; marked = true })) (ap (section_of image) read ∙ sym (section_is image size old s)))
 
 pub section_marked : (old new : Body) (s : ℕ) (x : Scn) → x ≡ scn_at old s → new ≡ record old { sections = new.sections }
-    → new.sections.items ≡ set old.sections.items s (record x { marked = true }) → IsStepped (λ o. with_mark o (part.Section s)) old.ready old new
+    → new.sections.items ≡ set old.sections.items s (record x { marked = true }) → IsStepped (λ o. with_mark o (part.Section s)) (ready_of old) old new
 unfolding with_mark section_of
 section_marked old new s x read rest is =
     section_stepped (λ o. with_mark o (part.Section s)) old.ready old new s (record x { marked = true }) rest is (ap without_pieces read)
@@ -199,7 +207,7 @@ pieces_stay image x pieces = ap (λ (raw : List ℕ). record (section_of image x
 -- its pieces become others
 pub pieces_stepped : (after : Object → Object) (ready : Bool) (old new : Body) (s : ℕ) (x : Scn) (change : List Piece → List Piece) → x ≡ scn_at old s
     → new ≡ record old { sections = new.sections; ready = ready } → new.sections.items ≡ set old.sections.items s (record x { cell = record x.cell { pieces = change x.cell.pieces } })
-    → ((o : Object) → with_section o s (record (section_at o s) { pieces = change (section_at o s).pieces }) ≡ after o) → IsStepped after ready old new
+    → ((o : Object) → with_section o s (record (section_at o s) { pieces = change (section_at o s).pieces }) ≡ after o) → IsStepped after (ready && has_spare old) old new
 unfolding section_of
 pieces_stepped after ready old new s x change read rest is stepped =
     section_stepped after ready old new s (record x { cell = record x.cell { pieces = change x.cell.pieces } }) rest is (ap without_pieces read)
@@ -216,7 +224,7 @@ unfolding with_mark with_piece_at piece_at
 piece_marks o s p = refl
 
 pub piece_marked : (old new : Body) (s p : ℕ) (x : Scn) → x ≡ scn_at old s → new ≡ record old { sections = new.sections }
-    → new.sections.items ≡ set old.sections.items s (record x { cell = marked_piece x.cell p }) → IsStepped (λ o. with_mark o (part.Piece s p)) old.ready old new
+    → new.sections.items ≡ set old.sections.items s (record x { cell = marked_piece x.cell p }) → IsStepped (λ o. with_mark o (part.Piece s p)) (ready_of old) old new
 unfolding piece_in
 piece_marked old new s p x read rest is =
     pieces_stepped (λ o. with_mark o (part.Piece s p)) old.ready old new s x (marked_in p) read rest is (λ o. piece_marks o s p)

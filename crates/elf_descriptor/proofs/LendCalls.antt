@@ -31,7 +31,7 @@ use Rattle.section_data.specs.Lends.{with_items}
 use Rattle.section_data.specs.Refused.{lend_due, preparing}
 use Rattle.elf_descriptor.specs.declared.body.Body.{Body}
 use Rattle.elf_descriptor.specs.State.{State}
-use Rattle.elf_descriptor.specs.Views.{object_of, section_of, scn_at, loaded_of, held_of, state_of}
+use Rattle.elf_descriptor.specs.Views.{object_of, section_of, scn_at, loaded_of, held_of, state_of, ready_of}
 use Rattle.elf_descriptor.specs.Bodies.{no_list_in}
 use Rattle.elf_descriptor.specs.Sound.{IsElf}
 use Rattle.elf_descriptor.specs.Edits.{IsStepped}
@@ -155,7 +155,7 @@ left_cell : (c : CellView) (p : ℕ) (items : Items) → (piece_in c p).marked �
 left_cell c p items marked = ap (λ (m : Bool). record c { pieces = set c.pieces p (piece_of items (piece_in c p).align m) }) marked
 
 module _ (image : Option (List ℕ)) (size : ℕ) (b : Body) (kind : Kind) (s p : ℕ) (left : Items) (is : IsElf image size b) (x : IsOwnPiece (object_of image size b) kind s p) where
-  pub left_stepped : IsStepped (λ o. with_own o s p left) b.ready b (with_left b s p left)
+  pub left_stepped : IsStepped (λ o. with_own o s p left) (ready_of b) b (with_left b s p left)
   left_stepped =
       piece_replaced b (with_left b s p left) s p left (scn_at b s) refl refl
       (ap (λ (c : CellView). set b.sections.items s (record (scn_at b s) { cell = c })) (left_cell (scn_at b s).cell p left (own_marked image size b kind s p is x)))
@@ -165,12 +165,12 @@ module _ (image : Option (List ℕ)) (size : ℕ) (b : Body) (kind : Kind) (s p 
       let o = object_of image size b in
       let answer : answered (lend_refusal o (items_kind left) s p) (items_at o s p) ≡ Ok (items_at o s p) =
       ap (λ (k : Kind). answered (lend_refusal o k s p) (items_at o s p)) same ∙ ap (λ (r : Option ElfError). answered r (items_at o s p)) (own_passed o kind s p x) in
-      stepped_elf (calls.lend s p left) image size (items_at o s p) b.ready b (with_left b s p left) (keeps left) (ties left) (bases left) answer left_stepped is
+      stepped_elf (calls.lend s p left) image size (items_at o s p) (ready_of b) b (with_left b s p left) (keeps left) (ties left) (bases left) answer left_stepped is
 
 pub left_state : {S : Type 0} (g : Ghosts S) (source : S) (b : Body) (kind : Kind) (s p : ℕ) (left : Items) → IsElf (g.holds source) (g.size source) b → IsOwnPiece (object_over g source b) kind s p
     → state_of g source (with_left b s p left) ≡ record (state_of g source b) { o = with_own (object_over g source b) s p left }
 left_state g source b kind s p left is x =
-    state_stepped g source (λ o. with_own o s p left) b.ready b (with_left b s p left) (left_stepped (g.holds source) (g.size source) b kind s p left is x)
+    state_stepped g source (λ o. with_own o s p left) (ready_of b) b (with_left b s p left) (left_stepped (g.holds source) (g.size source) b kind s p left is x)
 
 -- ---- An own piece is given items again
 
@@ -242,6 +242,7 @@ to_own_then g v r old new sections due settled rose reads = record {
   stays = reads.stays;
   holds = reads.holds;
   holds_on = reads.holds_on;
+  room = reads.room;
   first_use = λ refused. reads.first_use (settled refused);
 }
 
@@ -257,5 +258,6 @@ lent_reads g r old mid kind s p items sections others y same reads =
       stays = reads.stays;
       holds = reads.holds;
       holds_on = λ t i below holds. holds_owned mid.o mid.held s p t i items y.section y.piece (reads.holds_on t i below holds);
+      room = reads.room;
       first_use = reads.first_use;
     })

@@ -32,3 +32,8 @@ pub mod OwnedCalls
 pub mod LendCalls
 pub mod LendLaws
 pub mod StoreCalls
+pub mod OneCell
+pub mod Unloading
+pub mod Rows
+pub mod Sizes
+pub mod Placing

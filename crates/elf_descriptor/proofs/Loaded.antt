@@ -1,5 +1,5 @@
 -- What is loaded and held of each section, and what a call on it is due.
-use Rattle.std.proofs.Common.{◌≡◌, ℕ, ◌<◌, ◌≤◌, Bool, true, false, List, length, map, Option, Some, None, refl, sym, ap, ◌∙◌, subst}
+use Rattle.std.proofs.Common.{◌≡◌, ℕ, ◌<◌, ◌≤◌, arith, Bool, true, false, List, length, map, Option, Some, None, refl, sym, ap, ◌∙◌, subst, take, drop, ◌+◌}
 use Rattle.std.specs.Prelude.{slice_get, IfSome, IsTrue, is_some, nat_lt, unwrap_or}
 use Rattle.std.proofs.lemmas.Bool.{ltb-true, ltb-false}
 use Rattle.std.proofs.lemmas.Option.{unwrap_or-slice_get}
@@ -15,9 +15,12 @@ use Rattle.elf_descriptor.specs.declared.held.Held.{Held}
 use Rattle.elf_descriptor.specs.declared.held.Held.TheVariants.{Edited, Raw, Unread}
 use Rattle.elf_descriptor.specs.declared.scn.Scn.{Scn}
 use Rattle.elf_descriptor.specs.declared.body.Body.{Body}
-use Rattle.elf_descriptor.specs.Views.{object_of, section_of, raw_of, bytes_or, scn_at, absent_scn, loaded_of, held_of, state_of}
+use Rattle.elf_descriptor.specs.Views.{object_of, section_of, raw_of, bytes_or, scn_at, absent_scn, loaded_of, held_of, state_of, base_of, room_of}
 use Rattle.elf_descriptor.specs.Held.{IsHeld, IsHeldIn}
 use Rattle.elf_descriptor.proofs.Objects.{section_is, piece_is}
+use Rattle.elf_descriptor.specs.Sound.{IsElf}
+use Rattle.elf_descriptor.proofs.Warming.{lies_in_part, empty_at}
+use Rattle.elf_descriptor.proofs.BaseCalls.{base_is, home_stands, part_fits}
 
 pub loaded_is : (b : Body) (s : ℕ) → is_loaded (loaded_of b) s ≡ cell_is_loaded (scn_at b s).cell
 unfolding is_loaded loaded_of scn_at
@@ -30,6 +33,12 @@ unfolding held_of scn_at
 home_held_is b s =
     unwrap_or-slice_get (map (λ (x : Scn). is_some x.cell.held) b.sections.items) s false
     ∙ get_or-map (λ (x : Scn). is_some x.cell.held) b.sections.items s absent_scn
+
+pub room_is : (b : Body) (s : ℕ) → is_loaded (room_of b) s ≡ (scn_at b s).cell.room
+unfolding is_loaded room_of scn_at
+room_is b s =
+    unwrap_or-slice_get (map (λ (x : Scn). x.cell.room) b.sections.items) s false
+    ∙ get_or-map (λ (x : Scn). x.cell.room) b.sections.items s absent_scn
 
 -- a section that is not there
 pub absent_at : (b : Body) (s : ℕ) → length b.sections.items ≤ s → scn_at b s ≡ absent_scn
@@ -77,16 +86,47 @@ raw_is image size b s = ap (λ (c : Section). c.raw) (section_is image size b s)
 
 -- ---- What is held of a piece
 
-pub held_as : {S : Type 0} (g : Ghosts S) (source : S) (b : Body) (s p : ℕ) (held : Held) → IsCell (scn_at b s).cell → IsHeldIn (scn_at b s).cell p held
+-- a home that is not loaded stands in the base
+unread_stands : (image : Option (List ℕ)) (size : ℕ) (b : Body) (s : ℕ) → IsElf image size b → (scn_at b s).cell.raw ≡ None → (scn_at b s).cell.home.out ≡ false → IsTrue (is_some image)
+    → take (scn_at b s).cell.home.len (drop (scn_at b s).cell.home.at (base_of b.base image size)) ≡ raw_of image (scn_at b s).cell
+unfolding raw_of
+unread_stands None size b s is unread inside told = cc
+unread_stands (Some bytes) size b s is unread inside told =
+    home_stands b.base bytes size (scn_at b s).cell inside (lies_in_part (Some bytes) size b s is (ap (λ (r : Option (List ℕ)). is_some r) unread) inside) (empty_at (Some bytes) size b s is)
+    ∙ ap (λ (r : Option (List ℕ)). bytes_or r (home_bytes (scn_at b s).cell.home bytes)) (sym unread)
+
+-- of a section, with the base
+abbrev Lies : List ℕ → Section → Type 0
+Lies base c = c.home.out ≡ false → 0 < c.home.len → c.home.at + c.home.len ≤ length base
+
+abbrev Stands : List ℕ → Section → Type 0
+Stands base c = c.home.out ≡ false → take c.home.len (drop c.home.at base) ≡ c.raw
+
+unread_lies : (image : Option (List ℕ)) (size : ℕ) (b : Body) (s : ℕ) → IsElf image size b → (scn_at b s).cell.raw ≡ None → Lies (base_of b.base image size) (section_of image (scn_at b s))
+unfolding section_of
+unread_lies image size b s is unread inside some =
+    let part = lies_in_part image size b s is (ap (λ (r : Option (List ℕ)). is_some r) unread) inside some in
+    let fits = part_fits b.base image size is.long is.within in
+    omega (arith, part, fits)
+
+unread_is : (image : Option (List ℕ)) (size : ℕ) (b : Body) (s : ℕ) → IsElf image size b → (scn_at b s).cell.raw ≡ None → IsTrue (is_some image) → Stands (base_of b.base image size) (section_of image (scn_at b s))
+unfolding section_of
+unread_is image size b s is unread told inside = unread_stands image size b s is unread inside told
+
+pub held_as : {S : Type 0} (g : Ghosts S) (source : S) (b : Body) (s p : ℕ) (held : Held) → IsElf (g.holds source) (g.size source) b → IsCell (scn_at b s).cell → IsHeldIn (scn_at b s).cell p held
     → IsHeld (state_of g source b) s p held
-held_as g source b s p (Edited items) cell is = ap (λ (q : Piece). q.own) (piece_is (g.holds source) (g.size source) b s p) ∙ is
-held_as g source b s p (Raw bytes) cell is = record {
+held_as g source b s p (Edited items) sound cell is = ap (λ (q : Piece). q.own) (piece_is (g.holds source) (g.size source) b s p) ∙ is
+held_as g source b s p (Raw bytes) sound cell is = record {
   clean = ap (λ (q : Piece). q.own) (piece_is (g.holds source) (g.size source) b s p) ∙ is.0;
   loaded = loaded_is b s ∙ ap (λ (o : Option (List ℕ)). is_some o) is.1;
   alike = raw_alike (g.holds source) (scn_at b s).cell bytes.now cell is.1 ∙ sym (ap length (raw_is (g.holds source) (g.size source) b s));
   exact = λ told. raw_exact (g.holds source) (scn_at b s).cell bytes.now is.1 told ∙ sym (raw_is (g.holds source) (g.size source) b s);
 }
-held_as g source b s p Unread cell is = record {
+held_as g source b s p Unread sound cell is = record {
   clean = ap (λ (q : Piece). q.own) (piece_is (g.holds source) (g.size source) b s p) ∙ is.0;
   unread = loaded_is b s ∙ ap (λ (o : Option (List ℕ)). is_some o) is.1;
+  inside = subst (λ (c : Section). Lies (object_of (g.holds source) (g.size source) b).base c) (sym (section_is (g.holds source) (g.size source) b s))
+      (subst (λ (l : List ℕ). Lies l (section_of (g.holds source) (scn_at b s))) (sym (base_is (g.holds source) (g.size source) b)) (unread_lies (g.holds source) (g.size source) b s sound is.1));
+  stands = λ told. subst (λ (c : Section). Stands (object_of (g.holds source) (g.size source) b).base c) (sym (section_is (g.holds source) (g.size source) b s))
+      (subst (λ (l : List ℕ). Stands l (section_of (g.holds source) (scn_at b s))) (sym (base_is (g.holds source) (g.size source) b)) (unread_is (g.holds source) (g.size source) b s sound is.1 told));
 }

@@ -1,8 +1,8 @@
 -- The plain object that the program's parts stand for.
-use Rattle.std.proofs.Common.{◌≡◌, ℕ, Bool, false, ◌||◌, List, [], ◌∷◌, length, map, get_or, Option, Some, None, Ok, refl, sym, ap, ◌∙◌}
+use Rattle.std.proofs.Common.{◌≡◌, ℕ, Bool, false, ◌||◌, List, [], ◌∷◌, length, map, get_or, Option, Some, None, Ok, refl, sym, ap, ◌∙◌, ◌≤◌, take, subst, arith}
 use Rattle.std.specs.Prelude.{nat_le, IfSome}
 use Rattle.std.specs.List.{list_any}
-use Rattle.std.proofs.lemmas.List.{length-map, length-replicate}
+use Rattle.std.proofs.lemmas.List.{length-map, length-replicate, length-take-le, take_all}
 use Rattle.std.proofs.Math.ListN.{get_or-map}
 use Rattle.elf_types.specs.declared.records.Kind.{Kind}
 use Rattle.elf_types.specs.declared.errors.ElfError.{ElfError}
@@ -16,7 +16,10 @@ use Rattle.elf_object.specs.Calls.{shdr_answer, pieces_answer, home_answer, piec
 use Rattle.section_data.specs.Held.{piece_in, kind_in}
 use Rattle.section_data.specs.Refused.{no_piece}
 use Rattle.elf_descriptor.specs.declared.body.Body.{Body}
-use Rattle.elf_descriptor.specs.Views.{object_of, section_of, raw_of, scn_at, absent_scn, no_scn, base_of, HasCounts}
+use Rattle.elf_descriptor.specs.declared.body.Base.{Base}
+use Rattle.elf_descriptor.specs.declared.body.Base.TheVariants as bases
+use Rattle.elf_descriptor.specs.Sound.{source_part}
+use Rattle.elf_descriptor.specs.Views.{object_of, section_of, raw_of, scn_at, absent_scn, no_scn, base_of, source_bytes, HasCounts}
 use Rattle.elf_descriptor.specs.Bodies.{no_piece_in, is_scn_dirty}
 use Rattle.elf_descriptor.proofs.Marks.{list_any-map}
 
@@ -110,12 +113,20 @@ dirty_is image size b =
 
 -- ---- The base
 
--- the number of bytes that were handed in, or of those of the source
-abbrev pub base_count : Option (List ℕ) → ℕ → ℕ
-base_count (Some base) size = length base
-base_count None size = size
+-- the number of bytes that were handed in, or of those of the source that are the base's
+abbrev pub base_count : Base → ℕ
+base_count (bases.Own bytes) = length bytes
+base_count (bases.Source n) = n
 
-pub base_length : (kept image : Option (List ℕ)) (size : ℕ) → IfSome image (λ bytes. length bytes ≡ size) → length (base_of kept image size) ≡ base_count kept size
-base_length (Some base) image size long = refl
-base_length None (Some bytes) size long = long
-base_length None None size long = length-replicate size 0
+-- a source has as many bytes as it tells or not
+pub source_length : (image : Option (List ℕ)) (size : ℕ) → IfSome image (λ bytes. length bytes ≡ size) → length (source_bytes image size) ≡ size
+source_length (Some bytes) size long = long
+source_length None size long = length-replicate size 0
+
+pub base_length : (kept : Base) (image : Option (List ℕ)) (size : ℕ) → IfSome image (λ bytes. length bytes ≡ size) → source_part kept ≤ size → length (base_of kept image size) ≡ base_count kept
+base_length (bases.Own bytes) image size long within = refl
+base_length (bases.Source n) image size long within = length-take-le n (source_bytes image size) (subst (λ (k : ℕ). n ≤ k) (sym (source_length image size long)) within)
+
+-- the whole of a source
+pub whole_source : (image : Option (List ℕ)) (size : ℕ) → IfSome image (λ bytes. length bytes ≡ size) → take size (source_bytes image size) ≡ source_bytes image size
+whole_source image size long = take_all size (source_bytes image size) (subst (λ (k : ℕ). k ≤ size) (sym (source_length image size long)) (omega arith))

@@ -26,7 +26,7 @@ use Rattle.section_data.specs.Leaves.{Warms, OwnsKind}
 use Rattle.section_data.specs.Refused.{kind_refused, no_home_items, lend_due, preparing}
 use Rattle.elf_descriptor.specs.declared.scn.Scn.{Scn}
 use Rattle.elf_descriptor.specs.declared.body.Body.{Body}
-use Rattle.elf_descriptor.specs.Views.{object_of, section_of, scn_at, no_scn, loaded_of, held_of, state_of}
+use Rattle.elf_descriptor.specs.Views.{object_of, section_of, scn_at, no_scn, loaded_of, held_of, state_of, ready_of}
 use Rattle.elf_descriptor.specs.Bodies.{no_list_in}
 use Rattle.elf_descriptor.specs.Sound.{IsElf}
 use Rattle.elf_descriptor.specs.Warmed.{Warmed}
@@ -40,7 +40,8 @@ use Rattle.elf_descriptor.proofs.ListedCells.{warms_piece, clean_or_own, list_pa
 use Rattle.elf_descriptor.proofs.Reading.{object_over, contains_one, home_held, held_there}
 use Rattle.elf_descriptor.proofs.PieceCalls.{lend_refusal_is, kind_unread, reader_due, reader_looks, holds_is, clean_list, section_sound}
 use Rattle.elf_descriptor.proofs.DataCalls.{held_loaded, ready_items}
-use Rattle.elf_descriptor.proofs.OwnedCells.{owned_items, owned_object, owned_here, owned_other, owned_count, owns_same, owns_hold, before_own, before_warmed, before_cell}
+use Rattle.elf_descriptor.proofs.OwnedCells.{owns_cell, owned_items, owned_object, owned_here, owned_other, owned_count, owns_same, owns_hold, before_own, before_warmed, before_cell}
+use Rattle.elf_descriptor.proofs.Loaded.{room_is}
 
 -- ---- The answer
 
@@ -142,6 +143,7 @@ lend_refused g (Err e) source left old new lent s p is came w held same asks =
         stays = reads.stays;
         holds = λ i out. home_held new i ∙ ap (λ (o : Option Items). is_some o) (held_there (g.holds source) old new s [] w (λ none. held) i out) ∙ sym (home_held old i);
         holds_on = reads.holds_on;
+        room = reads.room;
         first_use = reads.first_use;
       };
     }
@@ -239,6 +241,17 @@ module _ (image : Option (List ℕ)) (size : ℕ) (kind : Kind) (old new : Body)
           (unread_same (subst (λ (n : ℕ). ¬ Contains (lend_reads (object_of image size old) kind s p) n) same out))
       by_number false e = ap (λ (y : Scn). y.cell) (owned_other image size kind false old new s p x i (other_number i s e))
 
+  -- memory that is kept aside stays
+  owned_room : (i : ℕ) → (scn_at new i).cell.room ≡ (scn_at old i).cell.room
+  owned_room i = by_number (i == s) refl
+    where
+      by_number : (b : Bool) → (i == s) ≡ b → (scn_at new i).cell.room ≡ (scn_at old i).cell.room
+      by_number true e =
+          let same = eqb-true i s e in
+          subst (λ (n : ℕ). (scn_at new n).cell.room ≡ (scn_at old n).cell.room) (sym same)
+          (ap (λ (y : Scn). y.cell.room) (owned_here image size kind false old new s p x) ∙ ap (λ (c : CellView). c.room) (owns_cell image _ _ (scn_at old s).cell x.cell p x.owns))
+      by_number false e = ap (λ (y : Scn). y.cell.room) (owned_other image size kind false old new s p x i (other_number i s e))
+
   held_on : (t i : ℕ) → i < length (scn_at old t).cell.pieces → piece_holds_items (scn_at old t).cell i ≡ true → piece_holds_items (scn_at new t).cell i ≡ true
   unfolding section_of
   held_on t i within holds = by_number (t == s) refl
@@ -284,7 +297,7 @@ module _ {S : Type 0} (g : Ghosts S) (source left : S) (old new : Body) (kind : 
       record {
         source = reads.source;
         told = reads.told;
-        ready = ap (λ (b : Body). b.ready) x.rest;
+        ready = ap ready_of x.rest;
         loads = λ i out. ap (λ (l : List Bool). is_loaded l i) same ∙ reads.loads i out;
         stays = λ i loaded. ap (λ (l : List Bool). is_loaded l i) same ∙ reads.stays i loaded;
         holds = held_same (g.holds source) (g.size source) kind old new s p x is passed;
@@ -292,6 +305,7 @@ module _ {S : Type 0} (g : Ghosts S) (source left : S) (old new : Body) (kind : 
             holds_is (g.holds left) (g.size left) new t i
             ∙ held_on (g.holds source) (g.size source) kind old new s p x is passed t i (subst (λ (n : ℕ). i < n) (piece_count_is (g.holds source) (g.size source) old t) there)
             (sym (holds_is (g.holds source) (g.size source) old t i) ∙ holds);
+        room = λ i unread. room_is new i ∙ owned_room (g.holds source) (g.size source) kind old new s p x is passed i ∙ sym (room_is old i);
         first_use = λ settled. subst (λ (l : List Bool). g.taken left + homes_due (object_over g source old) l list ≤ g.taken source + homes_due (object_over g source old) (loaded_of old) list) (sym same)
             (reads.first_use settled);
       }

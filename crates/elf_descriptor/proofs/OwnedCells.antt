@@ -30,11 +30,11 @@ use Rattle.section_data.proofs.Owning.{own_kind, claimed_piece}
 use Rattle.elf_descriptor.specs.declared.scn.Scn.{Scn}
 use Rattle.elf_descriptor.specs.declared.body.Body.{Body}
 use Rattle.elf_descriptor.specs.Views.{object_of, section_of, raw_of, scn_at, absent_scn}
-use Rattle.elf_descriptor.specs.Sound.{IsElf, IsSound, CellIn}
+use Rattle.elf_descriptor.specs.Sound.{IsElf, IsSound, CellIn, source_part}
 use Rattle.elf_descriptor.specs.Warmed.{Warmed}
 use Rattle.elf_descriptor.specs.Owned.{IsOwned}
 use Rattle.elf_descriptor.proofs.Objects.{section_is}
-use Rattle.elf_descriptor.proofs.Warming.{warms_section, scn_written, other_number, cell_at, unread_before}
+use Rattle.elf_descriptor.proofs.Warming.{warms_section, scn_written, other_number, cell_at, unread_before, part_within, cell_moved, standing_moved}
 use Rattle.elf_descriptor.proofs.EditSteps.{pieces_stay}
 use Rattle.elf_descriptor.proofs.EditPieces.{owned_in, piece_owned}
 use Rattle.elf_descriptor.proofs.EditLaws.{has_counts, step_sound}
@@ -137,6 +137,9 @@ module _ (image : Option (List ℕ)) (size : ℕ) (kind : Kind) (unready : Bool)
   pub owned_header : new.header ≡ old.header
   owned_header = ap (λ (b : Body). b.header) x.rest
 
+  owned_base : new.base ≡ old.base
+  owned_base = ap (λ (b : Body). b.base) x.rest
+
   pub owned_here : scn_at new s ≡ record (scn_at old s) { cell = x.cell }
   owned_here = scn_written old new s (record (scn_at old s) { cell = x.cell }) x.there x.sections
 
@@ -148,27 +151,28 @@ module _ (image : Option (List ℕ)) (size : ℕ) (kind : Kind) (unready : Bool)
   pub owned_count : length new.sections.items ≡ length old.sections.items
   owned_count = ap length x.sections ∙ length-set old.sections.items s (record (scn_at old s) { cell = x.cell })
 
-  owned_lies : LiesIn (scn_at old s).cell size → LiesIn x.cell size
-  owned_lies lies =
+  owned_lies : (n : ℕ) → LiesIn (scn_at old s).cell n → LiesIn x.cell n
+  owned_lies n lies =
       let o = x.owns in
-      subst (λ (c : CellView). LiesIn c size) (sym (owns_cell image old.header.class old.header.order (scn_at old s).cell x.cell p o))
+      subst (λ (c : CellView). LiesIn c n) (sym (owns_cell image old.header.class old.header.order (scn_at old s).cell x.cell p o))
       (λ unread inside some. lies (unread_before image (scn_at old s).cell.home (scn_at old s).cell.raw o.warms.raw o.warms.bytes unread) inside some)
 
-  owned_cells : IsElf image size old → (i : ℕ) → i < length old.sections.items → CellIn old.header.class old.header.order size i (scn_at new i)
+  owned_cells : IsElf image size old → (i : ℕ) → i < length old.sections.items → CellIn old.header.class old.header.order old.base i (scn_at new i)
   owned_cells is i there = by_number (i == s) refl
     where
-      by_number : (b : Bool) → (i == s) ≡ b → CellIn old.header.class old.header.order size i (scn_at new i)
+      by_number : (b : Bool) → (i == s) ≡ b → CellIn old.header.class old.header.order old.base i (scn_at new i)
       by_number true e =
           let same = eqb-true i s e in
           let before = cell_at image size old s is x.there in
-          subst (λ (n : ℕ). CellIn old.header.class old.header.order size n (scn_at new n)) (sym same)
-          (subst (λ (y : Scn). CellIn old.header.class old.header.order size s y) (sym owned_here) (record {
+          subst (λ (n : ℕ). CellIn old.header.class old.header.order old.base n (scn_at new n)) (sym same)
+          (subst (λ (y : Scn). CellIn old.header.class old.header.order old.base s y) (sym owned_here) (record {
             number = ap (λ (c : CellView). c.section) (owns_cell image old.header.class old.header.order (scn_at old s).cell x.cell p x.owns) ∙ before.number;
-            lies = owned_lies before.lies;
+            lies = owned_lies (source_part old.base) before.lies;
+            empty = λ none. ap (λ (c : CellView). c.home.len) (owns_cell image old.header.class old.header.order (scn_at old s).cell x.cell p x.owns) ∙ before.empty none;
             items = x.items;
           }))
       by_number false e =
-          subst (λ (y : Scn). CellIn old.header.class old.header.order size i y) (sym (owned_other i (other_number i s e))) (cell_at image size old i is there)
+          subst (λ (y : Scn). CellIn old.header.class old.header.order old.base i y) (sym (owned_other i (other_number i s e))) (cell_at image size old i is there)
 
   -- it stays sound, since lending the items of the piece keeps what is true of an object
   pub owned_elf : KeepsObject (calls.lend s p owned_items) → KeepsTied (calls.lend s p owned_items) → KeepsBased (calls.lend s p owned_items)
@@ -181,12 +185,14 @@ module _ (image : Option (List ℕ)) (size : ℕ) (kind : Kind) (unready : Bool)
       let sound : IsSound image (object_of image size new) = subst (λ (q : Object). IsSound image q) (sym owned_object) (step_sound (calls.lend s p owned_items) image o (items_at o s p) keeps ties bases answer is.sound) in
       record {
         long = is.long;
+        within = part_within old new size owned_base is.within;
         counts = has_counts image size new sound.object;
         cells = λ i y found.
             let there = slice_get_within new.sections.items i y found in
             let at = get_or_from_slice_get new.sections.items i y absent_scn found in
-            subst (λ (h : Ehdr). CellIn h.class h.order size i y) (sym owned_header)
-            (subst (λ (z : Scn). CellIn old.header.class old.header.order size i z) at (owned_cells is i (omega (arith, there, owned_count))));
+            cell_moved old new (ap (λ (h : Ehdr). h.class) owned_header) (ap (λ (h : Ehdr). h.order) owned_header) owned_base i y
+            (subst (λ (z : Scn). CellIn old.header.class old.header.order old.base i z) at (owned_cells is i (omega (arith, there, owned_count))));
+        written = standing_moved old new (ap (λ (h : Ehdr). h.class) owned_header) (ap (λ (h : Ehdr). h.order) owned_header) (ap (λ (b : Body). b.written) x.rest) is.written;
         sound = sound;
       }
 
@@ -209,6 +215,7 @@ module _ (image : Option (List ℕ)) (size : ℕ) (kind : Kind) (unready : Bool)
       record {
         sized = kept.sized;
         outside = kept.outside;
+        no_room = kept.no_room;
         few = subst (λ (l : List Piece). length l ≤ MAX_PIECES) (sym pieces) section.piece_count;
         each = subst (λ (l : List Piece). All IsPiece l) (sym pieces) section.pieces;
         others = subst (λ (l : List Piece). OthersOwn l) (sym pieces) section.others;

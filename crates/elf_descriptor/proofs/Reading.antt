@@ -22,8 +22,8 @@ use Rattle.elf_descriptor.specs.Views.{object_of, scn_at, loaded_of, held_of, st
 use Rattle.elf_descriptor.specs.Warmed.{Warmed}
 use Rattle.elf_descriptor.specs.Reads.{Reads}
 use Rattle.elf_descriptor.proofs.Refusals.{IsUnread, unless_unread, answers_passed, answers_unread}
-use Rattle.elf_descriptor.proofs.Warming.{warmed_object, warmed_cell, warmed_other, other_number}
-use Rattle.elf_descriptor.proofs.Loaded.{loaded_is, home_held_is}
+use Rattle.elf_descriptor.proofs.Warming.{warmed_object, warmed_ready, warmed_cell, warmed_other, other_number}
+use Rattle.elf_descriptor.proofs.Loaded.{loaded_is, room_is, home_held_is}
 
 -- the object stays
 pub left_object : {S : Type 0} (g : Ghosts S) (source left : S) (old new : Body) (s : ℕ) → Leaves g source left → Warmed (g.holds source) old new s
@@ -99,7 +99,7 @@ pub reads_warmed : {S T : Type 0} (g : Ghosts S) (result : Result T ElfError) (s
 reads_warmed g result source left old new s sections holding w asks idle kept settled = record {
   source = asks;
   told = ap (λ (o : Option (List ℕ)). is_some o) asks.leaves.same_bytes;
-  ready = ap (λ (b : Body). b.ready) w.rest;
+  ready = warmed_ready (g.holds source) old new s w;
   loads = λ i out.
       loaded_is new i
       ∙ ap (λ (c : CellView). cell_is_loaded c) (loads_there (g.holds source) old new s sections w idle i out)
@@ -112,6 +112,7 @@ reads_warmed g result source left old new s sections holding w asks idle kept se
       ∙ ap (λ (o : Option Items). is_some o) (held_there (g.holds source) old new s holding w kept i out)
       ∙ sym (home_held old i);
   holds_on = holds_still (g.holds source) old new s (object_over g source old) (object_over g left new) w (left_object g source left old new s asks.leaves w);
+  room = λ i unread. room_is new i ∙ ap (λ (c : CellView). c.room) (warmed_cell (g.holds source) old new s i w).cell ∙ sym (room_is old i);
   first_use = λ refused. omega (arith, asks.taken.no_more, settled refused);
 }
 

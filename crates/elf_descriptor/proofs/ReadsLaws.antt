@@ -25,6 +25,7 @@ reads_then g r q old new sections holding due settled read reads = record {
   stays = reads.stays;
   holds = reads.holds;
   holds_on = reads.holds_on;
+  room = reads.room;
   first_use = λ refused. reads.first_use (settled refused);
 }
 
@@ -44,6 +45,7 @@ reads_nothing g r s sections holding due read = record {
   stays = λ i is. is;
   holds = λ i other. refl;
   holds_on = λ s p is. is;
+  room = λ i unread. refl;
   first_use = λ settled. omega arith;
 }
 
@@ -67,6 +69,11 @@ dues_stay o before after [] stays = omega arith
 dues_stay o before after (s ∷ sections) stays =
     omega (arith, due_stays o before after s (stays s), dues_stay o before after sections stays, sum_by-cons (home_due o before) s sections, sum_by-cons (home_due o after) s sections)
 
+-- what is not loaded after a call was not loaded before it
+pub unread_before : (before after : Bool) → (IsTrue before → IsTrue after) → after ≡ false → before ≡ false
+unread_before false after stays unread = refl
+unread_before true after stays unread = let is = stays refl in cc
+
 -- two calls in a row on an object that the first one leaves, of which the second answers
 pub reads_both : {S T U : Type 0} (g : Ghosts S) (r : Result T ElfError) (q : Result U ElfError) (old mid new : State S) (a b x y : List ℕ) (n m : ℕ)
     → IfErr r IsRefusal → mid.o ≡ old.o → Reads g r old mid a x n → Reads g q mid new b y m → Reads g q old new (a ++ b) (x ++ y) (n + m)
@@ -79,6 +86,7 @@ reads_both g r q old mid new a b x y n m settled same first second = record {
   stays = λ i is. second.stays i (first.stays i is);
   holds = λ i other. second.holds i (λ is. other (Contains-append_right x y i is)) ∙ first.holds i (λ is. other (Contains-append_left x y i is));
   holds_on = λ s p is. second.holds_on s p (first.holds_on s p is);
+  room = λ i unread. second.room i unread ∙ first.room i (unread_before (is_loaded mid.loaded i) (is_loaded new.loaded i) (second.stays i) unread);
   first_use = λ refused.
       let one = first.first_use settled in
       let two = rw same at second.first_use refused in
@@ -99,6 +107,7 @@ reads_within g r old new sections holding n m few reads = record {
   stays = reads.stays;
   holds = reads.holds;
   holds_on = reads.holds_on;
+  room = reads.room;
   first_use = reads.first_use;
 }
 
@@ -113,6 +122,7 @@ reads_wider g r old new a b x y n m reads = record {
   stays = reads.stays;
   holds = λ i other. reads.holds i (λ is. other (Contains-append_left x y i is));
   holds_on = reads.holds_on;
+  room = reads.room;
   first_use = λ refused.
       let one = reads.first_use refused in
       let before = sum_by-append (home_due old.o old.loaded) a b in

@@ -1,6 +1,6 @@
 -- A section's data is read and translated: the object stays, and the descriptor stays sound.
 use Rattle.std.proofs.Common.{◌≡◌, ◌≢◌, ℕ, ◌<◌, ◌≤◌, Bool, true, false, List, length, get_or, set, map, Option, Some, None, refl, sym, ap, ◌∙◌, subst, arith}
-use Rattle.std.specs.Prelude.{IfSome, is_some, nat_lt, ◌==◌}
+use Rattle.std.specs.Prelude.{IfSome, is_some, nat_lt, ◌==◌, ◌&&◌}
 use Rattle.std.specs.Option.{option_and_then}
 use Rattle.std.proofs.lemmas.Bool.{ltb-true, ltb-false, eqb-true, eq-eqb}
 use Rattle.std.proofs.lemmas.List.{length-set, get_or-set_same, get_or-set_other, set-get_or, set_past, get_or_past, get_or_read}
@@ -21,9 +21,11 @@ use Rattle.section_data.specs.Leaves.{Warms, RawBecomes, LiesIn}
 use Rattle.section_data.proofs.Loading.{warms_same}
 use Rattle.elf_descriptor.specs.declared.scn.Scn.{Scn}
 use Rattle.elf_descriptor.specs.declared.body.Body.{Body}
-use Rattle.elf_descriptor.specs.Views.{object_of, section_of, raw_of, bytes_or, scn_at, absent_scn, HasCounts}
+use Rattle.elf_descriptor.specs.Views.{object_of, section_of, raw_of, bytes_or, scn_at, absent_scn, HasCounts, ready_of, is_of_source, has_lengths}
 use Rattle.elf_descriptor.specs.Warmed.{Warmed}
-use Rattle.elf_descriptor.specs.Sound.{IsElf, IsSound, CellIn}
+use Rattle.elf_descriptor.specs.Sound.{IsElf, IsSound, CellIn, source_part, IsStanding}
+use Rattle.elf_descriptor.specs.declared.body.Base.{Base}
+use Rattle.elf_descriptor.specs.declared.body.Written.{Written}
 
 -- ---- The data of one section
 
@@ -54,13 +56,34 @@ warm_lies : (image : Option (List ℕ)) (size : ℕ) (c cell : CellView) → War
 warm_lies image size c cell warms lies =
     subst (λ (n : CellView). LiesIn n size) (sym warms.cell) (λ unread inside some. lies (unread_before image c.home c.raw warms.raw warms.bytes unread) inside some)
 
-warm_cell : (image : Option (List ℕ)) (class : Class) (order : Order) (size i : ℕ) (x : Scn) (cell : CellView) → Warms image x.cell cell → HeldIs class order cell
-    → CellIn class order size i x → CellIn class order size i (record x { cell = cell })
-warm_cell image class order size i x cell warms held is = record {
+warm_cell : (image : Option (List ℕ)) (class : Class) (order : Order) (base : Base) (i : ℕ) (x : Scn) (cell : CellView) → Warms image x.cell cell → HeldIs class order cell
+    → CellIn class order base i x → CellIn class order base i (record x { cell = cell })
+warm_cell image class order base i x cell warms held is = record {
   number = ap (λ (c : CellView). c.section) warms.cell ∙ is.number;
-  lies = warm_lies image size x.cell cell warms is.lies;
+  lies = warm_lies image (source_part base) x.cell cell warms is.lies;
+  empty = λ none. ap (λ (c : CellView). c.home.len) warms.cell ∙ is.empty none;
   items = held;
 }
+
+-- ---- What is known of a section's data rests on class, order and base alone
+
+pub cell_moved : (old new : Body) → new.header.class ≡ old.header.class → new.header.order ≡ old.header.order → new.base ≡ old.base → (i : ℕ) (s : Scn)
+    → CellIn old.header.class old.header.order old.base i s → CellIn new.header.class new.header.order new.base i s
+cell_moved old new class order base i s is =
+    subst (λ (c : Class). CellIn c new.header.order new.base i s) (sym class)
+    (subst (λ (o : Order). CellIn old.header.class o new.base i s) (sym order)
+    (subst (λ (b : Base). CellIn old.header.class old.header.order b i s) (sym base) is))
+
+-- and that of the front that was written on itself besides
+pub standing_moved : (old new : Body) → new.header.class ≡ old.header.class → new.header.order ≡ old.header.order → new.written ≡ old.written
+    → IfSome old.written (IsStanding old.header.class old.header.order) → IfSome new.written (IsStanding new.header.class new.header.order)
+standing_moved old new class order written is =
+    subst (λ (c : Class). IfSome new.written (IsStanding c new.header.order)) (sym class)
+    (subst (λ (o : Order). IfSome new.written (IsStanding old.header.class o)) (sym order)
+    (subst (λ (w : Option Written). IfSome w (IsStanding old.header.class old.header.order)) (sym written) is))
+
+pub part_within : (old new : Body) (size : ℕ) → new.base ≡ old.base → source_part old.base ≤ size → source_part new.base ≤ size
+part_within old new size base within = subst (λ (b : Base). source_part b ≤ size) (sym base) within
 
 -- what is held stays that of the bytes
 pub warm_held : (image : Option (List ℕ)) (class : Class) (order : Order) (c cell : CellView) → Warms image c cell → cell.held ≡ c.held → HeldIs class order c → HeldIs class order cell
@@ -140,21 +163,40 @@ warmed_counts image old new s w has = subst HasCounts (sym w.rest) (record {
   shnum = has.shnum ∙ sym (ap length w.sections ∙ length-set old.sections.items s (record (scn_at old s) { cell = w.cell }));
 })
 
+-- and so does whether an update wants memory
+pub warmed_ready : (image : Option (List ℕ)) (old new : Body) (s : ℕ) → Warmed image old new s → ready_of new ≡ ready_of old
+warmed_ready image old new s w =
+    ap ready_of w.rest
+    ∙ ap (λ (n : ℕ). old.ready && (is_of_source old.base && has_lengths old.spare (length old.phdrs) n)) (ap length w.sections ∙ length-set old.sections.items s (record (scn_at old s) { cell = w.cell }))
+
 -- what is known of a section's data
 pub cell_at : (image : Option (List ℕ)) (size : ℕ) (b : Body) (s : ℕ) → IsElf image size b → s < length b.sections.items
-    → CellIn b.header.class b.header.order size s (scn_at b s)
+    → CellIn b.header.class b.header.order b.base s (scn_at b s)
 unfolding scn_at
 cell_at image size b s is there = is.cells s (scn_at b s) (slice_get-get_or b.sections.items s absent_scn there)
 
--- its home can be read
-pub lies_at : (image : Option (List ℕ)) (size : ℕ) (b : Body) (s : ℕ) → IsElf image size b → LiesIn (scn_at b s).cell size
+-- its home lies in the part of the source that is the base's
+pub lies_in_part : (image : Option (List ℕ)) (size : ℕ) (b : Body) (s : ℕ) → IsElf image size b → LiesIn (scn_at b s).cell (source_part b.base)
 unfolding scn_at
-lies_at image size b s is = by_range (nat_lt s (length b.sections.items)) refl
+lies_in_part image size b s is = by_range (nat_lt s (length b.sections.items)) refl
   where
-    by_range : (t : Bool) → nat_lt s (length b.sections.items) ≡ t → LiesIn (scn_at b s).cell size
+    by_range : (t : Bool) → nat_lt s (length b.sections.items) ≡ t → LiesIn (scn_at b s).cell (source_part b.base)
     by_range true e = (cell_at image size b s is (ltb-true s (length b.sections.items) e)).lies
     by_range false e =
-        subst (λ (x : Scn). LiesIn x.cell size) (sym (get_or_past b.sections.items s absent_scn (ltb-false s (length b.sections.items) e))) (λ unread inside some. absurd (omega (arith, some)))
+        subst (λ (x : Scn). LiesIn x.cell (source_part b.base)) (sym (get_or_past b.sections.items s absent_scn (ltb-false s (length b.sections.items) e))) (λ unread inside some. absurd (omega (arith, some)))
+
+-- so it can be read
+pub lies_at : (image : Option (List ℕ)) (size : ℕ) (b : Body) (s : ℕ) → IsElf image size b → LiesIn (scn_at b s).cell size
+lies_at image size b s is = λ unread inside some. let part = lies_in_part image size b s is unread inside some in let within = is.within in omega (arith, part, within)
+
+-- without such a part it is empty
+pub empty_at : (image : Option (List ℕ)) (size : ℕ) (b : Body) (s : ℕ) → IsElf image size b → is_of_source b.base ≡ false → (scn_at b s).cell.home.len ≡ 0
+unfolding scn_at
+empty_at image size b s is none = by_range (nat_lt s (length b.sections.items)) refl
+  where
+    by_range : (t : Bool) → nat_lt s (length b.sections.items) ≡ t → (scn_at b s).cell.home.len ≡ 0
+    by_range true e = (cell_at image size b s is (ltb-true s (length b.sections.items) e)).empty none
+    by_range false e = ap (λ (x : Scn). x.cell.home.len) (get_or_past b.sections.items s absent_scn (ltb-false s (length b.sections.items) e))
 
 -- its items that are held are those of its bytes
 pub items_held_at : (image : Option (List ℕ)) (size : ℕ) (b : Body) (s : ℕ) → IsElf image size b → HeldIs b.header.class b.header.order (scn_at b s).cell
@@ -166,31 +208,32 @@ items_held_at image size b s is = by_range (nat_lt s (length b.sections.items)) 
     by_range false e = subst (λ (x : Scn). HeldIs b.header.class b.header.order x.cell) (sym (get_or_past b.sections.items s absent_scn (ltb-false s (length b.sections.items) e))) tt
 
 warmed_cells : (image : Option (List ℕ)) (size : ℕ) (old new : Body) (s : ℕ) → Warmed image old new s → IsElf image size old → (i : ℕ) → i < length old.sections.items
-    → CellIn old.header.class old.header.order size i (scn_at new i)
+    → CellIn old.header.class old.header.order old.base i (scn_at new i)
 warmed_cells image size old new s w is i there = by_number (i == s) refl
   where
-    by_number : (b : Bool) → (i == s) ≡ b → CellIn old.header.class old.header.order size i (scn_at new i)
+    by_number : (b : Bool) → (i == s) ≡ b → CellIn old.header.class old.header.order old.base i (scn_at new i)
     by_number true e =
         let same = eqb-true i s e in
         let before = cell_at image size old s is (omega (arith, there, same)) in
-        subst (λ (n : ℕ). CellIn old.header.class old.header.order size n (scn_at new n)) (sym same)
-        (subst (λ (x : Scn). CellIn old.header.class old.header.order size s x) (sym (warmed_here image old new s w (omega (arith, there, same))))
-        (warm_cell image old.header.class old.header.order size s (scn_at old s) w.cell w.warms (w.items before.items) before))
+        subst (λ (n : ℕ). CellIn old.header.class old.header.order old.base n (scn_at new n)) (sym same)
+        (subst (λ (x : Scn). CellIn old.header.class old.header.order old.base s x) (sym (warmed_here image old new s w (omega (arith, there, same))))
+        (warm_cell image old.header.class old.header.order old.base s (scn_at old s) w.cell w.warms (w.items before.items) before))
     by_number false e =
-        subst (λ (x : Scn). CellIn old.header.class old.header.order size i x) (sym (warmed_other image old new s i w (other_number i s e))) (cell_at image size old i is there)
+        subst (λ (x : Scn). CellIn old.header.class old.header.order old.base i x) (sym (warmed_other image old new s i w (other_number i s e))) (cell_at image size old i is there)
 
 pub warmed_elf : (image : Option (List ℕ)) (size : ℕ) (old new : Body) (s : ℕ) → Warmed image old new s → IsElf image size old → IsElf image size new
 unfolding scn_at
 warmed_elf image size old new s w is = record {
   long = is.long;
+  within = part_within old new size (ap (λ (b : Body). b.base) w.rest) is.within;
   counts = warmed_counts image old new s w is.counts;
   cells = λ i x found.
       let count = ap length w.sections ∙ length-set old.sections.items s (record (scn_at old s) { cell = w.cell }) in
       let there = slice_get_within new.sections.items i x found in
       let at = get_or_from_slice_get new.sections.items i x absent_scn found in
-      let header = ap (λ (b : Body). b.header) w.rest in
-      subst (λ (h : Ehdr). CellIn h.class h.order size i x) (sym header)
-      (subst (λ (y : Scn). CellIn old.header.class old.header.order size i y) at (warmed_cells image size old new s w is i (omega (arith, there, count))));
+      cell_moved old new (ap (λ (b : Body). b.header.class) w.rest) (ap (λ (b : Body). b.header.order) w.rest) (ap (λ (b : Body). b.base) w.rest) i x
+      (subst (λ (y : Scn). CellIn old.header.class old.header.order old.base i y) at (warmed_cells image size old new s w is i (omega (arith, there, count))));
+  written = standing_moved old new (ap (λ (b : Body). b.header.class) w.rest) (ap (λ (b : Body). b.header.order) w.rest) (ap (λ (b : Body). b.written) w.rest) is.written;
   sound = subst (IsSound image) (sym (warmed_object image size old new s w)) is.sound;
 }
 

@@ -14,9 +14,10 @@ use Rattle.elf_object.specs.Valid.{AreBytes}
 use Rattle.section_data.specs.Views.{opened_cell}
 use Rattle.elf_descriptor.specs.declared.scn.Scn.{Scn}
 use Rattle.elf_descriptor.specs.declared.body.Body.{Body}
+use Rattle.elf_descriptor.specs.declared.body.Base.TheVariants as bases
 use Rattle.elf_descriptor.specs.State.{State}
-use Rattle.elf_descriptor.specs.Views.{object_of, loaded_of, held_of, base_of, HasCounts}
-use Rattle.elf_descriptor.specs.Sound.{CellIn, IsSound}
+use Rattle.elf_descriptor.specs.Views.{object_of, loaded_of, held_of, room_of, source_bytes, ready_of, HasCounts}
+use Rattle.elf_descriptor.specs.Sound.{CellIn, IsSound, IsStanding}
 
 -- ---- What the program keeps
 
@@ -32,16 +33,18 @@ opened_scn size s = record {
 unfoldable pub opened_scns : ℕ → List Shdr → List Scn
 opened_scns size headers = map (opened_scn size) (enumerate_from 0 headers)
 
--- all of the object that a front begins, with these sections; nothing is marked
-unfoldable pub opened_body : Front → Vec Scn → Body
-opened_body f sections = record {
+-- all of the object that a front begins over a source of `size` bytes, with these sections; nothing
+-- is marked
+unfoldable pub opened_body : ℕ → Front → Vec Scn → Body
+opened_body size f sections = record {
   header = f.ehdr;
   pad = f.pad;
   phdrs = f.phdrs;
   sections = sections;
-  base = None;
+  base = bases.Source size;
   written =
       Some (record { header = standing_header f; pad = f.pad; phdrs = f.phdrs; shdrs = f.shdrs });
+  spare = None;
   layout = false;
   fill = 0;
   marked = false;
@@ -50,7 +53,7 @@ opened_body f sections = record {
   ready = false;
 }
 
--- for each section header, that something of its section is held: nothing is
+-- for each section header, that something of its section is held or kept aside: nothing is
 abbrev pub none_held : List Shdr → List Bool
 none_held headers = map (λ h. false) headers
 
@@ -58,23 +61,28 @@ none_held headers = map (λ h. false) headers
 -- nothing is read
 pub record IsOpened (f : Front) (size : ℕ) (b : Body) : Type 0 where
   pub object : (image : Option (List ℕ)) → IfSome image (λ bytes. length bytes ≡ size)
-      → object_of image size b ≡ begun f (base_of None image size)
+      → object_of image size b ≡ begun f (source_bytes image size)
   pub counts : HasCounts b
   pub cells : (i : ℕ) (s : Scn) → slice_get b.sections.items i ≡ Some s
-      → CellIn b.header.class b.header.order size i s
+      → CellIn b.header.class b.header.order b.base i s
   pub loaded : loaded_of b ≡ none_held f.shdrs
   pub held : held_of b ≡ none_held f.shdrs
-  pub ready : b.ready ≡ false
+  pub room : room_of b ≡ none_held f.shdrs
+  pub base : b.base ≡ bases.Source size
+  pub written : IsFittingFront f → IfSome b.written (IsStanding f.ehdr.class f.ehdr.order)
+  pub ready : ready_of b ≡ false
+  pub header : b.header ≡ f.ehdr
 
 -- ---- The descriptor
 
 -- the descriptor over a source that a front begins
 unfoldable pub begun_state : {S : Type 0} → Ghosts S → Front → S → State S
 begun_state g f source = record {
-  o = begun f (base_of None (g.holds source) (g.size source));
+  o = begun f (source_bytes (g.holds source) (g.size source));
   told = is_some (g.holds source);
   loaded = none_held f.shdrs;
   held = none_held f.shdrs;
+  room = none_held f.shdrs;
   ready = false;
   source = source;
 }
@@ -88,7 +96,7 @@ BegunIsSound =
     → IfSome image (λ bytes. length bytes ≡ size)
     → IfSome image AreBytes
     → IfSome image (λ bytes. opened bytes ≡ Ok (begun f bytes))
-    → IsSound image (begun f (base_of None image size))
+    → IsSound image (begun f (source_bytes image size))
 
 -- it has begun over that source: a front of its length, each number of which fits, begins it
 pub record IsBegun {S : Type 0} (g : Ghosts S) (source : S) (e : State S) : Type 0 where

@@ -1,18 +1,21 @@
 -- A descriptor that is created, over nothing that was read (elf_begin with ELF_C_WRITE, elf(3E)).
-use Rattle.std.specs.Prelude.{◌≡◌, ℕ, Bool, true, false, List, [], Option}
+use Rattle.std.specs.Prelude.{◌≡◌, ℕ, Bool, true, false, List, [], Option, None}
 use Rattle.elf_types.specs.declared.records.Class.{Class}
 use Rattle.elf_types.specs.declared.records.Order.{Order}
 use Rattle.elf_object.specs.Open.{created_over}
 use Rattle.elf_descriptor.specs.declared.body.Body.{Body}
+use Rattle.elf_descriptor.specs.declared.body.Base.TheVariants as bases
 use Rattle.elf_descriptor.specs.State.{State}
-use Rattle.elf_descriptor.specs.Views.{object_of}
+use Rattle.elf_descriptor.specs.Views.{object_of, ready_of}
 
 -- what the program keeps of it stands for it, whatever its source
 pub record IsCreatedBody (class : Class) (order : Order) (base : List ℕ) (b : Body) : Type 0 where
   pub object : (image : Option (List ℕ)) (size : ℕ)
       → object_of image size b ≡ created_over class order base
   pub none : b.sections.items ≡ []
-  pub ready : b.ready ≡ false
+  pub base_is : b.base ≡ bases.Own base
+  pub written : b.written ≡ None
+  pub ready : ready_of b ≡ false
 
 -- no section and no program header over these base bytes; nothing is held
 pub record IsCreated {S : Type 0} (class : Class) (order : Order) (base : List ℕ) (e : State S)
@@ -21,4 +24,5 @@ pub record IsCreated {S : Type 0} (class : Class) (order : Order) (base : List �
   pub told : e.told ≡ true
   pub loaded : e.loaded ≡ []
   pub held : e.held ≡ []
+  pub room : e.room ≡ []
   pub ready : e.ready ≡ false

@@ -17,7 +17,7 @@ use Rattle.section_data.specs.Views.{CellView, new_cell}
 use Rattle.elf_descriptor.specs.declared.scn.Scn.{Scn}
 use Rattle.elf_descriptor.specs.declared.body.Body.{Body}
 use Rattle.elf_descriptor.specs.State.{State}
-use Rattle.elf_descriptor.specs.Views.{object_of, scn_at}
+use Rattle.elf_descriptor.specs.Views.{object_of, scn_at, ready_of}
 
 -- ---- The descriptor
 
@@ -51,7 +51,9 @@ pub record IsStepped (after : Object → Object) (stays_ready : Bool) (old new :
   pub homes : homes_of new ≡ homes_of old
   pub class : new.header.class ≡ old.header.class
   pub order : new.header.order ≡ old.header.order
-  pub ready : new.ready ≡ stays_ready
+  pub base : new.base ≡ old.base
+  pub written : new.written ≡ old.written
+  pub ready : ready_of new ≡ stays_ready
 
 -- the part is there
 abbrev pub IsThere : Body → Part → Type 0
@@ -103,7 +105,9 @@ pub record IsGrown (after : Object → Object) (old new : Body) : Type 0 where
       ≡ old.sections.items ++ new_scns (length old.sections.items) count
   pub class : new.header.class ≡ old.header.class
   pub order : new.header.order ≡ old.header.order
-  pub ready : new.ready ≡ false
+  pub base : new.base ≡ old.base
+  pub written : new.written ≡ old.written
+  pub ready : ready_of new ≡ false
 
 -- of each section, whether something of it is held: of one that is added nothing is
 abbrev pub with_none : ℕ → List Bool → List Bool
@@ -115,6 +119,7 @@ grown c s = record s {
   o = c.after s.o;
   loaded = with_none (length (c.after s.o).sections) s.loaded;
   held = with_none (length (c.after s.o).sections) s.held;
+  room = with_none (length (c.after s.o).sections) s.room;
   ready = false;
 }
 

@@ -1,6 +1,6 @@
 -- What is held of a piece: the items of an own one, or of the clean home piece the home's bytes
 -- where they are loaded.
-use Rattle.std.specs.Prelude.{◌≡◌, ℕ, false, IsTrue, List, Some, None}
+use Rattle.std.specs.Prelude.{◌≡◌, ℕ, ◌+◌, ◌<◌, ◌≤◌, false, IsTrue, List, length, take, drop, Some, None}
 use Rattle.elf_object.specs.Words.{AlikeBytes}
 use Rattle.elf_object.specs.Object.{section_at, piece_at}
 use Rattle.elf_object.specs.Due.{is_loaded}
@@ -24,10 +24,16 @@ pub record AreHeldBytes {S : Type 0} (state : State S) (s p : ℕ) (bytes : List
   pub alike : AlikeBytes bytes (section_at state.o s).raw
   pub exact : IsTrue state.told → bytes ≡ (section_at state.o s).raw
 
--- the home of a clean piece is not loaded
+-- the home of a clean piece is not loaded: where it is in the file it lies in the base, and has its
+-- bytes there where the source tells them
 pub record IsUnread {S : Type 0} (state : State S) (s p : ℕ) : Type 0 where
   pub clean : (piece_at state.o s p).own ≡ None
   pub unread : is_loaded state.loaded s ≡ false
+  pub inside : (section_at state.o s).home.out ≡ false → 0 < (section_at state.o s).home.len
+      → (section_at state.o s).home.at + (section_at state.o s).home.len ≤ length state.o.base
+  pub stands : IsTrue state.told → (section_at state.o s).home.out ≡ false
+      → take (section_at state.o s).home.len (drop (section_at state.o s).home.at state.o.base)
+      ≡ (section_at state.o s).raw
 
 -- of a descriptor's piece
 abbrev pub IsHeld : {S : Type 0} → State S → ℕ → ℕ → Held → Type 0

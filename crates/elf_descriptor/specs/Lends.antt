@@ -39,6 +39,8 @@ pub record ReadsToOwn {S T : Type 0} (g : Ghosts S) (result : Result T ElfError)
   pub holds : (i : ℕ) → ¬ Contains sections i → is_loaded new.held i ≡ is_loaded old.held i
   pub holds_on : (s p : ℕ) → p < piece_count old.o s → IsTrue (holds_items old.o old.held s p)
       → IsTrue (holds_items new.o new.held s p)
+  pub room : (i : ℕ) → is_loaded new.loaded i ≡ false
+      → is_loaded new.room i ≡ is_loaded old.room i
   pub first_use : IfErr result IsRefusal
       → g.taken new.source + homes_due old.o new.loaded sections
       ≤ g.taken old.source + homes_due old.o old.loaded sections

@@ -9,6 +9,8 @@ pub mod Held
 pub mod Homes
 pub mod Warmed
 pub mod Reads
+pub mod Rooms
+pub mod Places
 pub mod Rests
 pub mod Edits
 pub mod Created

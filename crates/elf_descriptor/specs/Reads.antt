@@ -1,5 +1,5 @@
 -- What a call on a descriptor does to its source, and what of the object is held afterwards.
-use Rattle.std.specs.Prelude.{◌≡◌, ℕ, ◌+◌, ◌≤◌, IsTrue, List, Contains, Result, IfErr}
+use Rattle.std.specs.Prelude.{◌≡◌, ℕ, ◌+◌, ◌≤◌, false, IsTrue, List, Contains, Result, IfErr}
 use Rattle.elf_types.specs.declared.errors.ElfError.{ElfError}
 use Rattle.elf_types.specs.Answers.{IsRefusal}
 use Rattle.elf_outside.specs.declared.sources.Source.{Ghosts}
@@ -10,7 +10,8 @@ use Rattle.elf_object.specs.Due.{is_loaded, holds_items, homes_due}
 use Rattle.elf_descriptor.specs.State.{State}
 
 -- It may load the sections of one list, and make the home pieces of another hold their items. What
--- is loaded stays so, and so does what holds its items. It asks for at most so many bytes; where it
+-- is loaded stays so, and so does what holds its items; memory that is kept aside for a home stays
+-- until the home is loaded. It asks for at most so many bytes; where it
 -- answers neither Read nor Memory, for those of the homes that became loaded.
 pub record Reads {S T : Type 0} (g : Ghosts S) (result : Result T ElfError) (old new : State S)
     (sections holding : List ℕ) (due : ℕ) : Type 0 where
@@ -24,6 +25,8 @@ pub record Reads {S T : Type 0} (g : Ghosts S) (result : Result T ElfError) (old
   pub holds : (i : ℕ) → ¬ Contains holding i → is_loaded new.held i ≡ is_loaded old.held i
   pub holds_on : (s p : ℕ) → IsTrue (holds_items old.o old.held s p)
       → IsTrue (holds_items new.o new.held s p)
+  pub room : (i : ℕ) → is_loaded new.loaded i ≡ false
+      → is_loaded new.room i ≡ is_loaded old.room i
   pub first_use : IfErr result IsRefusal
       → g.taken new.source + homes_due old.o new.loaded sections
       ≤ g.taken old.source + homes_due old.o old.loaded sections

@@ -8,5 +8,6 @@ pub record State (S : Type 0) : Type 0 where
   pub told : Bool  -- whether the source tells its bytes
   pub loaded : List Bool  -- of each section, whether its home's bytes are held
   pub held : List Bool  -- of each section, whether the items of its home are held in memory form
+  pub room : List Bool  -- of each section, whether memory is kept aside for its home's bytes
   pub ready : Bool  -- whether an update can settle it without memory
   pub source : S

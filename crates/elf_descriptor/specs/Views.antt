@@ -1,5 +1,5 @@
 -- What the program keeps of an object, as the plain object.
-use Rattle.std.specs.Prelude.{◌≡◌, ℕ, Bool, false, List, [], length, map, nat_le, slice_index_or, Option, Some, None, is_some, if◌then◌else◌}
+use Rattle.std.specs.Prelude.{◌≡◌, ℕ, Bool, false, List, [], ◌==◌, ◌&&◌, length, min, take, map, nat_le, slice_index_or, true, Option, Some, None, is_some, if◌then◌else◌}
 use Rattle.std.proofs.Math.ListN.{replicate}
 use Rattle.elf_types.specs.declared.errors.ElfError.{ElfError}
 use Rattle.elf_types.specs.declared.errors.ElfError.TheVariants.{NoSection}
@@ -12,6 +12,8 @@ use Rattle.section_data.specs.Views.{CellView, new_cell}
 use Rattle.section_data.specs.Held.{cell_is_loaded}
 use Rattle.elf_descriptor.specs.declared.scn.Scn.{Scn}
 use Rattle.elf_descriptor.specs.declared.body.Written.{Written}
+use Rattle.elf_descriptor.specs.declared.body.Base.{Base}
+use Rattle.elf_descriptor.specs.declared.body.Base.TheVariants as bases
 use Rattle.elf_descriptor.specs.declared.body.Body.{Body}
 use Rattle.elf_descriptor.specs.State.{State}
 
@@ -37,11 +39,21 @@ section_of image s = record {
   marked = s.marked;
 }
 
--- the base: bytes that were handed in, else those of the source, else so many zeros
-abbrev pub base_of : Option (List ℕ) → Option (List ℕ) → ℕ → List ℕ
-base_of (Some base) image size = base
-base_of None (Some image) size = image
-base_of None None size = replicate size 0
+-- the bytes of a source that has so many; of one that does not tell them they count as zeros
+abbrev pub source_bytes : Option (List ℕ) → ℕ → List ℕ
+source_bytes (Some image) size = image
+source_bytes None size = replicate size 0
+
+-- the base: bytes that were handed in, or the first ones of the source. A source may have more than
+-- the base once a write failed that made it longer.
+abbrev pub base_of : Base → Option (List ℕ) → ℕ → List ℕ
+base_of (bases.Own bytes) image size = bytes
+base_of (bases.Source n) image size = take n (source_bytes image size)
+
+-- the base over a source that has so many bytes
+abbrev pub cut_at : ℕ → Base → Base
+cut_at size (bases.Own bytes) = bases.Own bytes
+cut_at size (bases.Source n) = bases.Source (min n size)
 
 abbrev pub written_of : Option Written → WrittenFront
 written_of None = no_front
@@ -71,13 +83,40 @@ loaded_of b = map (λ s. cell_is_loaded s.cell) b.sections.items
 unfoldable pub held_of : Body → List Bool
 held_of b = map (λ s. is_some s.cell.held) b.sections.items
 
+unfoldable pub room_of : Body → List Bool
+room_of b = map (λ s. s.cell.room) b.sections.items
+
+-- ---- Whether an update can settle the object without memory
+
+-- the base is the source's
+abbrev pub is_of_source : Base → Bool
+is_of_source (bases.Own bytes) = false
+is_of_source (bases.Source n) = true
+
+-- a front has so many program headers and so many section headers
+abbrev pub has_lengths : Option Written → ℕ → ℕ → Bool
+has_lengths None phnum shnum = false
+has_lengths (Some front) phnum shnum =
+    (length front.phdrs == phnum) && (length front.shdrs == shnum)
+
+-- the base is the source's, and a spare front is there, into which the object's can be copied
+abbrev pub has_spare : Body → Bool
+has_spare b =
+    is_of_source b.base && has_lengths b.spare (length b.phdrs) (length b.sections.items)
+
+abbrev pub ready_of : Body → Bool
+ready_of b = b.ready && has_spare b
+
+-- ---- The state
+
 abbrev pub state_of : {S : Type 0} → Ghosts S → S → Body → State S
 state_of g source b = record {
   o = object_of (g.holds source) (g.size source) b;
   told = is_some (g.holds source);
   loaded = loaded_of b;
   held = held_of b;
-  ready = b.ready;
+  room = room_of b;
+  ready = ready_of b;
   source = source;
 }
 

@@ -12,6 +12,9 @@ mod lending;
 mod loading;
 mod opening;
 mod parts;
+mod places;
+mod rooms;
+mod sizes;
 mod storing;
 
 /// The front as it stands in the image that was opened or last written.
@@ -27,6 +30,16 @@ pub struct Written {
     pub shdrs: Shdrs,
 }
 
+/// Where the base bytes of an object are.
+#[derive(Drop)]
+pub enum Base {
+    /// They were handed in, to an object that was created.
+    Own(Octets),
+    /// They are the first bytes of the source, so many. A source may have more once a write failed
+    /// that made it longer.
+    Source(u64),
+}
+
 /// All of an object but its source.
 #[derive(Drop)]
 pub struct Body {
@@ -38,10 +51,12 @@ pub struct Body {
     pub phdrs: Phdrs,
     /// The sections.
     pub sections: Vec<Scn>,
-    /// The base bytes of an object that was created; else they are those of the source.
-    pub base: Option<Octets>,
+    /// The base bytes.
+    pub base: Base,
     /// The front as it stands in the image; a created object has none.
     pub written: Option<Written>,
+    /// Memory for a front that is written next; its values mean nothing.
+    pub spare: Option<Written>,
     /// `ELF_F_LAYOUT`.
     pub layout: bool,
     /// The byte of gaps.
@@ -52,6 +67,7 @@ pub struct Body {
     pub header_marked: bool,
     /// The program headers are marked dirty.
     pub segments_marked: bool,
-    /// An update can settle the object without memory.
+    /// The spare front has the lengths of the object's lists: none of them changed since it was
+    /// made.
     pub ready: bool,
 }

@@ -15,8 +15,11 @@ mod entries;
 mod getters;
 mod homes;
 mod lends;
+mod places;
 mod reading;
+mod rooms;
 mod stores;
+mod there;
 
 /// An object over a source. Contracts see it as a [`State`]: the plain object, what is held of it,
 /// and the source.

@@ -126,12 +126,12 @@ are_blocks_of (c ∷ bs) (q ∷ ps) b p len each =
 
 -- ---- Parts before and after they are placed
 
-length-in_order : (end : ℕ) (ps : List PartAt) → length (in_order_from end ps) ≡ length ps
+pub length-in_order : (end : ℕ) (ps : List PartAt) → length (in_order_from end ps) ≡ length ps
 unfolding in_order_from
 length-in_order end [] = refl
 length-in_order end (p ∷ ps) = ap suc (length-in_order (end_after end p) ps)
 
-length-standing : (layout : Bool) (ps : List PartAt) → length (standing ps layout) ≡ length ps
+pub length-standing : (layout : Bool) (ps : List PartAt) → length (standing ps layout) ≡ length ps
 unfolding standing
 length-standing true ps = refl
 length-standing false ps = length-in_order 0 ps

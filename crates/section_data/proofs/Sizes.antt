@@ -11,7 +11,7 @@ use Rattle.elf_object.specs.Blocks.{stacked, last_end, block_end}
 use Rattle.elf_object.specs.Object.{Object, Piece, section_at, home_piece}
 use Rattle.elf_object.specs.Joined.{piece_bytes, aligned_pieces, piece_blocks, pieces_end}
 use Rattle.section_data.specs.Views.{CellView}
-use Rattle.section_data.specs.Sizes.{piece_size, piece_end, stacked_end, data_size}
+use Rattle.section_data.specs.Sizes.{piece_size, piece_end, stacked_end, home_size, data_size}
 
 rounded_up_le : (n align : ℕ) → n ≤ rounded_up n align
 unfolding rounded_up
@@ -54,10 +54,10 @@ end_is class order raw end (p ∷ l) =
     ∙ ap (λ (n : ℕ). stacked_end class (length raw) (rounded_up end p.align + n) l) (size_is class order raw p)
 
 -- the size of a section's data is that of its cell
-pub data_size_is : (o : Object) (s : ℕ) (c : CellView) → (section_at o s).pieces ≡ c.pieces → length (section_at o s).raw ≡ c.home.len
+pub data_size_is : (o : Object) (s : ℕ) (c : CellView) → (section_at o s).pieces ≡ c.pieces → length (section_at o s).raw ≡ home_size c
     → pieces_end o s ≡ data_size o.header.class c
 unfolding pieces_end piece_blocks aligned_pieces data_size
 data_size_is o s c pieces raw =
     end_is o.header.class o.header.order (section_at o s).raw 0 (section_at o s).pieces
     ∙ ap (λ (n : ℕ). stacked_end o.header.class n 0 (section_at o s).pieces) raw
-    ∙ ap (λ (l : List Piece). stacked_end o.header.class c.home.len 0 l) pieces
+    ∙ ap (λ (l : List Piece). stacked_end o.header.class (home_size c) 0 l) pieces

@@ -1,6 +1,6 @@
 -- How long a section's data is: its pieces stand one after the other, each at a place that its
 -- alignment divides (gABI chapter 4, "Sections"; elf_newdata).
-use Rattle.std.specs.Prelude.{ℕ, ◌+◌, List, [], ◌∷◌, None, Some}
+use Rattle.std.specs.Prelude.{ℕ, ◌+◌, List, [], ◌∷◌, None, Some, if◌then◌else◌}
 use Rattle.elf_types.specs.declared.records.Class.{Class}
 use Rattle.elf_xlate.specs.Translation.{file_size, items_kind, items_count}
 use Rattle.elf_layout.specs.Layout.{rounded_up}
@@ -26,6 +26,10 @@ stacked_end class home_len end [] = end
 stacked_end class home_len end (p ∷ ps) =
     stacked_end class home_len (piece_end class home_len end p) ps
 
+-- the bytes that a home has in the file: none where it passes the end of the image
+abbrev pub home_size : CellView → ℕ
+home_size c = if c.home.out then 0 else c.home.len
+
 -- the size of a section's data: where its last piece ends
 unfoldable pub data_size : Class → CellView → ℕ
-data_size class c = stacked_end class c.home.len 0 c.pieces
+data_size class c = stacked_end class (home_size c) 0 c.pieces

@@ -15,7 +15,7 @@ use Rattle.elf_object.specs.Object.{Object}
 use Rattle.elf_object.specs.Due.{is_loaded, holds_items, home_due, homes_due}
 use Rattle.elf_descriptor.specs.State.{State}
 use Rattle.elf_descriptor.specs.Reads.{Reads}
-use Rattle.elf_descriptor.proofs.ReadsLaws.{reads_then, reads_nothing, dues_stay}
+use Rattle.elf_descriptor.proofs.ReadsLaws.{reads_then, reads_nothing, dues_stay, unread_before}
 use Rattle.symbol_lookup.specs.Lookups.{Needs, needs_memory, IsBad}
 use Rattle.symbol_lookup.specs.Searches.{Searches, MayEnd}
 
@@ -86,6 +86,7 @@ reads_few g r old new few holding l within held reads = record {
   stays = reads.stays;
   holds = λ i other. reads.holds i (λ is. other (few_in holding l held i is));
   holds_on = reads.holds_on;
+  room = reads.room;
   first_use = λ refused.
       let one = reads.first_use refused in
       let moved = few_moved old.o old.loaded new.loaded reads.stays few l within in
@@ -161,6 +162,7 @@ searches_both g n x q old mid new first second =
         stays = λ i is. later.stays i (first.reads.stays i is);
         holds = λ i other. later.holds i other ∙ first.reads.holds i other;
         holds_on = λ s p is. later.holds_on s p (first.reads.holds_on s p is);
+        room = λ i unread. later.room i unread ∙ first.reads.room i (unread_before (is_loaded mid.loaded i) (is_loaded new.loaded i) (later.stays i) unread);
         first_use = λ refused. omega (arith, before, subst (λ (o : Object). g.taken new.source + homes_due o new.loaded n.homes ≤ g.taken mid.source + homes_due o mid.loaded n.homes) same (second.reads.first_use refused));
       };
       ended = ended_before n old mid q (may_end_before n old mid same first.reads.stays first.reads.holds_on) second.ended;

@@ -4,7 +4,7 @@ ghost use Rattle.std.specs.Prelude.{◌≡◌};
 ghost use Rattle.elf_object.specs.Open.{new_ehdr};
 ghost use Rattle.elf_descriptor.specs.Created.{IsCreatedBody};
 
-use crate::body::Body;
+use crate::body::{Base, Body};
 use elf_types::{Class, Ehdr, Octets, Order, Phdrs};
 use std::alloc::Global;
 
@@ -43,8 +43,9 @@ impl Body {
             pad: [0; 7],
             phdrs: Phdrs::new(alloc),
             sections: Vec::new(alloc),
-            base: Some(base),
+            base: Base::Own(base),
             written: None,
+            spare: None,
             layout: false,
             fill: 0,
             marked: false,

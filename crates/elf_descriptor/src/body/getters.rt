@@ -1,13 +1,14 @@
 //! What an object tells without reading.
 
-ghost use Rattle.std.specs.Prelude.{◌≡◌, ℕ, List, Option, Ok, IfSome, length};
+ghost use Rattle.std.specs.Prelude.{◌≡◌, ◌≤◌, ℕ, List, Option, Ok, IfSome, length};
 ghost use Rattle.std.specs.List.{list_any};
 ghost use Rattle.elf_object.specs.Object.{is_dirty};
 ghost use Rattle.elf_object.specs.Calls as calls;
 ghost use Rattle.elf_descriptor.specs.Views.{HasCounts, object_of, base_of};
 ghost use Rattle.elf_descriptor.specs.Bodies.{is_scn_dirty};
+ghost use Rattle.elf_descriptor.specs.Sound.{source_part};
 
-use crate::body::Body;
+use crate::body::{Base, Body};
 use elf_types::{DataId, Ehdr, ElfError, Kind, Part, Phdr, Shdr};
 
 impl Body {
@@ -126,15 +127,16 @@ impl Body {
         self.marked || self.header_marked || self.segments_marked || self.some_section_marked()
     }
 
-    /// The number of base bytes, over a source of `size` bytes.
+    /// The number of base bytes.
     #[tactic(auto, using(crate::proofs::Objects::base_length))]
-    pub fn base_len(&self, size: u64) -> u64
-        ensures { (image : Option (List ℕ)) → IfSome image (λ bytes. length bytes ≡ size)
+    pub fn base_len(&self) -> u64
+        ensures { (image : Option (List ℕ)) (size : ℕ)
+            → IfSome image (λ bytes. length bytes ≡ size) → source_part self.now.base ≤ size
             → result ≡ length (base_of self.now.base image size) }
     {
         match &self.base {
-            Some(base) => base.len(),
-            None => size,
+            Base::Own(bytes) => bytes.len(),
+            Base::Source(n) => *n,
         }
     }
 }

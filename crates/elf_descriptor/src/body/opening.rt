@@ -3,11 +3,12 @@
 ghost use Rattle.std.specs.Prelude.{◌≡◌, ◌≤◌, length, IfOk, IfErr};
 ghost use Rattle.elf_types.specs.declared.constants.TheConstants.{MAX_SECTIONS};
 ghost use Rattle.elf_types.specs.declared.errors.ElfError.TheVariants.{Memory};
+ghost use Rattle.elf_xlate.specs.Headers.{HasNarrowCounts};
 ghost use Rattle.elf_ident.specs.Reading.{IsCounted};
 ghost use Rattle.elf_object.specs.Open.{standing_header};
 ghost use Rattle.elf_descriptor.specs.Begun.{IsOpened, opened_body, opened_scns};
 
-use crate::body::{Body, Written};
+use crate::body::{Base, Body, Written};
 use crate::scn::Scn;
 use elf_ident::Front;
 use elf_types::{Class, Ehdr, ElfError, List, Phdrs, Shdr};
@@ -41,7 +42,8 @@ fn open_sections(
 /// The header with its counts and its string index as they stand in the image.
 #[tactic(auto, unfolding(elf_object::specs::Open::standing_header))]
 fn as_written(front: &Front) -> Ehdr
-    ensures { result ≡ standing_header front.now }
+    ensures value { result ≡ standing_header front.now }
+    ensures narrow { HasNarrowCounts (standing_header front.now) }
 {
     Ehdr {
         phnum: u32::from(front.written[0]),
@@ -51,12 +53,13 @@ fn as_written(front: &Front) -> Ehdr
     }
 }
 
-/// The object with these sections. The front's own lists become those that stand in the image, and
-/// `phdrs` is the copy of its program headers.
+/// The object with these sections over a source of `size` bytes. The front's own lists become those
+/// that stand in the image, and `phdrs` is the copy of its program headers.
 #[tactic(auto, unfolding(crate::specs::Begun::opened_body))]
-fn with_parts(front: Front, phdrs: Phdrs, sections: Vec<Scn>) -> Body
+fn with_parts(front: Front, phdrs: Phdrs, sections: Vec<Scn>, size: u64) -> Body
     requires { phdrs ≡ front.phdrs }
-    ensures { result ≡ opened_body front sections }
+    ensures value { result ≡ opened_body size front sections }
+    ensures narrow { HasNarrowCounts (standing_header front) }
 {
     let header = as_written(&front);
     Body {
@@ -64,13 +67,14 @@ fn with_parts(front: Front, phdrs: Phdrs, sections: Vec<Scn>) -> Body
         pad: front.pad,
         phdrs,
         sections,
-        base: None,
+        base: Base::Source(size),
         written: Some(Written {
             header,
             pad: front.pad,
             phdrs: front.phdrs,
             shdrs: front.shdrs,
         }),
+        spare: None,
         layout: false,
         fill: 0,
         marked: false,
@@ -90,6 +94,6 @@ impl Body {
     {
         let sections = open_sections(alloc, front.ehdr.class, front.shdrs.as_slice(), size)?;
         let phdrs = List::from_slice(alloc, front.phdrs.as_slice())?;
-        Ok(with_parts(front, phdrs, sections))
+        Ok(with_parts(front, phdrs, sections, size))
     }
 }

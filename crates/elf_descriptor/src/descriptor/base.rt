@@ -3,6 +3,7 @@
 ghost use Rattle.std.specs.Prelude.{◌≡◌, ◌+◌, ◌≤◌, length, take, drop, IsTrue, OnOk, IfErr};
 ghost use Rattle.elf_outside.specs.Asks.{Asks};
 
+use crate::body::Base;
 use crate::descriptor::Elf;
 use elf_outside::Source;
 use elf_outside::reads::read;
@@ -31,11 +32,11 @@ impl<S: Source> Elf<S> {
         ensures err { IfErr result (λ e. e ≡ ElfError.Read) }
     {
         match &self.body.base {
-            Some(base) => {
-                copy_range(base.as_slice(), at, buf);
+            Base::Own(bytes) => {
+                copy_range(bytes.as_slice(), at, buf);
                 Ok(())
             }
-            None => read(&mut self.src, at, buf),
+            Base::Source(_) => read(&mut self.src, at, buf),
         }
     }
 }

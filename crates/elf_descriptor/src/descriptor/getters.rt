@@ -160,7 +160,7 @@ impl<S: Source> Elf<S> {
     pub fn base_len(&self) -> u64
         ensures { result ≡ length self.now.o.base }
     {
-        self.body.base_len(self.src.len())
+        self.body.base_len()
     }
 
     /// What is held of a piece: its items exactly where it is own, else the home's bytes in file

@@ -2,7 +2,7 @@
 
 ghost use Rattle.std.specs.Prelude.{◌≡◌, ◌-◌, ◌^◌, ◌<◌, min};
 ghost use Rattle.std.specs.Option.{SomeIff};
-ghost use Rattle.section_data.specs.Sizes.{piece_size, piece_end, data_size};
+ghost use Rattle.section_data.specs.Sizes.{piece_size, piece_end, home_size, data_size};
 
 use crate::cell::Cell;
 use crate::piece::Piece;
@@ -40,6 +40,13 @@ fn piece_end(piece: &Piece, class: Class, home_len: u64, end: u64) -> Option<u64
 }
 
 impl Cell {
+    /// How many bytes the home has in the file: none where it passes the end of the image.
+    fn home_size(&self) -> u64
+        ensures { result ≡ home_size self.now }
+    {
+        if self.out() { 0 } else { self.home().len }
+    }
+
     /// The size of the section's data in the file of a class: where its last piece ends, and
     /// 2^64 - 1 where that is more. It takes no memory.
     ///
@@ -47,7 +54,7 @@ impl Cell {
     pub fn size(&self, class: Class) -> u64
         ensures { result ≡ min (data_size class self.now) (2 ^ 64 - 1) }
     {
-        let home_len = self.home().len;
+        let home_len = self.home_size();
         let mut end = 0;
         for p in 0..self.piece_count() {
             match piece_end(self.piece(p), class, home_len, end) {

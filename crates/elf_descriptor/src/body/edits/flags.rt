@@ -9,7 +9,7 @@ ghost use Rattle.elf_object.specs.Answers.{has_dirty, has_layout};
 ghost use Rattle.elf_object.specs.Steps.{is_whole, with_mark, with_layout, with_flags};
 ghost use Rattle.elf_object.specs.Calls.{flag_refusal};
 ghost use Rattle.elf_object.specs.Calls as calls;
-ghost use Rattle.elf_descriptor.specs.Views.{HasCounts, object_of, scn_at};
+ghost use Rattle.elf_descriptor.specs.Views.{HasCounts, object_of, scn_at, ready_of};
 ghost use Rattle.elf_descriptor.specs.Edits.{IsStepped, IsThere};
 
 use crate::body::Body;
@@ -68,7 +68,7 @@ impl Body {
     /// Marks a section dirty.
     fn mark_section(&mut self, s: u32)
         requires { s < length self.old.sections.items }
-        ensures step { IsStepped (λ o. with_mark o (part.Section s)) self.old.ready
+        ensures step { IsStepped (λ o. with_mark o (part.Section s)) (ready_of self.old)
             self.old self.new }
         ensures there { IsThere self.new (part.Section s) }
     {
@@ -80,7 +80,7 @@ impl Body {
     fn mark_piece(&mut self, s: u32, p: u32)
         requires section { s < length self.old.sections.items }
         requires piece { p < length (scn_at self.old s).cell.pieces }
-        ensures step { IsStepped (λ o. with_mark o (part.Piece s p)) self.old.ready
+        ensures step { IsStepped (λ o. with_mark o (part.Piece s p)) (ready_of self.old)
             self.old self.new }
         ensures there { IsThere self.new (part.Piece s p) }
     {
@@ -91,7 +91,7 @@ impl Body {
     /// Marks a part dirty that is there; the section header table has the mark of the object.
     fn mark(&mut self, part: Part)
         requires { IsThere self.old part }
-        ensures step { IsStepped (λ o. with_mark o part) self.old.ready self.old self.new }
+        ensures step { IsStepped (λ o. with_mark o part) (ready_of self.old) self.old self.new }
         ensures there { IsThere self.new part }
     {
         match part {
@@ -108,7 +108,7 @@ impl Body {
     #[tactic(auto, using(crate::proofs::EditSteps::mark_then, crate::proofs::EditSteps::mark_else))]
     fn mark_if(&mut self, dirty: bool, part: Part)
         requires { IsThere self.old part }
-        ensures step { IsStepped (λ o. if dirty then with_mark o part else o) self.old.ready
+        ensures step { IsStepped (λ o. if dirty then with_mark o part else o) (ready_of self.old)
             self.old self.new }
         ensures there { IsThere self.new part }
     {
@@ -120,7 +120,7 @@ impl Body {
     /// Stores whether the layout is the caller's, where it is to be.
     #[tactic(auto, using(crate::proofs::Rules::layout))]
     fn set_layout_if(&mut self, whole: bool, layout: bool)
-        ensures step { IsStepped (λ o. if whole then with_layout o layout else o) self.old.ready
+        ensures step { IsStepped (λ o. if whole then with_layout o layout else o) (ready_of self.old)
             self.old self.new }
         ensures there { (p : Part) → IsThere self.old p → IsThere self.new p }
     {
@@ -132,7 +132,7 @@ impl Body {
     /// Sets the flags that bits have, or clears that of a layout of the caller's.
     fn set_flags(&mut self, part: Part, set: bool, bits: u32)
         requires { IsThere self.old part }
-        ensures step { IsStepped (λ o. with_flags o part set bits) self.old.ready
+        ensures step { IsStepped (λ o. with_flags o part set bits) (ready_of self.old)
             self.old self.new }
         ensures there { IsThere self.new part }
     {
@@ -160,7 +160,7 @@ impl Body {
         ensures answer { (image : Option (List ℕ)) (size : ℕ)
             → result ≡ (calls.flag part set bits).answer (object_of image size self.old) }
         ensures step { OnOk result
-            (IsStepped (calls.flag part set bits).after self.old.ready self.old self.new) }
+            (IsStepped (calls.flag part set bits).after (ready_of self.old) self.old self.new) }
         ensures unchanged { OnErr result (self.new ≡ self.old) }
     {
         if let Err(e) = self.check_flag(part, set, bits) {

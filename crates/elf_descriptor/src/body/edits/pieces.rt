@@ -6,7 +6,7 @@ ghost use Rattle.elf_object.specs.Answers.{reserved};
 ghost use Rattle.elf_object.specs.Words.{handing_back, result_map};
 ghost use Rattle.elf_object.specs.Calls as calls;
 ghost use Rattle.section_data.specs.Refused.{replace_refused, append_refused};
-ghost use Rattle.elf_descriptor.specs.Views.{HasCounts, object_of, scn_at, no_scn};
+ghost use Rattle.elf_descriptor.specs.Views.{HasCounts, object_of, scn_at, no_scn, ready_of};
 ghost use Rattle.elf_descriptor.specs.Edits.{IsStepped, IsNumbered, IsStatedWith, numbers_of};
 
 use super::headers::check_reserved;
@@ -33,8 +33,8 @@ impl Body {
         ensures answer { result ≡ handing_back items (answered (replace_refused
             self.old.header.class (scn_at self.old d.section).cell d.piece items) tt) }
         ensures step { OnOk result (IsStepped (calls.replace d.section d.piece items).after
-            self.old.ready self.old self.new) }
-        ensures unchanged { OnErr result (IsStepped (λ o. o) self.old.ready self.old self.new) }
+            (ready_of self.old) self.old self.new) }
+        ensures unchanged { OnErr result (IsStepped (λ o. o) (ready_of self.old) self.old self.new) }
     {
         let class = self.header.class;
         let scn = &mut self.sections[d.section as usize];
@@ -48,7 +48,7 @@ impl Body {
             self.old.header.class (scn_at self.old d.section).cell d.piece items) tt) }
         ensures step { OnOk result (IsStepped (calls.replace d.section d.piece items).after false
             self.old self.new) }
-        ensures unchanged { OnErr result (IsStepped (λ o. o) self.old.ready self.old self.new) }
+        ensures unchanged { OnErr result (IsStepped (λ o. o) (ready_of self.old) self.old self.new) }
     {
         if let Err(refused) = self.replace_there(d, items) {
             return Err(refused);
@@ -65,7 +65,7 @@ impl Body {
             ((calls.replace d.section d.piece items).answer (object_of image size self.old)) }
         ensures step { OnOk result (IsStepped (calls.replace d.section d.piece items).after false
             self.old self.new) }
-        ensures unchanged { OnErr result (IsStepped (λ o. o) self.old.ready self.old self.new) }
+        ensures unchanged { OnErr result (IsStepped (λ o. o) (ready_of self.old) self.old self.new) }
     {
         if let Err(e) = self.check_edited(d.section) {
             return Err((items, e));
@@ -84,8 +84,8 @@ impl Body {
             (append_refused self.old.header.class (scn_at self.old s).cell items align)
             (s, length (scn_at self.old s).cell.pieces)) }
         ensures step { OnOk result (IsStepped (calls.newdata_aligned s items align).after
-            self.old.ready self.old self.new) }
-        ensures unchanged { OnErr result (IsStepped (λ o. o) self.old.ready self.old self.new) }
+            (ready_of self.old) self.old self.new) }
+        ensures unchanged { OnErr result (IsStepped (λ o. o) (ready_of self.old) self.old self.new) }
     {
         let class = self.header.class;
         let scn = &mut self.sections[s as usize];
@@ -108,7 +108,7 @@ impl Body {
             (s, length (scn_at self.old s).cell.pieces)) }
         ensures step { OnOk result (IsStepped (calls.newdata_aligned s items align).after false
             self.old self.new) }
-        ensures unchanged { OnErr result (IsStepped (λ o. o) self.old.ready self.old self.new) }
+        ensures unchanged { OnErr result (IsStepped (λ o. o) (ready_of self.old) self.old self.new) }
     {
         match self.append_there(s, items, align) {
             Ok(d) => {
@@ -129,7 +129,7 @@ impl Body {
             ((calls.newdata_aligned s items align).answer (object_of image size self.old)) }
         ensures step { OnOk result (IsStepped (calls.newdata_aligned s items align).after false
             self.old self.new) }
-        ensures unchanged { OnErr result (IsStepped (λ o. o) self.old.ready self.old self.new) }
+        ensures unchanged { OnErr result (IsStepped (λ o. o) (ready_of self.old) self.old self.new) }
     {
         if let Err(e) = self.check_edited(s) {
             return Err((items, e));

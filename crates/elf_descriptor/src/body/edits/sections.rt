@@ -7,7 +7,7 @@ ghost use Rattle.elf_types.specs.declared.errors.ElfError.TheVariants.{Memory, T
 ghost use Rattle.elf_object.specs.Steps.{new_number};
 ghost use Rattle.elf_object.specs.Words.{result_map};
 ghost use Rattle.elf_object.specs.Calls as calls;
-ghost use Rattle.elf_descriptor.specs.Views.{HasCounts, object_of};
+ghost use Rattle.elf_descriptor.specs.Views.{HasCounts, object_of, ready_of};
 ghost use Rattle.elf_descriptor.specs.Edits.{IsGrown, IsStated, IsStepped, new_scn, new_scns, section_number, with_added};
 
 use crate::body::Body;
@@ -80,7 +80,7 @@ impl Body {
         requires room { length self.old.sections.items < MAX_SECTIONS }
         requires made { scn ≡ new_scn (length self.old.sections.items) }
         ensures grown { OnOk result (IsGrown (with_added 1) self.old self.new) }
-        ensures unchanged { OnErr result (IsStepped (λ o. o) self.old.ready self.old self.new) }
+        ensures unchanged { OnErr result (IsStepped (λ o. o) (ready_of self.old) self.old self.new) }
         ensures err { IfErr result (λ e. e ≡ Memory) }
     {
         self.sections.push(scn)?;
@@ -94,7 +94,7 @@ impl Body {
         requires counts { HasCounts self.old }
         requires room { length self.old.sections.items < MAX_SECTIONS }
         ensures grown { OnOk result (IsGrown (with_added 1) self.old self.new) }
-        ensures unchanged { OnErr result (IsStepped (λ o. o) self.old.ready self.old self.new) }
+        ensures unchanged { OnErr result (IsStepped (λ o. o) (ready_of self.old) self.old self.new) }
         ensures err { IfErr result (λ e. e ≡ Memory) }
     {
         match new_scn(alloc, self.header.shnum) {
@@ -124,7 +124,7 @@ impl Body {
         requires none { length self.old.sections.items ≡ 0 }
         ensures value { IfOk result (λ s. s ≡ 1) }
         ensures grown { OnOk result (IsGrown (with_added 2) self.old self.new) }
-        ensures unchanged { OnErr result (IsStepped (λ o. o) self.old.ready self.old self.new) }
+        ensures unchanged { OnErr result (IsStepped (λ o. o) (ready_of self.old) self.old self.new) }
         ensures err { IfErr result (λ e. e ≡ Memory) }
     {
         match self.begin_sections(alloc, 2) {
@@ -139,7 +139,7 @@ impl Body {
         requires room { length self.old.sections.items < MAX_SECTIONS }
         ensures value { IfOk result (λ s. s ≡ length self.old.sections.items) }
         ensures grown { OnOk result (IsGrown (with_added 1) self.old self.new) }
-        ensures unchanged { OnErr result (IsStepped (λ o. o) self.old.ready self.old self.new) }
+        ensures unchanged { OnErr result (IsStepped (λ o. o) (ready_of self.old) self.old self.new) }
         ensures err { IfErr result (λ e. e ≡ Memory) }
     {
         let number = self.header.shnum;
@@ -158,7 +158,7 @@ impl Body {
         ensures value { (image : Option (List ℕ)) (size : ℕ)
             → IfOk result (λ s. s ≡ new_number (object_of image size self.old)) }
         ensures grown { OnOk result (IsGrown calls.newscn.after self.old self.new) }
-        ensures unchanged { OnErr result (IsStepped (λ o. o) self.old.ready self.old self.new) }
+        ensures unchanged { OnErr result (IsStepped (λ o. o) (ready_of self.old) self.old self.new) }
         ensures err { IfErr result (λ e. e ≡ Memory) }
     {
         if self.header.shnum == 0 {
@@ -175,7 +175,7 @@ impl Body {
             → IsStated (result_map section_number result)
             (calls.newscn.answer (object_of image size self.old)) }
         ensures grown { OnOk result (IsGrown calls.newscn.after self.old self.new) }
-        ensures unchanged { OnErr result (IsStepped (λ o. o) self.old.ready self.old self.new) }
+        ensures unchanged { OnErr result (IsStepped (λ o. o) (ready_of self.old) self.old self.new) }
     {
         if let Err(e) = self.check_room() {
             return Err(e);

@@ -8,7 +8,7 @@ ghost use Rattle.elf_types.specs.declared.errors.ElfError.TheVariants.{Memory};
 ghost use Rattle.elf_object.specs.Object.{no_phdr};
 ghost use Rattle.elf_object.specs.Calls.{newphdr_refusal};
 ghost use Rattle.elf_object.specs.Calls as calls;
-ghost use Rattle.elf_descriptor.specs.Views.{object_of};
+ghost use Rattle.elf_descriptor.specs.Views.{object_of, ready_of};
 ghost use Rattle.elf_descriptor.specs.Edits.{IsStated, IsStepped};
 
 use crate::body::Body;
@@ -80,7 +80,7 @@ impl Body {
         ensures answer { (image : Option (List ℕ)) (size : ℕ)
             → IsStated result ((calls.newphdr n).answer (object_of image size self.old)) }
         ensures step { OnOk result (IsStepped (calls.newphdr n).after false self.old self.new) }
-        ensures unchanged { OnErr result (IsStepped (λ o. o) self.old.ready self.old self.new) }
+        ensures unchanged { OnErr result (IsStepped (λ o. o) (ready_of self.old) self.old self.new) }
     {
         if let Err(e) = check_count(n) {
             return Err(e);

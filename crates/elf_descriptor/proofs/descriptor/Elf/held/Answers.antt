@@ -22,6 +22,6 @@ returns-clause-refusal g c =
 pub returns-clause-held : goal.returns-clause-held
 returns-clause-held g c =
     subst (λ (st : State g.row.S.Denot). IsHeld st c.args.d.section c.args.d.piece c.held.result) c.self.view_is
-    (held_as g.S.Source c.self.inside.src c.self.inside.body c.args.d.section c.args.d.piece c.held.result
+    (held_as g.S.Source c.self.inside.src c.self.inside.body c.args.d.section c.args.d.piece c.held.result c.self.invariant
     (subst (λ (x : Scn). IsCell x.cell) c.scn.ensures c.held.ensures.cell)
     (subst (λ (x : Scn). IsHeldIn x.cell c.args.d.piece c.held.result) c.scn.ensures c.held.ensures.held))

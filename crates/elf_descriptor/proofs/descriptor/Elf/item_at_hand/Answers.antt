@@ -1,4 +1,4 @@
-use Rattle.std.proofs.Common.{◌≡◌, ◌<◌, length, Ok, sym, ◌∙◌, subst, arith}
+use Rattle.std.proofs.Common.{◌<◌, length, Ok, subst, arith}
 use Rattle.std.specs.Prelude.{IfSome}
 use Rattle.elf_object.specs.Words.{Answers}
 use Rattle.elf_xlate.specs.Items.{item_size}

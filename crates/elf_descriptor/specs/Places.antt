@@ -1,0 +1,53 @@
+-- Places, sizes and derived values that are stored in the headers, in what the program keeps
+-- (elf_update with ELF_C_NULL; gABI chapter 4, "Section Header").
+use Rattle.std.specs.Prelude.{◌≡◌, ℕ, ◌+◌, ◌-◌, ◌^◌, ◌==◌, min, length, map, slice_index, if◌then◌else◌}
+use Rattle.std.specs.List.{enumerate_from}
+use Rattle.elf_types.specs.declared.records.Class.{Class}
+use Rattle.elf_types.specs.declared.records.Ehdr.{Ehdr}
+use Rattle.elf_types.specs.declared.records.Shdr.{Shdr}
+use Rattle.elf_layout.specs.declared.parts.Places.{Places}
+use Rattle.elf_object.specs.Object.{is_null, occupies_file}
+use Rattle.elf_object.specs.Derived.{derived_header, numbered_shdr}
+use Rattle.elf_object.specs.Layout.{segments_place, section_place, table_place}
+use Rattle.section_data.specs.Sizes.{data_size}
+use Rattle.elf_descriptor.specs.declared.scn.Scn.{Scn}
+use Rattle.elf_descriptor.specs.declared.body.Body.{Body}
+
+-- there is a place for each part of an object with so many sections: the ELF header, the program
+-- header table, the sections from 1 on and the section header table
+abbrev pub HasPlaces : Places → ℕ → Type 0
+HasPlaces places count = length places.at ≡ count - 1 + 3
+
+-- sh_size: where the last piece of a section with file bytes ends; the caller's where it has none
+unfoldable pub stored_size : Class → Scn → ℕ
+stored_size class x =
+    if occupies_file x.header then min (data_size class x.cell) (2 ^ 64 - 1) else x.header.size
+
+-- the header of a section with a number, which stands at a place
+unfoldable pub stored_shdr : Ehdr → ℕ → ℕ → Scn → Shdr
+stored_shdr h s at x =
+    if s == 0 then numbered_shdr h x.header
+    else (if is_null x.header then x.header
+    else (record x.header { offset = at; size = stored_size h.class x }))
+
+abbrev pub stored_scn : Places → Ehdr → ℕ → Scn → Scn
+stored_scn places h s x = record x { header = stored_shdr h s (section_place places s) x }
+
+-- the ELF header with the places of the tables
+abbrev pub stored_header : Places → Body → Ehdr
+stored_header places b =
+    derived_header (segments_place places) (table_place places (length b.sections.items)) b.header
+
+-- all with places stored in the headers of the sections
+pub record StoresHeaders (places : Places) (h : Ehdr) (old new : Body) : Type 0 where
+  pub rest : new ≡ record old { sections = new.sections }
+  pub sections : new.sections.items
+      ≡ map (λ row. stored_scn places h row.0 row.1) (enumerate_from 0 old.sections.items)
+
+-- and in the ELF header
+pub record StoresPlaces (places : Places) (old new : Body) : Type 0 where
+  pub rest : new
+      ≡ record old { header = stored_header places old; sections = new.sections }
+  pub sections : new.sections.items
+      ≡ map (λ row. stored_scn places (stored_header places old) row.0 row.1)
+      (enumerate_from 0 old.sections.items)
