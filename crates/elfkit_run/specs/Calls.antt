@@ -80,7 +80,7 @@ calls_outcome file script named =
     (both_bounds (asks_on script_asks named script)
     (calls_asks_by (script_of (named script)) file named))
 
--- ---- With -o and -i the image is written that the calls leave; where the update is refused, none is
+-- ---- With -o and -i the image is written that the calls leave; none where its update is refused
 
 -- where it goes: into a file that is made, or into FILE in place
 abbrev pub write_by : CallsOutput → List ℕ → List ℕ → FileWrite

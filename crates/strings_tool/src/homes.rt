@@ -86,8 +86,8 @@ fn show_section<S: Source, O: Sink, E: Sink>(
     show_range(src, at, len, buffer, options, outputs)
 }
 
-/// Shows the runs of the homes of sections by number. The answer tells whether one was refused. Each
-/// home that is shown is read once.
+/// Shows the runs of the homes of sections by number. The answer tells whether one was refused.
+/// Each home that is shown is read once.
 pub fn show_sections<S: Source, O: Sink, E: Sink>(
     src: &mut S,
     name: &FileName<'_>,
