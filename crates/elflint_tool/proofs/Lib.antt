@@ -1,1 +1,4 @@
 pub mod RuleLemmas
+mod OpenedLemmas
+mod NoFindings
+pub mod ReachLaws
