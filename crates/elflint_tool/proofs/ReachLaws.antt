@@ -1,14 +1,12 @@
 -- Hash reach, by what elflint finds: where no finding of its rule is at a hash section, that is whole.
-use Rattle.std.proofs.Common.{◌≡◌, ◌<◌, ◌==◌, ◌&&◌, ◌||◌, not, ℕ, Bool, true, false, List, length, get_or, Option, Some, None, Result, Ok, refl, sym, ap, ◌∙◌, lit<, arith}
-use Rattle.std.specs.Prelude.{is_none, codes, if◌then◌else◌}
+use Rattle.std.proofs.Common.{◌≡◌, ◌<◌, ◌==◌, ◌&&◌, ◌||◌, not, ℕ, Bool, true, false, List, length, get_or, None, Ok, refl, sym, ap, ◌∙◌, lit<, arith}
+use Rattle.std.specs.Prelude.{codes, if◌then◌else◌}
 use Rattle.std.specs.List.{list_any}
 use Rattle.std.proofs.lemmas.Bool.{not-true, eqb-true, ne_eqb}
 use Rattle.elf_types.specs.Kinds.{is_compressed, kind_of_type, section_kind}
 use Rattle.elf_types.specs.declared.constants.TheConstants.{SHT_HASH, SHT_GNU_HASH}
-use Rattle.elf_types.specs.declared.records.Kind.{Kind}
 use Rattle.elf_types.specs.declared.records.Kind.TheVariants as kinds
 use Rattle.elf_types.specs.declared.records.Shdr.{Shdr}
-use Rattle.elf_types.specs.declared.errors.ElfError.{ElfError}
 use Rattle.elf_ident.specs.Front.{zero_shdr}
 use Rattle.elf_object.specs.Object.{Object}
 use Rattle.elf_object.specs.Open.{opened}
@@ -17,10 +15,10 @@ use Rattle.command_objects.specs.Words.{header_at, is_of}
 use Rattle.command_objects.specs.HashSections.{is_whole_sysv, is_whole_gnu}
 use Rattle.command_objects.specs.Listed.{listed_names}
 use Rattle.lint_findings.specs.Findings.{Finding, Rule}
-use Rattle.lint_findings.specs.Looking.{if_lent, is_intact, is_looked_at, is_plain, is_symbol_table, linked_header, links_to_symbols, words, data_bytes}
+use Rattle.lint_findings.specs.Looking.{is_looked_at, is_plain, is_symbol_table, linked_header, links_to_symbols, words, data_bytes}
 use Rattle.elflint_tool.proofs.OpenedLemmas.{both, is_there, lend_passes}
 use Rattle.lint_findings.proofs.LentLemmas.{lent}
-use Rattle.lint_hashes.specs.Hashes.{linked_names, has_words_of_symbols, is_broken_hash, hashes_not_whole, has_bytes_of_symbols, is_broken_gnu_hash, gnu_hashes_not_whole}
+use Rattle.lint_hashes.specs.Hashes.{has_words_of_symbols, is_broken_hash, hashes_not_whole, has_bytes_of_symbols, is_broken_gnu_hash, gnu_hashes_not_whole}
 use Rattle.lint_headers.specs.Headers.{wrong_header_size}
 use Rattle.elflint_tool.specs.Rules.{all_rules, findings}
 use Rattle.elflint_tool.specs.Reach.{is_at, finds_nothing_at, is_hash, is_gnu_hash, LinksIntact, FoundAsListed}

@@ -1,6 +1,6 @@
 -- Hash reach: by a hash section of an image in which elflint finds nothing by its rule, a lookup
 -- finds what a search among all symbols finds.
-use Rattle.std.specs.Prelude.{◌≡◌, ◌<◌, ◌==◌, ◌&&◌, not, ℕ, Bool, true, false, List, Result, Ok}
+use Rattle.std.specs.Prelude.{◌≡◌, ◌<◌, ◌==◌, ◌&&◌, not, ℕ, Bool, true, false, List, Ok}
 use Rattle.std.specs.List.{list_any}
 use Rattle.elf_types.specs.declared.constants.TheConstants.{SHT_HASH, SHT_GNU_HASH}
 use Rattle.elf_types.specs.declared.records.Kind.TheVariants as kinds
