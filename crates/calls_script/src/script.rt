@@ -9,7 +9,7 @@ ghost use Rattle.calls_script.specs.Parts.{words_of};
 ghost use Rattle.calls_script.specs.Script.{ScriptFollows, stated_fault, calls_of, calls_from, lines_of, line_call, call_of};
 
 use crate::calls::{Call, Calls};
-use crate::faults::{ScriptFault, CallFault, Why};
+use crate::faults::{CallFault, ScriptFault, Why};
 use crate::lines::read_call;
 use crate::words::{Words, cut};
 use std::alloc::Global;
