@@ -17,10 +17,10 @@ use Rattle.gelf_view.specs.declared.notes.TheConstants.{NOTE_HEADER_SIZE}
 use Rattle.gelf_view.specs.declared.versions.TheConstants.{VERDEF_SIZE, VERNEED_SIZE}
 use Rattle.elf_layout.specs.Layout.{rounded_up}
 use Rattle.gelf_view.specs.Records.{record_at, LiesAt}
-use Rattle.gelf_view.specs.Notes.{note_align, note_at, note_with, note_of, note_lies, name_end, desc_place, desc_end, namesz, descsz, IsNoteWithin}
+use Rattle.gelf_view.specs.Notes.{note_align, note_at, note_with, note_of, note_lies, name_end, desc_place, desc_end, descsz}
 use Rattle.gelf_view.specs.Versions.{verdef_of, verdef_at, verneed_of, verneed_at}
 use Rattle.gelf_view.specs.Calls.{note_answer, first_place, first_entry_answer, verdef_answer, verneed_answer}
-use Rattle.gelf_view.specs.Chains.{Chain, led_by, note_then, notes, behind_verdef, behind_verneed, verdefs, verneeds}
+use Rattle.gelf_view.specs.Chains.{led_by, note_then, notes, behind_verdef, behind_verneed, verdefs, verneeds}
 use Rattle.gelf_view.proofs.PieceBytes.{bytes_count}
 use Rattle.gelf_view.proofs.NoteLemmas.{rounded_up_le}
 use Rattle.gelf_view.proofs.ChainLemmas.{notes_led, entries_led}

@@ -8,7 +8,7 @@ use Rattle.elf_object.specs.Words.{Wants, Refusals, Answers, AnswersRead, result
 use Rattle.gelf_view.specs.declared.notes.NoteAt.{NoteAt}
 use Rattle.gelf_view.specs.declared.aux.AuxPlace.{AuxPlace}
 use Rattle.gelf_view.specs.Records.{LiesAt}
-use Rattle.gelf_view.specs.Chains.{Chain, ended, broken, leading, led_by, IsLedBy, note_then, notes_upto, next_place, entry_then, entries_upto, entries, aux_upto, aux_from, next_aux, aux_answer, IsBehind, aux_then}
+use Rattle.gelf_view.specs.Chains.{Chain, ended, broken, leading, led_by, IsLedBy, note_then, notes_upto, next_place, entry_then, entries_upto, entries, aux_upto, aux_from, aux_answer, IsBehind, aux_then}
 
 -- ---- The chain behind an answer that came
 

@@ -6,11 +6,10 @@ use Rattle.elf_types.specs.declared.records.Kind.{Kind}
 use Rattle.elf_types.specs.declared.records.Kind.TheVariants as kinds
 use Rattle.elf_types.specs.declared.errors.ElfError.{ElfError}
 use Rattle.elf_types.specs.declared.errors.ElfError.TheVariants.{Memory, Read, NoSection, NoData, WrongKind}
-use Rattle.elf_types.specs.Answers.{answered, refused_if, first_refusal, err_of, IsRefusal}
+use Rattle.elf_types.specs.Answers.{answered, refused_if, first_refusal, IsRefusal}
 use Rattle.elf_xlate.specs.declared.content.Items.{Items}
 use Rattle.elf_outside.specs.declared.sources.Source.{Ghosts}
 use Rattle.elf_outside.specs.Asks.{ReadRose}
-use Rattle.elf_outside.proofs.AskLemmas.{read_rose_refused}
 use Rattle.elf_object.specs.Words.{Wants, Answers}
 use Rattle.elf_object.specs.Object.{Object, section_at, piece_at}
 use Rattle.elf_object.specs.Answers.{no_section, no_data, wrong_kind, same_kind, no_content, out_of_file, piece_count, kind_at, piece_refusal, lend_refusal, raw_refusal, bytes_of, items_at}
@@ -23,7 +22,7 @@ use Rattle.elf_object.proofs.AnswerLaws.{answered_value, answered_refusal, read_
 use Rattle.elf_descriptor.specs.State.{State}
 use Rattle.elf_descriptor.specs.Reads.{Reads, Queries, wanted}
 use Rattle.elf_descriptor.proofs.Refusals.{err_of_answered, answers_wants}
-use Rattle.elf_descriptor.proofs.ReadsLaws.{reads_then, reads_nothing}
+use Rattle.elf_descriptor.proofs.ReadsLaws.{reads_nothing}
 use Rattle.gelf_view.specs.Calls.{bytes, kind_refusal}
 use Rattle.gelf_view.proofs.PieceBytes.{lend_then, clean_content, own_content}
 

@@ -9,7 +9,7 @@ use Rattle.elf_types.specs.Answers.{answered, refused_if, first_refusal}
 use Rattle.elf_xlate.specs.declared.content.Items.{Items}
 use Rattle.elf_object.specs.Object.{Object, Piece, section_at, piece_at, home_piece, home_is_clean}
 use Rattle.elf_object.specs.Answers.{no_section, no_data, piece_count, piece_refusal}
-use Rattle.elf_object.specs.Valid.{IsObject, IsHome, OthersOwn}
+use Rattle.elf_object.specs.Valid.{IsObject, OthersOwn}
 use Rattle.object_laws.proofs.KeepLaws.{section_at_is}
 use Rattle.gelf_view.specs.Strings.{home_missing}
 

@@ -7,7 +7,7 @@ use Rattle.std.proofs.lemmas.List.Sums.{position_or_len_is}
 use Rattle.elf_types.specs.declared.errors.ElfError.{ElfError}
 use Rattle.elf_types.specs.declared.errors.ElfError.TheVariants.{NoSection, NoEntry}
 use Rattle.elf_types.specs.Answers.{refused_if}
-use Rattle.elf_object.specs.Object.{Object, Section, section_at, absent_section}
+use Rattle.elf_object.specs.Object.{Object, section_at, absent_section}
 use Rattle.elf_object.specs.Answers.{no_section}
 use Rattle.elf_object.specs.SymbolSections.{shndx_table, extended_index, word_reads, word_memory}
 use Rattle.elf_object.specs.Words.{Wants, Answers}

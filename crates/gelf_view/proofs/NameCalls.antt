@@ -5,7 +5,7 @@ use Rattle.std.proofs.lemmas.Bool.{ne_eqb}
 use Rattle.elf_types.specs.declared.errors.ElfError.{ElfError}
 use Rattle.elf_outside.specs.declared.sources.Source.{Ghosts}
 use Rattle.elf_object.specs.Words.{Answers}
-use Rattle.elf_object.specs.Object.{Object, section_at}
+use Rattle.elf_object.specs.Object.{section_at}
 use Rattle.elf_object.specs.Due.{homes_due}
 use Rattle.elf_object.specs.Strings as strings
 use Rattle.elf_object.specs.Strings.{string_answer, readable, strptr}

@@ -5,18 +5,17 @@ use Rattle.elf_types.specs.declared.records.Order.{Order}
 use Rattle.elf_types.specs.declared.records.Kind.TheVariants as kinds
 use Rattle.elf_types.specs.declared.errors.ElfError.{ElfError}
 use Rattle.elf_types.specs.declared.errors.ElfError.TheVariants.{Memory, Read, BadChain, NoEntry, Unfit, Unended, NoSection, NoData, WrongKind, OutOfFile, Ragged}
-use Rattle.elf_types.specs.Answers.{answered, refused_if, first_refusal, err_of, ◌>>=◌}
+use Rattle.elf_types.specs.Answers.{answered, refused_if, first_refusal, ◌>>=◌}
 use Rattle.elf_xlate.specs.declared.content.Items.{Items}
-use Rattle.elf_xlate.specs.Translation.{decoded}
-use Rattle.elf_object.specs.Words.{Wants, Refusals, Answers, AnswersRead, result_map, is_late}
-use Rattle.elf_object.specs.Object.{Object, section_at, piece_at}
-use Rattle.elf_object.specs.Answers.{content, no_section, no_data, wrong_kind, same_kind, no_content, piece_count, kind_at, lend_refusal, bytes_of, items_at, count_at}
-use Rattle.elf_object.specs.Due.{is_refused_unread, homes_due}
+use Rattle.elf_object.specs.Words.{Wants, Refusals, Answers, AnswersRead, result_map}
+use Rattle.elf_object.specs.Object.{section_at}
+use Rattle.elf_object.specs.Answers.{content, lend_refusal, bytes_of, items_at, count_at}
+use Rattle.elf_object.specs.Due.{homes_due}
 use Rattle.elf_outside.specs.declared.sources.Source.{Ghosts}
 use Rattle.elf_descriptor.specs.State.{State}
 use Rattle.elf_descriptor.specs.Reads.{wanted}
 use Rattle.elf_descriptor.proofs.Refusals.{IsUnread, answers_wants}
-use Rattle.gelf_view.specs.Calls.{bytes, in_bytes, note, note_found, note_answer, note_refusals}
+use Rattle.gelf_view.specs.Calls.{bytes, note, note_found, note_answer, note_refusals}
 use Rattle.gelf_view.proofs.LendLemmas.{lend_unread, unread_late}
 use Rattle.gelf_view.proofs.FoundLemmas.{IsFoundAt, BytesAtHand, reads_same}
 use Rattle.gelf_view.proofs.PieceBytes.{bytes_count}

@@ -4,14 +4,14 @@ use Rattle.std.specs.Prelude.{IsTrue, IfErr, is_none, nat_lt, if◌then◌else�
 use Rattle.elf_types.specs.declared.records.Kind.TheVariants as kinds
 use Rattle.elf_types.specs.declared.errors.ElfError.{ElfError}
 use Rattle.elf_types.specs.declared.errors.ElfError.TheVariants.{Memory, Read, Unended}
-use Rattle.elf_types.specs.Answers.{answered, refused_if, first_refusal, or_refused, err_of, IsRefusal}
+use Rattle.elf_types.specs.Answers.{answered, refused_if, first_refusal, or_refused, IsRefusal}
 use Rattle.elf_xlate.specs.declared.content.Items.{Items}
 use Rattle.elf_outside.specs.declared.sources.Source.{Ghosts}
 use Rattle.elf_outside.specs.Asks.{ReadRose}
 use Rattle.elf_object.specs.Words.{Wants, Refusals, Answers, AnswersRead, seen}
 use Rattle.std.specs.Borrow.{Bor}
 use Rattle.elf_object.specs.Blocks.{Block}
-use Rattle.elf_object.specs.Object.{Object, section_at, piece_at, home_is_clean}
+use Rattle.elf_object.specs.Object.{Object, piece_at}
 use Rattle.elf_object.specs.Answers.{bytes_of, items_at, lend_refusal}
 use Rattle.elf_object.specs.Due.{is_loaded, homes_due, unless_refused, when_clean, when_piece_clean}
 use Rattle.elf_object.specs.Strings.{has_nul, bytes_from, unended, string_in, string_refusal, string_refusal_unread, string_answer, strptr, strptr_refusals}

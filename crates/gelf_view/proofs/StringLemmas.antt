@@ -13,12 +13,11 @@ use Rattle.elf_types.specs.declared.errors.ElfError.{ElfError}
 use Rattle.elf_types.specs.declared.errors.ElfError.TheVariants.{NoSection, NoData, WrongKind, OutOfFile, NotStrings, NoString, Unended}
 use Rattle.elf_types.specs.Answers.{answered, refused_if, first_refusal, or_refused, IsRefusal}
 use Rattle.elf_xlate.specs.declared.content.Items.{Items}
-use Rattle.elf_xlate.specs.Translation.{items_kind}
 use Rattle.strtab_build.specs.Table.{string_at}
 use Rattle.elf_object.specs.Blocks.{Block}
-use Rattle.elf_object.specs.Object.{Object, Section, Piece, section_at, piece_at, home_piece, home_is_clean}
+use Rattle.elf_object.specs.Object.{Object, Piece, section_at, piece_at, home_piece, home_is_clean}
 use Rattle.elf_object.specs.Valid.{OthersOwn}
-use Rattle.elf_object.specs.Answers.{no_section, no_data, wrong_kind, no_content, out_of_file, same_kind, kind_at, piece_count, lend_refusal}
+use Rattle.elf_object.specs.Answers.{no_section, no_data, wrong_kind, no_content, same_kind, kind_at, piece_count, lend_refusal}
 use Rattle.elf_object.specs.Joined.{pieces_end}
 use Rattle.elf_object.specs.Strings.{kind_of_piece, holds_strings, has_nul, bytes_from, piece_over, no_string, unended, string_in, string_refusal_unread, string_refusal, string_answer}
 use Rattle.elf_object.proofs.PassedLaws.{none_first, none_rest, not_refused, not_not}

@@ -12,11 +12,11 @@ use Rattle.elf_types.specs.declared.records.Kind.TheVariants as kinds
 use Rattle.elf_types.specs.declared.records.Sym.{Sym}
 use Rattle.elf_types.specs.declared.errors.ElfError.{ElfError}
 use Rattle.elf_types.specs.declared.errors.ElfError.TheVariants.{Memory, Read, NoEntry, NoData, WrongKind}
-use Rattle.elf_types.specs.Answers.{refused_if, first_refusal, err_of, ◌>>=◌}
+use Rattle.elf_types.specs.Answers.{refused_if, first_refusal, err_of}
 use Rattle.elf_xlate.specs.declared.content.Items.{Items}
-use Rattle.elf_xlate.specs.Translation.{items_kind, items_count}
+use Rattle.elf_xlate.specs.Translation.{items_kind}
 use Rattle.elf_object.specs.Object.{Object, section_at, piece_at}
-use Rattle.elf_object.specs.Answers.{no_section, no_data, no_entry, wrong_kind, no_content, same_kind, piece_count, kind_at, count_at, items_at, syms_of, words_of, entry_at, entry_answer, lend_refusal, item_refusal}
+use Rattle.elf_object.specs.Answers.{no_data, no_entry, wrong_kind, no_content, same_kind, piece_count, kind_at, count_at, items_at, syms_of, words_of, entry_answer, lend_refusal, item_refusal}
 use Rattle.elf_object.specs.Due.{is_refused_unread, unless_refused, when_piece_clean, with_others}
 use Rattle.elf_object.specs.Words.{result_map}
 use Rattle.elf_object.specs.Calls.{sym_answer, word_answer}

@@ -6,7 +6,6 @@ use Rattle.elf_types.specs.declared.errors.ElfError.{ElfError}
 use Rattle.elf_types.specs.declared.errors.ElfError.TheVariants.{NotStrings, OutOfFile}
 use Rattle.elf_types.specs.Answers.{refused_if, first_refusal}
 use Rattle.elf_layout.specs.Layout.{rounded_up}
-use Rattle.elf_object.specs.Blocks.{Block}
 use Rattle.elf_object.specs.Object.{Object, section_at, piece_at, home_is_clean}
 use Rattle.elf_object.specs.Answers.{no_section, piece_count, lend_refusal}
 use Rattle.elf_object.specs.Joined.{piece_bytes}

@@ -2,13 +2,13 @@
 //! with a list of names. A walk over either ends by itself: each further entry stands behind the one
 //! before, and an entry tells how many names it has.
 
-ghost use Rattle.std.specs.Prelude.{◌≡◌, ◌<◌, ◌^◌, [], ℕ, IsTrue, IfOk, IfSome, OnOk};
+ghost use Rattle.std.specs.Prelude.{◌≡◌, ◌<◌, ◌^◌, [], ℕ, Result as TheResult, IsTrue, IfOk, IfSome, OnOk};
+ghost use Rattle.elf_types.specs.declared.errors.ElfError.{ElfError as TheElfError};
 ghost use Rattle.elf_object.specs.Object.{Object};
 ghost use Rattle.elf_object.specs.Answers.{count_at};
-ghost use Rattle.elf_object.specs.Calls.{Call};
 ghost use Rattle.elf_descriptor.specs.Reads.{Queries};
 ghost use Rattle.gelf_view.specs.declared.aux.AuxPlace.{AuxPlace as TheAuxPlace};
-ghost use Rattle.gelf_view.specs.Calls as calls;
+ghost use Rattle.gelf_view.specs.Calls.{bytes_reader, verdaux_answer, verdef_answer, vernaux_answer, verneed_answer};
 ghost use Rattle.gelf_view.specs.Chains.{Chain, aux_then, entry_then, next_place, verdauxs, verdefs, vernauxs, verneeds, IsLedBy};
 
 use crate::aux::AuxPlace;
@@ -22,11 +22,11 @@ use elf_types::{DataId, ElfError};
 /// A name in the list of an entry: `Verdaux` of a definition, `Vernaux` of needs.
 ///
 /// - `names` are those of a piece from a place on.
-/// - `call` is the call that reads one, by the section, the piece and the place.
+/// - `found` is what a call answers that reads one, by the section, the piece and the place.
 pub trait VersionName: Copy + Drop {
     ghost names: { Object → ℕ → ℕ → TheAuxPlace → Chain Self };
 
-    ghost call: { ℕ → ℕ → ℕ → Call Self };
+    ghost found: { Object → ℕ → ℕ → ℕ → TheResult Self TheElfError };
 
     /// The next of the list, whose place goes on behind it, or None where none is left. It refuses
     /// as `next_verdaux` does.
@@ -40,21 +40,22 @@ pub trait VersionName: Copy + Drop {
             (names elf.old.o d.section d.piece place.old) }
         ensures fewer { IfOk result (λ found. IfSome found
             (λ _. place.new.left < place.old.left)) }
-        ensures queries { Queries S.Source (call d.section d.piece place.old.at) [] result
-            elf.old elf.new };
+        ensures queries { Queries S.Source
+            (bytes_reader d.section d.piece (λ o. found o d.section d.piece place.old.at)) []
+            result elf.old elf.new };
 }
 
 /// An entry of a version section: `Verdef` or `Verneed`.
 ///
 /// - `entries` are those of a piece from a place on, each with its place.
 /// - `behind` is how many bytes there are to the next one.
-/// - `call` is the call that reads one, by the section, the piece and the place.
+/// - `found` is what a call answers that reads one, by the section, the piece and the place.
 pub trait VersionEntry: Copy + Drop {
     ghost entries: { Object → ℕ → ℕ → ℕ → Chain (ℕ × Self) };
 
     ghost behind: { Self → ℕ };
 
-    ghost call: { ℕ → ℕ → ℕ → Call Self };
+    ghost found: { Object → ℕ → ℕ → ℕ → TheResult Self TheElfError };
 
     /// The entry at a place. It refuses as `verdef` does.
     fn entry_at<S: Source>(elf: &mut Elf<S>, d: DataId, at: u64) -> Result<Self, ElfError>
@@ -62,7 +63,9 @@ pub trait VersionEntry: Copy + Drop {
             (λ x. entry_then at x (behind x) (entries elf.old.o d.section d.piece))
             (entries elf.old.o d.section d.piece at) }
         ensures within { OnOk result ((at < count_at elf.old.o d.section d.piece) × (at < 2 ^ 63)) }
-        ensures queries { Queries S.Source (call d.section d.piece at) [] result elf.old elf.new };
+        ensures queries { Queries S.Source
+            (bytes_reader d.section d.piece (λ o. found o d.section d.piece at)) []
+            result elf.old elf.new };
 
     /// The place of the entry behind the one at a place, or None after the last.
     fn place_behind(&self, at: u64) -> Option<u64>
@@ -73,7 +76,7 @@ pub trait VersionEntry: Copy + Drop {
 impl VersionName for Verdaux {
     ghost names = { verdauxs };
 
-    ghost call = { calls.verdaux };
+    ghost found = { verdaux_answer };
 
     fn next_of<S: Source>(
         elf: &mut Elf<S>,
@@ -87,7 +90,7 @@ impl VersionName for Verdaux {
 impl VersionName for Vernaux {
     ghost names = { vernauxs };
 
-    ghost call = { calls.vernaux };
+    ghost found = { vernaux_answer };
 
     fn next_of<S: Source>(
         elf: &mut Elf<S>,
@@ -103,7 +106,7 @@ impl VersionEntry for Verdef {
 
     ghost behind = { λ x. x.next };
 
-    ghost call = { calls.verdef };
+    ghost found = { verdef_answer };
 
     fn entry_at<S: Source>(elf: &mut Elf<S>, d: DataId, at: u64) -> Result<Verdef, ElfError> {
         verdef(elf, d, at)
@@ -119,7 +122,7 @@ impl VersionEntry for Verneed {
 
     ghost behind = { λ x. x.next };
 
-    ghost call = { calls.verneed };
+    ghost found = { verneed_answer };
 
     fn entry_at<S: Source>(elf: &mut Elf<S>, d: DataId, at: u64) -> Result<Verneed, ElfError> {
         verneed(elf, d, at)

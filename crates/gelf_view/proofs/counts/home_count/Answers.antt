@@ -1,9 +1,6 @@
 use Rattle.std.proofs.Common.{◌%◌, ◌/◌, ℕ, Ok, sym, ap, ◌∙◌, subst}
 use Rattle.elf_types.specs.declared.records.Class.{Class}
 use Rattle.elf_xlate.specs.Items.{item_size}
-use Rattle.elf_xlate.specs.Translation.{items_count}
-use Rattle.elf_object.specs.Words.{result_map}
-use Rattle.elf_object.specs.Answers.{content}
 use Rattle.gelf_view.proofs.CountLemmas.{home_outside, home_is_ragged, home_is_whole}
 use Rattle.gelf_view.proofs.counts.home_count.Goals as goal
 
