@@ -1,9 +1,8 @@
 -- A name that does not stand in the bytes at hand is not the string there.
-use Rattle.std.proofs.Common.{◌≡◌, ◌≢◌, ℕ, suc, ◌+◌, ◌-◌, ◌*◌, ◌/◌, ◌%◌, ◌<◌, ◌≤◌, max, Bool, true, false, not, ◌&&◌, List, [], ◌∷◌, ◌++◌, length, take, drop, get_or, map, Option, Some, None, Result, Ok, Err, refl, sym, ap, ◌∙◌, subst, cond, below_more, arith}
+use Rattle.std.proofs.Common.{◌≡◌, ◌≢◌, ℕ, suc, ◌+◌, ◌-◌, ◌*◌, ◌/◌, ◌%◌, ◌<◌, ◌≤◌, Bool, true, false, not, ◌&&◌, List, [], ◌∷◌, ◌++◌, length, take, drop, get_or, map, Option, Some, None, Result, Ok, Err, refl, sym, ap, ◌∙◌, subst, cond, below_more, arith}
 use Rattle.std.specs.Prelude.{IsTrue, ◌||◌, take_while, nat_eq, nat_le, nat_lt, slice_get, filter, ◌==◌, if◌then◌else◌}
 use Rattle.std.specs.List.{prefix_len, starts_with}
 use Rattle.std.specs.Str.{bytes_eq}
-use Rattle.std.proofs.Math.Nat.{mod_self, mod-eq_of_lt}
 use Rattle.std.proofs.lemmas.Bool.{and_from, le-leb, lt-ltb, eqb-true, leb-false}
 use Rattle.std.proofs.lemmas.Slice.Eq.{bytes_eq-Decides, starts_is}
 use Rattle.std.proofs.lemmas.Bool.Decides.{Decides-eqb}
@@ -18,6 +17,7 @@ use Rattle.elf_xlate.specs.declared.content.Items.{Items}
 use Rattle.elf_xlate.specs.Translation.{encoded}
 use Rattle.elf_layout.specs.Layout.{rounded_up}
 use Rattle.strtab_build.specs.Table.{string_at}
+use Rattle.elf_object.proofs.RunningEnds.{first_place}
 use Rattle.elf_object.specs.Blocks.{Block, block_end, block_covers, stacked}
 use Rattle.elf_object.specs.Object.{Object, Piece, section_at, piece_at, home_piece}
 use Rattle.elf_object.specs.Answers.{no_section, no_data, piece_count, piece_refusal}
@@ -91,16 +91,6 @@ pub rest_is : (bytes : List ℕ) (offset : ℕ) → take (length bytes - offset)
 rest_is bytes offset = take_all (length bytes - offset) (drop offset bytes) (omega (arith, length-drop offset bytes))
 
 -- ---- The first piece of a section
-
-first_multiple : (n : ℕ) → 0 < n → 0 + (n - 0 % n) % n ≡ 0
-first_multiple n some =
-    let none : 0 % n ≡ 0 = mod-eq_of_lt some in
-    let whole : n - 0 ≡ n = omega arith in
-    rw (none, whole, mod_self n) refl
-
-first_place : (align : ℕ) → rounded_up 0 align ≡ 0
-unfolding rounded_up
-first_place align = first_multiple (max align 1) (omega arith)
 
 module _ (raw : List ℕ) (offset : ℕ) (below : offset < length raw) where
   abbrev covers : ℕ → List ℕ → Bool

@@ -5,16 +5,14 @@ use Rattle.std.specs.List.{position}
 use Rattle.std.proofs.lemmas.Bool.{le-ltb, lt-ltb, ltb-true, ltb-false, eqb-true}
 use Rattle.std.proofs.lemmas.List.Sums.{position_or_len_is}
 use Rattle.elf_types.specs.declared.records.Kind.TheVariants as kinds
-use Rattle.elf_xlate.specs.declared.content.Items.{Items}
-use Rattle.elf_xlate.specs.declared.content.Items.TheVariants as items
-use Rattle.elf_xlate.specs.Translation.{items_kind, items_count}
 use Rattle.elf_object.specs.Object.{Object, section_at, piece_at, home_is_clean}
 use Rattle.elf_object.specs.Due.{when_clean, when_piece_clean, with_others}
 use Rattle.elf_types.specs.declared.errors.ElfError.{ElfError}
 use Rattle.elf_descriptor.specs.State.{State}
-use Rattle.elf_object.specs.Answers.{count_at, items_at, lend_refusal, syms_of}
+use Rattle.elf_object.specs.Answers.{count_at, items_at, lend_refusal}
 use Rattle.elf_object.specs.Strings.{is_name}
 use Rattle.elf_object.proofs.AnswerLaws.{lend_passed, items_kind_at}
+use Rattle.elf_object.proofs.ItemCounts.{syms_counted}
 use Rattle.command_objects.specs.Listed.{listed_names}
 use Rattle.symbol_lookup.specs.Lookups.{is_match, link_of, linear_needs, table_homes}
 use Rattle.symbol_lookup.specs.Searches.{HasTable, Stays}
@@ -39,23 +37,12 @@ module _ {X : Type 0} (p : X → Bool) (xs : List X) (d : X) where
 
 -- ---- The symbols of a section
 
-syms_count : (content : Items) → items_kind content ≡ kinds.Sym → items_count content ≡ length (syms_of content)
-syms_count items.Empty is = cc
-syms_count (items.Bytes l) is = cc
-syms_count (items.Half l) is = cc
-syms_count (items.Word l) is = cc
-syms_count (items.Addr l) is = cc
-syms_count (items.Sym l) is = refl
-syms_count (items.Rel l) is = cc
-syms_count (items.Rela l) is = cc
-syms_count (items.Dyn l) is = cc
-
 module _ (o : Object) (s count : ℕ) (name : List ℕ) (passed : lend_refusal o kinds.Sym s 0 ≡ None) (is : count ≡ count_at o s 0) where
   pub count_is : count ≡ length (listed_names o s)
   unfolding count_at
   count_is =
       let lent = lend_passed o kinds.Sym s 0 passed in
-      is ∙ syms_count (items_at o s 0) (items_kind_at o s 0 lent.3 ∙ lent.2) ∙ sym (listed_length o s)
+      is ∙ sym (syms_counted (items_at o s 0) (items_kind_at o s 0 lent.3 ∙ lent.2)) ∙ sym (listed_length o s)
 
   pub none_found : ((j : ℕ) → j < count → is_match o s name j ≡ false) → position (is_name name) (listed_names o s) ≡ None
   unfolding is_match

@@ -1,5 +1,4 @@
-//! What lookups take of an object: its form, the first piece of a section, and the words of a hash
-//! section.
+//! What lookups take of an object: its form, and the words of a hash section.
 
 ghost use Rattle.std.specs.Prelude.{◌≡◌, ◌<◌, ◌^◌, IsTrue, None};
 ghost use Rattle.elf_types.specs.Answers.{Follows};
@@ -13,17 +12,6 @@ use elf_descriptor::Elf;
 use elf_outside::Source;
 use elf_types::{Class, DataId, ElfError, Order, ScnId};
 use gelf_view::word;
-
-/// The home piece of a section.
-pub fn first_piece(s: ScnId) -> DataId
-    ensures section { result.section ≡ s.0 }
-    ensures piece { result.piece ≡ 0 }
-{
-    DataId {
-        section: s.0,
-        piece: 0,
-    }
-}
 
 /// The class and the byte order of an object.
 #[tactic(auto, unfolding(elf_object::specs::Object::header_of))]

@@ -10,7 +10,6 @@ ghost use Rattle.symbol_lookup.specs.Lookups as calls;
 ghost use Rattle.symbol_lookup.specs.Lookups.{bytes_refusal, chain_refusals, gnu_found, gnu_needs, gnu_refusal, link_of, linked_refusal, sysv_found, sysv_needs, sysv_refusal, words_refusal, Needs};
 ghost use Rattle.symbol_lookup.specs.Searches.{HasBytes, IsFree, Searches};
 
-use crate::fetching::first_piece;
 use crate::gnu::gnu_start;
 use crate::linear::link;
 use crate::sysv::sysv_start;
@@ -30,7 +29,7 @@ fn table_of<S: Source>(elf: &Elf<S>, h: ScnId) -> Result<ScnId, ElfError>
     ensures err { IfErr result IsRefusal }
 {
     let s = link(elf, h);
-    match item_count::<S, Sym>(elf, first_piece(s)) {
+    match item_count::<S, Sym>(elf, DataId::home(s)) {
         Ok(_) => Ok(s),
         Err(e) => Err(e),
     }

@@ -74,8 +74,9 @@ fn step_at(at: u64, word: u32) -> Step
     }
 }
 
-/// Where the walk of a hash begins, in a section of so many buckets and chain words.
-fn bucket<S: Source>(
+/// Reads the word of a hash's bucket, in a section of so many buckets and chain words, and gives the
+/// step with which the walk of the hash begins. It refuses as `hash_word` does.
+fn read_bucket<S: Source>(
     elf: &mut Elf<S>,
     h: ScnId,
     hash: u32,
@@ -111,7 +112,7 @@ fn behind<S: Source>(elf: &mut Elf<S>, h: ScnId, hash: u32, nbucket: u32) -> Res
     ensures begins { IfOk result (IsSysvStart) }
 {
     match hash_word(elf, h, 1) {
-        Ok(nchain) => bucket(elf, h, hash, nbucket, nchain),
+        Ok(nchain) => read_bucket(elf, h, hash, nbucket, nchain),
         Err(e) => Err(e),
     }
 }

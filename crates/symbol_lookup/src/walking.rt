@@ -9,7 +9,6 @@ ghost use Rattle.symbol_lookup.specs.Walks as walks;
 ghost use Rattle.symbol_lookup.specs.Lookups.{found_from, is_match, next_on, walked_on, IsBad, Needs};
 ghost use Rattle.symbol_lookup.specs.Searches.{AreLinks, HasLinks, HasTable, IsIndex, IsThere, Searches, Stays};
 
-use crate::fetching::first_piece;
 use crate::gnu::gnu_next;
 use crate::linear::link;
 use crate::matching::is_match;
@@ -17,7 +16,7 @@ use crate::sysv::sysv_next;
 use crate::walks::{Links, Start, Step, Walk};
 use elf_descriptor::Elf;
 use elf_outside::Source;
-use elf_types::{ElfError, ScnId, Sym};
+use elf_types::{DataId, ElfError, ScnId, Sym};
 use gelf_view::item_count;
 
 /// The step from a symbol by the chain words of a hash section.
@@ -110,7 +109,7 @@ fn count<S: Source>(elf: &Elf<S>, s: ScnId) -> u64
     requires { lend_refusal elf.now.o kinds.Sym s.0 0 ≡ None }
     ensures { result ≡ count_at elf.now.o s.0 0 }
 {
-    match item_count::<S, Sym>(elf, first_piece(s)) {
+    match item_count::<S, Sym>(elf, DataId::home(s)) {
         Ok(count) => count,
         Err(_) => unreachable!(),
     }

@@ -8,19 +8,19 @@ use Rattle.symbol_lookup.proofs.SearchLaws.{searches_both, searches_end}
 use Rattle.symbol_lookup.proofs.StepLaws.{words_stay}
 use Rattle.symbol_lookup.proofs.sysv.behind.Goals as goal
 
-pub bucket-requires-clause-passed : goal.bucket-requires-clause-passed
-bucket-requires-clause-passed g c = ap (λ (o : Object). lend_refusal o kinds.Word c.args.h.0 0) (c.in-Ok.ensures.stays.object) ∙ c.requires.passed
+pub read_bucket-requires-clause-passed : goal.read_bucket-requires-clause-passed
+read_bucket-requires-clause-passed g c = ap (λ (o : Object). lend_refusal o kinds.Word c.args.h.0 0) (c.in-Ok.ensures.stays.object) ∙ c.requires.passed
 
 pub returns-in-Ok-clause-follows : goal.returns-in-Ok-clause-follows
 unfolding sysv_behind
 returns-in-Ok-clause-follows g c = λ told.
-    then_follows c.in-Ok.nchain (hash_word (words_of (items_at c.args.elf.now.o c.args.h.0 0)) 1) c.bucket.result (λ x. sysv_bucket (words_of (items_at c.args.elf.now.o c.args.h.0 0)) c.args.hash c.args.nbucket x) (c.in-Ok.ensures.follows told)
-    (later_follows c.args.elf.now c.hash_word.new.elf c.bucket.result (λ o. sysv_bucket (words_of (items_at o c.args.h.0 0)) c.args.hash c.args.nbucket c.in-Ok.nchain) c.in-Ok.ensures.stays.object c.in-Ok.ensures.stays.told c.bucket.ensures.follows told)
+    then_follows c.in-Ok.nchain (hash_word (words_of (items_at c.args.elf.now.o c.args.h.0 0)) 1) c.read_bucket.result (λ x. sysv_bucket (words_of (items_at c.args.elf.now.o c.args.h.0 0)) c.args.hash c.args.nbucket x) (c.in-Ok.ensures.follows told)
+    (later_follows c.args.elf.now c.hash_word.new.elf c.read_bucket.result (λ o. sysv_bucket (words_of (items_at o c.args.h.0 0)) c.args.hash c.args.nbucket c.in-Ok.nchain) c.in-Ok.ensures.stays.object c.in-Ok.ensures.stays.told c.read_bucket.ensures.follows told)
 
 pub returns-in-Ok-clause-searches : goal.returns-in-Ok-clause-searches
 returns-in-Ok-clause-searches g c = λ n has.
-    searches_both g.S.Source n c.in-Ok.nchain c.bucket.result c.args.elf.now c.hash_word.new.elf c.bucket.new.elf (c.in-Ok.ensures.searches n has)
-    (c.bucket.ensures.searches n (words_stay n c.args.elf.now.o c.hash_word.new.elf.o c.args.h.0 c.in-Ok.ensures.stays.object has))
+    searches_both g.S.Source n c.in-Ok.nchain c.read_bucket.result c.args.elf.now c.hash_word.new.elf c.read_bucket.new.elf (c.in-Ok.ensures.searches n has)
+    (c.read_bucket.ensures.searches n (words_stay n c.args.elf.now.o c.hash_word.new.elf.o c.args.h.0 c.in-Ok.ensures.stays.object has))
 
 pub returns-in-Err-clause-follows : goal.returns-in-Err-clause-follows
 unfolding sysv_behind

@@ -1,7 +1,7 @@
 use Rattle.elf_object.specs.Answers.{items_at, words_of}
 use Rattle.symbol_lookup.proofs.StepLaws.{bucket_found, bucket_lost}
 use Rattle.symbol_lookup.proofs.SearchLaws.{searches_value, searches_end}
-use Rattle.symbol_lookup.proofs.sysv.bucket.Goals as goal
+use Rattle.symbol_lookup.proofs.sysv.read_bucket.Goals as goal
 
 pub returns-in-Ok-clause-follows : goal.returns-in-Ok-clause-follows
 returns-in-Ok-clause-follows g c = λ told.
