@@ -10,7 +10,7 @@ use Rattle.elf_xlate.specs.Translation.{items_kind, items_count}
 use Rattle.elf_object.specs.Words.{Wants, Answers}
 use Rattle.elf_object.specs.Object.{Object}
 use Rattle.elf_object.specs.Answers.{items_at, count_at, bytes_of, syms_of, lend_refusal, entry_answer}
-use Rattle.elf_object.proofs.AnswerLaws.{answered_value, answered_refusal, entry_value, lend_kind}
+use Rattle.elf_object.proofs.AnswerLaws.{answered_value, answered_refusal, lend_kind}
 use Rattle.tool_output.specs.Stops.{stop_of}
 use Rattle.object_output.specs.Answers.{value_of}
 use Rattle.object_output.proofs.AnswerLemmas.{answers_stated}

@@ -1,4 +1,3 @@
 pub mod FindingLemmas
 pub mod HeaderLemmas
-pub mod Kept
 pub mod LentLemmas

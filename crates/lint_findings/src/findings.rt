@@ -12,7 +12,7 @@ use elf_types::{ElfError, Octets, put_decimal, put_text};
 use tool_output::{FileName, Line, Outputs, Stop};
 
 /// Appends `FILE: N PLACE`.
-#[tactic(auto, using(crate::proofs::Kept::kept), unfolding(crate::specs::Findings::finding_start))]
+#[tactic(auto, using(elf_types::proofs::Writers::kept), unfolding(crate::specs::Findings::finding_start))]
 fn put_start(
     page: &mut Octets,
     name: &FileName<'_>,
@@ -45,7 +45,7 @@ pub struct FindingLine<'a, T> {
 impl<T: Line> Line for FindingLine<'_, T> {
     ghost text = { λ l. finding_line l.name.now (finding l.number l.place (T.text l.text)) };
 
-    #[tactic(auto, using(crate::proofs::Kept::kept), unfolding(crate::specs::Findings::finding_line))]
+    #[tactic(auto, using(elf_types::proofs::Writers::kept), unfolding(crate::specs::Findings::finding_line))]
     fn put(&self, page: &mut Octets) -> Result<(), ElfError> {
         put_start(page, self.name, self.number, self.place)?;
         put_text(page, ": ")?;
@@ -64,7 +64,7 @@ pub struct NoFindings<'a> {
 impl Line for NoFindings<'_> {
     ghost text = { λ l. no_findings_line l.name.now };
 
-    #[tactic(auto, using(crate::proofs::Kept::kept), unfolding(crate::specs::Findings::no_findings_line))]
+    #[tactic(auto, using(elf_types::proofs::Writers::kept), unfolding(crate::specs::Findings::no_findings_line))]
     fn put(&self, page: &mut Octets) -> Result<(), ElfError> {
         self.name.put(page)?;
         put_text(page, ": no findings\n")

@@ -19,17 +19,6 @@ use elf_types::{Class, DataId, Kind, NULL_SECTION, ScnId, Shdr, is_compressed, k
 use elf_xlate::item_size;
 use object_output::section_header;
 
-/// The home piece of a section.
-pub fn first_piece(s: ScnId) -> DataId
-    ensures section { result.section ≡ s.0 }
-    ensures piece { result.piece ≡ 0 }
-{
-    DataId {
-        section: s.0,
-        piece: 0,
-    }
-}
-
 /// Whether the home of a section that is there is out of the file.
 ///
 /// Source: gABI chapter 4, "Section Header", sh_offset and sh_size.

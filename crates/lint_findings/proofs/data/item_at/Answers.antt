@@ -5,7 +5,6 @@ use Rattle.elf_descriptor.specs.Reads.{wanted}
 use Rattle.tool_output.specs.Stops.{value_or_stop}
 use Rattle.object_output.proofs.OnceReads.{once_read}
 use Rattle.object_output.proofs.QueryLemmas.{learns_unless, unless_stated}
-use Rattle.lint_findings.specs.Looking.{if_lent}
 use Rattle.lint_findings.proofs.LentLemmas.{lent_value}
 use Rattle.lint_findings.proofs.data.item_at.Goals as goal
 
