@@ -1,5 +1,5 @@
 -- What is left of a chain, and where it goes bad.
-use Rattle.std.proofs.Common.{◌≡◌, ◌+◌, ◌-◌, ◌<◌, ◌==◌, ◌^◌, ℕ, Bool, true, false, List, ◌∷◌, length, map, Option, Some, None, Result, Ok, Err, OnOk, IfOk, IfSome, refl, sym, ap, ◌∙◌, arith}
+use Rattle.std.proofs.Common.{◌≡◌, ◌==◌, ℕ, Bool, true, false, List, ◌∷◌, length, map, Option, Some, None, Ok, Err, refl, sym, ap, ◌∙◌}
 use Rattle.std.specs.Prelude.{◌&&◌, is_some, if◌then◌else◌}
 use Rattle.std.specs.Option.{option_or}
 use Rattle.elf_types.specs.declared.records.Kind.TheVariants as kinds
@@ -8,11 +8,9 @@ use Rattle.elf_types.specs.declared.errors.ElfError.{ElfError}
 use Rattle.elf_types.specs.Answers.{answered, first_refusal, ◌>>=◌}
 use Rattle.elf_object.specs.Object.{Object}
 use Rattle.elf_object.specs.Answers.{bytes_of, items_at, lend_refusal}
-use Rattle.gelf_view.specs.declared.aux.AuxPlace.{AuxPlace}
 use Rattle.gelf_view.specs.Calls.{first_place, first_entry_answer}
-use Rattle.gelf_view.specs.Chains.{Chain, ended, broken, leading, entry_then, next_place, notes, verdefs, verneeds, IsBehind}
+use Rattle.gelf_view.specs.Chains.{Chain, ended, broken, leading, entry_then, next_place, notes, verdefs, verneeds}
 use Rattle.command_objects.specs.Words.{header_at}
-use Rattle.gelf_view.specs.Records.{LiesAt}
 use Rattle.lint_findings.specs.Looking.{is_plain, if_lent, data_bytes}
 use Rattle.lint_chains.specs.Chains.{bad_place, entries_bad, section_bad, is_plain_of, note_bad, verdef_names_bad, verneed_names_bad, version_bad}
 
@@ -63,14 +61,6 @@ module _ {A : Type 0} (bad : (ℕ × A) → Option ℕ) where
 
   pub entries_broken : (e : ElfError) (chain : Chain (ℕ × A)) → chain ≡ broken e → entries_bad bad chain ≡ bad_place (Some e)
   entries_broken e chain is = ap (entries_bad bad) is
-
--- the next entry stands behind
-pub next_behind : (at n place : ℕ) → Some place ≡ next_place at n → at < place
-next_behind at n place is = by_test (n == 0) refl is
-  where
-    by_test : (t : Bool) → (n == 0) ≡ t → Some place ≡ (if t then None else Some (at + n)) → at < place
-    by_test true zero is = cc
-    by_test false some is = grind arith
 
 -- ---- The first entry
 
@@ -127,14 +117,3 @@ module _ (o : Object) (s : ℕ) where
 
   pub versions_passed : plain_of SHT_GNU_VERDEF ≡ false → plain_of SHT_GNU_VERNEED ≡ false → version_bad o s ≡ None
   versions_passed not nor = by_types false false not nor
-
--- ---- What the calls of gelf_view tell
-
-pub lies_before : {A E : Type 0} (r : Result A E) (at size count : ℕ) → 0 < size → OnOk r (LiesAt at size count) → OnOk r ((at < count) × (at < 2 ^ 63))
-lies_before (Ok x) at size count some lies = (omega (arith, some, lies.0), omega (arith, lies.0, lies.1))
-lies_before (Err e) at size count some lies = tt
-
-pub fewer_left : {A E : Type 0} (r : Result (Option A) E) (next : A → ℕ) (old new : AuxPlace) → IsBehind r next old new → IfOk r (λ found. IfSome found (λ x. new.left < old.left))
-fewer_left (Ok (Some x)) next old new is = let left : new.left ≡ old.left - 1 = ap (λ (p : AuxPlace). p.left) is.1 in omega (arith, is.0, left)
-fewer_left (Ok None) next old new is = tt
-fewer_left (Err e) next old new is = tt

@@ -1,68 +1,24 @@
-//! The entries of a section of version definitions or needs, each with its list of names. A walk
-//! over either ends by itself: each further entry stands behind the one before, and an entry tells
-//! how many names it has.
+//! The entries of a section of version definitions or needs, each with its list of names.
 
-ghost use Rattle.std.specs.Prelude.{◌≡◌, ◌<◌, ◌^◌, ℕ, Option as TheOption, length, IsTrue, IfOk, IfSome, OnOk};
+ghost use Rattle.std.specs.Prelude.{◌<◌, ◌^◌, ℕ, Option as TheOption, length};
 ghost use Rattle.elf_object.specs.Object.{Object};
-ghost use Rattle.elf_object.specs.Answers.{count_at};
 ghost use Rattle.gelf_view.specs.Calls.{first_place};
-ghost use Rattle.gelf_view.specs.declared.aux.AuxPlace.{AuxPlace as TheAuxPlace};
-ghost use Rattle.gelf_view.specs.Chains.{Chain, aux_then, entry_then, next_place, IsLedBy};
-ghost use Rattle.object_output.specs.Steps.{Learns, Looked};
+ghost use Rattle.object_output.specs.Steps.{Learns};
 ghost use Rattle.lint_findings.specs.Looking.{data_bytes};
 ghost use Rattle.lint_chains.specs.Chains.{bad_place, entries_bad, from_first};
 
 use crate::by_chain::met;
 use elf_descriptor::Elf;
 use elf_outside::Source;
-use elf_types::{DataId, ElfError, ScnId};
-use gelf_view::{AuxPlace, first_entry};
+use elf_types::{DataId, ScnId};
+use gelf_view::{AuxPlace, VersionEntry, VersionName, first_entry};
 use tool_output::Stop;
 
-/// A name in the list of an entry.
+/// An entry of a version section, as the rule on version records looks at it.
 ///
-/// - `names` are those of a piece from a place on.
-pub trait Aux: Copy + Drop {
-    ghost names: { Object → ℕ → ℕ → TheAuxPlace → Chain Self };
-
-    /// The next of the list, whose place goes on behind it. It refuses as `next_verdaux` does.
-    fn next_of<S: Source>(
-        elf: &mut Elf<S>,
-        d: DataId,
-        place: &mut AuxPlace,
-    ) -> Result<Option<Self>, ElfError>
-        ensures chain { IsTrue elf.old.told → IsLedBy result
-            (aux_then (names elf.old.o d.section d.piece place.new))
-            (names elf.old.o d.section d.piece place.old) }
-        ensures fewer { IfOk result (λ found. IfSome found
-            (λ _. place.new.left < place.old.left)) }
-        ensures looked { Looked S.Source result elf.old elf.new };
-}
-
-/// An entry of a version section.
-///
-/// - `entries` are those of a piece from a place on, each with its place.
-/// - `behind` is how many bytes there are to the next one.
 /// - `names_bad` is where the chain of its names goes bad, by the section and its place.
-pub trait Entry: Copy + Drop {
-    ghost entries: { Object → ℕ → ℕ → ℕ → Chain (ℕ × Self) };
-
-    ghost behind: { Self → ℕ };
-
+pub trait Entry: VersionEntry {
     ghost names_bad: { Object → ℕ → (ℕ × Self) → TheOption ℕ };
-
-    /// The entry at a place. It refuses as `verdef` does.
-    fn entry_at<S: Source>(elf: &mut Elf<S>, d: DataId, at: u64) -> Result<Self, ElfError>
-        ensures chain { IsTrue elf.old.told → IsLedBy result
-            (λ x. entry_then at x (behind x) (entries elf.old.o d.section d.piece))
-            (entries elf.old.o d.section d.piece at) }
-        ensures within { OnOk result ((at < count_at elf.old.o d.section d.piece) × (at < 2 ^ 63)) }
-        ensures looked { Looked S.Source result elf.old elf.new };
-
-    /// The place of the entry behind the one at a place.
-    fn place_behind(&self, at: u64) -> Option<u64>
-        requires { at < 2 ^ 63 }
-        ensures { result ≡ next_place at (behind self.now) };
 
     /// Where the chain of its names goes bad, of an entry that was found at a place of a section.
     /// It stops by `Read` where a read of the source failed, and by `Memory`.
@@ -77,7 +33,7 @@ pub trait Entry: Copy + Drop {
 }
 
 /// Where the chain of the names goes bad that begins at a place.
-pub fn walk_names<A: Aux, S: Source>(
+pub fn walk_names<A: VersionName, S: Source>(
     elf: &mut Elf<S>,
     s: ScnId,
     first: AuxPlace,

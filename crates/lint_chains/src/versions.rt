@@ -1,61 +1,21 @@
 //! The rule 30: the version definitions and needs of each section.
 
-ghost use Rattle.std.specs.Prelude.{◌≡◌};
-ghost use Rattle.gelf_view.specs.Chains.{verdauxs, verdefs, vernauxs, verneeds};
 ghost use Rattle.lint_findings.specs.Steps.{FindsElf};
 ghost use Rattle.lint_chains.specs.Chains as rule;
 ghost use Rattle.lint_chains.specs.Chains.{verdef_names_bad, verneed_names_bad};
 
 use crate::by_chain::{ChainRule, each_bad_chain};
-use crate::entries::{Aux, Entry, walk_entries, walk_names};
+use crate::entries::{Entry, walk_entries, walk_names};
 use elf_descriptor::Elf;
 use elf_outside::{Sink, Source};
+use elf_types::ScnId;
 use elf_types::constants::{SHT_GNU_VERDEF, SHT_GNU_VERNEED};
-use elf_types::{DataId, ElfError, ScnId};
-use gelf_view::{
-    AuxPlace, Verdaux, Verdef, Vernaux, Verneed, next_verdaux, next_vernaux, verdef, verneed,
-};
+use gelf_view::{Verdaux, Verdef, Vernaux, Verneed};
 use lint_findings::is_plain_of;
 use tool_output::{FileName, Outputs, Stop};
 
-impl Aux for Verdaux {
-    ghost names = { verdauxs };
-
-    fn next_of<S: Source>(
-        elf: &mut Elf<S>,
-        d: DataId,
-        place: &mut AuxPlace,
-    ) -> Result<Option<Verdaux>, ElfError> {
-        next_verdaux(elf, d, place)
-    }
-}
-
-impl Aux for Vernaux {
-    ghost names = { vernauxs };
-
-    fn next_of<S: Source>(
-        elf: &mut Elf<S>,
-        d: DataId,
-        place: &mut AuxPlace,
-    ) -> Result<Option<Vernaux>, ElfError> {
-        next_vernaux(elf, d, place)
-    }
-}
-
 impl Entry for Verdef {
-    ghost entries = { verdefs };
-
-    ghost behind = { λ x. x.next };
-
     ghost names_bad = { verdef_names_bad };
-
-    fn entry_at<S: Source>(elf: &mut Elf<S>, d: DataId, at: u64) -> Result<Verdef, ElfError> {
-        verdef(elf, d, at)
-    }
-
-    fn place_behind(&self, at: u64) -> Option<u64> {
-        self.next_place(at)
-    }
 
     #[tactic(auto, unfolding(crate::specs::Chains::verdef_names_bad))]
     fn find_bad_name<S: Source>(
@@ -69,19 +29,7 @@ impl Entry for Verdef {
 }
 
 impl Entry for Verneed {
-    ghost entries = { verneeds };
-
-    ghost behind = { λ x. x.next };
-
     ghost names_bad = { verneed_names_bad };
-
-    fn entry_at<S: Source>(elf: &mut Elf<S>, d: DataId, at: u64) -> Result<Verneed, ElfError> {
-        verneed(elf, d, at)
-    }
-
-    fn place_behind(&self, at: u64) -> Option<u64> {
-        self.next_place(at)
-    }
 
     #[tactic(auto, unfolding(crate::specs::Chains::verneed_names_bad))]
     fn find_bad_name<S: Source>(

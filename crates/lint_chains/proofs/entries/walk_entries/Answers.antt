@@ -17,9 +17,9 @@ returns-in-Ok-Some g c =
     let o = c.args.elf.now.o in
     let s = c.args.s.0 in
     let answer = rw c.in-Ok-Some.field-0-is at c.in-Ok-Some.ensures.answer in
-    learns_as g.S.Source (λ o. entries_bad (entry.names_bad o s) (from_first (first_place (length (data_bytes o s))) (entry.entries o s 0))) (λ o. entries_bad (entry.names_bad o s) (entry.entries o s 0 c.in-Ok-Some.first)) _ c.args.elf.now _
-    (λ told. ap (λ (p : Option ℕ). entries_bad (entry.names_bad o s) (from_first p (entry.entries o s 0))) (first_there o s (Some c.in-Ok-Some.first) (answer.1 refl)))
-    (learns_after g.S.Source (λ o. entries_bad (entry.names_bad o s) (entry.entries o s 0 c.in-Ok-Some.first)) _ c.args.elf.now c.first_entry.new.elf _ (queried g.S.Source _ _ _ c.args.elf.now _ c.in-Ok-Some.ensures.queries (once_read _ _ _ _)) c.walk_from.ensures)
+    learns_as g.S.Source (λ o. entries_bad (entry.names_bad o s) (from_first (first_place (length (data_bytes o s))) (g.R.VersionEntry.entries o s 0))) (λ o. entries_bad (entry.names_bad o s) (g.R.VersionEntry.entries o s 0 c.in-Ok-Some.first)) _ c.args.elf.now _
+    (λ told. ap (λ (p : Option ℕ). entries_bad (entry.names_bad o s) (from_first p (g.R.VersionEntry.entries o s 0))) (first_there o s (Some c.in-Ok-Some.first) (answer.1 refl)))
+    (learns_after g.S.Source (λ o. entries_bad (entry.names_bad o s) (g.R.VersionEntry.entries o s 0 c.in-Ok-Some.first)) _ c.args.elf.now c.first_entry.new.elf _ (queried g.S.Source _ _ _ c.args.elf.now _ c.in-Ok-Some.ensures.queries (once_read _ _ _ _)) c.walk_from.ensures)
 
 pub returns-in-Ok-None : goal.returns-in-Ok-None
 returns-in-Ok-None g c =
@@ -27,14 +27,14 @@ returns-in-Ok-None g c =
     let o = c.args.elf.now.o in
     let s = c.args.s.0 in
     let answer = rw c.in-Ok-None.field-0-is at c.in-Ok-None.ensures.answer in
-    learns_by g.S.Source (λ o. entries_bad (entry.names_bad o s) (from_first (first_place (length (data_bytes o s))) (entry.entries o s 0))) None c.args.elf.now _ (queried g.S.Source _ _ _ c.args.elf.now _ c.in-Ok-None.ensures.queries (once_read _ _ _ _))
-    (λ told. ap (λ (p : Option ℕ). entries_bad (entry.names_bad o s) (from_first p (entry.entries o s 0))) (first_there o s None (answer.1 refl)))
+    learns_by g.S.Source (λ o. entries_bad (entry.names_bad o s) (from_first (first_place (length (data_bytes o s))) (g.R.VersionEntry.entries o s 0))) None c.args.elf.now _ (queried g.S.Source _ _ _ c.args.elf.now _ c.in-Ok-None.ensures.queries (once_read _ _ _ _))
+    (λ told. ap (λ (p : Option ℕ). entries_bad (entry.names_bad o s) (from_first p (g.R.VersionEntry.entries o s 0))) (first_there o s None (answer.1 refl)))
 
 pub returns-in-None : goal.returns-in-None
 returns-in-None g c =
     let entry = g.R.Entry in
     let o = c.args.elf.now.o in
     let s = c.args.s.0 in
-    learns_by g.S.Source (λ o. entries_bad (entry.names_bad o s) (from_first (first_place (length (data_bytes o s))) (entry.entries o s 0))) None c.args.elf.now _ (settled_elf g.S.Source _ _ _ (is_refusal c.in-Err.e (sym c.in-None.ensures)) (queried g.S.Source _ _ _ c.args.elf.now _ c.in-Err.ensures.queries (once_read _ _ _ _)))
-    (λ told. sym (ap (λ (p : Option ℕ). entries_bad (entry.names_bad o s) (from_first p (entry.entries o s 0)))
+    learns_by g.S.Source (λ o. entries_bad (entry.names_bad o s) (from_first (first_place (length (data_bytes o s))) (g.R.VersionEntry.entries o s 0))) None c.args.elf.now _ (settled_elf g.S.Source _ _ _ (is_refusal c.in-Err.e (sym c.in-None.ensures)) (queried g.S.Source _ _ _ c.args.elf.now _ c.in-Err.ensures.queries (once_read _ _ _ _)))
+    (λ told. sym (ap (λ (p : Option ℕ). entries_bad (entry.names_bad o s) (from_first p (g.R.VersionEntry.entries o s 0)))
     (first_refused o s c.in-Err.e (answers_stated true _ c.in-Err.e _ c.in-Err.ensures.answer (sym c.in-None.ensures)))))

@@ -6,8 +6,11 @@ use Rattle.lint_chains.proofs.entries.walk_from.Given as goal
 
 abbrev pub invariant-entries : goal.invariant-entries
 invariant-entries g l =
-    let entry = g.R.Entry in
-    Walking g.S.Source l.initial.elf l.elf (λ o. entries_bad (entry.names_bad o l.fn.s.0) (entry.entries o l.fn.s.0 0 l.fn.first)) (λ o. entries_bad (entry.names_bad o l.fn.s.0) (entry.entries o l.fn.s.0 0 l.at))
+    let bad = g.R.Entry.names_bad in
+    let entries = g.R.VersionEntry.entries in
+    Walking g.S.Source l.initial.elf l.elf
+    (λ o. entries_bad (bad o l.fn.s.0) (entries o l.fn.s.0 0 l.fn.first))
+    (λ o. entries_bad (bad o l.fn.s.0) (entries o l.fn.s.0 0 l.at))
 
 abbrev pub decreases-entries : goal.decreases-entries
 decreases-entries g l = count_at l.initial.elf.o l.fn.s.0 0 - l.at
