@@ -29,7 +29,7 @@ struct Overlapping {
 impl Line for Overlapping {
     ghost text = { λ t. rule.overlapping_text t.a t.b };
 
-    #[tactic(auto, using(crate::proofs::Kept::kept), unfolding(crate::specs::Layout::overlapping_text))]
+    #[tactic(auto, using(elf_types::proofs::Writers::kept), unfolding(crate::specs::Layout::overlapping_text))]
     fn put(&self, page: &mut Octets) -> Result<(), ElfError> {
         put_part(page, self.a)?;
         put_text(page, " and ")?;
