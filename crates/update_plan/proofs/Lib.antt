@@ -1,0 +1,5 @@
+pub mod RowLaws
+pub mod SegmentLaws
+pub mod PartLaws
+pub mod PlacingLaws
+pub mod ContentLaws

@@ -1,0 +1,4 @@
+pub mod Contents
+pub mod Sections
+pub mod Placing
+pub mod Plans

@@ -1,0 +1,13 @@
+//! What stands before an image is written: why an update is refused, where the parts of the image
+//! stand and in what order, and an update that only stores the places (elf_update of elf(3E)).
+#![tactic(auto)]
+
+mod contents;
+mod parts;
+mod places;
+mod plans;
+mod sections;
+
+pub use places::{PlacedParts, has_layout, place_parts, update_null};
+pub use plans::plan;
+pub use sections::{count_pieces, has_file_bytes};

@@ -1,0 +1,59 @@
+//! Small questions on the sections of a descriptor.
+
+ghost use Rattle.std.specs.Prelude.{◌≡◌, ◌<◌, length};
+ghost use Rattle.elf_object.specs.Answers.{piece_count};
+ghost use Rattle.elf_object.specs.Object.{section_at, has_file_bytes, home_is_clean, occupies_file};
+
+use elf_descriptor::{Elf, Held};
+use elf_object::occupies_file;
+use elf_outside::Source;
+use elf_types::{DataId, ScnId};
+
+/// Whether a section that is there occupies space in the file, by its present type.
+pub(crate) fn section_occupies_file<S: Source>(elf: &Elf<S>, s: ScnId) -> bool
+    requires { s.0 < length elf.now.o.sections }
+    ensures { result ≡ occupies_file (section_at elf.now.o s.0).header }
+{
+    occupies_file(&elf.section_header(s))
+}
+
+/// Whether the image holds bytes of a section that is there, empty or not: section 0 has none, and
+/// neither has one of type `SHT_NULL` or `SHT_NOBITS`. It reads nothing and takes no memory.
+///
+/// Source: gABI chapter 4, "Sections".
+#[tactic(auto, unfolding(elf_object::specs::Object::has_file_bytes))]
+pub fn has_file_bytes<S: Source>(elf: &Elf<S>, s: ScnId) -> bool
+    requires { s.0 < length elf.now.o.sections }
+    ensures { result ≡ has_file_bytes s.0 (section_at elf.now.o s.0) }
+{
+    s.0 != 0 && section_occupies_file(elf, s)
+}
+
+/// Whether the home piece of a section that is there is its first one and clean.
+#[tactic(auto, unfolding(elf_object::specs::Object::home_is_clean, elf_object::specs::Object::piece_at, elf_object::specs::Answers::piece_refusal, elf_object::specs::Answers::piece_count))]
+pub(crate) fn home_is_clean<S: Source>(elf: &Elf<S>, s: ScnId) -> bool
+    requires { s.0 < length elf.now.o.sections }
+    ensures { result ≡ home_is_clean (section_at elf.now.o s.0) }
+{
+    match elf.held(DataId {
+        section: s.0,
+        piece: 0,
+    }) {
+        Ok(Held::Edited(_)) => false,
+        Ok(Held::Raw(_)) => true,
+        Ok(Held::Unread) => true,
+        Err(_) => false,
+    }
+}
+
+/// The number of pieces of a section that is there. It reads nothing and takes no memory.
+#[tactic(auto, unfolding(elf_object::specs::Calls::pieces_answer))]
+pub fn count_pieces<S: Source>(elf: &Elf<S>, s: ScnId) -> u32
+    requires { s.0 < length elf.now.o.sections }
+    ensures { result ≡ piece_count elf.now.o s.0 }
+{
+    match elf.pieces(s) {
+        Ok(count) => count,
+        Err(_) => unreachable!(),
+    }
+}
