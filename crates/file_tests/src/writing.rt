@@ -1,0 +1,163 @@
+//! What a command leaves of the files that it makes, where a call fails and where none does.
+
+use crate::texts::Text;
+use elf_outside::{MemFiles, MemSink, NoSource, Sink};
+use elf_types::{Addrs, ElfError, Octets};
+use object_files::{write_image, write_images};
+use std::alloc::Global;
+use tool_output::{Outputs, Stop};
+
+/// The numbers of the calls that fail: those that hand a file out, the writes of each file that is
+/// made, and the put to standard output, or none where that is 0. What comes of it: how the step
+/// ends, and what the names hold, of which `a` held a text before.
+#[derive(Clone, Copy)]
+struct Row {
+    bad_opens: &'static [u64],
+    bad_writes: &'static [u64],
+    bad_put: u64,
+    ended: Result<bool, Stop>,
+    first: Option<&'static [u8]>,
+    second: Option<&'static [u8]>,
+}
+
+/// No call fails.
+const WHOLE: Row = Row {
+    bad_opens: &[],
+    bad_writes: &[],
+    bad_put: 0,
+    ended: Ok(false),
+    first: Some(b"one"),
+    second: Some(b"second"),
+};
+
+/// A call fails: the put of what waits, the first or the second file that is made, or the write of
+/// the first one.
+const FAILING: [Row; 4] = [
+    Row {
+        bad_put: 1,
+        ended: Err(Stop::Write),
+        first: Some(b"old"),
+        second: None,
+        ..WHOLE
+    },
+    Row {
+        bad_opens: &[1],
+        ended: Err(Stop::Write),
+        first: Some(b"old"),
+        second: None,
+        ..WHOLE
+    },
+    Row {
+        bad_opens: &[2],
+        ended: Err(Stop::Write),
+        second: None,
+        ..WHOLE
+    },
+    Row {
+        bad_writes: &[1],
+        ended: Err(Stop::Write),
+        first: Some(b""),
+        second: None,
+        ..WHOLE
+    },
+];
+
+/// The files of a row, of which one holds a text.
+fn files_of(alloc: Global, row: &Row) -> Result<MemFiles, ElfError> {
+    let bad_opens = Addrs::from_slice(alloc, row.bad_opens)?;
+    let bad_writes = Addrs::from_slice(alloc, row.bad_writes)?;
+    let mut files = MemFiles::new(alloc, 64, bad_opens, bad_writes);
+    let old = Octets::from_slice(alloc, b"old")?;
+    files.add("a", old, Addrs::new(alloc), Addrs::new(alloc))?;
+    Ok(files)
+}
+
+/// A line is said, and then two files are made.
+fn write_two<O: Sink, E: Sink>(
+    alloc: Global,
+    files: &mut MemFiles,
+    outputs: &mut Outputs<'_, O, E>,
+) -> Result<bool, Stop> {
+    let mut first = Text {
+        bytes: b"one",
+        from: NoSource,
+    };
+    let mut second = Text {
+        bytes: b"second",
+        from: NoSource,
+    };
+    outputs.show(&"said\n")?;
+    write_images(alloc, &mut first, "a", &mut second, "b", files, outputs)
+}
+
+/// A line is said, and then one file is made.
+fn write_one<O: Sink, E: Sink>(
+    alloc: Global,
+    files: &mut MemFiles,
+    outputs: &mut Outputs<'_, O, E>,
+) -> Result<bool, Stop> {
+    let mut text = Text {
+        bytes: b"one",
+        from: NoSource,
+    };
+    outputs.show(&"said\n")?;
+    write_image(alloc, &mut text, "a", files, outputs)
+}
+
+/// How the making of one file or of two ends, over outputs whose put with this number fails.
+fn ended_by(
+    alloc: Global,
+    two: bool,
+    files: &mut MemFiles,
+    bad_put: u64,
+) -> Result<Result<bool, Stop>, ElfError> {
+    let mut out = MemSink::new(alloc, 64, Addrs::from_slice(alloc, &[bad_put])?)?;
+    let mut err = MemSink::new(alloc, 64, Addrs::new(alloc))?;
+    let mut page = Octets::new(alloc);
+    let mut outputs = Outputs::new(&mut out, &mut err, &mut page);
+    let last = if two {
+        write_two(alloc, files, &mut outputs)
+    } else {
+        write_one(alloc, files, &mut outputs)
+    };
+    Ok(outputs.end(last))
+}
+
+/// Whether two files are left as a row says.
+fn leaves_two(alloc: Global, row: &Row) -> Result<bool, ElfError> {
+    let mut files = files_of(alloc, row)?;
+    let ended = ended_by(alloc, true, &mut files, row.bad_put)?;
+    Ok(ended == row.ended && files.bytes("a") == row.first && files.bytes("b") == row.second)
+}
+
+/// Whether one file is left as a row says of the first.
+fn leaves_one(alloc: Global, row: &Row) -> Result<bool, ElfError> {
+    let mut files = files_of(alloc, row)?;
+    let ended = ended_by(alloc, false, &mut files, row.bad_put)?;
+    Ok(ended == row.ended && files.bytes("a") == row.first && files.bytes("b").is_none())
+}
+
+/// The number of the first row that is not left so, or None.
+fn first_other(alloc: Global, rows: &[Row]) -> Option<usize> {
+    for (i, row) in rows.iter().enumerate() {
+        if leaves_two(alloc, row) != Ok(true) {
+            return Some(i);
+        }
+    }
+    None
+}
+
+#[test]
+fn two_files_hold_their_images(rt: HostRuntime) {
+    assert!(rt; leaves_two(rt.alloc(), &WHOLE) == Ok(true));
+}
+
+#[test]
+fn one_file_is_made_where_another_was(rt: HostRuntime) {
+    assert!(rt; leaves_one(rt.alloc(), &WHOLE) == Ok(true));
+}
+
+#[test]
+fn a_failed_call_leaves_the_other_files(rt: HostRuntime) {
+    assert!(rt; first_other(rt.alloc(), &FAILING).is_none());
+}

@@ -1,0 +1,45 @@
+-- A file that stays open while other files are made of it.
+use Rattle.std.specs.Prelude.{◌≡◌, ◌≤◌, ◌<◌, ◌+◌, ◌-◌, ◌^◌, ℕ, List, Bool, Option, Some, None, Result, IfSome, OnOk, IsTrue, codes}
+use Rattle.elf_outside.specs.Asks.{Leaves}
+use Rattle.elf_outside.specs.Counts.{Rose}
+use Rattle.elf_outside.specs.Names.{Map}
+use Rattle.elf_outside.specs.declared.sources.Source.{Ghosts as SourceGhosts}
+use Rattle.elf_outside.specs.declared.sinks.Sink.{Ghosts as SinkGhosts}
+use Rattle.elf_outside.specs.declared.file_sets.Files.{Ghosts as FilesGhosts}
+use Rattle.tool_output.specs.declared.stops.Stop.{Stop}
+use Rattle.tool_output.specs.declared.outputs.Outputs.{Outputs}
+use Rattle.tool_output.specs.Names.{file_name}
+use Rattle.tool_output.specs.Reports.{refusal}
+use Rattle.tool_output.specs.Statuses.{refused_status}
+use Rattle.tool_output.specs.Files.{IsWithin, LeavesFilesBy}
+use Rattle.tool_output.specs.Outcomes.{Outcome, report_outcome, Does}
+
+-- what is done with a file that is there, or the message that it is not
+unfoldable pub edited_outcome : List ℕ → (List ℕ → List ℕ → Outcome) → List ℕ → Map → Outcome
+edited_outcome command outcome file named = of_held (named file)
+  where
+    of_held : Option (List ℕ) → Outcome
+    of_held (Some bytes) = outcome file bytes
+    of_held None =
+        report_outcome (refusal command (file_name file) (codes "not found")) (Some 0)
+
+-- the same outcome, with no bound on what is asked for
+abbrev pub unbounded : Outcome → Outcome
+unbounded stated = record stated { asks = None }
+
+-- What a step does with a file that is open, which counts what it asks for by itself: all that is
+-- stated for its bytes, where they are told. The files that it hands out meanwhile are closed
+-- again, and the open one is left. It stops by Read only where a read of that one failed.
+pub record EditsFile {S F D O E : Type 0} (s : SourceGhosts S) (f : FilesGhosts F D)
+    (o : SinkGhosts O) (e : SinkGhosts E) (outcome : List ℕ → Outcome) (result : Result Bool Stop)
+    (source_old source_new : S) (files_old files_new : F) (old new : Outputs O E) : Type 0 where
+  pub does : IsTrue (f.tells files_old) → IfSome (s.holds source_old) (λ bytes.
+      Does f o e refused_status (unbounded (outcome bytes)) result files_old files_new old new)
+  pub asks : IsTrue (f.tells files_old) → IfSome (s.holds source_old) (λ bytes.
+      OnOk result (IsWithin (outcome bytes).asks
+      (s.taken source_old + f.taken files_old) (s.taken source_new + f.taken files_new)))
+  pub source : Leaves s source_old source_new
+  pub later : s.faults source_old ≤ s.faults source_new
+  pub live : f.live files_old < 2 ^ 64 - 2 → f.live files_new ≡ f.live files_old
+  pub leaves : LeavesFilesBy f o e (Rose (s.faults source_old) (s.faults source_new))
+      result files_old files_new old new
