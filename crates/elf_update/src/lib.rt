@@ -1,0 +1,21 @@
+//! Writing an image (elf_update of elf(3E)): its parts by their places, and what lies between them.
+#![tactic(auto)]
+
+mod data;
+mod descriptors;
+pub mod entries;
+mod fronts;
+mod items;
+mod pages;
+mod parts;
+mod puts;
+mod rows;
+mod updates;
+mod walks;
+
+pub use pages::{PAGE_SIZE, Page};
+pub use parts::{Origin, Parts, PieceExtent};
+pub use puts::{put_fill, put_range};
+pub use update_plan::update_null;
+pub use updates::update_to;
+pub use walks::{Ground, put_image};

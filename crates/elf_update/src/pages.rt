@@ -1,0 +1,121 @@
+//! The page in which an image waits for its sink: small parts share a page, and a sink gets few
+//! large pieces.
+
+ghost use Rattle.std.specs.Prelude.{◌≡◌, ◌+◌, ◌-◌, ◌^◌, ◌≤◌, ◌<◌, ◌++◌, [], length, take, drop, OnOk, OnErr, IfOk, IfErr};
+ghost use Rattle.std.proofs.Math.ListN.{replicate};
+ghost use Rattle.elf_types.specs.declared.errors.ElfError.TheVariants.{Memory, Read, Write};
+ghost use Rattle.elf_update.specs.Texts.{Flows};
+ghost use Rattle.elf_update.specs.Origins.{ReadyFor};
+ghost use Rattle.elf_update.specs.Emits.{bytes_in, due_in, UsesParts, WaitsMore};
+
+use crate::parts::{Origin, Parts};
+use elf_outside::Sink;
+use elf_outside::writes::put;
+use elf_types::ElfError;
+use std::alloc::Global;
+use std::marker::Model;
+
+/// How many bytes fill a page.
+pub const PAGE_SIZE: usize = 65536;
+
+/// A page. Contracts see it as the bytes that wait in it, which are at most [`PAGE_SIZE`].
+#[derive(Drop)]
+pub struct Page {
+    bytes: Vec<u8>,
+    used: usize,
+}
+
+impl Model for Page {
+    ghost use Rattle.std.specs.Prelude.{ℕ, List, take, length, ◌≤◌, ◌≡◌};
+
+    ghost Value = { List ℕ };
+
+    ghost view = { λ p. take p.used p.bytes.items };
+
+    ghost invariant = { λ p. (p.used ≤ 65536) × (length p.bytes.items ≡ 65536) };
+}
+
+impl Page {
+    /// A page in which nothing waits. It refuses `Memory` alone.
+    pub fn new(alloc: Global) -> Result<Page, ElfError>
+        ensures ok { IfOk result (λ page. page ≡ []) }
+        ensures err { IfErr result (λ e. e ≡ Memory) }
+    {
+        let bytes = vec![in alloc; 0u8; PAGE_SIZE]?;
+        Ok(Page { bytes, used: 0 })
+    }
+
+    /// How many bytes more fit.
+    pub fn room(&self) -> usize
+        ensures room { result ≡ 65536 - length self.now }
+        ensures fits { length self.now ≤ 65536 }
+    {
+        PAGE_SIZE - self.used
+    }
+
+    /// Puts what waits, if anything does. It refuses `Write` alone and takes no memory.
+    pub fn flush<K: Sink>(&mut self, sink: &mut K) -> Result<(), ElfError>
+        ensures flows { Flows K.Sink result sink.old sink.new self.old self.new [] }
+        ensures empty { OnOk result (self.new ≡ []) }
+        ensures err { IfErr result (λ e. e ≡ Write) }
+    {
+        if self.used == 0 {
+            return Ok(());
+        }
+        if let Err(e) = put(sink, &self.bytes[..self.used]) {
+            return Err(e);
+        }
+        self.used = 0;
+        Ok(())
+    }
+
+    /// Puts the page where it is full. It refuses `Write` alone and takes no memory.
+    pub fn turn<K: Sink>(&mut self, sink: &mut K) -> Result<(), ElfError>
+        ensures flows { Flows K.Sink result sink.old sink.new self.old self.new [] }
+        ensures room { OnOk result (length self.new < 65536) }
+        ensures err { IfErr result (λ e. e ≡ Write) }
+    {
+        if self.used < PAGE_SIZE {
+            return Ok(());
+        }
+        self.flush(sink)
+    }
+
+    /// Has so many times a byte wait, which fit.
+    pub fn push_same(&mut self, byte: u8, count: usize)
+        requires { length self.old + count ≤ 65536 }
+        ensures { self.new ≡ self.old ++ replicate count byte }
+    {
+        let used = self.used;
+        self.bytes[used..used + count].fill(byte);
+        self.used = used + count;
+    }
+
+    /// Has a range of bytes of a piece or of the base wait, which fit. It refuses `Read` alone,
+    /// takes no memory, and after a refusal what waits is as before.
+    pub fn fill_by<P: Parts>(
+        &mut self,
+        parts: &mut P,
+        of: Origin,
+        from: u64,
+        count: usize,
+    ) -> Result<(), ElfError>
+        requires ready { ReadyFor (P.ready (P.kept parts.old)) of }
+        requires there { from + count ≤ length (bytes_in P.Parts parts.old of) }
+        requires small { from + count < 2 ^ 64 }
+        requires room { length self.old + count ≤ 65536 }
+        ensures waits { OnOk result (WaitsMore (P.told (P.kept parts.old))
+            (take count (drop from (bytes_in P.Parts parts.old of))) self.old self.new) }
+        ensures unchanged { OnErr result (self.new ≡ self.old) }
+        ensures parts { UsesParts P.Parts result parts.old parts.new
+            (due_in P.Parts parts.old of from (from + count)) }
+        ensures err { IfErr result (λ e. e ≡ Read) }
+    {
+        let used = self.used;
+        if let Err(e) = parts.copy(of, from, &mut self.bytes[used..used + count]) {
+            return Err(e);
+        }
+        self.used = used + count;
+        Ok(())
+    }
+}

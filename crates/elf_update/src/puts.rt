@@ -1,0 +1,93 @@
+//! Bytes that go through a page to a sink: a range of a piece or of the base, and the fill byte.
+
+ghost use Rattle.std.specs.Prelude.{◌≡◌, ◌-◌, ◌≤◌, length, take, drop, IfErr};
+ghost use Rattle.std.proofs.Math.ListN.{replicate};
+ghost use Rattle.elf_types.specs.declared.errors.ElfError.TheVariants.{Write};
+ghost use Rattle.elf_update.specs.Texts.{Flows};
+ghost use Rattle.elf_update.specs.Origins.{ReadyFor};
+ghost use Rattle.elf_update.specs.Emits.{bytes_in, due_in, Emits};
+
+use crate::pages::{PAGE_SIZE, Page};
+use crate::parts::{Origin, Parts};
+use elf_outside::Sink;
+use elf_outside::writes::put_zeros;
+use elf_types::ElfError;
+
+/// Puts a byte so many times, page by page.
+fn put_same<K: Sink>(page: &mut Page, sink: &mut K, byte: u8, count: u64) -> Result<(), ElfError>
+    ensures flows { Flows K.Sink result sink.old sink.new page.old page.new
+        (replicate count byte) }
+    ensures err { IfErr result (λ e. e ≡ Write) }
+{
+    let mut left = count;
+    while left > 0 {
+        if let Err(e) = page.turn(sink) {
+            return Err(e);
+        }
+        let some = left.min(page.room() as u64);
+        page.push_same(byte, some as usize);
+        left -= some;
+    }
+    Ok(())
+}
+
+/// Puts so many zero bytes behind what waits, which is put first.
+fn put_hole<K: Sink>(page: &mut Page, sink: &mut K, count: u64) -> Result<(), ElfError>
+    ensures flows { Flows K.Sink result sink.old sink.new page.old page.new
+        (replicate count 0) }
+    ensures err { IfErr result (λ e. e ≡ Write) }
+{
+    if let Err(e) = page.flush(sink) {
+        return Err(e);
+    }
+    put_zeros(sink, count)
+}
+
+/// Puts the fill byte so many times. More zeros than fill a page go to the sink as zeros, which may
+/// keep a hole for them. It refuses `Write` alone and takes no memory.
+pub fn put_fill<K: Sink>(
+    page: &mut Page,
+    sink: &mut K,
+    byte: u8,
+    count: u64,
+) -> Result<(), ElfError>
+    ensures flows { Flows K.Sink result sink.old sink.new page.old page.new
+        (replicate count byte) }
+    ensures err { IfErr result (λ e. e ≡ Write) }
+{
+    if byte == 0 && count > PAGE_SIZE as u64 {
+        return put_hole(page, sink, count);
+    }
+    put_same(page, sink, byte, count)
+}
+
+/// Puts the bytes of a piece or of the base from one place on and before another. It refuses `Read`
+/// and `Write` alone and takes no memory.
+pub fn put_range<P: Parts, K: Sink>(
+    parts: &mut P,
+    page: &mut Page,
+    sink: &mut K,
+    of: Origin,
+    from: u64,
+    to: u64,
+) -> Result<(), ElfError>
+    requires ready { ReadyFor (P.ready (P.kept parts.old)) of }
+    requires order { from ≤ to }
+    requires there { to ≤ length (bytes_in P.Parts parts.old of) }
+    ensures { Emits P.Parts K.Sink result parts.old parts.new sink.old sink.new page.old page.new
+        (take (to - from) (drop from (bytes_in P.Parts parts.old of)))
+        (due_in P.Parts parts.old of from to) }
+{
+    let mut at = from;
+    while at < to {
+        if let Err(e) = page.turn(sink) {
+            return Err(e);
+        }
+        let some = (to - at).min(page.room() as u64);
+        if let Err(e) = page.fill_by(parts, of, at, some as usize) {
+            return Err(e);
+        }
+        at += some;
+    }
+    Ok(())
+}
