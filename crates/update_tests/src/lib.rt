@@ -1,0 +1,15 @@
+//! Tests of updates. They demand that an update ends, since one that always wanted memory would
+//! meet the contracts too. They stand in a crate of their own, since a crate with tests is proved
+//! twice.
+#![tactic(auto)]
+
+#[cfg(test)]
+mod copies;
+#[cfg(test)]
+mod created;
+#[cfg(test)]
+mod faults;
+#[cfg(test)]
+mod gaps;
+#[cfg(test)]
+mod puts;
