@@ -1,8 +1,10 @@
-//! Sizes of sections' data, and homes that are let go.
+//! Sizes of sections' data, homes that are let go, and memory that is taken for an update.
 
 use crate::beginnings::front_size;
 use crate::callers::long;
-use crate::questions::{Question, STRINGS, asked, is_answered_in_all_forms, is_answered_untold};
+use crate::questions::{
+    Question, STRINGS, SYMBOLS, asked, is_answered_in_all_forms, is_answered_untold,
+};
 use elf_descriptor::{Elf, Held};
 use elf_outside::Source;
 use elf_types::{DIRTY, DataId, ElfError, Part, ScnId};
@@ -56,6 +58,20 @@ impl Question for Marked {
     }
 }
 
+/// Memory for an update is taken, and nothing is read for that.
+struct Reserved;
+
+impl Question for Reserved {
+    fn is_answered<S: Source>(&self, elf: &mut Elf<S>) -> bool {
+        let mut stated = elf.reserve() == Ok(());
+        stated &= elf.reserve_home(ScnId(1)) == Ok(());
+        stated &= elf.reserve_home(ScnId(1_000)).is_err();
+        stated &= is_unread(elf, STRINGS) && is_unread(elf, SYMBOLS);
+        stated &= long(elf, ScnId(1)) == Ok((3, 3));
+        stated && elf.reserve() == Ok(())
+    }
+}
+
 /// How many bytes of the image are asked for besides its front.
 fn asked_besides<Q: Question>(alloc: Global, q: &Q) -> Option<u64> {
     match asked(alloc, q, WIDE, &OBJECT, 0) {
@@ -69,6 +85,7 @@ fn sizes_and_homes_are_as_stated(rt: HostRuntime) {
     assert!(rt; is_answered_in_all_forms(rt.alloc(), &Sizes, &OBJECT));
     assert!(rt; is_answered_in_all_forms(rt.alloc(), &LetGo, &OBJECT));
     assert!(rt; is_answered_in_all_forms(rt.alloc(), &Marked, &OBJECT));
+    assert!(rt; is_answered_in_all_forms(rt.alloc(), &Reserved, &OBJECT));
     assert!(rt; is_answered_untold(rt.alloc(), &LetGo, WIDE, &OBJECT) == Ok(true));
 }
 
@@ -76,5 +93,6 @@ fn sizes_and_homes_are_as_stated(rt: HostRuntime) {
 fn a_home_is_read_once_until_it_is_let_go(rt: HostRuntime) {
     assert!(rt; asked_besides(rt.alloc(), &Sizes) == Some(0));
     assert!(rt; asked_besides(rt.alloc(), &Marked) == Some(3));
+    assert!(rt; asked_besides(rt.alloc(), &Reserved) == Some(3));
     assert!(rt; asked_besides(rt.alloc(), &LetGo) == Some(6));
 }

@@ -37,3 +37,7 @@ pub mod Unloading
 pub mod Rows
 pub mod Sizes
 pub mod Placing
+pub mod Keeping
+pub mod Rebasing
+pub mod CutCalls
+pub mod SpareCalls

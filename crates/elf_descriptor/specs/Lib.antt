@@ -11,6 +11,8 @@ pub mod Warmed
 pub mod Reads
 pub mod Rooms
 pub mod Places
+pub mod Cuts
+pub mod Fronts
 pub mod Rests
 pub mod Edits
 pub mod Created

@@ -3,6 +3,7 @@
 use crate::scn::Scn;
 use elf_types::{Ehdr, Octets, Phdrs, Shdrs};
 
+mod bases;
 mod checks;
 mod creating;
 mod edits;
@@ -15,6 +16,7 @@ mod parts;
 mod places;
 mod rooms;
 mod sizes;
+mod spares;
 mod storing;
 
 /// The front as it stands in the image that was opened or last written.

@@ -1,14 +1,71 @@
-//! What was read of a home is let go.
+//! Memory is kept aside for a home's bytes, and what was read is let go.
 
-ghost use Rattle.std.specs.Prelude.{◌≡◌, ◌<◌, true, false, length};
+ghost use Rattle.std.specs.Prelude.{◌≡◌, ◌<◌, ◌||◌, true, false, length, IsTrue, IfErr, OnOk, OnErr};
+ghost use Rattle.elf_types.specs.declared.errors.ElfError.TheVariants.{Read};
 ghost use Rattle.elf_types.specs.Answers.{answered};
+ghost use Rattle.elf_outside.specs.Asks.{Asks};
+ghost use Rattle.elf_object.specs.Words.{Answers};
+ghost use Rattle.section_data.specs.Held.{cell_is_loaded};
+ghost use Rattle.section_data.specs.Refused.{home_out, load_due, reading};
+ghost use Rattle.section_data.specs.Leaves.{LiesIn, with_room};
+ghost use Rattle.elf_descriptor.specs.Bodies.{no_raw_in};
+ghost use Rattle.elf_descriptor.specs.Edits.{IsStated};
 ghost use Rattle.elf_descriptor.specs.Views.{HasCounts, scn_at, no_scn};
-ghost use Rattle.elf_descriptor.specs.Rooms.{can_let_go, let_go, HoldsSo};
+ghost use Rattle.elf_descriptor.specs.Rooms.{can_let_go, let_go, HoldsSo, Fills};
 
 use crate::body::Body;
+use elf_outside::Source;
 use elf_types::ElfError;
 
 impl Body {
+    /// Keeps memory aside for the home of a section that is there. It refuses in this order:
+    /// `OutOfFile`, `Memory`.
+    fn reserve_there(&mut self, s: u32) -> Result<(), ElfError>
+        requires { s < length self.old.sections.items }
+        ensures answer { IsStated result (answered (home_out (scn_at self.old s).cell) tt) }
+        ensures ok { OnOk result
+            (HoldsSo self.old self.new s (with_room (scn_at self.old s).cell)) }
+        ensures same { OnErr result (HoldsSo self.old self.new s (scn_at self.old s).cell) }
+    {
+        let scn = &mut self.sections[s as usize];
+        scn.cell.reserve()
+    }
+
+    /// Keeps memory aside for a section's home, where that is not loaded. It refuses in this order:
+    /// `NoSection`, `OutOfFile`, `Memory`.
+    #[tactic(auto, unfolding(crate::specs::Bodies::no_raw_in))]
+    pub fn reserve_home(&mut self, s: u32) -> Result<(), ElfError>
+        requires { HasCounts self.old }
+        ensures answer { IsStated result (answered (no_raw_in self.old s) tt) }
+        ensures ok { OnOk result
+            (HoldsSo self.old self.new s (with_room (scn_at self.old s).cell)) }
+        ensures there { OnOk result (s < length self.old.sections.items) }
+        ensures same { OnErr result (HoldsSo self.old self.new s (scn_at self.old s).cell) }
+    {
+        if let Err(e) = self.check_section(s) {
+            return Err(e);
+        }
+        self.reserve_there(s)
+    }
+
+    /// Reads the home of a section that is there into the memory that is kept aside for it, where
+    /// it is not loaded. It refuses `Read` alone.
+    pub fn load_home<S: Source>(&mut self, src: &mut S, s: u32) -> Result<(), ElfError>
+        requires there { s < length self.old.sections.items }
+        requires lies { LiesIn (scn_at self.old s).cell (S.size src.old) }
+        requires room { IsTrue (cell_is_loaded (scn_at self.old s).cell
+            || (scn_at self.old s).cell.room) }
+        ensures answer { Answers true (reading (load_due (scn_at self.old s).cell)) result
+            (answered (home_out (scn_at self.old s).cell) tt) }
+        ensures fills { OnOk result (Fills (S.holds src.old) self.old self.new s) }
+        ensures same { OnErr result (HoldsSo self.old self.new s (scn_at self.old s).cell) }
+        ensures asks { Asks S.Source result src.old src.new (load_due (scn_at self.old s).cell) }
+        ensures err { IfErr result (λ e. e ≡ Read) }
+    {
+        let scn = &mut self.sections[s as usize];
+        scn.cell.load_reserved(src)
+    }
+
     /// Whether a section's home can be read again, of a base of so many bytes: its home piece is
     /// clean and not marked, and the home lies in the base.
     #[tactic(auto, unfolding(crate::specs::Rooms::can_let_go))]

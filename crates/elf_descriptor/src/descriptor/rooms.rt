@@ -1,15 +1,44 @@
-//! What was read of a home is let go.
+//! Memory is kept aside for a home's bytes, so that they can be read without more, and what was read
+//! is let go.
 
-ghost use Rattle.std.specs.Prelude.{◌≡◌};
+ghost use Rattle.std.specs.Prelude.{◌≡◌, [], true, IsTrue, OnOk, IfErr};
 ghost use Rattle.elf_types.specs.Answers.{answered};
-ghost use Rattle.elf_object.specs.Answers.{no_section};
+ghost use Rattle.elf_object.specs.Words.{Answers, Edits};
+ghost use Rattle.elf_object.specs.Answers.{no_section, raw_refusal};
+ghost use Rattle.elf_object.specs.Due.{is_loaded};
+ghost use Rattle.elf_object.specs.Calls as calls;
 
 use crate::descriptor::Elf;
 use elf_outside::Source;
 use elf_types::{ElfError, ScnId};
 
 impl<S: Source> Elf<S> {
-    ghost use Rattle.elf_descriptor.specs.Rooms.{unloaded};
+    ghost use Rattle.elf_descriptor.specs.Rooms.{with_room_for, has_room_for, reads_home, unloaded};
+    ghost use Rattle.elf_descriptor.specs.Reads.{Queries};
+
+    /// Keeps memory aside for the bytes of a section's home where they are not held, so that
+    /// `load_home` takes none. It changes no answer of another call. It refuses in this order:
+    /// `NoSection`, `OutOfFile`, `Memory`. It reads nothing.
+    pub fn reserve_home(&mut self, s: ScnId) -> Result<(), ElfError>
+        ensures { Edits result self.old self.new (answered (raw_refusal self.old.o s.0) tt)
+            (with_room_for s.0 self.old) }
+    {
+        self.body.reserve_home(s.0)
+    }
+
+    /// Reads a section's home where its bytes are not held, into the memory that is kept aside for
+    /// them; it is loaded, or `reserve_home` made room for it. It refuses `Read` alone, and takes no
+    /// memory.
+    pub fn load_home(&mut self, s: ScnId) -> Result<(), ElfError>
+        requires room { IsTrue (has_room_for self.old s.0) }
+        ensures answer { Answers true (reads_home s.0 self.old) result
+            (answered (raw_refusal self.old.o s.0) tt) }
+        ensures loaded { OnOk result (IsTrue (is_loaded self.new.loaded s.0)) }
+        ensures queries { Queries S.Source (calls.raw s.0) [] result self.old self.new }
+        ensures err { IfErr result (λ e. e ≡ ElfError.Read) }
+    {
+        self.body.load_home(&mut self.src, s.0)
+    }
 
     /// Lets go of the bytes and the items that are held of a section's home, where they can be read
     /// again: the home piece is clean and not marked, and the home lies in the base. Then the

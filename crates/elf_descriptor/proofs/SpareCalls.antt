@@ -1,0 +1,88 @@
+-- The spare front.
+use Rattle.std.proofs.Common.{◌≡◌, ◌∙◌, ◌+◌, ℕ, Bool, true, false, List, [], ◌∷◌, ◌++◌, length, Option, Some, None, Result, Ok, Err, refl, sym, ap, subst, zero, suc, arith}
+use Rattle.std.specs.Prelude.{◌==◌, ◌&&◌, IfSome, IsTrue, OnOk, OnErr, take}
+use Rattle.std.proofs.lemmas.List.{length-append}
+use Rattle.std.proofs.lemmas.Bool.{eqb-false}
+use Rattle.elf_types.specs.declared.errors.ElfError.{ElfError}
+use Rattle.elf_types.specs.declared.records.Shdr.{Shdr}
+use Rattle.elf_outside.specs.declared.sources.Source.{Ghosts}
+use Rattle.elf_object.specs.Object.{Object}
+use Rattle.elf_descriptor.specs.declared.body.Body.{Body}
+use Rattle.elf_descriptor.specs.declared.body.Written.{Written}
+use Rattle.elf_descriptor.specs.declared.body.Base.{Base}
+use Rattle.elf_descriptor.specs.declared.body.Base.TheVariants as bases
+use Rattle.elf_descriptor.specs.State.{State}
+use Rattle.elf_descriptor.specs.Views.{object_of, loaded_of, held_of, room_of, base_of, source_bytes, ready_of, is_of_source, state_of}
+use Rattle.elf_descriptor.specs.Sound.{IsElf, source_part}
+use Rattle.elf_descriptor.specs.Fronts.{IsReserved, HoldsBase}
+use Rattle.elf_descriptor.proofs.BaseCalls.{base_part, base_source}
+use Rattle.elf_descriptor.proofs.CutCalls.{part_of_ready}
+
+pub one_longer : (old new : List Shdr) (h : Shdr) (i : ℕ) → new ≡ old ++ h ∷ [] → length old ≡ i → length new ≡ i + 1
+one_longer old new h i is was =
+    let both = length-append old (h ∷ []) in
+    let same = ap (λ (l : List Shdr). length l) is in
+    omega (arith, both, same, was)
+
+same_length : (n : ℕ) → (n == n) ≡ true
+same_length n = by_test (n == n) refl
+  where
+    by_test : (b : Bool) → (n == n) ≡ b → b ≡ true
+    by_test true e = refl
+    by_test false e = absurd (eqb-false n n e refl)
+
+-- a spare front of the right lengths, over a source
+pub reserved_by : (old new : Body) (front : Written) → is_of_source old.base ≡ true → new ≡ record old { spare = Some front; ready = true } → length front.phdrs ≡ length old.phdrs
+    → length front.shdrs ≡ length old.sections.items → IsReserved old new
+reserved_by old new front over is phdrs shdrs = record {
+  rest = is ∙ ap (λ (s : Option Written). record old { spare = s; ready = true }) (sym (ap (λ (b : Body). b.spare) is));
+  ready =
+      ap ready_of is
+      ∙ ap (λ (t : Bool). t && ((length front.phdrs == length old.phdrs) && (length front.shdrs == length old.sections.items))) over
+      ∙ ap (λ (n : ℕ). (n == length old.phdrs) && (length front.shdrs == length old.sections.items)) phdrs
+      ∙ ap (λ (n : ℕ). (length old.phdrs == length old.phdrs) && (n == length old.sections.items)) shdrs
+      ∙ ap (λ (t : Bool). t && (length old.sections.items == length old.sections.items)) (same_length (length old.phdrs))
+      ∙ same_length (length old.sections.items);
+}
+
+module _ {S : Type 0} (g : Ghosts S) (source : S) (old new : Body) (is : IsElf (g.holds source) (g.size source) old) where
+  pub reserved_elf : (r : Result (Unit {0}) ElfError) → OnOk r (IsReserved old new) → OnErr r (new ≡ old) → IsElf (g.holds source) (g.size source) new
+  unfolding object_of
+  reserved_elf (Err e) ok same = subst (λ (b : Body). IsElf (g.holds source) (g.size source) b) (sym same) is
+  reserved_elf (Ok x) ok same = subst (λ (b : Body). IsElf (g.holds source) (g.size source) b) (sym ok.rest) (record {
+    long = is.long;
+    within = is.within;
+    counts = record { phnum = is.counts.phnum; shnum = is.counts.shnum };
+    cells = is.cells;
+    written = is.written;
+    sound = is.sound;
+  })
+
+  pub reserved_state : (r : Result (Unit {0}) ElfError) → OnOk r (IsReserved old new) → OnOk r (state_of g source new ≡ record (state_of g source old) { ready = true })
+  unfolding object_of loaded_of held_of room_of
+  reserved_state (Err e) ok = tt
+  reserved_state (Ok x) ok =
+      ap (λ (b : Body). state_of g source b) ok.rest
+      ∙ ap (λ (t : Bool). record (state_of g source old) { ready = t }) (sym (ap ready_of ok.rest) ∙ ok.ready)
+
+  pub holds_base : (m : ℕ) → old.base ≡ bases.Source m → HoldsBase g (state_of g source old)
+  holds_base m part = record {
+    long = let both = base_source (g.holds source) (g.size source) old m part is.long is.within in omega (arith, both.0, both.1);
+    is = by_held (g.holds source) refl;
+  }
+    where
+      by_held : (held : Option (List ℕ)) → g.holds source ≡ held → IfSome held (λ bytes. take (length (object_of (g.holds source) (g.size source) old).base) bytes ≡ (object_of (g.holds source) (g.size source) old).base)
+      by_held None e = tt
+      by_held (Some bytes) e =
+          ap (λ (n : ℕ). take n bytes) (base_source (g.holds source) (g.size source) old m part is.long is.within).0
+          ∙ sym (base_part (g.holds source) (g.size source) old m part ∙ ap (λ (i : Option (List ℕ)). take m (source_bytes i (g.size source))) e)
+
+  pub reserved_holds : (r : Result (Unit {0}) ElfError) → OnOk r (IsReserved old new) → OnOk r (HoldsBase g (state_of g source old))
+  reserved_holds (Err e) ok = tt
+  reserved_holds (Ok x) ok =
+      let now = part_of_ready new ok.ready in
+      holds_base now.0 (sym (ap (λ (b : Body). b.base) ok.rest) ∙ now.1)
+
+  pub reserved_same : (r : Result (Unit {0}) ElfError) → OnErr r (new ≡ old) → OnErr r (state_of g source new ≡ state_of g source old)
+  reserved_same (Err e) same = ap (λ (b : Body). state_of g source b) same
+  reserved_same (Ok x) same = tt
