@@ -7,12 +7,12 @@ ghost use Rattle.calls_apply.specs.Stated.{is_built};
 
 use crate::answers::Answer;
 use crate::flags::{set_fill, set_flags};
-use crate::getters::{show_ehdr, show_phdr, show_pieces, show_shdr};
+use crate::getters::{answer_ehdr, answer_phdr, answer_pieces, answer_shdr};
 use crate::headers::{new_phdr, set_ehdr, set_phdr, set_shdr};
 use crate::items::adding::add_to_all;
 use crate::items::set_item;
 use crate::pieces::{new_data, new_data_aligned, new_section, replace};
-use crate::reading::{find_named, show_data, show_item, show_note, show_raw, show_str};
+use crate::reading::{answer_data, answer_item, answer_note, answer_raw, answer_str, find_named};
 use calls_script::Call;
 use elf_descriptor::Elf;
 use elf_outside::Source;
@@ -29,15 +29,15 @@ pub fn apply<S: Source>(elf: &mut Elf<S>, call: &Call) -> Answer
     ensures form { IfOk (result_of result) (IsAnswerOf call.now elf.old.o) }
 {
     match call {
-        Call::Ehdr => show_ehdr(elf),
-        Call::Phdr { i } => show_phdr(elf, *i),
-        Call::Shdr { s } => show_shdr(elf, *s),
-        Call::Pieces { s } => show_pieces(elf, *s),
-        Call::Data { d } => show_data(elf, *d),
-        Call::Raw { s } => show_raw(elf, *s),
-        Call::Item { d, i } => show_item(elf, *d, *i),
-        Call::Str { s, off } => show_str(elf, *s, *off),
-        Call::Note { d, at } => show_note(elf, *d, *at),
+        Call::Ehdr => answer_ehdr(elf),
+        Call::Phdr { i } => answer_phdr(elf, *i),
+        Call::Shdr { s } => answer_shdr(elf, *s),
+        Call::Pieces { s } => answer_pieces(elf, *s),
+        Call::Data { d } => answer_data(elf, *d),
+        Call::Raw { s } => answer_raw(elf, *s),
+        Call::Item { d, i } => answer_item(elf, *d, *i),
+        Call::Str { s, off } => answer_str(elf, *s, *off),
+        Call::Note { d, at } => answer_note(elf, *d, *at),
         Call::Find { s, name } => find_named(elf, *s, name),
         Call::SetEhdr { set } => set_ehdr(elf, *set),
         Call::SetPhdr { i, set } => set_phdr(elf, *i, *set),

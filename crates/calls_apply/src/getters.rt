@@ -9,14 +9,14 @@ use elf_outside::Source;
 use elf_types::ScnId;
 
 /// `ehdr`: the ELF header.
-pub(crate) fn show_ehdr<S: Source>(elf: &Elf<S>) -> Answer
+pub(crate) fn answer_ehdr<S: Source>(elf: &Elf<S>) -> Answer
     ensures { Applies S.Source call.Ehdr (result_of result) elf.now elf.now }
 {
     Answer::Ehdr(elf.ehdr())
 }
 
 /// `phdr`: a program header.
-pub(crate) fn show_phdr<S: Source>(elf: &Elf<S>, i: u32) -> Answer
+pub(crate) fn answer_phdr<S: Source>(elf: &Elf<S>, i: u32) -> Answer
     ensures { Applies S.Source (call.Phdr i) (result_of result) elf.now elf.now }
 {
     match elf.phdr(i) {
@@ -26,7 +26,7 @@ pub(crate) fn show_phdr<S: Source>(elf: &Elf<S>, i: u32) -> Answer
 }
 
 /// `shdr`: a section header.
-pub(crate) fn show_shdr<S: Source>(elf: &Elf<S>, s: ScnId) -> Answer
+pub(crate) fn answer_shdr<S: Source>(elf: &Elf<S>, s: ScnId) -> Answer
     ensures { Applies S.Source (call.Shdr s) (result_of result) elf.now elf.now }
 {
     match elf.shdr(s) {
@@ -36,7 +36,7 @@ pub(crate) fn show_shdr<S: Source>(elf: &Elf<S>, s: ScnId) -> Answer
 }
 
 /// `pieces`: how many pieces a section has.
-pub(crate) fn show_pieces<S: Source>(elf: &Elf<S>, s: ScnId) -> Answer
+pub(crate) fn answer_pieces<S: Source>(elf: &Elf<S>, s: ScnId) -> Answer
     ensures { Applies S.Source (call.Pieces s) (result_of result) elf.now elf.now }
 {
     match elf.pieces(s) {

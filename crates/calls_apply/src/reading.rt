@@ -19,7 +19,7 @@ use std::alloc::Global;
 use symbol_lookup::find_linear;
 
 /// `data`: the kind of a piece, and its number of items.
-pub(crate) fn show_data<S: Source>(elf: &mut Elf<S>, d: DataId) -> Answer
+pub(crate) fn answer_data<S: Source>(elf: &mut Elf<S>, d: DataId) -> Answer
     ensures { Applies S.Source (call.Data d) (result_of result) elf.old elf.new }
 {
     match elf.data(d) {
@@ -42,7 +42,7 @@ fn raw_answer(alloc: Global, bytes: &[u8]) -> Answer
 }
 
 /// `raw`: the bytes of a section as they stand in the file.
-pub(crate) fn show_raw<S: Source>(elf: &mut Elf<S>, s: ScnId) -> Answer
+pub(crate) fn answer_raw<S: Source>(elf: &mut Elf<S>, s: ScnId) -> Answer
     ensures meets { Applies S.Source (call.Raw s) (result_of result) elf.old elf.new }
     ensures form { IfOk (result_of result) (IsAnswerOf (call.Raw s) elf.old.o) }
 {
@@ -84,7 +84,7 @@ fn item_answer(items: &Items, i: u64) -> Answer
 }
 
 /// `item`: an item of a piece.
-pub(crate) fn show_item<S: Source>(elf: &mut Elf<S>, d: DataId, i: u64) -> Answer
+pub(crate) fn answer_item<S: Source>(elf: &mut Elf<S>, d: DataId, i: u64) -> Answer
     ensures meets { Applies S.Source (call.Item d i) (result_of result) elf.old elf.new }
     ensures form { IfOk (result_of result) (IsAnswerOf (call.Item d i) elf.old.o) }
 {
@@ -105,7 +105,7 @@ fn string_answer(alloc: Global, string: &[u8]) -> Answer
 }
 
 /// `str`: a string of a section.
-pub(crate) fn show_str<S: Source>(elf: &mut Elf<S>, s: ScnId, off: u64) -> Answer
+pub(crate) fn answer_str<S: Source>(elf: &mut Elf<S>, s: ScnId, off: u64) -> Answer
     ensures meets { Applies S.Source (call.Str s off) (result_of result) elf.old elf.new }
     ensures form { IfOk (result_of result) (IsAnswerOf (call.Str s off) elf.old.o) }
 {
@@ -127,7 +127,7 @@ fn note_answer(found: Option<NoteAt>) -> Answer
 }
 
 /// `note`: a note of a piece, or that there is none at its end.
-pub(crate) fn show_note<S: Source>(elf: &mut Elf<S>, d: DataId, at: u64) -> Answer
+pub(crate) fn answer_note<S: Source>(elf: &mut Elf<S>, d: DataId, at: u64) -> Answer
     ensures meets { Applies S.Source (call.Note d at) (result_of result) elf.old elf.new }
     ensures form { IfOk (result_of result) (IsAnswerOf (call.Note d at) elf.old.o) }
 {
@@ -148,7 +148,7 @@ fn found_answer(found: Option<u64>) -> Answer
 }
 
 /// The index of a symbol with these bytes as its name.
-fn show_find<S: Source>(elf: &mut Elf<S>, s: ScnId, name: &[u8]) -> Answer
+fn answer_find<S: Source>(elf: &mut Elf<S>, s: ScnId, name: &[u8]) -> Answer
     ensures meets { Applies S.Source (call.Find s name.now) (result_of result) elf.old elf.new }
     ensures form { IfOk (result_of result) (IsAnswerOf (call.Find s name.now) elf.old.o) }
 {
@@ -163,5 +163,5 @@ pub(crate) fn find_named<S: Source>(elf: &mut Elf<S>, s: ScnId, name: &Octets) -
     ensures meets { Applies S.Source (call.Find s name.now) (result_of result) elf.old elf.new }
     ensures form { IfOk (result_of result) (IsAnswerOf (call.Find s name.now) elf.old.o) }
 {
-    show_find(elf, s, name.as_slice())
+    answer_find(elf, s, name.as_slice())
 }

@@ -1,6 +1,6 @@
 -- A section of an image as opened that is neither out of the file nor ragged: a lend of its items is
 -- not refused.
-use Rattle.std.proofs.Common.{◌≡◌, ℕ, ◌+◌, ◌-◌, ◌<◌, ◌≤◌, ◌==◌, ◌&&◌, Bool, true, false, not, List, [], ◌∷◌, length, take, drop, map, get_or, Option, Some, None, Result, Ok, Err, refl, sym, ap, ◌∙◌, subst, arith}
+use Rattle.std.proofs.Common.{◌≡◌, ℕ, ◌+◌, ◌<◌, ◌≤◌, ◌==◌, ◌&&◌, Bool, true, false, not, List, [], ◌∷◌, length, take, drop, map, get_or, Option, Some, None, Result, Ok, Err, refl, sym, ap, ◌∙◌, subst, arith}
 use Rattle.std.specs.Prelude.{nat_le, nat_lt, is_some, if◌then◌else◌}
 use Rattle.std.proofs.lemmas.Bool.{lt-leb, leb-true, leb-false, ltb-false, eqb-true, not-true}
 use Rattle.std.proofs.lemmas.List.{get_or-map, length-map, length-drop, length-take-le}

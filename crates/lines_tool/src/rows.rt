@@ -9,7 +9,7 @@ use line_table::{LineWhy, Row};
 use tool_output::Line;
 
 /// Appends a number behind the words that name it.
-#[tactic(auto, using(object_output::proofs::Rules::kept))]
+#[tactic(auto, using(elf_types::proofs::Writers::kept))]
 fn put_named(page: &mut Octets, words: &str, n: u64) -> Result<(), ElfError>
     ensures ok { OnOk result (page.new ≡ page.old ++ (words.now ++ decimal n)) }
     ensures err { IfErr result (WantsMemory page.old page.new) }
@@ -28,7 +28,7 @@ pub struct TableTitle {
 impl Line for TableTitle {
     ghost text = { λ t. table_title t.section };
 
-    #[tactic(auto, using(object_output::proofs::Rules::kept), unfolding(crate::specs::Rows::table_title))]
+    #[tactic(auto, using(elf_types::proofs::Writers::kept), unfolding(crate::specs::Rows::table_title))]
     fn put(&self, page: &mut Octets) -> Result<(), ElfError> {
         put_named(page, "Line table of section ", u64::from(self.section))?;
         put_text(page, " [.debug_line]\n")
@@ -47,7 +47,7 @@ pub struct UnitTitle {
 impl Line for UnitTitle {
     ghost text = { λ t. unit_title t.at t.version };
 
-    #[tactic(auto, using(object_output::proofs::Rules::kept), unfolding(crate::specs::Rows::unit_title))]
+    #[tactic(auto, using(elf_types::proofs::Writers::kept), unfolding(crate::specs::Rows::unit_title))]
     fn put(&self, page: &mut Octets) -> Result<(), ElfError> {
         put_named(page, "  unit at ", self.at)?;
         put_named(page, " version ", u64::from(self.version))?;
@@ -67,7 +67,7 @@ pub struct FileLine<'a> {
 impl Line for FileLine<'_> {
     ghost text = { λ l. file_line l.number l.name.now };
 
-    #[tactic(auto, using(object_output::proofs::Rules::kept), unfolding(crate::specs::Rows::file_line))]
+    #[tactic(auto, using(elf_types::proofs::Writers::kept), unfolding(crate::specs::Rows::file_line))]
     fn put(&self, page: &mut Octets) -> Result<(), ElfError> {
         put_named(page, "    file ", self.number)?;
         put_text(page, " [")?;
@@ -77,7 +77,7 @@ impl Line for FileLine<'_> {
 }
 
 /// Appends a word, where it holds.
-#[tactic(auto, using(object_output::proofs::Rules::kept))]
+#[tactic(auto, using(elf_types::proofs::Writers::kept))]
 fn put_if(page: &mut Octets, holds: bool, word: &str) -> Result<(), ElfError>
     ensures ok { OnOk result (page.new ≡ page.old ++ word_if holds word.now) }
     ensures err { IfErr result (WantsMemory page.old page.new) }
@@ -86,7 +86,7 @@ fn put_if(page: &mut Octets, holds: bool, word: &str) -> Result<(), ElfError>
 }
 
 /// Appends the file, the line and the column.
-#[tactic(auto, using(object_output::proofs::Rules::kept), unfolding(crate::specs::Rows::row_place))]
+#[tactic(auto, using(elf_types::proofs::Writers::kept), unfolding(crate::specs::Rows::row_place))]
 fn put_place(page: &mut Octets, row: &Row) -> Result<(), ElfError>
     ensures ok { OnOk result (page.new ≡ page.old ++ row_place row.now) }
     ensures err { IfErr result (WantsMemory page.old page.new) }
@@ -97,7 +97,7 @@ fn put_place(page: &mut Octets, row: &Row) -> Result<(), ElfError>
 }
 
 /// Appends the words of a row.
-#[tactic(auto, using(object_output::proofs::Rules::kept), unfolding(crate::specs::Rows::row_words))]
+#[tactic(auto, using(elf_types::proofs::Writers::kept), unfolding(crate::specs::Rows::row_words))]
 fn put_words(page: &mut Octets, row: &Row) -> Result<(), ElfError>
     ensures ok { OnOk result (page.new ≡ page.old ++ row_words row.now) }
     ensures err { IfErr result (WantsMemory page.old page.new) }
@@ -116,7 +116,7 @@ pub struct RowLine<'a> {
 impl Line for RowLine<'_> {
     ghost text = { λ l. row_line l.row.now };
 
-    #[tactic(auto, using(object_output::proofs::Rules::kept), unfolding(crate::specs::Rows::row_line))]
+    #[tactic(auto, using(elf_types::proofs::Writers::kept), unfolding(crate::specs::Rows::row_line))]
     fn put(&self, page: &mut Octets) -> Result<(), ElfError> {
         let row = self.row;
         put_text(page, "    0x")?;
@@ -139,7 +139,7 @@ pub struct FaultText {
 impl Line for FaultText {
     ghost text = { λ f. fault_text f.at f.why };
 
-    #[tactic(auto, using(object_output::proofs::Rules::kept), unfolding(crate::specs::Rows::fault_text))]
+    #[tactic(auto, using(elf_types::proofs::Writers::kept), unfolding(crate::specs::Rows::fault_text))]
     fn put(&self, page: &mut Octets) -> Result<(), ElfError> {
         put_named(page, "bad line table at ", self.at)?;
         put_text(page, ": ")?;

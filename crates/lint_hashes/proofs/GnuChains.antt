@@ -7,7 +7,7 @@ use Rattle.std.proofs.lemmas.Bool.{le-leb, lt-leb, lt-ltb, leb-true, eq-eqb, ne_
 use borrow.Author.Tests.{ltb-true}
 use Rattle.std.proofs.lemmas.Option.{slice_get-get_or, slice_get_within}
 use Rattle.command_objects.specs.HashSections.{GnuHash, gnu_word, gnu_chain, gnu_chain_from, is_end, is_on_with, ends}
-use Rattle.lint_hashes.specs.Gnu.{is_marked, ends_before, has_hash, next_run, IsEnd, IsRun}
+use Rattle.lint_hashes.specs.Gnu.{is_marked, ends_before, has_hash, next_start, IsEnd, IsRun}
 
 module _ (h : GnuHash) (count : ℕ) where
   -- ---- Chain words
@@ -304,7 +304,7 @@ module _ (h : GnuHash) (count : ℕ) where
       by_place j le (inl lt) within = run.free j le lt
       by_place j le (inr past) within = subst (λ (k : ℕ). is_marked h count k ≡ false) (let same : i ≡ j = omega arith in same) marked
 
-  pub run_next : (i start : ℕ) → IsRun h count i start → IsRun h count (i + 1) (next_run h count start i)
+  pub run_next : (i start : ℕ) → IsRun h count i start → IsRun h count (i + 1) (next_start h count start i)
   run_next i start run = run_by i start (is_marked h count i) refl run
 
   pub run_begins : IsRun h count 1 1

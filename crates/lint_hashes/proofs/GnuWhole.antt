@@ -9,7 +9,7 @@ use Rattle.elf_types.specs.declared.records.Order.{Order}
 use Rattle.command_objects.specs.Hashes.{gnu_hash}
 use Rattle.command_objects.specs.HashSections.{GnuHash, gnu_in, gnu_chain_from, is_found_gnu, is_on_with, is_whole_gnu, ends, passes}
 use Rattle.lint_hashes.specs.declared.gnu.GnuTable.{GnuTable}
-use Rattle.lint_hashes.specs.Gnu.{has_parts, section_of, chains_end, is_sound, first_of, is_reached, next_run, run_after, all_are_found, IsTable, IsSound, IsRun, LiesIn}
+use Rattle.lint_hashes.specs.Gnu.{has_parts, section_of, chains_end, is_sound, first_of, is_reached, next_start, run_after, all_are_found, IsTable, IsSound, IsRun, LiesIn}
 use Rattle.lint_hashes.proofs.GnuChains.{reached_is, run_next}
 use Rattle.lint_hashes.proofs.ListedLemmas.{by_hash}
 
@@ -64,17 +64,17 @@ module _ (c : Class) (h : GnuHash) (n start i : ℕ) where
   found_at k hash = passes c h hash && is_reached h n start k hash
 
   run_if : Bool → Option ℕ
-  run_if b = if b then Some (next_run h n start i) else None
+  run_if b = if b then Some (next_start h n start i) else None
 
-  some_if : (b : Bool) (next : ℕ) → ◌≡◌ {A = Option ℕ} (Some next) (if b then Some (next_run h n start i) else None) → (next ≡ next_run h n start i) × (b ≡ true)
+  some_if : (b : Bool) (next : ℕ) → ◌≡◌ {A = Option ℕ} (Some next) (if b then Some (next_start h n start i) else None) → (next ≡ next_start h n start i) × (b ≡ true)
   some_if true next is = (cc, refl)
   some_if false next is = cc
 
-  none_if : (b : Bool) → ◌≡◌ {A = Option ℕ} None (if b then Some (next_run h n start i) else None) → b ≡ false
+  none_if : (b : Bool) → ◌≡◌ {A = Option ℕ} None (if b then Some (next_start h n start i) else None) → b ≡ false
   none_if true is = cc
   none_if false is = refl
 
-  run_some : (listed : Option ℕ) (next : ℕ) → Some next ≡ run_after c h n start i listed → (next ≡ next_run h n start i) × (by_hash found_at i listed ≡ true)
+  run_some : (listed : Option ℕ) (next : ℕ) → Some next ≡ run_after c h n start i listed → (next ≡ next_start h n start i) × (by_hash found_at i listed ≡ true)
   unfolding run_after
   run_some None next is = (cc, refl)
   run_some (Some hash) next is = some_if (found_at i hash) next is

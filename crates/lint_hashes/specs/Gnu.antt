@@ -69,8 +69,8 @@ pub record IsRun (h : GnuHash) (count i start : ℕ) : Type 0 where
   pub begins : 1 < start → is_marked h count (start - 1) ≡ true
 
 -- the same for the symbol after it
-abbrev pub next_run : GnuHash → ℕ → ℕ → ℕ → ℕ
-next_run h count start i = if is_marked h count i then i + 1 else start
+abbrev pub next_start : GnuHash → ℕ → ℕ → ℕ → ℕ
+next_start h count start i = if is_marked h count i then i + 1 else start
 
 -- a chain word that is there is a hash but for its low bit
 abbrev pub has_hash : Option ℕ → ℕ → Bool
@@ -91,10 +91,10 @@ is_reached h count start i hash =
 -- where the run of the next symbol begins, or none where this one is listed by a hash and is not
 -- found
 unfoldable pub run_after : Class → GnuHash → ℕ → ℕ → ℕ → Option ℕ → Option ℕ
-run_after class h count start i None = Some (next_run h count start i)
+run_after class h count start i None = Some (next_start h count start i)
 run_after class h count start i (Some hash) =
     if passes class h hash && is_reached h count start i hash
-    then Some (next_run h count start i) else None
+    then Some (next_start h count start i) else None
 
 -- the chain of each bucket has an end
 abbrev pub chains_end : GnuHash → ℕ → Bool

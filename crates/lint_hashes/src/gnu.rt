@@ -217,11 +217,12 @@ fn is_reached(bytes: &[u8], t: &GnuTable, start: u64, i: u64, hash: u32) -> bool
     has_hash(chain_word(bytes, t, i), hash)
 }
 
-/// Where the run of the symbol after `i` begins.
-fn next_run(bytes: &[u8], t: &GnuTable, start: u64, i: u64) -> u64
+/// Gives where the run of the symbol after `i` begins: at that symbol where `i` has the end mark,
+/// and else where the run of `i` does.
+fn next_start(bytes: &[u8], t: &GnuTable, start: u64, i: u64) -> u64
     requires lies { LiesIn (length bytes.now) t.now }
     requires there { i < t.now.count }
-    ensures { result ≡ gnu.next_run (section_of t.now bytes.now) t.now.count start i }
+    ensures { result ≡ gnu.next_start (section_of t.now bytes.now) t.now.count start i }
 {
     if is_marked(bytes, t, i) { i + 1 } else { start }
 }
@@ -241,7 +242,7 @@ pub fn run_after(bytes: &[u8], t: &GnuTable, start: u64, i: u64, listed: Option<
             return None;
         }
     }
-    Some(next_run(bytes, t, start, i))
+    Some(next_start(bytes, t, start, i))
 }
 
 /// The table of a section for so many symbols, where the chain of each bucket has an end, or None.

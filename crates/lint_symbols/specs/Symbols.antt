@@ -1,9 +1,10 @@
 -- The rules 21 to 25: the symbols of each symbol table (gABI chapter 4, "Symbol Table").
-use Rattle.std.specs.Prelude.{◌≡◌, ◌<◌, ℕ, ◌/◌, ◌==◌, ◌&&◌, not, nat_lt, nat_le, Bool, true, List, [], ◌∷◌, flat_map, take, length, None, is_none, codes, if◌then◌else◌}
+use Rattle.std.specs.Prelude.{◌≡◌, ◌<◌, ℕ, ◌==◌, ◌&&◌, not, nat_lt, nat_le, Bool, true, List, [], ◌∷◌, flat_map, take, length, None, is_none, codes, if◌then◌else◌}
 use Rattle.std.specs.List.{list_any}
-use Rattle.elf_types.specs.declared.constants.TheConstants.{SHN_LORESERVE, STB_LOCAL}
+use Rattle.elf_types.specs.declared.constants.TheConstants.{SHN_LORESERVE}
 use Rattle.elf_types.specs.declared.records.Kind.TheVariants as kinds
 use Rattle.elf_types.specs.declared.records.Sym.{Sym}
+use Rattle.elf_types.specs.Symbols.{is_local}
 use Rattle.elf_object.specs.Object.{Object}
 use Rattle.elf_object.specs.Answers.{lend_refusal}
 use Rattle.elf_object.specs.Due.{all_sections}
@@ -61,9 +62,6 @@ unreadable_symbol_names = at_symbols 22 (codes "name cannot be read") has_no_nam
 
 -- ---- 23 and 24: local symbols stand before all others, and sh_info is the index of the first
 -- other (ELF32_ST_BIND)
-
-abbrev pub is_local : Sym → Bool
-is_local x = x.info / 16 == STB_LOCAL
 
 unfoldable pub is_late_local : Object → ℕ → ℕ → Sym → Bool
 is_late_local o s i x = is_local x && nat_le (header_at o s).info i

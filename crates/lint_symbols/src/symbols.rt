@@ -10,8 +10,8 @@ ghost use Rattle.lint_findings.specs.Steps.{FindsElf};
 use crate::by_symbol::{SymbolRule, Table, each_symbol_by, table_of};
 use elf_descriptor::Elf;
 use elf_outside::{Sink, Source};
-use elf_types::constants::{SHN_LORESERVE, STB_LOCAL};
-use elf_types::{DataId, ScnId, Sym, bind};
+use elf_types::constants::SHN_LORESERVE;
+use elf_types::{DataId, ScnId, Sym, is_local};
 use lint_findings::{Place, find_if};
 use object_output::{SectionTool, each_section, item_there, string_at};
 use tool_output::{FileName, Outputs, Stop};
@@ -23,13 +23,6 @@ fn is_used(x: Sym) -> bool
 {
     let named = x.name != 0 || x.info != 0 || x.other != 0;
     named || x.shndx != 0 || x.value != 0 || x.size != 0
-}
-
-/// Whether a symbol is local.
-fn is_local(x: Sym) -> bool
-    ensures { result ≡ rule.is_local x }
-{
-    bind(x.info) == STB_LOCAL
 }
 
 /// Says what rule 21 finds at symbol 0 of a table, where there is one.
@@ -141,7 +134,7 @@ impl SymbolRule for LateLocals {
 
     #[tactic(auto, unfolding(crate::specs::Symbols::is_late_local))]
     fn finds<S: Source>(&self, _elf: &mut Elf<S>, t: Table, i: u64, x: Sym) -> Result<bool, Stop> {
-        Ok(is_local(x) && i >= u64::from(t.first_other))
+        Ok(is_local(&x) && i >= u64::from(t.first_other))
     }
 }
 
@@ -176,7 +169,7 @@ impl SymbolRule for EarlyOthers {
 
     #[tactic(auto, unfolding(crate::specs::Symbols::is_early_other))]
     fn finds<S: Source>(&self, _elf: &mut Elf<S>, t: Table, i: u64, x: Sym) -> Result<bool, Stop> {
-        Ok(!is_local(x) && i < u64::from(t.first_other))
+        Ok(!is_local(&x) && i < u64::from(t.first_other))
     }
 }
 

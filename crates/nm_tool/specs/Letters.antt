@@ -1,34 +1,22 @@
 -- The letter of a symbol: what it is, and where it is defined (POSIX nm, STDOUT; gABI chapter 4,
 -- "Symbol Table", st_info and st_shndx; the letters i, u, v and V are GNU's).
-use Rattle.std.specs.Prelude.{ℕ, ◌+◌, ◌/◌, ◌%◌, ◌==◌, ◌&&◌, nat_lt, Bool, true, false, List, [], ◌∷◌, length, Option, Some, None, if◌then◌else◌}
+use Rattle.std.specs.Prelude.{ℕ, ◌+◌, ◌==◌, ◌&&◌, nat_lt, Bool, true, false, List, [], ◌∷◌, length, Option, Some, None, if◌then◌else◌}
 use Rattle.std.specs.Str.{byte}
 use Rattle.elf_types.specs.declared.records.Shdr.{Shdr}
 use Rattle.elf_types.specs.declared.records.Sym.{Sym}
-use Rattle.elf_types.specs.declared.constants.TheConstants.{SHN_UNDEF, SHN_ABS, SHN_COMMON, SHT_NOBITS, SHF_WRITE, SHF_ALLOC, SHF_EXECINSTR, STB_LOCAL, STB_WEAK, STB_GNU_UNIQUE, STT_OBJECT, STT_GNU_IFUNC}
+use Rattle.elf_types.specs.Kinds.{has_flag}
+use Rattle.elf_types.specs.Symbols.{has_bind, has_type, is_local}
+use Rattle.elf_types.specs.declared.constants.TheConstants.{SHN_UNDEF, SHN_ABS, SHN_COMMON, SHT_NOBITS, SHF_WRITE, SHF_ALLOC, SHF_EXECINSTR, STB_WEAK, STB_GNU_UNIQUE, STT_OBJECT, STT_GNU_IFUNC}
 use Rattle.elf_object.specs.Object.{Object, section_at}
 use Rattle.gelf_view.specs.declared.symbols.SymPlace.{SymPlace}
 use Rattle.gelf_view.specs.declared.symbols.SymPlace.TheVariants.{Special, Section}
 
 -- ---- What a letter rests on
 
--- ELF64_ST_BIND and ELF64_ST_TYPE
-abbrev pub has_bind : ℕ → Sym → Bool
-has_bind binding x = x.info / 16 == binding
-
-abbrev pub has_type : ℕ → Sym → Bool
-has_type kind x = x.info % 16 == kind
-
-abbrev pub is_local : Sym → Bool
-is_local x = has_bind STB_LOCAL x
-
 abbrev pub is_undefined : Option SymPlace → Bool
 is_undefined None = false
 is_undefined (Some (Special n)) = false
 is_undefined (Some (Section n)) = n == SHN_UNDEF
-
--- whether a section header has a flag, by its place among the bits
-abbrev pub has_flag : ℕ → Shdr → Bool
-has_flag flag h = h.flags / flag % 2 == 1
 
 -- ---- The letters
 

@@ -2,37 +2,16 @@
 
 ghost use Rattle.std.specs.Prelude.{◌≡◌, ◌<◌, Some};
 ghost use Rattle.elf_object.specs.Object.{section_at};
-ghost use Rattle.nm_tool.specs.Letters.{has_bind, has_type, has_flag, is_local, is_undefined, section_letter, special_letter, place_letter, cased, symbol_letter};
+ghost use Rattle.nm_tool.specs.Letters.{is_undefined, section_letter, special_letter, place_letter, cased, symbol_letter};
 
 use elf_descriptor::Elf;
 use elf_outside::Source;
 use elf_types::constants::{
     SHF_ALLOC, SHF_EXECINSTR, SHF_WRITE, SHN_ABS, SHN_COMMON, SHN_UNDEF, SHT_NOBITS,
-    STB_GNU_UNIQUE, STB_LOCAL, STB_WEAK, STT_GNU_IFUNC, STT_OBJECT,
+    STB_GNU_UNIQUE, STB_WEAK, STT_GNU_IFUNC, STT_OBJECT,
 };
-use elf_types::{ScnId, Shdr, Sym, bind, stt};
+use elf_types::{ScnId, Shdr, Sym, has_bind, has_flag, has_type, is_local};
 use gelf_view::SymPlace;
-
-/// Whether a symbol has this binding.
-pub fn has_bind(x: &Sym, binding: u8) -> bool
-    ensures { result ≡ has_bind binding x.now }
-{
-    bind(x.info) == binding
-}
-
-/// Whether a symbol is of this type.
-pub fn has_type(x: &Sym, kind: u8) -> bool
-    ensures { result ≡ has_type kind x.now }
-{
-    stt(x.info) == kind
-}
-
-/// Whether a symbol is local.
-pub fn is_local(x: &Sym) -> bool
-    ensures { result ≡ is_local x.now }
-{
-    has_bind(x, STB_LOCAL)
-}
 
 /// Whether a symbol whose place this is is undefined.
 pub fn is_undefined(place: Option<SymPlace>) -> bool
@@ -51,14 +30,14 @@ fn section_letter(h: &Shdr) -> u8
     ensures letter { result ≡ section_letter h.now }
     ensures small { result < 128 }
 {
-    if h.flags / SHF_EXECINSTR % 2 == 1 {
+    if has_flag(h, SHF_EXECINSTR) {
         return b'T';
     }
-    let alloc = h.flags / SHF_ALLOC % 2 == 1;
+    let alloc = has_flag(h, SHF_ALLOC);
     if alloc && h.stype == SHT_NOBITS {
         return b'B';
     }
-    if alloc && h.flags / SHF_WRITE % 2 == 1 {
+    if alloc && has_flag(h, SHF_WRITE) {
         return b'D';
     }
     if alloc {

@@ -6,13 +6,13 @@ ghost use Rattle.nm_tool.specs.Listed.{is_kept, is_wanted, listed_name};
 ghost use Rattle.nm_tool.specs.Pools.{if_wanted, wanted_at, with_name, with_symbol, pool_of};
 ghost use Rattle.nm_tool.specs.Tables.{AreTables};
 
-use crate::letters::{has_type, is_local, is_undefined};
+use crate::letters::is_undefined;
 use crate::pools::Pool;
 use crate::symbols::{Tables, place_at, symbol_at};
 use elf_descriptor::Elf;
 use elf_outside::Source;
-use elf_types::Sym;
 use elf_types::constants::{STT_FILE, STT_SECTION};
+use elf_types::{Sym, has_type, is_local};
 use object_output::string_at;
 use std::alloc::Global;
 use tool_output::Stop;

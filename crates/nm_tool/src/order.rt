@@ -5,6 +5,8 @@ ghost use Rattle.elf_object.specs.Valid.{AreBytes};
 ghost use Rattle.nm_tool.specs.Order.{in_order};
 ghost use Rattle.nm_tool.specs.Keys.{prefix, as_entry, KeyIs};
 
+use elf_types::bytes_are_ranged;
+
 /// A row as it is sorted: by its key, then by its name, then by its index.
 #[derive(Clone, Copy, PartialEq, Eq, PartialOrd, Ord)]
 pub struct Row<'a> {
@@ -30,11 +32,6 @@ pub fn prefix(name: &[u8]) -> u128
     }
     key
 }
-
-/// What a slice of bytes has are bytes: it is for the proof, and does nothing.
-fn bytes_are_ranged(_bytes: &[u8])
-    ensures { AreBytes _bytes.now }
-{}
 
 /// The byte at a place, or 0 where there is none.
 fn byte_at(name: &[u8], place: usize) -> u8

@@ -30,7 +30,7 @@ pub struct SymbolRow<'a> {
 }
 
 /// Appends the file's name, where each row has it.
-#[tactic(auto, using(object_output::proofs::Rules::kept), unfolding(crate::specs::Rows::file_column))]
+#[tactic(auto, using(elf_types::proofs::Writers::kept), unfolding(crate::specs::Rows::file_column))]
 fn put_file(page: &mut Octets, name_each: bool, file: &FileName<'_>) -> Result<(), ElfError>
     ensures ok { OnOk result (page.new ≡ page.old ++ file_column name_each file.now) }
     ensures err { IfErr result (WantsMemory page.old page.new) }
@@ -44,7 +44,7 @@ fn put_file(page: &mut Octets, name_each: bool, file: &FileName<'_>) -> Result<(
 }
 
 /// Appends a space and a letter.
-#[tactic(auto, using(object_output::proofs::Rules::kept))]
+#[tactic(auto, using(elf_types::proofs::Writers::kept))]
 fn put_letter(page: &mut Octets, letter: u8) -> Result<(), ElfError>
     ensures ok { OnOk result (page.new ≡ page.old ++ (codes " " ++ (letter ∷ []))) }
     ensures err { IfErr result (WantsMemory page.old page.new) }
@@ -85,7 +85,7 @@ fn put_value(
 }
 
 /// Appends a space and a number.
-#[tactic(auto, using(object_output::proofs::Rules::kept))]
+#[tactic(auto, using(elf_types::proofs::Writers::kept))]
 fn put_spaced(page: &mut Octets, radix: Radix, n: u64) -> Result<(), ElfError>
     ensures ok { OnOk result (page.new ≡ page.old ++ (codes " " ++ number radix n)) }
     ensures err { IfErr result (WantsMemory page.old page.new) }
@@ -95,7 +95,7 @@ fn put_spaced(page: &mut Octets, radix: Radix, n: u64) -> Result<(), ElfError>
 }
 
 /// Appends ` VALUE SIZE`, which an undefined symbol does not have.
-#[tactic(auto, using(object_output::proofs::Rules::kept), unfolding(crate::specs::Rows::value_and_size))]
+#[tactic(auto, using(elf_types::proofs::Writers::kept), unfolding(crate::specs::Rows::value_and_size))]
 fn put_value_and_size(
     page: &mut Octets,
     radix: Radix,
@@ -113,7 +113,7 @@ fn put_value_and_size(
 }
 
 /// Appends `VALUE LETTER NAME` and the newline.
-#[tactic(auto, using(object_output::proofs::Rules::kept), unfolding(crate::specs::Rows::plain_row))]
+#[tactic(auto, using(elf_types::proofs::Writers::kept), unfolding(crate::specs::Rows::plain_row))]
 fn put_plain(page: &mut Octets, row: &SymbolRow<'_>) -> Result<(), ElfError>
     ensures ok { OnOk result (page.new ≡ page.old ++ plain_row row.now.options.now.radix
         row.now.class row.now.undefined row.now.symbol row.now.letter row.now.name.now) }
@@ -128,7 +128,7 @@ fn put_plain(page: &mut Octets, row: &SymbolRow<'_>) -> Result<(), ElfError>
 }
 
 /// Appends `NAME LETTER VALUE SIZE` and the newline.
-#[tactic(auto, using(object_output::proofs::Rules::kept), unfolding(crate::specs::Rows::portable_row))]
+#[tactic(auto, using(elf_types::proofs::Writers::kept), unfolding(crate::specs::Rows::portable_row))]
 fn put_portable(page: &mut Octets, row: &SymbolRow<'_>) -> Result<(), ElfError>
     ensures ok { OnOk result (page.new ≡ page.old ++ portable_row row.now.options.now.radix
         row.now.undefined row.now.symbol row.now.letter row.now.name.now) }
@@ -158,7 +158,7 @@ impl Line for SymbolRow<'_> {
     ghost text = { λ r. row_text r.options.now r.class r.file.now r.undefined r.symbol r.letter
         r.name.now };
 
-    #[tactic(auto, using(object_output::proofs::Rules::kept), unfolding(crate::specs::Rows::row_text))]
+    #[tactic(auto, using(elf_types::proofs::Writers::kept), unfolding(crate::specs::Rows::row_text))]
     fn put(&self, page: &mut Octets) -> Result<(), ElfError> {
         put_file(page, self.options.name_each, self.file)?;
         put_columns(page, self)

@@ -1,8 +1,7 @@
 -- Tables at hand: what the bytes of sections hold is what the object states.
-use Rattle.std.proofs.Common.{◌≡◌, ◌⊎◌, inl, inr, ℕ, ◌+◌, ◌-◌, ◌%◌, ◌<◌, ◌≤◌, ◌&&◌, Bool, true, false, not, List, [], ◌∷◌, length, take, drop, get_or, map, Option, Some, None, Result, Ok, Err, IsTrue, refl, sym, ap, ◌∙◌, arith}
-use Rattle.std.specs.Prelude.{◌^◌, ◌==◌, max, min, nat_le, nat_lt, slice_get, filter, is_none, is_some, take_while, IfSome, if◌then◌else◌}
+use Rattle.std.proofs.Common.{◌≡◌, ◌⊎◌, inl, inr, ℕ, ◌+◌, ◌-◌, ◌<◌, ◌≤◌, ◌&&◌, Bool, true, false, not, List, [], ◌∷◌, length, take, drop, get_or, map, Option, Some, None, Result, Ok, Err, IsTrue, refl, sym, ap, ◌∙◌, arith}
+use Rattle.std.specs.Prelude.{◌^◌, ◌==◌, min, nat_le, nat_lt, slice_get, filter, is_none, is_some, take_while, IfSome, if◌then◌else◌}
 use Rattle.std.specs.List.{list_all}
-use Rattle.std.proofs.Math.Nat.{mod_self, mod-eq_of_lt}
 use Rattle.std.proofs.Math.Bool.{and-false}
 use Rattle.std.proofs.Math.ListN.{drop_of_length-le}
 use Rattle.std.proofs.lemmas.Bool.{cond-true, cond-false, and_from, and_right, eq-eqb, le-leb, lt-ltb, le-ltb, ltb-true, ltb-false}
@@ -23,6 +22,7 @@ use Rattle.elf_xlate.specs.Translation.{decoded, encoded, items_kind, is_whole}
 use Rattle.elf_xlate.proofs.Decoded.{whole_is}
 use Rattle.elf_layout.specs.Layout.{rounded_up}
 use Rattle.strtab_build.specs.Table.{string_at}
+use Rattle.elf_object.proofs.RunningEnds.{first_place}
 use Rattle.elf_object.specs.Blocks.{Block, block_covers, block_end, stacked}
 use Rattle.elf_object.specs.Object.{Object, Piece, section_at, piece_at, home_piece, home_is_clean}
 use Rattle.elf_object.specs.Answers as answers
@@ -120,16 +120,6 @@ one_piece : (ps : List Piece) → length ps ≡ 1 → ps ≡ get_or ps 0 home_pi
 one_piece [] one = absurd (omega (arith, one))
 one_piece (p ∷ []) one = refl
 one_piece (p ∷ q ∷ ps) one = absurd (omega (arith, one))
-
-first_multiple : (n : ℕ) → 0 < n → 0 + (n - 0 % n) % n ≡ 0
-first_multiple n some =
-    let none : 0 % n ≡ 0 = mod-eq_of_lt some in
-    let whole : n - 0 ≡ n = omega arith in
-    rw (none, whole, mod_self n) refl
-
-first_place : (align : ℕ) → rounded_up 0 align ≡ 0
-unfolding rounded_up
-first_place align = first_multiple (max align 1) (omega arith)
 
 module _ (o : Object) (s : ℕ) (is : IsOneTable o s) (clean : (piece_at o s 0).own ≡ None) where
   abbrev raw : List ℕ

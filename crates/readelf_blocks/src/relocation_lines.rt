@@ -11,7 +11,7 @@ use readelf_rows::{put_decimal_column, put_hex_column, put_row_start};
 use tool_output::Line;
 
 /// Appends `  I offset 0xO type T sym Y NAME`.
-#[tactic(auto, using(crate::proofs::Rows::kept), unfolding(crate::specs::RelocationLines::relocation_start))]
+#[tactic(auto, using(elf_types::proofs::Writers::kept), unfolding(crate::specs::RelocationLines::relocation_start))]
 fn put_start(page: &mut Octets, i: u64, x: &Rel, name: Option<&[u8]>) -> Result<(), ElfError>
     ensures ok { OnOk result
         (page.new ≡ page.old ++ relocation_start i x.now (option_copied name.entry)) }
@@ -26,7 +26,7 @@ fn put_start(page: &mut Octets, i: u64, x: &Rel, name: Option<&[u8]>) -> Result<
 }
 
 /// Appends ` addend A`, where there is one.
-#[tactic(auto, using(crate::proofs::Rows::kept), unfolding(crate::specs::RelocationLines::addend_text))]
+#[tactic(auto, using(elf_types::proofs::Writers::kept), unfolding(crate::specs::RelocationLines::addend_text))]
 fn put_addend(page: &mut Octets, addend: Option<i64>) -> Result<(), ElfError>
     ensures ok { OnOk result (page.new ≡ page.old ++ addend_text addend) }
     ensures err { IfErr result (WantsMemory page.old page.new) }
@@ -64,7 +64,7 @@ impl Line for RelocationLine<'_> {
     ghost text = { λ l. relocation_line l.entry.index l.entry.rel l.entry.addend
         (option_copied l.name) };
 
-    #[tactic(auto, using(crate::proofs::Rows::kept), unfolding(crate::specs::RelocationLines::relocation_line))]
+    #[tactic(auto, using(elf_types::proofs::Writers::kept), unfolding(crate::specs::RelocationLines::relocation_line))]
     fn put(&self, page: &mut Octets) -> Result<(), ElfError> {
         put_start(page, self.entry.index, &self.entry.rel, self.name)?;
         put_addend(page, self.entry.addend)?;

@@ -5,15 +5,12 @@ use Rattle.elf_types.specs.declared.errors.ElfError.{ElfError}
 use Rattle.elf_types.specs.declared.errors.ElfError.TheVariants as error
 use Rattle.elf_types.specs.Answers.{answered, ◌>>=◌}
 use Rattle.elf_types.specs.Text.{error_text}
-use Rattle.elf_xlate.specs.declared.content.Items.{Items}
-use Rattle.elf_xlate.specs.declared.content.Items.TheVariants as items
-use Rattle.elf_xlate.specs.Translation.{items_kind, items_count}
 use Rattle.elf_outside.specs.declared.sources.Source.{Ghosts as SourceGhosts}
 use Rattle.elf_outside.specs.declared.sinks.Sink.{Ghosts as SinkGhosts}
 use Rattle.elf_object.specs.Words.{Wants, Answers, IsLike, AlikeBytes}
 use Rattle.elf_object.specs.Object.{Object}
-use Rattle.elf_object.specs.Answers.{bytes_of, items_at, count_at, lend_refusal}
-use Rattle.elf_object.proofs.AnswerLaws.{lend_kind}
+use Rattle.elf_object.specs.Answers.{count_at, lend_refusal}
+use Rattle.gelf_view.proofs.PieceBytes.{bytes_count}
 use Rattle.elf_descriptor.specs.State.{State}
 use Rattle.gelf_view.specs.Calls.{first_place, first_entry_answer, bytes_answer}
 use Rattle.gelf_view.specs.Chains.{Chain, ended, broken, leading}
@@ -49,21 +46,9 @@ module _ {A : Type 0} (name : Name) (s : ℕ) (of : A → Report) where
 
 -- ---- The bytes of a section
 
-pub bytes_counted : (content : Items) → items_kind content ≡ kinds.Bytes → length (bytes_of content) ≡ items_count content
-bytes_counted items.Empty is = cc
-bytes_counted (items.Bytes l) is = refl
-bytes_counted (items.Half l) is = cc
-bytes_counted (items.Word l) is = cc
-bytes_counted (items.Addr l) is = cc
-bytes_counted (items.Sym l) is = cc
-bytes_counted (items.Rel l) is = cc
-bytes_counted (items.Rela l) is = cc
-bytes_counted (items.Dyn l) is = cc
-
 module _ (o : Object) (s : ℕ) where
   pub count_of_bytes : lend_refusal o kinds.Bytes s 0 ≡ None → length (section_bytes o s) ≡ count_at o s 0
-  unfolding count_at
-  count_of_bytes passed = bytes_counted (items_at o s 0) (lend_kind o kinds.Bytes s 0 passed)
+  count_of_bytes passed = bytes_count o s 0 passed
 
   pub first_there : (first : Option ℕ) → first_entry_answer o s 0 ≡ Ok first → (lend_refusal o kinds.Bytes s 0 ≡ None) × (first ≡ first_place (length (section_bytes o s)))
   unfolding first_entry_answer

@@ -1,5 +1,5 @@
 -- What is left of the entries of a version section.
-use Rattle.std.proofs.Common.{◌≡◌, ◌+◌, ◌-◌, ◌<◌, ◌==◌, ◌^◌, ℕ, Bool, true, false, Option, Some, None, Result, Ok, Err, OnOk, IfOk, IfSome, refl, sym, ap, ◌∙◌, subst, arith}
+use Rattle.std.proofs.Common.{◌≡◌, ℕ, Bool, true, false, Option, Some, None, Result, Ok, Err, refl, sym, ap, ◌∙◌, subst}
 use Rattle.std.specs.Prelude.{if◌then◌else◌, IsTrue}
 use Rattle.elf_outside.specs.declared.sources.Source.{Ghosts as SourceGhosts}
 use Rattle.elf_outside.specs.declared.sinks.Sink.{Ghosts as SinkGhosts}
@@ -12,9 +12,7 @@ use Rattle.object_output.proofs.ElfSteps.{elf_goes_on, elf_stops_at, elf_after}
 use Rattle.readelf_chains.proofs.ChainLemmas.{at_start, elf_ends_with}
 use Rattle.elf_types.specs.declared.errors.ElfError.{ElfError}
 use Rattle.elf_types.specs.Text.{error_text}
-use Rattle.gelf_view.specs.declared.aux.AuxPlace.{AuxPlace}
-use Rattle.gelf_view.specs.Chains.{Chain, ended, broken, leading, entry_then, next_place, IsBehind}
-use Rattle.gelf_view.specs.Records.{LiesAt}
+use Rattle.gelf_view.specs.Chains.{Chain, ended, broken, leading, entry_then, next_place}
 use Rattle.tool_output.specs.Names.{Name}
 use Rattle.tool_output.specs.Messages.{in_section}
 use Rattle.tool_output.specs.Reports.{Report, no_report, joined}
@@ -69,25 +67,6 @@ module _ {A : Type 0} (name : Name) (s : ℕ) (of : (ℕ × A) → Report) where
     then_next place passes next =
         entry_passes (at, x) (behind from (next_place at n)) chain is passes
         ∙ ap (λ (p : Option ℕ). joined (of (at, x)) (entries_report name s of (behind from p))) (sym next)
-
--- the next entry stands behind
-pub next_behind : (at n place : ℕ) → Some place ≡ next_place at n → at < place
-next_behind at n place is = by_test (n == 0) refl is
-  where
-    by_test : (t : Bool) → (n == 0) ≡ t → Some place ≡ (if t then None else Some (at + n)) → at < place
-    by_test true zero is = cc
-    by_test false some is = grind arith
-
--- ---- What the calls of gelf_view tell
-
-pub lies_before : {A E : Type 0} (r : Result A E) (at size count : ℕ) → 0 < size → OnOk r (LiesAt at size count) → OnOk r ((at < count) × (at < 2 ^ 63))
-lies_before (Ok x) at size count some lies = (omega (arith, some, lies.0), omega (arith, lies.0, lies.1))
-lies_before (Err e) at size count some lies = tt
-
-pub fewer_left : {A E : Type 0} (r : Result (Option A) E) (next : A → ℕ) (old new : AuxPlace) → IsBehind r next old new → IfOk r (λ found. IfSome found (λ x. new.left < old.left))
-fewer_left (Ok (Some x)) next old new is = let left : new.left ≡ old.left - 1 = ap (λ (p : AuxPlace). p.left) is.1 in omega (arith, is.0, left)
-fewer_left (Ok None) next old new is = tt
-fewer_left (Err e) next old new is = tt
 
 -- ---- Steps over the entries
 

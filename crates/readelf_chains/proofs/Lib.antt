@@ -1,4 +1,3 @@
 mod ChainLemmas
 mod NoteLemmas
 mod EntryLemmas
-mod Rows

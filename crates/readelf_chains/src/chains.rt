@@ -63,7 +63,7 @@ struct ChainTitle<'a> {
 impl Line for ChainTitle<'_> {
     ghost text = { λ t. chain_title t.title.now t.section.0 (option_copied t.name) };
 
-    #[tactic(auto, using(crate::proofs::Rows::kept), unfolding(crate::specs::Chains::chain_title))]
+    #[tactic(auto, using(elf_types::proofs::Writers::kept), unfolding(crate::specs::Chains::chain_title))]
     fn put(&self, page: &mut Octets) -> Result<(), ElfError> {
         put_data_title(page, self.title, self.section, self.name)?;
         put_text(page, "\n")

@@ -1,7 +1,6 @@
 //! The lines of the version definitions.
 
 ghost use Rattle.std.specs.Prelude.{◌<◌, length};
-ghost use Rattle.gelf_view.specs.Chains.{verdefs, verdauxs};
 ghost use Rattle.object_output.specs.Steps.{ReportsElf};
 ghost use Rattle.readelf_chains.specs.Definitions.{verdef_line, verdaux_line, verdef_report, definitions_title, definitions_records, definitions_of_section};
 
@@ -9,8 +8,8 @@ use crate::chains::{Records, show_records};
 use crate::entries::{Aux, Entry, show_entries, show_names};
 use elf_descriptor::Elf;
 use elf_outside::{Sink, Source};
-use elf_types::{DataId, ElfError, Octets, ScnId, put_text};
-use gelf_view::{AuxPlace, Verdaux, Verdef, next_verdaux, verdef};
+use elf_types::{ElfError, Octets, ScnId, put_text};
+use gelf_view::{Verdaux, Verdef};
 use object_output::Bracketed;
 use readelf_rows::{links_of, put_decimal_column, put_hex_column};
 use tool_output::{FileName, Line, Outputs, Stop};
@@ -25,7 +24,7 @@ struct VerdefLine {
 impl Line for VerdefLine {
     ghost text = { λ l. verdef_line l.entry };
 
-    #[tactic(auto, using(crate::proofs::Rows::kept), unfolding(crate::specs::Definitions::verdef_line))]
+    #[tactic(auto, using(elf_types::proofs::Writers::kept), unfolding(crate::specs::Definitions::verdef_line))]
     fn put(&self, page: &mut Octets) -> Result<(), ElfError> {
         put_text(page, "  def")?;
         put_decimal_column(page, "ndx", u64::from(self.entry.ndx))?;
@@ -36,25 +35,15 @@ impl Line for VerdefLine {
 }
 
 impl Aux for Verdaux {
-    ghost names = { verdauxs };
-
     ghost line = { verdaux_line };
 
     ghost string = { λ x. x.name };
-
-    fn next_of<S: Source>(
-        elf: &mut Elf<S>,
-        d: DataId,
-        place: &mut AuxPlace,
-    ) -> Result<Option<Verdaux>, ElfError> {
-        next_verdaux(elf, d, place)
-    }
 
     fn string(&self) -> u32 {
         self.name
     }
 
-    #[tactic(auto, using(crate::proofs::Rows::kept), unfolding(crate::specs::Definitions::verdaux_line))]
+    #[tactic(auto, using(elf_types::proofs::Writers::kept), unfolding(crate::specs::Definitions::verdaux_line))]
     fn put_line(&self, page: &mut Octets, text: Option<&[u8]>) -> Result<(), ElfError> {
         put_text(page, "    name ")?;
         Bracketed { name: text }.put(page)?;
@@ -63,19 +52,7 @@ impl Aux for Verdaux {
 }
 
 impl Entry for Verdef {
-    ghost entries = { verdefs };
-
-    ghost behind = { λ x. x.next };
-
     ghost report = { verdef_report };
-
-    fn entry_at<S: Source>(elf: &mut Elf<S>, d: DataId, at: u64) -> Result<Verdef, ElfError> {
-        verdef(elf, d, at)
-    }
-
-    fn place_behind(&self, at: u64) -> Option<u64> {
-        self.next_place(at)
-    }
 
     fn show<S: Source, O: Sink, E: Sink>(
         &self,

@@ -1,18 +1,13 @@
-//! The entries of a section of version definitions or needs, each with its list of names. A walk
-//! over either ends by itself: each further entry stands behind the one before, and an entry tells
-//! how many names it has.
+//! The entries of a section of version definitions or needs, each with its list of names.
 
-ghost use Rattle.std.specs.Prelude.{◌≡◌, ◌++◌, ◌<◌, ◌^◌, ℕ, List, Option as TheOption, length, IsTrue, IfOk, IfSome, OnOk, IfErr};
+ghost use Rattle.std.specs.Prelude.{◌≡◌, ◌++◌, ◌<◌, ◌^◌, ℕ, List, Option as TheOption, length, OnOk, IfErr};
 ghost use Rattle.std.specs.Option.{option_copied};
 ghost use Rattle.elf_types.specs.Writers.{WantsMemory};
 ghost use Rattle.elf_object.specs.Object.{Object, section_at};
-ghost use Rattle.elf_object.specs.Answers.{count_at};
 ghost use Rattle.elf_object.specs.Strings as strings;
-ghost use Rattle.gelf_view.specs.declared.aux.AuxPlace.{AuxPlace as TheAuxPlace};
-ghost use Rattle.gelf_view.specs.Chains.{Chain, aux_then, entry_then, next_place, IsLedBy};
 ghost use Rattle.tool_output.specs.Names.{Name};
 ghost use Rattle.tool_output.specs.Reports.{Report, shown};
-ghost use Rattle.object_output.specs.Steps.{ReportsElf, Looked};
+ghost use Rattle.object_output.specs.Steps.{ReportsElf};
 ghost use Rattle.readelf_rows.specs.Links.{linked_string};
 ghost use Rattle.readelf_chains.specs.Chains.{chain_report};
 ghost use Rattle.readelf_chains.specs.Entries.{entries_by, entries_report};
@@ -21,34 +16,18 @@ use crate::chains::refuse_records;
 use elf_descriptor::Elf;
 use elf_outside::{Sink, Source};
 use elf_types::{DataId, ElfError, Octets, ScnId};
-use gelf_view::AuxPlace;
+use gelf_view::{AuxPlace, VersionEntry, VersionName};
 use object_output::string_at;
 use tool_output::{FileName, Line, Outputs, Stop};
 
-/// A name in the list of an entry.
+/// A name in the list of an entry, as it is shown.
 ///
-/// - `names` are those of a piece from a place on.
 /// - `line` is its line, by its string.
 /// - `string` is the offset of that.
-pub trait Aux: Copy + Drop {
-    ghost names: { Object → ℕ → ℕ → TheAuxPlace → Chain Self };
-
+pub trait Aux: VersionName {
     ghost line: { Self → TheOption (List ℕ) → List ℕ };
 
     ghost string: { Self → ℕ };
-
-    /// The next of the list, whose place goes on behind it. It refuses as `next_verdaux` does.
-    fn next_of<S: Source>(
-        elf: &mut Elf<S>,
-        d: DataId,
-        place: &mut AuxPlace,
-    ) -> Result<Option<Self>, ElfError>
-        ensures chain { IsTrue elf.old.told → IsLedBy result
-            (aux_then (names elf.old.o d.section d.piece place.new))
-            (names elf.old.o d.section d.piece place.old) }
-        ensures fewer { IfOk result (λ found. IfSome found
-            (λ _. place.new.left < place.old.left)) }
-        ensures looked { Looked S.Source result elf.old elf.new };
 
     /// The offset of its string.
     fn string(&self) -> u32
@@ -60,30 +39,11 @@ pub trait Aux: Copy + Drop {
         ensures err { IfErr result (WantsMemory page.old page.new) };
 }
 
-/// An entry of a version section.
+/// An entry of a version section, as it is shown.
 ///
-/// - `entries` are those of a piece from a place on, each with its place.
-/// - `behind` is how many bytes there are to the next one.
 /// - `report` is what is said of one, with its place.
-pub trait Entry: Copy + Drop {
-    ghost entries: { Object → ℕ → ℕ → ℕ → Chain (ℕ × Self) };
-
-    ghost behind: { Self → ℕ };
-
+pub trait Entry: VersionEntry {
     ghost report: { Name → Object → ℕ → (ℕ × Self) → Report };
-
-    /// The entry at a place. It refuses as `verdef` does.
-    fn entry_at<S: Source>(elf: &mut Elf<S>, d: DataId, at: u64) -> Result<Self, ElfError>
-        ensures chain { IsTrue elf.old.told → IsLedBy result
-            (λ x. entry_then at x (behind x) (entries elf.old.o d.section d.piece))
-            (entries elf.old.o d.section d.piece at) }
-        ensures within { OnOk result ((at < count_at elf.old.o d.section d.piece) × (at < 2 ^ 63)) }
-        ensures looked { Looked S.Source result elf.old elf.new };
-
-    /// The place of the entry behind the one at a place.
-    fn place_behind(&self, at: u64) -> Option<u64>
-        requires { at < 2 ^ 63 }
-        ensures { result ≡ next_place at (behind self.now) };
 
     /// Gives the report on the entry that was found at a place of a section that is there.
     fn show<S: Source, O: Sink, E: Sink>(

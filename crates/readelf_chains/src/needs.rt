@@ -4,7 +4,6 @@ ghost use Rattle.std.specs.Prelude.{◌≡◌, ◌++◌, ◌<◌, length, OnOk, 
 ghost use Rattle.std.specs.Option.{option_copied};
 ghost use Rattle.elf_types.specs.Writers.{WantsMemory};
 ghost use Rattle.elf_object.specs.Strings as strings;
-ghost use Rattle.gelf_view.specs.Chains.{verneeds, vernauxs};
 ghost use Rattle.tool_output.specs.Reports.{shown};
 ghost use Rattle.object_output.specs.Steps.{ReportsElf};
 ghost use Rattle.readelf_chains.specs.Needs.{verneed_line, vernaux_numbers, vernaux_line, verneed_report, needs_title, needs_records, needs_of_section};
@@ -13,8 +12,8 @@ use crate::chains::{Records, show_records};
 use crate::entries::{Aux, Entry, show_entries, show_names};
 use elf_descriptor::Elf;
 use elf_outside::{Sink, Source};
-use elf_types::{DataId, ElfError, Octets, ScnId, put_text};
-use gelf_view::{AuxPlace, Vernaux, Verneed, next_vernaux, verneed};
+use elf_types::{ElfError, Octets, ScnId, put_text};
+use gelf_view::{Vernaux, Verneed};
 use object_output::{Bracketed, string_at};
 use readelf_rows::{links_of, put_decimal_column, put_hex_column};
 use tool_output::{FileName, Line, Outputs, Stop};
@@ -29,7 +28,7 @@ struct VerneedLine<'a> {
 impl Line for VerneedLine<'_> {
     ghost text = { λ l. verneed_line (option_copied l.file) };
 
-    #[tactic(auto, using(crate::proofs::Rows::kept), unfolding(crate::specs::Needs::verneed_line))]
+    #[tactic(auto, using(elf_types::proofs::Writers::kept), unfolding(crate::specs::Needs::verneed_line))]
     fn put(&self, page: &mut Octets) -> Result<(), ElfError> {
         let name = self.file;
         put_text(page, "  need ")?;
@@ -56,7 +55,7 @@ fn show_file<S: Source, O: Sink, E: Sink>(
 }
 
 /// Appends ` ndx N flags 0xF hash 0xH`.
-#[tactic(auto, using(crate::proofs::Rows::kept), unfolding(crate::specs::Needs::vernaux_numbers))]
+#[tactic(auto, using(elf_types::proofs::Writers::kept), unfolding(crate::specs::Needs::vernaux_numbers))]
 fn put_numbers(page: &mut Octets, x: Vernaux) -> Result<(), ElfError>
     ensures ok { OnOk result (page.new ≡ page.old ++ vernaux_numbers x) }
     ensures err { IfErr result (WantsMemory page.old page.new) }
@@ -67,25 +66,15 @@ fn put_numbers(page: &mut Octets, x: Vernaux) -> Result<(), ElfError>
 }
 
 impl Aux for Vernaux {
-    ghost names = { vernauxs };
-
     ghost line = { vernaux_line };
 
     ghost string = { λ x. x.name };
-
-    fn next_of<S: Source>(
-        elf: &mut Elf<S>,
-        d: DataId,
-        place: &mut AuxPlace,
-    ) -> Result<Option<Vernaux>, ElfError> {
-        next_vernaux(elf, d, place)
-    }
 
     fn string(&self) -> u32 {
         self.name
     }
 
-    #[tactic(auto, using(crate::proofs::Rows::kept), unfolding(crate::specs::Needs::vernaux_line))]
+    #[tactic(auto, using(elf_types::proofs::Writers::kept), unfolding(crate::specs::Needs::vernaux_line))]
     fn put_line(&self, page: &mut Octets, text: Option<&[u8]>) -> Result<(), ElfError> {
         put_text(page, "    version ")?;
         Bracketed { name: text }.put(page)?;
@@ -95,19 +84,7 @@ impl Aux for Vernaux {
 }
 
 impl Entry for Verneed {
-    ghost entries = { verneeds };
-
-    ghost behind = { λ x. x.next };
-
     ghost report = { verneed_report };
-
-    fn entry_at<S: Source>(elf: &mut Elf<S>, d: DataId, at: u64) -> Result<Verneed, ElfError> {
-        verneed(elf, d, at)
-    }
-
-    fn place_behind(&self, at: u64) -> Option<u64> {
-        self.next_place(at)
-    }
 
     fn show<S: Source, O: Sink, E: Sink>(
         &self,

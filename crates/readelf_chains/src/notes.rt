@@ -17,11 +17,11 @@ use elf_types::constants::SHT_NOTE;
 use elf_types::{DataId, ElfError, Octets, ScnId, put_bytes, put_hex, put_text};
 use gelf_view::{NoteAt, bytes, note, string_in};
 use object_output::stop_for;
-use readelf_rows::{Part, each_plain, put_decimal_column};
+use readelf_rows::{SectionPart, each_plain, put_decimal_column};
 use tool_output::{FileName, Line, Outputs, Stop};
 
 /// Appends a byte as two hexadecimal digits.
-#[tactic(auto, using(crate::proofs::Rows::kept), unfolding(crate::specs::Notes::hex_byte))]
+#[tactic(auto, using(elf_types::proofs::Writers::kept), unfolding(crate::specs::Notes::hex_byte))]
 fn put_hex_byte(page: &mut Octets, b: u8) -> Result<(), ElfError>
     ensures ok { OnOk result (page.new ≡ page.old ++ hex_byte b) }
     ensures err { IfErr result (WantsMemory page.old page.new) }
@@ -33,7 +33,7 @@ fn put_hex_byte(page: &mut Octets, b: u8) -> Result<(), ElfError>
 }
 
 /// Appends bytes in hexadecimal digits.
-#[tactic(auto, using(crate::proofs::Rows::kept))]
+#[tactic(auto, using(elf_types::proofs::Writers::kept))]
 fn put_hex_bytes(page: &mut Octets, bytes: &[u8]) -> Result<(), ElfError>
     ensures ok { OnOk result (page.new ≡ page.old ++ flat_map hex_byte bytes.now) }
     ensures err { IfErr result (WantsMemory page.old page.new) }
@@ -45,7 +45,7 @@ fn put_hex_bytes(page: &mut Octets, bytes: &[u8]) -> Result<(), ElfError>
 }
 
 /// Appends ` desc HEX`, where there are bytes.
-#[tactic(auto, using(crate::proofs::Rows::kept), unfolding(crate::specs::Notes::desc_text))]
+#[tactic(auto, using(elf_types::proofs::Writers::kept), unfolding(crate::specs::Notes::desc_text))]
 fn put_desc(page: &mut Octets, desc: &[u8]) -> Result<(), ElfError>
     ensures ok { OnOk result (page.new ≡ page.old ++ desc_text desc.now) }
     ensures err { IfErr result (WantsMemory page.old page.new) }
@@ -58,7 +58,7 @@ fn put_desc(page: &mut Octets, desc: &[u8]) -> Result<(), ElfError>
 }
 
 /// Appends `  owner [OWNER]`.
-#[tactic(auto, using(crate::proofs::Rows::kept), unfolding(crate::specs::Notes::owner_text))]
+#[tactic(auto, using(elf_types::proofs::Writers::kept), unfolding(crate::specs::Notes::owner_text))]
 fn put_owner(page: &mut Octets, owner: &[u8]) -> Result<(), ElfError>
     ensures ok { OnOk result (page.new ≡ page.old ++ owner_text owner.now) }
     ensures err { IfErr result (WantsMemory page.old page.new) }
@@ -82,7 +82,7 @@ struct NoteLine<'a> {
 impl Line for NoteLine<'_> {
     ghost text = { λ l. note_line l.note l.owner.now l.desc.now };
 
-    #[tactic(auto, using(crate::proofs::Rows::kept), unfolding(crate::specs::Notes::note_line))]
+    #[tactic(auto, using(elf_types::proofs::Writers::kept), unfolding(crate::specs::Notes::note_line))]
     fn put(&self, page: &mut Octets) -> Result<(), ElfError> {
         put_owner(page, self.owner)?;
         put_decimal_column(page, "type", u64::from(self.note.ntype))?;
@@ -196,7 +196,7 @@ impl Records for NoteRecords {
 #[derive(Clone, Copy)]
 struct Notes;
 
-impl Part for Notes {
+impl SectionPart for Notes {
     ghost has = { holds_notes };
 
     ghost report = { notes_of_section };

@@ -34,7 +34,7 @@ fn order_text(order: Order) -> &'static str
 }
 
 /// Appends the first line.
-#[tactic(auto, using(crate::proofs::Rows::kept), unfolding(crate::specs::Header::header_title))]
+#[tactic(auto, using(elf_types::proofs::Writers::kept), unfolding(crate::specs::Header::header_title))]
 fn put_title(page: &mut Octets) -> Result<(), ElfError>
     ensures ok { OnOk result (page.new ≡ page.old ++ header_title) }
     ensures err { IfErr result (WantsMemory page.old page.new) }
@@ -43,7 +43,7 @@ fn put_title(page: &mut Octets) -> Result<(), ElfError>
 }
 
 /// Appends the class, the order and the other fields of the identification.
-#[tactic(auto, using(crate::proofs::Rows::kept), unfolding(crate::specs::Header::ident_lines))]
+#[tactic(auto, using(elf_types::proofs::Writers::kept), unfolding(crate::specs::Header::ident_lines))]
 fn put_ident(page: &mut Octets, h: &Ehdr) -> Result<(), ElfError>
     ensures ok { OnOk result (page.new ≡ page.old ++ ident_lines h.now) }
     ensures err { IfErr result (WantsMemory page.old page.new) }
@@ -55,7 +55,7 @@ fn put_ident(page: &mut Octets, h: &Ehdr) -> Result<(), ElfError>
 }
 
 /// Appends the type, the machine and the version.
-#[tactic(auto, using(crate::proofs::Rows::kept), unfolding(crate::specs::Header::type_lines))]
+#[tactic(auto, using(elf_types::proofs::Writers::kept), unfolding(crate::specs::Header::type_lines))]
 fn put_type(page: &mut Octets, h: &Ehdr) -> Result<(), ElfError>
     ensures ok { OnOk result (page.new ≡ page.old ++ type_lines h.now) }
     ensures err { IfErr result (WantsMemory page.old page.new) }
@@ -71,7 +71,7 @@ fn put_type(page: &mut Octets, h: &Ehdr) -> Result<(), ElfError>
 }
 
 /// Appends the entry, the places of the tables, and the flags.
-#[tactic(auto, using(crate::proofs::Rows::kept), unfolding(crate::specs::Header::place_lines))]
+#[tactic(auto, using(elf_types::proofs::Writers::kept), unfolding(crate::specs::Header::place_lines))]
 fn put_places(page: &mut Octets, h: &Ehdr) -> Result<(), ElfError>
     ensures ok { OnOk result (page.new ≡ page.old ++ place_lines h.now) }
     ensures err { IfErr result (WantsMemory page.old page.new) }
@@ -83,7 +83,7 @@ fn put_places(page: &mut Octets, h: &Ehdr) -> Result<(), ElfError>
 }
 
 /// Appends the sizes and the counts of the tables.
-#[tactic(auto, using(crate::proofs::Rows::kept), unfolding(crate::specs::Header::table_lines))]
+#[tactic(auto, using(elf_types::proofs::Writers::kept), unfolding(crate::specs::Header::table_lines))]
 fn put_tables(page: &mut Octets, h: &Ehdr) -> Result<(), ElfError>
     ensures ok { OnOk result (page.new ≡ page.old ++ table_lines h.now) }
     ensures err { IfErr result (WantsMemory page.old page.new) }
@@ -106,7 +106,7 @@ struct HeaderLines<'a> {
 impl Line for HeaderLines<'_> {
     ghost text = { λ l. header_lines l.header.now };
 
-    #[tactic(auto, using(crate::proofs::Rows::kept), unfolding(crate::specs::Header::header_lines))]
+    #[tactic(auto, using(elf_types::proofs::Writers::kept), unfolding(crate::specs::Header::header_lines))]
     fn put(&self, page: &mut Octets) -> Result<(), ElfError> {
         let h = self.header;
         put_title(page)?;

@@ -16,7 +16,7 @@ use readelf_rows::{
 use tool_output::{Line, Outputs, Stop};
 
 /// Appends `  I NAME TYPE`.
-#[tactic(auto, using(crate::proofs::Rows::kept), unfolding(crate::specs::Sections::section_start))]
+#[tactic(auto, using(elf_types::proofs::Writers::kept), unfolding(crate::specs::Sections::section_start))]
 fn put_start(page: &mut Octets, i: u32, name: Option<&[u8]>, stype: u32) -> Result<(), ElfError>
     ensures ok { OnOk result
         (page.new ≡ page.old ++ section_start i (option_copied name.entry) stype) }
@@ -30,7 +30,7 @@ fn put_start(page: &mut Octets, i: u32, name: Option<&[u8]>, stype: u32) -> Resu
 }
 
 /// Appends the flags, the address and the extent.
-#[tactic(auto, using(crate::proofs::Rows::kept), unfolding(crate::specs::Sections::section_places))]
+#[tactic(auto, using(elf_types::proofs::Writers::kept), unfolding(crate::specs::Sections::section_places))]
 fn put_places(page: &mut Octets, h: &Shdr) -> Result<(), ElfError>
     ensures ok { OnOk result (page.new ≡ page.old ++ section_places h.now) }
     ensures err { IfErr result (WantsMemory page.old page.new) }
@@ -42,7 +42,7 @@ fn put_places(page: &mut Octets, h: &Shdr) -> Result<(), ElfError>
 }
 
 /// Appends the links, the alignment and the size of an entry.
-#[tactic(auto, using(crate::proofs::Rows::kept), unfolding(crate::specs::Sections::section_numbers))]
+#[tactic(auto, using(elf_types::proofs::Writers::kept), unfolding(crate::specs::Sections::section_numbers))]
 fn put_numbers(page: &mut Octets, h: &Shdr) -> Result<(), ElfError>
     ensures ok { OnOk result (page.new ≡ page.old ++ section_numbers h.now) }
     ensures err { IfErr result (WantsMemory page.old page.new) }
@@ -67,7 +67,7 @@ struct SectionLine<'a> {
 impl Line for SectionLine<'_> {
     ghost text = { λ l. section_line l.index (option_copied l.name) l.header };
 
-    #[tactic(auto, using(crate::proofs::Rows::kept), unfolding(crate::specs::Sections::section_line))]
+    #[tactic(auto, using(elf_types::proofs::Writers::kept), unfolding(crate::specs::Sections::section_line))]
     fn put(&self, page: &mut Octets) -> Result<(), ElfError> {
         let h = &self.header;
         put_start(page, self.index, self.name, h.stype)?;
@@ -87,7 +87,7 @@ struct SectionsTitle {
 impl Line for SectionsTitle {
     ghost text = { λ t. sections_title t.count };
 
-    #[tactic(auto, using(crate::proofs::Rows::kept), unfolding(crate::specs::Sections::sections_title))]
+    #[tactic(auto, using(elf_types::proofs::Writers::kept), unfolding(crate::specs::Sections::sections_title))]
     fn put(&self, page: &mut Octets) -> Result<(), ElfError> {
         put_counted_line(page, "Section headers: ", u64::from(self.count))
     }

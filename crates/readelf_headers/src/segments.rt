@@ -26,7 +26,7 @@ fn flag_letter(flags: u32, bit: u32, letter: u8) -> u8
 }
 
 /// Appends the bits that have no letter.
-#[tactic(auto, using(crate::proofs::Rows::kept), unfolding(crate::specs::Segments::other_flags))]
+#[tactic(auto, using(elf_types::proofs::Writers::kept), unfolding(crate::specs::Segments::other_flags))]
 fn put_other_flags(page: &mut Octets, flags: u32) -> Result<(), ElfError>
     ensures ok { OnOk result (page.new ≡ page.old ++ other_flags flags) }
     ensures err { IfErr result (WantsMemory page.old page.new) }
@@ -40,7 +40,7 @@ fn put_other_flags(page: &mut Octets, flags: u32) -> Result<(), ElfError>
 }
 
 /// Appends the flags: three letters, and the other bits.
-#[tactic(auto, using(crate::proofs::Rows::kept), unfolding(crate::specs::Segments::flags_text))]
+#[tactic(auto, using(elf_types::proofs::Writers::kept), unfolding(crate::specs::Segments::flags_text))]
 fn put_flags(page: &mut Octets, flags: u32) -> Result<(), ElfError>
     ensures ok { OnOk result (page.new ≡ page.old ++ flags_text flags) }
     ensures err { IfErr result (WantsMemory page.old page.new) }
@@ -55,7 +55,7 @@ fn put_flags(page: &mut Octets, flags: u32) -> Result<(), ElfError>
 }
 
 /// Appends ` flags FLAGS`.
-#[tactic(auto, using(crate::proofs::Rows::kept), unfolding(crate::specs::Segments::flags_column))]
+#[tactic(auto, using(elf_types::proofs::Writers::kept), unfolding(crate::specs::Segments::flags_column))]
 fn put_flags_column(page: &mut Octets, flags: u32) -> Result<(), ElfError>
     ensures ok { OnOk result (page.new ≡ page.old ++ flags_column flags) }
     ensures err { IfErr result (WantsMemory page.old page.new) }
@@ -65,7 +65,7 @@ fn put_flags_column(page: &mut Octets, flags: u32) -> Result<(), ElfError>
 }
 
 /// Appends `  I TYPE`.
-#[tactic(auto, using(crate::proofs::Rows::kept), unfolding(crate::specs::Segments::segment_start))]
+#[tactic(auto, using(elf_types::proofs::Writers::kept), unfolding(crate::specs::Segments::segment_start))]
 fn put_start(page: &mut Octets, i: u32, p: &Phdr) -> Result<(), ElfError>
     ensures ok { OnOk result (page.new ≡ page.old ++ segment_start i p.now) }
     ensures err { IfErr result (WantsMemory page.old page.new) }
@@ -77,7 +77,7 @@ fn put_start(page: &mut Octets, i: u32, p: &Phdr) -> Result<(), ElfError>
 }
 
 /// Appends the offset and the two addresses.
-#[tactic(auto, using(crate::proofs::Rows::kept), unfolding(crate::specs::Segments::segment_places))]
+#[tactic(auto, using(elf_types::proofs::Writers::kept), unfolding(crate::specs::Segments::segment_places))]
 fn put_places(page: &mut Octets, p: &Phdr) -> Result<(), ElfError>
     ensures ok { OnOk result (page.new ≡ page.old ++ segment_places p.now) }
     ensures err { IfErr result (WantsMemory page.old page.new) }
@@ -88,7 +88,7 @@ fn put_places(page: &mut Octets, p: &Phdr) -> Result<(), ElfError>
 }
 
 /// Appends the two sizes.
-#[tactic(auto, using(crate::proofs::Rows::kept), unfolding(crate::specs::Segments::segment_sizes))]
+#[tactic(auto, using(elf_types::proofs::Writers::kept), unfolding(crate::specs::Segments::segment_sizes))]
 fn put_sizes(page: &mut Octets, p: &Phdr) -> Result<(), ElfError>
     ensures ok { OnOk result (page.new ≡ page.old ++ segment_sizes p.now) }
     ensures err { IfErr result (WantsMemory page.old page.new) }
@@ -98,7 +98,7 @@ fn put_sizes(page: &mut Octets, p: &Phdr) -> Result<(), ElfError>
 }
 
 /// Appends the flags, the alignment and the newline.
-#[tactic(auto, using(crate::proofs::Rows::kept), unfolding(crate::specs::Segments::segment_end))]
+#[tactic(auto, using(elf_types::proofs::Writers::kept), unfolding(crate::specs::Segments::segment_end))]
 fn put_end(page: &mut Octets, p: &Phdr) -> Result<(), ElfError>
     ensures ok { OnOk result (page.new ≡ page.old ++ segment_end p.now) }
     ensures err { IfErr result (WantsMemory page.old page.new) }
@@ -120,7 +120,7 @@ struct SegmentLine<'a> {
 impl Line for SegmentLine<'_> {
     ghost text = { λ l. phdr_line l.index l.header.now };
 
-    #[tactic(auto, using(crate::proofs::Rows::kept), unfolding(crate::specs::Segments::phdr_line))]
+    #[tactic(auto, using(elf_types::proofs::Writers::kept), unfolding(crate::specs::Segments::phdr_line))]
     fn put(&self, page: &mut Octets) -> Result<(), ElfError> {
         put_start(page, self.index, self.header)?;
         put_places(page, self.header)?;
@@ -139,7 +139,7 @@ struct SegmentsTitle {
 impl Line for SegmentsTitle {
     ghost text = { λ t. count_line t.count };
 
-    #[tactic(auto, using(crate::proofs::Rows::kept), unfolding(crate::specs::Segments::count_line))]
+    #[tactic(auto, using(elf_types::proofs::Writers::kept), unfolding(crate::specs::Segments::count_line))]
     fn put(&self, page: &mut Octets) -> Result<(), ElfError> {
         put_text(page, "Program headers: ")?;
         put_decimal(page, u64::from(self.count))?;

@@ -21,7 +21,7 @@ use tool_output::{FileName, InSection, Line, Message, Outputs, Stop};
 /// - `has` tells these types.
 /// - `report` is what is said of a section of such a type that is in the file and whose data is not
 ///   compressed, of an object under a name.
-pub trait Part {
+pub trait SectionPart {
     ghost has: { ℕ → TheBool };
 
     ghost report: { Name → Object → ℕ → Report };
@@ -66,7 +66,7 @@ pub fn is_of_type<S: Source>(elf: &Elf<S>, s: ScnId, stype: u32) -> bool
 }
 
 /// Shows the data of a section that is there, or the message that stands in its place.
-fn show_plain<P: Part, S: Source, O: Sink, E: Sink>(
+fn show_plain<P: SectionPart, S: Source, O: Sink, E: Sink>(
     part: &P,
     name: &FileName<'_>,
     elf: &mut Elf<S>,
@@ -111,7 +111,7 @@ struct Plain<'a, P> {
     name: &'a FileName<'a>,
 }
 
-impl<P: Part> SectionTool for Plain<'_, P> {
+impl<P: SectionPart> SectionTool for Plain<'_, P> {
     ghost report = { λ p o. plain_report P.has p.name.now o (P.report p.name.now o) };
 
     fn show<S: Source, O: Sink, E: Sink>(
@@ -129,7 +129,7 @@ impl<P: Part> SectionTool for Plain<'_, P> {
 
 /// Shows the data of each section of a part's types, by number.
 #[tactic(auto, unfolding(crate::specs::Data::each_plain))]
-pub fn each_plain<P: Part, S: Source, O: Sink, E: Sink>(
+pub fn each_plain<P: SectionPart, S: Source, O: Sink, E: Sink>(
     part: &P,
     name: &FileName<'_>,
     elf: &mut Elf<S>,
@@ -143,7 +143,7 @@ pub fn each_plain<P: Part, S: Source, O: Sink, E: Sink>(
 }
 
 /// Appends `TITLE S NAME`.
-#[tactic(auto, using(crate::proofs::Rows::kept), unfolding(crate::specs::Data::data_title))]
+#[tactic(auto, using(elf_types::proofs::Writers::kept), unfolding(crate::specs::Data::data_title))]
 pub fn put_data_title(
     page: &mut Octets,
     title: &str,

@@ -9,7 +9,7 @@ ghost use Rattle.readelf_rows.specs.Fields.{name_or_hex, field_title, field_line
 use elf_types::{ElfError, Octets, put_decimal, put_hex, put_text};
 
 /// Appends a name, or in hexadecimal a number that has none.
-#[tactic(auto, using(crate::proofs::Rows::kept), unfolding(crate::specs::Fields::name_or_hex))]
+#[tactic(auto, using(elf_types::proofs::Writers::kept), unfolding(crate::specs::Fields::name_or_hex))]
 pub fn put_name_or_hex(
     page: &mut Octets,
     name: Option<&'static str>,
@@ -28,7 +28,7 @@ pub fn put_name_or_hex(
 }
 
 /// Appends `  NAME: `.
-#[tactic(auto, using(crate::proofs::Rows::kept), unfolding(crate::specs::Fields::field_title))]
+#[tactic(auto, using(elf_types::proofs::Writers::kept), unfolding(crate::specs::Fields::field_title))]
 fn put_title(page: &mut Octets, name: &str) -> Result<(), ElfError>
     ensures ok { OnOk result (page.new ≡ page.old ++ field_title name.now) }
     ensures err { IfErr result (WantsMemory page.old page.new) }
@@ -39,7 +39,7 @@ fn put_title(page: &mut Octets, name: &str) -> Result<(), ElfError>
 }
 
 /// Appends the line `  NAME: VALUE`.
-#[tactic(auto, using(crate::proofs::Rows::kept), unfolding(crate::specs::Fields::field_line))]
+#[tactic(auto, using(elf_types::proofs::Writers::kept), unfolding(crate::specs::Fields::field_line))]
 pub fn put_field(page: &mut Octets, name: &str, value: &str) -> Result<(), ElfError>
     ensures ok { OnOk result (page.new ≡ page.old ++ field_line name.now value.now) }
     ensures err { IfErr result (WantsMemory page.old page.new) }
@@ -50,7 +50,7 @@ pub fn put_field(page: &mut Octets, name: &str, value: &str) -> Result<(), ElfEr
 }
 
 /// Appends the line `  NAME: N`, the number in decimal.
-#[tactic(auto, using(crate::proofs::Rows::kept), unfolding(crate::specs::Fields::field_line))]
+#[tactic(auto, using(elf_types::proofs::Writers::kept), unfolding(crate::specs::Fields::field_line))]
 pub fn put_decimal_field(page: &mut Octets, name: &str, n: u64) -> Result<(), ElfError>
     ensures ok { OnOk result (page.new ≡ page.old ++ decimal_line name.now n) }
     ensures err { IfErr result (WantsMemory page.old page.new) }
@@ -61,7 +61,7 @@ pub fn put_decimal_field(page: &mut Octets, name: &str, n: u64) -> Result<(), El
 }
 
 /// Appends the line `  NAME: 0xN`, the number in hexadecimal.
-#[tactic(auto, using(crate::proofs::Rows::kept), unfolding(crate::specs::Fields::field_line))]
+#[tactic(auto, using(elf_types::proofs::Writers::kept), unfolding(crate::specs::Fields::field_line))]
 pub fn put_hex_field(page: &mut Octets, name: &str, n: u64) -> Result<(), ElfError>
     ensures ok { OnOk result (page.new ≡ page.old ++ hex_line name.now n) }
     ensures err { IfErr result (WantsMemory page.old page.new) }
@@ -73,7 +73,7 @@ pub fn put_hex_field(page: &mut Octets, name: &str, n: u64) -> Result<(), ElfErr
 }
 
 /// Appends the line `  TITLE: NAME`, the name of a number or the number in hexadecimal.
-#[tactic(auto, using(crate::proofs::Rows::kept), unfolding(crate::specs::Fields::field_line))]
+#[tactic(auto, using(elf_types::proofs::Writers::kept), unfolding(crate::specs::Fields::field_line))]
 pub fn put_name_field(
     page: &mut Octets,
     title: &str,
@@ -90,7 +90,7 @@ pub fn put_name_field(
 }
 
 /// Appends ` NAME 0xN`.
-#[tactic(auto, using(crate::proofs::Rows::kept), unfolding(crate::specs::Fields::hex_column))]
+#[tactic(auto, using(elf_types::proofs::Writers::kept), unfolding(crate::specs::Fields::hex_column))]
 pub fn put_hex_column(page: &mut Octets, name: &str, n: u64) -> Result<(), ElfError>
     ensures ok { OnOk result (page.new ≡ page.old ++ hex_column name.now n) }
     ensures err { IfErr result (WantsMemory page.old page.new) }
@@ -102,7 +102,7 @@ pub fn put_hex_column(page: &mut Octets, name: &str, n: u64) -> Result<(), ElfEr
 }
 
 /// Appends ` NAME N`.
-#[tactic(auto, using(crate::proofs::Rows::kept), unfolding(crate::specs::Fields::decimal_column))]
+#[tactic(auto, using(elf_types::proofs::Writers::kept), unfolding(crate::specs::Fields::decimal_column))]
 pub fn put_decimal_column(page: &mut Octets, name: &str, n: u64) -> Result<(), ElfError>
     ensures ok { OnOk result (page.new ≡ page.old ++ decimal_column name.now n) }
     ensures err { IfErr result (WantsMemory page.old page.new) }
@@ -114,7 +114,7 @@ pub fn put_decimal_column(page: &mut Octets, name: &str, n: u64) -> Result<(), E
 }
 
 /// Appends ` TITLE NAME`, the name of a number or the number in hexadecimal.
-#[tactic(auto, using(crate::proofs::Rows::kept), unfolding(crate::specs::Fields::name_column))]
+#[tactic(auto, using(elf_types::proofs::Writers::kept), unfolding(crate::specs::Fields::name_column))]
 pub fn put_name_column(
     page: &mut Octets,
     title: &str,
@@ -132,7 +132,7 @@ pub fn put_name_column(
 }
 
 /// Appends `  I`, with which a row begins.
-#[tactic(auto, using(crate::proofs::Rows::kept), unfolding(crate::specs::Fields::row_start))]
+#[tactic(auto, using(elf_types::proofs::Writers::kept), unfolding(crate::specs::Fields::row_start))]
 pub fn put_row_start(page: &mut Octets, i: u64) -> Result<(), ElfError>
     ensures ok { OnOk result (page.new ≡ page.old ++ row_start i) }
     ensures err { IfErr result (WantsMemory page.old page.new) }
@@ -142,7 +142,7 @@ pub fn put_row_start(page: &mut Octets, i: u64) -> Result<(), ElfError>
 }
 
 /// Appends `TITLE N`, the title of a list of so many.
-#[tactic(auto, using(crate::proofs::Rows::kept), unfolding(crate::specs::Fields::counted_line))]
+#[tactic(auto, using(elf_types::proofs::Writers::kept), unfolding(crate::specs::Fields::counted_line))]
 pub fn put_counted_line(page: &mut Octets, title: &str, count: u64) -> Result<(), ElfError>
     ensures ok { OnOk result (page.new ≡ page.old ++ counted_line title.now count) }
     ensures err { IfErr result (WantsMemory page.old page.new) }

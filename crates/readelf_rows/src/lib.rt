@@ -1,13 +1,13 @@
 //! What the parts of readelf stand on: the columns of their rows, the sections that rows name, and
 //! the message that stands in place of data that can not be shown. What is said of the data of the
-//! sections of some types is a `Part`, and `each_plain` goes over them.
+//! sections of some types is a `SectionPart`, and `each_plain` goes over them.
 #![tactic(auto)]
 
 pub mod data;
 pub mod fields;
 pub mod links;
 
-pub use data::{Part, each_plain, is_of_type, put_data_title};
+pub use data::{SectionPart, each_plain, is_of_type, put_data_title};
 pub use fields::{
     put_counted_line, put_decimal_column, put_decimal_field, put_field, put_hex_column,
     put_hex_field, put_name_column, put_name_field, put_name_or_hex, put_row_start,

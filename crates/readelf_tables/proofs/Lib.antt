@@ -2,4 +2,3 @@ mod TableLemmas
 mod SymbolLemmas
 mod RelocationLemmas
 mod DynamicLemmas
-mod Rows

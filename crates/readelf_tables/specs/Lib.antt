@@ -3,3 +3,4 @@ pub mod Symbols
 pub mod Relocations
 pub mod Dynamic
 pub mod Indexes
+pub mod Constants

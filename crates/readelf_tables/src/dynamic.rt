@@ -15,7 +15,9 @@ use elf_outside::{Sink, Source};
 use elf_types::constants::SHT_DYNAMIC;
 use elf_types::{Dyn, ElfError, Octets, ScnId, put_hex, put_text, tag_name};
 use object_output::{Bracketed, string_at};
-use readelf_rows::{Links, Part, Table, each_plain, links_of, put_name_or_hex, put_row_start};
+use readelf_rows::{
+    Links, SectionPart, Table, each_plain, links_of, put_name_or_hex, put_row_start,
+};
 use tool_output::{FileName, Line, Outputs, Stop};
 
 /// Whether the value of an entry is the offset of a string, by its tag: `DT_NEEDED`, `DT_SONAME`,
@@ -28,7 +30,7 @@ fn names_string(x: &Dyn) -> bool
 }
 
 /// Appends `  I TAG`.
-#[tactic(auto, using(crate::proofs::Rows::kept), unfolding(crate::specs::Dynamic::dyn_start))]
+#[tactic(auto, using(elf_types::proofs::Writers::kept), unfolding(crate::specs::Dynamic::dyn_start))]
 fn put_start(page: &mut Octets, i: u64, tag: i64) -> Result<(), ElfError>
     ensures ok { OnOk result (page.new ≡ page.old ++ dyn_start i tag) }
     ensures err { IfErr result (WantsMemory page.old page.new) }
@@ -52,7 +54,7 @@ struct NameLine<'a> {
 impl Line for NameLine<'_> {
     ghost text = { λ l. dyn_name_line l.index l.entry (option_copied l.name) };
 
-    #[tactic(auto, using(crate::proofs::Rows::kept), unfolding(crate::specs::Dynamic::dyn_name_line))]
+    #[tactic(auto, using(elf_types::proofs::Writers::kept), unfolding(crate::specs::Dynamic::dyn_name_line))]
     fn put(&self, page: &mut Octets) -> Result<(), ElfError> {
         let name = self.name;
         put_start(page, self.index, self.entry.tag)?;
@@ -74,7 +76,7 @@ struct ValueLine {
 impl Line for ValueLine {
     ghost text = { λ l. dyn_value_line l.index l.entry };
 
-    #[tactic(auto, using(crate::proofs::Rows::kept), unfolding(crate::specs::Dynamic::dyn_value_line))]
+    #[tactic(auto, using(elf_types::proofs::Writers::kept), unfolding(crate::specs::Dynamic::dyn_value_line))]
     fn put(&self, page: &mut Octets) -> Result<(), ElfError> {
         put_start(page, self.index, self.entry.tag)?;
         put_text(page, " 0x")?;
@@ -149,7 +151,7 @@ impl Rows for Dyn {
 #[derive(Clone, Copy)]
 struct Dynamic;
 
-impl Part for Dynamic {
+impl SectionPart for Dynamic {
     ghost has = { holds_dynamic };
 
     ghost report = { dynamic_of_section };

@@ -1,9 +1,11 @@
 //! The lines of the version indexes: the version of each symbol, as the section of type
 //! `SHT_GNU_VERSYM` tells them.
 
-ghost use Rattle.std.specs.Prelude.{◌≡◌, ◌++◌, ◌<◌, length, OnOk, IfErr};
+ghost use Rattle.std.specs.Prelude.{◌≡◌, ◌++◌, ◌<◌, length, true, OnOk, IfErr};
 ghost use Rattle.elf_types.specs.Writers.{WantsMemory};
+ghost use Rattle.elf_types.specs.Constants.{are_numbers};
 ghost use Rattle.object_output.specs.Steps.{ReportsElf};
+ghost use Rattle.readelf_tables.specs.Constants.{index_bits};
 ghost use Rattle.readelf_tables.specs.Indexes.{hidden_text, index_line, index_row, indexes_title, indexes_of_section};
 
 use crate::tables::{Row, Rows, show_each, show_table};
@@ -17,7 +19,7 @@ use tool_output::{FileName, Line, Outputs, Stop};
 pub const VERSYM_HIDDEN: u16 = 0x8000;
 
 /// Appends ` hidden`, where the top bit is set.
-#[tactic(auto, using(crate::proofs::Rows::kept), unfolding(crate::specs::Indexes::hidden_text))]
+#[tactic(auto, using(elf_types::proofs::Writers::kept), unfolding(crate::specs::Indexes::hidden_text))]
 fn put_hidden(page: &mut Octets, x: u16) -> Result<(), ElfError>
     ensures ok { OnOk result (page.new ≡ page.old ++ hidden_text x) }
     ensures err { IfErr result (WantsMemory page.old page.new) }
@@ -40,7 +42,7 @@ struct IndexLine {
 impl Line for IndexLine {
     ghost text = { λ l. index_line l.index l.version };
 
-    #[tactic(auto, using(crate::proofs::Rows::kept), unfolding(crate::specs::Indexes::index_line))]
+    #[tactic(auto, using(elf_types::proofs::Writers::kept), unfolding(crate::specs::Indexes::index_line))]
     fn put(&self, page: &mut Octets) -> Result<(), ElfError> {
         put_row_start(page, self.index)?;
         put_decimal_column(page, "ndx", u64::from(self.version % VERSYM_HIDDEN))?;
@@ -105,3 +107,9 @@ pub fn show_indexes<S: Source, O: Sink, E: Sink>(
 {
     show_table::<u16, S, O, E>(name, elf, s, outputs)
 }
+
+/// Each constant is the number that stands beside its name in the tables of specs/Constants. It is
+/// for the reader and for proofs, and does nothing.
+pub fn constants_are()
+    ensures { are_numbers index_bits ≡ true }
+{}

@@ -9,6 +9,6 @@ pub mod symbols;
 pub mod tables;
 
 pub use dynamic::show_dynamic;
-pub use indexes::show_indexes;
+pub use indexes::{constants_are, show_indexes};
 pub use relocations::show_relocations;
 pub use symbols::show_symbols;

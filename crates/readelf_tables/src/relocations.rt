@@ -21,7 +21,7 @@ use elf_types::{DataId, Rel, Rela, ScnId, Sym};
 use gelf_view::sym;
 use object_output::string_at;
 use readelf_blocks::{Entry, Relocation, RelocationLine, load_table, show_blocks, table_at_hand};
-use readelf_rows::{Links, Part, Table, each_plain, is_of_type, links_of};
+use readelf_rows::{Links, SectionPart, Table, each_plain, is_of_type, links_of};
 use tool_output::{FileName, Outputs, Stop};
 
 /// Symbol `y` of a section, or None where that can not be told. It stops by `Read` where a read of
@@ -241,7 +241,7 @@ fn show_relas<S: Source, O: Sink, E: Sink>(
 #[derive(Clone, Copy)]
 struct Relocations;
 
-impl Part for Relocations {
+impl SectionPart for Relocations {
     ghost has = { holds_relocations };
 
     ghost report = { relocations_of_section };

@@ -19,13 +19,13 @@ use elf_types::{
 use gelf_view::{SymPlace, shndx_table};
 use object_output::{Bracketed, string_at, symbol_place};
 use readelf_rows::{
-    Links, Part, Table, each_plain, links_of, put_decimal_column, put_hex_column, put_name_column,
-    put_row_start,
+    Links, SectionPart, Table, each_plain, links_of, put_decimal_column, put_hex_column,
+    put_name_column, put_row_start,
 };
 use tool_output::{FileName, Line, Outputs, Stop};
 
 /// Appends a reserved index, by its name or in hexadecimal.
-#[tactic(auto, using(crate::proofs::Rows::kept), unfolding(crate::specs::Symbols::special_text))]
+#[tactic(auto, using(elf_types::proofs::Writers::kept), unfolding(crate::specs::Symbols::special_text))]
 fn put_special(page: &mut Octets, n: u32) -> Result<(), ElfError>
     ensures ok { OnOk result (page.new ≡ page.old ++ special_text n) }
     ensures err { IfErr result (WantsMemory page.old page.new) }
@@ -41,7 +41,7 @@ fn put_special(page: &mut Octets, n: u32) -> Result<(), ElfError>
 }
 
 /// Appends the section of a symbol.
-#[tactic(auto, using(crate::proofs::Rows::kept), unfolding(crate::specs::Symbols::place_text))]
+#[tactic(auto, using(elf_types::proofs::Writers::kept), unfolding(crate::specs::Symbols::place_text))]
 fn put_place(page: &mut Octets, x: &Sym, place: Option<SymPlace>) -> Result<(), ElfError>
     ensures ok { OnOk result (page.new ≡ page.old ++ place_text x.now place) }
     ensures err { IfErr result (WantsMemory page.old page.new) }
@@ -60,7 +60,7 @@ fn put_place(page: &mut Octets, x: &Sym, place: Option<SymPlace>) -> Result<(), 
 }
 
 /// Appends `  I value 0xV size N`.
-#[tactic(auto, using(crate::proofs::Rows::kept), unfolding(crate::specs::Symbols::symbol_start))]
+#[tactic(auto, using(elf_types::proofs::Writers::kept), unfolding(crate::specs::Symbols::symbol_start))]
 fn put_start(page: &mut Octets, i: u64, x: &Sym) -> Result<(), ElfError>
     ensures ok { OnOk result (page.new ≡ page.old ++ symbol_start i x.now) }
     ensures err { IfErr result (WantsMemory page.old page.new) }
@@ -71,7 +71,7 @@ fn put_start(page: &mut Octets, i: u64, x: &Sym) -> Result<(), ElfError>
 }
 
 /// Appends ` type T bind B vis V`.
-#[tactic(auto, using(crate::proofs::Rows::kept), unfolding(crate::specs::Symbols::symbol_names))]
+#[tactic(auto, using(elf_types::proofs::Writers::kept), unfolding(crate::specs::Symbols::symbol_names))]
 fn put_names(page: &mut Octets, x: &Sym) -> Result<(), ElfError>
     ensures ok { OnOk result (page.new ≡ page.old ++ symbol_names x.now) }
     ensures err { IfErr result (WantsMemory page.old page.new) }
@@ -101,7 +101,7 @@ struct SymbolLine<'a> {
 }
 
 /// Appends ` shndx SHNDX NAME` and the newline.
-#[tactic(auto, using(crate::proofs::Rows::kept), unfolding(crate::specs::Symbols::symbol_end))]
+#[tactic(auto, using(elf_types::proofs::Writers::kept), unfolding(crate::specs::Symbols::symbol_end))]
 fn put_end(
     page: &mut Octets,
     x: &Sym,
@@ -122,7 +122,7 @@ fn put_end(
 impl Line for SymbolLine<'_> {
     ghost text = { λ l. symbol_line l.index l.symbol l.place (option_copied l.name) };
 
-    #[tactic(auto, using(crate::proofs::Rows::kept), unfolding(crate::specs::Symbols::symbol_line))]
+    #[tactic(auto, using(elf_types::proofs::Writers::kept), unfolding(crate::specs::Symbols::symbol_line))]
     fn put(&self, page: &mut Octets) -> Result<(), ElfError> {
         put_start(page, self.index, &self.symbol)?;
         put_names(page, &self.symbol)?;
@@ -205,7 +205,7 @@ impl Rows for Sym {
 #[derive(Clone, Copy)]
 struct Symbols;
 
-impl Part for Symbols {
+impl SectionPart for Symbols {
     ghost has = { holds_symbols };
 
     ghost report = { symbols_of_section };

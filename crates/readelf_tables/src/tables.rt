@@ -90,7 +90,7 @@ struct TableTitle<'a> {
 impl Line for TableTitle<'_> {
     ghost text = { λ t. table_title t.title.now t.section.0 (option_copied t.name) t.count };
 
-    #[tactic(auto, using(crate::proofs::Rows::kept), unfolding(crate::specs::Tables::table_title))]
+    #[tactic(auto, using(elf_types::proofs::Writers::kept), unfolding(crate::specs::Tables::table_title))]
     fn put(&self, page: &mut Octets) -> Result<(), ElfError> {
         put_data_title(page, self.title, self.section, self.name)?;
         put_text(page, ": ")?;

@@ -10,7 +10,7 @@ use elf_outside::{Sink, Source};
 use elf_types::ScnId;
 use elf_types::constants::{SHT_GNU_VERDEF, SHT_GNU_VERNEED, SHT_GNU_VERSYM};
 use readelf_chains::{show_definitions, show_needs};
-use readelf_rows::{Part, each_plain, is_of_type};
+use readelf_rows::{SectionPart, each_plain, is_of_type};
 use readelf_tables::show_indexes;
 use tool_output::{FileName, Outputs, Stop};
 
@@ -18,7 +18,7 @@ use tool_output::{FileName, Outputs, Stop};
 #[derive(Clone, Copy)]
 struct Versions;
 
-impl Part for Versions {
+impl SectionPart for Versions {
     ghost has = { holds_versions };
 
     ghost report = { versions_of_section };

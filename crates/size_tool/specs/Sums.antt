@@ -1,15 +1,12 @@
 -- What size adds up: the sizes of the sections that a process has in memory (gABI chapter 4,
 -- "Sections": sh_size, sh_flags, SHT_NOBITS).
-use Rattle.std.specs.Prelude.{◌+◌, ◌*◌, ◌/◌, ◌%◌, ◌^◌, ◌≤◌, ◌==◌, ◌&&◌, ◌||◌, ℕ, List, Bool, not, sum_by, if◌then◌else◌}
+use Rattle.std.specs.Prelude.{◌+◌, ◌*◌, ◌^◌, ◌≤◌, ◌==◌, ◌&&◌, ◌||◌, ℕ, List, Bool, not, sum_by, if◌then◌else◌}
 use Rattle.elf_types.specs.declared.records.Shdr.{Shdr}
 use Rattle.elf_types.specs.declared.constants.TheConstants.{SHT_NOBITS, SHF_WRITE, SHF_EXECINSTR}
+use Rattle.elf_types.specs.Kinds.{has_flag}
 use Rattle.elf_object.specs.Object.{Section}
 use Rattle.command_objects.specs.Words.{is_allocated}
 use Rattle.size_tool.specs.declared.sums.Sums.{Sums}
-
--- whether one of the flags of a section is set
-abbrev pub has_flag : ℕ → Shdr → Bool
-has_flag flag h = h.flags / flag % 2 == 1
 
 -- in memory, but not in the file
 unfoldable pub is_bss : Shdr → Bool

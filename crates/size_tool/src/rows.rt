@@ -17,7 +17,7 @@ pub struct SizeTitle;
 impl Line for SizeTitle {
     ghost text = { λ _. size_title };
 
-    #[tactic(auto, using(object_output::proofs::Rules::kept), unfolding(crate::specs::Rows::size_title))]
+    #[tactic(auto, using(elf_types::proofs::Writers::kept), unfolding(crate::specs::Rows::size_title))]
     fn put(&self, page: &mut Octets) -> Result<(), ElfError> {
         put_text(
             page,
@@ -27,7 +27,7 @@ impl Line for SizeTitle {
 }
 
 /// Appends a number in its column, and a tab.
-#[tactic(auto, using(object_output::proofs::Rules::kept), unfolding(crate::specs::Rows::cell))]
+#[tactic(auto, using(elf_types::proofs::Writers::kept), unfolding(crate::specs::Rows::cell))]
 fn put_cell(page: &mut Octets, radix: Radix, n: u128) -> Result<(), ElfError>
     ensures ok { OnOk result (page.new ≡ page.old ++ cell radix n) }
     ensures err { IfErr result (WantsMemory page.old page.new) }
@@ -37,7 +37,7 @@ fn put_cell(page: &mut Octets, radix: Radix, n: u128) -> Result<(), ElfError>
 }
 
 /// Appends the three sums.
-#[tactic(auto, using(object_output::proofs::Rules::kept), unfolding(crate::specs::Rows::sum_cells))]
+#[tactic(auto, using(elf_types::proofs::Writers::kept), unfolding(crate::specs::Rows::sum_cells))]
 fn put_sums(page: &mut Octets, sums: &Sums) -> Result<(), ElfError>
     ensures ok { OnOk result (page.new ≡ page.old ++ sum_cells sums.now) }
     ensures err { IfErr result (WantsMemory page.old page.new) }
@@ -48,7 +48,7 @@ fn put_sums(page: &mut Octets, sums: &Sums) -> Result<(), ElfError>
 }
 
 /// Appends their sum, in decimal and in hexadecimal.
-#[tactic(auto, using(object_output::proofs::Rules::kept), unfolding(crate::specs::Rows::total_cells))]
+#[tactic(auto, using(elf_types::proofs::Writers::kept), unfolding(crate::specs::Rows::total_cells))]
 fn put_total(page: &mut Octets, total: u128) -> Result<(), ElfError>
     ensures ok { OnOk result (page.new ≡ page.old ++ total_cells total) }
     ensures err { IfErr result (WantsMemory page.old page.new) }
@@ -71,7 +71,7 @@ pub struct SizeRow<'a> {
 impl Line for SizeRow<'_> {
     ghost text = { λ r. size_row r.sums r.total r.name.now };
 
-    #[tactic(auto, using(object_output::proofs::Rules::kept), unfolding(crate::specs::Rows::size_row))]
+    #[tactic(auto, using(elf_types::proofs::Writers::kept), unfolding(crate::specs::Rows::size_row))]
     fn put(&self, page: &mut Octets) -> Result<(), ElfError> {
         put_sums(page, &self.sums)?;
         put_total(page, self.total)?;

@@ -4,19 +4,19 @@ use Rattle.calls_apply.proofs.Forms.{form_met}
 use Rattle.calls_apply.proofs.applying.apply.Goals as goal
 
 pub returns-in-Ehdr-clause-form : goal.returns-in-Ehdr-clause-form
-returns-in-Ehdr-clause-form g c = form_met g.S.Source _ c.args.call.now (result_of c.show_ehdr.result) c.args.elf.now _ c.in-Ehdr.is refl c.show_ehdr.ensures
+returns-in-Ehdr-clause-form g c = form_met g.S.Source _ c.args.call.now (result_of c.answer_ehdr.result) c.args.elf.now _ c.in-Ehdr.is refl c.answer_ehdr.ensures
 
 pub returns-in-Phdr-clause-form : goal.returns-in-Phdr-clause-form
-returns-in-Phdr-clause-form g c = form_met g.S.Source _ c.args.call.now (result_of c.show_phdr.result) c.args.elf.now _ c.in-Phdr.is refl c.show_phdr.ensures
+returns-in-Phdr-clause-form g c = form_met g.S.Source _ c.args.call.now (result_of c.answer_phdr.result) c.args.elf.now _ c.in-Phdr.is refl c.answer_phdr.ensures
 
 pub returns-in-Shdr-clause-form : goal.returns-in-Shdr-clause-form
-returns-in-Shdr-clause-form g c = form_met g.S.Source _ c.args.call.now (result_of c.show_shdr.result) c.args.elf.now _ c.in-Shdr.is refl c.show_shdr.ensures
+returns-in-Shdr-clause-form g c = form_met g.S.Source _ c.args.call.now (result_of c.answer_shdr.result) c.args.elf.now _ c.in-Shdr.is refl c.answer_shdr.ensures
 
 pub returns-in-Pieces-clause-form : goal.returns-in-Pieces-clause-form
-returns-in-Pieces-clause-form g c = form_met g.S.Source _ c.args.call.now (result_of c.show_pieces.result) c.args.elf.now _ c.in-Pieces.is refl c.show_pieces.ensures
+returns-in-Pieces-clause-form g c = form_met g.S.Source _ c.args.call.now (result_of c.answer_pieces.result) c.args.elf.now _ c.in-Pieces.is refl c.answer_pieces.ensures
 
 pub returns-in-Data-clause-form : goal.returns-in-Data-clause-form
-returns-in-Data-clause-form g c = form_met g.S.Source _ c.args.call.now (result_of c.show_data.result) c.args.elf.now _ c.in-Data.is refl c.show_data.ensures
+returns-in-Data-clause-form g c = form_met g.S.Source _ c.args.call.now (result_of c.answer_data.result) c.args.elf.now _ c.in-Data.is refl c.answer_data.ensures
 
 pub returns-in-SetEhdr-clause-form : goal.returns-in-SetEhdr-clause-form
 returns-in-SetEhdr-clause-form g c = form_met g.S.Source _ c.args.call.now (result_of c.set_ehdr.result) c.args.elf.now _ c.in-SetEhdr.is refl c.set_ehdr.ensures

@@ -4,4 +4,4 @@ use Rattle.calls_apply.specs.Applies.{Applies, result_of}
 use Rattle.calls_apply.proofs.reading.find_named.Goals as goal
 
 pub returns-clause-meets : goal.returns-clause-meets
-returns-clause-meets g c = subst (λ (name : List ℕ). Applies g.S.Source (call.Find c.args.s name) (result_of c.show_find.result) c.args.elf.now c.show_find.new.elf) c.as_slice.ensures c.show_find.ensures.meets
+returns-clause-meets g c = subst (λ (name : List ℕ). Applies g.S.Source (call.Find c.args.s name) (result_of c.answer_find.result) c.args.elf.now c.answer_find.new.elf) c.as_slice.ensures c.answer_find.ensures.meets

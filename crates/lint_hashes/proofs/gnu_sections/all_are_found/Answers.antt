@@ -1,4 +1,4 @@
-use Rattle.std.proofs.Common.{◌+◌, ◌<◌, ℕ, List, true, false, Some, None, Ok, Err, IsTrue, arith}
+use Rattle.std.proofs.Common.{ℕ, List, true, false, Some, None, Ok, Err, IsTrue, arith}
 use Rattle.elf_object.specs.Object.{Object}
 use Rattle.object_output.proofs.ElfSteps.{elf_left}
 use Rattle.object_output.proofs.LearnLemmas.{learns_by, learns_after, learns_stop}

@@ -13,5 +13,5 @@ returns-in-None g c =
     let s = c.args.s.0 in
     let name = c.args.name.now in
     let entry = g.R.Entry in
-    rw c.in-None.is (elf_says_none g.S.Source g.O.Sink g.E.Sink (λ o. entries_report name s (entry.report name o s) (entries_by None (entry.entries o s 0))) c.args.elf.now _ c.args.outputs.now (elf_left g.S.Source c.args.elf.now)
+    rw c.in-None.is (elf_says_none g.S.Source g.O.Sink g.E.Sink (λ o. entries_report name s (entry.report name o s) (entries_by None (g.R.VersionEntry.entries o s 0))) c.args.elf.now _ c.args.outputs.now (elf_left g.S.Source c.args.elf.now)
     (λ told. entries_ended name s (entry.report name c.args.elf.now.o s) ended refl))

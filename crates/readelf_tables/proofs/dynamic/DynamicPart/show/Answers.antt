@@ -1,5 +1,0 @@
-use Rattle.object_output.proofs.ListCounts.{dyns_counted}
-use Rattle.readelf_tables.proofs.dynamic.DynamicPart.show.Goals as goal
-
-pub show_table-requires-clause-counted : goal.show_table-requires-clause-counted
-show_table-requires-clause-counted g c = dyns_counted

@@ -1,5 +1,0 @@
-use Rattle.object_output.proofs.ListCounts.{syms_counted}
-use Rattle.readelf_tables.proofs.symbols.SymbolsPart.show.Goals as goal
-
-pub show_table-requires-clause-counted : goal.show_table-requires-clause-counted
-show_table-requires-clause-counted g c = syms_counted
