@@ -10,7 +10,7 @@ use Rattle.elf_outside.specs.Asks.{ReadRose}
 use Rattle.elf_outside.proofs.AskLemmas.{read_rose_refused}
 use Rattle.elf_object.specs.Object.{Object}
 use Rattle.elf_object.specs.Due.{is_loaded, homes_due}
-use Rattle.elf_object.specs.Words.{Refusals, AnswersRead, Edits, EditsWith, result_map, handing_back}
+use Rattle.elf_object.specs.Words.{Refusals, AnswersRead, Edits, EditsWith, Updates, result_map, handing_back}
 use Rattle.elf_object.specs.Calls as calls
 use Rattle.elf_object.specs.Calls.{due}
 use Rattle.elf_object.specs.Runs.{mapped, looked, after_look}
@@ -139,6 +139,24 @@ edits_meet {S} g f c exact holding (Err Memory) old new left came refuses after 
     (wants_memory g (mapped f c) (result_map f (c.answer old.o)) exact None holding old)
 edits_meet {S} {A} {B} g f c exact holding (Err e) old new left came refuses after source told loaded held same =
     stepped_meets g f c exact holding (Err e) old new old.ready (sym came.0) (refuses e came.0) came.1
+
+-- an update that reads nothing, and keeps what an update needs
+pub updates_meet : {S A B : Type 0} (g : Ghosts S) (f : A → B) (c : calls.Call A) (exact : Bool)
+    (holding : List ℕ) (r : Result A ElfError) (old new : State S)
+    → Updates r old new (c.answer old.o) (record old { o = c.after old.o })
+    → ((e : ElfError) → c.answer old.o ≡ Err e → IsRefusal e)
+    → Meets g (mapped f c) (all_early (result_map f (c.answer old.o))) exact None holding
+    (result_map f r) old new
+updates_meet {S} {A} g f c exact holding (Ok x) old new came refuses =
+    edit_meets g f (mapped f c) exact holding (Ok x) old new (c.after old.o) old.ready
+    (ap (λ (s : Result A ElfError). result_map f s) came.0) refl tt came.1
+updates_meet {S} g f c exact holding (Err Memory) old new came refuses =
+    subst (λ (s : State S). Meets g (mapped f c) (all_early (result_map f (c.answer old.o))) exact
+    None holding (Err Memory) old s) (sym came.1)
+    (wants_memory g (mapped f c) (result_map f (c.answer old.o)) exact None holding old)
+updates_meet g f c exact holding (Err e) old new came refuses =
+    stepped_meets g f c exact holding (Err e) old new old.ready (sym came.0) (refuses e came.0)
+    came.1
 
 -- what was handed back is dropped
 dropped_back : {A B E : Type 0} (items : B) (stated : Result A E) → refusal_alone (handing_back items stated) ≡ stated

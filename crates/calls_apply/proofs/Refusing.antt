@@ -1,6 +1,6 @@
 -- Stated refusals, of which none is want of memory or a failed read.
 use Rattle.std.proofs.Common.{◌≡◌, ℕ, Bool, true, false, not, List, [], ◌∷◌, length, Option, Some, None, Result, Ok, Err, refl, sym, subst}
-use Rattle.std.specs.Prelude.{◌==◌, ◌&&◌, nat_le, slice_get, IfErr}
+use Rattle.std.specs.Prelude.{◌==◌, ◌&&◌, nat_le, slice_get, IfErr, IfSome}
 use Rattle.elf_types.specs.declared.records.Part.{Part}
 use Rattle.elf_types.specs.declared.records.Part.TheVariants as part
 use Rattle.elf_types.specs.declared.records.Ehdr.{Ehdr}
@@ -14,6 +14,10 @@ use Rattle.elf_xlate.specs.declared.content.Items.{Items}
 use Rattle.elf_object.specs.Object.{Object, section_at}
 use Rattle.elf_object.specs.Answers.{no_section, no_data, no_entry, reserved, kind_at, piece_refusal, part_refusal, has_dirty, piece_count}
 use Rattle.elf_object.specs.Calls.{phdr_answer, shdr_answer, pieces_answer, piece_kind_answer, update_ehdr_refusal, update_phdr_refusal, update_shdr_refusal, newphdr_refusal, newscn_refusal, newdata_refusal, replace_refusal, flag_refusal, unfit_items, is_piece_align}
+use Rattle.elf_object.specs.Calls as calls
+use Rattle.elf_object.specs.Image.{image_length}
+use Rattle.elf_object.specs.Refusal.{refusal}
+use Rattle.elf_object.proofs.RefusalLaws.{update_refuses}
 use Rattle.elf_object.specs.Steps.{stored_ehdr}
 use Rattle.elf_xlate.specs.Headers.{ehdr_fits, phdr_fits, shdr_fits}
 use Rattle.elf_xlate.specs.Translation.{first_unfit}
@@ -151,3 +155,15 @@ unfolding flag_refusal
 flag_refuses o part set bits =
     let kept = not set && has_dirty bits in
     first_refuses (part_refusal o part ∷ refused_if kept FlagKept ∷ []) (part_refuses o part, (if_refuses kept FlagKept tt, tt))
+
+-- ---- An update
+
+update_is_refused : (o : Object) → Refuses (refusal o)
+update_is_refused o = record {
+  stated = λ e is.
+      subst (λ (r : Option ElfError). IfSome r IsRefusal) is (update_refuses o);
+}
+
+pub null_refuses : (o : Object) (e : ElfError) → calls.update_null.answer o ≡ Err e
+    → IsRefusal e
+null_refuses o e is = answer_refuses (refusal o) (image_length o) e (update_is_refused o) is

@@ -107,15 +107,6 @@ item_set (set.RelaAddend v) s p i = rela_set (set.RelaAddend v) s p i
 item_set (set.DynTag v) s p i = dyn_set (set.DynTag v) s p i
 item_set (set.DynVal v) s p i = dyn_set (set.DynVal v) s p i
 
--- a call that no other stands for
-abbrev pub no_call : calls.Call Answer
-no_call = calls.getter (λ o. Ok answer.Done)
-
--- whether a call is built: `null` is not
-abbrev pub is_built : Call → Bool
-is_built call.Null = false
-is_built _ = true
-
 unfoldable pub stated : Call → calls.Call Answer
 stated call.Ehdr = mapped answer.Ehdr calls.ehdr
 stated (call.Phdr i) = mapped answer.Phdr (calls.phdr i)
@@ -141,4 +132,4 @@ stated (call.Fill byte) = mapped done (calls.set_fill byte)
 stated (call.Replace d bytes) =
     copying (mapped done (calls.replace d.section d.piece (items.Bytes bytes)))
 stated (call.Flag part set bits) = mapped answer.Flags (calls.flag part set bits)
-stated call.Null = no_call
+stated call.Null = mapped answer.Size calls.update_null

@@ -3,12 +3,11 @@
 ghost use Rattle.std.specs.Prelude.{◌≡◌, true, IfOk};
 ghost use Rattle.calls_apply.specs.Applies.{Applies, result_of};
 ghost use Rattle.calls_apply.specs.Forms.{IsAnswerOf};
-ghost use Rattle.calls_apply.specs.Stated.{is_built};
 
 use crate::answers::Answer;
 use crate::flags::{set_fill, set_flags};
 use crate::getters::{answer_ehdr, answer_phdr, answer_pieces, answer_shdr};
-use crate::headers::{new_phdr, set_ehdr, set_phdr, set_shdr};
+use crate::headers::{lay_out, new_phdr, set_ehdr, set_phdr, set_shdr};
 use crate::items::adding::add_to_all;
 use crate::items::set_item;
 use crate::pieces::{new_data, new_data_aligned, new_section, replace};
@@ -24,7 +23,6 @@ use elf_outside::Source;
 ///
 /// It reads no home but those that the call names, each at its first use.
 pub fn apply<S: Source>(elf: &mut Elf<S>, call: &Call) -> Answer
-    requires { is_built call.now ≡ true }
     ensures meets { Applies S.Source call.now (result_of result) elf.old elf.new }
     ensures form { IfOk (result_of result) (IsAnswerOf call.now elf.old.o) }
 {
@@ -51,6 +49,6 @@ pub fn apply<S: Source>(elf: &mut Elf<S>, call: &Call) -> Answer
         Call::Fill { byte } => set_fill(elf, *byte),
         Call::Replace { d, bytes } => replace(elf, *d, bytes),
         Call::Flag { part, set, bits } => set_flags(elf, *part, *set, *bits),
-        Call::Null => unreachable!(),
+        Call::Null => lay_out(elf),
     }
 }

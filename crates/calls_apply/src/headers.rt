@@ -1,4 +1,4 @@
-//! The calls that change a header.
+//! The calls that change headers.
 
 ghost use Rattle.calls_apply.specs.Applies.{Applies, result_of};
 ghost use Rattle.calls_script.specs.declared.calls.Call.TheVariants as call;
@@ -9,6 +9,7 @@ use calls_script::{EhdrSet, PhdrSet, ShdrSet};
 use elf_descriptor::Elf;
 use elf_outside::Source;
 use elf_types::ScnId;
+use update_plan::update_null;
 
 /// `set ehdr`: a field of the ELF header.
 pub(crate) fn set_ehdr<S: Source>(elf: &mut Elf<S>, set: EhdrSet) -> Answer
@@ -43,4 +44,14 @@ pub(crate) fn new_phdr<S: Source>(elf: &mut Elf<S>, n: u32) -> Answer
     ensures { Applies S.Source (call.NewPhdr n) (result_of result) elf.old elf.new }
 {
     done(elf.newphdr(n))
+}
+
+/// `null`: the places, sizes and derived values of all headers.
+pub(crate) fn lay_out<S: Source>(elf: &mut Elf<S>) -> Answer
+    ensures { Applies S.Source call.Null (result_of result) elf.old elf.new }
+{
+    match update_null(elf) {
+        Ok(size) => Answer::Size(size),
+        Err(e) => Answer::Refused(e),
+    }
 }

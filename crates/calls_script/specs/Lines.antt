@@ -7,8 +7,8 @@ use Rattle.elf_types.specs.declared.records.DataId.{DataId}
 use Rattle.elf_types.specs.declared.records.Part.{Part}
 use Rattle.elf_types.specs.declared.records.Part.TheVariants.{Object, Header, Segments, Section, Piece}
 use Rattle.calls_script.specs.declared.calls.Call.{Call}
-use Rattle.calls_script.specs.declared.calls.Call.TheVariants.{Ehdr, Phdr, Shdr, Pieces, Data, Raw, Item, Str, Note, Find, SetEhdr, SetPhdr, SetShdr, SetItem, AddAll, NewScn, NewPhdr, NewData, NewDataAligned, Fill, Replace, Flag}
-use Rattle.calls_script.specs.Parts.{Phrase, ◌&◌, ◌⇒◌, not_built, just, optional, one_of, u8, u32, u64, hex, name}
+use Rattle.calls_script.specs.declared.calls.Call.TheVariants.{Ehdr, Phdr, Shdr, Pieces, Data, Raw, Item, Str, Note, Find, SetEhdr, SetPhdr, SetShdr, SetItem, AddAll, NewScn, NewPhdr, NewData, NewDataAligned, Fill, Replace, Flag, Null}
+use Rattle.calls_script.specs.Parts.{Phrase, ◌&◌, ◌⇒◌, just, optional, one_of, u8, u32, u64, hex, name}
 use Rattle.calls_script.specs.Fields.{ehdr_fields, phdr_fields, shdr_fields, item_fields}
 
 -- S
@@ -143,4 +143,4 @@ calls =
     (codes "fill", fill_line) ∷
     (codes "replace", replace_line) ∷
     (codes "flag", flag_line) ∷
-    (codes "null", not_built) ∷ []
+    (codes "null", just Null) ∷ []

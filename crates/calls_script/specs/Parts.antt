@@ -6,7 +6,7 @@ use Rattle.std.specs.Str.{byte}
 use Rattle.elf_types.specs.Answers.{or_refused, ◌>>=◌}
 use Rattle.elf_types.specs.Tables.{value_in}
 use Rattle.calls_script.specs.declared.faults.Why.{Why}
-use Rattle.calls_script.specs.declared.faults.Why.TheVariants.{NotBuilt, BadWords}
+use Rattle.calls_script.specs.declared.faults.Why.TheVariants.{BadWords}
 use Rattle.calls_script.specs.Numbers.{number_of, signed_of, below, within_64_bits, hex_of}
 
 -- what stands between the bytes of a kind, where any two are next to each other the empty list
@@ -65,10 +65,6 @@ unfoldable pub name : Phrase (List ℕ)
 name words =
     let rest = join_with_byte (byte " ") words in
     if nat_le 1 (length rest) then Ok (Some rest, []) else Err BadWords
-
--- a form that is not built: it is refused whatever its words are
-abbrev pub not_built : {X : Type 0} → Phrase X
-not_built words = Err NotBuilt
 
 -- ---- Phrases of phrases
 

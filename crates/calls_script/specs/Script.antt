@@ -21,8 +21,8 @@ abbrev pub call_at : Phrase Call
 call_at [] = Err BadCall
 call_at (w ∷ ws) = or_refused (value_in calls w) BadCall >>= λ part. part ws
 
--- the call of a line: its first word is one of the calls, and the call is built; then the form of
--- all words is that of the call; and then each number is in its range
+-- the call of a line: its first word is one of the calls; then the form of all words is that of the
+-- call; and then each number is in its range
 unfoldable pub call_of : List (List ℕ) → Result Call Why
 call_of words = do
   read ← call_at words

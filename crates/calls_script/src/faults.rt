@@ -13,8 +13,6 @@ pub enum Why {
     TooLong,
     /// The first word of the line is no call.
     BadCall,
-    /// The first word is that of a line that is not built.
-    NotBuilt,
     /// The number or the form of the words is another, or there is no such field.
     BadWords,
     /// A number is outside its range, or too great for its field.
@@ -32,7 +30,6 @@ impl Why {
         match self {
             Why::TooLong => "script too long",
             Why::BadCall => "no such call",
-            Why::NotBuilt => "form not built",
             Why::BadWords => "wrong words",
             Why::BadNumber => "number out of range",
         }

@@ -13,8 +13,7 @@ use crate::words::Words;
 use std::alloc::Global;
 
 /// The call that the words of a line say, and whether each number is in its range. It refuses
-/// `BadCall` where the first word is no call, `NotBuilt` where it is that of a line that is not
-/// built, and then `BadWords`.
+/// `BadCall` where the first word is no call, and then `BadWords`.
 pub(crate) fn read_call(alloc: Global, words: &mut Words) -> Result<(Call, bool), CallFault>
     ensures { Says call_at words.old result words.new }
 {
@@ -40,7 +39,7 @@ pub(crate) fn read_call(alloc: Global, words: &mut Words) -> Result<(Call, bool)
         "fill" => read_fill(words),
         "replace" => read_replace(alloc, words),
         "flag" => read_flag(words),
-        "null" => Err(CallFault::Why(Why::NotBuilt)),
+        "null" => Ok((Call::Null, true)),
         _ => Err(CallFault::Why(Why::BadCall)),
     }
 }

@@ -20,9 +20,9 @@ pub const MAX_SCRIPT: usize = 1_048_576;
 /// The calls of a script, in the order of its lines.
 ///
 /// It refuses a script of more than 1,048,576 bytes, as line 0, and else the first line that is no
-/// call: `BadCall` where its first word is none, then `NotBuilt` where it is that of a line that is
-/// not built, then `BadWords` where the number or the form of its words is another, then
-/// `BadNumber` where a number is out of its range. `Memory` comes alone where memory runs out.
+/// call: `BadCall` where its first word is none, then `BadWords` where the number or the form of its
+/// words is another, then `BadNumber` where a number is out of its range. `Memory` comes alone where
+/// memory runs out.
 /// Empty lines and those that begin with `#` are passed over, but counted.
 ///
 /// It looks at the script once, from its first byte to its last. No line and no word takes memory
@@ -84,8 +84,8 @@ fn read_line(alloc: Global, number: u32, line: &[u8]) -> Result<Option<Call>, Sc
     }
 }
 
-/// The call of a line that is not passed over. It refuses `BadCall`, then `NotBuilt`, then
-/// `BadWords`, then `BadNumber`.
+/// The call of a line that is not passed over. It refuses `BadCall`, then `BadWords`, then
+/// `BadNumber`.
 #[tactic(auto, unfolding(crate::specs::Script::call_of))]
 fn read_words(alloc: Global, line: &[u8]) -> Result<Call, CallFault>
     ensures { Reads result (call_of (words_of line.now)) }

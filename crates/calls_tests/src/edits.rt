@@ -5,7 +5,7 @@ use elf_types::{Class, Order};
 use std::test::*;
 
 /// Edits of an object with two symbols, class 64 and the least byte first.
-const EDITS: [Row; 9] = [
+const EDITS: [Row; 10] = [
     ("set shdr 2 type 1\ndata 2 0", "ok\nkind sym count 2\n"),
     (
         "addall 2 0 16\nitem 2 0 1",
@@ -45,6 +45,10 @@ const EDITS: [Row; 9] = [
     (
         "addall 0 0 5\naddall 1 1 5\nflag piece 1 0 clear 0",
         "changed 0\nrefused no piece 1 of 1\nflags 0x0\n",
+    ),
+    (
+        "null\naddall 2 0 16\nnull\nflag object set 4\nset shdr 1 offset 0\nnull",
+        "size 312\nchanged 2\nsize 312\nflags 0x4\nok\nrefused header overlaps section 1\n",
     ),
 ];
 

@@ -14,15 +14,10 @@ use tool_output::Line;
 /// A script, and the lines that it answers.
 pub type Row = (&'static str, &'static str);
 
-/// Appends the line that a call answers, or nothing for the one that is not built.
+/// Appends the line that a call answers.
 fn put_answer<S: Source>(elf: &mut Elf<S>, call: &Call, page: &mut Octets) -> Result<(), ElfError> {
-    match call {
-        Call::Null => Ok(()),
-        _ => {
-            let answer = apply(elf, call);
-            AnswerLine { answer: &answer }.put(page)
-        }
-    }
+    let answer = apply(elf, call);
+    AnswerLine { answer: &answer }.put(page)
 }
 
 /// Appends the lines that calls answer.

@@ -1,7 +1,11 @@
 -- No edit changes the home of a section, and a new section has an empty one.
-use Rattle.std.proofs.Common.{◌≡◌, ℕ, zero, suc, ◌+◌, Bool, true, false, List, [], ◌∷◌, ◌++◌, length, get_or, set, Result, Ok, Err, refl, ◌∙◌, arith}
+use Rattle.std.proofs.Common.{◌≡◌, ℕ, zero, suc, ◌+◌, Bool, true, false, List, [], ◌∷◌, ◌++◌, length, get_or, set, Result, Ok, Err, refl, sym, ap, ◌∙◌, subst, arith, ⊎_elim}
 use Rattle.std.specs.Prelude.{if◌then◌else◌, ◌==◌, ◌&&◌}
-use Rattle.std.proofs.lemmas.Bool.{eqb-true}
+use Rattle.std.proofs.lemmas.Bool.{eqb-true, cases_lt}
+use Rattle.elf_layout.specs.declared.parts.Places.{Places}
+use Rattle.elf_object.specs.Layout.{places_of, placed_section, placed_by, placed}
+use Rattle.object_laws.proofs.ImageLaws.{section_at-placed, placed-dirty, placed-clean}
+use Rattle.object_laws.proofs.StandLaws.{section_count-placed, section_at-past}
 use Rattle.elf_types.specs.declared.records.Part.{Part}
 use Rattle.elf_types.specs.declared.records.Part.TheVariants as part
 use Rattle.elf_types.specs.declared.records.Ehdr.{Ehdr}
@@ -11,7 +15,7 @@ use Rattle.elf_types.specs.declared.records.Kind.{Kind}
 use Rattle.elf_types.specs.declared.records.Kind.TheVariants as kinds
 use Rattle.elf_types.specs.declared.errors.ElfError.{ElfError}
 use Rattle.elf_xlate.specs.declared.content.Items.{Items}
-use Rattle.elf_object.specs.Object.{Object, Section, Piece, section_at, piece_at, absent_section, new_section}
+use Rattle.elf_object.specs.Object.{Object, Section, Piece, section_at, piece_at, absent_section, new_section, is_dirty}
 use Rattle.elf_object.specs.Steps.{with_section, with_piece_at, with_ehdr, with_phdrs, with_phdr, with_new_phdrs, with_shdr, with_new_section, with_new_piece, with_own, own_piece, with_mark, with_layout, with_flags, with_fill, is_whole}
 use Rattle.elf_object.specs.Answers.{has_dirty, has_layout}
 use Rattle.elf_object.specs.Runs.{or_same, after_look}
@@ -147,3 +151,23 @@ keeps_or_same o kinds.Sym after keeps = keeps
 keeps_or_same o kinds.Rel after keeps = keeps
 keeps_or_same o kinds.Rela after keeps = keeps
 keeps_or_same o kinds.Dyn after keeps = keeps
+
+-- ---- An update that stores the places
+
+placed_home : (places : Places) (o : Object) → KeepsHomes o (placed_by places o)
+unfolding placed_section
+placed_home places o s = ⊎_elim
+    (λ h. ap (λ (c : Section). c.home) (section_at-placed places o s h))
+    (λ h. let count = section_count-placed places o in
+    ap (λ (c : Section). c.home)
+    (section_at-past (placed_by places o) s (omega arith) ∙ sym (section_at-past o s h)))
+    (cases_lt s (length o.sections))
+
+pub keeps_placed : (o : Object) → KeepsHomes o (placed o)
+keeps_placed o = by (is_dirty o) refl
+  where
+    by : (b : Bool) → is_dirty o ≡ b → KeepsHomes o (placed o)
+    by true dirty = subst (λ (q : Object). KeepsHomes o q) (sym (placed-dirty o dirty))
+        (placed_home (places_of o) o)
+    by false clean = subst (λ (q : Object). KeepsHomes o q) (sym (placed-clean o clean))
+        (homes_same o)

@@ -3,6 +3,5 @@ pub mod HomeSteps
 mod StatedSteps
 mod ReadLemmas
 mod RunLemmas
-mod Built
 mod ScriptLemmas
 mod FileLemmas

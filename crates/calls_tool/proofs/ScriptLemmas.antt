@@ -22,19 +22,17 @@ use Rattle.calls_script.specs.declared.faults.Why.TheVariants.{TooLong}
 use Rattle.calls_script.specs.declared.script.TheConstants.{MAX_SCRIPT}
 use Rattle.calls_script.specs.Script.{calls_from, lines_of, calls_of}
 use Rattle.calls_tool.specs.declared.scripts.BadLine.{BadLine}
-use Rattle.calls_tool.specs.Runs.{AreBuilt}
 use Rattle.calls_tool.specs.Scripts.{bad_line_text, with_line, script_calls, IsScript, ReadsScript, calls_or_text, script_report, calls_if_any, TellsScript}
-use Rattle.calls_tool.proofs.Built.{script_is_built}
 
 -- ---- What bytes say
 
 pub says_calls : (bytes : List ℕ) (cs : List Call) → calls_of bytes ≡ Ok cs → IsScript (Ok (Ok cs)) bytes
 unfolding script_calls
-says_calls bytes cs is = record { value = sym (ap with_line is); built = script_is_built bytes cs is; stop = tt }
+says_calls bytes cs is = record { value = sym (ap with_line is); stop = tt }
 
 pub says_bad : (bytes : List ℕ) (line : ℕ) (why : Why) → calls_of bytes ≡ Err (line, why) → IsScript (Ok (Err (record { line = line; why = why }))) bytes
 unfolding script_calls
-says_bad bytes line why is = record { value = sym (ap with_line is); built = tt; stop = tt }
+says_bad bytes line why is = record { value = sym (ap with_line is); stop = tt }
 
 -- ---- What a source holds
 
@@ -52,7 +50,6 @@ module _ {S : Type 0} (g : Ghosts S) (a : S) (sized : IfSome (g.holds a) (λ byt
   unfolding script_calls
   too_long long = record {
     value = on_bytes (g.holds a) sized;
-    built = tt;
     source = record { same_len = refl; same_bytes = refl; same_rest = refl };
     later = omega arith;
     taken = omega arith;
@@ -77,7 +74,6 @@ module _ {S : Type 0} (g : Ghosts S) (a : S) (sized : IfSome (g.holds a) (λ byt
         → Asks {T = T} g (Ok x) a b len → IsScript r bytes → ReadsScript g r a b
     script_read T x bytes (Ok (Ok cs)) read asks script = record {
       value = value_of (g.holds a) bytes (Ok (Ok cs)) sized read script;
-      built = script.built;
       source = asks.leaves;
       later = asks.later;
       taken = omega (arith, asks.taken.no_more, is_len);
@@ -86,7 +82,6 @@ module _ {S : Type 0} (g : Ghosts S) (a : S) (sized : IfSome (g.holds a) (λ byt
     }
     script_read T x bytes (Ok (Err bad)) read asks script = record {
       value = value_of (g.holds a) bytes (Ok (Err bad)) sized read script;
-      built = script.built;
       source = asks.leaves;
       later = asks.later;
       taken = omega (arith, asks.taken.no_more, is_len);
@@ -95,7 +90,6 @@ module _ {S : Type 0} (g : Ghosts S) (a : S) (sized : IfSome (g.holds a) (λ byt
     }
     script_read T x bytes (Err stops.Memory) read asks script = record {
       value = value_of (g.holds a) bytes (Err stops.Memory) sized read script;
-      built = tt;
       source = asks.leaves;
       later = asks.later;
       taken = omega (arith, asks.taken.no_more, is_len);
@@ -111,7 +105,6 @@ module _ {S : Type 0} (g : Ghosts S) (a : S) (sized : IfSome (g.holds a) (λ byt
     script_unread T e stop (inl is) by_error asks =
         rw (by_error.0 is) (record {
           value = nothing (g.holds a);
-          built = tt;
           source = asks.leaves;
           later = asks.later;
           taken = omega (arith, asks.taken.no_more, is_len);
@@ -125,7 +118,6 @@ module _ {S : Type 0} (g : Ghosts S) (a : S) (sized : IfSome (g.holds a) (λ byt
     script_unread T e stop (inr is) by_error asks =
         rw (by_error.1 is) (record {
           value = nothing (g.holds a);
-          built = tt;
           source = asks.leaves;
           later = asks.later;
           taken = omega (arith, asks.taken.no_more, is_len);
@@ -145,7 +137,6 @@ module _ {S O E : Type 0} (s : Ghosts S) (o : SinkGhosts O) (e : SinkGhosts E) (
   unfolding script_report no_report
   tells_calls cs read = record {
     says = on_bytes (s.holds a) read.value;
-    built = read.built;
     source = read.source;
     later = read.later;
     taken = read.taken;
@@ -164,7 +155,6 @@ module _ {S O E : Type 0} (s : Ghosts S) (o : SinkGhosts O) (e : SinkGhosts E) (
   unfolding script_report
   tells_bad bad r read said none left = record {
     says = on_bytes (s.holds a) read.value;
-    built = no_calls r none;
     source = read.source;
     later = read.later;
     taken = read.taken;
@@ -176,10 +166,6 @@ module _ {S O E : Type 0} (s : Ghosts S) (o : SinkGhosts O) (e : SinkGhosts E) (
       on_bytes None is = tt
       on_bytes (Some bytes) is = rw (← is) said
 
-      no_calls : (q : Result (Option (List Call)) Stop) → IfOk q (λ calls. calls ≡ None) → IfOk q (λ calls. IfSome calls AreBuilt)
-      no_calls (Ok calls) is = rw is tt
-      no_calls (Err stop) is = tt
-
       reads_no_more : (q : Result (Option (List Call)) Stop) → LeavesOutputs o e ⊥ q t u → LeavesOutputs o e (Rose (s.faults a) (s.faults b)) q t u
       reads_no_more (Ok calls) h = record { keeps = h.keeps; read = tt; write = tt }
       reads_no_more (Err stops.Read) h = absurd h.read
@@ -190,7 +176,6 @@ module _ {S O E : Type 0} (s : Ghosts S) (o : SinkGhosts O) (e : SinkGhosts E) (
   pub tells_nothing : (stop : Stop) → ReadsScript s (Err stop) a b → TellsScript s o e name (Err stop) a b t t
   tells_nothing stop read = record {
     says = on_bytes (s.holds a);
-    built = tt;
     source = read.source;
     later = read.later;
     taken = read.taken;

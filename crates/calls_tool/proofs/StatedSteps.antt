@@ -20,7 +20,7 @@ use Rattle.calls_apply.specs.Fields.{ehdr_with, phdr_with, shdr_with, sym_with, 
 use Rattle.calls_apply.specs.Stated.{stated, item_set}
 use Rattle.object_output.proofs.OnceSums.{Once, once_none, once_one, once_others}
 use Rattle.object_output.proofs.OnceReads.{once_unless, once_piece, once_clean, once_read}
-use Rattle.calls_tool.proofs.HomeSteps.{KeepsHomes, homes_same, keeps_ehdr, keeps_phdr, keeps_shdr, keeps_own, keeps_or_same, keeps_look, keeps_new_section, keeps_new_phdrs, keeps_new_piece, keeps_fill, keeps_flags}
+use Rattle.calls_tool.proofs.HomeSteps.{KeepsHomes, homes_same, keeps_placed, keeps_ehdr, keeps_phdr, keeps_shdr, keeps_own, keeps_or_same, keeps_look, keeps_new_section, keeps_new_phdrs, keeps_new_piece, keeps_fill, keeps_flags}
 
 -- ---- What is left
 
@@ -83,7 +83,7 @@ keeps_after (call.NewDataAligned s bytes align) o = keeps_new_piece o s.0 (items
 keeps_after (call.Fill byte) o = keeps_fill o byte
 keeps_after (call.Replace d bytes) o = keeps_own o d.section d.piece (items.Bytes bytes)
 keeps_after (call.Flag part mark bits) o = keeps_flags o part mark bits
-keeps_after call.Null o = homes_same o
+keeps_after call.Null o = keeps_placed o
 
 pub stated_keeps : (q : Call) (o : Object) → KeepsHomes o (step (stated q) o)
 stated_keeps q o = keeps_step (stated q) o (keeps_after q o)

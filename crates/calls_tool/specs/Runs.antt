@@ -17,13 +17,9 @@ use Rattle.object_output.specs.Steps.{SourceRose}
 use Rattle.calls_script.specs.declared.calls.Call.{Call}
 use Rattle.calls_apply.specs.declared.answers.Answer.{Answer}
 use Rattle.calls_apply.specs.declared.answers.Answer.TheVariants.{Refused, Size}
-use Rattle.calls_apply.specs.Stated.{stated, is_built}
+use Rattle.calls_apply.specs.Stated.{stated}
 use Rattle.calls_tool.specs.Lines.{answer_line}
 use Rattle.calls_tool.specs.Reads.{read_by, LeavesState, ReadsHomes}
-
--- no call is of a form that is not built
-abbrev pub AreBuilt : List Call → Type 0
-AreBuilt cs = All (λ c. is_built c ≡ true) cs
 
 -- the calls of the plain object that those of a script stand for
 abbrev pub stated_calls : List Call → List (calls.Call Answer)

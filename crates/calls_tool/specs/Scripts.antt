@@ -15,7 +15,6 @@ use Rattle.calls_script.specs.declared.faults.Why.{Why}
 use Rattle.calls_script.specs.Texts.{why_text}
 use Rattle.calls_script.specs.Script.{calls_of}
 use Rattle.calls_tool.specs.declared.scripts.BadLine.{BadLine}
-use Rattle.calls_tool.specs.Runs.{AreBuilt}
 
 -- `line N: TEXT`
 unfoldable pub bad_line_text : BadLine → List ℕ
@@ -30,21 +29,17 @@ with_line (Err fault) = Err (record { line = fault.0; why = fault.1 })
 unfoldable pub script_calls : List ℕ → Result (List Call) BadLine
 script_calls bytes = with_line (calls_of bytes)
 
--- the calls that bytes say, none of which is not built, or the first bad line; it stops by Memory
--- alone
+-- the calls that bytes say, or the first bad line; it stops by Memory alone
 pub record IsScript (result : Result (Result (List Call) BadLine) Stop) (bytes : List ℕ)
     : Type 0 where
   pub value : IfOk result (λ read. read ≡ script_calls bytes)
-  pub built : IfOk result (λ read. IfOk read AreBuilt)
   pub stop : IfErr result (λ stop. stop ≡ Memory)
 
--- It answers what the script says, where the source tells its bytes, and no call that is not built
--- whatever it tells. It asks for no more than the script's bytes, stops by Read only where a read
--- failed, and never by Write.
+-- It answers what the script says, where the source tells its bytes. It asks for no more than the
+-- script's bytes, stops by Read only where a read failed, and never by Write.
 pub record ReadsScript {S : Type 0} (g : Ghosts S)
     (result : Result (Result (List Call) BadLine) Stop) (old new : S) : Type 0 where
   pub value : IfSome (g.holds old) (λ bytes. IfOk result (λ read. read ≡ script_calls bytes))
-  pub built : IfOk result (λ read. IfOk read AreBuilt)
   pub source : Leaves g old new
   pub later : g.faults old ≤ g.faults new
   pub taken : g.taken new ≤ g.taken old + g.size old
@@ -77,7 +72,6 @@ pub record TellsScript {S O E : Type 0} (s : Ghosts S) (o : SinkGhosts O) (e : S
       Performs o e result old new
       (script_report name (calls_or_text (script_calls bytes))).marks
       (calls_if_any (calls_or_text (script_calls bytes))))
-  pub built : IfOk result (λ calls. IfSome calls AreBuilt)
   pub source : Leaves s source_old source_new
   pub later : s.faults source_old ≤ s.faults source_new
   pub taken : s.taken source_new ≤ s.taken source_old + s.size source_old

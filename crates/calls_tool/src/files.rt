@@ -3,7 +3,6 @@
 ghost use Rattle.std.specs.Prelude.{◌≤◌, ◌+◌, IfSome, codes};
 ghost use Rattle.tool_output.specs.Sources.{ReportsOn};
 ghost use Rattle.object_output.specs.Refusals.{Refuses};
-ghost use Rattle.calls_tool.specs.Runs.{AreBuilt};
 ghost use Rattle.calls_tool.specs.Files.{calls_file_report, calls_asks};
 
 use crate::runs::show_calls;
@@ -40,7 +39,6 @@ pub fn show_calls_on<S: Source, O: Sink, E: Sink>(
     name: &FileName<'_>,
     outputs: &mut Outputs<'_, O, E>,
 ) -> (S, Result<bool, Stop>)
-    requires { AreBuilt calls.now }
     ensures reports { ReportsOn S.Source O.Sink E.Sink (calls_file_report calls.now name.now)
         result.1 src result.0 outputs.old outputs.new }
     ensures asks { IfSome (S.holds src) (λ image.

@@ -1,9 +1,8 @@
 //! The calls of a script, run on a descriptor one after another.
 
-ghost use Rattle.std.specs.Prelude.{◌≡◌, true};
 ghost use Rattle.calls_apply.specs.Applies.{result_of};
-ghost use Rattle.calls_apply.specs.Stated.{stated, is_built};
-ghost use Rattle.calls_tool.specs.Runs.{AreBuilt, ShowsAnswer, RunsCall, RunsCalls};
+ghost use Rattle.calls_apply.specs.Stated.{stated};
+ghost use Rattle.calls_tool.specs.Runs.{ShowsAnswer, RunsCall, RunsCalls};
 
 use crate::lines::AnswerLine;
 use calls_apply::{Answer, apply};
@@ -36,7 +35,6 @@ fn show_call<S: Source, O: Sink, E: Sink>(
     call: &Call,
     outputs: &mut Outputs<'_, O, E>,
 ) -> Result<bool, Stop>
-    requires { is_built call.now ≡ true }
     ensures { RunsCall S.Source O.Sink E.Sink (stated call.now)
         result elf.old elf.new outputs.old outputs.new }
 {
@@ -55,7 +53,6 @@ pub fn show_calls<S: Source, O: Sink, E: Sink>(
     calls: &[Call],
     outputs: &mut Outputs<'_, O, E>,
 ) -> Result<bool, Stop>
-    requires { AreBuilt calls.now }
     ensures { RunsCalls S.Source O.Sink E.Sink calls.now
         result elf.old elf.new outputs.old outputs.new }
 {

@@ -216,9 +216,8 @@ fn ehdr_shows_the_numbers_that_section_0_holds(rt: HostRuntime) -> Result<(), Fa
 }
 
 /// Scripts that are refused, and their messages.
-const REFUSALS: [(&[u8], &[u8]); 6] = [
+const REFUSALS: [(&[u8], &[u8]); 5] = [
     (b"ehdr\nfoo 1 2", b"calls: S: line 2: no such call\n"),
-    (b"null\nehdr\n", b"calls: S: line 1: form not built\n"),
     (b"#\n\nraw\n", b"calls: S: line 3: wrong words\n"),
     (b"set ehdr size 1", b"calls: S: line 1: wrong words\n"),
     (

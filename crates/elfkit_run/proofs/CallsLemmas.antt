@@ -19,7 +19,6 @@ use Rattle.tool_output.proofs.StepLemmas.{keeps_then, writes_went, writes_then, 
 use Rattle.tool_output.proofs.FileLemmas.{within_both, told_after, only_reads_then, totals_then, leaves_stop, report_on_same, asks_on_same}
 use Rattle.tool_output.proofs.OutcomeLemmas.{reads_done}
 use Rattle.calls_script.specs.declared.calls.Call.{Call}
-use Rattle.calls_tool.specs.Runs.{AreBuilt}
 use Rattle.calls_tool.specs.Scripts.{script_report, calls_if_any}
 use Rattle.calls_tool.specs.Files.{calls_file_report}
 use Rattle.elfkit_run.specs.Calls.{script_of, script_asks, ReadsCalls, calls_report_by, file_asks, calls_asks_by, calls_outcome}
@@ -134,7 +133,3 @@ script_length (Some bytes) size taken sized h = omega (arith, sized, h)
 pub performs_nothing : {O E T : Type 0} (o : SinkGhosts O) (e : SinkGhosts E) (stop : Stop) (s : Outputs O E) (marks : List Mark) (value : T)
     → Performs o e (Err stop) s s marks value
 performs_nothing o e stop s marks value = record { writes = writes_nothing o e stop s marks; value_is = tt }
-
-pub none_are_built : (r : Result (Option (List Call)) Stop) → IfOk r (λ calls. calls ≡ None) → IfOk r (λ calls. IfSome calls AreBuilt)
-none_are_built (Ok calls) is = rw is tt
-none_are_built (Err stop) is = tt

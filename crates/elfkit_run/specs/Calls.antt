@@ -24,7 +24,7 @@ use Rattle.tool_output.specs.Outcomes.{FileWrite, Outcome, report_outcome}
 use Rattle.tool_output.specs.Made.{made_file}
 use Rattle.object_output.specs.Images.{file_object}
 use Rattle.calls_script.specs.declared.calls.Call.{Call}
-use Rattle.calls_tool.specs.Runs.{AreBuilt, stated_calls, calls_report, update_report}
+use Rattle.calls_tool.specs.Runs.{stated_calls, calls_report, update_report}
 use Rattle.calls_tool.specs.Scripts.{script_calls, calls_or_text, script_report, calls_if_any}
 use Rattle.calls_tool.specs.Files.{calls_file_report, calls_asks}
 
@@ -47,7 +47,6 @@ pub record ReadsCalls {F D O E : Type 0} (f : FilesGhosts F D) (o : SinkGhosts O
   pub says : IsTrue (f.tells files_old) → Performs o e result old new
       (script_report (file_name script) (script_of (f.named files_old script))).marks
       (calls_if_any (script_of (f.named files_old script)))
-  pub built : IfOk result (λ calls. IfSome calls AreBuilt)
   pub asks : IsTrue (f.tells files_old) →
       IsWithin (asks_on script_asks (f.named files_old) script)
       (f.taken files_old) (f.taken files_new)

@@ -4,7 +4,7 @@ use crate::rows::{first_changed, first_lost};
 use std::test::*;
 
 /// A line of each call but `set` and `flag`.
-const CALLS: [&str; 17] = [
+const CALLS: [&str; 18] = [
     "ehdr\n",
     "phdr 4294967295\n",
     "shdr 4294967295\n",
@@ -22,6 +22,7 @@ const CALLS: [&str; 17] = [
     "newdata 1 - 0\n",
     "fill 255\n",
     "replace 1 2 -\n",
+    "null\n",
 ];
 
 #[test]

@@ -20,7 +20,7 @@ fn first_words_that_are_no_call_are_refused(rt: HostRuntime) -> Result<(), Fail>
 }
 
 /// Lines of each call with another number of words.
-const OTHER_COUNTS: [&str; 36] = [
+const OTHER_COUNTS: [&str; 38] = [
     "ehdr 1",
     "ehdr ",
     "phdr",
@@ -57,6 +57,8 @@ const OTHER_COUNTS: [&str; 36] = [
     "fill 1 2",
     "replace 1 2",
     "replace 1 2 - 3",
+    "null 1",
+    "null ",
 ];
 
 #[test]
@@ -214,24 +216,14 @@ const FIRST_CAUSES: [(&str, u32, Why); 15] = [
     ("ehdr\nphdr\nnope", 2, Why::BadWords),
     ("\n\n\nfill 256\n", 4, Why::BadNumber),
     ("nulls 1", 1, Why::BadCall),
-    ("null 4294967296 x", 1, Why::NotBuilt),
+    ("null 4294967296 x", 1, Why::BadWords),
     ("phdr\nnull", 1, Why::BadWords),
-    ("null\nphdr", 1, Why::NotBuilt),
+    ("null\nphdr", 2, Why::BadWords),
 ];
 
 #[test]
 fn the_first_cause_of_the_first_bad_line_counts(rt: HostRuntime) -> Result<(), Fail> {
     let wrong = first_misread(rt.alloc(), &FIRST_CAUSES);
-    assert_eq!(rt; wrong, None);
-    Ok(())
-}
-
-/// Lines that are not built.
-const NOT_BUILT: [&str; 3] = ["null", "null ", "null 1"];
-
-#[test]
-fn lines_that_are_not_built_are_refused(rt: HostRuntime) -> Result<(), Fail> {
-    let wrong = first_accepted(rt.alloc(), Why::NotBuilt, &NOT_BUILT);
     assert_eq!(rt; wrong, None);
     Ok(())
 }

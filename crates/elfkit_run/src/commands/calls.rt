@@ -4,7 +4,6 @@ ghost use Rattle.std.specs.Prelude.{◌≡◌, IsTrue, codes, Some};
 ghost use Rattle.tool_output.specs.Files.{LeavesFiles};
 ghost use Rattle.tool_output.specs.Statuses.{refused_status};
 ghost use Rattle.tool_output.specs.Outcomes.{Does};
-ghost use Rattle.calls_tool.specs.Runs.{AreBuilt};
 ghost use Rattle.calls_tool.specs.Files.{calls_file_report, calls_asks};
 ghost use Rattle.elfkit_run.specs.Calls.{ReadsCalls, file_asks, calls_outcome};
 
@@ -16,12 +15,11 @@ use std::alloc::Global;
 use tool_output::{FileName, Outputs, Stop};
 use tool_text::Text;
 
-/// The calls of a script, each of a form that is built, as a tool over files.
+/// The calls of a script, as a tool over files.
 #[derive(Drop)]
 struct CallsTool<'a> {
     /// The calls.
     calls: &'a [Call],
-    ghost built: { AreBuilt calls.now },
 }
 
 impl FileTool for CallsTool<'_> {

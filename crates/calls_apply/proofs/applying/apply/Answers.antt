@@ -50,3 +50,6 @@ returns-in-Replace-clause-form g c = form_met g.S.Source _ c.args.call.now (resu
 
 pub returns-in-Flag-clause-form : goal.returns-in-Flag-clause-form
 returns-in-Flag-clause-form g c = form_met g.S.Source _ c.args.call.now (result_of c.set_flags.result) c.args.elf.now _ c.in-Flag.is refl c.set_flags.ensures
+
+pub returns-in-Null-clause-form : goal.returns-in-Null-clause-form
+returns-in-Null-clause-form g c = form_met g.S.Source _ c.args.call.now (result_of c.lay_out.result) c.args.elf.now _ c.in-Null.is refl c.lay_out.ensures

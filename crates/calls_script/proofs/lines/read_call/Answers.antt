@@ -1,7 +1,7 @@
 use Rattle.std.proofs.Common.{refl}
 use Rattle.calls_script.specs.declared.calls.Call.TheVariants as call
 use Rattle.calls_script.specs.Lines.{calls, phdr_line, shdr_line, pieces_line, data_line, raw_line, item_line, str_line, note_line, find_line, set_line, addall_line, newphdr_line, newdata_line, fill_line, replace_line, flag_line}
-use Rattle.calls_script.specs.Parts.{just, not_built}
+use Rattle.calls_script.specs.Parts.{just}
 use Rattle.calls_script.proofs.Tables.{call_said, call_other}
 use Rattle.calls_script.proofs.TextWords.{no_call}
 use Rattle.calls_script.proofs.lines.read_call.Goals as goal
@@ -83,7 +83,7 @@ returns-in-flag c = rw (call_said c.args.words.now c.in-Ok.name.now _ c.read_tex
 
 pub returns-in-null : goal.returns-in-null
 unfolding calls
-returns-in-null c = call_said c.args.words.now c.in-Ok.name.now _ c.read_text.new.self not_built c.in-Ok.ensures.ok c.in-null.is refl
+returns-in-null c = call_said c.args.words.now c.in-Ok.name.now _ c.read_text.new.self (just call.Null) c.in-Ok.ensures.ok c.in-null.is refl
 
 pub returns-in_default-name : goal.returns-in_default-name
 unfolding calls

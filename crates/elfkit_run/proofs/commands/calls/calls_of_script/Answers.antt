@@ -3,7 +3,7 @@ use Rattle.tool_output.specs.Reports.{no_report}
 use Rattle.tool_output.specs.declared.stops.Stop.TheVariants as stops
 use Rattle.tool_output.proofs.FileLemmas.{closed_same, given_same, given_kept, opened_asks, within_unchanged}
 use Rattle.elfkit_run.specs.Calls.{script_asks}
-use Rattle.elfkit_run.proofs.CallsLemmas.{script_absent, script_there, script_length, performs_nothing, none_are_built}
+use Rattle.elfkit_run.proofs.CallsLemmas.{script_absent, script_there, script_length, performs_nothing}
 use Rattle.elfkit_run.proofs.commands.calls.calls_of_script.Goals as goal
 
 pub returns-in-Err-NotThere : goal.returns-in-Err-NotThere
@@ -11,7 +11,6 @@ returns-in-Err-NotThere g c = record {
   says = λ told.
       script_absent g.O.Sink g.E.Sink c.args.script.now (g.F.Files.named c.args.files.now) c.args.outputs.now _ _ ((c.in-Err-NotThere.ensures.not_there told).0 (search rules))
       (rw (c.of-name.ensures, c.as_bytes.ensures.value) at c.refuse_script.ensures.performs);
-  built = none_are_built _ c.refuse_script.ensures.none;
   asks = λ told. within_unchanged _ _ _ c.in-Err-NotThere.ensures.hands.taken;
   reads = search rules;
   leaves = search rules;
@@ -20,7 +19,6 @@ returns-in-Err-NotThere g c = record {
 pub returns-in-Err-Failed : goal.returns-in-Err-Failed
 returns-in-Err-Failed g c = record {
   says = λ told. performs_nothing g.O.Sink g.E.Sink stops.Read c.args.outputs.now _ _;
-  built = tt;
   asks = λ told. within_unchanged _ _ _ c.in-Err-Failed.ensures.hands.taken;
   reads = search rules;
   leaves = search rules;
@@ -29,7 +27,6 @@ returns-in-Err-Failed g c = record {
 pub returns-in-Err-Memory : goal.returns-in-Err-Memory
 returns-in-Err-Memory g c = record {
   says = λ told. performs_nothing g.O.Sink g.E.Sink stops.Memory c.args.outputs.now _ _;
-  built = tt;
   asks = λ told. within_unchanged _ _ _ c.in-Err-Memory.ensures.hands.taken;
   reads = search rules;
   leaves = search rules;
@@ -40,7 +37,6 @@ returns g c = record {
   says = λ told.
       script_there g.O.Sink g.E.Sink c.args.script.now (g.F.Files.named c.args.files.now) c.args.outputs.now _ _ _ (c.in-Ok.ensures.bytes told)
       (λ none. let h = (c.in-Ok.ensures.not_there told).1 none in cc) (rw (c.of-name.ensures, c.as_bytes.ensures.value) at c.tell_script-read.ensures.says);
-  built = c.tell_script-read.ensures.built;
   asks = λ told.
       opened_asks (codes "calls") (λ name bytes. no_report) script_asks (g.F.Files.named c.args.files.now) c.args.script.now _ _ _ _ _ (c.in-Ok.ensures.bytes told)
       (λ none. let h = (c.in-Ok.ensures.not_there told).1 none in cc)
