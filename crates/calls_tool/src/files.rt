@@ -14,7 +14,7 @@ use std::alloc::Global;
 use tool_output::{FileName, Message, Outputs, Stop};
 
 /// Refuses what is no image, or stops where the error is no refusal.
-fn refuse_image<O: Sink, E: Sink>(
+pub fn refuse_image<O: Sink, E: Sink>(
     name: &FileName<'_>,
     e: ElfError,
     outputs: &mut Outputs<'_, O, E>,

@@ -10,7 +10,7 @@ mod lines;
 pub mod runs;
 pub mod scripts;
 
-pub use files::show_calls_on;
+pub use files::{refuse_image, show_calls_on};
 pub use lines::AnswerLine;
-pub use runs::show_calls;
+pub use runs::{show_answer, show_calls};
 pub use scripts::{BadLine, read_calls, refuse_script, tell_script};

@@ -14,7 +14,7 @@ use tool_output::{Outputs, Stop};
 /// Writes the line of an answer; that of a refusal refuses. It stops where the answer is want of
 /// memory or a failed read: then nothing is written.
 #[tactic(auto, unfolding(crate::specs::Runs::answer_report))]
-fn show_answer<O: Sink, E: Sink>(
+pub fn show_answer<O: Sink, E: Sink>(
     answer: &Answer,
     outputs: &mut Outputs<'_, O, E>,
 ) -> Result<bool, Stop>
