@@ -132,7 +132,7 @@ fn copy_items(items: &Items, class: Class, order: Order, from: u64, buf: &mut [u
 
 /// Copies bytes of a piece that is held, and answers whether it is.
 #[tactic(auto, unfolding(elf_object::specs::Answers::piece_refusal, elf_object::specs::Answers::piece_count))]
-fn copy_held<S: Source>(elf: &Elf<S>, d: DataId, from: u64, buf: &mut [u8]) -> bool
+pub fn copy_held<S: Source>(elf: &Elf<S>, d: DataId, from: u64, buf: &mut [u8]) -> bool
     requires stored { IsStored elf.now.o }
     requires there { from + length buf.old ≤ length (slice_index_or
         (stored_pieces elf.now.o (part.Section d.section)) d.piece no_piece).1 }

@@ -137,7 +137,7 @@ impl<S: Source> Rows for SectionRows<'_, S> {
 }
 
 /// Writes bytes of the ELF header.
-pub(crate) fn copy_header<S: Source>(elf: &Elf<S>, from: u64, buf: &mut [u8])
+pub fn copy_header<S: Source>(elf: &Elf<S>, from: u64, buf: &mut [u8])
     requires stored { IsStored elf.now.o }
     requires there { from + length buf.old ≤ length (front_blocks elf.now.o).header.bytes }
     requires small { from + length buf.old < 2 ^ 64 }
@@ -153,7 +153,7 @@ pub(crate) fn copy_header<S: Source>(elf: &Elf<S>, from: u64, buf: &mut [u8])
 }
 
 /// Writes bytes of the program header table.
-pub(crate) fn copy_segments<S: Source>(elf: &Elf<S>, from: u64, buf: &mut [u8])
+pub fn copy_segments<S: Source>(elf: &Elf<S>, from: u64, buf: &mut [u8])
     requires stored { IsStored elf.now.o }
     requires there { from + length buf.old ≤ length (front_blocks elf.now.o).segments.bytes }
     requires small { from + length buf.old < 2 ^ 64 }
@@ -170,7 +170,7 @@ pub(crate) fn copy_segments<S: Source>(elf: &Elf<S>, from: u64, buf: &mut [u8])
 }
 
 /// Writes bytes of the section header table.
-pub(crate) fn copy_table<S: Source>(elf: &Elf<S>, from: u64, buf: &mut [u8])
+pub fn copy_table<S: Source>(elf: &Elf<S>, from: u64, buf: &mut [u8])
     requires stored { IsStored elf.now.o }
     requires there { from + length buf.old ≤ length (front_blocks elf.now.o).table.bytes }
     requires small { from + length buf.old < 2 ^ 64 }

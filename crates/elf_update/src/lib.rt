@@ -13,9 +13,11 @@ mod rows;
 mod updates;
 mod walks;
 
+pub use data::copy_held;
+pub use fronts::{copy_header, copy_segments, copy_table};
 pub use pages::{PAGE_SIZE, Page};
 pub use parts::{Origin, Parts, PieceExtent};
 pub use puts::{put_fill, put_range};
 pub use update_plan::update_null;
-pub use updates::update_to;
+pub use updates::{PlannedParts, plan_update, update_to};
 pub use walks::{Ground, put_image};

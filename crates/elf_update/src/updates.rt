@@ -39,7 +39,7 @@ fn plan_placed<S: Source>(elf: &Elf<S>, placed: PlacedParts) -> Result<PlannedPa
 
 /// The plan of the image of an object in which something is dirty. It refuses as an update does, and
 /// reads nothing.
-fn plan_update<S: Source>(elf: &Elf<S>) -> Result<PlannedParts, ElfError>
+pub fn plan_update<S: Source>(elf: &Elf<S>) -> Result<PlannedParts, ElfError>
     requires { is_dirty elf.now.o ≡ true }
     ensures ok { IfOk result (IsPlanned elf.now.o) }
     ensures err { IfErr result (IsRefused elf.now.o) }
