@@ -8,3 +8,4 @@ pub mod Symbols
 pub mod Magic
 pub mod Archives
 pub mod Due
+pub mod Constants

@@ -1,10 +1,13 @@
 //! The header of a member.
 
-ghost use Rattle.std.specs.Prelude.{◌≡◌, ◌⊎◌, ◌+◌, ◌^◌, ◌<◌, ◌≤◌, nat_le, take, IfSome, IfOk, IfErr};
+ghost use Rattle.std.specs.Prelude.{◌≡◌, ◌⊎◌, ◌+◌, ◌^◌, ◌<◌, ◌≤◌, nat_le, take, true, IfSome, IfOk, IfErr};
 ghost use Rattle.elf_types.specs.Answers.{Follows};
+ghost use Rattle.elf_types.specs.Constants.{are_numbers};
 ghost use Rattle.elf_types.specs.declared.constants.TheConstants.{MAX_IMAGE};
 ghost use Rattle.elf_outside.specs.Asks.{Asks};
+ghost use Rattle.ar_members.specs.Constants.{header_end, lengths};
 ghost use Rattle.ar_members.specs.declared.headers.TheConstants.{HEADER_LEN};
+ghost use Rattle.ar_members.specs.declared.numbers.TheConstants.{ARFMAG};
 ghost use Rattle.ar_members.specs.Headers.{next_at, name_field, header_in, header_asks, header_at, BodyLies};
 ghost use Rattle.ar_members.specs.Members.{shown_header};
 
@@ -132,3 +135,10 @@ pub fn read_header<S: Source>(src: &mut S, at: u64) -> Result<Header, ElfError>
     let bytes: [u8; HEADER_LEN] = read_array(src, at)?;
     header_in(at, bytes, size - HEADER_LEN as u64 - at)
 }
+
+/// Each constant is the number, or the bytes, that stand beside its name in the tables of
+/// specs/Constants. It is for the reader and for proofs, and does nothing.
+pub fn constants_are()
+    ensures lengths { are_numbers lengths ≡ true }
+    ensures header_end { ARFMAG ≡ header_end }
+{}

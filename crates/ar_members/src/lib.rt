@@ -12,5 +12,5 @@ mod symbols;
 mod walk;
 
 pub use archive::Ar;
-pub use headers::ArHdr;
+pub use headers::{ArHdr, constants_are};
 pub use symbols::{ArSym, ArSyms};

@@ -48,7 +48,7 @@ const EDITS: [Row; 10] = [
     ),
     (
         "null\naddall 2 0 16\nnull\nflag object set 4\nset shdr 1 offset 0\nnull",
-        "size 312\nchanged 2\nsize 312\nflags 0x4\nok\nrefused header overlaps section 1\n",
+        "size 312\nchanged 2\nsize 312\nflags 0x4\nok\nrefused overlap header section 1\n",
     ),
 ];
 

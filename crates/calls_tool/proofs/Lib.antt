@@ -1,4 +1,3 @@
-mod Rows
 pub mod HomeSteps
 mod StatedSteps
 mod ReadLemmas

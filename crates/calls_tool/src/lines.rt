@@ -50,7 +50,7 @@ fn put_answer_text(page: &mut Octets, answer: &Answer) -> Result<(), ElfError>
 }
 
 /// Appends a kind and a number of items.
-#[tactic(auto, using(crate::proofs::Rows::kept), unfolding(crate::specs::Lines::data_text))]
+#[tactic(auto, using(elf_types::proofs::Writers::kept), unfolding(crate::specs::Lines::data_text))]
 fn put_data(page: &mut Octets, kind: Kind, count: u64) -> Result<(), ElfError>
     ensures ok { OnOk result (page.new ≡ page.old ++ data_text kind count) }
     ensures err { IfErr result (WantsMemory page.old page.new) }
@@ -61,7 +61,7 @@ fn put_data(page: &mut Octets, kind: Kind, count: u64) -> Result<(), ElfError>
 }
 
 /// Appends the bytes of a section.
-#[tactic(auto, using(crate::proofs::Rows::kept), unfolding(crate::specs::Lines::raw_text))]
+#[tactic(auto, using(elf_types::proofs::Writers::kept), unfolding(crate::specs::Lines::raw_text))]
 fn put_raw(page: &mut Octets, bytes: &[u8]) -> Result<(), ElfError>
     ensures ok { OnOk result (page.new ≡ page.old ++ raw_text bytes.now) }
     ensures err { IfErr result (WantsMemory page.old page.new) }
@@ -71,7 +71,7 @@ fn put_raw(page: &mut Octets, bytes: &[u8]) -> Result<(), ElfError>
 }
 
 /// Appends a string.
-#[tactic(auto, using(crate::proofs::Rows::kept), unfolding(crate::specs::Lines::str_text))]
+#[tactic(auto, using(elf_types::proofs::Writers::kept), unfolding(crate::specs::Lines::str_text))]
 fn put_str(page: &mut Octets, bytes: &[u8]) -> Result<(), ElfError>
     ensures ok { OnOk result (page.new ≡ page.old ++ str_text bytes.now) }
     ensures err { IfErr result (WantsMemory page.old page.new) }
@@ -99,7 +99,7 @@ fn put_note(page: &mut Octets, note: &NoteAt) -> Result<(), ElfError>
 }
 
 /// Appends a refusal.
-#[tactic(auto, using(crate::proofs::Rows::kept), unfolding(crate::specs::Lines::refused_text))]
+#[tactic(auto, using(elf_types::proofs::Writers::kept), unfolding(crate::specs::Lines::refused_text))]
 fn put_refused(page: &mut Octets, e: &ElfError) -> Result<(), ElfError>
     ensures ok { OnOk result (page.new ≡ page.old ++ refused_text e.now) }
     ensures err { IfErr result (WantsMemory page.old page.new) }
@@ -118,7 +118,7 @@ pub struct AnswerLine<'a> {
 impl Line for AnswerLine<'_> {
     ghost text = { λ l. answer_line l.answer.now };
 
-    #[tactic(auto, using(crate::proofs::Rows::kept), unfolding(crate::specs::Lines::answer_line))]
+    #[tactic(auto, using(elf_types::proofs::Writers::kept), unfolding(crate::specs::Lines::answer_line))]
     fn put(&self, page: &mut Octets) -> Result<(), ElfError> {
         put_answer_text(page, self.answer)?;
         put_text(page, "\n")

@@ -24,7 +24,7 @@ pub struct BadLine {
 impl Line for BadLine {
     ghost text = { bad_line_text };
 
-    #[tactic(auto, using(crate::proofs::Rows::kept), unfolding(crate::specs::Scripts::bad_line_text))]
+    #[tactic(auto, using(elf_types::proofs::Writers::kept), unfolding(crate::specs::Scripts::bad_line_text))]
     fn put(&self, page: &mut Octets) -> Result<(), ElfError> {
         put_text(page, "line ")?;
         put_decimal(page, u64::from(self.line))?;

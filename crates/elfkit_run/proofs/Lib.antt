@@ -1,4 +1,3 @@
 pub mod CallsLemmas
 pub mod CommandLemmas
-pub mod Rows
 pub mod TitleLemmas

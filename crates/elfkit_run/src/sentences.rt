@@ -19,7 +19,7 @@ pub struct Sentence<'a> {
 impl Line for Sentence<'_> {
     ghost text = { λ s. line_of s.text.now };
 
-    #[tactic(auto, using(crate::proofs::Rows::kept), unfolding(crate::specs::Sentences::line_of))]
+    #[tactic(auto, using(elf_types::proofs::Writers::kept), unfolding(crate::specs::Sentences::line_of))]
     fn put(&self, page: &mut Octets) -> Result<(), ElfError> {
         put_text(page, self.text)?;
         put_text(page, "\n")
@@ -36,7 +36,7 @@ struct Paragraph<'a> {
 impl Line for Paragraph<'_> {
     ghost text = { λ p. p.text.now };
 
-    #[tactic(auto, using(crate::proofs::Rows::kept))]
+    #[tactic(auto, using(elf_types::proofs::Writers::kept))]
     fn put(&self, page: &mut Octets) -> Result<(), ElfError> {
         put_text(page, self.text)
     }

@@ -41,7 +41,7 @@ struct FileTitle<'a> {
 impl Line for FileTitle<'_> {
     ghost text = { λ t. file_title t.name.now };
 
-    #[tactic(auto, using(crate::proofs::Rows::kept), unfolding(crate::specs::Titles::file_title))]
+    #[tactic(auto, using(elf_types::proofs::Writers::kept), unfolding(crate::specs::Titles::file_title))]
     fn put(&self, page: &mut Octets) -> Result<(), ElfError> {
         put_text(page, "File: ")?;
         self.name.put(page)?;
@@ -59,7 +59,7 @@ struct NameTitle<'a> {
 impl Line for NameTitle<'_> {
     ghost text = { λ t. name_title t.name.now };
 
-    #[tactic(auto, using(crate::proofs::Rows::kept), unfolding(crate::specs::Titles::name_title))]
+    #[tactic(auto, using(elf_types::proofs::Writers::kept), unfolding(crate::specs::Titles::name_title))]
     fn put(&self, page: &mut Octets) -> Result<(), ElfError> {
         self.name.put(page)?;
         put_text(page, ":\n")

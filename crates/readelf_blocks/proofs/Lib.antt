@@ -1,3 +1,2 @@
 pub mod AtHandLemmas
 pub mod BlockLemmas
-mod Rows

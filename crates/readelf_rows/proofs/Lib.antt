@@ -1,4 +1,3 @@
 pub mod DataLemmas
 pub mod LinkLemmas
 pub mod TextLemmas
-mod Rows

@@ -22,7 +22,7 @@ pub enum Number {
 pub(super) type Column = (&'static str, Number);
 
 /// Appends a number.
-#[tactic(auto, using(crate::proofs::Rows::kept), unfolding(crate::specs::Lines::number_text))]
+#[tactic(auto, using(elf_types::proofs::Writers::kept), unfolding(crate::specs::Lines::number_text))]
 fn put_number(page: &mut Octets, number: Number) -> Result<(), ElfError>
     ensures ok { OnOk result (page.new ≡ page.old ++ number_text number) }
     ensures err { IfErr result (WantsMemory page.old page.new) }
@@ -38,7 +38,7 @@ fn put_number(page: &mut Octets, number: Number) -> Result<(), ElfError>
 }
 
 /// Appends a text and a number.
-#[tactic(auto, using(crate::proofs::Rows::kept), unfolding(crate::specs::Lines::column_text))]
+#[tactic(auto, using(elf_types::proofs::Writers::kept), unfolding(crate::specs::Lines::column_text))]
 pub(super) fn put_column(page: &mut Octets, text: &str, number: Number) -> Result<(), ElfError>
     ensures ok { OnOk result (page.new ≡ page.old ++ column_text text.now number) }
     ensures err { IfErr result (WantsMemory page.old page.new) }
@@ -48,7 +48,7 @@ pub(super) fn put_column(page: &mut Octets, text: &str, number: Number) -> Resul
 }
 
 /// Appends columns, one after another.
-#[tactic(auto, using(crate::proofs::Rows::kept))]
+#[tactic(auto, using(elf_types::proofs::Writers::kept))]
 pub(super) fn put_columns(page: &mut Octets, columns: &[Column]) -> Result<(), ElfError>
     ensures ok { OnOk result
         (page.new ≡ page.old ++ flat_map (λ c. column_text c.0.now c.1) columns.now) }
@@ -61,7 +61,7 @@ pub(super) fn put_columns(page: &mut Octets, columns: &[Column]) -> Result<(), E
 }
 
 /// Appends bytes, two hexadecimal digits each, or `-` where there are none.
-#[tactic(auto, using(crate::proofs::Rows::kept), unfolding(crate::specs::Lines::bytes_text))]
+#[tactic(auto, using(elf_types::proofs::Writers::kept), unfolding(crate::specs::Lines::bytes_text))]
 pub(super) fn put_hex_bytes(page: &mut Octets, bytes: &[u8]) -> Result<(), ElfError>
     ensures ok { OnOk result (page.new ≡ page.old ++ bytes_text bytes.now) }
     ensures err { IfErr result (WantsMemory page.old page.new) }
@@ -73,7 +73,7 @@ pub(super) fn put_hex_bytes(page: &mut Octets, bytes: &[u8]) -> Result<(), ElfEr
 }
 
 /// Appends bytes, two hexadecimal digits each.
-#[tactic(auto, using(crate::proofs::Rows::kept))]
+#[tactic(auto, using(elf_types::proofs::Writers::kept))]
 fn put_pairs(page: &mut Octets, bytes: &[u8]) -> Result<(), ElfError>
     ensures ok { OnOk result (page.new ≡ page.old ++ flat_map hex_pair bytes.now) }
     ensures err { IfErr result (WantsMemory page.old page.new) }

@@ -60,7 +60,7 @@ fn put_ehdr_numbers(page: &mut Octets, h: &Ehdr) -> Result<(), ElfError>
 }
 
 /// Appends the ELF header.
-#[tactic(auto, using(crate::proofs::Rows::kept), unfolding(crate::specs::Lines::ehdr_text))]
+#[tactic(auto, using(elf_types::proofs::Writers::kept), unfolding(crate::specs::Lines::ehdr_text))]
 pub(super) fn put_ehdr(page: &mut Octets, h: &Ehdr) -> Result<(), ElfError>
     ensures ok { OnOk result (page.new ≡ page.old ++ ehdr_text h.now) }
     ensures err { IfErr result (WantsMemory page.old page.new) }

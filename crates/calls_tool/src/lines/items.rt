@@ -62,7 +62,7 @@ fn put_rela_place(page: &mut Octets, r: &Rela) -> Result<(), ElfError>
 }
 
 /// Appends a relocation with an addend.
-#[tactic(auto, using(crate::proofs::Rows::kept), unfolding(crate::specs::Lines::rela_text))]
+#[tactic(auto, using(elf_types::proofs::Writers::kept), unfolding(crate::specs::Lines::rela_text))]
 fn put_rela(page: &mut Octets, r: &Rela) -> Result<(), ElfError>
     ensures ok { OnOk result (page.new ≡ page.old ++ rela_text r.now) }
     ensures err { IfErr result (WantsMemory page.old page.new) }

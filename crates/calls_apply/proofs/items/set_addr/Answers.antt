@@ -5,7 +5,7 @@ use Rattle.elf_xlate.specs.declared.content.Items.TheVariants as items
 use Rattle.elf_xlate.specs.Fields.{fits}
 use Rattle.elf_object.specs.Answers.{addrs_of}
 use Rattle.elf_object.specs.Calls.{addr_answer}
-use Rattle.calls_apply.proofs.ByKind.{addrs_counted}
+use Rattle.elf_object.proofs.ItemCounts.{addrs_counted}
 use Rattle.calls_apply.proofs.Setting.{set_refused, set_number}
 use Rattle.calls_apply.proofs.items.set_addr.Goals as goal
 

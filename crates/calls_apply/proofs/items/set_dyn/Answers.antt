@@ -6,7 +6,7 @@ use Rattle.elf_xlate.specs.Items.{dyn_fits}
 use Rattle.elf_object.specs.Answers.{dyns_of}
 use Rattle.elf_object.specs.Calls.{dyn_answer}
 use Rattle.calls_apply.specs.Fields.{dyn_with}
-use Rattle.calls_apply.proofs.ByKind.{dyns_counted}
+use Rattle.elf_object.proofs.ItemCounts.{dyns_counted}
 use Rattle.calls_apply.proofs.Setting.{set_refused, set_field}
 use Rattle.calls_apply.proofs.items.set_dyn.Goals as goal
 

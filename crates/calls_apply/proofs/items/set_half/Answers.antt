@@ -4,7 +4,7 @@ use Rattle.elf_types.specs.declared.records.Kind.TheVariants as kinds
 use Rattle.elf_xlate.specs.declared.content.Items.TheVariants as items
 use Rattle.elf_object.specs.Answers.{halves_of}
 use Rattle.elf_object.specs.Calls.{half_answer}
-use Rattle.calls_apply.proofs.ByKind.{halves_counted}
+use Rattle.elf_object.proofs.ItemCounts.{halves_counted}
 use Rattle.calls_apply.proofs.Setting.{set_refused, set_number}
 use Rattle.calls_apply.proofs.items.set_half.Goals as goal
 

@@ -6,7 +6,7 @@ use Rattle.elf_xlate.specs.Items.{rel_fits}
 use Rattle.elf_object.specs.Answers.{rels_of}
 use Rattle.elf_object.specs.Calls.{rel_answer}
 use Rattle.calls_apply.specs.Fields.{rel_with}
-use Rattle.calls_apply.proofs.ByKind.{rels_counted}
+use Rattle.elf_object.proofs.ItemCounts.{rels_counted}
 use Rattle.calls_apply.proofs.Setting.{set_refused, set_field}
 use Rattle.calls_apply.proofs.items.set_rel.Goals as goal
 

@@ -6,7 +6,7 @@ use Rattle.elf_xlate.specs.Items.{rela_fits}
 use Rattle.elf_object.specs.Answers.{relas_of}
 use Rattle.elf_object.specs.Calls.{rela_answer}
 use Rattle.calls_apply.specs.Fields.{rela_with}
-use Rattle.calls_apply.proofs.ByKind.{relas_counted}
+use Rattle.elf_object.proofs.ItemCounts.{relas_counted}
 use Rattle.calls_apply.proofs.Setting.{set_refused, set_field}
 use Rattle.calls_apply.proofs.items.set_rela.Goals as goal
 

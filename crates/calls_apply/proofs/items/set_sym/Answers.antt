@@ -6,7 +6,7 @@ use Rattle.elf_xlate.specs.Items.{sym_fits}
 use Rattle.elf_object.specs.Answers.{syms_of}
 use Rattle.elf_object.specs.Calls.{sym_answer}
 use Rattle.calls_apply.specs.Fields.{sym_with}
-use Rattle.calls_apply.proofs.ByKind.{syms_counted}
+use Rattle.elf_object.proofs.ItemCounts.{syms_counted}
 use Rattle.calls_apply.proofs.Setting.{set_refused, set_field}
 use Rattle.calls_apply.proofs.items.set_sym.Goals as goal
 

@@ -4,7 +4,7 @@ use Rattle.elf_types.specs.declared.records.Kind.TheVariants as kinds
 use Rattle.elf_xlate.specs.declared.content.Items.TheVariants as items
 use Rattle.elf_object.specs.Answers.{words_of}
 use Rattle.elf_object.specs.Calls.{word_answer}
-use Rattle.calls_apply.proofs.ByKind.{words_counted}
+use Rattle.elf_object.proofs.ItemCounts.{words_counted}
 use Rattle.calls_apply.proofs.Setting.{set_refused, set_number}
 use Rattle.calls_apply.proofs.items.set_word.Goals as goal
 
