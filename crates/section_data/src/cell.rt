@@ -11,6 +11,7 @@ ghost use Rattle.section_data.specs.Held.{piece_in, kind_in, cell_is_loaded};
 use crate::home::Home;
 use crate::kept::Kept;
 use crate::piece::Piece;
+use crate::used::put;
 use elf_types::{Class, ElfError, Kind, Shdr};
 use std::alloc::Global;
 use std::marker::Model;
@@ -93,6 +94,22 @@ impl Cell {
         ensures err { IfErr result (λ e. e ≡ Memory) }
     {
         Cell::new(alloc, section, Some(Home::of(class, header)), size)
+    }
+
+    /// Makes the cell that of its section over another image, of `base` bytes, in which it has that
+    /// home: nothing is read, its one piece is the clean home piece, and what was held is let go. It
+    /// refuses nothing and takes no memory.
+    ///
+    /// Source: elf_update of elf(3E), which leaves what it wrote as what was read.
+    pub fn reopen(&mut self, home: Home, base: u64)
+        requires { home.kind ≡ kinds.Empty → home.len ≡ 0 }
+        ensures value { self.new ≡ opened_cell self.old.section
+            (home_view home.at home.len home.kind (passes_end base home.at home.len)) }
+        ensures cell { IsCell self.new }
+    {
+        let out = home.passes_end(base);
+        let kept = Kept::over(self.kept.section(), home, out, true);
+        put(&mut self.kept, kept);
     }
 
     /// The section's number. It takes no memory.
