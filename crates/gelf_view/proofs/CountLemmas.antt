@@ -1,9 +1,6 @@
 -- How many items a piece holds, and how a lend of them is refused, without a look at its bytes.
-use Rattle.std.proofs.Common.{◌≡◌, ◌≢◌, ℕ, ◌<◌, ◌/◌, ◌%◌, Bool, true, false, List, [], ◌∷◌, length, Option, Some, None, Result, Ok, Err, refl, sym, ap, ◌∙◌, subst}
+use Rattle.std.proofs.Common.{◌≡◌, ◌≢◌, ℕ, ◌<◌, ◌/◌, ◌%◌, Bool, true, false, [], ◌∷◌, length, Option, Some, None, Result, Ok, Err, refl, sym, ap, ◌∙◌}
 use Rattle.std.specs.Prelude.{not, if◌then◌else◌}
-use Rattle.std.proofs.lemmas.Bool.{ne_eqb}
-use Rattle.elf_types.specs.declared.records.Class.{Class}
-use Rattle.elf_types.specs.declared.records.Order.{Order}
 use Rattle.elf_types.specs.declared.records.Kind.{Kind}
 use Rattle.elf_types.specs.declared.errors.ElfError.{ElfError}
 use Rattle.elf_types.specs.declared.errors.ElfError.TheVariants.{WrongKind, OutOfFile, Ragged}

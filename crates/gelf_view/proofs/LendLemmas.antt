@@ -1,6 +1,6 @@
 -- A lend is refused before it reads, and so no late refusal comes of it.
-use Rattle.std.proofs.Common.{◌≡◌, ℕ, Bool, true, false, not, List, [], ◌∷◌, length, Option, Some, None, Result, Ok, Err, refl, inl, inr}
-use Rattle.std.specs.Prelude.{IsTrue, nat_le, ◌⊎◌, if◌then◌else◌}
+use Rattle.std.proofs.Common.{ℕ, Bool, true, false, not, [], ◌∷◌, length, Option, Some, None, Ok, Err, refl, inl, inr}
+use Rattle.std.specs.Prelude.{IsTrue, nat_le, if◌then◌else◌}
 use Rattle.elf_types.specs.declared.records.Kind.{Kind}
 use Rattle.elf_types.specs.declared.errors.ElfError.{ElfError}
 use Rattle.elf_types.specs.declared.errors.ElfError.TheVariants.{NoEntry, Unfit, BadChain, Unended, NoSection, NoData, WrongKind, OutOfFile, Ragged}

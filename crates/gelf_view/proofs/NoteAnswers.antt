@@ -1,15 +1,14 @@
 -- The answer of a call on a note: what is seen by the number of bytes, and what is met in them.
 use Rattle.std.proofs.Common.{◌≡◌, ℕ, Bool, true, false, not, ◌&&◌, ◌==◌, ◌+◌, List, [], ◌∷◌, length, take, drop, Option, Some, None, Result, Ok, Err, refl, sym, ap, ◌∙◌, subst, inl, inr}
-use Rattle.std.specs.Prelude.{IsTrue, nat_lt, nat_le, if◌then◌else◌, ◌⊎◌}
+use Rattle.std.specs.Prelude.{IsTrue, nat_lt, if◌then◌else◌}
 use Rattle.elf_types.specs.declared.records.Order.{Order}
 use Rattle.elf_types.specs.declared.records.Kind.TheVariants as kinds
 use Rattle.elf_types.specs.declared.errors.ElfError.{ElfError}
-use Rattle.elf_types.specs.declared.errors.ElfError.TheVariants.{Memory, Read, BadChain, NoEntry, Unfit, Unended, NoSection, NoData, WrongKind, OutOfFile, Ragged}
+use Rattle.elf_types.specs.declared.errors.ElfError.TheVariants.{Memory, Read, BadChain}
 use Rattle.elf_types.specs.Answers.{answered, refused_if, first_refusal, ◌>>=◌}
-use Rattle.elf_xlate.specs.declared.content.Items.{Items}
 use Rattle.elf_object.specs.Words.{Wants, Refusals, Answers, AnswersRead, result_map}
 use Rattle.elf_object.specs.Object.{section_at}
-use Rattle.elf_object.specs.Answers.{content, lend_refusal, bytes_of, items_at, count_at}
+use Rattle.elf_object.specs.Answers.{lend_refusal, bytes_of, items_at, count_at}
 use Rattle.elf_object.specs.Due.{homes_due}
 use Rattle.elf_outside.specs.declared.sources.Source.{Ghosts}
 use Rattle.elf_descriptor.specs.State.{State}

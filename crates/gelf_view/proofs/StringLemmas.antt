@@ -1,6 +1,6 @@
 -- Where a string begins: its refusals before a byte is read, and the piece that is read for it.
 use Rattle.std.proofs.Common.{◌≡◌, ◌≢◌, ℕ, zero, suc, ◌+◌, ◌-◌, ◌<◌, ◌≤◌, Bool, true, false, not, ◌&&◌, List, [], ◌∷◌, length, take, drop, get_or, Option, Some, None, Result, Ok, Err, refl, sym, ap, ◌∙◌, subst, arith}
-use Rattle.std.specs.Prelude.{◌^◌, min, IsTrue, IsSome, All, nat_le, slice_get, take_while, ◌==◌, is_none, if◌then◌else◌}
+use Rattle.std.specs.Prelude.{◌^◌, min, IsTrue, IsSome, nat_le, slice_get, take_while, ◌==◌, is_none, if◌then◌else◌}
 use Rattle.std.specs.List.{list_all}
 use Rattle.std.proofs.lemmas.Bool.{lt-leb, ne_eqb, eq-eqb, and_left, and_right, and_from}
 use Rattle.std.proofs.lemmas.List.Elements.{All-get_or}

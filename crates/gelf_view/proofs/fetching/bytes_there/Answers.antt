@@ -1,5 +1,4 @@
-use Rattle.std.proofs.Common.{length, Some, sym, ap, ◌∙◌}
-use Rattle.elf_xlate.specs.declared.content.Items.{Items}
+use Rattle.std.proofs.Common.{length, ap, ◌∙◌}
 use Rattle.gelf_view.proofs.PieceBytes.{bytes_count, piece_there, own_of_bytes, own_exact, raw_exact}
 use Rattle.gelf_view.proofs.fetching.bytes_there.Goals as goal
 

@@ -1,4 +1,3 @@
-use Rattle.std.proofs.Common.{true}
 use Rattle.elf_object.specs.Answers.{raw_refusal}
 use Rattle.elf_object.specs.Calls.{raw_answer}
 use Rattle.elf_object.specs.Calls as calls

@@ -1,7 +1,5 @@
-use Rattle.std.proofs.Common.{Ok, is_some, ap, ◌∙◌, sym, subst}
+use Rattle.std.proofs.Common.{Ok, is_some, ap, ◌∙◌, sym}
 use Rattle.elf_object.specs.Object.{piece_at}
-use Rattle.elf_types.specs.declared.records.Kind.{Kind}
-use Rattle.elf_types.specs.declared.records.Kind.TheVariants as kinds
 use Rattle.gelf_view.proofs.FetchLemmas.{kind_bytes, kind_other}
 use Rattle.gelf_view.proofs.fetching.own_if_bytes.Goals as goal
 

@@ -1,4 +1,4 @@
-use Rattle.std.proofs.Common.{true, Err, ℕ, [], ◌≡◌, ◌==◌, IfOk, IfSome, length, sym, ap, ◌∙◌, subst}
+use Rattle.std.proofs.Common.{true, Err, ℕ, [], ◌≡◌, ◌==◌, IfOk, IfSome, sym, ap, ◌∙◌, subst}
 use Rattle.std.specs.Prelude.{is_none}
 use Rattle.elf_types.specs.declared.records.Order.{Order}
 use Rattle.elf_types.specs.declared.records.Kind.TheVariants as kinds

@@ -1,4 +1,4 @@
-use Rattle.std.proofs.Common.{true, [], length, refl, sym, ap, ◌∙◌}
+use Rattle.std.proofs.Common.{true, [], refl, sym, ap, ◌∙◌}
 use Rattle.elf_types.specs.declared.records.Kind.TheVariants as kinds
 use Rattle.elf_object.specs.Words.{AlikeBytes}
 use Rattle.elf_object.specs.Object.{Object}

@@ -1,4 +1,4 @@
-use Rattle.std.proofs.Common.{◌<◌, sym, ◌∙◌, arith}
+use Rattle.std.proofs.Common.{sym, ◌∙◌, arith}
 use Rattle.gelf_view.proofs.HomeLemmas.{below_count}
 use Rattle.gelf_view.proofs.StringLemmas.{strings_none, strings_more, strings_all}
 use Rattle.gelf_view.proofs.string_calls.are_of_bytes.Goals as goal

@@ -1,7 +1,6 @@
 use Rattle.std.proofs.Common.{Ok, refl, sym, ap, ◌∙◌}
 use Rattle.std.proofs.lemmas.Result.{err_from_is_err_and}
 use Rattle.elf_types.specs.declared.records.Shdr.{Shdr}
-use Rattle.elf_types.specs.declared.constants.TheConstants.{SHT_STRTAB}
 use Rattle.elf_object.specs.Object.{section_at}
 use Rattle.elf_object.specs.Calls.{shdr_answer}
 use Rattle.elf_object.proofs.AnswerLaws.{shdr_value}

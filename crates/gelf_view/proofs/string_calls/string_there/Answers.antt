@@ -1,4 +1,4 @@
-use Rattle.std.proofs.Common.{ℕ, List, Option, drop, sym, ap, ◌∙◌, arith}
+use Rattle.std.proofs.Common.{ℕ, List, Option, drop, ap, ◌∙◌, arith}
 use Rattle.elf_types.specs.declared.errors.ElfError.TheVariants.{Unended}
 use Rattle.elf_types.specs.Answers.{or_refused}
 use Rattle.gelf_view.specs.Records.{string_front}

@@ -1,4 +1,4 @@
-use Rattle.std.proofs.Common.{ℕ, List, [], drop, refl, ap, ◌∙◌}
+use Rattle.std.proofs.Common.{[], drop, refl, ap, ◌∙◌}
 use Rattle.elf_object.specs.Object.{Object}
 use Rattle.elf_types.specs.declared.errors.ElfError.TheVariants.{Unended}
 use Rattle.elf_types.specs.Answers.{or_refused}

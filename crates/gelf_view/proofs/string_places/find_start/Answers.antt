@@ -1,4 +1,4 @@
-use Rattle.std.proofs.Common.{◌≡◌, ◌<◌, ℕ, subst, arith}
+use Rattle.std.proofs.Common.{◌≡◌, ℕ, subst, arith}
 use Rattle.elf_object.specs.Answers.{piece_count}
 use Rattle.gelf_view.proofs.HomeLemmas.{below_count}
 use Rattle.gelf_view.proofs.StringLemmas.{piece_of_bytes}

@@ -1,4 +1,4 @@
-use Rattle.std.proofs.Common.{ℕ, Option, sym, ap, ◌∙◌}
+use Rattle.std.proofs.Common.{Option, sym, ap, ◌∙◌}
 use Rattle.std.specs.Option.{option_map}
 use Rattle.elf_types.specs.declared.records.ScnId.{ScnId}
 use Rattle.gelf_view.proofs.IndexTables.{extended_answers, extended_none}

@@ -1,4 +1,4 @@
-use Rattle.std.proofs.Common.{◌≡◌, ◌<◌, length, sym, ◌∙◌, below_more, subst, arith}
+use Rattle.std.proofs.Common.{◌≡◌, length, sym, ◌∙◌, below_more, arith}
 use Rattle.elf_object.specs.Object.{section_at}
 use Rattle.gelf_view.proofs.IndexTables.{table_found, table_absent}
 use Rattle.gelf_view.proofs.symbol_calls.shndx_table.Goals as goal

@@ -1,5 +1,4 @@
 use Rattle.std.proofs.Common.{Ok, Err, sym, ◌∙◌}
-use Rattle.gelf_view.specs.declared.symbols.SymPlace.{SymPlace}
 use Rattle.gelf_view.proofs.SymbolCalls.{low_answers, special_answers, extended_answers}
 use Rattle.gelf_view.proofs.symbol_calls.symbol_place.Goals as goal
 

@@ -1,10 +1,9 @@
 use Rattle.std.proofs.Common.{arith}
 use Rattle.elf_object.specs.Answers.{count_at}
 use Rattle.gelf_view.proofs.ChainCalls.{found_lies}
-use Rattle.std.proofs.Common.{true, List, ℕ, [], Result, sym, ap, ◌∙◌, subst}
+use Rattle.std.proofs.Common.{true, [], sym, ap, ◌∙◌, subst}
 use Rattle.elf_types.specs.declared.records.Order.{Order}
 use Rattle.elf_types.specs.declared.records.Kind.TheVariants as kinds
-use Rattle.elf_types.specs.declared.errors.ElfError.{ElfError}
 use Rattle.elf_object.specs.Words.{result_map}
 use Rattle.elf_object.specs.Object.{Object}
 use Rattle.elf_object.specs.Answers.{lend_refusal}
