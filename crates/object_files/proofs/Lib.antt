@@ -1,3 +1,4 @@
 pub mod WriteLemmas
 pub mod EditLemmas
 pub mod SaidLemmas
+pub mod ObjectLemmas
