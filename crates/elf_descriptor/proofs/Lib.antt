@@ -41,3 +41,6 @@ pub mod Keeping
 pub mod Rebasing
 pub mod CutCalls
 pub mod SpareCalls
+pub mod Settling
+pub mod ReopenedObjects
+pub mod SettleCalls

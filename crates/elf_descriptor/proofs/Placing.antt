@@ -192,7 +192,7 @@ module _ {S : Type 0} (g : Ghosts S) (source : S) (old new : Body) (places : Pla
   unfolding derived_header
   order_same = ap (λ (b : Body). b.header.order) stores.rest
 
-  count_same : length new.sections.items ≡ length old.sections.items
+  pub count_same : length new.sections.items ≡ length old.sections.items
   count_same =
       ap length stores.sections
       ∙ length-map (enumerate_from 0 old.sections.items) (λ (row : ℕ × Scn). stored_scn places (stored_header places old) row.0 row.1)

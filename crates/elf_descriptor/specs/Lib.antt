@@ -13,6 +13,7 @@ pub mod Rooms
 pub mod Places
 pub mod Cuts
 pub mod Fronts
+pub mod Settling
 pub mod Rests
 pub mod Edits
 pub mod Created

@@ -15,6 +15,7 @@ mod opening;
 mod parts;
 mod places;
 mod rooms;
+mod settling;
 mod sizes;
 mod spares;
 mod storing;

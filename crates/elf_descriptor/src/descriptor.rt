@@ -20,6 +20,7 @@ mod lends;
 mod places;
 mod reading;
 mod rooms;
+mod settling;
 mod stores;
 mod there;
 

@@ -1,0 +1,9 @@
+-- The program headers so far.
+use Rattle.std.specs.Prelude.{All}
+use Rattle.std.proofs.Common.{take}
+use Rattle.elf_xlate.specs.Headers.{IsPhdr}
+use Rattle.elf_descriptor.proofs.Settling.{IsCopying}
+use Rattle.elf_descriptor.proofs.body.settling.copy_phdrs.Given as goal
+
+abbrev pub invariant-loop-i : goal.invariant-loop-i
+invariant-loop-i l = IsCopying l.i l.from l.to × All IsPhdr (take l.i l.from)
