@@ -1,6 +1,6 @@
 -- The call of the library that each line of a script stands for, and the form of its answer: a call
 -- of the plain object, or a getter and then the update with what it gave, one field changed.
-use Rattle.std.specs.Prelude.{ℕ, Bool, true, false, Option, Some, None, option_map, slice_get, Result, Ok, Err}
+use Rattle.std.specs.Prelude.{ℕ, Option, Some, None, option_map, slice_get, Result, Ok, Err}
 use Rattle.elf_xlate.specs.declared.content.Items.{Items}
 use Rattle.elf_xlate.specs.declared.content.Items.TheVariants as items
 use Rattle.elf_xlate.specs.Translation.{items_kind, items_count}

@@ -1,6 +1,6 @@
 //! One call of a script, applied to a descriptor.
 
-ghost use Rattle.std.specs.Prelude.{◌≡◌, true, IfOk};
+ghost use Rattle.std.specs.Prelude.{IfOk};
 ghost use Rattle.calls_apply.specs.Applies.{Applies, result_of};
 ghost use Rattle.calls_apply.specs.Forms.{IsAnswerOf};
 

@@ -1,6 +1,6 @@
 -- Tables of fields, of which each row is a number below a bound: what they say of a field that they have, and of a word that is
 -- no number, which is the value of no field.
-use Rattle.std.proofs.Common.{◌≡◌, ◌^◌, ℕ, Bool, true, false, List, [], ◌∷◌, Option, Some, None, option_map, Ok, Err, IfSome, refl, sym, subst, ap, ◌∙◌}
+use Rattle.std.proofs.Common.{◌≡◌, ◌^◌, ℕ, Bool, true, false, List, [], ◌∷◌, Option, Some, option_map, Ok, Err, IfSome, refl, sym, subst, ap, ◌∙◌}
 use Rattle.std.specs.Prelude.{bytes_eq, if◌then◌else◌}
 use Rattle.std.specs.Bool.{then_some}
 use Rattle.elf_types.specs.Answers.{or_refused, ◌>>=◌}

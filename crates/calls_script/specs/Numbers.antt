@@ -1,6 +1,6 @@
 -- The words of a script that stand for numbers and bytes: their form, and what they stand for. The
 -- form of a number is its digits and how many there are, whatever its range.
-use Rattle.std.specs.Prelude.{ℕ, ℤ, pos, negsuc, neg_ℤ, ◌^◌, ◌&&◌, Bool, List, [], length, drop, nat_le, nat_lt, nat_eq, bytes_eq, Option, Some, None, option_map, codes, if◌then◌else◌}
+use Rattle.std.specs.Prelude.{ℕ, ℤ, pos, negsuc, neg_ℤ, ◌^◌, ◌&&◌, List, [], length, drop, nat_le, nat_lt, nat_eq, bytes_eq, Option, Some, None, option_map, codes, if◌then◌else◌}
 use Rattle.std.specs.List.{starts_with}
 use Rattle.std.specs.Result.{result_ok}
 use Rattle.std.specs.Str.Parse.{digits_value}

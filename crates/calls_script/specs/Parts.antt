@@ -1,5 +1,5 @@
 -- The grammar of a line: what may stand in it, phrase by phrase, and what each says.
-use Rattle.std.specs.Prelude.{◌==◌, ℕ, ℤ, ◌^◌, List, [], ◌∷◌, length, bytes_eq, nat_le, Option, Some, None, option_map, Result, Ok, Err, if◌then◌else◌}
+use Rattle.std.specs.Prelude.{◌==◌, ℕ, ℤ, ◌^◌, List, [], ◌∷◌, length, nat_le, Option, Some, None, option_map, Result, Ok, Err, if◌then◌else◌}
 use Rattle.std.specs.List.{slice_split, join_with_byte}
 use Rattle.std.specs.Option.{option_zip}
 use Rattle.std.specs.Str.{byte}

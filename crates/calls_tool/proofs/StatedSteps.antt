@@ -1,14 +1,12 @@
 -- The calls of a script: none changes a home, and none names a home twice.
-use Rattle.std.proofs.Common.{ℕ, Bool, true, false, List, [], ◌∷◌, Option, Result, Ok, Err}
-use Rattle.std.specs.Prelude.{if◌then◌else◌, is_none}
+use Rattle.std.proofs.Common.{ℕ, List, [], ◌∷◌, Result, Ok, Err}
 use Rattle.elf_types.specs.declared.errors.ElfError.{ElfError}
-use Rattle.elf_types.specs.Answers.{err_of}
 use Rattle.elf_xlate.specs.declared.content.Items.TheVariants as items
-use Rattle.elf_object.specs.Object.{Object, section_at, piece_at, header_of, home_is_clean}
+use Rattle.elf_object.specs.Object.{Object, header_of}
 use Rattle.elf_object.specs.Answers.{items_at, kind_at}
 use Rattle.elf_object.specs.Calls as calls
-use Rattle.elf_object.specs.Calls.{step, after_answer, phdr_answer, shdr_answer, piece_reads}
-use Rattle.elf_object.specs.Due.{unless_refused, is_refused_unread, when_clean, when_piece_clean}
+use Rattle.elf_object.specs.Calls.{step, after_answer, phdr_answer, shdr_answer}
+use Rattle.elf_object.specs.Due.{unless_refused, when_clean, when_piece_clean}
 use Rattle.elf_object.specs.Runs.{looked, after_look, set_item, added}
 use Rattle.elf_object.specs.Steps.{with_own}
 use Rattle.symbol_lookup.specs.Lookups.{link_of, linear_needs, linear_refusal, table_homes}

@@ -1,5 +1,5 @@
 -- What the calls of a script say and leave, run on an object one after another.
-use Rattle.std.specs.Prelude.{◌≡◌, ◌≤◌, ◌⊎◌, ℕ, Bool, true, List, map, take, length, All, Option, None, Result, Ok, Err, OnOk, OnErr, IsTrue, IfSome, IfNone}
+use Rattle.std.specs.Prelude.{◌≡◌, ◌≤◌, ◌⊎◌, ℕ, Bool, List, map, take, length, Option, None, Result, Ok, Err, OnOk, OnErr, IsTrue, IfSome, IfNone}
 use Rattle.elf_types.specs.declared.errors.ElfError.{ElfError}
 use Rattle.elf_outside.specs.declared.sources.Source.{Ghosts as SourceGhosts}
 use Rattle.elf_outside.specs.declared.sinks.Sink.{Ghosts as SinkGhosts}

@@ -8,7 +8,6 @@ use Rattle.std.proofs.Math.ListN.{get_or-eq_default}
 use Rattle.elf_types.specs.Answers.{refused_if, first_refusal, err_of}
 use Rattle.elf_types.specs.Kinds.{section_kind}
 use Rattle.elf_types.specs.declared.records.Kind.{Kind}
-use Rattle.elf_types.specs.declared.records.Kind.TheVariants as kinds
 use Rattle.elf_types.specs.declared.records.Shdr.{Shdr}
 use Rattle.elf_types.specs.declared.errors.ElfError.{ElfError}
 use Rattle.elf_types.specs.declared.errors.ElfError.TheVariants.{NoSection, NoData, WrongKind, OutOfFile, Ragged}
