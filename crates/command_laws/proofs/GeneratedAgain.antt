@@ -39,7 +39,8 @@ use Rattle.command_objects.specs.Rebuilt.{made_section}
 use Rattle.command_objects.specs.Generated.{zero_sym, generated_sym, generated_symtab, generated_strtab, generated_symbol_names, generated, generated_and_shifted}
 use Rattle.command_laws.proofs.NameLemmas.{symbol_name}
 use Rattle.command_laws.proofs.TableLemmas.{symbol_placed, length-symbol_table, symbol_table_bytes}
-use Rattle.command_laws.proofs.StringLemmas.{section_at-settled, at_home, settled_is, content_inside, string_alone}
+use Rattle.elf_object.proofs.SettledSections.{section_at-settled}
+use Rattle.command_laws.proofs.StringLemmas.{at_home, settled_is, content_inside, string_alone}
 use Rattle.command_laws.proofs.GeneratedObject.{strtab, symtab_with, shifted_symbols, shifted, shifted_is}
 use Rattle.command_laws.proofs.GeneratedIs.{generated_object}
 use Rattle.command_laws.proofs.GeneratedParts.{count_is, symtab_at, strtab_at, strtab_bytes_are}

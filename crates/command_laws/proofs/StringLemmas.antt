@@ -1,10 +1,7 @@
 -- A section whose one piece is its home: what stands in it, and the strings that are read there.
-use Rattle.std.proofs.Common.{◌≡◌, ℕ, ◌+◌, ◌-◌, ◌<◌, Bool, true, false, List, [], ◌∷◌, length, get_or, drop, Option, Some, None, Result, Ok, Err, refl, sym, ap, ◌∙◌, arith}
+use Rattle.std.proofs.Common.{◌≡◌, ℕ, ◌+◌, ◌-◌, ◌<◌, Bool, true, false, List, [], ◌∷◌, length, drop, Option, Some, None, Result, Ok, Err, refl, sym, ap, ◌∙◌, arith}
 use Rattle.std.specs.Prelude.{not, nat_le, nat_lt, ◌&&◌, if◌then◌else◌}
-use Rattle.std.specs.List.{enumerate_from}
 use Rattle.std.proofs.lemmas.Bool.{lt-leb, lt-ltb, le-leb}
-use Rattle.std.proofs.lemmas.List.{get_or-map}
-use Rattle.std.proofs.lemmas.List.FromFn.{get_or-enumerate_from, length-enumerate_from}
 use Rattle.elf_types.specs.Answers.{refused_if, first_refusal, answered}
 use Rattle.elf_types.specs.declared.errors.ElfError.{ElfError}
 use Rattle.elf_types.specs.declared.errors.ElfError.TheVariants.{OutOfFile, Ragged, Unended}
@@ -17,24 +14,14 @@ use Rattle.elf_xlate.specs.Translation.{decoded}
 use Rattle.elf_layout.specs.Layout.{rounded_up}
 use Rattle.strtab_build.specs.Table.{string_at}
 use Rattle.elf_object.specs.Blocks.{Block, block_covers, block_end, stacked}
-use Rattle.elf_object.specs.Object.{Object, Section, section_at, absent_section, home_piece, home_is_clean}
+use Rattle.elf_object.specs.Object.{Object, Section, section_at, home_piece, home_is_clean}
 use Rattle.elf_object.specs.Open.{home_of, home_len}
 use Rattle.elf_object.specs.Answers.{content}
-use Rattle.elf_object.specs.Joined.{piece_bytes, aligned_pieces, piece_blocks, file_bytes}
+use Rattle.elf_object.specs.Joined.{piece_bytes, aligned_pieces, piece_blocks}
 use Rattle.elf_object.specs.Strings.{holds_strings, piece_over, has_nul, bytes_from, string_in, string_refusal_unread, string_refusal, string_answer}
-use Rattle.elf_object.specs.Settled.{settled_section, settled_over}
+use Rattle.elf_object.specs.Settled.{settled_section}
 
 -- ---- A settled section
-
-pub section_at-settled : (image : List ℕ) (q : Object) (s : ℕ) → s < length q.sections → section_at (settled_over image q) s ≡ settled_section (length image) (file_bytes q s) (section_at q s).header
-unfolding section_at settled_over
-section_at-settled image q s h =
-    let count = length-enumerate_from 0 q.sections in
-    let row : get_or (enumerate_from 0 q.sections) s (0, absent_section) ≡ (0 + s, get_or q.sections s absent_section) = get_or-enumerate_from 0 q.sections s (0, absent_section) h in
-    let number : 0 + s ≡ s = omega arith in
-    get_or-map (λ (r : ℕ × Section). settled_section (length image) (file_bytes q r.0) r.1.header) (enumerate_from 0 q.sections) s (0, absent_section) absent_section (omega arith)
-    ∙ ap (λ (r : ℕ × Section). settled_section (length image) (file_bytes q r.0) r.1.header) row
-    ∙ ap (λ (k : ℕ). settled_section (length image) (file_bytes q k) (get_or q.sections s absent_section).header) number
 
 -- a section of a kind that lies in the file, with its bytes
 abbrev pub at_home : Shdr → Kind → List ℕ → Section
