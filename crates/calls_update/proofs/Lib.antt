@@ -1,0 +1,3 @@
+mod DueLemmas
+mod LeftLemmas
+mod CallsLemmas
