@@ -37,6 +37,8 @@ pub mod Unloading
 pub mod Rows
 pub mod Sizes
 pub mod Placing
+pub mod FrontTables
+pub mod FrontCalls
 pub mod Keeping
 pub mod Rebasing
 pub mod CutCalls

@@ -10,7 +10,7 @@ use Rattle.elf_types.specs.declared.records.Ehdr.{Ehdr}
 use Rattle.elf_types.specs.declared.records.Shdr.{Shdr}
 use Rattle.elf_layout.specs.declared.parts.PartAt.{PartAt}
 use Rattle.elf_layout.specs.declared.parts.Places.{Places}
-use Rattle.elf_layout.specs.Layout.{positions, standing, refusal_of, places_of as parts_places}
+use Rattle.elf_layout.specs.Layout.{positions, standing, places_of as parts_places}
 use Rattle.elf_outside.specs.declared.sources.Source.{Ghosts}
 use Rattle.elf_object.specs.Object.{Object, Section, section_at, header_of, occupies_file, has_file_bytes, is_null, is_dirty}
 use Rattle.elf_object.specs.Joined.{file_bytes, pieces_end}
@@ -34,12 +34,13 @@ use Rattle.elf_descriptor.specs.declared.body.Body.{Body}
 use Rattle.elf_descriptor.specs.State.{State}
 use Rattle.elf_descriptor.specs.Views.{object_of, section_of, scn_at, absent_scn, loaded_of, held_of, room_of, ready_of, is_of_source, has_lengths, state_of, HasCounts}
 use Rattle.elf_descriptor.specs.Sound.{IsElf, IsSound, CellIn}
+use Rattle.elf_descriptor.specs.Fronts.{stored_shdrs}
 use Rattle.elf_descriptor.specs.Edits.{homes_of, without_pieces}
 use Rattle.elf_descriptor.specs.Places.{HasPlaces, StoresHeaders, StoresPlaces, stored_header, stored_scn, stored_shdr, stored_size}
 use Rattle.elf_descriptor.proofs.Objects.{section_is, section_count_is, header_is}
 use Rattle.elf_descriptor.proofs.Warming.{cell_moved, standing_moved, part_within}
 use Rattle.elf_descriptor.proofs.EditLaws.{has_counts, step_sound, cells_kept, loaded_kept, held_kept, room_kept}
-use Rattle.elf_descriptor.proofs.Rows.{changed_from, all_from, row_same, row_changed, rows_changed, rows_count, rows_map, rows_keep}
+use Rattle.elf_descriptor.proofs.Rows.{changed_from, all_from, row_same, row_changed, rows_changed, rows_count, rows_map, rows_keep, rows_heads}
 use Rattle.elf_descriptor.proofs.Sizes.{size_is}
 
 -- ---- There is a place for each part
@@ -85,13 +86,21 @@ module _ (places : Places) (h : Ehdr) where
 
 -- ---- The object
 
+-- an update that is not refused is not too large
+pub limited_places : (o : Object) → placing_refusal o ≡ None → AreNotTooLarge (parts_of o) o.layout (length o.base) o.header.class
+unfolding placing_refusal
+limited_places o passed = not_too_large (parts_of o) o.layout (length o.base) o.header.class passed
+
+limited : (o : Object) → is_dirty o ≡ true → refusal o ≡ None → AreNotTooLarge (parts_of o) o.layout (length o.base) o.header.class
+limited o dirty passed = limited_places o (update_passes o dirty passed).1
+
 module _ (image : Option (List ℕ)) (size : ℕ) (b : Body) (is : IsElf image size b) (lengths : SizesAreLengths) where
   o : Object
   o = object_of image size b
 
-  module _ (dirty : is_dirty (object_of image size b) ≡ true) (passed : refusal (object_of image size b) ≡ None) where
+  module _ (small : AreNotTooLarge (parts_of (object_of image size b)) (object_of image size b).layout (length (object_of image size b).base) (object_of image size b).header.class) where
     -- the header is that of the placed object
-    header_same : (places : Places) → stored_header places b ≡ placed_header places (object_of image size b)
+    pub header_same : (places : Places) → stored_header places b ≡ placed_header places (object_of image size b)
     unfolding placed_header
     header_same places =
         ap (λ (n : ℕ). derived_header (segments_place places) (table_place places n) b.header) (sym (section_count_is image size b))
@@ -100,12 +109,11 @@ module _ (image : Option (List ℕ)) (size : ℕ) (b : Body) (is : IsElf image s
     -- a section's size in the file
     size_same : (i : ℕ) (x : Scn) → i < length b.sections.items → scn_at b i ≡ x → (i == 0) ≡ false → occupies_file x.header ≡ true
         → min (data_size b.header.class x.cell) (2 ^ 64 - 1) ≡ length (file_bytes (object_of image size b) i)
-    unfolding has_file_bytes section_of refusal_of placing_refusal
+    unfolding has_file_bytes section_of
     size_same i x there at first filled =
         let p = object_of image size b in
         let here : section_at p i ≡ section_of image x = section_is image size b i ∙ ap (section_of image) at in
         let occupies : occupies_file (section_at p i).header ≡ true = ap (λ (c : Section). occupies_file c.header) here ∙ filled in
-        let small = not_too_large (parts_of p) p.layout (length p.base) p.header.class (update_passes p dirty passed).1 in
         let count = section_count_is image size b in
         let positive = eqb-false i 0 first in
         let fits = size_fits p i small (above_zero i positive) (subst (λ (n : ℕ). i < n) (sym count) there) occupies in
@@ -155,9 +163,20 @@ module _ (image : Option (List ℕ)) (size : ℕ) (b : Body) (is : IsElf image s
         ap (λ (h : Shdr). record (section_of image x) { header = h })
         (shdr_same places i x (slice_get_within b.sections.items i x at) (get_or_from_slice_get b.sections.items i x absent_scn at))
 
-    pub placed_object : (new : Body) (places : Places) → places ≡ places_of (object_of image size b) → StoresPlaces places b new → object_of image size new ≡ placed (object_of image size b)
+    -- the section headers
+    pub headers_same : (places : Places) → stored_shdrs places (stored_header places b) b ≡ map (λ c. c.header) (placed_by places (object_of image size b)).sections
+    unfolding object_of placed_by placed_section section_of scn_at
+    headers_same places =
+        rows_heads (section_of image) (λ s x. stored_shdr (stored_header places b) s (section_place places s) x) (λ s c. placed_section places (object_of image size b) s c) (λ c. c.header) 0 b.sections.items
+        (λ i x at. let number : 0 + i ≡ i = omega arith in
+        ap (λ (n : ℕ). stored_shdr (stored_header places b) n (section_place places n) x) number
+        ∙ shdr_same places i x (slice_get_within b.sections.items i x at) (get_or_from_slice_get b.sections.items i x absent_scn at)
+        ∙ ap (λ (n : ℕ). placed_shdr places (object_of image size b) n x.header) (sym number))
+
+    pub placed_object : (new : Body) (places : Places) → is_dirty (object_of image size b) ≡ true → places ≡ places_of (object_of image size b) → StoresPlaces places b new
+        → object_of image size new ≡ placed (object_of image size b)
     unfolding object_of placed placed_by
-    placed_object new places same stores =
+    placed_object new places dirty same stores =
         let p = object_of image size b in
         let rows : map (section_of image) new.sections.items ≡ map (λ row. placed_section places p row.0 row.1) (enumerate_from 0 p.sections) =
         ap (λ (l : List Scn). map (section_of image) l) stores.sections
@@ -182,7 +201,7 @@ module _ {S : Type 0} (g : Ghosts S) (source : S) (old new : Body) (places : Pla
     (dirty : is_dirty (object_of (g.holds source) (g.size source) old) ≡ true) (passed : refusal (object_of (g.holds source) (g.size source) old) ≡ None)
     (same : places ≡ places_of (object_of (g.holds source) (g.size source) old)) (stores : StoresPlaces places old new) where
   object : object_of (g.holds source) (g.size source) new ≡ placed (object_of (g.holds source) (g.size source) old)
-  object = placed_object (g.holds source) (g.size source) old is lengths dirty passed new places same stores
+  object = placed_object (g.holds source) (g.size source) old is lengths (limited (object_of (g.holds source) (g.size source) old) dirty passed) new places dirty same stores
 
   class_same : new.header.class ≡ old.header.class
   unfolding derived_header

@@ -7,6 +7,7 @@ mod bases;
 mod checks;
 mod creating;
 mod edits;
+mod fronts;
 mod getters;
 mod homes;
 mod lending;

@@ -13,7 +13,7 @@ use elf_types::constants::SHT_NULL;
 use elf_types::{Class, Ehdr, Shdr};
 
 /// The place of the part with a rank, which is there.
-fn place_of(places: &Places, rank: u64) -> u64
+pub(super) fn place_of(places: &Places, rank: u64) -> u64
     requires { rank < length places.now.at }
     ensures { result ≡ slice_index places.now.at rank }
 {
@@ -36,7 +36,7 @@ impl Scn {
 
     /// The header of a section with a number and a place in an object with that ELF header.
     #[tactic(auto, unfolding(crate::specs::Places::stored_shdr))]
-    fn stored_shdr(&self, h: &Ehdr, s: u32, at: u64) -> Shdr
+    pub(super) fn stored_shdr(&self, h: &Ehdr, s: u32, at: u64) -> Shdr
         ensures { result ≡ stored_shdr h.now s at self.now }
     {
         if s == 0 {
@@ -80,7 +80,7 @@ impl Body {
     }
 
     /// The ELF header with the places of the tables.
-    fn stored_header(&self, places: &Places) -> Ehdr
+    pub(super) fn stored_header(&self, places: &Places) -> Ehdr
         requires counts { HasCounts self.now }
         requires places { HasPlaces places.now (length self.now.sections.items) }
         ensures { result ≡ stored_header places.now self.now }

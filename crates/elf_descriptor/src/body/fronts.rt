@@ -1,0 +1,240 @@
+//! Whether a part of the front is the one that stands in the image.
+
+ghost use Rattle.std.specs.Prelude.{◌≡◌, ◌+◌, ◌<◌, ◌==◌, ℕ, List, Option, None, not, true, length, slice_get, Some, IfSome, IsTrue, All, [], refl};
+ghost use Rattle.std.specs.Bool.{Decides};
+ghost use Rattle.elf_types.specs.declared.records.Class.{Class as TheClass};
+ghost use Rattle.elf_types.specs.declared.records.Order.{Order as TheOrder};
+ghost use Rattle.elf_layout.specs.declared.parts.Places.{Places as ThePlaces};
+ghost use Rattle.elf_xlate.specs.Headers.{HasNarrowCounts, IsEhdr, IsPhdr, IsShdr, ehdr_bytes, ehdr_fits, phdr_fits, shdr_fits};
+ghost use Rattle.elf_ident.specs.Reading.{IsStored, IsPhdrTable, IsShdrTable};
+ghost use Rattle.elf_object.specs.Blocks.{same_block, same_extent};
+ghost use Rattle.elf_object.specs.Changed.{front_differs};
+ghost use Rattle.elf_object.specs.Layout.{places_of, section_place};
+ghost use Rattle.elf_object.specs.Open.{phdrs_bytes, shdrs_bytes};
+ghost use Rattle.elf_object.specs.Refusal.{content_refusal, placing_refusal};
+ghost use Rattle.elf_descriptor.specs.Fronts.{Compares, IsOfFront, stored_shdrs};
+ghost use Rattle.elf_descriptor.specs.Places.{HasPlaces, stored_header, stored_shdr};
+ghost use Rattle.elf_descriptor.specs.Sound.{IsElf, IsStanding};
+ghost use Rattle.elf_descriptor.specs.Views.{HasCounts, object_of, scn_at};
+
+use crate::body::places::place_of;
+use crate::body::{Body, Written};
+use elf_layout::Places;
+use elf_object::written_header;
+use elf_types::{Ehdr, Part, Phdr, Shdr};
+use elf_xlate::{ehdr_both_ways, phdr_both_ways, shdr_both_ways};
+use object_laws::laws::sizes_are_lengths;
+
+/// Whether two ELF headers are the same. The first is in the range of its type.
+fn same_ehdr(one: Ehdr, other: Ehdr) -> bool
+    ensures same { Decides result (one ≡ other) }
+    ensures ranged { IsEhdr one }
+{
+    one == other
+}
+
+/// The same of two program headers.
+fn same_phdr(one: Phdr, other: Phdr) -> bool
+    ensures same { Decides result (one ≡ other) }
+    ensures ranged { IsPhdr one }
+{
+    one == other
+}
+
+/// The same of two section headers.
+fn same_shdr(one: Shdr, other: Shdr) -> bool
+    ensures same { Decides result (one ≡ other) }
+    ensures ranged { IsShdr one }
+{
+    one == other
+}
+
+/// Whether two extents are alike: empty ones are, wherever they stand.
+#[tactic(auto, unfolding(elf_object::specs::Blocks::same_extent))]
+fn same_extent(a: u64, m: u64, b: u64, n: u64) -> bool
+    ensures value { result ≡ same_extent a m b n }
+    ensures alike { result ≡ true → m ≡ n }
+{
+    a == b && m == n || m == 0 && n == 0
+}
+
+/// Whether two rests of an identification are the same.
+fn same_pad(one: [u8; 7], other: [u8; 7]) -> bool
+    ensures { Decides result (one ≡ other) }
+{
+    one == other
+}
+
+/// The program header at an index of a table.
+fn phdr_at(table: &[Phdr], i: usize) -> Phdr
+    requires { i < length table.now }
+    ensures { slice_get table.now i ≡ Some result }
+{
+    table[i]
+}
+
+/// The section header at an index of a table.
+fn shdr_at(table: &[Shdr], i: usize) -> Shdr
+    requires { i < length table.now }
+    ensures { slice_get table.now i ≡ Some result }
+{
+    table[i]
+}
+
+/// Whether two tables of as many program headers are the same.
+fn same_phdrs(ones: &[Phdr], others: &[Phdr]) -> bool
+    requires { length ones.now ≡ length others.now }
+    ensures { Compares IsPhdr result ones.now others.now }
+{
+    for i in 0..ones.len() {
+        let one = phdr_at(ones, i);
+        let other = phdr_at(others, i);
+        if !same_phdr(one, other) {
+            return false;
+        }
+    }
+    true
+}
+
+impl Body {
+    /// Whether the ELF header, as it is written, is the one that stands in the image.
+    fn same_header(&self, front: &Written, h: &Ehdr) -> bool
+        requires { HasNarrowCounts h.now }
+        ensures { IsTrue (ehdr_fits h.now) → length self.now.pad ≡ 7
+            → h.now.class ≡ front.now.header.class → h.now.order ≡ front.now.header.order
+            → IsStored front.now.header front.now.pad
+            → result ≡ same_block (record { at = 0; bytes = ehdr_bytes h.now self.now.pad })
+            (record { at = 0; bytes = ehdr_bytes front.now.header front.now.pad }) }
+    {
+        ehdr_both_ways();
+        let same = same_ehdr(*h, front.header);
+        let alike = same_pad(self.pad, front.pad);
+        same && alike
+    }
+
+    /// Whether the program header table, with that place, is the one that stands in the image.
+    fn same_segments(&self, front: &Written, at: u64) -> bool
+        ensures { (class : TheClass) (order : TheOrder)
+            → All (λ p. IsTrue (phdr_fits class p)) self.now.phdrs
+            → IsPhdrTable class (length front.now.phdrs) front.now.phdrs
+            → result ≡ same_block
+            (record { at = at; bytes = phdrs_bytes class order self.now.phdrs })
+            (record { at = front.now.header.phoff;
+              bytes = phdrs_bytes class order front.now.phdrs }) }
+    {
+        phdr_both_ways();
+        if !same_extent(at, self.phdrs.len(), front.header.phoff, front.phdrs.len()) {
+            return false;
+        }
+        same_phdrs(self.phdrs.as_slice(), front.phdrs.as_slice())
+    }
+
+    /// Whether a section's header, with its place and its size stored, is the one with its number in
+    /// a table.
+    fn same_at(&self, places: &Places, h: &Ehdr, table: &[Shdr], s: u32) -> bool
+        requires there { s < length self.now.sections.items }
+        requires places { s + 1 < length places.now.at }
+        requires table { s < length table.now }
+        ensures same { Decides result (slice_get table.now s
+            ≡ Some (stored_shdr h.now s (section_place places.now s) (scn_at self.now s))) }
+        ensures ranged { IsShdr
+            (stored_shdr h.now s (section_place places.now s) (scn_at self.now s)) }
+    {
+        let at = place_of(places, u64::from(s) + 1);
+        same_shdr(self.scn(s).stored_shdr(h, s, at), shdr_at(table, s as usize))
+    }
+
+    /// Whether the section headers, with places and sizes stored in them, are those of a table.
+    fn same_shdrs(&self, places: &Places, h: &Ehdr, table: &[Shdr]) -> bool
+        requires counts { HasCounts self.now }
+        requires places { HasPlaces places.now (length self.now.sections.items) }
+        requires count { length self.now.sections.items ≡ length table.now }
+        ensures { Compares IsShdr result (stored_shdrs places.now h.now self.now) table.now }
+    {
+        let count = self.header.shnum;
+        for s in 0..count {
+            if !self.same_at(places, h, table, s) {
+                return false;
+            }
+        }
+        true
+    }
+
+    /// Whether the section header table, with the place that an ELF header gives it, is the one that
+    /// stands in the image.
+    fn same_table(&self, front: &Written, places: &Places, h: &Ehdr) -> bool
+        requires counts { HasCounts self.now }
+        requires places { HasPlaces places.now (length self.now.sections.items) }
+        ensures { (class : TheClass) (order : TheOrder)
+            → All (λ x. IsTrue (shdr_fits class x)) (stored_shdrs places.now h.now self.now)
+            → IsShdrTable class (length front.now.shdrs) front.now.shdrs
+            → result ≡ same_block (record { at = h.now.shoff;
+              bytes = shdrs_bytes class order (stored_shdrs places.now h.now self.now) })
+            (record { at = front.now.header.shoff;
+              bytes = shdrs_bytes class order front.now.shdrs }) }
+    {
+        shdr_both_ways();
+        let count = u64::from(self.header.shnum);
+        if !same_extent(h.shoff, count, front.header.shoff, front.shdrs.len()) {
+            return false;
+        }
+        self.same_shdrs(places, h, front.shdrs.as_slice())
+    }
+
+    /// Whether a part of the front, with places and sizes stored, is the one that stands in the
+    /// image.
+    fn same_front(&self, front: &Written, part: Part, places: &Places) -> bool
+        requires counts { HasCounts self.now }
+        requires places { HasPlaces places.now (length self.now.sections.items) }
+        requires part { IsOfFront part }
+        ensures { (image : Option (List ℕ)) (size : ℕ) → IsElf image size self.now
+            → self.now.written ≡ Some front.now
+            → places.now ≡ places_of (object_of image size self.now)
+            → content_refusal (object_of image size self.now) ≡ None
+            → placing_refusal (object_of image size self.now) ≡ None
+            → not result ≡ front_differs places.now (object_of image size self.now) part }
+    {
+        sizes_are_lengths();
+        let h = self.stored_header(places);
+        match part {
+            Part::Segments => self.same_segments(front, h.phoff),
+            Part::Table => self.same_table(front, places, &h),
+            Part::Header => self.same_header(front, &written_header(&h)),
+            _ => unreachable!(),
+        }
+    }
+
+    /// Whether a part of the front has bytes.
+    fn has_bytes(&self, part: Part) -> bool
+        requires counts { HasCounts self.now }
+        requires part { IsOfFront part }
+        ensures { (image : Option (List ℕ)) (size : ℕ) (places : ThePlaces)
+            → self.now.written ≡ None → IsElf image size self.now
+            → result ≡ front_differs places (object_of image size self.now) part }
+    {
+        match part {
+            Part::Segments => self.header.phnum != 0,
+            Part::Table => self.header.shnum != 0,
+            Part::Header => true,
+            _ => unreachable!(),
+        }
+    }
+
+    /// Whether a part of the front, with places and sizes stored, has another place or other bytes
+    /// than in the image as opened or last settled. It goes over the part's records once.
+    pub fn front_differs(&self, part: Part, places: &Places) -> bool
+        requires counts { HasCounts self.now }
+        requires places { HasPlaces places.now (length self.now.sections.items) }
+        requires part { IsOfFront part }
+        ensures { (image : Option (List ℕ)) (size : ℕ) → IsElf image size self.now
+            → places.now ≡ places_of (object_of image size self.now)
+            → content_refusal (object_of image size self.now) ≡ None
+            → placing_refusal (object_of image size self.now) ≡ None
+            → result ≡ front_differs places.now (object_of image size self.now) part }
+    {
+        match &self.written {
+            Some(front) => !self.same_front(front, part, places),
+            None => self.has_bytes(part),
+        }
+    }
+}
