@@ -22,7 +22,7 @@ use Rattle.elf_types.specs.declared.errors.ElfError.TheVariants.{Unfit}
 use Rattle.elf_xlate.specs.Headers.{ehdr_size, ehdr_bytes, ehdr_fits, phdr_size, phdr_fits, shdr_size, shdr_fits}
 use Rattle.elf_ident.specs.Reading.{IsStored, IsPhdrTable, IsShdrTable}
 use Rattle.elf_layout.specs.declared.parts.Places.{Places}
-use Rattle.elf_object.specs.Blocks.{Block, same_block}
+use Rattle.elf_object.specs.Blocks.{Block, same_block, same_extent}
 use Rattle.elf_object.specs.Object.{Object, Section, WrittenFront}
 use Rattle.elf_object.specs.Open.{no_front, front_in_image, phdrs_bytes, shdrs_bytes}
 use Rattle.elf_object.specs.Derived.{derived_header, written_header}
@@ -43,18 +43,23 @@ use Rattle.elf_descriptor.specs.declared.body.Body.{Body}
 use Rattle.elf_descriptor.specs.Views.{object_of, written_of}
 use Rattle.elf_descriptor.specs.Sound.{IsElf, IsStanding}
 use Rattle.elf_descriptor.specs.Places.{stored_header}
-use Rattle.elf_descriptor.specs.Fronts.{stored_shdrs}
+use Rattle.elf_descriptor.specs.Fronts.{TellsHeader, TellsSegments, TellsTable, segments_block, table_block, stored_shdrs}
 use Rattle.elf_descriptor.proofs.Objects.{section_count_is}
 use Rattle.elf_descriptor.proofs.Placing.{limited_places, header_same, headers_same}
 
 -- ---- Program headers that fit
 
-none_from : {X : Type 0} (test : X → Bool) (i : ℕ) (l : List X) → position_from (λ x. not (test x)) i l ≡ None → AllByRecursion (λ x. IsTrue (test x)) l
+none_from : {X : Type 0} (test : X → Bool) (i : ℕ) (l : List X)
+    → position_from (λ x. not (test x)) i l ≡ None → AllByRecursion (λ x. IsTrue (test x)) l
 none_from test i [] h = tt
 none_from test i (x ∷ l) h = by_test (not (test x)) refl h (none_from test (i + 1) l)
   where
-    by_test : (b : Bool) → not (test x) ≡ b → cond b (Some i) (position_from (λ y. not (test y)) (i + 1) l) ≡ None
-        → (position_from (λ y. not (test y)) (i + 1) l ≡ None → AllByRecursion (λ y. IsTrue (test y)) l) → IsTrue (test x) × AllByRecursion (λ y. IsTrue (test y)) l
+    abbrev others : Option ℕ
+    others = position_from (λ y. not (test y)) (i + 1) l
+
+    by_test : (b : Bool) → not (test x) ≡ b → cond b (Some i) others ≡ None
+        → (others ≡ None → AllByRecursion (λ y. IsTrue (test y)) l)
+        → IsTrue (test x) × AllByRecursion (λ y. IsTrue (test y)) l
     by_test true e g rest = cc
     by_test false e g rest = (not_not (test x) e, rest g)
 
@@ -62,155 +67,202 @@ none_mapped : {X Y : Type 0} (f : X → Y) (o : Option X) → option_map f o ≡
 none_mapped f None h = refl
 none_mapped f (Some x) h = cc
 
-segments_fit : (o : Object) → content_refusal o ≡ None → All (λ p. IsTrue (phdr_fits o.header.class p)) o.phdrs
+abbrev unfit : Class → Phdr → Bool
+unfit class p = not (phdr_fits class p)
+
+segments_fit : (o : Object) → content_refusal o ≡ None
+    → All (λ p. IsTrue (phdr_fits o.header.class p)) o.phdrs
 unfolding unfit_segment
 segments_fit o passed =
-    let none = none_mapped (Unfit part.Segments) (position (λ p. not (phdr_fits o.header.class p)) o.phdrs) (unrefused o passed).segment in
-    All-from_recursion (λ p. IsTrue (phdr_fits o.header.class p)) o.phdrs
-    (none_from (λ p. phdr_fits o.header.class p) 0 o.phdrs (sym (position_from-zero (λ p. not (phdr_fits o.header.class p)) o.phdrs) ∙ none))
+    let class = o.header.class in
+    let none =
+    none_mapped (Unfit part.Segments) (position (unfit class) o.phdrs)
+    (unrefused o passed).segment in
+    let from_zero = sym (position_from-zero (unfit class) o.phdrs) ∙ none in
+    All-from_recursion (λ p. IsTrue (phdr_fits class p)) o.phdrs
+    (none_from (phdr_fits class) 0 o.phdrs from_zero)
 
 -- ---- A front that stands in the image
 
-module _ (image : Option (List ℕ)) (size : ℕ) (b : Body) (is : IsElf image size b) (lengths : SizesAreLengths) (places : Places) (w : Written) (written : b.written ≡ Some w)
-    (same : places ≡ places_of (object_of image size b)) (passed : content_refusal (object_of image size b) ≡ None) (placing : placing_refusal (object_of image size b) ≡ None) where
-  o : Object
+module _ (image : Option (List ℕ)) (size : ℕ) (b : Body) (is : IsElf image size b)
+    (lengths : SizesAreLengths) (places : Places) (w : Written) (written : b.written ≡ Some w)
+    (same : places ≡ places_of (object_of image size b))
+    (passed : content_refusal (object_of image size b) ≡ None)
+    (placing : placing_refusal (object_of image size b) ≡ None) where
+  abbrev o : Object
   o = object_of image size b
 
+  -- the placed object, its header and its section headers, as they are worked out
+  abbrev q : Object
+  q = placed_by places o
+
+  abbrev h : Ehdr
+  h = stored_header places b
+
+  abbrev rows : List Shdr
+  rows = stored_shdrs places h b
+
   standing : IsStanding b.header.class b.header.order w
-  standing = subst (λ (f : Option Written). IfSome f (IsStanding b.header.class b.header.order)) written is.written
+  standing =
+      subst (λ (f : Option Written). IfSome f (IsStanding b.header.class b.header.order)) written
+      is.written
 
-  header : stored_header places b ≡ placed_header places (object_of image size b)
-  header = header_same image size b is lengths (limited_places (object_of image size b) placing) places
+  header : h ≡ placed_header places o
+  header = header_same image size b is lengths (limited_places o placing) places
 
-  sound : IsObject (placed_by places (object_of image size b))
-  sound = subst (λ (p : Places). IsObject (placed_by p (object_of image size b))) (sym same) (placed_by_is (object_of image size b) is.sound.object (limited_places (object_of image size b) placing))
+  headers : rows ≡ map (λ c. c.header) q.sections
+  headers = headers_same image size b is lengths (limited_places o placing) places
+
+  sound : IsObject q
+  sound =
+      subst (λ (p : Places). IsObject (placed_by p o)) (sym same)
+      (placed_by_is o is.sound.object (limited_places o placing))
 
   -- the class and the order of the header that is stored
-  stored_class : (stored_header places b).class ≡ b.header.class
+  stored_class : h.class ≡ b.header.class
   unfolding derived_header
   stored_class = refl
 
-  stored_order : (stored_header places b).order ≡ b.header.order
+  stored_order : h.order ≡ b.header.order
   unfolding derived_header
   stored_order = refl
 
-  fits : IsTrue (ehdr_fits (stored_header places b))
+  fits : IsTrue (ehdr_fits h)
   unfolding placed_by
-  fits = subst (λ (h : Ehdr). IsTrue (ehdr_fits h)) (sym header) sound.fitting
+  fits = subst (λ (k : Ehdr). IsTrue (ehdr_fits k)) (sym header) sound.fitting
 
-  written_fits : (h : Ehdr) → IsTrue (ehdr_fits h) → IsTrue (ehdr_fits (written_header h))
+  written_fits : (k : Ehdr) → IsTrue (ehdr_fits k) → IsTrue (ehdr_fits (written_header k))
   unfolding written_header
-  written_fits h all =
-      let each = ehdr_fits_each h all in
-      ehdr_fits_all (written_header h) (record { entry = each.entry; phoff = each.phoff; shoff = each.shoff })
+  written_fits k all =
+      let each = ehdr_fits_each k all in
+      ehdr_fits_all (written_header k)
+      (record { entry = each.entry; phoff = each.phoff; shoff = each.shoff })
 
   -- the front of the placed object, by what the program keeps
-  now : WrittenFront
-  now = front_in_image (written_header (stored_header places b)) b.pad b.phdrs (stored_shdrs places (stored_header places b) b)
+  abbrev now : WrittenFront
+  now = front_in_image (written_header h) b.pad b.phdrs rows
 
-  front_now : front_blocks (placed_by places (object_of image size b)) ≡ now
+  abbrev before : WrittenFront
+  before = front_in_image w.header w.pad w.phdrs w.shdrs
+
+  front_now : front_blocks q ≡ now
   unfolding front_blocks placed_by object_of
   front_now =
-      ap (λ (l : List Shdr). front_in_image (written_header (placed_header places (object_of image size b))) b.pad b.phdrs l) (sym (headers_same image size b is lengths (limited_places (object_of image size b) placing) places))
-      ∙ ap (λ (h : Ehdr). front_in_image (written_header h) b.pad b.phdrs (stored_shdrs places (stored_header places b) b)) (sym header)
+      let stored = placed_header places o in
+      ap (λ (l : List Shdr). front_in_image (written_header stored) b.pad b.phdrs l) (sym headers)
+      ∙ ap (λ (k : Ehdr). front_in_image (written_header k) b.pad b.phdrs rows) (sym header)
 
-  before : (object_of image size b).written_front ≡ front_in_image w.header w.pad w.phdrs w.shdrs
+  front_before : o.written_front ≡ before
   unfolding object_of
-  before = ap written_of written
+  front_before = ap written_of written
 
-  differs_is : (p : Part) → front_differs places (object_of image size b) p ≡ not (same_block (block_of p now) (block_of p (front_in_image w.header w.pad w.phdrs w.shdrs)))
+  differs_is : (p : Part)
+      → front_differs places o p ≡ not (same_block (block_of p now) (block_of p before))
   unfolding front_differs
   differs_is p =
-      ap (λ (f : WrittenFront). not (same_block (block_of p f) (block_of p (object_of image size b).written_front))) front_now
-      ∙ ap (λ (f : WrittenFront). not (same_block (block_of p now) (block_of p f))) before
+      ap (λ (f : WrittenFront). not (same_block (block_of p f) (block_of p o.written_front)))
+      front_now
+      ∙ ap (λ (f : WrittenFront). not (same_block (block_of p now) (block_of p f))) front_before
 
-  pub header_differs : (r : Bool)
-      → (IsTrue (ehdr_fits (written_header (stored_header places b))) → length b.pad ≡ 7 → (written_header (stored_header places b)).class ≡ w.header.class
-      → (written_header (stored_header places b)).order ≡ w.header.order → IsStored w.header w.pad
-      → r ≡ same_block (record { at = 0; bytes = ehdr_bytes (written_header (stored_header places b)) b.pad }) (record { at = 0; bytes = ehdr_bytes w.header w.pad }))
-      → not r ≡ front_differs places (object_of image size b) part.Header
+  header_differs : (r : Bool) → TellsHeader r (written_header h) b.pad w
+      → not r ≡ front_differs places o part.Header
   unfolding front_in_image written_header object_of
   header_differs r tells =
-      ap not (tells (written_fits (stored_header places b) fits) is.sound.object.pad (stored_class ∙ sym standing.class_is) (stored_order ∙ sym standing.order_is) standing.header)
+      let class = stored_class ∙ sym standing.class_is in
+      let order = stored_order ∙ sym standing.order_is in
+      ap not (tells (written_fits h fits) is.sound.object.pad class order standing.header)
       ∙ sym (differs_is part.Header)
 
-  pub segments_differ : (r : Bool)
-      → ((class : Class) (order : Order) → All (λ p. IsTrue (phdr_fits class p)) b.phdrs → IsPhdrTable class (length w.phdrs) w.phdrs
-      → r ≡ same_block (record { at = (stored_header places b).phoff; bytes = phdrs_bytes class order b.phdrs }) (record { at = w.header.phoff; bytes = phdrs_bytes class order w.phdrs }))
-      → not r ≡ front_differs places (object_of image size b) part.Segments
+  segments_differ : (r : Bool) → TellsSegments r h.phoff b.phdrs w
+      → not r ≡ front_differs places o part.Segments
   unfolding front_in_image written_header object_of
   segments_differ r tells =
       let class = b.header.class in
       let order = b.header.order in
-      let at = (stored_header places b).phoff in
-      ap not (tells class order (segments_fit (object_of image size b) passed) standing.phdrs)
-      ∙ ap (λ (c : Class). not (same_block (record { at = at; bytes = phdrs_bytes c order b.phdrs }) (record { at = w.header.phoff; bytes = phdrs_bytes class order w.phdrs }))) (sym stored_class)
-      ∙ ap (λ (c : Order). not (same_block (record { at = at; bytes = phdrs_bytes (stored_header places b).class c b.phdrs }) (record { at = w.header.phoff; bytes = phdrs_bytes class order w.phdrs }))) (sym stored_order)
-      ∙ ap (λ (c : Class). not (same_block (block_of part.Segments now) (record { at = w.header.phoff; bytes = phdrs_bytes c order w.phdrs }))) (sym standing.class_is)
-      ∙ ap (λ (c : Order). not (same_block (block_of part.Segments now) (record { at = w.header.phoff; bytes = phdrs_bytes w.header.class c w.phdrs }))) (sym standing.order_is)
+      let new : Class → Order → Block = λ c d. segments_block c d h.phoff b.phdrs in
+      let old : Class → Order → Block = λ c d. segments_block c d w.header.phoff w.phdrs in
+      let told = tells class order (segments_fit o passed) standing.phdrs in
+      ap not told
+      ∙ ap (λ (c : Class). not (same_block (new c order) (old class order))) (sym stored_class)
+      ∙ ap (λ (d : Order). not (same_block (new h.class d) (old class order))) (sym stored_order)
+      ∙ ap (λ (c : Class). not (same_block (new h.class h.order) (old c order)))
+      (sym standing.class_is)
+      ∙ ap (λ (d : Order). not (same_block (new h.class h.order) (old w.header.class d)))
+      (sym standing.order_is)
       ∙ sym (differs_is part.Segments)
 
-  table_fits : All (λ h. IsTrue (shdr_fits b.header.class h)) (stored_shdrs places (stored_header places b) b)
+  table_fits : All (λ k. IsTrue (shdr_fits b.header.class k)) rows
   unfolding placed_by
   table_fits =
-      let q = placed_by places (object_of image size b) in
-      let class : q.header.class ≡ b.header.class = ap (λ (h : Ehdr). h.class) (sym header) ∙ stored_class in
-      subst (λ (c : Class). All (λ h. IsTrue (shdr_fits c h)) (stored_shdrs places (stored_header places b) b)) class
-      (subst (λ (l : List Shdr). All (λ h. IsTrue (shdr_fits q.header.class h)) l) (sym (headers_same image size b is lengths (limited_places (object_of image size b) placing) places))
-      (All-map (λ h. IsTrue (shdr_fits q.header.class h)) (λ c. c.header) q.sections
-      (All-weaker (IsSection q.header.class) (λ c. IsTrue (shdr_fits q.header.class c.header)) (λ c x. x.fitting) q.sections sound.sections)))
+      let class : q.header.class ≡ b.header.class = ap (λ (k : Ehdr). k.class) (sym header)
+      ∙ stored_class in
+      let fitting =
+      All-map (λ k. IsTrue (shdr_fits q.header.class k)) (λ c. c.header) q.sections
+      (All-weaker (IsSection q.header.class) (λ c. IsTrue (shdr_fits q.header.class c.header))
+      (λ c x. x.fitting) q.sections sound.sections) in
+      subst (λ (c : Class). All (λ k. IsTrue (shdr_fits c k)) rows) class
+      (subst (λ (l : List Shdr). All (λ k. IsTrue (shdr_fits q.header.class k)) l) (sym headers)
+      fitting)
 
-  pub table_differs : (r : Bool)
-      → ((class : Class) (order : Order) → All (λ h. IsTrue (shdr_fits class h)) (stored_shdrs places (stored_header places b) b) → IsShdrTable class (length w.shdrs) w.shdrs
-      → r ≡ same_block (record { at = (stored_header places b).shoff; bytes = shdrs_bytes class order (stored_shdrs places (stored_header places b) b) }) (record { at = w.header.shoff; bytes = shdrs_bytes class order w.shdrs }))
-      → not r ≡ front_differs places (object_of image size b) part.Table
+  table_differs : (r : Bool) → TellsTable r h.shoff rows w
+      → not r ≡ front_differs places o part.Table
   unfolding front_in_image written_header object_of
   table_differs r tells =
       let class = b.header.class in
       let order = b.header.order in
-      let at = (stored_header places b).shoff in
-      let rows = stored_shdrs places (stored_header places b) b in
-      ap not (tells class order table_fits standing.shdrs)
-      ∙ ap (λ (c : Class). not (same_block (record { at = at; bytes = shdrs_bytes c order rows }) (record { at = w.header.shoff; bytes = shdrs_bytes class order w.shdrs }))) (sym stored_class)
-      ∙ ap (λ (c : Order). not (same_block (record { at = at; bytes = shdrs_bytes (stored_header places b).class c rows }) (record { at = w.header.shoff; bytes = shdrs_bytes class order w.shdrs }))) (sym stored_order)
-      ∙ ap (λ (c : Class). not (same_block (block_of part.Table now) (record { at = w.header.shoff; bytes = shdrs_bytes c order w.shdrs }))) (sym standing.class_is)
-      ∙ ap (λ (c : Order). not (same_block (block_of part.Table now) (record { at = w.header.shoff; bytes = shdrs_bytes w.header.class c w.shdrs }))) (sym standing.order_is)
+      let new : Class → Order → Block = λ c d. table_block c d h.shoff rows in
+      let old : Class → Order → Block = λ c d. table_block c d w.header.shoff w.shdrs in
+      let told = tells class order table_fits standing.shdrs in
+      ap not told
+      ∙ ap (λ (c : Class). not (same_block (new c order) (old class order))) (sym stored_class)
+      ∙ ap (λ (d : Order). not (same_block (new h.class d) (old class order))) (sym stored_order)
+      ∙ ap (λ (c : Class). not (same_block (new h.class h.order) (old c order)))
+      (sym standing.class_is)
+      ∙ ap (λ (d : Order). not (same_block (new h.class h.order) (old w.header.class d)))
+      (sym standing.order_is)
       ∙ sym (differs_is part.Table)
 
+  at_part : (p k : Part) → p ≡ k → (r : Bool) → not r ≡ front_differs places o k
+      → not r ≡ front_differs places o p
+  at_part p k e r differs = differs ∙ ap (front_differs places o) (sym e)
+
   -- of a header that is the stored one
-  pub header_told : (h k : Ehdr) → h ≡ stored_header places b → k ≡ written_header h → (r : Bool)
-      → (IsTrue (ehdr_fits k) → length b.pad ≡ 7 → k.class ≡ w.header.class → k.order ≡ w.header.order → IsStored w.header w.pad
-      → r ≡ same_block (record { at = 0; bytes = ehdr_bytes k b.pad }) (record { at = 0; bytes = ehdr_bytes w.header w.pad }))
-      → not r ≡ front_differs places (object_of image size b) part.Header
-  header_told h k e f r tells =
-      header_differs r (subst (λ (x : Ehdr). IsTrue (ehdr_fits x) → length b.pad ≡ 7 → x.class ≡ w.header.class → x.order ≡ w.header.order → IsStored w.header w.pad
-          → r ≡ same_block (record { at = 0; bytes = ehdr_bytes x b.pad }) (record { at = 0; bytes = ehdr_bytes w.header w.pad })) (f ∙ ap written_header e) tells)
+  pub header_told : (p : Part) → p ≡ part.Header → (g k : Ehdr) → g ≡ h → k ≡ written_header g
+      → (r : Bool) → TellsHeader r k b.pad w → not r ≡ front_differs places o p
+  header_told p is_part g k e f r tells =
+      at_part p part.Header is_part r
+      (header_differs r
+      (subst (λ (x : Ehdr). TellsHeader r x b.pad w) (f ∙ ap written_header e) tells))
 
-  pub segments_told : (h : Ehdr) → h ≡ stored_header places b → (r : Bool)
-      → ((class : Class) (order : Order) → All (λ p. IsTrue (phdr_fits class p)) b.phdrs → IsPhdrTable class (length w.phdrs) w.phdrs
-      → r ≡ same_block (record { at = h.phoff; bytes = phdrs_bytes class order b.phdrs }) (record { at = w.header.phoff; bytes = phdrs_bytes class order w.phdrs }))
-      → not r ≡ front_differs places (object_of image size b) part.Segments
-  segments_told h e r tells =
-      segments_differ r (subst (λ (x : Ehdr). (class : Class) (order : Order) → All (λ p. IsTrue (phdr_fits class p)) b.phdrs → IsPhdrTable class (length w.phdrs) w.phdrs
-          → r ≡ same_block (record { at = x.phoff; bytes = phdrs_bytes class order b.phdrs }) (record { at = w.header.phoff; bytes = phdrs_bytes class order w.phdrs })) e tells)
+  pub segments_told : (p : Part) → p ≡ part.Segments → (g : Ehdr) → g ≡ h
+      → (r : Bool) → TellsSegments r g.phoff b.phdrs w → not r ≡ front_differs places o p
+  segments_told p is_part g e r tells =
+      at_part p part.Segments is_part r
+      (segments_differ r (subst (λ (x : Ehdr). TellsSegments r x.phoff b.phdrs w) e tells))
 
-  pub table_told : (h : Ehdr) → h ≡ stored_header places b → (r : Bool)
-      → ((class : Class) (order : Order) → All (λ x. IsTrue (shdr_fits class x)) (stored_shdrs places h b) → IsShdrTable class (length w.shdrs) w.shdrs
-      → r ≡ same_block (record { at = h.shoff; bytes = shdrs_bytes class order (stored_shdrs places h b) }) (record { at = w.header.shoff; bytes = shdrs_bytes class order w.shdrs }))
-      → not r ≡ front_differs places (object_of image size b) part.Table
-  table_told h e r tells =
-      table_differs r (subst (λ (x : Ehdr). (class : Class) (order : Order) → All (λ y. IsTrue (shdr_fits class y)) (stored_shdrs places x b) → IsShdrTable class (length w.shdrs) w.shdrs
-          → r ≡ same_block (record { at = x.shoff; bytes = shdrs_bytes class order (stored_shdrs places x b) }) (record { at = w.header.shoff; bytes = shdrs_bytes class order w.shdrs })) e tells)
+  pub table_told : (p : Part) → p ≡ part.Table → (g : Ehdr) → g ≡ h
+      → (r : Bool) → TellsTable r g.shoff (stored_shdrs places g b) w
+      → not r ≡ front_differs places o p
+  table_told p is_part g e r tells =
+      at_part p part.Table is_part r
+      (table_differs r
+      (subst (λ (x : Ehdr). TellsTable r x.shoff (stored_shdrs places x b) w) e tells))
 
 -- ---- No front stands in an image
 
 none_scaled : (size n : ℕ) → 0 < size → (n * size == 0) ≡ (n == 0)
-none_scaled size zero some = let none : 0 * size ≡ 0 = omega arith in ap (λ (k : ℕ). k == 0) none
+none_scaled size zero some =
+    let none : 0 * size ≡ 0 = omega arith in
+    ap (λ (k : ℕ). k == 0) none
 none_scaled zero (suc n) some = absurd (omega (arith, some))
-none_scaled (suc size) (suc n) some = ne_eqb (suc n * suc size) 0 (λ e. positive (n * suc size) size e)
+none_scaled (suc size) (suc n) some =
+    ne_eqb (suc n * suc size) 0 (λ e. positive n size e)
+    ∙ sym (ne_eqb (suc n) 0 (λ e. omega (arith, e)))
   where
-    positive : (k m : ℕ) → suc m + k ≡ 0 → ⊥
-    positive k m e = omega (arith, e)
+    positive : (k m : ℕ) → suc k * suc m ≡ 0 → ⊥
+    positive k m e =
+        let whole : suc k * suc m ≡ suc m + k * suc m = omega arith in
+        omega (arith, e, whole)
 
 phdrs_none : (class : Class) (n : ℕ) → (n * phdr_size class == 0) ≡ (n == 0)
 phdrs_none C32 n = none_scaled 32 n (omega arith)
@@ -224,57 +276,88 @@ ehdr_some : (class : Class) → (ehdr_size class == 0) ≡ (1 == 0)
 ehdr_some C32 = refl
 ehdr_some C64 = refl
 
+abbrev none : Block
+none = record { at = 0; bytes = [] }
+
 -- a block differs from none where it has bytes
-block_or_none : (at : ℕ) (bytes : List ℕ) (n : ℕ) → (length bytes == 0) ≡ (n == 0) → not (n == 0) ≡ not (same_block (record { at = at; bytes = bytes }) (record { at = 0; bytes = [] }))
+block_or_none : (at : ℕ) (bytes : List ℕ) (n : ℕ) → (length bytes == 0) ≡ (n == 0)
+    → not (n == 0) ≡ not (same_block (record { at = at; bytes = bytes }) none)
 unfolding same_block same_extent
 block_or_none at [] n e = ap not (sym e) ∙ ap not (empty (at == 0))
   where
     empty : (t : Bool) → true ≡ ((t && true) || true) && true
     empty true = refl
     empty false = refl
-block_or_none at (x ∷ l) n e = ap not (sym e) ∙ ap not (full (at == 0))
+block_or_none at (x ∷ l) n e =
+    let some : (length (x ∷ l) == 0) ≡ false =
+    ne_eqb (length (x ∷ l)) 0 (λ h. omega (arith, h)) in
+    ap not (sym e ∙ some ∙ neither (same_extent at (length (x ∷ l)) 0 0))
   where
-    full : (t : Bool) → false ≡ ((t && false) || false) && false
-    full true = refl
-    full false = refl
+    neither : (t : Bool) → false ≡ (t && false)
+    neither true = refl
+    neither false = refl
 
-module _ (image : Option (List ℕ)) (size : ℕ) (b : Body) (is : IsElf image size b) (places : Places) (written : b.written ≡ None) where
-  none_before : (object_of image size b).written_front ≡ no_front
+module _ (image : Option (List ℕ)) (size : ℕ) (b : Body) (is : IsElf image size b)
+    (places : Places) (written : b.written ≡ None) where
+  abbrev created : Object
+  created = object_of image size b
+
+  abbrev stored : Object
+  stored = placed_by places created
+
+  none_before : created.written_front ≡ no_front
   unfolding object_of
   none_before = ap written_of written
 
-  differs_from_none : (p : Part) → front_differs places (object_of image size b) p ≡ not (same_block (block_of p (front_blocks (placed_by places (object_of image size b)))) (block_of p no_front))
+  differs_from_none : (p k : Part) → p ≡ k
+      → not (same_block (block_of k (front_blocks stored)) (block_of k no_front))
+      ≡ front_differs places created p
   unfolding front_differs
-  differs_from_none p = ap (λ (f : WrittenFront). not (same_block (block_of p (front_blocks (placed_by places (object_of image size b)))) (block_of p f))) none_before
+  differs_from_none p k e =
+      let test : WrittenFront → Bool =
+      λ f. not (same_block (block_of k (front_blocks stored)) (block_of k f)) in
+      ap test (sym none_before) ∙ ap (front_differs places created) (sym e)
 
-  pub segments_of_none : (r : Bool) → r ≡ not (b.header.phnum == 0) → r ≡ front_differs places (object_of image size b) part.Segments
+  pub segments_of_none : (p : Part) → p ≡ part.Segments → (r : Bool)
+      → r ≡ not (b.header.phnum == 0) → r ≡ front_differs places created p
   unfolding front_blocks front_in_image written_header placed_by object_of
-  segments_of_none r is_some =
-      let q = placed_by places (object_of image size b) in
-      let long = length-phdrs_bytes q.header.class q.header.order b.phdrs in
+  segments_of_none p is_part r is_some =
+      let class = stored.header.class in
+      let bytes = phdrs_bytes class stored.header.order b.phdrs in
+      let long = length-phdrs_bytes class stored.header.order b.phdrs in
+      let count =
+      ap (λ (n : ℕ). n == 0) long
+      ∙ phdrs_none class (length b.phdrs)
+      ∙ ap (λ (n : ℕ). n == 0) (sym is.counts.phnum) in
       is_some
-      ∙ block_or_none (written_header q.header).phoff (phdrs_bytes q.header.class q.header.order b.phdrs) b.header.phnum
-      (ap (λ (n : ℕ). n == 0) long ∙ phdrs_none q.header.class (length b.phdrs) ∙ ap (λ (n : ℕ). n == 0) (sym is.counts.phnum))
-      ∙ sym (differs_from_none part.Segments)
+      ∙ block_or_none (written_header stored.header).phoff bytes b.header.phnum count
+      ∙ differs_from_none p part.Segments is_part
 
-  pub table_of_none : (r : Bool) → r ≡ not (b.header.shnum == 0) → r ≡ front_differs places (object_of image size b) part.Table
+  pub table_of_none : (p : Part) → p ≡ part.Table → (r : Bool)
+      → r ≡ not (b.header.shnum == 0) → r ≡ front_differs places created p
   unfolding front_blocks front_in_image written_header placed_by object_of
-  table_of_none r is_some =
-      let q = placed_by places (object_of image size b) in
-      let rows = map (λ c. c.header) q.sections in
-      let long = length-shdrs_bytes q.header.class q.header.order rows in
-      let count = section_count_is image size b in
+  table_of_none p is_part r is_some =
+      let class = stored.header.class in
+      let rows = map (λ c. c.header) stored.sections in
+      let bytes = shdrs_bytes class stored.header.order rows in
+      let long = length-shdrs_bytes class stored.header.order rows in
       let same : length rows ≡ b.header.shnum =
-      length-map q.sections (λ (c : Section). c.header) ∙ section_count-placed places (object_of image size b) ∙ count ∙ sym is.counts.shnum in
+      length-map stored.sections (λ (c : Section). c.header)
+      ∙ section_count-placed places created
+      ∙ section_count_is image size b
+      ∙ sym is.counts.shnum in
+      let count =
+      ap (λ (n : ℕ). n == 0) long
+      ∙ shdrs_none class (length rows)
+      ∙ ap (λ (n : ℕ). n == 0) same in
       is_some
-      ∙ block_or_none (written_header q.header).shoff (shdrs_bytes q.header.class q.header.order rows) b.header.shnum
-      (ap (λ (n : ℕ). n == 0) long ∙ shdrs_none q.header.class (length rows) ∙ ap (λ (n : ℕ). n == 0) same)
-      ∙ sym (differs_from_none part.Table)
+      ∙ block_or_none (written_header stored.header).shoff bytes b.header.shnum count
+      ∙ differs_from_none p part.Table is_part
 
-  pub header_of_none : true ≡ front_differs places (object_of image size b) part.Header
+  pub header_of_none : (p : Part) → p ≡ part.Header → true ≡ front_differs places created p
   unfolding front_blocks front_in_image written_header placed_by object_of
-  header_of_none =
-      let q = placed_by places (object_of image size b) in
-      let long = length-ehdr_bytes (written_header q.header) b.pad is.sound.object.pad in
-      block_or_none 0 (ehdr_bytes (written_header q.header) b.pad) 1 (ap (λ (n : ℕ). n == 0) long ∙ ehdr_some q.header.class)
-      ∙ sym (differs_from_none part.Header)
+  header_of_none p is_part =
+      let bytes = ehdr_bytes (written_header stored.header) b.pad in
+      let long = length-ehdr_bytes (written_header stored.header) b.pad is.sound.object.pad in
+      let count = ap (λ (n : ℕ). n == 0) long ∙ ehdr_some stored.header.class in
+      block_or_none 0 bytes 1 count ∙ differs_from_none p part.Header is_part

@@ -87,18 +87,21 @@ module _ (places : Places) (h : Ehdr) where
 -- ---- The object
 
 -- an update that is not refused is not too large
-pub limited_places : (o : Object) → placing_refusal o ≡ None → AreNotTooLarge (parts_of o) o.layout (length o.base) o.header.class
+abbrev pub IsNotTooLarge : Object → Type 0
+IsNotTooLarge o = AreNotTooLarge (parts_of o) o.layout (length o.base) o.header.class
+
+pub limited_places : (o : Object) → placing_refusal o ≡ None → IsNotTooLarge o
 unfolding placing_refusal
 limited_places o passed = not_too_large (parts_of o) o.layout (length o.base) o.header.class passed
 
-limited : (o : Object) → is_dirty o ≡ true → refusal o ≡ None → AreNotTooLarge (parts_of o) o.layout (length o.base) o.header.class
+limited : (o : Object) → is_dirty o ≡ true → refusal o ≡ None → IsNotTooLarge o
 limited o dirty passed = limited_places o (update_passes o dirty passed).1
 
 module _ (image : Option (List ℕ)) (size : ℕ) (b : Body) (is : IsElf image size b) (lengths : SizesAreLengths) where
   o : Object
   o = object_of image size b
 
-  module _ (small : AreNotTooLarge (parts_of (object_of image size b)) (object_of image size b).layout (length (object_of image size b).base) (object_of image size b).header.class) where
+  module _ (small : IsNotTooLarge (object_of image size b)) where
     -- the header is that of the placed object
     pub header_same : (places : Places) → stored_header places b ≡ placed_header places (object_of image size b)
     unfolding placed_header
@@ -164,16 +167,25 @@ module _ (image : Option (List ℕ)) (size : ℕ) (b : Body) (is : IsElf image s
         (shdr_same places i x (slice_get_within b.sections.items i x at) (get_or_from_slice_get b.sections.items i x absent_scn at))
 
     -- the section headers
-    pub headers_same : (places : Places) → stored_shdrs places (stored_header places b) b ≡ map (λ c. c.header) (placed_by places (object_of image size b)).sections
+    pub headers_same : (places : Places)
+        → stored_shdrs places (stored_header places b) b
+        ≡ map (λ c. c.header) (placed_by places (object_of image size b)).sections
     unfolding object_of placed_by placed_section section_of scn_at
     headers_same places =
-        rows_heads (section_of image) (λ s x. stored_shdr (stored_header places b) s (section_place places s) x) (λ s c. placed_section places (object_of image size b) s c) (λ c. c.header) 0 b.sections.items
+        let p = object_of image size b in
+        let h = stored_header places b in
+        rows_heads (section_of image) (λ s x. stored_shdr h s (section_place places s) x)
+        (λ s c. placed_section places p s c) (λ c. c.header) 0 b.sections.items
         (λ i x at. let number : 0 + i ≡ i = omega arith in
-        ap (λ (n : ℕ). stored_shdr (stored_header places b) n (section_place places n) x) number
-        ∙ shdr_same places i x (slice_get_within b.sections.items i x at) (get_or_from_slice_get b.sections.items i x absent_scn at)
-        ∙ ap (λ (n : ℕ). placed_shdr places (object_of image size b) n x.header) (sym number))
+        let there = slice_get_within b.sections.items i x at in
+        let found = get_or_from_slice_get b.sections.items i x absent_scn at in
+        ap (λ (n : ℕ). stored_shdr h n (section_place places n) x) number
+        ∙ shdr_same places i x there found
+        ∙ ap (λ (n : ℕ). placed_shdr places p n x.header) (sym number))
 
-    pub placed_object : (new : Body) (places : Places) → is_dirty (object_of image size b) ≡ true → places ≡ places_of (object_of image size b) → StoresPlaces places b new
+    pub placed_object : (new : Body) (places : Places)
+        → is_dirty (object_of image size b) ≡ true
+        → places ≡ places_of (object_of image size b) → StoresPlaces places b new
         → object_of image size new ≡ placed (object_of image size b)
     unfolding object_of placed placed_by
     placed_object new places dirty same stores =
@@ -201,7 +213,10 @@ module _ {S : Type 0} (g : Ghosts S) (source : S) (old new : Body) (places : Pla
     (dirty : is_dirty (object_of (g.holds source) (g.size source) old) ≡ true) (passed : refusal (object_of (g.holds source) (g.size source) old) ≡ None)
     (same : places ≡ places_of (object_of (g.holds source) (g.size source) old)) (stores : StoresPlaces places old new) where
   object : object_of (g.holds source) (g.size source) new ≡ placed (object_of (g.holds source) (g.size source) old)
-  object = placed_object (g.holds source) (g.size source) old is lengths (limited (object_of (g.holds source) (g.size source) old) dirty passed) new places dirty same stores
+  object =
+      let o = object_of (g.holds source) (g.size source) old in
+      placed_object (g.holds source) (g.size source) old is lengths (limited o dirty passed)
+      new places dirty same stores
 
   class_same : new.header.class ≡ old.header.class
   unfolding derived_header

@@ -87,25 +87,36 @@ rows_keep {X} {Y} form f k (x ∷ l) each =
     ∙ ap (λ (m : List Y). form x ∷ m) (rows_keep form f (k + 1) l each)
 
 -- what is worked out of each row, and what the row's item has once it is changed
-pub rows_heads : {X Y Z : Type 0} (form : X → Y) (f : ℕ → X → Z) (g : ℕ → Y → Y) (head : Y → Z) (k : ℕ) (l : List X) → ((i : ℕ) (x : X) → slice_get l i ≡ Some x → f (k + i) x ≡ head (g (k + i) (form x)))
-    → map (λ row. f row.0 row.1) (enumerate_from k l) ≡ map head (map (λ row. g row.0 row.1) (enumerate_from k (map form l)))
+pub rows_heads : {X Y Z : Type 0} (form : X → Y) (f : ℕ → X → Z) (g : ℕ → Y → Y) (head : Y → Z)
+    (k : ℕ) (l : List X)
+    → ((i : ℕ) (x : X) → slice_get l i ≡ Some x → f (k + i) x ≡ head (g (k + i) (form x)))
+    → map (λ row. f row.0 row.1) (enumerate_from k l)
+    ≡ map head (map (λ row. g row.0 row.1) (enumerate_from k (map form l)))
 rows_heads form f g head k [] each = refl
 rows_heads {X} {Y} {Z} form f g head k (x ∷ l) each =
     let first : k + 0 ≡ k = omega arith in
-    ap (λ (i : ℕ). f i x ∷ map (λ row. f row.0 row.1) (enumerate_from (k + 1) l)) (sym first)
-    ∙ ap (λ (z : Z). z ∷ map (λ row. f row.0 row.1) (enumerate_from (k + 1) l)) (each 0 x refl)
-    ∙ ap (λ (i : ℕ). head (g i (form x)) ∷ map (λ row. f row.0 row.1) (enumerate_from (k + 1) l)) first
-    ∙ ap (λ (m : List Z). head (g k (form x)) ∷ m) (rows_heads form f g head (k + 1) l (λ i y at. shifted i y at))
+    let others = map (λ row. f row.0 row.1) (enumerate_from (k + 1) l) in
+    ap (λ (i : ℕ). f i x ∷ others) (sym first)
+    ∙ ap (λ (z : Z). z ∷ others) (each 0 x refl)
+    ∙ ap (λ (i : ℕ). head (g i (form x)) ∷ others) first
+    ∙ ap (λ (m : List Z). head (g k (form x)) ∷ m)
+    (rows_heads form f g head (k + 1) l (λ i y at. shifted i y at))
   where
-    shifted : (i : ℕ) (y : X) → slice_get l i ≡ Some y → f (k + 1 + i) y ≡ head (g (k + 1 + i) (form y))
+    shifted : (i : ℕ) (y : X) → slice_get l i ≡ Some y
+        → f (k + 1 + i) y ≡ head (g (k + 1 + i) (form y))
     shifted i y at =
         let number : k + suc i ≡ k + 1 + i = omega arith in
-        ap (λ (n : ℕ). f n y) (sym number) ∙ each (suc i) y at ∙ ap (λ (n : ℕ). head (g n (form y))) number
+        ap (λ (n : ℕ). f n y) (sym number)
+        ∙ each (suc i) y at
+        ∙ ap (λ (n : ℕ). head (g n (form y))) number
 
 -- what is worked out of the row with a number
-pub rows_at : {X Z : Type 0} (f : ℕ → X → Z) (d : X) (k : ℕ) (l : List X) (i : ℕ) → i < length l → slice_get (map (λ row. f row.0 row.1) (enumerate_from k l)) i ≡ Some (f (k + i) (get_or l i d))
+pub rows_at : {X Z : Type 0} (f : ℕ → X → Z) (d : X) (k : ℕ) (l : List X) (i : ℕ) → i < length l
+    → slice_get (map (λ row. f row.0 row.1) (enumerate_from k l)) i ≡ Some (f (k + i) (get_or l i d))
 rows_at f d k [] i there = absurd (omega (arith, there))
-rows_at f d k (x ∷ l) zero there = let first : k + 0 ≡ k = omega arith in ap (λ (n : ℕ). Some (f n x)) (sym first)
+rows_at f d k (x ∷ l) zero there =
+    let first : k + 0 ≡ k = omega arith in
+    ap (λ (n : ℕ). Some (f n x)) (sym first)
 rows_at f d k (x ∷ l) (suc i) there =
     let number : k + 1 + i ≡ k + suc i = omega arith in
     rows_at f d (k + 1) l i (omega (arith, there)) ∙ ap (λ (n : ℕ). Some (f n (get_or l i d))) number

@@ -1,20 +1,15 @@
 //! Whether a part of the front is the one that stands in the image.
 
-ghost use Rattle.std.specs.Prelude.{◌≡◌, ◌+◌, ◌<◌, ◌==◌, ℕ, List, Option, None, not, true, length, slice_get, Some, IfSome, IsTrue, All, [], refl};
-ghost use Rattle.std.specs.Bool.{Decides};
-ghost use Rattle.elf_types.specs.declared.records.Class.{Class as TheClass};
-ghost use Rattle.elf_types.specs.declared.records.Order.{Order as TheOrder};
+ghost use Rattle.std.specs.Prelude.{◌≡◌, ◌↔◌, ◌+◌, ◌<◌, ℕ, List, Option, None, not, true, length, slice_get, Some, IsTrue};
 ghost use Rattle.elf_layout.specs.declared.parts.Places.{Places as ThePlaces};
-ghost use Rattle.elf_xlate.specs.Headers.{HasNarrowCounts, IsEhdr, IsPhdr, IsShdr, ehdr_bytes, ehdr_fits, phdr_fits, shdr_fits};
-ghost use Rattle.elf_ident.specs.Reading.{IsStored, IsPhdrTable, IsShdrTable};
-ghost use Rattle.elf_object.specs.Blocks.{same_block, same_extent};
+ghost use Rattle.elf_xlate.specs.Headers.{HasNarrowCounts, IsEhdr, IsPhdr, IsShdr};
+ghost use Rattle.elf_object.specs.Blocks.{same_extent};
 ghost use Rattle.elf_object.specs.Changed.{front_differs};
 ghost use Rattle.elf_object.specs.Layout.{places_of, section_place};
-ghost use Rattle.elf_object.specs.Open.{phdrs_bytes, shdrs_bytes};
 ghost use Rattle.elf_object.specs.Refusal.{content_refusal, placing_refusal};
-ghost use Rattle.elf_descriptor.specs.Fronts.{Compares, IsOfFront, stored_shdrs};
-ghost use Rattle.elf_descriptor.specs.Places.{HasPlaces, stored_header, stored_shdr};
-ghost use Rattle.elf_descriptor.specs.Sound.{IsElf, IsStanding};
+ghost use Rattle.elf_descriptor.specs.Fronts.{Compares, IsOfFront, TellsHeader, TellsSegments, TellsTable, stored_shdrs};
+ghost use Rattle.elf_descriptor.specs.Places.{HasPlaces, stored_shdr};
+ghost use Rattle.elf_descriptor.specs.Sound.{IsElf};
 ghost use Rattle.elf_descriptor.specs.Views.{HasCounts, object_of, scn_at};
 
 use crate::body::places::place_of;
@@ -27,7 +22,7 @@ use object_laws::laws::sizes_are_lengths;
 
 /// Whether two ELF headers are the same. The first is in the range of its type.
 fn same_ehdr(one: Ehdr, other: Ehdr) -> bool
-    ensures same { Decides result (one ≡ other) }
+    ensures same { IsTrue result ↔ (one ≡ other) }
     ensures ranged { IsEhdr one }
 {
     one == other
@@ -35,7 +30,7 @@ fn same_ehdr(one: Ehdr, other: Ehdr) -> bool
 
 /// The same of two program headers.
 fn same_phdr(one: Phdr, other: Phdr) -> bool
-    ensures same { Decides result (one ≡ other) }
+    ensures same { IsTrue result ↔ (one ≡ other) }
     ensures ranged { IsPhdr one }
 {
     one == other
@@ -43,7 +38,7 @@ fn same_phdr(one: Phdr, other: Phdr) -> bool
 
 /// The same of two section headers.
 fn same_shdr(one: Shdr, other: Shdr) -> bool
-    ensures same { Decides result (one ≡ other) }
+    ensures same { IsTrue result ↔ (one ≡ other) }
     ensures ranged { IsShdr one }
 {
     one == other
@@ -60,7 +55,7 @@ fn same_extent(a: u64, m: u64, b: u64, n: u64) -> bool
 
 /// Whether two rests of an identification are the same.
 fn same_pad(one: [u8; 7], other: [u8; 7]) -> bool
-    ensures { Decides result (one ≡ other) }
+    ensures { IsTrue result ↔ (one ≡ other) }
 {
     one == other
 }
@@ -100,11 +95,7 @@ impl Body {
     /// Whether the ELF header, as it is written, is the one that stands in the image.
     fn same_header(&self, front: &Written, h: &Ehdr) -> bool
         requires { HasNarrowCounts h.now }
-        ensures { IsTrue (ehdr_fits h.now) → length self.now.pad ≡ 7
-            → h.now.class ≡ front.now.header.class → h.now.order ≡ front.now.header.order
-            → IsStored front.now.header front.now.pad
-            → result ≡ same_block (record { at = 0; bytes = ehdr_bytes h.now self.now.pad })
-            (record { at = 0; bytes = ehdr_bytes front.now.header front.now.pad }) }
+        ensures { TellsHeader result h.now self.now.pad front.now }
     {
         ehdr_both_ways();
         let same = same_ehdr(*h, front.header);
@@ -114,13 +105,7 @@ impl Body {
 
     /// Whether the program header table, with that place, is the one that stands in the image.
     fn same_segments(&self, front: &Written, at: u64) -> bool
-        ensures { (class : TheClass) (order : TheOrder)
-            → All (λ p. IsTrue (phdr_fits class p)) self.now.phdrs
-            → IsPhdrTable class (length front.now.phdrs) front.now.phdrs
-            → result ≡ same_block
-            (record { at = at; bytes = phdrs_bytes class order self.now.phdrs })
-            (record { at = front.now.header.phoff;
-              bytes = phdrs_bytes class order front.now.phdrs }) }
+        ensures { TellsSegments result at self.now.phdrs front.now }
     {
         phdr_both_ways();
         if !same_extent(at, self.phdrs.len(), front.header.phoff, front.phdrs.len()) {
@@ -129,13 +114,13 @@ impl Body {
         same_phdrs(self.phdrs.as_slice(), front.phdrs.as_slice())
     }
 
-    /// Whether a section's header, with its place and its size stored, is the one with its number in
-    /// a table.
+    /// Whether a section's header, with its place and its size stored, is the one with its number
+    /// in a table.
     fn same_at(&self, places: &Places, h: &Ehdr, table: &[Shdr], s: u32) -> bool
         requires there { s < length self.now.sections.items }
         requires places { s + 1 < length places.now.at }
         requires table { s < length table.now }
-        ensures same { Decides result (slice_get table.now s
+        ensures same { IsTrue result ↔ (slice_get table.now s
             ≡ Some (stored_shdr h.now s (section_place places.now s) (scn_at self.now s))) }
         ensures ranged { IsShdr
             (stored_shdr h.now s (section_place places.now s) (scn_at self.now s)) }
@@ -160,18 +145,13 @@ impl Body {
         true
     }
 
-    /// Whether the section header table, with the place that an ELF header gives it, is the one that
-    /// stands in the image.
+    /// Whether the section header table, with the place that an ELF header gives it, is the one
+    /// that stands in the image.
     fn same_table(&self, front: &Written, places: &Places, h: &Ehdr) -> bool
         requires counts { HasCounts self.now }
         requires places { HasPlaces places.now (length self.now.sections.items) }
-        ensures { (class : TheClass) (order : TheOrder)
-            → All (λ x. IsTrue (shdr_fits class x)) (stored_shdrs places.now h.now self.now)
-            → IsShdrTable class (length front.now.shdrs) front.now.shdrs
-            → result ≡ same_block (record { at = h.now.shoff;
-              bytes = shdrs_bytes class order (stored_shdrs places.now h.now self.now) })
-            (record { at = front.now.header.shoff;
-              bytes = shdrs_bytes class order front.now.shdrs }) }
+        ensures { TellsTable result h.now.shoff (stored_shdrs places.now h.now self.now)
+            front.now }
     {
         shdr_both_ways();
         let count = u64::from(self.header.shnum);

@@ -3,7 +3,8 @@
 ghost use Rattle.std.specs.Prelude.{◌≡◌, true, None, OnOk, OnErr, IfErr};
 ghost use Rattle.elf_object.specs.Changed.{front_differs};
 ghost use Rattle.elf_object.specs.Layout.{places_of};
-ghost use Rattle.elf_object.specs.Refusal.{content_refusal, placing_refusal};
+ghost use Rattle.elf_object.specs.Object.{is_dirty};
+ghost use Rattle.elf_object.specs.Refusal.{refusal};
 
 use crate::descriptor::Elf;
 use elf_layout::Places;
@@ -13,8 +14,8 @@ use elf_types::{ElfError, Part};
 impl<S: Source> Elf<S> {
     ghost use Rattle.elf_descriptor.specs.Fronts.{HoldsBase, IsOfFront};
 
-    /// Takes the memory that `settle` needs; the object is ready until one of its lists changes. The
-    /// source begins with the base. It refuses `Memory` alone, which it always does of an object
+    /// Takes the memory that `settle` needs; the object is ready until one of its lists changes.
+    /// The source begins with the base. It refuses `Memory` alone, which it always does of an object
     /// whose base is its own, and then all is as before. It reads nothing.
     pub fn reserve(&mut self) -> Result<(), ElfError>
         ensures ok { OnOk result (self.new ≡ record self.old { ready = true }) }
@@ -26,18 +27,19 @@ impl<S: Source> Elf<S> {
     }
 
     /// Whether the ELF header, the program header table or the section header table has another
-    /// place or other bytes than in the image as opened or last settled, once these places, the sizes
-    /// and the derived values are stored. The places are those of the object, and neither what it
-    /// holds nor its places would refuse an update, dirty or not. It compares each record of the part
-    /// once. It refuses nothing, reads nothing and takes no memory.
+    /// place or other bytes than in the image as opened or last settled, once these places, the
+    /// sizes and the derived values are stored; a part that was in no image differs where it has
+    /// bytes. Something is dirty, an update is not refused, and the places are those of the object.
+    /// It compares each record of the part once. It refuses nothing, reads nothing and takes no
+    /// memory.
     ///
     /// Source: elf_update of elf(3E); gABI chapter 4, "ELF Header" and "Section Header", chapter 5,
     /// "Program Header".
     pub fn front_differs(&self, part: Part, places: &Places) -> bool
         requires part { IsOfFront part }
+        requires dirty { is_dirty self.now.o ≡ true }
+        requires passed { refusal self.now.o ≡ None }
         requires places { places.now ≡ places_of self.now.o }
-        requires content { content_refusal self.now.o ≡ None }
-        requires placing { placing_refusal self.now.o ≡ None }
         ensures { result ≡ front_differs places.now self.now.o part }
     {
         self.body.front_differs(part, places)

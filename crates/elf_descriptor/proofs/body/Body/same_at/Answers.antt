@@ -1,4 +1,4 @@
-use Rattle.std.proofs.Common.{◌≡◌, ◌∙◌, ℕ, ◌+◌, ap, sym, subst, arith}
+use Rattle.std.proofs.Common.{◌≡◌, ◌∙◌, ℕ, ◌+◌, ap, subst, arith}
 use Rattle.std.specs.Prelude.{slice_index}
 use Rattle.elf_types.specs.declared.records.Shdr.{Shdr}
 use Rattle.elf_xlate.specs.Headers.{IsShdr}
@@ -7,14 +7,21 @@ use Rattle.elf_descriptor.proofs.body.Body.same_at.Goals as goal
 
 pub returns-clause-same : goal.returns-clause-same
 returns-clause-same c =
+    let places = c.args.places.now in
     let number : c.from.result ≡ c.args.s = omega (arith, c.from.ensures) in
-    let place = c.place_of-at.ensures ∙ ap (λ (n : ℕ). slice_index c.args.places.now.at (n + 1)) number in
-    let is = shdr_read c.args.places.now c.args.h.now c.args.self.now c.args.s c.place_of-at.result c.scn.result.now c.stored_shdr.result c.stored_shdr.ensures place c.scn.ensures in
-    decides_at c.same_shdr.result c.stored_shdr.result c.shdr_at.result _ _ c.same_shdr.ensures.same is c.shdr_at.ensures
+    let place = c.place_of-at.ensures ∙ ap (λ (n : ℕ). slice_index places.at (n + 1)) number in
+    let is =
+    shdr_read places c.args.h.now c.args.self.now c.args.s c.place_of-at.result c.scn.result.now
+    c.stored_shdr.result c.stored_shdr.ensures place c.scn.ensures in
+    decides_at c.same_shdr.result c.stored_shdr.result c.shdr_at.result _ _
+    c.same_shdr.ensures.same is c.shdr_at.ensures
 
 pub returns-clause-ranged : goal.returns-clause-ranged
 returns-clause-ranged c =
+    let places = c.args.places.now in
     let number : c.from.result ≡ c.args.s = omega (arith, c.from.ensures) in
-    let place = c.place_of-at.ensures ∙ ap (λ (n : ℕ). slice_index c.args.places.now.at (n + 1)) number in
-    let is = shdr_read c.args.places.now c.args.h.now c.args.self.now c.args.s c.place_of-at.result c.scn.result.now c.stored_shdr.result c.stored_shdr.ensures place c.scn.ensures in
+    let place = c.place_of-at.ensures ∙ ap (λ (n : ℕ). slice_index places.at (n + 1)) number in
+    let is =
+    shdr_read places c.args.h.now c.args.self.now c.args.s c.place_of-at.result c.scn.result.now
+    c.stored_shdr.result c.stored_shdr.ensures place c.scn.ensures in
     subst (λ (h : Shdr). IsShdr h) is c.same_shdr.ensures.ranged

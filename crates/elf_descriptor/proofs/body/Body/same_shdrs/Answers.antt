@@ -26,19 +26,24 @@ loop-s-preserved c =
     let yes : c.same_at.result ≡ true = cc in
     let known = c.requires.counts.shnum in
     below_more _ _ c.loop-s.invariant
-    (row_here zero_shdr c.args.places.now c.args.h.now c.args.self.now c.args.table.now c.loop-s.s (omega (arith, known, c.loop-s-test.true)) (c.same_at.ensures.same.0 yes))
+    (row_here zero_shdr c.args.places.now c.args.h.now c.args.self.now c.args.table.now c.loop-s.s
+    (omega (arith, known, c.loop-s-test.true)) (c.same_at.ensures.same.0 yes))
 
 pub returns-then-not-same_at : goal.returns-then-not-same_at
 returns-then-not-same_at c =
     let no : c.same_at.result ≡ false = cc in
+    let table = c.args.table.now in
     let known = c.requires.counts.shnum in
     let count = c.requires.count in
-    row_differs c.args.places.now c.args.h.now c.args.self.now c.args.table.now c.loop-s.s _ (omega (arith, known, c.loop-s-test.true))
-    (found_below c.args.table.now c.loop-s.s zero_shdr (omega (arith, known, count, c.loop-s-test.true)))
+    let found =
+    found_below table c.loop-s.s zero_shdr (omega (arith, known, count, c.loop-s-test.true)) in
+    row_differs c.args.places.now c.args.h.now c.args.self.now table c.loop-s.s _
+    (omega (arith, known, c.loop-s-test.true)) found
     (λ same. true_is_false (sym (c.same_at.ensures.same.1 same) ∙ no)) c.same_at.ensures.ranged
 
 pub returns : goal.returns
 returns c =
     let known = c.requires.counts.shnum in
     let stored = stored_count c.args.places.now c.args.h.now c.args.self.now in
-    same_lists zero_shdr _ c.args.table.now c.loop-s.s (stored ∙ c.requires.count) (omega (arith, known, stored, c.loop-s-test.false)) c.loop-s.invariant
+    same_lists zero_shdr _ c.args.table.now c.loop-s.s (stored ∙ c.requires.count)
+    (omega (arith, known, stored, c.loop-s-test.false)) c.loop-s.invariant

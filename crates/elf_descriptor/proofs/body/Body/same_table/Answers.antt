@@ -1,6 +1,7 @@
-use Rattle.std.proofs.Common.{◌≡◌, ◌∙◌, ℕ, true, false, length, sym, ap, arith}
-use Rattle.elf_object.specs.Blocks.{same_extent}
-use Rattle.elf_descriptor.proofs.FrontTables.{table_elsewhere, table_compared, stored_count}
+use Rattle.std.proofs.Common.{◌≡◌, ◌∙◌, ℕ, true, false, length, refl, sym, ap, arith}
+use Rattle.elf_xlate.specs.Headers.{IsShdr}
+use Rattle.elf_descriptor.specs.Fronts.{stored_shdrs}
+use Rattle.elf_descriptor.proofs.FrontTables.{table_elsewhere, table_compared, compares_is, stored_count}
 use Rattle.elf_descriptor.proofs.body.Body.same_table.Goals as goal
 
 pub same_shdrs-requires-clause-count : goal.same_shdrs-requires-clause-count
@@ -8,24 +9,36 @@ same_shdrs-requires-clause-count c =
     let yes : c.same_extent.result ≡ true = cc in
     let alike = c.same_extent.ensures.alike yes in
     let known = c.requires.counts.shnum in
-    omega (arith, alike, known, c.from-count.ensures)
+    let count = c.len.ensures in
+    let read = ap length c.as_slice.ensures in
+    omega (arith, alike, known, count, read, c.from-count.ensures)
 
 pub returns-then-not-same_extent : goal.returns-then-not-same_extent
 returns-then-not-same_extent c =
     let no : c.same_extent.result ≡ false = cc in
+    let front = c.args.front.now in
     let known = c.requires.counts.shnum in
+    let rows = stored_shdrs c.args.places.now c.args.h.now c.args.self.now in
     let stored = stored_count c.args.places.now c.args.h.now c.args.self.now in
-    let count : c.from-count.result ≡ length _ = omega (arith, stored, known, c.from-count.ensures) in
+    let count : c.from-count.result ≡ length rows =
+    omega (arith, stored, known, c.from-count.ensures) in
     λ class order fits table.
-    table_elsewhere class order c.args.h.now.shoff c.args.front.now.header.shoff _ c.args.front.now.shdrs
-    (sym (ap (λ (n : ℕ). same_extent c.args.h.now.shoff n c.args.front.now.header.shoff (length c.args.front.now.shdrs)) count) ∙ sym c.same_extent.ensures.value ∙ no)
+    table_elsewhere class order c.args.h.now.shoff front.header.shoff rows front.shdrs
+    c.from-count.result c.len.result count c.len.ensures (sym c.same_extent.ensures.value ∙ no)
 
 pub returns : goal.returns
 returns c =
     let yes : c.same_extent.result ≡ true = cc in
+    let front = c.args.front.now in
     let known = c.requires.counts.shnum in
+    let rows = stored_shdrs c.args.places.now c.args.h.now c.args.self.now in
     let stored = stored_count c.args.places.now c.args.h.now c.args.self.now in
-    let count : c.from-count.result ≡ length _ = omega (arith, stored, known, c.from-count.ensures) in
+    let count : c.from-count.result ≡ length rows =
+    omega (arith, stored, known, c.from-count.ensures) in
     λ class order fits table.
-    table_compared class order c.args.h.now.shoff c.args.front.now.header.shoff _ c.args.front.now.shdrs (c.shdr_both_ways.ensures.written class order) c.same_shdrs.result c.same_shdrs.ensures
-    (sym (ap (λ (n : ℕ). same_extent c.args.h.now.shoff n c.args.front.now.header.shoff (length c.args.front.now.shdrs)) count) ∙ sym c.same_extent.ensures.value ∙ yes) fits table
+    table_compared class order c.args.h.now.shoff front.header.shoff rows front.shdrs
+    (c.shdr_both_ways.ensures.written class order) c.same_shdrs.result
+    (compares_is IsShdr c.same_shdrs.result rows c.as_slice.result.now rows front.shdrs
+    refl c.as_slice.ensures c.same_shdrs.ensures)
+    c.from-count.result c.len.result count c.len.ensures
+    (sym c.same_extent.ensures.value ∙ yes) fits table

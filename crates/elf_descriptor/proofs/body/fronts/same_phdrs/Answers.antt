@@ -10,7 +10,8 @@ pub loop-i-preserved : goal.loop-i-preserved
 loop-i-preserved c =
     let yes : c.same_phdr.result ≡ true = cc in
     below_more _ _ c.loop-i.invariant
-    (same_here no_phdr _ _ c.args.ones.now c.args.others.now c.loop-i.i c.phdr_at-one.ensures c.phdr_at-other.ensures (c.same_phdr.ensures.same.0 yes))
+    (same_here no_phdr _ _ c.args.ones.now c.args.others.now c.loop-i.i
+    c.phdr_at-one.ensures c.phdr_at-other.ensures (c.same_phdr.ensures.same.0 yes))
 
 pub returns-then-not-same_phdr : goal.returns-then-not-same_phdr
 returns-then-not-same_phdr c =
@@ -26,4 +27,6 @@ returns-then-not-same_phdr c =
     }
 
 pub returns : goal.returns
-returns c = same_lists no_phdr c.args.ones.now c.args.others.now c.loop-i.i c.requires (omega (arith, c.loop-i-test.false)) c.loop-i.invariant
+returns c =
+    same_lists no_phdr c.args.ones.now c.args.others.now c.loop-i.i c.requires
+    (omega (arith, c.loop-i-test.false)) c.loop-i.invariant
