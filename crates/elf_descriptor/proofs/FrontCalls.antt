@@ -24,7 +24,7 @@ use Rattle.elf_ident.specs.Reading.{IsStored, IsPhdrTable, IsShdrTable}
 use Rattle.elf_layout.specs.declared.parts.Places.{Places}
 use Rattle.elf_object.specs.Blocks.{Block, same_block, same_extent}
 use Rattle.elf_object.specs.Object.{Object, Section, WrittenFront}
-use Rattle.elf_object.specs.Open.{no_front, front_in_image, phdrs_bytes, shdrs_bytes}
+use Rattle.elf_object.specs.Open.{no_block, no_front, front_in_image, phdrs_bytes, shdrs_bytes}
 use Rattle.elf_object.specs.Derived.{derived_header, written_header}
 use Rattle.elf_object.specs.Layout.{places_of, placed_by, placed_header}
 use Rattle.elf_object.specs.Image.{front_blocks}
@@ -49,19 +49,18 @@ use Rattle.elf_descriptor.proofs.Placing.{limited_places, header_same, headers_s
 
 -- ---- Program headers that fit
 
+none_first : {X : Type 0} (test : X → Bool) (i : ℕ) (x : X) (others : Option ℕ) (Rest : Type 0)
+    (b : Bool) → not (test x) ≡ b → cond b (Some i) others ≡ None → (others ≡ None → Rest)
+    → IsTrue (test x) × Rest
+none_first test i x others Rest true e g rest = cc
+none_first test i x others Rest false e g rest = (not_not (test x) e, rest g)
+
 none_from : {X : Type 0} (test : X → Bool) (i : ℕ) (l : List X)
     → position_from (λ x. not (test x)) i l ≡ None → AllByRecursion (λ x. IsTrue (test x)) l
 none_from test i [] h = tt
-none_from test i (x ∷ l) h = by_test (not (test x)) refl h (none_from test (i + 1) l)
-  where
-    abbrev others : Option ℕ
-    others = position_from (λ y. not (test y)) (i + 1) l
-
-    by_test : (b : Bool) → not (test x) ≡ b → cond b (Some i) others ≡ None
-        → (others ≡ None → AllByRecursion (λ y. IsTrue (test y)) l)
-        → IsTrue (test x) × AllByRecursion (λ y. IsTrue (test y)) l
-    by_test true e g rest = cc
-    by_test false e g rest = (not_not (test x) e, rest g)
+none_from test i (x ∷ l) h =
+    none_first test i x (position_from (λ y. not (test y)) (i + 1) l)
+    (AllByRecursion (λ y. IsTrue (test y)) l) (not (test x)) refl h (none_from test (i + 1) l)
 
 none_mapped : {X Y : Type 0} (f : X → Y) (o : Option X) → option_map f o ≡ None → o ≡ None
 none_mapped f None h = refl
@@ -276,12 +275,9 @@ ehdr_some : (class : Class) → (ehdr_size class == 0) ≡ (1 == 0)
 ehdr_some C32 = refl
 ehdr_some C64 = refl
 
-abbrev none : Block
-none = record { at = 0; bytes = [] }
-
 -- a block differs from none where it has bytes
 block_or_none : (at : ℕ) (bytes : List ℕ) (n : ℕ) → (length bytes == 0) ≡ (n == 0)
-    → not (n == 0) ≡ not (same_block (record { at = at; bytes = bytes }) none)
+    → not (n == 0) ≡ not (same_block (record { at = at; bytes = bytes }) no_block)
 unfolding same_block same_extent
 block_or_none at [] n e = ap not (sym e) ∙ ap not (empty (at == 0))
   where

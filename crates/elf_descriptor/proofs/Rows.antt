@@ -112,11 +112,13 @@ rows_heads {X} {Y} {Z} form f g head k (x ∷ l) each =
 
 -- what is worked out of the row with a number
 pub rows_at : {X Z : Type 0} (f : ℕ → X → Z) (d : X) (k : ℕ) (l : List X) (i : ℕ) → i < length l
-    → slice_get (map (λ row. f row.0 row.1) (enumerate_from k l)) i ≡ Some (f (k + i) (get_or l i d))
+    → slice_get (map (λ row. f row.0 row.1) (enumerate_from k l)) i
+    ≡ Some (f (k + i) (get_or l i d))
 rows_at f d k [] i there = absurd (omega (arith, there))
 rows_at f d k (x ∷ l) zero there =
     let first : k + 0 ≡ k = omega arith in
     ap (λ (n : ℕ). Some (f n x)) (sym first)
 rows_at f d k (x ∷ l) (suc i) there =
     let number : k + 1 + i ≡ k + suc i = omega arith in
-    rows_at f d (k + 1) l i (omega (arith, there)) ∙ ap (λ (n : ℕ). Some (f n (get_or l i d))) number
+    rows_at f d (k + 1) l i (omega (arith, there))
+    ∙ ap (λ (n : ℕ). Some (f n (get_or l i d))) number

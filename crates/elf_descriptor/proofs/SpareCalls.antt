@@ -83,6 +83,11 @@ module _ {S : Type 0} (g : Ghosts S) (source : S) (old new : Body) (is : IsElf (
       let now = part_of_ready new ok.ready in
       holds_base now.0 (sym (ap (λ (b : Body). b.base) ok.rest) ∙ now.1)
 
+  pub reserved_told : (r : Result (Unit {0}) ElfError)
+      → OnOk r ((state_of g source old).told ≡ is_some (g.holds source))
+  reserved_told (Err e) = tt
+  reserved_told (Ok x) = refl
+
   pub reserved_same : (r : Result (Unit {0}) ElfError) → OnErr r (new ≡ old) → OnErr r (state_of g source new ≡ state_of g source old)
   reserved_same (Err e) same = ap (λ (b : Body). state_of g source b) same
   reserved_same (Ok x) same = tt

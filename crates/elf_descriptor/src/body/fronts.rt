@@ -126,7 +126,10 @@ impl Body {
             (stored_shdr h.now s (section_place places.now s) (scn_at self.now s)) }
     {
         let at = place_of(places, u64::from(s) + 1);
-        same_shdr(self.scn(s).stored_shdr(h, s, at), shdr_at(table, s as usize))
+        same_shdr(
+            self.scn(s).stored_shdr(h, s, at),
+            shdr_at(table, s as usize),
+        )
     }
 
     /// Whether the section headers, with places and sizes stored in them, are those of a table.

@@ -14,7 +14,7 @@ front_differs-requires-clause-counts g c = c.self.invariant.counts
 
 pub front_differs-requires-clause-places : goal.front_differs-requires-clause-places
 front_differs-requires-clause-places g c =
-    let Are = λ (st : State g.row.S.Denot). c.args.places.now ≡ places_of st.o in
+    let Are : State g.row.S.Denot → Type 0 = λ st. c.args.places.now ≡ places_of st.o in
     places_for _ _ c.self.inside.body c.args.places.now
     (subst Are (sym c.self.view_is) c.requires.places)
 
@@ -22,11 +22,11 @@ pub returns : goal.returns
 returns g c =
     let image = g.S.Source.holds c.self.inside.src in
     let size = g.S.Source.size c.self.inside.src in
-    let Are = λ (st : State g.row.S.Denot). c.args.places.now ≡ places_of st.o in
-    let Dirty = λ (st : State g.row.S.Denot). is_dirty st.o ≡ true in
-    let Passed = λ (st : State g.row.S.Denot). refusal st.o ≡ None in
-    let Told = λ (st : State g.row.S.Denot). c.front_differs.result
-    ≡ front_differs c.args.places.now st.o c.args.part in
+    let Are : State g.row.S.Denot → Type 0 = λ st. c.args.places.now ≡ places_of st.o in
+    let Dirty : State g.row.S.Denot → Type 0 = λ st. is_dirty st.o ≡ true in
+    let Passed : State g.row.S.Denot → Type 0 = λ st. refusal st.o ≡ None in
+    let Told : State g.row.S.Denot → Type 0 =
+    λ st. c.front_differs.result ≡ front_differs c.args.places.now st.o c.args.part in
     let both =
     update_passes (object_of image size c.self.inside.body)
     (subst Dirty (sym c.self.view_is) c.requires.dirty)
