@@ -1,6 +1,6 @@
 //! The front that an update writes.
 
-ghost use Rattle.std.specs.Prelude.{◌≡◌, true, None, OnOk, OnErr, IfErr};
+ghost use Rattle.std.specs.Prelude.{◌≡◌, true, None, is_some, OnOk, OnErr, IfErr};
 ghost use Rattle.elf_object.specs.Changed.{front_differs};
 ghost use Rattle.elf_object.specs.Layout.{places_of};
 ghost use Rattle.elf_object.specs.Object.{is_dirty};
