@@ -94,7 +94,7 @@ pub limited_places : (o : Object) → placing_refusal o ≡ None → IsNotTooLar
 unfolding placing_refusal
 limited_places o passed = not_too_large (parts_of o) o.layout (length o.base) o.header.class passed
 
-limited : (o : Object) → is_dirty o ≡ true → refusal o ≡ None → IsNotTooLarge o
+pub limited : (o : Object) → is_dirty o ≡ true → refusal o ≡ None → IsNotTooLarge o
 limited o dirty passed = limited_places o (update_passes o dirty passed).1
 
 module _ (image : Option (List ℕ)) (size : ℕ) (b : Body) (is : IsElf image size b) (lengths : SizesAreLengths) where

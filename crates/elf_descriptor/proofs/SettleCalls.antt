@@ -41,7 +41,7 @@ use Rattle.elf_descriptor.specs.Places.{StoresPlaces}
 use Rattle.elf_descriptor.specs.Settling.{SettlesBody, SettlingIsSound, front_as_written, cleared, reopened_scn, settled_state}
 use Rattle.elf_descriptor.proofs.Warming.{cell_at}
 use Rattle.elf_descriptor.proofs.EditLaws.{has_counts}
-use Rattle.elf_descriptor.proofs.Placing.{count_same, placed_object, placed_elf, placed_state}
+use Rattle.elf_descriptor.proofs.Placing.{count_same, limited, placed_object, placed_elf, placed_state}
 use Rattle.elf_descriptor.proofs.ReopenedObjects.{headers_same, left_object, reopened_object}
 
 -- ---- What is true of each descriptor
@@ -313,8 +313,8 @@ module _ {S : Type 0} (g : Ghosts S) (source : S) (old mid : Body) (places : Pla
       × (state_of g source new ≡ settled_state (state_of g source old))
   settles_all size new settling long held counted settles =
       let o = object_of (g.holds source) (g.size source) old in
-      let object = placed_object (g.holds source) (g.size source) old is lengths dirty passed mid
-      places same stores in
+      let object = placed_object (g.holds source) (g.size source) old is lengths
+      (limited o dirty passed) mid places dirty same stores in
       let phdrs = ap (λ (b : Body). b.phdrs) stores.rest in
       let count = count_same g source old mid places is lengths dirty passed same stores in
       let sized = subst (λ (n : ℕ). SettlesBody n mid new) counted settles in (
