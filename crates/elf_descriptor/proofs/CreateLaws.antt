@@ -1,5 +1,5 @@
 -- What is created is an object over nothing that was read.
-use Rattle.std.proofs.Common.{◌≡◌, ℕ, ◌<◌, ◌^◌, Bool, List, [], ◌∷◌, length, map, Option, Some, None, refl, sym, ap, ◌∙◌, subst, true, false, ◌≤◌, arith}
+use Rattle.std.proofs.Common.{◌≡◌, ℕ, ◌<◌, ◌^◌, List, [], ◌∷◌, length, map, Option, Some, None, refl, sym, ap, ◌∙◌, subst, true, false, ◌≤◌, arith}
 use Rattle.std.specs.Prelude.{slice_get, is_some, IfSome}
 use Rattle.elf_types.specs.declared.records.Class.{Class}
 use Rattle.elf_types.specs.declared.records.Order.{Order}
@@ -18,7 +18,6 @@ use Rattle.elf_descriptor.specs.declared.body.Body.{Body}
 use Rattle.elf_descriptor.specs.declared.body.Written.{Written}
 use Rattle.elf_descriptor.specs.declared.body.Base.{Base}
 use Rattle.elf_descriptor.specs.declared.body.Base.TheVariants as bases
-use Rattle.elf_descriptor.specs.State.{State}
 use Rattle.elf_descriptor.specs.Views.{object_of, section_of, loaded_of, held_of, state_of, room_of}
 use Rattle.elf_descriptor.specs.Sound.{IsElf, IsSound, IsStanding, source_part}
 use Rattle.elf_descriptor.specs.Created.{IsCreatedBody, IsCreated}

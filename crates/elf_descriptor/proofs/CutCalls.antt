@@ -1,25 +1,21 @@
 -- The calls that write the device and set its length: what they leave of the descriptor.
-use Rattle.std.proofs.Common.{◌≡◌, ◌∙◌, ℕ, zero, suc, ◌+◌, ◌-◌, ◌<◌, ◌≤◌, Bool, true, false, List, [], ◌++◌, length, take, drop, get_or, Option, Some, None, Result, Ok, Err, refl, sym, ap, subst, arith, ⊎_elim, ◌⊎◌, inl, inr}
+use Rattle.std.proofs.Common.{◌≡◌, ◌∙◌, ℕ, ◌+◌, ◌-◌, ◌<◌, ◌≤◌, Bool, true, false, List, length, take, drop, Option, Some, None, Result, Ok, Err, refl, sym, ap, subst, arith, ⊎_elim, ◌⊎◌, inl, inr}
 use Rattle.std.specs.Prelude.{min, nat_lt, ◌&&◌, IfSome, IsSome, IsTrue, OnOk, OnErr, is_some}
 use Rattle.std.proofs.Math.ListN.{replicate}
-use Rattle.std.proofs.lemmas.Bool.{ltb-true, ltb-false, lt-ltb, le-ltb, cases_lt}
-use Rattle.std.proofs.lemmas.List.{length-take, length-take-le, length-drop, length-replicate, take-append-le, take-take, take-replicate, take_all, get_or-take, get_or-drop, ext_get_or}
+use Rattle.std.proofs.lemmas.Bool.{ltb-true, ltb-false, cases_lt}
+use Rattle.std.proofs.lemmas.List.{length-take, length-drop, length-replicate, take-append-le, take-take, take-replicate, take_all, get_or-take, get_or-drop, ext_get_or}
 use Rattle.elf_types.specs.declared.errors.ElfError.{ElfError}
 use Rattle.elf_outside.specs.declared.sources.Source.{Ghosts}
 use Rattle.elf_outside.specs.Writes.{WritesOver, TearsOver, Resizes, ResizesOrNot, IsTornBy, written_over, resized}
 use Rattle.elf_outside.proofs.WriteLemmas.{written_is_torn}
 use Rattle.elf_object.specs.Blocks.{extents_meet}
-use Rattle.elf_object.specs.Object.{Object, Section, section_at}
+use Rattle.elf_object.specs.Object.{Object, Section}
 use Rattle.elf_object.specs.Valid.{AreBytes}
-use Rattle.elf_object.specs.Due.{is_loaded}
 use Rattle.writing_laws.specs.Based.{some_unmarked}
-use Rattle.writing_laws.proofs.DisturbedLaws.{IsMeeting, meeting_to}
-use Rattle.section_data.specs.Held.{cell_is_loaded}
-use Rattle.elf_descriptor.specs.declared.scn.Scn.{Scn}
+use Rattle.writing_laws.proofs.DisturbedLaws.{meeting_to}
 use Rattle.elf_descriptor.specs.declared.body.Body.{Body}
 use Rattle.elf_descriptor.specs.declared.body.Base.{Base}
 use Rattle.elf_descriptor.specs.declared.body.Base.TheVariants as bases
-use Rattle.elf_descriptor.specs.State.{State}
 use Rattle.elf_descriptor.specs.Views.{object_of, section_of, base_of, source_bytes, scn_at, loaded_of, held_of, room_of, ready_of, is_of_source, has_lengths, cut_at, state_of}
 use Rattle.elf_descriptor.specs.Sound.{IsElf, source_part}
 use Rattle.elf_descriptor.specs.Cuts.{LiesInBase, IsKeptApart, MayWrite, MaySize, CutsBase}

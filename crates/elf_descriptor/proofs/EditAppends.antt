@@ -1,6 +1,6 @@
 -- A piece that is added to a section: its refusals, and its step.
-use Rattle.std.proofs.Common.{◌≡◌, ℕ, ◌<◌, Bool, false, List, [], ◌∷◌, ◌++◌, length, set, Option, Some, None, Result, Ok, Err, refl, sym, ap, ◌∙◌, subst}
-use Rattle.std.specs.Prelude.{OnOk, OnErr, IfOk, IfErr, IsOk, not, nat_le}
+use Rattle.std.proofs.Common.{◌≡◌, ℕ, false, List, [], ◌∷◌, ◌++◌, length, set, Option, Some, None, Result, Ok, Err, refl, sym, ap, ◌∙◌, subst}
+use Rattle.std.specs.Prelude.{OnOk, OnErr, IfOk, not, nat_le}
 use Rattle.elf_types.specs.declared.records.DataId.{DataId}
 use Rattle.elf_types.specs.declared.constants.TheConstants.{MAX_PIECES}
 use Rattle.elf_types.specs.declared.errors.ElfError.{ElfError}
@@ -8,9 +8,9 @@ use Rattle.elf_types.specs.declared.errors.ElfError.TheVariants.{Memory, TooMany
 use Rattle.elf_types.specs.Answers.{answered, refused_if, first_refusal, IsRefusal}
 use Rattle.elf_xlate.specs.declared.content.Items.{Items}
 use Rattle.elf_outside.specs.declared.sources.Source.{Ghosts}
-use Rattle.elf_object.specs.Object.{Object, Section, Piece, section_at}
+use Rattle.elf_object.specs.Object.{Section}
 use Rattle.elf_object.specs.Answers.{reserved, piece_count}
-use Rattle.elf_object.specs.Steps.{with_section, with_new_piece, own_piece}
+use Rattle.elf_object.specs.Steps.{with_new_piece, own_piece}
 use Rattle.elf_object.specs.Words.{Edits, EditsWith, result_map}
 use Rattle.elf_object.specs.Calls.{Call, newdata_refusal, unfit_items, is_piece_align}
 use Rattle.section_data.specs.Views.{CellView}
@@ -18,7 +18,6 @@ use Rattle.section_data.specs.Leaves.{appended}
 use Rattle.section_data.specs.Refused.{append_refused, unfit_piece}
 use Rattle.elf_descriptor.specs.declared.scn.Scn.{Scn}
 use Rattle.elf_descriptor.specs.declared.body.Body.{Body}
-use Rattle.elf_descriptor.specs.State.{State}
 use Rattle.elf_descriptor.specs.Views.{object_of, section_of, state_of, scn_at, no_scn, ready_of}
 use Rattle.elf_descriptor.specs.Edits.{IsStepped, numbers_of, stepped}
 use Rattle.elf_descriptor.proofs.Objects.{section_is, no_section_is}

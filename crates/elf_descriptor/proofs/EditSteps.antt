@@ -1,6 +1,6 @@
 -- The step of each edit, over every source.
 use Rattle.std.proofs.Common.{◌≡◌, ℕ, ◌<◌, Bool, true, false, List, [], ◌∷◌, length, get_or, set, map, Option, Some, None, Result, Ok, Err, refl, sym, ap, ◌∙◌, subst, arith}
-use Rattle.std.specs.Prelude.{slice_get, not, ◌&&◌, ◌==◌, nat_le, if◌then◌else◌}
+use Rattle.std.specs.Prelude.{not, ◌&&◌, ◌==◌, nat_le, if◌then◌else◌}
 use Rattle.std.proofs.lemmas.List.{length-set}
 use Rattle.std.proofs.Math.Seq.{map-set, map-set_same}
 use Rattle.elf_types.specs.declared.records.Ehdr.{Ehdr}
@@ -13,10 +13,9 @@ use Rattle.elf_types.specs.declared.errors.ElfError.TheVariants.{NoSection, Unfi
 use Rattle.elf_types.specs.Answers.{answered, refused_if, first_refusal}
 use Rattle.elf_xlate.specs.Headers.{ehdr_fits, phdr_fits, shdr_fits}
 use Rattle.elf_object.specs.Object.{Object, Section, Piece, section_at, piece_at, home_piece}
-use Rattle.elf_object.specs.Answers.{no_section, no_entry, reserved, has_dirty, has_layout}
+use Rattle.elf_object.specs.Answers.{no_entry, reserved, has_dirty, has_layout}
 use Rattle.elf_object.specs.Steps.{stored_ehdr, with_ehdr, with_phdrs, with_phdr, with_shdr, with_section, with_piece_at, with_mark, with_layout, with_flags, is_whole, with_fill}
 use Rattle.elf_object.specs.Calls.{update_ehdr_refusal, update_phdr_refusal, update_shdr_refusal}
-use Rattle.elf_object.specs.Calls as calls
 use Rattle.section_data.specs.Views.{CellView}
 use Rattle.section_data.specs.Held.{piece_in}
 use Rattle.section_data.specs.Leaves.{marked_piece}

@@ -1,35 +1,34 @@
 -- Memory is kept aside for a section's home, and the home is read into it.
-use Rattle.std.proofs.Common.{◌≡◌, ◌≢◌, ◌∙◌, ℕ, ◌+◌, ◌<◌, ◌≤◌, Bool, true, false, not, List, [], ◌∷◌, length, get_or, set, map, Option, Some, None, Result, Ok, Err, refl, sym, ap, subst, arith}
+use Rattle.std.proofs.Common.{◌≡◌, ◌≢◌, ◌∙◌, ℕ, ◌+◌, ◌<◌, ◌≤◌, Bool, true, false, List, [], ◌∷◌, length, get_or, set, Option, Some, None, Result, Ok, Err, refl, sym, ap, subst, arith}
 use Rattle.std.specs.Prelude.{◌||◌, ◌&&◌, ◌==◌, is_some, nat_lt, IsTrue, IfErr, IfSome, OnOk, OnErr, if◌then◌else◌}
 use Rattle.std.specs.Vec.{with_item}
 use Rattle.std.proofs.lemmas.Bool.{eqb-true, ltb-true, ltb-false}
 use Rattle.std.proofs.lemmas.List.{set-get_or, set-set, length-set, get_or-set_other}
-use Rattle.std.proofs.Math.Seq.{map-set, map-set_same}
 use Rattle.elf_types.specs.declared.errors.ElfError.{ElfError}
 use Rattle.elf_types.specs.declared.errors.ElfError.TheVariants.{Read, Memory}
 use Rattle.elf_types.specs.Answers.{answered, first_refusal, IsRefusal}
 use Rattle.elf_outside.specs.declared.sources.Source.{Ghosts}
 use Rattle.elf_outside.specs.Asks.{Asks, Leaves}
 use Rattle.elf_object.specs.Words.{Answers, Edits}
-use Rattle.elf_object.specs.Object.{Object, Section}
+use Rattle.elf_object.specs.Object.{Object}
 use Rattle.elf_object.specs.Answers.{raw_refusal}
 use Rattle.elf_object.specs.Calls as calls
 use Rattle.elf_object.specs.Due.{is_loaded, holds_items, homes_due}
 use Rattle.elf_xlate.specs.declared.content.Items.{Items}
 use Rattle.section_data.specs.Views.{CellView}
-use Rattle.section_data.specs.Held.{cell_is_loaded, HeldIs}
-use Rattle.section_data.specs.Leaves.{Warms, FillsRoom, RawBecomes, LiesIn, with_room}
+use Rattle.section_data.specs.Held.{cell_is_loaded}
+use Rattle.section_data.specs.Leaves.{FillsRoom, with_room}
 use Rattle.section_data.specs.Refused.{home_out, load_due, loading, reading}
 use Rattle.elf_descriptor.specs.declared.scn.Scn.{Scn}
 use Rattle.elf_descriptor.specs.declared.body.Body.{Body}
 use Rattle.elf_descriptor.specs.State.{State}
-use Rattle.elf_descriptor.specs.Views.{object_of, section_of, raw_of, scn_at, absent_scn, no_scn, loaded_of, held_of, room_of, ready_of, state_of}
+use Rattle.elf_descriptor.specs.Views.{object_of, section_of, raw_of, scn_at, absent_scn, loaded_of, held_of, room_of, ready_of, state_of}
 use Rattle.elf_descriptor.specs.Bodies.{no_raw_in}
 use Rattle.elf_descriptor.specs.Sound.{IsElf, CellIn}
 use Rattle.elf_descriptor.specs.Edits.{IsStepped}
 use Rattle.elf_descriptor.specs.Warmed.{Warmed}
-use Rattle.elf_descriptor.specs.Reads.{Reads, Queries, wanted}
-use Rattle.elf_descriptor.specs.Rooms.{with_room_for, has_room_for, reads_home, HoldsSo, Fills}
+use Rattle.elf_descriptor.specs.Reads.{Queries, wanted}
+use Rattle.elf_descriptor.specs.Rooms.{with_room_for, reads_home, HoldsSo, Fills}
 use Rattle.elf_descriptor.proofs.Refusals.{answers_wants}
 use Rattle.elf_descriptor.proofs.EditLaws.{same_elf, state_stepped}
 use Rattle.elf_descriptor.proofs.EditGrows.{edits_left, refused_alone}

@@ -1,17 +1,14 @@
 -- The base changes with the source: what the homes hold stays, and so does what is true of the descriptor.
-use Rattle.std.proofs.Common.{◌≡◌, ◌≢◌, ◌∙◌, ℕ, zero, suc, ◌+◌, ◌-◌, ◌^◌, ◌<◌, ◌≤◌, Bool, true, false, not, List, [], ◌∷◌, length, take, drop, get_or, map, Option, Some, None, refl, sym, ap, subst, arith}
-use Rattle.std.specs.Prelude.{All, slice_get, IfSome, IsSome, IsTrue, is_some, ◌||◌, if◌then◌else◌}
-use Rattle.std.proofs.Math.ListN.{replicate, get_or-map}
-use Rattle.std.proofs.lemmas.List.{length-map, length-take-le, length-take, length-drop, length-replicate}
+use Rattle.std.proofs.Common.{◌≡◌, ◌∙◌, ℕ, zero, suc, ◌+◌, ◌^◌, ◌<◌, ◌≤◌, Bool, true, false, List, [], ◌∷◌, length, take, drop, get_or, map, Option, Some, None, refl, sym, ap, subst, arith}
+use Rattle.std.specs.Prelude.{slice_get, IfSome, IsSome, is_some, if◌then◌else◌}
+use Rattle.std.proofs.lemmas.List.{length-take, length-drop}
 use Rattle.std.proofs.lemmas.List.Elements.{All-get_or, All-take, All-replicate, All-from_get_or}
-use Rattle.elf_types.specs.declared.records.Ehdr.{Ehdr}
 use Rattle.elf_object.specs.Object.{Object, Section, section_at, absent_section, is_dirty}
 use Rattle.elf_object.specs.Open.{home_bytes}
-use Rattle.elf_object.specs.Valid.{AreBytes, IsObject, IsTied, IsSection}
+use Rattle.elf_object.specs.Valid.{AreBytes, IsObject}
 use Rattle.writing_laws.specs.Based.{IsBased, HomeStands, some_unmarked}
 use Rattle.section_data.specs.Views.{CellView}
 use Rattle.section_data.specs.Held.{cell_is_loaded}
-use Rattle.section_data.specs.Leaves.{LiesIn}
 use Rattle.elf_descriptor.specs.declared.scn.Scn.{Scn}
 use Rattle.elf_descriptor.specs.declared.body.Body.{Body}
 use Rattle.elf_descriptor.specs.declared.body.Base.{Base}

@@ -1,5 +1,5 @@
 -- How long a section's data is, as the plain object says it.
-use Rattle.std.proofs.Common.{◌≡◌, ◌∙◌, ℕ, ◌+◌, ◌-◌, ◌^◌, ◌<◌, ◌≤◌, Bool, true, false, List, [], ◌∷◌, length, map, Option, Some, None, Result, refl, sym, ap, subst}
+use Rattle.std.proofs.Common.{◌≡◌, ◌∙◌, ℕ, ◌-◌, ◌^◌, ◌<◌, Bool, true, false, List, length, Option, refl, sym, ap}
 use Rattle.std.specs.Prelude.{min, nat_lt, if◌then◌else◌}
 use Rattle.std.proofs.lemmas.Bool.{ltb-true, ltb-false}
 use Rattle.elf_types.specs.declared.errors.ElfError.{ElfError}
@@ -7,7 +7,6 @@ use Rattle.elf_types.specs.Answers.{answered}
 use Rattle.elf_object.specs.Object.{Section}
 use Rattle.elf_object.specs.Answers.{no_section}
 use Rattle.elf_object.specs.Joined.{pieces_end}
-use Rattle.section_data.specs.Views.{CellView}
 use Rattle.section_data.specs.Sizes.{home_size, data_size}
 use Rattle.section_data.proofs.Sizes.{data_size_is}
 use Rattle.elf_descriptor.specs.declared.body.Body.{Body}
@@ -15,7 +14,7 @@ use Rattle.elf_descriptor.specs.Views.{object_of, section_of, raw_of, scn_at, no
 use Rattle.elf_descriptor.specs.Sound.{IsElf}
 use Rattle.elf_descriptor.proofs.Objects.{section_is, no_section_is}
 use Rattle.elf_descriptor.proofs.PieceCalls.{section_sound}
-use Rattle.elf_descriptor.proofs.RawCalls.{scn_there, scn_missing}
+use Rattle.elf_descriptor.proofs.RawCalls.{scn_missing}
 
 -- the clean home piece is as long as its home, where that is in the file
 home_length : (image : Option (List ℕ)) (size : ℕ) (b : Body) (s : ℕ) → IsElf image size b → s < length b.sections.items → length (raw_of image (scn_at b s).cell) ≡ home_size (scn_at b s).cell

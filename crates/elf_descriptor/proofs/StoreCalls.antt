@@ -34,7 +34,7 @@ use Rattle.elf_descriptor.specs.Views.{object_of, raw_of, scn_at, no_scn}
 use Rattle.elf_descriptor.specs.Bodies.{no_list_in}
 use Rattle.elf_descriptor.specs.Sound.{IsElf}
 use Rattle.elf_descriptor.specs.State.{State}
-use Rattle.elf_descriptor.specs.Reads.{Reads, Queries, wanted}
+use Rattle.elf_descriptor.specs.Reads.{wanted}
 use Rattle.elf_descriptor.specs.Lends.{IsLent, ReadsToOwn}
 use Rattle.elf_descriptor.specs.Stores.{store, EditsItems, no_store_in}
 use Rattle.elf_descriptor.proofs.Objects.{piece_is}
@@ -43,7 +43,6 @@ use Rattle.elf_descriptor.proofs.ListedCells.{home_whole, list_passed}
 use Rattle.elf_descriptor.proofs.PieceCalls.{lend_refusal_is, raw_length}
 use Rattle.elf_descriptor.proofs.DataCalls.{content_made, some_of}
 use Rattle.elf_descriptor.proofs.Refusals.{answers_wants}
-use Rattle.elf_descriptor.proofs.Handing.{queries_err}
 use Rattle.elf_descriptor.proofs.OwnedCalls.{lend_reads}
 use Rattle.elf_descriptor.proofs.LendCalls.{to_own_then}
 

@@ -1,25 +1,23 @@
 -- What is held of a home is let go, where it can be read again.
-use Rattle.std.proofs.Common.{◌≡◌, ◌∙◌, ℕ, ◌+◌, ◌<◌, ◌≤◌, Bool, true, false, not, List, [], ◌∷◌, length, take, drop, get_or, set, map, Option, Some, None, Result, Ok, Err, refl, sym, ap, subst, arith}
-use Rattle.std.specs.Prelude.{◌&&◌, ◌||◌, is_some, is_none, slice_get, nat_lt, IsSome, IfSome, OnOk, OnErr, ◌==◌, if◌then◌else◌}
+use Rattle.std.proofs.Common.{◌≡◌, ◌∙◌, ℕ, ◌+◌, ◌<◌, ◌≤◌, Bool, true, false, not, List, [], ◌∷◌, length, take, drop, set, Option, Some, None, Ok, Err, refl, sym, ap, subst, arith}
+use Rattle.std.specs.Prelude.{◌&&◌, is_some, is_none, slice_get, nat_lt, ◌==◌, if◌then◌else◌}
 use Rattle.std.specs.List.{list_any}
 use Rattle.std.proofs.lemmas.Bool.{ltb-true, ltb-false, eqb-true, cond-true}
-use Rattle.std.proofs.lemmas.List.{set-get_or}
 use Rattle.std.proofs.lemmas.List.Elements.{All-get_or}
-use Rattle.std.proofs.Math.Seq.{map-set}
 use Rattle.elf_outside.specs.declared.sources.Source.{Ghosts}
-use Rattle.elf_object.specs.Object.{Object, Section, Piece, section_at, absent_section}
+use Rattle.elf_object.specs.Object.{Section, Piece, section_at, absent_section}
 use Rattle.elf_object.specs.Open.{home_bytes}
 use Rattle.writing_laws.specs.Based.{IsBased, HomeStands, some_unmarked}
 use Rattle.section_data.specs.Views.{CellView, passes_end}
-use Rattle.section_data.specs.Held.{is_untouched, cell_is_loaded}
+use Rattle.section_data.specs.Held.{is_untouched}
 use Rattle.section_data.specs.Leaves.{unloaded as unloaded_cell}
 use Rattle.elf_descriptor.specs.declared.scn.Scn.{Scn}
 use Rattle.elf_descriptor.specs.declared.body.Body.{Body}
 use Rattle.elf_descriptor.specs.declared.body.Base.{Base}
 use Rattle.elf_descriptor.specs.declared.body.Base.TheVariants as bases
 use Rattle.elf_descriptor.specs.State.{State}
-use Rattle.elf_descriptor.specs.Views.{object_of, section_of, raw_of, bytes_or, base_of, scn_at, no_scn, loaded_of, held_of, room_of, ready_of, state_of, is_of_source}
-use Rattle.elf_descriptor.specs.Sound.{IsElf, CellIn, source_part}
+use Rattle.elf_descriptor.specs.Views.{object_of, section_of, raw_of, base_of, scn_at, no_scn, loaded_of, held_of, state_of, is_of_source}
+use Rattle.elf_descriptor.specs.Sound.{IsElf, source_part}
 use Rattle.elf_descriptor.specs.Rooms.{is_kept_home, can_be_read_again, can_let_go, unloaded, let_go, HoldsSo}
 use Rattle.elf_descriptor.proofs.Objects.{section_is, section_count_is, base_length, base_count}
 use Rattle.elf_descriptor.proofs.BaseCalls.{base_is, home_stands}
@@ -28,7 +26,7 @@ use Rattle.elf_descriptor.proofs.Loaded.{absent_at}
 use Rattle.elf_descriptor.proofs.RawCalls.{scn_there}
 use Rattle.elf_types.specs.declared.errors.ElfError.{ElfError}
 use Rattle.elf_types.specs.Answers.{answered}
-use Rattle.elf_descriptor.proofs.OneCell.{HoldsOtherwise, otherwise_object, otherwise_elf, otherwise_loaded, otherwise_held, otherwise_room, otherwise_ready, otherwise_state, room_same}
+use Rattle.elf_descriptor.proofs.OneCell.{HoldsOtherwise, otherwise_elf, otherwise_state, room_same}
 
 right_of : (a b : Bool) → (a && b) ≡ true → b ≡ true
 right_of true b both = both

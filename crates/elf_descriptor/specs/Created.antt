@@ -1,5 +1,5 @@
 -- A descriptor that is created, over nothing that was read (elf_begin with ELF_C_WRITE, elf(3E)).
-use Rattle.std.specs.Prelude.{◌≡◌, ℕ, Bool, true, false, List, [], Option, None}
+use Rattle.std.specs.Prelude.{◌≡◌, ℕ, true, false, List, [], Option, None}
 use Rattle.elf_types.specs.declared.records.Class.{Class}
 use Rattle.elf_types.specs.declared.records.Order.{Order}
 use Rattle.elf_object.specs.Open.{created_over}

@@ -1,6 +1,6 @@
 -- Places, sizes and derived values that are stored in the headers, in what the program keeps
 -- (elf_update with ELF_C_NULL; gABI chapter 4, "Section Header").
-use Rattle.std.specs.Prelude.{◌≡◌, ℕ, ◌+◌, ◌-◌, ◌^◌, ◌==◌, min, length, map, slice_index, if◌then◌else◌}
+use Rattle.std.specs.Prelude.{◌≡◌, ℕ, ◌+◌, ◌-◌, ◌^◌, ◌==◌, min, length, map, if◌then◌else◌}
 use Rattle.std.specs.List.{enumerate_from}
 use Rattle.elf_types.specs.declared.records.Class.{Class}
 use Rattle.elf_types.specs.declared.records.Ehdr.{Ehdr}

@@ -1,4 +1,4 @@
-use Rattle.std.proofs.Common.{refl, sym, ap, ◌∙◌}
+use Rattle.std.proofs.Common.{refl}
 use Rattle.elf_descriptor.proofs.Warming.{scn_read}
 use Rattle.elf_descriptor.proofs.Unloading.{gone_by}
 use Rattle.elf_descriptor.proofs.body.Body.let_go.Goals as goal

@@ -1,7 +1,7 @@
-use Rattle.std.proofs.Common.{◌≡◌, refl, sym, subst}
-use Rattle.std.specs.Prelude.{IsTrue, OnOk, OnErr, IfErr, ◌||◌}
+use Rattle.std.proofs.Common.{refl, sym, subst}
+use Rattle.std.specs.Prelude.{IsTrue, ◌||◌}
 use Rattle.section_data.specs.Held.{cell_is_loaded}
-use Rattle.section_data.specs.Leaves.{LiesIn, FillsRoom}
+use Rattle.section_data.specs.Leaves.{LiesIn}
 use Rattle.elf_descriptor.specs.declared.scn.Scn.{Scn}
 use Rattle.elf_descriptor.proofs.Warming.{scn_read}
 use Rattle.elf_descriptor.proofs.Keeping.{filled_by, unfilled_by, only_read}

@@ -1,4 +1,4 @@
-use Rattle.std.proofs.Common.{◌≡◌, refl, sym, ap, ◌∙◌, length, true, List}
+use Rattle.std.proofs.Common.{refl, ap, ◌∙◌, length, List}
 use Rattle.elf_types.specs.declared.records.Phdr.{Phdr}
 use Rattle.elf_descriptor.proofs.SpareCalls.{reserved_by}
 use Rattle.elf_descriptor.proofs.body.Body.make_spare.Goals as goal

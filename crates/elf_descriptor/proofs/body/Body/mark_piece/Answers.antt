@@ -1,4 +1,4 @@
-use Rattle.std.proofs.Common.{List, length, set, refl, sym, ap, subst, ◌<◌}
+use Rattle.std.proofs.Common.{length, set, refl, sym, ap, subst, ◌<◌}
 use Rattle.section_data.specs.Views.{CellView}
 use Rattle.elf_descriptor.specs.declared.scn.Scn.{Scn}
 use Rattle.elf_descriptor.proofs.Warming.{scn_read}

@@ -1,4 +1,3 @@
-use Rattle.std.proofs.Common.{refl, Result, Ok, Err}
 use Rattle.elf_descriptor.proofs.EditGrows.{refused_alone, done_alone, left_same, done_unit}
 use Rattle.elf_descriptor.proofs.EditPieces.{same_stepped}
 use Rattle.elf_descriptor.proofs.body.Body.newphdr.Goals as goal

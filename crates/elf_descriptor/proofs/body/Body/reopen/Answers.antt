@@ -1,4 +1,4 @@
-use Rattle.std.proofs.Common.{◌≡◌, ◌<◌, length, refl, arith}
+use Rattle.std.proofs.Common.{refl, arith}
 use Rattle.elf_descriptor.proofs.Placing.{rest_then}
 use Rattle.elf_descriptor.proofs.Rows.{changed_from}
 use Rattle.elf_descriptor.proofs.Settling.{one_reopened, all_reopened, count_reopened}

@@ -1,4 +1,3 @@
-use Rattle.elf_descriptor.specs.Edits.{IsStepped}
 use Rattle.elf_descriptor.proofs.EditPieces.{replace_refused_first, replace_refused_then, same_stepped}
 use Rattle.elf_descriptor.proofs.body.Body.replace.Goals as goal
 

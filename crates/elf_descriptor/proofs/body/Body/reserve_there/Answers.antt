@@ -1,4 +1,4 @@
-use Rattle.std.proofs.Common.{◌≡◌, refl, subst}
+use Rattle.std.proofs.Common.{refl, subst}
 use Rattle.elf_types.specs.Answers.{answered}
 use Rattle.elf_object.specs.Words.{Edits}
 use Rattle.section_data.specs.Refused.{home_out}

@@ -1,6 +1,5 @@
-use Rattle.std.proofs.Common.{◌≡◌, ◌∙◌, ◌<◌, length, refl, sym, ap, subst, arith}
-use Rattle.elf_descriptor.specs.declared.body.Body.{Body}
-use Rattle.elf_descriptor.proofs.Placing.{none_stored, one_stored, all_stored, count_stored, rest_then}
+use Rattle.std.proofs.Common.{refl, arith}
+use Rattle.elf_descriptor.proofs.Placing.{one_stored, all_stored, count_stored, rest_then}
 use Rattle.elf_descriptor.proofs.Rows.{changed_from}
 use Rattle.elf_descriptor.proofs.body.Body.store_headers.Goals as goal
 

@@ -1,8 +1,5 @@
-use Rattle.std.proofs.Common.{◌≡◌, ℕ, ◌+◌, refl, ap, ◌∙◌, set, arith}
+use Rattle.std.proofs.Common.{◌≡◌, ℕ, ◌+◌, refl, ap, ◌∙◌, arith}
 use Rattle.std.specs.Prelude.{slice_index}
-use Rattle.elf_types.specs.declared.records.Shdr.{Shdr}
-use Rattle.elf_descriptor.specs.declared.scn.Scn.{Scn}
-use Rattle.elf_descriptor.specs.Places.{stored_scn}
 use Rattle.elf_descriptor.proofs.Warming.{scn_read}
 use Rattle.elf_descriptor.proofs.Placing.{place_stored}
 use Rattle.elf_descriptor.proofs.body.Body.store_place.Goals as goal

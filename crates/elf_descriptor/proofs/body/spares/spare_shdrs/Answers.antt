@@ -1,5 +1,5 @@
 -- One header more.
-use Rattle.std.proofs.Common.{◌≡◌, ◌∙◌, length, ap, List, arith}
+use Rattle.std.proofs.Common.{length, ap, List}
 use Rattle.elf_types.specs.declared.records.Shdr.{Shdr}
 use Rattle.elf_descriptor.proofs.SpareCalls.{one_longer}
 use Rattle.elf_descriptor.proofs.body.spares.spare_shdrs.Goals as goal

@@ -1,4 +1,4 @@
-use Rattle.std.proofs.Common.{◌≡◌, false, subst}
+use Rattle.std.proofs.Common.{false, subst}
 use Rattle.elf_object.specs.Words.{Edits}
 use Rattle.elf_object.specs.Calls as calls
 use Rattle.elf_descriptor.specs.State.{State}

@@ -1,6 +1,4 @@
 use Rattle.std.proofs.Common.{◌≡◌, false, Ok, refl, subst}
-use Rattle.std.specs.Prelude.{Result}
-use Rattle.elf_types.specs.declared.errors.ElfError.{ElfError}
 use Rattle.elf_object.specs.Calls as calls
 use Rattle.elf_descriptor.specs.State.{State}
 use Rattle.elf_descriptor.specs.Views.{state_of}

@@ -1,6 +1,5 @@
-use Rattle.std.proofs.Common.{◌≡◌, ◌∙◌, ℕ, ap, sym, subst}
+use Rattle.std.proofs.Common.{◌∙◌, ℕ, ap, sym, subst}
 use Rattle.std.specs.Prelude.{IsTrue}
-use Rattle.elf_descriptor.specs.declared.body.Base.{Base}
 use Rattle.elf_descriptor.specs.State.{State}
 use Rattle.elf_descriptor.specs.Views.{state_of, cut_at}
 use Rattle.elf_descriptor.specs.Cuts.{MaySize, CutsBase}

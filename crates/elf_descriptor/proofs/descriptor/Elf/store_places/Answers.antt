@@ -1,4 +1,4 @@
-use Rattle.std.proofs.Common.{◌≡◌, ◌∙◌, true, length, None, sym, ap, subst, ◌+◌, ◌-◌, ℕ}
+use Rattle.std.proofs.Common.{◌≡◌, true, None, sym, subst}
 use Rattle.elf_object.specs.Object.{is_dirty}
 use Rattle.elf_object.specs.Layout.{placed, places_of}
 use Rattle.elf_object.specs.Refusal.{refusal}

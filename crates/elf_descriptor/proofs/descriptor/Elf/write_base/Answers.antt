@@ -1,8 +1,7 @@
-use Rattle.std.proofs.Common.{◌≡◌, ℕ, ◌+◌, ◌≤◌, length, sym, subst}
+use Rattle.std.proofs.Common.{◌+◌, ◌≤◌, length, sym, subst}
 use Rattle.std.specs.Prelude.{IsTrue}
-use Rattle.elf_descriptor.specs.declared.body.Base.TheVariants as bases
 use Rattle.elf_descriptor.specs.State.{State}
-use Rattle.elf_descriptor.specs.Views.{state_of, ready_of}
+use Rattle.elf_descriptor.specs.Views.{state_of}
 use Rattle.elf_descriptor.specs.Cuts.{MayWrite, CutsBase}
 use Rattle.elf_descriptor.proofs.CutCalls.{part_of_ready, is_written, fits_told, write_cuts, write_elf}
 use Rattle.elf_descriptor.proofs.descriptor.Elf.write_base.Goals as goal
