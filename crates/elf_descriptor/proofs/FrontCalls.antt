@@ -1,13 +1,11 @@
 -- Whether a part of the front is the one that stands in the image, as the plain object says it.
-use Rattle.std.proofs.Common.{◌≡◌, ◌∙◌, ℕ, zero, suc, ◌+◌, ◌*◌, ◌<◌, Bool, true, false, ◌&&◌, ◌||◌, List, [], ◌∷◌, length, get_or, map, Option, Some, None, refl, sym, ap, subst, arith}
+use Rattle.std.proofs.Common.{◌≡◌, ◌∙◌, ℕ, zero, suc, ◌+◌, ◌*◌, ◌<◌, Bool, true, false, ◌&&◌, ◌||◌, List, [], ◌∷◌, length, map, Option, Some, None, refl, sym, ap, subst, arith}
 use Rattle.std.specs.Prelude.{All, IsTrue, IfSome, not, cond, ◌==◌}
-use Rattle.std.specs.List.{AllByRecursion, position, position_from, enumerate_from}
+use Rattle.std.specs.List.{AllByRecursion, position, position_from}
 use Rattle.std.specs.Option.{option_map}
-use Rattle.std.specs.Str.{bytes_eq}
 use Rattle.std.proofs.lemmas.Bool.{ne_eqb}
 use Rattle.std.proofs.lemmas.Iterator.Adapters.{position_from-zero}
-use Rattle.std.proofs.lemmas.List.{nil_from_length, length-map}
-use Rattle.std.proofs.lemmas.List.FromFn.{length-enumerate_from}
+use Rattle.std.proofs.lemmas.List.{length-map}
 use Rattle.std.proofs.lemmas.List.Elements.{All-map, All-weaker, All-from_recursion}
 use Rattle.elf_types.specs.declared.records.Class.{Class}
 use Rattle.elf_types.specs.declared.records.Class.TheVariants.{C32, C64}
@@ -17,10 +15,8 @@ use Rattle.elf_types.specs.declared.records.Phdr.{Phdr}
 use Rattle.elf_types.specs.declared.records.Shdr.{Shdr}
 use Rattle.elf_types.specs.declared.records.Part.{Part}
 use Rattle.elf_types.specs.declared.records.Part.TheVariants as part
-use Rattle.elf_types.specs.declared.errors.ElfError.{ElfError}
 use Rattle.elf_types.specs.declared.errors.ElfError.TheVariants.{Unfit}
 use Rattle.elf_xlate.specs.Headers.{ehdr_size, ehdr_bytes, ehdr_fits, phdr_size, phdr_fits, shdr_size, shdr_fits}
-use Rattle.elf_ident.specs.Reading.{IsStored, IsPhdrTable, IsShdrTable}
 use Rattle.elf_layout.specs.declared.parts.Places.{Places}
 use Rattle.elf_object.specs.Blocks.{Block, same_block, same_extent}
 use Rattle.elf_object.specs.Object.{Object, Section, WrittenFront}
@@ -37,7 +33,6 @@ use Rattle.object_laws.proofs.LengthLaws.{length-ehdr_bytes, length-phdrs_bytes,
 use Rattle.object_laws.proofs.StandLaws.{section_count-placed}
 use Rattle.object_laws.proofs.PlacedLaws.{placed_by_is, ehdr_fits_each, ehdr_fits_all}
 use Rattle.object_laws.proofs.SettledLaws.{unrefused}
-use Rattle.elf_descriptor.specs.declared.scn.Scn.{Scn}
 use Rattle.elf_descriptor.specs.declared.body.Written.{Written}
 use Rattle.elf_descriptor.specs.declared.body.Body.{Body}
 use Rattle.elf_descriptor.specs.Views.{object_of, written_of}

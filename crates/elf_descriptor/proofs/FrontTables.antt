@@ -17,7 +17,7 @@ use Rattle.elf_types.specs.declared.records.Phdr.{Phdr}
 use Rattle.elf_types.specs.declared.records.Shdr.{Shdr}
 use Rattle.elf_xlate.specs.Headers.{IsEhdr, HasNarrowCounts, HoldsEhdr, ehdr_size, ehdr_of, ehdr_bytes, ehdr_fits, IsPhdr, phdr_size, phdr_of, phdr_bytes, phdr_fits, IsShdr, shdr_size, shdr_of, shdr_bytes, shdr_fits}
 use Rattle.elf_ident.specs.Reading.{IsStored, IsPhdrTable, IsShdrTable}
-use Rattle.elf_object.specs.Blocks.{Block, same_extent, same_block}
+use Rattle.elf_object.specs.Blocks.{same_extent, same_block}
 use Rattle.elf_object.specs.Open.{phdrs_bytes, shdrs_bytes}
 use Rattle.object_laws.proofs.LengthLaws.{length-ehdr_bytes, length-phdr_bytes, length-shdr_bytes, length-phdrs_bytes, length-shdrs_bytes}
 use Rattle.object_laws.proofs.ReopenLaws.{entry_bytes}

@@ -1,6 +1,6 @@
 -- Places are stored in the headers: the object is the placed one, and the descriptor stays sound.
-use Rattle.std.proofs.Common.{◌≡◌, ◌≢◌, ◌∙◌, ℕ, zero, suc, ◌+◌, ◌-◌, ◌^◌, ◌<◌, ◌≤◌, Bool, true, false, List, [], ◌∷◌, ◌++◌, length, get_or, set, map, Option, Some, None, Ok, refl, sym, ap, subst, arith}
-use Rattle.std.specs.Prelude.{min, not, ◌&&◌, ◌==◌, slice_get, is_some, if◌then◌else◌}
+use Rattle.std.proofs.Common.{◌≡◌, ◌≢◌, ◌∙◌, ℕ, zero, suc, ◌+◌, ◌-◌, ◌^◌, ◌<◌, ◌≤◌, Bool, true, false, List, [], ◌∷◌, length, get_or, set, map, Option, Some, None, refl, sym, ap, subst, arith}
+use Rattle.std.specs.Prelude.{min, ◌&&◌, ◌==◌, slice_get, is_some, if◌then◌else◌}
 use Rattle.std.specs.List.{enumerate_from}
 use Rattle.std.proofs.lemmas.Bool.{eqb-false}
 use Rattle.std.proofs.lemmas.List.{length-map, length-append}
@@ -12,10 +12,10 @@ use Rattle.elf_layout.specs.declared.parts.PartAt.{PartAt}
 use Rattle.elf_layout.specs.declared.parts.Places.{Places}
 use Rattle.elf_layout.specs.Layout.{positions, standing, places_of as parts_places}
 use Rattle.elf_outside.specs.declared.sources.Source.{Ghosts}
-use Rattle.elf_object.specs.Object.{Object, Section, section_at, header_of, occupies_file, has_file_bytes, is_null, is_dirty}
-use Rattle.elf_object.specs.Joined.{file_bytes, pieces_end}
+use Rattle.elf_object.specs.Object.{Object, Section, section_at, occupies_file, has_file_bytes, is_null, is_dirty}
+use Rattle.elf_object.specs.Joined.{file_bytes}
 use Rattle.elf_object.specs.Derived.{derived_header, numbered_shdr}
-use Rattle.elf_object.specs.Layout.{parts_of, places_of, placed, placed_by, placed_header, placed_shdr, placed_section, section_place, segments_place, table_place, section_part, section_numbers, header_part, segments_part, table_part}
+use Rattle.elf_object.specs.Layout.{parts_of, places_of, placed, placed_by, placed_header, placed_shdr, placed_section, section_place, segments_place, table_place, section_part, section_numbers, table_part}
 use Rattle.elf_object.specs.Refusal.{refusal, placing_refusal}
 use Rattle.elf_object.specs.Image.{image_length}
 use Rattle.elf_types.specs.declared.errors.ElfError.{ElfError}
@@ -27,20 +27,19 @@ use Rattle.object_laws.proofs.PlaceLaws.{AreNotTooLarge, not_too_large}
 use Rattle.object_laws.proofs.PlacedLaws.{size_fits, update_passes}
 use Rattle.object_laws.proofs.StandLaws.{length-standing}
 use Rattle.writing_laws.specs.Based.{KeepsBased}
-use Rattle.section_data.specs.Views.{CellView}
 use Rattle.section_data.specs.Sizes.{data_size}
 use Rattle.elf_descriptor.specs.declared.scn.Scn.{Scn}
 use Rattle.elf_descriptor.specs.declared.body.Body.{Body}
 use Rattle.elf_descriptor.specs.State.{State}
-use Rattle.elf_descriptor.specs.Views.{object_of, section_of, scn_at, absent_scn, loaded_of, held_of, room_of, ready_of, is_of_source, has_lengths, state_of, HasCounts}
-use Rattle.elf_descriptor.specs.Sound.{IsElf, IsSound, CellIn}
+use Rattle.elf_descriptor.specs.Views.{object_of, section_of, scn_at, absent_scn, loaded_of, held_of, room_of, ready_of, is_of_source, has_lengths, state_of}
+use Rattle.elf_descriptor.specs.Sound.{IsElf, IsSound}
 use Rattle.elf_descriptor.specs.Fronts.{stored_shdrs}
 use Rattle.elf_descriptor.specs.Edits.{homes_of, without_pieces}
 use Rattle.elf_descriptor.specs.Places.{HasPlaces, StoresHeaders, StoresPlaces, stored_header, stored_scn, stored_shdr, stored_size}
 use Rattle.elf_descriptor.proofs.Objects.{section_is, section_count_is, header_is}
 use Rattle.elf_descriptor.proofs.Warming.{cell_moved, standing_moved, part_within}
 use Rattle.elf_descriptor.proofs.EditLaws.{has_counts, step_sound, cells_kept, loaded_kept, held_kept, room_kept}
-use Rattle.elf_descriptor.proofs.Rows.{changed_from, all_from, row_same, row_changed, rows_changed, rows_count, rows_map, rows_keep, rows_heads}
+use Rattle.elf_descriptor.proofs.Rows.{changed_from, row_same, row_changed, rows_changed, rows_count, rows_map, rows_keep, rows_heads}
 use Rattle.elf_descriptor.proofs.Sizes.{size_is}
 
 -- ---- There is a place for each part

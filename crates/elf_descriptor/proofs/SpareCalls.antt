@@ -1,19 +1,16 @@
 -- The spare front.
-use Rattle.std.proofs.Common.{◌≡◌, ◌∙◌, ◌+◌, ℕ, Bool, true, false, List, [], ◌∷◌, ◌++◌, length, Option, Some, None, Result, Ok, Err, refl, sym, ap, subst, zero, suc, arith}
-use Rattle.std.specs.Prelude.{◌==◌, ◌&&◌, IfSome, IsTrue, is_some, OnOk, OnErr, take}
+use Rattle.std.proofs.Common.{◌≡◌, ◌∙◌, ◌+◌, ℕ, Bool, true, false, List, [], ◌∷◌, ◌++◌, length, Option, Some, None, Result, Ok, Err, refl, sym, ap, subst, arith}
+use Rattle.std.specs.Prelude.{◌==◌, ◌&&◌, IfSome, is_some, OnOk, OnErr, take}
 use Rattle.std.proofs.lemmas.List.{length-append}
 use Rattle.std.proofs.lemmas.Bool.{eqb-false}
 use Rattle.elf_types.specs.declared.errors.ElfError.{ElfError}
 use Rattle.elf_types.specs.declared.records.Shdr.{Shdr}
 use Rattle.elf_outside.specs.declared.sources.Source.{Ghosts}
-use Rattle.elf_object.specs.Object.{Object}
 use Rattle.elf_descriptor.specs.declared.body.Body.{Body}
 use Rattle.elf_descriptor.specs.declared.body.Written.{Written}
-use Rattle.elf_descriptor.specs.declared.body.Base.{Base}
 use Rattle.elf_descriptor.specs.declared.body.Base.TheVariants as bases
-use Rattle.elf_descriptor.specs.State.{State}
-use Rattle.elf_descriptor.specs.Views.{object_of, loaded_of, held_of, room_of, base_of, source_bytes, ready_of, is_of_source, state_of}
-use Rattle.elf_descriptor.specs.Sound.{IsElf, source_part}
+use Rattle.elf_descriptor.specs.Views.{object_of, loaded_of, held_of, room_of, source_bytes, ready_of, is_of_source, state_of}
+use Rattle.elf_descriptor.specs.Sound.{IsElf}
 use Rattle.elf_descriptor.specs.Fronts.{IsReserved, HoldsBase}
 use Rattle.elf_descriptor.proofs.BaseCalls.{base_part, base_source}
 use Rattle.elf_descriptor.proofs.CutCalls.{part_of_ready}

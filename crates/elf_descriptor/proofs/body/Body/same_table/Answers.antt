@@ -1,4 +1,4 @@
-use Rattle.std.proofs.Common.{◌≡◌, ◌∙◌, ℕ, true, false, length, refl, sym, ap, arith}
+use Rattle.std.proofs.Common.{◌≡◌, ◌∙◌, true, false, length, refl, sym, ap, arith}
 use Rattle.elf_xlate.specs.Headers.{IsShdr}
 use Rattle.elf_descriptor.specs.Fronts.{stored_shdrs}
 use Rattle.elf_descriptor.proofs.FrontTables.{table_elsewhere, table_compared, compares_is, stored_count}

@@ -1,4 +1,4 @@
-use Rattle.std.proofs.Common.{◌≡◌, ◌<◌, ◌+◌, ℕ, true, false, length, refl, sym, ◌∙◌, arith, below_more}
+use Rattle.std.proofs.Common.{◌≡◌, true, false, sym, ◌∙◌, arith, below_more}
 use Rattle.elf_object.specs.Object.{no_phdr}
 use Rattle.elf_descriptor.proofs.FrontTables.{same_here, same_lists, true_is_false}
 use Rattle.elf_descriptor.proofs.body.fronts.same_phdrs.Goals as goal
