@@ -1,0 +1,20 @@
+-- What an update in place writes and moves, as flags (elf_update with ELF_C_WRITE).
+use Rattle.std.specs.Prelude.{◌≡◌, length, map}
+use Rattle.std.specs.List.{range_with_len}
+use Rattle.elf_object.specs.Object.{Object}
+use Rattle.elf_object.specs.Changed.{header_changed, segments_changed, table_changed, is_moved}
+use Rattle.elf_update.specs.declared.updates.PlannedParts.{PlannedParts}
+use Rattle.update_moves.specs.declared.changes.FrontChanges.{FrontChanges}
+use Rattle.update_moves.specs.declared.changes.Changes.{Changes}
+use Rattle.update_moves.specs.Written.{part_changed}
+
+-- the parts of the front that change
+pub record IsFront (o : Object) (front : FrontChanges) : Type 0 where
+  pub header : front.header ≡ header_changed o
+  pub segments : front.segments ≡ segments_changed o
+  pub table : front.table ≡ table_changed o
+
+-- of each part of a plan, whether it changes, and of each section, whether it moves
+pub record AreChanges (o : Object) (planned : PlannedParts) (changes : Changes) : Type 0 where
+  pub parts : changes.parts ≡ map (λ p. part_changed o p.part) planned.parts
+  pub sections : changes.sections ≡ map (is_moved o) (range_with_len 0 (length o.sections))

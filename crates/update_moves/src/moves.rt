@@ -1,0 +1,79 @@
+//! Which sections move: those that change, and those whose homes an update in place writes over or
+//! cuts.
+
+ghost use Rattle.std.specs.Prelude.{◌≡◌, ◌<◌, length, map, IfOk, IfErr};
+ghost use Rattle.std.specs.List.{range_with_len};
+ghost use Rattle.elf_types.specs.declared.errors.ElfError.TheVariants.{Memory};
+ghost use Rattle.elf_object.specs.Object.{section_at};
+ghost use Rattle.elf_object.specs.Changed.{is_disturbed, is_moved};
+ghost use Rattle.elf_update.specs.Updates.{IsPlanned};
+ghost use Rattle.update_moves.specs.Written.{written_line};
+ghost use Rattle.update_moves.specs.Extents.{extents_of};
+
+use crate::extents::Extent;
+use crate::meeting::{is_below_end, meets};
+use crate::sections::{home_of, section_changes};
+use elf_descriptor::Elf;
+use elf_outside::Source;
+use elf_types::{ElfError, List};
+use elf_update::PlannedParts;
+
+/// Whether the home of a section that is there meets what is written, or passes the new end.
+fn home_is_disturbed<S: Source>(
+    elf: &Elf<S>,
+    planned: &PlannedParts,
+    extents: &[Extent],
+    s: u32,
+) -> bool
+    requires planned { IsPlanned elf.now.o planned.now }
+    requires written { extents.now ≡ extents_of (written_line elf.now.o) }
+    requires there { s < length elf.now.o.sections }
+    ensures { result ≡ is_disturbed elf.now.o (section_at elf.now.o s).home }
+{
+    let home = home_of(elf, s);
+    if meets(extents, home.0, home.1) {
+        return true;
+    }
+    home.1 > 0 && is_below_end(planned.placed.places.end, home.0, home.1)
+}
+
+/// Whether a section that is there moves.
+#[tactic(auto, unfolding(elf_object::specs::Changed::is_moved))]
+fn section_moves<S: Source>(
+    elf: &Elf<S>,
+    planned: &PlannedParts,
+    extents: &[Extent],
+    s: u32,
+) -> bool
+    requires planned { IsPlanned elf.now.o planned.now }
+    requires written { extents.now ≡ extents_of (written_line elf.now.o) }
+    requires there { s < length elf.now.o.sections }
+    ensures { result ≡ is_moved elf.now.o s }
+{
+    section_changes(elf, planned, s) || home_is_disturbed(elf, planned, extents, s)
+}
+
+/// Of each section, whether it moves. It refuses `Memory` alone and reads nothing.
+pub(crate) fn list_moves<S: Source>(
+    elf: &Elf<S>,
+    planned: &PlannedParts,
+    extents: &[Extent],
+) -> Result<List<bool>, ElfError>
+    requires planned { IsPlanned elf.now.o planned.now }
+    requires written { extents.now ≡ extents_of (written_line elf.now.o) }
+    ensures ok { IfOk result (λ moves. moves
+        ≡ map (is_moved elf.now.o) (range_with_len 0 (length elf.now.o.sections))) }
+    ensures err { IfErr result (λ e. e ≡ Memory) }
+{
+    let count = elf.shnum();
+    let mut moves = match List::with_capacity(elf.alloc(), count as u64) {
+        Ok(moves) => moves,
+        Err(e) => return Err(e),
+    };
+    for s in 0..count {
+        if let Err(e) = moves.push(section_moves(elf, planned, extents, s)) {
+            return Err(e);
+        }
+    }
+    Ok(moves)
+}

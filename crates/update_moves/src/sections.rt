@@ -1,0 +1,84 @@
+//! Whether a section changes: a piece of it is marked, or it stands elsewhere than its home.
+
+ghost use Rattle.std.specs.Prelude.{◌≡◌, ◌<◌, true, length};
+ghost use Rattle.elf_object.specs.Blocks.{same_extent};
+ghost use Rattle.elf_object.specs.Object.{section_at, has_file_bytes};
+ghost use Rattle.elf_object.specs.Joined.{file_bytes};
+ghost use Rattle.elf_object.specs.Changed.{is_at_home, section_changed};
+ghost use Rattle.writing_laws.specs.Ready.{IsReady};
+ghost use Rattle.elf_update.specs.Updates.{IsPlanned};
+
+use crate::marks::some_piece_is_marked;
+use elf_descriptor::Elf;
+use elf_outside::Source;
+use elf_types::ScnId;
+use elf_update::PlannedParts;
+use update_plan::has_file_bytes;
+
+/// The place and the length of a home of a section that is there.
+#[tactic(auto, unfolding(elf_object::specs::Calls::home_answer))]
+pub(crate) fn home_of<S: Source>(elf: &Elf<S>, s: u32) -> (u64, u64)
+    requires { s < length elf.now.o.sections }
+    ensures place { result.0 ≡ (section_at elf.now.o s).home.at }
+    ensures len { result.1 ≡ (section_at elf.now.o s).home.len }
+{
+    match elf.home(ScnId(s)) {
+        Ok(home) => home,
+        Err(_) => unreachable!(),
+    }
+}
+
+/// Whether two extents are alike: empty ones are, wherever they stand.
+#[tactic(auto, unfolding(elf_object::specs::Blocks::same_extent))]
+fn is_same_extent(at: u64, len: u64, other: u64, other_len: u64) -> bool
+    ensures { result ≡ same_extent at len other other_len }
+{
+    at == other && len == other_len || len == 0 && other_len == 0
+}
+
+/// The number of bytes of a section in the file, which fits.
+fn file_length<S: Source>(elf: &Elf<S>, s: u32) -> u64
+    requires ready { IsReady elf.now.o }
+    requires there { s < length elf.now.o.sections }
+    requires filled { has_file_bytes s (section_at elf.now.o s) ≡ true }
+    ensures { result ≡ length (file_bytes elf.now.o s) }
+{
+    match elf.data_size(ScnId(s)) {
+        Ok(size) => size,
+        Err(_) => unreachable!(),
+    }
+}
+
+/// Whether a section with bytes in the file stands at its home.
+fn stands_at_home<S: Source>(elf: &Elf<S>, planned: &PlannedParts, s: u32) -> bool
+    requires planned { IsPlanned elf.now.o planned.now }
+    requires there { s < length elf.now.o.sections }
+    requires filled { has_file_bytes s (section_at elf.now.o s) ≡ true }
+    ensures { result ≡ is_at_home elf.now.o s }
+{
+    let at = planned.placed.places.at.as_slice()[s as usize + 1];
+    let home = home_of(elf, s);
+    is_same_extent(at, file_length(elf, s), home.0, home.1)
+}
+
+/// Whether the image holds bytes of a section, which need not be there.
+fn is_in_file<S: Source>(elf: &Elf<S>, s: u32) -> bool
+    ensures { result ≡ has_file_bytes s (section_at elf.now.o s) }
+{
+    if s < elf.shnum() {
+        return has_file_bytes(elf, ScnId(s));
+    }
+    false
+}
+
+/// Whether a section, which need not be there, changes.
+#[tactic(auto, unfolding(elf_object::specs::Changed::section_changed))]
+pub(crate) fn section_changes<S: Source>(elf: &Elf<S>, planned: &PlannedParts, s: u32) -> bool
+    requires { IsPlanned elf.now.o planned.now }
+    ensures { result ≡ section_changed elf.now.o s }
+{
+    if !is_in_file(elf, s) {
+        return false;
+    }
+    some_piece_is_marked(elf, s) || !stands_at_home(elf, planned, s)
+}
