@@ -291,7 +291,7 @@ fn a_script_has_at_most_a_mebibyte(rt: HostRuntime) -> Result<(), Fail> {
 }
 
 /// Bytes of the file F that are no image, the words, and the message.
-const FILES: [(&[u8], &str, &[u8]); 6] = [
+const FILES: [(&[u8], &str, &[u8]); 5] = [
     (b"", "calls G S", b"calls: S: not found\n"),
     (b"", "calls F F", b"calls: F: too short\n"),
     (
@@ -300,7 +300,6 @@ const FILES: [(&[u8], &str, &[u8]); 6] = [
         b"calls: F: line 1: no such call\n",
     ),
     (b"#!<arch>\n", "calls F F", b"calls: F: too short\n"),
-    (b"", "calls -o O F S", b"elfkit: form not built\n"),
     (b"", "calls -i F S", b"elfkit: form not built\n"),
 ];
 

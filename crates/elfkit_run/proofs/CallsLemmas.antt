@@ -64,17 +64,18 @@ module _ {F D O E : Type 0} (f : FilesGhosts F D) (o : SinkGhosts O) (e : SinkGh
               value_is = reports.value_is;
             }))
 
-    pub calls_left : LeavesFiles f o e r a c s u
-    calls_left = by_result r k.leaves
-      where
-        by_result : (q : Result Bool Stop) → LeavesFiles f o e q b c t u → LeavesFiles f o e q a c s u
-        by_result (Ok x) l = record {
-          totals = totals_then f o e a b c h.leaves.totals l.totals;
-          keeps = keeps_then o e s t u h.leaves.keeps l.keeps;
-          read = tt;
-          write = tt;
-        }
-        by_result (Err stop) l = leaves_stop f o e stop a b c s t u h.leaves.totals h.leaves.keeps l
+  -- the step behind the script
+  pub left_then : (c : F) (u : Outputs O E) (x : Option (List Call)) (r : Result Bool Stop)
+      → ReadsCalls f o e script (Ok x) a b s t → LeavesFiles f o e r b c t u
+      → LeavesFiles f o e r a c s u
+  left_then c u x (Ok y) h l = record {
+    totals = totals_then f o e a b c h.leaves.totals l.totals;
+    keeps = keeps_then o e s t u h.leaves.keeps l.keeps;
+    read = tt;
+    write = tt;
+  }
+  left_then c u x (Err stop) h l =
+      leaves_stop f o e stop a b c s t u h.leaves.totals h.leaves.keeps l
 
   -- it has none, and was refused
   pub no_calls_done : ReadsCalls f o e script (Ok None) a b s t → IsTrue (f.tells a) → Does f o e refused_status (calls_outcome file script (f.named a)) (Ok true) a b s t

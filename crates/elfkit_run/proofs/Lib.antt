@@ -1,3 +1,4 @@
 pub mod CallsLemmas
+pub mod CallsUpdateLemmas
 pub mod CommandLemmas
 pub mod TitleLemmas

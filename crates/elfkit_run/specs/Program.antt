@@ -13,11 +13,12 @@ use Rattle.tool_text.specs.declared.commands.Request.{Request}
 use Rattle.tool_text.specs.declared.commands.Request.TheVariants.{Run, Tell}
 use Rattle.tool_text.specs.declared.commands.Command.{Command}
 use Rattle.tool_text.specs.declared.commands.Command.TheVariants.{Readelf, Nm, Size, Strings, Strip, Elflint, Calls, Selftest, Rehash, Copy, Unstrip, Lines}
+use Rattle.tool_text.specs.declared.commands.CallsOutput.TheVariants.{To, InPlace}
 use Rattle.usage_text.specs.Usages.{usage_line}
 use Rattle.usage_text.specs.Notices.{notice_text}
 use Rattle.tool_text.specs.Reading.{reading}
 use Rattle.elfkit_run.specs.Sentences.{says, not_built}
-use Rattle.elfkit_run.specs.Calls.{calls_outcome}
+use Rattle.elfkit_run.specs.Calls.{calls_outcome, calls_update_outcome}
 use Rattle.elfkit_run.specs.Readelf.{readelf_outcome}
 use Rattle.elfkit_run.specs.Lines.{lines_outcome}
 use Rattle.elfkit_run.specs.Elflint.{elflint_outcome}
@@ -33,7 +34,9 @@ command_outcome (Strings options files) named = strings_outcome options files na
 command_outcome (Strip options file) named = not_built
 command_outcome (Elflint files) named = elflint_outcome files named
 command_outcome (Calls None file script) named = calls_outcome file script named
-command_outcome (Calls (Some output) file script) named = not_built
+command_outcome (Calls (Some (To out)) file script) named =
+    calls_update_outcome (To out) file script named
+command_outcome (Calls (Some InPlace) file script) named = not_built
 command_outcome (Selftest out count) named = not_built
 command_outcome (Rehash out file) named = not_built
 command_outcome (Copy changes out file) named = not_built
@@ -72,7 +75,8 @@ is_built (Strings options files) = true
 is_built (Strip options file) = false
 is_built (Elflint files) = true
 is_built (Calls None file script) = true
-is_built (Calls (Some output) file script) = false
+is_built (Calls (Some (To out)) file script) = true
+is_built (Calls (Some InPlace) file script) = false
 is_built (Selftest out count) = false
 is_built (Rehash out file) = false
 is_built (Copy changes out file) = false

@@ -1,16 +1,17 @@
 //! The commands, one file each, and the answer to those that are not built yet.
 
-ghost use Rattle.std.specs.Prelude.{◌≡◌, true, false, IsTrue};
+ghost use Rattle.std.specs.Prelude.{◌≡◌, true, false, Some, IsTrue};
 ghost use Rattle.tool_output.specs.Marks.{said};
 ghost use Rattle.tool_output.specs.Steps.{Performs, OnRead, LeavesOutputs};
 ghost use Rattle.tool_output.specs.Files.{LeavesFiles};
 ghost use Rattle.tool_output.specs.Statuses.{refused_status};
 ghost use Rattle.tool_output.specs.Outcomes.{Does};
 ghost use Rattle.elfkit_run.specs.Sentences.{line_of, not_built};
-ghost use Rattle.tool_text.specs.Forms.{IsWellFormed};
+ghost use Rattle.tool_text.specs.Forms.{IsOutputApart, IsWellFormed};
 ghost use Rattle.elfkit_run.specs.Program.{command_outcome, is_built, writes_files};
 
 pub mod calls;
+pub mod calls_to;
 pub mod elflint;
 pub mod lines;
 pub mod nm;
@@ -20,6 +21,7 @@ pub mod strings;
 
 use crate::sentences::say;
 use calls::calls;
+use calls_to::calls_to;
 use elf_outside::{Files, Sink};
 use elflint::elflint;
 use lines::lines;
@@ -53,8 +55,36 @@ fn not_built<F: Files, O: Sink, E: Sink>(
     refuse(outputs, "elfkit: form not built")
 }
 
-/// Runs calls where the image that they leave is written nowhere: the other forms are not built.
-fn calls_if_built<F: Files, O: Sink, E: Sink>(
+/// Runs calls, and writes the image that they leave to a new file. That into FILE in place is not
+/// built.
+fn calls_into<F: Files, O: Sink, E: Sink>(
+    alloc: Global,
+    output: &CallsOutput,
+    file: &Text,
+    script: &Text,
+    files: &mut F,
+    outputs: &mut Outputs<'_, O, E>,
+) -> Result<bool, Stop>
+    requires { IsOutputApart (Some output.now) file.now script.now }
+    ensures does { (IsTrue (is_built (Command.Calls (Some output.now) file.now script.now))
+        → IsTrue (F.tells files.old)) →
+        Does F.Files O.Sink E.Sink refused_status
+        (command_outcome (Command.Calls (Some output.now) file.now script.now)
+        (F.named files.old))
+        result files.old files.new outputs.old outputs.new }
+    ensures untouched { is_built (Command.Calls (Some output.now) file.now script.now) ≡ false →
+        (files.new ≡ files.old) × OnRead result ⊥ }
+    ensures leaves { LeavesFiles F.Files O.Sink E.Sink
+        result files.old files.new outputs.old outputs.new }
+{
+    match output {
+        CallsOutput::To(out) => calls_to(alloc, out, file, script, files, outputs),
+        CallsOutput::InPlace => not_built(files, outputs),
+    }
+}
+
+/// Runs calls, and writes the image that they leave where it is to go.
+fn calls_by_output<F: Files, O: Sink, E: Sink>(
     alloc: Global,
     output: &Option<CallsOutput>,
     file: &Text,
@@ -62,6 +92,7 @@ fn calls_if_built<F: Files, O: Sink, E: Sink>(
     files: &mut F,
     outputs: &mut Outputs<'_, O, E>,
 ) -> Result<bool, Stop>
+    requires { IsOutputApart output.now file.now script.now }
     ensures does { (IsTrue (is_built (Command.Calls output.now file.now script.now))
         → IsTrue (F.tells files.old)) →
         Does F.Files O.Sink E.Sink refused_status
@@ -69,13 +100,14 @@ fn calls_if_built<F: Files, O: Sink, E: Sink>(
         result files.old files.new outputs.old outputs.new }
     ensures untouched { is_built (Command.Calls output.now file.now script.now) ≡ false →
         (files.new ≡ files.old) × OnRead result ⊥ }
-    ensures given { F.given files.new ≡ F.given files.old }
+    ensures given { writes_files (Command.Calls output.now file.now script.now) ≡ false →
+        F.given files.new ≡ F.given files.old }
     ensures leaves { LeavesFiles F.Files O.Sink E.Sink
         result files.old files.new outputs.old outputs.new }
 {
     match output {
         None => calls(alloc, file, script, files, outputs),
-        Some(_) => not_built(files, outputs),
+        Some(output) => calls_into(alloc, output, file, script, files, outputs),
     }
 }
 
@@ -119,7 +151,7 @@ pub fn run_command<F: Files, O: Sink, E: Sink>(
             output,
             file,
             script,
-        } => calls_if_built(alloc, output, file, script, files, outputs),
+        } => calls_by_output(alloc, output, file, script, files, outputs),
         Command::Selftest { .. } => not_built(files, outputs),
         Command::Rehash { .. } => not_built(files, outputs),
         Command::Copy { .. } => not_built(files, outputs),

@@ -46,7 +46,7 @@ impl FileTool for CallsTool<'_> {
 
 /// Opens a script, reads its calls and closes it. A script that is not there, and one with a bad
 /// line, has its message: then there are no calls.
-fn calls_of_script<F: Files, O: Sink, E: Sink>(
+pub fn calls_of_script<F: Files, O: Sink, E: Sink>(
     alloc: Global,
     script: &str,
     files: &mut F,

@@ -51,10 +51,10 @@ unfolding is_built
 returns-in-Elflint-clause-untouched g c = rw c.in-Elflint.is (λ no. cc)
 
 pub returns-in-Calls-clause-does : goal.returns-in-Calls-clause-does
-returns-in-Calls-clause-does g c = rw c.in-Calls.is c.calls_if_built.ensures.does
+returns-in-Calls-clause-does g c = rw c.in-Calls.is c.calls_by_output.ensures.does
 
 pub returns-in-Calls-clause-untouched : goal.returns-in-Calls-clause-untouched
-returns-in-Calls-clause-untouched g c = rw c.in-Calls.is c.calls_if_built.ensures.untouched
+returns-in-Calls-clause-untouched g c = rw c.in-Calls.is c.calls_by_output.ensures.untouched
 
 pub returns-in-Readelf-clause-given : goal.returns-in-Readelf-clause-given
 returns-in-Readelf-clause-given g c = λ reading. c.readelf.ensures.given
@@ -75,7 +75,10 @@ pub returns-in-Elflint-clause-given : goal.returns-in-Elflint-clause-given
 returns-in-Elflint-clause-given g c = λ reading. c.elflint.ensures.given
 
 pub returns-in-Calls-clause-given : goal.returns-in-Calls-clause-given
-returns-in-Calls-clause-given g c = λ reading. c.calls_if_built.ensures.given
+returns-in-Calls-clause-given g c = rw c.in-Calls.is c.calls_by_output.ensures.given
+
+pub calls_by_output-requires : goal.calls_by_output-requires
+calls_by_output-requires g c = rw c.in-Calls.is at c.requires
 
 pub returns-in-Strip-clause-given : goal.returns-in-Strip-clause-given
 returns-in-Strip-clause-given g c = λ reading. refl

@@ -1,5 +1,6 @@
+use Rattle.std.proofs.Common.{Some}
 use Rattle.std.proofs.lemmas.Result.{err_from_is_err_and}
-use Rattle.elfkit_run.proofs.CallsLemmas.{calls_done, calls_left, no_calls_done, calls_stopped}
+use Rattle.elfkit_run.proofs.CallsLemmas.{calls_done, left_then, no_calls_done, calls_stopped}
 use Rattle.elfkit_run.proofs.commands.calls.calls.Goals as goal
 
 pub returns-in-Some-clause-does : goal.returns-in-Some-clause-does
@@ -11,10 +12,11 @@ returns-in-Some-clause-does g c = λ told.
 
 pub returns-in-Some-clause-leaves : goal.returns-in-Some-clause-leaves
 returns-in-Some-clause-leaves g c =
-    calls_left g.F.Files g.O.Sink g.E.Sink c.args.file.now c.args.script.now c.args.files.now c.calls_of_script.new.files c.args.outputs.now c.calls_of_script.new.outputs
-    c.one_file.new.files c.one_file.new.outputs c.as_slice.result.now c.one_file.result
+    left_then g.F.Files g.O.Sink g.E.Sink c.args.file.now c.args.script.now c.args.files.now
+    c.calls_of_script.new.files c.args.outputs.now c.calls_of_script.new.outputs
+    c.one_file.new.files c.one_file.new.outputs (Some c.as_slice.result.now) c.one_file.result
     (rw (c.as_str.ensures, c.in-Some.is, ← c.as_slice.ensures) at c.in_ok-read.ensures)
-    (rw c.as_str-in-Some.ensures at c.one_file.ensures.reports) (rw c.as_str-in-Some.ensures at c.one_file.ensures.asks)
+    c.one_file.ensures.reports.leaves
 
 pub returns-in-None-clause-does : goal.returns-in-None-clause-does
 returns-in-None-clause-does g c = λ told.
