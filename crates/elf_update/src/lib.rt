@@ -19,5 +19,5 @@ pub use pages::{PAGE_SIZE, Page};
 pub use parts::{Origin, Parts, PieceExtent};
 pub use puts::{put_fill, put_range};
 pub use update_plan::update_null;
-pub use updates::{PlannedParts, plan_update, update_to};
+pub use updates::{PlannedParts, ground_of, plan_update, update_to};
 pub use walks::{Ground, put_image};

@@ -51,7 +51,7 @@ pub fn plan_update<S: Source>(elf: &Elf<S>) -> Result<PlannedParts, ElfError>
 }
 
 /// What stands between the parts of an image.
-fn ground_of<S: Source>(elf: &Elf<S>) -> Ground
+pub fn ground_of<S: Source>(elf: &Elf<S>) -> Ground
     ensures kept { result.kept ≡ kept_base elf.now.o }
     ensures fill { result.fill ≡ elf.now.o.fill }
 {
