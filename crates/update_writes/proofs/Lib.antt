@@ -1,0 +1,10 @@
+pub mod OverLaws
+pub mod FillLaws
+pub mod RebaseLaws
+pub mod OverPieces
+pub mod PutLaws
+pub mod WalkLaws
+pub mod TornObjects
+pub mod BegunLaws
+pub mod EndLaws
+pub mod StepLaws

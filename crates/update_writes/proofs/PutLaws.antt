@@ -1,0 +1,181 @@
+-- Blocks that are put over a device, one after another.
+use Rattle.std.proofs.Common.{◌≡◌, ◌⊎◌, inl, inr, ⊎_elim, ℕ, ◌≤◌, false, List, [], ◌∷◌, ◌++◌, Option, Some, None, Result, Ok, Err, length, refl, sym, ap, ◌∙◌, subst, append_assoc, arith}
+use Rattle.std.specs.Prelude.{is_some, sum_by, OnOk, OnErr, IfSome}
+use Rattle.std.specs.List.{AllByRecursion}
+use Rattle.std.specs.Option.{option_map}
+use Rattle.std.proofs.lemmas.List.Sums.{sum_by-cons, sum_by-append}
+use Rattle.elf_types.specs.declared.errors.ElfError.{ElfError}
+use Rattle.elf_outside.specs.declared.sources.Source.{Ghosts as SourceGhosts}
+use Rattle.elf_outside.specs.declared.devices.Device.{Ghosts as DeviceGhosts}
+use Rattle.elf_outside.specs.Torn.{IsTorn}
+use Rattle.elf_outside.specs.Writes.{written_over, IsTornBy}
+use Rattle.elf_outside.specs.Patches.{UsesDevice}
+use Rattle.elf_outside.proofs.PutLemmas.{uses_device_both, uses_device_on}
+use Rattle.elf_outside.proofs.UseLemmas.{uses_device_none}
+use Rattle.elf_object.specs.Blocks.{Block, block_end}
+use Rattle.writing_laws.specs.Lines.{HoldsBlock, IsUnderWay}
+use Rattle.writing_laws.proofs.DeviceLaws.{under_way_written, under_way_failed}
+use Rattle.elf_descriptor.specs.State.{State}
+use Rattle.elf_descriptor.specs.Fronts.{HoldsBase}
+use Rattle.update_writes.specs.Overwrites.{Overwrites}
+use Rattle.update_writes.specs.Walks.{PutsAll}
+use Rattle.update_writes.proofs.OverLaws.{told_same}
+
+each_left : (P : Block → Type 0) (bs cs : List Block) → AllByRecursion P (bs ++ cs)
+    → AllByRecursion P bs
+each_left P [] cs each = tt
+each_left P (b ∷ bs) cs each = (each.0, each_left P bs cs each.1)
+
+each_right : (P : Block → Type 0) (bs cs : List Block) → AllByRecursion P (bs ++ cs)
+    → AllByRecursion P cs
+each_right P [] cs each = each
+each_right P (b ∷ bs) cs each = each_right P bs cs each.1
+
+-- a device whose bytes are told, after a text was put or refused
+module _ (at : ℕ) (text held : List ℕ) (old new : Option (List ℕ)) (is : old ≡ Some held) where
+  written : new ≡ option_map (λ bytes. written_over bytes at text) old
+      → new ≡ Some (written_over held at text)
+  written ok = ok ∙ ap (option_map (λ (bytes : List ℕ). written_over bytes at text)) is
+
+  torn : (bytes : List ℕ) → new ≡ option_map (λ _. bytes) old → new ≡ Some bytes
+  torn bytes err = err ∙ ap (option_map (λ (x : List ℕ). bytes)) is
+
+  by_torn : (bytes : List ℕ) → IfSome old (λ x. IsTornBy x bytes at text)
+      → IsTornBy held bytes at text
+  by_torn bytes some =
+      subst (λ (o : Option (List ℕ)). IfSome o (λ x. IsTornBy x bytes at text)) is some
+
+module _ {D : Type 0} (s : SourceGhosts D) (d : DeviceGhosts D) where
+  pub all_none : (e : State D) → HoldsBase s e → PutsAll s d (Ok (tt {0})) e e []
+  all_none e base = record {
+    state = refl;
+    long = refl;
+    base = base;
+    untold = λ none. refl;
+    size = refl;
+    told = refl;
+    uses = uses_device_none s d (Ok (tt {0})) e.source tt tt;
+    err = tt;
+    way = λ before image held blocks rest is each one under. (held, is, under, tt);
+  }
+
+  module _ (e f : State D) (b : Block) (fits : block_end b ≤ s.size e.source) where
+    one_way : (r : Result (Unit {0}) ElfError) → Overwrites s d r e f b.at b.bytes
+        → (before image held : List ℕ) (blocks rest : List Block)
+        → s.holds e.source ≡ Some held → AllByRecursion (HoldsBlock image) (b ∷ [])
+        → (s.size e.source ≡ length before) ⊎ (s.size e.source ≡ length image)
+        → IsUnderWay before image held (s.size e.source) blocks (b ∷ rest)
+        → (after : List ℕ) × (s.holds f.source ≡ Some after)
+        × OnOk r (IsUnderWay before image after (s.size e.source) blocks rest)
+        × OnErr r (IsTorn before image after)
+    one_way (Ok x) over before image held blocks rest is each one under = (
+      written_over held b.at b.bytes,
+      written b.at b.bytes held (s.holds e.source) (s.holds f.source) is over.patches.ok,
+      under_way_written before image held (s.size e.source) blocks b rest under each.0 fits,
+      tt,
+    )
+    one_way (Err x) over before image held blocks rest is each one under = (
+      over.patches.err.0,
+      torn b.at b.bytes held (s.holds e.source) (s.holds f.source) is over.patches.err.0
+          over.patches.err.1,
+      tt,
+      under_way_failed before image held over.patches.err.0 (s.size e.source) blocks (b ∷ rest) b
+          under each.0
+          (by_torn b.at b.bytes held (s.holds e.source) (s.holds f.source) is over.patches.err.0
+          over.patches.err.2) one,
+    )
+
+    -- one block
+    pub all_one : (r : Result (Unit {0}) ElfError) → Overwrites s d r e f b.at b.bytes
+        → PutsAll s d r e f (b ∷ [])
+    all_one r over =
+        let one = sum_by-cons (λ (x : Block). length x.bytes) b [] in
+        let count : length b.bytes ≡ sum_by (λ x. length x.bytes) (b ∷ []) = omega (arith, one) in
+        record {
+          state = over.state;
+          long = over.long;
+          base = over.base;
+          untold = over.untold;
+          size = over.patches.len;
+          told = told_same s d r e.source f.source b.at b.bytes (length b.bytes) over.patches;
+          uses = subst (λ (n : ℕ). UsesDevice s d r e.source f.source 0 n) count
+              over.patches.uses;
+          err = over.err;
+          way = one_way r over;
+        }
+
+  none_before : (x y : D) → is_some (s.holds y) ≡ is_some (s.holds x) → s.holds y ≡ None
+      → s.holds x ≡ None
+  none_before x y same none = none_of (s.holds x) (sym same ∙ ap is_some none)
+    where
+      none_of : (o : Option (List ℕ)) → is_some o ≡ false → o ≡ None
+      none_of None is = refl
+      none_of (Some bytes) is = cc
+
+  -- some blocks, and then others
+  pub all_then : {T U : Type 0} (v : T) (q : Result U ElfError) (e f g : State D)
+      (first second : List Block) → PutsAll s d (Ok v) e f first → PutsAll s d q f g second
+      → PutsAll s d q e g (first ++ second)
+  all_then v q e f g first second one two = record {
+    state = two.state
+        ∙ ap (λ (x : State D). record x { o = record x.o { base = g.o.base }; source = g.source })
+        one.state;
+    long = two.long ∙ one.long;
+    base = two.base;
+    untold = λ none. two.untold none
+        ∙ one.untold (none_before f.source g.source two.told none);
+    size = two.size ∙ one.size;
+    told = two.told ∙ one.told;
+    uses = subst (λ (n : ℕ). UsesDevice s d q e.source g.source 0 n)
+        (sym (sum_by-append (λ (b : Block). length b.bytes) first second))
+        (uses_device_both s d (Ok v) q e.source f.source g.source 0
+        (sum_by (λ b. length b.bytes) first) 0 (sum_by (λ b. length b.bytes) second) one.uses
+        two.uses);
+    err = two.err;
+    way = λ before image held blocks rest is each size under.
+        let mid = one.way before image held blocks (second ++ rest) is
+        (each_left (HoldsBlock image) first second each) size
+        (subst (λ (l : List Block). IsUnderWay before image held (s.size e.source) blocks l)
+        (append_assoc first second rest) under) in
+        let same : s.size f.source ≡ s.size e.source = one.size in
+        let last = two.way before image mid.0 blocks rest mid.1
+        (each_right (HoldsBlock image) first second each)
+        (⊎_elim (λ h. inl (one.size ∙ h)) (λ h. inr (one.size ∙ h)) size)
+        (subst (λ (n : ℕ). IsUnderWay before image mid.0 n blocks (second ++ rest)) (sym one.size)
+        mid.2) in (
+          last.0,
+          last.1,
+          subst (λ (n : ℕ). OnOk q (IsUnderWay before image last.0 n blocks rest)) one.size last.2,
+          last.3,
+        );
+  }
+
+  -- some blocks that were refused, behind which others were to come
+  pub all_stop : (x : ElfError) (e f : State D) (first second : List Block)
+      → PutsAll {T = Unit {0}} s d (Err x) e f first
+      → PutsAll {T = Unit {0}} s d (Err x) e f (first ++ second)
+  all_stop x e f first second one =
+      let more = sum_by-append (λ (b : Block). length b.bytes) first second in
+      record {
+        state = one.state;
+        long = one.long;
+        base = one.base;
+        untold = one.untold;
+        size = one.size;
+        told = one.told;
+        uses = uses_device_on s d x e.source f.source 0 (sum_by (λ b. length b.bytes) first) 0
+            (sum_by (λ b. length b.bytes) (first ++ second)) (omega arith) (omega (arith, more))
+            one.uses;
+        err = one.err;
+        way = λ before image held blocks rest is each size under.
+            let last = one.way before image held blocks (second ++ rest) is
+            (each_left (HoldsBlock image) first second each) size
+            (subst (λ (l : List Block). IsUnderWay before image held (s.size e.source) blocks l)
+            (append_assoc first second rest) under) in
+            (last.0, last.1, tt, last.3);
+      }
+
+  -- the same blocks by another name
+  pub all_as : {T : Type 0} (r : Result T ElfError) (e f : State D) (a b : List Block) → a ≡ b
+      → PutsAll s d r e f a → PutsAll s d r e f b
+  all_as r e f a b same = subst (λ (l : List Block). PutsAll s d r e f l) same

@@ -1,0 +1,357 @@
+-- The walk over a plan: the fill of a gap and the part behind it, one after another.
+use Rattle.std.proofs.Common.{◌≡◌, ℕ, zero, suc, ◌+◌, ◌-◌, ◌<◌, ◌≤◌, max, Bool, true, false, List, [], ◌∷◌, ◌++◌, Result, Ok, Err, length, drop, get_or, replicate, refl, sym, ap, ◌∙◌, subst, append_assoc, arith}
+use Rattle.std.specs.Prelude.{IsTrue, map}
+use Rattle.std.specs.List.{AllByRecursion}
+use Rattle.std.proofs.lemmas.List.{drop_more, drop_all, length-replicate}
+use Rattle.elf_types.specs.declared.errors.ElfError.{ElfError}
+use Rattle.elf_types.specs.declared.records.Part.{Part}
+use Rattle.elf_types.specs.declared.records.Part.TheVariants as part
+use Rattle.elf_layout.specs.declared.parts.PartAt.{PartAt}
+use Rattle.elf_outside.specs.declared.sources.Source.{Ghosts as SourceGhosts}
+use Rattle.elf_outside.specs.declared.devices.Device.{Ghosts as DeviceGhosts}
+use Rattle.elf_object.specs.Blocks.{Block, block_end}
+use Rattle.elf_object.specs.Changed.{when}
+use Rattle.writing_laws.specs.Lines.{AreInLine}
+use Rattle.writing_laws.specs.Plan.{fill_block}
+use Rattle.writing_laws.proofs.LineLaws.{line_within, end_is}
+use Rattle.elf_descriptor.specs.State.{State}
+use Rattle.elf_descriptor.specs.Cuts.{MayWrite}
+use Rattle.elf_update.specs.Pieces.{pieces_length, joined, block_at, blocks_at, HasLength}
+use Rattle.elf_update.proofs.PieceLaws.{length-joined_pieces}
+use Rattle.update_moves.specs.Written.{written_between}
+use Rattle.update_writes.specs.Overwrites.{IsAtHand, MayOverwrite}
+use Rattle.update_writes.specs.Walks.{rows_of, line_of, MayPut, MayPutAll, AreAtHand, PutsAll}
+use Rattle.update_writes.proofs.OverLaws.{may_rebased}
+use Rattle.elf_update.specs.Descriptors.{stored_pieces}
+use Rattle.update_writes.proofs.RebaseLaws.{at_hand_after, pieces_after}
+use Rattle.update_writes.proofs.PutLaws.{all_none, all_then, all_stop, all_as}
+
+-- what stands at an index that no part has
+abbrev pub no_part : PartAt
+no_part = record { part = part.Object; at = 0; len = 0; align = 0; filled = false }
+
+each_middle : (P : Block → Type 0) (bs : List Block) (b : Block) (cs : List Block)
+    → AllByRecursion P (bs ++ (b ∷ cs)) → P b
+each_middle P [] b cs each = each.0
+each_middle P (x ∷ bs) b cs each = each_middle P bs b cs each.1
+
+-- ---- What a block rests on, after others were put
+
+module _ {D : Type 0} (s : SourceGhosts D) (d : DeviceGhosts D) where
+  pub block_may : (e : State D) (line : List Block) (b : Block) → MayPutAll s e line → MayPut s e b
+      → MayOverwrite s e b.at (length b.bytes)
+  block_may e line b all may =
+      let last = end_is b in
+      let within = may.within in
+      let small = may.small in
+      record {
+        ready = all.ready;
+        within = omega (arith, last, within);
+        small = omega (arith, last, small);
+        base = all.base;
+        told = all.told;
+        may = may.may;
+      }
+
+  -- what was put leaves it
+  pub may_on : {T : Type 0} (r : Result T ElfError) (e f : State D) (at n : ℕ) (line : List Block)
+      → PutsAll s d r e f line → MayOverwrite s e at n → MayOverwrite s f at n
+  may_on r e f at n line puts may =
+      let size = puts.size in
+      let within = may.within in
+      record {
+        ready = subst IsTrue (sym (ap (λ (q : State D). q.ready) puts.state)) may.ready;
+        within = omega (arith, size, within);
+        small = may.small;
+        base = puts.base;
+        told = ap (λ (q : State D). q.told) puts.state ∙ may.told ∙ sym puts.told;
+        may = subst (λ (q : State D). MayWrite q at n) (sym puts.state)
+            (may_rebased s d e f.o.base f.source at n puts.long may.may);
+      }
+
+-- ---- Blocks that lie in a device
+
+pub part_fits : (fill : ℕ) (pieces : Part → List (ℕ × List ℕ)) (p : PartAt) (size : ℕ)
+    → HasLength pieces p → p.at + p.len ≤ size → block_end (block_at fill pieces p) ≤ size
+unfolding block_end
+part_fits fill pieces p size long within =
+    let all = length-joined_pieces fill (pieces p.part) in
+    omega (arith, all, long, within)
+
+pub fill_fits : (kept fill from end size : ℕ) → max from kept + (end - max from kept) ≤ size
+    → block_end (fill_block kept fill from end) ≤ size
+unfolding block_end
+fill_fits kept fill from end size within =
+    let filled = length-replicate (end - max from kept) fill in
+    omega (arith, filled, within)
+
+-- ---- Rows
+
+module _ (kept fill end : ℕ) (pieces : Part → List (ℕ × List ℕ)) where
+  -- what is put from a place on, of these parts
+  abbrev pub left_line : ℕ → List PartAt → List Bool → List Block
+  left_line from plan flags = written_between kept fill end from (rows_of fill pieces plan flags)
+
+  block_ends : (p : PartAt) → HasLength pieces p → block_end (block_at fill pieces p) ≡ p.at + p.len
+  unfolding block_end
+  block_ends p long = let all = length-joined_pieces fill (pieces p.part) in omega (arith, all, long)
+
+  pub line_next : (from : ℕ) (q : PartAt) (rest : List PartAt) → HasLength pieces q
+      → AreInLine end from (blocks_at fill pieces (q ∷ rest))
+      → AreInLine end (q.at + q.len) (blocks_at fill pieces rest)
+  unfolding blocks_at
+  line_next from q rest long line =
+      subst (λ (n : ℕ). AreInLine end n (map (block_at fill pieces) rest)) (block_ends q long) line.1
+
+  -- the fill of the gap, the next part where it changes, and the rest
+  pub line_step : (from : ℕ) (p : PartAt) (plan : List PartAt) (c : Bool) (flags : List Bool)
+      → HasLength pieces p
+      → left_line from (p ∷ plan) (c ∷ flags)
+      ≡ fill_block kept fill from p.at
+      ∷ (when c (block_at fill pieces p) ++ left_line (p.at + p.len) plan flags)
+  unfolding rows_of
+  line_step from p plan c flags long =
+      ap (λ (n : ℕ). fill_block kept fill from p.at
+      ∷ (when c (block_at fill pieces p) ++ written_between kept fill end n (rows_of fill pieces plan flags)))
+      (block_ends p long)
+
+  pub line_last : (from : ℕ) (flags : List Bool)
+      → left_line from [] flags ≡ fill_block kept fill from end ∷ []
+  unfolding rows_of
+  line_last from flags = refl
+
+-- the blocks before the part with an index stand, which ends at a place
+pub record AreSoFar {D : Type 0} (s : SourceGhosts D) (d : DeviceGhosts D) (e f : State D)
+    (kept fill end : ℕ) (pieces : Part → List (ℕ × List ℕ)) (plan : List PartAt)
+    (flags : List Bool) (i from : ℕ) : Type 0 where
+  pub done : List Block
+  pub puts : PutsAll s d (Ok (tt {0})) e f done
+  pub all : done ++ left_line kept fill end pieces from (drop i plan) (drop i flags)
+      ≡ line_of kept fill end pieces plan flags
+  pub line : AreInLine end from (blocks_at fill pieces (drop i plan))
+
+module _ {D : Type 0} (s : SourceGhosts D) (d : DeviceGhosts D) (e : State D) (kept fill end : ℕ)
+    (pieces : Part → List (ℕ × List ℕ)) (plan : List PartAt) (flags : List Bool)
+    (may : MayPutAll s e (line_of kept fill end pieces plan flags)) where
+  abbrev IsSoFar : State D → ℕ → ℕ → Type 0
+  IsSoFar f i from = AreSoFar s d e f kept fill end pieces plan flags i from
+
+  pub walk_starts : AreInLine end 0 (blocks_at fill pieces plan) → IsSoFar e 0 0
+  walk_starts line = record {
+    done = [];
+    puts = all_none s d e may.base;
+    all = refl;
+    line = line;
+  }
+
+  -- what is left of the line, where another part comes
+  next_is : (f : State D) (i from : ℕ) → i < length plan → length flags ≡ length plan
+      → HasLength pieces (get_or plan i no_part) → (put : IsSoFar f i from)
+      → put.done ++ (fill_block kept fill from (get_or plan i no_part).at
+      ∷ (when (get_or flags i false) (block_at fill pieces (get_or plan i no_part))
+      ++ left_line kept fill end pieces ((get_or plan i no_part).at + (get_or plan i no_part).len)
+      (drop (i + 1) plan) (drop (i + 1) flags)))
+      ≡ line_of kept fill end pieces plan flags
+  next_is f i from there count long put =
+      ap (λ (l : List Block). put.done ++ l)
+      (sym (line_step kept fill end pieces from (get_or plan i no_part) (drop (i + 1) plan)
+      (get_or flags i false) (drop (i + 1) flags) long)
+      ∙ ap (λ (l : List PartAt). left_line kept fill end pieces from l
+      (get_or flags i false ∷ drop (i + 1) flags)) (sym (drop_more plan i no_part there))
+      ∙ ap (λ (l : List Bool). left_line kept fill end pieces from (drop i plan) l)
+      (sym (drop_more flags i false (omega (arith, there, count)))))
+      ∙ put.all
+
+  -- the gap before it
+  abbrev gap_at : ℕ → ℕ → Block
+  gap_at i from = fill_block kept fill from (get_or plan i no_part).at
+
+  -- the part, where it changes
+  abbrev part_at : ℕ → List Block
+  part_at i = when (get_or flags i false) (block_at fill pieces (get_or plan i no_part))
+
+  abbrev rest_at : ℕ → List Block
+  rest_at i =
+      left_line kept fill end pieces ((get_or plan i no_part).at + (get_or plan i no_part).len)
+      (drop (i + 1) plan) (drop (i + 1) flags)
+
+  each_next : (f : State D) (i from : ℕ) → i < length plan → length flags ≡ length plan
+      → HasLength pieces (get_or plan i no_part) → (put : IsSoFar f i from)
+      → AllByRecursion (MayPut s e) (put.done ++ (gap_at i from ∷ (part_at i ++ rest_at i)))
+  each_next f i from there count long put =
+      subst (λ (l : List Block). AllByRecursion (MayPut s e) l)
+      (sym (next_is f i from there count long put)) may.blocks
+
+  -- it rests on no more than the line
+  pub gap_may : (f : State D) (i from : ℕ) → i < length plan → length flags ≡ length plan
+      → HasLength pieces (get_or plan i no_part) → IsSoFar f i from
+      → MayOverwrite s f (max from kept) ((get_or plan i no_part).at - max from kept)
+  gap_may f i from there count long put =
+      let one = each_middle (MayPut s e) put.done (gap_at i from) (part_at i ++ rest_at i)
+      (each_next f i from there count long put) in
+      let filled = length-replicate ((get_or plan i no_part).at - max from kept) fill in
+      subst (λ (n : ℕ). MayOverwrite s f (max from kept) n) filled
+      (may_on s d (Ok (tt {0})) e f (max from kept)
+      (length (replicate ((get_or plan i no_part).at - max from kept) fill)) put.done put.puts
+      (block_may s d e (line_of kept fill end pieces plan flags) (gap_at i from) may one))
+
+  -- the part behind it, too
+  pub part_may : (f g : State D) (i from : ℕ) → i < length plan → length flags ≡ length plan
+      → HasLength pieces (get_or plan i no_part) → IsSoFar f i from
+      → PutsAll s d (Ok (tt {0})) f g (gap_at i from ∷ []) → get_or flags i false ≡ true
+      → MayOverwrite s g (get_or plan i no_part).at (get_or plan i no_part).len
+  part_may f g i from there count long put gap changes =
+      let b : Block = block_at fill pieces (get_or plan i no_part) in
+      let one = each_middle (MayPut s e) (put.done ++ (gap_at i from ∷ []))
+      (block_at fill pieces (get_or plan i no_part)) (rest_at i)
+      (subst (λ (l : List Block). AllByRecursion (MayPut s e) l)
+      (ap (λ (c : Bool). put.done ++ (gap_at i from
+      ∷ (when c (block_at fill pieces (get_or plan i no_part)) ++ rest_at i))) changes
+      ∙ sym (append_assoc put.done (gap_at i from ∷ [])
+      (block_at fill pieces (get_or plan i no_part) ∷ rest_at i)))
+      (each_next f i from there count long put)) in
+      let all = length-joined_pieces fill (pieces (get_or plan i no_part).part) in
+      let size : length (joined fill (pieces (get_or plan i no_part).part)) ≡ (get_or plan i no_part).len =
+      omega (arith, all, long) in
+      subst (λ (n : ℕ). MayOverwrite s g (get_or plan i no_part).at n) size
+      (may_on s d (Ok (tt {0})) e g (get_or plan i no_part).at
+      (length (joined fill (pieces (get_or plan i no_part).part))) (put.done ++ (gap_at i from ∷ []))
+      (all_then s d tt (Ok tt) e f g put.done (gap_at i from ∷ []) put.puts gap)
+      (block_may s d e (line_of kept fill end pieces plan flags)
+      (block_at fill pieces (get_or plan i no_part)) may one))
+
+  -- the part ends within the image
+  pub part_ends : (f : State D) (i from : ℕ) → i < length plan
+      → HasLength pieces (get_or plan i no_part) → IsSoFar f i from
+      → (get_or plan i no_part).at + (get_or plan i no_part).len ≤ end
+  part_ends f i from there long put =
+      let line = subst (λ (l : List PartAt). AreInLine end from (blocks_at fill pieces l))
+      (drop_more plan i no_part there) put.line in
+      line_within end ((get_or plan i no_part).at + (get_or plan i no_part).len)
+      (blocks_at fill pieces (drop (i + 1) plan))
+      (line_next kept fill end pieces from (get_or plan i no_part) (drop (i + 1) plan) long line)
+
+  -- the gap was refused
+  pub gap_stops : (x : ElfError) (f g : State D) (i from : ℕ) → i < length plan
+      → length flags ≡ length plan → HasLength pieces (get_or plan i no_part)
+      → IsSoFar f i from → PutsAll {T = Unit {0}} s d (Err x) f g (gap_at i from ∷ [])
+      → PutsAll {T = Unit {0}} s d (Err x) e g (line_of kept fill end pieces plan flags)
+  gap_stops x f g i from there count long put gap =
+      all_as s d (Err x) e g ((put.done ++ (gap_at i from ∷ [])) ++ (part_at i ++ rest_at i))
+      (line_of kept fill end pieces plan flags)
+      (append_assoc put.done (gap_at i from ∷ []) (part_at i ++ rest_at i)
+      ∙ next_is f i from there count long put)
+      (all_stop s d x e g (put.done ++ (gap_at i from ∷ [])) (part_at i ++ rest_at i)
+      (all_then s d tt (Err x) e f g put.done (gap_at i from ∷ []) put.puts gap))
+
+  both_put : (q : Result (Unit {0}) ElfError) (f g h : State D) (i from : ℕ) → (put : IsSoFar f i from)
+      → PutsAll s d (Ok (tt {0})) f g (gap_at i from ∷ []) → PutsAll s d q g h (part_at i)
+      → PutsAll s d q e h ((put.done ++ (gap_at i from ∷ [])) ++ part_at i)
+  both_put q f g h i from put gap one =
+      all_then s d tt q e g h (put.done ++ (gap_at i from ∷ [])) (part_at i)
+      (all_then s d tt (Ok tt) e f g put.done (gap_at i from ∷ []) put.puts gap) one
+
+  both_is : (f : State D) (i from : ℕ) → i < length plan → length flags ≡ length plan
+      → HasLength pieces (get_or plan i no_part) → (put : IsSoFar f i from)
+      → ((put.done ++ (gap_at i from ∷ [])) ++ part_at i) ++ rest_at i
+      ≡ line_of kept fill end pieces plan flags
+  both_is f i from there count long put =
+      append_assoc (put.done ++ (gap_at i from ∷ [])) (part_at i) (rest_at i)
+      ∙ append_assoc put.done (gap_at i from ∷ []) (part_at i ++ rest_at i)
+      ∙ next_is f i from there count long put
+
+  -- the part was refused
+  pub part_stops : (x : ElfError) (f g h : State D) (i from : ℕ) → i < length plan
+      → length flags ≡ length plan → HasLength pieces (get_or plan i no_part)
+      → IsSoFar f i from → PutsAll s d (Ok (tt {0})) f g (gap_at i from ∷ [])
+      → PutsAll {T = Unit {0}} s d (Err x) g h (part_at i)
+      → PutsAll {T = Unit {0}} s d (Err x) e h (line_of kept fill end pieces plan flags)
+  part_stops x f g h i from there count long put gap one =
+      all_as s d (Err x) e h (((put.done ++ (gap_at i from ∷ [])) ++ part_at i) ++ rest_at i)
+      (line_of kept fill end pieces plan flags) (both_is f i from there count long put)
+      (all_stop s d x e h ((put.done ++ (gap_at i from ∷ [])) ++ part_at i) (rest_at i)
+      (both_put (Err x) f g h i from put gap one))
+
+  -- both stand
+  pub walk_goes_on : (f g h : State D) (i from : ℕ) → i < length plan
+      → length flags ≡ length plan → HasLength pieces (get_or plan i no_part)
+      → IsSoFar f i from → PutsAll s d (Ok (tt {0})) f g (gap_at i from ∷ [])
+      → PutsAll s d (Ok (tt {0})) g h (part_at i)
+      → IsSoFar h (i + 1) ((get_or plan i no_part).at + (get_or plan i no_part).len)
+  walk_goes_on f g h i from there count long put gap one = record {
+    done = (put.done ++ (gap_at i from ∷ [])) ++ part_at i;
+    puts = both_put (Ok tt) f g h i from put gap one;
+    all = both_is f i from there count long put;
+    line = line_next kept fill end pieces from (get_or plan i no_part) (drop (i + 1) plan) long
+        (subst (λ (l : List PartAt). AreInLine end from (blocks_at fill pieces l))
+        (drop_more plan i no_part there) put.line);
+  }
+
+  -- the last gap
+  last_is : (f : State D) (i from : ℕ) → length plan ≤ i → length flags ≡ length plan
+      → (put : IsSoFar f i from)
+      → put.done ++ (fill_block kept fill from end ∷ []) ≡ line_of kept fill end pieces plan flags
+  last_is f i from past count put =
+      ap (λ (l : List Block). put.done ++ l)
+      (sym (line_last kept fill end pieces from (drop i flags))
+      ∙ ap (λ (l : List PartAt). left_line kept fill end pieces from l (drop i flags))
+      (sym (drop_all i plan past)))
+      ∙ put.all
+
+  pub last_may : (f : State D) (i from : ℕ) → length plan ≤ i → length flags ≡ length plan
+      → IsSoFar f i from → MayOverwrite s f (max from kept) (end - max from kept)
+  last_may f i from past count put =
+      let one = each_middle (MayPut s e) put.done (fill_block kept fill from end) []
+      (subst (λ (l : List Block). AllByRecursion (MayPut s e) l)
+      (sym (last_is f i from past count put)) may.blocks) in
+      let filled = length-replicate (end - max from kept) fill in
+      subst (λ (n : ℕ). MayOverwrite s f (max from kept) n) filled
+      (may_on s d (Ok (tt {0})) e f (max from kept) (length (replicate (end - max from kept) fill))
+      put.done put.puts
+      (block_may s d e (line_of kept fill end pieces plan flags) (fill_block kept fill from end) may
+      one))
+
+  pub walk_ends : (r : Result (Unit {0}) ElfError) (f g : State D) (i from : ℕ)
+      → length plan ≤ i → length flags ≡ length plan → IsSoFar f i from
+      → PutsAll s d r f g (fill_block kept fill from end ∷ [])
+      → PutsAll s d r e g (line_of kept fill end pieces plan flags)
+  walk_ends r f g i from past count put gap =
+      all_as s d r e g (put.done ++ (fill_block kept fill from end ∷ []))
+      (line_of kept fill end pieces plan flags) (last_is f i from past count put)
+      (all_then s d tt r e f g put.done (fill_block kept fill from end ∷ []) put.puts gap)
+
+-- ---- What is at hand
+
+hand_at : {S : Type 0} (e : State S) (plan : List PartAt) (flags : List Bool) (i : ℕ)
+    → i < length plan → length flags ≡ length plan → AreAtHand e plan flags
+    → get_or flags i false ≡ true → IsAtHand e (get_or plan i no_part).part
+hand_at e [] flags i there count are changes = absurd (omega arith)
+hand_at e (p ∷ ps) [] i there count are changes = absurd (omega arith)
+hand_at e (p ∷ ps) (c ∷ cs) zero there count are changes = are.0 changes
+hand_at e (p ∷ ps) (c ∷ cs) (suc i) there count are changes =
+    hand_at e ps cs i (omega arith) (omega arith) are.1 changes
+
+-- after blocks were put
+pub hand_on : {D : Type 0} (e f : State D) (plan : List PartAt) (flags : List Bool) (i : ℕ)
+    → f ≡ record e { o = record e.o { base = f.o.base }; source = f.source }
+    → i < length plan → length flags ≡ length plan → AreAtHand e plan flags
+    → get_or flags i false ≡ true → IsAtHand f (get_or plan i no_part).part
+hand_on e f plan flags i state there count are changes =
+    at_hand_after e f state (get_or plan i no_part).part (hand_at e plan flags i there count are changes)
+
+-- the length of a part, and its block
+pub long_on : {D : Type 0} (e f : State D)
+    → f ≡ record e { o = record e.o { base = f.o.base }; source = f.source } → (p : PartAt)
+    → HasLength (stored_pieces e.o) p → HasLength (stored_pieces f.o) p
+long_on e f state p long =
+    subst (λ (ps : List (ℕ × List ℕ)). p.len ≡ pieces_length ps) (sym (pieces_after e f state p.part)) long
+
+pub puts_on : {D : Type 0} (s : SourceGhosts D) (d : DeviceGhosts D) (e f : State D)
+    → f ≡ record e { o = record e.o { base = f.o.base }; source = f.source }
+    → (r : Result (Unit {0}) ElfError) (g : State D) (c : Bool) (fill : ℕ) (p : PartAt)
+    → PutsAll s d r f g (when c (block_at fill (stored_pieces f.o) p))
+    → PutsAll s d r f g (when c (block_at fill (stored_pieces e.o) p))
+puts_on s d e f state r g c fill p puts =
+    subst (λ (ps : List (ℕ × List ℕ)).
+    PutsAll s d r f g (when c (record { at = p.at; bytes = joined fill ps })))
+    (pieces_after e f state p.part) puts

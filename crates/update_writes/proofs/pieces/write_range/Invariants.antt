@@ -1,0 +1,17 @@
+use Rattle.std.proofs.Common.{◌≡◌, ◌-◌, ◌≤◌, Ok, length, take}
+use Rattle.std.specs.Prelude.{slice_index_or}
+use Rattle.elf_update.specs.Origins.{no_piece}
+use Rattle.elf_update.specs.Descriptors.{stored_pieces}
+use Rattle.update_writes.specs.Overwrites.{Overwrites}
+use Rattle.update_writes.proofs.pieces.write_range.Given as goal
+
+abbrev pub invariant-loop-done : goal.invariant-loop-done
+invariant-loop-done g l = record {
+  over : Overwrites g.D.Source g.D.Device (Ok (tt {0})) l.initial.elf l.elf l.at
+      (take l.done (slice_index_or (stored_pieces l.initial.elf.o l.part) l.p no_piece).1);
+  within : l.done ≤ l.len;
+  page : length l.page ≡ length l.initial.page;
+}
+
+abbrev pub decreases-loop-done : goal.decreases-loop-done
+decreases-loop-done g l = l.len - l.done

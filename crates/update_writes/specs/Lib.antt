@@ -1,0 +1,3 @@
+pub mod Overwrites
+pub mod Walks
+pub mod Writes

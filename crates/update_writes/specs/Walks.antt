@@ -1,0 +1,80 @@
+-- What a walk over a plan puts over a device: the parts that change, and the fill between the parts.
+use Rattle.std.specs.Prelude.{◌≡◌, ◌⊎◌, ℕ, ◌<◌, ◌^◌, ◌≤◌, Bool, true, IsTrue, List, [], ◌∷◌, ◌++◌, length, Some, None, is_some, sum_by, Result, OnOk, OnErr, IfErr}
+use Rattle.std.specs.List.{AllByRecursion}
+use Rattle.elf_types.specs.declared.errors.ElfError.{ElfError}
+use Rattle.elf_types.specs.declared.errors.ElfError.TheVariants.{Write}
+use Rattle.elf_types.specs.declared.records.Part.{Part}
+use Rattle.elf_layout.specs.declared.parts.PartAt.{PartAt}
+use Rattle.elf_outside.specs.declared.sources.Source.{Ghosts as SourceGhosts}
+use Rattle.elf_outside.specs.declared.devices.Device.{Ghosts as DeviceGhosts}
+use Rattle.elf_outside.specs.Torn.{IsTorn}
+use Rattle.elf_outside.specs.Patches.{UsesDevice}
+use Rattle.elf_object.specs.Blocks.{Block, block_end}
+use Rattle.writing_laws.specs.Lines.{HoldsBlock, IsUnderWay}
+use Rattle.elf_descriptor.specs.State.{State}
+use Rattle.elf_descriptor.specs.Cuts.{MayWrite}
+use Rattle.elf_descriptor.specs.Fronts.{HoldsBase}
+use Rattle.elf_update.specs.Pieces.{block_at}
+use Rattle.update_moves.specs.Written.{written_between}
+use Rattle.update_writes.specs.Overwrites.{IsAtHand}
+
+-- ---- What is put
+
+-- parts, each with whether it changes
+unfoldable pub rows_of : ℕ → (Part → List (ℕ × List ℕ)) → List PartAt → List Bool
+    → List (Bool × Block)
+rows_of fill pieces [] flags = []
+rows_of fill pieces (p ∷ ps) [] = []
+rows_of fill pieces (p ∷ ps) (c ∷ cs) = (c, block_at fill pieces p) ∷ rows_of fill pieces ps cs
+
+-- the blocks that are put from a place to an end
+abbrev pub line_of : ℕ → ℕ → ℕ → (Part → List (ℕ × List ℕ)) → List PartAt → List Bool → List Block
+line_of kept fill end pieces plan flags =
+    written_between kept fill end 0 (rows_of fill pieces plan flags)
+
+-- ---- What it rests on
+
+-- a block lies in the device, and no home that shares a place with it rests on the base
+pub record MayPut {D : Type 0} (s : SourceGhosts D) (state : State D) (b : Block) : Type 0 where
+  pub within : block_end b ≤ s.size state.source
+  pub small : block_end b < 2 ^ 64
+  pub may : MayWrite state b.at (length b.bytes)
+
+-- each block does, the object is ready, and the device begins with the base
+pub record MayPutAll {D : Type 0} (s : SourceGhosts D) (state : State D) (line : List Block)
+    : Type 0 where
+  pub ready : IsTrue state.ready
+  pub base : HoldsBase s state
+  pub told : state.told ≡ is_some (s.holds state.source)
+  pub blocks : AllByRecursion (MayPut s state) line
+
+-- the parts that change are at hand
+abbrev pub AreAtHand : {S : Type 0} → State S → List PartAt → List Bool → Type 0
+AreAtHand state [] flags = Unit {0}
+AreAtHand state (p ∷ ps) [] = Unit {0}
+AreAtHand state (p ∷ ps) (c ∷ cs) =
+    (c ≡ true → IsAtHand state p.part) × AreAtHand state ps cs
+
+-- ---- What it leaves
+
+-- Where the device is written with blocks of an image, of which these are next, they stand there
+-- afterwards; after a refusal each byte is the old one or that of the image. Of the object the base
+-- alone changes, with which the device begins. Nothing is read.
+pub record PutsAll {D T : Type 0} (s : SourceGhosts D) (d : DeviceGhosts D)
+    (result : Result T ElfError) (old new : State D) (line : List Block) : Type 0 where
+  pub state : new
+      ≡ record old { o = record old.o { base = new.o.base }; source = new.source }
+  pub long : length new.o.base ≡ length old.o.base
+  pub base : HoldsBase s new
+  pub untold : s.holds new.source ≡ None → new.o.base ≡ old.o.base
+  pub size : s.size new.source ≡ s.size old.source
+  pub told : is_some (s.holds new.source) ≡ is_some (s.holds old.source)
+  pub uses : UsesDevice s d result old.source new.source 0 (sum_by (λ b. length b.bytes) line)
+  pub err : IfErr result (λ e. e ≡ Write)
+  pub way : (before image held : List ℕ) (blocks rest : List Block)
+      → s.holds old.source ≡ Some held → AllByRecursion (HoldsBlock image) line
+      → (s.size old.source ≡ length before) ⊎ (s.size old.source ≡ length image)
+      → IsUnderWay before image held (s.size old.source) blocks (line ++ rest)
+      → (after : List ℕ) × (s.holds new.source ≡ Some after)
+      × OnOk result (IsUnderWay before image after (s.size old.source) blocks rest)
+      × OnErr result (IsTorn before image after)

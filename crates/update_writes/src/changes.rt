@@ -1,0 +1,98 @@
+//! What changes is written.
+
+ghost use Rattle.std.specs.Prelude.{◌≡◌, ◌<◌, ◌≤◌, length};
+ghost use Rattle.elf_object.specs.Image.{image_length};
+ghost use Rattle.update_moves.specs.Written.{written_line};
+ghost use Rattle.update_writes.specs.Walks.{PutsAll};
+ghost use Rattle.update_writes.specs.Writes.{IsBegun, WritesChanges};
+
+use crate::walks::write_parts;
+use elf_descriptor::Elf;
+use elf_outside::Device;
+use elf_types::ElfError;
+use elf_update::{PlannedParts, ground_of};
+
+/// Puts what changes over a device that is at least as long as the image.
+fn write_over<D: Device>(
+    elf: &mut Elf<D>,
+    page: &mut [u8],
+    planned: &PlannedParts,
+    changed: &[bool],
+    end: u64,
+) -> Result<(), ElfError>
+    requires room { 0 < length page.old }
+    requires begun { IsBegun D.Source planned.now changed.now elf.old }
+    requires end { end ≡ planned.now.placed.places.end }
+    requires fits { end ≤ D.size elf.old.source }
+    ensures { (b : IsBegun D.Source planned.now changed.now elf.old)
+        → PutsAll D.Source D.Device.own result elf.old elf.new (written_line b.was) }
+{
+    let _object = elf.dirty();
+    let ground = ground_of(elf);
+    write_parts(elf, page, planned.parts.as_slice(), changed, ground, end)
+}
+
+/// Lengthens the device to the length of the image, and puts what changes over it.
+fn write_longer<D: Device>(
+    elf: &mut Elf<D>,
+    page: &mut [u8],
+    planned: &PlannedParts,
+    changed: &[bool],
+) -> Result<(), ElfError>
+    requires room { 0 < length page.old }
+    requires begun { IsBegun D.Source planned.now changed.now elf.old }
+    requires grows { length elf.old.o.base < planned.now.placed.places.end }
+    ensures { (b : IsBegun D.Source planned.now changed.now elf.old)
+        → WritesChanges D.Source D.Device.own b.was result elf.old elf.new }
+{
+    let end = planned.placed.places.end;
+    if let Err(e) = elf.size_base(end) {
+        return Err(e);
+    }
+    write_over(elf, page, planned, changed, end)
+}
+
+/// Puts what changes over the device, and cuts it to the length of the image.
+fn write_shorter<D: Device>(
+    elf: &mut Elf<D>,
+    page: &mut [u8],
+    planned: &PlannedParts,
+    changed: &[bool],
+) -> Result<(), ElfError>
+    requires room { 0 < length page.old }
+    requires begun { IsBegun D.Source planned.now changed.now elf.old }
+    requires fits { planned.now.placed.places.end ≤ length elf.old.o.base }
+    ensures { (b : IsBegun D.Source planned.now changed.now elf.old)
+        → WritesChanges D.Source D.Device.own b.was result elf.old elf.new }
+{
+    let _object = elf.dirty();
+    let end = planned.placed.places.end;
+    if let Err(e) = write_over(elf, page, planned, changed, end) {
+        return Err(e);
+    }
+    elf.size_base(end)
+}
+
+/// Writes what changes over the device that the object is over: the parts that change and the fill
+/// between parts, in the order of their places. A device that gets longer is lengthened first, and
+/// one that gets shorter is cut last. It refuses `Write` alone; then the device is torn between what
+/// it held and the image, and the object is torn over what is there of its base. It reads nothing
+/// and takes no memory.
+///
+/// Source: elf_update with ELF_C_WRITE of elf(3E).
+pub fn write_changes<D: Device>(
+    elf: &mut Elf<D>,
+    page: &mut [u8],
+    planned: &PlannedParts,
+    changed: &[bool],
+) -> Result<(), ElfError>
+    requires room { 0 < length page.old }
+    requires begun { IsBegun D.Source planned.now changed.now elf.old }
+    ensures { (b : IsBegun D.Source planned.now changed.now elf.old)
+        → WritesChanges D.Source D.Device.own b.was result elf.old elf.new }
+{
+    if elf.base_len() < planned.placed.places.end {
+        return write_longer(elf, page, planned, changed);
+    }
+    write_shorter(elf, page, planned, changed)
+}

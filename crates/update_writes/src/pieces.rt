@@ -1,0 +1,144 @@
+//! A part, put over a device: its pieces, with the fill byte between them.
+
+ghost use Rattle.std.specs.Prelude.{◌≡◌, ◌+◌, ◌-◌, ◌^◌, ◌≤◌, ◌<◌, length, take, drop, slice_index_or, IfOk};
+ghost use Rattle.std.proofs.Math.ListN.{replicate};
+ghost use Rattle.elf_layout.specs.Layout.{rounded_up};
+ghost use Rattle.elf_update.specs.Origins.{no_piece};
+ghost use Rattle.elf_update.specs.Pieces.{joined, HasLength};
+ghost use Rattle.elf_update.specs.Descriptors.{IsStored, stored_pieces};
+ghost use Rattle.update_writes.specs.Overwrites.{IsAtHand, MayOverwrite, Overwrites, piece_over};
+
+use crate::copies::copy_part;
+use crate::fills::write_fill;
+use elf_descriptor::Elf;
+use elf_layout::PartAt;
+use elf_outside::Device;
+use elf_types::{ElfError, Part};
+use elf_update::Parts;
+
+/// Puts as many bytes of a piece as `buf` has, from the place `from` of the piece on, over the
+/// device from the place `at` on.
+fn write_some<D: Device>(
+    elf: &mut Elf<D>,
+    buf: &mut [u8],
+    part: Part,
+    p: u32,
+    from: u64,
+    at: u64,
+) -> Result<(), ElfError>
+    requires stored { IsStored elf.old.o }
+    requires held { IsAtHand elf.old part }
+    requires some { 0 < length buf.old }
+    requires there { from + length buf.old
+        ≤ length (slice_index_or (stored_pieces elf.old.o part) p no_piece).1 }
+    requires small { from + length buf.old < 2 ^ 64 }
+    requires may { MayOverwrite D.Source elf.old at (length buf.old) }
+    ensures over { Overwrites D.Source D.Device.own result elf.old elf.new at (take
+        (length buf.old)
+        (drop from (slice_index_or (stored_pieces elf.old.o part) p no_piece).1)) }
+    ensures len { length buf.new ≡ length buf.old }
+{
+    copy_part(elf, part, p, from, buf);
+    elf.write_base(at, buf)
+}
+
+/// Puts a piece of a part, which has `len` bytes, over the device from the place `at` on, page by
+/// page.
+fn write_range<D: Device>(
+    elf: &mut Elf<D>,
+    page: &mut [u8],
+    part: Part,
+    p: u32,
+    at: u64,
+    len: u64,
+) -> Result<(), ElfError>
+    requires room { 0 < length page.old }
+    requires stored { IsStored elf.old.o }
+    requires held { IsAtHand elf.old part }
+    requires long { len
+        ≡ length (slice_index_or (stored_pieces elf.old.o part) p no_piece).1 }
+    requires may { MayOverwrite D.Source elf.old at len }
+    ensures over { Overwrites D.Source D.Device.own result elf.old elf.new at
+        (slice_index_or (stored_pieces elf.old.o part) p no_piece).1 }
+    ensures page { length page.new ≡ length page.old }
+{
+    let mut done = 0;
+    while done < len {
+        let some = (len - done).min(page.len() as u64);
+        let buf = &mut page[..some as usize];
+        let _object = elf.dirty();
+        if let Err(e) = write_some(elf, buf, part, p, done, at + done) {
+            return Err(e);
+        }
+        done += some;
+    }
+    Ok(())
+}
+
+/// Puts a piece of a part, which stands at the end so far, rounded up to its alignment, with the
+/// fill byte before it, and answers the end after it. The part stands at the place `start` of the
+/// device.
+fn write_piece<D: Device>(
+    elf: &mut Elf<D>,
+    page: &mut [u8],
+    part: Part,
+    p: u32,
+    start: u64,
+    end: u64,
+    fill: u8,
+) -> Result<u64, ElfError>
+    requires room { 0 < length page.old }
+    requires stored { IsStored elf.old.o }
+    requires held { IsAtHand elf.old part }
+    requires there { p < length (stored_pieces elf.old.o part) }
+    requires small { let piece = slice_index_or (stored_pieces elf.old.o part) p no_piece in
+        start + (rounded_up end piece.0 + length piece.1) < 2 ^ 64 }
+    requires may { MayOverwrite D.Source elf.old (start + end)
+        (length (piece_over (stored_pieces elf.old.o part) p end fill)) }
+    ensures end { let piece = slice_index_or (stored_pieces elf.old.o part) p no_piece in
+        IfOk result (λ after. after ≡ rounded_up end piece.0 + length piece.1) }
+    ensures over { Overwrites D.Source D.Device.own result elf.old elf.new (start + end)
+        (piece_over (stored_pieces elf.old.o part) p end fill) }
+    ensures page { length page.new ≡ length page.old }
+{
+    let piece = elf.piece(part, p);
+    let at = end.next_multiple_of(piece.align.max(1));
+    if let Err(e) = write_fill(elf, page, start + end, at - end, fill) {
+        return Err(e);
+    }
+    let _object = elf.dirty();
+    if let Err(e) = write_range(elf, page, part, p, start + at, piece.len) {
+        return Err(e);
+    }
+    Ok(at + piece.len)
+}
+
+/// Puts a part over the device, where it stands: its pieces, with the fill byte between them. Its
+/// bytes are at hand. It refuses `Write` alone, reads nothing and takes no memory.
+pub fn write_part<D: Device>(
+    elf: &mut Elf<D>,
+    page: &mut [u8],
+    part: PartAt,
+    fill: u8,
+) -> Result<(), ElfError>
+    requires room { 0 < length page.old }
+    requires stored { IsStored elf.old.o }
+    requires held { IsAtHand elf.old part.part }
+    requires long { HasLength (stored_pieces elf.old.o) part }
+    requires small { part.at + part.len < 2 ^ 64 }
+    requires may { MayOverwrite D.Source elf.old part.at part.len }
+    ensures over { Overwrites D.Source D.Device.own result elf.old elf.new part.at
+        (joined fill (stored_pieces elf.old.o part.part)) }
+    ensures page { length page.new ≡ length page.old }
+{
+    let count = elf.piece_count(part.part);
+    let mut end = 0;
+    for p in 0..count {
+        let _object = elf.dirty();
+        match write_piece(elf, page, part.part, p, part.at, end, fill) {
+            Ok(after) => end = after,
+            Err(e) => return Err(e),
+        }
+    }
+    Ok(())
+}

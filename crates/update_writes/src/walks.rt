@@ -1,0 +1,101 @@
+//! The walk over the plan of an image: the parts that change, and the fill between the parts.
+
+ghost use Rattle.std.specs.Prelude.{◌≡◌, ◌+◌, ◌-◌, ◌^◌, ◌≤◌, ◌<◌, max, true, [], ◌∷◌, length, All};
+ghost use Rattle.elf_object.specs.Changed.{when};
+ghost use Rattle.writing_laws.specs.Lines.{AreInLine};
+ghost use Rattle.writing_laws.specs.Plan.{fill_block};
+ghost use Rattle.elf_descriptor.specs.Fronts.{HoldsBase};
+ghost use Rattle.elf_update.specs.Pieces.{block_at, blocks_at, HasLength};
+ghost use Rattle.elf_update.specs.Descriptors.{IsStored, stored_pieces};
+ghost use Rattle.update_writes.specs.Overwrites.{IsAtHand, MayOverwrite};
+ghost use Rattle.update_writes.specs.Walks.{line_of, AreAtHand, MayPutAll, PutsAll};
+
+use crate::fills::write_fill;
+use crate::pieces::write_part;
+use elf_descriptor::Elf;
+use elf_layout::PartAt;
+use elf_outside::Device;
+use elf_types::ElfError;
+use elf_update::Ground;
+
+/// Puts the fill of the gap from one place to another: what lies behind the bytes of the base that
+/// count.
+fn write_gap<D: Device>(
+    elf: &mut Elf<D>,
+    page: &mut [u8],
+    ground: Ground,
+    from: u64,
+    end: u64,
+) -> Result<(), ElfError>
+    requires room { 0 < length page.old }
+    requires may { MayOverwrite D.Source elf.old (max from ground.kept)
+        (end - max from ground.kept) }
+    ensures puts { PutsAll D.Source D.Device.own result elf.old elf.new
+        (fill_block ground.kept ground.fill from end ∷ []) }
+    ensures page { length page.new ≡ length page.old }
+{
+    let start = from.max(ground.kept);
+    write_fill(elf, page, start, end.saturating_sub(start), ground.fill)
+}
+
+/// Puts a part where it changes.
+fn write_changed<D: Device>(
+    elf: &mut Elf<D>,
+    page: &mut [u8],
+    part: PartAt,
+    changes: bool,
+    fill: u8,
+) -> Result<(), ElfError>
+    requires room { 0 < length page.old }
+    requires base { HoldsBase D.Source elf.old }
+    requires stored { IsStored elf.old.o }
+    requires held { changes ≡ true → IsAtHand elf.old part.part }
+    requires long { HasLength (stored_pieces elf.old.o) part }
+    requires small { part.at + part.len < 2 ^ 64 }
+    requires may { changes ≡ true → MayOverwrite D.Source elf.old part.at part.len }
+    ensures puts { PutsAll D.Source D.Device.own result elf.old elf.new
+        (when changes (block_at fill (stored_pieces elf.old.o) part)) }
+    ensures page { length page.new ≡ length page.old }
+{
+    if !changes {
+        return Ok(());
+    }
+    write_part(elf, page, part, fill)
+}
+
+/// Puts the parts of a plan that change over the device, each where it stands, and the fill between
+/// the parts. The parts that change are at hand. It refuses `Write` alone, reads nothing and takes
+/// no memory.
+pub fn write_parts<D: Device>(
+    elf: &mut Elf<D>,
+    page: &mut [u8],
+    plan: &[PartAt],
+    changed: &[bool],
+    ground: Ground,
+    end: u64,
+) -> Result<(), ElfError>
+    requires room { 0 < length page.old }
+    requires stored { IsStored elf.old.o }
+    requires held { AreAtHand elf.old plan.now changed.now }
+    requires count { length changed.now ≡ length plan.now }
+    requires long { All (HasLength (stored_pieces elf.old.o)) plan.now }
+    requires line { AreInLine end 0 (blocks_at ground.fill (stored_pieces elf.old.o) plan.now) }
+    requires may { MayPutAll D.Source elf.old
+        (line_of ground.kept ground.fill end (stored_pieces elf.old.o) plan.now changed.now) }
+    ensures { PutsAll D.Source D.Device.own result elf.old elf.new
+        (line_of ground.kept ground.fill end (stored_pieces elf.old.o) plan.now changed.now) }
+{
+    let mut from = 0;
+    for i in 0..plan.len() {
+        let part = plan[i];
+        if let Err(e) = write_gap(elf, page, ground, from, part.at) {
+            return Err(e);
+        }
+        let _object = elf.dirty();
+        if let Err(e) = write_changed(elf, page, part, changed[i], ground.fill) {
+            return Err(e);
+        }
+        from = part.at + part.len;
+    }
+    write_gap(elf, page, ground, from, end)
+}
