@@ -1,1 +1,4 @@
 mod Rules
+mod Dues
+mod Ranges
+mod KeptRooms

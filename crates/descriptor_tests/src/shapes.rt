@@ -104,6 +104,7 @@ impl Question for OutOfFile {
         let out = Some(ElfError::OutOfFile { section: 2 });
         let mut stated = raw_refusal(elf) == out;
         stated &= data_refusal(elf) == out;
+        stated &= elf.reserve_home(ScnId(2)).err() == out;
         stated &= set_flags(elf, 2) == Ok(2);
         stated
     }
