@@ -2,6 +2,7 @@
 
 ghost use Rattle.std.specs.Prelude.{◌≡◌, length};
 
+mod fronts;
 mod places;
 mod rooms;
 mod writes;
