@@ -1,0 +1,21 @@
+use Rattle.std.proofs.Common.{◌≡◌, Bool, false, not, ℕ, List, subst}
+use Rattle.std.specs.Prelude.{IfOk}
+use Rattle.elf_object.specs.Object.{Object}
+use Rattle.command_objects.specs.Removed.{with_followers}
+use Rattle.strip_removed.proofs.TopLaws.{strip_answers, are_removable}
+use Rattle.strip_removed.proofs.removing.removed.Goals as goal
+
+pub returns-in-Ok-clause-answer : goal.returns-in-Ok-clause-answer
+returns-in-Ok-clause-answer g c =
+    let same = c.in-Ok.ensures.reads.object in
+    strip_answers c.args.elf.now c.args.names.now c.in-Ok.named c.with_followers.result
+    c.with_followers.ensures.err c.args.debug_only c.in-Ok.ensures.told
+    (subst (λ (o : Object). IfOk c.with_followers.result
+    (λ set. set ≡ with_followers o (not c.args.debug_only) c.in-Ok.named)) same c.with_followers.ensures.ok)
+
+pub returns-in-Ok-clause-removable : goal.returns-in-Ok-clause-removable
+returns-in-Ok-clause-removable g c =
+    let same = c.in-Ok.ensures.reads.object in
+    are_removable c.args.elf.now.o (not c.args.debug_only) c.in-Ok.named c.with_followers.result
+    (subst (λ (o : Object). IfOk c.with_followers.result
+    (λ set. set ≡ with_followers o (not c.args.debug_only) c.in-Ok.named)) same c.with_followers.ensures.ok)

@@ -1,0 +1,181 @@
+//! Step 1: sections by their names.
+
+ghost use Rattle.std.specs.Prelude.{◌≡◌, ◌<◌, ◌+◌, ◌++◌, ◌∷◌, ◌&&◌, not, [], length, map, true, IsTrue, OnOk, IfOk, Some};
+ghost use Rattle.std.specs.List.{list_any};
+ghost use Rattle.elf_object.specs.Due.{all_sections};
+ghost use Rattle.elf_object.specs.Strings.{is_name};
+ghost use Rattle.command_objects.specs.Words.{is_allocated, header_at};
+ghost use Rattle.command_objects.specs.Removed as rules;
+ghost use Rattle.strip_removed.specs.Steps.{IsRemovable, AreApart, goes, goes_by_name, may_go};
+ghost use Rattle.elf_object.specs.Words.{Answers};
+ghost use Rattle.elf_descriptor.specs.Reads.{Queries, wanted};
+ghost use Rattle.strip_removed.specs.Calls.{ReadsNames, found, found_by};
+
+use crate::headers::is_allocated;
+use crate::sets::SectionSet;
+use crate::walks::may_go;
+use elf_descriptor::Elf;
+use elf_outside::Source;
+use elf_types::{ElfError, List, ScnId};
+use gelf_view::section_name;
+use std::alloc::Global;
+use tool_text::Args;
+
+/// Whether a name is one of those that compilers give sections of debug data.
+#[tactic(auto, unfolding(command_objects::specs::Removed::is_debug_name))]
+fn is_debug_name(name: &[u8]) -> bool
+    ensures { result ≡ rules.is_debug_name name.now }
+{
+    name.starts_with(b".debug")
+        || name.starts_with(b".zdebug")
+        || name.starts_with(b".stab")
+        || name == b".line".as_slice()
+        || name == b".gdb_index".as_slice()
+}
+
+/// Whether a name is one of these.
+fn is_one_of(name: &[u8], names: &Args) -> bool
+    ensures { result ≡ list_any (λ wanted. is_name wanted (Some name.now)) names.now }
+{
+    names
+        .as_slice()
+        .iter()
+        .any(|wanted| name == wanted.as_bytes())
+}
+
+/// Whether a section that is there may be one of debug data: such a one has no `SHF_ALLOC`.
+fn may_be_debug<S: Source>(elf: &Elf<S>, s: ScnId, debug_too: bool) -> bool
+    requires { s.0 < length elf.now.o.sections }
+    ensures { result ≡ (debug_too && not (is_allocated (header_at elf.now.o s.0))) }
+{
+    debug_too && !is_allocated(&elf.section_header(s))
+}
+
+/// Whether a name is one of these, or that of debug data where it may be.
+fn is_found_by(name: &[u8], names: &Args, debug: bool) -> bool
+    ensures { result ≡ found_by names.now debug (Some name.now) }
+{
+    is_one_of(name, names) || (debug && is_debug_name(name))
+}
+
+/// Whether a section that is there is found by its name: that is one of these, or of debug data
+/// where it may be.
+fn is_found<S: Source>(
+    elf: &mut Elf<S>,
+    s: ScnId,
+    names: &Args,
+    debug: bool,
+) -> Result<bool, ElfError>
+    requires { s.0 < length elf.old.o.sections }
+    ensures answer { Answers elf.old.told (wanted (found names.now debug s.0) elf.old) result
+        ((found names.now debug s.0).answer elf.old.o) }
+    ensures queries { Queries S.Source (found names.now debug s.0) [] result elf.old elf.new }
+{
+    match section_name(elf, s) {
+        Ok(Some(name)) => Ok(is_found_by(name, names, debug)),
+        Ok(None) => Ok(false),
+        Err(e) => Err(e),
+    }
+}
+
+/// The same of debug data where that goes too.
+fn is_found_too<S: Source>(
+    elf: &mut Elf<S>,
+    s: ScnId,
+    names: &Args,
+    debug_too: bool,
+) -> Result<bool, ElfError>
+    requires { s.0 < length elf.old.o.sections }
+    ensures told { IsTrue elf.old.told
+        → IfOk result (λ found. found ≡ goes_by_name debug_too names.now elf.old.o s.0) }
+    ensures reads { ReadsNames S.Source result elf.old elf.new }
+{
+    let debug = may_be_debug(elf, s, debug_too);
+    is_found(elf, s, names, debug)
+}
+
+/// Whether a section that is there goes: it may be removed, and is found by its name.
+fn goes_by_name<S: Source>(
+    elf: &mut Elf<S>,
+    s: ScnId,
+    names: &Args,
+    debug_too: bool,
+) -> Result<bool, ElfError>
+    requires { s.0 < length elf.old.o.sections }
+    ensures told { IsTrue elf.old.told → IfOk result (λ found. found
+        ≡ goes elf.old.o (goes_by_name debug_too names.now elf.old.o) [] s.0) }
+    ensures apart { IfOk result (λ found. found ≡ true → may_go elf.old.o s.0 ≡ true) }
+    ensures reads { ReadsNames S.Source result elf.old elf.new }
+{
+    if may_go(elf, s) {
+        return is_found_too(elf, s, names, debug_too);
+    }
+    Ok(false)
+}
+
+/// Appends a section's mark, whether it goes by its name, to those of the sections before it.
+fn mark_by_name<S: Source>(
+    elf: &mut Elf<S>,
+    s: ScnId,
+    names: &Args,
+    debug_too: bool,
+    marks: &mut List<bool>,
+) -> Result<(), ElfError>
+    requires { s.0 < length elf.old.o.sections }
+    ensures told { IsTrue elf.old.told → OnOk result (marks.new ≡ marks.old
+        ++ goes elf.old.o (goes_by_name debug_too names.now elf.old.o) [] s.0 ∷ []) }
+    ensures apart { AreApart elf.old.o marks.old s.0
+        → OnOk result (AreApart elf.old.o marks.new (s.0 + 1)) }
+    ensures reads { ReadsNames S.Source result elf.old elf.new }
+{
+    match goes_by_name(elf, s, names, debug_too) {
+        Ok(found) => marks.push(found),
+        Err(e) => Err(e),
+    }
+}
+
+/// Marks of the sections that go by their names.
+fn fill_marks<S: Source>(
+    elf: &mut Elf<S>,
+    names: &Args,
+    debug_too: bool,
+    marks: &mut List<bool>,
+) -> Result<(), ElfError>
+    requires { marks.old ≡ [] }
+    ensures told { IsTrue elf.old.told → OnOk result (marks.new ≡ map
+        (goes elf.old.o (goes_by_name debug_too names.now elf.old.o) [])
+        (all_sections elf.old.o)) }
+    ensures apart { OnOk result (AreApart elf.old.o marks.new (length elf.old.o.sections)) }
+    ensures reads { ReadsNames S.Source result elf.old elf.new }
+{
+    for s in 0..elf.shnum() {
+        match mark_by_name(elf, ScnId(s), names, debug_too, marks) {
+            Ok(()) => {}
+            Err(e) => return Err(e),
+        }
+    }
+    Ok(())
+}
+
+/// The sections of these names, and those of debug data where they go too, that may be removed. It
+/// refuses `Memory`, and `Read` where the names are not loaded. It reads the home of the names at the
+/// first use, and marks nothing dirty.
+///
+/// Source: gABI chapter 4, "Section Header", sh_name.
+pub fn with_named<S: Source>(
+    alloc: Global,
+    elf: &mut Elf<S>,
+    names: &Args,
+    debug_too: bool,
+) -> Result<SectionSet, ElfError>
+    ensures told { IsTrue elf.old.told → IfOk result (λ set. set ≡ rules.with_found elf.old.o
+        (λ before. goes_by_name debug_too names.now elf.old.o) []) }
+    ensures removable { IfOk result (IsRemovable elf.old.o) }
+    ensures reads { ReadsNames S.Source result elf.old elf.new }
+{
+    let mut marks = List::new(alloc);
+    match fill_marks(elf, names, debug_too, &mut marks) {
+        Ok(()) => Ok(SectionSet::from_marks(marks)),
+        Err(e) => Err(e),
+    }
+}
