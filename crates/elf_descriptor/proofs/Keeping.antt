@@ -28,7 +28,7 @@ use Rattle.elf_descriptor.specs.Sound.{IsElf, CellIn}
 use Rattle.elf_descriptor.specs.Edits.{IsStepped}
 use Rattle.elf_descriptor.specs.Warmed.{Warmed}
 use Rattle.elf_descriptor.specs.Reads.{Queries, wanted}
-use Rattle.elf_descriptor.specs.Rooms.{with_room_for, reads_home, HoldsSo, Fills}
+use Rattle.elf_descriptor.specs.Rooms.{has_room_for, with_room_for, reads_home, HoldsSo, Fills}
 use Rattle.elf_descriptor.proofs.Refusals.{answers_wants}
 use Rattle.elf_descriptor.proofs.EditLaws.{same_elf, state_stepped}
 use Rattle.elf_descriptor.proofs.EditGrows.{edits_left, refused_alone}
@@ -138,6 +138,30 @@ module _ {S : Type 0} (g : Ghosts S) (source : S) (old new : Body) (s : ℕ) (is
       edits_left e (state_of g source old) (state_of g source new) (with_room_for s (state_of g source old)) (answered (raw_refusal (object_of (g.holds source) (g.size source) old) s) (tt {0}))
       (subst (λ (q : Option ElfError). Edits (Err e) (tt {0}) (tt {0}) (answered q (tt {0})) (tt {0})) (sym (raw_refusal_is (g.holds source) (g.size source) old s is)) came)
       (state_stepped g source (λ o. o) (ready_of old) old new (same_steps old new s same))
+
+  -- and then it can be loaded without memory
+  pub reserve_room : (r : Result (Unit {0}) ElfError) → OnOk r (HoldsSo old new s (with_room (scn_at old s).cell))
+      → OnOk r (s < length old.sections.items) → OnOk r (IsTrue (has_room_for (state_of g source new) s))
+  reserve_room (Err e) ok there = tt
+  reserve_room (Ok x) so there =
+      let cell : (scn_at new s).cell ≡ with_room (scn_at old s).cell =
+      ap (λ (y : Scn). y.cell) (scn_written old new s (record (scn_at old s) { cell = with_room (scn_at old s).cell }) there so.sections) in
+      subst (λ (t : Bool). IsTrue (t || is_loaded (room_of new) s)) (sym (loaded_is new s))
+      (subst (λ (t : Bool). IsTrue (cell_is_loaded (scn_at new s).cell || t)) (sym (room_is new s))
+      (subst (λ (c : CellView). IsTrue (cell_is_loaded c || c.room)) (sym cell)
+      (by_loaded (cell_is_loaded (scn_at old s).cell) refl)))
+    where
+      c : CellView
+      c = (scn_at old s).cell
+
+      by_loaded : (b : Bool) → cell_is_loaded (scn_at old s).cell ≡ b
+          → IsTrue (cell_is_loaded (with_room (scn_at old s).cell) || (with_room (scn_at old s).cell).room)
+      by_loaded true e =
+          subst (λ (t : Bool). IsTrue (cell_is_loaded (if t then c else (record c { room = true })) || (if t then c else (record c { room = true })).room)) (sym e)
+          (subst (λ (t : Bool). IsTrue (t || c.room)) (sym e) refl)
+      by_loaded false e =
+          subst (λ (t : Bool). IsTrue (cell_is_loaded (if t then c else (record c { room = true })) || (if t then c else (record c { room = true })).room)) (sym e)
+          (subst (λ (t : Bool). IsTrue (t || true)) (sym e) refl)
 
 -- ---- The home is read into it
 

@@ -281,45 +281,23 @@ module _ {S : Type 0} (g : Ghosts S) (source : S) (old mid new : Body)
 
 -- ---- The call
 
-module _ {S : Type 0} (g : Ghosts S) (source : S) (old mid : Body) (places : Places)
-    (is : IsElf (g.holds source) (g.size source) old) (lengths : SizesAreLengths)
-    (keeps : EveryStepKeeps) (ties : EveryStepKeepsTied) (stands : EveryStepKeepsBased)
-    (dirty : is_dirty (object_of (g.holds source) (g.size source) old) ≡ true)
-    (passed : refusal (object_of (g.holds source) (g.size source) old) ≡ None)
-    (same : places ≡ places_of (object_of (g.holds source) (g.size source) old))
-    (stores : StoresPlaces places old mid) where
-  stored_elf : IsElf (g.holds source) (g.size source) mid
-  stored_elf =
-      placed_elf g source old mid places is lengths dirty passed same stores keeps.update_null
-      ties.update_null stands.update_null
-
-  -- with its places stored the object can be settled
-  pub stored_counts : HasCounts mid
-  stored_counts = stored_elf.counts
-
-  pub stored_ready : IsTrue (ready_of old) → IsTrue (ready_of mid)
-  stored_ready ready =
-      let stays = ap (λ (st : State S). st.ready)
-      (placed_state g source old mid places is lengths dirty passed same stores) in
-      subst (λ (b : Bool). IsTrue b) (sym stays) ready
-
-  -- what is settled then is an object over the image that was written
-  pub settles_all : (size : ℕ) (new : Body) → SettlingIsSound
-      → g.size source ≡ length (image_of (object_of (g.holds source) (g.size source) old))
-      → IfSome (g.holds source)
-      (λ bytes. bytes ≡ image_of (object_of (g.holds source) (g.size source) old))
-      → size ≡ g.size source → SettlesBody size mid new
-      → IsElf (g.holds source) (g.size source) new
-      × (state_of g source new ≡ settled_state (state_of g source old))
-  settles_all size new settling long held counted settles =
-      let o = object_of (g.holds source) (g.size source) old in
-      let object = placed_object (g.holds source) (g.size source) old is lengths
-      (limited o dirty passed) mid places dirty same stores in
-      let phdrs = ap (λ (b : Body). b.phdrs) stores.rest in
-      let count = count_same g source old mid places is lengths dirty passed same stores in
-      let sized = subst (λ (n : ℕ). SettlesBody n mid new) counted settles in (
-        settled_elf g source old mid new is stored_elf dirty passed object phdrs long held sized
-            settling,
-        settled_state_is g source old mid new is stored_elf dirty passed object phdrs long held
-            sized count,
-      )
+-- what is settled of an object whose places are stored is an object over the image that was written
+pub settles_all : {S : Type 0} (g : Ghosts S) (source : S) (old new : Body) (size : ℕ)
+    → IsElf (g.holds source) (g.size source) old
+    → is_dirty (object_of (g.holds source) (g.size source) old) ≡ true
+    → refusal (object_of (g.holds source) (g.size source) old) ≡ None
+    → placed (object_of (g.holds source) (g.size source) old)
+    ≡ object_of (g.holds source) (g.size source) old
+    → SettlingIsSound
+    → g.size source ≡ length (image_of (object_of (g.holds source) (g.size source) old))
+    → IfSome (g.holds source)
+    (λ bytes. bytes ≡ image_of (object_of (g.holds source) (g.size source) old))
+    → size ≡ g.size source → SettlesBody size old new
+    → IsElf (g.holds source) (g.size source) new
+    × (state_of g source new ≡ settled_state (state_of g source old))
+settles_all g source old new size is dirty passed stored settling long held counted settles =
+    let sized = subst (λ (n : ℕ). SettlesBody n old new) counted settles in (
+      settled_elf g source old old new is is dirty passed (sym stored) refl long held sized settling,
+      settled_state_is g source old old new is is dirty passed (sym stored) refl long held sized
+          refl,
+    )

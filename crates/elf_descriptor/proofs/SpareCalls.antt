@@ -64,6 +64,7 @@ module _ {S : Type 0} (g : Ghosts S) (source : S) (old new : Body) (is : IsElf (
 
   pub holds_base : (m : ℕ) → old.base ≡ bases.Source m → HoldsBase g (state_of g source old)
   holds_base m part = record {
+    told = refl;
     long = let both = base_source (g.holds source) (g.size source) old m part is.long is.within in omega (arith, both.0, both.1);
     is = by_held (g.holds source) refl;
   }
@@ -79,11 +80,6 @@ module _ {S : Type 0} (g : Ghosts S) (source : S) (old new : Body) (is : IsElf (
   reserved_holds (Ok x) ok =
       let now = part_of_ready new ok.ready in
       holds_base now.0 (sym (ap (λ (b : Body). b.base) ok.rest) ∙ now.1)
-
-  pub reserved_told : (r : Result (Unit {0}) ElfError)
-      → OnOk r ((state_of g source old).told ≡ is_some (g.holds source))
-  reserved_told (Err e) = tt
-  reserved_told (Ok x) = refl
 
   pub reserved_same : (r : Result (Unit {0}) ElfError) → OnErr r (new ≡ old) → OnErr r (state_of g source new ≡ state_of g source old)
   reserved_same (Err e) same = ap (λ (b : Body). state_of g source b) same

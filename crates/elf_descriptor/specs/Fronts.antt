@@ -1,6 +1,6 @@
 -- The front that an update writes: memory for it, and whether it is the one that stands in the
 -- image (elf_update of elf(3E); gABI chapter 4, "ELF Header" and "Section Header").
-use Rattle.std.specs.Prelude.{◌≡◌, ◌≢◌, ◌≤◌, ℕ, Bool, true, false, List, length, map, take, slice_get, Some, IfSome, IsTrue, All}
+use Rattle.std.specs.Prelude.{◌≡◌, ◌≢◌, ◌≤◌, ℕ, Bool, true, false, List, length, map, take, slice_get, is_some, Some, IfSome, IsTrue, All}
 use Rattle.std.specs.List.{enumerate_from}
 use Rattle.elf_types.specs.declared.records.Class.{Class}
 use Rattle.elf_types.specs.declared.records.Order.{Order}
@@ -29,8 +29,9 @@ pub record IsReserved (old new : Body) : Type 0 where
   pub rest : new ≡ record old { spare = new.spare; ready = true }
   pub ready : ready_of new ≡ true
 
--- the source begins with the base
+-- the source begins with the base, and it is known whether it tells its bytes
 pub record HoldsBase {S : Type 0} (g : Ghosts S) (state : State S) : Type 0 where
+  pub told : state.told ≡ is_some (g.holds state.source)
   pub long : length state.o.base ≤ g.size state.source
   pub is : IfSome (g.holds state.source) (λ held. take (length state.o.base) held ≡ state.o.base)
 

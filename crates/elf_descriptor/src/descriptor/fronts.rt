@@ -1,6 +1,6 @@
 //! The front that an update writes.
 
-ghost use Rattle.std.specs.Prelude.{◌≡◌, true, None, is_some, OnOk, OnErr, IfErr};
+ghost use Rattle.std.specs.Prelude.{◌≡◌, true, None, OnOk, OnErr, IfErr};
 ghost use Rattle.elf_object.specs.Changed.{front_differs};
 ghost use Rattle.elf_object.specs.Layout.{places_of};
 ghost use Rattle.elf_object.specs.Object.{is_dirty};
@@ -20,7 +20,6 @@ impl<S: Source> Elf<S> {
     pub fn reserve(&mut self) -> Result<(), ElfError>
         ensures ok { OnOk result (self.new ≡ record self.old { ready = true }) }
         ensures base { OnOk result (HoldsBase S.Source self.old) }
-        ensures told { OnOk result (self.old.told ≡ is_some (S.holds self.old.source)) }
         ensures same { OnErr result (self.new ≡ self.old) }
         ensures err { IfErr result (λ e. e ≡ ElfError.Memory) }
     {

@@ -20,8 +20,9 @@ impl<S: Source> Elf<S> {
     /// `load_home` takes none. It changes no answer of another call. It refuses in this order:
     /// `NoSection`, `OutOfFile`, `Memory`. It reads nothing.
     pub fn reserve_home(&mut self, s: ScnId) -> Result<(), ElfError>
-        ensures { Edits result self.old self.new (answered (raw_refusal self.old.o s.0) tt)
+        ensures edits { Edits result self.old self.new (answered (raw_refusal self.old.o s.0) tt)
             (with_room_for s.0 self.old) }
+        ensures room { OnOk result (IsTrue (has_room_for self.new s.0)) }
     {
         self.body.reserve_home(s.0)
     }

@@ -2,16 +2,14 @@
 
 ghost use Rattle.std.specs.Prelude.{◌≡◌, true, length, IsTrue, IfSome, None};
 ghost use Rattle.elf_object.specs.Image.{image};
-ghost use Rattle.elf_object.specs.Layout.{places_of};
+ghost use Rattle.elf_object.specs.Layout.{placed};
 ghost use Rattle.elf_object.specs.Object.{is_dirty};
 ghost use Rattle.elf_object.specs.Refusal.{refusal};
 ghost use Rattle.elf_descriptor.specs.Settling.{SettlingIsSound};
 
 use crate::descriptor::Elf;
-use crate::descriptor::edits::every_step_is_sound;
-use elf_layout::Places;
 use elf_outside::Device;
-use object_laws::laws::{sizes_are_lengths, updates_keep, updates_tie};
+use object_laws::laws::{updates_keep, updates_tie};
 use writing_laws::based::updates_keep_based;
 
 /// What is settled is an object; over a source that tells its bytes, what is not dirty stands in
@@ -29,25 +27,22 @@ impl<D: Device> Elf<D> {
 
     /// Makes the object that of the image that was written: each section has one clean piece, whose
     /// home is where its header places it; nothing is marked, and nothing is held. The object is
-    /// ready and something is dirty, an update is not refused, the places are those of the object,
-    /// and the device is as long as the image and, where it tells its bytes, holds it. It refuses
-    /// nothing, reads nothing and takes no memory.
+    /// ready and something is dirty, an update is not refused, its places are stored, and the device
+    /// is as long as the image and, where it tells its bytes, holds it. It refuses nothing, reads
+    /// nothing and takes no memory.
     ///
     /// Source: elf_update with ELF_C_WRITE of elf(3E).
-    pub fn settle(&mut self, places: &Places)
+    pub fn settle(&mut self)
         requires ready { IsTrue self.old.ready }
         requires dirty { is_dirty self.old.o ≡ true }
         requires passed { refusal self.old.o ≡ None }
-        requires places { places.now ≡ places_of self.old.o }
+        requires stored { placed self.old.o ≡ self.old.o }
         requires long { D.size self.old.source ≡ length (image self.old.o) }
         requires holds { IfSome (D.holds self.old.source) (λ held. held ≡ image self.old.o) }
         ensures { self.new ≡ settled_state self.old }
     {
-        every_step_is_sound();
-        sizes_are_lengths();
         settling_is_sound();
         let size = self.src.len();
-        self.body.store_places(places);
         self.body.settle(size);
     }
 }

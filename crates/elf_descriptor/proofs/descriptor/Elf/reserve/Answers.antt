@@ -1,9 +1,9 @@
 use Rattle.std.proofs.Common.{◌≡◌, true, subst}
-use Rattle.std.specs.Prelude.{OnOk, OnErr, is_some}
+use Rattle.std.specs.Prelude.{OnOk, OnErr}
 use Rattle.elf_descriptor.specs.State.{State}
 use Rattle.elf_descriptor.specs.Views.{state_of}
 use Rattle.elf_descriptor.specs.Fronts.{HoldsBase}
-use Rattle.elf_descriptor.proofs.SpareCalls.{reserved_elf, reserved_state, reserved_holds, reserved_told, reserved_same}
+use Rattle.elf_descriptor.proofs.SpareCalls.{reserved_elf, reserved_state, reserved_holds, reserved_same}
 use Rattle.elf_descriptor.proofs.descriptor.Elf.reserve.Goals as goal
 
 pub reserve-requires : goal.reserve-requires
@@ -22,11 +22,6 @@ pub returns-clause-base : goal.returns-clause-base
 returns-clause-base g c =
     subst (λ (st : State g.row.S.Denot). OnOk c.reserve.result (HoldsBase g.S.Source st)) c.self.view_is
     (reserved_holds g.S.Source c.self.inside.src c.self.inside.body c.reserve.new.self c.self.invariant c.reserve.result c.reserve.ensures.ok)
-
-pub returns-clause-told : goal.returns-clause-told
-returns-clause-told g c =
-    subst (λ (st : State g.row.S.Denot). OnOk c.reserve.result (st.told ≡ is_some (g.S.Source.holds st.source))) c.self.view_is
-    (reserved_told g.S.Source c.self.inside.src c.self.inside.body c.reserve.new.self c.self.invariant c.reserve.result)
 
 pub returns-clause-same : goal.returns-clause-same
 returns-clause-same g c =

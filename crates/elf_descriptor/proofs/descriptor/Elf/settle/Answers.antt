@@ -2,64 +2,32 @@ use Rattle.std.proofs.Common.{◌≡◌, true, length, None, sym, subst}
 use Rattle.std.specs.Prelude.{IsTrue, IfSome}
 use Rattle.elf_object.specs.Object.{is_dirty}
 use Rattle.elf_object.specs.Image.{image}
-use Rattle.elf_object.specs.Layout.{places_of}
+use Rattle.elf_object.specs.Layout.{placed}
 use Rattle.elf_object.specs.Refusal.{refusal}
 use Rattle.elf_descriptor.specs.State.{State}
 use Rattle.elf_descriptor.specs.Views.{state_of}
 use Rattle.elf_descriptor.specs.Settling.{settled_state}
-use Rattle.elf_descriptor.proofs.Placing.{places_for}
-use Rattle.elf_descriptor.proofs.SettleCalls.{stored_counts, stored_ready, settles_all}
+use Rattle.elf_descriptor.proofs.SettleCalls.{settles_all}
 use Rattle.elf_descriptor.proofs.descriptor.Elf.settle.Goals as goal
 
-pub store_places-requires-clause-places : goal.store_places-requires-clause-places
-store_places-requires-clause-places g c =
-    places_for _ _ c.self.inside.body c.args.places.now
-    (subst (λ (st : State g.row.D.Denot). c.args.places.now ≡ places_of st.o) (sym c.self.view_is)
-    c.requires.places)
-
 pub settle-requires-clause-counts : goal.settle-requires-clause-counts
-settle-requires-clause-counts g c =
-    stored_counts g.D.Source c.self.inside.src c.self.inside.body c.store_places.new.self
-    c.args.places.now c.self.invariant c.sizes_are_lengths.ensures
-    c.every_step_is_sound.ensures.object c.every_step_is_sound.ensures.tied
-    c.every_step_is_sound.ensures.based
-    (subst (λ (st : State g.row.D.Denot). is_dirty st.o ≡ true) (sym c.self.view_is)
-    c.requires.dirty)
-    (subst (λ (st : State g.row.D.Denot). refusal st.o ≡ None) (sym c.self.view_is)
-    c.requires.passed)
-    (subst (λ (st : State g.row.D.Denot). c.args.places.now ≡ places_of st.o) (sym c.self.view_is)
-    c.requires.places)
-    c.store_places.ensures
+settle-requires-clause-counts g c = c.self.invariant.counts
 
 pub settle-requires-clause-ready : goal.settle-requires-clause-ready
 settle-requires-clause-ready g c =
-    stored_ready g.D.Source c.self.inside.src c.self.inside.body c.store_places.new.self
-    c.args.places.now c.self.invariant c.sizes_are_lengths.ensures
-    c.every_step_is_sound.ensures.object c.every_step_is_sound.ensures.tied
-    c.every_step_is_sound.ensures.based
-    (subst (λ (st : State g.row.D.Denot). is_dirty st.o ≡ true) (sym c.self.view_is)
-    c.requires.dirty)
-    (subst (λ (st : State g.row.D.Denot). refusal st.o ≡ None) (sym c.self.view_is)
-    c.requires.passed)
-    (subst (λ (st : State g.row.D.Denot). c.args.places.now ≡ places_of st.o) (sym c.self.view_is)
-    c.requires.places)
-    c.store_places.ensures
-    (subst (λ (st : State g.row.D.Denot). IsTrue st.ready) (sym c.self.view_is) c.requires.ready)
+    subst (λ (st : State g.row.D.Denot). IsTrue st.ready) (sym c.self.view_is) c.requires.ready
 
 pub invariant_of-self : goal.invariant_of-self
 invariant_of-self g c =
-    (settles_all g.D.Source c.self.inside.src c.self.inside.body c.store_places.new.self
-    c.args.places.now c.self.invariant c.sizes_are_lengths.ensures
-    c.every_step_is_sound.ensures.object c.every_step_is_sound.ensures.tied
-    c.every_step_is_sound.ensures.based
+    (settles_all g.D.Source c.self.inside.src c.self.inside.body c.settle.new.self
+    c.len-size.result c.self.invariant
     (subst (λ (st : State g.row.D.Denot). is_dirty st.o ≡ true) (sym c.self.view_is)
     c.requires.dirty)
     (subst (λ (st : State g.row.D.Denot). refusal st.o ≡ None) (sym c.self.view_is)
     c.requires.passed)
-    (subst (λ (st : State g.row.D.Denot). c.args.places.now ≡ places_of st.o) (sym c.self.view_is)
-    c.requires.places)
-    c.store_places.ensures
-    c.len-size.result c.settle.new.self c.settling_is_sound.ensures
+    (subst (λ (st : State g.row.D.Denot). placed st.o ≡ st.o) (sym c.self.view_is)
+    c.requires.stored)
+    c.settling_is_sound.ensures
     (subst (λ (st : State g.row.D.Denot). g.D.Source.size st.source ≡ length (image st.o))
     (sym c.self.view_is) c.requires.long)
     (subst (λ (st : State g.row.D.Denot). IfSome (g.D.Source.holds st.source)
@@ -70,18 +38,15 @@ pub returns : goal.returns
 returns g c =
     subst (λ (st : State g.row.D.Denot).
     state_of g.D.Source c.self.inside.src c.settle.new.self ≡ settled_state st) c.self.view_is
-    (settles_all g.D.Source c.self.inside.src c.self.inside.body c.store_places.new.self
-    c.args.places.now c.self.invariant c.sizes_are_lengths.ensures
-    c.every_step_is_sound.ensures.object c.every_step_is_sound.ensures.tied
-    c.every_step_is_sound.ensures.based
+    (settles_all g.D.Source c.self.inside.src c.self.inside.body c.settle.new.self
+    c.len-size.result c.self.invariant
     (subst (λ (st : State g.row.D.Denot). is_dirty st.o ≡ true) (sym c.self.view_is)
     c.requires.dirty)
     (subst (λ (st : State g.row.D.Denot). refusal st.o ≡ None) (sym c.self.view_is)
     c.requires.passed)
-    (subst (λ (st : State g.row.D.Denot). c.args.places.now ≡ places_of st.o) (sym c.self.view_is)
-    c.requires.places)
-    c.store_places.ensures
-    c.len-size.result c.settle.new.self c.settling_is_sound.ensures
+    (subst (λ (st : State g.row.D.Denot). placed st.o ≡ st.o) (sym c.self.view_is)
+    c.requires.stored)
+    c.settling_is_sound.ensures
     (subst (λ (st : State g.row.D.Denot). g.D.Source.size st.source ≡ length (image st.o))
     (sym c.self.view_is) c.requires.long)
     (subst (λ (st : State g.row.D.Denot). IfSome (g.D.Source.holds st.source)
