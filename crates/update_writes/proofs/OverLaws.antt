@@ -186,7 +186,12 @@ module _ {D : Type 0} (s : SourceGhosts D) (d : DeviceGhosts D) where
       record {
         state = cuts.state;
         long = whole;
-        base = record { long = omega (arith, size, most, cut); is = cuts.is };
+        base = record {
+          told = ap (λ (q : State D). q.told) cuts.state ∙ may.told
+              ∙ sym (told_same r e.source f.source at buf (length buf) patches);
+          long = omega (arith, size, most, cut);
+          is = cuts.is;
+        };
         untold = λ none. cuts.untold none
             ∙ take_all (s.size f.source) e.o.base (omega (arith, size, most));
         patches = patches_retold r e.source f.source at buf text long

@@ -192,6 +192,7 @@ module _ {D : Type 0} (s : SourceGhosts D) (d : DeviceGhosts D)
         told = ap (λ (q : State D). q.told) cuts.state ∙ b.told ∙ sym told_same;
         object = same_object ∙ b.object;
         base = record {
+          told = ap (λ (q : State D). q.told) cuts.state ∙ b.told ∙ sym told_same;
           long =
               let cut = cuts.long in
               omega (arith, cut);
