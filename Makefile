@@ -1,6 +1,7 @@
 # Builds elfkit with the Rattle toolchain's command rt, which proves what it builds.
 #
-#   make                       the program build/elfkit, a line for each crate that is proved
+#   make                       the program build/elfkit, a line for each crate that is proved;
+#                              LANES=N proves N at a time, else one for each processor
 #   make try ARGS="WORDS"      the program without any proof, for a first look
 #   make test                  the gate: all proofs, tests and edits that must fail
 #   make edits                 the edits of crates/*/edits/, which the gate does not try
