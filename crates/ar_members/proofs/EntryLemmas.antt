@@ -11,7 +11,7 @@ use Rattle.ar_members.specs.declared.names.NameKind.{NameKind}
 use Rattle.ar_members.specs.declared.names.NameKind.TheVariants.{Symbols, LongNames, Symbols64, Long, Short}
 use Rattle.ar_members.specs.Names.{kind_of_name, long_name_of}
 use Rattle.ar_members.specs.Headers.{header_at, name_field, next_at}
-use Rattle.ar_members.specs.Members.{Entry, Entries, shown_header, member_entry, entry_by, named_entry, entry_at, entry_and_later, entries_within, entries_from, members_of, members_from, bad_at, due_past, due_among, due_from}
+use Rattle.ar_members.specs.Members.{Entry, Entries, shown_header, member_entry, entry_by, named_entry, entry_at, entry_and_later, entries_within, entries_from, members_of, members_from, bad_at, due_past, due_among, due_from, due_in_all, due_to_end}
 use Rattle.ar_members.specs.Steps.{step_due}
 
 -- ---- Entries
@@ -50,6 +50,18 @@ after_same : (at : ℕ) (ended : Entries) (b : Bool) (f g : Entry → Entries) (
 after_same at ended b f g (Err e) same past = refl
 after_same at ended b f g (Ok e) same past =
     ap (λ rest. cond b ended (record { list = e ∷ rest.list; bad = rest.bad })) (same e past)
+
+-- what is due up to the next member is due of all
+past_all : (m : Option ArHdr) (a b : ℕ) → a ≤ b → due_past m a ≤ b
+past_all None a b h = h
+past_all (Some header) a b h = omega arith
+
+among_all : (list : List Entry) (bad : Option ℕ) → due_among list bad ≤ due_in_all list bad
+among_all [] None = omega arith
+among_all [] (Some at) = omega arith
+among_all (e ∷ es) bad =
+    let later = past_all e.member (due_among es bad) (due_in_all es bad) (among_all es bad) in
+    omega (arith, later)
 
 -- no entry
 abbrev none : Entries
@@ -126,6 +138,18 @@ module _ (bytes names : List ℕ) (at : ℕ) where
   pub due_passed : (e : Entry) → at < length bytes → entry_at bytes names at ≡ Ok e → e.member ≡ None → due_from bytes names at ≡ 60 + e.asked + due_from bytes e.names e.next
   due_passed e within is none =
       due_next e within is ∙ ap (λ (m : Option ArHdr). 60 + e.asked + due_past m (due_from bytes e.names e.next)) none
+
+  -- a walk past all members goes on after each entry
+  pub due_after : (e : Entry) → at < length bytes → entry_at bytes names at ≡ Ok e
+      → due_to_end bytes names at ≡ 60 + e.asked + due_to_end bytes e.names e.next
+  unfolding due_to_end
+  due_after e within is = ap (λ (es : Entries). due_in_all es.list es.bad)
+      (entries_found (Ok e) within is)
+
+  -- the walk to the next member is its beginning
+  pub due_begins : due_from bytes names at ≤ due_to_end bytes names at
+  unfolding due_from due_to_end
+  due_begins = let es = entries_from bytes names at in among_all es.list es.bad
 
   -- the step at a place asks for no more than the walk from it on
   pub due_step : at < length bytes → step_due (entry_at bytes names at) ≤ due_from bytes names at

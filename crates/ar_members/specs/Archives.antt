@@ -6,7 +6,7 @@ use Rattle.elf_types.specs.Answers.{answered}
 use Rattle.ar_members.specs.declared.headers.TheConstants.{FIRST}
 use Rattle.ar_members.specs.declared.headers.ArHdr.{ArHdr}
 use Rattle.ar_members.specs.Magic.{archive_refusal}
-use Rattle.ar_members.specs.Members.{Members, members_from, bad_at, due_from}
+use Rattle.ar_members.specs.Members.{Members, members_from, bad_at, due_from, due_to_end}
 use Rattle.ar_members.specs.Walks.{MemberLies, RefusalLies, walk_asks}
 
 -- where the walk of next stands: the place of the next header, or that of the bad one at which it
@@ -69,6 +69,10 @@ next_asks size old (Err e) = size - old.place
 -- and at most by the bytes of the archive
 abbrev pub next_due : List ℕ → Walk → ℕ
 next_due bytes old = if old.stopped then 0 else due_from bytes old.names old.place
+
+-- how many bytes all calls of next that are left ask for at most, where none is done twice
+abbrev pub left_due : List ℕ → Walk → ℕ
+left_due bytes walk = if walk.stopped then 0 else due_to_end bytes walk.names walk.place
 
 -- an answer without what is handed back beside a refusal
 abbrev pub answer_of : {T U : Type 0} → Result T (U × ElfError) → Result T ElfError

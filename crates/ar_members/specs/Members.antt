@@ -135,3 +135,13 @@ due_among (e ∷ es) bad = HEADER_LEN + e.asked + due_past e.member (due_among e
 
 unfoldable pub due_from : List ℕ → List ℕ → ℕ → ℕ
 due_from bytes names at = let es = entries_from bytes names at in due_among es.list es.bad
+
+-- how many bytes a walk past all members asks for: each header, that of a bad one too, and the
+-- bodies of the tables of long names
+abbrev pub due_in_all : List Entry → Option ℕ → ℕ
+due_in_all [] None = 0
+due_in_all [] (Some at) = HEADER_LEN
+due_in_all (e ∷ es) bad = HEADER_LEN + e.asked + due_in_all es bad
+
+unfoldable pub due_to_end : List ℕ → List ℕ → ℕ → ℕ
+due_to_end bytes names at = let es = entries_from bytes names at in due_in_all es.list es.bad

@@ -4,13 +4,17 @@ use Rattle.elf_types.specs.declared.errors.ElfError.{ElfError}
 use Rattle.elf_types.specs.declared.errors.ElfError.TheVariants.{BadMember, Memory, Read}
 use Rattle.ar_members.specs.declared.headers.ArHdr.{ArHdr}
 use Rattle.ar_members.specs.declared.walk.Found.{Found}
-use Rattle.ar_members.specs.Members.{Members, members_from}
+use Rattle.ar_members.specs.Members.{Members, members_from, due_to_end}
 use Rattle.ar_members.specs.Steps.{HeaderLies}
 
 -- the next member that a walk found after these long names, and the members that are left after it
 abbrev pub found_left : List ℕ → List ℕ → Found → Option ArHdr × Members
 found_left bytes names found =
     (found.member, members_from bytes (unwrap_or found.names names) found.place)
+
+-- and how many bytes a walk past those asks for
+abbrev pub found_left_due : List ℕ → List ℕ → Found → ℕ
+found_left_due bytes names found = due_to_end bytes (unwrap_or found.names names) found.place
 
 -- ---- Whatever bytes it read
 

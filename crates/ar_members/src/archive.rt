@@ -69,7 +69,7 @@ fn check<S: Source>(src: &mut S) -> Result<(), ElfError>
 
 impl<S: Source> Ar<S> {
     ghost use Rattle.ar_members.specs.Archives.{answer_of, source_of, handed_back};
-    ghost use Rattle.ar_members.specs.Archives.{members_left, Moves, NextLies, next_asks, next_due};
+    ghost use Rattle.ar_members.specs.Archives.{members_left, Moves, NextLies, next_asks, next_due, left_due};
     ghost use Rattle.ar_members.specs.Members.{next_of};
     ghost use Rattle.ar_members.specs.declared.headers.TheConstants.{HEADER_LEN};
     ghost use Rattle.ar_members.specs.Headers.{member_at, header_asks, BodyLies, HasBody, IsBadAt};
@@ -107,6 +107,9 @@ impl<S: Source> Ar<S> {
     /// number, a bad name, or a body past the end; every later call then answers the same, and
     /// reads nothing. After `Memory` or `Read`, which may come at any step, the walk stands where
     /// it stood.
+    ///
+    /// Where it answers, what was asked for and what is left of the walk do not rise, so that a
+    /// whole walk asks for each header and each table of long names once.
     pub fn next(&mut self) -> Result<Option<ArHdr>, ElfError>
         ensures members { IfSome (S.holds self.old.source) (λ image.
             FollowsBy (λ member. (member, members_left image self.new.walk)) stated_refusal result
@@ -124,6 +127,9 @@ impl<S: Source> Ar<S> {
             (next_asks (S.size self.old.source) self.old.walk result) }
         ensures due { AsksDue S.Source self.old.source self.new.source
             (λ image. next_due image self.old.walk) }
+        ensures left { OnOk result (IfSome (S.holds self.old.source) (λ image.
+            S.taken self.new.source + left_due image self.new.walk
+            ≤ S.taken self.old.source + left_due image self.old.walk)) }
     {
         if self.stopped {
             return Err(ElfError::BadMember { at: self.place });

@@ -1,12 +1,12 @@
 //! The walk from one member to the next.
 
-ghost use Rattle.std.specs.Prelude.{◌≡◌, ◌≤◌, unwrap_or, None, Ok, IfSome, IfOk, IfErr};
+ghost use Rattle.std.specs.Prelude.{◌≡◌, ◌≤◌, ◌+◌, unwrap_or, None, Ok, IfSome, IfOk, IfErr};
 ghost use Rattle.elf_types.specs.Answers.{FollowsBy, stated_refusal};
 ghost use Rattle.elf_types.specs.declared.constants.TheConstants.{MAX_IMAGE};
 ghost use Rattle.elf_outside.specs.Asks.{Asks};
 ghost use Rattle.ar_members.specs.Due.{AsksDue};
-ghost use Rattle.ar_members.specs.Members.{members_from, next_of, due_from};
-ghost use Rattle.ar_members.specs.Walks.{MemberLies, RefusalLies, found_asks, found_left};
+ghost use Rattle.ar_members.specs.Members.{members_from, next_of, due_from, due_to_end};
+ghost use Rattle.ar_members.specs.Walks.{MemberLies, RefusalLies, found_asks, found_left, found_left_due};
 
 use crate::entries::{Entry, Step, step_at};
 use crate::headers::ArHdr;
@@ -59,6 +59,9 @@ pub fn walk<S: Source>(
     ensures asks { Asks S.Source result src.old src.new
         (found_asks place (S.size src.old) result) }
     ensures due { AsksDue S.Source src.old src.new (λ image. due_from image names.now place) }
+    ensures left { IfOk result (λ found. IfSome (S.holds src.old) (λ image.
+        S.taken src.new + found_left_due image names.now found
+        ≤ S.taken src.old + due_to_end image names.now place)) }
 {
     let size = src.len();
     let mut at = place;

@@ -1,4 +1,5 @@
 pub mod CallsLemmas
 pub mod CallsUpdateLemmas
 pub mod CommandLemmas
+pub mod ObjectLemmas
 pub mod TitleLemmas

@@ -1,11 +1,11 @@
 //! Files that are images or archives of them, each image given to a tool over its object.
 
-ghost use Rattle.std.specs.Prelude.{◌≡◌, IsTrue};
+ghost use Rattle.std.specs.Prelude.{◌≡◌, IsTrue, Some};
 ghost use Rattle.tool_output.specs.Files.{LeavesFiles};
 ghost use Rattle.tool_output.specs.Statuses.{refused_status};
 ghost use Rattle.tool_output.specs.Outcomes.{Does};
-ghost use Rattle.object_output.specs.Images.{image_report};
-ghost use Rattle.object_output.specs.Archives.{archive_report};
+ghost use Rattle.object_output.specs.Images.{image_report, image_asks};
+ghost use Rattle.object_output.specs.Archives.{archive_report, archive_asks};
 ghost use Rattle.object_output.specs.Files.{file_report, file_asks};
 ghost use Rattle.elfkit_run.specs.Objects.{objects_outcome};
 
@@ -32,7 +32,8 @@ impl<T: ObjectTool> FileTool for OverFiles<'_, T> {
         (image_report (T.command o.tool.now) (T.report o.tool.now))
         (archive_report (T.command o.member_tool.now) (T.report o.member_tool.now)) };
 
-    ghost asks = { λ o. file_asks (T.reads o.tool.now) };
+    ghost asks = { λ o bytes. Some (file_asks
+        (image_asks (T.reads o.tool.now)) (archive_asks (T.reads o.member_tool.now)) bytes) };
 
     fn command(&self) -> &'static str {
         self.tool.command()
@@ -50,8 +51,8 @@ impl<T: ObjectTool> FileTool for OverFiles<'_, T> {
 }
 
 /// Gives a tool's report on each file, in the order of the names, and that of `member_tool`, which
-/// is of the same command, on each member of one that is an archive. The answer tells whether
-/// something was refused.
+/// is of the same command and reads sections where `tool` does, on each member of one that is an
+/// archive. The answer tells whether something was refused.
 pub fn each_object<T: ObjectTool, F: Files, O: Sink, E: Sink>(
     alloc: Global,
     tool: &T,
@@ -60,7 +61,8 @@ pub fn each_object<T: ObjectTool, F: Files, O: Sink, E: Sink>(
     files: &mut F,
     outputs: &mut Outputs<'_, O, E>,
 ) -> Result<bool, Stop>
-    requires { T.command member_tool.now ≡ T.command tool.now }
+    requires command { T.command member_tool.now ≡ T.command tool.now }
+    requires reads { T.reads member_tool.now ≡ T.reads tool.now }
     ensures does { IsTrue (F.tells files.old) → Does F.Files O.Sink E.Sink refused_status
         (objects_outcome (T.command tool.now) (T.report tool.now) (T.report member_tool.now)
         (T.reads tool.now) names.now (F.named files.old))

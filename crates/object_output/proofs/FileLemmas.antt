@@ -1,18 +1,16 @@
 -- A file that is an image or an archive, by its kind.
-use Rattle.std.proofs.Common.{◌≡◌, ◌≢◌, ◌+◌, ◌≤◌, ℕ, Bool, List, Option, Some, None, Result, Ok, Err, IfSome, OnOk, refl, subst, arith}
+use Rattle.std.proofs.Common.{◌≡◌, ◌≢◌, ◌+◌, ◌≤◌, ℕ, Bool, List, Option, None, Result, Ok, Err, IfSome, OnOk, refl, arith}
 use Rattle.elf_types.specs.declared.errors.ElfError.{ElfError}
 use Rattle.elf_types.specs.Answers.{Follows}
 use Rattle.elf_ident.specs.declared.file_kinds.FileKind.{FileKind}
 use Rattle.elf_ident.specs.declared.file_kinds.FileKind.TheVariants.{Archive, Elf, Other}
 use Rattle.elf_ident.specs.FileKinds.{file_kind}
-use Rattle.ar_members.proofs.Told.{told_then}
+use Rattle.ar_members.proofs.Told.{told_by, told_then, told_both, told_as}
 use Rattle.tool_output.specs.declared.stops.Stop.{Stop}
 use Rattle.tool_output.specs.Stops.{stop_of}
 use Rattle.tool_output.specs.Names.{Name}
-use Rattle.tool_output.specs.Files.{IsWithin}
 use Rattle.tool_output.specs.Reports.{Report}
 use Rattle.tool_output.proofs.SourceLemmas.{stated_error}
-use Rattle.object_output.specs.Images.{image_asks}
 use Rattle.object_output.specs.Files.{report_by, file_report, asks_by, file_asks}
 use Rattle.object_output.proofs.ImageLemmas.{kind_is}
 
@@ -47,44 +45,32 @@ kind_is_told holds whole refused d kind =
 
 -- ---- What is asked for
 
--- of a file that is no archive the kind takes eight bytes
-by_kind_within : (reads : Bool) (k : FileKind) (bytes : List ℕ) (a b c : ℕ) → k ≢ Archive
-    → b ≤ a + 8 → c ≤ b + image_asks reads bytes → IsWithin (asks_by reads k bytes) a c
-by_kind_within reads Archive bytes a b c other h k = absurd (other refl)
-by_kind_within reads Elf bytes a b c other h k = omega (arith, h, k)
-by_kind_within reads Other bytes a b c other h k = omega (arith, h, k)
+module _ (of_image of_archive : List ℕ → ℕ) (holds : Option (List ℕ)) where
+  -- the kind takes eight bytes, and then what is asked for by it
+  pub file_within : (r : Result Bool Stop) (now : Option (List ℕ)) (k : FileKind) (a b c : ℕ)
+      → now ≡ holds
+      → IfSome holds (λ bytes. Follows (Ok k) (Ok (file_kind bytes))) → b ≤ a + 8
+      → OnOk r (IfSome now (λ bytes. c ≤ b + asks_by of_image of_archive k bytes))
+      → OnOk r (IfSome holds (λ bytes. c ≤ a + file_asks of_image of_archive bytes))
+  unfolding file_asks
+  file_within (Err stop) now k a b c same kind h l = tt
+  file_within (Ok x) now k a b c same kind h l =
+      told_both (λ bytes. Follows (Ok k) (Ok (file_kind bytes)))
+      (λ bytes. c ≤ b + asks_by of_image of_archive k bytes) holds kind
+      (told_as (λ bytes. c ≤ b + asks_by of_image of_archive k bytes) holds now same l)
+      (λ bytes is within. rw (kind_is (file_kind bytes) k is)
+      (behind (asks_by of_image of_archive k bytes) within))
+    where
+      behind : (n : ℕ) → c ≤ b + n → c ≤ a + (8 + n)
+      behind n within = omega (arith, h, within)
 
-pub file_within : (reads : Bool) (r : Result Bool Stop) (holds left : Option (List ℕ)) (k : FileKind)
-    (a b c : ℕ) → left ≡ holds → IfSome holds (λ bytes. Follows (Ok k) (Ok (file_kind bytes)))
-    → k ≢ Archive → b ≤ a + 8 → OnOk r (IfSome left (λ bytes. c ≤ b + image_asks reads bytes))
-    → OnOk r (IfSome holds (λ bytes. IsWithin (file_asks reads bytes) a c))
-unfolding file_asks
-file_within reads (Err stop) holds left k a b c same kind other h l = tt
-file_within reads (Ok x) None left k a b c same kind other h l = tt
-file_within reads (Ok x) (Some bytes) left k a b c same kind other h l =
-    rw (kind_is (file_kind bytes) k kind)
-    (by_kind_within reads k bytes a b c other h
-    (subst (λ (o : Option (List ℕ)). IfSome o (λ i. c ≤ b + image_asks reads i)) same l))
-
--- nothing is promised of an archive
-pub archive_within : (reads : Bool) (r : Result Bool Stop) (holds : Option (List ℕ)) (a b : ℕ)
-    → IfSome holds (λ bytes. Follows (Ok Archive) (Ok (file_kind bytes)))
-    → OnOk r (IfSome holds (λ bytes. IsWithin (file_asks reads bytes) a b))
-unfolding file_asks
-archive_within reads (Err stop) holds a b kind = tt
-archive_within reads (Ok x) None a b kind = tt
-archive_within reads (Ok x) (Some bytes) a b kind = rw (kind_is (file_kind bytes) Archive kind) tt
-
--- and the kind alone is within either
-kind_alone : (reads : Bool) (k : FileKind) (bytes : List ℕ) (a b : ℕ) → b ≤ a + 8
-    → IsWithin (asks_by reads k bytes) a b
-kind_alone reads Archive bytes a b h = tt
-kind_alone reads Elf bytes a b h = omega (arith, h)
-kind_alone reads Other bytes a b h = omega (arith, h)
-
-pub unread_within : (reads : Bool) (r : Result Bool Stop) (holds : Option (List ℕ)) (a b : ℕ)
-    → b ≤ a + 8 → OnOk r (IfSome holds (λ bytes. IsWithin (file_asks reads bytes) a b))
-unfolding file_asks
-unread_within reads (Err stop) holds a b h = tt
-unread_within reads (Ok x) None a b h = tt
-unread_within reads (Ok x) (Some bytes) a b h = kind_alone reads (file_kind bytes) bytes a b h
+  -- or that is all
+  pub unread_within : (r : Result Bool Stop) (a b : ℕ) → b ≤ a + 8
+      → OnOk r (IfSome holds (λ bytes. b ≤ a + file_asks of_image of_archive bytes))
+  unfolding file_asks
+  unread_within (Err stop) a b h = tt
+  unread_within (Ok x) a b h = told_by holds
+      (λ bytes there. alone (asks_by of_image of_archive (file_kind bytes) bytes))
+    where
+      alone : (n : ℕ) → b ≤ a + (8 + n)
+      alone n = omega (arith, h)

@@ -4,6 +4,7 @@ pub mod FileLemmas
 pub mod ImageLemmas
 pub mod LearnLemmas
 pub mod ListCounts
+pub mod MemberAsked
 pub mod MemberLemmas
 pub mod NameLemmas
 pub mod ObtainLemmas

@@ -55,7 +55,8 @@ module _ (report : Name → List ℕ → Report) (file : List ℕ) (header : ArH
       never h = cc
 
 -- what is said of a range of bytes is said of the bytes
-of_range : (P : List ℕ → Type 0) (at len : ℕ) (holds : Option (List ℕ)) → IfSome (range_of at len holds) P → IfSome holds (λ bytes. P (take len (drop at bytes)))
+pub of_range : (P : List ℕ → Type 0) (at len : ℕ) (holds : Option (List ℕ))
+    → IfSome (range_of at len holds) P → IfSome holds (λ bytes. P (take len (drop at bytes)))
 of_range P at len None h = tt
 of_range P at len (Some bytes) h = h
 

@@ -1,17 +1,20 @@
 -- What a tool says of an archive: of each member, in their order, what it says of an image, and why
--- the archive is refused, if it is.
-use Rattle.std.specs.Prelude.{ℕ, List, take, drop, Option, Some, None, Result, Ok, Err}
+-- the archive is refused, if it is. How many bytes it asks for.
+use Rattle.std.specs.Prelude.{ℕ, ◌+◌, Bool, List, take, drop, Option, Some, None, Result, Ok, Err}
+use Rattle.std.specs.List.{sum_by}
 use Rattle.elf_types.specs.declared.errors.ElfError.{ElfError}
 use Rattle.elf_types.specs.declared.errors.ElfError.TheVariants.{BadMember}
 use Rattle.elf_types.specs.Answers.{answered}
 use Rattle.elf_types.specs.Text.{error_text}
 use Rattle.ar_members.specs.declared.headers.ArHdr.{ArHdr}
+use Rattle.ar_members.specs.declared.headers.TheConstants.{HEADER_LEN, FIRST}
+use Rattle.ar_members.specs.Archives.{Walk, first_walk, members_left, left_due}
 use Rattle.ar_members.specs.Magic.{archive_refusal}
 use Rattle.ar_members.specs.Members.{Members, members}
 use Rattle.elf_object.specs.Object.{Object}
 use Rattle.tool_output.specs.Names.{Name, file_name, member_name}
 use Rattle.tool_output.specs.Reports.{Report, no_report, refusal, joined, reports_of}
-use Rattle.object_output.specs.Images.{image_report}
+use Rattle.object_output.specs.Images.{image_report, image_asks}
 
 -- the bytes of the member of a header
 abbrev pub member_bytes : List ℕ → ArHdr → List ℕ
@@ -50,3 +53,19 @@ walk_report command report file archive (Err e) =
 unfoldable pub archive_report : List ℕ → (Name → Object → Report) → Name → List ℕ → Report
 archive_report command report name archive =
     walk_report command (image_report command report) name.file archive (archive_members archive)
+
+-- ---- How many bytes are asked for at most
+
+-- for a member: its header once more, and then what is asked for of an image, which it need not be
+abbrev pub member_asks : Bool → List ℕ → ArHdr → ℕ
+member_asks reads archive header = HEADER_LEN + image_asks reads (member_bytes archive header)
+
+-- for what is left of an archive: what the walk over it asks for, each header and the tables of
+-- long names, and what is asked for its members
+abbrev pub left_asks : Bool → List ℕ → Walk → ℕ
+left_asks reads archive walk =
+    left_due archive walk + sum_by (member_asks reads archive) (members_left archive walk).list
+
+-- for an archive: its first line, and all that is behind it
+unfoldable pub archive_asks : Bool → List ℕ → ℕ
+archive_asks reads archive = FIRST + left_asks reads archive first_walk

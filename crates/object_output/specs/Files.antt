@@ -1,11 +1,10 @@
 -- What a tool says of a file, an image or an archive by its first bytes.
-use Rattle.std.specs.Prelude.{ℕ, ◌+◌, Bool, List, Option, Some, None}
+use Rattle.std.specs.Prelude.{ℕ, ◌+◌, List}
 use Rattle.elf_ident.specs.declared.file_kinds.FileKind.{FileKind}
 use Rattle.elf_ident.specs.declared.file_kinds.FileKind.TheVariants.{Archive, Elf, Other}
 use Rattle.elf_ident.specs.FileKinds.{file_kind}
 use Rattle.tool_output.specs.Names.{Name}
 use Rattle.tool_output.specs.Reports.{Report}
-use Rattle.object_output.specs.Images.{image_asks}
 
 -- by what is said of an image, and of an archive; what begins as neither is taken as an image
 abbrev pub report_by : (Name → List ℕ → Report) → (Name → List ℕ → Report) → FileKind → Name
@@ -19,12 +18,12 @@ unfoldable pub file_report : (Name → List ℕ → Report) → (Name → List �
 file_report of_image of_archive name bytes =
     report_by of_image of_archive (file_kind bytes) name bytes
 
--- How many bytes it asks for at most, where that is promised: of an image the kind takes eight, and
--- the rest what is stated of it. Of an archive nothing is promised.
-abbrev pub asks_by : Bool → FileKind → List ℕ → Option ℕ
-asks_by reads Archive bytes = None
-asks_by reads Elf bytes = Some (8 + image_asks reads bytes)
-asks_by reads Other bytes = Some (8 + image_asks reads bytes)
+-- how many bytes are asked for at most: eight for the kind, and then what is asked for of an image,
+-- or of an archive
+abbrev pub asks_by : (List ℕ → ℕ) → (List ℕ → ℕ) → FileKind → List ℕ → ℕ
+asks_by of_image of_archive Archive bytes = of_archive bytes
+asks_by of_image of_archive Elf bytes = of_image bytes
+asks_by of_image of_archive Other bytes = of_image bytes
 
-unfoldable pub file_asks : Bool → List ℕ → Option ℕ
-file_asks reads bytes = asks_by reads (file_kind bytes) bytes
+unfoldable pub file_asks : (List ℕ → ℕ) → (List ℕ → ℕ) → List ℕ → ℕ
+file_asks of_image of_archive bytes = 8 + asks_by of_image of_archive (file_kind bytes) bytes

@@ -1,12 +1,13 @@
 //! The members of an archive, one after another, each given to a tool as an image.
 
-ghost use Rattle.std.specs.Prelude.{◌≡◌, IfSome};
+ghost use Rattle.std.specs.Prelude.{◌≡◌, ◌≤◌, ◌+◌, IfSome, OnOk};
 ghost use Rattle.ar_members.specs.Archives.{members_left};
 ghost use Rattle.ar_members.specs.Headers.{HasBody};
 ghost use Rattle.tool_output.specs.Names.{file_name};
 ghost use Rattle.tool_output.specs.Sources.{ReportsOn};
 ghost use Rattle.object_output.specs.Images.{image_report};
 ghost use Rattle.object_output.specs.Archives.{member_report, members_report, archive_report};
+ghost use Rattle.object_output.specs.Archives.{member_asks, left_asks, archive_asks};
 
 use crate::images::show_image;
 use crate::tools::{ObjectTool, refuse};
@@ -16,7 +17,8 @@ use std::alloc::Global;
 use tool_output::{FileName, Outputs, Stop};
 
 /// Gives a tool's report on a member of an archive, under `LIB[MEMBER]`, and hands the archive back
-/// with its walk as it stood. Of the member's body no more is read than the tool asks for.
+/// with its walk as it stood. It reads the header once more, and of the member's body no more than
+/// the tool asks for.
 fn show_member<T: ObjectTool, S: Source, O: Sink, E: Sink>(
     alloc: Global,
     tool: &T,
@@ -31,6 +33,9 @@ fn show_member<T: ObjectTool, S: Source, O: Sink, E: Sink>(
         file.now bytes header.now)
         result.1 archive.source result.0.source outputs.old outputs.new }
     ensures walk { result.0.walk ≡ archive.walk }
+    ensures asks { OnOk result.1 (IfSome (S.holds archive.source) (λ bytes.
+        S.taken result.0.source
+        ≤ S.taken archive.source + member_asks (T.reads tool.now) bytes header.now)) }
 {
     let name = FileName::of_member(file, header.name.as_slice());
     match archive.member(header.at) {
@@ -54,11 +59,14 @@ fn show_members<T: ObjectTool, S: Source, O: Sink, E: Sink>(
     file: &[u8],
     outputs: &mut Outputs<'_, O, E>,
 ) -> (Ar<S>, Result<bool, Stop>)
-    ensures { ReportsOn S.Source O.Sink E.Sink
+    ensures reports { ReportsOn S.Source O.Sink E.Sink
         (λ bytes. members_report (T.command tool.now)
         (image_report (T.command tool.now) (T.report tool.now))
         file.now bytes (members_left bytes archive.walk))
         result.1 archive.source result.0.source outputs.old outputs.new }
+    ensures asks { OnOk result.1 (IfSome (S.holds archive.source) (λ bytes.
+        S.taken result.0.source
+        ≤ S.taken archive.source + left_asks (T.reads tool.now) bytes archive.walk)) }
 {
     let mut refused = false;
     loop {
@@ -82,9 +90,10 @@ fn show_members<T: ObjectTool, S: Source, O: Sink, E: Sink>(
 
 /// Gives a tool's report on what an archive holds, and hands the source back. Each member has the
 /// report on an image under `LIB[MEMBER]`, or the message that says why it is none, and the walk
-/// goes on; a bad header ends it, with its message. One member is held at a time, and of its body
-/// no more is read than the tool asks for. It stops by `Read` only where a read of the source
-/// failed.
+/// goes on; a bad header ends it, with its message. One member is held at a time. No more is asked
+/// for than the first line, each header and the tables of long names, and for each member its
+/// header once more and what is asked for of an image. It stops by `Read` only where a read of the
+/// source failed.
 ///
 /// Source: ar.h, and the archive format of System V and GNU; gABI chapter 7, "Archive File".
 pub fn show_archive<T: ObjectTool, S: Source, O: Sink, E: Sink>(
@@ -94,9 +103,11 @@ pub fn show_archive<T: ObjectTool, S: Source, O: Sink, E: Sink>(
     file: &[u8],
     outputs: &mut Outputs<'_, O, E>,
 ) -> (S, Result<bool, Stop>)
-    ensures { ReportsOn S.Source O.Sink E.Sink
+    ensures reports { ReportsOn S.Source O.Sink E.Sink
         (archive_report (T.command tool.now) (T.report tool.now) (file_name file.now))
         result.1 src result.0 outputs.old outputs.new }
+    ensures asks { OnOk result.1 (IfSome (S.holds src) (λ bytes.
+        S.taken result.0 ≤ S.taken src + archive_asks (T.reads tool.now) bytes)) }
 {
     match Ar::begin(alloc, src) {
         Ok(archive) => {

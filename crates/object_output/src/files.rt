@@ -1,11 +1,10 @@
 //! A file, which is an image or an archive of them.
 
-ghost use Rattle.std.specs.Prelude.{IfSome, OnOk};
+ghost use Rattle.std.specs.Prelude.{◌≤◌, ◌+◌, IfSome, OnOk};
 ghost use Rattle.tool_output.specs.Names.{file_name};
 ghost use Rattle.tool_output.specs.Sources.{ReportsOn};
-ghost use Rattle.tool_output.specs.Files.{IsWithin};
-ghost use Rattle.object_output.specs.Images.{image_report};
-ghost use Rattle.object_output.specs.Archives.{archive_report};
+ghost use Rattle.object_output.specs.Images.{image_report, image_asks};
+ghost use Rattle.object_output.specs.Archives.{archive_report, archive_asks};
 ghost use Rattle.object_output.specs.Files.{file_report, file_asks};
 
 use crate::archives::show_archive;
@@ -18,7 +17,8 @@ use tool_output::{FileName, Outputs, Stop};
 
 /// Gives a tool's report on what a file holds, under its name, and hands the source back. An
 /// archive, by its first eight bytes, has the report of `member_tool` on each member; anything else
-/// is taken as an image. It stops by `Read` only where a read of the source failed.
+/// is taken as an image. It asks for eight bytes for the kind, and then for what an archive or an
+/// image is asked for. It stops by `Read` only where a read of the source failed.
 pub fn show_file<T: ObjectTool, S: Source, O: Sink, E: Sink>(
     alloc: Global,
     tool: &T,
@@ -33,7 +33,8 @@ pub fn show_file<T: ObjectTool, S: Source, O: Sink, E: Sink>(
         (file_name file.now))
         result.1 src result.0 outputs.old outputs.new }
     ensures asks { OnOk result.1 (IfSome (S.holds src) (λ bytes.
-        IsWithin (file_asks (T.reads tool.now) bytes) (S.taken src) (S.taken result.0))) }
+        S.taken result.0 ≤ S.taken src + file_asks
+        (image_asks (T.reads tool.now)) (archive_asks (T.reads member_tool.now)) bytes)) }
 {
     let name = FileName::of(file);
     match kind_of_source(&mut src) {

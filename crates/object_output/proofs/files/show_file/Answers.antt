@@ -1,10 +1,11 @@
+use Rattle.elf_ident.specs.declared.file_kinds.FileKind.TheVariants.{Archive, Elf, Other}
 use Rattle.tool_output.specs.Names.{file_name}
 use Rattle.tool_output.proofs.SourceLemmas.{refuses_after}
-use Rattle.object_output.specs.Images.{image_report}
-use Rattle.object_output.specs.Archives.{archive_report}
+use Rattle.object_output.specs.Images.{image_report, image_asks}
+use Rattle.object_output.specs.Archives.{archive_report, archive_asks}
 use Rattle.object_output.proofs.SourceSteps.{after_call}
 use Rattle.object_output.proofs.ImageLemmas.{elf_is_no_archive, other_is_no_archive}
-use Rattle.object_output.proofs.FileLemmas.{file_is_archive, file_is_image, kind_is_told, archive_within, file_within, unread_within}
+use Rattle.object_output.proofs.FileLemmas.{file_is_archive, file_is_image, kind_is_told, file_within, unread_within}
 use Rattle.object_output.proofs.files.show_file.Goals as goal
 
 pub returns-in-Ok-Archive-clause-reports : goal.returns-in-Ok-Archive-clause-reports
@@ -14,11 +15,17 @@ returns-in-Ok-Archive-clause-reports g c =
     let of_archive = archive_report (t.command c.args.member_tool.now) (t.report c.args.member_tool.now) in
     after_call g.S.Source g.O.Sink g.E.Sink _ _ _ _ _ c.args.src _ _ c.args.outputs.now _ c.in-Ok-Archive.ensures.asks
     (file_is_archive of_image of_archive (file_name c.args.file.now) (g.S.Source.holds c.args.src) (rw c.in-Ok-Archive.field-0-is at c.in-Ok-Archive.ensures.kind))
-    c.show_archive.ensures
+    c.show_archive.ensures.reports
 
 pub returns-in-Ok-Archive-clause-asks : goal.returns-in-Ok-Archive-clause-asks
 returns-in-Ok-Archive-clause-asks g c =
-    archive_within (g.T.ObjectTool.reads c.args.tool.now) _ (g.S.Source.holds c.args.src) _ _ (rw c.in-Ok-Archive.field-0-is at c.in-Ok-Archive.ensures.kind)
+    let tool = g.T.ObjectTool in
+    let asks = c.in-Ok-Archive.ensures.asks in
+    file_within (image_asks (tool.reads c.args.tool.now))
+    (archive_asks (tool.reads c.args.member_tool.now)) (g.S.Source.holds c.args.src)
+    _ _ Archive _ _ _ asks.leaves.same_bytes
+    (rw c.in-Ok-Archive.field-0-is at c.in-Ok-Archive.ensures.kind) asks.taken.no_more
+    c.show_archive.ensures.asks
 
 pub returns-in-Ok-Elf-clause-reports : goal.returns-in-Ok-Elf-clause-reports
 returns-in-Ok-Elf-clause-reports g c =
@@ -31,9 +38,13 @@ returns-in-Ok-Elf-clause-reports g c =
 
 pub returns-in-Ok-Elf-clause-asks : goal.returns-in-Ok-Elf-clause-asks
 returns-in-Ok-Elf-clause-asks g c =
+    let tool = g.T.ObjectTool in
     let asks = c.in-Ok-Elf.ensures.asks in
-    file_within (g.T.ObjectTool.reads c.args.tool.now) _ (g.S.Source.holds c.args.src) _ _ _ _ _ asks.leaves.same_bytes
-    (rw c.in-Ok-Elf.field-0-is at c.in-Ok-Elf.ensures.kind) elf_is_no_archive asks.taken.no_more c.show_image.ensures.asks
+    file_within (image_asks (tool.reads c.args.tool.now))
+    (archive_asks (tool.reads c.args.member_tool.now)) (g.S.Source.holds c.args.src)
+    _ _ Elf _ _ _ asks.leaves.same_bytes
+    (rw c.in-Ok-Elf.field-0-is at c.in-Ok-Elf.ensures.kind) asks.taken.no_more
+    c.show_image.ensures.asks
 
 pub returns-in-Ok-Other-clause-reports : goal.returns-in-Ok-Other-clause-reports
 returns-in-Ok-Other-clause-reports g c =
@@ -46,9 +57,13 @@ returns-in-Ok-Other-clause-reports g c =
 
 pub returns-in-Ok-Other-clause-asks : goal.returns-in-Ok-Other-clause-asks
 returns-in-Ok-Other-clause-asks g c =
+    let tool = g.T.ObjectTool in
     let asks = c.in-Ok-Other.ensures.asks in
-    file_within (g.T.ObjectTool.reads c.args.tool.now) _ (g.S.Source.holds c.args.src) _ _ _ _ _ asks.leaves.same_bytes
-    (rw c.in-Ok-Other.field-0-is at c.in-Ok-Other.ensures.kind) other_is_no_archive asks.taken.no_more c.show_image-in-Ok-Other.ensures.asks
+    file_within (image_asks (tool.reads c.args.tool.now))
+    (archive_asks (tool.reads c.args.member_tool.now)) (g.S.Source.holds c.args.src)
+    _ _ Other _ _ _ asks.leaves.same_bytes
+    (rw c.in-Ok-Other.field-0-is at c.in-Ok-Other.ensures.kind) asks.taken.no_more
+    c.show_image-in-Ok-Other.ensures.asks
 
 pub returns-in-Err-clause-reports : goal.returns-in-Err-clause-reports
 returns-in-Err-clause-reports g c =
@@ -58,4 +73,7 @@ returns-in-Err-clause-reports g c =
 
 pub returns-in-Err-clause-asks : goal.returns-in-Err-clause-asks
 returns-in-Err-clause-asks g c =
-    unread_within (g.T.ObjectTool.reads c.args.tool.now) _ (g.S.Source.holds c.args.src) _ _ c.in-Err.ensures.asks.taken.no_more
+    let tool = g.T.ObjectTool in
+    unread_within (image_asks (tool.reads c.args.tool.now))
+    (archive_asks (tool.reads c.args.member_tool.now)) (g.S.Source.holds c.args.src) _ _ _
+    c.in-Err.ensures.asks.taken.no_more

@@ -13,3 +13,8 @@ returns-in-Ok-clause-bodies g c =
     let Left = λ (image : List ℕ). next_of (members_from image names place) ≡ Ok (found_left image names found) in
     told_then Left _ (told_as Left _ _ (ap (λ a. g.S.Source.holds a.source) c.self.view_is) c.in-Ok.ensures.members)
     (λ image is. found_has_body image names place found.member _ is)
+
+pub returns-in-Ok-clause-left : goal.returns-in-Ok-clause-left
+returns-in-Ok-clause-left g c =
+    rw (← c.self.view_is) (rw (c.if-self.false, c.unwrap_or.ensures, c.replace-before.ensures.value)
+    (rw c.as_slice.ensures at c.in-Ok.ensures.left))

@@ -1,0 +1,199 @@
+-- How many bytes are asked for while the members of an archive are reported on one after another.
+use Rattle.std.proofs.Common.{◌≡◌, ◌+◌, ◌≤◌, ℕ, Bool, true, false, cond, leb, List, [], ◌∷◌, take, drop, Option, Some, None, Result, Ok, Err, IfSome, OnOk, refl, sym, ap, ◌∙◌, arith}
+use Rattle.std.specs.List.{sum_by}
+use Rattle.std.proofs.lemmas.List.Sums.{sum_by-cons}
+use Rattle.elf_types.specs.declared.errors.ElfError.{ElfError}
+use Rattle.elf_outside.specs.Windows.{range_of}
+use Rattle.ar_members.specs.declared.headers.ArHdr.{ArHdr}
+use Rattle.ar_members.specs.Headers.{header_asks, member_at, HasBody}
+use Rattle.ar_members.specs.Members.{Members, next_among, next_of}
+use Rattle.ar_members.specs.Archives.{Walk, first_walk, members_left, next_due, left_due}
+use Rattle.ar_members.proofs.EntryLemmas.{due_begins}
+use Rattle.ar_members.proofs.Told.{told_by, told_then, told_both, told_as}
+use Rattle.tool_output.specs.declared.stops.Stop.{Stop}
+use Rattle.object_output.specs.Images.{image_asks}
+use Rattle.object_output.specs.Archives.{member_bytes, member_asks, left_asks, archive_asks}
+use Rattle.object_output.proofs.MemberLemmas.{of_range}
+
+-- ---- A member
+
+header_most : (len at : ℕ) → header_asks len at ≤ 60
+header_most len at = by_test (leb (at + 60) len)
+  where
+    by_test : (b : Bool) → cond b 60 0 ≤ 60
+    by_test true = omega arith
+    by_test false = omega arith
+
+-- what a call of the archive answered of the member at a place
+abbrev asks_at : Bool → List ℕ → Result (ℕ × ℕ) ElfError → ℕ
+asks_at reads bytes (Ok place) = image_asks reads (take place.1 (drop place.0 bytes))
+asks_at reads bytes (Err e) = 0
+
+module _ (reads : Bool) (header : ArHdr) (holds : Option (List ℕ)) (size a b : ℕ)
+    (look : b ≤ a + header_asks size header.at) where
+  behind : (n c m : ℕ) → m ≡ n → c ≤ b + n → c ≤ a + (60 + m)
+  behind n c m same h = let most = header_most size header.at in omega (arith, look, most, same, h)
+
+  -- its header is read once more, and then what is asked for of its body
+  pub member_within : (r : Result Bool Stop) (now : Option (List ℕ)) (at len c : ℕ) → now ≡ holds
+      → IfSome holds (λ bytes. HasBody bytes header)
+      → IfSome holds (λ bytes. member_at bytes header.at ≡ Ok (at, len))
+      → OnOk r (IfSome (range_of at len now) (λ image. c ≤ b + image_asks reads image))
+      → OnOk r (IfSome holds (λ bytes. c ≤ a + member_asks reads bytes header))
+  member_within (Err stop) now at len c same there given asked = tt
+  member_within (Ok x) now at len c same there given asked =
+      told_both (λ bytes. image_asks reads (member_bytes bytes header)
+      ≡ image_asks reads (take len (drop at bytes)))
+      (λ bytes. c ≤ b + image_asks reads (take len (drop at bytes))) holds
+      (told_both (λ bytes. HasBody bytes header) (λ bytes. member_at bytes header.at ≡ Ok (at, len))
+      holds there given (λ bytes body is. ap (asks_at reads bytes) (sym body ∙ is)))
+      (told_as (λ bytes. c ≤ b + image_asks reads (take len (drop at bytes))) holds now same
+      (of_range (λ image. c ≤ b + image_asks reads image) at len now asked))
+      (λ bytes is within. behind (image_asks reads (take len (drop at bytes))) c
+      (image_asks reads (member_bytes bytes header)) is within)
+
+  -- or that was all
+  pub member_unread : (r : Result Bool Stop)
+      → OnOk r (IfSome holds (λ bytes. b ≤ a + member_asks reads bytes header))
+  member_unread (Err stop) = tt
+  member_unread (Ok x) = told_by holds
+      (λ bytes there. behind (image_asks reads (member_bytes bytes header)) b
+      (image_asks reads (member_bytes bytes header)) refl (omega arith))
+
+-- ---- What is left of the members
+
+-- the members of an answer, and those after it
+abbrev members_in : Result (Option ArHdr × Members) ElfError → List ArHdr
+members_in (Ok (Some header, rest)) = header ∷ rest.list
+members_in (Ok (None, rest)) = []
+members_in (Err e) = []
+
+in_next : (list : List ArHdr) (bad : Option ℕ) → list ≡ members_in (next_among list bad)
+in_next [] None = refl
+in_next [] (Some at) = refl
+in_next (header ∷ list) bad = refl
+
+list_is : (left : Members) (answer : Result (Option ArHdr × Members) ElfError)
+    → next_of left ≡ answer → left.list ≡ members_in answer
+list_is left answer is = in_next left.list left.bad ∙ ap members_in is
+
+module _ (reads : Bool) (bytes : List ℕ) where
+  -- they are the next one, and those after it
+  left_by : (old new : Walk) (header : ArHdr)
+      → next_of (members_left bytes old) ≡ Ok (Some header, members_left bytes new)
+      → sum_by (member_asks reads bytes) (members_left bytes old).list
+      ≡ member_asks reads bytes header + sum_by (member_asks reads bytes) (members_left bytes new).list
+  left_by old new header is =
+      ap (sum_by (member_asks reads bytes))
+      (list_is (members_left bytes old) (Ok (Some header, members_left bytes new)) is)
+      ∙ sum_by-cons (member_asks reads bytes) header (members_left bytes new).list
+
+  -- the walk to the next member is within what is left
+  next_within : (walk : Walk) → next_due bytes walk ≤ left_due bytes walk
+  next_within walk = by_test walk.stopped _ _ (due_begins bytes walk.names walk.place)
+    where
+      by_test : (b : Bool) (x y : ℕ) → x ≤ y → cond b 0 x ≤ cond b 0 y
+      by_test true x y h = omega arith
+      by_test false x y h = h
+
+-- nothing was asked for yet
+pub asked_begins : (reads : Bool) (holds : Option (List ℕ)) (walk : Walk) (a : ℕ)
+    → IfSome holds (λ bytes. a + left_asks reads bytes walk ≤ a + left_asks reads bytes walk)
+asked_begins reads holds walk a = told_by holds
+    (λ bytes there. same (a + left_asks reads bytes walk))
+  where
+    same : (n : ℕ) → n ≤ n
+    same n = omega arith
+
+-- a step on plain numbers: `w` is the whole bound, of which the walk may still ask for `u` and then
+-- `v`, and the members for `s`, of which the next one has `m`
+step_within : (w b c d u v s m t : ℕ) → b + (u + s) ≤ w → s ≡ m + t → c + v ≤ b + u → d ≤ c + m
+    → d + (v + t) ≤ w
+step_within w b c d u v s m t whole is walked shown = omega (arith, whole, is, walked, shown)
+
+last_within : (w b c u v s : ℕ) → b + (u + s) ≤ w → c + v ≤ b + u → c ≤ w
+last_within w b c u v s whole walked = omega (arith, whole, walked)
+
+due_within : (w b c u v s : ℕ) → b + (u + s) ≤ w → v ≤ u → c ≤ b + v → c ≤ w
+due_within w b c u v s whole less walked = omega (arith, whole, less, walked)
+
+module _ (reads : Bool) (holds now : Option (List ℕ)) (same : now ≡ holds) (first old : Walk)
+    (a b : ℕ) (asked : IfSome holds (λ bytes.
+    b + left_asks reads bytes old ≤ a + left_asks reads bytes first)) where
+  -- a member is next, and was reported on
+  pub asked_goes_on : (after : Option (List ℕ)) (new : Walk) (header : ArHdr) (c d : ℕ)
+      → after ≡ now
+      → IfSome now (λ bytes. next_of (members_left bytes old)
+      ≡ Ok (Some header, members_left bytes new))
+      → IfSome now (λ bytes. c + left_due bytes new ≤ b + left_due bytes old)
+      → IfSome after (λ bytes. d ≤ c + member_asks reads bytes header)
+      → IfSome holds (λ bytes. d + left_asks reads bytes new ≤ a + left_asks reads bytes first)
+  asked_goes_on after new header c d still next walked shown =
+      let Next = λ (bytes : List ℕ). next_of (members_left bytes old)
+      ≡ Ok (Some header, members_left bytes new) in
+      let Walked = λ (bytes : List ℕ). c + left_due bytes new ≤ b + left_due bytes old in
+      let Shown = λ (bytes : List ℕ). d ≤ c + member_asks reads bytes header in
+      told_both (λ bytes. b + left_asks reads bytes old ≤ a + left_asks reads bytes first)
+      (λ bytes. Next bytes × (Walked bytes × Shown bytes)) holds asked
+      (told_as (λ bytes. Next bytes × (Walked bytes × Shown bytes)) holds now same
+      (told_both Next (λ bytes. Walked bytes × Shown bytes) now next
+      (told_both Walked Shown now walked (told_as Shown now after still shown)
+      (λ bytes w s. (w, s)))
+      (λ bytes n both. (n, both))))
+      (λ bytes whole each.
+      step_within (a + left_asks reads bytes first) b c d (left_due bytes old) (left_due bytes new)
+      (sum_by (member_asks reads bytes) (members_left bytes old).list)
+      (member_asks reads bytes header)
+      (sum_by (member_asks reads bytes) (members_left bytes new).list)
+      whole (left_by reads bytes old new header each.0) each.1.0 each.1.1)
+
+  -- none is left
+  pub asked_ends : (new : Walk) (c : ℕ)
+      → IfSome now (λ bytes. c + left_due bytes new ≤ b + left_due bytes old)
+      → IfSome holds (λ bytes. c ≤ a + left_asks reads bytes first)
+  asked_ends new c walked =
+      told_both (λ bytes. b + left_asks reads bytes old ≤ a + left_asks reads bytes first)
+      (λ bytes. c + left_due bytes new ≤ b + left_due bytes old) holds asked
+      (told_as (λ bytes. c + left_due bytes new ≤ b + left_due bytes old) holds now same walked)
+      (λ bytes whole walked.
+      last_within (a + left_asks reads bytes first) b c (left_due bytes old) (left_due bytes new)
+      (sum_by (member_asks reads bytes) (members_left bytes old).list) whole walked)
+
+  -- or the walk was refused
+  pub asked_breaks : (c : ℕ) → IfSome now (λ bytes. c ≤ b + next_due bytes old)
+      → IfSome holds (λ bytes. c ≤ a + left_asks reads bytes first)
+  asked_breaks c walked =
+      told_both (λ bytes. b + left_asks reads bytes old ≤ a + left_asks reads bytes first)
+      (λ bytes. c ≤ b + next_due bytes old) holds asked
+      (told_as (λ bytes. c ≤ b + next_due bytes old) holds now same walked)
+      (λ bytes whole walked.
+      due_within (a + left_asks reads bytes first) b c (left_due bytes old) (next_due bytes old)
+      (sum_by (member_asks reads bytes) (members_left bytes old).list)
+      whole (next_within reads bytes old) walked)
+
+-- ---- An archive
+
+module _ (reads : Bool) (holds : Option (List ℕ)) (a b : ℕ) (line : b ≤ a + 8) where
+  behind_line : (c n : ℕ) → c ≤ b + n → c ≤ a + (8 + n)
+  behind_line c n h = omega (arith, line, h)
+
+  -- its walk was begun behind its first line
+  pub archive_walked : (r : Result Bool Stop) (now : Option (List ℕ)) (walk : Walk) (c : ℕ)
+      → now ≡ holds → walk ≡ first_walk
+      → OnOk r (IfSome now (λ bytes. c ≤ b + left_asks reads bytes walk))
+      → OnOk r (IfSome holds (λ bytes. c ≤ a + archive_asks reads bytes))
+  unfolding archive_asks
+  archive_walked (Err stop) now walk c same begun asked = tt
+  archive_walked (Ok x) now walk c same begun asked =
+      told_then (λ bytes. c ≤ b + left_asks reads bytes first_walk) holds
+      (told_as (λ bytes. c ≤ b + left_asks reads bytes first_walk) holds now same
+      (rw begun at asked))
+      (λ bytes within. behind_line c (left_asks reads bytes first_walk) within)
+
+  -- or it was refused by then
+  pub archive_unwalked : (r : Result Bool Stop)
+      → OnOk r (IfSome holds (λ bytes. b ≤ a + archive_asks reads bytes))
+  unfolding archive_asks
+  archive_unwalked (Err stop) = tt
+  archive_unwalked (Ok x) = told_by holds
+      (λ bytes there. behind_line b (left_asks reads bytes first_walk) (omega arith))
