@@ -11,6 +11,6 @@ pub use objects::{
     Elflint, Lines, Nm, OwnCall, Readelf, Said, Size, asked, readelf_of, said_by, strings_of,
 };
 pub use runs::{
-    Bytes, DONE, Ending, Failing, Given, NOTHING, REFUSED, Ran, add_file, ends, numbered, refuses,
-    run_line, run_words, shows,
+    Bytes, DONE, Ending, Failing, Given, Left, NOTHING, REFUSED, Ran, add_file, ends, numbered,
+    refuses, run_leaving, run_line, run_words, shows,
 };

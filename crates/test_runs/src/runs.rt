@@ -11,6 +11,9 @@ use tool_text::Args;
 /// The room of each output, more than a test writes.
 const ROOM: u64 = 1 << 20;
 
+/// The room of each file that a run makes, more than a test writes.
+const FILE_ROOM: u64 = 1 << 12;
+
 /// How a run ends, and what it writes on both outputs.
 #[derive(Clone, Copy)]
 pub struct Ending {
@@ -60,6 +63,8 @@ impl Ran {
 pub struct Failing {
     /// The file that is not handed out.
     pub open: u64,
+    /// The write of each file that is made that fails.
+    pub write: u64,
     /// The put to standard output that fails.
     pub out: u64,
     /// The put to standard error that fails.
@@ -69,6 +74,7 @@ pub struct Failing {
 /// No call fails.
 pub const NOTHING: Failing = Failing {
     open: 0,
+    write: 0,
     out: 0,
     err: 0,
 };
@@ -140,7 +146,8 @@ fn sink(alloc: Global, failing: u64) -> Result<MemSink, ElfError> {
 /// The files that are given.
 fn files_of<G: Given>(alloc: Global, given: &G, failing: Failing) -> Result<MemFiles, ElfError> {
     let opens = numbered(alloc, failing.open)?;
-    let mut files = MemFiles::new(alloc, 0, opens, Addrs::new(alloc));
+    let writes = numbered(alloc, failing.write)?;
+    let mut files = MemFiles::new(alloc, FILE_ROOM, opens, writes);
     match given.add_to(alloc, &mut files) {
         Ok(()) => Ok(files),
         Err(e) => Err(e),
@@ -206,6 +213,50 @@ pub fn run_line<G: Given>(
 ) -> Result<Ran, ElfError> {
     let words = words_of(alloc, line)?;
     run_words(alloc, &words, given, failing)
+}
+
+/// What a run answered and wrote, and what a name held then.
+#[derive(Drop)]
+pub struct Left {
+    /// The answer and the outputs.
+    pub ran: Ran,
+    /// The bytes of the name, where it was there.
+    pub held: Option<Octets>,
+}
+
+/// The bytes of a name.
+fn held_by(alloc: Global, files: &MemFiles, name: &str) -> Result<Option<Octets>, ElfError> {
+    match files.bytes(name) {
+        Some(bytes) => match Octets::from_slice(alloc, bytes) {
+            Ok(bytes) => Ok(Some(bytes)),
+            Err(e) => Err(e),
+        },
+        None => Ok(None),
+    }
+}
+
+/// What a run left under a name.
+fn left_by(alloc: Global, ran: Ran, files: &MemFiles, name: &str) -> Result<Left, ElfError> {
+    match held_by(alloc, files, name) {
+        Ok(held) => Ok(Left { ran, held }),
+        Err(e) => Err(e),
+    }
+}
+
+/// A run of the words of a line, and what it left under a name.
+pub fn run_leaving<G: Given>(
+    alloc: Global,
+    line: &str,
+    given: &G,
+    failing: Failing,
+    name: &str,
+) -> Result<Left, ElfError> {
+    let words = words_of(alloc, line)?;
+    let mut files = files_of(alloc, given, failing)?;
+    match run_on(alloc, &words, &mut files, failing) {
+        Ok(ran) => left_by(alloc, ran, &files, name),
+        Err(e) => Err(e),
+    }
 }
 
 /// Whether a run of the words of a line ends so, where no call of the outside fails. What is given

@@ -1,0 +1,6 @@
+//! Tests of the commands that write files, over files and outputs in memory, one file a command.
+//! They stand in a crate of their own, since a crate with tests is proved twice.
+#![tactic(auto)]
+
+#[cfg(test)]
+mod calls;
