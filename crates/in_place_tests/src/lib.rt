@@ -1,0 +1,13 @@
+//! Tests of updates in place. They demand that an update ends where it should, since one that
+//! always wanted memory would meet the contracts too. They stand in a crate of their own, since a
+//! crate with tests is proved twice.
+#![tactic(auto)]
+
+#[cfg(test)]
+mod devices;
+#[cfg(test)]
+mod edits;
+#[cfg(test)]
+mod endings;
+#[cfg(test)]
+mod faults;

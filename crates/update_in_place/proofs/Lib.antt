@@ -1,0 +1,7 @@
+mod RoomLaws
+mod LoadLaws
+mod MarkSteps
+mod FrontLaws
+mod PhaseLaws
+mod WriteLaws
+mod EndLaws

@@ -1,0 +1,131 @@
+//! An update in place.
+
+ghost use Rattle.std.specs.Prelude.{◌≡◌, ◌⊎◌, ◌<◌, true, false, length, IfOk, IfErr};
+ghost use Rattle.elf_types.specs.declared.errors.ElfError.TheVariants.{Memory, Read, Write};
+ghost use Rattle.elf_object.specs.Object.{is_dirty};
+ghost use Rattle.elf_object.specs.Words.{UpdateAnswers};
+ghost use Rattle.elf_object.specs.Calls as calls;
+ghost use Rattle.elf_update.specs.Updates.{IsPlanned};
+ghost use Rattle.update_moves.specs.Changes.{AreChanges};
+ghost use Rattle.update_in_place.specs.Updates.{IsTaken, WritesInPlace, UpdatesInPlace};
+
+use crate::fronts::front_changes;
+use crate::loads::load_homes;
+use crate::marks::mark_moved;
+use crate::rooms::take_memory;
+use elf_descriptor::Elf;
+use elf_outside::{Device, Source};
+use elf_types::ElfError;
+use elf_update::{PAGE_SIZE, PlannedParts, plan_update};
+use std::alloc::Global;
+use update_moves::{Changes, find_changes};
+use update_writes::write_changes;
+
+/// What changes and what moves. It refuses `Memory` alone.
+fn changes_of<S: Source>(elf: &Elf<S>, planned: &PlannedParts) -> Result<Changes, ElfError>
+    requires { IsPlanned elf.now.o planned.now }
+    ensures ok { IfOk result (AreChanges elf.now.o planned.now) }
+    ensures err { IfErr result (λ e. e ≡ Memory) }
+{
+    find_changes(elf, planned, front_changes(elf, planned))
+}
+
+/// A page. It refuses `Memory` alone.
+fn new_page(alloc: Global) -> Result<Vec<u8>, ElfError>
+    ensures ok { IfOk result (λ page. length page.items ≡ 65536) }
+    ensures err { IfErr result (λ e. e ≡ Memory) }
+{
+    let page = vec![in alloc; 0u8; PAGE_SIZE]?;
+    Ok(page)
+}
+
+/// Stores the places, reads the homes of what moves, marks it, and writes what changes. It refuses
+/// `Read` and `Write` alone and takes no memory.
+fn write_planned<D: Device>(
+    elf: &mut Elf<D>,
+    page: &mut [u8],
+    planned: &PlannedParts,
+    changes: &Changes,
+) -> Result<(), ElfError>
+    requires page { 0 < length page.old }
+    requires planned { IsPlanned elf.old.o planned.now }
+    requires changes { AreChanges elf.old.o planned.now changes.now }
+    requires taken { IsTaken D.Source changes.now.sections elf.old }
+    ensures writes { WritesInPlace D.Source D.Device.own result elf.old elf.new }
+    ensures err { IfErr result (λ e. (e ≡ Read) ⊎ (e ≡ Write)) }
+{
+    let _sound = elf.dirty();
+    elf.store_places(&planned.placed.places);
+    if let Err(e) = load_homes(elf, changes.sections.as_slice()) {
+        return Err(e);
+    }
+    mark_moved(elf, changes.sections.as_slice());
+    write_changes(elf, page, planned, changes.parts.as_slice())
+}
+
+/// The same with memory, which is all taken before anything is read or written.
+fn write_reserved<D: Device>(
+    elf: &mut Elf<D>,
+    planned: &PlannedParts,
+    changes: &Changes,
+) -> Result<(), ElfError>
+    requires planned { IsPlanned elf.old.o planned.now }
+    requires changes { AreChanges elf.old.o planned.now changes.now }
+    ensures writes { WritesInPlace D.Source D.Device.own result elf.old elf.new }
+    ensures err { IfErr result (λ e. (e ≡ Memory) ⊎ ((e ≡ Read) ⊎ (e ≡ Write))) }
+{
+    let mut page = match new_page(elf.alloc()) {
+        Ok(page) => page,
+        Err(e) => return Err(e),
+    };
+    if let Err(e) = take_memory(elf, changes.sections.as_slice()) {
+        return Err(e);
+    }
+    write_planned(elf, page.as_mut_slice(), planned, changes)
+}
+
+/// An update where something is dirty.
+fn update_dirty<D: Device>(elf: &mut Elf<D>) -> Result<u64, ElfError>
+    requires { is_dirty elf.old.o ≡ true }
+    ensures answer { UpdateAnswers result (calls.update_null.answer elf.old.o) }
+    ensures updates { UpdatesInPlace D.Source D.Device.own result elf.old elf.new }
+{
+    let planned = match plan_update(elf) {
+        Ok(planned) => planned,
+        Err(e) => return Err(e),
+    };
+    let changes = match changes_of(elf, &planned) {
+        Ok(changes) => changes,
+        Err(e) => return Err(e),
+    };
+    if let Err(e) = write_reserved(elf, &planned, &changes) {
+        return Err(e);
+    }
+    elf.settle();
+    Ok(planned.placed.places.end)
+}
+
+/// Makes the device the image of the object, and answers the image's length: it writes the parts
+/// that are marked, that stand elsewhere than before or that have other bytes than before, and the
+/// fill between parts. Then the object is settled: each section's pieces are joined to one, nothing
+/// is marked, nothing is held of the homes, and they are the new ones. Where nothing is dirty it
+/// does nothing, and answers the number of base bytes.
+///
+/// It refuses, in this order, `TooMany`, `Unfit`, `OutOfFile`, `Overlap` and `TooLarge`, and
+/// `Memory` in place of a value and of the last two; they leave device and object. All memory is
+/// taken and all that is read is read before the first write. After `Read` the device is as before,
+/// and the places are stored. After `Write` the device is torn between what it held and the image;
+/// the object has the marks by which the call can be repeated.
+///
+/// Source: elf_update with ELF_C_WRITE of elf(3E).
+pub fn update_in_place<D: Device>(elf: &mut Elf<D>) -> Result<u64, ElfError>
+    ensures answer { UpdateAnswers result (calls.update_null.answer elf.old.o) }
+    ensures clean { is_dirty elf.old.o ≡ false → elf.new ≡ elf.old }
+    ensures updates { is_dirty elf.old.o ≡ true
+        → UpdatesInPlace D.Source D.Device.own result elf.old elf.new }
+{
+    if elf.dirty() {
+        return update_dirty(elf);
+    }
+    Ok(elf.base_len())
+}
