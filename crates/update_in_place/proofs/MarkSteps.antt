@@ -17,6 +17,7 @@ use Rattle.elf_object.specs.Layout.{places_of, placed}
 use Rattle.elf_object.specs.Changed.{is_moved, torn}
 use Rattle.object_laws.proofs.ImageLaws.{placed-dirty}
 use Rattle.object_laws.proofs.StandLaws.{section_count-placed}
+use Rattle.elf_descriptor.specs.State.{State}
 use Rattle.writing_laws.specs.Marks.{marked_all, pieces_of, moved_pieces}
 use Rattle.writing_laws.proofs.GapLaws.{split_range, filter_range}
 use Rattle.writing_laws.proofs.MarkLaws.{marks_are_torn}
@@ -197,3 +198,18 @@ marks_torn o moves dirty is =
     (filter_range (tells moves) (is_moved o) 0 (length (placed o).sections)
     (λ k from below. tells_moved o moves k is (omega (arith, below, count))))
     ∙ marks_are_torn o dirty
+
+-- ---- The descriptor
+
+abbrev with_object : {S : Type 0} → State S → Object → State S
+with_object e o = record e { o = o }
+
+pub state_is : {S : Type 0} (old now : State S) (o p : Object) → now ≡ record old { o = o }
+    → o ≡ p → now ≡ record old { o = p }
+state_is {S} old now o p is same = is ∙ ap (λ (x : Object). with_object old x) same
+
+pub state_marked : {S : Type 0} (old now next : State S) (o p q : Object)
+    → now ≡ record old { o = o } → next ≡ record now { o = p } → p ≡ q
+    → next ≡ record old { o = q }
+state_marked {S} old now next o p q is more same =
+    more ∙ ap (λ (e : State S). with_object e p) is ∙ ap (λ (x : Object). with_object old x) same
