@@ -188,6 +188,7 @@ module _ {D : Type 0} (s : SourceGhosts D) (d : DeviceGhosts D) where
       record {
         room = λ i there told. t.room i (omega (arith, there, count)) told;
         base = subst (λ (e : State D). HoldsBase s e) (sym t.state) (record {
+          told = t.base.told;
           long = t.base.long;
           is = t.base.is;
         });

@@ -178,15 +178,14 @@ module _ {S : Type 0} where
       → HoldsBase g old
   base_kept g old new aside base =
       let is = subst (λ (e : State S). HoldsBase g e) aside.rest base in
-      record { long = is.long; is = is.is }
+      record { told = is.told; long = is.long; is = is.is }
 
   pub memory_taken : (g : Ghosts S) (moves : List Bool) (n : ℕ)
       (r : Result (Unit {0}) ElfError) (old mid new : State S)
       → ReservesHomes moves n (Ok (tt {0})) old mid
       → OnOk r (new ≡ record mid { ready = true }) → OnOk r (HoldsBase g mid)
-      → OnOk r (mid.told ≡ is_some (g.holds mid.source))
       → OnErr r (new ≡ mid) → IfErr r (λ e. e ≡ Memory) → TakesMemory g moves n r old new
-  memory_taken g moves n (Ok x) old mid new are ok base told same err =
+  memory_taken g moves n (Ok x) old mid new are ok base same err =
       let is : new ≡ record old { room = mid.room; ready = true } =
       ok ∙ ap (λ (e : State S). record e { ready = true }) are.aside.rest in
       let room : mid.room ≡ new.room = sym (ap (λ (e : State S). e.room) is) in
@@ -194,11 +193,11 @@ module _ {S : Type 0} where
         state = is ∙ ap (λ (l : List Bool). record old { room = l; ready = true }) room;
         room = λ i h tells_it. subst (λ (e : State S). CanLoad e i) (sym ok) (are.room i h tells_it);
         base = base_kept g old mid are.aside base;
-        told = subst (λ (e : State S). e.told ≡ is_some (g.holds e.source)) are.aside.rest told;
+        told = (base_kept g old mid are.aside base).told;
         refused = tt;
         err = tt;
       }
-  memory_taken g moves n (Err e) old mid new are ok base told same err =
+  memory_taken g moves n (Err e) old mid new are ok base same err =
       let is : new ≡ record old { room = mid.room } = same ∙ are.aside.rest in
       let room : mid.room ≡ new.room = sym (ap (λ (x : State S). x.room) is) in
       record {

@@ -27,19 +27,17 @@ use Rattle.elf_update.specs.Updates.{IsPlanned}
 use Rattle.update_moves.specs.declared.changes.Changes.{Changes}
 use Rattle.update_moves.specs.Changes.{AreChanges}
 use Rattle.update_writes.specs.Writes.{IsBegun, LeavesTorn, WritesChanges}
+use Rattle.update_writes.proofs.TornObjects.{torn_base}
 use Rattle.update_in_place.specs.Updates.{IsTornBase, HoldsMore, IsTaken, WritesInPlace}
 use Rattle.update_in_place.proofs.PhaseLaws.{IsToWrite}
 
-torn_base : (o : Object) (bytes : List ℕ) → is_dirty o ≡ true → (torn o bytes).base ≡ bytes
-torn_base o bytes dirty = ap (λ (q : Object). q.base) (torn-dirty o bytes dirty)
-
 module _ {D : Type 0} (s : SourceGhosts D) (d : DeviceGhosts D) where
   -- it may be written
-  pub begins : (old now : State D) (p : PlannedParts) (changes : Changes) (moves : List Bool)
-      → IsPlanned old.o p → AreChanges old.o p changes → IsTaken s moves old
-      → IsSound (s.holds old.source) old.o → IsToWrite s d old now
-      → IsBegun s p changes.parts now
-  begins old now p changes moves planned are taken sound is =
+  abbrev pub begins : (old now : State D) (p : PlannedParts) (changes : Changes)
+      (moves changed : List Bool) → IsPlanned old.o p → AreChanges old.o p changes
+      → changed ≡ changes.parts → IsTaken s moves old → IsSound (s.holds old.source) old.o
+      → IsToWrite s d old now → IsBegun s p changed now
+  begins old now p changes moves changed planned are same taken sound is =
       let held = is.asks.leaves.same_bytes in
       let size = is.asks.leaves.same_len in
       let base : now.o.base ≡ old.o.base =
@@ -50,11 +48,12 @@ module _ {D : Type 0} (s : SourceGhosts D) (d : DeviceGhosts D) where
       record {
         was = old.o;
         planned = planned;
-        changes = are.parts;
+        changes = same ∙ are.parts;
         based = λ tells. sound.based (subst (λ (h : Option (List ℕ)). IsSome h) held tells);
         told = told;
         object = ap (λ (e : State D). e.o) is.rest;
         base = record {
+          told = told;
           long =
               let first = taken.base.long in
               let count : length now.o.base ≡ length old.o.base = ap (λ (l : List ℕ). length l) base in
@@ -67,9 +66,9 @@ module _ {D : Type 0} (s : SourceGhosts D) (d : DeviceGhosts D) where
         ready = ap (λ (e : State D). e.ready) is.rest ∙ taken.ready;
       }
 
-  more_still : (old now new : State D) → HoldsMore old now
-      → new ≡ record now { o = new.o; source = new.source } → HoldsMore old new
-  more_still old now new more is = record {
+  more_still : (old now new : State D) (o : Object) (x : D) → HoldsMore old now
+      → new ≡ record now { o = o; source = x } → HoldsMore old new
+  more_still old now new o x more is = record {
     loads = λ i h. ap (λ (e : State D). is_loaded e.loaded i) is ∙ more.loads i h;
     stays = λ i h. ap (λ (e : State D). is_loaded e.loaded i) is ∙ more.stays i h;
     held = λ i. ap (λ (e : State D). is_loaded e.held i) is ∙ more.held i;
@@ -109,7 +108,7 @@ module _ {D : Type 0} (s : SourceGhosts D) (d : DeviceGhosts D) where
         base = record { between = v.base; is = v.is };
         bytes = v.bytes ∙ ap (λ (h : Option (List ℕ)). option_map (λ _. image old.o) h) held;
         size = v.long;
-        kept = more_still old now new is.more v.state;
+        kept = more_still old now new (torn old.o new.o.base) new.source is.more v.state;
         ready = ap (λ (e : State D). e.ready) v.state ∙ ready;
         unwritten = tt;
         uses = uses_all rests (Ok x) old now new is v.uses;
@@ -126,7 +125,7 @@ module _ {D : Type 0} (s : SourceGhosts D) (d : DeviceGhosts D) where
             base = record { between = u.base; is = u.is };
             bytes = subst (λ (h : Option (List ℕ)). LeavesTorn h (s.holds new.source) (image old.o)) held u.torn;
             size = sizes u.either;
-            kept = more_still old now new is.more u.state;
+            kept = more_still old now new (torn old.o new.o.base) new.source is.more u.state;
             ready = tt;
             unwritten = tt;
             uses = uses_all rests (Err Write) old now new is u.uses;
@@ -136,3 +135,9 @@ module _ {D : Type 0} (s : SourceGhosts D) (d : DeviceGhosts D) where
                   → (s.size new.source ≡ s.size old.source) ⊎ (s.size new.source ≡ image_length old.o)
               sizes (inl same) = inl (same ∙ size)
               sizes (inr long) = inr long
+
+  -- an update that began to write fails to write alone
+  pub written_err : (r : Result (Unit {0}) ElfError) → IfErr r (λ e. e ≡ Write)
+      → IfErr r (λ e. (e ≡ Read) ⊎ (e ≡ Write))
+  written_err (Ok x) err = tt
+  written_err (Err e) err = inr err

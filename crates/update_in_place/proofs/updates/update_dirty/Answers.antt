@@ -9,34 +9,34 @@ use Rattle.update_in_place.proofs.updates.update_dirty.Goals as goal
 
 pub returns-in-Err-clause-answer : goal.returns-in-Err-clause-answer
 returns-in-Err-clause-answer g c =
-    (refused g.D.Source g.D.Device.own c.in-Err.e c.args.elf.now c.in-Err.ensures.err).0
+    (refused g.D.Source g.D.Device c.in-Err.e c.args.elf.now c.in-Err.ensures.err).0
 
 pub returns-in-Err-clause-updates : goal.returns-in-Err-clause-updates
 returns-in-Err-clause-updates g c =
-    (refused g.D.Source g.D.Device.own c.in-Err.e c.args.elf.now c.in-Err.ensures.err).1
+    (refused g.D.Source g.D.Device c.in-Err.e c.args.elf.now c.in-Err.ensures.err).1
 
 pub returns-in-Err-changes_of-clause-answer : goal.returns-in-Err-changes_of-clause-answer
 returns-in-Err-changes_of-clause-answer g c =
-    (refused g.D.Source g.D.Device.own c.in-Err-changes_of.e c.args.elf.now
+    (refused g.D.Source g.D.Device c.in-Err-changes_of.e c.args.elf.now
     (wants_passed c.args.elf.now.o c.in-Err-changes_of.e c.in-Ok.ensures.ok.ready.passed
     c.in-Err-changes_of.ensures.err)).0
 
 pub returns-in-Err-changes_of-clause-updates : goal.returns-in-Err-changes_of-clause-updates
 returns-in-Err-changes_of-clause-updates g c =
-    (refused g.D.Source g.D.Device.own c.in-Err-changes_of.e c.args.elf.now
+    (refused g.D.Source g.D.Device c.in-Err-changes_of.e c.args.elf.now
     (wants_passed c.args.elf.now.o c.in-Err-changes_of.e c.in-Ok.ensures.ok.ready.passed
     c.in-Err-changes_of.ensures.err)).1
 
 pub returns-in-Err-write_reserved-clause-answer : goal.returns-in-Err-write_reserved-clause-answer
 returns-in-Err-write_reserved-clause-answer g c =
-    (failed g.D.Source g.D.Device.own c.in-Err-write_reserved.e c.in-Ok.planned.placed.places.end
+    (failed g.D.Source g.D.Device c.in-Err-write_reserved.e c.in-Ok.planned.placed.places.end
     c.args.elf.now c.write_reserved.new.elf
     (planned_answer c.args.elf.now.o c.in-Ok.planned c.in-Ok.ensures.ok)
     c.in-Err-write_reserved.ensures.writes c.in-Err-write_reserved.ensures.err).0
 
 pub returns-in-Err-write_reserved-clause-updates : goal.returns-in-Err-write_reserved-clause-updates
 returns-in-Err-write_reserved-clause-updates g c =
-    (failed g.D.Source g.D.Device.own c.in-Err-write_reserved.e c.in-Ok.planned.placed.places.end
+    (failed g.D.Source g.D.Device c.in-Err-write_reserved.e c.in-Ok.planned.placed.places.end
     c.args.elf.now c.write_reserved.new.elf
     (planned_answer c.args.elf.now.o c.in-Ok.planned c.in-Ok.ensures.ok)
     c.in-Err-write_reserved.ensures.writes c.in-Err-write_reserved.ensures.err).1
@@ -51,7 +51,7 @@ settle-requires-clause-dirty g c =
 
 pub settle-requires-clause-passed : goal.settle-requires-clause-passed
 settle-requires-clause-passed g c =
-    (may_settle g.D.Source g.D.Device.own c.args.elf.now c.write_reserved.new.elf
+    (may_settle g.D.Source g.D.Device c.args.elf.now c.write_reserved.new.elf
     c.in-Ok.ensures.ok.ready c.in_default.ensures.writes).passed
 
 pub settle-requires-clause-stored : goal.settle-requires-clause-stored
@@ -62,12 +62,12 @@ settle-requires-clause-stored g c =
 
 pub settle-requires-clause-long : goal.settle-requires-clause-long
 settle-requires-clause-long g c =
-    (may_settle g.D.Source g.D.Device.own c.args.elf.now c.write_reserved.new.elf
+    (may_settle g.D.Source g.D.Device c.args.elf.now c.write_reserved.new.elf
     c.in-Ok.ensures.ok.ready c.in_default.ensures.writes).long
 
 pub settle-requires-clause-holds : goal.settle-requires-clause-holds
 settle-requires-clause-holds g c =
-    (may_settle g.D.Source g.D.Device.own c.args.elf.now c.write_reserved.new.elf
+    (may_settle g.D.Source g.D.Device c.args.elf.now c.write_reserved.new.elf
     c.in-Ok.ensures.ok.ready c.in_default.ensures.writes).holds
 
 pub returns-clause-answer : goal.returns-clause-answer
@@ -75,7 +75,7 @@ returns-clause-answer g c = planned_answer c.args.elf.now.o c.in-Ok.planned c.in
 
 pub returns-clause-updates : goal.returns-clause-updates
 returns-clause-updates g c =
-    (ended g.D.Source g.D.Device.own c.in-Ok.planned.placed.places.end c.args.elf.now
+    (ended g.D.Source g.D.Device c.in-Ok.planned.placed.places.end c.args.elf.now
     c.write_reserved.new.elf c.settle.new.self c.in-Ok.ensures.ok.ready
     (planned_answer c.args.elf.now.o c.in-Ok.planned c.in-Ok.ensures.ok)
     c.in_default.ensures.writes c.settle.ensures).1

@@ -1,4 +1,4 @@
-use Rattle.std.proofs.Common.{◌∙◌, refl, sym, ap, inl, subst, arith}
+use Rattle.std.proofs.Common.{◌∙◌, length, refl, sym, ap, inl, subst, arith}
 use Rattle.elf_object.specs.Object.{Object}
 use Rattle.elf_descriptor.specs.State.{State}
 use Rattle.elf_update.specs.Updates.{IsPlanned}
@@ -9,7 +9,7 @@ use Rattle.update_in_place.proofs.updates.write_reserved.Goals as goal
 
 pub returns-in-Err-clause-writes : goal.returns-in-Err-clause-writes
 returns-in-Err-clause-writes g c =
-    wanted g.D.Source g.D.Device.own c.in-Err.e c.args.elf.now c.args.elf.now c.in-Err.ensures.err
+    wanted g.D.Source g.D.Device c.in-Err.e c.args.elf.now c.args.elf.now c.in-Err.ensures.err
     refl
 
 pub returns-in-Err-clause-err : goal.returns-in-Err-clause-err
@@ -21,7 +21,7 @@ take_memory-requires g c =
 
 pub returns-in-Err-take_memory-clause-writes : goal.returns-in-Err-take_memory-clause-writes
 returns-in-Err-take_memory-clause-writes g c =
-    wanted g.D.Source g.D.Device.own c.in-Err-take_memory.e c.args.elf.now c.take_memory.new.elf
+    wanted g.D.Source g.D.Device c.in-Err-take_memory.e c.args.elf.now c.take_memory.new.elf
     c.in-Err-take_memory.ensures.err c.in-Err-take_memory.ensures.refused
 
 pub returns-in-Err-take_memory-clause-err : goal.returns-in-Err-take_memory-clause-err
@@ -39,10 +39,10 @@ write_planned-requires-clause-changes g c =
 
 pub returns-clause-writes : goal.returns-clause-writes
 returns-clause-writes g c =
-    with_memory g.D.Source g.D.Device.own c.write_planned.result c.args.elf.now
+    with_memory g.D.Source g.D.Device c.write_planned.result c.args.elf.now
     c.take_memory.new.elf c.write_planned.new.elf c.in_default.ensures.state
     c.write_planned.ensures.writes c.write_planned.ensures.err
 
 pub returns-clause-err : goal.returns-clause-err
 returns-clause-err g c =
-    later_err g.D.Source g.D.Device.own c.write_planned.result c.write_planned.ensures.err
+    later_err g.D.Source g.D.Device c.write_planned.result c.write_planned.ensures.err

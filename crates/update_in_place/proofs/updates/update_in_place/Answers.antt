@@ -1,0 +1,8 @@
+use Rattle.std.proofs.Common.{◌∙◌, ℕ, Ok, sym, ap}
+use Rattle.update_plan.proofs.PlacingLaws.{clean_answer}
+use Rattle.update_in_place.proofs.updates.update_in_place.Goals as goal
+
+pub returns-clause-answer : goal.returns-clause-answer
+returns-clause-answer g c =
+    clean_answer c.args.elf.now.o (sym c.if-dirty.ensures.dirty)
+    ∙ ap (λ (n : ℕ). Ok n) (sym c.base_len.ensures)
