@@ -1,7 +1,7 @@
 -- How an update in place ends: it is refused, wants memory, fails to read or to write, or settles
 -- the object.
-use Rattle.std.proofs.Common.{◌≡◌, ◌⊎◌, inl, inr, ℕ, zero, suc, ◌+◌, ◌<◌, ◌≤◌, Bool, true, false, List, [], ◌∷◌, length, take, map, Option, Some, None, Result, Ok, Err, refl, sym, ap, ◌∙◌, subst, arith}
-use Rattle.std.specs.Prelude.{IsTrue, IsOk, is_some, OnOk, OnErr, IfErr, IfSome, if◌then◌else◌}
+use Rattle.std.proofs.Common.{◌≡◌, ◌⊎◌, inl, inr, ℕ, zero, suc, Bool, true, false, List, [], ◌∷◌, length, Option, Some, None, Result, Ok, Err, refl, sym, ap, ◌∙◌, subst, arith}
+use Rattle.std.specs.Prelude.{IsOk, is_some, IfErr, IfSome, if◌then◌else◌}
 use Rattle.std.specs.Option.{option_map}
 use Rattle.elf_types.specs.declared.errors.ElfError.{ElfError}
 use Rattle.elf_types.specs.declared.errors.ElfError.TheVariants.{Memory, Read, Write}
@@ -13,11 +13,11 @@ use Rattle.elf_outside.specs.declared.sources.Source.{Ghosts as SourceGhosts}
 use Rattle.elf_outside.specs.declared.devices.Device.{Ghosts as DeviceGhosts}
 use Rattle.elf_outside.proofs.PutLemmas.{uses_device_on}
 use Rattle.elf_outside.proofs.UseLemmas.{uses_device_none, uses_device_as}
-use Rattle.elf_object.specs.Object.{Object, is_dirty}
+use Rattle.elf_object.specs.Object.{Object}
 use Rattle.elf_object.specs.Layout.{placed}
 use Rattle.elf_object.specs.Image.{image, image_length}
 use Rattle.elf_object.specs.Refusal.{refusal}
-use Rattle.elf_object.specs.Settled.{settle, settled, untold}
+use Rattle.elf_object.specs.Settled.{settled, untold}
 use Rattle.elf_object.specs.Changed.{torn, changed_bytes}
 use Rattle.elf_object.specs.Due.{is_loaded, update_in_place_due}
 use Rattle.elf_object.specs.Words.{UpdateAnswers, MayWantMemory}

@@ -1,6 +1,6 @@
 -- Homes that are read before the first write, one after the other.
-use Rattle.std.proofs.Common.{◌≡◌, ℕ, zero, suc, ◌+◌, ◌-◌, ◌<◌, ◌≤◌, Bool, true, false, ◌||◌, List, [], ◌∷◌, ◌++◌, length, get_or, Option, Some, None, Result, Ok, Err, refl, sym, ap, ◌∙◌, subst, arith, ⊎_elim}
-use Rattle.std.specs.Prelude.{IsTrue, OnOk, IfErr, Contains, ◌==◌, cond, sum_by, if◌then◌else◌}
+use Rattle.std.proofs.Common.{◌≡◌, ℕ, zero, suc, ◌+◌, ◌-◌, ◌<◌, ◌≤◌, Bool, true, false, ◌||◌, List, [], ◌∷◌, ◌++◌, get_or, Option, Result, Ok, Err, refl, sym, ap, ◌∙◌, subst, arith, ⊎_elim}
+use Rattle.std.specs.Prelude.{IsTrue, Contains, ◌==◌, cond, sum_by, if◌then◌else◌}
 use Rattle.std.specs.List.{range_with_len, filter}
 use Rattle.std.proofs.lemmas.Bool.{cases_lt, eqb-true, eqb-false}
 use Rattle.std.proofs.lemmas.List.Elements.{filter-append}
@@ -17,7 +17,6 @@ use Rattle.elf_object.specs.Calls as calls
 use Rattle.elf_object.specs.Calls.{raw_answer}
 use Rattle.elf_descriptor.specs.State.{State}
 use Rattle.elf_descriptor.specs.Reads.{Queries}
-use Rattle.elf_descriptor.specs.Rooms.{has_room_for}
 use Rattle.writing_laws.proofs.GapLaws.{split_range}
 use Rattle.update_in_place.specs.Rooms.{tells, CanLoad}
 use Rattle.update_in_place.specs.Loads.{LoadsSome, told_sections, LoadsHomes}

@@ -1,41 +1,30 @@
 -- An update in place, phase by phase: memory, places, what is read, marks, what is written.
-use Rattle.std.proofs.Common.{◌≡◌, ◌⊎◌, inl, inr, ℕ, zero, suc, ◌+◌, ◌<◌, ◌≤◌, Bool, true, false, ◌||◌, List, [], ◌∷◌, length, take, get_or, Option, Some, None, Result, Ok, Err, refl, sym, ap, ◌∙◌, subst, arith, ⊎_elim}
-use Rattle.std.specs.Prelude.{IsTrue, IsOk, OnOk, OnErr, IfErr, IfSome, IsSome, is_some, map, sum_by, cond, if◌then◌else◌}
+use Rattle.std.proofs.Common.{◌≡◌, ℕ, zero, suc, ◌+◌, ◌<◌, ◌≤◌, Bool, true, false, ◌||◌, List, [], ◌∷◌, length, Option, Result, Ok, Err, refl, sym, ap, ◌∙◌, subst, arith, ⊎_elim}
+use Rattle.std.specs.Prelude.{IsTrue, map, sum_by, cond, if◌then◌else◌}
 use Rattle.std.specs.List.{range_with_len, filter}
-use Rattle.std.specs.Option.{option_map}
 use Rattle.std.proofs.lemmas.Bool.{cases_lt}
 use Rattle.std.proofs.lemmas.List.{get_or_past}
 use Rattle.std.proofs.lemmas.List.Sums.{sum_by-cons}
 use Rattle.std.proofs.lemmas.List.FromFn.{length-map-range_with_len}
 use Rattle.elf_types.specs.declared.errors.ElfError.{ElfError}
-use Rattle.elf_types.specs.declared.errors.ElfError.TheVariants.{Memory, Read, Write}
+use Rattle.elf_types.specs.declared.errors.ElfError.TheVariants.{Read}
 use Rattle.elf_outside.specs.Asks.{Asks}
-use Rattle.elf_outside.specs.Patches.{UsesDevice}
 use Rattle.elf_outside.specs.declared.sources.Source.{Ghosts as SourceGhosts}
 use Rattle.elf_outside.specs.declared.devices.Device.{Ghosts as DeviceGhosts}
 use Rattle.elf_outside.proofs.UseLemmas.{asks_device, uses_device_as}
 use Rattle.elf_object.specs.Object.{Object, Section, Home, section_at, is_dirty}
 use Rattle.elf_object.specs.Layout.{places_of, placed, placed_section}
-use Rattle.elf_object.specs.Image.{image, image_length}
-use Rattle.elf_object.specs.Refusal.{refusal}
 use Rattle.elf_object.specs.Changed.{torn, is_moved, changed_bytes}
 use Rattle.elf_object.specs.Due.{is_loaded, home_due, homes_due, all_sections, unless_unread, is_refused_unread, update_in_place_due}
 use Rattle.object_laws.proofs.ImageLaws.{placed-dirty, section_at-placed}
 use Rattle.writing_laws.specs.Ready.{IsReady}
-use Rattle.writing_laws.specs.Based.{IsBased}
 use Rattle.writing_laws.specs.Marks.{marked_all}
 use Rattle.writing_laws.proofs.GapLaws.{filter_range}
 use Rattle.elf_descriptor.specs.State.{State}
-use Rattle.elf_descriptor.specs.Fronts.{HoldsBase}
-use Rattle.elf_descriptor.specs.Sound.{IsSound}
-use Rattle.elf_update.specs.declared.updates.PlannedParts.{PlannedParts}
-use Rattle.elf_update.specs.Updates.{IsPlanned}
-use Rattle.update_moves.specs.declared.changes.Changes.{Changes}
-use Rattle.update_moves.specs.Changes.{AreChanges}
-use Rattle.update_in_place.specs.Rooms.{tells, CanLoad, TakesMemory}
+use Rattle.update_in_place.specs.Rooms.{tells, CanLoad}
 use Rattle.update_in_place.specs.Loads.{LoadsSome, told_sections, LoadsHomes}
 use Rattle.update_in_place.specs.Marks.{told_parts}
-use Rattle.update_in_place.specs.Updates.{IsTornBase, HoldsMore, IsTaken, WritesInPlace}
+use Rattle.update_in_place.specs.Updates.{HoldsMore, WritesInPlace}
 use Rattle.update_in_place.proofs.MarkSteps.{tells_moved, count_placed, marks_torn}
 
 -- ---- Homes, once places are stored

@@ -1,6 +1,6 @@
 -- Memory that is kept aside for homes, one after the other.
 use Rattle.std.proofs.Common.{◌≡◌, ℕ, zero, suc, ◌+◌, ◌<◌, ◌≤◌, Bool, true, false, ◌||◌, List, [], ◌∷◌, length, set, Option, Some, None, Result, Ok, Err, refl, sym, ap, ◌∙◌, subst, arith, ⊎_elim}
-use Rattle.std.specs.Prelude.{IsTrue, IsOk, is_some, OnOk, OnErr, IfErr, if◌then◌else◌}
+use Rattle.std.specs.Prelude.{IsTrue, OnOk, OnErr, IfErr, if◌then◌else◌}
 use Rattle.std.proofs.lemmas.Bool.{cases_lt, lt-leb}
 use Rattle.elf_types.specs.Answers.{answered}
 use Rattle.elf_types.specs.declared.errors.ElfError.{ElfError}
@@ -13,7 +13,7 @@ use Rattle.elf_object.specs.Words.{Edits}
 use Rattle.elf_descriptor.specs.State.{State}
 use Rattle.elf_descriptor.specs.Fronts.{HoldsBase}
 use Rattle.elf_descriptor.specs.Homes.{out_answer}
-use Rattle.elf_descriptor.specs.Rooms.{with_room_for, has_room_for}
+use Rattle.elf_descriptor.specs.Rooms.{with_room_for}
 use Rattle.update_in_place.specs.Rooms.{tells, KeepsAside, CanLoad, ReservesHomes, TakesMemory}
 
 -- ---- Homes in the file

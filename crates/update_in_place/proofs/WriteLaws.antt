@@ -1,26 +1,19 @@
 -- What changes is written: what that rests on, and what it leaves.
-use Rattle.std.proofs.Common.{◌≡◌, ◌⊎◌, inl, inr, ℕ, ◌+◌, ◌<◌, ◌≤◌, Bool, true, false, List, [], ◌∷◌, length, take, map, Option, Some, None, Result, Ok, Err, refl, sym, ap, ◌∙◌, subst, arith}
-use Rattle.std.specs.Prelude.{IsTrue, OnOk, IfErr, IfSome, IsSome, is_some}
+use Rattle.std.proofs.Common.{◌≡◌, ◌⊎◌, inl, inr, ℕ, ◌+◌, Bool, List, [], ◌∷◌, length, take, Option, Result, Ok, Err, sym, ap, ◌∙◌, subst, arith}
+use Rattle.std.specs.Prelude.{IsTrue, IfErr, IfSome, IsSome, is_some}
 use Rattle.std.specs.Option.{option_map}
 use Rattle.elf_types.specs.declared.errors.ElfError.{ElfError}
 use Rattle.elf_types.specs.declared.errors.ElfError.TheVariants.{Read, Write}
-use Rattle.elf_outside.specs.Asks.{Asks}
 use Rattle.elf_outside.specs.Patches.{UsesDevice}
 use Rattle.elf_outside.specs.declared.sources.Source.{Ghosts as SourceGhosts}
 use Rattle.elf_outside.specs.declared.devices.Device.{Ghosts as DeviceGhosts}
 use Rattle.elf_outside.proofs.PutLemmas.{uses_device_both}
 use Rattle.elf_outside.proofs.UseLemmas.{asks_device, uses_device_as}
-use Rattle.elf_object.specs.Object.{Object, section_at, is_dirty}
-use Rattle.elf_object.specs.Layout.{placed}
+use Rattle.elf_object.specs.Object.{Object}
 use Rattle.elf_object.specs.Image.{image, image_length}
-use Rattle.elf_object.specs.Changed.{torn, is_moved, changed_bytes}
+use Rattle.elf_object.specs.Changed.{torn, changed_bytes}
 use Rattle.elf_object.specs.Due.{is_loaded, update_in_place_due}
-use Rattle.elf_object.proofs.ChangedLaws.{torn-dirty}
-use Rattle.object_laws.specs.Laws.{IsTornImage}
-use Rattle.writing_laws.specs.Ready.{IsReady}
-use Rattle.writing_laws.specs.Based.{IsBased}
 use Rattle.elf_descriptor.specs.State.{State}
-use Rattle.elf_descriptor.specs.Fronts.{HoldsBase}
 use Rattle.elf_descriptor.specs.Sound.{IsSound}
 use Rattle.elf_update.specs.declared.updates.PlannedParts.{PlannedParts}
 use Rattle.elf_update.specs.Updates.{IsPlanned}
@@ -28,7 +21,7 @@ use Rattle.update_moves.specs.declared.changes.Changes.{Changes}
 use Rattle.update_moves.specs.Changes.{AreChanges}
 use Rattle.update_writes.specs.Writes.{IsBegun, LeavesTorn, WritesChanges}
 use Rattle.update_writes.proofs.TornObjects.{torn_base}
-use Rattle.update_in_place.specs.Updates.{IsTornBase, HoldsMore, IsTaken, WritesInPlace}
+use Rattle.update_in_place.specs.Updates.{HoldsMore, IsTaken, WritesInPlace}
 use Rattle.update_in_place.proofs.PhaseLaws.{IsToWrite}
 
 module _ {D : Type 0} (s : SourceGhosts D) (d : DeviceGhosts D) where

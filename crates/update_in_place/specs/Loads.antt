@@ -1,15 +1,14 @@
 -- What is read before an update in place writes: the homes of the sections that move.
-use Rattle.std.specs.Prelude.{◌≡◌, ◌≤◌, ◌<◌, ℕ, Bool, true, false, IsTrue, List, length, map, filter, Result, OnOk, IfErr}
+use Rattle.std.specs.Prelude.{◌≡◌, ◌<◌, ℕ, Bool, true, false, IsTrue, List, filter, Result, OnOk, IfErr}
 use Rattle.std.specs.List.{range_with_len}
 use Rattle.elf_types.specs.declared.errors.ElfError.{ElfError}
 use Rattle.elf_types.specs.declared.errors.ElfError.TheVariants.{Read}
 use Rattle.elf_outside.specs.declared.sources.Source.{Ghosts}
 use Rattle.elf_outside.specs.Asks.{Asks}
-use Rattle.elf_object.specs.Object.{Object, section_at}
+use Rattle.elf_object.specs.Object.{section_at}
 use Rattle.elf_object.specs.Due.{is_loaded, homes_due}
 use Rattle.elf_descriptor.specs.State.{State}
-use Rattle.elf_descriptor.specs.Rooms.{has_room_for}
-use Rattle.update_in_place.specs.Rooms.{tells, CanLoad}
+use Rattle.update_in_place.specs.Rooms.{tells}
 
 -- Some sections became loaded, and none but those that a test passes. What was loaded still is, no
 -- items came to be held, and memory that is kept aside for a home stays until it is loaded.

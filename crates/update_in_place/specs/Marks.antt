@@ -1,6 +1,5 @@
 -- The marks that an update in place sets before it writes (ELF_F_DIRTY).
-use Rattle.std.specs.Prelude.{ℕ, Bool, List, ◌∷◌, length, filter, flat_map}
-use Rattle.std.specs.List.{range_with_len}
+use Rattle.std.specs.Prelude.{Bool, List, ◌∷◌, length, flat_map}
 use Rattle.elf_types.specs.declared.records.Part.{Part}
 use Rattle.elf_types.specs.declared.records.Part.TheVariants as part
 use Rattle.elf_object.specs.Object.{Object}

@@ -1,6 +1,6 @@
 use Rattle.std.proofs.Common.{◌∙◌, sym}
 use Rattle.update_in_place.proofs.RoomLaws.{not_out}
-use Rattle.update_in_place.proofs.LoadLaws.{loads_none, loads_one, asks_one, asks_nothing}
+use Rattle.update_in_place.proofs.LoadLaws.{loads_one, asks_one}
 use Rattle.update_in_place.proofs.loads.load_one.Goals as goal
 
 pub load_home-requires : goal.load_home-requires

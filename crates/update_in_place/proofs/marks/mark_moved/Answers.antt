@@ -1,4 +1,4 @@
-use Rattle.std.proofs.Common.{◌∙◌, ◌≡◌, [], ◌∷◌, ap, refl, length, arith}
+use Rattle.std.proofs.Common.{◌∙◌, [], ◌∷◌, ap, refl, length, arith}
 use Rattle.elf_types.specs.declared.records.Part.TheVariants as part
 use Rattle.elf_descriptor.specs.State.{State}
 use Rattle.elf_object.specs.Answers.{part_refusal}

@@ -1,5 +1,4 @@
 use Rattle.std.proofs.Common.{◌≡◌}
-use Rattle.elf_descriptor.specs.State.{State}
 use Rattle.writing_laws.specs.Marks.{marked_all}
 use Rattle.update_in_place.proofs.MarkSteps.{pieces_before}
 use Rattle.update_in_place.proofs.marks.mark_pieces.Given as goal

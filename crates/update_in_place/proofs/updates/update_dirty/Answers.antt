@@ -1,5 +1,4 @@
 use Rattle.std.proofs.Common.{◌∙◌, sym, ap}
-use Rattle.update_plan.specs.Placing.{IsRefused}
 use Rattle.elf_object.specs.Object.{is_dirty}
 use Rattle.elf_object.specs.Layout.{placed}
 use Rattle.elf_update.proofs.UpdateLaws.{wants_passed, planned_answer}

@@ -1,10 +1,10 @@
-use Rattle.std.proofs.Common.{◌≡◌, ◌∙◌, List, Bool, true, Ok, Err, ap, subst, inl, length}
+use Rattle.std.proofs.Common.{◌≡◌, ◌∙◌, List, Bool, true, Ok, ap, subst, inl, length}
 use Rattle.elf_descriptor.specs.State.{State}
 use Rattle.writing_laws.specs.Marks.{marked_all}
 use Rattle.update_in_place.specs.Rooms.{tells}
 use Rattle.update_in_place.specs.Loads.{LoadsHomes}
 use Rattle.update_in_place.specs.Marks.{told_parts}
-use Rattle.update_in_place.proofs.PhaseLaws.{IsToWrite, stored_count, stored_room, loaded_count, unread, to_write}
+use Rattle.update_in_place.proofs.PhaseLaws.{stored_count, stored_room, loaded_count, unread, to_write}
 use Rattle.update_in_place.proofs.WriteLaws.{begins, written, written_err}
 use Rattle.update_in_place.proofs.updates.write_planned.Goals as goal
 

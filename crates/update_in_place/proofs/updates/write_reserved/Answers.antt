@@ -1,10 +1,10 @@
-use Rattle.std.proofs.Common.{◌∙◌, length, refl, sym, ap, inl, subst, arith}
+use Rattle.std.proofs.Common.{◌∙◌, length, refl, sym, ap, inl, subst}
 use Rattle.elf_object.specs.Object.{Object}
 use Rattle.elf_descriptor.specs.State.{State}
 use Rattle.elf_update.specs.Updates.{IsPlanned}
 use Rattle.update_moves.specs.Changes.{AreChanges}
 use Rattle.update_in_place.proofs.PhaseLaws.{flags_count}
-use Rattle.update_in_place.proofs.EndLaws.{wanted, with_memory, is_taken, later_err}
+use Rattle.update_in_place.proofs.EndLaws.{wanted, with_memory, later_err}
 use Rattle.update_in_place.proofs.updates.write_reserved.Goals as goal
 
 pub returns-in-Err-clause-writes : goal.returns-in-Err-clause-writes
