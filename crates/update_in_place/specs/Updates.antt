@@ -54,10 +54,11 @@ pub record HoldsMore {S : Type 0} (old new : State S) : Type 0 where
 -- ---- The call, where something is dirty
 
 -- After an Ok the device holds the image and the object is settled. After a failed read the device
--- is as before, nothing was handed to it, and the places are stored. After a failed write the device is torn between what it
--- held and the image, and the object over what is there of its base. After a refusal nothing
--- changed, but that memory may be kept aside for homes. It asks for at most the bytes of the homes
--- that move and are not loaded, and hands at most those of the parts that change and of the fill;
+-- is as before, nothing was handed to it, and the places are stored. After a failed write the
+-- device is torn between what it held and the image, and the object over what is there of its base.
+-- After a refusal nothing changed, but that memory may be kept aside for homes. It asks for at most
+-- the bytes of the homes that move and are not loaded, and hands at most those of the parts that
+-- change and of the fill;
 -- each cause is a count.
 pub record UpdatesInPlace {D : Type 0} (s : SourceGhosts D) (d : DeviceGhosts D)
     (result : Result ℕ ElfError) (old new : State D) : Type 0 where
