@@ -1,5 +1,5 @@
--- The lengths of an archive's format (ar.h), each name beside its number, and the two bytes that end
--- a header.
+-- The lengths of an archive's format (ar.h), each name beside its number, and the two bytes that
+-- end a header.
 use Rattle.std.specs.Prelude.{ℕ, List, [], ◌∷◌}
 use Rattle.ar_members.specs.declared.headers.TheConstants.{HEADER_LEN, FIRST}
 

@@ -17,8 +17,8 @@ pieces_between separator bytes = slice_split (λ b. b == separator) bytes
 abbrev pub words_of : List ℕ → List (List ℕ)
 words_of line = pieces_between (byte " ") line
 
--- a phrase at the front of words: what it says, or None where a number in it is out of its range, and
--- the words after it. It is BadWords where the words have another form.
+-- a phrase at the front of words: what it says, or None where a number in it is out of its range,
+-- and the words after it. It is BadWords where the words have another form.
 abbrev pub Phrase : Type 0 → Type 0
 Phrase X = List (List ℕ) → Result (Option X × List (List ℕ)) Why
 

@@ -82,8 +82,8 @@ fn with_digit(value: u64, radix: u32, digit: u32) -> Option<u64>
         .checked_add(u64::from(digit))
 }
 
-/// A number at each width: it, and whether it is in the width's range. Where it is not, the value is
-/// 0.
+/// A number at each width: it, and whether it is in the width's range. Where it is not, the value
+/// is 0.
 #[derive(Clone, Copy)]
 pub(crate) struct Number {
     /// It as one byte.

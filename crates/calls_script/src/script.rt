@@ -20,10 +20,9 @@ pub const MAX_SCRIPT: usize = 1_048_576;
 /// The calls of a script, in the order of its lines.
 ///
 /// It refuses a script of more than 1,048,576 bytes, as line 0, and else the first line that is no
-/// call: `BadCall` where its first word is none, then `BadWords` where the number or the form of its
-/// words is another, then `BadNumber` where a number is out of its range. `Memory` comes alone where
-/// memory runs out.
-/// Empty lines and those that begin with `#` are passed over, but counted.
+/// call: `BadCall` where its first word is none, then `BadWords` where the number or the form of
+/// its words is another, then `BadNumber` where a number is out of its range. `Memory` comes alone
+/// where memory runs out. Empty lines and those that begin with `#` are passed over, but counted.
 ///
 /// It looks at the script once, from its first byte to its last. No line and no word takes memory
 /// but the bytes of a HEX or a NAME.

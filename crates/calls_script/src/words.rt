@@ -37,8 +37,8 @@ fn find(bytes: &[u8], separator: u8) -> Option<usize>
 
 /// The words of a line that are left to read, which contracts see as their list. Each call takes
 /// what it reads off the front, and refuses `BadWords` where the words have another form; what is
-/// left then is open. Beside a value with numbers stands whether each of them is in its range; where
-/// one is not, the value is open.
+/// left then is open. Beside a value with numbers stands whether each of them is in its range;
+/// where one is not, the value is open.
 #[derive(Drop)]
 pub(crate) struct Words<'a> {
     /// What is left of the line, or None behind its last word.

@@ -16,7 +16,7 @@ use Rattle.tool_output.specs.declared.stops.Stop.{Stop}
 use Rattle.tool_output.specs.declared.outputs.Outputs.{Outputs}
 use Rattle.tool_output.specs.Stops.{stop_of}
 use Rattle.tool_output.specs.Names.{Name}
-use Rattle.tool_output.specs.Reports.{Reports, refusal}
+use Rattle.tool_output.specs.Reports.{Reports, refusal_report}
 use Rattle.tool_output.specs.Sources.{ReportsOn}
 use Rattle.tool_output.proofs.SourceLemmas.{stated_error, refuses_after}
 use Rattle.object_output.specs.Images.{file_object}
@@ -72,11 +72,11 @@ module _ {S O E : Type 0} (s : SourceGhosts S) (o : SinkGhosts O) (e : SinkGhost
       → ReportsOn s o e (calls_file_report cs name) r src after t u
   unfolding calls_file_report
   calls_refused r src after t u n d asks stated refused =
-      refuses_after o e s (calls_file_report cs name) r n src after t u d (refusal (codes "calls") name (error_text d)) asks (on_image (s.holds src) stated)
+      refuses_after o e s (calls_file_report cs name) r n src after t u d (refusal_report (codes "calls") name (error_text d)) asks (on_image (s.holds src) stated)
       refused.reports refused.stops refused.leaves
     where
       on_image : (held : Option (List ℕ)) → IfSome held (λ image. Follows {T = Object} (Err d) (file_object image))
-          → IfSome held (λ image. stop_of d ≡ None → calls_file_report cs name image ≡ refusal (codes "calls") name (error_text d))
+          → IfSome held (λ image. stop_of d ≡ None → calls_file_report cs name image ≡ refusal_report (codes "calls") name (error_text d))
       on_image None is = tt
       on_image (Some image) is = λ none. rw (stated_error d (file_object image) is none) refl
 

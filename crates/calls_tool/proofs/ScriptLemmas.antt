@@ -13,7 +13,7 @@ use Rattle.tool_output.specs.declared.stops.Stop.{Stop}
 use Rattle.tool_output.specs.declared.stops.Stop.TheVariants as stops
 use Rattle.tool_output.specs.declared.outputs.Outputs.{Outputs}
 use Rattle.tool_output.specs.Names.{Name}
-use Rattle.tool_output.specs.Reports.{no_report, refusal}
+use Rattle.tool_output.specs.Reports.{no_report, refusal_report}
 use Rattle.tool_output.specs.Steps.{Performs, LeavesOutputs, OnRead, OnWrite}
 use Rattle.tool_output.proofs.StepLemmas.{keeps_none, went_none, writes_went, writes_nothing}
 use Rattle.calls_script.specs.declared.calls.Call.{Call}
@@ -150,7 +150,7 @@ module _ {S O E : Type 0} (s : Ghosts S) (o : SinkGhosts O) (e : SinkGhosts E) (
 
   -- one with a bad line
   pub tells_bad : (bad : BadLine) (r : Result (Option (List Call)) Stop) → ReadsScript s (Ok (Err bad)) a b
-      → Performs o e r t u (refusal (codes "calls") name (bad_line_text bad)).marks None → IfOk r (λ calls. calls ≡ None) → LeavesOutputs o e ⊥ r t u
+      → Performs o e r t u (refusal_report (codes "calls") name (bad_line_text bad)).marks None → IfOk r (λ calls. calls ≡ None) → LeavesOutputs o e ⊥ r t u
       → TellsScript s o e name r a b t u
   unfolding script_report
   tells_bad bad r read said none left = record {

@@ -8,7 +8,7 @@ use Rattle.tool_output.specs.declared.stops.Stop.{Stop}
 use Rattle.tool_output.specs.declared.stops.Stop.TheVariants.{Memory}
 use Rattle.tool_output.specs.declared.outputs.Outputs.{Outputs}
 use Rattle.tool_output.specs.Names.{Name}
-use Rattle.tool_output.specs.Reports.{Report, no_report, refusal}
+use Rattle.tool_output.specs.Reports.{Report, no_report, refusal_report}
 use Rattle.tool_output.specs.Steps.{Performs, LeavesOutputs, OnRead, OnWrite}
 use Rattle.calls_script.specs.declared.calls.Call.{Call}
 use Rattle.calls_script.specs.declared.faults.Why.{Why}
@@ -56,7 +56,7 @@ calls_or_text (Err bad) = Err (bad_line_text bad)
 -- nothing is said of a script with calls, and one without is refused
 unfoldable pub script_report : Name → Result (List Call) (List ℕ) → Report
 script_report name (Ok calls) = no_report
-script_report name (Err text) = refusal (codes "calls") name text
+script_report name (Err text) = refusal_report (codes "calls") name text
 
 abbrev pub calls_if_any : Result (List Call) (List ℕ) → Option (List Call)
 calls_if_any (Ok calls) = Some calls

@@ -1,7 +1,7 @@
 //! A script that a source holds.
 
 ghost use Rattle.std.specs.Prelude.{◌≡◌, ◌⊎◌, IfOk, None, codes};
-ghost use Rattle.tool_output.specs.Reports.{refusal};
+ghost use Rattle.tool_output.specs.Reports.{refusal_report};
 ghost use Rattle.tool_output.specs.Steps.{Performs, LeavesOutputs};
 ghost use Rattle.calls_tool.specs.Scripts.{bad_line_text, ReadsScript, IsScript, TellsScript};
 
@@ -76,14 +76,14 @@ pub fn read_calls<S: Source>(alloc: Global, src: &mut S) -> Result<Result<Calls,
 }
 
 /// Refuses a script by its message: there are no calls.
-#[tactic(auto, unfolding(tool_output::specs::Reports::refusal))]
+#[tactic(auto, unfolding(tool_output::specs::Reports::refusal_report))]
 pub fn refuse_script<T: Line + Drop, O: Sink, E: Sink>(
     name: &FileName<'_>,
     text: T,
     outputs: &mut Outputs<'_, O, E>,
 ) -> Result<Option<Calls>, Stop>
     ensures performs { Performs O.Sink E.Sink result outputs.old outputs.new
-        (refusal (codes "calls") name.now (T.text text)).marks None }
+        (refusal_report (codes "calls") name.now (T.text text)).marks None }
     ensures none { IfOk result (λ calls. calls ≡ None) }
     ensures leaves { LeavesOutputs O.Sink E.Sink ⊥ result outputs.old outputs.new }
 {

@@ -25,7 +25,7 @@ use Rattle.tool_output.specs.declared.outputs.Outputs.{Outputs}
 use Rattle.tool_output.specs.Stops.{stop_of}
 use Rattle.tool_output.specs.Names.{file_name}
 use Rattle.tool_output.specs.Statuses.{refused_status}
-use Rattle.tool_output.specs.Reports.{Reports, refusal}
+use Rattle.tool_output.specs.Reports.{Reports, refusal_report}
 use Rattle.tool_output.specs.Files.{IsWithin, LeavesFilesBy}
 use Rattle.tool_output.specs.Outcomes.{Outcome, report_outcome, Does}
 use Rattle.tool_output.specs.Made.{made_file}
@@ -261,7 +261,7 @@ module _ {S F D O E : Type 0} (g : SourceGhosts S) (f : FilesGhosts F D) (o : Si
           rw (k.stops.0, k.stops.1) (nothing_done f o e refused_status _ Write a s)
       by_error x res bytes is k tells =
           rw is (reads_done f o e a a s t
-          (refusal (codes "calls") (file_name name) (error_text x)) None r tells
+          (refusal_report (codes "calls") (file_name name) (error_text x)) None r tells
           (only_reads_none f o e a) (none_asked r) k.reports)
         where
           none_asked : (q : Result Bool Stop) → OnOk q (Unit {0})

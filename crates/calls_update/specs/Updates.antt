@@ -13,7 +13,7 @@ use Rattle.tool_text.specs.declared.commands.CallsOutput.{CallsOutput}
 use Rattle.tool_text.specs.declared.commands.CallsOutput.TheVariants.{To, InPlace}
 use Rattle.tool_output.specs.Names.{file_name}
 use Rattle.tool_output.specs.Statuses.{refused_status}
-use Rattle.tool_output.specs.Reports.{joined, refusal}
+use Rattle.tool_output.specs.Reports.{joined, refusal_report}
 use Rattle.tool_output.specs.Files.{both_bounds}
 use Rattle.tool_output.specs.Outcomes.{FileWrite, Outcome, report_outcome}
 use Rattle.tool_output.specs.Made.{made_file}
@@ -64,4 +64,4 @@ abbrev pub updated_by : CallsOutput → List Call → List ℕ → Option ℕ �
     → Outcome
 updated_by output cs file asked (Ok o) = updated_outcome output cs file asked o
 updated_by output cs file asked (Err e) =
-    report_outcome (refusal (codes "calls") (file_name file) (error_text e)) asked
+    report_outcome (refusal_report (codes "calls") (file_name file) (error_text e)) asked

@@ -29,7 +29,8 @@ use Rattle.elf_object.specs.Settled.{settle, settled_section, settled_over}
 use Rattle.elf_object.specs.Steps.{with_ehdr, stored_ehdr, own_piece}
 use Rattle.elf_object.specs.Strings.{string_answer}
 use Rattle.elf_object.specs.Runs.{more_sym}
-use Rattle.elf_object.specs.Valid.{IsObject, IsTied, AreBytes, as_opened}
+use Rattle.elf_types.specs.Lists.{AreBytes}
+use Rattle.elf_object.specs.Valid.{IsObject, IsTied, as_opened}
 use Rattle.object_laws.specs.Laws.{ReopenLaw, SettlingKeepsItems}
 use Rattle.object_laws.proofs.KeepItemLaws.{addall_keeps}
 use Rattle.object_laws.proofs.ImageLaws.{placed-dirty, section_at-placed}

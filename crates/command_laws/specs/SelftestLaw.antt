@@ -10,7 +10,8 @@ use Rattle.command_outcomes.specs.Selftest.{selftest_done, selftest_outcome}
 use Rattle.command_laws.specs.SelftestSizes.{selftest_bytes, selftest_lines}
 
 -- what is generated is an object, its update is not refused, and the command makes its image, whose
--- length is stated, and shows the lines that are stated; the file that it opens again is not refused
+-- length is stated, and shows the lines that are stated; the file that it opens again is not
+-- refused
 pub record SelftestGives (out : List ℕ) (n : ℕ) : Type 0 where
   pub object : IsObject (generated n)
   pub updated : refusal (generated_and_shifted n) ≡ None

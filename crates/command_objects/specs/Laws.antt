@@ -16,7 +16,8 @@ use Rattle.elf_object.specs.Object.{Object}
 use Rattle.elf_object.specs.Open.{begun, opened, standing_header}
 use Rattle.elf_object.specs.Answers.{items_at, syms_of, rels_of, relas_of}
 use Rattle.elf_object.specs.Derived.{where_any}
-use Rattle.elf_object.specs.Valid.{AreBytes, IsObject}
+use Rattle.elf_types.specs.Lists.{AreBytes}
+use Rattle.elf_object.specs.Valid.{IsObject}
 use Rattle.command_objects.specs.Words.{header_at}
 use Rattle.command_objects.specs.Arranged.{Rebuilt}
 use Rattle.command_objects.specs.Rebuilt.{rebuilt, stripped}

@@ -7,7 +7,7 @@ use Rattle.tool_output.specs.Messages.{message}
 use Rattle.tool_output.specs.Names.{shown_name}
 use Rattle.command_objects.proofs.Computing.{all_words as objects_words}
 use Rattle.tool_output.specs.Marks.{said}
-use Rattle.tool_output.specs.Reports.{shown, refusal}
+use Rattle.tool_output.specs.Reports.{shown, refusal_report}
 use Rattle.tool_output.specs.Outcomes.{write_of}
 use Rattle.tool_output.specs.Made.{written_outcome}
 use Rattle.object_output.specs.Images.{object_by, file_object}
@@ -19,7 +19,7 @@ use Rattle.command_outcomes.specs.Selftest.{selftest_done, selftest_outcome}
 -- its value says nothing: what counts is that a proof that unfolds it unfolds the others
 unfoldable pub all_words : Bool
 unfolding objects_words numbered numbered_twice kind_text part_text unfit_text overlap_text
-    held_text error_text file_kind message shown_name said shown refusal write_of
+    held_text error_text file_kind message shown_name said shown refusal_report write_of
     written_outcome object_by file_object bytes_named object_named bytes_of_each
     strip_alone strip_split strip_done strip_outcome unstrip_complaint unstrip_done
     unstrip_outcome copy_text copy_done copy_outcome rehash_text rehash_done rehash_outcome

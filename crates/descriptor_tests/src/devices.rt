@@ -25,9 +25,9 @@ const EIGHT: Shdr = Shdr {
     ..NULL_SECTION
 };
 
-/// An object with eight bytes at 64, section 1, and eight at 80, section 2. Between them stand eight
-/// bytes that no part covers, and eight more before its table of section headers, which begins at
-/// 96 and ends it: at 216 in class 32, and at 288 in class 64.
+/// An object with eight bytes at 64, section 1, and eight at 80, section 2. Between them stand
+/// eight bytes that no part covers, and eight more before its table of section headers, which
+/// begins at 96 and ends it: at 216 in class 32, and at 288 in class 64.
 const TWO_HOMES: Recipe = Recipe {
     start: Start::Table(96, 3, 0),
     puts: &[
@@ -146,8 +146,8 @@ fn is_left(device: Option<MemDevice>, form: Form, bytes: &[u8], asked: Option<u6
     }
 }
 
-/// Whether work is done over a device with the bytes of an image, and leaves it those that the image
-/// has then.
+/// Whether work is done over a device with the bytes of an image, and leaves it those that the
+/// image has then.
 fn is_done_over<W: Work>(
     alloc: Global,
     work: &W,

@@ -19,7 +19,7 @@ use Rattle.elf_ident.specs.declared.fronts.Front.{Front}
 use Rattle.elf_ident.specs.Reading.{IsFittingFront, IsCounted}
 use Rattle.elf_object.specs.Object.{Object, Section, Home, home_piece}
 use Rattle.elf_object.specs.Open.{standing_header, begun, opened, opened_section, home_of, home_bytes}
-use Rattle.elf_object.specs.Valid.{AreBytes}
+use Rattle.elf_types.specs.Lists.{AreBytes}
 use Rattle.object_laws.specs.Laws.{BegunFits, BeginningsAreTied}
 use Rattle.writing_laws.specs.Based.{BeginningsAreBased}
 use Rattle.section_data.specs.Views.{CellView, opened_cell}

@@ -9,7 +9,7 @@ use Rattle.elf_types.specs.declared.records.Ehdr.{Ehdr}
 use Rattle.elf_outside.specs.declared.sources.Source.{Ghosts}
 use Rattle.elf_object.specs.Object.{Object, Section}
 use Rattle.elf_object.specs.Open.{created_over, new_ehdr}
-use Rattle.elf_object.specs.Valid.{AreBytes}
+use Rattle.elf_types.specs.Lists.{AreBytes}
 use Rattle.object_laws.specs.Laws.{BeginningsAre, BeginningsAreTied}
 use Rattle.writing_laws.specs.Based.{BeginningsAreBased}
 use Rattle.section_data.specs.Held.{cell_is_loaded}

@@ -10,7 +10,7 @@ use Rattle.elf_outside.specs.Writes.{WritesOver, TearsOver, Resizes, ResizesOrNo
 use Rattle.elf_outside.proofs.WriteLemmas.{written_is_torn}
 use Rattle.elf_object.specs.Blocks.{extents_meet}
 use Rattle.elf_object.specs.Object.{Object, Section}
-use Rattle.elf_object.specs.Valid.{AreBytes}
+use Rattle.elf_types.specs.Lists.{AreBytes}
 use Rattle.writing_laws.specs.Based.{some_unmarked}
 use Rattle.writing_laws.proofs.DisturbedLaws.{meeting_to}
 use Rattle.elf_descriptor.specs.declared.body.Body.{Body}

@@ -5,7 +5,8 @@ use Rattle.std.proofs.lemmas.List.{length-take, length-drop}
 use Rattle.std.proofs.lemmas.List.Elements.{All-get_or, All-take, All-replicate, All-from_get_or}
 use Rattle.elf_object.specs.Object.{Object, Section, section_at, absent_section, is_dirty}
 use Rattle.elf_object.specs.Open.{home_bytes}
-use Rattle.elf_object.specs.Valid.{AreBytes, IsObject}
+use Rattle.elf_types.specs.Lists.{AreBytes}
+use Rattle.elf_object.specs.Valid.{IsObject}
 use Rattle.writing_laws.specs.Based.{IsBased, HomeStands, some_unmarked}
 use Rattle.section_data.specs.Views.{CellView}
 use Rattle.section_data.specs.Held.{cell_is_loaded}

@@ -10,7 +10,7 @@ use Rattle.elf_ident.specs.declared.fronts.Front.{Front}
 use Rattle.elf_ident.specs.Reading.{IsFittingFront, IsCounted, HasTables}
 use Rattle.elf_object.specs.Object.{Object}
 use Rattle.elf_object.specs.Open.{begun, opened, home_of, standing_header}
-use Rattle.elf_object.specs.Valid.{AreBytes}
+use Rattle.elf_types.specs.Lists.{AreBytes}
 use Rattle.section_data.specs.Views.{opened_cell}
 use Rattle.elf_descriptor.specs.declared.scn.Scn.{Scn}
 use Rattle.elf_descriptor.specs.declared.body.Body.{Body}

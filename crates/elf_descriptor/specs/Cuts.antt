@@ -16,12 +16,14 @@ LiesInBase o s =
     ((section_at o s).home.out ≡ false)
     × ((section_at o s).home.at + (section_at o s).home.len ≤ length o.base)
 
--- what a home holds does not rest on the base: it is loaded, and each piece of its section is marked
+-- what a home holds does not rest on the base: it is loaded, and each piece of its section is
+-- marked
 abbrev pub IsKeptApart : {S : Type 0} → State S → ℕ → Type 0
 IsKeptApart state s =
     IsTrue (is_loaded state.loaded s) × (some_unmarked (section_at state.o s) ≡ false)
 
--- The object is marked as a whole, and no home that shares a place with the range rests on the base.
+-- The object is marked as a whole, and no home that shares a place with the range rests on the
+-- base.
 pub record MayWrite {S : Type 0} (state : State S) (at n : ℕ) : Type 0 where
   pub marked : state.o.marked ≡ true
   pub homes : (s : ℕ) → LiesInBase state.o s

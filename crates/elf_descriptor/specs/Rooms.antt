@@ -1,5 +1,5 @@
--- Memory for what is read: it is kept aside for a home's bytes, and they are let go where they can be
--- read again (elf_getdata and elf_rawdata of elf(3E)).
+-- Memory for what is read: it is kept aside for a home's bytes, and they are let go where they can
+-- be read again (elf_getdata and elf_rawdata of elf(3E)).
 use Rattle.std.specs.Prelude.{◌≡◌, ℕ, Bool, true, false, not, ◌&&◌, ◌||◌, length, slice_get, slice_set, is_none, List, Option, None, Some, if◌then◌else◌}
 use Rattle.elf_object.specs.Words.{Wants}
 use Rattle.elf_object.specs.Object.{Object, Section, section_at}

@@ -10,6 +10,7 @@ use Rattle.elf_types.specs.declared.records.Phdr.{Phdr}
 use Rattle.elf_types.specs.declared.records.Shdr.{Shdr}
 use Rattle.elf_types.specs.declared.constants.TheConstants.{SHT_NULL, SHT_NOBITS, SHF_ALLOC}
 use Rattle.elf_xlate.specs.declared.content.Items.{Items}
+use Rattle.elf_types.specs.Kinds.{has_flag}
 use Rattle.elf_ident.specs.Front.{zero_shdr}
 use Rattle.elf_object.specs.Blocks.{Block}
 
@@ -105,10 +106,6 @@ is_null h = h.stype == SHT_NULL
 -- a section of type SHT_NULL or SHT_NOBITS occupies no space in the file
 abbrev pub occupies_file : Shdr → Bool
 occupies_file h = not (h.stype == SHT_NULL || h.stype == SHT_NOBITS)
-
--- whether a flag of sh_flags is set, a power of two (gABI chapter 4, "Sections", sh_flags)
-abbrev pub has_flag : ℕ → Shdr → Bool
-has_flag flag h = h.flags / flag % 2 == 1
 
 -- SHF_ALLOC: the section is in memory when the program runs
 unfoldable pub is_allocated : Shdr → Bool

@@ -3,6 +3,7 @@
 -- said of the numbers in program headers and in own items, which a borrower may have left: a file
 -- form takes their lowest bytes.
 use Rattle.std.specs.Prelude.{◌≡◌, ℕ, ◌-◌, ◌^◌, ◌<◌, ◌≤◌, true, false, List, [], ◌∷◌, length, All, IfSome, IsSome, IsTrue, Ok}
+use Rattle.elf_types.specs.Lists.{AreBytes}
 use Rattle.elf_types.specs.declared.records.Class.{Class}
 use Rattle.elf_types.specs.declared.records.Kind.TheVariants as kinds
 use Rattle.elf_types.specs.declared.constants.TheConstants.{EI_NIDENT, EI_PAD, MAX_SECTIONS, MAX_SEGMENTS, MAX_PIECES}
@@ -10,9 +11,6 @@ use Rattle.elf_xlate.specs.Headers.{IsEhdr, IsShdr, ehdr_fits, shdr_fits}
 use Rattle.elf_object.specs.Object.{Object, Section, Piece, Home, is_dirty}
 use Rattle.elf_object.specs.Open.{opened}
 use Rattle.elf_object.specs.Calls.{Call, step, is_piece_align}
-
-abbrev pub AreBytes : List ℕ → Type 0
-AreBytes l = All (λ n. n < 2 ^ 8) l
 
 -- a home: where it lies in the file its bytes are as many as it is long, where it does not there
 -- are none, and a home of no kind is empty

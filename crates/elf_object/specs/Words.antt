@@ -7,7 +7,8 @@
 use Rattle.std.specs.Prelude.{◌≡◌, ℕ, Bool, true, false, IsTrue, List, length, Option, Some, None, Result, Ok, Err, IsOk, ◌⊎◌}
 use Rattle.std.specs.Borrow.{Bor}
 use Rattle.elf_types.specs.declared.errors.ElfError.{ElfError}
-use Rattle.elf_types.specs.declared.errors.ElfError.TheVariants.{Memory, Read, Write, NoEntry, Unfit, BadChain, Unended, Overlap, TooLarge}
+use Rattle.elf_types.specs.declared.errors.ElfError.TheVariants.{Memory, Read, Write, NoEntry, Unfit, BadChain, Unended}
+use Rattle.elf_layout.specs.Layout.{MayWantMemory}
 use Rattle.elf_xlate.specs.declared.content.Items.{Items}
 use Rattle.elf_xlate.specs.Translation.{items_kind, items_count}
 
@@ -31,13 +32,6 @@ is_late _ = false
 abbrev pub MayWant : {A : Type 0} → Result A ElfError → Type 0
 MayWant (Ok x) = Unit {0}
 MayWant (Err e) = IsTrue (is_late e)
-
--- in an update, Memory: in place of a value, or of what is seen once the parts are sorted in a list
-abbrev pub MayWantMemory : {A : Type 0} → Result A ElfError → Type 0
-MayWantMemory (Ok x) = Unit {0}
-MayWantMemory (Err (Overlap a b)) = Unit {0}
-MayWantMemory (Err TooLarge) = Unit {0}
-MayWantMemory (Err e) = ⊥
 
 -- ---- Calls that read
 
@@ -126,8 +120,8 @@ Updates (Err Memory) old new stated stepped = MayWantMemory stated × (new ≡ o
 Updates (Err e) old new stated stepped = (stated ≡ Err e) × (new ≡ old)
 
 -- of any update, over any source and to any sink or device: a value and a refusal are the stated
--- ones. It fails to read or to write only where it is not refused, and each of the two has its cause
--- in a count of the outside. What it leaves is stated beside.
+-- ones. It fails to read or to write only where it is not refused, and each of the two has its
+-- cause in a count of the outside. What it leaves is stated beside.
 abbrev pub UpdateAnswers : {A : Type 0} → Result A ElfError → Result A ElfError → Type 0
 UpdateAnswers (Ok x) stated = stated ≡ Ok x
 UpdateAnswers (Err Memory) stated = MayWantMemory stated

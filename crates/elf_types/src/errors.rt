@@ -6,7 +6,9 @@ ghost use Rattle.elf_types.specs.declared.errors.ElfError.TheVariants.{Memory};
 use crate::records::{Kind, Part};
 use std::alloc::{AllocError, AllocFailed};
 
-/// Why a call of the library was refused. Each variant carries the numbers that show it.
+/// Why a call of the library was refused. A variant on a section, a piece, an item, a string, an
+/// alignment or a place carries the numbers that show it. One on the image as a whole, on the
+/// outside, on section 0 or on a flag carries none.
 #[derive(Clone, Copy, Debug, PartialEq, Eq)]
 pub enum ElfError {
     /// There is no memory for the call.

@@ -25,7 +25,8 @@ use Rattle.elf_object.specs.Layout.{parts_of, places_of, placed_parts, placed, p
 use Rattle.elf_object.specs.Image.{image, image_length, kept_base, uncovered_byte, part_blocks}
 use Rattle.elf_object.specs.Refusal.{refusal}
 use Rattle.elf_object.specs.Due.{update_to_due, homes_due, clean_homes, is_refused_unread, unless_unread}
-use Rattle.elf_object.specs.Words.{UpdateAnswers, MayWantMemory}
+use Rattle.elf_layout.specs.Layout.{MayWantMemory}
+use Rattle.elf_object.specs.Words.{UpdateAnswers}
 use Rattle.elf_object.specs.Calls.{update_null}
 use Rattle.elf_object.proofs.RefusalLaws.{update_refuses}
 use Rattle.object_laws.proofs.ImageLaws.{placed-dirty, placed-clean, image-clean}

@@ -37,8 +37,8 @@ fn plan_placed<S: Source>(elf: &Elf<S>, placed: PlacedParts) -> Result<PlannedPa
     }
 }
 
-/// The plan of the image of an object in which something is dirty. It refuses as an update does, and
-/// reads nothing.
+/// The plan of the image of an object in which something is dirty. It refuses as an update does,
+/// and reads nothing.
 pub fn plan_update<S: Source>(elf: &Elf<S>) -> Result<PlannedParts, ElfError>
     requires { is_dirty elf.now.o ≡ true }
     ensures ok { IfOk result (IsPlanned elf.now.o) }
@@ -147,8 +147,8 @@ fn update_dirty<S: Source, K: Sink>(elf: &mut Elf<S>, sink: &mut K) -> Result<u6
 /// Puts the image to a sink, in order, and answers its length. The places of the parts are stored
 /// as [`update_null`](update_plan::update_null) does, and the marks stay. Where nothing is dirty it
 /// puts the base. It refuses, in this order, `TooMany`, `Unfit`, `OutOfFile`, `Overlap` and
-/// `TooLarge`, which leave descriptor and sink as they were, and `Memory` in place of a value and of
-/// the last two. After `Read` and `Write` the sink has a front of the image, and the places are
+/// `TooLarge`, which leave descriptor and sink as they were, and `Memory` in place of a value and
+/// of the last two. After `Read` and `Write` the sink has a front of the image, and the places are
 /// stored.
 ///
 /// Source: elf_update with ELF_C_WRITE of elf(3E).

@@ -10,7 +10,7 @@ use Rattle.tool_output.specs.declared.stops.Stop.{Stop}
 use Rattle.tool_output.specs.declared.outputs.Outputs.{Outputs}
 use Rattle.tool_output.specs.Marks.{Mark}
 use Rattle.tool_output.specs.Names.{Name, file_name}
-use Rattle.tool_output.specs.Reports.{Report, Reports, no_report, refusal}
+use Rattle.tool_output.specs.Reports.{Report, Reports, no_report, refusal_report}
 use Rattle.tool_output.specs.Steps.{Writes, Performs}
 use Rattle.tool_output.specs.Statuses.{refused_status}
 use Rattle.tool_output.specs.Files.{report_on, asks_on, both_bounds, IsWithin, OnlyReads, LeavesFiles, ReportsFiles}
@@ -79,7 +79,7 @@ module _ {F D O E : Type 0} (f : FilesGhosts F D) (o : SinkGhosts O) (e : SinkGh
 
   -- it has none, and was refused
   pub no_calls_done : ReadsCalls f o e script (Ok None) a b s t → IsTrue (f.tells a) → Does f o e refused_status (calls_outcome file script (f.named a)) (Ok true) a b s t
-  unfolding calls_outcome script_report refusal
+  unfolding calls_outcome script_report refusal_report
   no_calls_done h told = by_script (script_of (f.named a script)) (h.says told) (h.asks told)
     where
       by_script : (read : Result (List Call) (List ℕ)) → Performs o e (Ok None) s t (script_report (file_name script) read).marks (calls_if_any read)
@@ -88,9 +88,9 @@ module _ {F D O E : Type 0} (f : FilesGhosts F D) (o : SinkGhosts O) (e : SinkGh
           (report_outcome (calls_report_by read file script (f.named a)) (both_bounds (asks_on script_asks (f.named a) script) (calls_asks_by read file (f.named a)))) (Ok true) a b s t
       by_script (Ok calls) said asked = let never = said.value_is in cc
       by_script (Err text) said asked =
-          reads_done f o e a b s t (refusal (codes "calls") (file_name script) text) (both_bounds (asks_on script_asks (f.named a) script) (Some 0)) (Ok true) told h.reads
+          reads_done f o e a b s t (refusal_report (codes "calls") (file_name script) text) (both_bounds (asks_on script_asks (f.named a) script) (Some 0)) (Ok true) told h.reads
           (within_none (asks_on script_asks (f.named a) script) (f.taken a) (f.taken b) asked)
-          (record { writes = writes_went o e true s t (refusal (codes "calls") (file_name script) text).marks said.writes.ok; value_is = refl })
+          (record { writes = writes_went o e true s t (refusal_report (codes "calls") (file_name script) text).marks said.writes.ok; value_is = refl })
 
   -- or the run stopped
   pub calls_stopped : (stop : Stop) → ReadsCalls f o e script (Err stop) a b s t → IsTrue (f.tells a)
@@ -105,14 +105,14 @@ module _ {F D O E : Type 0} (f : FilesGhosts F D) (o : SinkGhosts O) (e : SinkGh
           reads_done f o e a b s t (report_on (codes "calls") (calls_file_report calls) (f.named a) file) _ (Err stop) told h.reads tt
           (record { writes = writes_stop o e stop s t [] (report_on (codes "calls") (calls_file_report calls) (f.named a) file).marks said.writes; value_is = tt })
       by_script (Err text) said =
-          reads_done f o e a b s t (refusal (codes "calls") (file_name script) text) _ (Err stop) told h.reads tt
-          (record { writes = stops_as o e stop s t (refusal (codes "calls") (file_name script) text).marks said.writes; value_is = tt })
+          reads_done f o e a b s t (refusal_report (codes "calls") (file_name script) text) _ (Err stop) told h.reads tt
+          (record { writes = stops_as o e stop s t (refusal_report (codes "calls") (file_name script) text).marks said.writes; value_is = tt })
 
 -- ---- The script, by what its name holds
 
 module _ {O E : Type 0} (o : SinkGhosts O) (e : SinkGhosts E) (script : List ℕ) (named : Map) (s t : Outputs O E) (r : Result (Option (List Call)) Stop) where
   -- it is not there
-  pub script_absent : named script ≡ None → Performs o e r s t (refusal (codes "calls") (file_name script) (codes "not found")).marks None
+  pub script_absent : named script ≡ None → Performs o e r s t (refusal_report (codes "calls") (file_name script) (codes "not found")).marks None
       → Performs o e r s t (script_report (file_name script) (script_of (named script))).marks (calls_if_any (script_of (named script)))
   unfolding script_report
   script_absent is said = rw is said

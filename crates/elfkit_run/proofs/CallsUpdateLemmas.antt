@@ -14,7 +14,7 @@ use Rattle.tool_text.specs.declared.commands.CallsOutput.TheVariants.{To}
 use Rattle.tool_output.specs.declared.stops.Stop.{Stop}
 use Rattle.tool_output.specs.declared.outputs.Outputs.{Outputs}
 use Rattle.tool_output.specs.Names.{file_name}
-use Rattle.tool_output.specs.Reports.{no_report, refusal}
+use Rattle.tool_output.specs.Reports.{no_report, refusal_report}
 use Rattle.tool_output.specs.Steps.{Performs}
 use Rattle.tool_output.specs.Statuses.{refused_status}
 use Rattle.tool_output.specs.Files.{asks_on, both_bounds, IsWithin}
@@ -97,7 +97,7 @@ module _ (cs : List Call) (out file : List ℕ) (asked : Option ℕ) where
   held_is named (Some bytes) is = rw is (by_object (calls_asks cs bytes) (file_object bytes))
   held_is named None is =
       rw is (ap (λ (bound : Option ℕ).
-      record (report_outcome (refusal (codes "calls") (file_name file) (codes "not found"))
+      record (report_outcome (refusal_report (codes "calls") (file_name file) (codes "not found"))
       asked) { asks = bound }) (bounds_none asked))
 
 -- ---- The outcome, by what the script says
@@ -143,7 +143,7 @@ module _ {F D O E : Type 0} (f : FilesGhosts F D) (o : SinkGhosts O) (e : SinkGh
   pub no_update_done : ReadsCalls f o e script (Ok None) a b s t → IsTrue (f.tells a)
       → Does f o e refused_status (calls_update_outcome (To out) file script (f.named a))
       (Ok true) a b s t
-  unfolding calls_update_outcome script_report refusal
+  unfolding calls_update_outcome script_report refusal_report
   no_update_done h told = by_script (script_of (f.named a script)) (h.says told) (h.asks told)
     where
       by_script : (read : Result (List Call) (List ℕ))
@@ -152,10 +152,10 @@ module _ {F D O E : Type 0} (f : FilesGhosts F D) (o : SinkGhosts O) (e : SinkGh
           → IsWithin script_bound (f.taken a) (f.taken b) → DoesBy read (Ok true) b t
       by_script (Ok cs) said within = let never = said.value_is in cc
       by_script (Err text) said within =
-          reads_done f o e a b s t (refusal (codes "calls") (file_name script) text) script_bound
+          reads_done f o e a b s t (refusal_report (codes "calls") (file_name script) text) script_bound
           (Ok true) told h.reads within (record {
             writes = writes_went o e true s t
-                (refusal (codes "calls") (file_name script) text).marks said.writes.ok;
+                (refusal_report (codes "calls") (file_name script) text).marks said.writes.ok;
             value_is = refl;
           })
 
@@ -175,9 +175,9 @@ module _ {F D O E : Type 0} (f : FilesGhosts F D) (o : SinkGhosts O) (e : SinkGh
           stopped_done f o e {T = Bool} {U = Option (List Call)} refused_status stated []
           stated.marks stop a b s t refl told h.reads said.writes
       by_script (Err text) said =
-          reads_done f o e a b s t (refusal (codes "calls") (file_name script) text) script_bound
+          reads_done f o e a b s t (refusal_report (codes "calls") (file_name script) text) script_bound
           (Err stop) told h.reads tt (record {
             writes = stops_as o e stop s t
-                (refusal (codes "calls") (file_name script) text).marks said.writes;
+                (refusal_report (codes "calls") (file_name script) text).marks said.writes;
             value_is = tt;
           })

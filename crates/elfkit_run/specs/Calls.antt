@@ -8,7 +8,7 @@ use Rattle.tool_output.specs.declared.stops.Stop.{Stop}
 use Rattle.tool_output.specs.declared.outputs.Outputs.{Outputs}
 use Rattle.tool_output.specs.Names.{file_name}
 use Rattle.tool_output.specs.Steps.{Performs}
-use Rattle.tool_output.specs.Reports.{Report, refusal}
+use Rattle.tool_output.specs.Reports.{Report, refusal_report}
 use Rattle.tool_output.specs.Files.{report_on, asks_on, both_bounds, IsWithin, OnlyReads, LeavesFiles}
 use Rattle.tool_output.specs.Outcomes.{Outcome, report_outcome}
 use Rattle.object_output.specs.Images.{file_object}
@@ -49,7 +49,7 @@ pub record ReadsCalls {F D O E : Type 0} (f : FilesGhosts F D) (o : SinkGhosts O
 abbrev pub calls_report_by : Result (List Call) (List ℕ) → List ℕ → List ℕ → Map → Report
 calls_report_by (Ok calls) file script named =
     report_on (codes "calls") (calls_file_report calls) named file
-calls_report_by (Err text) file script named = refusal (codes "calls") (file_name script) text
+calls_report_by (Err text) file script named = refusal_report (codes "calls") (file_name script) text
 
 -- what they ask the file for at most
 abbrev pub file_asks : List Call → List ℕ → Option ℕ
@@ -75,14 +75,14 @@ abbrev pub updated_held : CallsOutput → List Call → List ℕ → Option ℕ 
 updated_held output cs file asked (Some bytes) =
     updated_by output cs file (both_bounds asked (Some (calls_asks cs bytes))) (file_object bytes)
 updated_held output cs file asked None =
-    report_outcome (refusal (codes "calls") (file_name file) (codes "not found")) asked
+    report_outcome (refusal_report (codes "calls") (file_name file) (codes "not found")) asked
 
 -- by what the script says
 abbrev pub updated_script : CallsOutput → Result (List Call) (List ℕ) → List ℕ → List ℕ
     → Option ℕ → Option (List ℕ) → Outcome
 updated_script output (Ok cs) file script asked held = updated_held output cs file asked held
 updated_script output (Err text) file script asked held =
-    report_outcome (refusal (codes "calls") (file_name script) text) asked
+    report_outcome (refusal_report (codes "calls") (file_name script) text) asked
 
 unfoldable pub calls_update_outcome : CallsOutput → List ℕ → List ℕ → Map → Outcome
 calls_update_outcome output file script named =

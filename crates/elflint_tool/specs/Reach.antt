@@ -51,9 +51,9 @@ pub record LinksIntact (test : Shdr → Bool) (o : Object) (h : ℕ) : Type 0 wh
 
 -- ---- The law
 
--- where no finding of rule 31 is at a hash section of an image, or none of rule 32 at a hash section
--- of GNU, the lookup by it answers for every name what a search among all symbols of the table
--- answers to which it links
+-- where no finding of rule 31 is at a hash section of an image, or none of rule 32 at a hash
+-- section of GNU, the lookup by it answers for every name what a search among all symbols of the
+-- table answers to which it links
 pub record FoundAsListed : Type 0 where
   pub sysv : (image : List ℕ) (o : Object) (h : ℕ) (name : List ℕ) → opened image ≡ Ok o
       → LinksIntact is_hash o h → finds_nothing_at 31 o h ≡ true

@@ -15,7 +15,7 @@ use Rattle.elf_xlate.specs.Translation.{decoded, encoded, items_kind, items_coun
 use Rattle.elf_xlate.proofs.Bytes.{lowest_same}
 use Rattle.elf_object.specs.Object.{Object, section_at, piece_at}
 use Rattle.elf_object.specs.Answers.{content, or_empty, items_at, kind_at, count_at, bytes_of, no_section, no_data, wrong_kind, no_content, out_of_file, piece_refusal, lend_refusal}
-use Rattle.elf_object.specs.Valid.{AreBytes}
+use Rattle.elf_types.specs.Lists.{AreBytes}
 use Rattle.elf_object.specs.Joined.{piece_bytes}
 use Rattle.elf_object.proofs.AnswerLaws.{lend_kind, lend_passed}
 use Rattle.gelf_view.specs.Calls.{kind_refusal}

@@ -1,5 +1,5 @@
--- The sizes of the records of notes (gABI chapter 5, "Note Section") and of GNU's version sections in
--- bytes, each name beside its number.
+-- The sizes of the records of notes (gABI chapter 5, "Note Section") and of GNU's version sections
+-- in bytes, each name beside its number.
 use Rattle.std.specs.Prelude.{ℕ, List, [], ◌∷◌}
 use Rattle.gelf_view.specs.declared.notes.TheConstants.{NOTE_HEADER_SIZE}
 use Rattle.gelf_view.specs.declared.versions.TheConstants.{VERDEF_SIZE, VERDAUX_SIZE, VERNEED_SIZE, VERNAUX_SIZE}

@@ -42,8 +42,8 @@ impl Aux for Vernaux {
 }
 
 /// Reads the record at a place, and moves the place behind it. It gives None where none of the
-/// entry's records is left. It refuses `BadChain` with the place where the record before said that it
-/// is the last one, and else as `read_record` does; the place stays then.
+/// entry's records is left. It refuses `BadChain` with the place where the record before said that
+/// it is the last one, and else as `read_record` does; the place stays then.
 fn read_next_aux<S: Source, R: Aux>(
     elf: &mut Elf<S>,
     d: DataId,

@@ -83,8 +83,8 @@ fn extended_index<S: Source>(
 
 /// The section of a symbol that was looked at, which is symbol `i` of a section, as `symshndx`
 /// tells it: for who goes over the symbols of a section, and has looked for its table of extended
-/// indexes once. Where the index is `SHN_XINDEX` it refuses `NoEntry` with count 0 where there is no table,
-/// and else as `word` on it; `Memory` or `Read` may come there. It marks nothing dirty.
+/// indexes once. Where the index is `SHN_XINDEX` it refuses `NoEntry` with count 0 where there is
+/// no table, and else as `word` on it; `Memory` or `Read` may come there. It marks nothing dirty.
 ///
 /// Source: gABI chapter 4, "Symbol Table", `st_shndx`; gelf_getsymshndx of gelf(3E), which takes
 /// the data of both tables.

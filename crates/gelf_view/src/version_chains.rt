@@ -1,6 +1,6 @@
 //! The chains of version sections, whichever kind they are of: entries one behind the other, each
-//! with a list of names. A walk over either ends by itself: each further entry stands behind the one
-//! before, and an entry tells how many names it has.
+//! with a list of names. A walk over either ends by itself: each further entry stands behind the
+//! one before, and an entry tells how many names it has.
 
 ghost use Rattle.std.specs.Prelude.{◌≡◌, ◌<◌, ◌^◌, [], ℕ, Result as TheResult, IsTrue, IfOk, IfSome, OnOk};
 ghost use Rattle.elf_types.specs.declared.errors.ElfError.{ElfError as TheElfError};

@@ -5,8 +5,8 @@ use crate::edits::{EDITS, Edit, after, before, edited, make_edit};
 use elf_types::ElfError;
 use std::alloc::Global;
 
-/// Whether an edited object is written in place: the device holds the image, and a second update has
-/// nothing to do.
+/// Whether an edited object is written in place: the device holds the image, and a second update
+/// has nothing to do.
 fn is_written(alloc: Global, how: Edit) -> Result<bool, ElfError> {
     let image = after(alloc, how)?;
     let mut elf = edited(alloc, how, 0, 0)?;

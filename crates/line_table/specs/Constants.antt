@@ -1,5 +1,5 @@
--- The numbers of the opcodes (DWARF 4, 7.21), and the first length that is reserved (7.4), each name
--- beside its number.
+-- The numbers of the opcodes (DWARF 4, 7.21), and the first length that is reserved (7.4), each
+-- name beside its number.
 use Rattle.std.specs.Prelude.{ℕ, List, [], ◌∷◌}
 use Rattle.line_table.specs.declared.header.TheConstants.{FIRST_RESERVED_LENGTH}
 use Rattle.line_table.specs.declared.opcodes.TheConstants.{EXTENDED, DW_LNS_COPY, DW_LNS_ADVANCE_PC, DW_LNS_ADVANCE_LINE, DW_LNS_SET_FILE, DW_LNS_SET_COLUMN, DW_LNS_NEGATE_STMT, DW_LNS_SET_BASIC_BLOCK, DW_LNS_CONST_ADD_PC, DW_LNS_FIXED_ADVANCE_PC, DW_LNS_SET_PROLOGUE_END, DW_LNS_SET_EPILOGUE_BEGIN, DW_LNS_SET_ISA, DW_LNE_END_SEQUENCE, DW_LNE_SET_ADDRESS, DW_LNE_DEFINE_FILE}

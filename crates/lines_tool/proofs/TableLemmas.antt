@@ -11,7 +11,7 @@ use Rattle.elf_object.specs.Answers.{raw_refusal}
 use Rattle.elf_object.specs.Calls.{raw_answer}
 use Rattle.elf_descriptor.specs.Homes.{out_answer}
 use Rattle.tool_output.specs.Names.{Name}
-use Rattle.tool_output.specs.Reports.{refusal}
+use Rattle.tool_output.specs.Reports.{refusal_report}
 use Rattle.lines_tool.specs.Tables.{section_refused, table_report, bytes_report, section_report}
 
 module _ (name : Name) (o : Object) (s : ℕ) where
@@ -22,7 +22,7 @@ module _ (name : Name) (o : Object) (s : ℕ) where
   section_there bytes is = rw is refl
 
   -- they are out of the file
-  pub section_out : (e : ElfError) → raw_answer o s ≡ Err e → section_report name o s ≡ refusal (codes "lines") name (error_text e)
+  pub section_out : (e : ElfError) → raw_answer o s ≡ Err e → section_report name o s ≡ refusal_report (codes "lines") name (error_text e)
   unfolding section_report
   section_out e is = rw is refl
 
@@ -50,5 +50,5 @@ module _ (name : Name) (o : Object) (s : ℕ) where
     unfolding bytes_report
     compressed_there is file = rw (section_there (section_at o s).raw (home_in file), is) refl
 
-    pub compressed_out : out_answer o s ≡ Ok true → section_report name o s ≡ refusal (codes "lines") name (error_text (error.OutOfFile s))
+    pub compressed_out : out_answer o s ≡ Ok true → section_report name o s ≡ refusal_report (codes "lines") name (error_text (error.OutOfFile s))
     compressed_out file = section_out (error.OutOfFile s) (home_out file)

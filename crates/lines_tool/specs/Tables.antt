@@ -13,13 +13,13 @@ use Rattle.line_table.specs.declared.units.Unit.{Unit as LineUnit}
 use Rattle.tool_output.specs.Names.{Name}
 use Rattle.tool_output.specs.Lines.{numbered_lines}
 use Rattle.tool_output.specs.Messages.{in_section}
-use Rattle.tool_output.specs.Reports.{Report, no_report, shown, refusal, joined, reports_of}
+use Rattle.tool_output.specs.Reports.{Report, no_report, shown, refusal_report, joined, reports_of}
 use Rattle.lines_tool.specs.Rows.{table_title, unit_title, file_line, row_line, fault_text}
 use Rattle.lines_tool.specs.Units.{UnitList, units_of}
 
 -- a message on a section
 unfoldable pub section_refused : Name → ℕ → List ℕ → Report
-section_refused name s text = refusal (codes "lines") name (in_section s text)
+section_refused name s text = refusal_report (codes "lines") name (in_section s text)
 
 -- the message of the fault that ends a section's units; no definition states want of memory
 unfoldable pub fault_report : Name → ℕ → Option LineFault → Report
@@ -54,7 +54,7 @@ unfoldable pub section_report : Name → Object → ℕ → Report
 section_report name o s = by_bytes (raw_answer o s)
   where
     by_bytes : Result (List ℕ) ElfError → Report
-    by_bytes (Err e) = refusal (codes "lines") name (error_text e)
+    by_bytes (Err e) = refusal_report (codes "lines") name (error_text e)
     by_bytes (Ok bytes) =
         bytes_report (is_compressed (section_at o s).header.flags) name s
         o.header.class o.header.order bytes

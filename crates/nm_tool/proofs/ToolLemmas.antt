@@ -19,7 +19,7 @@ use Rattle.tool_output.specs.declared.stops.Stop.{Stop}
 use Rattle.tool_output.specs.declared.stops.Stop.TheVariants.{Memory}
 use Rattle.tool_output.specs.declared.outputs.Outputs.{Outputs}
 use Rattle.tool_output.specs.Names.{Name}
-use Rattle.tool_output.specs.Reports.{Report, noted, refusal, all_joined, reports_of}
+use Rattle.tool_output.specs.Reports.{Report, noted, refusal_report, all_joined, reports_of}
 use Rattle.object_output.specs.Steps.{ReportsElf}
 use Rattle.object_output.proofs.ElfSteps.{elf_left, left_as, elf_unread}
 use Rattle.nm_tool.specs.declared.order.Row.{Row}
@@ -55,7 +55,7 @@ module _ (options : NmOptions) (file : Name) (o : Object) (s : ℕ) where
   unfolding table_report
   table_told r is = ap (table_report options file o s) is
 
-  pub table_refused : (r : Option ElfError) (e : ElfError) → r ≡ Some e → table_report options file o s r ≡ refusal (codes "nm") file (error_text e)
+  pub table_refused : (r : Option ElfError) (e : ElfError) → r ≡ Some e → table_report options file o s r ≡ refusal_report (codes "nm") file (error_text e)
   unfolding table_report
   table_refused r e is = ap (table_report options file o s) is
 

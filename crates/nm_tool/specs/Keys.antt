@@ -1,7 +1,7 @@
 -- The rows that are sorted, each with a key that decides most comparisons: the value, where rows
 -- stand by value, and else the first sixteen bytes of the name.
 use Rattle.std.specs.Prelude.{◌≡◌, ◌+◌, ◌*◌, ℕ, zero, suc, Bool, false, List, slice_index_or, if◌then◌else◌}
-use Rattle.elf_object.specs.Valid.{AreBytes}
+use Rattle.elf_types.specs.Lists.{AreBytes}
 use Rattle.nm_tool.specs.declared.order.Row.{Row}
 use Rattle.nm_tool.specs.Order.{Entry}
 

@@ -8,7 +8,7 @@ use Rattle.elf_object.specs.Object.{Object}
 use Rattle.elf_object.specs.Answers.{lend_refusal}
 use Rattle.tool_text.specs.declared.options.NmOptions.{NmOptions}
 use Rattle.tool_output.specs.Names.{Name}
-use Rattle.tool_output.specs.Reports.{Report, no_report, shown, noted, refusal, reports_of}
+use Rattle.tool_output.specs.Reports.{Report, no_report, shown, noted, refusal_report, reports_of}
 use Rattle.object_output.specs.Symbols.{symbol_place}
 use Rattle.nm_tool.specs.Letters.{is_undefined, symbol_letter}
 use Rattle.gelf_view.specs.declared.symbols.SymPlace.{SymPlace}
@@ -45,7 +45,7 @@ rows_report options file o s = entries_report options file o s (listed options o
 -- they stand in a table that can be told
 unfoldable pub table_report : NmOptions → Name → Object → ℕ → Option ElfError → Report
 table_report options file o s None = rows_report options file o s
-table_report options file o s (Some e) = refusal (codes "nm") file (error_text e)
+table_report options file o s (Some e) = refusal_report (codes "nm") file (error_text e)
 
 -- an object without symbols has a message, and is not refused for it
 unfoldable pub object_report : NmOptions → Name → Object → Option ℕ → Report

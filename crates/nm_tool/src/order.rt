@@ -1,7 +1,7 @@
 //! The rows in their order.
 
 ghost use Rattle.std.specs.Prelude.{◌≡◌, ◌<◌, All, map, slice_index_or};
-ghost use Rattle.elf_object.specs.Valid.{AreBytes};
+ghost use Rattle.elf_types.specs.Lists.{AreBytes};
 ghost use Rattle.nm_tool.specs.Order.{in_order};
 ghost use Rattle.nm_tool.specs.Keys.{prefix, as_entry, KeyIs};
 

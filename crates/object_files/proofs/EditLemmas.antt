@@ -11,7 +11,7 @@ use Rattle.elf_outside.specs.declared.file_sets.Files.{Ghosts as FilesGhosts}
 use Rattle.tool_output.specs.declared.stops.Stop.{Stop}
 use Rattle.tool_output.specs.declared.outputs.Outputs.{Outputs}
 use Rattle.tool_output.specs.Names.{file_name}
-use Rattle.tool_output.specs.Reports.{Reports, refusal}
+use Rattle.tool_output.specs.Reports.{Reports, refusal_report}
 use Rattle.tool_output.specs.Statuses.{refused_status, stop_status}
 use Rattle.tool_output.specs.Steps.{OnRead, OnWrite, SinkRose}
 use Rattle.tool_output.specs.Files.{OnlyReads, IsWithin, LeavesFilesBy, LeavesFiles}
@@ -33,12 +33,12 @@ module _ {F D O E : Type 0} (f : FilesGhosts F D) (o : SinkGhosts O) (e : SinkGh
   module _ (a b : F) (s t : Outputs O E) (told : IsTrue (f.tells a)) (reads : OnlyReads f a b) where
     -- it is not there
     pub edit_absent : (r : Result Bool Stop) → f.named a name ≡ None → f.taken b ≡ f.taken a
-        → Reports o e r s t (refusal command (file_name name) (codes "not found"))
+        → Reports o e r s t (refusal_report command (file_name name) (codes "not found"))
         → Edited r a b s t
     unfolding edited_outcome
     edit_absent r none taken h =
         rw none (reads_done f o e a b s t
-        (refusal command (file_name name) (codes "not found")) (Some 0) r told reads
+        (refusal_report command (file_name name) (codes "not found")) (Some 0) r told reads
         (within r) h)
       where
         within : (q : Result Bool Stop) → OnOk q (IsWithin (Some 0) (f.taken a) (f.taken b))

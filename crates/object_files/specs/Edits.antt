@@ -9,7 +9,7 @@ use Rattle.elf_outside.specs.declared.file_sets.Files.{Ghosts as FilesGhosts}
 use Rattle.tool_output.specs.declared.stops.Stop.{Stop}
 use Rattle.tool_output.specs.declared.outputs.Outputs.{Outputs}
 use Rattle.tool_output.specs.Names.{file_name}
-use Rattle.tool_output.specs.Reports.{refusal}
+use Rattle.tool_output.specs.Reports.{refusal_report}
 use Rattle.tool_output.specs.Statuses.{refused_status}
 use Rattle.tool_output.specs.Files.{IsWithin, LeavesFilesBy}
 use Rattle.tool_output.specs.Outcomes.{Outcome, report_outcome, Does}
@@ -21,7 +21,7 @@ edited_outcome command outcome file named = of_held (named file)
     of_held : Option (List ℕ) → Outcome
     of_held (Some bytes) = outcome file bytes
     of_held None =
-        report_outcome (refusal command (file_name file) (codes "not found")) (Some 0)
+        report_outcome (refusal_report command (file_name file) (codes "not found")) (Some 0)
 
 -- the same outcome, with no bound on what is asked for
 abbrev pub unbounded : Outcome → Outcome

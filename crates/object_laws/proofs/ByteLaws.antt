@@ -24,7 +24,8 @@ use Rattle.elf_object.specs.Derived.{written_header}
 use Rattle.elf_object.specs.Layout.{section_numbers, placed}
 use Rattle.elf_object.specs.Image.{front_blocks, section_block, part_blocks, kept_base, uncovered_byte, image_length, image}
 use Rattle.elf_object.specs.Refusal.{refusal}
-use Rattle.elf_object.specs.Valid.{AreBytes, IsSection, IsObject}
+use Rattle.elf_types.specs.Lists.{AreBytes}
+use Rattle.elf_object.specs.Valid.{IsSection, IsObject}
 use Rattle.object_laws.proofs.RangeLaws.{each_made}
 use Rattle.object_laws.proofs.KeepLaws.{at_or, section_at_is}
 use Rattle.object_laws.proofs.PlacedLaws.{placed_is}

@@ -28,7 +28,8 @@ use Rattle.elf_ident.proofs.Refusals.{answered_ok, bind_ok, last_passed}
 use Rattle.elf_ident.specs.Reading.{IsFittingFront, IsCounted}
 use Rattle.object_laws.specs.Laws.{BegunFits}
 use Rattle.elf_object.proofs.PassedLaws.{not_refused, not_not, passed_one}
-use Rattle.elf_object.specs.Valid.{AreBytes, IsHome, IsPiece, IsSection, IsObject}
+use Rattle.elf_types.specs.Lists.{AreBytes}
+use Rattle.elf_object.specs.Valid.{IsHome, IsPiece, IsSection, IsObject}
 use Rattle.elf_object.proofs.HomeLaws.{extent_of_no_kind}
 use Rattle.elf_object.proofs.PieceLaws.{home_piece_is}
 use Rattle.object_laws.proofs.KeepLaws.{counted_is, zero_shdr_is}

@@ -13,7 +13,7 @@ use Rattle.elf_xlate.specs.Numbers.{by_weight, weighed, number_of, number_at}
 use Rattle.elf_xlate.specs.Orders.{weighed-suc}
 use Rattle.elf_xlate.specs.Fields.{Field, place_in, number_in}
 use Rattle.elf_xlate.specs.Translation.{items_of}
-use Rattle.elf_object.specs.Valid.{AreBytes}
+use Rattle.elf_types.specs.Lists.{AreBytes}
 
 -- ---- Numbers
 

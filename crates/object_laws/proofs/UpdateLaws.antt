@@ -16,7 +16,8 @@ use Rattle.elf_object.specs.Image.{image}
 use Rattle.elf_object.specs.Refusal.{refusal}
 use Rattle.elf_object.specs.Settled.{settled_section, settled_over, settle, blank, untold_section, untold, settled}
 use Rattle.elf_object.specs.Changed.{is_moved, marked_piece, torn_section, torn_over, torn}
-use Rattle.elf_object.specs.Valid.{AreBytes, IsPiece, OthersOwn, IsSection, IsObject}
+use Rattle.elf_types.specs.Lists.{AreBytes}
+use Rattle.elf_object.specs.Valid.{IsPiece, OthersOwn, IsSection, IsObject}
 use Rattle.elf_object.proofs.PieceLaws.{IsOwn}
 use Rattle.elf_object.proofs.SettledSections.{length-blank}
 use Rattle.object_laws.specs.Laws.{UpdatesKeep}

@@ -35,7 +35,8 @@ use Rattle.elf_object.specs.Changed.{torn}
 use Rattle.elf_object.specs.Calls.{Call, step}
 use Rattle.elf_object.specs.Calls as calls
 use Rattle.elf_object.specs.Runs as runs
-use Rattle.elf_object.specs.Valid.{AreBytes, IsObject, IsTied, KeepsObject, KeepsTied, as_opened}
+use Rattle.elf_types.specs.Lists.{AreBytes}
+use Rattle.elf_object.specs.Valid.{IsObject, IsTied, KeepsObject, KeepsTied, as_opened}
 
 -- with nothing dirty the image is the base, and an update leaves the object
 pub record CleanStays : Type 0 where

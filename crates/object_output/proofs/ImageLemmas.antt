@@ -24,7 +24,7 @@ use Rattle.tool_output.specs.declared.stops.Stop.{Stop}
 use Rattle.tool_output.specs.declared.outputs.Outputs.{Outputs}
 use Rattle.tool_output.specs.Stops.{stop_of}
 use Rattle.tool_output.specs.Names.{Name}
-use Rattle.tool_output.specs.Reports.{Report, Reports, refusal}
+use Rattle.tool_output.specs.Reports.{Report, Reports, refusal_report}
 use Rattle.tool_output.specs.Sources.{ReportsOn}
 use Rattle.tool_output.proofs.SourceLemmas.{stated_error}
 use Rattle.object_output.specs.Steps.{ReportsElf, LeavesElfBy, WentOn, homes_left}
@@ -143,7 +143,7 @@ module _ (command : List ℕ) (report : Name → Object → Report) (name : Name
 
   -- the message of one that is refused
   pub image_refused : (holds : Option (List ℕ)) (d : ElfError) → IfSome holds (λ image. Follows {T = Object} (Err d) (opened image))
-      → IfSome holds (λ image. stop_of d ≡ None → image_report command report name image ≡ refusal command name (error_text d))
+      → IfSome holds (λ image. stop_of d ≡ None → image_report command report name image ≡ refusal_report command name (error_text d))
   unfolding image_report
   image_refused None d h = tt
   image_refused (Some image) d h = λ none. rw (stated_error d (opened image) h none) refl

@@ -21,7 +21,7 @@ use Rattle.tool_output.specs.declared.outputs.Outputs.{Outputs}
 use Rattle.tool_output.specs.Stops.{stop_of}
 use Rattle.tool_output.specs.Names.{Name, file_name, member_name}
 use Rattle.tool_output.specs.Steps.{LeavesOutputs}
-use Rattle.tool_output.specs.Reports.{Report, Reports, no_report, refusal, joined, all_joined, reports_of}
+use Rattle.tool_output.specs.Reports.{Report, Reports, no_report, refusal_report, joined, all_joined, reports_of}
 use Rattle.tool_output.specs.Sources.{ReportsOn}
 use Rattle.tool_output.proofs.ReportLemmas.{joined_assoc, none_joined}
 use Rattle.tool_output.proofs.SourceLemmas.{stated_error}
@@ -86,13 +86,13 @@ module _ (command : List ℕ) (report : Name → List ℕ → Report) (file : Li
   abbrev answered_report : List ℕ → Result (Option ArHdr × Members) ElfError → Report
   answered_report bytes (Ok (Some header, rest)) = joined (member_report report file bytes header) (members_report command report file bytes rest)
   answered_report bytes (Ok (None, rest)) = no_report
-  answered_report bytes (Err e) = refusal command (file_name file) (error_text e)
+  answered_report bytes (Err e) = refusal_report command (file_name file) (error_text e)
 
   by_next : (bytes : List ℕ) (list : List ArHdr) (bad : Option ℕ)
       → joined (reports_of (member_report report file bytes) list) (end_report command file bad) ≡ answered_report bytes (next_among list bad)
   unfolding members_report end_report reports_of all_joined
   by_next bytes [] None = none_joined no_report
-  by_next bytes [] (Some at) = none_joined (refusal command (file_name file) (error_text (BadMember at)))
+  by_next bytes [] (Some at) = none_joined (refusal_report command (file_name file) (error_text (BadMember at)))
   by_next bytes (header ∷ list) bad = joined_assoc (member_report report file bytes header) (reports_of (member_report report file bytes) list) (end_report command file bad)
 
   -- the report on what is left, by the next answer
@@ -121,7 +121,7 @@ module _ (command : List ℕ) (report : Name → List ℕ → Report) (file : Li
 
     -- a bad header ends them
     pub bad_left : (d : ElfError) → IfSome holds (λ bytes. IfSome (stated_refusal d) (λ d. next_of (members_left bytes old) ≡ Err d))
-        → IfSome holds (λ bytes. stop_of d ≡ None → left_report old bytes ≡ refusal command (file_name file) (error_text d))
+        → IfSome holds (λ bytes. stop_of d ≡ None → left_report old bytes ≡ refusal_report command (file_name file) (error_text d))
     bad_left d given =
         told_then (λ bytes. IfSome (stated_refusal d) (λ d. next_of (members_left bytes old) ≡ Err d)) holds given
         (λ bytes is none. left_is bytes (members_left bytes old) (Err d) (stated_error d (next_of (members_left bytes old)) is none))
@@ -140,13 +140,13 @@ module _ (command : List ℕ) (report : Name → Object → Report) (file : List
   begun_as bytes (Some e) walk is = absurd cc
 
   refused_as : (bytes : List ℕ) (refused : Option ElfError) (d : ElfError) → answered refused first_walk ≡ Err d
-      → walk_report command (image_report command report) file bytes (answered refused (members bytes)) ≡ refusal command (file_name file) (error_text d)
+      → walk_report command (image_report command report) file bytes (answered refused (members bytes)) ≡ refusal_report command (file_name file) (error_text d)
   refused_as bytes None d is = absurd cc
   refused_as bytes (Some e) d is = ap (λ (r : Result Walk ElfError). by_walk r) is
     where
       by_walk : Result Walk ElfError → Report
       by_walk (Ok walk) = no_report
-      by_walk (Err e) = refusal command (file_name file) (error_text e)
+      by_walk (Err e) = refusal_report command (file_name file) (error_text e)
 
   -- an archive whose walk has begun
   pub archive_begun : (holds : Option (List ℕ)) (walk : Walk) → IfSome holds (λ bytes. begun_walk bytes ≡ Ok walk)
@@ -158,7 +158,7 @@ module _ (command : List ℕ) (report : Name → Object → Report) (file : List
 
   -- or is refused
   pub archive_refused : (holds : Option (List ℕ)) (d : ElfError) → IfSome holds (λ bytes. IfSome (stated_refusal d) (λ d. begun_walk bytes ≡ Err d))
-      → IfSome holds (λ bytes. stop_of d ≡ None → archive_report command report (file_name file) bytes ≡ refusal command (file_name file) (error_text d))
+      → IfSome holds (λ bytes. stop_of d ≡ None → archive_report command report (file_name file) bytes ≡ refusal_report command (file_name file) (error_text d))
   unfolding archive_report
   archive_refused holds d given =
       told_then (λ bytes. IfSome (stated_refusal d) (λ d. begun_walk bytes ≡ Err d)) holds given

@@ -8,7 +8,7 @@ use Rattle.tool_output.specs.Names.{file_name}
 use Rattle.tool_output.specs.Made.{Complaint, complaint_report}
 use Rattle.tool_output.specs.Marks.{Mark}
 use Rattle.tool_output.specs.Steps.{Writes}
-use Rattle.tool_output.specs.Reports.{Reports, no_report, refusal}
+use Rattle.tool_output.specs.Reports.{Reports, no_report, refusal_report}
 use Rattle.tool_output.proofs.StepLemmas.{writes_went, stops_as}
 use Rattle.object_output.specs.Obtains.{Obtains, IsObtained}
 
@@ -25,11 +25,11 @@ module _ {O E V : Type 0} (o : Ghosts O) (e : Ghosts E) (command : List ℕ)
 
   -- there is none, and its message was written
   pub not_obtained : (x : Bool) (c : Complaint) → stated ≡ Err c
-      → Reports o e (Ok x) s t (refusal command (file_name c.file) c.text)
+      → Reports o e (Ok x) s t (refusal_report command (file_name c.file) c.text)
       → Obtains o e command Is stated (Ok None) s t
   not_obtained x c same h = record {
     writes = rw same (writes_went o e {T = Option V} None s t
-        (refusal command (file_name c.file) c.text).marks h.writes.ok);
+        (refusal_report command (file_name c.file) c.text).marks h.writes.ok);
     value = rw same tt;
   }
 

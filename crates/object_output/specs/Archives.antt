@@ -13,7 +13,7 @@ use Rattle.ar_members.specs.Magic.{archive_refusal}
 use Rattle.ar_members.specs.Members.{Members, members}
 use Rattle.elf_object.specs.Object.{Object}
 use Rattle.tool_output.specs.Names.{Name, file_name, member_name}
-use Rattle.tool_output.specs.Reports.{Report, no_report, refusal, joined, reports_of}
+use Rattle.tool_output.specs.Reports.{Report, no_report, refusal_report, joined, reports_of}
 use Rattle.object_output.specs.Images.{image_report, image_asks}
 
 -- the bytes of the member of a header
@@ -29,7 +29,7 @@ member_report report file archive header =
 unfoldable pub end_report : List ℕ → List ℕ → Option ℕ → Report
 end_report command file None = no_report
 end_report command file (Some at) =
-    refusal command (file_name file) (error_text (BadMember at))
+    refusal_report command (file_name file) (error_text (BadMember at))
 
 -- the reports on members, and then that message
 unfoldable pub members_report : List ℕ → (Name → List ℕ → Report) → List ℕ → List ℕ → Members
@@ -47,7 +47,7 @@ abbrev pub walk_report : List ℕ → (Name → List ℕ → Report) → List �
     → Result Members ElfError → Report
 walk_report command report file archive (Ok all) = members_report command report file archive all
 walk_report command report file archive (Err e) =
-    refusal command (file_name file) (error_text e)
+    refusal_report command (file_name file) (error_text e)
 
 -- of a command that says this of an object, the report on the bytes of an archive
 unfoldable pub archive_report : List ℕ → (Name → Object → Report) → Name → List ℕ → Report

@@ -11,13 +11,13 @@ use Rattle.elf_object.specs.Object.{Object}
 use Rattle.elf_object.specs.Open.{opened}
 use Rattle.elf_object.specs.Due.{homes_due, all_sections}
 use Rattle.tool_output.specs.Names.{Name}
-use Rattle.tool_output.specs.Reports.{Report, refusal}
+use Rattle.tool_output.specs.Reports.{Report, refusal_report}
 
 -- the report on an object, or the message that says why there is none
 abbrev pub object_report : List ℕ → (Name → Object → Report) → Name → Result Object ElfError
     → Report
 object_report command report name (Ok o) = report name o
-object_report command report name (Err e) = refusal command name (error_text e)
+object_report command report name (Err e) = refusal_report command name (error_text e)
 
 -- of a command that says this of an object, the report on the bytes of an image, whose front tells
 -- whether they are one

@@ -6,7 +6,7 @@ use Rattle.elf_outside.specs.declared.sinks.Sink.{Ghosts}
 use Rattle.tool_output.specs.declared.stops.Stop.{Stop}
 use Rattle.tool_output.specs.declared.outputs.Outputs.{Outputs}
 use Rattle.tool_output.specs.Names.{Name}
-use Rattle.tool_output.specs.Reports.{Reports, refusal}
+use Rattle.tool_output.specs.Reports.{Reports, refusal_report}
 use Rattle.tool_output.specs.Steps.{LeavesOutputs}
 use Rattle.tool_output.specs.Stops.{stop_of}
 
@@ -15,6 +15,6 @@ use Rattle.tool_output.specs.Stops.{stop_of}
 pub record Refuses {O E : Type 0} (o : Ghosts O) (e : Ghosts E) (command : List ℕ) (name : Name)
     (error : ElfError) (result : Result Bool Stop) (old new : Outputs O E) : Type 0 where
   pub reports : IfNone (stop_of error)
-      (Reports o e result old new (refusal command name (error_text error)))
+      (Reports o e result old new (refusal_report command name (error_text error)))
   pub stops : IfSome (stop_of error) (λ stop. (result ≡ Err stop) × (new ≡ old))
   pub leaves : IfNone (stop_of error) (LeavesOutputs o e ⊥ result old new)

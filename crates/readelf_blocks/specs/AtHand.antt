@@ -1,5 +1,5 @@
--- A table of which the bytes are at hand: they were read and not edited. Its items, the symbols that
--- they name and the names of these are then those that the bytes hold.
+-- A table of which the bytes are at hand: they were read and not edited. Its items, the symbols
+-- that they name and the names of these are then those that the bytes hold.
 use Rattle.std.specs.Prelude.{◌≡◌, ℕ, List, length, drop, slice_get, false, None, Option, IsTrue}
 use Rattle.elf_types.specs.declared.records.Kind.{Kind}
 use Rattle.elf_types.specs.declared.records.Kind.TheVariants as kinds
@@ -17,7 +17,8 @@ use Rattle.readelf_blocks.specs.RelocationLines.{symbol_in}
 use Rattle.readelf_rows.specs.declared.links.Table.{Table}
 use Rattle.readelf_blocks.specs.declared.at_hand.TableBytes.{TableBytes}
 
--- the bytes are whole items of a kind, and those that a section has where the source tells its bytes
+-- the bytes are whole items of a kind, and those that a section has where the source tells its
+-- bytes
 pub record HoldsItems {A S : Type 0} (kind : Kind) (list_of : Items → List A) (state : State S)
     (s : ℕ) (bytes : List ℕ) : Type 0 where
   pub whole : IsTrue (is_whole kind state.o.header.class (length bytes))

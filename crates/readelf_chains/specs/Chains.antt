@@ -32,8 +32,8 @@ chain_report name s of chain = joined (reports_of of chain.found) (bad_report na
 abbrev pub section_bytes : Object → ℕ → List ℕ
 section_bytes o s = bytes_of (items_at o s 0)
 
--- the section is there, its bytes can be told, and the first of its records stands at that place; an
--- empty section has none
+-- the section is there, its bytes can be told, and the first of its records stands at that place;
+-- an empty section has none
 pub record HasRecords (o : Object) (s : ℕ) (first : Option ℕ) : Type 0 where
   pub section : s < length o.sections
   pub passed : lend_refusal o kinds.Bytes s 0 ≡ None

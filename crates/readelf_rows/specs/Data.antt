@@ -9,14 +9,14 @@ use Rattle.elf_object.specs.Object.{Object, section_at}
 use Rattle.elf_object.specs.Due.{all_sections}
 use Rattle.tool_output.specs.Names.{Name}
 use Rattle.tool_output.specs.Messages.{in_section}
-use Rattle.tool_output.specs.Reports.{Report, refusal, reports_of}
+use Rattle.tool_output.specs.Reports.{Report, refusal_report, reports_of}
 use Rattle.object_output.specs.Sections.{bracketed, report_if}
 
 -- ---- What stands in place of the lines
 
 -- a message on the object
 abbrev pub refused : Name → List ℕ → Report
-refused name text = refusal (codes "readelf") name text
+refused name text = refusal_report (codes "readelf") name text
 
 -- a section that is out of the file, or whose data is compressed, has a message
 unfoldable pub if_plain : Name → Object → ℕ → Report → Report

@@ -82,7 +82,8 @@ count_in class c p =
 abbrev pub is_ragged : Class → CellView → Bool
 is_ragged class c = not (is_whole c.home.kind class c.home.len)
 
--- the first piece is the clean home piece and is not marked, so what it holds is what the image held
+-- the first piece is the clean home piece and is not marked, so what it holds is what the image
+-- held
 unfoldable pub is_untouched : CellView → Bool
 is_untouched c =
     elim (slice_get c.pieces 0) [

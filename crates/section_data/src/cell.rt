@@ -97,8 +97,8 @@ impl Cell {
     }
 
     /// Makes the cell that of its section over another image, of `base` bytes, in which it has that
-    /// home: nothing is read, its one piece is the clean home piece, and what was held is let go. It
-    /// refuses nothing and takes no memory.
+    /// home: nothing is read, its one piece is the clean home piece, and what was held is let go.
+    /// It refuses nothing and takes no memory.
     ///
     /// Source: elf_update of elf(3E), which leaves what it wrote as what was read.
     pub fn reopen(&mut self, home: Home, base: u64)

@@ -23,9 +23,9 @@ use std::alloc::Global;
 use std::marker::Model;
 use std::mem;
 
-/// What is kept of a section's cell, in 80 bytes: the home, and the first piece, which stands in the
-/// struct itself. What a section needs once it is used stands behind one pointer. Contracts see it
-/// as the cell.
+/// What is kept of a section's cell, in 80 bytes: the home, and the first piece, which stands in
+/// the struct itself. What a section needs once it is used stands behind one pointer. Contracts see
+/// it as the cell.
 #[derive(Drop)]
 pub(crate) struct Kept {
     at: u64,

@@ -43,10 +43,10 @@ fn last_unprintable(bytes: &[u8]) -> Option<usize>
     None
 }
 
-/// Finds the first run of at least so many bytes, printable ones in a row, and gives the place where
-/// it begins; where there is none, a place before which none begins and behind which fewer bytes
-/// stand. A byte that is not printable rules out each place from which a run would have to go over
-/// it, so most bytes are not looked at.
+/// Finds the first run of at least so many bytes, printable ones in a row, and gives the place
+/// where it begins; where there is none, a place before which none begins and behind which fewer
+/// bytes stand. A byte that is not printable rules out each place from which a run would have to go
+/// over it, so most bytes are not looked at.
 pub fn find_run(bytes: &[u8], least: usize) -> usize
     requires { 0 < least }
     ensures within { result ≤ length bytes.now }

@@ -158,8 +158,8 @@ fn fill_marks<S: Source>(
 }
 
 /// The sections of these names, and those of debug data where they go too, that may be removed. It
-/// refuses `Memory`, and `Read` where the names are not loaded. It reads the home of the names at the
-/// first use, and marks nothing dirty.
+/// refuses `Memory`, and `Read` where the names are not loaded. It reads the home of the names at
+/// the first use, and marks nothing dirty.
 ///
 /// Source: gABI chapter 4, "Section Header", sh_name.
 pub fn with_named<S: Source>(

@@ -89,8 +89,9 @@ pub fn removed<S: Source>(
     }
 }
 
-/// The sections that copy removes: those of these names from 1 on, but for the section of the names,
-/// and what goes with them by the steps 2, 4 and 5 of strip. It refuses and reads as `removed`.
+/// The sections that copy removes: those of these names from 1 on, but for the section of the
+/// names, and what goes with them by the steps 2, 4 and 5 of strip. It refuses and reads as
+/// `removed`.
 ///
 /// Source: objcopy(1) of the development tools, `-R`.
 pub fn removed_by_name<S: Source>(

@@ -74,8 +74,8 @@ fn step_at(at: u64, word: u32) -> Step
     }
 }
 
-/// Reads the word of a hash's bucket, in a section of so many buckets and chain words, and gives the
-/// step with which the walk of the hash begins. It refuses as `hash_word` does.
+/// Reads the word of a hash's bucket, in a section of so many buckets and chain words, and gives
+/// the step with which the walk of the hash begins. It refuses as `hash_word` does.
 fn read_bucket<S: Source>(
     elf: &mut Elf<S>,
     h: ScnId,

@@ -11,7 +11,7 @@ use Rattle.tool_output.specs.declared.stops.Stop.{Stop}
 use Rattle.tool_output.specs.declared.stops.Stop.TheVariants.{Read, Write, Memory}
 use Rattle.tool_output.specs.declared.outputs.Outputs.{Outputs}
 use Rattle.tool_output.specs.Names.{Name, file_name}
-use Rattle.tool_output.specs.Reports.{Report, Reports, refusal}
+use Rattle.tool_output.specs.Reports.{Report, Reports, refusal_report}
 use Rattle.tool_output.specs.Steps.{KeepsSinks, SinkRose}
 use Rattle.tool_output.proofs.StepLemmas.{keeps_then}
 use Rattle.tool_output.specs.Files.{report_on, asks_on, Totals, LeavesFilesBy, LeavesFiles, OnlyReads, IsWithin, IsWithinLeft, both_bounds, all_bounds}
@@ -58,7 +58,7 @@ given_kept before opened own after none first raised = omega (arith, raised.late
 -- ---- What is said of a name
 
 module _ (command : List ℕ) (report : Name → List ℕ → Report) (asks : List ℕ → Option ℕ) (named : Map) (name : List ℕ) where
-  pub report_absent : named name ≡ None → report_on command report named name ≡ refusal command (file_name name) (codes "not found")
+  pub report_absent : named name ≡ None → report_on command report named name ≡ refusal_report command (file_name name) (codes "not found")
   unfolding report_on
   report_absent is = rw is refl
 

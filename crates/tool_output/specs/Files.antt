@@ -7,7 +7,7 @@ use Rattle.elf_outside.specs.declared.file_sets.Files.{Ghosts as FilesGhosts}
 use Rattle.tool_output.specs.declared.stops.Stop.{Stop}
 use Rattle.tool_output.specs.declared.outputs.Outputs.{Outputs}
 use Rattle.tool_output.specs.Names.{Name, file_name}
-use Rattle.tool_output.specs.Reports.{Report, Reports, refusal}
+use Rattle.tool_output.specs.Reports.{Report, Reports, refusal_report}
 use Rattle.tool_output.specs.Steps.{KeepsSinks, OnRead, OnWrite, SinkRose}
 
 -- ---- What is said of names
@@ -18,7 +18,7 @@ report_on command report named file = on_held (named file)
   where
     on_held : Option (List ℕ) → Report
     on_held (Some bytes) = report (file_name file) bytes
-    on_held None = refusal command (file_name file) (codes "not found")
+    on_held None = refusal_report command (file_name file) (codes "not found")
 
 -- how many bytes are asked for at most to give it, where that is promised
 unfoldable pub asks_on : (List ℕ → Option ℕ) → Map → List ℕ → Option ℕ

@@ -8,7 +8,7 @@ use Rattle.elf_outside.specs.declared.file_sets.Files.{Ghosts}
 use Rattle.tool_output.specs.declared.stops.Stop.{Stop}
 use Rattle.tool_output.specs.Names.{file_name}
 use Rattle.tool_output.specs.Statuses.{refused_status}
-use Rattle.tool_output.specs.Reports.{Report, no_report, shown, refusal}
+use Rattle.tool_output.specs.Reports.{Report, no_report, shown, refusal_report}
 use Rattle.tool_output.specs.Steps.{OnRead, OnWrite}
 use Rattle.tool_output.specs.Files.{Totals}
 use Rattle.tool_output.specs.Outcomes.{FileWrite, Outcome}
@@ -44,7 +44,7 @@ of_file file (Err e) = Err (complaint file (error_text e))
 -- the message of a complaint, where there is one
 abbrev pub complaint_report : {A : Type 0} → List ℕ → Result A Complaint → Report
 complaint_report command (Ok x) = no_report
-complaint_report command (Err c) = refusal command (file_name c.file) c.text
+complaint_report command (Err c) = refusal_report command (file_name c.file) c.text
 
 -- a report, and the files that are made; no bound on what is asked for or given is promised
 abbrev pub outcome_with : Report → List FileWrite → Outcome
@@ -59,7 +59,7 @@ outcome_with report writes = record {
 -- status 1 and one message where something is refused
 unfoldable pub written_outcome : List ℕ → Result Done Complaint → Outcome
 written_outcome command (Ok done) = outcome_with (shown done.shown) done.writes
-written_outcome command (Err c) = outcome_with (refusal command (file_name c.file) c.text) []
+written_outcome command (Err c) = outcome_with (refusal_report command (file_name c.file) c.text) []
 
 -- ---- A step that makes a file
 

@@ -28,8 +28,8 @@ noted command name text =
     record { marks = said Error (message command name text); refused = false }
 
 -- a file that is refused: a message on standard error
-unfoldable pub refusal : List ℕ → Name → List ℕ → Report
-refusal command name text =
+unfoldable pub refusal_report : List ℕ → Name → List ℕ → Report
+refusal_report command name text =
     record { marks = said Error (message command name text); refused = true }
 
 -- nothing, and one report after another

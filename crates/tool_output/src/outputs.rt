@@ -4,7 +4,7 @@
 
 ghost use Rattle.std.specs.Prelude.{◌≡◌, ◌++◌, ◌+◌, ◌<◌, [], length, OnOk, OnErr, IfSome, IfNone};
 ghost use Rattle.tool_output.specs.Marks.{said, Gained, GainedFront};
-ghost use Rattle.tool_output.specs.Reports.{Reports, shown, found, noted, refusal};
+ghost use Rattle.tool_output.specs.Reports.{Reports, shown, found, noted, refusal_report};
 ghost use Rattle.tool_output.specs.Stops.{stop_of};
 ghost use Rattle.tool_output.specs.Steps.{Writes, Performs, LeavesSinks, SinkRose, LeavesOutputs, Waits, Ends, page_size};
 
@@ -193,10 +193,10 @@ impl<'a, O: Sink, E: Sink> Outputs<'a, O, E> {
     }
 
     /// Refuses a file, by its message.
-    #[tactic(auto, unfolding(crate::specs::Reports::refusal))]
+    #[tactic(auto, unfolding(crate::specs::Reports::refusal_report))]
     pub fn refuse<T: Line>(&mut self, message: &Message<'_, T>) -> Result<bool, Stop>
         ensures reports { let m = message.now in Reports O.Sink E.Sink result self.old self.new
-            (refusal m.command.now m.name.now (T.text m.text)) }
+            (refusal_report m.command.now m.name.now (T.text m.text)) }
         ensures leaves { LeavesOutputs O.Sink E.Sink ⊥ result self.old self.new }
     {
         self.give(Side::Error, message, true)
@@ -211,7 +211,7 @@ impl<'a, O: Sink, E: Sink> Outputs<'a, O, E> {
     ) -> Result<bool, Stop>
         ensures reports { let m = message.now in IfNone (stop_of e)
             (Reports O.Sink E.Sink result self.old self.new
-            (refusal m.command.now m.name.now (T.text m.text))) }
+            (refusal_report m.command.now m.name.now (T.text m.text))) }
         ensures stops { IfSome (stop_of e)
             (λ stop. (result ≡ Err stop) × (self.new ≡ self.old)) }
         ensures leaves { IfNone (stop_of e)

@@ -22,9 +22,9 @@ use crate::values::number_within;
 use std::alloc::Global;
 use usage_text::{Notice, Usage};
 
-/// Reads the words after the program's name, of which the first is the command, or asks for a notice.
-/// It refuses with the usage line that is due exactly where the words are not of that form, and for
-/// want of memory.
+/// Reads the words after the program's name, of which the first is the command, or asks for a
+/// notice. It refuses with the usage line that is due exactly where the words are not of that form,
+/// and for want of memory.
 #[tactic(auto, unfolding(crate::specs::Reading::reading))]
 pub fn read_words(alloc: Global, words: &Args) -> Result<Request, WordsFault>
     ensures value { FollowsBy (λ r. r) stated_usage result (reading words.now) }

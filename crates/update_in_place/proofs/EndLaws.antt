@@ -20,7 +20,8 @@ use Rattle.elf_object.specs.Refusal.{refusal}
 use Rattle.elf_object.specs.Settled.{settled, untold}
 use Rattle.elf_object.specs.Changed.{torn, changed_bytes}
 use Rattle.elf_object.specs.Due.{is_loaded, update_in_place_due}
-use Rattle.elf_object.specs.Words.{UpdateAnswers, MayWantMemory}
+use Rattle.elf_layout.specs.Layout.{MayWantMemory}
+use Rattle.elf_object.specs.Words.{UpdateAnswers}
 use Rattle.elf_object.specs.Calls.{update_null}
 use Rattle.elf_object.proofs.RefusalLaws.{update_refuses}
 use Rattle.object_laws.specs.Laws.{IsTornImage}

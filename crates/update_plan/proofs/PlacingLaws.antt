@@ -11,13 +11,13 @@ use Rattle.elf_types.specs.Answers.{answered, first_refusal, IsRefusal}
 use Rattle.elf_layout.specs.declared.parts.PartAt.{PartAt}
 use Rattle.elf_layout.specs.declared.parts.Places.{Places}
 use Rattle.elf_layout.specs.Capping.{capped}
-use Rattle.elf_layout.specs.Layout.{refusal_of, refusal_within, overlap_refusal, is_too_large, limit_of, placing, placing_within, layout_refusal, places_of as parts_places, MayWantMemory as LayoutMayWant}
+use Rattle.elf_layout.specs.Layout.{refusal_of, refusal_within, overlap_refusal, is_too_large, limit_of, placing, placing_within, layout_refusal, places_of as parts_places, MayWantMemory}
 use Rattle.elf_layout.specs.Meeting.{overlap_of}
 use Rattle.elf_object.specs.Object.{Object, header_of, is_dirty}
 use Rattle.elf_object.specs.Layout.{parts_of, places_of, placed}
 use Rattle.elf_object.specs.Image.{image_length}
 use Rattle.elf_object.specs.Refusal.{content_refusal, placing_refusal, refusal}
-use Rattle.elf_object.specs.Words.{MayWantMemory, Updates}
+use Rattle.elf_object.specs.Words.{Updates}
 use Rattle.elf_object.specs.Calls.{update_null}
 use Rattle.elf_object.proofs.RefusalLaws.{update_refuses}
 use Rattle.object_laws.specs.Laws.{IsCappedAlike}
@@ -91,7 +91,7 @@ placing_same o parts layout base h laid long is =
     ∙ ap (λ (x : Ehdr). placing parts o.layout (length o.base) x.class) is
 
 pub unplaced : (stated : Result Places ElfError) (e : ElfError) → IfSome (layout_refusal e) (λ d. stated ≡ Err d)
-    → (e ≡ Memory → LayoutMayWant stated) → IsUnplaced stated e
+    → (e ≡ Memory → MayWantMemory stated) → IsUnplaced stated e
 unplaced stated Memory follows may = inl (refl, may refl)
 unplaced stated e follows may = inr follows
 

@@ -3,11 +3,10 @@ use Rattle.std.specs.Prelude.{◌≡◌, ◌⊎◌, Some, None, Result, Err}
 use Rattle.elf_types.specs.declared.errors.ElfError.{ElfError}
 use Rattle.elf_types.specs.declared.errors.ElfError.TheVariants.{Memory}
 use Rattle.elf_layout.specs.declared.parts.Places.{Places}
-use Rattle.elf_layout.specs.Layout.{MayWantMemory as LayoutMayWant}
+use Rattle.elf_layout.specs.Layout.{MayWantMemory}
 use Rattle.elf_object.specs.Object.{Object}
 use Rattle.elf_object.specs.Layout.{parts_of, places_of}
 use Rattle.elf_object.specs.Refusal.{refusal}
-use Rattle.elf_object.specs.Words.{MayWantMemory}
 use Rattle.elf_object.specs.Calls.{update_null}
 use Rattle.update_plan.specs.declared.places.PlacedParts.{PlacedParts}
 
@@ -24,4 +23,4 @@ IsRefused o e = ((e ≡ Memory) × MayWantMemory (update_null.answer o)) ⊎ (re
 
 -- parts are not placed: as stated, or for want of memory where that may come
 abbrev pub IsUnplaced : Result Places ElfError → ElfError → Type 0
-IsUnplaced stated e = ((e ≡ Memory) × LayoutMayWant stated) ⊎ (stated ≡ Err e)
+IsUnplaced stated e = ((e ≡ Memory) × MayWantMemory stated) ⊎ (stated ≡ Err e)

@@ -35,8 +35,8 @@ pub fn add_section(
     Ok(s)
 }
 
-/// Class 32 with two sections: one of three bytes at 64, and one of a byte at 68. The table of their
-/// headers stands at 72. Gaps have the byte 170.
+/// Class 32 with two sections: one of three bytes at 64, and one of a byte at 68. The table of
+/// their headers stands at 72. Gaps have the byte 170.
 pub fn two_sections(alloc: Global) -> Result<Elf<NoSource>, ElfError> {
     let mut elf = Elf::create(alloc, Class::C32, Order::Least);
     elf.set_fill(170);

@@ -29,8 +29,8 @@ pub record MayOverwrite {D : Type 0} (s : SourceGhosts D) (state : State D) (at 
   pub told : state.told ≡ is_some (s.holds state.source)
   pub may : MayWrite state at n
 
--- The text stands there, or after a refusal each byte of the range is the old one or the new one. Of
--- the object the base alone changes, with which the device begins. Nothing is read.
+-- The text stands there, or after a refusal each byte of the range is the old one or the new one.
+-- Of the object the base alone changes, with which the device begins. Nothing is read.
 pub record Overwrites {D T : Type 0} (s : SourceGhosts D) (d : DeviceGhosts D)
     (result : Result T ElfError) (old new : State D) (at : ℕ) (text : List ℕ) : Type 0 where
   pub state : new

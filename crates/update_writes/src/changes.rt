@@ -75,9 +75,9 @@ fn write_shorter<D: Device>(
 
 /// Writes what changes over the device that the object is over: the parts that change and the fill
 /// between parts, in the order of their places. A device that gets longer is lengthened first, and
-/// one that gets shorter is cut last. It refuses `Write` alone; then the device is torn between what
-/// it held and the image, and the object is torn over what is there of its base. It reads nothing
-/// and takes no memory.
+/// one that gets shorter is cut last. It refuses `Write` alone; then the device is torn between
+/// what it held and the image, and the object is torn over what is there of its base. It reads
+/// nothing and takes no memory.
 ///
 /// Source: elf_update with ELF_C_WRITE of elf(3E).
 pub fn write_changes<D: Device>(

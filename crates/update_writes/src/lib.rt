@@ -1,5 +1,5 @@
-//! The write phase of an update in place (elf_update with ELF_C_WRITE over a device): the parts that
-//! change, and the fill between the parts.
+//! The write phase of an update in place (elf_update with ELF_C_WRITE over a device): the parts
+//! that change, and the fill between the parts.
 #![tactic(auto)]
 
 mod changes;

@@ -1,5 +1,5 @@
--- What elfkit tells of itself where it is asked for help or for its version, after the standards for
--- command line interfaces of the GNU Coding Standards (section 4.8).
+-- What elfkit tells of itself where it is asked for help or for its version, after the standards
+-- for command line interfaces of the GNU Coding Standards (section 4.8).
 use Rattle.std.specs.Prelude.{◌++◌, ◌-◌, List, [], ◌∷◌, ℕ, Option, codes, length, drop, replicate}
 use Rattle.std.specs.List.{flat_map}
 use Rattle.std.specs.Str.{byte}

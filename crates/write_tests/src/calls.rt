@@ -14,8 +14,8 @@ use tool_output::Status;
 /// What the name O held before.
 const OLD: &[u8] = b"old";
 
-/// An image as the file F, of which the read with a number fails, a script for it as the file S, and
-/// a file O.
+/// An image as the file F, of which the read with a number fails, a script for it as the file S,
+/// and a file O.
 #[derive(Drop)]
 struct Updated {
     image: Image,
@@ -320,8 +320,8 @@ fn without_calls_or_an_image_no_file_is_made(rt: HostRuntime) -> Result<(), Fail
 /// The numbers of calls that fail, the status, what stands on standard output, and what is made.
 type Fault = (Failing, Status, &'static [u8], Made);
 
-/// The script, the file or the new file is not handed out; the new file can not be written; or a put
-/// fails: that of what waits when the file is to be made, or that of the last line.
+/// The script, the file or the new file is not handed out; the new file can not be written; or a
+/// put fails: that of what waits when the file is to be made, or that of the last line.
 const FAULTS: [Fault; 6] = [
     (
         Failing { open: 1, ..NOTHING },

@@ -28,7 +28,7 @@ use Rattle.elf_ident.specs.declared.fronts.Front.{Front}
 use Rattle.elf_ident.specs.Front.{class_named, order_named, no_ident, ident_in, first_section, true_counts, true_phnum, count_refusal, lies_in, phdrs_at, shdrs_at, front_at, front}
 use Rattle.elf_object.specs.Object.{Object}
 use Rattle.elf_object.specs.Open.{home_of, home_bytes, opened_section, front_in_image, phdrs_bytes, shdrs_bytes, standing_header, begun, begun_or_refused, opened, created_over}
-use Rattle.elf_object.specs.Valid.{AreBytes}
+use Rattle.elf_types.specs.Lists.{AreBytes}
 use Rattle.elf_object.proofs.PassedLaws.{not_refused, not_not, passed_one, passed_two}
 use Rattle.elf_ident.proofs.Refusals.{answered_ok, bind_ok}
 use Rattle.object_laws.proofs.OpenLaws.{IsFrontOf, front_known}

@@ -21,7 +21,8 @@ use Rattle.elf_object.specs.Changed.{torn}
 use Rattle.elf_object.specs.Calls.{Call, step}
 use Rattle.elf_object.specs.Calls as calls
 use Rattle.elf_object.specs.Runs as runs
-use Rattle.elf_object.specs.Valid.{AreBytes, IsObject}
+use Rattle.elf_types.specs.Lists.{AreBytes}
+use Rattle.elf_object.specs.Valid.{IsObject}
 use Rattle.object_laws.specs.Laws.{IsTornImage}
 use Rattle.writing_laws.specs.Lines.{HoldsBlock}
 use Rattle.writing_laws.specs.Ready.{IsReady}

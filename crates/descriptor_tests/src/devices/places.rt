@@ -107,7 +107,8 @@ impl Work for Row {
     }
 }
 
-/// Objects whose parts stand one behind the other, each at its alignment, and where the headers say.
+/// Objects whose parts stand one behind the other, each at its alignment, and where the headers
+/// say.
 const ROWS: [Row; 4] = [
     Row {
         len: None,

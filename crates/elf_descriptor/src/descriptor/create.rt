@@ -1,14 +1,13 @@
 //! How a descriptor is created over nothing that was read.
 
-ghost use Rattle.std.specs.Prelude.{[], length, ◌<◌, ◌^◌};
+ghost use Rattle.std.specs.Prelude.{[]};
 ghost use Rattle.object_laws.specs.Laws.{BeginningsAre, BeginningsAreTied};
 ghost use Rattle.writing_laws.specs.Based.{BeginningsAreBased};
-ghost use Rattle.elf_object.specs.Valid.{AreBytes};
 
 use crate::body::Body;
 use crate::descriptor::Elf;
 use elf_outside::NoSource;
-use elf_types::{Class, Octets, Order};
+use elf_types::{Class, Octets, Order, bytes_are_ranged};
 use object_laws::laws::{beginnings_are, beginnings_are_tied};
 use std::alloc::Global;
 use writing_laws::based::beginnings_are_based;
@@ -23,12 +22,6 @@ fn creating_is_sound()
     beginnings_are_tied();
     beginnings_are_based();
 }
-
-/// What a slice has are bytes, and they can be counted.
-fn bytes_are_ranged(_bytes: &[u8])
-    ensures bytes { AreBytes _bytes.now }
-    ensures length { length _bytes.now < 2 ^ 64 }
-{}
 
 impl Elf<NoSource> {
     ghost use Rattle.elf_descriptor.specs.Created.{IsCreated};

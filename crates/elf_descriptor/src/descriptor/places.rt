@@ -18,8 +18,8 @@ use object_laws::laws::sizes_are_lengths;
 impl<S: Source> Elf<S> {
     /// The size of a section's data: where its last piece ends, each piece standing at a multiple
     /// of its alignment, and 2^64 - 1 where that is more. A clean home piece counts as long as its
-    /// home, and not at all where the home is out of the file. It refuses `NoSection`, reads nothing
-    /// and takes no memory.
+    /// home, and not at all where the home is out of the file. It refuses `NoSection`, reads
+    /// nothing and takes no memory.
     ///
     /// Source: gABI chapter 4, "Sections", and elf_newdata of elf(3E).
     pub fn data_size(&self, s: ScnId) -> Result<u64, ElfError>

@@ -1,5 +1,5 @@
-//! Memory is kept aside for a home's bytes, so that they can be read without more, and what was read
-//! is let go.
+//! Memory is kept aside for a home's bytes, so that they can be read without more, and what was
+//! read is let go.
 
 ghost use Rattle.std.specs.Prelude.{◌≡◌, [], true, IsTrue, OnOk, IfErr};
 ghost use Rattle.elf_types.specs.Answers.{answered};
@@ -28,8 +28,8 @@ impl<S: Source> Elf<S> {
     }
 
     /// Reads a section's home where its bytes are not held, into the memory that is kept aside for
-    /// them; it is loaded, or `reserve_home` made room for it. It refuses `Read` alone, and takes no
-    /// memory.
+    /// them; it is loaded, or `reserve_home` made room for it. It refuses `Read` alone, and takes
+    /// no memory.
     pub fn load_home(&mut self, s: ScnId) -> Result<(), ElfError>
         requires room { IsTrue (has_room_for self.old s.0) }
         ensures answer { Answers true (reads_home s.0 self.old) result

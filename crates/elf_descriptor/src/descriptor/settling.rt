@@ -27,9 +27,9 @@ impl<D: Device> Elf<D> {
 
     /// Makes the object that of the image that was written: each section has one clean piece, whose
     /// home is where its header places it; nothing is marked, and nothing is held. The object is
-    /// ready and something is dirty, an update is not refused, its places are stored, and the device
-    /// is as long as the image and, where it tells its bytes, holds it. It refuses nothing, reads
-    /// nothing and takes no memory.
+    /// ready and something is dirty, an update is not refused, its places are stored, and the
+    /// device is as long as the image and, where it tells its bytes, holds it. It refuses nothing,
+    /// reads nothing and takes no memory.
     ///
     /// Source: elf_update with ELF_C_WRITE of elf(3E).
     pub fn settle(&mut self)

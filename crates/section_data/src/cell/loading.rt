@@ -218,8 +218,8 @@ impl Cell {
         self.kept.keep_items(self.alloc, items)
     }
 
-    /// Makes room for a copy of a home that is loaded, of bytes and not empty. It refuses `Memory` alone, and
-    /// then the cell is as before.
+    /// Makes room for a copy of a home that is loaded, of bytes and not empty. It refuses `Memory`
+    /// alone, and then the cell is as before.
     #[tactic(auto, using(crate::proofs::Loading::held_bytes))]
     fn keep_room(&mut self) -> Result<(), ElfError>
         requires loaded { IsTrue (cell_is_loaded self.old) }

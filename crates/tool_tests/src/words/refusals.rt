@@ -21,9 +21,9 @@ const NO_COMMAND: [&str; 13] = [
     "nms|F",
 ];
 
-/// Lines of the commands that list: without a file, a letter or a good option-argument; of those that
-/// write: without a file, with too many, or with the same one twice; and of copy: the same, and bad
-/// option-arguments.
+/// Lines of the commands that list: without a file, a letter or a good option-argument; of those
+/// that write: without a file, with too many, or with the same one twice; and of copy: the same,
+/// and bad option-arguments.
 const COMMANDS: [&str; 160] = [
     "readelf",
     "readelf|F",
