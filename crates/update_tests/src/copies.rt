@@ -1,8 +1,9 @@
 //! Images that are opened, and written again.
 
-use crate::puts::puts;
+use crate::created::many_sections;
+use crate::puts::{image_put, puts};
 use elf_descriptor::Elf;
-use elf_outside::Source;
+use elf_outside::{MemSource, Source};
 use elf_types::{Class, DIRTY, DataId, ElfError, LAYOUT, Octets, Order, Part, ScnId};
 use elf_xlate::Items;
 use std::alloc::Global;
@@ -125,4 +126,39 @@ fn a_marked_object_is_written_again(rt: HostRuntime) {
 #[test]
 fn an_edit_stands_in_the_image(rt: HostRuntime) {
     assert!(rt; is_written(rt.alloc(), &FIVE, Edit::Replace));
+}
+
+/// The image of an object with more sections than its header counts.
+fn many_image(alloc: Global) -> Option<Octets> {
+    match many_sections(alloc) {
+        Ok(mut elf) => image_put(&mut elf),
+        Err(_) => None,
+    }
+}
+
+/// A source of the same bytes.
+fn source_of(alloc: Global, image: &Octets) -> Result<MemSource, ElfError> {
+    let bytes = Octets::from_slice(alloc, image.as_slice())?;
+    source(alloc, bytes, 0)
+}
+
+/// Whether an image, opened and marked, is written as it was.
+fn is_written_again(alloc: Global, image: &Octets) -> bool {
+    match source_of(alloc, image) {
+        Ok(src) => is_written_by(alloc, src, Edit::Mark, image.as_slice()),
+        Err(_) => false,
+    }
+}
+
+/// Whether that of many sections is.
+fn are_written_again(alloc: Global) -> bool {
+    match many_image(alloc) {
+        Some(image) => is_written_again(alloc, &image),
+        None => false,
+    }
+}
+
+#[test]
+fn more_sections_than_a_header_counts_are_opened_and_written_again(rt: HostRuntime) {
+    assert!(rt; are_written_again(rt.alloc()));
 }

@@ -96,7 +96,7 @@ fn places_are_stored(rt: HostRuntime) {
 }
 
 /// An object with so many sections that its header does not count them.
-fn many_sections(alloc: Global) -> Result<Elf<NoSource>, ElfError> {
+pub fn many_sections(alloc: Global) -> Result<Elf<NoSource>, ElfError> {
     let mut elf = Elf::create(alloc, Class::C32, Order::Least);
     for _ in 1..65_300u32 {
         elf.newscn()?;

@@ -13,3 +13,5 @@ mod faults;
 mod gaps;
 #[cfg(test)]
 mod puts;
+#[cfg(test)]
+mod refusals;
