@@ -1,16 +1,15 @@
 -- Steps that write an image from its parts, one after another.
-use Rattle.std.proofs.Common.{◌≡◌, ◌⊎◌, inr, ℕ, ◌+◌, ◌≤◌, List, [], ◌++◌, Result, Ok, Err, length, refl, sym, ap, ◌∙◌, subst, arith}
-use Rattle.std.specs.Prelude.{Bool, IsTrue, IfErr}
+use Rattle.std.proofs.Common.{◌≡◌, ◌⊎◌, inr, ℕ, ◌+◌, ◌≤◌, List, [], ◌++◌, Result, Ok, Err, refl, sym, ap, ◌∙◌, subst, arith}
+use Rattle.std.specs.Prelude.{Bool, IfErr}
 use Rattle.std.proofs.lemmas.List.{append-nil}
 use Rattle.elf_types.specs.declared.errors.ElfError.{ElfError}
 use Rattle.elf_types.specs.declared.errors.ElfError.TheVariants.{Read, Write}
-use Rattle.elf_outside.specs.Counts.{RaisedAtMost}
 use Rattle.elf_outside.specs.Asks.{DeviceReadRose}
 use Rattle.elf_outside.specs.declared.sinks.Sink.{Ghosts as SinkGhosts}
 use Rattle.elf_outside.proofs.PutLemmas.{device_read_rose_before, device_read_rose_on}
 use Rattle.elf_update.specs.Texts.{IsText, Flows}
 use Rattle.elf_update.specs.Emits.{UsesParts, Emits}
-use Rattle.elf_update.specs.declared.parts.Parts.{Ghosts}
+use Rattle.elf_update.specs.declared.parts.ImageParts.{Ghosts}
 use Rattle.elf_update.proofs.FlowLaws.{text_same, text_both, flows_none, flows_both, flows_stop}
 
 -- ---- The parts
@@ -138,26 +137,11 @@ emits_still p k r o s t w v a n is flows = record {
     write_alone (Ok x) is = tt
     write_alone (Err e) is = inr is
 
--- an answer with a value
-pub emits_unit : {P K T : Type 0} (p : Ghosts P) (k : SinkGhosts K) (x : T)
+-- an Ok with another value
+pub emits_value : {P K T U : Type 0} (p : Ghosts P) (k : SinkGhosts K) (x : T) (y : U)
     (o o' : P) (s t : K) (w v a : List ℕ) (n : ℕ)
-    → Emits p k (Ok x) o o' s t w v a n → Emits p k (Ok (tt {0})) o o' s t w v a n
-emits_unit p k x o o' s t w v a n step = record {
-  text = step.text;
-  is = step.is;
-  flows = record {
-    uses = record { rest = step.flows.uses.rest; later = step.flows.uses.later; write = tt };
-    ok = step.flows.ok;
-    err = tt;
-  };
-  parts = record { kept = step.parts.kept; later = step.parts.later; read = tt; taken = step.parts.taken };
-  err = tt;
-}
-
-pub emits_value : {P K T : Type 0} (p : Ghosts P) (k : SinkGhosts K) (x : T)
-    (o o' : P) (s t : K) (w v a : List ℕ) (n : ℕ)
-    → Emits p k (Ok (tt {0})) o o' s t w v a n → Emits p k (Ok x) o o' s t w v a n
-emits_value p k x o o' s t w v a n step = record {
+    → Emits p k (Ok x) o o' s t w v a n → Emits p k (Ok y) o o' s t w v a n
+emits_value p k x y o o' s t w v a n step = record {
   text = step.text;
   is = step.is;
   flows = record {

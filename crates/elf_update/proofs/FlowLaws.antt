@@ -1,12 +1,12 @@
 -- Texts that go through a page, one after another.
-use Rattle.std.proofs.Common.{◌≡◌, ℕ, ◌+◌, ◌-◌, List, [], ◌++◌, Option, Some, None, Result, Ok, Err, length, take, drop, refl, sym, ap, ◌∙◌, subst, append_assoc, arith}
-use Rattle.std.specs.Prelude.{OnOk, OnErr, IsTrue, Bool}
+use Rattle.std.proofs.Common.{◌≡◌, ℕ, ◌+◌, ◌-◌, List, [], ◌++◌, Option, Some, None, Result, Ok, Err, length, refl, sym, ap, ◌∙◌, subst, append_assoc, arith}
+use Rattle.std.specs.Prelude.{Bool}
 use Rattle.std.specs.Option.{option_map}
 use Rattle.std.proofs.lemmas.List.{append-nil, length-append, take_all}
 use Rattle.elf_types.specs.declared.errors.ElfError.{ElfError}
 use Rattle.elf_outside.specs.Writes.{Appends, AppendsFront}
 use Rattle.elf_types.specs.declared.errors.ElfError.TheVariants.{Read}
-use Rattle.elf_outside.specs.Puts.{WriteRose, UsesSink, Puts}
+use Rattle.elf_outside.specs.Puts.{WriteRose, Puts}
 use Rattle.elf_outside.specs.declared.sinks.Sink.{Ghosts}
 use Rattle.elf_outside.proofs.WriteLemmas.{appends_both, front_after, front_before}
 use Rattle.elf_outside.proofs.PutLemmas.{write_rose_on, uses_sink_both}
@@ -136,8 +136,11 @@ flows_leave {U = U} k e s t w v v' a b is first = record {
       let all : w ++ (a ++ b) ≡ first.ok.put ++ (v ++ b) =
       sym (append_assoc w a b) ∙ ap (λ (l : List ℕ). l ++ b) first.ok.all ∙ append_assoc first.ok.put v b in
       subst (AppendsFront (k.wrote s) (k.wrote t)) (sym all)
-      (front_before (k.wrote s) (k.wrote t) first.ok.put (v ++ b)
-      (length first.ok.put, subst (Appends (k.wrote s) (k.wrote t)) (sym (take_all (length first.ok.put) first.ok.put (omega arith))) first.ok.appends));
+      (front_before (k.wrote s) (k.wrote t) first.ok.put (v ++ b) (
+        length first.ok.put,
+        subst (Appends (k.wrote s) (k.wrote t))
+            (sym (take_all (length first.ok.put) first.ok.put (omega arith))) first.ok.appends,
+      ));
 }
 
 -- a text that is put while nothing waits

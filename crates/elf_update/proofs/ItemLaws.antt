@@ -1,6 +1,6 @@
 -- Items in their file form, by ranges.
-use Rattle.std.proofs.Common.{◌≡◌, ℕ, ◌+◌, ◌-◌, ◌*◌, ◌<◌, ◌≤◌, max, List, ◌++◌, length, take, drop, refl, sym, ap, ◌∙◌, append_assoc, arith, length-take, length-drop}
-use Rattle.std.proofs.lemmas.List.{take_at, drop_at, length-append}
+use Rattle.std.proofs.Common.{◌≡◌, ℕ, ◌+◌, ◌-◌, ◌*◌, ◌≤◌, max, List, ◌++◌, length, take, drop, refl, sym, ap, ◌∙◌, append_assoc, arith, length-take, length-drop}
+use Rattle.std.proofs.lemmas.List.{take_at, drop_at}
 use Rattle.elf_types.specs.declared.records.Class.{Class}
 use Rattle.elf_types.specs.declared.records.Class.TheVariants.{C32, C64}
 use Rattle.elf_types.specs.declared.records.Order.{Order}
@@ -17,7 +17,8 @@ between_length a b l low high =
     let rest = length-drop a l in
     omega (arith, part, rest, low, high)
 
-count_between : (a b : ℕ) (items : Items) → a ≤ b → b ≤ items_count items → items_count (items_between a b items) ≡ b - a
+count_between : (a b : ℕ) (items : Items) → a ≤ b → b ≤ items_count items
+    → items_count (items_between a b items) ≡ b - a
 count_between a b Empty low high = omega (arith, low, high)
 count_between a b (Bytes l) low high = between_length a b l low high
 count_between a b (Half l) low high = between_length a b l low high
@@ -50,7 +51,8 @@ length_between class order a b items low high =
 -- a range of items is a range of their bytes
 pub items_range : (class : Class) (order : Order) (items : Items) (from some : ℕ) → from + some ≤ items_count items
     → encoded class order (items_between from (from + some) items)
-    ≡ take (item_size (items_kind items) class * some) (drop (item_size (items_kind items) class * from) (encoded class order items))
+    ≡ take (item_size (items_kind items) class * some)
+    (drop (item_size (items_kind items) class * from) (encoded class order items))
 items_range class order items from some there =
     let z : ℕ = item_size (items_kind items) class in
     let n : ℕ = items_count items in
@@ -58,23 +60,31 @@ items_range class order items from some there =
     let middle : List ℕ = encoded class order (items_between from (from + some) items) in
     let last : List ℕ = encoded class order (items_between (from + some) (items_count items) items) in
     let whole : encoded class order items ≡ encoded class order (items_between 0 from items)
-    ++ (encoded class order (items_between from (from + some) items) ++ encoded class order (items_between (from + some) (items_count items) items)) =
+    ++ (encoded class order (items_between from (from + some) items) ++ encoded class order
+    (items_between (from + some) (items_count items) items)) =
     ap (encoded class order) (sym (whole_range items))
     ∙ sym (encoded_ranges class order 0 (from + some) (items_count items) items (omega arith) there)
-    ∙ ap (λ (l : List ℕ). l ++ encoded class order (items_between (from + some) (items_count items) items)) (sym (encoded_ranges class order 0 from (from + some) items (omega arith) (omega arith)))
-    ∙ append_assoc (encoded class order (items_between 0 from items)) (encoded class order (items_between from (from + some) items))
+    ∙ ap (λ (l : List ℕ). l ++ encoded class order
+    (items_between (from + some) (items_count items) items))
+    (sym (encoded_ranges class order 0 from (from + some) items (omega arith) (omega arith)))
+    ∙ append_assoc (encoded class order (items_between 0 from items))
+    (encoded class order (items_between from (from + some) items))
     (encoded class order (items_between (from + some) (items_count items) items)) in
     let front = length_between class order 0 from items (omega arith) (omega (arith, there)) in
     let part = length_between class order from (from + some) items (omega arith) there in
     let begins : length (encoded class order (items_between 0 from items)) ≡ item_size (items_kind items) class * from =
     front ∙ ap (λ (k : ℕ). item_size (items_kind items) class * k) (omega arith) in
-    let long : length (encoded class order (items_between from (from + some) items)) ≡ item_size (items_kind items) class * some =
+    let long : length (encoded class order (items_between from (from + some) items))
+    ≡ item_size (items_kind items) class * some =
     part ∙ ap (λ (k : ℕ). item_size (items_kind items) class * k) (omega arith) in
-    sym (ap (λ (l : List ℕ). take (item_size (items_kind items) class * some) (drop (item_size (items_kind items) class * from) l)) whole
+    sym (ap (λ (l : List ℕ). take (item_size (items_kind items) class * some)
+    (drop (item_size (items_kind items) class * from) l)) whole
     ∙ ap (take (item_size (items_kind items) class * some)) (drop_at (encoded class order (items_between 0 from items))
-    (encoded class order (items_between from (from + some) items) ++ encoded class order (items_between (from + some) (items_count items) items))
+    (encoded class order (items_between from (from + some) items) ++ encoded class order
+    (items_between (from + some) (items_count items) items))
     (item_size (items_kind items) class * from) begins)
-    ∙ take_at (encoded class order (items_between from (from + some) items)) (encoded class order (items_between (from + some) (items_count items) items))
+    ∙ take_at (encoded class order (items_between from (from + some) items))
+    (encoded class order (items_between (from + some) (items_count items) items))
     (item_size (items_kind items) class * some) long)
 
 -- ---- Sizes
@@ -120,16 +130,22 @@ few_bytes (Dyn l) C64 = omega arith
 
 pub items_all : (class : Class) (order : Order) (items : Items)
     → length (encoded class order items) ≡ max (item_size (items_kind items) class) 1 * items_count items
-items_all class order items = length_encoded class order items ∙ sym (some_size items class (items_count items) (omega arith))
+items_all class order items =
+    length_encoded class order items ∙ sym (some_size items class (items_count items) (omega arith))
 
-pub items_put : (class : Class) (order : Order) (items : Items) (from some : ℕ) (out : List ℕ) → from + some ≤ items_count items
+pub items_put : (class : Class) (order : Order) (items : Items) (from some : ℕ) (out : List ℕ)
+    → from + some ≤ items_count items
     → out ≡ encoded class order (items_between from (from + some) items)
-    → out ≡ take (max (item_size (items_kind items) class) 1 * some) (drop (max (item_size (items_kind items) class) 1 * from) (encoded class order items))
+    → out ≡ take (max (item_size (items_kind items) class) 1 * some)
+    (drop (max (item_size (items_kind items) class) 1 * from) (encoded class order items))
 items_put class order items from some out there put =
     put ∙ items_range class order items from some there
-    ∙ ap (λ (n : ℕ). take n (drop (item_size (items_kind items) class * from) (encoded class order items))) (sym (some_size items class some (omega (arith, there))))
-    ∙ ap (λ (n : ℕ). take (max (item_size (items_kind items) class) 1 * some) (drop n (encoded class order items))) (sym (some_size items class from (omega (arith, there))))
+    ∙ ap (λ (n : ℕ). take n (drop (item_size (items_kind items) class * from)
+    (encoded class order items))) (sym (some_size items class some (omega (arith, there))))
+    ∙ ap (λ (n : ℕ). take (max (item_size (items_kind items) class) 1 * some)
+    (drop n (encoded class order items))) (sym (some_size items class from (omega (arith, there))))
 
-pub items_room : (items : Items) (class : Class) (some n : ℕ) → some ≤ items_count items → n ≡ max (item_size (items_kind items) class) 1 * some
+pub items_room : (items : Items) (class : Class) (some n : ℕ) → some ≤ items_count items
+    → n ≡ max (item_size (items_kind items) class) 1 * some
     → n ≡ item_size (items_kind items) class * some
 items_room items class some n there is = is ∙ some_size items class some there

@@ -1,5 +1,5 @@
 -- A page that is filled, and the fill byte that goes through it.
-use Rattle.std.proofs.Common.{◌≡◌, ℕ, ◌+◌, ◌-◌, ◌≤◌, List, [], ◌++◌, Result, Ok, Err, length, take, drop, replicate, refl, sym, ap, ◌∙◌, subst, arith}
+use Rattle.std.proofs.Common.{◌≡◌, ℕ, ◌+◌, ◌-◌, ◌≤◌, List, [], ◌++◌, Result, Ok, Err, length, take, drop, replicate, sym, ap, ◌∙◌, subst, arith}
 use borrow.Rule.Slice.PartMut.{put_mid}
 use Rattle.std.proofs.lemmas.List.{append-nil, length-append, length-take, length-drop}
 use Rattle.std.proofs.lemmas.List.{replicate-append-replicate}
@@ -52,18 +52,22 @@ module _ {K : Type 0} (k : Ghosts K) (byte count : ℕ) where
   fill_goes_on s t u w1 w2 w3 w4 left some within fits is done turn =
       let all : count - left + some ≡ count - (left - some) = omega arith in
       subst (λ (w : List ℕ). Flows k (Ok (tt {0})) s u w1 w (replicate (count - (left - some)) byte)) (sym is)
-      (flows_as k (Ok tt) s u w1 (w3 ++ replicate some byte) (replicate (count - left) byte ++ ([] ++ replicate some byte))
+      (flows_as k (Ok tt) s u w1 (w3 ++ replicate some byte)
+      (replicate (count - left) byte ++ ([] ++ replicate some byte))
       (replicate (count - (left - some)) byte)
       (replicate_both (count - left) some byte ∙ ap (λ (n : ℕ). replicate n byte) all)
-      (flows_both k tt (Ok tt) s t u w1 w2 (w3 ++ replicate some byte) (replicate (count - left) byte) ([] ++ replicate some byte) done
-      (flows_both k tt (Ok tt) t u u w2 w3 (w3 ++ replicate some byte) [] (replicate some byte) turn (flows_waits k tt u w3 (replicate some byte)))))
+      (flows_both k tt (Ok tt) s t u w1 w2 (w3 ++ replicate some byte)
+      (replicate (count - left) byte) ([] ++ replicate some byte) done
+      (flows_both k tt (Ok tt) t u u w2 w3 (w3 ++ replicate some byte) [] (replicate some byte) turn
+      (flows_waits k tt u w3 (replicate some byte)))))
 
   pub fill_ends : (s t : K) (w1 w2 : List ℕ) (left : ℕ) → left ≤ 0
       → Flows k (Ok (tt {0})) s t w1 w2 (replicate (count - left) byte)
       → Flows k (Ok (tt {0})) s t w1 w2 (replicate count byte)
   fill_ends s t w1 w2 left none done =
       let all : count - left ≡ count = omega arith in
-      flows_as k (Ok tt) s t w1 w2 (replicate (count - left) byte) (replicate count byte) (ap (λ (n : ℕ). replicate n byte) all) done
+      flows_as k (Ok tt) s t w1 w2 (replicate (count - left) byte) (replicate count byte)
+      (ap (λ (n : ℕ). replicate n byte) all) done
 
 -- ---- Zeros that go to the sink by themselves
 
@@ -77,4 +81,5 @@ module _ {K : Type 0} (k : Ghosts K) (count : ℕ) where
       → Flows k r s u w v (replicate count 0)
   hole_ends r s t u w v empty flows puts =
       flows_both k tt r s t u w v v [] (replicate count 0) flows
-      (subst (λ (l : List ℕ). Flows k r t u l l (replicate count 0)) (sym empty) (flows_past k r t u (replicate count 0) puts))
+      (subst (λ (l : List ℕ). Flows k r t u l l (replicate count 0)) (sym empty)
+      (flows_past k r t u (replicate count 0) puts))

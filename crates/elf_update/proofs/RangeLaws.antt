@@ -1,18 +1,16 @@
 -- A range of bytes of parts, by what was put of it and what is left.
-use Rattle.std.proofs.Common.{◌≡◌, ◌⊎◌, inl, ℕ, ◌+◌, ◌-◌, ◌≤◌, min, List, [], ◌++◌, Result, Ok, Err, length, take, drop, refl, sym, ap, ◌∙◌, subst, append_assoc, arith, drop-drop, take-add}
-use Rattle.std.specs.Prelude.{IfErr}
+use Rattle.std.proofs.Common.{◌≡◌, inl, ℕ, ◌+◌, ◌-◌, ◌≤◌, List, [], ◌++◌, Result, Ok, Err, length, take, drop, sym, ap, ◌∙◌, subst, arith, drop-drop, take-add}
 use Rattle.std.proofs.lemmas.List.{append-nil}
 use Rattle.elf_types.specs.declared.errors.ElfError.{ElfError}
 use Rattle.elf_types.specs.declared.errors.ElfError.TheVariants.{Read, Write}
-use Rattle.elf_outside.specs.Writes.{AppendsFront}
 use Rattle.elf_outside.specs.declared.sinks.Sink.{Ghosts as SinkGhosts}
 use Rattle.writing_laws.specs.Plan.{places_below}
-use Rattle.elf_update.specs.declared.parts.Parts.{Ghosts}
-use Rattle.elf_update.specs.Texts.{IsText, Streams, Flows}
+use Rattle.elf_update.specs.declared.parts.ImageParts.{Ghosts}
+use Rattle.elf_update.specs.Texts.{Flows}
 use Rattle.elf_update.specs.declared.parts.Origin.{Origin}
 use Rattle.elf_update.specs.Origins.{origin_bytes, origin_due, ReadyFor}
-use Rattle.elf_update.specs.Emits.{bytes_in, due_in, UsesParts, Emits, WaitsMore}
-use Rattle.elf_update.proofs.FlowLaws.{text_same, text_both, flows_both, flows_waits, flows_leave}
+use Rattle.elf_update.specs.Emits.{origin_text, due_in, UsesParts, Emits, WaitsMore}
+use Rattle.elf_update.proofs.FlowLaws.{text_same, text_both, flows_waits, flows_leave}
 use Rattle.elf_update.proofs.EmitLaws.{uses_both, uses_stop, emits_none, emits_both, emits_stop, emits_as, emits_still}
 
 -- ---- Ranges of a list
@@ -81,10 +79,12 @@ module _ {P K : Type 0} (p : Ghosts P) (k : SinkGhosts K) (bytes : List ℕ) (du
       → Emits {T = Unit {0}} p k (Err e) o o' s u w v' (range from to bytes) (places_below due from to)
   range_stops e o o' s t u w v v' at low high is done turn =
       let all : (range from at bytes ++ []) ++ range at to bytes ≡ range from to bytes =
-      ap (λ (l : List ℕ). l ++ range at to bytes) (append-nil (range from at bytes)) ∙ range_both from at to bytes low high in
+      ap (λ (l : List ℕ). l ++ range at to bytes) (append-nil (range from at bytes))
+      ∙ range_both from at to bytes low high in
       emits_as p k (Err e) o o' s u w v' ((range from at bytes ++ []) ++ range at to bytes) (range from to bytes)
       (places_below due from to) (places_below due from to) all (omega arith)
-      (emits_stop p k e o o' s u w v' v' (range from at bytes ++ []) (range at to bytes) (places_below due from at + 0) (places_below due from to)
+      (emits_stop p k e o o' s u w v' v' (range from at bytes ++ []) (range at to bytes)
+      (places_below due from at + 0) (places_below due from to)
       (omega (arith, low, high))
       (emits_both p k tt (Err e) o o' o' s t u w v v' (range from at bytes) [] (places_below due from at) 0 done
       (emits_still p k (Err e) o' t u v v' [] 0 is turn)))
@@ -106,7 +106,8 @@ module _ {P K : Type 0} (p : Ghosts P) (k : SinkGhosts K) (bytes : List ℕ) (du
       → Emits {T = Unit {0}} p k (Err e) o o'' s u w v'' (range from to bytes) (places_below due from to)
   range_unread e o o' o'' s t u w v v' v'' at some low high is done turn uses =
       emits_as p k (Err e) o o'' s u w v'' (range from at bytes ++ range at to bytes) (range from to bytes)
-      (places_below due from to) (places_below due from to) (range_both from at to bytes low (omega (arith, high))) (omega arith)
+      (places_below due from to) (places_below due from to)
+      (range_both from at to bytes low (omega (arith, high))) (omega arith)
       (emits_unread p k e o o' o'' s u w v' v'' (range from at bytes) (range at to bytes) (places_below due from at)
       (places_below due at (at + some)) (places_below due from to) (omega (arith, low, high)) is
       (range_turned o o' s t u w v v' at done turn) uses)
@@ -119,11 +120,14 @@ module _ {P K : Type 0} (p : Ghosts P) (k : SinkGhosts K) (bytes : List ℕ) (du
       → IsPut o o'' s u w v'' (at + some)
   range_goes_on o o' o'' s t u w v v' v'' at some low done turn more uses =
       let count : some ≡ at + some - at = omega arith in
-      emits_as p k (Ok tt) o o'' s u w v'' (range from at bytes ++ take some (drop at bytes)) (range from (at + some) bytes)
+      emits_as p k (Ok tt) o o'' s u w v'' (range from at bytes ++ take some (drop at bytes))
+      (range from (at + some) bytes)
       (places_below due from at + places_below due at (at + some)) (places_below due from (at + some))
-      (ap (λ (n : ℕ). range from at bytes ++ take n (drop at bytes)) count ∙ range_both from at (at + some) bytes low (omega arith))
+      (ap (λ (n : ℕ). range from at bytes ++ take n (drop at bytes)) count
+      ∙ range_both from at (at + some) bytes low (omega arith))
       (omega (arith, low))
-      (emits_both p k tt (Ok tt) o o' o'' s u u w v' v'' (range from at bytes) (take some (drop at bytes)) (places_below due from at)
+      (emits_both p k tt (Ok tt) o o' o'' s u u w v' v'' (range from at bytes)
+      (take some (drop at bytes)) (places_below due from at)
       (places_below due at (at + some)) (range_turned o o' s t u w v v' at done turn)
       (emits_waits p k o' o'' u v' v'' (take some (drop at bytes)) (places_below due at (at + some)) more uses))
 
@@ -140,13 +144,15 @@ pub same_due : {P T : Type 0} (p : Ghosts P) (r : Result T ElfError) (o o' o'' :
     → p.kept o' ≡ p.kept o → UsesParts p r o' o'' (due_in p o' of a b)
     → UsesParts p r o' o'' (places_below (origin_due (p.due (p.kept o)) (length (p.base (p.kept o))) of) a b)
 same_due p r o o' o'' of a b same uses =
-    subst (λ (x : p.Kept). UsesParts p r o' o'' (places_below (origin_due (p.due x) (length (p.base x)) of) a b)) same uses
+    subst (λ (x : p.Kept). UsesParts p r o' o''
+    (places_below (origin_due (p.due x) (length (p.base x)) of) a b)) same uses
 
 pub same_waits : {P : Type 0} (p : Ghosts P) (o o' : P) (of : Origin) (n a : ℕ) (w v : List ℕ)
-    → p.kept o' ≡ p.kept o → WaitsMore (p.told (p.kept o')) (take n (drop a (bytes_in p o' of))) w v
-    → WaitsMore (p.told (p.kept o')) (take n (drop a (bytes_in p o of))) w v
+    → p.kept o' ≡ p.kept o → WaitsMore (p.told (p.kept o')) (take n (drop a (origin_text p o' of))) w v
+    → WaitsMore (p.told (p.kept o')) (take n (drop a (origin_text p o of))) w v
 same_waits p o o' of n a w v same waits =
-    subst (λ (x : p.Kept). WaitsMore (p.told (p.kept o')) (take n (drop a (origin_bytes (p.pieces x) (p.base x) of))) w v) same waits
+    subst (λ (x : p.Kept). WaitsMore (p.told (p.kept o'))
+    (take n (drop a (origin_bytes (p.pieces x) (p.base x) of))) w v) same waits
 
 pub range_ready : {P : Type 0} (p : Ghosts P) (of : Origin) (o o' : P) → p.kept o' ≡ p.kept o
     → ReadyFor (p.ready (p.kept o)) of → ReadyFor (p.ready (p.kept o')) of

@@ -1,21 +1,20 @@
 -- Rows of one size, one after the other.
-use Rattle.std.proofs.Common.{◌≡◌, ℕ, zero, suc, ◌+◌, ◌-◌, ◌*◌, ◌<◌, ◌≤◌, List, [], ◌∷◌, ◌++◌, length, take, drop, get_or, Result, Ok, refl, sym, ap, ◌∙◌, arith, drop-drop}
+use Rattle.std.proofs.Common.{◌≡◌, ℕ, zero, suc, ◌+◌, ◌-◌, ◌*◌, ◌<◌, ◌≤◌, List, [], ◌∷◌, ◌++◌, length, take, drop, get_or, sym, ap, ◌∙◌, arith, drop-drop}
 use Rattle.std.specs.List.{flat_map}
 use Rattle.std.proofs.lemmas.List.{take_at, drop_at, take_all}
 use Rattle.std.proofs.Math.Nat.{mul-le-mul_left}
 use Rattle.std.proofs.lemmas.Slice.{take-put_mid}
-use Rattle.elf_types.specs.declared.errors.ElfError.{ElfError}
-use Rattle.elf_types.specs.declared.records.Ehdr.{Ehdr}
 use borrow.Rule.Slice.PartMut.{put_mid}
 use Rattle.elf_update.proofs.EntryLaws.{ranges_join}
 use Rattle.elf_update.proofs.PageLaws.{length_mid}
 
 -- the first rows are written
-pub record ArePut (size from some i : ℕ) (bytes out : List ℕ) : Type 0 where
+pub record AreRowsPut (size from some i : ℕ) (bytes out : List ℕ) : Type 0 where
   pub front : take (i * size) out ≡ take (size * i) (drop (size * from) bytes)
   pub len : length out ≡ size * some
 
-pub none_put : (size from some : ℕ) (bytes out : List ℕ) → length out ≡ size * some → ArePut size from some 0 bytes out
+pub none_put : (size from some : ℕ) (bytes out : List ℕ) → length out ≡ size * some
+    → AreRowsPut size from some 0 bytes out
 none_put size from some bytes out len =
     let left : 0 * size ≡ 0 = omega arith in
     let right : size * 0 ≡ 0 = omega arith in
@@ -24,9 +23,10 @@ none_put size from some bytes out len =
       len = len;
     }
 
-pub one_put : (size from some i k : ℕ) (bytes out row : List ℕ) → i + 1 ≤ some → k ≡ size → ArePut size from some i bytes out
+pub one_put : (size from some i k : ℕ) (bytes out row : List ℕ) → i + 1 ≤ some → k ≡ size
+    → AreRowsPut size from some i bytes out
     → row ≡ take size (drop (size * (from + i)) bytes) → length row ≡ size
-    → ArePut size from some (i + 1) bytes (put_mid (i * size) k out row)
+    → AreRowsPut size from some (i + 1) bytes (put_mid (i * size) k out row)
 one_put size from some i k bytes out row there same put is long =
     let more = mul-le-mul_left {m = i + 1} {n = some} size there in
     let fits : i * size + k ≤ length out = omega (arith, put.len, more, same) in
@@ -34,12 +34,13 @@ one_put size from some i k bytes out row there same put is long =
     record {
       front = take-put_mid (i * size) k out row ((i + 1) * size) next (omega (arith, fits))
           ∙ ap (λ (l : List ℕ). l ++ row) put.front
-          ∙ ap (λ (l : List ℕ). take (size * i) (drop (size * from) bytes) ++ l) (is ∙ ap (λ (n : ℕ). take n (drop (size * (from + i)) bytes)) (omega arith))
+          ∙ ap (λ (l : List ℕ). take (size * i) (drop (size * from) bytes) ++ l)
+          (is ∙ ap (λ (n : ℕ). take n (drop (size * (from + i)) bytes)) (omega arith))
           ∙ ranges_join (size * from) (size * i) (size * (i + 1)) (size * (from + i)) bytes (omega arith) (omega arith);
       len = length_mid (i * size) k out row (omega (arith, long, same)) fits ∙ put.len;
     }
 
-pub all_put : (size from some i : ℕ) (bytes out : List ℕ) → i ≡ some → ArePut size from some i bytes out
+pub all_put : (size from some i : ℕ) (bytes out : List ℕ) → i ≡ some → AreRowsPut size from some i bytes out
     → out ≡ take (size * some) (drop (size * from) bytes)
 all_put size from some i bytes out is put =
     let whole : i * size ≡ length out = omega (arith, put.len, ap (λ (n : ℕ). n * size) is) in
@@ -60,6 +61,3 @@ flat_at f size each (x ∷ l) (suc i) d there =
     ∙ sym (ap (λ (n : ℕ). take size (drop n (f x ++ flat_map f l))) more
     ∙ ap (take size) (sym (drop-drop (size * i) size (f x ++ flat_map f l))
     ∙ ap (drop (size * i)) (drop_at (f x) (flat_map f l) size (each x))))
-
-pub ok_header : {a b : Ehdr} → ◌≡◌ {A = Result Ehdr ElfError} (Ok a) (Ok b) → a ≡ b
-ok_header h = cc

@@ -1,5 +1,6 @@
 -- The parts of a descriptor's object, as an update writes them (elf_update of elf(3E)).
 use Rattle.std.specs.Prelude.{◌≡◌, ℕ, Bool, List, [], ◌∷◌, map, Option, if◌then◌else◌}
+use Rattle.elf_types.specs.declared.records.DataId.{DataId}
 use Rattle.elf_types.specs.declared.records.Part.{Part}
 use Rattle.elf_types.specs.declared.records.Part.TheVariants as part
 use Rattle.elf_layout.specs.declared.parts.PartAt.{PartAt}
@@ -12,6 +13,7 @@ use Rattle.elf_object.specs.Image.{front_blocks}
 use Rattle.writing_laws.specs.Plan.{section_due}
 use Rattle.writing_laws.specs.Ready.{IsReady}
 use Rattle.elf_descriptor.specs.State.{State}
+use Rattle.elf_descriptor.specs.Held.{IsUnread}
 use Rattle.update_plan.specs.Plans.{part_of_rank}
 
 -- all of a descriptor but its source, and of that what a read leaves
@@ -26,8 +28,8 @@ pub record KeptElf : Type 0 where
   pub holds : Option (List ℕ)
   pub rest : List (List ℕ)
 
-abbrev pub kept_elf : {S : Type 0} → Ghosts S → State S → KeptElf
-kept_elf g e = record {
+abbrev pub kept_of_elf : {S : Type 0} → Ghosts S → State S → KeptElf
+kept_of_elf g e = record {
   o = e.o;
   told = e.told;
   loaded = e.loaded;
@@ -54,8 +56,14 @@ abbrev pub stored_due : Object → List Bool → Part → ℕ
 stored_due o loaded (part.Section s) = section_due o loaded s
 stored_due o loaded _ = 0
 
+-- the piece of a part that has to be read: one of a section, whose home is not loaded
+pub record HasToRead {S : Type 0} (state : State S) (of : Part) (p : ℕ) (d : DataId) : Type 0 where
+  pub section : of ≡ part.Section d.section
+  pub piece : p ≡ d.piece
+  pub unread : IsUnread state d.section d.piece
+
 -- an object whose places are stored, where something is dirty
-pub record IsStored (o : Object) : Type 0 where
+pub record HasStoredPlaces (o : Object) : Type 0 where
   pub ready : IsReady o
   pub placed : placed o ≡ o
 

@@ -1,8 +1,6 @@
 -- What a step that writes an image from its parts does.
-use Rattle.std.specs.Prelude.{◌≡◌, ◌⊎◌, ℕ, ◌-◌, ◌≤◌, Bool, nat_lt, max, List, ◌++◌, length, take, drop, slice_index, slice_index_or, if◌then◌else◌, Result, IfErr}
+use Rattle.std.specs.Prelude.{◌≡◌, ◌⊎◌, ℕ, ◌-◌, ◌≤◌, Bool, nat_lt, max, List, ◌++◌, length, take, drop, slice_index, if◌then◌else◌, Result, IfErr}
 use Rattle.std.proofs.Math.ListN.{replicate}
-use Rattle.elf_types.specs.declared.records.Part.{Part}
-use Rattle.elf_layout.specs.Layout.{rounded_up}
 use Rattle.elf_types.specs.declared.errors.ElfError.{ElfError}
 use Rattle.elf_types.specs.declared.errors.ElfError.TheVariants.{Read, Write}
 use Rattle.elf_outside.specs.Counts.{RaisedAtMost}
@@ -11,8 +9,8 @@ use Rattle.elf_outside.specs.declared.sinks.Sink.{Ghosts as SinkGhosts}
 use Rattle.writing_laws.specs.Plan.{places_below}
 use Rattle.elf_update.specs.declared.parts.Origin.{Origin}
 use Rattle.elf_update.specs.Texts.{IsText, Flows}
-use Rattle.elf_update.specs.Origins.{no_piece, origin_bytes, origin_due}
-use Rattle.elf_update.specs.declared.parts.Parts.{Ghosts}
+use Rattle.elf_update.specs.Origins.{origin_bytes, origin_due}
+use Rattle.elf_update.specs.declared.parts.ImageParts.{Ghosts}
 
 -- a step over parts and a sink: it leaves what is kept of the parts, asks for at most so many bytes
 -- and answers Read only where the parts' count of faults rose in it
@@ -36,8 +34,8 @@ pub record Emits {P K T : Type 0} (p : Ghosts P) (k : SinkGhosts K) (result : Re
 -- ---- Of parts as they are kept
 
 -- the bytes of a piece or of the base
-abbrev pub bytes_in : {P : Type 0} → Ghosts P → P → Origin → List ℕ
-bytes_in p o of = origin_bytes (p.pieces (p.kept o)) (p.base (p.kept o)) of
+abbrev pub origin_text : {P : Type 0} → Ghosts P → P → Origin → List ℕ
+origin_text p o of = origin_bytes (p.pieces (p.kept o)) (p.base (p.kept o)) of
 
 -- what a range of them is due
 abbrev pub due_in : {P : Type 0} → Ghosts P → P → Origin → ℕ → ℕ → ℕ
@@ -55,12 +53,6 @@ pub record WaitsMore (told : Bool) (stated waited waits : List ℕ) : Type 0 whe
 -- what stands between the parts: base bytes below a length, and then the fill byte
 abbrev pub ground_byte : List ℕ → ℕ → ℕ → ℕ → ℕ
 ground_byte base kept fill k = if nat_lt k kept then slice_index base k else fill
-
--- a piece, which stands at the end so far, rounded up to its alignment, and the fill before it
-abbrev pub piece_text : {P : Type 0} → Ghosts P → P → Part → ℕ → ℕ → ℕ → List ℕ
-piece_text p o part i end fill =
-    let piece = slice_index_or (p.pieces (p.kept o) part) i no_piece in
-    replicate (rounded_up end piece.0 - end) fill ++ piece.1
 
 -- the bytes between one place and another
 abbrev pub gap_text : List ℕ → ℕ → ℕ → ℕ → ℕ → List ℕ

@@ -9,8 +9,8 @@ use Rattle.elf_update.specs.declared.parts.Origin.TheVariants.{Piece, Base}
 use Rattle.elf_update.specs.declared.parts.PieceExtent.{PieceExtent}
 
 -- what stands at a number that no piece has
-abbrev pub no_piece : ℕ × List ℕ
-no_piece = (1, [])
+abbrev pub absent_piece : ℕ × List ℕ
+absent_piece = (1, [])
 
 -- the extent of a piece
 pub record IsExtent (extent : PieceExtent) (piece : ℕ × List ℕ) : Type 0 where
@@ -19,7 +19,7 @@ pub record IsExtent (extent : PieceExtent) (piece : ℕ × List ℕ) : Type 0 wh
 
 -- the bytes of a piece, or those of the base
 abbrev pub origin_bytes : (Part → List (ℕ × List ℕ)) → List ℕ → Origin → List ℕ
-origin_bytes pieces base (Piece part p) = (slice_index_or (pieces part) p no_piece).1
+origin_bytes pieces base (Piece part p) = (slice_index_or (pieces part) p absent_piece).1
 origin_bytes pieces base Base = base
 
 -- what a copy rests on: one of the base on nothing

@@ -1,6 +1,6 @@
 -- What an update to a sink does (elf_update with ELF_C_WRITE, to a file that is written from its
 -- beginning).
-use Rattle.std.specs.Prelude.{◌≡◌, ◌⊎◌, ℕ, List, Result, Ok, Err, OnOk, OnErr, IfErr}
+use Rattle.std.specs.Prelude.{◌≡◌, ℕ, List, Result, Ok, Err, OnOk, OnErr}
 use Rattle.elf_types.specs.declared.errors.ElfError.{ElfError}
 use Rattle.elf_types.specs.declared.errors.ElfError.TheVariants.{Read, Write}
 use Rattle.elf_outside.specs.Asks.{UsesSource}
@@ -24,22 +24,7 @@ use Rattle.elf_update.specs.Descriptors.{planned}
 pub record IsPlanned (o : Object) (p : PlannedParts) : Type 0 where
   pub ready : IsReady o
   pub parts : p.parts ≡ planned o
-  pub places : p.placed.places ≡ places_of o
-
--- The sink gained the image, or a front of it where a read or a put failed. Over a source that does
--- not tell its bytes it gained as many bytes. The object is as after places are stored, marks
--- included, and nothing else of the descriptor changed but what the source counts. It asks for at
--- most the bytes that it is due, and each cause is a count.
-pub record Writes {S K A : Type 0} (g : Ghosts S) (k : SinkGhosts K) (result : Result A ElfError)
-    (old new : State S) (sink next : K) : Type 0 where
-  pub state : new ≡ record old { o = placed old.o; source = new.source }
-  pub source : UsesSource g result old.source new.source (update_to_due old.o old.loaded)
-  pub text : List ℕ
-  pub is : IsText old.told (image old.o) text
-  pub wrote : OnOk result (Appends (k.wrote sink) (k.wrote next) text)
-  pub front : OnErr result (AppendsFront (k.wrote sink) (k.wrote next) text)
-  pub uses : UsesSink k result sink next
-  pub err : IfErr result (λ e. (e ≡ Read) ⊎ (e ≡ Write))
+  pub places : p.places ≡ places_of o
 
 -- one fact of an update that has begun to write, and another of one that was refused before
 abbrev pub OnBegun : {A : Type 0} → Result A ElfError → Type 0 → Type 0 → Type 0
@@ -48,8 +33,11 @@ OnBegun (Err Read) begun refused = begun
 OnBegun (Err Write) begun refused = begun
 OnBegun (Err e) begun refused = refused
 
--- The answer is that of an update that stores places and writes nothing, but for Read and Write. An
--- update that has begun writes the image as above; a refusal leaves descriptor and sink.
+-- The answer is that of an update that stores places and writes nothing, but for Read and Write.
+-- The sink gained the image, or a front of it where a read or a put failed. Over a source that does
+-- not tell its bytes it gained as many bytes. The object is as after places are stored, marks
+-- included, and nothing else of the descriptor changed but what the source counts. It asks for at
+-- most the bytes that it is due, and each cause is a count. A refusal leaves descriptor and sink.
 pub record UpdatesTo {S K : Type 0} (g : Ghosts S) (k : SinkGhosts K) (result : Result ℕ ElfError)
     (old new : State S) (sink next : K) : Type 0 where
   pub answer : UpdateAnswers result (update_null.answer old.o)

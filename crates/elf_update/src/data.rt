@@ -8,27 +8,17 @@ ghost use Rattle.elf_object.specs.Answers.{piece_count};
 ghost use Rattle.elf_object.specs.Object.{section_at, has_file_bytes};
 ghost use Rattle.writing_laws.specs.Plan.{places_below};
 ghost use Rattle.elf_descriptor.specs.Held.{IsUnread};
-ghost use Rattle.elf_update.specs.Origins.{no_piece, origin_due, IsExtent, CopiesBy};
-ghost use Rattle.elf_update.specs.Descriptors.{IsStored, kept_elf, faults_of, taken_of, stored_pieces, stored_due};
+ghost use Rattle.elf_update.specs.Origins.{absent_piece, origin_due, IsExtent, CopiesBy};
+ghost use Rattle.elf_update.specs.Descriptors.{HasStoredPlaces, kept_of_elf, faults_of, taken_of, stored_pieces, stored_due};
 
-use crate::entries::copy_entries;
+use crate::entries::{copy_entries, copy_range};
 use crate::items::ItemsForm;
 use crate::parts::PieceExtent;
 use elf_descriptor::{Elf, Held};
 use elf_outside::Source;
 use elf_types::{Class, DataId, ElfError, Order, ScnId};
 use elf_xlate::{Items, fsize};
-use update_plan::{count_pieces, has_file_bytes};
-
-/// Whether the image holds bytes of a section, which need not be there.
-fn is_in_file<S: Source>(elf: &Elf<S>, s: u32) -> bool
-    ensures { result ≡ has_file_bytes s (section_at elf.now.o s) }
-{
-    if s < elf.shnum() {
-        return has_file_bytes(elf, ScnId(s));
-    }
-    false
-}
+use update_plan::{count_pieces, home_extent, is_in_file};
 
 /// The number of pieces of a section in the file.
 pub(crate) fn section_pieces<S: Source>(elf: &Elf<S>, s: u32) -> u32
@@ -51,33 +41,22 @@ fn items_length(items: &Items, class: Class) -> u64
     }
 }
 
-/// The length of a home.
-#[tactic(auto, unfolding(elf_object::specs::Calls::home_answer))]
-fn home_length<S: Source>(elf: &Elf<S>, s: u32) -> u64
-    requires { s < length elf.now.o.sections }
-    ensures { result ≡ (section_at elf.now.o s).home.len }
-{
-    match elf.home(ScnId(s)) {
-        Ok(home) => home.1,
-        Err(_) => unreachable!(),
-    }
-}
-
 /// The length of a piece of a section in the file.
 #[tactic(auto, unfolding(elf_object::specs::Answers::piece_refusal, elf_object::specs::Answers::piece_count))]
 fn piece_length<S: Source>(elf: &Elf<S>, d: DataId) -> u64
-    requires stored { IsStored elf.now.o }
+    requires stored { HasStoredPlaces elf.now.o }
     requires section { d.section < length elf.now.o.sections }
     requires piece { d.piece < piece_count elf.now.o d.section }
     requires filled { has_file_bytes d.section (section_at elf.now.o d.section) ≡ true }
     ensures { result
-        ≡ length (slice_index_or (stored_pieces elf.now.o (part.Section d.section)) d.piece no_piece).1 }
+        ≡ length (slice_index_or
+        (stored_pieces elf.now.o (part.Section d.section)) d.piece absent_piece).1 }
 {
     let class = elf.ehdr().class;
     match elf.held(d) {
         Ok(Held::Edited(items)) => items_length(items, class),
         Ok(Held::Raw(bytes)) => bytes.len() as u64,
-        Ok(Held::Unread) => home_length(elf, d.section),
+        Ok(Held::Unread) => home_extent(elf, d.section).1,
         Err(_) => unreachable!(),
     }
 }
@@ -85,12 +64,12 @@ fn piece_length<S: Source>(elf: &Elf<S>, d: DataId) -> u64
 /// The alignment and the length of a piece of a section in the file.
 #[tactic(auto, unfolding(elf_object::specs::Calls::piece_align_answer, elf_object::specs::Answers::piece_refusal, elf_object::specs::Answers::piece_count))]
 pub(crate) fn piece_extent<S: Source>(elf: &Elf<S>, d: DataId) -> PieceExtent
-    requires stored { IsStored elf.now.o }
+    requires stored { HasStoredPlaces elf.now.o }
     requires section { d.section < length elf.now.o.sections }
     requires piece { d.piece < piece_count elf.now.o d.section }
     requires filled { has_file_bytes d.section (section_at elf.now.o d.section) ≡ true }
     ensures { IsExtent result
-        (slice_index_or (stored_pieces elf.now.o (part.Section d.section)) d.piece no_piece) }
+        (slice_index_or (stored_pieces elf.now.o (part.Section d.section)) d.piece absent_piece) }
 {
     let align = match elf.piece_align(d) {
         Ok(align) => align,
@@ -100,16 +79,6 @@ pub(crate) fn piece_extent<S: Source>(elf: &Elf<S>, d: DataId) -> PieceExtent
         align,
         len: piece_length(elf, d),
     }
-}
-
-/// Copies the bytes from the place `at` on into the whole of `buf`.
-fn copy_range(bytes: &[u8], at: u64, buf: &mut [u8])
-    requires { at + length buf.old ≤ length bytes.now }
-    ensures { buf.new ≡ take (length buf.old) (drop at bytes.now) }
-{
-    let start = at as usize;
-    let range = &bytes[start..start + buf.len()];
-    buf.copy_from_slice(range);
 }
 
 /// Writes bytes of items in their file form.
@@ -130,19 +99,19 @@ fn copy_items(items: &Items, class: Class, order: Order, from: u64, buf: &mut [u
     );
 }
 
-/// Copies bytes of a piece that is held, and answers whether it is.
+/// Copies bytes of a piece of a section where it is held, and answers whether it is.
 #[tactic(auto, unfolding(elf_object::specs::Answers::piece_refusal, elf_object::specs::Answers::piece_count))]
-pub fn copy_held<S: Source>(elf: &Elf<S>, d: DataId, from: u64, buf: &mut [u8]) -> bool
-    requires stored { IsStored elf.now.o }
+pub(crate) fn copy_held<S: Source>(elf: &Elf<S>, d: DataId, from: u64, buf: &mut [u8]) -> bool
+    requires stored { HasStoredPlaces elf.now.o }
     requires there { from + length buf.old ≤ length (slice_index_or
-        (stored_pieces elf.now.o (part.Section d.section)) d.piece no_piece).1 }
+        (stored_pieces elf.now.o (part.Section d.section)) d.piece absent_piece).1 }
     requires small { from + length buf.old < 2 ^ 64 }
     requires section { d.section < length elf.now.o.sections }
     requires piece { d.piece < piece_count elf.now.o d.section }
     requires filled { has_file_bytes d.section (section_at elf.now.o d.section) ≡ true }
     ensures held { result ≡ true → IsTrue elf.now.told → buf.new ≡ take (length buf.old)
         (drop from (slice_index_or
-        (stored_pieces elf.now.o (part.Section d.section)) d.piece no_piece).1) }
+        (stored_pieces elf.now.o (part.Section d.section)) d.piece absent_piece).1) }
     ensures unread { result ≡ false → IsUnread elf.now d.section d.piece }
     ensures len { length buf.new ≡ length buf.old }
 {
@@ -161,64 +130,27 @@ pub fn copy_held<S: Source>(elf: &Elf<S>, d: DataId, from: u64, buf: &mut [u8]) 
     }
 }
 
-/// The place of a home.
-#[tactic(auto, unfolding(elf_object::specs::Calls::home_answer))]
-fn home_place<S: Source>(elf: &Elf<S>, s: u32) -> u64
-    requires { s < length elf.now.o.sections }
-    ensures { result ≡ (section_at elf.now.o s).home.at }
-{
-    match elf.home(ScnId(s)) {
-        Ok(home) => home.0,
-        Err(_) => unreachable!(),
-    }
-}
-
-/// Copies bytes of a clean home piece that is not loaded from the base, where its home lies.
-fn copy_home<S: Source>(
+/// Copies bytes of a clean home piece that is not loaded, at least one, from the base, where its
+/// home lies. It refuses `Read` alone and takes no memory.
+pub(crate) fn copy_home<S: Source>(
     elf: &mut Elf<S>,
     d: DataId,
     from: u64,
     buf: &mut [u8],
 ) -> Result<(), ElfError>
-    requires stored { IsStored elf.old.o }
+    requires stored { HasStoredPlaces elf.old.o }
     requires unread { IsUnread elf.old d.section d.piece }
     requires some { 0 < length buf.old }
     requires there { from + length buf.old ≤ length (slice_index_or
-        (stored_pieces elf.old.o (part.Section d.section)) d.piece no_piece).1 }
+        (stored_pieces elf.old.o (part.Section d.section)) d.piece absent_piece).1 }
     ensures bytes { IsTrue elf.old.told → OnOk result (buf.new ≡ take (length buf.old)
         (drop from (slice_index_or
-        (stored_pieces elf.old.o (part.Section d.section)) d.piece no_piece).1)) }
-    ensures copies { CopiesBy (kept_elf S.Source) (faults_of S.Source) (taken_of S.Source) result
+        (stored_pieces elf.old.o (part.Section d.section)) d.piece absent_piece).1)) }
+    ensures copies { CopiesBy (kept_of_elf S.Source) (faults_of S.Source) (taken_of S.Source) result
         elf.old elf.new (places_below (origin_due (stored_due elf.old.o elf.old.loaded) 0
         (Piece (part.Section d.section) d.piece)) from (from + length buf.old)) }
     ensures err { IfErr result (λ e. e ≡ ElfError.Read) }
 {
-    let at = home_place(elf, d.section) + from;
+    let at = home_extent(elf, d.section).0 + from;
     elf.copy_base(at, buf)
-}
-
-/// Copies bytes of a piece of a section. It refuses `Read` alone and takes no memory.
-pub(crate) fn copy_data<S: Source>(
-    elf: &mut Elf<S>,
-    d: DataId,
-    from: u64,
-    buf: &mut [u8],
-) -> Result<(), ElfError>
-    requires stored { IsStored elf.old.o }
-    requires some { 0 < length buf.old }
-    requires there { from + length buf.old ≤ length (slice_index_or
-        (stored_pieces elf.old.o (part.Section d.section)) d.piece no_piece).1 }
-    requires small { from + length buf.old < 2 ^ 64 }
-    ensures bytes { IsTrue elf.old.told → OnOk result (buf.new ≡ take (length buf.old)
-        (drop from (slice_index_or
-        (stored_pieces elf.old.o (part.Section d.section)) d.piece no_piece).1)) }
-    ensures copies { CopiesBy (kept_elf S.Source) (faults_of S.Source) (taken_of S.Source) result
-        elf.old elf.new (places_below (origin_due (stored_due elf.old.o elf.old.loaded) 0
-        (Piece (part.Section d.section) d.piece)) from (from + length buf.old)) }
-    ensures err { IfErr result (λ e. e ≡ ElfError.Read) }
-{
-    if copy_held(elf, d, from, buf) {
-        return Ok(());
-    }
-    copy_home(elf, d, from, buf)
 }

@@ -34,6 +34,16 @@ pub trait Entries {
             (bytes self.now)) };
 }
 
+/// Copies the bytes from the place `at` on into the whole of `buf`.
+pub(crate) fn copy_range(bytes: &[u8], at: u64, buf: &mut [u8])
+    requires { at + length buf.old ≤ length bytes.now }
+    ensures { buf.new ≡ take (length buf.old) (drop at bytes.now) }
+{
+    let start = at as usize;
+    let range = &bytes[start..start + buf.len()];
+    buf.copy_from_slice(range);
+}
+
 /// Writes bytes of one entry, from a place in it on. `whole` has just as many bytes as the entry.
 fn copy_of_one<E: Entries>(entries: &E, index: u64, skip: usize, whole: &mut [u8], out: &mut [u8])
     requires ready { E.ready entries.now }
@@ -44,7 +54,7 @@ fn copy_of_one<E: Entries>(entries: &E, index: u64, skip: usize, whole: &mut [u8
         (drop (E.size entries.now * index + skip) (E.bytes entries.now)) }
 {
     entries.put_entries(index, 1, whole);
-    out.copy_from_slice(&whole[skip..skip + out.len()]);
+    copy_range(whole, skip as u64, out);
 }
 
 /// Writes bytes of one entry, or of none where `out` is empty, from a place in it on.

@@ -1,22 +1,21 @@
 //! The ELF header and the two tables, row by row.
 
-ghost use Rattle.std.specs.Prelude.{◌≡◌, ◌<◌, ◌+◌, ◌^◌, ◌≤◌, length, take, drop, slice_index_or};
+ghost use Rattle.std.specs.Prelude.{◌≡◌, ◌<◌, length, slice_index_or};
 ghost use Rattle.elf_xlate.specs.Headers.{ehdr_size, phdr_size, shdr_size, phdr_bytes, shdr_bytes};
 ghost use Rattle.elf_object.specs.Object.{no_phdr, section_at};
 ghost use Rattle.elf_object.specs.Image.{front_blocks};
-ghost use Rattle.elf_update.specs.Descriptors.{IsStored};
+ghost use Rattle.elf_update.specs.Descriptors.{HasStoredPlaces};
 
-use crate::entries::copy_entries;
-use crate::rows::{Rows, RowsForm};
+use crate::rows::Rows;
 use elf_descriptor::Elf;
 use elf_object::written_header;
 use elf_outside::Source;
-use elf_types::{Phdr, ScnId};
+use elf_types::ScnId;
 use elf_xlate::{ehdr_size, phdr_size, put_ehdr, put_phdr, put_shdr, shdr_size};
 
 /// Writes the ELF header. `out` has just as many bytes as it has.
 fn put_header<S: Source>(elf: &Elf<S>, out: &mut [u8])
-    requires stored { IsStored elf.now.o }
+    requires stored { HasStoredPlaces elf.now.o }
     requires room { length out.old ≡ ehdr_size elf.now.o.header.class }
     ensures { out.new ≡ (front_blocks elf.now.o).header.bytes }
 {
@@ -25,19 +24,19 @@ fn put_header<S: Source>(elf: &Elf<S>, out: &mut [u8])
 
 /// Writes a program header that is there. `out` has just as many bytes as it has.
 fn put_segment<S: Source>(elf: &Elf<S>, i: u32, out: &mut [u8])
-    requires stored { IsStored elf.now.o }
+    requires stored { HasStoredPlaces elf.now.o }
     requires there { i < length elf.now.o.phdrs }
     requires room { length out.old ≡ phdr_size elf.now.o.header.class }
     ensures { out.new ≡ phdr_bytes elf.now.o.header.class elf.now.o.header.order
         (slice_index_or elf.now.o.phdrs i no_phdr) }
 {
     let header = elf.ehdr();
-    put_phdr(header.class, header.order, &phdr_at(elf, i), out);
+    put_phdr(header.class, header.order, &elf.phdr_at(i), out);
 }
 
 /// Writes the header of a section that is there. `out` has just as many bytes as it has.
 fn put_section<S: Source>(elf: &Elf<S>, s: u32, out: &mut [u8])
-    requires stored { IsStored elf.now.o }
+    requires stored { HasStoredPlaces elf.now.o }
     requires there { s < length elf.now.o.sections }
     requires room { length out.old ≡ shdr_size elf.now.o.header.class }
     ensures { out.new ≡ shdr_bytes elf.now.o.header.class elf.now.o.header.order
@@ -54,12 +53,13 @@ fn put_section<S: Source>(elf: &Elf<S>, s: u32, out: &mut [u8])
 
 /// The ELF header of an object whose places are stored, as a row.
 #[derive(Drop)]
-struct HeaderRow<'a, S: Source> {
-    elf: &'a Elf<S>,
+pub(crate) struct HeaderRow<'a, S: Source> {
+    /// The object's descriptor.
+    pub elf: &'a Elf<S>,
 }
 
 impl<S: Source> Rows for HeaderRow<'_, S> {
-    ghost ready = { λ r. IsStored r.elf.now.o };
+    ghost ready = { λ r. HasStoredPlaces r.elf.now.o };
 
     ghost bytes = { λ r. (front_blocks r.elf.now.o).header.bytes };
 
@@ -78,24 +78,13 @@ impl<S: Source> Rows for HeaderRow<'_, S> {
 
 /// The program headers of an object whose places are stored, as rows.
 #[derive(Drop)]
-struct SegmentRows<'a, S: Source> {
-    elf: &'a Elf<S>,
-}
-
-/// A program header that is there.
-#[tactic(auto, unfolding(elf_object::specs::Calls::phdr_answer))]
-fn phdr_at<S: Source>(elf: &Elf<S>, i: u32) -> Phdr
-    requires { i < length elf.now.o.phdrs }
-    ensures { result ≡ slice_index_or elf.now.o.phdrs i no_phdr }
-{
-    match elf.phdr(i) {
-        Ok(p) => p,
-        Err(_) => unreachable!(),
-    }
+pub(crate) struct SegmentRows<'a, S: Source> {
+    /// The object's descriptor.
+    pub elf: &'a Elf<S>,
 }
 
 impl<S: Source> Rows for SegmentRows<'_, S> {
-    ghost ready = { λ r. IsStored r.elf.now.o };
+    ghost ready = { λ r. HasStoredPlaces r.elf.now.o };
 
     ghost bytes = { λ r. (front_blocks r.elf.now.o).segments.bytes };
 
@@ -114,12 +103,13 @@ impl<S: Source> Rows for SegmentRows<'_, S> {
 
 /// The section headers of an object whose places are stored, as rows.
 #[derive(Drop)]
-struct SectionRows<'a, S: Source> {
-    elf: &'a Elf<S>,
+pub(crate) struct SectionRows<'a, S: Source> {
+    /// The object's descriptor.
+    pub elf: &'a Elf<S>,
 }
 
 impl<S: Source> Rows for SectionRows<'_, S> {
-    ghost ready = { λ r. IsStored r.elf.now.o };
+    ghost ready = { λ r. HasStoredPlaces r.elf.now.o };
 
     ghost bytes = { λ r. (front_blocks r.elf.now.o).table.bytes };
 
@@ -134,53 +124,4 @@ impl<S: Source> Rows for SectionRows<'_, S> {
     fn put_row(&self, i: u64, out: &mut [u8]) {
         put_section(self.elf, i as u32, out);
     }
-}
-
-/// Writes bytes of the ELF header.
-pub fn copy_header<S: Source>(elf: &Elf<S>, from: u64, buf: &mut [u8])
-    requires stored { IsStored elf.now.o }
-    requires there { from + length buf.old ≤ length (front_blocks elf.now.o).header.bytes }
-    requires small { from + length buf.old < 2 ^ 64 }
-    ensures { buf.new ≡ take (length buf.old) (drop from (front_blocks elf.now.o).header.bytes) }
-{
-    copy_entries(
-        &RowsForm {
-            rows: &HeaderRow { elf },
-        },
-        from,
-        buf,
-    );
-}
-
-/// Writes bytes of the program header table.
-pub fn copy_segments<S: Source>(elf: &Elf<S>, from: u64, buf: &mut [u8])
-    requires stored { IsStored elf.now.o }
-    requires there { from + length buf.old ≤ length (front_blocks elf.now.o).segments.bytes }
-    requires small { from + length buf.old < 2 ^ 64 }
-    ensures { buf.new
-        ≡ take (length buf.old) (drop from (front_blocks elf.now.o).segments.bytes) }
-{
-    copy_entries(
-        &RowsForm {
-            rows: &SegmentRows { elf },
-        },
-        from,
-        buf,
-    );
-}
-
-/// Writes bytes of the section header table.
-pub fn copy_table<S: Source>(elf: &Elf<S>, from: u64, buf: &mut [u8])
-    requires stored { IsStored elf.now.o }
-    requires there { from + length buf.old ≤ length (front_blocks elf.now.o).table.bytes }
-    requires small { from + length buf.old < 2 ^ 64 }
-    ensures { buf.new ≡ take (length buf.old) (drop from (front_blocks elf.now.o).table.bytes) }
-{
-    copy_entries(
-        &RowsForm {
-            rows: &SectionRows { elf },
-        },
-        from,
-        buf,
-    );
 }

@@ -1,6 +1,7 @@
 //! Writing an image (elf_update of elf(3E)): its parts by their places, and what lies between them.
 #![tactic(auto)]
 
+mod copies;
 mod data;
 mod descriptors;
 pub mod entries;
@@ -13,10 +14,9 @@ mod rows;
 mod updates;
 mod walks;
 
-pub use data::copy_held;
-pub use fronts::{copy_header, copy_segments, copy_table};
-pub use pages::{PAGE_SIZE, Page};
-pub use parts::{Origin, Parts, PieceExtent};
+pub use copies::copy_at_hand;
+pub use pages::{PAGE_SIZE, Page, page_bytes};
+pub use parts::{ImageParts, Origin, PieceExtent};
 pub use puts::{put_fill, put_range};
 pub use update_plan::update_null;
 pub use updates::{PlannedParts, ground_of, plan_update, update_to};

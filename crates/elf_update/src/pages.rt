@@ -6,9 +6,9 @@ ghost use Rattle.std.proofs.Math.ListN.{replicate};
 ghost use Rattle.elf_types.specs.declared.errors.ElfError.TheVariants.{Memory, Read, Write};
 ghost use Rattle.elf_update.specs.Texts.{Flows};
 ghost use Rattle.elf_update.specs.Origins.{ReadyFor};
-ghost use Rattle.elf_update.specs.Emits.{bytes_in, due_in, UsesParts, WaitsMore};
+ghost use Rattle.elf_update.specs.Emits.{origin_text, due_in, UsesParts, WaitsMore};
 
-use crate::parts::{Origin, Parts};
+use crate::parts::{ImageParts, Origin};
 use elf_outside::Sink;
 use elf_outside::writes::put;
 use elf_types::ElfError;
@@ -17,6 +17,15 @@ use std::marker::Model;
 
 /// How many bytes fill a page.
 pub const PAGE_SIZE: usize = 65536;
+
+/// As many bytes as fill a page. It refuses `Memory` alone.
+pub fn page_bytes(alloc: Global) -> Result<Vec<u8>, ElfError>
+    ensures ok { IfOk result (λ bytes. length bytes.items ≡ 65536) }
+    ensures err { IfErr result (λ e. e ≡ Memory) }
+{
+    let bytes = vec![in alloc; 0u8; PAGE_SIZE]?;
+    Ok(bytes)
+}
 
 /// A page. Contracts see it as the bytes that wait in it, which are at most [`PAGE_SIZE`].
 #[derive(Drop)]
@@ -41,8 +50,10 @@ impl Page {
         ensures ok { IfOk result (λ page. page ≡ []) }
         ensures err { IfErr result (λ e. e ≡ Memory) }
     {
-        let bytes = vec![in alloc; 0u8; PAGE_SIZE]?;
-        Ok(Page { bytes, used: 0 })
+        match page_bytes(alloc) {
+            Ok(bytes) => Ok(Page { bytes, used: 0 }),
+            Err(e) => Err(e),
+        }
     }
 
     /// How many bytes more fit.
@@ -93,7 +104,7 @@ impl Page {
 
     /// Has a range of bytes of a piece or of the base wait, which fit. It refuses `Read` alone,
     /// takes no memory, and after a refusal what waits is as before.
-    pub fn fill_by<P: Parts>(
+    pub fn fill_by<P: ImageParts>(
         &mut self,
         parts: &mut P,
         of: Origin,
@@ -101,14 +112,14 @@ impl Page {
         count: usize,
     ) -> Result<(), ElfError>
         requires ready { ReadyFor (P.ready (P.kept parts.old)) of }
-        requires there { from + count ≤ length (bytes_in P.Parts parts.old of) }
+        requires there { from + count ≤ length (origin_text P.ImageParts parts.old of) }
         requires small { from + count < 2 ^ 64 }
         requires room { length self.old + count ≤ 65536 }
         ensures waits { OnOk result (WaitsMore (P.told (P.kept parts.old))
-            (take count (drop from (bytes_in P.Parts parts.old of))) self.old self.new) }
+            (take count (drop from (origin_text P.ImageParts parts.old of))) self.old self.new) }
         ensures unchanged { OnErr result (self.new ≡ self.old) }
-        ensures parts { UsesParts P.Parts result parts.old parts.new
-            (due_in P.Parts parts.old of from (from + count)) }
+        ensures parts { UsesParts P.ImageParts result parts.old parts.new
+            (due_in P.ImageParts parts.old of from (from + count)) }
         ensures err { IfErr result (λ e. e ≡ Read) }
     {
         let used = self.used;

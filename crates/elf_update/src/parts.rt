@@ -35,9 +35,9 @@ pub struct PieceExtent {
 /// - `faults` counts the reads that failed: it never falls, and a copy fails only where it rose, or
 ///   stands at 2^64 - 1.
 /// - `taken` counts the bytes that were asked for.
-pub trait Parts {
+pub trait ImageParts {
     ghost use Rattle.elf_update.specs.declared.parts.Origin.{Origin};
-    ghost use Rattle.elf_update.specs.Origins.{no_piece, origin_bytes, origin_due, ReadyFor, IsExtent, CopiesBy};
+    ghost use Rattle.elf_update.specs.Origins.{absent_piece, origin_bytes, origin_due, ReadyFor, IsExtent, CopiesBy};
     ghost use Rattle.writing_laws.specs.Plan.{places_below};
 
     ghost Kept: { Type 0 };
@@ -66,7 +66,7 @@ pub trait Parts {
     fn piece(&self, part: Part, p: u32) -> PieceExtent
         requires ready { ready (kept self.now) }
         requires there { p < length (pieces (kept self.now) part) }
-        ensures { IsExtent result (slice_index_or (pieces (kept self.now) part) p no_piece) };
+        ensures { IsExtent result (slice_index_or (pieces (kept self.now) part) p absent_piece) };
 
     /// Copies bytes from the place `from` in a piece or in the base on into the whole of `buf`. It
     /// refuses `Read` alone and takes no memory.

@@ -5,10 +5,10 @@ ghost use Rattle.std.proofs.Math.ListN.{replicate};
 ghost use Rattle.elf_types.specs.declared.errors.ElfError.TheVariants.{Write};
 ghost use Rattle.elf_update.specs.Texts.{Flows};
 ghost use Rattle.elf_update.specs.Origins.{ReadyFor};
-ghost use Rattle.elf_update.specs.Emits.{bytes_in, due_in, Emits};
+ghost use Rattle.elf_update.specs.Emits.{origin_text, due_in, Emits};
 
 use crate::pages::{PAGE_SIZE, Page};
-use crate::parts::{Origin, Parts};
+use crate::parts::{ImageParts, Origin};
 use elf_outside::Sink;
 use elf_outside::writes::put_zeros;
 use elf_types::ElfError;
@@ -63,7 +63,7 @@ pub fn put_fill<K: Sink>(
 
 /// Puts the bytes of a piece or of the base from one place on and before another. It refuses `Read`
 /// and `Write` alone and takes no memory.
-pub fn put_range<P: Parts, K: Sink>(
+pub fn put_range<P: ImageParts, K: Sink>(
     parts: &mut P,
     page: &mut Page,
     sink: &mut K,
@@ -73,10 +73,11 @@ pub fn put_range<P: Parts, K: Sink>(
 ) -> Result<(), ElfError>
     requires ready { ReadyFor (P.ready (P.kept parts.old)) of }
     requires order { from ≤ to }
-    requires there { to ≤ length (bytes_in P.Parts parts.old of) }
-    ensures { Emits P.Parts K.Sink result parts.old parts.new sink.old sink.new page.old page.new
-        (take (to - from) (drop from (bytes_in P.Parts parts.old of)))
-        (due_in P.Parts parts.old of from to) }
+    requires there { to ≤ length (origin_text P.ImageParts parts.old of) }
+    ensures { Emits P.ImageParts K.Sink result parts.old parts.new sink.old sink.new page.old
+        page.new
+        (take (to - from) (drop from (origin_text P.ImageParts parts.old of)))
+        (due_in P.ImageParts parts.old of from to) }
 {
     let mut at = from;
     while at < to {

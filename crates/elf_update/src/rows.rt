@@ -2,7 +2,7 @@
 
 ghost use Rattle.std.specs.Prelude.{◌≡◌, ◌+◌, ◌*◌, ◌^◌, ◌≤◌, ◌<◌, ℕ, List, length, take, drop};
 
-use crate::entries::Entries;
+use crate::entries::{Entries, copy_entries};
 
 /// Rows of one size, each of which is written by itself.
 ///
@@ -53,9 +53,8 @@ fn put_rows<R: Rows>(rows: &R, from: u64, some: u64, out: &mut [u8])
 
 /// Rows as entries.
 #[derive(Drop)]
-pub struct RowsForm<'a, R: Rows> {
-    /// The rows.
-    pub rows: &'a R,
+struct RowsForm<'a, R: Rows> {
+    rows: &'a R,
 }
 
 impl<R: Rows> Entries for RowsForm<'_, R> {
@@ -74,4 +73,14 @@ impl<R: Rows> Entries for RowsForm<'_, R> {
     fn put_entries(&self, from: u64, some: u64, out: &mut [u8]) {
         put_rows(self.rows, from, some, out);
     }
+}
+
+/// Writes bytes of rows from the place `from` on into the whole of `buf`.
+pub fn copy_rows<R: Rows>(rows: &R, from: u64, buf: &mut [u8])
+    requires ready { R.ready rows.now }
+    requires there { from + length buf.old ≤ length (R.bytes rows.now) }
+    requires small { from + length buf.old < 2 ^ 64 }
+    ensures { buf.new ≡ take (length buf.old) (drop from (R.bytes rows.now)) }
+{
+    copy_entries(&RowsForm { rows }, from, buf);
 }

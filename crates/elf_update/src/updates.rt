@@ -3,13 +3,14 @@
 ghost use Rattle.std.specs.Prelude.{◌≡◌, [], length, true, false, IfOk, IfErr, OnOk};
 ghost use Rattle.elf_object.specs.Object.{is_dirty};
 ghost use Rattle.elf_object.specs.Image.{kept_base};
+ghost use Rattle.elf_object.specs.Words.{result_map};
 ghost use Rattle.update_plan.specs.Placing.{ArePlaced, IsRefused};
-ghost use Rattle.elf_update.specs.Updates.{IsPlanned, Writes, UpdatesTo};
+ghost use Rattle.elf_update.specs.Updates.{IsPlanned, UpdatesTo};
 
 use crate::pages::Page;
 use crate::walks::{Ground, put_end, put_image};
 use elf_descriptor::Elf;
-use elf_layout::Parts as PartList;
+use elf_layout::{Parts, Places};
 use elf_outside::{Sink, Source};
 use elf_types::ElfError;
 use update_plan::{PlacedParts, has_layout, place_parts, plan};
@@ -18,9 +19,9 @@ use update_plan::{PlacedParts, has_layout, place_parts, plan};
 #[derive(Drop)]
 pub struct PlannedParts {
     /// The parts that are not empty, by their places.
-    pub parts: PartList,
-    /// All parts, and their places.
-    pub placed: PlacedParts,
+    pub parts: Parts,
+    /// Where all parts stand, and the image's length.
+    pub places: Places,
 }
 
 /// The plan of an image whose parts are placed. It refuses `Memory` alone.
@@ -31,8 +32,9 @@ fn plan_placed<S: Source>(elf: &Elf<S>, placed: PlacedParts) -> Result<PlannedPa
     ensures err { IfErr result (IsRefused elf.now.o) }
 {
     let _dirty = elf.dirty();
-    match plan(elf.alloc(), &placed.parts, &placed.places) {
-        Ok(parts) => Ok(PlannedParts { parts, placed }),
+    let PlacedParts { parts, places } = placed;
+    match plan(elf.alloc(), parts, &places) {
+        Ok(parts) => Ok(PlannedParts { parts, places }),
         Err(e) => Err(e),
     }
 }
@@ -81,17 +83,18 @@ fn write_planned<S: Source, K: Sink>(
 ) -> Result<(), ElfError>
     requires planned { IsPlanned elf.old.o planned.now }
     requires empty { page.old ≡ [] }
-    ensures { Writes S.Source K.Sink result elf.old elf.new sink.old sink.new }
+    ensures { UpdatesTo S.Source K.Sink (result_map (λ _. planned.now.places.end) result)
+        elf.old elf.new sink.old sink.new }
 {
     let ground = ground_of(elf);
-    elf.store_places(&planned.placed.places);
+    elf.store_places(&planned.places);
     put_image(
         elf,
         page,
         sink,
         planned.parts.as_slice(),
         ground,
-        planned.placed.places.end,
+        planned.places.end,
     )
 }
 
@@ -103,7 +106,8 @@ fn write_base<S: Source, K: Sink>(
 ) -> Result<(), ElfError>
     requires clean { is_dirty elf.old.o ≡ false }
     requires empty { page.old ≡ [] }
-    ensures { Writes S.Source K.Sink result elf.old elf.new sink.old sink.new }
+    ensures { UpdatesTo S.Source K.Sink (result_map (λ _. length elf.old.o.base) result)
+        elf.old elf.new sink.old sink.new }
 {
     let len = elf.base_len();
     put_end(elf, page, sink, Ground { kept: len, fill: 0 }, 0, len)
@@ -141,7 +145,7 @@ fn update_dirty<S: Source, K: Sink>(elf: &mut Elf<S>, sink: &mut K) -> Result<u6
     if let Err(e) = write_planned(elf, sink, &mut page, &planned) {
         return Err(e);
     }
-    Ok(planned.placed.places.end)
+    Ok(planned.places.end)
 }
 
 /// Puts the image to a sink, in order, and answers its length. The places of the parts are stored

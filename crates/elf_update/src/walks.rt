@@ -4,13 +4,13 @@ ghost use Rattle.std.specs.Prelude.{◌≡◌, ◌+◌, ◌-◌, ◌^◌, ◌≤
 ghost use Rattle.elf_layout.specs.Layout.{rounded_up};
 ghost use Rattle.writing_laws.specs.Lines.{AreInLine, in_line};
 ghost use Rattle.writing_laws.specs.Plan.{places_below, base_gaps};
-ghost use Rattle.elf_update.specs.Origins.{no_piece, origin_due};
-ghost use Rattle.elf_update.specs.Pieces.{joined, blocks_at, HasLength};
-ghost use Rattle.elf_update.specs.Emits.{Emits, gap_text, ground_byte, piece_text};
+ghost use Rattle.elf_update.specs.Origins.{absent_piece, origin_due};
+ghost use Rattle.elf_update.specs.Pieces.{filled_piece, stacked_text, blocks_at, HasLength};
+ghost use Rattle.elf_update.specs.Emits.{Emits, gap_text, ground_byte};
 ghost use Rattle.elf_update.specs.declared.parts.Origin.TheVariants.{Piece};
 
 use crate::pages::Page;
-use crate::parts::{Origin, Parts};
+use crate::parts::{ImageParts, Origin};
 use crate::puts::{put_fill, put_range};
 use elf_layout::PartAt;
 use elf_outside::Sink;
@@ -27,7 +27,7 @@ pub struct Ground {
 }
 
 /// Puts the bytes of the base from one place on and before another, where there are any.
-fn put_base<P: Parts, K: Sink>(
+fn put_base<P: ImageParts, K: Sink>(
     parts: &mut P,
     page: &mut Page,
     sink: &mut K,
@@ -35,7 +35,8 @@ fn put_base<P: Parts, K: Sink>(
     to: u64,
 ) -> Result<(), ElfError>
     requires there { to ≤ length (P.base (P.kept parts.old)) }
-    ensures { Emits P.Parts K.Sink result parts.old parts.new sink.old sink.new page.old page.new
+    ensures { Emits P.ImageParts K.Sink result parts.old parts.new sink.old sink.new page.old
+        page.new
         (take (to - from) (drop from (P.base (P.kept parts.old)))) (to - from) }
 {
     if from >= to {
@@ -45,7 +46,7 @@ fn put_base<P: Parts, K: Sink>(
 }
 
 /// Puts what stands between the parts from one place on and before another.
-fn put_gap<P: Parts, K: Sink>(
+fn put_gap<P: ImageParts, K: Sink>(
     parts: &mut P,
     page: &mut Page,
     sink: &mut K,
@@ -54,7 +55,8 @@ fn put_gap<P: Parts, K: Sink>(
     end: u64,
 ) -> Result<(), ElfError>
     requires kept { ground.kept ≤ length (P.base (P.kept parts.old)) }
-    ensures { Emits P.Parts K.Sink result parts.old parts.new sink.old sink.new page.old page.new
+    ensures { Emits P.ImageParts K.Sink result parts.old parts.new sink.old sink.new page.old
+        page.new
         (gap_text (P.base (P.kept parts.old)) ground.kept ground.fill from end)
         (places_below ground.kept from end) }
 {
@@ -67,7 +69,7 @@ fn put_gap<P: Parts, K: Sink>(
 
 /// Puts a piece of a part, which stands at the end so far, rounded up to its alignment, with the
 /// fill byte before it, and answers the end after it.
-fn put_piece<P: Parts, K: Sink>(
+fn put_piece<P: ImageParts, K: Sink>(
     parts: &mut P,
     page: &mut Page,
     sink: &mut K,
@@ -78,12 +80,13 @@ fn put_piece<P: Parts, K: Sink>(
 ) -> Result<u64, ElfError>
     requires ready { P.ready (P.kept parts.old) }
     requires there { p < length (P.pieces (P.kept parts.old) part) }
-    requires small { let piece = slice_index_or (P.pieces (P.kept parts.old) part) p no_piece in
+    requires small { let piece = slice_index_or (P.pieces (P.kept parts.old) part) p absent_piece in
         rounded_up end piece.0 + length piece.1 < 2 ^ 64 }
-    ensures end { let piece = slice_index_or (P.pieces (P.kept parts.old) part) p no_piece in
+    ensures end { let piece = slice_index_or (P.pieces (P.kept parts.old) part) p absent_piece in
         IfOk result (λ after. after ≡ rounded_up end piece.0 + length piece.1) }
-    ensures emits { Emits P.Parts K.Sink result parts.old parts.new sink.old sink.new page.old
-        page.new (piece_text P.Parts parts.old part p end fill)
+    ensures emits { Emits P.ImageParts K.Sink result parts.old parts.new sink.old sink.new page.old
+        page.new
+        (filled_piece (slice_index_or (P.pieces (P.kept parts.old) part) p absent_piece) end fill)
         (origin_due (P.due (P.kept parts.old)) 0 (Piece part p)) }
 {
     let piece = parts.piece(part, p);
@@ -98,7 +101,7 @@ fn put_piece<P: Parts, K: Sink>(
 }
 
 /// Puts a part: its pieces, with the fill byte between them.
-fn put_part<P: Parts, K: Sink>(
+fn put_part<P: ImageParts, K: Sink>(
     parts: &mut P,
     page: &mut Page,
     sink: &mut K,
@@ -108,8 +111,9 @@ fn put_part<P: Parts, K: Sink>(
     requires ready { P.ready (P.kept parts.old) }
     requires long { HasLength (P.pieces (P.kept parts.old)) part }
     requires small { part.len < 2 ^ 64 }
-    ensures { Emits P.Parts K.Sink result parts.old parts.new sink.old sink.new page.old page.new
-        (joined fill (P.pieces (P.kept parts.old) part.part))
+    ensures { Emits P.ImageParts K.Sink result parts.old parts.new sink.old sink.new page.old
+        page.new
+        (stacked_text fill (P.pieces (P.kept parts.old) part.part))
         (P.due (P.kept parts.old) part.part) }
 {
     let count = parts.piece_count(part.part);
@@ -125,7 +129,7 @@ fn put_part<P: Parts, K: Sink>(
 
 /// Puts what stands behind the last part, and what waits. It refuses `Read` and `Write` alone and
 /// takes no memory.
-pub fn put_end<P: Parts, K: Sink>(
+pub fn put_end<P: ImageParts, K: Sink>(
     parts: &mut P,
     page: &mut Page,
     sink: &mut K,
@@ -134,7 +138,7 @@ pub fn put_end<P: Parts, K: Sink>(
     end: u64,
 ) -> Result<(), ElfError>
     requires kept { ground.kept ≤ length (P.base (P.kept parts.old)) }
-    ensures emits { Emits P.Parts K.Sink result parts.old parts.new sink.old sink.new page.old
+    ensures emits { Emits P.ImageParts K.Sink result parts.old parts.new sink.old sink.new page.old
         page.new (gap_text (P.base (P.kept parts.old)) ground.kept ground.fill from end)
         (places_below ground.kept from end) }
     ensures empty { OnOk result (page.new ≡ []) }
@@ -147,7 +151,7 @@ pub fn put_end<P: Parts, K: Sink>(
 
 /// Puts an image: the parts of its plan, each at its place, what stands between them, and what
 /// waits. It refuses `Read` and `Write` alone and takes no memory.
-pub fn put_image<P: Parts, K: Sink>(
+pub fn put_image<P: ImageParts, K: Sink>(
     parts: &mut P,
     page: &mut Page,
     sink: &mut K,
@@ -160,7 +164,7 @@ pub fn put_image<P: Parts, K: Sink>(
     requires long { All (HasLength (P.pieces (P.kept parts.old))) plan.now }
     requires line { AreInLine end 0
         (blocks_at ground.fill (P.pieces (P.kept parts.old)) plan.now) }
-    ensures emits { Emits P.Parts K.Sink result parts.old parts.new sink.old sink.new page.old
+    ensures emits { Emits P.ImageParts K.Sink result parts.old parts.new sink.old sink.new page.old
         page.new
         (in_line end (ground_byte (P.base (P.kept parts.old)) ground.kept ground.fill) 0
         (blocks_at ground.fill (P.pieces (P.kept parts.old)) plan.now))

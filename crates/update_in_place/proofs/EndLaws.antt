@@ -1,11 +1,11 @@
 -- How an update in place ends: it is refused, wants memory, fails to read or to write, or settles
 -- the object.
 use Rattle.std.proofs.Common.{◌≡◌, ◌⊎◌, inl, inr, ℕ, zero, suc, Bool, true, false, List, [], ◌∷◌, length, Option, Some, None, Result, Ok, Err, refl, sym, ap, ◌∙◌, subst, arith}
-use Rattle.std.specs.Prelude.{IsOk, is_some, IfErr, IfSome, if◌then◌else◌}
+use Rattle.std.specs.Prelude.{IfErr, IfSome, if◌then◌else◌}
 use Rattle.std.specs.Option.{option_map}
 use Rattle.elf_types.specs.declared.errors.ElfError.{ElfError}
 use Rattle.elf_types.specs.declared.errors.ElfError.TheVariants.{Memory, Read, Write}
-use Rattle.elf_types.specs.Answers.{answered, IsRefusal}
+use Rattle.elf_types.specs.Answers.{IsRefusal}
 use Rattle.elf_outside.specs.Asks.{DeviceReadRose}
 use Rattle.elf_outside.specs.Puts.{WriteRose}
 use Rattle.elf_outside.specs.Patches.{UsesDevice}
@@ -14,8 +14,7 @@ use Rattle.elf_outside.specs.declared.devices.Device.{Ghosts as DeviceGhosts}
 use Rattle.elf_outside.proofs.PutLemmas.{uses_device_on}
 use Rattle.elf_outside.proofs.UseLemmas.{uses_device_none, uses_device_as}
 use Rattle.elf_object.specs.Object.{Object}
-use Rattle.elf_object.specs.Layout.{placed}
-use Rattle.elf_object.specs.Image.{image, image_length}
+use Rattle.elf_object.specs.Image.{image}
 use Rattle.elf_object.specs.Refusal.{refusal}
 use Rattle.elf_object.specs.Settled.{settled, untold}
 use Rattle.elf_object.specs.Changed.{torn, changed_bytes}
@@ -23,19 +22,39 @@ use Rattle.elf_object.specs.Due.{is_loaded, update_in_place_due}
 use Rattle.elf_layout.specs.Layout.{MayWantMemory}
 use Rattle.elf_object.specs.Words.{UpdateAnswers}
 use Rattle.elf_object.specs.Calls.{update_null}
-use Rattle.elf_object.proofs.RefusalLaws.{update_refuses}
+use Rattle.update_plan.proofs.PlacingLaws.{refused_cases}
 use Rattle.object_laws.specs.Laws.{IsTornImage}
 use Rattle.object_laws.proofs.ImageLaws.{length-image}
 use Rattle.object_laws.proofs.TornLaws.{torn_law}
 use Rattle.writing_laws.specs.Ready.{IsReady}
 use Rattle.writing_laws.proofs.AlikeLaws.{settles_alike}
 use Rattle.elf_descriptor.specs.State.{State}
-use Rattle.elf_descriptor.specs.Fronts.{HoldsBase}
 use Rattle.elf_descriptor.specs.Settling.{settled_state, cleared}
 use Rattle.update_plan.specs.Placing.{IsRefused}
-use Rattle.update_writes.specs.Writes.{LeavesTorn}
-use Rattle.update_in_place.specs.Rooms.{TakesMemory}
-use Rattle.update_in_place.specs.Updates.{OnEnd, IsTornBase, HoldsNothing, HoldsMore, IsTaken, WritesInPlace, UpdatesInPlace}
+use Rattle.elf_update.proofs.UpdateLaws.{answers_by}
+use Rattle.update_in_place.specs.Updates.{OnEnd, HoldsNothing, HoldsMore, EndsInPlace, UpdatesInPlace, IsUnsettled, WritesInPlace}
+
+-- a refusal that comes before anything is read or written
+abbrev IsEarly : ElfError → Type 0
+IsEarly Read = ⊥
+IsEarly Write = ⊥
+IsEarly e = Unit {0}
+
+-- what a refusal leaves has nothing to do with the type of the answer, nor with what an Ok leaves
+on_stop : (A B done more unread unwritten refused : Type 0) (e : ElfError)
+    → OnEnd {A = A} (Err e) done unread unwritten refused
+    → OnEnd {A = B} (Err e) more unread unwritten refused
+on_stop A B done more unread unwritten refused Read h = h
+on_stop A B done more unread unwritten refused Write h = h
+on_stop A B done more unread unwritten refused e h = h
+
+-- the answer, where memory was wanted, or a read or a write failed
+pub failed_answer : (e : ElfError) (n : ℕ) (stated : Result ℕ ElfError) → stated ≡ Ok n
+    → (e ≡ Memory) ⊎ ((e ≡ Read) ⊎ (e ≡ Write)) → UpdateAnswers {A = ℕ} (Err e) stated
+failed_answer e n stated is (inl same) =
+    subst (λ (f : ElfError). UpdateAnswers {A = ℕ} (Err f) stated) (sym same)
+    (subst (λ (r : Result ℕ ElfError). MayWantMemory r) (sym is) tt)
+failed_answer e n stated is (inr later) = answers_by e n stated is later
 
 module _ {D : Type 0} (s : SourceGhosts D) (d : DeviceGhosts D) where
   -- ---- Before anything was read or written
@@ -49,70 +68,44 @@ module _ {D : Type 0} (s : SourceGhosts D) (d : DeviceGhosts D) where
       (changed_bytes e.o) (omega arith) (omega arith)
       (uses_device_none s d r e.source read write)
 
-  -- memory was wanted: it may be kept aside for some homes
+  -- memory may be kept aside for some homes
+  untouched : {A : Type 0} (e : ElfError) (done : Object) (Left : Type 0) (old : State D)
+      (room : List Bool) → IsEarly e
+      → EndsInPlace {A = A} s d done Left (Err e) old (record old { room = room })
+  untouched Read done Left old room never = absurd never
+  untouched Write done Left old room never = absurd never
+  untouched e done Left old room early = record {
+    told = refl;
+    object = refl;
+    base = tt;
+    bytes = refl;
+    size = refl;
+    kept = refl;
+    unwritten = tt;
+    uses = nothing_used (Err e) old tt tt;
+  }
+
+  -- memory was wanted
   pub wanted : {A : Type 0} (e : ElfError) (old new : State D) → e ≡ Memory
       → new ≡ record old { room = new.room } → WritesInPlace {A = A} s d (Err e) old new
   wanted {A} e old new is same =
       subst (λ (x : ElfError). WritesInPlace {A = A} s d (Err x) old new) (sym is)
-      (subst (λ (n : State D). WritesInPlace {A = A} s d (Err Memory) old n) (sym same)
-      (record {
-        told = refl;
-        object = refl;
-        base = tt;
-        bytes = refl;
-        size = refl;
-        kept = refl;
-        ready = tt;
-        unwritten = tt;
-        uses = nothing_used (Err Memory) old tt tt;
-      }))
-
-  still : (e : ElfError) (x : State D) → DeviceReadRose {T = ℕ} (Err e) (s.faults x.source) (s.faults x.source)
-      → WriteRose {T = ℕ} (Err e) (d.write_faults x.source) (d.write_faults x.source)
-      → OnEnd {A = ℕ} (Err e) (x.o ≡ settled x.told x.o) (x.o ≡ placed x.o)
-      (x.o ≡ torn x.o x.o.base) (x.o ≡ x.o)
-      → OnEnd {A = ℕ} (Err e) (Unit {0}) (Unit {0}) (IsTornBase s x.o x) (Unit {0})
-      → OnEnd {A = ℕ} (Err e)
-      (s.holds x.source ≡ option_map (λ _. image x.o) (s.holds x.source))
-      (s.holds x.source ≡ s.holds x.source)
-      (LeavesTorn (s.holds x.source) (s.holds x.source) (image x.o))
-      (s.holds x.source ≡ s.holds x.source)
-      → OnEnd {A = ℕ} (Err e) (s.size x.source ≡ image_length x.o)
-      (s.size x.source ≡ s.size x.source)
-      ((s.size x.source ≡ s.size x.source) ⊎ (s.size x.source ≡ image_length x.o))
-      (s.size x.source ≡ s.size x.source)
-      → OnEnd {A = ℕ} (Err e) (HoldsNothing x) (HoldsMore x x) (HoldsMore x x)
-      (x ≡ record x { room = x.room })
-      → OnEnd {A = ℕ} (Err e) (Unit {0}) (d.given x.source ≡ d.given x.source) (Unit {0}) (Unit {0})
-      → UpdatesInPlace s d (Err e) x x
-  still e x read write object base bytes size kept given = record {
-    told = refl;
-    object = object;
-    base = base;
-    bytes = bytes;
-    size = size;
-    kept = kept;
-    unwritten = given;
-    uses = nothing_used (Err e) x read write;
-  }
+      (subst (λ (n : State D). EndsInPlace {A = A} s d (torn old.o new.o.base)
+      (IsUnsettled s old new) (Err Memory) old n) (sym same)
+      (untouched Memory (torn old.o new.o.base) (IsUnsettled s old new) old new.room tt))
 
   -- it was refused, or wanted memory
-  pub refused : (e : ElfError) (x : State D) → IsRefused x.o e
-      → UpdateAnswers {A = ℕ} (Err e) (update_null.answer x.o) × UpdatesInPlace s d (Err e) x x
-  refused e x (inl want) =
-      subst (λ (f : ElfError). UpdateAnswers {A = ℕ} (Err f) (update_null.answer x.o)
-      × UpdatesInPlace s d (Err f) x x) (sym want.0)
-      (want.1, still Memory x tt tt refl tt refl refl refl tt)
-  refused e x (inr is) =
-      by_error e (ap (λ (r : Option ElfError). answered r (image_length x.o)) is)
-      (subst (λ (r : Option ElfError). IfSome r IsRefusal) is (update_refuses x.o))
+  pub refused : (e : ElfError) (x : State D) → IsRefused x.o e → UpdatesInPlace s d (Err e) x x
+  refused e x is =
+      refused_cases x.o e (λ (f : ElfError). UpdatesInPlace s d (Err f) x x) is
+      (λ may. untouched Memory (settled x.told x.o) (HoldsNothing x) x x.room tt) by_error
     where
       by_error : (f : ElfError) → update_null.answer x.o ≡ Err f → IsRefusal f
-          → UpdateAnswers {A = ℕ} (Err f) (update_null.answer x.o) × UpdatesInPlace s d (Err f) x x
+          → UpdatesInPlace s d (Err f) x x
       by_error Memory stated never = absurd never
       by_error Read stated never = absurd never
       by_error Write stated never = absurd never
-      by_error f stated fine = (stated, still f x tt tt refl tt refl refl refl tt)
+      by_error f stated fine = untouched f (settled x.told x.o) (HoldsNothing x) x x.room tt
 
   -- ---- With memory that was taken
 
@@ -120,82 +113,43 @@ module _ {D : Type 0} (s : SourceGhosts D) (d : DeviceGhosts D) where
       → HoldsMore (record old { room = l; ready = true }) new → HoldsMore old new
   more_as l old new h = record { loads = h.loads; stays = h.stays; held = h.held }
 
+  abbrev IsKept : State D → State D → Result (Unit {0}) ElfError → Type 0
+  IsKept old new r = OnEnd r (IsUnsettled s old new) (HoldsMore old new) (HoldsMore old new)
+      (new ≡ record old { room = new.room })
+
   pub with_memory : (r : Result (Unit {0}) ElfError) (old mid new : State D)
       → mid ≡ record old { room = mid.room; ready = true }
       → WritesInPlace s d r mid new → IfErr r (λ e. (e ≡ Read) ⊎ (e ≡ Write))
       → WritesInPlace s d r old new
   with_memory r old mid new is writes err =
-      by_answer r (subst (λ (e : State D). WritesInPlace s d r e new) is writes) err
+      let w = subst (λ (e : State D). WritesInPlace s d r e new) is writes in
+      record {
+        told = w.told;
+        object = w.object;
+        base = w.base;
+        bytes = w.bytes;
+        size = w.size;
+        kept = by_answer r err w.kept;
+        unwritten = w.unwritten;
+        uses = w.uses;
+      }
     where
       from : State D
       from = record old { room = mid.room; ready = true }
 
-      at_read : WritesInPlace {A = Unit {0}} s d (Err Read) from new
-          → WritesInPlace {A = Unit {0}} s d (Err Read) old new
-      at_read w = record {
-        told = w.told;
-        object = w.object;
-        base = tt;
-        bytes = w.bytes;
-        size = w.size;
-        kept = more_as mid.room old new w.kept;
-        ready = tt;
-        unwritten = w.unwritten;
-        uses = w.uses;
+      by_answer : (q : Result (Unit {0}) ElfError) → IfErr q (λ e. (e ≡ Read) ⊎ (e ≡ Write))
+          → IsKept from new q → IsKept old new q
+      by_answer (Ok x) none k = record {
+        base = record { between = k.base.between; is = k.base.is };
+        more = more_as mid.room old new k.more;
+        ready = k.ready;
       }
-
-      at_write : WritesInPlace {A = Unit {0}} s d (Err Write) from new
-          → WritesInPlace {A = Unit {0}} s d (Err Write) old new
-      at_write w = record {
-        told = w.told;
-        object = w.object;
-        base = record { between = w.base.between; is = w.base.is };
-        bytes = w.bytes;
-        size = w.size;
-        kept = more_as mid.room old new w.kept;
-        ready = tt;
-        unwritten = w.unwritten;
-        uses = w.uses;
-      }
-
-      by_answer : (q : Result (Unit {0}) ElfError) → WritesInPlace s d q from new
-          → IfErr q (λ e. (e ≡ Read) ⊎ (e ≡ Write)) → WritesInPlace s d q old new
-      by_answer (Ok x) w none = record {
-        told = w.told;
-        object = w.object;
-        base = record { between = w.base.between; is = w.base.is };
-        bytes = w.bytes;
-        size = w.size;
-        kept = more_as mid.room old new w.kept;
-        ready = w.ready;
-        unwritten = tt;
-        uses = w.uses;
-      }
-      by_answer (Err e) w (inl is) =
-          subst (λ (f : ElfError). WritesInPlace {A = Unit {0}} s d (Err f) old new) (sym is)
-          (at_read (subst (λ (f : ElfError). WritesInPlace {A = Unit {0}} s d (Err f) from new) is w))
-      by_answer (Err e) w (inr is) =
-          subst (λ (f : ElfError). WritesInPlace {A = Unit {0}} s d (Err f) old new) (sym is)
-          (at_write (subst (λ (f : ElfError). WritesInPlace {A = Unit {0}} s d (Err f) from new) is w))
-
-  -- what a step rests on that writes with it
-  pub is_taken : (moves : List Bool) (old mid : State D)
-      → TakesMemory s moves (length old.o.sections) (Ok (tt {0})) old mid → IsTaken s moves mid
-  is_taken moves old mid t =
-      let object : mid.o ≡ old.o = ap (λ (e : State D). e.o) t.state in
-      let source : mid.source ≡ old.source = ap (λ (e : State D). e.source) t.state in
-      let count : length mid.o.sections ≡ length old.o.sections =
-      ap (λ (o : Object). length o.sections) object in
-      record {
-        room = λ i there told. t.room i (omega (arith, there, count)) told;
-        base = subst (λ (e : State D). HoldsBase s e) (sym t.state) (record {
-          told = t.base.told;
-          long = t.base.long;
-          is = t.base.is;
-        });
-        told = subst (λ (e : State D). e.told ≡ is_some (s.holds e.source)) (sym t.state) t.told;
-        ready = ap (λ (e : State D). e.ready) t.state;
-      }
+      by_answer (Err e) (inl is) k =
+          subst (λ (f : ElfError). IsKept old new (Err f)) (sym is)
+          (more_as mid.room old new (subst (λ (f : ElfError). IsKept from new (Err f)) is k))
+      by_answer (Err e) (inr is) k =
+          subst (λ (f : ElfError). IsKept old new (Err f)) (sym is)
+          (more_as mid.room old new (subst (λ (f : ElfError). IsKept from new (Err f)) is k))
 
   pub later_err : (r : Result (Unit {0}) ElfError) → IfErr r (λ e. (e ≡ Read) ⊎ (e ≡ Write))
       → IfErr r (λ e. (e ≡ Memory) ⊎ ((e ≡ Read) ⊎ (e ≡ Write)))
@@ -204,79 +158,20 @@ module _ {D : Type 0} (s : SourceGhosts D) (d : DeviceGhosts D) where
 
   -- ---- It failed
 
-  pub failed : (e : ElfError) (n : ℕ) (old new : State D) → update_null.answer old.o ≡ Ok n
-      → WritesInPlace {A = Unit {0}} s d (Err e) old new
-      → (e ≡ Memory) ⊎ ((e ≡ Read) ⊎ (e ≡ Write))
-      → UpdateAnswers {A = ℕ} (Err e) (update_null.answer old.o) × UpdatesInPlace s d (Err e) old new
-  failed e n old new answer w cause = by_cause cause
-    where
-      passed : IsOk (update_null.answer old.o)
-      passed = subst (λ (r : Result ℕ ElfError). IsOk r) (sym answer) refl
-
-      may_want : MayWantMemory (update_null.answer old.o)
-      may_want = subst (λ (r : Result ℕ ElfError). MayWantMemory r) (sym answer) tt
-
-      uses_of : (f : ElfError) → WritesInPlace {A = Unit {0}} s d (Err f) old new
-          → UsesDevice {T = ℕ} s d (Err f) old.source new.source
-          (update_in_place_due old.o old.loaded) (changed_bytes old.o)
-      uses_of f x =
-          uses_device_on s d f old.source new.source (update_in_place_due old.o old.loaded)
-          (changed_bytes old.o) (update_in_place_due old.o old.loaded) (changed_bytes old.o)
-          (omega arith) (omega arith) x.uses
-
-      at_memory : WritesInPlace {A = Unit {0}} s d (Err Memory) old new
-          → UpdatesInPlace s d (Err Memory) old new
-      at_memory x = record {
-        told = x.told;
-        object = x.object;
-        base = tt;
-        bytes = x.bytes;
-        size = x.size;
-        kept = x.kept;
-        unwritten = tt;
-        uses = uses_of Memory x;
-      }
-
-      at_read : WritesInPlace {A = Unit {0}} s d (Err Read) old new
-          → UpdatesInPlace s d (Err Read) old new
-      at_read x = record {
-        told = x.told;
-        object = x.object;
-        base = tt;
-        bytes = x.bytes;
-        size = x.size;
-        kept = x.kept;
-        unwritten = x.unwritten;
-        uses = uses_of Read x;
-      }
-
-      at_write : WritesInPlace {A = Unit {0}} s d (Err Write) old new
-          → UpdatesInPlace s d (Err Write) old new
-      at_write x = record {
-        told = x.told;
-        object = x.object;
-        base = x.base;
-        bytes = x.bytes;
-        size = x.size;
-        kept = x.kept;
-        unwritten = tt;
-        uses = uses_of Write x;
-      }
-
-      by_cause : (e ≡ Memory) ⊎ ((e ≡ Read) ⊎ (e ≡ Write))
-          → UpdateAnswers {A = ℕ} (Err e) (update_null.answer old.o) × UpdatesInPlace s d (Err e) old new
-      by_cause (inl is) =
-          subst (λ (f : ElfError). UpdateAnswers {A = ℕ} (Err f) (update_null.answer old.o)
-          × UpdatesInPlace s d (Err f) old new) (sym is)
-          (may_want, at_memory (subst (λ (f : ElfError). WritesInPlace {A = Unit {0}} s d (Err f) old new) is w))
-      by_cause (inr (inl is)) =
-          subst (λ (f : ElfError). UpdateAnswers {A = ℕ} (Err f) (update_null.answer old.o)
-          × UpdatesInPlace s d (Err f) old new) (sym is)
-          (passed, at_read (subst (λ (f : ElfError). WritesInPlace {A = Unit {0}} s d (Err f) old new) is w))
-      by_cause (inr (inr is)) =
-          subst (λ (f : ElfError). UpdateAnswers {A = ℕ} (Err f) (update_null.answer old.o)
-          × UpdatesInPlace s d (Err f) old new) (sym is)
-          (passed, at_write (subst (λ (f : ElfError). WritesInPlace {A = Unit {0}} s d (Err f) old new) is w))
+  pub failed : (e : ElfError) (old new : State D)
+      → WritesInPlace {A = Unit {0}} s d (Err e) old new → UpdatesInPlace s d (Err e) old new
+  failed e old new w = record {
+    told = w.told;
+    object = on_stop (Unit {0}) ℕ _ _ _ _ _ e w.object;
+    base = on_stop (Unit {0}) ℕ _ _ _ _ _ e w.base;
+    bytes = on_stop (Unit {0}) ℕ _ _ _ _ _ e w.bytes;
+    size = on_stop (Unit {0}) ℕ _ _ _ _ _ e w.size;
+    kept = on_stop (Unit {0}) ℕ _ _ _ _ _ e w.kept;
+    unwritten = on_stop (Unit {0}) ℕ _ _ _ _ _ e w.unwritten;
+    uses = uses_device_on s d e old.source new.source (update_in_place_due old.o old.loaded)
+        (changed_bytes old.o) (update_in_place_due old.o old.loaded) (changed_bytes old.o)
+        (omega arith) (omega arith) w.uses;
+  }
 
   -- ---- It ended
 
@@ -301,7 +196,7 @@ module _ {D : Type 0} (s : SourceGhosts D) (d : DeviceGhosts D) where
   pub may_settle : (old mid : State D) → IsReady old.o
       → WritesInPlace {A = Unit {0}} s d (Ok tt) old mid → MaySettle old.o mid
   may_settle old mid ready w =
-      let law = torn_law old.o mid.o.base ready.object ready.dirty ready.passed w.base.between in
+      let law = torn_law old.o mid.o.base ready.object ready.dirty ready.passed w.kept.base.between in
       let whole : image mid.o ≡ image old.o = ap image w.object ∙ law.1 in
       record {
         passed = ap refusal w.object ∙ law.0;
@@ -317,33 +212,30 @@ module _ {D : Type 0} (s : SourceGhosts D) (d : DeviceGhosts D) where
           subst (λ (x : Option (List ℕ)). IfSome x (λ held. held ≡ image mid.o)) (sym is) (sym whole)
 
   pub ended : (n : ℕ) (old mid new : State D) → IsReady old.o
-      → update_null.answer old.o ≡ Ok n → WritesInPlace {A = Unit {0}} s d (Ok tt) old mid
-      → new ≡ settled_state mid
-      → UpdateAnswers (Ok n) (update_null.answer old.o) × UpdatesInPlace s d (Ok n) old new
-  ended n old mid new ready answer w is = (
-    answer,
-    subst (λ (e : State D). UpdatesInPlace s d (Ok n) old e) (sym is) (record {
-      told = w.told;
-      object = ap (λ (o : Object). settled mid.told o) w.object
-          ∙ settled_alike mid.told old.o mid.o.base ready w.base.between
-          ∙ ap (λ (b : Bool). settled b old.o) w.told;
-      base = tt;
-      bytes = w.bytes;
-      size = w.size;
-      kept = record {
-        loaded = none_holds mid.loaded;
-        held = none_holds mid.held;
-        room = none_holds mid.room;
-      };
-      unwritten = tt;
-      uses = record {
-        rest_after = w.uses.rest_after;
-        later = w.uses.later;
-        read = tt;
-        write_later = w.uses.write_later;
-        write = tt;
-        taken = w.uses.taken;
-        given = w.uses.given;
-      };
-    }),
-  )
+      → WritesInPlace {A = Unit {0}} s d (Ok tt) old mid → new ≡ settled_state mid
+      → UpdatesInPlace s d (Ok n) old new
+  ended n old mid new ready w is =
+      subst (λ (e : State D). UpdatesInPlace s d (Ok n) old e) (sym is) (record {
+        told = w.told;
+        object = ap (λ (o : Object). settled mid.told o) w.object
+            ∙ settled_alike mid.told old.o mid.o.base ready w.kept.base.between
+            ∙ ap (λ (b : Bool). settled b old.o) w.told;
+        base = tt;
+        bytes = w.bytes;
+        size = w.size;
+        kept = record {
+          loaded = none_holds mid.loaded;
+          held = none_holds mid.held;
+          room = none_holds mid.room;
+        };
+        unwritten = tt;
+        uses = record {
+          rest_after = w.uses.rest_after;
+          later = w.uses.later;
+          read = tt;
+          write_later = w.uses.write_later;
+          write = tt;
+          taken = w.uses.taken;
+          given = w.uses.given;
+        };
+      })

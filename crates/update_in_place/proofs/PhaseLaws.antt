@@ -1,6 +1,6 @@
 -- An update in place, phase by phase: memory, places, what is read, marks, what is written.
 use Rattle.std.proofs.Common.{◌≡◌, ℕ, zero, suc, ◌+◌, ◌<◌, ◌≤◌, Bool, true, false, ◌||◌, List, [], ◌∷◌, length, Option, Result, Ok, Err, refl, sym, ap, ◌∙◌, subst, arith, ⊎_elim}
-use Rattle.std.specs.Prelude.{IsTrue, map, sum_by, cond, if◌then◌else◌}
+use Rattle.std.specs.Prelude.{map, sum_by, cond, if◌then◌else◌}
 use Rattle.std.specs.List.{range_with_len, filter}
 use Rattle.std.proofs.lemmas.Bool.{cases_lt}
 use Rattle.std.proofs.lemmas.List.{get_or_past}
@@ -12,36 +12,29 @@ use Rattle.elf_outside.specs.Asks.{Asks}
 use Rattle.elf_outside.specs.declared.sources.Source.{Ghosts as SourceGhosts}
 use Rattle.elf_outside.specs.declared.devices.Device.{Ghosts as DeviceGhosts}
 use Rattle.elf_outside.proofs.UseLemmas.{asks_device, uses_device_as}
-use Rattle.elf_object.specs.Object.{Object, Section, Home, section_at, is_dirty}
-use Rattle.elf_object.specs.Layout.{places_of, placed, placed_section}
+use Rattle.elf_object.specs.Object.{Object, Home, section_at, is_dirty}
+use Rattle.elf_object.specs.Layout.{placed}
 use Rattle.elf_object.specs.Changed.{torn, is_moved, changed_bytes}
 use Rattle.elf_object.specs.Due.{is_loaded, home_due, homes_due, all_sections, unless_unread, is_refused_unread, update_in_place_due}
-use Rattle.object_laws.proofs.ImageLaws.{placed-dirty, section_at-placed}
 use Rattle.writing_laws.specs.Ready.{IsReady}
 use Rattle.writing_laws.specs.Marks.{marked_all}
 use Rattle.writing_laws.proofs.GapLaws.{filter_range}
 use Rattle.elf_descriptor.specs.State.{State}
+use Rattle.update_writes.proofs.TornObjects.{home_placed}
 use Rattle.update_in_place.specs.Rooms.{tells, CanLoad}
 use Rattle.update_in_place.specs.Loads.{LoadsSome, told_sections, LoadsHomes}
 use Rattle.update_in_place.specs.Marks.{told_parts}
-use Rattle.update_in_place.specs.Updates.{HoldsMore, WritesInPlace}
+use Rattle.update_in_place.specs.Updates.{HoldsMore, IsToWrite, WritesInPlace}
 use Rattle.update_in_place.proofs.MarkSteps.{tells_moved, count_placed, marks_torn}
 
 -- ---- Homes, once places are stored
-
-home_placed : (o : Object) (s : ℕ) → is_dirty o ≡ true → s < length o.sections
-    → (section_at (placed o) s).home ≡ (section_at o s).home
-unfolding placed_section
-home_placed o s dirty there =
-    ap (λ (q : Object). (section_at q s).home) (placed-dirty o dirty)
-    ∙ ap (λ (c : Section). c.home) (section_at-placed (places_of o) o s there)
 
 due_placed : (o : Object) (loaded : List Bool) (s : ℕ) → is_dirty o ≡ true
     → s < length o.sections → home_due (placed o) loaded s ≡ home_due o loaded s
 unfolding home_due
 due_placed o loaded s dirty there =
     ap (λ (h : Home). if is_loaded loaded s || h.out then 0 else h.len)
-    (home_placed o s dirty there)
+    (home_placed o s dirty)
 
 sum_alike : (f g : ℕ → ℕ) (moves : ℕ → Bool) (a n m : ℕ) → a + n ≤ m
     → ((s : ℕ) → s < m → f s ≡ g s)
@@ -119,7 +112,7 @@ stored_room {S} old m moves dirty stored room i there told =
     let below : i < length old.o.sections = omega (arith, there, count, placed_count) in
     subst (λ (e : State S). CanLoad e i) (sym stored)
     (λ inside. room i below told
-    (sym (ap (λ (h : Home). h.out) (home_placed old.o i dirty below)) ∙ inside))
+    (sym (ap (λ (h : Home). h.out) (home_placed old.o i dirty)) ∙ inside))
 
 pub loaded_count : {S : Type 0} (m n : State S) (test : ℕ → Bool) (moves : List Bool)
     → LoadsSome test m n → length moves ≡ length m.o.sections
@@ -177,8 +170,8 @@ module _ {D : Type 0} (s : SourceGhosts D) (d : DeviceGhosts D) where
             base = tt;
             bytes = asks.leaves.same_bytes;
             size = asks.leaves.same_len;
-            kept = loads_more (tells moves) old m n stored l.some (λ i h. tells_none old.o moves i is h);
-            ready = tt;
+            kept = loads_more (tells moves) old m n stored l.some
+                (λ i h. tells_none old.o moves i is h);
             unwritten = omega (arith, least, most);
             uses = uses_device_as s d (Err Read) old.source n.source
                 (update_in_place_due old.o old.loaded) 0
@@ -186,25 +179,11 @@ module _ {D : Type 0} (s : SourceGhosts D) (d : DeviceGhosts D) where
                 (omega arith) (omega arith) device;
           }
 
-  -- places are stored, what moves is loaded, and the object and what moves are marked
-  pub record IsToWrite (old now : State D) : Type 0 where
-    pub rest : now ≡ record old {
-      o = torn old.o old.o.base;
-      loaded = now.loaded;
-      held = now.held;
-      room = now.room;
-      source = now.source;
-    }
-    pub more : HoldsMore old now
-    pub loaded : (i : ℕ) → is_moved old.o i ≡ true → (section_at old.o i).home.out ≡ false
-        → i < length old.o.sections → IsTrue (is_loaded now.loaded i)
-    pub asks : Asks s (Ok (tt {0})) old.source now.source (update_in_place_due old.o old.loaded)
-
   pub to_write : (old m n q : State D) (moves : List Bool) → IsReady old.o
       → m ≡ record old { o = placed old.o }
       → moves ≡ map (is_moved old.o) (range_with_len 0 (length old.o.sections))
       → LoadsHomes s moves (length m.o.sections) (Ok (tt {0})) m n
-      → q ≡ record n { o = marked_all n.o (told_parts n.o moves) } → IsToWrite old q
+      → q ≡ record n { o = marked_all n.o (told_parts n.o moves) } → IsToWrite s old q
   to_write old m n q moves ready stored is loads marked =
       let object : n.o ≡ placed old.o =
       ap (λ (e : State D). e.o) loads.some.rest ∙ ap (λ (e : State D). e.o) stored in
@@ -225,7 +204,7 @@ module _ {D : Type 0} (s : SourceGhosts D) (d : DeviceGhosts D) where
             ap (λ (l : List Bool). is_loaded l i) loaded
             ∙ loads.loaded i (below i there) (tells_moved old.o moves i is there ∙ moved)
             (ap (λ (e : State D). (section_at e.o i).home.out) stored
-            ∙ ap (λ (h : Home). h.out) (home_placed old.o i ready.dirty there) ∙ inside);
+            ∙ ap (λ (h : Home). h.out) (home_placed old.o i ready.dirty) ∙ inside);
         asks = subst (λ (x : D). Asks s (Ok (tt {0})) old.source x
             (update_in_place_due old.o old.loaded)) (sym source)
             (asks_moved (Ok tt) old m n moves ready stored is loads.asks);

@@ -14,7 +14,7 @@ use Rattle.elf_descriptor.specs.State.{State}
 use Rattle.elf_descriptor.specs.Fronts.{HoldsBase}
 use Rattle.elf_descriptor.specs.Homes.{out_answer}
 use Rattle.elf_descriptor.specs.Rooms.{with_room_for}
-use Rattle.update_in_place.specs.Rooms.{tells, KeepsAside, CanLoad, ReservesHomes, TakesMemory}
+use Rattle.update_in_place.specs.Rooms.{tells, KeepsAside, CanLoad, ReservesHomes, IsTaken, TakesMemory}
 
 -- ---- Homes in the file
 
@@ -170,41 +170,37 @@ module _ {S : Type 0} where
 
   pub memory_wanted : {A : Type 0} (g : Ghosts S) (moves : List Bool) (n : ℕ) (e : ElfError)
       (old new : State S) → ReservesHomes {A = Unit {0}} moves n (Err e) old new
-      → TakesMemory {A = A} g moves n (Err e) old new
+      → TakesMemory {A = A} g moves (Err e) old new
   memory_wanted g moves n e old new are =
-      record { state = tt; room = tt; base = tt; told = tt; refused = are.aside.rest; err = are.err }
+      record { state = tt; taken = tt; refused = are.aside.rest; err = are.err }
 
-  base_kept : (g : Ghosts S) (old new : State S) → KeepsAside old new → HoldsBase g new
-      → HoldsBase g old
-  base_kept g old new aside base =
-      let is = subst (λ (e : State S). HoldsBase g e) aside.rest base in
-      record { told = is.told; long = is.long; is = is.is }
-
-  pub memory_taken : (g : Ghosts S) (moves : List Bool) (n : ℕ)
-      (r : Result (Unit {0}) ElfError) (old mid new : State S)
-      → ReservesHomes moves n (Ok (tt {0})) old mid
+  pub memory_taken : (g : Ghosts S) (moves : List Bool) (r : Result (Unit {0}) ElfError)
+      (old mid new : State S)
+      → ReservesHomes moves (length old.o.sections) (Ok (tt {0})) old mid
       → OnOk r (new ≡ record mid { ready = true }) → OnOk r (HoldsBase g mid)
-      → OnErr r (new ≡ mid) → IfErr r (λ e. e ≡ Memory) → TakesMemory g moves n r old new
-  memory_taken g moves n (Ok x) old mid new are ok base same err =
+      → OnErr r (new ≡ mid) → IfErr r (λ e. e ≡ Memory) → TakesMemory g moves r old new
+  memory_taken g moves (Ok x) old mid new are ok base same err =
       let is : new ≡ record old { room = mid.room; ready = true } =
       ok ∙ ap (λ (e : State S). record e { ready = true }) are.aside.rest in
       let room : mid.room ≡ new.room = sym (ap (λ (e : State S). e.room) is) in
+      let count : length mid.o.sections ≡ length old.o.sections =
+      ap (λ (e : State S). length e.o.sections) are.aside.rest in
       record {
         state = is ∙ ap (λ (l : List Bool). record old { room = l; ready = true }) room;
-        room = λ i h tells_it. subst (λ (e : State S). CanLoad e i) (sym ok) (are.room i h tells_it);
-        base = base_kept g old mid are.aside base;
-        told = (base_kept g old mid are.aside base).told;
+        taken = subst (λ (e : State S). IsTaken g moves e) (sym ok) (record {
+          room = λ i h told. are.room i (omega (arith, h, count)) told;
+          base = record { told = base.told; long = base.long; is = base.is };
+          ready = refl;
+        });
         refused = tt;
         err = tt;
       }
-  memory_taken g moves n (Err e) old mid new are ok base same err =
+  memory_taken g moves (Err e) old mid new are ok base same err =
       let is : new ≡ record old { room = mid.room } = same ∙ are.aside.rest in
       let room : mid.room ≡ new.room = sym (ap (λ (x : State S). x.room) is) in
       record {
         state = tt;
-        room = tt;
-        base = tt;
-        told = tt;
+        taken = tt;
         refused = is ∙ ap (λ (l : List Bool). record old { room = l }) room;
         err = err;
       }

@@ -18,32 +18,31 @@ use Rattle.elf_descriptor.specs.Sound.{IsSound}
 use Rattle.elf_update.specs.declared.updates.PlannedParts.{PlannedParts}
 use Rattle.elf_update.specs.Updates.{IsPlanned}
 use Rattle.update_moves.specs.declared.changes.Changes.{Changes}
-use Rattle.update_moves.specs.Changes.{AreChanges}
-use Rattle.update_writes.specs.Writes.{IsBegun, LeavesTorn, WritesChanges}
+use Rattle.update_moves.specs.Changes.{TellsChanges}
+use Rattle.update_writes.specs.Writes.{IsMarkedAndLoaded, LeavesTorn, WritesChanges}
 use Rattle.update_writes.proofs.TornObjects.{torn_base}
-use Rattle.update_in_place.specs.Updates.{HoldsMore, IsTaken, WritesInPlace}
-use Rattle.update_in_place.proofs.PhaseLaws.{IsToWrite}
+use Rattle.update_in_place.specs.Rooms.{IsTaken}
+use Rattle.update_in_place.specs.Updates.{HoldsMore, IsToWrite, WritesInPlace}
 
 module _ {D : Type 0} (s : SourceGhosts D) (d : DeviceGhosts D) where
   -- it may be written
   abbrev pub begins : (old now : State D) (p : PlannedParts) (changes : Changes)
-      (moves changed : List Bool) → IsPlanned old.o p → AreChanges old.o p changes
+      (moves changed : List Bool) → IsPlanned old.o p → TellsChanges old.o p changes
       → changed ≡ changes.parts → IsTaken s moves old → IsSound (s.holds old.source) old.o
-      → IsToWrite s d old now → IsBegun s p changed now
+      → IsToWrite s old now → IsMarkedAndLoaded s p changed now
   begins old now p changes moves changed planned are same taken sound is =
       let held = is.asks.leaves.same_bytes in
       let size = is.asks.leaves.same_len in
       let base : now.o.base ≡ old.o.base =
       ap (λ (e : State D). e.o.base) is.rest ∙ torn_base old.o old.o.base planned.ready.dirty in
       let told : now.told ≡ is_some (s.holds now.source) =
-      ap (λ (e : State D). e.told) is.rest ∙ taken.told
+      ap (λ (e : State D). e.told) is.rest ∙ taken.base.told
       ∙ sym (ap (λ (h : Option (List ℕ)). is_some h) held) in
       record {
         was = old.o;
         planned = planned;
         changes = same ∙ are.parts;
         based = λ tells. sound.based (subst (λ (h : Option (List ℕ)). IsSome h) held tells);
-        told = told;
         object = ap (λ (e : State D). e.o) is.rest;
         base = record {
           told = told;
@@ -68,7 +67,7 @@ module _ {D : Type 0} (s : SourceGhosts D) (d : DeviceGhosts D) where
   }
 
   uses_all : {A : Type 0} (rests : (x : D) → s.rest x ≡ (d.given x ∷ d.write_faults x ∷ []) ∷ d.rest_after x)
-      (r : Result A ElfError) (old now new : State D) → IsToWrite s d old now
+      (r : Result A ElfError) (old now new : State D) → IsToWrite s old now
       → UsesDevice s d r now.source new.source 0 (changed_bytes old.o)
       → UsesDevice s d r old.source new.source (update_in_place_due old.o old.loaded)
       (changed_bytes old.o)
@@ -84,7 +83,7 @@ module _ {D : Type 0} (s : SourceGhosts D) (d : DeviceGhosts D) where
   -- it was written, or a write failed
   pub written : (rests : (x : D) → s.rest x ≡ (d.given x ∷ d.write_faults x ∷ []) ∷ d.rest_after x)
       (r : Result (Unit {0}) ElfError) (old now new : State D) → IsTrue now.ready
-      → IsToWrite s d old now → WritesChanges s d old.o r now new → WritesInPlace s d r old new
+      → IsToWrite s old now → WritesChanges s d old.o r now new → WritesInPlace s d r old new
   written rests r old now new ready is w = by_answer r w
     where
       held : s.holds now.source ≡ s.holds old.source
@@ -98,11 +97,14 @@ module _ {D : Type 0} (s : SourceGhosts D) (d : DeviceGhosts D) where
       by_answer (Ok x) v = record {
         told = ap (λ (e : State D). e.told) v.state ∙ ap (λ (e : State D). e.told) is.rest;
         object = ap (λ (e : State D). e.o) v.state;
-        base = record { between = v.base; is = v.is };
+        base = tt;
         bytes = v.bytes ∙ ap (λ (h : Option (List ℕ)). option_map (λ _. image old.o) h) held;
         size = v.long;
-        kept = more_still old now new (torn old.o new.o.base) new.source is.more v.state;
-        ready = ap (λ (e : State D). e.ready) v.state ∙ ready;
+        kept = record {
+          base = record { between = v.base; is = v.is };
+          more = more_still old now new (torn old.o new.o.base) new.source is.more v.state;
+          ready = ap (λ (e : State D). e.ready) v.state ∙ ready;
+        };
         unwritten = tt;
         uses = uses_all rests (Ok x) old now new is v.uses;
       }
@@ -119,7 +121,6 @@ module _ {D : Type 0} (s : SourceGhosts D) (d : DeviceGhosts D) where
             bytes = subst (λ (h : Option (List ℕ)). LeavesTorn h (s.holds new.source) (image old.o)) held u.torn;
             size = sizes u.either;
             kept = more_still old now new (torn old.o new.o.base) new.source is.more u.state;
-            ready = tt;
             unwritten = tt;
             uses = uses_all rests (Err Write) old now new is u.uses;
           }

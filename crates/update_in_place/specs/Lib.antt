@@ -1,4 +1,5 @@
 pub mod Rooms
 pub mod Loads
 pub mod Marks
+pub mod Fronts
 pub mod Updates

@@ -1,5 +1,5 @@
 -- Memory that an update in place takes before it reads or writes.
-use Rattle.std.specs.Prelude.{◌≡◌, ℕ, ◌<◌, Bool, true, false, IsTrue, List, slice_index_or, is_some, Result, OnOk, OnErr, IfErr}
+use Rattle.std.specs.Prelude.{◌≡◌, ℕ, ◌<◌, Bool, true, false, IsTrue, List, length, slice_index_or, Result, OnOk, OnErr, IfErr}
 use Rattle.elf_types.specs.declared.errors.ElfError.{ElfError}
 use Rattle.elf_types.specs.declared.errors.ElfError.TheVariants.{Memory}
 use Rattle.elf_outside.specs.declared.sources.Source.{Ghosts}
@@ -29,12 +29,18 @@ pub record ReservesHomes {S A : Type 0} (moves : List Bool) (count : ℕ) (resul
   pub room : OnOk result ((i : ℕ) → i < count → tells moves i ≡ true → CanLoad new i)
   pub err : IfErr result (λ e. e ≡ Memory)
 
--- all memory of an update in place is taken: the object is ready, and the homes can be loaded
-pub record TakesMemory {S A : Type 0} (g : Ghosts S) (moves : List Bool) (count : ℕ)
+-- the memory of an update in place is taken: the homes of the sections that a list tells can be
+-- loaded, the object can be settled, and the device begins with the base
+pub record IsTaken {S : Type 0} (g : Ghosts S) (moves : List Bool) (state : State S) : Type 0 where
+  pub room : (i : ℕ) → i < length state.o.sections → tells moves i ≡ true → CanLoad state i
+  pub base : HoldsBase g state
+  pub ready : IsTrue state.ready
+
+-- a call takes it, and nothing else of the descriptor changes. It refuses Memory alone; then memory
+-- may be kept aside for homes.
+pub record TakesMemory {S A : Type 0} (g : Ghosts S) (moves : List Bool)
     (result : Result A ElfError) (old new : State S) : Type 0 where
   pub state : OnOk result (new ≡ record old { room = new.room; ready = true })
-  pub room : OnOk result ((i : ℕ) → i < count → tells moves i ≡ true → CanLoad new i)
-  pub base : OnOk result (HoldsBase g old)
-  pub told : OnOk result (old.told ≡ is_some (g.holds old.source))
+  pub taken : OnOk result (IsTaken g moves new)
   pub refused : OnErr result (new ≡ record old { room = new.room })
   pub err : IfErr result (λ e. e ≡ Memory)

@@ -2,9 +2,10 @@
 //! in the image as opened or last settled.
 
 ghost use Rattle.std.specs.Prelude.{◌≡◌};
-ghost use Rattle.elf_object.specs.Changed.{header_changed, segments_changed, table_changed};
+ghost use Rattle.elf_descriptor.specs.Fronts.{IsOfFront};
 ghost use Rattle.elf_update.specs.Updates.{IsPlanned};
 ghost use Rattle.update_moves.specs.Changes.{IsFront};
+ghost use Rattle.update_in_place.specs.Fronts.{changes_by};
 
 use elf_descriptor::Elf;
 use elf_outside::Source;
@@ -12,59 +13,39 @@ use elf_types::Part;
 use elf_update::PlannedParts;
 use update_moves::{FrontChanges, is_marked, some_section_is_marked};
 
-/// Whether the ELF header changes.
+/// Whether a part of the front changes, of which it is known whether it is marked.
 #[tactic(auto, unfolding(elf_object::specs::Answers::part_refusal))]
-fn header_changes<S: Source>(elf: &Elf<S>, planned: &PlannedParts) -> bool
-    requires { IsPlanned elf.now.o planned.now }
-    ensures { result ≡ header_changed elf.now.o }
+fn front_part_changes<S: Source>(
+    elf: &Elf<S>,
+    planned: &PlannedParts,
+    part: Part,
+    marked: bool,
+) -> bool
+    requires planned { IsPlanned elf.now.o planned.now }
+    requires front { IsOfFront part }
+    ensures { result ≡ changes_by elf.now.o part marked }
 {
+    if marked {
+        return true;
+    }
     if is_marked(elf, Part::Object) {
         return true;
     }
-    if is_marked(elf, Part::Header) {
-        return true;
-    }
-    elf.front_differs(Part::Header, &planned.placed.places)
+    elf.front_differs(part, &planned.places)
 }
 
-/// Whether the program header table changes.
+/// Which parts of the front change: the section header table also where a section is marked.
 #[tactic(auto, unfolding(elf_object::specs::Answers::part_refusal))]
-fn segments_changes<S: Source>(elf: &Elf<S>, planned: &PlannedParts) -> bool
-    requires { IsPlanned elf.now.o planned.now }
-    ensures { result ≡ segments_changed elf.now.o }
-{
-    if is_marked(elf, Part::Object) {
-        return true;
-    }
-    if is_marked(elf, Part::Segments) {
-        return true;
-    }
-    elf.front_differs(Part::Segments, &planned.placed.places)
-}
-
-/// Whether the section header table changes: also where a section is marked.
-#[tactic(auto, unfolding(elf_object::specs::Answers::part_refusal))]
-fn table_changes<S: Source>(elf: &Elf<S>, planned: &PlannedParts) -> bool
-    requires { IsPlanned elf.now.o planned.now }
-    ensures { result ≡ table_changed elf.now.o }
-{
-    if is_marked(elf, Part::Object) {
-        return true;
-    }
-    if some_section_is_marked(elf) {
-        return true;
-    }
-    elf.front_differs(Part::Table, &planned.placed.places)
-}
-
-/// Which parts of the front change.
 pub(crate) fn front_changes<S: Source>(elf: &Elf<S>, planned: &PlannedParts) -> FrontChanges
     requires { IsPlanned elf.now.o planned.now }
     ensures { IsFront elf.now.o result }
 {
+    let header = is_marked(elf, Part::Header);
+    let segments = is_marked(elf, Part::Segments);
+    let sections = some_section_is_marked(elf);
     FrontChanges {
-        header: header_changes(elf, planned),
-        segments: segments_changes(elf, planned),
-        table: table_changes(elf, planned),
+        header: front_part_changes(elf, planned, Part::Header, header),
+        segments: front_part_changes(elf, planned, Part::Segments, segments),
+        table: front_part_changes(elf, planned, Part::Table, sections),
     }
 }

@@ -41,7 +41,7 @@ fn reserve_homes<S: Source>(elf: &mut Elf<S>, moves: &[bool]) -> Result<(), ElfE
 /// settling the object needs. It refuses `Memory` alone, and reads nothing.
 pub(crate) fn take_memory<S: Source>(elf: &mut Elf<S>, moves: &[bool]) -> Result<(), ElfError>
     requires { length moves.now ≡ length elf.old.o.sections }
-    ensures { TakesMemory S.Source moves.now (length elf.old.o.sections) result elf.old elf.new }
+    ensures { TakesMemory S.Source moves.now result elf.old elf.new }
 {
     if let Err(e) = reserve_homes(elf, moves) {
         return Err(e);

@@ -1,13 +1,14 @@
 //! An update in place.
 
-ghost use Rattle.std.specs.Prelude.{◌≡◌, ◌⊎◌, ◌<◌, true, false, length, IfOk, IfErr};
+ghost use Rattle.std.specs.Prelude.{◌≡◌, ◌⊎◌, ◌<◌, true, false, length, IfOk, IfErr, OnOk, OnErr};
 ghost use Rattle.elf_types.specs.declared.errors.ElfError.TheVariants.{Memory, Read, Write};
 ghost use Rattle.elf_object.specs.Object.{is_dirty};
 ghost use Rattle.elf_object.specs.Words.{UpdateAnswers};
 ghost use Rattle.elf_object.specs.Calls as calls;
 ghost use Rattle.elf_update.specs.Updates.{IsPlanned};
-ghost use Rattle.update_moves.specs.Changes.{AreChanges};
-ghost use Rattle.update_in_place.specs.Updates.{IsTaken, WritesInPlace, UpdatesInPlace};
+ghost use Rattle.update_moves.specs.Changes.{TellsChanges};
+ghost use Rattle.update_in_place.specs.Rooms.{IsTaken};
+ghost use Rattle.update_in_place.specs.Updates.{IsToWrite, WritesInPlace, UpdatesInPlace};
 
 use crate::fronts::front_changes;
 use crate::loads::load_homes;
@@ -16,27 +17,40 @@ use crate::rooms::take_memory;
 use elf_descriptor::Elf;
 use elf_outside::{Device, Source};
 use elf_types::ElfError;
-use elf_update::{PAGE_SIZE, PlannedParts, plan_update};
-use std::alloc::Global;
+use elf_update::{PlannedParts, page_bytes, plan_update};
 use update_moves::{Changes, find_changes};
 use update_writes::write_changes;
 
 /// What changes and what moves. It refuses `Memory` alone.
 fn changes_of<S: Source>(elf: &Elf<S>, planned: &PlannedParts) -> Result<Changes, ElfError>
     requires { IsPlanned elf.now.o planned.now }
-    ensures ok { IfOk result (AreChanges elf.now.o planned.now) }
+    ensures ok { IfOk result (TellsChanges elf.now.o planned.now) }
     ensures err { IfErr result (λ e. e ≡ Memory) }
 {
     find_changes(elf, planned, front_changes(elf, planned))
 }
 
-/// A page. It refuses `Memory` alone.
-fn new_page(alloc: Global) -> Result<Vec<u8>, ElfError>
-    ensures ok { IfOk result (λ page. length page.items ≡ 65536) }
-    ensures err { IfErr result (λ e. e ≡ Memory) }
+/// Stores the places, reads the homes of what moves, and marks it. It refuses `Read` alone and
+/// takes no memory.
+fn prepare_writes<D: Device>(
+    elf: &mut Elf<D>,
+    planned: &PlannedParts,
+    changes: &Changes,
+) -> Result<(), ElfError>
+    requires planned { IsPlanned elf.old.o planned.now }
+    requires changes { TellsChanges elf.old.o planned.now changes.now }
+    requires taken { IsTaken D.Source changes.now.sections elf.old }
+    ensures prepared { OnOk result (IsToWrite D.Source elf.old elf.new) }
+    ensures unread { OnErr result
+        (WritesInPlace D.Source D.Device.own result elf.old elf.new) }
+    ensures err { IfErr result (λ e. e ≡ Read) }
 {
-    let page = vec![in alloc; 0u8; PAGE_SIZE]?;
-    Ok(page)
+    elf.store_places(&planned.places);
+    if let Err(e) = load_homes(elf, changes.sections.as_slice()) {
+        return Err(e);
+    }
+    mark_moved(elf, changes.sections.as_slice());
+    Ok(())
 }
 
 /// Stores the places, reads the homes of what moves, marks it, and writes what changes. It refuses
@@ -49,17 +63,15 @@ fn write_planned<D: Device>(
 ) -> Result<(), ElfError>
     requires page { 0 < length page.old }
     requires planned { IsPlanned elf.old.o planned.now }
-    requires changes { AreChanges elf.old.o planned.now changes.now }
+    requires changes { TellsChanges elf.old.o planned.now changes.now }
     requires taken { IsTaken D.Source changes.now.sections elf.old }
     ensures writes { WritesInPlace D.Source D.Device.own result elf.old elf.new }
     ensures err { IfErr result (λ e. (e ≡ Read) ⊎ (e ≡ Write)) }
 {
     let _sound = elf.dirty();
-    elf.store_places(&planned.placed.places);
-    if let Err(e) = load_homes(elf, changes.sections.as_slice()) {
+    if let Err(e) = prepare_writes(elf, planned, changes) {
         return Err(e);
     }
-    mark_moved(elf, changes.sections.as_slice());
     write_changes(elf, page, planned, changes.parts.as_slice())
 }
 
@@ -70,11 +82,11 @@ fn write_reserved<D: Device>(
     changes: &Changes,
 ) -> Result<(), ElfError>
     requires planned { IsPlanned elf.old.o planned.now }
-    requires changes { AreChanges elf.old.o planned.now changes.now }
+    requires changes { TellsChanges elf.old.o planned.now changes.now }
     ensures writes { WritesInPlace D.Source D.Device.own result elf.old elf.new }
     ensures err { IfErr result (λ e. (e ≡ Memory) ⊎ ((e ≡ Read) ⊎ (e ≡ Write))) }
 {
-    let mut page = match new_page(elf.alloc()) {
+    let mut page = match page_bytes(elf.alloc()) {
         Ok(page) => page,
         Err(e) => return Err(e),
     };
@@ -102,7 +114,7 @@ fn update_dirty<D: Device>(elf: &mut Elf<D>) -> Result<u64, ElfError>
         return Err(e);
     }
     elf.settle();
-    Ok(planned.placed.places.end)
+    Ok(planned.places.end)
 }
 
 /// Makes the device the image of the object, and answers the image's length: it writes the parts

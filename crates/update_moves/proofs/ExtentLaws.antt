@@ -20,7 +20,7 @@ use Rattle.writing_laws.proofs.DisturbedLaws.{meeting_from, same_test, disturbed
 use Rattle.elf_update.specs.Descriptors.{planned}
 use Rattle.update_moves.specs.declared.extents.Extent.{Extent}
 use Rattle.update_moves.specs.Written.{part_changed, planned_rows, written_between, written_line}
-use Rattle.update_moves.specs.Extents.{some_extent, row_extents, extents_of, AreApart, meets_extents}
+use Rattle.update_moves.specs.Extents.{some_extent, row_extents, block_extents, StandInOrder, meets_extents}
 use Rattle.update_moves.proofs.LineLaws.{rows_plan, line_meets}
 use Rattle.update_moves.proofs.FlagLaws.{length-rows, row_at}
 
@@ -51,28 +51,28 @@ fill_extent kept fill from end =
     (cases_lt (max from kept) end)
 
 changed_extents : (t : Bool) (b : Block) (bs : List Block)
-    → extents_of (when t b ++ bs)
-    ≡ (if t then some_extent b.at (block_end b) else []) ++ extents_of bs
-unfolding extents_of
+    → block_extents (when t b ++ bs)
+    ≡ (if t then some_extent b.at (block_end b) else []) ++ block_extents bs
+unfolding block_extents
 changed_extents true b bs = refl
 changed_extents false b bs = refl
 
 row_step : (kept fill end from : ℕ) (row : Bool × Block) (rows : List (Bool × Block))
-    → extents_of (written_between kept fill end from (row ∷ rows))
+    → block_extents (written_between kept fill end from (row ∷ rows))
     ≡ row_extents (max from kept) row.0 row.1.at (block_end row.1)
-    ++ extents_of (written_between kept fill end (block_end row.1) rows)
-unfolding extents_of
+    ++ block_extents (written_between kept fill end (block_end row.1) rows)
+unfolding block_extents
 row_step kept fill end from row rows =
     let own : List Extent = if row.0 then some_extent row.1.at (block_end row.1) else [] in
     let more : List Block = written_between kept fill end (block_end row.1) rows in
     ap (λ (l : List Extent). l
-    ++ extents_of (when row.0 row.1 ++ written_between kept fill end (block_end row.1) rows))
+    ++ block_extents (when row.0 row.1 ++ written_between kept fill end (block_end row.1) rows))
     (fill_extent kept fill from row.1.at)
     ∙ ap (λ (l : List Extent). some_extent (max from kept) row.1.at ++ l)
     (changed_extents row.0 row.1 (written_between kept fill end (block_end row.1) rows))
     ∙ sym (append_assoc (some_extent (max from kept) row.1.at)
     (if row.0 then some_extent row.1.at (block_end row.1) else [])
-    (extents_of (written_between kept fill end (block_end row.1) rows)))
+    (block_extents (written_between kept fill end (block_end row.1) rows)))
 
 -- what a row adds
 pub row_still : (start at end : ℕ) (c : Bool) (old new : List Extent)
@@ -98,14 +98,14 @@ row_ends start at end c old mid new (Err e) first some more = tt
 
 -- what is written from a place on, behind so many parts
 abbrev pub left_from : Object → ℕ → ℕ → List Extent
-left_from o from i = extents_of
+left_from o from i = block_extents
     (written_between (kept_base o) o.fill (image_length o) from (drop i (planned_rows o)))
 
 no_row : Bool × Block
 no_row = (false, no_block)
 
 pub extents_start : (o : Object) (old : List Extent) → old ≡ []
-    → old ++ left_from o 0 0 ≡ extents_of (written_line o)
+    → old ++ left_from o 0 0 ≡ block_extents (written_line o)
 unfolding written_line
 extents_start o old none = ap (λ (l : List Extent). l ++ left_from o 0 0) none
 
@@ -144,7 +144,7 @@ extents_more o d i from kept end c old new all ready there same flag last more i
     (get_or (planned_rows o) i no_row).0 (get_or (planned_rows o) i no_row).1.at
     (block_end (get_or (planned_rows o) i no_row).1) ++ left_from o k (i + 1))) place
     ∙ ap (λ (l : List Extent). old ++ l) (sym step)
-    ∙ ap (λ (l : List (Bool × Block)). old ++ extents_of
+    ∙ ap (λ (l : List (Bool × Block)). old ++ block_extents
     (written_between (kept_base o) o.fill (image_length o) from l)) (sym rows)
     ∙ inv
 
@@ -176,7 +176,7 @@ pub extents_end : (o : Object) (i from kept end : ℕ) (old new all : List Exten
     → length (planned o) ≤ i → kept ≡ kept_base o → end ≡ image_length o
     → new ≡ old ++ some_extent (max from kept) end
     → old ++ left_from o from i ≡ all → new ≡ all
-unfolding extents_of
+unfolding block_extents
 extents_end o i from kept end old new all past same last more inv =
     let count = length-rows o in
     let rows = drop_all i (planned_rows o) (omega (arith, count, past)) in
@@ -188,67 +188,67 @@ extents_end o i from kept end old new all past same last more inv =
     ∙ ap (λ (l : List Extent). old ++ l)
     (sym (append-nil (some_extent (fill_block (kept_base o) o.fill from (image_length o)).at
     (block_end (fill_block (kept_base o) o.fill from (image_length o))))))
-    ∙ ap (λ (l : List (Bool × Block)). old ++ extents_of
+    ∙ ap (λ (l : List (Bool × Block)). old ++ block_extents
     (written_between (kept_base o) o.fill (image_length o) from l)) (sym rows)
     ∙ inv
 
 -- ---- They stand apart
 
-apart_later : (m n : ℕ) (es : List Extent) → n ≤ m → AreApart m es → AreApart n es
+apart_later : (m n : ℕ) (es : List Extent) → n ≤ m → StandInOrder m es → StandInOrder n es
 apart_later m n [] less apart = tt
 apart_later m n (e ∷ es) less apart = (omega (arith, less, apart.0), apart.1, apart.2)
 
-apart_some : (from a b : ℕ) (es : List Extent) → from ≤ a → from ≤ b → AreApart b es
-    → (a < b → AreApart b es) → AreApart from (some_extent a b ++ es)
+apart_some : (from a b : ℕ) (es : List Extent) → from ≤ a → from ≤ b → StandInOrder b es
+    → (a < b → StandInOrder b es) → StandInOrder from (some_extent a b ++ es)
 apart_some from a b es first second apart rest = ⊎_elim
     (λ below.
-    subst (λ (l : List Extent). AreApart from (l ++ es)) (sym (one_extent a b below))
+    subst (λ (l : List Extent). StandInOrder from (l ++ es)) (sym (one_extent a b below))
     (first, below, apart))
     (λ past.
-    subst (λ (l : List Extent). AreApart from (l ++ es)) (sym (none_extent a b past))
+    subst (λ (l : List Extent). StandInOrder from (l ++ es)) (sym (none_extent a b past))
     (apart_later b from es second apart))
     (cases_lt a b)
 
 between_apart : (kept fill end from : ℕ) (rows : List (Bool × Block))
     → AreInLine end from (map (λ row. row.1) rows)
-    → AreApart from (extents_of (written_between kept fill end from rows))
-unfolding extents_of
+    → StandInOrder from (block_extents (written_between kept fill end from rows))
+unfolding block_extents
 between_apart kept fill end from [] line =
-    subst (λ (l : List Extent). AreApart from (l ++ [])) (sym (fill_extent kept fill from end))
+    subst (λ (l : List Extent). StandInOrder from (l ++ [])) (sym (fill_extent kept fill from end))
     (apart_some from (max from kept) end [] (omega arith) line tt (λ below. tt))
 between_apart kept fill end from (row ∷ rows) line =
     let last = end_is row.1 in
     let rest = between_apart kept fill end (block_end row.1) rows line.1 in
-    subst (λ (l : List Extent). AreApart from l)
+    subst (λ (l : List Extent). StandInOrder from l)
     (sym (row_step kept fill end from row rows
     ∙ append_assoc (some_extent (max from kept) row.1.at)
     (if row.0 then some_extent row.1.at (block_end row.1) else [])
-    (extents_of (written_between kept fill end (block_end row.1) rows))))
+    (block_extents (written_between kept fill end (block_end row.1) rows))))
     (apart_some from (max from kept) row.1.at
     ((if row.0 then some_extent row.1.at (block_end row.1) else [])
-    ++ extents_of (written_between kept fill end (block_end row.1) rows))
+    ++ block_extents (written_between kept fill end (block_end row.1) rows))
     (omega arith) line.0
     (by_change row.0 (omega (arith, last)) rest)
     (λ below. by_change row.0 (omega (arith, last)) rest))
   where
     by_change : (t : Bool) → row.1.at ≤ block_end row.1
-        → AreApart (block_end row.1)
-        (extents_of (written_between kept fill end (block_end row.1) rows))
-        → AreApart row.1.at ((if t then some_extent row.1.at (block_end row.1) else [])
-        ++ extents_of (written_between kept fill end (block_end row.1) rows))
+        → StandInOrder (block_end row.1)
+        (block_extents (written_between kept fill end (block_end row.1) rows))
+        → StandInOrder row.1.at ((if t then some_extent row.1.at (block_end row.1) else [])
+        ++ block_extents (written_between kept fill end (block_end row.1) rows))
     by_change true within rest =
         apart_some row.1.at row.1.at (block_end row.1)
-        (extents_of (written_between kept fill end (block_end row.1) rows))
+        (block_extents (written_between kept fill end (block_end row.1) rows))
         (omega arith) within rest (λ below. rest)
     by_change false within rest =
         apart_later (block_end row.1) row.1.at
-        (extents_of (written_between kept fill end (block_end row.1) rows)) within rest
+        (block_extents (written_between kept fill end (block_end row.1) rows)) within rest
 
 pub written_apart : (o : Object) (es : List Extent) → IsReady o
-    → es ≡ extents_of (written_line o) → AreApart 0 es
+    → es ≡ block_extents (written_line o) → StandInOrder 0 es
 unfolding written_line
 written_apart o es ready is =
-    subst (λ (l : List Extent). AreApart 0 l) (sym is)
+    subst (λ (l : List Extent). StandInOrder 0 l) (sym is)
     (between_apart (kept_base o) o.fill (image_length o) 0 (planned_rows o)
     (subst (λ (bs : List Block). AreInLine (image_length o) 0 bs) (sym (rows_plan o ready))
     (plan_line o ready)))
@@ -289,11 +289,11 @@ one_meets a m b es =
     (cases_lt 0 (length b.bytes))
 
 pub extents_meeting : (home : Home) (bs : List Block)
-    → meets_extents home.at home.len (extents_of bs) ≡ meets_some home bs
-unfolding meets_extents meets_some extents_of
+    → meets_extents home.at home.len (block_extents bs) ≡ meets_some home bs
+unfolding meets_extents meets_some block_extents
 extents_meeting home [] = refl
 extents_meeting home (b ∷ bs) =
-    one_meets home.at home.len b (extents_of bs)
+    one_meets home.at home.len b (block_extents bs)
     ∙ ap (λ (t : Bool). extents_meet home.at home.len b.at (length b.bytes) || t)
     (extents_meeting home bs)
 
@@ -344,7 +344,7 @@ module _ (o : Object) (ps : List PartAt) (flags : List Bool) (ready : IsReady o)
 -- ---- Homes
 
 pub home_meets : (o : Object) (home : Home) (es : List Extent) (at len : ℕ) (m : Bool)
-    → IsReady o → es ≡ extents_of (written_line o) → at ≡ home.at → len ≡ home.len
+    → IsReady o → es ≡ block_extents (written_line o) → at ≡ home.at → len ≡ home.len
     → m ≡ meets_extents at len es
     → is_disturbed o home ≡ (m || (nat_lt 0 len && nat_lt (image_length o) (at + len)))
 home_meets o home es at len m ready is place size told =
@@ -362,14 +362,14 @@ home_meets o home es at len m ready is place size told =
     ∙ ap (λ (k : ℕ). m || (nat_lt 0 len && nat_lt (image_length o) (k + len))) (sym place)
 
 pub home_met : (o : Object) (home : Home) (es : List Extent) (at len : ℕ) (m : Bool)
-    → IsReady o → es ≡ extents_of (written_line o) → at ≡ home.at → len ≡ home.len
+    → IsReady o → es ≡ block_extents (written_line o) → at ≡ home.at → len ≡ home.len
     → m ≡ meets_extents at len es → m ≡ true → true ≡ is_disturbed o home
 home_met o home es at len m ready is place size told met =
     sym (home_meets o home es at len m ready is place size told
     ∙ ap (λ (t : Bool). t || (nat_lt 0 len && nat_lt (image_length o) (at + len))) met)
 
 pub home_cut : (o : Object) (home : Home) (es : List Extent) (at len end : ℕ) (m r : Bool)
-    → IsReady o → es ≡ extents_of (written_line o) → at ≡ home.at → len ≡ home.len
+    → IsReady o → es ≡ block_extents (written_line o) → at ≡ home.at → len ≡ home.len
     → m ≡ meets_extents at len es → m ≡ false → 0 < len → end ≡ image_length o
     → r ≡ nat_lt end (at + len) → r ≡ is_disturbed o home
 home_cut o home es at len end m r ready is place size told clear some last below =
@@ -379,7 +379,7 @@ home_cut o home es at len end m r ready is place size told clear some last below
     ∙ ap (λ (t : Bool). t && nat_lt (image_length o) (at + len)) (lt-ltb 0 len some))
 
 pub home_empty : (o : Object) (home : Home) (es : List Extent) (at len : ℕ) (m : Bool)
-    → IsReady o → es ≡ extents_of (written_line o) → at ≡ home.at → len ≡ home.len
+    → IsReady o → es ≡ block_extents (written_line o) → at ≡ home.at → len ≡ home.len
     → m ≡ meets_extents at len es → m ≡ false → len ≤ 0 → nat_lt 0 len ≡ is_disturbed o home
 home_empty o home es at len m ready is place size told clear none =
     le-ltb 0 len none

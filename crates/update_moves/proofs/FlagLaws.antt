@@ -16,10 +16,10 @@ use Rattle.elf_object.specs.Changed.{section_changed}
 use Rattle.writing_laws.specs.Plan.{rank_changed}
 use Rattle.writing_laws.specs.Ready.{IsReady}
 use Rattle.update_plan.specs.Plans.{part_of_rank}
-use Rattle.elf_update.specs.Pieces.{joined, block_at, blocks_at, HasLength}
+use Rattle.elf_update.specs.Pieces.{stacked_text, block_at, blocks_at, HasLength}
 use Rattle.elf_update.specs.Descriptors.{stored_pieces, planned}
 use Rattle.elf_update.proofs.PieceLaws.{length-joined_pieces}
-use Rattle.elf_update.proofs.PlanLaws.{IsRanked, ranks_ranked, planned_blocks, planned_long}
+use Rattle.elf_update.proofs.PlanLaws.{HasRank, ranks_ranked, planned_blocks, planned_long}
 use Rattle.update_moves.specs.Written.{part_changed, planned_rows}
 use Rattle.update_moves.proofs.LineLaws.{row_of, rows_plan}
 
@@ -80,7 +80,7 @@ flag_at o n (p ∷ ps) (suc i) each there =
     flag_at o (n + 1) ps i each.1 (omega (arith, there)) ∙ ap (rank_changed o) next
 
 flags_of_ranks : (o : Object) (ranks : List ℕ)
-    → AllByRecursion (IsRanked (placed_parts o)) ranks
+    → AllByRecursion (HasRank (placed_parts o)) ranks
     → map (λ row. row.0) (map (row_of o) ranks)
     ≡ map (λ p. part_changed o p.part) (map (part_of_rank (placed_parts o)) ranks)
 unfolding placed_parts
@@ -107,7 +107,7 @@ rows_changed o =
 pub record IsRow (o : Object) (p : PartAt) (row : Bool × Block) : Type 0 where
   pub changed : part_changed o p.part ≡ row.0
   pub at : p.at ≡ row.1.at
-  pub bytes : joined (placed o).fill (stored_pieces (placed o) p.part) ≡ row.1.bytes
+  pub bytes : stacked_text (placed o).fill (stored_pieces (placed o) p.part) ≡ row.1.bytes
   pub len : p.len ≡ length row.1.bytes
 
 pub length-rows : (o : Object) → length (planned_rows o) ≡ length (planned o)

@@ -2,5 +2,5 @@ pub mod LineLaws
 pub mod FlagLaws
 pub mod ExtentLaws
 mod MeetingLaws
-mod SectionLaws
+pub mod SectionLaws
 pub mod TornLaws

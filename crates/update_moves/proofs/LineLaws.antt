@@ -155,7 +155,7 @@ plan_left o ready =
     (sym ((plan_is_image o).spread ready))
     (left_start (image_length o) (uncovered_byte o) (plan o) (plan_line o ready))
 
-each_right : (P : Block → Type 0) (bs cs : List Block) → AllByRecursion P (bs ++ cs)
+pub each_right : (P : Block → Type 0) (bs cs : List Block) → AllByRecursion P (bs ++ cs)
     → AllByRecursion P cs
 each_right P [] cs each = each
 each_right P (b ∷ bs) cs each = each_right P bs cs each.1

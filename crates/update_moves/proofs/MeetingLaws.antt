@@ -8,7 +8,7 @@ use Rattle.std.proofs.lemmas.List.Folds.{list_any_at}
 use Rattle.elf_object.specs.Blocks.{extents_meet}
 use Rattle.writing_laws.proofs.DisturbedLaws.{meeting_from, meeting_to, same_test}
 use Rattle.update_moves.specs.declared.extents.Extent.{Extent}
-use Rattle.update_moves.specs.Extents.{AreApart, no_extent, SplitsAt, meets_extents}
+use Rattle.update_moves.specs.Extents.{StandInOrder, no_extent, SplitsAt, meets_extents}
 
 -- ---- In order
 
@@ -16,7 +16,7 @@ record IsApart (from : ℕ) (e : Extent) : Type 0 where
   pub first : from ≤ e.at
   pub some : e.at < e.end
 
-apart_at : (from : ℕ) (es : List Extent) (i : ℕ) → AreApart from es → i < length es
+apart_at : (from : ℕ) (es : List Extent) (i : ℕ) → StandInOrder from es → i < length es
     → IsApart from (get_or es i no_extent)
 apart_at from [] i apart there = absurd (omega (arith, there))
 apart_at from (e ∷ es) zero apart there = record { first = apart.0; some = apart.1 }
@@ -27,7 +27,7 @@ apart_at from (e ∷ es) (suc i) apart there =
     let later = rest.first in
     record { first = omega (arith, start, some, later); some = rest.some }
 
-apart_next : (from : ℕ) (es : List Extent) (i j : ℕ) → AreApart from es → i < j → j < length es
+apart_next : (from : ℕ) (es : List Extent) (i j : ℕ) → StandInOrder from es → i < j → j < length es
     → (get_or es i no_extent).end ≤ (get_or es j no_extent).at
 apart_next from [] i j apart less there = absurd (omega (arith, there))
 apart_next from (e ∷ es) i zero apart less there = absurd (omega (arith, less))
@@ -37,7 +37,7 @@ apart_next from (e ∷ es) zero (suc j) apart less there =
 apart_next from (e ∷ es) (suc i) (suc j) apart less there =
     apart_next e.end es i j apart.2 (omega (arith, less)) (omega (arith, there))
 
-ends_rise : (es : List Extent) (i j : ℕ) → AreApart 0 es → i ≤ j → j < length es
+ends_rise : (es : List Extent) (i j : ℕ) → StandInOrder 0 es → i ≤ j → j < length es
     → (get_or es i no_extent).end ≤ (get_or es j no_extent).end
 ends_rise es i j apart upto there = ⊎_elim
     (λ less.
@@ -50,7 +50,7 @@ ends_rise es i j apart upto there = ⊎_elim
     omega (arith, ends))
     (cases_lt i j)
 
-starts_rise : (es : List Extent) (i j : ℕ) → AreApart 0 es → i ≤ j → j < length es
+starts_rise : (es : List Extent) (i j : ℕ) → StandInOrder 0 es → i ≤ j → j < length es
     → (get_or es i no_extent).at ≤ (get_or es j no_extent).at
 starts_rise es i j apart upto there = ⊎_elim
     (λ less.
@@ -90,7 +90,7 @@ narrowed_first es at = record {
   behind = λ i from below. absurd (omega (arith, from, below));
 }
 
-pub narrowed_up : (es : List Extent) (at low high middle : ℕ) → AreApart 0 es
+pub narrowed_up : (es : List Extent) (at low high middle : ℕ) → StandInOrder 0 es
     → IsNarrowed es at low high → middle < high → (get_or es middle no_extent).end ≤ at
     → IsNarrowed es at (middle + 1) high
 narrowed_up es at low high middle apart is less ended =
@@ -103,7 +103,7 @@ narrowed_up es at low high middle apart is less ended =
       behind = is.behind;
     }
 
-pub narrowed_down : (es : List Extent) (at low high middle : ℕ) → AreApart 0 es
+pub narrowed_down : (es : List Extent) (at low high middle : ℕ) → StandInOrder 0 es
     → IsNarrowed es at low high → low ≤ middle → middle < high
     → at < (get_or es middle no_extent).end → IsNarrowed es at low middle
 narrowed_down es at low high middle apart is from less ends =
@@ -144,7 +144,7 @@ passes_at f (e ∷ es) h = ⊎_elim
     record { index = suc later.index; there = omega (arith, there); passes = later.passes })
     (or_cases (f e) (list_any f es) h)
 
-module _ (es : List Extent) (at len index : ℕ) (apart : AreApart 0 es)
+module _ (es : List Extent) (at len index : ℕ) (apart : StandInOrder 0 es)
     (split : SplitsAt es at index) where
   -- the extent with an index meets
   record IsMet (i : ℕ) : Type 0 where
@@ -173,7 +173,7 @@ module _ (es : List Extent) (at len index : ℕ) (apart : AreApart 0 es)
         below = after;
       }
 
-pub meets_none : (es : List Extent) (at len index : ℕ) → AreApart 0 es → SplitsAt es at index
+pub meets_none : (es : List Extent) (at len index : ℕ) → StandInOrder 0 es → SplitsAt es at index
     → (len ≡ 0) ⊎ (length es ≤ index) → meets_extents at len es ≡ false
 unfolding meets_extents
 meets_none es at len index apart split none =
@@ -188,7 +188,7 @@ meets_none es at len index apart split none =
     (λ past. absurd (omega (arith, past, from, there)))
     none)
 
-pub meets_first : (es : List Extent) (at len index : ℕ) → AreApart 0 es → SplitsAt es at index
+pub meets_first : (es : List Extent) (at len index : ℕ) → StandInOrder 0 es → SplitsAt es at index
     → 0 < len → index < length es
     → meets_extents at len es ≡ nat_lt (get_or es index no_extent).at (at + len)
 unfolding meets_extents

@@ -4,7 +4,7 @@ use Rattle.std.specs.Prelude.{if◌then◌else◌}
 use Rattle.std.proofs.lemmas.Bool.{lt-leb}
 use Rattle.std.specs.List.{list_any, range_with_len}
 use Rattle.std.proofs.lemmas.List.FromFn.{map-range_with_len_more}
-use Rattle.std.proofs.lemmas.List.{length-map, take_all}
+use Rattle.std.proofs.lemmas.List.{length-map, take_all, get_or_default}
 use Rattle.std.proofs.lemmas.List.Folds.{list_any_more, list_any_at}
 use Rattle.elf_types.specs.Answers.{answered}
 use Rattle.elf_types.specs.declared.records.Part.TheVariants as part
@@ -115,15 +115,10 @@ place_there o s at places listed is there =
     let count = length-parts o in
     omega (arith, same, all, count, there)
 
-same_default : (l : List ℕ) (i a b : ℕ) → i < length l → get_or l i a ≡ get_or l i b
-same_default [] i a b there = absurd (omega (arith, there))
-same_default (x ∷ l) zero a b there = refl
-same_default (x ∷ l) (suc i) a b there = same_default l i a b (omega (arith, there))
-
 pub place_read : (o : Object) (s : ℕ) (at : List ℕ) (places : Places) (d : ℕ) → at ≡ places.at
     → places ≡ places_of o → s + 1 < length at → get_or at (s + 1) d ≡ get_or (places_of o).at (s + 1) 0
 place_read o s at places d listed is there =
-    same_default at (s + 1) d 0 there
+    get_or_default at (s + 1) d 0 there
     ∙ ap (λ (l : List ℕ). get_or l (s + 1) 0) (listed ∙ ap (λ (p : Places). p.at) is)
 
 -- ---- Parts that are there, and their marks

@@ -10,9 +10,13 @@ use Rattle.elf_layout.specs.declared.parts.Places.{Places}
 use Rattle.elf_object.specs.Object.{Object, Section, absent_section, section_at, is_dirty}
 use Rattle.elf_object.specs.Layout.{placed_header, placed_shdr, placed_section, places_of, placed_by, placed}
 use Rattle.elf_object.specs.Changed.{torn_over, is_moved, torn}
+use Rattle.elf_object.specs.Valid.{IsObject}
+use Rattle.object_laws.specs.Laws.{IsTornImage}
 use Rattle.object_laws.proofs.ImageLaws.{placed-dirty, section_at-placed}
 use Rattle.object_laws.proofs.AgainLaws.{header_again, section_again_at, SameFront}
-use Rattle.object_laws.proofs.TornLaws.{torn-is, torn_front, torn_dirty}
+use Rattle.object_laws.proofs.TornLaws.{torn-is, torn_front, torn_dirty, torn_law}
+use Rattle.writing_laws.specs.Ready.{IsReady}
+use Rattle.elf_update.specs.Descriptors.{HasStoredPlaces}
 
 rows_stay : {X : Type 0} (g : ℕ → X → X) (l : List X) (d : X)
     → ((i : ℕ) → i < length l → g i (get_or l i d) ≡ get_or l i d)
@@ -63,15 +67,22 @@ module _ (t o : Object) (front : SameFront t o) where
       stays_by (places_of t) t (header_again t o front ∙ sym front.header)
       (rows_stay (placed_section (places_of t) t) t.sections absent_section section_stays)
 
+-- the object whose places are stored, over other bytes
+pub over_placed : (o : Object) (bytes : List ℕ)
+    → placed_by (places_of (torn_over (is_moved o) bytes (placed_by (places_of o) o)))
+    (torn_over (is_moved o) bytes (placed_by (places_of o) o))
+    ≡ torn_over (is_moved o) bytes (placed_by (places_of o) o)
+over_placed o bytes =
+    front_stays (torn_over (is_moved o) bytes (placed_by (places_of o) o)) o
+    (torn_front o (is_moved o) bytes)
+
 pub torn_placed : (o : Object) (bytes : List ℕ) → is_dirty o ≡ true
     → placed (torn o bytes) ≡ torn o bytes
 torn_placed o bytes dirty =
-    let t : Object = torn_over (is_moved o) bytes (placed_by (places_of o) o) in
     ap placed (torn-is o bytes dirty)
     ∙ placed-dirty (torn_over (is_moved o) bytes (placed_by (places_of o) o))
     (torn_dirty (is_moved o) bytes (placed_by (places_of o) o))
-    ∙ front_stays (torn_over (is_moved o) bytes (placed_by (places_of o) o)) o
-    (torn_front o (is_moved o) bytes)
+    ∙ over_placed o bytes
     ∙ sym (torn-is o bytes dirty)
 
 pub torn_is_dirty : (o : Object) (bytes : List ℕ) → is_dirty o ≡ true
@@ -79,3 +90,16 @@ pub torn_is_dirty : (o : Object) (bytes : List ℕ) → is_dirty o ≡ true
 torn_is_dirty o bytes dirty =
     ap is_dirty (torn-is o bytes dirty)
     ∙ torn_dirty (is_moved o) bytes (placed_by (places_of o) o)
+
+pub torn_stored : (o : Object) (bytes : List ℕ) → IsReady o → IsTornImage o bytes
+    → IsObject (torn o bytes) → HasStoredPlaces (torn o bytes)
+torn_stored o bytes ready is object =
+    let law = torn_law o bytes ready.object ready.dirty ready.passed is in
+    record {
+      ready = record {
+        object = object;
+        dirty = torn_is_dirty o bytes ready.dirty;
+        passed = law.0;
+      };
+      placed = torn_placed o bytes ready.dirty;
+    }

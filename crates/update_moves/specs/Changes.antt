@@ -15,6 +15,6 @@ pub record IsFront (o : Object) (front : FrontChanges) : Type 0 where
   pub table : front.table ≡ table_changed o
 
 -- of each part of a plan, whether it changes, and of each section, whether it moves
-pub record AreChanges (o : Object) (planned : PlannedParts) (changes : Changes) : Type 0 where
+pub record TellsChanges (o : Object) (planned : PlannedParts) (changes : Changes) : Type 0 where
   pub parts : changes.parts ≡ map (λ p. part_changed o p.part) planned.parts
   pub sections : changes.sections ≡ map (is_moved o) (range_with_len 0 (length o.sections))

@@ -15,14 +15,14 @@ row_extents start changed at end =
     some_extent start at ++ (if changed then some_extent at end else [])
 
 -- the extents of blocks that are not empty, in their order
-unfoldable pub extents_of : List Block → List Extent
-extents_of [] = []
-extents_of (b ∷ bs) = some_extent b.at (block_end b) ++ extents_of bs
+unfoldable pub block_extents : List Block → List Extent
+block_extents [] = []
+block_extents (b ∷ bs) = some_extent b.at (block_end b) ++ block_extents bs
 
 -- extents one behind the other from a place on, none of them empty
-abbrev pub AreApart : ℕ → List Extent → Type 0
-AreApart from [] = Unit {0}
-AreApart from (e ∷ es) = (from ≤ e.at) × (e.at < e.end) × AreApart e.end es
+abbrev pub StandInOrder : ℕ → List Extent → Type 0
+StandInOrder from [] = Unit {0}
+StandInOrder from (e ∷ es) = (from ≤ e.at) × (e.at < e.end) × StandInOrder e.end es
 
 -- what stands at an index that no extent has
 abbrev pub no_extent : Extent

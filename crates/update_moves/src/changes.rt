@@ -4,7 +4,7 @@ ghost use Rattle.std.specs.Prelude.{◌≡◌, map, IfOk, IfErr};
 ghost use Rattle.elf_types.specs.declared.errors.ElfError.TheVariants.{Memory};
 ghost use Rattle.elf_update.specs.Updates.{IsPlanned};
 ghost use Rattle.update_moves.specs.Written.{part_changed};
-ghost use Rattle.update_moves.specs.Changes.{IsFront, AreChanges};
+ghost use Rattle.update_moves.specs.Changes.{IsFront, TellsChanges};
 
 use crate::extents::written_extents;
 use crate::moves::list_moves;
@@ -94,7 +94,7 @@ pub fn find_changes<S: Source>(
 ) -> Result<Changes, ElfError>
     requires planned { IsPlanned elf.now.o planned.now }
     requires front { IsFront elf.now.o front }
-    ensures ok { IfOk result (AreChanges elf.now.o planned.now) }
+    ensures ok { IfOk result (TellsChanges elf.now.o planned.now) }
     ensures err { IfErr result (λ e. e ≡ Memory) }
 {
     let parts = match list_changes(elf, planned, front) {

@@ -2,16 +2,14 @@
 
 ghost use Rattle.std.specs.Prelude.{◌≡◌, ◌+◌, ◌++◌, ◌^◌, ◌<◌, map, OnOk, IfOk, IfErr};
 ghost use Rattle.elf_types.specs.declared.errors.ElfError.TheVariants.{Memory};
-ghost use Rattle.elf_object.specs.Image.{kept_base};
 ghost use Rattle.elf_update.specs.Updates.{IsPlanned};
 ghost use Rattle.update_moves.specs.Written.{part_changed, written_line};
-ghost use Rattle.update_moves.specs.Extents.{some_extent, row_extents, extents_of};
+ghost use Rattle.update_moves.specs.Extents.{some_extent, row_extents, block_extents};
 
 use elf_descriptor::Elf;
 use elf_outside::Source;
 use elf_types::{ElfError, List};
-use elf_update::PlannedParts;
-use update_plan::has_layout;
+use elf_update::{PlannedParts, ground_of};
 
 /// The places from one on and before another.
 #[derive(Clone, Copy, Debug, PartialEq, Eq)]
@@ -54,17 +52,6 @@ fn push_row(
     push_extent(extents, at, end)
 }
 
-/// How many bytes of the base count.
-#[tactic(auto, unfolding(elf_object::specs::Image::kept_base))]
-fn base_that_counts<S: Source>(elf: &Elf<S>) -> u64
-    ensures { result ≡ kept_base elf.now.o }
-{
-    if has_layout(elf) {
-        return elf.base_len();
-    }
-    0
-}
-
 /// The extents of what an update in place writes that are not empty, by their places. It refuses
 /// `Memory` alone and reads nothing.
 pub(crate) fn written_extents<S: Source>(
@@ -74,10 +61,10 @@ pub(crate) fn written_extents<S: Source>(
 ) -> Result<List<Extent>, ElfError>
     requires planned { IsPlanned elf.now.o planned.now }
     requires changed { changed.now ≡ map (λ p. part_changed elf.now.o p.part) planned.now.parts }
-    ensures ok { IfOk result (λ extents. extents ≡ extents_of (written_line elf.now.o)) }
+    ensures ok { IfOk result (λ extents. extents ≡ block_extents (written_line elf.now.o)) }
     ensures err { IfErr result (λ e. e ≡ Memory) }
 {
-    let kept = base_that_counts(elf);
+    let kept = ground_of(elf).kept;
     let parts = planned.parts.as_slice();
     let mut extents = List::new(elf.alloc());
     let mut from: u64 = 0;
@@ -89,7 +76,7 @@ pub(crate) fn written_extents<S: Source>(
         }
         from = end;
     }
-    if let Err(e) = push_extent(&mut extents, from.max(kept), planned.placed.places.end) {
+    if let Err(e) = push_extent(&mut extents, from.max(kept), planned.places.end) {
         return Err(e);
     }
     Ok(extents)

@@ -1,13 +1,13 @@
 //! Whether a home shares a place with what is written: found by its place among the extents.
 
 ghost use Rattle.std.specs.Prelude.{◌≡◌, ◌+◌, nat_lt};
-ghost use Rattle.update_moves.specs.Extents.{AreApart, SplitsAt, meets_extents};
+ghost use Rattle.update_moves.specs.Extents.{StandInOrder, SplitsAt, meets_extents};
 
 use crate::extents::Extent;
 
 /// How many extents end at or before a place.
 fn count_ended(extents: &[Extent], at: u64) -> usize
-    requires { AreApart 0 extents.now }
+    requires { StandInOrder 0 extents.now }
     ensures { SplitsAt extents.now at result }
 {
     let mut low: usize = 0;
@@ -32,7 +32,7 @@ pub(crate) fn is_below_end(place: u64, at: u64, len: u64) -> bool
 
 /// Whether an extent shares a place with one of those that stand one behind the other.
 pub(crate) fn meets(extents: &[Extent], at: u64, len: u64) -> bool
-    requires { AreApart 0 extents.now }
+    requires { StandInOrder 0 extents.now }
     ensures { result ≡ meets_extents at len extents.now }
 {
     let index = count_ended(extents, at);

@@ -8,15 +8,16 @@ ghost use Rattle.elf_object.specs.Object.{section_at};
 ghost use Rattle.elf_object.specs.Changed.{is_disturbed, is_moved};
 ghost use Rattle.elf_update.specs.Updates.{IsPlanned};
 ghost use Rattle.update_moves.specs.Written.{written_line};
-ghost use Rattle.update_moves.specs.Extents.{extents_of};
+ghost use Rattle.update_moves.specs.Extents.{block_extents};
 
 use crate::extents::Extent;
 use crate::meeting::{is_below_end, meets};
-use crate::sections::{home_of, section_changes};
+use crate::sections::section_changes;
 use elf_descriptor::Elf;
 use elf_outside::Source;
 use elf_types::{ElfError, List};
 use elf_update::PlannedParts;
+use update_plan::home_extent;
 
 /// Whether the home of a section that is there meets what is written, or passes the new end.
 fn home_is_disturbed<S: Source>(
@@ -26,15 +27,15 @@ fn home_is_disturbed<S: Source>(
     s: u32,
 ) -> bool
     requires planned { IsPlanned elf.now.o planned.now }
-    requires written { extents.now ≡ extents_of (written_line elf.now.o) }
+    requires written { extents.now ≡ block_extents (written_line elf.now.o) }
     requires there { s < length elf.now.o.sections }
     ensures { result ≡ is_disturbed elf.now.o (section_at elf.now.o s).home }
 {
-    let home = home_of(elf, s);
+    let home = home_extent(elf, s);
     if meets(extents, home.0, home.1) {
         return true;
     }
-    home.1 > 0 && is_below_end(planned.placed.places.end, home.0, home.1)
+    home.1 > 0 && is_below_end(planned.places.end, home.0, home.1)
 }
 
 /// Whether a section that is there moves.
@@ -46,7 +47,7 @@ fn section_moves<S: Source>(
     s: u32,
 ) -> bool
     requires planned { IsPlanned elf.now.o planned.now }
-    requires written { extents.now ≡ extents_of (written_line elf.now.o) }
+    requires written { extents.now ≡ block_extents (written_line elf.now.o) }
     requires there { s < length elf.now.o.sections }
     ensures { result ≡ is_moved elf.now.o s }
 {
@@ -60,7 +61,7 @@ pub(crate) fn list_moves<S: Source>(
     extents: &[Extent],
 ) -> Result<List<bool>, ElfError>
     requires planned { IsPlanned elf.now.o planned.now }
-    requires written { extents.now ≡ extents_of (written_line elf.now.o) }
+    requires written { extents.now ≡ block_extents (written_line elf.now.o) }
     ensures ok { IfOk result (λ moves. moves
         ≡ map (is_moved elf.now.o) (range_with_len 0 (length elf.now.o.sections))) }
     ensures err { IfErr result (λ e. e ≡ Memory) }

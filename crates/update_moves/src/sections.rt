@@ -13,20 +13,7 @@ use elf_descriptor::Elf;
 use elf_outside::Source;
 use elf_types::ScnId;
 use elf_update::PlannedParts;
-use update_plan::has_file_bytes;
-
-/// The place and the length of a home of a section that is there.
-#[tactic(auto, unfolding(elf_object::specs::Calls::home_answer))]
-pub(crate) fn home_of<S: Source>(elf: &Elf<S>, s: u32) -> (u64, u64)
-    requires { s < length elf.now.o.sections }
-    ensures place { result.0 ≡ (section_at elf.now.o s).home.at }
-    ensures len { result.1 ≡ (section_at elf.now.o s).home.len }
-{
-    match elf.home(ScnId(s)) {
-        Ok(home) => home,
-        Err(_) => unreachable!(),
-    }
-}
+use update_plan::{home_extent, is_in_file};
 
 /// Whether two extents are alike: empty ones are, wherever they stand.
 #[tactic(auto, unfolding(elf_object::specs::Blocks::same_extent))]
@@ -56,19 +43,9 @@ fn stands_at_home<S: Source>(elf: &Elf<S>, planned: &PlannedParts, s: u32) -> bo
     requires filled { has_file_bytes s (section_at elf.now.o s) ≡ true }
     ensures { result ≡ is_at_home elf.now.o s }
 {
-    let at = planned.placed.places.at.as_slice()[s as usize + 1];
-    let home = home_of(elf, s);
+    let at = planned.places.at.as_slice()[s as usize + 1];
+    let home = home_extent(elf, s);
     is_same_extent(at, file_length(elf, s), home.0, home.1)
-}
-
-/// Whether the image holds bytes of a section, which need not be there.
-fn is_in_file<S: Source>(elf: &Elf<S>, s: u32) -> bool
-    ensures { result ≡ has_file_bytes s (section_at elf.now.o s) }
-{
-    if s < elf.shnum() {
-        return has_file_bytes(elf, ScnId(s));
-    }
-    false
 }
 
 /// Whether a section, which need not be there, changes.

@@ -3,3 +3,4 @@ pub mod SegmentLaws
 pub mod PartLaws
 pub mod PlacingLaws
 pub mod ContentLaws
+pub mod InFileLaws

@@ -1,7 +1,7 @@
 -- The parts of an object, as they are listed.
-use Rattle.std.proofs.Common.{◌≡◌, ◌++◌, ◌+◌, ◌*◌, ◌-◌, ◌≤◌, ℕ, zero, suc, Bool, true, false, List, [], ◌∷◌, length, take, get_or, map, min, ◌<◌, ◌^◌, Option, Some, None, Ok, refl, sym, ap, ◌∙◌, append_assoc, arith, lit<}
+use Rattle.std.proofs.Common.{◌≡◌, ◌++◌, ◌+◌, ◌*◌, ◌-◌, ◌≤◌, ℕ, zero, suc, true, false, List, [], ◌∷◌, length, take, drop, get_or, set, map, min, ◌<◌, ◌^◌, Option, Some, None, Ok, refl, sym, ap, ◌∙◌, append_assoc, arith, lit<}
 use Rattle.std.specs.List.{range_with_len}
-use Rattle.std.proofs.lemmas.List.{take_all}
+use Rattle.std.proofs.lemmas.List.{append-nil, take_all, drop_all}
 use Rattle.std.proofs.lemmas.List.FromFn.{map-range_with_len_more}
 use Rattle.elf_types.specs.Answers.{answered}
 use Rattle.elf_types.specs.declared.constants.TheConstants.{MAX_SEGMENTS, MAX_SECTIONS}
@@ -25,9 +25,11 @@ all_passed : (s n : ℕ) → 1 ≤ s → s ≤ n + 1 → n ≤ s → (1 ≤ n �
 all_passed s zero first most le within = omega (arith, first, most)
 all_passed s (suc n) first most le within = let last = within (omega arith) in omega (arith, le, last)
 
-module _ (o : Object) (before parts : List PartAt) (s : ℕ) (first : 1 ≤ s) (is : parts ≡ before ++ map (capped_section o) (range_with_len 1 (s - 1))) where
+module _ (o : Object) (before parts : List PartAt) (s : ℕ) (first : 1 ≤ s)
+    (is : parts ≡ before ++ map (capped_section o) (range_with_len 1 (s - 1))) where
   -- one more
-  pub sections_more : (next : List PartAt) → next ≡ parts ++ capped_section o s ∷ [] → next ≡ before ++ map (capped_section o) (range_with_len 1 (s + 1 - 1))
+  pub sections_more : (next : List PartAt) → next ≡ parts ++ capped_section o s ∷ []
+      → next ≡ before ++ map (capped_section o) (range_with_len 1 (s + 1 - 1))
   sections_more next more =
       let at : 1 + (s - 1) ≡ s = omega (arith, first) in
       let count : s - 1 + 1 ≡ s + 1 - 1 = omega (arith, first) in
@@ -37,7 +39,9 @@ module _ (o : Object) (before parts : List PartAt) (s : ℕ) (first : 1 ≤ s) (
       ∙ ap (λ (n : ℕ). before ++ map (capped_section o) (range_with_len 1 n)) count
 
   -- all of them
-  pub sections_all : s ≤ length o.sections + 1 → length o.sections ≤ s → (1 ≤ length o.sections → s ≤ length o.sections) → parts ≡ before ++ map (capped_section o) (section_numbers o)
+  pub sections_all : s ≤ length o.sections + 1 → length o.sections ≤ s
+      → (1 ≤ length o.sections → s ≤ length o.sections) → parts ≡ before ++ map (capped_section o)
+      (section_numbers o)
   sections_all most le within =
       let count = all_passed s (length o.sections) first most le within in
       is ∙ ap (λ (n : ℕ). before ++ map (capped_section o) (range_with_len 1 n)) count
@@ -54,7 +58,8 @@ map_twice {X} {Y} {Z} g f (x ∷ l) = ap (λ (m : List Z). g (f x) ∷ m) (map_t
 
 -- what is pushed one after the other is the parts, each with a length of at most 2^64 - 1
 pub listed_all : (o : Object) → map capped (parts_of o)
-    ≡ capped (header_part o) ∷ capped (segments_part o) ∷ map (capped_section o) (section_numbers o) ++ capped (table_part o) ∷ []
+    ≡ capped (header_part o) ∷ capped (segments_part o) ∷ map (capped_section o) (section_numbers o)
+    ++ capped (table_part o) ∷ []
 unfolding parts_of
 listed_all o =
     ap (λ (l : List PartAt). capped (header_part o) ∷ capped (segments_part o) ∷ l)
@@ -67,10 +72,13 @@ pub listed_steps : (o : Object) (a b c d : List PartAt) (h s t : PartAt)
     → d ≡ map capped (parts_of o)
 listed_steps o a b c d h s t hh ss tt' first second third last =
     last
-    ∙ ap (λ (l : List PartAt). l ++ t ∷ []) (third ∙ ap (λ (l : List PartAt). l ++ map (capped_section o) (section_numbers o)) (second ∙ ap (λ (l : List PartAt). l ++ s ∷ []) first))
+    ∙ ap (λ (l : List PartAt). l ++ t ∷ []) (third
+    ∙ ap (λ (l : List PartAt). l ++ map (capped_section o) (section_numbers o))
+    (second ∙ ap (λ (l : List PartAt). l ++ s ∷ []) first))
     ∙ ap (λ (x : PartAt). h ∷ s ∷ map (capped_section o) (section_numbers o) ++ x ∷ []) tt'
     ∙ ap (λ (x : PartAt). h ∷ x ∷ map (capped_section o) (section_numbers o) ++ capped (table_part o) ∷ []) ss
-    ∙ ap (λ (x : PartAt). x ∷ capped (segments_part o) ∷ map (capped_section o) (section_numbers o) ++ capped (table_part o) ∷ []) hh
+    ∙ ap (λ (x : PartAt). x ∷ capped (segments_part o) ∷ map (capped_section o) (section_numbers o)
+    ++ capped (table_part o) ∷ []) hh
     ∙ sym (listed_all o)
 
 -- ---- Lengths that are told
@@ -94,45 +102,106 @@ table_small n C32 most = let limit : MAX_SECTIONS < 2 ^ 32 = lit< tt in omega (a
 table_small n C64 most = let limit : MAX_SECTIONS < 2 ^ 32 = lit< tt in omega (arith, most, limit)
 
 pub header_is : (o : Object) (h : Ehdr) (size : ℕ) → h ≡ header_of o → size ≡ ehdr_size h.class
-    → ◌≡◌ {A = PartAt} (record { part = part.Header; at = 0; len = size; align = 1; filled = true }) (capped (header_part o))
+    → ◌≡◌ {A = PartAt} (record { part = part.Header; at = 0; len = size; align = 1; filled = true })
+    (capped (header_part o))
 unfolding header_of
 header_is o h size is long =
     capped_is (header_part o) size (long ∙ ap (λ (x : Ehdr). ehdr_size x.class) is) (ehdr_small o.header.class)
 
-pub segments_is : (o : Object) (h : Ehdr) (count size : ℕ) → h ≡ header_of o → count ≡ length o.phdrs → size ≡ phdr_size h.class → length o.phdrs ≤ MAX_SEGMENTS
-    → ◌≡◌ {A = PartAt} (record { part = part.Segments; at = h.phoff; len = count * size; align = 1; filled = true }) (capped (segments_part o))
+pub segments_is : (o : Object) (h : Ehdr) (count size : ℕ) → h ≡ header_of o
+    → count ≡ length o.phdrs → size ≡ phdr_size h.class → length o.phdrs ≤ MAX_SEGMENTS
+    → ◌≡◌ {A = PartAt} (record {
+      part = part.Segments;
+      at = h.phoff;
+      len = count * size;
+      align = 1;
+      filled = true;
+    }) (capped (segments_part o))
 unfolding header_of
 segments_is o h count size is all long most =
-    let first : ◌≡◌ {A = PartAt} (record { part = part.Segments; at = h.phoff; len = count * size; align = 1; filled = true })
+    let first : ◌≡◌ {A = PartAt} (record {
+      part = part.Segments;
+      at = h.phoff;
+      len = count
+          * size;
+      align = 1;
+      filled = true;
+    })
     (record { part = part.Segments; at = o.header.phoff; len = count * size; align = 1; filled = true }) =
     ap (λ (x : Ehdr). record { part = part.Segments; at = x.phoff; len = count * size; align = 1; filled = true }) is in
     let len : count * size ≡ length o.phdrs * phdr_size o.header.class =
-    ap (λ (n : ℕ). n * size) all ∙ ap (λ (n : ℕ). length o.phdrs * n) (long ∙ ap (λ (x : Ehdr). phdr_size x.class) is) in
+    ap (λ (n : ℕ). n * size) all ∙ ap (λ (n : ℕ). length o.phdrs * n)
+    (long ∙ ap (λ (x : Ehdr). phdr_size x.class) is) in
     first ∙ capped_is (segments_part o) (count * size) len (segments_small (length o.phdrs) o.header.class most)
 
-pub table_is : (o : Object) (h : Ehdr) (count size align : ℕ) → h ≡ header_of o → count ≡ length o.sections → size ≡ shdr_size h.class
+pub table_is : (o : Object) (h : Ehdr) (count size align : ℕ) → h ≡ header_of o
+    → count ≡ length o.sections → size ≡ shdr_size h.class
     → align ≡ table_alignment h.class → length o.sections ≤ MAX_SECTIONS
-    → ◌≡◌ {A = PartAt} (record { part = part.Table; at = h.shoff; len = count * size; align = align; filled = true }) (capped (table_part o))
+    → ◌≡◌ {A = PartAt} (record {
+      part = part.Table;
+      at = h.shoff;
+      len = count * size;
+      align = align;
+      filled = true;
+    }) (capped (table_part o))
 unfolding header_of
 table_is o h count size align is all long aligned most =
-    let first : ◌≡◌ {A = PartAt} (record { part = part.Table; at = h.shoff; len = count * size; align = align; filled = true })
+    let first : ◌≡◌ {A = PartAt} (record {
+      part = part.Table;
+      at = h.shoff;
+      len = count
+          * size;
+      align = align;
+      filled = true;
+    })
     (record { part = part.Table; at = o.header.shoff; len = count * size; align = align; filled = true }) =
-    ap (λ (x : Ehdr). record { part = part.Table; at = x.shoff; len = count * size; align = align; filled = true }) is in
-    let second : ◌≡◌ {A = PartAt} (record { part = part.Table; at = o.header.shoff; len = count * size; align = align; filled = true })
-    (record { part = part.Table; at = o.header.shoff; len = count * size; align = table_alignment o.header.class; filled = true }) =
-    ap (λ (n : ℕ). record { part = part.Table; at = o.header.shoff; len = count * size; align = n; filled = true }) (aligned ∙ ap (λ (x : Ehdr). table_alignment x.class) is) in
+    ap (λ (x : Ehdr). record {
+      part = part.Table;
+      at = x.shoff;
+      len = count * size;
+      align = align;
+      filled = true;
+    }) is in
+    let second : ◌≡◌ {A = PartAt} (record {
+      part = part.Table;
+      at = o.header.shoff;
+      len = count
+          * size;
+      align = align;
+      filled = true;
+    })
+    (record {
+      part = part.Table;
+      at = o.header.shoff;
+      len = count * size;
+      align = table_alignment
+          o.header.class;
+      filled = true;
+    }) =
+    ap (λ (n : ℕ). record {
+      part = part.Table;
+      at = o.header.shoff;
+      len = count * size;
+      align = n;
+      filled = true;
+    }) (aligned ∙ ap (λ (x : Ehdr). table_alignment x.class) is) in
     let len : count * size ≡ length o.sections * shdr_size o.header.class =
-    ap (λ (n : ℕ). n * size) all ∙ ap (λ (n : ℕ). length o.sections * n) (long ∙ ap (λ (x : Ehdr). shdr_size x.class) is) in
+    ap (λ (n : ℕ). n * size) all ∙ ap (λ (n : ℕ). length o.sections * n)
+    (long ∙ ap (λ (x : Ehdr). shdr_size x.class) is) in
     first ∙ second ∙ capped_is (table_part o) (count * size) len (table_small (length o.sections) o.header.class most)
 
-pub file_none : (o : Object) (s : ℕ) → has_file_bytes s (section_at o s) ≡ false → 0 ≡ min (length (file_bytes o s)) (2 ^ 64 - 1)
-file_none o s e = let none : length (file_bytes o s) ≡ 0 = ap (λ (l : List ℕ). length l) (joined-none o s e) in omega (arith, none)
+pub file_none : (o : Object) (s : ℕ) → has_file_bytes s (section_at o s) ≡ false
+    → 0 ≡ min (length (file_bytes o s)) (2 ^ 64 - 1)
+file_none o s e =
+    let none : length (file_bytes o s) ≡ 0 = ap (λ (l : List ℕ). length l)
+    (joined-none o s e) in omega (arith, none)
 
 value_is : (r : Option ElfError) (x y : ℕ) → Ok y ≡ answered r x → y ≡ x
 value_is None x y h = cc
 value_is (Some e) x y h = cc
 
-pub file_some : (o : Object) (s size : ℕ) → has_file_bytes s (section_at o s) ≡ true → Ok size ≡ answered (no_section o s) (min (pieces_end o s) (2 ^ 64 - 1))
+pub file_some : (o : Object) (s size : ℕ) → has_file_bytes s (section_at o s) ≡ true
+    → Ok size ≡ answered (no_section o s) (min (pieces_end o s) (2 ^ 64 - 1))
     → size ≡ min (length (file_bytes o s)) (2 ^ 64 - 1)
 file_some o s size e h =
     value_is (no_section o s) (min (pieces_end o s) (2 ^ 64 - 1)) size h
@@ -140,20 +209,42 @@ file_some o s size e h =
 
 -- ---- Parts at other places
 
-stand_more : (ps : List PartAt) (at : List ℕ) (i : ℕ) → i < length ps → length at ≡ length ps
-    → stand_at (take (suc i) ps) at ≡ stand_at (take i ps) at ++ record (get_or ps i no_part) { at = get_or at i 0 } ∷ []
-stand_more [] at i there same = absurd (omega arith)
-stand_more (p ∷ ps) [] i there same = absurd (omega (arith, same))
-stand_more (p ∷ ps) (n ∷ at) zero there same = refl
-stand_more (p ∷ ps) (n ∷ at) (suc i) there same =
-    ap (λ (l : List PartAt). record p { at = n } ∷ l) (stand_more ps at i (omega arith) (omega (arith, same)))
+-- the first of them stand there
+abbrev pub stood : List PartAt → List ℕ → ℕ → List PartAt
+stood ps at i = stand_at (take i ps) at ++ drop i ps
 
-pub stands_more : (ps standing next : List PartAt) (at : List ℕ) (i : ℕ) → i < length ps → length at ≡ length ps → standing ≡ stand_at (take i ps) at
-    → next ≡ standing ++ record (get_or ps i no_part) { at = get_or at i 0 } ∷ [] → next ≡ stand_at (take (i + 1) ps) at
-stands_more ps standing next at i there same is more =
+pub length-stood : (ps : List PartAt) (at : List ℕ) (i : ℕ) → length at ≡ length ps
+    → length (stood ps at i) ≡ length ps
+length-stood [] at zero same = refl
+length-stood [] at (suc i) same = refl
+length-stood (p ∷ ps) at zero same = refl
+length-stood (p ∷ ps) [] (suc i) same = absurd (omega (arith, same))
+length-stood (p ∷ ps) (n ∷ at) (suc i) same =
+    ap suc (length-stood ps at i (omega (arith, same)))
+
+stood_more : (ps : List PartAt) (at : List ℕ) (i : ℕ) → i < length ps → length at ≡ length ps
+    → set (stood ps at i) i (record (get_or (stood ps at i) i no_part) { at = get_or at i 0 })
+    ≡ stood ps at (suc i)
+stood_more [] at i there same = absurd (omega arith)
+stood_more (p ∷ ps) [] i there same = absurd (omega (arith, same))
+stood_more (p ∷ ps) (n ∷ at) zero there same = refl
+stood_more (p ∷ ps) (n ∷ at) (suc i) there same =
+    ap (λ (l : List PartAt). record p { at = n } ∷ l)
+    (stood_more ps at i (omega arith) (omega (arith, same)))
+
+pub stands_more : (ps now next : List PartAt) (at : List ℕ) (i : ℕ) → i < length ps
+    → length at ≡ length ps → now ≡ stood ps at i
+    → next ≡ set now i (record (get_or now i no_part) { at = get_or at i 0 })
+    → next ≡ stood ps at (i + 1)
+stands_more ps now next at i there same is more =
     let count : suc i ≡ i + 1 = omega arith in
-    more ∙ ap (λ (l : List PartAt). l ++ record (get_or ps i no_part) { at = get_or at i 0 } ∷ []) is
-    ∙ sym (stand_more ps at i there same) ∙ ap (λ (n : ℕ). stand_at (take n ps) at) count
+    more
+    ∙ ap (λ (l : List PartAt). set l i (record (get_or l i no_part) { at = get_or at i 0 })) is
+    ∙ stood_more ps at i there same ∙ ap (λ (n : ℕ). stood ps at n) count
 
-pub stands_all : (ps standing : List PartAt) (at : List ℕ) (i : ℕ) → length ps ≤ i → standing ≡ stand_at (take i ps) at → standing ≡ stand_at ps at
-stands_all ps standing at i all is = is ∙ ap (λ (l : List PartAt). stand_at l at) (take_all i ps all)
+pub stands_all : (ps now : List PartAt) (at : List ℕ) (i : ℕ) → length ps ≤ i
+    → now ≡ stood ps at i → now ≡ stand_at ps at
+stands_all ps now at i all is =
+    is ∙ ap (λ (l : List PartAt). stand_at l at ++ drop i ps) (take_all i ps all)
+    ∙ ap (λ (l : List PartAt). stand_at ps at ++ l) (drop_all i ps all)
+    ∙ append-nil (stand_at ps at)

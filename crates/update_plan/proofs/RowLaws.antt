@@ -13,7 +13,8 @@ pub ok_is : {T : Type 0} (a b : T) → ◌≡◌ {A = Result T ElfError} (Ok a) 
 ok_is a b h = cc
 
 -- the class of an object, as its header is told
-pub class_is : (o : Object) (h : Ehdr) → ◌≡◌ {A = Result Ehdr ElfError} (Ok h) (Ok (header_of o)) → h.class ≡ o.header.class
+pub class_is : (o : Object) (h : Ehdr) → ◌≡◌ {A = Result Ehdr ElfError} (Ok h) (Ok (header_of o))
+    → h.class ≡ o.header.class
 unfolding header_of
 class_is o h e = ap (λ (x : Ehdr). x.class) (ok_is h (header_of o) e)
 
@@ -44,7 +45,8 @@ module _ {X : Type 0} (f : ℕ → X → Option ElfError) (d : X) where
       let first : f n x ≡ None = ap (λ (k : ℕ). f k x) (sym start) ∙ before 0 (omega arith) in
       ap (λ (r : Option ElfError). first_refusal (r ∷ rows_from (n + 1) l)) first
       ∙ first_from (n + 1) l i e (omega arith)
-      (λ j h. let later : n + 1 + j ≡ n + suc j = omega arith in ap (λ (k : ℕ). f k (get_or l j d)) later ∙ before (suc j) (omega arith))
+      (λ j h. let later : n + 1 + j ≡ n + suc j = omega arith in ap (λ (k : ℕ). f k (get_or l j d))
+      later ∙ before (suc j) (omega arith))
       (ap (λ (k : ℕ). f k (get_or l i d)) next ∙ here)
 
   -- none of the rows before one refuses
@@ -65,21 +67,25 @@ module _ {X : Type 0} (f : ℕ → X → Option ElfError) (d : X) where
 
   pub rows_none : (l : List X) (i : ℕ) → length l ≤ i → NoneBefore l i → first_refusal (rows_from 0 l) ≡ None
   rows_none l i all before =
-      none_from 0 l (λ j h. let start : 0 + j ≡ j = omega arith in ap (λ (k : ℕ). f k (get_or l j d)) start ∙ before j (omega arith))
+      none_from 0 l (λ j h. let start : 0 + j
+      ≡ j = omega arith in ap (λ (k : ℕ). f k (get_or l j d)) start ∙ before j (omega arith))
 
   pub rows_first : (l : List X) (i : ℕ) (e : ElfError) → i < length l → NoneBefore l i → f i (get_or l i d) ≡ Some e
       → first_refusal (rows_from 0 l) ≡ Some e
   rows_first l i e there before here =
       let at : 0 + i ≡ i = omega arith in
-      first_from 0 l i e there (λ j h. let start : 0 + j ≡ j = omega arith in ap (λ (k : ℕ). f k (get_or l j d)) start ∙ before j h)
+      first_from 0 l i e there (λ j h. let start : 0 + j
+      ≡ j = omega arith in ap (λ (k : ℕ). f k (get_or l j d)) start ∙ before j h)
       (ap (λ (k : ℕ). f k (get_or l i d)) at ∙ here)
 
   -- where no row refuses, each one passes
-  head_passed : (r : Option ElfError) (rest : List (Option ElfError)) → first_refusal (r ∷ rest) ≡ None → (r ≡ None) × (first_refusal rest ≡ None)
+  head_passed : (r : Option ElfError) (rest : List (Option ElfError)) → first_refusal (r ∷ rest)
+      ≡ None → (r ≡ None) × (first_refusal rest ≡ None)
   head_passed None rest h = (refl, h)
   head_passed (Some e) rest h = cc
 
-  passed_at : (n : ℕ) (l : List X) (i : ℕ) → first_refusal (rows_from n l) ≡ None → i < length l → f (n + i) (get_or l i d) ≡ None
+  passed_at : (n : ℕ) (l : List X) (i : ℕ) → first_refusal (rows_from n l) ≡ None → i < length l
+      → f (n + i) (get_or l i d) ≡ None
   passed_at n [] i none there = absurd (omega arith)
   passed_at n (x ∷ l) zero none there =
       let start : n + 0 ≡ n = omega arith in
@@ -89,7 +95,8 @@ module _ {X : Type 0} (f : ℕ → X → Option ElfError) (d : X) where
       ap (λ (k : ℕ). f k (get_or l i d)) next
       ∙ passed_at (n + 1) l i (head_passed (f n x) (rows_from (n + 1) l) none).1 (omega arith)
 
-  pub row_passed : (l : List X) (i : ℕ) → first_refusal (rows_from 0 l) ≡ None → i < length l → f i (get_or l i d) ≡ None
+  pub row_passed : (l : List X) (i : ℕ) → first_refusal (rows_from 0 l) ≡ None → i < length l
+      → f i (get_or l i d) ≡ None
   row_passed l i none there =
       let at : i ≡ 0 + i = omega arith in
       ap (λ (k : ℕ). f k (get_or l i d)) at ∙ passed_at 0 l i none there

@@ -1,16 +1,10 @@
 -- The first program header that does not fit.
-use Rattle.std.proofs.Common.{◌≡◌, ℕ, zero, suc, ◌+◌, ◌<◌, ◌≤◌, Bool, true, false, not, List, [], ◌∷◌, length, get_or, Option, Some, None, refl, sym, ap, ◌∙◌, subst, arith, ⊎_elim}
+use Rattle.std.proofs.Common.{◌≡◌, ℕ, ◌+◌, ◌<◌, ◌≤◌, Bool, true, false, not, List, length, get_or, Option, Some, None, refl, sym, ap, ◌∙◌, subst, arith, ⊎_elim}
 use Rattle.std.specs.List.{position}
-use Rattle.std.specs.Option.{option_map}
 use Rattle.std.proofs.lemmas.Bool.{cases_lt}
+use Rattle.std.proofs.lemmas.List.{get_or_default}
 use Rattle.std.proofs.lemmas.List.Quantifiers.{position-Some}
 use Rattle.elf_xlate.proofs.Pieces.{each_passes}
-
--- what stands at an index that is there, whatever stands elsewhere
-pub same_default : {X : Type 0} (l : List X) (i : ℕ) (a b : X) → i < length l → get_or l i a ≡ get_or l i b
-same_default [] i a b there = absurd (omega arith)
-same_default (x ∷ l) zero a b there = refl
-same_default (x ∷ l) (suc i) a b there = same_default l i a b (omega arith)
 
 module _ {X : Type 0} (passes : X → Bool) (d : X) (l : List X) where
   -- all before one pass
@@ -22,7 +16,8 @@ module _ {X : Type 0} (passes : X → Bool) (d : X) (l : List X) where
 
   pub pass_more : (i : ℕ) → PassBefore i → passes (get_or l i d) ≡ true → PassBefore (i + 1)
   pass_more i before here = λ j h. ⊎_elim (λ earlier. before j earlier)
-      (λ past. let same : i ≡ j = omega arith in subst (λ (k : ℕ). passes (get_or l k d) ≡ true) same here) (cases_lt j i)
+      (λ past. let same : i ≡ j = omega arith in subst (λ (k : ℕ). passes (get_or l k d) ≡ true)
+      same here) (cases_lt j i)
 
   pub all_pass : (i : ℕ) → length l ≤ i → PassBefore i → position (λ x. not (passes x)) l ≡ None
   all_pass i all before = by_position (position (λ x. not (passes x)) l) refl
@@ -43,7 +38,8 @@ module _ {X : Type 0} (passes : X → Bool) (d : X) (l : List X) where
 
       by_position : (r : Option ℕ) → position (λ x. not (passes x)) l ≡ r → r ≡ Some i
       by_position None e =
-          let pass = each_passes passes l i (get_or l i d) e there (same_default l i d (get_or l i d) there) in
+          let pass = each_passes passes l i (get_or l i d) e there
+          (get_or_default l i d (get_or l i d) there) in
           let clash : false ≡ true = sym here ∙ pass in cc
       by_position (Some j) e =
           let is = position-Some (λ x. not (passes x)) l j d e in

@@ -10,4 +10,4 @@ mod sections;
 
 pub use places::{PlacedParts, has_layout, place_parts, update_null};
 pub use plans::plan;
-pub use sections::{count_pieces, has_file_bytes};
+pub use sections::{count_pieces, has_file_bytes, home_extent, is_in_file};

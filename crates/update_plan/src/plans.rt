@@ -1,31 +1,35 @@
 //! The plan of an image: its parts that are not empty, by their places.
 
-ghost use Rattle.std.specs.Prelude.{◌≡◌, ◌<◌, ℕ, All, length, map, IfOk, IfErr};
+ghost use Rattle.std.specs.Prelude.{◌≡◌, ◌<◌, ℕ, All, length, map, slice_index_or, slice_set, IfOk, IfErr};
 ghost use Rattle.elf_types.specs.declared.errors.ElfError.TheVariants.{Memory};
 ghost use Rattle.elf_layout.specs.Layout.{positions, standing};
 ghost use Rattle.elf_layout.specs.Meeting.{ranks_by_position};
 ghost use Rattle.elf_object.specs.Object.{is_dirty};
 ghost use Rattle.elf_object.specs.Layout.{placed_parts, places_of};
-ghost use Rattle.update_plan.specs.Plans.{part_of_rank, stand_at};
+ghost use Rattle.update_plan.specs.Plans.{no_part, part_of_rank, stand_at};
 
 use elf_layout::{PartAt, Parts, Places, ranks_by_position};
 use elf_types::{ElfError, List};
 use std::alloc::Global;
 
-/// Parts at other places, one after the other. It refuses `Memory` alone.
-fn stand(alloc: Global, parts: &[PartAt], at: &[u64]) -> Result<Parts, ElfError>
-    requires { length at.now ≡ length parts.now }
-    ensures ok { IfOk result (λ standing. standing ≡ stand_at parts.now at.now) }
-    ensures err { IfErr result (λ e. e ≡ Memory) }
+/// Puts a part that is there at another place.
+fn stand_one(parts: &mut Parts, i: usize, at: u64)
+    requires { i < length parts.old }
+    ensures { parts.new ≡ slice_set parts.old i
+        (record (slice_index_or parts.old i no_part) { at = at }) }
 {
-    let mut standing = Parts::with_capacity(alloc, parts.len() as u64)?;
-    for i in 0..parts.len() {
-        standing.push(PartAt {
-            at: at[i],
-            ..parts[i]
-        })?;
+    let part = parts.as_slice()[i];
+    parts.as_mut_slice()[i] = PartAt { at, ..part };
+}
+
+/// Puts each part at another place.
+fn stand(parts: &mut Parts, at: &[u64])
+    requires { length at.now ≡ length parts.old }
+    ensures { parts.new ≡ stand_at parts.old at.now }
+{
+    for i in 0..at.len() {
+        stand_one(parts, i, at[i]);
     }
-    Ok(standing)
 }
 
 /// The parts with these ranks, one after the other. It refuses `Memory` alone.
@@ -42,14 +46,15 @@ fn pick(alloc: Global, parts: &Parts, ranks: &List<usize>) -> Result<Parts, ElfE
 }
 
 /// The parts that are not empty, at these places and by them. It refuses `Memory` alone.
-pub fn plan(alloc: Global, parts: &Parts, places: &Places) -> Result<Parts, ElfError>
-    requires { length places.now.at ≡ length parts.now }
+pub fn plan(alloc: Global, parts: Parts, places: &Places) -> Result<Parts, ElfError>
+    requires { length places.now.at ≡ length parts }
     ensures ok { IfOk result (λ planned. planned ≡ map
-        (part_of_rank (stand_at parts.now places.now.at))
-        (ranks_by_position (stand_at parts.now places.now.at))) }
+        (part_of_rank (stand_at parts places.now.at))
+        (ranks_by_position (stand_at parts places.now.at))) }
     ensures err { IfErr result (λ e. e ≡ Memory) }
 {
-    let standing = stand(alloc, parts.as_slice(), places.at.as_slice())?;
+    let mut standing = parts;
+    stand(&mut standing, places.at.as_slice());
     let ranks = ranks_by_position(alloc, standing.as_slice())?;
     pick(alloc, &standing, &ranks)
 }

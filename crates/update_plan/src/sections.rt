@@ -29,6 +29,31 @@ pub fn has_file_bytes<S: Source>(elf: &Elf<S>, s: ScnId) -> bool
     s.0 != 0 && section_occupies_file(elf, s)
 }
 
+/// Whether the image holds bytes of a section, as [`has_file_bytes`] tells it; of one that is not
+/// there it holds none. It reads nothing and takes no memory.
+pub fn is_in_file<S: Source>(elf: &Elf<S>, s: u32) -> bool
+    ensures { result ≡ has_file_bytes s (section_at elf.now.o s) }
+{
+    if s < elf.shnum() {
+        return has_file_bytes(elf, ScnId(s));
+    }
+    false
+}
+
+/// The place and the length of the home of a section that is there. It reads nothing and takes no
+/// memory.
+#[tactic(auto, unfolding(elf_object::specs::Calls::home_answer))]
+pub fn home_extent<S: Source>(elf: &Elf<S>, s: u32) -> (u64, u64)
+    requires { s < length elf.now.o.sections }
+    ensures place { result.0 ≡ (section_at elf.now.o s).home.at }
+    ensures len { result.1 ≡ (section_at elf.now.o s).home.len }
+{
+    match elf.home(ScnId(s)) {
+        Ok(home) => home,
+        Err(_) => unreachable!(),
+    }
+}
+
 /// Whether the home piece of a section that is there is its first one and clean.
 #[tactic(auto, unfolding(elf_object::specs::Object::home_is_clean, elf_object::specs::Object::piece_at, elf_object::specs::Answers::piece_refusal, elf_object::specs::Answers::piece_count))]
 pub(crate) fn home_is_clean<S: Source>(elf: &Elf<S>, s: ScnId) -> bool

@@ -29,19 +29,20 @@ use Rattle.writing_laws.proofs.DisturbedLaws.{disturbed_by_writes, meeting_from}
 use Rattle.elf_descriptor.specs.State.{State}
 use Rattle.elf_descriptor.specs.Cuts.{MayWrite, MaySize, IsKeptApart}
 use Rattle.elf_update.specs.declared.updates.PlannedParts.{PlannedParts}
-use Rattle.elf_update.specs.Descriptors.{IsStored, stored_pieces, planned}
-use Rattle.elf_update.specs.Pieces.{pieces_length, joined, block_at, blocks_at, HasLength}
+use Rattle.elf_update.specs.Descriptors.{HasStoredPlaces, stored_pieces, planned}
+use Rattle.elf_update.specs.Pieces.{pieces_length, stacked_text, block_at, blocks_at, HasLength}
 use Rattle.elf_update.proofs.PlanLaws.{planned_blocks, planned_long}
 use Rattle.elf_update.proofs.UpdateLaws.{planned_end}
 use Rattle.elf_update.proofs.StoredLaws.{home_in_file}
-use Rattle.elf_update.proofs.DataLaws.{IsThere, clean_is}
+use Rattle.elf_update.proofs.DataLaws.{HasPiece, clean_is}
 use Rattle.update_moves.specs.Written.{part_changed, planned_rows, written_between, written_line}
 use Rattle.update_moves.proofs.LineLaws.{rows_plan, line_meets}
 use Rattle.update_moves.proofs.FlagLaws.{rows_changed}
-use Rattle.update_writes.specs.Overwrites.{IsAtHand}
-use Rattle.update_writes.specs.Walks.{rows_of, line_of, MayPut, MayPutAll, AreAtHand}
-use Rattle.update_writes.specs.Writes.{IsBegun}
-use Rattle.update_writes.proofs.TornObjects.{torn_stored, torn_pieces, torn_kept, torn_fill, torn_marked, torn_base, torn_count, home_torn, moved_marked, placed_fill}
+use Rattle.update_writes.specs.Overwrites.{NeedsNoRead}
+use Rattle.update_writes.specs.Walks.{rows_of, put_blocks, MayPut, MayPutAll, NeedNoRead}
+use Rattle.update_writes.specs.Writes.{IsMarkedAndLoaded}
+use Rattle.update_moves.proofs.TornLaws.{torn_stored}
+use Rattle.update_writes.proofs.TornObjects.{torn_pieces, torn_kept, torn_fill, torn_marked, torn_base, torn_count, home_torn, moved_marked, placed_fill}
 
 -- ---- Rows
 
@@ -69,7 +70,7 @@ unfolding blocks_at
 blocks_same fill a b [] same = refl
 blocks_same fill a b (p ∷ ps) same =
     ap (λ (l : List (ℕ × List ℕ)).
-    block_of p.at (joined fill l) ∷ map (block_at fill a) ps)
+    block_of p.at (stacked_text fill l) ∷ map (block_at fill a) ps)
     (same p.part)
     ∙ ap (λ (l : List Block). block_at fill b p ∷ l) (blocks_same fill a b ps same)
 
@@ -80,7 +81,7 @@ rows_same fill a b [] flags same = refl
 rows_same fill a b (p ∷ ps) [] same = refl
 rows_same fill a b (p ∷ ps) (c ∷ cs) same =
     ap (λ (l : List (ℕ × List ℕ)).
-    (c, block_of p.at (joined fill l)) ∷ rows_of fill a ps cs)
+    (c, block_of p.at (stacked_text fill l)) ∷ rows_of fill a ps cs)
     (same p.part)
     ∙ ap (λ (l : List (Bool × Block)). (c, block_at fill b p) ∷ l) (rows_same fill a b ps cs same)
 
@@ -179,7 +180,9 @@ moves_disturbed o s ready meet =
 
 pub moves_changed : (o : Object) (s : ℕ) → IsReady o → section_changed o s ≡ true → is_moved o s ≡ true
 unfolding is_moved
-moves_changed o s ready changes = by_tests (is_dirty o) (section_changed o s) (is_disturbed o (section_at o s).home) ready.dirty changes
+moves_changed o s ready changes =
+    by_tests (is_dirty o) (section_changed o s) (is_disturbed o (section_at o s).home) ready.dirty
+    changes
   where
     by_tests : (a b c : Bool) → a ≡ true → b ≡ true → (a && (b || c)) ≡ true
     by_tests true true c x y = refl
@@ -217,7 +220,7 @@ own_torn : (o : Object) → IsTornImage o o.base
 own_torn o = record { len = inl refl; each = λ k below. inl refl }
 
 module _ {D : Type 0} (s : SourceGhosts D) (p : PlannedParts) (changed : List Bool) (e : State D)
-    (b : IsBegun s p changed e) (object : IsObject e.o) (small_end : image_length b.was < 2 ^ 64) where
+    (b : IsMarkedAndLoaded s p changed e) (object : IsObject e.o) (small_end : image_length b.was < 2 ^ 64) where
   was : Object
   was = b.was
 
@@ -227,9 +230,9 @@ module _ {D : Type 0} (s : SourceGhosts D) (p : PlannedParts) (changed : List Bo
   dirty : is_dirty b.was ≡ true
   dirty = b.planned.ready.dirty
 
-  pub begun_stored : IsStored e.o
+  pub begun_stored : HasStoredPlaces e.o
   begun_stored =
-      subst IsStored (sym b.object)
+      subst HasStoredPlaces (sym b.object)
       (torn_stored b.was b.was.base b.planned.ready (own_torn b.was) (subst IsObject b.object object))
 
   pub begun_pieces : (q : Part) → stored_pieces e.o q ≡ stored_pieces (placed b.was) q
@@ -244,7 +247,7 @@ module _ {D : Type 0} (s : SourceGhosts D) (p : PlannedParts) (changed : List Bo
       (subst (λ (l : List PartAt). All (HasLength (stored_pieces (placed b.was))) l)
       (sym b.planned.parts) (planned_long b.was b.planned.ready))))
 
-  pub begun_end : p.placed.places.end ≡ image_length b.was
+  pub begun_end : p.places.end ≡ image_length b.was
   begun_end = planned_end b.was p b.planned
 
   pub begun_kept : (kept : ℕ) → kept ≡ kept_base e.o → kept ≡ kept_base b.was
@@ -263,7 +266,7 @@ module _ {D : Type 0} (s : SourceGhosts D) (p : PlannedParts) (changed : List Bo
         (begun_fill fill fill_is ∙ sym (placed_fill b.was b.planned.ready.dirty))
         ∙ planned_blocks b.was b.planned.ready
 
-    pub begun_line : AreInLine p.placed.places.end 0 (blocks_at fill (stored_pieces e.o) p.parts)
+    pub begun_line : AreInLine p.places.end 0 (blocks_at fill (stored_pieces e.o) p.parts)
     begun_line =
         subst (λ (n : ℕ). AreInLine n 0 (blocks_at fill (stored_pieces e.o) p.parts)) (sym begun_end)
         (subst (λ (l : List Block). AreInLine (image_length b.was) 0 l) (sym blocks_plan)
@@ -282,15 +285,15 @@ module _ {D : Type 0} (s : SourceGhosts D) (p : PlannedParts) (changed : List Bo
         (blocks_plan ∙ sym (rows_plan b.was b.planned.ready))
 
     -- what is written is what the object as it was has written
-    pub line_is : line_of kept fill p.placed.places.end (stored_pieces e.o) p.parts changed
+    pub line_is : put_blocks kept fill p.places.end (stored_pieces e.o) p.parts changed
         ≡ written_line b.was
     unfolding written_line
     line_is =
-        ap (λ (l : List (Bool × Block)). written_between kept fill p.placed.places.end 0 l) rows_are
-        ∙ ap (λ (n : ℕ). written_between n fill p.placed.places.end 0 (planned_rows b.was))
+        ap (λ (l : List (Bool × Block)). written_between kept fill p.places.end 0 l) rows_are
+        ∙ ap (λ (n : ℕ). written_between n fill p.places.end 0 (planned_rows b.was))
         (begun_kept kept kept_is)
         ∙ ap (λ (n : ℕ).
-        written_between (kept_base b.was) n p.placed.places.end 0 (planned_rows b.was))
+        written_between (kept_base b.was) n p.places.end 0 (planned_rows b.was))
         (begun_fill fill fill_is)
         ∙ ap (λ (n : ℕ). written_between (kept_base b.was) b.was.fill n 0 (planned_rows b.was))
         begun_end
@@ -360,7 +363,6 @@ module _ {D : Type 0} (s : SourceGhosts D) (p : PlannedParts) (changed : List Bo
   begun_may fits = record {
     ready = b.ready;
     base = b.base;
-    told = b.told;
     blocks = both_each (Lies (kept_base b.was) (image_length b.was)) (MeetsToo (written_line b.was))
         (MayPut s e) (written_line b.was) block_may
         (line_lies (kept_base b.was) b.was.fill (image_length b.was) 0 (planned_rows b.was)
@@ -389,13 +391,13 @@ module _ {D : Type 0} (s : SourceGhosts D) (p : PlannedParts) (changed : List Bo
   changes_moves : (i : ℕ) → section_changed b.was i ≡ true → is_moved b.was i ≡ true
   changes_moves i changes = moves_changed b.was i b.planned.ready changes
 
-  part_hand : (q : Part) → part_changed b.was q ≡ true → IsAtHand e q
+  part_hand : (q : Part) → part_changed b.was q ≡ true → NeedsNoRead e q
   unfolding part_changed
   part_hand part.Header changes = tt
   part_hand part.Segments changes = tt
   part_hand part.Table changes = tt
   part_hand (part.Section i) changes = λ n filled inside there own.
-      let is : IsThere e.o i n = record { filled = filled; section = inside; piece = there } in
+      let is : HasPiece e.o i n = record { filled = filled; section = inside; piece = there } in
       let clean = clean_is e.o i n object is own in
       let out = home_in_file e.o i begun_stored.ready inside filled clean.clean in
       let count = count_is in
@@ -404,13 +406,13 @@ module _ {D : Type 0} (s : SourceGhosts D) (p : PlannedParts) (changed : List Bo
   part_hand part.Object changes = cc
   part_hand (part.Piece i n) changes = cc
 
-  hand_each : (ps : List PartAt) → AreAtHand e ps (map (λ q. part_changed b.was q.part) ps)
+  hand_each : (ps : List PartAt) → NeedNoRead e ps (map (λ q. part_changed b.was q.part) ps)
   hand_each [] = tt
   hand_each (q ∷ ps) = (part_hand q.part, hand_each ps)
 
-  pub begun_hand : AreAtHand e p.parts changed
+  pub begun_hand : NeedNoRead e p.parts changed
   begun_hand =
-      subst (λ (l : List Bool). AreAtHand e p.parts l) (sym b.changes) (hand_each p.parts)
+      subst (λ (l : List Bool). NeedNoRead e p.parts l) (sym b.changes) (hand_each p.parts)
 
   -- ---- The end of the device
 

@@ -16,7 +16,7 @@ use Rattle.writing_laws.proofs.DisturbedLaws.{meeting_from, meeting_to}
 use Rattle.elf_descriptor.specs.State.{State}
 use Rattle.elf_descriptor.specs.Cuts.{MayWrite, MaySize, CutsBase}
 use Rattle.elf_descriptor.specs.Fronts.{HoldsBase}
-use Rattle.update_writes.specs.Overwrites.{MayOverwrite, Overwrites}
+use Rattle.update_writes.specs.Overwrites.{MayOverwrite, ChangesBase, Overwrites}
 
 -- ---- Whether bytes are told
 
@@ -107,7 +107,6 @@ module _ {D : Type 0} (s : SourceGhosts D) (d : DeviceGhosts D) where
     within = let within = may.within in omega (arith, within, to);
     small = let small = may.small in omega (arith, small, to);
     base = may.base;
-    told = may.told;
     may = record {
       marked = may.may.marked;
       homes = λ i lies meet.
@@ -143,25 +142,36 @@ module _ {D : Type 0} (s : SourceGhosts D) (d : DeviceGhosts D) where
       let size = over.patches.len in
       let within = may.within in
       record {
-        ready = subst IsTrue (sym (ap (λ (q : State D). q.ready) over.state)) may.ready;
+        ready = subst IsTrue (sym (ap (λ (q : State D). q.ready) over.change.state)) may.ready;
         within = omega (arith, size, within);
         small = may.small;
-        base = over.base;
-        told = ap (λ (q : State D). q.told) over.state ∙ may.told
-            ∙ sym (told_same r e.source f.source x text (length text) over.patches);
-        may = subst (λ (q : State D). MayWrite q at n) (sym over.state)
-            (may_rebased e f.o.base f.source at n over.long may.may);
+        base = over.change.base;
+        may = subst (λ (q : State D). MayWrite q at n) (sym over.change.state)
+            (may_rebased e f.o.base f.source at n over.change.long may.may);
       }
+
+  -- ---- What they leave of the object
+
+  pub change_none : (e : State D) → HoldsBase s e → ChangesBase s e e
+  change_none e base = record { state = refl; long = refl; base = base; untold = λ none. refl }
+
+  pub change_both : (e f g : State D) → (s.holds g.source ≡ None → s.holds f.source ≡ None)
+      → ChangesBase s e f → ChangesBase s f g → ChangesBase s e g
+  change_both e f g before one two = record {
+    state = two.state
+        ∙ ap (λ (x : State D). record x { o = record x.o { base = g.o.base }; source = g.source })
+        one.state;
+    long = two.long ∙ one.long;
+    base = two.base;
+    untold = λ none. two.untold none ∙ one.untold (before none);
+  }
 
   -- ---- Steps
 
   -- nothing is put
   pub over_none : (e : State D) (at : ℕ) → HoldsBase s e → Overwrites s d (Ok (tt {0})) e e at []
   over_none e at base = record {
-    state = refl;
-    long = refl;
-    base = base;
-    untold = λ none. refl;
+    change = change_none e base;
     patches = record {
       uses = uses_device_none s d (Ok (tt {0})) e.source tt tt;
       faults = refl;
@@ -182,18 +192,20 @@ module _ {D : Type 0} (s : SourceGhosts D) (d : DeviceGhosts D) where
       let most = may.base.long in
       let cut = cuts.long in
       let whole : length f.o.base ≡ length e.o.base = omega (arith, size, most, cut) in
-      let told = may.told in
+      let told = may.base.told in
       record {
-        state = cuts.state;
-        long = whole;
-        base = record {
-          told = ap (λ (q : State D). q.told) cuts.state ∙ may.told
-              ∙ sym (told_same r e.source f.source at buf (length buf) patches);
-          long = omega (arith, size, most, cut);
-          is = cuts.is;
+        change = record {
+          state = cuts.state;
+          long = whole;
+          base = record {
+            told = ap (λ (q : State D). q.told) cuts.state ∙ may.base.told
+                ∙ sym (told_same r e.source f.source at buf (length buf) patches);
+            long = omega (arith, size, most, cut);
+            is = cuts.is;
+          };
+          untold = λ none. cuts.untold none
+              ∙ take_all (s.size f.source) e.o.base (omega (arith, size, most));
         };
-        untold = λ none. cuts.untold none
-            ∙ take_all (s.size f.source) e.o.base (omega (arith, size, most));
         patches = patches_retold r e.source f.source at buf text long
             (λ is. same (subst IsTrue (sym told) is)) patches;
         err = err;
@@ -211,14 +223,9 @@ module _ {D : Type 0} (s : SourceGhosts D) (d : DeviceGhosts D) where
       → Overwrites s d (Ok v) e f at first → Overwrites s d q f g (at + length first) second
       → Overwrites s d q e g at (first ++ second)
   over_both v q e f g at first second sized within one two = record {
-    state = two.state
-        ∙ ap (λ (x : State D). record x { o = record x.o { base = g.o.base }; source = g.source })
-        one.state;
-    long = two.long ∙ one.long;
-    base = two.base;
-    untold = λ none. two.untold none
-        ∙ one.untold (none_before q f.source g.source (at + length first) second (length second)
-        two.patches none);
+    change = change_both e f g
+        (none_before q f.source g.source (at + length first) second (length second) two.patches)
+        one.change two.change;
     patches = subst (λ (n : ℕ). Patches s d q e.source g.source at (first ++ second) n)
         (sym (length-append first second))
         (patches_both s d v q e.source f.source g.source at first second (length first)
@@ -235,10 +242,7 @@ module _ {D : Type 0} (s : SourceGhosts D) (d : DeviceGhosts D) where
   over_stop x e f at first second one =
       let both = length-append first second in
       record {
-        state = one.state;
-        long = one.long;
-        base = one.base;
-        untold = one.untold;
+        change = one.change;
         patches = patches_stop s d x e.source f.source at first second (length first)
             (length (first ++ second)) (omega (arith, both)) one.patches;
         err = one.err;
@@ -253,10 +257,7 @@ module _ {D : Type 0} (s : SourceGhosts D) (d : DeviceGhosts D) where
   pub over_value : {T U : Type 0} (x : T) (y : U) (e f : State D) (at : ℕ) (text : List ℕ)
       → Overwrites s d (Ok x) e f at text → Overwrites s d (Ok y) e f at text
   over_value x y e f at text one = record {
-    state = one.state;
-    long = one.long;
-    base = one.base;
-    untold = one.untold;
+    change = one.change;
     patches = record {
       uses = record {
         rest_after = one.patches.uses.rest_after;

@@ -19,17 +19,13 @@ use Rattle.elf_descriptor.specs.State.{State}
 use Rattle.elf_descriptor.specs.Fronts.{HoldsBase}
 use Rattle.update_writes.specs.Overwrites.{Overwrites}
 use Rattle.update_writes.specs.Walks.{PutsAll}
-use Rattle.update_writes.proofs.OverLaws.{told_same}
+use Rattle.update_moves.proofs.LineLaws.{each_right}
+use Rattle.update_writes.proofs.OverLaws.{told_same, change_none, change_both}
 
 each_left : (P : Block → Type 0) (bs cs : List Block) → AllByRecursion P (bs ++ cs)
     → AllByRecursion P bs
 each_left P [] cs each = tt
 each_left P (b ∷ bs) cs each = (each.0, each_left P bs cs each.1)
-
-each_right : (P : Block → Type 0) (bs cs : List Block) → AllByRecursion P (bs ++ cs)
-    → AllByRecursion P cs
-each_right P [] cs each = each
-each_right P (b ∷ bs) cs each = each_right P bs cs each.1
 
 -- a device whose bytes are told, after a text was put or refused
 module _ (at : ℕ) (text held : List ℕ) (old new : Option (List ℕ)) (is : old ≡ Some held) where
@@ -48,10 +44,7 @@ module _ (at : ℕ) (text held : List ℕ) (old new : Option (List ℕ)) (is : o
 module _ {D : Type 0} (s : SourceGhosts D) (d : DeviceGhosts D) where
   pub all_none : (e : State D) → HoldsBase s e → PutsAll s d (Ok (tt {0})) e e []
   all_none e base = record {
-    state = refl;
-    long = refl;
-    base = base;
-    untold = λ none. refl;
+    change = change_none s d e base;
     size = refl;
     told = refl;
     uses = uses_device_none s d (Ok (tt {0})) e.source tt tt;
@@ -92,10 +85,7 @@ module _ {D : Type 0} (s : SourceGhosts D) (d : DeviceGhosts D) where
         let one = sum_by-cons (λ (x : Block). length x.bytes) b [] in
         let count : length b.bytes ≡ sum_by (λ x. length x.bytes) (b ∷ []) = omega (arith, one) in
         record {
-          state = over.state;
-          long = over.long;
-          base = over.base;
-          untold = over.untold;
+          change = over.change;
           size = over.patches.len;
           told = told_same s d r e.source f.source b.at b.bytes (length b.bytes) over.patches;
           uses = subst (λ (n : ℕ). UsesDevice s d r e.source f.source 0 n) count
@@ -117,13 +107,7 @@ module _ {D : Type 0} (s : SourceGhosts D) (d : DeviceGhosts D) where
       (first second : List Block) → PutsAll s d (Ok v) e f first → PutsAll s d q f g second
       → PutsAll s d q e g (first ++ second)
   all_then v q e f g first second one two = record {
-    state = two.state
-        ∙ ap (λ (x : State D). record x { o = record x.o { base = g.o.base }; source = g.source })
-        one.state;
-    long = two.long ∙ one.long;
-    base = two.base;
-    untold = λ none. two.untold none
-        ∙ one.untold (none_before f.source g.source two.told none);
+    change = change_both s d e f g (none_before f.source g.source two.told) one.change two.change;
     size = two.size ∙ one.size;
     told = two.told ∙ one.told;
     uses = subst (λ (n : ℕ). UsesDevice s d q e.source g.source 0 n)
@@ -157,10 +141,7 @@ module _ {D : Type 0} (s : SourceGhosts D) (d : DeviceGhosts D) where
   all_stop x e f first second one =
       let more = sum_by-append (λ (b : Block). length b.bytes) first second in
       record {
-        state = one.state;
-        long = one.long;
-        base = one.base;
-        untold = one.untold;
+        change = one.change;
         size = one.size;
         told = one.told;
         uses = uses_device_on s d x e.source f.source 0 (sum_by (λ b. length b.bytes) first) 0

@@ -1,8 +1,9 @@
 -- An object over another base of the same length has the same parts, and its places stay stored.
-use Rattle.std.proofs.Common.{◌≡◌, ℕ, true, List, [], ◌∷◌, ◌++◌, Option, None, length, refl, sym, ap, ◌∙◌, subst}
+use Rattle.std.proofs.Common.{◌≡◌, ℕ, ◌+◌, ◌<◌, ◌≤◌, true, false, List, [], ◌∷◌, ◌++◌, Option, None, length, get_or, refl, sym, ap, ◌∙◌, subst}
 use Rattle.std.specs.Prelude.{map, if◌then◌else◌}
 use Rattle.std.specs.List.{enumerate_from}
 use Rattle.elf_types.specs.declared.errors.ElfError.{ElfError}
+use Rattle.elf_types.specs.declared.records.DataId.{DataId}
 use Rattle.elf_types.specs.declared.records.Part.{Part}
 use Rattle.elf_types.specs.declared.records.Part.TheVariants as part
 use Rattle.elf_types.specs.Answers.{first_refusal}
@@ -18,8 +19,11 @@ use Rattle.elf_object.specs.Image.{front_blocks}
 use Rattle.elf_object.specs.Refusal.{too_many, unfit_segment, unfit_item, missing_home, content_refusal, placing_refusal, refusal}
 use Rattle.object_laws.proofs.ImageLaws.{placed-dirty}
 use Rattle.elf_descriptor.specs.State.{State}
-use Rattle.elf_update.specs.Descriptors.{IsStored, stored_pieces}
-use Rattle.update_writes.specs.Overwrites.{IsAtHand}
+use Rattle.elf_update.specs.Origins.{absent_piece}
+use Rattle.elf_update.specs.Descriptors.{HasStoredPlaces, stored_pieces, HasToRead}
+use Rattle.elf_update.proofs.DataLaws.{some_there}
+use Rattle.elf_update.proofs.CopyLaws.{read_there}
+use Rattle.update_writes.specs.Overwrites.{NeedsNoRead}
 
 same_map : {X Y : Type 0} (f g : X → Y) (l : List X) → ((x : X) → f x ≡ g x) → map f l ≡ map g l
 same_map f g [] h = refl
@@ -95,7 +99,7 @@ refusal-rebased o base long =
 -- ---- An object whose places are stored
 
 stored_rebased : (o : Object) (base : List ℕ) → length base ≡ length o.base
-    → IsObject (record o { base = base }) → IsStored o → IsStored (record o { base = base })
+    → IsObject (record o { base = base }) → HasStoredPlaces o → HasStoredPlaces (record o { base = base })
 stored_rebased o base long object stored =
     let dirty : is_dirty (record o { base = base }) ≡ true =
     dirty-rebased o base ∙ stored.ready.dirty in
@@ -122,8 +126,8 @@ pieces_rebased o base (part.Section s) = refl
 pieces_rebased o base part.Object = refl
 pieces_rebased o base (part.Piece s p) = refl
 
-at_hand_rebased : {S : Type 0} (e : State S) (base : List ℕ) (x : S) (p : Part) → IsAtHand e p
-    → IsAtHand (record e { o = record e.o { base = base }; source = x }) p
+at_hand_rebased : {S : Type 0} (e : State S) (base : List ℕ) (x : S) (p : Part) → NeedsNoRead e p
+    → NeedsNoRead (record e { o = record e.o { base = base }; source = x }) p
 unfolding piece_at piece_count section_at
 at_hand_rebased e base x part.Header is = tt
 at_hand_rebased e base x part.Segments is = tt
@@ -136,16 +140,27 @@ at_hand_rebased e base x (part.Piece s p) is = tt
 
 module _ {S : Type 0} (e f : State S)
     (state : f ≡ record e { o = record e.o { base = f.o.base }; source = f.source }) where
-  pub stored_after : length f.o.base ≡ length e.o.base → IsObject f.o → IsStored e.o → IsStored f.o
+  pub stored_after : length f.o.base ≡ length e.o.base → IsObject f.o → HasStoredPlaces e.o → HasStoredPlaces f.o
   stored_after long object stored =
       let same : f.o ≡ record e.o { base = f.o.base } = ap (λ (q : State S). q.o) state in
-      subst IsStored (sym same)
+      subst HasStoredPlaces (sym same)
       (stored_rebased e.o f.o.base long (subst IsObject same object) stored)
 
   pub pieces_after : (p : Part) → stored_pieces f.o p ≡ stored_pieces e.o p
   pieces_after p =
       ap (λ (q : State S). stored_pieces q.o p) state ∙ pieces_rebased e.o f.o.base p
 
-  pub at_hand_after : (p : Part) → IsAtHand e p → IsAtHand f p
+  pub at_hand_after : (p : Part) → NeedsNoRead e p → NeedsNoRead f p
   at_hand_after p is =
-      subst (λ (q : State S). IsAtHand q p) (sym state) (at_hand_rebased e f.o.base f.source p is)
+      subst (λ (q : State S). NeedsNoRead q p) (sym state) (at_hand_rebased e f.o.base f.source p is)
+
+-- what needs no read has not to be read
+pub not_to_read : {S : Type 0} (e : State S) (of : Part) (p from n : ℕ) (d : DataId)
+    → NeedsNoRead e of → 0 < n → from + n ≤ length (get_or (stored_pieces e.o of) p absent_piece).1
+    → HasToRead e of p d → ⊥
+not_to_read e of p from n d held some there is =
+    let hand = subst (λ (x : Part). NeedsNoRead e x) is.section held in
+    let within = read_there e of p d is from n n refl there in
+    let place = some_there e.o d.section d.piece from n some within in
+    let loaded = hand d.piece place.filled place.section place.piece is.unread.clean in
+    let clash : false ≡ true = sym is.unread.unread ∙ loaded in cc

@@ -27,7 +27,7 @@ use Rattle.update_moves.specs.Written.{written_line}
 use Rattle.update_moves.proofs.LineLaws.{line_holds, line_count}
 use Rattle.writing_laws.proofs.UnderWayLaws.{under_way_torn}
 use Rattle.update_writes.specs.Walks.{PutsAll}
-use Rattle.update_writes.specs.Writes.{IsBegun, LeavesTorn, WritesChanges}
+use Rattle.update_writes.specs.Writes.{IsMarkedAndLoaded, LeavesTorn, WritesChanges}
 use Rattle.update_writes.proofs.TornObjects.{torn_rebased, torn_base}
 use Rattle.update_writes.proofs.EndLaws.{base_lands, torn_still, torn_whole, torn_resized, under_way_begins, resized_begins, image_written, image_cut}
 
@@ -67,7 +67,7 @@ some_is o is = is
 
 module _ {D : Type 0} (s : SourceGhosts D) (d : DeviceGhosts D)
     (sized : (x : D) → IfSome (s.holds x) (λ bytes. length bytes ≡ s.size x))
-    (p : PlannedParts) (changed : List Bool) (e : State D) (b : IsBegun s p changed e) where
+    (p : PlannedParts) (changed : List Bool) (e : State D) (b : IsMarkedAndLoaded s p changed e) where
   base_is : e.o.base ≡ b.was.base
   base_is =
       ap (λ (o : Object). o.base) b.object ∙ torn_base b.was b.was.base b.planned.ready.dirty
@@ -183,16 +183,15 @@ module _ {D : Type 0} (s : SourceGhosts D) (d : DeviceGhosts D)
       pub told_same : is_some (s.holds f.source) ≡ is_some (s.holds e.source)
       told_same = ap is_some now.bytes ∙ mapped_some (resized end) (s.holds e.source)
 
-      abbrev pub longer_begun : IsBegun s p changed f
+      abbrev pub longer_begun : IsMarkedAndLoaded s p changed f
       longer_begun = record {
         was = b.was;
         planned = b.planned;
         changes = b.changes;
         based = λ tells. b.based (sym told_same ∙ tells);
-        told = ap (λ (q : State D). q.told) cuts.state ∙ b.told ∙ sym told_same;
         object = same_object ∙ b.object;
         base = record {
-          told = ap (λ (q : State D). q.told) cuts.state ∙ b.told ∙ sym told_same;
+          told = ap (λ (q : State D). q.told) cuts.state ∙ b.base.told ∙ sym told_same;
           long =
               let cut = cuts.long in
               omega (arith, cut);
@@ -267,15 +266,15 @@ module _ {D : Type 0} (s : SourceGhosts D) (d : DeviceGhosts D)
             let size = now.len in
             let walk = puts.size in
             let first : length f.o.base ≡ length e.o.base = ap (λ (l : List ℕ). length l) same_base in
-            let long = puts.long in
+            let long = puts.change.long in
             let ends = by_held (s.holds e.source) refl in
             record {
-              state = puts.state
+              state = puts.change.state
                   ∙ ap (λ (x : State D).
                   record x { o = record x.o { base = g.o.base }; source = g.source }) cuts.state;
               long = omega (arith, size, walk, first, long, grows);
-              is = puts.base.is;
-              untold = λ none. puts.untold none ∙ same_base
+              is = puts.change.base.is;
+              untold = λ none. puts.change.untold none ∙ same_base
                   ∙ sym (take_all (s.size g.source) e.o.base (omega (arith, size, walk, grows)));
               size = inr size_is;
               uses = uses_device_as s d r e.source g.source (0 + 0)
@@ -325,12 +324,12 @@ module _ {D : Type 0} (s : SourceGhosts D) (d : DeviceGhosts D)
   not_written x g fits puts =
       let most = b.base.long in
       let size = puts.size in
-      let long = puts.long in
+      let long = puts.change.long in
       record {
-        state = puts.state;
+        state = puts.change.state;
         long = omega (arith, size, long, most);
-        is = puts.base.is;
-        untold = λ none. puts.untold none
+        is = puts.change.base.is;
+        untold = λ none. puts.change.untold none
             ∙ sym (take_all (s.size g.source) e.o.base (omega (arith, size, most)));
         size = inl size;
         uses = walk_sum (Err x) g fits puts;
@@ -452,16 +451,16 @@ module _ {D : Type 0} (s : SourceGhosts D) (d : DeviceGhosts D)
     pub walked_cut : UsesDevice s d r g.source h.source 0 0 → IfErr r (λ x. x ≡ Write)
         → Steps s d b.was r e h
     walked_cut uses err =
-        let long = puts.long in
+        let long = puts.change.long in
         let cut = cuts.long in
         record {
           state = cuts.state
               ∙ ap (λ (x : State D).
-              record x { o = record x.o { base = h.o.base }; source = h.source }) puts.state;
+              record x { o = record x.o { base = h.o.base }; source = h.source }) puts.change.state;
           long = omega (arith, long, cut);
           is = cuts.is;
           untold = λ none. cuts.untold none
-              ∙ ap (take (s.size h.source)) (puts.untold (walked_none none));
+              ∙ ap (take (s.size h.source)) (puts.change.untold (walked_none none));
           size = cut_size r now one;
           uses = uses_device_as s d r e.source h.source (0 + 0) (changed_bytes b.was + 0) 0
               (changed_bytes b.was) (omega arith) (omega arith)

@@ -3,7 +3,7 @@ use Rattle.std.proofs.Common.{◌≡◌, ℕ, ◌+◌, ◌<◌, Bool, true, fals
 use Rattle.std.specs.Prelude.{if◌then◌else◌, ◌==◌}
 use Rattle.std.specs.List.{enumerate_from, list_any}
 use Rattle.std.proofs.lemmas.Bool.{cases_lt}
-use Rattle.std.proofs.lemmas.List.{length-map, get_or-map, ext_get_or}
+use Rattle.std.proofs.lemmas.List.{length-map, get_or-map}
 use Rattle.std.proofs.lemmas.List.FromFn.{length-enumerate_from, get_or-enumerate_from}
 use Rattle.elf_types.specs.declared.records.Class.{Class}
 use Rattle.elf_types.specs.declared.records.Order.{Order}
@@ -15,19 +15,17 @@ use Rattle.elf_layout.specs.declared.parts.Places.{Places}
 use Rattle.elf_object.specs.Object.{Object, Section, Piece, WrittenFront, absent_section, section_at, has_file_bytes, is_dirty}
 use Rattle.elf_object.specs.Joined.{aligned_pieces, piece_bytes}
 use Rattle.elf_xlate.specs.Translation.{encoded}
-use Rattle.elf_object.specs.Valid.{IsObject}
-use Rattle.elf_object.specs.Layout.{places_of, placed_header, placed_shdr, placed_section, placed_by, placed}
+use Rattle.elf_object.specs.Layout.{places_of, placed_section, placed_by, placed}
 use Rattle.elf_object.specs.Image.{front_blocks, kept_base}
 use Rattle.elf_object.specs.Changed.{is_moved, marked_piece, torn_section, torn_over, torn}
 use Rattle.elf_object.proofs.ChangedLaws.{torn-dirty}
-use Rattle.object_laws.specs.Laws.{IsTornImage}
 use Rattle.object_laws.proofs.ImageLaws.{placed-dirty, section_at-placed}
 use Rattle.object_laws.proofs.StandLaws.{section_count-placed, section_at-past}
-use Rattle.object_laws.proofs.AgainLaws.{SameFront, header_again, section_again_at, front_again, placed_section_header}
-use Rattle.object_laws.proofs.TornLaws.{torn-is, torn_front, torn_dirty, torn_law}
+use Rattle.object_laws.proofs.AgainLaws.{front_again}
+use Rattle.object_laws.proofs.TornLaws.{torn-is, torn_front}
 use Rattle.writing_laws.specs.Based.{some_unmarked}
-use Rattle.writing_laws.specs.Ready.{IsReady}
-use Rattle.elf_update.specs.Descriptors.{IsStored, stored_pieces}
+use Rattle.elf_update.specs.Descriptors.{stored_pieces}
+use Rattle.update_moves.proofs.TornLaws.{over_placed}
 
 -- ---- Its base
 
@@ -158,94 +156,17 @@ home_by places o s = ⊎_elim
     ∙ sym (section_at-past o s h)))
     (cases_lt s (length o.sections))
 
-home_placed : (o : Object) (s : ℕ)
-    → (section_at (placed_by (places_of o) o) s).home ≡ (section_at o s).home
-home_placed o s = home_by (places_of o) o s
+pub home_placed : (o : Object) (s : ℕ) → is_dirty o ≡ true
+    → (section_at (placed o) s).home ≡ (section_at o s).home
+home_placed o s dirty =
+    ap (λ (q : Object). (section_at q s).home) (placed-dirty o dirty) ∙ home_by (places_of o) o s
 
 pub home_torn : (o : Object) (bytes : List ℕ) (s : ℕ) → is_dirty o ≡ true
     → (section_at (torn o bytes) s).home ≡ (section_at o s).home
 home_torn o bytes s dirty =
     ap (λ (q : Object). (section_at q s).home) (torn-dirty o bytes dirty)
     ∙ facts_over (is_moved o) bytes (placed o) (λ c. c.home) s home_marked
-    ∙ ap (λ (q : Object). (section_at q s).home) (placed-dirty o dirty)
-    ∙ home_placed o s
-
--- ---- Its places are stored
-
-rows_stay : {X : Type 0} (g : ℕ → X → X) (l : List X) (d : X)
-    → ((i : ℕ) → i < length l → g i (get_or l i d) ≡ get_or l i d)
-    → map (λ r. g r.0 r.1) (enumerate_from 0 l) ≡ l
-rows_stay {X = X} g l d each =
-    let count = length-enumerate_from 0 l in
-    let len : length (map (λ r. g r.0 r.1) (enumerate_from 0 l)) ≡ length l =
-    length-map (enumerate_from 0 l) (λ r. g r.0 r.1) ∙ count in
-    ext_get_or d (map (λ r. g r.0 r.1) (enumerate_from 0 l)) l len (λ i h.
-    let inside : i < length l = omega (arith, h, len) in
-    let row : get_or (enumerate_from 0 l) i (0, d) ≡ (0 + i, get_or l i d) =
-    get_or-enumerate_from 0 l i (0, d) inside in
-    let number : 0 + i ≡ i = omega arith in
-    get_or-map (λ (r : ℕ × X). g r.0 r.1) (enumerate_from 0 l) i (0, d) d
-    (omega (arith, count, inside))
-    ∙ ap (λ (r : ℕ × X). g r.0 r.1) row
-    ∙ ap (λ (k : ℕ). g k (get_or l i d)) number
-    ∙ each i inside)
-
-header_stays : (t o : Object) → SameFront t o → (i : ℕ) → i < length o.sections
-    → placed_shdr (places_of t) t i (section_at t i).header ≡ (section_at t i).header
-header_stays t o same i h =
-    let is : (section_at t i).header ≡ placed_shdr (places_of o) o i (section_at o i).header =
-    same.headers i ∙ ap (λ (c : Section). c.header) (section_at-placed (places_of o) o i h)
-    ∙ placed_section_header (places_of o) o i (section_at o i) in
-    ap (placed_shdr (places_of t) t i) is ∙ section_again_at t o i same h ∙ sym is
-
--- a section whose header is placed again
-placed_again : (places : Places) (t : Object) (s : ℕ) (c : Section)
-    → placed_shdr places t s c.header ≡ c.header → placed_section places t s c ≡ c
-unfolding placed_section
-placed_again places t s c same = ap (λ (h : Shdr). record c { header = h }) same
-
-stored_by : (t o : Object) → SameFront t o → t.header ≡ (placed_by (places_of o) o).header
-    → placed_by (places_of t) t ≡ t
-unfolding placed_by section_at
-stored_by t o same header =
-    let first : placed_header (places_of t) t ≡ t.header =
-    header_again t o same ∙ sym header in
-    let rows : map (λ r. placed_section (places_of t) t r.0 r.1) (enumerate_from 0 t.sections)
-    ≡ t.sections =
-    rows_stay (placed_section (places_of t) t) t.sections absent_section (λ i h.
-    placed_again (places_of t) t i (get_or t.sections i absent_section)
-    (let count = same.count in header_stays t o same i (omega (arith, h, count)))) in
-    ap (λ (h : Ehdr). record t {
-      header = h;
-      sections = map (λ r. placed_section (places_of t) t r.0 r.1) (enumerate_from 0 t.sections);
-    }) first
-    ∙ ap (λ (l : List Section). record t { sections = l }) rows
-
-over_stored : (o : Object) (bytes : List ℕ)
-    → placed_by (places_of (torn_over (is_moved o) bytes (placed_by (places_of o) o)))
-    (torn_over (is_moved o) bytes (placed_by (places_of o) o))
-    ≡ torn_over (is_moved o) bytes (placed_by (places_of o) o)
-over_stored o bytes =
-    stored_by (torn_over (is_moved o) bytes (placed_by (places_of o) o)) o
-    (torn_front o (is_moved o) bytes) (torn_front o (is_moved o) bytes).header
-
-pub torn_stored : (o : Object) (bytes : List ℕ) → IsReady o → IsTornImage o bytes
-    → IsObject (torn o bytes) → IsStored (torn o bytes)
-torn_stored o bytes ready is object =
-    let t : Object = torn_over (is_moved o) bytes (placed_by (places_of o) o) in
-    let same = torn-is o bytes ready.dirty in
-    let marked = torn_dirty (is_moved o) bytes (placed_by (places_of o) o) in
-    let law = torn_law o bytes ready.object ready.dirty ready.passed is in
-    record {
-      ready = record {
-        object = object;
-        dirty = ap is_dirty same ∙ marked;
-        passed = law.0;
-      };
-      placed = ap placed same
-          ∙ placed-dirty (torn_over (is_moved o) bytes (placed_by (places_of o) o)) marked
-          ∙ over_stored o bytes ∙ sym same;
-    }
+    ∙ home_placed o s dirty
 
 -- ---- The bytes of its parts
 
@@ -253,7 +174,7 @@ front_over : (o : Object) (bytes : List ℕ)
     → front_blocks (torn_over (is_moved o) bytes (placed_by (places_of o) o))
     ≡ front_blocks (placed_by (places_of o) o)
 front_over o bytes =
-    sym (ap front_blocks (over_stored o bytes))
+    sym (ap front_blocks (over_placed o bytes))
     ∙ front_again (torn_over (is_moved o) bytes (placed_by (places_of o) o)) o
     (torn_front o (is_moved o) bytes)
 

@@ -5,7 +5,6 @@ use Rattle.std.specs.List.{AllByRecursion}
 use Rattle.std.proofs.lemmas.List.{drop_more, drop_all, length-replicate}
 use Rattle.elf_types.specs.declared.errors.ElfError.{ElfError}
 use Rattle.elf_types.specs.declared.records.Part.{Part}
-use Rattle.elf_types.specs.declared.records.Part.TheVariants as part
 use Rattle.elf_layout.specs.declared.parts.PartAt.{PartAt}
 use Rattle.elf_outside.specs.declared.sources.Source.{Ghosts as SourceGhosts}
 use Rattle.elf_outside.specs.declared.devices.Device.{Ghosts as DeviceGhosts}
@@ -16,19 +15,16 @@ use Rattle.writing_laws.specs.Plan.{fill_block}
 use Rattle.writing_laws.proofs.LineLaws.{line_within, end_is}
 use Rattle.elf_descriptor.specs.State.{State}
 use Rattle.elf_descriptor.specs.Cuts.{MayWrite}
-use Rattle.elf_update.specs.Pieces.{pieces_length, joined, block_at, blocks_at, HasLength}
+use Rattle.update_plan.specs.Plans.{no_part}
+use Rattle.elf_update.specs.Pieces.{pieces_length, stacked_text, block_at, blocks_at, HasLength}
 use Rattle.elf_update.proofs.PieceLaws.{length-joined_pieces}
 use Rattle.update_moves.specs.Written.{written_between}
-use Rattle.update_writes.specs.Overwrites.{IsAtHand, MayOverwrite}
-use Rattle.update_writes.specs.Walks.{rows_of, line_of, MayPut, MayPutAll, AreAtHand, PutsAll}
+use Rattle.update_writes.specs.Overwrites.{NeedsNoRead, MayOverwrite}
+use Rattle.update_writes.specs.Walks.{rows_of, put_blocks, MayPut, MayPutAll, NeedNoRead, PutsAll}
 use Rattle.update_writes.proofs.OverLaws.{may_rebased}
 use Rattle.elf_update.specs.Descriptors.{stored_pieces}
 use Rattle.update_writes.proofs.RebaseLaws.{at_hand_after, pieces_after}
 use Rattle.update_writes.proofs.PutLaws.{all_none, all_then, all_stop, all_as}
-
--- what stands at an index that no part has
-abbrev pub no_part : PartAt
-no_part = record { part = part.Object; at = 0; len = 0; align = 0; filled = false }
 
 each_middle : (P : Block → Type 0) (bs : List Block) (b : Block) (cs : List Block)
     → AllByRecursion P (bs ++ (b ∷ cs)) → P b
@@ -49,7 +45,6 @@ module _ {D : Type 0} (s : SourceGhosts D) (d : DeviceGhosts D) where
         within = omega (arith, last, within);
         small = omega (arith, last, small);
         base = all.base;
-        told = all.told;
         may = may.may;
       }
 
@@ -60,13 +55,12 @@ module _ {D : Type 0} (s : SourceGhosts D) (d : DeviceGhosts D) where
       let size = puts.size in
       let within = may.within in
       record {
-        ready = subst IsTrue (sym (ap (λ (q : State D). q.ready) puts.state)) may.ready;
+        ready = subst IsTrue (sym (ap (λ (q : State D). q.ready) puts.change.state)) may.ready;
         within = omega (arith, size, within);
         small = may.small;
-        base = puts.base;
-        told = ap (λ (q : State D). q.told) puts.state ∙ may.told ∙ sym puts.told;
-        may = subst (λ (q : State D). MayWrite q at n) (sym puts.state)
-            (may_rebased s d e f.o.base f.source at n puts.long may.may);
+        base = puts.change.base;
+        may = subst (λ (q : State D). MayWrite q at n) (sym puts.change.state)
+            (may_rebased s d e f.o.base f.source at n puts.change.long may.may);
       }
 
 -- ---- Blocks that lie in a device
@@ -127,12 +121,12 @@ pub record AreSoFar {D : Type 0} (s : SourceGhosts D) (d : DeviceGhosts D) (e f 
   pub done : List Block
   pub puts : PutsAll s d (Ok (tt {0})) e f done
   pub all : done ++ left_line kept fill end pieces from (drop i plan) (drop i flags)
-      ≡ line_of kept fill end pieces plan flags
+      ≡ put_blocks kept fill end pieces plan flags
   pub line : AreInLine end from (blocks_at fill pieces (drop i plan))
 
 module _ {D : Type 0} (s : SourceGhosts D) (d : DeviceGhosts D) (e : State D) (kept fill end : ℕ)
     (pieces : Part → List (ℕ × List ℕ)) (plan : List PartAt) (flags : List Bool)
-    (may : MayPutAll s e (line_of kept fill end pieces plan flags)) where
+    (may : MayPutAll s e (put_blocks kept fill end pieces plan flags)) where
   abbrev IsSoFar : State D → ℕ → ℕ → Type 0
   IsSoFar f i from = AreSoFar s d e f kept fill end pieces plan flags i from
 
@@ -151,7 +145,7 @@ module _ {D : Type 0} (s : SourceGhosts D) (d : DeviceGhosts D) (e : State D) (k
       ∷ (when (get_or flags i false) (block_at fill pieces (get_or plan i no_part))
       ++ left_line kept fill end pieces ((get_or plan i no_part).at + (get_or plan i no_part).len)
       (drop (i + 1) plan) (drop (i + 1) flags)))
-      ≡ line_of kept fill end pieces plan flags
+      ≡ put_blocks kept fill end pieces plan flags
   next_is f i from there count long put =
       ap (λ (l : List Block). put.done ++ l)
       (sym (line_step kept fill end pieces from (get_or plan i no_part) (drop (i + 1) plan)
@@ -193,7 +187,7 @@ module _ {D : Type 0} (s : SourceGhosts D) (d : DeviceGhosts D) (e : State D) (k
       subst (λ (n : ℕ). MayOverwrite s f (max from kept) n) filled
       (may_on s d (Ok (tt {0})) e f (max from kept)
       (length (replicate ((get_or plan i no_part).at - max from kept) fill)) put.done put.puts
-      (block_may s d e (line_of kept fill end pieces plan flags) (gap_at i from) may one))
+      (block_may s d e (put_blocks kept fill end pieces plan flags) (gap_at i from) may one))
 
   -- the part behind it, too
   pub part_may : (f g : State D) (i from : ℕ) → i < length plan → length flags ≡ length plan
@@ -211,13 +205,13 @@ module _ {D : Type 0} (s : SourceGhosts D) (d : DeviceGhosts D) (e : State D) (k
       (block_at fill pieces (get_or plan i no_part) ∷ rest_at i)))
       (each_next f i from there count long put)) in
       let all = length-joined_pieces fill (pieces (get_or plan i no_part).part) in
-      let size : length (joined fill (pieces (get_or plan i no_part).part)) ≡ (get_or plan i no_part).len =
+      let size : length (stacked_text fill (pieces (get_or plan i no_part).part)) ≡ (get_or plan i no_part).len =
       omega (arith, all, long) in
       subst (λ (n : ℕ). MayOverwrite s g (get_or plan i no_part).at n) size
       (may_on s d (Ok (tt {0})) e g (get_or plan i no_part).at
-      (length (joined fill (pieces (get_or plan i no_part).part))) (put.done ++ (gap_at i from ∷ []))
+      (length (stacked_text fill (pieces (get_or plan i no_part).part))) (put.done ++ (gap_at i from ∷ []))
       (all_then s d tt (Ok tt) e f g put.done (gap_at i from ∷ []) put.puts gap)
-      (block_may s d e (line_of kept fill end pieces plan flags)
+      (block_may s d e (put_blocks kept fill end pieces plan flags)
       (block_at fill pieces (get_or plan i no_part)) may one))
 
   -- the part ends within the image
@@ -235,10 +229,10 @@ module _ {D : Type 0} (s : SourceGhosts D) (d : DeviceGhosts D) (e : State D) (k
   pub gap_stops : (x : ElfError) (f g : State D) (i from : ℕ) → i < length plan
       → length flags ≡ length plan → HasLength pieces (get_or plan i no_part)
       → IsSoFar f i from → PutsAll {T = Unit {0}} s d (Err x) f g (gap_at i from ∷ [])
-      → PutsAll {T = Unit {0}} s d (Err x) e g (line_of kept fill end pieces plan flags)
+      → PutsAll {T = Unit {0}} s d (Err x) e g (put_blocks kept fill end pieces plan flags)
   gap_stops x f g i from there count long put gap =
       all_as s d (Err x) e g ((put.done ++ (gap_at i from ∷ [])) ++ (part_at i ++ rest_at i))
-      (line_of kept fill end pieces plan flags)
+      (put_blocks kept fill end pieces plan flags)
       (append_assoc put.done (gap_at i from ∷ []) (part_at i ++ rest_at i)
       ∙ next_is f i from there count long put)
       (all_stop s d x e g (put.done ++ (gap_at i from ∷ [])) (part_at i ++ rest_at i)
@@ -254,7 +248,7 @@ module _ {D : Type 0} (s : SourceGhosts D) (d : DeviceGhosts D) (e : State D) (k
   both_is : (f : State D) (i from : ℕ) → i < length plan → length flags ≡ length plan
       → HasLength pieces (get_or plan i no_part) → (put : IsSoFar f i from)
       → ((put.done ++ (gap_at i from ∷ [])) ++ part_at i) ++ rest_at i
-      ≡ line_of kept fill end pieces plan flags
+      ≡ put_blocks kept fill end pieces plan flags
   both_is f i from there count long put =
       append_assoc (put.done ++ (gap_at i from ∷ [])) (part_at i) (rest_at i)
       ∙ append_assoc put.done (gap_at i from ∷ []) (part_at i ++ rest_at i)
@@ -265,10 +259,10 @@ module _ {D : Type 0} (s : SourceGhosts D) (d : DeviceGhosts D) (e : State D) (k
       → length flags ≡ length plan → HasLength pieces (get_or plan i no_part)
       → IsSoFar f i from → PutsAll s d (Ok (tt {0})) f g (gap_at i from ∷ [])
       → PutsAll {T = Unit {0}} s d (Err x) g h (part_at i)
-      → PutsAll {T = Unit {0}} s d (Err x) e h (line_of kept fill end pieces plan flags)
+      → PutsAll {T = Unit {0}} s d (Err x) e h (put_blocks kept fill end pieces plan flags)
   part_stops x f g h i from there count long put gap one =
       all_as s d (Err x) e h (((put.done ++ (gap_at i from ∷ [])) ++ part_at i) ++ rest_at i)
-      (line_of kept fill end pieces plan flags) (both_is f i from there count long put)
+      (put_blocks kept fill end pieces plan flags) (both_is f i from there count long put)
       (all_stop s d x e h ((put.done ++ (gap_at i from ∷ [])) ++ part_at i) (rest_at i)
       (both_put (Err x) f g h i from put gap one))
 
@@ -290,7 +284,7 @@ module _ {D : Type 0} (s : SourceGhosts D) (d : DeviceGhosts D) (e : State D) (k
   -- the last gap
   last_is : (f : State D) (i from : ℕ) → length plan ≤ i → length flags ≡ length plan
       → (put : IsSoFar f i from)
-      → put.done ++ (fill_block kept fill from end ∷ []) ≡ line_of kept fill end pieces plan flags
+      → put.done ++ (fill_block kept fill from end ∷ []) ≡ put_blocks kept fill end pieces plan flags
   last_is f i from past count put =
       ap (λ (l : List Block). put.done ++ l)
       (sym (line_last kept fill end pieces from (drop i flags))
@@ -308,23 +302,23 @@ module _ {D : Type 0} (s : SourceGhosts D) (d : DeviceGhosts D) (e : State D) (k
       subst (λ (n : ℕ). MayOverwrite s f (max from kept) n) filled
       (may_on s d (Ok (tt {0})) e f (max from kept) (length (replicate (end - max from kept) fill))
       put.done put.puts
-      (block_may s d e (line_of kept fill end pieces plan flags) (fill_block kept fill from end) may
+      (block_may s d e (put_blocks kept fill end pieces plan flags) (fill_block kept fill from end) may
       one))
 
   pub walk_ends : (r : Result (Unit {0}) ElfError) (f g : State D) (i from : ℕ)
       → length plan ≤ i → length flags ≡ length plan → IsSoFar f i from
       → PutsAll s d r f g (fill_block kept fill from end ∷ [])
-      → PutsAll s d r e g (line_of kept fill end pieces plan flags)
+      → PutsAll s d r e g (put_blocks kept fill end pieces plan flags)
   walk_ends r f g i from past count put gap =
       all_as s d r e g (put.done ++ (fill_block kept fill from end ∷ []))
-      (line_of kept fill end pieces plan flags) (last_is f i from past count put)
+      (put_blocks kept fill end pieces plan flags) (last_is f i from past count put)
       (all_then s d tt r e f g put.done (fill_block kept fill from end ∷ []) put.puts gap)
 
 -- ---- What is at hand
 
 hand_at : {S : Type 0} (e : State S) (plan : List PartAt) (flags : List Bool) (i : ℕ)
-    → i < length plan → length flags ≡ length plan → AreAtHand e plan flags
-    → get_or flags i false ≡ true → IsAtHand e (get_or plan i no_part).part
+    → i < length plan → length flags ≡ length plan → NeedNoRead e plan flags
+    → get_or flags i false ≡ true → NeedsNoRead e (get_or plan i no_part).part
 hand_at e [] flags i there count are changes = absurd (omega arith)
 hand_at e (p ∷ ps) [] i there count are changes = absurd (omega arith)
 hand_at e (p ∷ ps) (c ∷ cs) zero there count are changes = are.0 changes
@@ -334,8 +328,8 @@ hand_at e (p ∷ ps) (c ∷ cs) (suc i) there count are changes =
 -- after blocks were put
 pub hand_on : {D : Type 0} (e f : State D) (plan : List PartAt) (flags : List Bool) (i : ℕ)
     → f ≡ record e { o = record e.o { base = f.o.base }; source = f.source }
-    → i < length plan → length flags ≡ length plan → AreAtHand e plan flags
-    → get_or flags i false ≡ true → IsAtHand f (get_or plan i no_part).part
+    → i < length plan → length flags ≡ length plan → NeedNoRead e plan flags
+    → get_or flags i false ≡ true → NeedsNoRead f (get_or plan i no_part).part
 hand_on e f plan flags i state there count are changes =
     at_hand_after e f state (get_or plan i no_part).part (hand_at e plan flags i there count are changes)
 
@@ -353,5 +347,5 @@ pub puts_on : {D : Type 0} (s : SourceGhosts D) (d : DeviceGhosts D) (e f : Stat
     → PutsAll s d r f g (when c (block_at fill (stored_pieces e.o) p))
 puts_on s d e f state r g c fill p puts =
     subst (λ (ps : List (ℕ × List ℕ)).
-    PutsAll s d r f g (when c (record { at = p.at; bytes = joined fill ps })))
+    PutsAll s d r f g (when c (record { at = p.at; bytes = stacked_text fill ps })))
     (pieces_after e f state p.part) puts

@@ -1,7 +1,6 @@
 -- What a step that puts a text over a device leaves of the descriptor over it (elf_update with
 -- ELF_C_WRITE).
-use Rattle.std.specs.Prelude.{◌≡◌, ℕ, ◌+◌, ◌-◌, ◌<◌, ◌^◌, ◌≤◌, IsTrue, true, List, ◌++◌, length, None, is_some, slice_index_or, Result, IfErr}
-use Rattle.std.proofs.Math.ListN.{replicate}
+use Rattle.std.specs.Prelude.{◌≡◌, ℕ, ◌+◌, ◌<◌, ◌^◌, ◌≤◌, IsTrue, true, List, length, None, Result, IfErr}
 use Rattle.elf_types.specs.declared.errors.ElfError.{ElfError}
 use Rattle.elf_types.specs.declared.errors.ElfError.TheVariants.{Write}
 use Rattle.elf_types.specs.declared.records.Part.{Part}
@@ -9,50 +8,45 @@ use Rattle.elf_types.specs.declared.records.Part.TheVariants as part
 use Rattle.elf_outside.specs.declared.sources.Source.{Ghosts as SourceGhosts}
 use Rattle.elf_outside.specs.declared.devices.Device.{Ghosts as DeviceGhosts}
 use Rattle.elf_outside.specs.Patches.{Patches}
-use Rattle.elf_layout.specs.Layout.{rounded_up}
 use Rattle.elf_object.specs.Answers.{piece_count}
 use Rattle.elf_object.specs.Object.{section_at, piece_at, has_file_bytes}
 use Rattle.elf_object.specs.Due.{is_loaded}
 use Rattle.elf_descriptor.specs.State.{State}
 use Rattle.elf_descriptor.specs.Cuts.{MayWrite}
 use Rattle.elf_descriptor.specs.Fronts.{HoldsBase}
-use Rattle.elf_update.specs.Origins.{no_piece}
 
 -- what a text of so many bytes rests on that is put over a device from a place on: the object is
 -- ready, the range lies in the device, which begins with the base, and no home that shares a place
 -- with it rests on the base
-pub record MayOverwrite {D : Type 0} (s : SourceGhosts D) (state : State D) (at n : ℕ) : Type 0 where
+pub record MayOverwrite {D : Type 0} (s : SourceGhosts D) (state : State D) (at n : ℕ)
+    : Type 0 where
   pub ready : IsTrue state.ready
   pub within : at + n ≤ s.size state.source
   pub small : at + n < 2 ^ 64
   pub base : HoldsBase s state
-  pub told : state.told ≡ is_some (s.holds state.source)
   pub may : MayWrite state at n
 
--- The text stands there, or after a refusal each byte of the range is the old one or the new one.
--- Of the object the base alone changes, with which the device begins. Nothing is read.
-pub record Overwrites {D T : Type 0} (s : SourceGhosts D) (d : DeviceGhosts D)
-    (result : Result T ElfError) (old new : State D) (at : ℕ) (text : List ℕ) : Type 0 where
+-- Of the object the base alone changed, which is as long as it was and with which the device begins.
+pub record ChangesBase {D : Type 0} (s : SourceGhosts D) (old new : State D) : Type 0 where
   pub state : new
       ≡ record old { o = record old.o { base = new.o.base }; source = new.source }
   pub long : length new.o.base ≡ length old.o.base
   pub base : HoldsBase s new
   pub untold : s.holds new.source ≡ None → new.o.base ≡ old.o.base
+
+-- The text stands there, or after a refusal each byte of the range is the old one or the new one.
+-- Nothing is read.
+pub record Overwrites {D T : Type 0} (s : SourceGhosts D) (d : DeviceGhosts D)
+    (result : Result T ElfError) (old new : State D) (at : ℕ) (text : List ℕ) : Type 0 where
+  pub change : ChangesBase s old new
   pub patches : Patches s d result old.source new.source at text (length text)
   pub err : IfErr result (λ e. e ≡ Write)
 
 -- the bytes of each piece of a part in the file are at hand: a clean home piece of a section is
 -- loaded
-abbrev pub IsAtHand : {S : Type 0} → State S → Part → Type 0
-IsAtHand state (part.Section s) =
+abbrev pub NeedsNoRead : {S : Type 0} → State S → Part → Type 0
+NeedsNoRead state (part.Section s) =
     (p : ℕ) → has_file_bytes s (section_at state.o s) ≡ true → s < length state.o.sections
     → p < piece_count state.o s → (piece_at state.o s p).own ≡ None
     → IsTrue (is_loaded state.loaded s)
-IsAtHand state _ = Unit {0}
-
--- a piece, which stands at the end so far of its part, rounded up to its alignment, and the fill
--- before it
-abbrev pub piece_over : List (ℕ × List ℕ) → ℕ → ℕ → ℕ → List ℕ
-piece_over pieces p end fill =
-    let piece = slice_index_or pieces p no_piece in
-    replicate (rounded_up end piece.0 - end) fill ++ piece.1
+NeedsNoRead state _ = Unit {0}

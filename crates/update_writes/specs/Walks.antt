@@ -17,7 +17,7 @@ use Rattle.elf_descriptor.specs.Cuts.{MayWrite}
 use Rattle.elf_descriptor.specs.Fronts.{HoldsBase}
 use Rattle.elf_update.specs.Pieces.{block_at}
 use Rattle.update_moves.specs.Written.{written_between}
-use Rattle.update_writes.specs.Overwrites.{IsAtHand}
+use Rattle.update_writes.specs.Overwrites.{ChangesBase, NeedsNoRead}
 
 -- ---- What is put
 
@@ -29,8 +29,9 @@ rows_of fill pieces (p ∷ ps) [] = []
 rows_of fill pieces (p ∷ ps) (c ∷ cs) = (c, block_at fill pieces p) ∷ rows_of fill pieces ps cs
 
 -- the blocks that are put from a place to an end
-abbrev pub line_of : ℕ → ℕ → ℕ → (Part → List (ℕ × List ℕ)) → List PartAt → List Bool → List Block
-line_of kept fill end pieces plan flags =
+abbrev pub put_blocks : ℕ → ℕ → ℕ → (Part → List (ℕ × List ℕ)) → List PartAt → List Bool
+    → List Block
+put_blocks kept fill end pieces plan flags =
     written_between kept fill end 0 (rows_of fill pieces plan flags)
 
 -- ---- What it rests on
@@ -46,28 +47,22 @@ pub record MayPutAll {D : Type 0} (s : SourceGhosts D) (state : State D) (line :
     : Type 0 where
   pub ready : IsTrue state.ready
   pub base : HoldsBase s state
-  pub told : state.told ≡ is_some (s.holds state.source)
   pub blocks : AllByRecursion (MayPut s state) line
 
 -- the parts that change are at hand
-abbrev pub AreAtHand : {S : Type 0} → State S → List PartAt → List Bool → Type 0
-AreAtHand state [] flags = Unit {0}
-AreAtHand state (p ∷ ps) [] = Unit {0}
-AreAtHand state (p ∷ ps) (c ∷ cs) =
-    (c ≡ true → IsAtHand state p.part) × AreAtHand state ps cs
+abbrev pub NeedNoRead : {S : Type 0} → State S → List PartAt → List Bool → Type 0
+NeedNoRead state [] flags = Unit {0}
+NeedNoRead state (p ∷ ps) [] = Unit {0}
+NeedNoRead state (p ∷ ps) (c ∷ cs) =
+    (c ≡ true → NeedsNoRead state p.part) × NeedNoRead state ps cs
 
 -- ---- What it leaves
 
 -- Where the device is written with blocks of an image, of which these are next, they stand there
--- afterwards; after a refusal each byte is the old one or that of the image. Of the object the base
--- alone changes, with which the device begins. Nothing is read.
+-- afterwards; after a refusal each byte is the old one or that of the image. Nothing is read.
 pub record PutsAll {D T : Type 0} (s : SourceGhosts D) (d : DeviceGhosts D)
     (result : Result T ElfError) (old new : State D) (line : List Block) : Type 0 where
-  pub state : new
-      ≡ record old { o = record old.o { base = new.o.base }; source = new.source }
-  pub long : length new.o.base ≡ length old.o.base
-  pub base : HoldsBase s new
-  pub untold : s.holds new.source ≡ None → new.o.base ≡ old.o.base
+  pub change : ChangesBase s old new
   pub size : s.size new.source ≡ s.size old.source
   pub told : is_some (s.holds new.source) ≡ is_some (s.holds old.source)
   pub uses : UsesDevice s d result old.source new.source 0 (sum_by (λ b. length b.bytes) line)

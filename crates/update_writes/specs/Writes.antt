@@ -1,6 +1,6 @@
 -- The write phase of an update in place: what it rests on, and what it leaves (elf_update with
 -- ELF_C_WRITE).
-use Rattle.std.specs.Prelude.{◌≡◌, ◌⊎◌, ℕ, ◌<◌, Bool, true, false, IsTrue, List, length, take, map, Option, is_some, IsSome, IfSome, Result, OnOk, OnErr, IfErr}
+use Rattle.std.specs.Prelude.{◌≡◌, ◌⊎◌, ℕ, ◌<◌, Bool, true, false, IsTrue, List, length, take, map, Option, IsSome, IfSome, Result, OnOk, OnErr, IfErr}
 use Rattle.std.specs.Option.{option_map}
 use Rattle.elf_types.specs.declared.errors.ElfError.{ElfError}
 use Rattle.elf_types.specs.declared.errors.ElfError.TheVariants.{Write}
@@ -22,13 +22,12 @@ use Rattle.update_moves.specs.Written.{part_changed}
 
 -- Places are stored, the object and the pieces of what moves are marked, and what moves is loaded:
 -- the object is the one as it was, torn over its own base. The device begins with the base.
-pub record IsBegun {D : Type 0} (s : SourceGhosts D) (p : PlannedParts) (changed : List Bool)
-    (state : State D) : Type 0 where
+pub record IsMarkedAndLoaded {D : Type 0} (s : SourceGhosts D) (p : PlannedParts)
+    (changed : List Bool) (state : State D) : Type 0 where
   pub was : Object
   pub planned : IsPlanned was p
   pub changes : changed ≡ map (λ q. part_changed was q.part) p.parts
   pub based : IsSome (s.holds state.source) → IsBased was
-  pub told : state.told ≡ is_some (s.holds state.source)
   pub object : state.o ≡ torn was was.base
   pub base : HoldsBase s state
   pub loaded : (i : ℕ) → is_moved was i ≡ true → (section_at was i).home.out ≡ false

@@ -4,7 +4,7 @@ ghost use Rattle.std.specs.Prelude.{◌≡◌, ◌<◌, ◌≤◌, length};
 ghost use Rattle.elf_object.specs.Image.{image_length};
 ghost use Rattle.update_moves.specs.Written.{written_line};
 ghost use Rattle.update_writes.specs.Walks.{PutsAll};
-ghost use Rattle.update_writes.specs.Writes.{IsBegun, WritesChanges};
+ghost use Rattle.update_writes.specs.Writes.{IsMarkedAndLoaded, WritesChanges};
 
 use crate::walks::write_parts;
 use elf_descriptor::Elf;
@@ -21,10 +21,10 @@ fn write_over<D: Device>(
     end: u64,
 ) -> Result<(), ElfError>
     requires room { 0 < length page.old }
-    requires begun { IsBegun D.Source planned.now changed.now elf.old }
-    requires end { end ≡ planned.now.placed.places.end }
+    requires begun { IsMarkedAndLoaded D.Source planned.now changed.now elf.old }
+    requires end { end ≡ planned.now.places.end }
     requires fits { end ≤ D.size elf.old.source }
-    ensures { (b : IsBegun D.Source planned.now changed.now elf.old)
+    ensures { (b : IsMarkedAndLoaded D.Source planned.now changed.now elf.old)
         → PutsAll D.Source D.Device.own result elf.old elf.new (written_line b.was) }
 {
     let _object = elf.dirty();
@@ -40,12 +40,12 @@ fn write_longer<D: Device>(
     changed: &[bool],
 ) -> Result<(), ElfError>
     requires room { 0 < length page.old }
-    requires begun { IsBegun D.Source planned.now changed.now elf.old }
-    requires grows { length elf.old.o.base < planned.now.placed.places.end }
-    ensures { (b : IsBegun D.Source planned.now changed.now elf.old)
+    requires begun { IsMarkedAndLoaded D.Source planned.now changed.now elf.old }
+    requires grows { length elf.old.o.base < planned.now.places.end }
+    ensures { (b : IsMarkedAndLoaded D.Source planned.now changed.now elf.old)
         → WritesChanges D.Source D.Device.own b.was result elf.old elf.new }
 {
-    let end = planned.placed.places.end;
+    let end = planned.places.end;
     if let Err(e) = elf.size_base(end) {
         return Err(e);
     }
@@ -60,13 +60,13 @@ fn write_shorter<D: Device>(
     changed: &[bool],
 ) -> Result<(), ElfError>
     requires room { 0 < length page.old }
-    requires begun { IsBegun D.Source planned.now changed.now elf.old }
-    requires fits { planned.now.placed.places.end ≤ length elf.old.o.base }
-    ensures { (b : IsBegun D.Source planned.now changed.now elf.old)
+    requires begun { IsMarkedAndLoaded D.Source planned.now changed.now elf.old }
+    requires fits { planned.now.places.end ≤ length elf.old.o.base }
+    ensures { (b : IsMarkedAndLoaded D.Source planned.now changed.now elf.old)
         → WritesChanges D.Source D.Device.own b.was result elf.old elf.new }
 {
     let _object = elf.dirty();
-    let end = planned.placed.places.end;
+    let end = planned.places.end;
     if let Err(e) = write_over(elf, page, planned, changed, end) {
         return Err(e);
     }
@@ -87,11 +87,11 @@ pub fn write_changes<D: Device>(
     changed: &[bool],
 ) -> Result<(), ElfError>
     requires room { 0 < length page.old }
-    requires begun { IsBegun D.Source planned.now changed.now elf.old }
-    ensures { (b : IsBegun D.Source planned.now changed.now elf.old)
+    requires begun { IsMarkedAndLoaded D.Source planned.now changed.now elf.old }
+    ensures { (b : IsMarkedAndLoaded D.Source planned.now changed.now elf.old)
         → WritesChanges D.Source D.Device.own b.was result elf.old elf.new }
 {
-    if elf.base_len() < planned.placed.places.end {
+    if elf.base_len() < planned.places.end {
         return write_longer(elf, page, planned, changed);
     }
     write_shorter(elf, page, planned, changed)

@@ -3,7 +3,6 @@
 #![tactic(auto)]
 
 mod changes;
-mod copies;
 mod fills;
 mod pieces;
 mod walks;

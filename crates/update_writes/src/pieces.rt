@@ -3,21 +3,20 @@
 ghost use Rattle.std.specs.Prelude.{◌≡◌, ◌+◌, ◌-◌, ◌^◌, ◌≤◌, ◌<◌, length, take, drop, slice_index_or, IfOk};
 ghost use Rattle.std.proofs.Math.ListN.{replicate};
 ghost use Rattle.elf_layout.specs.Layout.{rounded_up};
-ghost use Rattle.elf_update.specs.Origins.{no_piece};
-ghost use Rattle.elf_update.specs.Pieces.{joined, HasLength};
-ghost use Rattle.elf_update.specs.Descriptors.{IsStored, stored_pieces};
-ghost use Rattle.update_writes.specs.Overwrites.{IsAtHand, MayOverwrite, Overwrites, piece_over};
+ghost use Rattle.elf_update.specs.Origins.{absent_piece};
+ghost use Rattle.elf_update.specs.Pieces.{filled_piece, stacked_text, HasLength};
+ghost use Rattle.elf_update.specs.Descriptors.{HasStoredPlaces, stored_pieces};
+ghost use Rattle.update_writes.specs.Overwrites.{NeedsNoRead, MayOverwrite, Overwrites};
 
-use crate::copies::copy_part;
 use crate::fills::write_fill;
 use elf_descriptor::Elf;
 use elf_layout::PartAt;
 use elf_outside::Device;
 use elf_types::{ElfError, Part};
-use elf_update::Parts;
+use elf_update::{ImageParts, copy_at_hand};
 
-/// Puts as many bytes of a piece as `buf` has, from the place `from` of the piece on, over the
-/// device from the place `at` on.
+/// Puts as many bytes of a piece as `buf` has, at least one, from the place `from` of the piece on,
+/// over the device from the place `at` on.
 fn write_some<D: Device>(
     elf: &mut Elf<D>,
     buf: &mut [u8],
@@ -26,20 +25,22 @@ fn write_some<D: Device>(
     from: u64,
     at: u64,
 ) -> Result<(), ElfError>
-    requires stored { IsStored elf.old.o }
-    requires held { IsAtHand elf.old part }
+    requires stored { HasStoredPlaces elf.old.o }
+    requires held { NeedsNoRead elf.old part }
     requires some { 0 < length buf.old }
     requires there { from + length buf.old
-        ≤ length (slice_index_or (stored_pieces elf.old.o part) p no_piece).1 }
+        ≤ length (slice_index_or (stored_pieces elf.old.o part) p absent_piece).1 }
     requires small { from + length buf.old < 2 ^ 64 }
     requires may { MayOverwrite D.Source elf.old at (length buf.old) }
     ensures over { Overwrites D.Source D.Device.own result elf.old elf.new at (take
         (length buf.old)
-        (drop from (slice_index_or (stored_pieces elf.old.o part) p no_piece).1)) }
+        (drop from (slice_index_or (stored_pieces elf.old.o part) p absent_piece).1)) }
     ensures len { length buf.new ≡ length buf.old }
 {
-    copy_part(elf, part, p, from, buf);
-    elf.write_base(at, buf)
+    match copy_at_hand(elf, part, p, from, buf) {
+        None => elf.write_base(at, buf),
+        Some(_) => unreachable!(),
+    }
 }
 
 /// Puts a piece of a part, which has `len` bytes, over the device from the place `at` on, page by
@@ -53,13 +54,13 @@ fn write_range<D: Device>(
     len: u64,
 ) -> Result<(), ElfError>
     requires room { 0 < length page.old }
-    requires stored { IsStored elf.old.o }
-    requires held { IsAtHand elf.old part }
+    requires stored { HasStoredPlaces elf.old.o }
+    requires held { NeedsNoRead elf.old part }
     requires long { len
-        ≡ length (slice_index_or (stored_pieces elf.old.o part) p no_piece).1 }
+        ≡ length (slice_index_or (stored_pieces elf.old.o part) p absent_piece).1 }
     requires may { MayOverwrite D.Source elf.old at len }
     ensures over { Overwrites D.Source D.Device.own result elf.old elf.new at
-        (slice_index_or (stored_pieces elf.old.o part) p no_piece).1 }
+        (slice_index_or (stored_pieces elf.old.o part) p absent_piece).1 }
     ensures page { length page.new ≡ length page.old }
 {
     let mut done = 0;
@@ -88,17 +89,18 @@ fn write_piece<D: Device>(
     fill: u8,
 ) -> Result<u64, ElfError>
     requires room { 0 < length page.old }
-    requires stored { IsStored elf.old.o }
-    requires held { IsAtHand elf.old part }
+    requires stored { HasStoredPlaces elf.old.o }
+    requires held { NeedsNoRead elf.old part }
     requires there { p < length (stored_pieces elf.old.o part) }
-    requires small { let piece = slice_index_or (stored_pieces elf.old.o part) p no_piece in
+    requires small { let piece = slice_index_or (stored_pieces elf.old.o part) p absent_piece in
         start + (rounded_up end piece.0 + length piece.1) < 2 ^ 64 }
     requires may { MayOverwrite D.Source elf.old (start + end)
-        (length (piece_over (stored_pieces elf.old.o part) p end fill)) }
-    ensures end { let piece = slice_index_or (stored_pieces elf.old.o part) p no_piece in
+        (length (filled_piece
+        (slice_index_or (stored_pieces elf.old.o part) p absent_piece) end fill)) }
+    ensures end { let piece = slice_index_or (stored_pieces elf.old.o part) p absent_piece in
         IfOk result (λ after. after ≡ rounded_up end piece.0 + length piece.1) }
     ensures over { Overwrites D.Source D.Device.own result elf.old elf.new (start + end)
-        (piece_over (stored_pieces elf.old.o part) p end fill) }
+        (filled_piece (slice_index_or (stored_pieces elf.old.o part) p absent_piece) end fill) }
     ensures page { length page.new ≡ length page.old }
 {
     let piece = elf.piece(part, p);
@@ -122,13 +124,13 @@ pub fn write_part<D: Device>(
     fill: u8,
 ) -> Result<(), ElfError>
     requires room { 0 < length page.old }
-    requires stored { IsStored elf.old.o }
-    requires held { IsAtHand elf.old part.part }
+    requires stored { HasStoredPlaces elf.old.o }
+    requires held { NeedsNoRead elf.old part.part }
     requires long { HasLength (stored_pieces elf.old.o) part }
     requires small { part.at + part.len < 2 ^ 64 }
     requires may { MayOverwrite D.Source elf.old part.at part.len }
     ensures over { Overwrites D.Source D.Device.own result elf.old elf.new part.at
-        (joined fill (stored_pieces elf.old.o part.part)) }
+        (stacked_text fill (stored_pieces elf.old.o part.part)) }
     ensures page { length page.new ≡ length page.old }
 {
     let count = elf.piece_count(part.part);

@@ -6,9 +6,9 @@ ghost use Rattle.writing_laws.specs.Lines.{AreInLine};
 ghost use Rattle.writing_laws.specs.Plan.{fill_block};
 ghost use Rattle.elf_descriptor.specs.Fronts.{HoldsBase};
 ghost use Rattle.elf_update.specs.Pieces.{block_at, blocks_at, HasLength};
-ghost use Rattle.elf_update.specs.Descriptors.{IsStored, stored_pieces};
-ghost use Rattle.update_writes.specs.Overwrites.{IsAtHand, MayOverwrite};
-ghost use Rattle.update_writes.specs.Walks.{line_of, AreAtHand, MayPutAll, PutsAll};
+ghost use Rattle.elf_update.specs.Descriptors.{HasStoredPlaces, stored_pieces};
+ghost use Rattle.update_writes.specs.Overwrites.{NeedsNoRead, MayOverwrite};
+ghost use Rattle.update_writes.specs.Walks.{put_blocks, NeedNoRead, MayPutAll, PutsAll};
 
 use crate::fills::write_fill;
 use crate::pieces::write_part;
@@ -48,8 +48,8 @@ fn write_changed<D: Device>(
 ) -> Result<(), ElfError>
     requires room { 0 < length page.old }
     requires base { HoldsBase D.Source elf.old }
-    requires stored { IsStored elf.old.o }
-    requires held { changes ≡ true → IsAtHand elf.old part.part }
+    requires stored { HasStoredPlaces elf.old.o }
+    requires held { changes ≡ true → NeedsNoRead elf.old part.part }
     requires long { HasLength (stored_pieces elf.old.o) part }
     requires small { part.at + part.len < 2 ^ 64 }
     requires may { changes ≡ true → MayOverwrite D.Source elf.old part.at part.len }
@@ -75,15 +75,15 @@ pub fn write_parts<D: Device>(
     end: u64,
 ) -> Result<(), ElfError>
     requires room { 0 < length page.old }
-    requires stored { IsStored elf.old.o }
-    requires held { AreAtHand elf.old plan.now changed.now }
+    requires stored { HasStoredPlaces elf.old.o }
+    requires held { NeedNoRead elf.old plan.now changed.now }
     requires count { length changed.now ≡ length plan.now }
     requires long { All (HasLength (stored_pieces elf.old.o)) plan.now }
     requires line { AreInLine end 0 (blocks_at ground.fill (stored_pieces elf.old.o) plan.now) }
     requires may { MayPutAll D.Source elf.old
-        (line_of ground.kept ground.fill end (stored_pieces elf.old.o) plan.now changed.now) }
+        (put_blocks ground.kept ground.fill end (stored_pieces elf.old.o) plan.now changed.now) }
     ensures { PutsAll D.Source D.Device.own result elf.old elf.new
-        (line_of ground.kept ground.fill end (stored_pieces elf.old.o) plan.now changed.now) }
+        (put_blocks ground.kept ground.fill end (stored_pieces elf.old.o) plan.now changed.now) }
 {
     let mut from = 0;
     for i in 0..plan.len() {

@@ -17,7 +17,8 @@ returns-in-Object g c = count_as c.args.elf.now.o c.args.part part.Object 0 c.in
 
 pub returns-in-Section : goal.returns-in-Section
 returns-in-Section g c =
-    count_as c.args.elf.now.o c.args.part (part.Section c.in-Section.s) c.section_pieces.result c.in-Section.is c.section_pieces.ensures
+    count_as c.args.elf.now.o c.args.part (part.Section c.in-Section.s) c.section_pieces.result
+    c.in-Section.is c.section_pieces.ensures
 
 pub returns-in-Piece : goal.returns-in-Piece
 returns-in-Piece g c =

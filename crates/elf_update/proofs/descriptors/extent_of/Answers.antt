@@ -28,24 +28,34 @@ returns-in-Table g c =
 
 pub piece_extent-requires-clause-section : goal.piece_extent-requires-clause-section
 piece_extent-requires-clause-section g c =
-    (there_is c.args.elf.now.o c.in-Section.s c.args.p (there_as c.args.elf.now.o c.args.part (part.Section c.in-Section.s) c.args.p c.in-Section.is c.requires.there)).section
+    (there_is c.args.elf.now.o c.in-Section.s c.args.p
+    (there_as c.args.elf.now.o c.args.part (part.Section c.in-Section.s) c.args.p c.in-Section.is
+    c.requires.there)).section
 
 pub piece_extent-requires-clause-piece : goal.piece_extent-requires-clause-piece
 piece_extent-requires-clause-piece g c =
-    (there_is c.args.elf.now.o c.in-Section.s c.args.p (there_as c.args.elf.now.o c.args.part (part.Section c.in-Section.s) c.args.p c.in-Section.is c.requires.there)).piece
+    (there_is c.args.elf.now.o c.in-Section.s c.args.p
+    (there_as c.args.elf.now.o c.args.part (part.Section c.in-Section.s) c.args.p c.in-Section.is
+    c.requires.there)).piece
 
 pub piece_extent-requires-clause-filled : goal.piece_extent-requires-clause-filled
 piece_extent-requires-clause-filled g c =
-    (there_is c.args.elf.now.o c.in-Section.s c.args.p (there_as c.args.elf.now.o c.args.part (part.Section c.in-Section.s) c.args.p c.in-Section.is c.requires.there)).filled
+    (there_is c.args.elf.now.o c.in-Section.s c.args.p
+    (there_as c.args.elf.now.o c.args.part (part.Section c.in-Section.s) c.args.p c.in-Section.is
+    c.requires.there)).filled
 
 pub returns-in-Section : goal.returns-in-Section
 returns-in-Section g c =
-    extent_as c.args.elf.now.o c.args.part (part.Section c.in-Section.s) c.args.p c.piece_extent.result c.in-Section.is c.piece_extent.ensures
+    extent_as c.args.elf.now.o c.args.part (part.Section c.in-Section.s) c.args.p
+    c.piece_extent.result c.in-Section.is c.piece_extent.ensures
 
 pub returns-in-Object : goal.returns-in-Object
 returns-in-Object g c =
-    let there = there_as c.args.elf.now.o c.args.part part.Object c.args.p c.in-Object.is c.requires.there in absurd (omega (arith, there))
+    let there = there_as c.args.elf.now.o c.args.part part.Object c.args.p c.in-Object.is
+    c.requires.there in absurd (omega (arith, there))
 
 pub returns-in-Piece : goal.returns-in-Piece
 returns-in-Piece g c =
-    let there = there_as c.args.elf.now.o c.args.part (part.Piece c.in-Piece.field-0 c.in-Piece.field-1) c.args.p c.in-Piece.is c.requires.there in absurd (omega (arith, there))
+    let there = there_as c.args.elf.now.o c.args.part
+    (part.Piece c.in-Piece.field-0 c.in-Piece.field-1) c.args.p c.in-Piece.is
+    c.requires.there in absurd (omega (arith, there))

@@ -32,6 +32,8 @@ returns g c =
     let less = mul-div-le len c.entry_size-size.result in
     let same : size * (len / c.entry_size-size.result) ≡ c.entry_size-size.result * (len / c.entry_size-size.result) =
     ap (λ (n : ℕ). n * (len / c.entry_size-size.result)) (sym step.size) in
-    entries_join size c.args.index (len / c.entry_size-size.result) len (length c.split_at_mut-whole.result.1.now) (g.E.Entries.bytes c.args.entries.now)
-    c.put_entries.new.out c.copy_of_entry.new.out (omega (arith, less, same)) (omega (arith, c.split_at_mut-whole.ensures.back_len, same))
+    entries_join size c.args.index (len / c.entry_size-size.result) len
+    (length c.split_at_mut-whole.result.1.now) (g.E.Entries.bytes c.args.entries.now)
+    c.put_entries.new.out c.copy_of_entry.new.out (omega (arith, less, same))
+    (omega (arith, c.split_at_mut-whole.ensures.back_len, same))
     c.put_entries.ensures c.copy_of_entry.ensures

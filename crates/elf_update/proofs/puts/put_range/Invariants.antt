@@ -1,13 +1,15 @@
 use Rattle.std.proofs.Common.{◌-◌, ◌≤◌, length}
 use Rattle.elf_update.specs.Origins.{origin_bytes, origin_due}
-use Rattle.elf_update.specs.Emits.{bytes_in}
+use Rattle.elf_update.specs.Emits.{origin_text}
 use Rattle.elf_update.proofs.RangeLaws.{IsPut}
 use Rattle.elf_update.proofs.puts.put_range.Given as goal
 
 abbrev pub invariant-loop-at : goal.invariant-loop-at
 invariant-loop-at g l =
-    let p = g.P.Parts in record {
-      done : IsPut p g.K.Sink (bytes_in p l.initial.parts l.of) (origin_due (p.due (p.kept l.initial.parts)) (length (p.base (p.kept l.initial.parts))) l.of)
+    let p = g.P.ImageParts in record {
+      done : IsPut p g.K.Sink (origin_text p l.initial.parts l.of)
+          (origin_due (p.due (p.kept l.initial.parts)) (length (p.base (p.kept l.initial.parts)))
+          l.of)
           l.from l.to l.initial.parts l.parts l.initial.sink l.sink l.initial.page l.page l.at;
       low : l.from ≤ l.at;
       high : l.at ≤ l.to;

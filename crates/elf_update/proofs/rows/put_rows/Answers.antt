@@ -17,7 +17,17 @@ loop-i-preserved g c =
     let part = length-take (at + c.row_size-size.result - at) (drop at c.loop-i.out) in
     let rest = length-drop at c.loop-i.out in
     let long : length c.put_row.new.out ≡ g.R.Rows.size c.args.rows.now =
-    omega (arith, c.put_row.auto.out, part, rest, c.loop-i.invariant.len, more, product, c.row_size-size.ensures.size) in
+    omega (
+      arith,
+      c.put_row.auto.out,
+      part,
+      rest,
+      c.loop-i.invariant.len,
+      more,
+      product,
+      c.row_size-size.ensures.size,
+    ) in
     rw c.row_size-size.ensures.size
-    (one_put size c.args.from c.args.some c.loop-i.i (c.loop-i.i * size + size - c.loop-i.i * size) (g.R.Rows.bytes c.args.rows.now) c.loop-i.out
+    (one_put size c.args.from c.args.some c.loop-i.i (c.loop-i.i * size + size - c.loop-i.i * size)
+    (g.R.Rows.bytes c.args.rows.now) c.loop-i.out
     c.put_row.new.out below (omega arith) c.loop-i.invariant c.put_row.ensures long)

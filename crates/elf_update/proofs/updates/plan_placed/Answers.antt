@@ -6,8 +6,9 @@ plan-requires g c = places_count c.args.elf.now.o c.args.placed c.requires.place
 
 pub returns-in-Ok-clause-ok : goal.returns-in-Ok-clause-ok
 returns-in-Ok-clause-ok g c =
-    is_planned c.args.elf.now.o (record { parts = c.in-Ok.parts; placed = c.args.placed }) c.dirty-dirty.ensures.sound.object c.requires.dirty
-    c.requires.placed c.in-Ok.ensures.ok
+    is_planned c.args.elf.now.o c.args.placed c.in-Ok.parts c.dirty-dirty.ensures.sound.object
+    c.requires.dirty c.requires.placed c.in-Ok.ensures.ok
 
 pub returns-in-Err-clause-err : goal.returns-in-Err-clause-err
-returns-in-Err-clause-err g c = wants_passed c.args.elf.now.o c.in-Err.e c.requires.placed.passed c.in-Err.ensures.err
+returns-in-Err-clause-err g c =
+    wants_passed c.args.elf.now.o c.in-Err.e c.requires.placed.passed c.in-Err.ensures.err

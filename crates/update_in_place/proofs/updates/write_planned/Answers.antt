@@ -1,93 +1,39 @@
-use Rattle.std.proofs.Common.{◌≡◌, ◌∙◌, List, Bool, true, Ok, ap, subst, inl, length}
+use Rattle.std.proofs.Common.{◌∙◌, ap, inl}
 use Rattle.elf_descriptor.specs.State.{State}
-use Rattle.writing_laws.specs.Marks.{marked_all}
-use Rattle.update_in_place.specs.Rooms.{tells}
-use Rattle.update_in_place.specs.Loads.{LoadsHomes}
-use Rattle.update_in_place.specs.Marks.{told_parts}
-use Rattle.update_in_place.proofs.PhaseLaws.{stored_count, stored_room, loaded_count, unread, to_write}
 use Rattle.update_in_place.proofs.WriteLaws.{begins, written, written_err}
 use Rattle.update_in_place.proofs.updates.write_planned.Goals as goal
 
-pub load_homes-requires-clause-count : goal.load_homes-requires-clause-count
-load_homes-requires-clause-count g c =
-    ap length c.as_slice.ensures
-    ∙ stored_count c.args.elf.now c.store_places.new.self c.args.changes.now.sections
-    c.requires.planned.ready.dirty c.store_places.ensures c.requires.changes.sections
-
-pub load_homes-requires-clause-room : goal.load_homes-requires-clause-room
-load_homes-requires-clause-room g c = λ i there told.
-    stored_room c.args.elf.now c.store_places.new.self c.args.changes.now.sections
-    c.requires.planned.ready.dirty c.store_places.ensures c.requires.taken.room i there
-    (subst (λ (l : List Bool). tells l i ≡ true) c.as_slice.ensures told)
-
 pub returns-in-Err-clause-writes : goal.returns-in-Err-clause-writes
-returns-in-Err-clause-writes g c =
-    unread g.D.Source g.D.Device g.met.D.Device.rest_begins c.in-Err.e c.args.elf.now
-    c.store_places.new.self c.load_homes.new.elf c.as_slice.result.now
-    c.requires.planned.ready c.store_places.ensures (c.as_slice.ensures ∙ c.requires.changes.sections)
-    c.in-Err.ensures
+returns-in-Err-clause-writes g c = c.in-Err.ensures.unread
 
 pub returns-in-Err-clause-err : goal.returns-in-Err-clause-err
 returns-in-Err-clause-err g c = inl c.in-Err.ensures.err
 
-pub mark_moved-requires : goal.mark_moved-requires
-mark_moved-requires g c =
-    ap length c.as_slice-2.ensures
-    ∙ loaded_count c.store_places.new.self c.load_homes.new.elf (tells c.as_slice.result.now)
-    c.args.changes.now.sections c.in_default.ensures.some
-    (stored_count c.args.elf.now c.store_places.new.self c.args.changes.now.sections
-    c.requires.planned.ready.dirty c.store_places.ensures c.requires.changes.sections)
-
 pub write_changes-requires-clause-begun : goal.write_changes-requires-clause-begun
 write_changes-requires-clause-begun g c =
-    let loads = subst (λ (l : List Bool).
-    LoadsHomes {A = Unit {0}} g.D.Source l (length c.store_places.new.self.o.sections) (Ok tt)
-    c.store_places.new.self c.load_homes.new.elf) c.as_slice.ensures c.in_default.ensures in
-    let marks = subst (λ (l : List Bool).
-    c.mark_moved.new.elf
-    ≡ record c.load_homes.new.elf { o = marked_all c.load_homes.new.elf.o (told_parts c.load_homes.new.elf.o l) })
-    c.as_slice-2.ensures c.mark_moved.ensures in
-    let is = to_write g.D.Source g.D.Device c.args.elf.now c.store_places.new.self
-    c.load_homes.new.elf c.mark_moved.new.elf c.args.changes.now.sections
-    c.requires.planned.ready c.store_places.ensures c.requires.changes.sections loads marks in
-    begins g.D.Source g.D.Device c.args.elf.now c.mark_moved.new.elf c.args.planned.now
-    c.args.changes.now c.args.changes.now.sections c.as_slice-3.result.now c.requires.planned
-    c.requires.changes c.as_slice-3.ensures c.requires.taken c.dirty-sound.ensures.sound is
+    begins g.D.Source g.D.Device c.args.elf.now c.prepare_writes.new.elf c.args.planned.now
+    c.args.changes.now c.args.changes.now.sections c.as_slice.result.now c.requires.planned
+    c.requires.changes c.as_slice.ensures c.requires.taken c.dirty-sound.ensures.sound
+    c.in_default.ensures.prepared
 
 pub returns-clause-writes : goal.returns-clause-writes
 returns-clause-writes g c =
-    let loads = subst (λ (l : List Bool).
-    LoadsHomes {A = Unit {0}} g.D.Source l (length c.store_places.new.self.o.sections) (Ok tt)
-    c.store_places.new.self c.load_homes.new.elf) c.as_slice.ensures c.in_default.ensures in
-    let marks = subst (λ (l : List Bool).
-    c.mark_moved.new.elf
-    ≡ record c.load_homes.new.elf { o = marked_all c.load_homes.new.elf.o (told_parts c.load_homes.new.elf.o l) })
-    c.as_slice-2.ensures c.mark_moved.ensures in
-    let is = to_write g.D.Source g.D.Device c.args.elf.now c.store_places.new.self
-    c.load_homes.new.elf c.mark_moved.new.elf c.args.changes.now.sections
-    c.requires.planned.ready c.store_places.ensures c.requires.changes.sections loads marks in
     written g.D.Source g.D.Device g.met.D.Device.rest_begins c.write_changes.result
-    c.args.elf.now c.mark_moved.new.elf c.write_changes.new.elf
-    (ap (λ (e : State g.row.D.Denot). e.ready) is.rest ∙ c.requires.taken.ready) is
+    c.args.elf.now c.prepare_writes.new.elf c.write_changes.new.elf
+    (ap (λ (e : State g.row.D.Denot). e.ready) c.in_default.ensures.prepared.rest
+    ∙ c.requires.taken.ready)
+    c.in_default.ensures.prepared
     (c.write_changes.ensures
-    (begins g.D.Source g.D.Device c.args.elf.now c.mark_moved.new.elf c.args.planned.now
-    c.args.changes.now c.args.changes.now.sections c.as_slice-3.result.now c.requires.planned
-    c.requires.changes c.as_slice-3.ensures c.requires.taken c.dirty-sound.ensures.sound is))
+    (begins g.D.Source g.D.Device c.args.elf.now c.prepare_writes.new.elf c.args.planned.now
+    c.args.changes.now c.args.changes.now.sections c.as_slice.result.now c.requires.planned
+    c.requires.changes c.as_slice.ensures c.requires.taken c.dirty-sound.ensures.sound
+    c.in_default.ensures.prepared))
 
 pub returns-clause-err : goal.returns-clause-err
 returns-clause-err g c =
-    let loads = subst (λ (l : List Bool).
-    LoadsHomes {A = Unit {0}} g.D.Source l (length c.store_places.new.self.o.sections) (Ok tt)
-    c.store_places.new.self c.load_homes.new.elf) c.as_slice.ensures c.in_default.ensures in
-    let marks = subst (λ (l : List Bool).
-    c.mark_moved.new.elf
-    ≡ record c.load_homes.new.elf { o = marked_all c.load_homes.new.elf.o (told_parts c.load_homes.new.elf.o l) })
-    c.as_slice-2.ensures c.mark_moved.ensures in
-    let is = to_write g.D.Source g.D.Device c.args.elf.now c.store_places.new.self
-    c.load_homes.new.elf c.mark_moved.new.elf c.args.changes.now.sections
-    c.requires.planned.ready c.store_places.ensures c.requires.changes.sections loads marks in
     written_err g.D.Source g.D.Device c.write_changes.result
     (c.write_changes.ensures
-    (begins g.D.Source g.D.Device c.args.elf.now c.mark_moved.new.elf c.args.planned.now
-    c.args.changes.now c.args.changes.now.sections c.as_slice-3.result.now c.requires.planned
-    c.requires.changes c.as_slice-3.ensures c.requires.taken c.dirty-sound.ensures.sound is)).err
+    (begins g.D.Source g.D.Device c.args.elf.now c.prepare_writes.new.elf c.args.planned.now
+    c.args.changes.now c.args.changes.now.sections c.as_slice.result.now c.requires.planned
+    c.requires.changes c.as_slice.ensures c.requires.taken c.dirty-sound.ensures.sound
+    c.in_default.ensures.prepared)).err

@@ -1,8 +1,9 @@
-use Rattle.std.proofs.Common.{◌∙◌, length, refl, sym, ap, inl, subst}
+use Rattle.std.proofs.Common.{◌∙◌, Bool, List, length, refl, sym, ap, inl, subst}
 use Rattle.elf_object.specs.Object.{Object}
 use Rattle.elf_descriptor.specs.State.{State}
 use Rattle.elf_update.specs.Updates.{IsPlanned}
-use Rattle.update_moves.specs.Changes.{AreChanges}
+use Rattle.update_moves.specs.Changes.{TellsChanges}
+use Rattle.update_in_place.specs.Rooms.{IsTaken}
 use Rattle.update_in_place.proofs.PhaseLaws.{flags_count}
 use Rattle.update_in_place.proofs.EndLaws.{wanted, with_memory, later_err}
 use Rattle.update_in_place.proofs.updates.write_reserved.Goals as goal
@@ -34,8 +35,13 @@ write_planned-requires-clause-planned g c =
 
 pub write_planned-requires-clause-changes : goal.write_planned-requires-clause-changes
 write_planned-requires-clause-changes g c =
-    subst (λ (o : Object). AreChanges o c.args.planned.now c.args.changes.now)
+    subst (λ (o : Object). TellsChanges o c.args.planned.now c.args.changes.now)
     (sym (ap (λ (e : State g.row.D.Denot). e.o) c.in_default.ensures.state)) c.requires.changes
+
+pub write_planned-requires-clause-taken : goal.write_planned-requires-clause-taken
+write_planned-requires-clause-taken g c =
+    subst (λ (l : List Bool). IsTaken g.D.Source l c.take_memory.new.elf) c.as_slice.ensures
+    c.in_default.ensures.taken
 
 pub returns-clause-writes : goal.returns-clause-writes
 returns-clause-writes g c =

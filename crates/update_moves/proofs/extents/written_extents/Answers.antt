@@ -3,7 +3,7 @@ use Rattle.elf_layout.specs.declared.parts.PartAt.{PartAt}
 use Rattle.update_plan.specs.Plans.{no_part}
 use Rattle.elf_update.proofs.UpdateLaws.{planned_end}
 use Rattle.update_moves.specs.Written.{part_changed, written_line}
-use Rattle.update_moves.specs.Extents.{extents_of}
+use Rattle.update_moves.specs.Extents.{block_extents}
 use Rattle.update_moves.proofs.ExtentLaws.{extents_start, listed_more, listed_within, listed_end}
 use Rattle.update_moves.proofs.SectionLaws.{image_small}
 use Rattle.update_moves.proofs.extents.written_extents.Goals as goal
@@ -27,9 +27,9 @@ loop-i-preserved g c =
     c.requires.planned.ready (c.as_slice-parts.ensures ∙ c.requires.planned.parts)
     (c.requires.changed
     ∙ ap (λ (l : List PartAt). map (λ p. part_changed c.args.elf.now.o p.part) l) (sym c.as_slice-parts.ensures))
-    _ _ c.loop-i.i c.loop-i.from c.base_that_counts-kept.result _ c.max.result c.loop-i.extents
-    c.push_row.new.extents (extents_of (written_line c.args.elf.now.o)) c.loop-i-test.true
-    c.base_that_counts-kept.ensures refl c.max.ensures c.in_default.ensures.ok c.loop-i.invariant
+    _ _ c.loop-i.i c.loop-i.from c.ground_of-kept.result.kept _ c.max.result c.loop-i.extents
+    c.push_row.new.extents (block_extents (written_line c.args.elf.now.o)) c.loop-i-test.true
+    c.ground_of-kept.ensures.kept refl c.max.ensures c.in_default.ensures.ok c.loop-i.invariant
 
 pub returns-clause-ok : goal.returns-clause-ok
 returns-clause-ok g c =
@@ -37,8 +37,8 @@ returns-clause-ok g c =
     c.requires.planned.ready (c.as_slice-parts.ensures ∙ c.requires.planned.parts)
     (c.requires.changed
     ∙ ap (λ (l : List PartAt). map (λ p. part_changed c.args.elf.now.o p.part) l) (sym c.as_slice-parts.ensures))
-    c.loop-i.i c.loop-i.from c.base_that_counts-kept.result c.args.planned.now.placed.places.end
+    c.loop-i.i c.loop-i.from c.ground_of-kept.result.kept c.args.planned.now.places.end
     c.max-2.result c.loop-i.extents c.push_extent.new.extents
-    (extents_of (written_line c.args.elf.now.o)) (omega (arith, c.loop-i-test.false))
-    c.base_that_counts-kept.ensures (planned_end c.args.elf.now.o c.args.planned.now c.requires.planned)
+    (block_extents (written_line c.args.elf.now.o)) (omega (arith, c.loop-i-test.false))
+    c.ground_of-kept.ensures.kept (planned_end c.args.elf.now.o c.args.planned.now c.requires.planned)
     c.max-2.ensures c.in_default-push_extent.ensures.ok c.loop-i.invariant

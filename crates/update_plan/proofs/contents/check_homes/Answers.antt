@@ -11,12 +11,15 @@ loop-s-init g c = none_at_first missing_in_section absent_section c.args.elf.now
 pub returns-in-Err : goal.returns-in-Err
 unfolding section_at
 returns-in-Err g c =
-    home_answered c.args.elf.now.o _ (row_stop missing_in_section absent_section c.args.elf.now.o.sections c.loop-s.s c.in-Err.e
+    home_answered c.args.elf.now.o _ (row_stop missing_in_section absent_section
+    c.args.elf.now.o.sections c.loop-s.s c.in-Err.e
     (omega (arith, c.loop-s-test.true, ok_is _ _ c.shnum-s-end.ensures)) c.loop-s.invariant c.in-Err.ensures)
 
 pub loop-s-preserved : goal.loop-s-preserved
 unfolding section_at
-loop-s-preserved g c = row_goes_on missing_in_section absent_section c.args.elf.now.o.sections c.loop-s.s c.loop-s.invariant c.in_default.ensures
+loop-s-preserved g c =
+    row_goes_on missing_in_section absent_section c.args.elf.now.o.sections c.loop-s.s
+    c.loop-s.invariant c.in_default.ensures
 
 pub returns : goal.returns
 returns g c =

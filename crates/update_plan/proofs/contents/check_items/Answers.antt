@@ -6,19 +6,25 @@ use Rattle.update_plan.proofs.ContentLaws.{row_stop, row_end, row_goes_on, item_
 use Rattle.update_plan.proofs.contents.check_items.Goals as goal
 
 pub loop-s-init : goal.loop-s-init
-loop-s-init g c = none_at_first (unfit_in_section c.args.elf.now.o.header.class) absent_section c.args.elf.now.o.sections
+loop-s-init g c =
+    none_at_first (unfit_in_section c.args.elf.now.o.header.class) absent_section
+    c.args.elf.now.o.sections
 
 pub returns-in-Err : goal.returns-in-Err
 unfolding section_at
 returns-in-Err g c =
-    item_answered c.args.elf.now.o _ (row_stop (unfit_in_section c.args.elf.now.o.header.class) absent_section c.args.elf.now.o.sections c.loop-s.s c.in-Err.e
+    item_answered c.args.elf.now.o _ (row_stop (unfit_in_section c.args.elf.now.o.header.class)
+    absent_section c.args.elf.now.o.sections c.loop-s.s c.in-Err.e
     (omega (arith, c.loop-s-test.true, ok_is _ _ c.shnum-s-end.ensures)) c.loop-s.invariant c.in-Err.ensures)
 
 pub loop-s-preserved : goal.loop-s-preserved
 unfolding section_at
-loop-s-preserved g c = row_goes_on (unfit_in_section c.args.elf.now.o.header.class) absent_section c.args.elf.now.o.sections c.loop-s.s c.loop-s.invariant c.in_default.ensures
+loop-s-preserved g c =
+    row_goes_on (unfit_in_section c.args.elf.now.o.header.class) absent_section
+    c.args.elf.now.o.sections c.loop-s.s c.loop-s.invariant c.in_default.ensures
 
 pub returns : goal.returns
 returns g c =
-    item_answered c.args.elf.now.o _ (row_end (unfit_in_section c.args.elf.now.o.header.class) absent_section c.args.elf.now.o.sections c.loop-s.s
+    item_answered c.args.elf.now.o _ (row_end (unfit_in_section c.args.elf.now.o.header.class)
+    absent_section c.args.elf.now.o.sections c.loop-s.s
     (omega (arith, c.loop-s-test.false, ok_is _ _ c.shnum-s-end.ensures)) c.loop-s.invariant)

@@ -8,12 +8,16 @@ use Rattle.update_plan.proofs.contents.check_piece.Goals as goal
 
 pub returns-in-Some : goal.returns-in-Some
 returns-in-Some g c =
-    unfit_some c.args.elf.now.o.header.class c.args.s c.args.p (piece_at c.args.elf.now.o c.args.s c.args.p) c.in-Ok-Edited.items.now c.in-Some.index
+    unfit_some c.args.elf.now.o.header.class c.args.s c.args.p
+    (piece_at c.args.elf.now.o c.args.s c.args.p) c.in-Ok-Edited.items.now c.in-Some.index
     (rw c.in-Ok-Edited.field-0-is at c.in-Ok-Edited.ensures.held)
-    (c.in-Some.ensures ∙ ap (λ (class : Class). first_unfit class c.in-Ok-Edited.items.now) (class_is c.args.elf.now.o c.ehdr-class.result c.ehdr-class.ensures))
+    (c.in-Some.ensures ∙ ap (λ (class : Class). first_unfit class c.in-Ok-Edited.items.now)
+    (class_is c.args.elf.now.o c.ehdr-class.result c.ehdr-class.ensures))
 
 pub returns-in-None : goal.returns-in-None
 returns-in-None g c =
-    unfit_none c.args.elf.now.o.header.class c.args.s c.args.p (piece_at c.args.elf.now.o c.args.s c.args.p) c.in-Ok-Edited.items.now
+    unfit_none c.args.elf.now.o.header.class c.args.s c.args.p
+    (piece_at c.args.elf.now.o c.args.s c.args.p) c.in-Ok-Edited.items.now
     (rw c.in-Ok-Edited.field-0-is at c.in-Ok-Edited.ensures.held)
-    (c.in-None.ensures ∙ ap (λ (class : Class). first_unfit class c.in-Ok-Edited.items.now) (class_is c.args.elf.now.o c.ehdr-class.result c.ehdr-class.ensures))
+    (c.in-None.ensures ∙ ap (λ (class : Class). first_unfit class c.in-Ok-Edited.items.now)
+    (class_is c.args.elf.now.o c.ehdr-class.result c.ehdr-class.ensures))

@@ -14,13 +14,21 @@ segment_fits-requires g c = omega (arith, c.loop-i-test.true, ok_is _ _ c.phnum-
 
 pub returns-then-not-segment_fits : goal.returns-then-not-segment_fits
 returns-then-not-segment_fits g c =
-    segments_stop c.args.elf.now.o c.loop-i.i (omega (arith, c.loop-i-test.true, ok_is _ _ c.phnum-i-end.ensures)) c.loop-i.invariant
+    segments_stop c.args.elf.now.o c.loop-i.i
+    (omega (arith, c.loop-i-test.true, ok_is _ _ c.phnum-i-end.ensures)) c.loop-i.invariant
     (sym c.segment_fits.ensures ∙ c.if-not-segment_fits.true)
 
 pub loop-i-preserved : goal.loop-i-preserved
 loop-i-preserved g c =
-    pass_more (λ p. phdr_fits c.args.elf.now.o.header.class p) no_phdr c.args.elf.now.o.phdrs c.loop-i.i c.loop-i.invariant
+    pass_more (λ p. phdr_fits c.args.elf.now.o.header.class p) no_phdr c.args.elf.now.o.phdrs
+    c.loop-i.i c.loop-i.invariant
     (sym c.segment_fits.ensures ∙ c.if-not-segment_fits.false)
 
 pub returns : goal.returns
-returns g c = segments_end c.args.elf.now.o c.loop-i.i (omega (arith, c.loop-i-test.false, ok_is _ _ c.phnum-i-end.ensures)) c.loop-i.invariant
+returns g c =
+    segments_end c.args.elf.now.o c.loop-i.i (omega (
+      arith,
+      c.loop-i-test.false,
+      ok_is _ _
+          c.phnum-i-end.ensures,
+    )) c.loop-i.invariant

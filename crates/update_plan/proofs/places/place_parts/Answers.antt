@@ -11,16 +11,19 @@ returns-in-Err-clause-err g c =
 pub returns-in-Ok-clause-ok : goal.returns-in-Ok-clause-ok
 returns-in-Ok-clause-ok g c =
     let o = c.args.elf.now.o in
-    placed_ok o c.requires (passed_from (content_refusal o) c.in_default.ensures) (c.parts_may_be_capped.ensures o c.dirty-dirty.ensures.sound.object)
+    placed_ok o c.requires (passed_from (content_refusal o) c.in_default.ensures)
+    (c.parts_may_be_capped.ensures o c.dirty-dirty.ensures.sound.object)
     c.in-Ok.parts c.place_listed.result c.in-Ok.ensures.ok c.place_listed.ensures.ok c.place_listed.ensures.parts
 
 pub returns-in-Ok-clause-err : goal.returns-in-Ok-clause-err
 returns-in-Ok-clause-err g c =
     let o = c.args.elf.now.o in
-    placed_err o c.requires (passed_from (content_refusal o) c.in_default.ensures) (c.parts_may_be_capped.ensures o c.dirty-dirty.ensures.sound.object)
+    placed_err o c.requires (passed_from (content_refusal o) c.in_default.ensures)
+    (c.parts_may_be_capped.ensures o c.dirty-dirty.ensures.sound.object)
     c.in-Ok.parts c.place_listed.result c.in-Ok.ensures.ok c.place_listed.ensures.err
 
 pub returns-in-Err-list_parts-clause-err : goal.returns-in-Err-list_parts-clause-err
 returns-in-Err-list_parts-clause-err g c =
     let o = c.args.elf.now.o in
-    wants_as o c.in-Err-list_parts.e c.requires (passed_from (content_refusal o) c.in_default.ensures) c.in-Err-list_parts.ensures.err
+    wants_as o c.in-Err-list_parts.e c.requires
+    (passed_from (content_refusal o) c.in_default.ensures) c.in-Err-list_parts.ensures.err

@@ -1,12 +1,21 @@
-use Rattle.std.proofs.Common.{arith}
-use Rattle.update_plan.proofs.PartLaws.{stands_more, stands_all}
+use Rattle.std.proofs.Common.{List, length, ap, arith}
+use Rattle.elf_layout.specs.declared.parts.PartAt.{PartAt}
+use Rattle.update_plan.proofs.PartLaws.{length-stood, stands_more, stands_all}
 use Rattle.update_plan.proofs.plans.stand.Goals as goal
+
+pub stand_one-requires : goal.stand_one-requires
+stand_one-requires c =
+    let count = ap (λ (l : List PartAt). length l) c.loop-i.invariant in
+    let long = length-stood c.args.parts.now c.args.at.now c.loop-i.i c.requires in
+    omega (arith, count, long, c.requires, c.loop-i-test.true)
 
 pub loop-i-preserved : goal.loop-i-preserved
 loop-i-preserved c =
-    stands_more c.args.parts.now c.loop-i.standing c.push.new.self c.args.at.now c.loop-i.i (omega (arith, c.loop-i-test.true)) c.requires
-    c.loop-i.invariant c.in_ok-push.ensures.ok
+    stands_more c.args.parts.now c.loop-i.parts c.stand_one.new.parts c.args.at.now c.loop-i.i
+    (omega (arith, c.requires, c.loop-i-test.true)) c.requires c.loop-i.invariant
+    c.stand_one.ensures
 
-pub returns-clause-ok : goal.returns-clause-ok
-returns-clause-ok c =
-    stands_all c.args.parts.now c.loop-i.standing c.args.at.now c.loop-i.i (omega (arith, c.loop-i-test.false)) c.loop-i.invariant
+pub returns : goal.returns
+returns c =
+    stands_all c.args.parts.now c.loop-i.parts c.args.at.now c.loop-i.i
+    (omega (arith, c.requires, c.loop-i-test.false)) c.loop-i.invariant

@@ -19,16 +19,19 @@ size_base-requires-clause-may g c = record {
 
 pub returns-in-Err : goal.returns-in-Err
 returns-in-Err g c = λ b.
-    writes_of g.D.Source g.D.Device g.met.D.Source.sized c.args.planned.now c.args.changed.now c.args.elf.now b (Err c.in-Err.e) c.size_base.new.self
-    (not_lengthened g.D.Source g.D.Device g.met.D.Source.sized c.args.planned.now c.args.changed.now c.args.elf.now b c.in-Err.e c.size_base.new.self
-    c.args.planned.now.placed.places.end (planned_end b.was c.args.planned.now b.planned)
+    writes_of g.D.Source g.D.Device g.met.D.Source.sized c.args.planned.now c.args.changed.now
+    c.args.elf.now b (Err c.in-Err.e) c.size_base.new.self
+    (not_lengthened g.D.Source g.D.Device g.met.D.Source.sized c.args.planned.now c.args.changed.now
+    c.args.elf.now b c.in-Err.e c.size_base.new.self
+    c.args.planned.now.places.end (planned_end b.was c.args.planned.now b.planned)
     c.in-Err.ensures.cuts c.in-Err.ensures.uses c.in-Err.ensures.unfinished c.in-Err.ensures.err)
 
 pub write_over-requires-clause-begun : goal.write_over-requires-clause-begun
 write_over-requires-clause-begun g c =
     let b = c.requires.begun in
-    longer_begun g.D.Source g.D.Device g.met.D.Source.sized c.args.planned.now c.args.changed.now c.args.elf.now c.requires.begun c.size_base.new.self
-    c.args.planned.now.placed.places.end (planned_end b.was c.args.planned.now b.planned) c.requires.grows
+    longer_begun g.D.Source g.D.Device g.met.D.Source.sized c.args.planned.now c.args.changed.now
+    c.args.elf.now c.requires.begun c.size_base.new.self
+    c.args.planned.now.places.end (planned_end b.was c.args.planned.now b.planned) c.requires.grows
     c.in_default.ensures.cuts c.in_default.ensures.ok
 
 pub write_over-requires-clause-fits : goal.write_over-requires-clause-fits
@@ -38,10 +41,13 @@ write_over-requires-clause-fits g c =
 
 pub returns : goal.returns
 returns g c = λ b.
-    writes_of g.D.Source g.D.Device g.met.D.Source.sized c.args.planned.now c.args.changed.now c.args.elf.now b c.write_over.result c.write_over.new.elf
-    (walked_longer g.D.Source g.D.Device g.met.D.Source.sized c.args.planned.now c.args.changed.now c.args.elf.now b c.size_base.new.self
-    c.args.planned.now.placed.places.end (planned_end b.was c.args.planned.now b.planned) c.requires.grows
+    writes_of g.D.Source g.D.Device g.met.D.Source.sized c.args.planned.now c.args.changed.now
+    c.args.elf.now b c.write_over.result c.write_over.new.elf
+    (walked_longer g.D.Source g.D.Device g.met.D.Source.sized c.args.planned.now c.args.changed.now
+    c.args.elf.now b c.size_base.new.self
+    c.args.planned.now.places.end (planned_end b.was c.args.planned.now b.planned) c.requires.grows
     c.in_default.ensures.cuts c.in_default.ensures.ok c.write_over.result c.write_over.new.elf
-    (c.write_over.ensures (longer_begun g.D.Source g.D.Device g.met.D.Source.sized c.args.planned.now c.args.changed.now c.args.elf.now b
-    c.size_base.new.self c.args.planned.now.placed.places.end (planned_end b.was c.args.planned.now b.planned) c.requires.grows
+    (c.write_over.ensures (longer_begun g.D.Source g.D.Device g.met.D.Source.sized
+    c.args.planned.now c.args.changed.now c.args.elf.now b
+    c.size_base.new.self c.args.planned.now.places.end (planned_end b.was c.args.planned.now b.planned) c.requires.grows
     c.in_default.ensures.cuts c.in_default.ensures.ok)) c.in_default.ensures.uses)

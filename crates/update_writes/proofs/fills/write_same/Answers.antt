@@ -19,8 +19,10 @@ returns-in-Err g c =
     let l = c.loop-done in
     let n = c.min-some.result in
     let most : l.done + n ≤ c.args.count = omega (arith, c.min-some.ensures, l.invariant.within) in
-    fill_stops g.D.Source g.D.Device c.args.at c.args.count c.args.byte l.done c.in-Err.e c.args.elf.now c.write_base.new.self n most
-    (fill_step g.D.Source g.D.Device c.args.at c.args.count c.args.byte l.done (Err c.in-Err.e) c.args.elf.now l.elf c.write_base.new.self n
+    fill_stops g.D.Source g.D.Device c.args.at c.args.count c.args.byte l.done c.in-Err.e
+    c.args.elf.now c.write_base.new.self n most
+    (fill_step g.D.Source g.D.Device c.args.at c.args.count c.args.byte l.done
+    (Err c.in-Err.e) c.args.elf.now l.elf c.write_base.new.self n
     (take n c.args.page.now) (g.met.D.Source.sized c.args.elf.now.source) most
     (front_same c.args.page.now n c.args.byte c.requires.page (omega (arith, c.min-some.ensures)))
     c.requires.may l.invariant.over c.in-Err.ensures.cuts c.in-Err.ensures.patches c.in-Err.ensures.err)
@@ -30,7 +32,9 @@ loop-done-preserved g c =
     let l = c.loop-done in
     let n = c.min-some.result in
     let most : l.done + n ≤ c.args.count = omega (arith, c.min-some.ensures, l.invariant.within) in record {
-      over = fill_step g.D.Source g.D.Device c.args.at c.args.count c.args.byte l.done (Ok tt) c.args.elf.now l.elf c.write_base.new.self n
+      over =
+          fill_step g.D.Source g.D.Device c.args.at c.args.count c.args.byte l.done
+          (Ok tt) c.args.elf.now l.elf c.write_base.new.self n
           (take n c.args.page.now) (g.met.D.Source.sized c.args.elf.now.source) most
           (front_same c.args.page.now n c.args.byte c.requires.page (omega (arith, c.min-some.ensures)))
           c.requires.may l.invariant.over c.in_default.ensures.cuts c.in_default.ensures.patches tt;

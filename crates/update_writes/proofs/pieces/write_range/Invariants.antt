@@ -1,6 +1,6 @@
 use Rattle.std.proofs.Common.{◌≡◌, ◌-◌, ◌≤◌, Ok, length, take}
 use Rattle.std.specs.Prelude.{slice_index_or}
-use Rattle.elf_update.specs.Origins.{no_piece}
+use Rattle.elf_update.specs.Origins.{absent_piece}
 use Rattle.elf_update.specs.Descriptors.{stored_pieces}
 use Rattle.update_writes.specs.Overwrites.{Overwrites}
 use Rattle.update_writes.proofs.pieces.write_range.Given as goal
@@ -8,7 +8,7 @@ use Rattle.update_writes.proofs.pieces.write_range.Given as goal
 abbrev pub invariant-loop-done : goal.invariant-loop-done
 invariant-loop-done g l = record {
   over : Overwrites g.D.Source g.D.Device (Ok (tt {0})) l.initial.elf l.elf l.at
-      (take l.done (slice_index_or (stored_pieces l.initial.elf.o l.part) l.p no_piece).1);
+      (take l.done (slice_index_or (stored_pieces l.initial.elf.o l.part) l.p absent_piece).1);
   within : l.done ≤ l.len;
   page : length l.page ≡ length l.initial.page;
 }

@@ -11,8 +11,11 @@ pub returns-clause-puts : goal.returns-clause-puts
 returns-clause-puts g c =
     let may = c.requires.may c.if-not-changes.false in
     let within = may.within in
-    subst (λ (t : Bool). PutsAll {T = Unit {0}} g.D.Source g.D.Device c.write_part.result c.args.elf.now c.write_part.new.elf
+    subst (λ (t : Bool). PutsAll {T = Unit {0}} g.D.Source g.D.Device c.write_part.result
+    c.args.elf.now c.write_part.new.elf
     (when t (block_at c.args.fill (stored_pieces c.args.elf.now.o) c.args.part))) (sym c.if-not-changes.false)
-    (all_one g.D.Source g.D.Device c.args.elf.now c.write_part.new.elf (block_at c.args.fill (stored_pieces c.args.elf.now.o) c.args.part)
-    (part_fits c.args.fill (stored_pieces c.args.elf.now.o) c.args.part (g.D.Source.size c.args.elf.now.source) c.requires.long within)
+    (all_one g.D.Source g.D.Device c.args.elf.now c.write_part.new.elf
+    (block_at c.args.fill (stored_pieces c.args.elf.now.o) c.args.part)
+    (part_fits c.args.fill (stored_pieces c.args.elf.now.o) c.args.part
+    (g.D.Source.size c.args.elf.now.source) c.requires.long within)
     c.write_part.result c.write_part.ensures.over)

@@ -1,12 +1,14 @@
 use Rattle.std.proofs.Common.{◌<◌, ◌^◌, arith, lit<}
 use Rattle.elf_types.specs.declared.constants.TheConstants.{MAX_SEGMENTS, MAX_SECTIONS}
 use Rattle.elf_xlate.specs.Headers.{ehdr_size}
-use Rattle.elf_update.proofs.RowLaws.{ok_header}
+use Rattle.update_plan.proofs.RowLaws.{ok_is}
 use Rattle.elf_update.proofs.FrontLaws.{sized_back, few_header, header_long}
 use Rattle.elf_update.proofs.fronts.HeaderRowRows.row_size.Goals as goal
 
 pub returns-clause-size : goal.returns-clause-size
-returns-clause-size g c = sized_back ehdr_size c.args.self.now.elf.now.o c.ehdr.result c.ehdr_size.result (ok_header c.ehdr.ensures) c.ehdr_size.ensures
+returns-clause-size g c =
+    sized_back ehdr_size c.args.self.now.elf.now.o c.ehdr.result c.ehdr_size.result
+    (ok_is _ _ c.ehdr.ensures) c.ehdr_size.ensures
 
 pub returns-clause-some : goal.returns-clause-some
 returns-clause-some g c = let few = few_header c.ehdr.result.class in omega (arith, few.some, c.ehdr_size.ensures)

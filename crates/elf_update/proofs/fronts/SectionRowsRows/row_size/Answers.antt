@@ -1,12 +1,14 @@
 use Rattle.std.proofs.Common.{◌<◌, ◌^◌, arith, lit<}
 use Rattle.elf_types.specs.declared.constants.TheConstants.{MAX_SEGMENTS, MAX_SECTIONS}
 use Rattle.elf_xlate.specs.Headers.{shdr_size}
-use Rattle.elf_update.proofs.RowLaws.{ok_header}
+use Rattle.update_plan.proofs.RowLaws.{ok_is}
 use Rattle.elf_update.proofs.FrontLaws.{sized_back, few_section, table_long}
 use Rattle.elf_update.proofs.fronts.SectionRowsRows.row_size.Goals as goal
 
 pub returns-clause-size : goal.returns-clause-size
-returns-clause-size g c = sized_back shdr_size c.args.self.now.elf.now.o c.ehdr.result c.shdr_size.result (ok_header c.ehdr.ensures) c.shdr_size.ensures
+returns-clause-size g c =
+    sized_back shdr_size c.args.self.now.elf.now.o c.ehdr.result c.shdr_size.result
+    (ok_is _ _ c.ehdr.ensures) c.shdr_size.ensures
 
 pub returns-clause-some : goal.returns-clause-some
 returns-clause-some g c = let few = few_section c.ehdr.result.class in omega (arith, few.some, c.shdr_size.ensures)

@@ -1,12 +1,14 @@
 use Rattle.std.proofs.Common.{◌<◌, ◌^◌, arith, lit<}
 use Rattle.elf_types.specs.declared.constants.TheConstants.{MAX_SEGMENTS, MAX_SECTIONS}
 use Rattle.elf_xlate.specs.Headers.{phdr_size}
-use Rattle.elf_update.proofs.RowLaws.{ok_header}
+use Rattle.update_plan.proofs.RowLaws.{ok_is}
 use Rattle.elf_update.proofs.FrontLaws.{sized_back, few_segment, segments_long}
 use Rattle.elf_update.proofs.fronts.SegmentRowsRows.row_size.Goals as goal
 
 pub returns-clause-size : goal.returns-clause-size
-returns-clause-size g c = sized_back phdr_size c.args.self.now.elf.now.o c.ehdr.result c.phdr_size.result (ok_header c.ehdr.ensures) c.phdr_size.ensures
+returns-clause-size g c =
+    sized_back phdr_size c.args.self.now.elf.now.o c.ehdr.result c.phdr_size.result
+    (ok_is _ _ c.ehdr.ensures) c.phdr_size.ensures
 
 pub returns-clause-some : goal.returns-clause-some
 returns-clause-some g c = let few = few_segment c.ehdr.result.class in omega (arith, few.some, c.phdr_size.ensures)

@@ -1,7 +1,7 @@
 use Rattle.std.proofs.Common.{sym, arith}
 use Rattle.update_plan.proofs.RowLaws.{ok_is}
-use Rattle.elf_update.proofs.DataLaws.{none_past}
-use Rattle.update_moves.proofs.sections.is_in_file.Goals as goal
+use Rattle.update_plan.proofs.InFileLaws.{none_past}
+use Rattle.update_plan.proofs.sections.is_in_file.Goals as goal
 
 pub returns : goal.returns
 returns g c =
