@@ -1,0 +1,9 @@
+pub mod ReadLaws
+pub mod ListedLaws
+pub mod CallLaws
+pub mod RangeLaws
+pub mod SysvLaws
+pub mod OrderLaws
+pub mod BloomLaws
+pub mod EncodingLaws
+pub mod GnuLaws

@@ -1,0 +1,224 @@
+//! Images with symbols and room for both kinds of hash sections, and questions on them, put to
+//! descriptors over sources that tell their bytes and over those that do not.
+
+use elf_descriptor::Elf;
+use elf_outside::Source;
+use elf_types::constants::{
+    SHN_ABS, SHT_GNU_HASH, SHT_HASH, SHT_STRTAB, SHT_SYMTAB, STB_GLOBAL, STB_LOCAL, STB_WEAK,
+};
+use elf_types::{DataId, ElfError, NULL_SECTION, Octets, ScnId, Shdr, Sym};
+use std::alloc::Global;
+use test_images::{Content, Form, Put, Recipe, Start, WIDE, image_in};
+use test_sources::{Sparse, source};
+
+/// The section of the symbols.
+pub const SYMBOLS: ScnId = ScnId(2);
+
+/// The section of type `SHT_HASH`.
+pub const SYSV: ScnId = ScnId(3);
+
+/// GNU's hash section.
+pub const GNU: ScnId = ScnId(4);
+
+/// Whether an answer is that refusal.
+pub fn is_refusal<T>(answer: &Result<T, ElfError>, refusal: ElfError) -> bool {
+    match answer {
+        Ok(_) => false,
+        Err(e) => *e == refusal,
+    }
+}
+
+/// The first piece of a section.
+pub fn first_piece(s: ScnId) -> DataId {
+    DataId {
+        section: s.0,
+        piece: 0,
+    }
+}
+
+/// A local symbol that lies in no section.
+const LOCAL: Sym = Sym {
+    name: 0,
+    info: STB_LOCAL * 16,
+    other: 0,
+    shndx: SHN_ABS as u16,
+    value: 0,
+    size: 0,
+};
+
+/// A global one.
+const GLOBAL: Sym = Sym {
+    info: STB_GLOBAL * 16,
+    ..LOCAL
+};
+
+/// A weak one.
+const WEAK: Sym = Sym {
+    info: STB_WEAK * 16,
+    ..LOCAL
+};
+
+/// A global symbol that is undefined.
+const UNDEFINED: Sym = Sym { shndx: 0, ..GLOBAL };
+
+/// The symbol with which a table begins.
+const ZERO: Sym = Sym { shndx: 0, ..LOCAL };
+
+/// The names of the symbols. No NUL ends the last one.
+const STRINGS: &[u8] = b"\0a\0b\0printf\0exit\0hidden\0missing\0tail";
+
+/// Symbols in the order of two buckets: of the first are `a` and `printf`, of the second `exit` and
+/// `b`. Symbol 1 is local, 2 is undefined, 3 has an empty name, the name of 4 has no end, and that
+/// of 5 is none of the strings.
+const IN_ORDER: &[Sym] = &[
+    ZERO,
+    Sym { name: 17, ..LOCAL },
+    Sym {
+        name: 24,
+        ..UNDEFINED
+    },
+    GLOBAL,
+    Sym { name: 32, ..GLOBAL },
+    Sym {
+        name: 900,
+        ..GLOBAL
+    },
+    Sym { name: 1, ..GLOBAL },
+    Sym { name: 5, ..WEAK },
+    Sym { name: 12, ..GLOBAL },
+    Sym { name: 3, ..GLOBAL },
+];
+
+/// Symbols out of it: `b`, `a`, one that is undefined, and `printf`.
+const OUT_OF_ORDER: &[Sym] = &[
+    ZERO,
+    Sym { name: 3, ..GLOBAL },
+    Sym { name: 1, ..GLOBAL },
+    Sym {
+        name: 24,
+        ..UNDEFINED
+    },
+    Sym { name: 5, ..GLOBAL },
+];
+
+/// The strings, the symbols and the two hash sections.
+const SECTIONS: &[Shdr] = &[
+    NULL_SECTION,
+    Shdr {
+        stype: SHT_STRTAB,
+        ..NULL_SECTION
+    },
+    Shdr {
+        stype: SHT_SYMTAB,
+        link: 1,
+        ..NULL_SECTION
+    },
+    Shdr {
+        stype: SHT_HASH,
+        link: 2,
+        ..NULL_SECTION
+    },
+    Shdr {
+        stype: SHT_GNU_HASH,
+        link: 2,
+        ..NULL_SECTION
+    },
+];
+
+/// An image with symbols in the order of two buckets.
+pub const SORTED: Recipe = Recipe {
+    form: WIDE,
+    start: Start::Table(64, 5, 0),
+    puts: &[
+        Put::Sections(SECTIONS),
+        Put::Home(1, Content::Bytes(STRINGS)),
+        Put::Home(2, Content::Syms(IN_ORDER)),
+        Put::Home(3, Content::Words(&[0])),
+        Put::Home(4, Content::Bytes(&[0; 4])),
+    ],
+};
+
+/// One with symbols out of it.
+pub const UNSORTED: Recipe = Recipe {
+    form: WIDE,
+    start: Start::Table(64, 5, 0),
+    puts: &[
+        Put::Sections(SECTIONS),
+        Put::Home(1, Content::Bytes(STRINGS)),
+        Put::Home(2, Content::Syms(OUT_OF_ORDER)),
+        Put::Home(3, Content::Words(&[0])),
+        Put::Home(4, Content::Bytes(&[0; 4])),
+    ],
+};
+
+/// A question on an image, with its answer.
+pub trait Question {
+    /// Whether the descriptor that began over it answers as it should.
+    fn is_answered<S: Source>(&self, elf: &mut Elf<S>) -> bool;
+}
+
+/// Whether a question is answered over a source, which is given back.
+fn is_answered_over<Q: Question, S: Source>(alloc: Global, q: &Q, src: S) -> (S, bool) {
+    match Elf::begin(alloc, src) {
+        Ok(mut elf) => {
+            let answered = q.is_answered(&mut elf);
+            (elf.end(), answered)
+        }
+        Err((src, _)) => (src, false),
+    }
+}
+
+/// The bytes of an image in a form.
+fn bytes_in(alloc: Global, form: Form, recipe: &Recipe) -> Result<Octets, ElfError> {
+    Ok(image_in(alloc, form, recipe)?.bytes)
+}
+
+/// Whether a question is answered over a source of a length that begins with an image and does not
+/// tell its bytes.
+pub fn is_answered_within<Q: Question>(
+    alloc: Global,
+    q: &Q,
+    recipe: &Recipe,
+    len: u64,
+) -> Result<bool, ElfError> {
+    let bytes = bytes_in(alloc, recipe.form, recipe)?;
+    let (_src, answered) = is_answered_over(alloc, q, Sparse::new(bytes, len));
+    Ok(answered)
+}
+
+/// How many bytes of a source in memory were asked for once a question was answered; none where it
+/// was not.
+pub fn asked<Q: Question>(
+    alloc: Global,
+    q: &Q,
+    form: Form,
+    recipe: &Recipe,
+) -> Result<Option<u64>, ElfError> {
+    let bytes = bytes_in(alloc, form, recipe)?;
+    let (src, answered) = is_answered_over(alloc, q, source(alloc, bytes, 0)?);
+    Ok(if answered { Some(src.asked()) } else { None })
+}
+
+/// Whether it is answered over a source that does not tell its bytes.
+fn is_answered_untold<Q: Question>(
+    alloc: Global,
+    q: &Q,
+    form: Form,
+    recipe: &Recipe,
+) -> Result<bool, ElfError> {
+    let bytes = bytes_in(alloc, form, recipe)?;
+    let len = bytes.len();
+    let (_src, answered) = is_answered_over(alloc, q, Sparse::new(bytes, len));
+    Ok(answered)
+}
+
+/// Whether it is over either.
+pub fn is_answered<Q: Question>(
+    alloc: Global,
+    q: &Q,
+    form: Form,
+    recipe: &Recipe,
+) -> Result<bool, ElfError> {
+    let told = asked(alloc, q, form, recipe)?.is_some();
+    Ok(told && is_answered_untold(alloc, q, form, recipe)?)
+}

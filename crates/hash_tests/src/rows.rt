@@ -1,0 +1,108 @@
+//! What is built for the object with two symbols, and the order of symbols.
+
+use crate::images::{Question, SYMBOLS, UNSORTED, is_answered, is_refusal};
+use elf_descriptor::Elf;
+use elf_outside::Source;
+use elf_types::{ElfError, Octets, Words};
+use hash_build::{GnuShape, build_gnu, build_sysv, gnu_order};
+use test_images::{NARROW, OBJECT, WIDE};
+
+/// Whether these are the words.
+fn are_words(words: &Result<Words, ElfError>, wanted: &[u32]) -> bool {
+    match words {
+        Ok(l) => l.as_slice() == wanted,
+        Err(_) => false,
+    }
+}
+
+/// Whether these are the bytes.
+fn are_bytes(bytes: &Result<Octets, ElfError>, wanted: &[u8]) -> bool {
+    match bytes {
+        Ok(l) => l.as_slice() == wanted,
+        Err(_) => false,
+    }
+}
+
+/// One bucket and one bloom word.
+const ONE: GnuShape = GnuShape {
+    nbuckets: 1,
+    bloom: 1,
+    shift: 6,
+};
+
+/// GNU's hash section of that shape, of the symbol `a` alone.
+const WIDE_BYTES: &[u8] = &[
+    1, 0, 0, 0, 1, 0, 0, 0, 1, 0, 0, 0, 6, 0, 0, 0, 0x40, 0, 0, 1, 0, 0, 0, 0, 1, 0, 0, 0, 7, 0xb6,
+    2, 0,
+];
+
+/// The same in class 32, the greatest byte first: the hash is 0x2b606, so the bloom's word has the
+/// bits 6 and 24.
+const NARROW_BYTES: &[u8] = &[
+    0, 0, 0, 1, 0, 0, 0, 1, 0, 0, 0, 1, 0, 0, 0, 6, 1, 0, 0, 0x40, 0, 0, 0, 1, 0, 2, 0xb6, 7,
+];
+
+/// Both sections and the order are those of the object with one symbol that is listed.
+struct Built(&'static [u8]);
+
+impl Question for Built {
+    fn is_answered<S: Source>(&self, elf: &mut Elf<S>) -> bool {
+        let words = build_sysv(elf, SYMBOLS, 1);
+        let order = gnu_order(elf, SYMBOLS, 1);
+        let bytes = build_gnu(elf, SYMBOLS, ONE);
+        are_words(&words, &[1, 2, 1, 0, 0])
+            && are_words(&order, &[0, 1])
+            && are_bytes(&bytes, self.0)
+    }
+}
+
+#[test]
+fn both_sections_are_built_for_one_symbol(rt: HostRuntime) {
+    assert!(rt; is_answered(rt.alloc(), &Built(WIDE_BYTES), WIDE, &OBJECT) == Ok(true));
+    assert!(rt; is_answered(rt.alloc(), &Built(NARROW_BYTES), NARROW, &OBJECT) == Ok(true));
+}
+
+/// Two buckets.
+const TWO: GnuShape = GnuShape {
+    nbuckets: 2,
+    bloom: 1,
+    shift: 6,
+};
+
+/// Symbols out of their order: those that are not listed come first, and then the others by bucket.
+struct Ordered;
+
+impl Question for Ordered {
+    fn is_answered<S: Source>(&self, elf: &mut Elf<S>) -> bool {
+        let two = gnu_order(elf, SYMBOLS, 2);
+        let one = gnu_order(elf, SYMBOLS, 1);
+        let refused = build_gnu(elf, SYMBOLS, TWO);
+        are_words(&two, &[0, 3, 2, 4, 1])
+            && are_words(&one, &[0, 3, 1, 2, 4])
+            && is_refusal(&refused, ElfError::Unsorted { at: 2 })
+    }
+}
+
+#[test]
+fn symbols_are_ordered_by_bucket(rt: HostRuntime) {
+    assert!(rt; is_answered(rt.alloc(), &Ordered, WIDE, &UNSORTED) == Ok(true));
+    assert!(rt; is_answered(rt.alloc(), &Ordered, NARROW, &UNSORTED) == Ok(true));
+}
+
+/// Chains go up in a section of type `SHT_HASH`, whatever the order of the symbols is: the elf
+/// hashes of `b`, `a` and `printf` are 0x62, 0x61 and 0x77905a6.
+struct Chained;
+
+impl Question for Chained {
+    fn is_answered<S: Source>(&self, elf: &mut Elf<S>) -> bool {
+        let two = build_sysv(elf, SYMBOLS, 2);
+        let one = build_sysv(elf, SYMBOLS, 1);
+        are_words(&two, &[2, 5, 1, 2, 0, 4, 0, 0, 0]) && are_words(&one, &[1, 5, 1, 0, 2, 4, 0, 0])
+    }
+}
+
+#[test]
+fn chains_of_words_go_up(rt: HostRuntime) {
+    assert!(rt; is_answered(rt.alloc(), &Chained, WIDE, &UNSORTED) == Ok(true));
+    assert!(rt; is_answered(rt.alloc(), &Chained, NARROW, &UNSORTED) == Ok(true));
+}
