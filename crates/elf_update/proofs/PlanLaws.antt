@@ -5,7 +5,6 @@ use Rattle.std.specs.List.{range_with_len, enumerate_from, filter, AllByRecursio
 use Rattle.std.proofs.lemmas.Bool.{cases_lt, ltb-true}
 use Rattle.std.proofs.lemmas.List.Sums.{sum_by-cons}
 use Rattle.std.proofs.lemmas.List.Elements.{All-from_recursion}
-use Rattle.elf_types.specs.declared.records.Part.TheVariants as part
 use Rattle.elf_layout.specs.declared.parts.PartAt.{PartAt}
 use Rattle.elf_layout.specs.Layout.{end_after, in_order_from, standing}
 use Rattle.elf_layout.specs.Meeting.{has_bytes, sorted_by, ranked_from, ranks_by_position}

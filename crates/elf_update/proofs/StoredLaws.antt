@@ -13,7 +13,7 @@ use Rattle.elf_xlate.specs.declared.content.Items.{Items}
 use Rattle.elf_xlate.specs.Headers.{phdr_fits}
 use Rattle.elf_xlate.specs.Translation.{first_unfit}
 use Rattle.elf_xlate.proofs.Pieces.{each_passes}
-use Rattle.elf_object.specs.Object.{Object, Section, Piece, section_at, absent_section, home_piece, no_phdr, has_file_bytes, home_is_clean}
+use Rattle.elf_object.specs.Object.{Object, Section, section_at, absent_section, home_piece, no_phdr, has_file_bytes, home_is_clean}
 use Rattle.elf_object.specs.Refusal.{too_many, unfit_segment, unfit_in_piece, unfit_in_section, unfit_item, missing_in_section, missing_home, content_refusal}
 use Rattle.object_laws.proofs.PlacedLaws.{update_passes}
 use Rattle.writing_laws.specs.Ready.{IsReady}

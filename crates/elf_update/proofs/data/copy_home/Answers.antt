@@ -1,4 +1,4 @@
-use Rattle.std.proofs.Common.{◌+◌, length, arith}
+use Rattle.std.proofs.Common.{length, arith}
 use Rattle.elf_update.proofs.CopyLaws.{in_base, base_copied, base_asked, asks_copies}
 use Rattle.elf_update.proofs.data.copy_home.Goals as goal
 

@@ -1,4 +1,4 @@
-use Rattle.std.proofs.Common.{◌≡◌, ◌+◌, ◌-◌, ◌*◌, ◌/◌, ◌<◌, ◌≤◌, length, sym, ap, ◌∙◌, subst, arith, ℕ}
+use Rattle.std.proofs.Common.{◌≡◌, ◌*◌, ◌/◌, length, sym, ap, arith, ℕ}
 use Rattle.std.proofs.Math.Nat.{mul-div-le}
 use Rattle.elf_update.proofs.EntryLaws.{whole_within, begun_within, entries_join}
 use Rattle.elf_update.proofs.entries.copy_from_entry.Goals as goal

@@ -1,4 +1,4 @@
-use Rattle.std.proofs.Common.{◌+◌, List, ℕ, length, arith}
+use Rattle.std.proofs.Common.{◌+◌, length, arith}
 use Rattle.elf_update.specs.Origins.{origin_due}
 use Rattle.elf_update.specs.Emits.{origin_text}
 use Rattle.elf_update.proofs.RangeLaws.{range_starts, range_stops, range_unread, range_goes_on, range_ends, same_due, same_waits, range_ready}

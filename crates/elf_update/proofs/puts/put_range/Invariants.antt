@@ -1,5 +1,5 @@
 use Rattle.std.proofs.Common.{◌-◌, ◌≤◌, length}
-use Rattle.elf_update.specs.Origins.{origin_bytes, origin_due}
+use Rattle.elf_update.specs.Origins.{origin_due}
 use Rattle.elf_update.specs.Emits.{origin_text}
 use Rattle.elf_update.proofs.RangeLaws.{IsPut}
 use Rattle.elf_update.proofs.puts.put_range.Given as goal

@@ -1,4 +1,4 @@
-use Rattle.std.proofs.Common.{◌≡◌, ◌+◌, ◌-◌, ◌*◌, ◌≤◌, ℕ, length, take, drop, ap, arith, length-take, length-drop}
+use Rattle.std.proofs.Common.{◌≡◌, ◌+◌, ◌-◌, ◌*◌, ◌≤◌, ℕ, length, drop, ap, arith, length-take, length-drop}
 use Rattle.std.proofs.Math.Nat.{mul-le-mul_left}
 use Rattle.elf_update.proofs.RowLaws.{one_put}
 use Rattle.elf_update.proofs.rows.put_rows.Goals as goal

@@ -1,4 +1,3 @@
-use Rattle.elf_update.specs.Emits.{gap_text}
 use Rattle.elf_update.proofs.EmitLaws.{emits_flushed}
 use Rattle.elf_update.proofs.walks.put_end.Goals as goal
 

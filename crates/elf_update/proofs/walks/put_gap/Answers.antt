@@ -1,4 +1,4 @@
-use Rattle.std.proofs.Common.{◌∙◌, arith}
+use Rattle.std.proofs.Common.{arith}
 use Rattle.elf_update.proofs.GapLaws.{gap_stops, gap_ends}
 use Rattle.elf_update.proofs.walks.put_gap.Goals as goal
 

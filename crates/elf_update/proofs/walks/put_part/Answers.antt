@@ -1,4 +1,4 @@
-use Rattle.std.proofs.Common.{◌≡◌, ◌+◌, ◌<◌, ◌^◌, ℕ, length, sym, ap, ◌∙◌, subst, arith}
+use Rattle.std.proofs.Common.{arith}
 use Rattle.elf_update.proofs.PieceLaws.{part_starts, next_within, part_goes_on, part_stops, part_ends, same_piece, same_end, same_small, same_there, same_ready}
 use Rattle.elf_update.proofs.walks.put_part.Goals as goal
 

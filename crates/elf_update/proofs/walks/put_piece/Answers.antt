@@ -1,9 +1,8 @@
-use Rattle.std.proofs.Common.{◌≡◌, ◌+◌, ◌-◌, ◌<◌, ◌^◌, ℕ, length, refl, sym, ap, ◌∙◌, subst, arith}
+use Rattle.std.proofs.Common.{◌-◌, ℕ, refl, ap, arith}
 use Rattle.std.specs.Int.{next_multiple_of}
 use Rattle.std.specs.Prelude.{slice_index_or}
-use Rattle.elf_layout.specs.Layout.{rounded_up}
 use Rattle.elf_update.specs.Origins.{absent_piece}
-use Rattle.elf_update.proofs.PieceLaws.{stands_at, piece_stops, piece_unread, piece_ends, piece_done}
+use Rattle.elf_update.proofs.PieceLaws.{stands_at, piece_stops, piece_unread, piece_done}
 use Rattle.elf_update.proofs.walks.put_piece.Goals as goal
 
 pub next_multiple_of-at-requires-clause-fits : goal.next_multiple_of-at-requires-clause-fits

@@ -1,4 +1,4 @@
-use Rattle.std.proofs.Common.{◌∙◌, sym, ap}
+use Rattle.std.proofs.Common.{◌∙◌, ap}
 use Rattle.elf_types.specs.declared.records.Class.{Class}
 use Rattle.elf_xlate.specs.Translation.{first_unfit}
 use Rattle.elf_object.specs.Object.{piece_at}

@@ -1,4 +1,3 @@
-use Rattle.std.proofs.Common.{slice_index_or}
 use Rattle.elf_xlate.specs.Headers.{phdr_fits}
 use Rattle.elf_object.specs.Object.{no_phdr}
 use Rattle.update_plan.proofs.SegmentLaws.{PassBefore}

@@ -1,5 +1,4 @@
 use Rattle.std.proofs.Common.{◌+◌, length}
-use Rattle.elf_update.specs.declared.parts.Origin.TheVariants.{Piece, Base}
 use Rattle.elf_update.proofs.CopyLaws.{asks_copies, base_bytes}
 use Rattle.elf_update.proofs.DescriptorLaws.{origin_ready, origin_within, base_within}
 use Rattle.elf_update.proofs.descriptors.ElfImageParts.copy.Goals as goal

@@ -1,4 +1,3 @@
-use Rattle.std.proofs.Common.{arith}
 use Rattle.elf_update.proofs.ItemLaws.{items_put}
 use Rattle.elf_update.proofs.items.ItemsFormEntries.put_entries.Goals as goal
 
