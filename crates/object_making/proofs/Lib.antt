@@ -1,2 +1,10 @@
 pub mod RefusedLaws
 pub mod AddLaws
+pub mod HeaderLaws
+pub mod BaseLaws
+pub mod LookLaws
+pub mod MakingLaws
+pub mod NumberLaws
+pub mod TailLaws
+pub mod StoreLaws
+pub mod PlaceLaws

@@ -1,2 +1,5 @@
 pub mod Refused
 pub mod Made
+pub mod Based
+pub mod Making
+pub mod Placing

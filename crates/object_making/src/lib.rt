@@ -1,7 +1,18 @@
-//! The parts by which commands make an object through the calls of a descriptor: section after
-//! section.
+//! The parts by which commands make an object through the calls of a descriptor: over the base of
+//! another object, section after section, with its program headers and its header, and with places
+//! for what stands behind the base.
 #![tactic(auto)]
 
+mod assembling;
+mod bases;
+mod headers;
+mod places;
 mod sections;
+mod segments;
 
+pub use assembling::{SectionMaker, assemble};
+pub use bases::create_over_base;
+pub use headers::finish_header;
+pub use places::arrange;
 pub use sections::add_section;
+pub use segments::copy_segments;

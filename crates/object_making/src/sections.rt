@@ -75,10 +75,10 @@ fn refuse(_items: Items, e: ElfError) -> Result<(), ElfError>
 }
 
 /// Adds a section behind the others, of which there are some: section 0 stands before all. It has
-/// this header, and these items as its one piece, with alignment 1, where a section with that header
-/// has bytes in the file; it is marked. It refuses in this order: `TooMany` at 2^20 sections,
-/// `Unfit` of the header, `Unfit` of the items where they count; and `Memory`. What a refusal leaves
-/// is not stated. It reads nothing.
+/// this header, and these items as its one piece, with alignment 1, where a section with that
+/// header has bytes in the file; it is marked. It refuses in this order: `TooMany` at 2^20
+/// sections, `Unfit` of the header, `Unfit` of the items where they count; and `Memory`. What a
+/// refusal leaves is not stated. It reads nothing.
 ///
 /// Source: elf_newscn and elf_newdata of elf(3E), gelf_update_shdr of gelf(3E).
 pub fn add_section<S: Source>(elf: &mut Elf<S>, h: &Shdr, items: Items) -> Result<(), ElfError>
