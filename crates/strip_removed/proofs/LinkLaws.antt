@@ -91,7 +91,7 @@ any_more p a (suc n) =
     by_first false y z = refl
 
 -- the sections below the next number
-any_next : (p : ℕ → Bool) (s : ℕ) → 0 < s
+pub any_next : (p : ℕ → Bool) (s : ℕ) → 0 < s
     → list_any p (range_with_len 1 (s + 1 - 1)) ≡ (list_any p (range_with_len 1 (s - 1)) || p s)
 any_next p s from =
     ap (λ (n : ℕ). list_any p (range_with_len 1 n))

@@ -1,5 +1,5 @@
 -- Lists of numbers that pass tests, and the numbers of a list of marks.
-use Rattle.std.proofs.Common.{◌≡◌, ◌==◌, ◌&&◌, ◌||◌, ◌+◌, ◌-◌, ◌<◌, ◌≤◌, ℕ, zero, suc, Bool, true, false, not, cond, List, [], ◌∷◌, length, map, refl, sym, ap, ◌∙◌, subst, inl, inr, arith}
+use Rattle.std.proofs.Common.{◌≡◌, ◌==◌, ◌&&◌, ◌||◌, ◌+◌, ◌-◌, ◌<◌, ◌≤◌, ℕ, zero, suc, Bool, true, false, not, cond, List, [], ◌∷◌, ◌++◌, length, map, refl, sym, ap, ◌∙◌, subst, inl, inr, arith}
 use Rattle.std.specs.Prelude.{filter, slice_get, unwrap_or, nat_eq, Option}
 use Rattle.std.specs.List.{range_with_len, list_any}
 use Rattle.std.proofs.lemmas.Bool.{eq-eqb, eqb-true, and_right, or_cases, cases_lt}
@@ -56,6 +56,15 @@ filter_range p q a (suc n) same =
     (filter p (range_with_len (a + 1) n))) (same a (omega arith) (omega arith))
     ∙ ap (λ (t : List ℕ). cond (q a) (a ∷ t) t)
     (filter_range p q (a + 1) n (λ s from below. same s (omega arith) (omega arith)))
+
+-- a range with one number more
+pub range_more : (a n : ℕ) → range_with_len a (n + 1) ≡ range_with_len a n ++ (a + n) ∷ []
+range_more a zero = ap (λ (k : ℕ). k ∷ []) (let at : a ≡ a + 0 = omega arith in at)
+range_more a (suc n) =
+    ap (λ (k : ℕ). range_with_len a k) (let next : suc n + 1 ≡ suc (n + 1) = omega arith in next)
+    ∙ ap (λ (l : List ℕ). a ∷ l) (range_more (a + 1) n
+    ∙ ap (λ (k : ℕ). range_with_len (a + 1) n ++ k ∷ [])
+    (let at : a + 1 + n ≡ a + suc n = omega arith in at))
 
 -- a range from 0 on, without 0, through two filters
 pub one_filter : (h g f : ℕ → Bool) (n : ℕ) → f 0 ≡ false

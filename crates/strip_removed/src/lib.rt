@@ -16,5 +16,6 @@ mod string_tables;
 mod symbol_tables;
 mod walks;
 
+pub use headers::{is_allocated, is_relocations};
 pub use removing::{removed, removed_by_name};
 pub use sets::SectionSet;

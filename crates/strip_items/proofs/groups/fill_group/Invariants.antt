@@ -1,0 +1,6 @@
+use Rattle.std.proofs.Common.{◌≡◌, take}
+use Rattle.command_objects.specs.Followed.{followed_group}
+use Rattle.strip_items.proofs.groups.fill_group.Given as goal
+
+abbrev pub invariant-loop-i : goal.invariant-loop-i
+invariant-loop-i l = l.members ≡ followed_group l.numbering (take l.i l.words)
