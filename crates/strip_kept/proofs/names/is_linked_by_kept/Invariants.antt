@@ -1,0 +1,13 @@
+use Rattle.std.proofs.Common.{◌≡◌, ◌≤◌, ◌+◌, ◌-◌, false, not}
+use Rattle.std.specs.List.{range_with_len, list_any}
+use Rattle.command_objects.specs.Words.{is_among}
+use Rattle.strip_removed.specs.Steps.{links_to}
+use Rattle.strip_kept.proofs.names.is_linked_by_kept.Given as goal
+
+abbrev pub invariant-loop-s : goal.invariant-loop-s
+invariant-loop-s g l = record {
+  none : list_any (links_to l.elf.o (λ user. not (is_among l.removed user)) l.target)
+      (range_with_len 1 (l.s - 1))
+      ≡ false;
+  within : l.s ≤ l.s-end + 1;
+}
