@@ -1,0 +1,4 @@
+pub mod CopyLaws
+pub mod AddLaws
+pub mod BelowLaws
+pub mod BuildLaws

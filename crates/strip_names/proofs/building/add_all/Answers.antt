@@ -1,0 +1,78 @@
+use Rattle.std.proofs.Common.{◌≡◌, ◌<◌, ℕ, Bool, true, false, length, Ok, Err, sym, subst, arith}
+use Rattle.std.specs.Prelude.{IsTrue}
+use Rattle.elf_object.specs.Object.{Object}
+use Rattle.strip_removed.specs.Calls.{ReadsNames}
+use Rattle.strip_names.specs.Names.{AddsSection, AreAdded}
+use Rattle.strip_removed.proofs.NameLaws.{ok_is, names_nothing, names_value, names_both}
+use Rattle.strip_names.proofs.BelowLaws.{added_none, added_more, too_large}
+use Rattle.strip_names.proofs.building.add_all.Goals as goal
+
+pub add_section-requires : goal.add_section-requires
+add_section-requires g c =
+    let count = ok_is _ _ c.shnum-s-end.ensures in
+    subst (λ (o : Object). c.loop-s.s < length o.sections)
+    (sym c.loop-s.invariant.reads.object) (omega (arith, count, c.loop-s-test.true))
+
+pub loop-s-init : goal.loop-s-init
+loop-s-init g c = record {
+  reads = names_nothing g.S.Source (tt {0}) c.args.elf.now;
+  told = λ told. added_none c.args.elf.now.o c.args.removed.now c.args.making.now
+      c.requires.strings c.requires.places;
+}
+
+pub returns-then-not-fits-clause-told : goal.returns-then-not-fits-clause-told
+returns-then-not-fits-clause-told g c = λ told.
+    let inv = c.loop-s.invariant in
+    let count = ok_is _ _ c.shnum-s-end.ensures in
+    let adds = subst (λ (b : Bool). AddsSection c.loop-s.elf.o c.args.removed.now c.loop-s.s
+    c.loop-s.making c.add_section.new.making b) c.if-not-fits.true
+    (c.in-Ok.ensures.told (subst (λ (b : Bool). IsTrue b) (sym inv.reads.reads.told) told)) in
+    too_large c.args.elf.now.o c.args.removed.now c.loop-s.making c.add_section.new.making
+    c.loop-s.s (omega (arith, count, c.loop-s-test.true)) (inv.told told)
+    (subst (λ (o : Object). AddsSection o c.args.removed.now c.loop-s.s c.loop-s.making
+    c.add_section.new.making false) inv.reads.object adds)
+
+pub returns-then-not-fits-clause-reads : goal.returns-then-not-fits-clause-reads
+returns-then-not-fits-clause-reads g c =
+    names_both g.S.Source (tt {0}) (Ok false) c.args.elf.now c.loop-s.elf
+    c.add_section.new.elf c.loop-s.invariant.reads
+    (subst (λ (b : Bool). ReadsNames g.S.Source (Ok b) c.loop-s.elf c.add_section.new.elf)
+    c.if-not-fits.true c.in-Ok.ensures.reads)
+
+pub loop-s-preserved : goal.loop-s-preserved
+loop-s-preserved g c =
+    let inv = c.loop-s.invariant in
+    let count = ok_is _ _ c.shnum-s-end.ensures in
+    record {
+      reads = names_both g.S.Source (tt {0}) (Ok (tt {0})) c.args.elf.now c.loop-s.elf
+          c.add_section.new.elf inv.reads
+          (names_value g.S.Source c.in-Ok.fits (tt {0}) c.loop-s.elf c.add_section.new.elf
+          c.in-Ok.ensures.reads);
+      told = λ told.
+          let adds = subst (λ (b : Bool). AddsSection c.loop-s.elf.o c.args.removed.now
+          c.loop-s.s c.loop-s.making c.add_section.new.making b) c.if-not-fits.false
+          (c.in-Ok.ensures.told (subst (λ (b : Bool). IsTrue b) (sym inv.reads.reads.told) told))
+          in
+          added_more c.args.elf.now.o c.args.removed.now c.loop-s.making
+          c.add_section.new.making c.loop-s.s (omega (arith, count, c.loop-s-test.true))
+          (inv.told told)
+          (subst (λ (o : Object). AddsSection o c.args.removed.now c.loop-s.s c.loop-s.making
+          c.add_section.new.making true) inv.reads.object adds);
+    }
+
+pub returns-in-Err-clause-reads : goal.returns-in-Err-clause-reads
+returns-in-Err-clause-reads g c =
+    names_both g.S.Source (tt {0}) (Err c.in-Err.e) c.args.elf.now c.loop-s.elf
+    c.add_section.new.elf c.loop-s.invariant.reads c.in-Err.ensures.reads
+
+pub returns-clause-told : goal.returns-clause-told
+returns-clause-told g c = λ told.
+    let count = ok_is _ _ c.shnum-s-end.ensures in
+    let all : c.loop-s.s ≡ length c.args.elf.now.o.sections =
+    omega (arith, count, c.loop-s-test.false, c.loop-s.auto.s-end) in
+    subst (λ (n : ℕ). AreAdded c.args.elf.now.o c.args.removed.now c.loop-s.making n) all
+    (c.loop-s.invariant.told told)
+
+pub returns-clause-reads : goal.returns-clause-reads
+returns-clause-reads g c =
+    names_value g.S.Source (tt {0}) true c.args.elf.now c.loop-s.elf c.loop-s.invariant.reads

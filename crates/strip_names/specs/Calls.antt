@@ -1,0 +1,23 @@
+-- The table of the names that is made anew, as a call on an object: what it reads, and when it may
+-- want memory.
+use Rattle.std.specs.Prelude.{◌≡◌, ℕ, List, None}
+use Rattle.elf_types.specs.declared.errors.ElfError.TheVariants.{TooLarge}
+use Rattle.elf_types.specs.Answers.{answered}
+use Rattle.elf_object.specs.Words.{Refusals}
+use Rattle.elf_object.specs.Calls.{Call, some_memory}
+use Rattle.command_objects.specs.Rebuilt.{kept_names, table_refusal}
+use Rattle.strip_removed.specs.Calls.{names_home}
+use Rattle.strip_names.specs.declared.building.NewNames.{NewNames}
+use Rattle.strip_names.specs.Names as stated
+
+abbrev pub new_names : List ℕ → Call NewNames
+new_names removed = record {
+  answer = λ o. answered (table_refusal (kept_names o removed)) (stated.new_names o removed);
+  after = λ o. o;
+  reads = names_home;
+  memory = some_memory;
+}
+
+-- that the table is too large is found in its names
+abbrev pub names_refusals : Refusals
+names_refusals = record { unread = None; early = None; met = λ e. e ≡ TooLarge }

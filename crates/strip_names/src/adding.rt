@@ -1,0 +1,80 @@
+//! Names that are added to a table in the making.
+
+ghost use Rattle.std.specs.Prelude.{◌≡◌, ◌≢◌, ◌∷◌, ◌++◌, [], true, false, None, All, IfOk, IfErr};
+ghost use Rattle.elf_types.specs.declared.errors.ElfError.TheVariants.{Memory};
+ghost use Rattle.strip_names.specs.Names.{is_too_large, IsAdded, IsPlaced, IsAddedAt};
+
+use elf_types::{ElfError, Words};
+use strtab_build::Strings;
+
+/// Whether an error says that a table is too large.
+fn is_too_large(e: &ElfError) -> bool
+    ensures { result ≡ is_too_large e.now }
+{
+    matches!(e, ElfError::TooLarge)
+}
+
+/// No place where an error says that a table is too large, and else the error.
+fn none_if_too_large(e: ElfError) -> Result<Option<u32>, ElfError>
+    ensures none { IfOk result (λ place. (place ≡ None) × (is_too_large e ≡ true)) }
+    ensures err { IfErr result (λ other. (other ≡ e) × (is_too_large e ≡ false)) }
+{
+    if is_too_large(&e) {
+        return Ok(None);
+    }
+    Err(e)
+}
+
+/// Adds a name to a table, and answers its place, or None where the table would be too large. It
+/// refuses `Memory` alone.
+fn add_name(strings: &mut Strings, name: &[u8]) -> Result<Option<u32>, ElfError>
+    requires { All (λ b. b ≢ 0) name.now }
+    ensures added { IfOk result (IsAdded strings.old strings.new name.now) }
+    ensures err { IfErr result (λ e. e ≡ Memory) }
+{
+    match strings.add(name) {
+        Ok(place) => Ok(Some(place)),
+        Err(e) => none_if_too_large(e),
+    }
+}
+
+/// Appends a place. It refuses `Memory` alone.
+fn push_some(places: &mut Words, place: u32) -> Result<bool, ElfError>
+    ensures pushed { IfOk result (λ fits.
+        (fits ≡ true) × (places.new ≡ places.old ++ place ∷ [])) }
+    ensures err { IfErr result (λ e. e ≡ Memory) }
+{
+    match places.push(place) {
+        Ok(()) => Ok(true),
+        Err(e) => Err(e),
+    }
+}
+
+/// Appends a place, if there is one, and answers whether there is. It refuses `Memory` alone.
+fn push_place(places: &mut Words, place: Option<u32>) -> Result<bool, ElfError>
+    ensures pushed { IfOk result (IsPlaced places.old places.new place) }
+    ensures err { IfErr result (λ e. e ≡ Memory) }
+{
+    match place {
+        Some(place) => push_some(places, place),
+        None => Ok(false),
+    }
+}
+
+/// Adds a name to a table, appends its place to others, and answers whether the table is not too
+/// large. It refuses `Memory` alone.
+pub(crate) fn place_name(
+    strings: &mut Strings,
+    places: &mut Words,
+    name: &[u8],
+) -> Result<bool, ElfError>
+    requires { All (λ b. b ≢ 0) name.now }
+    ensures placed { IfOk result (λ fits. IsAddedAt strings.old strings.new places.old places.new
+        name.now fits) }
+    ensures err { IfErr result (λ e. e ≡ Memory) }
+{
+    match add_name(strings, name) {
+        Ok(place) => push_place(places, place),
+        Err(e) => Err(e),
+    }
+}
