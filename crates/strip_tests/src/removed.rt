@@ -1,0 +1,206 @@
+//! Which sections strip and copy remove.
+
+use elf_descriptor::Elf;
+use elf_outside::Source;
+use elf_types::constants::{
+    SHF_ALLOC, SHT_PROGBITS, SHT_RELA, SHT_STRTAB, SHT_SYMTAB, SHT_SYMTAB_SHNDX,
+};
+use elf_types::{ElfError, NULL_SECTION, Octets, Shdr};
+use std::alloc::Global;
+use strip_removed::{SectionSet, removed, removed_by_name};
+use test_images::{Content, Form, NARROW, Put, Recipe, Start, WIDE, image_in};
+use test_sources::source;
+use tool_text::Args;
+
+/// The names of the sections, and the places of some of them.
+const NAMES: &[u8] = b"\0.debug_info\0.line\0.text\0mine\0";
+
+const DEBUG: u32 = 1;
+
+const LINE: u32 = 13;
+
+const TEXT: u32 = 19;
+
+const MINE: u32 = 25;
+
+/// An image whose section 12 has the names; its section headers are empty.
+const EMPTY: Recipe = Recipe {
+    form: WIDE,
+    start: Start::Table(64, COUNT, 12),
+    puts: &[],
+};
+
+/// The number of its sections.
+pub const COUNT: u32 = 16;
+
+/// The type, the name, the flags, the link and the info of each section from 1 on. Relocations 3
+/// change debug data, and 4 do not; the symbols 5 are those of the former, with the strings 7 and
+/// the extended indexes 9, and the symbols 6 those of the latter.
+const SECTIONS: [(u32, u32, u64, u32, u32); 15] = [
+    (SHT_PROGBITS, TEXT, SHF_ALLOC, 0, 0),
+    (SHT_PROGBITS, DEBUG, 0, 0, 0),
+    (SHT_RELA, 0, 0, 5, 2),
+    (SHT_RELA, 0, 0, 6, 1),
+    (SHT_SYMTAB, 0, 0, 7, 0),
+    (SHT_SYMTAB, 0, 0, 8, 0),
+    (SHT_STRTAB, 0, 0, 0, 0),
+    (SHT_STRTAB, 0, 0, 0, 0),
+    (SHT_SYMTAB_SHNDX, 0, 0, 5, 0),
+    (SHT_SYMTAB_SHNDX, 0, 0, 6, 0),
+    (SHT_PROGBITS, MINE, SHF_ALLOC, 0, 0),
+    (SHT_STRTAB, LINE, 0, 0, 0),
+    (SHT_PROGBITS, DEBUG, SHF_ALLOC, 0, 0),
+    (SHT_PROGBITS, LINE, 0, 0, 0),
+    (SHT_STRTAB, 0, 0, 0, 0),
+];
+
+/// The section of a row.
+fn section(row: &(u32, u32, u64, u32, u32)) -> Shdr {
+    let (stype, name, flags, link, info) = *row;
+    Shdr {
+        name,
+        stype,
+        flags,
+        link,
+        info,
+        ..NULL_SECTION
+    }
+}
+
+/// The bytes of the image in a form, where section 15 links to another one.
+pub fn bytes_linked(alloc: Global, form: Form, link: u32) -> Result<Octets, ElfError> {
+    let mut image = image_in(alloc, form, &EMPTY)?;
+    for (i, row) in SECTIONS.iter().enumerate() {
+        image.put(&Put::Section(i as u64 + 1, section(row)))?;
+    }
+    image.put(&Put::Section(15, section(&(SHT_STRTAB, 0, 0, link, 0))))?;
+    image.put(&Put::Home(12, Content::Bytes(NAMES)))?;
+    Ok(image.bytes)
+}
+
+/// The bytes of the image in a form.
+pub fn bytes_in(alloc: Global, form: Form) -> Result<Octets, ElfError> {
+    bytes_linked(alloc, form, 0)
+}
+
+/// What is removed.
+enum By {
+    /// By strip.
+    Strip,
+    /// By strip -g.
+    DebugOnly,
+    /// By copy.
+    Copy,
+}
+
+/// Who removes, a name that is given, and what goes.
+type Row = (By, &'static str, &'static [u32]);
+
+/// The names table stays though it is named, as section 0 does; a name that no section has does
+/// nothing; what is allocated goes by a name that is given alone.
+const ROWS: [Row; 8] = [
+    (By::Strip, "none", &[2, 3, 5, 7, 9, 14]),
+    (By::DebugOnly, "none", &[2, 3, 14]),
+    (By::Strip, "mine", &[2, 3, 5, 7, 9, 11, 14]),
+    (By::Strip, ".line", &[2, 3, 5, 7, 9, 14]),
+    (By::DebugOnly, ".debug_info", &[2, 3, 13, 14]),
+    (By::Copy, "none", &[]),
+    (By::Copy, "mine", &[11]),
+    (By::Copy, ".debug_info", &[2, 3, 13]),
+];
+
+/// Whether a set has these numbers, and no other of the sections.
+fn has_just(set: &SectionSet, numbers: &[u32]) -> bool {
+    for s in 0..COUNT {
+        if set.contains(s) != numbers.contains(&s) {
+            return false;
+        }
+    }
+    true
+}
+
+/// What a row removes.
+fn removed_by<S: Source>(
+    alloc: Global,
+    elf: &mut Elf<S>,
+    row: &Row,
+    names: &Args,
+) -> Result<SectionSet, ElfError> {
+    match row.0 {
+        By::Strip => removed(alloc, elf, false, names),
+        By::DebugOnly => removed(alloc, elf, true, names),
+        By::Copy => removed_by_name(alloc, elf, names),
+    }
+}
+
+/// Whether a row removes what it should.
+fn is_removed<S: Source>(alloc: Global, elf: &mut Elf<S>, row: &Row) -> bool {
+    let mut names = Args::new(alloc);
+    if let Err(_) = names.add(row.1) {
+        return false;
+    }
+    match removed_by(alloc, elf, row, &names) {
+        Ok(set) => has_just(&set, row.2),
+        Err(_) => false,
+    }
+}
+
+/// Whether all rows do.
+fn are_removed<S: Source>(alloc: Global, elf: &mut Elf<S>) -> bool {
+    for row in ROWS.iter() {
+        if !is_removed(alloc, elf, row) {
+            return false;
+        }
+    }
+    true
+}
+
+/// Whether they do over the image in a form.
+fn are_removed_in(alloc: Global, form: Form) -> bool {
+    let src = match bytes_in(alloc, form) {
+        Ok(bytes) => source(alloc, bytes, 0),
+        Err(e) => Err(e),
+    };
+    match src {
+        Ok(src) => match Elf::begin(alloc, src) {
+            Ok(mut elf) => {
+                let removed = are_removed(alloc, &mut elf);
+                let _src = elf.end();
+                removed
+            }
+            Err(_) => false,
+        },
+        Err(_) => false,
+    }
+}
+
+#[test]
+fn sections_go_with_those_that_they_serve(rt: HostRuntime) {
+    assert!(rt; are_removed_in(rt.alloc(), WIDE));
+    assert!(rt; are_removed_in(rt.alloc(), NARROW));
+}
+
+/// Whether a read that fails is told: the tables are read, and then the names.
+fn is_told(alloc: Global, bytes: Octets) -> bool {
+    match source(alloc, bytes, 4) {
+        Ok(src) => match Elf::begin(alloc, src) {
+            Ok(mut elf) => {
+                let stopped = removed_by_name(alloc, &mut elf, &Args::new(alloc));
+                let failed = matches!(stopped, Err(ElfError::Read));
+                let _src = elf.end();
+                failed
+            }
+            Err(_) => false,
+        },
+        Err(_) => false,
+    }
+}
+
+#[test]
+fn names_that_cannot_be_read_stop_it(rt: HostRuntime) {
+    let told = match bytes_in(rt.alloc(), WIDE) {
+        Ok(bytes) => is_told(rt.alloc(), bytes),
+        Err(_) => false,
+    };
+    assert!(rt; told);
+}
