@@ -1,5 +1,5 @@
 -- The self test's object (`generated`), and with its symbols' new values.
-use Rattle.std.proofs.Common.{◌≡◌, ℕ, ◌+◌, ◌<◌, false, List, [], ◌∷◌, length, get_or, set, Option, Some, None, Ok, refl, ap, ◌∙◌, arith}
+use Rattle.std.proofs.Common.{◌≡◌, ℕ, ◌+◌, ◌<◌, false, List, [], ◌∷◌, length, get_or, set, Option, Some, None, Ok, refl, sym, ap, ◌∙◌, arith}
 use Rattle.std.specs.Prelude.{map, codes, nat_le}
 use Rattle.std.specs.List.{range_with_len}
 use Rattle.std.proofs.lemmas.Bool.{lt-leb}
@@ -10,7 +10,7 @@ use Rattle.elf_types.specs.Answers.{err_of}
 use Rattle.elf_types.specs.declared.errors.ElfError.{ElfError}
 use Rattle.elf_xlate.specs.Translation.{items_kind}
 use Rattle.elf_object.specs.Object.{Object, Section, Piece, section_at, piece_at, absent_section, new_section, home_piece}
-use Rattle.elf_object.specs.Answers.{content, or_empty, items_at, kind_at, piece_count, lend_refusal, no_content}
+use Rattle.elf_object.specs.Answers.{content, or_empty, items_at, syms_of, kind_at, piece_count, lend_refusal, no_content}
 use Rattle.elf_object.specs.Steps.{with_ehdr, with_section, with_piece_at, with_own, own_piece}
 use Rattle.elf_object.specs.Calls.{step}
 use Rattle.elf_object.specs.Runs.{addall, added, more_sym}
@@ -90,6 +90,12 @@ module _ (o : Object) (s : ℕ) (c : Section) (syms : List Sym) (at : section_at
   adds : (n : ℕ) → (addall s 0 n).answer o ≡ Ok (length syms)
   adds n = rw (kind_is, lend_passes, items_are) refl
 
+  -- what a lend leaves, with a number added to each of the symbols that it lent
+  lent_is : (n : ℕ) → step (addall s 0 n) o
+      ≡ with_own o s 0 (items.Sym (map (more_sym n) (syms_of (items_at o s 0))))
+  unfolding added
+  lent_is n = step_ok (addall s 0 n) o (length syms) (adds n) ∙ rw (kind_is, items_are) refl
+
   pub added_to : (n : ℕ) → step (addall s 0 n) o ≡ with_section o s (holding c (map (more_sym n) syms))
   unfolding with_own with_piece_at added
   added_to n = step_ok (addall s 0 n) o (length syms) (adds n) ∙ rw (kind_is, items_are, piece_is, at) refl
@@ -112,3 +118,20 @@ shifted_is n =
     added_to (generated n) (n + 1) (generated_symtab n) (symbols n) (symtab_at n) (omega arith) n
     ∙ ap (λ (o : Object). record o { sections = set o.sections (n + 1) (symtab_with n (shifted_symbols n)) }) (generated_is n)
     ∙ ap (λ (l : List Section). record (generated n) { sections = l }) (set_last new_section (generated_data n) n (generated_symtab n) (strtab n) (shstrtab n) (symtab_with n (shifted_symbols n)))
+
+-- ---- By a lend of the symbols
+
+pub lends_symbols : (n : ℕ) → lend_refusal (generated n) kinds.Sym (n + 1) 0 ≡ None
+lends_symbols n =
+    let count = length-generated n in
+    lend_passes (generated n) (n + 1) (generated_symtab n) (symbols n) (symtab_at n) (omega arith)
+
+pub shifted_by : (n : ℕ) (left : List Sym)
+    → left ≡ map (more_sym n) (syms_of (items_at (generated n) (n + 1) 0))
+    → with_own (generated n) (n + 1) 0 (items.Sym left) ≡ generated_and_shifted n
+unfolding generated_and_shifted
+shifted_by n left is =
+    let count = length-generated n in
+    ap (λ (l : List Sym). with_own (generated n) (n + 1) 0 (items.Sym l)) is
+    ∙ sym
+    (lent_is (generated n) (n + 1) (generated_symtab n) (symbols n) (symtab_at n) (omega arith) n)
