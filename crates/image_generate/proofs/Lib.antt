@@ -1,0 +1,5 @@
+mod NameUses
+mod NameFronts
+mod AddedLaws
+mod StageLaws
+mod MadeSections

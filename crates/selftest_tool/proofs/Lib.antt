@@ -1,0 +1,4 @@
+mod ValueLemmas
+mod ToldLemmas
+mod ShiftLemmas
+mod FileLemmas

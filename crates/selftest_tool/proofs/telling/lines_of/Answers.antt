@@ -1,0 +1,5 @@
+use Rattle.object_output.proofs.SectionLemmas.{ok_is}
+use Rattle.selftest_tool.proofs.telling.lines_of.Goals as goal
+
+pub returns-clause-sections : goal.returns-clause-sections
+returns-clause-sections g c = ok_is _ _ c.shnum.ensures
