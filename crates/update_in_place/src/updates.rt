@@ -1,6 +1,6 @@
 //! An update in place.
 
-ghost use Rattle.std.specs.Prelude.{◌≡◌, ◌⊎◌, ◌<◌, true, false, length, IfOk, IfErr, OnOk, OnErr};
+ghost use Rattle.std.specs.Prelude.{◌≡◌, ◌⊎◌, ◌<◌, true, false, length, IsOk, IfOk, IfErr, OnOk, OnErr};
 ghost use Rattle.elf_types.specs.declared.errors.ElfError.TheVariants.{Memory, Read, Write};
 ghost use Rattle.elf_object.specs.Object.{is_dirty};
 ghost use Rattle.elf_object.specs.Words.{UpdateAnswers};
@@ -121,7 +121,7 @@ fn update_dirty<D: Device>(elf: &mut Elf<D>) -> Result<u64, ElfError>
 /// that are marked, that stand elsewhere than before or that have other bytes than before, and the
 /// fill between parts. Then the object is settled: each section's pieces are joined to one, nothing
 /// is marked, nothing is held of the homes, and they are the new ones. Where nothing is dirty it
-/// does nothing, and answers the number of base bytes.
+/// does nothing and refuses nothing, and answers the number of base bytes.
 ///
 /// It refuses, in this order, `TooMany`, `Unfit`, `OutOfFile`, `Overlap` and `TooLarge`, and
 /// `Memory` in place of a value and of the last two; they leave device and object. All memory is
@@ -133,6 +133,7 @@ fn update_dirty<D: Device>(elf: &mut Elf<D>) -> Result<u64, ElfError>
 pub fn update_in_place<D: Device>(elf: &mut Elf<D>) -> Result<u64, ElfError>
     ensures answer { UpdateAnswers result (calls.update_null.answer elf.old.o) }
     ensures clean { is_dirty elf.old.o ≡ false → elf.new ≡ elf.old }
+    ensures ends { is_dirty elf.old.o ≡ false → IsOk result }
     ensures updates { is_dirty elf.old.o ≡ true
         → UpdatesInPlace D.Source D.Device.own result elf.old elf.new }
 {
