@@ -2,3 +2,5 @@ pub mod WriteLemmas
 pub mod EditLemmas
 pub mod SaidLemmas
 pub mod ObjectLemmas
+pub mod ChangeSteps
+pub mod ChangeLemmas

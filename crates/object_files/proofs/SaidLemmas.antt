@@ -37,7 +37,7 @@ made_anew name bytes other = by (bytes_eq name other)
     by false = tt
 
 -- the status of two steps, by that of the second
-both_statuses : (x y p q : Bool) → x ≡ p → refused_status y ≡ refused_status q
+pub both_statuses : (x y p q : Bool) → x ≡ p → refused_status y ≡ refused_status q
     → refused_status (x || y) ≡ refused_status (p || q)
 both_statuses x y p q same h = rw same (by p)
   where
