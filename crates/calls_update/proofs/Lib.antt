@@ -1,3 +1,6 @@
 mod DueLemmas
 mod LeftLemmas
 mod CallsLemmas
+mod BaseSteps
+mod InPlaceLemmas
+mod ChangingLemmas
