@@ -300,7 +300,7 @@ const FILES: [(&[u8], &str, &[u8]); 5] = [
         b"calls: F: line 1: no such call\n",
     ),
     (b"#!<arch>\n", "calls F F", b"calls: F: too short\n"),
-    (b"", "calls -i F S", b"elfkit: form not built\n"),
+    (b"", "calls -i F S", b"calls: S: not found\n"),
 ];
 
 /// Whether the words are refused by a message.

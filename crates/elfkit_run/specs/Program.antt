@@ -13,7 +13,6 @@ use Rattle.tool_text.specs.declared.commands.Request.{Request}
 use Rattle.tool_text.specs.declared.commands.Request.TheVariants.{Run, Tell}
 use Rattle.tool_text.specs.declared.commands.Command.{Command}
 use Rattle.tool_text.specs.declared.commands.Command.TheVariants.{Readelf, Nm, Size, Strings, Strip, Elflint, Calls, Selftest, Rehash, Copy, Unstrip, Lines}
-use Rattle.tool_text.specs.declared.commands.CallsOutput.TheVariants.{To, InPlace}
 use Rattle.usage_text.specs.Usages.{usage_line}
 use Rattle.usage_text.specs.Notices.{notice_text}
 use Rattle.tool_text.specs.Reading.{reading}
@@ -34,9 +33,8 @@ command_outcome (Strings options files) named = strings_outcome options files na
 command_outcome (Strip options file) named = not_built
 command_outcome (Elflint files) named = elflint_outcome files named
 command_outcome (Calls None file script) named = calls_outcome file script named
-command_outcome (Calls (Some (To out)) file script) named =
-    calls_update_outcome (To out) file script named
-command_outcome (Calls (Some InPlace) file script) named = not_built
+command_outcome (Calls (Some output) file script) named =
+    calls_update_outcome output file script named
 command_outcome (Selftest out count) named = not_built
 command_outcome (Rehash out file) named = not_built
 command_outcome (Copy changes out file) named = not_built
@@ -74,9 +72,7 @@ is_built (Size files) = true
 is_built (Strings options files) = true
 is_built (Strip options file) = false
 is_built (Elflint files) = true
-is_built (Calls None file script) = true
-is_built (Calls (Some (To out)) file script) = true
-is_built (Calls (Some InPlace) file script) = false
+is_built (Calls output file script) = true
 is_built (Selftest out count) = false
 is_built (Rehash out file) = false
 is_built (Copy changes out file) = false

@@ -6,11 +6,13 @@ ghost use Rattle.tool_output.specs.Steps.{Performs, OnRead, LeavesOutputs};
 ghost use Rattle.tool_output.specs.Files.{LeavesFiles};
 ghost use Rattle.tool_output.specs.Statuses.{refused_status};
 ghost use Rattle.tool_output.specs.Outcomes.{Does};
+ghost use Rattle.elfkit_run.specs.Calls.{calls_update_outcome};
 ghost use Rattle.elfkit_run.specs.Sentences.{line_of, not_built};
 ghost use Rattle.tool_text.specs.Forms.{IsOutputApart, IsWellFormed};
 ghost use Rattle.elfkit_run.specs.Program.{command_outcome, is_built, writes_files};
 
 pub mod calls;
+pub mod calls_in_place;
 pub mod calls_to;
 pub mod elflint;
 pub mod lines;
@@ -21,6 +23,7 @@ pub mod strings;
 
 use crate::sentences::say;
 use calls::calls;
+use calls_in_place::calls_in_place;
 use calls_to::calls_to;
 use elf_outside::{Files, Sink};
 use elflint::elflint;
@@ -55,8 +58,7 @@ fn not_built<F: Files, O: Sink, E: Sink>(
     refuse(outputs, "elfkit: form not built")
 }
 
-/// Runs calls, and writes the image that they leave to a new file. That into FILE in place is not
-/// built.
+/// Runs calls, and writes the image that they leave to a new file, or into FILE in place.
 fn calls_into<F: Files, O: Sink, E: Sink>(
     alloc: Global,
     output: &CallsOutput,
@@ -66,20 +68,15 @@ fn calls_into<F: Files, O: Sink, E: Sink>(
     outputs: &mut Outputs<'_, O, E>,
 ) -> Result<bool, Stop>
     requires { IsOutputApart (Some output.now) file.now script.now }
-    ensures does { (IsTrue (is_built (Command.Calls (Some output.now) file.now script.now))
-        → IsTrue (F.tells files.old)) →
-        Does F.Files O.Sink E.Sink refused_status
-        (command_outcome (Command.Calls (Some output.now) file.now script.now)
-        (F.named files.old))
+    ensures does { IsTrue (F.tells files.old) → Does F.Files O.Sink E.Sink refused_status
+        (calls_update_outcome output.now file.now script.now (F.named files.old))
         result files.old files.new outputs.old outputs.new }
-    ensures untouched { is_built (Command.Calls (Some output.now) file.now script.now) ≡ false →
-        (files.new ≡ files.old) × OnRead result ⊥ }
     ensures leaves { LeavesFiles F.Files O.Sink E.Sink
         result files.old files.new outputs.old outputs.new }
 {
     match output {
         CallsOutput::To(out) => calls_to(alloc, out, file, script, files, outputs),
-        CallsOutput::InPlace => not_built(files, outputs),
+        CallsOutput::InPlace => calls_in_place(alloc, file, script, files, outputs),
     }
 }
 
@@ -93,13 +90,9 @@ fn calls_by_output<F: Files, O: Sink, E: Sink>(
     outputs: &mut Outputs<'_, O, E>,
 ) -> Result<bool, Stop>
     requires { IsOutputApart output.now file.now script.now }
-    ensures does { (IsTrue (is_built (Command.Calls output.now file.now script.now))
-        → IsTrue (F.tells files.old)) →
-        Does F.Files O.Sink E.Sink refused_status
+    ensures does { IsTrue (F.tells files.old) → Does F.Files O.Sink E.Sink refused_status
         (command_outcome (Command.Calls output.now file.now script.now) (F.named files.old))
         result files.old files.new outputs.old outputs.new }
-    ensures untouched { is_built (Command.Calls output.now file.now script.now) ≡ false →
-        (files.new ≡ files.old) × OnRead result ⊥ }
     ensures given { writes_files (Command.Calls output.now file.now script.now) ≡ false →
         F.given files.new ≡ F.given files.old }
     ensures leaves { LeavesFiles F.Files O.Sink E.Sink

@@ -51,10 +51,12 @@ unfolding is_built
 returns-in-Elflint-clause-untouched g c = rw c.in-Elflint.is (λ no. cc)
 
 pub returns-in-Calls-clause-does : goal.returns-in-Calls-clause-does
-returns-in-Calls-clause-does g c = rw c.in-Calls.is c.calls_by_output.ensures.does
+unfolding is_built
+returns-in-Calls-clause-does g c = rw c.in-Calls.is (λ told. c.calls_by_output.ensures.does (told refl))
 
 pub returns-in-Calls-clause-untouched : goal.returns-in-Calls-clause-untouched
-returns-in-Calls-clause-untouched g c = rw c.in-Calls.is c.calls_by_output.ensures.untouched
+unfolding is_built
+returns-in-Calls-clause-untouched g c = rw c.in-Calls.is (λ no. cc)
 
 pub returns-in-Readelf-clause-given : goal.returns-in-Readelf-clause-given
 returns-in-Readelf-clause-given g c = λ reading. c.readelf.ensures.given

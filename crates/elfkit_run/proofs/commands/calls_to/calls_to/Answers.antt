@@ -1,5 +1,6 @@
 use Rattle.std.proofs.Common.{Some}
 use Rattle.std.proofs.lemmas.Result.{err_from_is_err_and}
+use Rattle.tool_text.specs.declared.commands.CallsOutput.TheVariants.{To}
 use Rattle.elfkit_run.proofs.CallsLemmas.{left_then}
 use Rattle.elfkit_run.proofs.CallsUpdateLemmas.{unwritten, update_done, no_update_done, update_stopped}
 use Rattle.elfkit_run.proofs.commands.calls_to.calls_to.Goals as goal
@@ -11,8 +12,8 @@ edit_file-requires g c = λ bytes.
 
 pub returns-in-Some-clause-does : goal.returns-in-Some-clause-does
 returns-in-Some-clause-does g c = λ told.
-    update_done g.F.Files g.O.Sink g.E.Sink c.args.out.now c.args.file.now c.args.script.now
-    c.args.files.now c.calls_of_script.new.files c.args.outputs.now
+    update_done g.F.Files g.O.Sink g.E.Sink (To c.args.out.now) c.args.file.now
+    c.args.script.now c.args.files.now c.calls_of_script.new.files c.args.outputs.now
     c.calls_of_script.new.outputs c.edit_file.new.files c.edit_file.new.outputs
     c.as_slice.result.now c.edit_file.result
     (rw (c.as_str.ensures, c.in-Some.is, ← c.as_slice.ensures) at c.in_ok-read.ensures)
@@ -29,13 +30,13 @@ returns-in-Some-clause-leaves g c =
 
 pub returns-in-None-clause-does : goal.returns-in-None-clause-does
 returns-in-None-clause-does g c = λ told.
-    no_update_done g.F.Files g.O.Sink g.E.Sink c.args.out.now c.args.file.now c.args.script.now
-    c.args.files.now _ c.args.outputs.now _
+    no_update_done g.F.Files g.O.Sink g.E.Sink (To c.args.out.now) c.args.file.now
+    c.args.script.now c.args.files.now _ c.args.outputs.now _
     (rw (c.as_str.ensures, c.in-None.is) at c.in_ok-read.ensures) told
 
 pub returns-in_err-read-clause-does : goal.returns-in_err-read-clause-does
 returns-in_err-read-clause-does g c = λ told.
     let p = err_from_is_err_and c.from_residual.result c.from_residual.ensures.1 in
-    rw (p.1, p.2) (update_stopped g.F.Files g.O.Sink g.E.Sink c.args.out.now c.args.file.now
+    rw (p.1, p.2) (update_stopped g.F.Files g.O.Sink g.E.Sink (To c.args.out.now) c.args.file.now
     c.args.script.now c.args.files.now _ c.args.outputs.now _ _
     (rw c.as_str.ensures at c.in_err-read.ensures) told)
