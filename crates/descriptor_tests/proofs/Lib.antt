@@ -1,4 +1,2 @@
 mod Rules
 mod Dues
-mod Ranges
-mod KeptRooms

@@ -4,20 +4,15 @@ use crate::questions::{Question, SYMBOLS, asked, is_answered_in_all_forms};
 use elf_descriptor::Elf;
 use elf_outside::{MemSource, Source};
 use elf_types::constants::{EI_CLASS, EI_DATA, EI_VERSION, MAX_IMAGE, MAX_SECTIONS};
-use elf_types::{Class, ElfError, Kind, ScnId};
-use elf_xlate::{ehdr_size, item_size, phdr_size, shdr_size};
+use elf_types::{ElfError, Kind, ScnId};
+use elf_xlate::item_size;
 use std::alloc::Global;
+use test_descriptors::front_size;
 use test_images::{
     FORMS, Field, Form, HeaderField, Image, OBJECT, Recipe, SectionField, Start, WIDE,
     numbers_in_section_0,
 };
 use test_sources::{Sparse, source};
-
-/// The bytes of a header, so many program headers and so many section headers.
-pub fn front_size(class: Class, segments: u8, sections: u8) -> u64 {
-    let (header, segment, section) = (ehdr_size(class), phdr_size(class), shdr_size(class));
-    header as u64 + u64::from(segments) * segment as u64 + u64::from(sections) * section as u64
-}
 
 /// There are two program headers and three sections, and no mark.
 struct Front;
@@ -42,12 +37,12 @@ const EXTENDED: Recipe = Recipe {
 };
 
 /// Whether the front of an image in a form is read with so many section headers, and nothing else.
-fn is_front(alloc: Global, form: Form, recipe: &Recipe, sections: u8) -> bool {
+fn is_front(alloc: Global, form: Form, recipe: &Recipe, sections: u64) -> bool {
     asked(alloc, &Front, form, recipe, 0) == Ok(Some(front_size(form.0, 2, sections)))
 }
 
 /// Whether it is in all forms.
-fn are_fronts(alloc: Global, recipe: &Recipe, sections: u8) -> bool {
+fn are_fronts(alloc: Global, recipe: &Recipe, sections: u64) -> bool {
     for form in FORMS.iter() {
         if !is_front(alloc, *form, recipe, sections) {
             return false;

@@ -15,9 +15,6 @@ use section_data::Item;
 
 pub mod lending;
 pub mod once;
-pub mod ranges;
-pub mod rooms;
-pub mod writes;
 
 /// The first two items of a piece.
 pub fn first_two<S: Source, T: Item>(elf: &mut Elf<S>, d: DataId) -> Result<(T, T), ElfError>

@@ -3,14 +3,10 @@
 #![tactic(auto)]
 
 #[cfg(test)]
-mod alike;
-#[cfg(test)]
 mod beginnings;
 pub mod callers;
 #[cfg(test)]
 mod cells;
-#[cfg(test)]
-mod devices;
 #[cfg(test)]
 mod edits;
 #[cfg(test)]

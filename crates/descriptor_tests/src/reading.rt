@@ -1,6 +1,5 @@
 //! What descriptors read, and what they hold.
 
-use crate::beginnings::front_size;
 use crate::callers::{first_two, long, symbol};
 use crate::questions::{
     Question, STRINGS, SYMBOLS, asked, is_answered_in_all_forms, is_answered_untold,
@@ -12,6 +11,7 @@ use elf_types::constants::{
 };
 use elf_types::{DataId, ElfError, Kind, ScnId, Sym};
 use std::alloc::Global;
+use test_descriptors::front_size;
 use test_images::{FORMS, Field, Form, OBJECT, Put, Recipe, SectionField, Start, WIDE};
 
 /// What the data of section 3 of five are once two fields are set.

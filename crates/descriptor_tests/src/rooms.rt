@@ -1,6 +1,5 @@
 //! Sizes of sections' data, homes that are let go, and memory that is taken for an update.
 
-use crate::beginnings::front_size;
 use crate::callers::long;
 use crate::questions::{
     Question, STRINGS, SYMBOLS, asked, is_answered_in_all_forms, is_answered_untold,
@@ -9,6 +8,7 @@ use elf_descriptor::{Elf, Held};
 use elf_outside::Source;
 use elf_types::{DIRTY, DataId, ElfError, Part, ScnId};
 use std::alloc::Global;
+use test_descriptors::front_size;
 use test_images::{OBJECT, WIDE};
 
 /// Whether nothing is held of a piece.

@@ -1,122 +1,142 @@
-//! Edits of an image with five sections, before an update.
+//! Edits of an object, before an update.
 
-use crate::devices::{image_of, opened};
 use elf_descriptor::Elf;
-use elf_outside::{MemDevice, Source};
-use elf_types::{Class, DIRTY, DataId, ElfError, LAYOUT, Octets, Order, Part, ScnId};
+use elf_outside::Source;
+use elf_types::constants::SHT_PROGBITS;
+use elf_types::{DIRTY, DataId, Ehdr, ElfError, LAYOUT, Octets, Part, ScnId, Shdr};
 use elf_xlate::Items;
 use std::alloc::Global;
-use test_images::{Recipe, Start, image_of as made_image};
 
-/// Five sections one behind the other.
-const FIVE: Recipe = Recipe {
-    form: (Class::C64, Order::Least),
-    start: Start::FiveSections,
-    puts: &[],
-};
-
-/// What is edited before an update.
-#[derive(Clone, Copy, Debug, PartialEq, Eq)]
+/// An edit.
+#[derive(Clone, Copy)]
 pub enum Edit {
     /// The object is marked.
     Mark,
-    /// It is marked, and its parts keep their places.
+    /// Its parts keep their places.
     Layout,
-    /// A section gets as many other bytes.
-    Replace,
-    /// A section gets more bytes, so those behind it move.
-    Grow,
-    /// A section gets fewer bytes, so those behind it move.
-    Shrink,
-    /// One more section with bytes.
-    Add,
-    /// The type of a section changes, which nothing but its header tells.
-    Retype,
+    /// Another fill byte.
+    Fill(u8),
+    /// Another entry point.
+    Entry(u64),
+    /// So many program headers.
+    Segments(u32),
+    /// The place of the table of section headers.
+    Table(u64),
+    /// The place of a section.
+    Place(u32, u64),
+    /// The type of a section.
+    Type(u32, u32),
+    /// So many bytes 7 in place of those of a section.
+    Bytes(u32, usize),
+    /// One more piece of a section, of eight bytes 51.
+    Piece(u32),
+    /// One more section, of so many bytes 9.
+    Section(usize),
+    /// The home of a section is read, and its piece marked.
+    Load(u32),
 }
 
-/// All edits.
-pub const EDITS: [Edit; 7] = [
-    Edit::Mark,
-    Edit::Layout,
-    Edit::Replace,
-    Edit::Grow,
-    Edit::Shrink,
-    Edit::Add,
-    Edit::Retype,
-];
-
-/// The image before the edits.
-pub fn before(alloc: Global) -> Result<Octets, ElfError> {
-    Ok(made_image(alloc, &FIVE)?.bytes)
+/// So many bytes of one value.
+fn bytes_of(alloc: Global, byte: u8, len: usize) -> Result<Items, ElfError> {
+    let bytes = vec![in alloc; byte; len]?;
+    Ok(Items::Bytes(Octets::from_vec(bytes)))
 }
 
-/// Puts so many bytes of one value in place of a piece.
-fn replace<S: Source>(elf: &mut Elf<S>, d: DataId, bytes: &[u8]) -> Result<(), ElfError> {
-    let bytes = Octets::from_slice(elf.alloc(), bytes)?;
-    match elf.replace(d, Items::Bytes(bytes)) {
+/// Puts other bytes in place of those of a section.
+fn replace<S: Source>(elf: &mut Elf<S>, section: u32, len: usize) -> Result<(), ElfError> {
+    let items = bytes_of(elf.alloc(), 7, len)?;
+    match elf.replace(DataId { section, piece: 0 }, items) {
+        Ok(()) => Ok(()),
+        Err((_, e)) => Err(e),
+    }
+}
+
+/// Adds a piece to a section.
+fn add_piece<S: Source>(elf: &mut Elf<S>, s: ScnId, byte: u8, len: usize) -> Result<(), ElfError> {
+    let items = bytes_of(elf.alloc(), byte, len)?;
+    match elf.newdata(s, items) {
         Ok(_) => Ok(()),
         Err((_, e)) => Err(e),
     }
 }
 
-/// Adds a section with bytes.
-fn add<S: Source>(elf: &mut Elf<S>, bytes: &[u8]) -> Result<(), ElfError> {
+/// Adds a section of bytes.
+fn add_section<S: Source>(elf: &mut Elf<S>, len: usize) -> Result<(), ElfError> {
     let s = elf.newscn()?;
-    let mut header = elf.shdr(s)?;
-    header.stype = 1;
-    header.addralign = 1;
-    elf.update_shdr(s, &header)?;
-    let bytes = Octets::from_slice(elf.alloc(), bytes)?;
-    match elf.newdata(s, Items::Bytes(bytes)) {
-        Ok(_) => Ok(()),
-        Err((_, e)) => Err(e),
+    let header = elf.shdr(s)?;
+    elf.update_shdr(
+        s,
+        &Shdr {
+            stype: SHT_PROGBITS,
+            ..header
+        },
+    )?;
+    add_piece(elf, s, 9, len)
+}
+
+/// Gives a section another place, or another type.
+fn set_header<S: Source>(elf: &mut Elf<S>, edit: Edit) -> Result<(), ElfError> {
+    match edit {
+        Edit::Place(s, offset) => {
+            let header = elf.shdr(ScnId(s))?;
+            elf.update_shdr(ScnId(s), &Shdr { offset, ..header })
+        }
+        Edit::Type(s, stype) => {
+            let header = elf.shdr(ScnId(s))?;
+            elf.update_shdr(ScnId(s), &Shdr { stype, ..header })
+        }
+        _ => Ok(()),
     }
 }
 
-/// Gives a section another type.
-fn retype<S: Source>(elf: &mut Elf<S>, s: ScnId) -> Result<(), ElfError> {
-    let mut header = elf.shdr(s)?;
-    header.stype = 7;
-    elf.update_shdr(s, &header)
+/// Sets something of the front.
+fn set_front<S: Source>(elf: &mut Elf<S>, edit: Edit) -> Result<(), ElfError> {
+    let header = elf.ehdr();
+    match edit {
+        Edit::Entry(entry) => elf.update_ehdr(&Ehdr { entry, ..header }),
+        Edit::Table(shoff) => elf.update_ehdr(&Ehdr { shoff, ..header }),
+        Edit::Segments(n) => elf.newphdr(n),
+        _ => Ok(()),
+    }
 }
 
-/// Does an edit.
-pub fn make_edit<S: Source>(elf: &mut Elf<S>, how: Edit) -> Result<(), ElfError> {
-    let second = DataId {
-        section: 2,
-        piece: 0,
-    };
-    match how {
-        Edit::Mark => {
-            elf.flag(Part::Object, true, DIRTY)?;
-        }
-        Edit::Layout => {
-            elf.flag(Part::Object, true, DIRTY | LAYOUT)?;
-        }
-        Edit::Replace => replace(elf, second, &[7; 8])?,
-        Edit::Grow => replace(elf, second, &[7; 100])?,
-        Edit::Shrink => replace(elf, second, &[7; 3])?,
-        Edit::Add => add(elf, &[9; 33])?,
-        Edit::Retype => retype(elf, ScnId(2))?,
-    }
+/// Sets a flag of the object.
+fn set_flag<S: Source>(elf: &mut Elf<S>, bits: u32) -> Result<(), ElfError> {
+    elf.flag(Part::Object, true, bits)?;
     Ok(())
 }
 
-/// An edited object over a device of which a read and a write fail, those with these numbers.
-pub fn edited(
-    alloc: Global,
-    how: Edit,
-    bad_read: u64,
-    bad_write: u64,
-) -> Result<Elf<MemDevice>, ElfError> {
-    let bytes = before(alloc)?;
-    let mut elf = opened(alloc, bytes.as_slice(), bad_read, bad_write)?;
-    make_edit(&mut elf, how)?;
-    Ok(elf)
+/// Reads the home of a section, and marks its piece.
+fn load<S: Source>(elf: &mut Elf<S>, s: u32) -> Result<(), ElfError> {
+    elf.raw(ScnId(s))?;
+    elf.flag(Part::Piece(s, 0), true, DIRTY)?;
+    Ok(())
 }
 
-/// The image of an edited object.
-pub fn after(alloc: Global, how: Edit) -> Result<Octets, ElfError> {
-    let mut elf = edited(alloc, how, 0, 0)?;
-    image_of(&mut elf)
+/// Makes an edit.
+fn make_edit<S: Source>(elf: &mut Elf<S>, edit: Edit) -> Result<(), ElfError> {
+    match edit {
+        Edit::Mark => set_flag(elf, DIRTY),
+        Edit::Layout => set_flag(elf, LAYOUT),
+        Edit::Fill(byte) => {
+            elf.set_fill(byte);
+            Ok(())
+        }
+        Edit::Entry(_) | Edit::Table(_) | Edit::Segments(_) => set_front(elf, edit),
+        Edit::Place(..) | Edit::Type(..) => set_header(elf, edit),
+        Edit::Bytes(s, len) => replace(elf, s, len),
+        Edit::Piece(s) => add_piece(elf, ScnId(s), 51, 8),
+        Edit::Section(len) => add_section(elf, len),
+        Edit::Load(s) => load(elf, s),
+    }
+}
+
+/// Whether edits are made, one after the other.
+pub fn are_made<S: Source>(elf: &mut Elf<S>, edits: &[Edit]) -> bool {
+    for edit in edits {
+        if make_edit(elf, *edit) != Ok(()) {
+            return false;
+        }
+    }
+    true
 }

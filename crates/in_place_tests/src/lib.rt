@@ -4,10 +4,16 @@
 #![tactic(auto)]
 
 #[cfg(test)]
-mod devices;
-#[cfg(test)]
 mod edits;
 #[cfg(test)]
 mod endings;
 #[cfg(test)]
-mod faults;
+mod files;
+#[cfg(test)]
+mod reads;
+#[cfg(test)]
+mod refusals;
+#[cfg(test)]
+mod rows;
+#[cfg(test)]
+mod writes;

@@ -3,8 +3,11 @@
 
 ghost use Rattle.std.specs.Prelude.{◌≡◌, [], None, IfOk};
 
+mod hidden;
+
 use elf_outside::{Failed, MemSource, Source};
 use elf_types::{Addrs, ElfError, Octets};
+pub use hidden::Hidden;
 use std::alloc::Global;
 
 /// A source of these bytes, of which the read of a number fails, or none where that is 0.

@@ -1,12 +1,12 @@
 //! Each refusal of an edit leaves every answer as it was.
 
-use crate::alike::all_agree;
 use crate::questions::{Question, asked, is_answered};
 use elf_descriptor::Elf;
 use elf_outside::Source;
 use elf_types::{Addrs, DIRTY, DataId, Ehdr, ElfError, LAYOUT, Part, Phdr, ScnId, Shdr};
 use elf_xlate::Items;
 use std::alloc::Global;
+use test_descriptors::all_agree;
 use test_images::{NARROW, OBJECT, Recipe, Start};
 
 /// An edit.

@@ -1,0 +1,164 @@
+//! Parts of the front that differ from those that stand in the image.
+
+ghost use Rattle.std.specs.Prelude.{◌≡◌, length};
+
+use crate::homes::{TWO_HOMES, give_bytes};
+use elf_descriptor::Elf;
+use elf_outside::{Device, Source};
+use elf_types::{DIRTY, Ehdr, ElfError, LAYOUT, Part, ScnId, Shdr};
+use test_descriptors::{Work, are_done};
+use test_images::Image;
+use update_plan::place_parts;
+
+/// An edit of an object.
+#[derive(Clone, Copy)]
+enum Edit {
+    /// None.
+    Nothing,
+    /// Another fill byte.
+    Fill(u8),
+    /// Another entry point.
+    Entry(u64),
+    /// Program headers, so many, at a place.
+    Segments(u32, u64),
+    /// Other flags of section 1.
+    Flags(u64),
+    /// So many other bytes in section 1.
+    Bytes(usize),
+    /// A new section.
+    Section,
+}
+
+/// Edits an object.
+fn make_edit<S: Source>(elf: &mut Elf<S>, by: Edit) -> Result<(), ElfError> {
+    let header = elf.ehdr();
+    match by {
+        Edit::Nothing => {}
+        Edit::Fill(byte) => elf.set_fill(byte),
+        Edit::Entry(entry) => elf.update_ehdr(&Ehdr { entry, ..header })?,
+        Edit::Segments(n, phoff) => {
+            elf.update_ehdr(&Ehdr { phoff, ..header })?;
+            elf.newphdr(n)?;
+        }
+        Edit::Flags(flags) => {
+            let first = elf.shdr(ScnId(1))?;
+            elf.update_shdr(ScnId(1), &Shdr { flags, ..first })?;
+        }
+        Edit::Bytes(len) => give_bytes(elf, len)?,
+        Edit::Section => {
+            elf.newscn()?;
+        }
+    }
+    Ok(())
+}
+
+/// Whether the ELF header, the program header table and the section header table differ.
+type Differ = (bool, bool, bool);
+
+/// Which of the three parts differ, of an object that is not refused.
+fn differing<S: Source>(elf: &Elf<S>) -> Result<Differ, ElfError> {
+    if !elf.dirty() {
+        return Err(ElfError::Short);
+    }
+    match place_parts(elf) {
+        Ok(placed) => Ok((
+            elf.front_differs(Part::Header, &placed.places),
+            elf.front_differs(Part::Segments, &placed.places),
+            elf.front_differs(Part::Table, &placed.places),
+        )),
+        Err(e) => Err(e),
+    }
+}
+
+/// An edit of an object that is marked, with `LAYOUT` or without, and the parts that differ then.
+struct Row {
+    layout: bool,
+    edit: Edit,
+    differ: Differ,
+}
+
+/// Nothing differs.
+const SAME: Differ = (false, false, false);
+
+/// Without `LAYOUT` the table of section headers stands 8 bytes before its place in the image.
+const MOVED: Differ = (true, false, true);
+
+impl Work for Row {
+    fn asked(&self) -> Option<u64> {
+        Some(0)
+    }
+
+    fn is_done<D: Device, F: Source>(
+        &self,
+        elf: &mut Elf<D>,
+        _fresh: &mut Elf<F>,
+        _image: &mut Image,
+    ) -> bool
+        requires { length elf.old.room ≡ length elf.old.o.sections }
+    {
+        let (bits, before) = if self.layout {
+            (DIRTY | LAYOUT, SAME)
+        } else {
+            (DIRTY, MOVED)
+        };
+        let mut stated = elf.flag(Part::Object, true, bits) == Ok(bits);
+        stated &= differing(elf) == Ok(before);
+        stated &= make_edit(elf, self.edit) == Ok(());
+        stated && differing(elf) == Ok(self.differ)
+    }
+}
+
+/// A row of an object whose parts keep their places.
+const KEPT: Row = Row {
+    layout: true,
+    edit: Edit::Nothing,
+    differ: SAME,
+};
+
+/// Edits, and the parts that differ by them.
+const ROWS: [Row; 9] = [
+    KEPT,
+    Row {
+        edit: Edit::Fill(9),
+        ..KEPT
+    },
+    Row {
+        edit: Edit::Entry(7),
+        differ: (true, false, false),
+        ..KEPT
+    },
+    Row {
+        edit: Edit::Segments(1, 300),
+        differ: (true, true, false),
+        ..KEPT
+    },
+    Row {
+        edit: Edit::Flags(2),
+        differ: (false, false, true),
+        ..KEPT
+    },
+    Row {
+        edit: Edit::Bytes(8),
+        ..KEPT
+    },
+    Row {
+        edit: Edit::Bytes(9),
+        differ: (false, false, true),
+        ..KEPT
+    },
+    Row {
+        edit: Edit::Section,
+        differ: (true, false, true),
+        ..KEPT
+    },
+    Row {
+        layout: false,
+        differ: MOVED,
+        ..KEPT
+    },
+];
+
+#[test]
+fn parts_differ_by_what_was_edited(rt: HostRuntime) {
+    assert!(rt; are_done(rt.alloc(), &TWO_HOMES, &ROWS));
+}

@@ -1,0 +1,335 @@
+//! Edits of an object of five sections, and what an update in place does after them.
+
+use crate::edits::{Edit, are_made};
+use elf_descriptor::Elf;
+use elf_outside::{Device, MemSink, Source};
+use elf_types::constants::{SHT_NOBITS, SHT_NOTE};
+use elf_types::{Addrs, Octets};
+use elf_update::{update_null, update_to};
+use test_descriptors::Setting;
+use test_images::{Field, Image, OBJECT, Put, Recipe, SectionField, Start};
+use update_in_place::update_in_place;
+
+/// Room for the images of small objects, and for those of long ones.
+const ROOM: u64 = 1_000;
+
+const LONG_ROOM: u64 = 300_000;
+
+/// Five sections of eight bytes, one behind the other, and then the table of section headers. In
+/// class 64 they stand at 64, 72, 80, 88 and 96, and the table at 104, up to 488.
+pub const FIVE: Setting = Setting {
+    recipe: SECTIONS,
+    room: ROOM,
+};
+
+/// Its image.
+pub const SECTIONS: Recipe = Recipe {
+    start: Start::FiveSections,
+    ..OBJECT
+};
+
+/// Edits, and what the update after them does in class 64.
+#[derive(Clone, Copy)]
+pub struct Row {
+    /// The edits.
+    pub edits: &'static [Edit],
+    /// How many homes they read.
+    pub loads: u64,
+    /// How many homes the update reads.
+    pub reads: u64,
+    /// How many writes it makes, with the one change of the device's length.
+    pub writes: u64,
+    /// How many the next one makes where a write of it fails.
+    pub again: u64,
+}
+
+/// Nothing is read.
+const UNREAD: Row = Row {
+    edits: &[],
+    loads: 0,
+    reads: 0,
+    writes: 0,
+    again: 0,
+};
+
+/// The object is marked: the header and the table are written.
+const MARKED: Row = Row {
+    edits: &[Edit::Mark],
+    writes: 3,
+    again: 3,
+    ..UNREAD
+};
+
+/// Edits for any class, without the caller's layout. What the update writes, in the order of its
+/// places, stands beside each; the length is set besides.
+pub const ROWS: [Row; 14] = [
+    MARKED,
+    // the header, and once a write failed the table
+    Row {
+        edits: &[Edit::Entry(7)],
+        writes: 2,
+        again: 3,
+        ..UNREAD
+    },
+    // the table, and once a write failed the header
+    Row {
+        edits: &[Edit::Type(2, SHT_NOTE)],
+        writes: 2,
+        again: 3,
+        ..UNREAD
+    },
+    // the header, sections 4 and 5 from 80 on, where section 3 had its bytes, and the table at 96
+    Row {
+        edits: &[Edit::Type(3, SHT_NOBITS)],
+        reads: 3,
+        writes: 5,
+        again: 5,
+        ..UNREAD
+    },
+    // section 2, and once a write failed the header and the table
+    Row {
+        edits: &[Edit::Bytes(2, 8)],
+        reads: 1,
+        writes: 2,
+        again: 4,
+        ..UNREAD
+    },
+    // section 3, which is held
+    Row {
+        edits: &[Edit::Load(3)],
+        loads: 1,
+        writes: 2,
+        again: 4,
+        ..UNREAD
+    },
+    // section 2 up to 75, the fill up to 80, and the table
+    Row {
+        edits: &[Edit::Bytes(2, 3)],
+        reads: 1,
+        writes: 4,
+        again: 5,
+        ..UNREAD
+    },
+    // the header, sections 3 to 5 from 72 on, and the table at 96
+    Row {
+        edits: &[Edit::Bytes(2, 0)],
+        reads: 4,
+        writes: 6,
+        again: 6,
+        ..UNREAD
+    },
+    // the header, section 2 up to 172, the fill, sections 3 to 5 from 176 on, the table at 200
+    Row {
+        edits: &[Edit::Bytes(2, 100)],
+        reads: 4,
+        writes: 8,
+        again: 8,
+        ..UNREAD
+    },
+    // the same with another fill byte
+    Row {
+        edits: &[Edit::Fill(9), Edit::Bytes(2, 100)],
+        reads: 4,
+        writes: 8,
+        again: 8,
+        ..UNREAD
+    },
+    // the header, both pieces of section 3, sections 4 and 5 from 96 on, the table at 112
+    Row {
+        edits: &[Edit::Piece(3)],
+        reads: 3,
+        writes: 7,
+        again: 7,
+        ..UNREAD
+    },
+    // the header, section 6 up to 137, the fill, and the table at 144
+    Row {
+        edits: &[Edit::Section(33)],
+        writes: 5,
+        again: 5,
+        ..UNREAD
+    },
+    // the header, a program header, all sections from 120 on, and the table at 160
+    Row {
+        edits: &[Edit::Segments(1)],
+        reads: 5,
+        writes: 9,
+        again: 9,
+        ..UNREAD
+    },
+    // the header, section 1 up to 73, the fill, sections 2 to 4 from 80 on, the byte of section 5
+    // at 104, the fill, and the table at 112
+    Row {
+        edits: &[Edit::Bytes(1, 9), Edit::Bytes(5, 1)],
+        reads: 5,
+        writes: 10,
+        again: 10,
+        ..UNREAD
+    },
+];
+
+/// Edits for class 64, under the caller's layout.
+pub const LAID: [Row; 6] = [
+    Row {
+        edits: &[Edit::Layout, Edit::Mark],
+        ..MARKED
+    },
+    // sections 2 and 1, which change their places, and the table
+    Row {
+        edits: &[Edit::Layout, Edit::Place(1, 72), Edit::Place(2, 64)],
+        reads: 2,
+        writes: 4,
+        again: 5,
+        ..UNREAD
+    },
+    // the table, and section 2 behind it
+    Row {
+        edits: &[Edit::Layout, Edit::Place(2, 488)],
+        reads: 1,
+        writes: 3,
+        again: 4,
+        ..UNREAD
+    },
+    // the header, section 5 four bytes behind its place, and the table at 112
+    Row {
+        edits: &[Edit::Layout, Edit::Table(112), Edit::Place(5, 100)],
+        reads: 1,
+        writes: 4,
+        again: 4,
+        ..UNREAD
+    },
+    // section 5 four bytes before its place, where section 4 was, and the table
+    Row {
+        edits: &[Edit::Layout, Edit::Bytes(4, 0), Edit::Place(5, 92)],
+        reads: 2,
+        writes: 3,
+        again: 4,
+        ..UNREAD
+    },
+    // the table, the fill behind it, and section 5 at 600
+    Row {
+        edits: &[Edit::Layout, Edit::Place(5, 600)],
+        reads: 1,
+        writes: 4,
+        again: 5,
+        ..UNREAD
+    },
+];
+
+/// The five sections, over a device that can get long.
+pub const LONG: Setting = Setting {
+    recipe: SECTIONS,
+    room: LONG_ROOM,
+};
+
+/// Edits of that object in class 64, after which more than a page is written in one place.
+pub const LONG_ROWS: [Row; 2] = [
+    // the header, section 2 in two pages, sections 3 to 5 from 70,072 on, the table at 70,096
+    Row {
+        edits: &[Edit::Bytes(2, 70_000)],
+        reads: 4,
+        writes: 8,
+        again: 8,
+        ..UNREAD
+    },
+    // the table, four pages of fill, and section 5 at 200,000
+    Row {
+        edits: &[Edit::Layout, Edit::Fill(9), Edit::Place(5, 200_000)],
+        reads: 1,
+        writes: 7,
+        again: 8,
+        ..UNREAD
+    },
+];
+
+/// The five sections, of which the fifth has the same home as the first.
+pub const SHARED: Setting = Setting {
+    recipe: Recipe {
+        puts: &[Put::Field(Field::Section(5, SectionField::Offset), 64)],
+        ..SECTIONS
+    },
+    room: ROOM,
+};
+
+/// Edits of that object in class 64: each section gets a place of its own.
+pub const SHARED_ROWS: [Row; 2] = [
+    // the header, section 5 at 96, and the table
+    Row {
+        reads: 1,
+        writes: 4,
+        again: 4,
+        ..MARKED
+    },
+    // sections 1 and 5 and the table, and once a write failed the header
+    Row {
+        edits: &[Edit::Bytes(1, 8)],
+        reads: 2,
+        writes: 4,
+        again: 5,
+        ..UNREAD
+    },
+];
+
+/// The five sections, and five bytes behind all parts.
+pub const TAILED: Setting = Setting {
+    recipe: Recipe {
+        puts: &[Put::Bytes(488, b"tail\n")],
+        ..SECTIONS
+    },
+    room: ROOM,
+};
+
+/// Edits of that object in class 64: what stands behind the parts is cut off, or stays under the
+/// caller's layout.
+pub const TAILED_ROWS: [Row; 2] = [
+    MARKED,
+    Row {
+        edits: &[Edit::Layout, Edit::Entry(7)],
+        writes: 2,
+        again: 3,
+        ..UNREAD
+    },
+];
+
+/// The bytes that an update to a sink puts: the image.
+pub fn image_of<S: Source>(elf: &mut Elf<S>) -> Option<Octets> {
+    let Ok(len) = update_null(elf) else {
+        return None;
+    };
+    let Ok(mut sink) = MemSink::new(elf.alloc(), len, Addrs::new(elf.alloc())) else {
+        return None;
+    };
+    match update_to(elf, &mut sink) {
+        Ok(_) => Some(sink.into_bytes()),
+        Err(_) => None,
+    }
+}
+
+/// Whether an object has this image.
+pub fn has_image<S: Source>(elf: &mut Elf<S>, image: &Image) -> bool {
+    match image_of(elf) {
+        Some(bytes) => bytes.as_slice() == image.bytes.as_slice(),
+        None => false,
+    }
+}
+
+/// Takes the image of a descriptor for what the device is to hold.
+pub fn expect_image<S: Source>(elf: &mut Elf<S>, image: &mut Image) -> bool {
+    match image_of(elf) {
+        Some(bytes) => {
+            image.bytes = bytes;
+            true
+        }
+        None => false,
+    }
+}
+
+/// Makes edits of a descriptor, and takes its image for what the device is to hold.
+pub fn expect<S: Source>(fresh: &mut Elf<S>, edits: &[Edit], image: &mut Image) -> bool {
+    are_made(fresh, edits) && expect_image(fresh, image)
+}
+
+/// Whether an update in place ends, answers the length of the image, and leaves nothing dirty.
+pub fn ends<D: Device>(elf: &mut Elf<D>, image: &Image) -> bool {
+    update_in_place(elf) == Ok(image.bytes.len()) && !elf.dirty()
+}

@@ -1,0 +1,307 @@
+//! Writes that fail, once and in several updates one after the other, and updates that are done
+//! again.
+
+ghost use Rattle.std.specs.Prelude.{◌≡◌, length};
+
+use crate::edits::{Edit, are_made};
+use crate::rows::{
+    FIVE, LAID, LONG, LONG_ROWS, ROWS, Row, SHARED, SHARED_ROWS, TAILED, TAILED_ROWS, ends, expect,
+    expect_image, has_image,
+};
+use elf_descriptor::Elf;
+use elf_outside::{Device, Source};
+use elf_types::ElfError;
+use elf_types::constants::{SHT_NOTE, SHT_PROGBITS};
+use std::alloc::Global;
+use test_descriptors::{Bad, NONE, Setting, Work, all_but_marks_agree, is_done_by, is_done_in};
+use test_images::{Image, WIDE};
+use update_in_place::update_in_place;
+
+/// Updates of which some fail, with edits after those, and one that ends.
+#[derive(Clone, Copy)]
+struct Repeated {
+    /// The edits before.
+    edits: &'static [Edit],
+    /// The writes that fail, by their numbers from the first update on.
+    writes: [u64; 3],
+    /// How many updates fail.
+    fails: u64,
+    /// The edits after those.
+    then: &'static [Edit],
+    /// How many updates fail after these.
+    more: u64,
+    /// Whether the image is then that of an object with both edits over the bytes that the device
+    /// had at first. Under the caller's layout what no part covers is the base's, which is torn.
+    alike: bool,
+}
+
+/// Whether an update fails to write, and the object answers as another one whose places are stored,
+/// and has its image.
+fn fails<D: Device, F: Source>(elf: &mut Elf<D>, fresh: &Elf<F>, image: &Image) -> bool {
+    let failed = update_in_place(elf) == Err(ElfError::Write);
+    failed && all_but_marks_agree(elf, fresh) && has_image(elf, image)
+}
+
+/// Whether so many updates fail.
+fn all_fail<D: Device, F: Source>(
+    elf: &mut Elf<D>,
+    fresh: &Elf<F>,
+    image: &Image,
+    count: u64,
+) -> bool {
+    for _ in 0..count {
+        if !fails(elf, fresh, image) {
+            return false;
+        }
+    }
+    true
+}
+
+impl Repeated {
+    /// Makes the edits after a failed update, and finds out what the device is to hold then.
+    fn edit_again<D: Device, F: Source>(
+        &self,
+        elf: &mut Elf<D>,
+        fresh: &mut Elf<F>,
+        image: &mut Image,
+    ) -> bool {
+        if !are_made(elf, self.then) {
+            return false;
+        }
+        if self.alike {
+            return expect(fresh, self.then, image) && has_image(elf, image);
+        }
+        expect_image(elf, image)
+    }
+}
+
+impl Work for Repeated {
+    fn bad(&self) -> Bad {
+        Bad {
+            writes: self.writes,
+            ..NONE
+        }
+    }
+
+    fn is_done<D: Device, F: Source>(
+        &self,
+        elf: &mut Elf<D>,
+        fresh: &mut Elf<F>,
+        image: &mut Image,
+    ) -> bool
+        requires { length elf.old.room ≡ length elf.old.o.sections }
+    {
+        let mut stated = expect(fresh, self.edits, image) && are_made(elf, self.edits);
+        stated = stated && all_fail(elf, fresh, image, self.fails);
+        stated = stated && self.edit_again(elf, fresh, image);
+        stated = stated && all_fail(elf, fresh, image, self.more);
+        stated && ends(elf, image) && ends(elf, image)
+    }
+}
+
+/// Whether updates of an object fail by these writes, so many, and the next one ends.
+fn is_repeated(alloc: Global, setting: &Setting, row: &Row, writes: [u64; 3], fails: u64) -> bool {
+    let work = Repeated {
+        edits: row.edits,
+        writes,
+        fails,
+        then: &[],
+        more: 0,
+        alike: true,
+    };
+    is_done_by(alloc, setting, WIDE, &work, fails == 2)
+}
+
+/// Whether an update whose write with this number fails can be repeated, also where one more fails,
+/// by its first write, and where two more do: by each of their writes, after the first and the last
+/// one of the update.
+fn is_repeated_after(alloc: Global, setting: &Setting, row: &Row, bad: u64) -> bool {
+    for step in 1..row.again.saturating_add(1) {
+        let second = bad.saturating_add(step);
+        let third = second.saturating_add(step);
+        let tried = bad == 1 || bad == row.writes || bad == step;
+        if tried && !is_repeated(alloc, setting, row, [bad, second, third], 3) {
+            return false;
+        }
+    }
+    let next = bad.saturating_add(1);
+    is_repeated(alloc, setting, row, [bad, 0, 0], 1)
+        && is_repeated(alloc, setting, row, [bad, next, 0], 2)
+}
+
+/// Whether the update of each row can be repeated after each of its writes failed, and makes no
+/// more.
+fn are_repeated(alloc: Global, setting: &Setting, rows: &[Row]) -> bool {
+    for row in rows {
+        let writes = row.writes.saturating_add(1);
+        for bad in 1..writes {
+            if !is_repeated_after(alloc, setting, row, bad) {
+                return false;
+            }
+        }
+        if !is_repeated(alloc, setting, row, [writes, 0, 0], 0) {
+            return false;
+        }
+    }
+    true
+}
+
+#[test]
+fn an_update_that_fails_to_write_can_be_repeated(rt: HostRuntime) {
+    assert!(rt; are_repeated(rt.alloc(), &FIVE, &ROWS));
+    assert!(rt; are_repeated(rt.alloc(), &FIVE, &LAID));
+    assert!(rt; are_repeated(rt.alloc(), &LONG, &LONG_ROWS));
+    assert!(rt; are_repeated(rt.alloc(), &SHARED, &SHARED_ROWS));
+    assert!(rt; are_repeated(rt.alloc(), &TAILED, &TAILED_ROWS));
+}
+
+/// Edits after a failed update: the image gets shorter than the device, or longer, or as long, with
+/// other sections that move.
+const NEXT: [&[Edit]; 7] = [
+    &[Edit::Bytes(2, 0)],
+    &[Edit::Bytes(2, 300)],
+    &[Edit::Section(5)],
+    &[Edit::Entry(9)],
+    &[Edit::Type(3, SHT_PROGBITS)],
+    &[Edit::Type(3, SHT_NOTE), Edit::Bytes(5, 20)],
+    &[Edit::Bytes(1, 1), Edit::Bytes(4, 40), Edit::Segments(2)],
+];
+
+/// Whether an object is edited after the write of its update with a number failed, and then
+/// written, where the first write of so many updates after the edits fails too.
+fn is_edited_after(
+    alloc: Global,
+    row: &Row,
+    bad: u64,
+    then: &'static [Edit],
+    more: u64,
+    alike: bool,
+) -> bool {
+    let work = Repeated {
+        edits: row.edits,
+        writes: [bad, bad.saturating_add(more), 0],
+        fails: 1,
+        then,
+        more,
+        alike,
+    };
+    is_done_by(alloc, &FIVE, WIDE, &work, false)
+}
+
+/// Whether it is after each write of its update failed; after every second one an update fails once
+/// more.
+fn is_edited_between(alloc: Global, row: &Row, then: &'static [Edit], alike: bool) -> bool {
+    for bad in 1..row.writes.saturating_add(1) {
+        let more = if alike { bad % 2 } else { 0 };
+        if !is_edited_after(alloc, row, bad, then, more, alike) {
+            return false;
+        }
+    }
+    true
+}
+
+/// Whether an object is, by each of these edits, and by the flag of the caller's layout.
+fn is_edited_by_all(alloc: Global, row: &Row, next: &[&'static [Edit]]) -> bool {
+    for then in next {
+        if !is_edited_between(alloc, row, then, true) {
+            return false;
+        }
+    }
+    is_edited_between(alloc, row, &[Edit::Layout], false)
+}
+
+/// Whether each object is.
+fn are_edited_between(alloc: Global, rows: &[Row], next: &[&'static [Edit]]) -> bool {
+    for row in rows {
+        if !is_edited_by_all(alloc, row, next) {
+            return false;
+        }
+    }
+    true
+}
+
+/// Whether each object under the caller's layout is, by another entry point.
+fn are_laid_between(alloc: Global, rows: &[Row]) -> bool {
+    for row in rows {
+        if !is_edited_between(alloc, row, &[Edit::Entry(9)], false) {
+            return false;
+        }
+    }
+    true
+}
+
+#[test]
+fn an_object_is_edited_between_two_updates(rt: HostRuntime) {
+    assert!(rt; are_edited_between(rt.alloc(), &ROWS, &NEXT));
+    assert!(rt; are_laid_between(rt.alloc(), &LAID));
+}
+
+/// An update whose write with a number fails, and what it leaves of the device.
+#[derive(Clone, Copy)]
+struct Torn {
+    row: Row,
+    bad: u64,
+}
+
+impl Work for Torn {
+    fn bad(&self) -> Bad {
+        Bad {
+            writes: [self.bad, 0, 0],
+            ..NONE
+        }
+    }
+
+    fn is_done<D: Device, F: Source>(
+        &self,
+        elf: &mut Elf<D>,
+        fresh: &mut Elf<F>,
+        image: &mut Image,
+    ) -> bool
+        requires { length elf.old.room ≡ length elf.old.o.sections }
+    {
+        let stated = expect(fresh, self.row.edits, image) && are_made(elf, self.row.edits);
+        stated && update_in_place(elf) == Err(ElfError::Write)
+    }
+
+    fn may_leave(&self, held: &[u8], old: &[u8], new: &[u8]) -> bool {
+        if held.len() != old.len() && held.len() != new.len() {
+            return false;
+        }
+        for (i, byte) in held.iter().enumerate() {
+            let is_old = is_at(*byte, old.get(i), *byte == 0);
+            if !is_old && !is_at(*byte, new.get(i), false) {
+                return false;
+            }
+        }
+        true
+    }
+}
+
+/// Whether a byte is that of its place, or what is said where that is past the end.
+fn is_at(byte: u8, there: Option<&u8>, past: bool) -> bool {
+    match there {
+        Some(there) => *there == byte,
+        None => past,
+    }
+}
+
+/// Whether each byte is the old one or the new one where a write fails, by each of the writes.
+fn are_torn(alloc: Global, setting: &Setting, rows: &[Row]) -> bool {
+    for row in rows {
+        for bad in 1..row.writes.saturating_add(1) {
+            if !is_done_in(alloc, setting, WIDE, &Torn { row: *row, bad }) {
+                return false;
+            }
+        }
+    }
+    true
+}
+
+#[test]
+fn a_write_that_fails_leaves_old_or_new_bytes(rt: HostRuntime) {
+    assert!(rt; are_torn(rt.alloc(), &FIVE, &ROWS));
+    assert!(rt; are_torn(rt.alloc(), &FIVE, &LAID));
+    assert!(rt; are_torn(rt.alloc(), &LONG, &LONG_ROWS));
+    assert!(rt; are_torn(rt.alloc(), &SHARED, &SHARED_ROWS));
+    assert!(rt; are_torn(rt.alloc(), &TAILED, &TAILED_ROWS));
+}

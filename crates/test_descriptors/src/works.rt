@@ -1,0 +1,221 @@
+//! Work that is done with a descriptor over a device in memory.
+
+ghost use Rattle.std.specs.Prelude.{◌≡◌, length};
+
+use elf_descriptor::Elf;
+use elf_outside::{Device, MemDevice, MemSource, Source};
+use elf_types::{Addrs, Class, Ehdr, ElfError, Octets};
+use elf_xlate::{ehdr_size, phdr_size, shdr_size};
+use std::alloc::Global;
+use test_images::{FORMS, Form, Image, Recipe, image_in};
+use test_sources::{Hidden, source};
+
+/// The calls of a device that fail, by their numbers from 1; none where there is a 0.
+#[derive(Clone, Copy)]
+pub struct Bad {
+    /// The reads; three read the front of an object without program headers.
+    pub reads: [u64; 3],
+    /// The writes, and the changes of its length.
+    pub writes: [u64; 3],
+}
+
+/// No call fails.
+pub const NONE: Bad = Bad {
+    reads: [0; 3],
+    writes: [0; 3],
+};
+
+/// What work is done on.
+#[derive(Drop)]
+pub struct Setting {
+    /// The image that the device holds before.
+    pub recipe: Recipe,
+    /// How long the device can get.
+    pub room: u64,
+}
+
+/// What is done with a descriptor that began over a device.
+pub trait Work {
+    /// The calls of the device that fail; none, where nothing else is said.
+    fn bad(&self) -> Bad {
+        NONE
+    }
+
+    /// How many bytes are asked for besides the front, where that is looked at.
+    fn asked(&self) -> Option<u64> {
+        None
+    }
+
+    /// Whether all is answered as it should be, beside another descriptor over the bytes that the
+    /// device had. The image has these bytes, and becomes those that the device is to have.
+    fn is_done<D: Device, F: Source>(
+        &self,
+        elf: &mut Elf<D>,
+        fresh: &mut Elf<F>,
+        image: &mut Image,
+    ) -> bool
+        requires { length elf.old.room ≡ length elf.old.o.sections };
+
+    /// Whether the device may hold these bytes afterwards, where it had the old ones and is to have
+    /// the new ones: it holds the new ones, where nothing else is said.
+    fn may_leave(&self, held: &[u8], _old: &[u8], new: &[u8]) -> bool {
+        held == new
+    }
+}
+
+/// The bytes of a header, so many program headers and so many section headers.
+pub fn front_size(class: Class, segments: u64, sections: u64) -> u64 {
+    let (header, segment, section) = (ehdr_size(class), phdr_size(class), shdr_size(class));
+    (header as u64)
+        .saturating_add(segments.saturating_mul(segment as u64))
+        .saturating_add(sections.saturating_mul(section as u64))
+}
+
+/// The bytes of the front that a header begins, whose counts stand in it.
+fn front_of(header: &Ehdr) -> u64 {
+    front_size(
+        header.class,
+        u64::from(header.phnum),
+        u64::from(header.shnum),
+    )
+}
+
+/// A device with these bytes.
+fn device(alloc: Global, bytes: &[u8], room: u64, bad: Bad) -> Result<MemDevice, ElfError> {
+    if bytes.len() as u64 > room {
+        return Err(ElfError::TooLarge);
+    }
+    let bad_reads = Addrs::from_slice(alloc, &bad.reads)?;
+    let bad_writes = Addrs::from_slice(alloc, &bad.writes)?;
+    MemDevice::new(alloc, bytes, room, bad_reads, bad_writes)
+}
+
+/// Whether work is done over a device beside a descriptor over another source; the device comes
+/// back.
+#[tactic(auto, using(crate::proofs::Begun::begun_rooms))]
+fn done_beside<W: Work, D: Device, F: Source>(
+    alloc: Global,
+    work: &W,
+    device: D,
+    fresh: &mut Elf<F>,
+    image: &mut Image,
+) -> (D, bool) {
+    match Elf::begin(alloc, device) {
+        Ok(mut elf) => {
+            let done = work.is_done(&mut elf, fresh, image);
+            (elf.end(), done)
+        }
+        Err((device, _)) => (device, false),
+    }
+}
+
+/// A source of the bytes of an image.
+fn source_of(alloc: Global, image: &Image) -> Option<MemSource> {
+    let Ok(bytes) = Octets::from_slice(alloc, image.bytes.as_slice()) else {
+        return None;
+    };
+    match source(alloc, bytes, 0) {
+        Ok(src) => Some(src),
+        Err(_) => None,
+    }
+}
+
+/// Whether work is done over a device that has the bytes of an image, beside a descriptor over a
+/// source of them; the device comes back.
+pub fn done_over<W: Work, D: Device>(
+    alloc: Global,
+    work: &W,
+    device: D,
+    image: &mut Image,
+) -> (D, bool) {
+    let Some(other) = source_of(alloc, image) else {
+        return (device, false);
+    };
+    match Elf::begin(alloc, other) {
+        Ok(mut fresh) => done_beside(alloc, work, device, &mut fresh, image),
+        Err(_) => (device, false),
+    }
+}
+
+/// The same, over a device that tells its bytes or does not.
+fn done_with<W: Work>(
+    alloc: Global,
+    work: &W,
+    hidden: bool,
+    device: MemDevice,
+    image: &mut Image,
+) -> (MemDevice, bool) {
+    if hidden {
+        let (device, done) = done_over(alloc, work, Hidden::new(device), image);
+        return (device.into_inner(), done);
+    }
+    done_over(alloc, work, device, image)
+}
+
+/// Whether a device was asked for so many bytes as work says, and holds what it may leave.
+fn is_left<W: Work>(work: &W, device: MemDevice, old: &[u8], image: &Image) -> bool {
+    let stated = match work.asked() {
+        Some(n) => device.asked() == front_of(&image.header).saturating_add(n),
+        None => true,
+    };
+    let held = device.into_bytes();
+    stated && work.may_leave(held.as_slice(), old, image.bytes.as_slice())
+}
+
+/// Whether work is done over a device that has the bytes of an image, and leaves it what it may.
+fn is_done_over<W: Work>(
+    alloc: Global,
+    work: &W,
+    hidden: bool,
+    device: MemDevice,
+    image: &mut Image,
+) -> bool {
+    let Ok(old) = Octets::from_slice(alloc, image.bytes.as_slice()) else {
+        return false;
+    };
+    let (device, done) = done_with(alloc, work, hidden, device, image);
+    let left = is_left(work, device, old.as_slice(), image);
+    done && left
+}
+
+/// Whether work is done in a form, over a device that tells its bytes or does not.
+pub fn is_done_by<W: Work>(
+    alloc: Global,
+    setting: &Setting,
+    form: Form,
+    work: &W,
+    hidden: bool,
+) -> bool {
+    let Ok(mut image) = image_in(alloc, form, &setting.recipe) else {
+        return false;
+    };
+    match device(alloc, image.bytes.as_slice(), setting.room, work.bad()) {
+        Ok(device) => is_done_over(alloc, work, hidden, device, &mut image),
+        Err(_) => false,
+    }
+}
+
+/// Whether work is done in a form, over a device that tells its bytes and over one that does not.
+pub fn is_done_in<W: Work>(alloc: Global, setting: &Setting, form: Form, work: &W) -> bool {
+    is_done_by(alloc, setting, form, work, false) && is_done_by(alloc, setting, form, work, true)
+}
+
+/// Whether it is in all forms.
+pub fn is_done<W: Work>(alloc: Global, setting: &Setting, work: &W) -> bool {
+    for form in FORMS.iter() {
+        if !is_done_in(alloc, setting, *form, work) {
+            return false;
+        }
+    }
+    true
+}
+
+/// Whether each work is done in all forms.
+pub fn are_done<W: Work>(alloc: Global, setting: &Setting, works: &[W]) -> bool {
+    for work in works {
+        if !is_done(alloc, setting, work) {
+            return false;
+        }
+    }
+    true
+}
