@@ -16,6 +16,7 @@ use Rattle.tool_text.specs.declared.commands.Command.TheVariants.{Readelf, Nm, S
 use Rattle.usage_text.specs.Usages.{usage_line}
 use Rattle.usage_text.specs.Notices.{notice_text}
 use Rattle.tool_text.specs.Reading.{reading}
+use Rattle.command_outcomes.specs.Selftest.{selftest_outcome}
 use Rattle.elfkit_run.specs.Sentences.{says, not_built}
 use Rattle.elfkit_run.specs.Calls.{calls_outcome, calls_update_outcome}
 use Rattle.elfkit_run.specs.Readelf.{readelf_outcome}
@@ -35,7 +36,7 @@ command_outcome (Elflint files) named = elflint_outcome files named
 command_outcome (Calls None file script) named = calls_outcome file script named
 command_outcome (Calls (Some output) file script) named =
     calls_update_outcome output file script named
-command_outcome (Selftest out count) named = not_built
+command_outcome (Selftest out count) named = selftest_outcome out count
 command_outcome (Rehash out file) named = not_built
 command_outcome (Copy changes out file) named = not_built
 command_outcome (Unstrip out stripped debug) named = not_built
@@ -73,7 +74,7 @@ is_built (Strings options files) = true
 is_built (Strip options file) = false
 is_built (Elflint files) = true
 is_built (Calls output file script) = true
-is_built (Selftest out count) = false
+is_built (Selftest out count) = true
 is_built (Rehash out file) = false
 is_built (Copy changes out file) = false
 is_built (Unstrip out stripped debug) = false

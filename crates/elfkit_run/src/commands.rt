@@ -18,6 +18,7 @@ pub mod elflint;
 pub mod lines;
 pub mod nm;
 pub mod readelf;
+pub mod selftest;
 pub mod size;
 pub mod strings;
 
@@ -30,6 +31,7 @@ use elflint::elflint;
 use lines::lines;
 use nm::nm;
 use readelf::readelf;
+use selftest::selftest;
 use size::size;
 use std::alloc::Global;
 use strings::strings;
@@ -145,7 +147,7 @@ pub fn run_command<F: Files, O: Sink, E: Sink>(
             file,
             script,
         } => calls_by_output(alloc, output, file, script, files, outputs),
-        Command::Selftest { .. } => not_built(files, outputs),
+        Command::Selftest { out, count } => selftest(alloc, out, *count, files, outputs),
         Command::Rehash { .. } => not_built(files, outputs),
         Command::Copy { .. } => not_built(files, outputs),
         Command::Unstrip { .. } => not_built(files, outputs),

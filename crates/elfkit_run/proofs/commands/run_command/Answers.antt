@@ -1,5 +1,5 @@
 use Rattle.std.proofs.Common.{refl}
-use Rattle.elfkit_run.specs.Program.{command_outcome, is_built}
+use Rattle.elfkit_run.specs.Program.{command_outcome, is_built, writes_files}
 use Rattle.elfkit_run.proofs.commands.run_command.Goals as goal
 
 pub returns-in-Readelf-clause-does : goal.returns-in-Readelf-clause-does
@@ -50,6 +50,18 @@ pub returns-in-Elflint-clause-untouched : goal.returns-in-Elflint-clause-untouch
 unfolding is_built
 returns-in-Elflint-clause-untouched g c = rw c.in-Elflint.is (λ no. cc)
 
+pub selftest-requires : goal.selftest-requires
+selftest-requires g c = rw c.in-Selftest.is at c.requires
+
+pub returns-in-Selftest-clause-does : goal.returns-in-Selftest-clause-does
+unfolding command_outcome is_built
+returns-in-Selftest-clause-does g c =
+    rw c.in-Selftest.is (λ told. c.selftest.ensures.does (told refl))
+
+pub returns-in-Selftest-clause-untouched : goal.returns-in-Selftest-clause-untouched
+unfolding is_built
+returns-in-Selftest-clause-untouched g c = rw c.in-Selftest.is (λ no. cc)
+
 pub returns-in-Calls-clause-does : goal.returns-in-Calls-clause-does
 unfolding is_built
 returns-in-Calls-clause-does g c = rw c.in-Calls.is (λ told. c.calls_by_output.ensures.does (told refl))
@@ -86,7 +98,8 @@ pub returns-in-Strip-clause-given : goal.returns-in-Strip-clause-given
 returns-in-Strip-clause-given g c = λ reading. refl
 
 pub returns-in-Selftest-clause-given : goal.returns-in-Selftest-clause-given
-returns-in-Selftest-clause-given g c = λ reading. refl
+unfolding writes_files
+returns-in-Selftest-clause-given g c = rw c.in-Selftest.is (λ no. cc)
 
 pub returns-in-Rehash-clause-given : goal.returns-in-Rehash-clause-given
 returns-in-Rehash-clause-given g c = λ reading. refl
