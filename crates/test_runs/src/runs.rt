@@ -12,7 +12,10 @@ use tool_text::Args;
 const ROOM: u64 = 1 << 20;
 
 /// The room of each file that a run makes, more than a test writes.
-const FILE_ROOM: u64 = 1 << 12;
+const FILE_ROOM: u64 = 1 << 18;
+
+/// A room for which there is no memory.
+const NO_MEMORY: u64 = 1 << 62;
 
 /// How a run ends, and what it writes on both outputs.
 #[derive(Clone, Copy)]
@@ -69,6 +72,8 @@ pub struct Failing {
     pub out: u64,
     /// The put to standard error that fails.
     pub err: u64,
+    /// Whether each file that is handed out wants more memory than there is.
+    pub memory: bool,
 }
 
 /// No call fails.
@@ -77,6 +82,7 @@ pub const NOTHING: Failing = Failing {
     write: 0,
     out: 0,
     err: 0,
+    memory: false,
 };
 
 /// A list of one number, or of none where it is 0.
@@ -147,7 +153,8 @@ fn sink(alloc: Global, failing: u64) -> Result<MemSink, ElfError> {
 fn files_of<G: Given>(alloc: Global, given: &G, failing: Failing) -> Result<MemFiles, ElfError> {
     let opens = numbered(alloc, failing.open)?;
     let writes = numbered(alloc, failing.write)?;
-    let mut files = MemFiles::new(alloc, FILE_ROOM, opens, writes);
+    let room = if failing.memory { NO_MEMORY } else { FILE_ROOM };
+    let mut files = MemFiles::new(alloc, room, opens, writes);
     match given.add_to(alloc, &mut files) {
         Ok(()) => Ok(files),
         Err(e) => Err(e),

@@ -7,7 +7,7 @@ use elf_update::update_to;
 use std::alloc::Global;
 
 /// Room for each image of these tests.
-const ROOM: u64 = 3_000_000;
+const ROOM: u64 = 5_000_000;
 
 /// A sink of which the put of a number fails, or none where that is 0.
 pub fn sink(alloc: Global, bad_put: u64) -> Result<MemSink, ElfError> {

@@ -12,15 +12,18 @@ use test_runs::{
 use tool_output::Status;
 
 /// What the name O held before.
-const OLD: &[u8] = b"old";
+pub const OLD: &[u8] = b"old";
 
 /// An image as the file F, of which the read with a number fails, a script for it as the file S,
 /// and a file O.
 #[derive(Drop)]
-struct Updated {
-    image: Image,
-    bad_read: u64,
-    script: &'static [u8],
+pub struct Updated {
+    /// The image.
+    pub image: Image,
+    /// The number of the read.
+    pub bad_read: u64,
+    /// The script.
+    pub script: &'static [u8],
 }
 
 impl Given for Updated {
@@ -101,7 +104,7 @@ fn made_bytes(alloc: Global, form: &Form, made: Made) -> Result<Octets, ElfError
 }
 
 /// Whether a name holds these bytes.
-fn holds(held: &Option<Octets>, bytes: &Octets) -> bool {
+pub fn holds(held: &Option<Octets>, bytes: &Octets) -> bool {
     match held {
         Some(held) => held.as_slice() == bytes.as_slice(),
         None => false,
@@ -117,7 +120,7 @@ fn is_left(alloc: Global, left: Left, ending: &Ending, form: &Form, made: Made) 
 }
 
 /// A run of a script with -o over an image.
-fn run_script(
+pub fn run_script(
     alloc: Global,
     image: Image,
     script: &'static [u8],
@@ -238,9 +241,9 @@ fn the_image_that_the_calls_leave_is_written(rt: HostRuntime) -> Result<(), Fail
 fn is_out_of_file(alloc: Global) -> Result<bool, ElfError> {
     let mut image = object_in(alloc, &WIDE)?;
     image.put_field(Field::Section(2, SectionField::Offset), u64::MAX);
-    let left = run_script(alloc, image, b"set shdr 1 flags 2\n", NOTHING)?;
+    let left = run_script(alloc, image, b"set shdr 1 flags 2\nnull\n", NOTHING)?;
     let ending = Ending {
-        out: b"ok\nrefused section 2 out of file\n",
+        out: b"ok\nrefused section 2 out of file\nrefused section 2 out of file\n",
         ..REFUSED
     };
     Ok(is_left(alloc, left, &ending, &WIDE, Made::Old))

@@ -5,4 +5,8 @@
 #[cfg(test)]
 mod calls;
 #[cfg(test)]
+mod images;
+#[cfg(test)]
 mod selftest;
+#[cfg(test)]
+mod stops;
