@@ -44,7 +44,7 @@ fn is_answered_of<Q: Question>(
     bytes: &[u8],
 ) -> Result<bool, Fail> {
     fs::write(rt, path, bytes)?;
-    let mut files = RealFiles::new(rt.clone()?);
+    let mut files = RealFiles::new(rt.alloc(), rt.clone()?);
     let answered = is_answered_over_file(rt, &mut files, path, q);
     fs::remove_file(rt, path)?;
     Ok(answered)

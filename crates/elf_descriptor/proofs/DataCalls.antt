@@ -16,12 +16,12 @@ use Rattle.elf_xlate.proofs.Decoded as counts
 use Rattle.elf_outside.specs.declared.sources.Source.{Ghosts}
 use Rattle.elf_outside.specs.Asks.{Asks}
 use Rattle.elf_object.specs.Words.{Answers, AlikeItems}
-use Rattle.elf_object.specs.Object.{Piece}
+use Rattle.elf_object.specs.Object.{Piece, piece_at}
 use Rattle.elf_object.specs.Answers.{content, items_at, data_refusal}
 use Rattle.elf_object.specs.Answers as object
 use Rattle.elf_object.specs.Calls.{data_answer, wants}
 use Rattle.elf_object.specs.Calls as calls
-use Rattle.elf_object.specs.Due.{homes_due, unless_refused, when_piece_clean}
+use Rattle.elf_object.specs.Due.{is_loaded, homes_due, unless_refused, when_piece_clean}
 use Rattle.section_data.specs.Views.{CellView, IsCell}
 use Rattle.section_data.specs.Held.{piece_in, cell_is_loaded, piece_holds_items, ready, HeldIs}
 use Rattle.section_data.specs.Refused.{items_refused, no_home_items, items_due, preparing}
@@ -35,7 +35,7 @@ use Rattle.elf_descriptor.proofs.Refusals.{err_of_answered, answers_wants}
 use Rattle.elf_descriptor.proofs.Objects.{piece_is}
 use Rattle.elf_descriptor.proofs.Warming.{warmed_cell, items_held_at}
 use Rattle.elf_descriptor.proofs.ListedCells.{warms_piece, home_whole, clean_or_own}
-use Rattle.elf_descriptor.proofs.Loaded.{raw_exact}
+use Rattle.elf_descriptor.proofs.Loaded.{loaded_is, raw_exact}
 use Rattle.elf_descriptor.proofs.PieceCalls.{data_refusal_is, items_unread, reader_due, reader_looks, holds_is, content_is, raw_length}
 
 data_reads : (image : Option (List ℕ)) (size : ℕ) (b : Body) (s p : ℕ) (sections : List ℕ) → IsElf image size b
@@ -74,6 +74,18 @@ held_loaded class order c p is clean holds = by_held c.held c.raw is (sym (ap (�
     by_held None raw is some = cc
     by_held (Some items) None is some = cc
     by_held (Some items) (Some bytes) is some = refl
+
+pub data_loaded : (image : Option (List ℕ)) (size : ℕ) (b : Body) (s p : ℕ)
+    (result : Result (Unit {0}) ElfError) → IsElf image size b
+    → OnOk result (IsTrue (piece_holds_items (scn_at b s).cell p))
+    → OnOk result ((piece_at (object_of image size b) s p).own ≡ None
+      → IsTrue (is_loaded (loaded_of b) s))
+data_loaded image size b s p (Err e) is holds = holds
+data_loaded image size b s p (Ok x) is holds = λ clean.
+    loaded_is b s
+    ∙ held_loaded b.header.class b.header.order (scn_at b s).cell p
+    (items_held_at image size b s is)
+    (ap (λ (q : Piece). q.own) (sym (piece_is image size b s p)) ∙ clean) holds
 
 pub data_looks : {S : Type 0} (g : Ghosts S) (result : Result (Unit {0}) ElfError) (source left : S) (old new : Body) (s p : ℕ)
     → IsElf (g.holds source) (g.size source) old → IsElf (g.holds left) (g.size left) new → Warmed (g.holds source) old new s

@@ -55,7 +55,7 @@ fn start(rt: &HostRuntime) -> Status {
         say_no_memory(rt);
         return Status::NoMemory;
     };
-    let mut files = RealFiles::new(system);
+    let mut files = RealFiles::new(rt.alloc(), system);
     let mut out = RealSink::new(rt.stdout());
     let mut err = RealSink::new(rt.stderr());
     let status = run(rt.alloc(), &words, &mut files, &mut out, &mut err);

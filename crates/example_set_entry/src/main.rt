@@ -95,7 +95,7 @@ fn main(rt: HostRuntime) -> io::Result<ExitCode> {
     let Ok(system) = rt.clone() else {
         return Ok(ExitCode::from(5));
     };
-    match change_entry(rt.alloc(), &mut RealFiles::new(system), &words) {
+    match change_entry(rt.alloc(), &mut RealFiles::new(rt.alloc(), system), &words) {
         Ok(len) => {
             println!(rt; "{len} bytes")?;
             Ok(ExitCode::SUCCESS)

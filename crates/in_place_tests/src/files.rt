@@ -43,7 +43,7 @@ fn is_updated_in_system(
     row: &Row,
     image: &mut Image,
 ) -> Result<bool, Fail> {
-    let mut files = RealFiles::new(rt.clone()?);
+    let mut files = RealFiles::new(rt.alloc(), rt.clone()?);
     Ok(is_updated(rt, &mut files, path, row, image))
 }
 

@@ -21,7 +21,7 @@ fn main(rt: HostRuntime) -> io::Result<ExitCode> {
     let Ok(system) = rt.clone() else {
         return Ok(ExitCode::from(5));
     };
-    let mut files = RealFiles::new(system);
+    let mut files = RealFiles::new(rt.alloc(), system);
     match total(rt.alloc(), &mut files, &work) {
         Some(sum) => {
             println!(rt; "{sum}")?;

@@ -55,7 +55,7 @@ const GONE: [(Way, Told); 2] = [
 
 /// Whether a path of the system is visited so.
 fn is_so(rt: &HostRuntime, path: &str, visits: &[(Way, Told)]) -> Result<bool, Fail> {
-    let mut files = RealFiles::new(rt.clone()?);
+    let mut files = RealFiles::new(rt.alloc(), rt.clone()?);
     Ok(are_visited(rt.alloc(), &mut files, path, visits))
 }
 
@@ -221,7 +221,7 @@ fn is_kept(kept: Option<&Failure>, name: &str, attempt: Attempt, said: ErrorKind
 /// Whether the last call that failed is kept: one that hands out no file, and one on a file that
 /// was closed.
 fn failures_are_kept(rt: &HostRuntime) -> Result<bool, Fail> {
-    let mut files = RealFiles::new(rt.clone()?);
+    let mut files = RealFiles::new(rt.alloc(), rt.clone()?);
     let mut kept = files.last_failure().is_none();
     kept &= files.open(rt.alloc(), "/dev").is_err();
     kept &= is_kept(

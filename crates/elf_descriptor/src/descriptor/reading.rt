@@ -4,7 +4,7 @@ ghost use Rattle.std.specs.Prelude.{◌≡◌, true, IsTrue, OnOk, [], None};
 ghost use Rattle.std.specs.Borrow.{sem};
 ghost use Rattle.elf_types.specs.Answers.{answered};
 ghost use Rattle.elf_object.specs.Words.{Answers, AlikeBytes, AlikeItems, IsLike, seen};
-ghost use Rattle.elf_object.specs.Object.{section_at};
+ghost use Rattle.elf_object.specs.Object.{section_at, piece_at};
 ghost use Rattle.elf_object.specs.Answers.{raw_refusal, data_refusal, items_at};
 ghost use Rattle.elf_object.specs.Due.{is_loaded, holds_items};
 ghost use Rattle.elf_object.specs.Calls as calls;
@@ -63,6 +63,8 @@ impl<S: Source> Elf<S> {
             result (answered (data_refusal self.old.o d.section d.piece) tt) }
         ensures holds { OnOk result
             (IsTrue (holds_items self.new.o self.new.held d.section d.piece)) }
+        ensures loaded { OnOk result ((piece_at self.new.o d.section d.piece).own ≡ None
+            → IsTrue (is_loaded self.new.loaded d.section)) }
         ensures looks { Looks S.Source (calls.section_data d.section d.piece) result self.old
             self.new }
     {

@@ -7,6 +7,7 @@ ghost use Rattle.elf_outside.specs.Counts.{Rose, next_count};
 use crate::file_sets::{Files, OpenFault};
 use crate::real::RealFile;
 use crate::real::failure::{Attempt, Failure};
+use crate::real::inodes::{Inode, OpenInodes};
 use crate::real::system_file::SystemFile;
 use elf_types::Octets;
 use std::alloc::Global;
@@ -21,11 +22,15 @@ const MOST_HELD: u64 = 1 << 30;
 /// its end at once where it is no regular file or tells the length 0, as a pipe or a file of /proc
 /// does; so to open a directory fails.
 ///
+/// A file that is open is not made anew, under whatever name, since that would take the bytes from
+/// under those who read it: `create` then answers `Failed`, and the file is as it was.
+///
 /// They keep what the system said of the last call that failed. Of the calls on a file they know
 /// once it was closed.
 #[derive(Drop)]
 pub struct RealFiles<R> {
     system: R,
+    open: OpenInodes,
     read_faults: u64,
     write_faults: u64,
     taken: u64,
@@ -47,13 +52,14 @@ enum Refusal {
 
 impl<R: rt::Files<File = File>> RealFiles<R> {
     /// The files that the system has, with all counts 0.
-    pub fn new(system: R) -> RealFiles<R>
+    pub fn new(alloc: Global, system: R) -> RealFiles<R>
         ensures faults { (result.read_faults ≡ 0) × (result.write_faults ≡ 0) }
         ensures numbers { (result.taken ≡ 0) × (result.given ≡ 0) }
         ensures live { result.live ≡ 0 }
     {
         RealFiles {
             system,
+            open: OpenInodes::new(alloc),
             read_faults: 0,
             write_faults: 0,
             taken: 0,
@@ -70,6 +76,24 @@ impl<R: rt::Files<File = File>> RealFiles<R> {
         self.last.as_ref()
     }
 
+    /// Hands out a file that was opened. An error is want of memory.
+    fn count_in(&mut self, file: RealFile) -> Result<RealFile, OpenFault>
+        ensures file { IfOk result (λ f. f ≡ file) }
+        ensures refused { ¬ IsErrOf result OpenFault.Failed }
+        ensures there { ¬ IsErrOf result OpenFault.NotThere }
+        ensures faults { (self.new.read_faults ≡ self.old.read_faults)
+            × (self.new.write_faults ≡ self.old.write_faults) }
+        ensures numbers { (self.new.taken ≡ self.old.taken) × (self.new.given ≡ self.old.given) }
+        ensures live { OnOk result (self.new.live ≡ next_count self.old.live) }
+        ensures not_live { OnErr result (self.new.live ≡ self.old.live) }
+    {
+        if self.open.add(file.inner.inode).is_err() {
+            return Err(OpenFault::Memory);
+        }
+        self.live = self.live.saturating_add(1);
+        Ok(file)
+    }
+
     /// Opens a file for reading, and for writing too where that is asked.
     fn hand_out(&mut self, alloc: Global, name: &str, writes: bool) -> Result<RealFile, OpenFault>
         ensures own_faults { IfOk result (λ f. (f.faults ≡ 0) × (f.inner.write_faults ≡ 0)) }
@@ -83,10 +107,7 @@ impl<R: rt::Files<File = File>> RealFiles<R> {
         ensures not_live { OnErr result (self.new.live ≡ self.old.live) }
     {
         match open_file(alloc, &self.system, name, writes) {
-            Ok(file) => {
-                self.live = self.live.saturating_add(1);
-                Ok(file)
-            }
+            Ok(file) => self.count_in(file),
             Err(Refusal::NotThere) => Err(OpenFault::NotThere),
             Err(Refusal::Memory) => Err(OpenFault::Memory),
             Err(Refusal::Failed(failure)) => {
@@ -124,11 +145,8 @@ impl<R: rt::Files<File = File>> Files for RealFiles<R> {
     }
 
     fn create(&mut self, alloc: Global, name: &str) -> Result<RealFile, OpenFault> {
-        match create_file(alloc, &self.system, name) {
-            Ok(file) => {
-                self.live = self.live.saturating_add(1);
-                Ok(file)
-            }
+        match create_file(alloc, &self.system, &self.open, name) {
+            Ok(file) => self.count_in(file),
             Err(Refusal::Failed(failure)) => {
                 self.last = Some(failure);
                 self.write_faults = self.write_faults.saturating_add(1);
@@ -144,6 +162,7 @@ impl<R: rt::Files<File = File>> Files for RealFiles<R> {
         self.taken = self.taken.saturating_add(file.taken);
         self.given = self.given.saturating_add(file.inner.given);
         self.live = self.live.saturating_sub(1);
+        self.open.remove(file.inner.inode);
         if file.faults > 0 || file.inner.write_faults > 0 {
             self.last = Some(file.into_inner().into_failure());
         }
@@ -172,10 +191,11 @@ fn open_file<R: rt::Files<File = File>>(
     }
 }
 
-/// Makes a file of the name, or cuts the one that is there to nothing.
+/// Makes a file of the name, or cuts the one that is there to nothing, unless it is open already.
 fn create_file<R: rt::Files<File = File>>(
     alloc: Global,
     system: &R,
+    open: &OpenInodes,
     name: &str,
 ) -> Result<RealFile, Refusal>
     ensures faults { IfOk result (λ f. (f.faults ≡ 0) × (f.inner.write_faults ≡ 0)) }
@@ -186,11 +206,34 @@ fn create_file<R: rt::Files<File = File>>(
         return Err(Refusal::Memory);
     };
     let mut how = OpenOptions::new();
-    how.read(true).write(true).create(true).truncate(true);
-    match how.open(system, name) {
-        Ok(file) => Ok(RealFile::new(alloc, SystemFile::new(kept, file, None, 0))),
+    how.read(true).write(true).create(true);
+    let file = match how.open(system, name) {
+        Ok(file) => file,
+        Err(e) => return Err(refused(kept, Attempt::Create, e)),
+    };
+    match cut_whole(&file, open) {
+        Ok(inode) => Ok(RealFile::new(
+            alloc,
+            SystemFile::new(kept, file, inode, None, 0),
+        )),
         Err(e) => Err(refused(kept, Attempt::Create, e)),
     }
+}
+
+/// Cuts a file that was opened to nothing, where it is a file of a disk and is not open already.
+fn cut_whole(file: &File, open: &OpenInodes) -> io::Result<Inode> {
+    let about = file.metadata()?;
+    let inode = Inode::of(&about);
+    if about.is_file() && open.has(inode) {
+        return Err(Error::new(
+            ErrorKind::InvalidInput,
+            "it is a file that is open already",
+        ));
+    }
+    if about.is_file() && about.len() > 0 {
+        file.set_len(0)?;
+    }
+    Ok(inode)
 }
 
 /// The refusal of a call that the system failed.
@@ -204,21 +247,30 @@ fn take_in(alloc: Global, name: String, file: File, writes: bool) -> Result<Real
     ensures numbers { IfOk result (λ f. (f.taken ≡ 0) × (f.inner.given ≡ 0)) }
 {
     match length_of(alloc, &file, writes) {
-        Ok((held, len)) => Ok(RealFile::new(alloc, SystemFile::new(name, file, held, len))),
+        Ok((inode, held, len)) => Ok(RealFile::new(
+            alloc,
+            SystemFile::new(name, file, inode, held, len),
+        )),
         Err(e) if e.kind() == ErrorKind::OutOfMemory => Err(Refusal::Memory),
         Err(e) => Err(refused(name, Attempt::Read, e)),
     }
 }
 
-/// The length of a file that was opened, after its bytes where they are to be held.
-fn length_of(alloc: Global, file: &File, writes: bool) -> io::Result<(Option<Octets>, u64)> {
+/// The length of a file that was opened, after which one it is, and its bytes where they are to be
+/// held.
+fn length_of(
+    alloc: Global,
+    file: &File,
+    writes: bool,
+) -> io::Result<(Inode, Option<Octets>, u64)> {
     let about = file.metadata()?;
+    let inode = Inode::of(&about);
     if writes || (about.is_file() && about.len() > 0) {
-        return Ok((None, about.len()));
+        return Ok((inode, None, about.len()));
     }
     let held = read_whole(alloc, file)?;
     let len = held.len();
-    Ok((Some(held), len))
+    Ok((inode, Some(held), len))
 }
 
 /// The bytes of a file up to its end.

@@ -5,6 +5,7 @@ ghost use Rattle.std.specs.Prelude.{refl, ◌≡◌, ◌+◌, ◌-◌, ◌<◌, 
 use crate::devices::Device;
 use crate::ranges::copy_range;
 use crate::real::failure::{Attempt, Failure};
+use crate::real::inodes::Inode;
 use crate::real::transfers::{read_from, write_from, write_zeros_from};
 use crate::sources::{Failed, Source};
 use elf_types::Octets;
@@ -21,6 +22,7 @@ use std::io::{Error, ErrorKind};
 pub struct SystemFile {
     name: String,
     file: File,
+    pub(super) inode: Inode,
     held: Option<Octets>,
     len: u64,
     faults: u64,
@@ -35,7 +37,13 @@ pub struct SystemFile {
 impl SystemFile {
     /// An open file of that name and length, whose counts are 0, with its bytes where they are
     /// held.
-    pub(super) fn new(name: String, file: File, held: Option<Octets>, len: u64) -> SystemFile
+    pub(super) fn new(
+        name: String,
+        file: File,
+        inode: Inode,
+        held: Option<Octets>,
+        len: u64,
+    ) -> SystemFile
         ensures len { result.len ≡ len }
         ensures faults { (result.faults ≡ 0) × (result.write_faults ≡ 0) }
         ensures numbers { (result.taken ≡ 0) × (result.given ≡ 0) }
@@ -43,6 +51,7 @@ impl SystemFile {
         SystemFile {
             name,
             file,
+            inode,
             held,
             len,
             faults: 0,

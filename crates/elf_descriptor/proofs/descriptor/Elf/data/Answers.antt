@@ -26,6 +26,7 @@ returns-in-Ok g c =
         record {
           looks = queries_ok g.S.Source call _ _ _ c.args.self.now c.prepare.new.self c.in-Ok.ensures.looks;
           held = c.in-Ok.ensures.holds;
+          loaded = c.in-Ok.ensures.loaded;
         },
       ),
       record {
@@ -47,6 +48,7 @@ returns-in-Err g c =
         record {
           looks = queries_err g.S.Source call _ c.in-Err.e c.args.self.now c.prepare.new.self c.in-Err.ensures.looks;
           held = tt;
+          loaded = tt;
         },
       ),
       record {

@@ -8,7 +8,7 @@ use Rattle.elf_descriptor.specs.Views.{state_of}
 use Rattle.elf_descriptor.specs.Reads.{Looks, wanted}
 use Rattle.elf_descriptor.proofs.Warming.{lies_at, items_held_at, warmed_left}
 use Rattle.elf_descriptor.proofs.PieceCalls.{holds_is}
-use Rattle.elf_descriptor.proofs.DataCalls.{data_answers, data_looks}
+use Rattle.elf_descriptor.proofs.DataCalls.{data_answers, data_loaded, data_looks}
 use Rattle.elf_descriptor.proofs.descriptor.Elf.prepare.Goals as goal
 
 pub prepare-requires-clause-lies : goal.prepare-requires-clause-lies
@@ -28,6 +28,14 @@ returns-clause-answer g c =
 
 pub returns-clause-holds : goal.returns-clause-holds
 returns-clause-holds g c = rw (holds_is _ _ c.prepare.new.self c.args.d.section c.args.d.piece) c.prepare.ensures.holds
+
+pub returns-clause-loaded : goal.returns-clause-loaded
+returns-clause-loaded g c =
+    data_loaded _ _ c.prepare.new.self c.args.d.section c.args.d.piece c.prepare.result
+    (warmed_left g.S.Source c.self.inside.src c.prepare.new.src c.self.inside.body
+      c.prepare.new.self c.args.d.section c.prepare.ensures.asks.leaves c.prepare.ensures.warmed
+      c.self.invariant)
+    c.prepare.ensures.holds
 
 pub returns-clause-looks : goal.returns-clause-looks
 returns-clause-looks g c =
