@@ -6,11 +6,11 @@ mod data;
 mod descriptors;
 pub mod entries;
 mod fronts;
-mod items;
+pub mod items;
 mod pages;
 mod parts;
 mod puts;
-mod rows;
+pub mod rows;
 mod updates;
 mod walks;
 
