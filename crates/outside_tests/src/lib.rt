@@ -7,6 +7,8 @@ mod devices;
 #[cfg(test)]
 mod files;
 #[cfg(test)]
+mod other_names;
+#[cfg(test)]
 mod read_ahead;
 #[cfg(test)]
 mod sinks;

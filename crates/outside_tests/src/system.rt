@@ -10,7 +10,7 @@ use std::test::Fail;
 use std::{env, fs, process};
 
 /// A path in the system's folder for files that do not last.
-fn path_of(rt: &HostRuntime, name: &str) -> Result<String, Fail> {
+pub fn path_of(rt: &HostRuntime, name: &str) -> Result<String, Fail> {
     let id = process::id(rt.process());
     let name = format!(in rt.alloc(); "elf_outside-{id}-{name}")?;
     let mut path = env::temp_dir(rt)?;
@@ -211,7 +211,7 @@ fn says_full(rt: &HostRuntime) -> Result<bool, Fail> {
 }
 
 /// Whether a failure is of this name, attempt and kind.
-fn is_kept(kept: Option<&Failure>, name: &str, attempt: Attempt, said: ErrorKind) -> bool {
+pub fn is_kept(kept: Option<&Failure>, name: &str, attempt: Attempt, said: ErrorKind) -> bool {
     match kept {
         Some(f) => f.name.as_str() == name && f.attempt == attempt && f.why.kind() == said,
         None => false,

@@ -6,6 +6,8 @@
 #[cfg(test)]
 mod copies;
 #[cfg(test)]
+mod counts;
+#[cfg(test)]
 mod created;
 #[cfg(test)]
 mod faults;

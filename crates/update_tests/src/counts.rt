@@ -1,0 +1,93 @@
+//! Objects with as many sections as a header counts, and with one more.
+
+use crate::puts::{image_put, stands};
+use elf_descriptor::Elf;
+use elf_outside::{MemSource, Source};
+use elf_types::Octets;
+use std::alloc::Global;
+use test_images::{OBJECT, Recipe, Start, image_of};
+use test_sources::source;
+
+/// A header alone, of class 64 and the least byte first.
+const ALONE: Recipe = Recipe {
+    start: Start::HeaderAlone,
+    ..OBJECT
+};
+
+/// Adds so many sections.
+pub fn add_sections<S: Source>(elf: &mut Elf<S>, count: u32) -> bool {
+    for _ in 0..count {
+        if elf.newscn().is_err() {
+            return false;
+        }
+    }
+    true
+}
+
+/// A source of a header alone.
+fn source_alone(alloc: Global) -> Option<MemSource> {
+    let Ok(image) = image_of(alloc, &ALONE) else {
+        return None;
+    };
+    match source(alloc, image.bytes, 0) {
+        Ok(src) => Some(src),
+        Err(_) => None,
+    }
+}
+
+/// The image of the header with so many sections added, besides section 0.
+fn image_with(alloc: Global, count: u32) -> Option<Octets> {
+    let Some(src) = source_alone(alloc) else {
+        return None;
+    };
+    match Elf::begin(alloc, src) {
+        Ok(mut elf) => {
+            if add_sections(&mut elf, count) {
+                return image_put(&mut elf);
+            }
+            None
+        }
+        Err(_) => None,
+    }
+}
+
+/// How many sections an image is opened with.
+fn opened_count(alloc: Global, image: Octets) -> Option<u32> {
+    let Ok(src) = source(alloc, image, 0) else {
+        return None;
+    };
+    match Elf::begin(alloc, src) {
+        Ok(elf) => Some(elf.ehdr().shnum),
+        Err(_) => None,
+    }
+}
+
+/// Whether the header counts the sections where there are 65,279.
+fn are_in_header(alloc: Global) -> bool {
+    match image_with(alloc, 65_278) {
+        Some(image) => {
+            let counted = image.len() == 4_177_920 && stands(&image, 60, &[0xff, 0xfe]);
+            counted && opened_count(alloc, image) == Some(65_279)
+        }
+        None => false,
+    }
+}
+
+/// Whether section 0 does where there is one more.
+fn are_in_section_0(alloc: Global) -> bool {
+    match image_with(alloc, 65_279) {
+        Some(image) => {
+            let counted = image.len() == 4_177_984
+                && stands(&image, 60, &[0, 0])
+                && stands(&image, 96, &[0, 0xff, 0, 0, 0, 0, 0, 0]);
+            counted && opened_count(alloc, image) == Some(65_280)
+        }
+        None => false,
+    }
+}
+
+#[test]
+fn section_0_counts_the_sections_that_the_header_can_not(rt: HostRuntime) {
+    assert!(rt; are_in_header(rt.alloc()));
+    assert!(rt; are_in_section_0(rt.alloc()));
+}
