@@ -163,6 +163,14 @@ impl<S: Source> Elf<S> {
         self.body.base_len()
     }
 
+    /// The number of bytes of the source: after a failed update in place it may be longer than the
+    /// base. It refuses nothing and takes no memory.
+    pub fn source_len(&self) -> u64
+        ensures { result ≡ S.size self.now.source }
+    {
+        self.src.len()
+    }
+
     /// What is held of a piece: its items exactly where it is own, else the home's bytes in file
     /// form exactly where the section is loaded. It refuses in this order: `NoSection`, `NoData`.
     /// It reads nothing and takes no memory.
