@@ -4,7 +4,8 @@ ghost use Rattle.std.specs.Prelude.{◌≡◌, length};
 
 use crate::edits::{Edit, are_made};
 use crate::rows::{
-    FIVE, LAID, LONG, LONG_ROWS, ROWS, Row, SHARED, SHARED_ROWS, TAILED, TAILED_ROWS, ends, expect,
+    FIVE, GAPS, LAID, LONG, LONG_ROWS, ROWS, Row, SHARED, SHARED_ROWS, TAILED, TAILED_ROWS, ends,
+    expect,
 };
 use elf_descriptor::Elf;
 use elf_outside::{Device, Source};
@@ -61,6 +62,7 @@ fn are_laid(alloc: Global, setting: &Setting, rows: &[Row]) -> bool {
 fn the_device_holds_the_image(rt: HostRuntime) {
     assert!(rt; are_ended(rt.alloc(), &ROWS));
     assert!(rt; are_laid(rt.alloc(), &FIVE, &LAID));
+    assert!(rt; are_laid(rt.alloc(), &FIVE, &GAPS));
     assert!(rt; are_laid(rt.alloc(), &LONG, &LONG_ROWS));
     assert!(rt; are_laid(rt.alloc(), &SHARED, &SHARED_ROWS));
     assert!(rt; are_laid(rt.alloc(), &TAILED, &TAILED_ROWS));

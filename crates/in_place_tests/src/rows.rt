@@ -169,7 +169,7 @@ pub const ROWS: [Row; 14] = [
 ];
 
 /// Edits for class 64, under the caller's layout.
-pub const LAID: [Row; 6] = [
+pub const LAID: [Row; 7] = [
     Row {
         edits: &[Edit::Layout, Edit::Mark],
         ..MARKED
@@ -206,15 +206,52 @@ pub const LAID: [Row; 6] = [
         again: 4,
         ..UNREAD
     },
-    // the table, the fill behind it, and section 5 at 600
+    // the table, and section 5 at 600; the zeros between them stand behind the old end
     Row {
         edits: &[Edit::Layout, Edit::Place(5, 600)],
+        reads: 1,
+        writes: 3,
+        again: 4,
+        ..UNREAD
+    },
+    // the same with another fill byte, which is put
+    Row {
+        edits: &[Edit::Layout, Edit::Fill(9), Edit::Place(5, 600)],
         reads: 1,
         writes: 4,
         again: 5,
         ..UNREAD
     },
 ];
+
+/// Edits for class 64, after which a gap lies behind the end that the device has, at 488.
+pub const GAPS: [Row; 2] = [
+    // the header, section 2 up to 492, sections 3 to 5 from 496 on, the table at 520
+    Row {
+        edits: &[Edit::Bytes(2, 420)],
+        reads: 4,
+        writes: 7,
+        again: 7,
+        ..UNREAD
+    },
+    // the same with another fill byte, which is put behind section 2
+    Row {
+        edits: &[Edit::Fill(9), Edit::Bytes(2, 420)],
+        reads: 4,
+        writes: 8,
+        again: 8,
+        ..UNREAD
+    },
+];
+
+/// Section 5 far behind the others, with zeros between them.
+pub const FAR: Row = Row {
+    edits: &[Edit::Layout, Edit::Place(5, 1 << 20)],
+    reads: 1,
+    writes: 3,
+    again: 4,
+    ..UNREAD
+};
 
 /// The five sections, over a device that can get long.
 pub const LONG: Setting = Setting {
@@ -279,10 +316,19 @@ pub const TAILED: Setting = Setting {
     room: ROOM,
 };
 
-/// Edits of that object in class 64: what stands behind the parts is cut off, or stays under the
-/// caller's layout.
-pub const TAILED_ROWS: [Row; 2] = [
+/// Edits of that object in class 64: what stands behind the parts is cut off, or written over, or
+/// stays under the caller's layout.
+pub const TAILED_ROWS: [Row; 3] = [
     MARKED,
+    // the header, section 2 up to 489, the fill up to the old end, 493, sections 3 to 5 from 496
+    // on, and the table
+    Row {
+        edits: &[Edit::Bytes(2, 417)],
+        reads: 4,
+        writes: 8,
+        again: 8,
+        ..UNREAD
+    },
     Row {
         edits: &[Edit::Layout, Edit::Entry(7)],
         writes: 2,

@@ -5,8 +5,8 @@ ghost use Rattle.std.specs.Prelude.{◌≡◌, length};
 
 use crate::edits::{Edit, are_made};
 use crate::rows::{
-    FIVE, LAID, LONG, LONG_ROWS, ROWS, Row, SHARED, SHARED_ROWS, TAILED, TAILED_ROWS, ends, expect,
-    expect_image, has_image,
+    FIVE, GAPS, LAID, LONG, LONG_ROWS, ROWS, Row, SHARED, SHARED_ROWS, TAILED, TAILED_ROWS, ends,
+    expect, expect_image, has_image,
 };
 use elf_descriptor::Elf;
 use elf_outside::{Device, Source};
@@ -150,6 +150,7 @@ fn are_repeated(alloc: Global, setting: &Setting, rows: &[Row]) -> bool {
 fn an_update_that_fails_to_write_can_be_repeated(rt: HostRuntime) {
     assert!(rt; are_repeated(rt.alloc(), &FIVE, &ROWS));
     assert!(rt; are_repeated(rt.alloc(), &FIVE, &LAID));
+    assert!(rt; are_repeated(rt.alloc(), &FIVE, &GAPS));
     assert!(rt; are_repeated(rt.alloc(), &LONG, &LONG_ROWS));
     assert!(rt; are_repeated(rt.alloc(), &SHARED, &SHARED_ROWS));
     assert!(rt; are_repeated(rt.alloc(), &TAILED, &TAILED_ROWS));
@@ -236,6 +237,14 @@ fn an_object_is_edited_between_two_updates(rt: HostRuntime) {
     assert!(rt; are_laid_between(rt.alloc(), &LAID));
 }
 
+/// Zeros in place of another fill byte, which a failed update may have put behind the base.
+const ZEROS: [&[Edit]; 1] = [&[Edit::Fill(0)]];
+
+#[test]
+fn what_a_failed_update_put_behind_the_base_is_written_over(rt: HostRuntime) {
+    assert!(rt; are_edited_between(rt.alloc(), &GAPS, &ZEROS));
+}
+
 /// An update whose write with a number fails, and what it leaves of the device.
 #[derive(Clone, Copy)]
 struct Torn {
@@ -301,6 +310,7 @@ fn are_torn(alloc: Global, setting: &Setting, rows: &[Row]) -> bool {
 fn a_write_that_fails_leaves_old_or_new_bytes(rt: HostRuntime) {
     assert!(rt; are_torn(rt.alloc(), &FIVE, &ROWS));
     assert!(rt; are_torn(rt.alloc(), &FIVE, &LAID));
+    assert!(rt; are_torn(rt.alloc(), &FIVE, &GAPS));
     assert!(rt; are_torn(rt.alloc(), &LONG, &LONG_ROWS));
     assert!(rt; are_torn(rt.alloc(), &SHARED, &SHARED_ROWS));
     assert!(rt; are_torn(rt.alloc(), &TAILED, &TAILED_ROWS));

@@ -119,7 +119,8 @@ fn update_dirty<D: Device>(elf: &mut Elf<D>) -> Result<u64, ElfError>
 
 /// Makes the device the image of the object, and answers the image's length: it writes the parts
 /// that are marked, that stand elsewhere than before or that have other bytes than before, and the
-/// fill between parts. Then the object is settled: each section's pieces are joined to one, nothing
+/// fill between parts. Zeros behind the end that the device had are not written: they come by its
+/// greater length. Then the object is settled: each section's pieces are joined to one, nothing
 /// is marked, nothing is held of the homes, and they are the new ones. Where nothing is dirty it
 /// does nothing and refuses nothing, and answers the number of base bytes.
 ///

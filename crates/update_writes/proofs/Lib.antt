@@ -2,6 +2,7 @@ pub mod OverLaws
 pub mod FillLaws
 pub mod RebaseLaws
 pub mod OverPieces
+pub mod SkipLaws
 pub mod PutLaws
 pub mod WalkLaws
 pub mod TornObjects

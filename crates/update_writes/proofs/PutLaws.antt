@@ -1,5 +1,5 @@
 -- Blocks that are put over a device, one after another.
-use Rattle.std.proofs.Common.{◌≡◌, ◌⊎◌, inl, inr, ⊎_elim, ℕ, ◌≤◌, false, List, [], ◌∷◌, ◌++◌, Option, Some, None, Result, Ok, Err, length, refl, sym, ap, ◌∙◌, subst, append_assoc, arith}
+use Rattle.std.proofs.Common.{◌≡◌, ◌⊎◌, inl, inr, ⊎_elim, ℕ, ◌-◌, ◌≤◌, true, false, List, [], ◌∷◌, ◌++◌, Option, Some, None, Result, Ok, Err, length, get_or, refl, sym, ap, ◌∙◌, subst, append_assoc, arith}
 use Rattle.std.specs.Prelude.{is_some, sum_by, OnOk, OnErr, IfSome}
 use Rattle.std.specs.List.{AllByRecursion}
 use Rattle.std.specs.Option.{option_map}
@@ -11,8 +11,8 @@ use Rattle.elf_outside.specs.Torn.{IsTorn}
 use Rattle.elf_outside.specs.Writes.{written_over, IsTornBy}
 use Rattle.elf_outside.specs.Patches.{UsesDevice}
 use Rattle.elf_outside.proofs.PutLemmas.{uses_device_both, uses_device_on}
-use Rattle.elf_outside.proofs.UseLemmas.{uses_device_none}
-use Rattle.elf_object.specs.Blocks.{Block, block_end}
+use Rattle.elf_outside.proofs.UseLemmas.{uses_device_none, uses_device_as}
+use Rattle.elf_object.specs.Blocks.{Block, block_end, block_covers}
 use Rattle.writing_laws.specs.Lines.{HoldsBlock, IsUnderWay}
 use Rattle.writing_laws.proofs.DeviceLaws.{under_way_written, under_way_failed}
 use Rattle.elf_descriptor.specs.State.{State}
@@ -21,6 +21,7 @@ use Rattle.update_writes.specs.Overwrites.{Overwrites}
 use Rattle.update_writes.specs.Walks.{PutsAll}
 use Rattle.update_moves.proofs.LineLaws.{each_right}
 use Rattle.update_writes.proofs.OverLaws.{told_same, change_none, change_both}
+use Rattle.update_writes.proofs.SkipLaws.{under_way_front}
 
 each_left : (P : Block → Type 0) (bs cs : List Block) → AllByRecursion P (bs ++ cs)
     → AllByRecursion P bs
@@ -41,33 +42,34 @@ module _ (at : ℕ) (text held : List ℕ) (old new : Option (List ℕ)) (is : o
   by_torn bytes some =
       subst (λ (o : Option (List ℕ)). IfSome o (λ x. IsTornBy x bytes at text)) is some
 
-module _ {D : Type 0} (s : SourceGhosts D) (d : DeviceGhosts D) where
-  pub all_none : (e : State D) → HoldsBase s e → PutsAll s d (Ok (tt {0})) e e []
+module _ {D : Type 0} (s : SourceGhosts D) (d : DeviceGhosts D) (old_end : ℕ) where
+  pub all_none : (e : State D) → HoldsBase s e → PutsAll s d old_end (Ok (tt {0})) e e []
   all_none e base = record {
     change = change_none s d e base;
     size = refl;
     told = refl;
     uses = uses_device_none s d (Ok (tt {0})) e.source tt tt;
     err = tt;
-    way = λ before image held blocks rest is each one under. (held, is, under, tt);
+    way = λ before image held blocks rest is each most one under. (held, is, under, tt);
   }
 
   module _ (e f : State D) (b : Block) (fits : block_end b ≤ s.size e.source) where
     one_way : (r : Result (Unit {0}) ElfError) → Overwrites s d r e f b.at b.bytes
         → (before image held : List ℕ) (blocks rest : List Block)
         → s.holds e.source ≡ Some held → AllByRecursion (HoldsBlock image) (b ∷ [])
+        → length before ≤ old_end
         → (s.size e.source ≡ length before) ⊎ (s.size e.source ≡ length image)
         → IsUnderWay before image held (s.size e.source) blocks (b ∷ rest)
         → (after : List ℕ) × (s.holds f.source ≡ Some after)
         × OnOk r (IsUnderWay before image after (s.size e.source) blocks rest)
         × OnErr r (IsTorn before image after)
-    one_way (Ok x) over before image held blocks rest is each one under = (
+    one_way (Ok x) over before image held blocks rest is each most one under = (
       written_over held b.at b.bytes,
       written b.at b.bytes held (s.holds e.source) (s.holds f.source) is over.patches.ok,
       under_way_written before image held (s.size e.source) blocks b rest under each.0 fits,
       tt,
     )
-    one_way (Err x) over before image held blocks rest is each one under = (
+    one_way (Err x) over before image held blocks rest is each most one under = (
       over.patches.err.0,
       torn b.at b.bytes held (s.holds e.source) (s.holds f.source) is over.patches.err.0
           over.patches.err.1,
@@ -80,7 +82,7 @@ module _ {D : Type 0} (s : SourceGhosts D) (d : DeviceGhosts D) where
 
     -- one block
     pub all_one : (r : Result (Unit {0}) ElfError) → Overwrites s d r e f b.at b.bytes
-        → PutsAll s d r e f (b ∷ [])
+        → PutsAll s d old_end r e f (b ∷ [])
     all_one r over =
         let one = sum_by-cons (λ (x : Block). length x.bytes) b [] in
         let count : length b.bytes ≡ sum_by (λ x. length x.bytes) (b ∷ []) = omega (arith, one) in
@@ -94,6 +96,33 @@ module _ {D : Type 0} (s : SourceGhosts D) (d : DeviceGhosts D) where
           way = one_way r over;
         }
 
+  -- a block by less of it, where the others of its bytes are zeros behind the old end
+  pub all_front : (r : Result (Unit {0}) ElfError) (e f : State D) (a b : Block)
+      → length a.bytes ≤ length b.bytes
+      → ((image : List ℕ) → HoldsBlock image b → HoldsBlock image a)
+      → ((k : ℕ) → block_covers b k ≡ true → block_covers a k ≡ false
+      → (old_end ≤ k) × (get_or b.bytes (k - b.at) 0 ≡ 0))
+      → PutsAll s d old_end r e f (a ∷ []) → PutsAll s d old_end r e f (b ∷ [])
+  all_front r e f a b fewer stands past one =
+      let less = sum_by-cons (λ (x : Block). length x.bytes) a [] in
+      let more = sum_by-cons (λ (x : Block). length x.bytes) b [] in
+      record {
+        change = one.change;
+        size = one.size;
+        told = one.told;
+        uses = uses_device_as s d r e.source f.source 0 (sum_by (λ x. length x.bytes) (a ∷ [])) 0
+            (sum_by (λ x. length x.bytes) (b ∷ [])) (omega arith)
+            (omega (arith, less, more, fewer)) one.uses;
+        err = one.err;
+        way = λ before image held blocks rest is each most size under.
+            one.way before image held blocks rest is (stands image each.0, tt) most size
+            (under_way_front before image held (s.size e.source) blocks a b rest under each.0
+            (λ k over out.
+            let other = past k over out in
+            let behind = other.0 in
+            (omega (arith, behind, most), other.1)));
+      }
+
   none_before : (x y : D) → is_some (s.holds y) ≡ is_some (s.holds x) → s.holds y ≡ None
       → s.holds x ≡ None
   none_before x y same none = none_of (s.holds x) (sym same ∙ ap is_some none)
@@ -104,8 +133,8 @@ module _ {D : Type 0} (s : SourceGhosts D) (d : DeviceGhosts D) where
 
   -- some blocks, and then others
   pub all_then : {T U : Type 0} (v : T) (q : Result U ElfError) (e f g : State D)
-      (first second : List Block) → PutsAll s d (Ok v) e f first → PutsAll s d q f g second
-      → PutsAll s d q e g (first ++ second)
+      (first second : List Block) → PutsAll s d old_end (Ok v) e f first
+      → PutsAll s d old_end q f g second → PutsAll s d old_end q e g (first ++ second)
   all_then v q e f g first second one two = record {
     change = change_both s d e f g (none_before f.source g.source two.told) one.change two.change;
     size = two.size ∙ one.size;
@@ -116,14 +145,14 @@ module _ {D : Type 0} (s : SourceGhosts D) (d : DeviceGhosts D) where
         (sum_by (λ b. length b.bytes) first) 0 (sum_by (λ b. length b.bytes) second) one.uses
         two.uses);
     err = two.err;
-    way = λ before image held blocks rest is each size under.
+    way = λ before image held blocks rest is each most size under.
         let mid = one.way before image held blocks (second ++ rest) is
-        (each_left (HoldsBlock image) first second each) size
+        (each_left (HoldsBlock image) first second each) most size
         (subst (λ (l : List Block). IsUnderWay before image held (s.size e.source) blocks l)
         (append_assoc first second rest) under) in
         let same : s.size f.source ≡ s.size e.source = one.size in
         let last = two.way before image mid.0 blocks rest mid.1
-        (each_right (HoldsBlock image) first second each)
+        (each_right (HoldsBlock image) first second each) most
         (⊎_elim (λ h. inl (one.size ∙ h)) (λ h. inr (one.size ∙ h)) size)
         (subst (λ (n : ℕ). IsUnderWay before image mid.0 n blocks (second ++ rest)) (sym one.size)
         mid.2) in (
@@ -136,8 +165,8 @@ module _ {D : Type 0} (s : SourceGhosts D) (d : DeviceGhosts D) where
 
   -- some blocks that were refused, behind which others were to come
   pub all_stop : (x : ElfError) (e f : State D) (first second : List Block)
-      → PutsAll {T = Unit {0}} s d (Err x) e f first
-      → PutsAll {T = Unit {0}} s d (Err x) e f (first ++ second)
+      → PutsAll {T = Unit {0}} s d old_end (Err x) e f first
+      → PutsAll {T = Unit {0}} s d old_end (Err x) e f (first ++ second)
   all_stop x e f first second one =
       let more = sum_by-append (λ (b : Block). length b.bytes) first second in
       record {
@@ -148,9 +177,9 @@ module _ {D : Type 0} (s : SourceGhosts D) (d : DeviceGhosts D) where
             (sum_by (λ b. length b.bytes) (first ++ second)) (omega arith) (omega (arith, more))
             one.uses;
         err = one.err;
-        way = λ before image held blocks rest is each size under.
+        way = λ before image held blocks rest is each most size under.
             let last = one.way before image held blocks (second ++ rest) is
-            (each_left (HoldsBlock image) first second each) size
+            (each_left (HoldsBlock image) first second each) most size
             (subst (λ (l : List Block). IsUnderWay before image held (s.size e.source) blocks l)
             (append_assoc first second rest) under) in
             (last.0, last.1, tt, last.3);
@@ -158,5 +187,5 @@ module _ {D : Type 0} (s : SourceGhosts D) (d : DeviceGhosts D) where
 
   -- the same blocks by another name
   pub all_as : {T : Type 0} (r : Result T ElfError) (e f : State D) (a b : List Block) → a ≡ b
-      → PutsAll s d r e f a → PutsAll s d r e f b
-  all_as r e f a b same = subst (λ (l : List Block). PutsAll s d r e f l) same
+      → PutsAll s d old_end r e f a → PutsAll s d old_end r e f b
+  all_as r e f a b same = subst (λ (l : List Block). PutsAll s d old_end r e f l) same

@@ -214,8 +214,8 @@ module _ {D : Type 0} (s : SourceGhosts D) (d : DeviceGhosts D)
           (sym (append-nil (written_line b.was)))
 
       -- the walk over the lengthened device
-      module _ (r : Result (Unit {0}) ElfError) (g : State D)
-          (puts : PutsAll s d r f g (written_line b.was)) where
+      module _ (old_end : ℕ) (ends : s.size e.source ≤ old_end) (r : Result (Unit {0}) ElfError)
+          (g : State D) (puts : PutsAll s d old_end r f g (written_line b.was)) where
         size_is : s.size g.source ≡ image_length b.was
         size_is = puts.size ∙ now.len ∙ is
 
@@ -231,13 +231,15 @@ module _ {D : Type 0} (s : SourceGhosts D) (d : DeviceGhosts D)
             (on_ok r gone, ([], gone, tt))
         by_held (Some old) told =
             let whole = length-image b.was in
+            let count = subst (λ (o : Option (List ℕ)).
+            IfSome o (λ bytes. length bytes ≡ s.size e.source)) told (sized e.source) in
             let held : s.holds f.source ≡ Some (resized end old) =
             now.bytes ∙ ap (option_map (resized end)) told in
             let begun = subst (λ (n : ℕ). IsUnderWay old (image b.was) (resized end old) n
             (written_line b.was) (written_line b.was)) (sym now.len)
             (resized_begins old (image b.was) end (written_line b.was)) in
             let left = puts.way old (image b.was) (resized end old) (written_line b.was) [] held
-            (line_holds b.was b.planned.ready)
+            (line_holds b.was b.planned.ready) (omega (arith, count, ends))
             (inr (now.len ∙ is ∙ sym whole)) (no_rest old (resized end old) (s.size f.source) begun) in
             let based = b.based (subst (λ (o : Option (List ℕ)). IsSome o) (sym told) refl) in
             let begins = subst (λ (o : Option (List ℕ)).
@@ -290,9 +292,9 @@ module _ {D : Type 0} (s : SourceGhosts D) (d : DeviceGhosts D)
 
   -- ---- A device that is long enough is written, and cut
 
-  module _ (r : Result (Unit {0}) ElfError) (g : State D)
-      (fits : image_length b.was ≤ length e.o.base)
-      (puts : PutsAll s d r e g (written_line b.was)) where
+  module _ (old_end : ℕ) (ends : s.size e.source ≤ old_end) (r : Result (Unit {0}) ElfError)
+      (g : State D) (fits : image_length b.was ≤ length e.o.base)
+      (puts : PutsAll s d old_end r e g (written_line b.was)) where
     -- what the walk leaves of a device that tells its bytes
     walk_way : (old : List ℕ) → s.holds e.source ≡ Some old
         → (after : List ℕ) × (s.holds g.source ≡ Some after)
@@ -307,7 +309,7 @@ module _ {D : Type 0} (s : SourceGhosts D) (d : DeviceGhosts D)
         (sym (append-nil (written_line b.was)))
         (under_way_begins old (image b.was) old (written_line b.was) (λ k below. refl))) in
         puts.way old (image b.was) old (written_line b.was) [] told
-        (line_holds b.was b.planned.ready) (inl (sym count)) begun
+        (line_holds b.was b.planned.ready) (omega (arith, count, ends)) (inl (sym count)) begun
 
     walk_sum : UsesDevice s d r e.source g.source 0 (changed_bytes b.was)
     walk_sum =
@@ -319,9 +321,11 @@ module _ {D : Type 0} (s : SourceGhosts D) (d : DeviceGhosts D)
     none_after none = none_of (s.holds g.source) (puts.told ∙ ap is_some none)
 
   -- the walk failed
-  pub not_written : (x : ElfError) (g : State D) → image_length b.was ≤ length e.o.base
-      → PutsAll {T = Unit {0}} s d (Err x) e g (written_line b.was) → Steps s d b.was (Err x) e g
-  not_written x g fits puts =
+  pub not_written : (old_end : ℕ) → s.size e.source ≤ old_end → (x : ElfError) (g : State D)
+      → image_length b.was ≤ length e.o.base
+      → PutsAll {T = Unit {0}} s d old_end (Err x) e g (written_line b.was)
+      → Steps s d b.was (Err x) e g
+  not_written old_end ends x g fits puts =
       let most = b.base.long in
       let size = puts.size in
       let long = puts.change.long in
@@ -332,7 +336,7 @@ module _ {D : Type 0} (s : SourceGhosts D) (d : DeviceGhosts D)
         untold = λ none. puts.change.untold none
             ∙ sym (take_all (s.size g.source) e.o.base (omega (arith, size, most)));
         size = inl size;
-        uses = walk_sum (Err x) g fits puts;
+        uses = walk_sum old_end ends (Err x) g fits puts;
         err = puts.err;
         bytes = tt;
         whole = tt;
@@ -341,14 +345,16 @@ module _ {D : Type 0} (s : SourceGhosts D) (d : DeviceGhosts D)
     where
       by_held : (o : Option (List ℕ)) → s.holds e.source ≡ o
           → LeavesTorn o (s.holds g.source) (image b.was)
-      by_held None none = ([], none_after (Err x) g fits puts none, tt)
+      by_held None none = ([], none_after old_end ends (Err x) g fits puts none, tt)
       by_held (Some old) told =
-          let left = walk_way (Err x) g fits puts old told in (left.0, left.1, left.3)
+          let left = walk_way old_end ends (Err x) g fits puts old told in
+          (left.0, left.1, left.3)
 
   -- it did not, and the device is cut, or that failed
-  module _ (r : Result (Unit {0}) ElfError) (g h : State D) (end : ℕ) (is : end ≡ image_length b.was)
+  module _ (old_end : ℕ) (ends : s.size e.source ≤ old_end) (r : Result (Unit {0}) ElfError)
+      (g h : State D) (end : ℕ) (is : end ≡ image_length b.was)
       (fits : image_length b.was ≤ length e.o.base)
-      (puts : PutsAll s d (Ok (tt {0})) e g (written_line b.was)) (cuts : CutsBase s g h)
+      (puts : PutsAll s d old_end (Ok (tt {0})) e g (written_line b.was)) (cuts : CutsBase s g h)
       (now : OnOk r (Resizes (s.size g.source) (s.size h.source) (s.holds g.source)
       (s.holds h.source) end))
       (one : OnErr r (ResizesOrNot (s.size g.source) (s.size h.source) (s.holds g.source)
@@ -357,7 +363,7 @@ module _ {D : Type 0} (s : SourceGhosts D) (d : DeviceGhosts D)
         → s.holds h.source ≡ option_map (resized end) (s.holds g.source)
         → s.holds h.source ≡ Some (image b.was)
     cut_told old told cut =
-        let left = walk_way (Ok tt) g fits puts old told in
+        let left = walk_way old_end ends (Ok tt) g fits puts old told in
         let most = b.base.long in
         let based = b.based (subst (λ (o : Option (List ℕ)). IsSome o) (sym told) refl) in
         let begins = subst (λ (o : Option (List ℕ)).
@@ -371,7 +377,7 @@ module _ {D : Type 0} (s : SourceGhosts D) (d : DeviceGhosts D)
         → s.holds h.source ≡ option_map (resized end) (s.holds g.source)
         → s.holds h.source ≡ None
     cut_none none cut =
-        cut ∙ ap (option_map (resized end)) (none_after (Ok tt) g fits puts none)
+        cut ∙ ap (option_map (resized end)) (none_after old_end ends (Ok tt) g fits puts none)
 
     -- the device tells its bytes or it does not
     cut_holds : (o : Option (List ℕ)) → s.holds e.source ≡ o
@@ -382,9 +388,10 @@ module _ {D : Type 0} (s : SourceGhosts D) (d : DeviceGhosts D)
 
     still_torn : (o : Option (List ℕ)) → s.holds e.source ≡ o
         → s.holds h.source ≡ s.holds g.source → LeavesTorn o (s.holds h.source) (image b.was)
-    still_torn None none same = ([], same ∙ none_after (Ok tt) g fits puts none, tt)
+    still_torn None none same =
+        ([], same ∙ none_after old_end ends (Ok tt) g fits puts none, tt)
     still_torn (Some old) told same =
-        let left = walk_way (Ok tt) g fits puts old told in
+        let left = walk_way old_end ends (Ok tt) g fits puts old told in
         let count = subst (λ (o : Option (List ℕ)). IfSome o (λ bytes. length bytes ≡ s.size e.source))
         told (sized e.source) in (
           left.0,
@@ -465,7 +472,7 @@ module _ {D : Type 0} (s : SourceGhosts D) (d : DeviceGhosts D)
           uses = uses_device_as s d r e.source h.source (0 + 0) (changed_bytes b.was + 0) 0
               (changed_bytes b.was) (omega arith) (omega arith)
               (uses_device_both s d (Ok tt) r e.source g.source h.source 0 (changed_bytes b.was) 0 0
-              (walk_sum (Ok tt) g fits puts) uses);
+              (walk_sum old_end ends (Ok tt) g fits puts) uses);
           err = err;
           bytes = ok_bytes r now;
           whole = ok_size r now;

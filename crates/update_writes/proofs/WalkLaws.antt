@@ -19,12 +19,13 @@ use Rattle.update_plan.specs.Plans.{no_part}
 use Rattle.elf_update.specs.Pieces.{pieces_length, stacked_text, block_at, blocks_at, HasLength}
 use Rattle.elf_update.proofs.PieceLaws.{length-joined_pieces}
 use Rattle.update_moves.specs.Written.{written_between}
-use Rattle.update_writes.specs.Overwrites.{NeedsNoRead, MayOverwrite}
-use Rattle.update_writes.specs.Walks.{rows_of, put_blocks, MayPut, MayPutAll, NeedNoRead, PutsAll}
-use Rattle.update_writes.proofs.OverLaws.{may_rebased}
+use Rattle.update_writes.specs.Overwrites.{NeedsNoRead, MayOverwrite, Overwrites}
+use Rattle.update_writes.specs.Walks.{put_end, rows_of, put_blocks, MayPut, MayPutAll, NeedNoRead, PutsAll}
+use Rattle.update_writes.proofs.OverLaws.{may_rebased, may_within}
+use Rattle.update_writes.proofs.SkipLaws.{put_end_most, put_front, front_stands, front_fewer, front_past}
 use Rattle.elf_update.specs.Descriptors.{stored_pieces}
 use Rattle.update_writes.proofs.RebaseLaws.{at_hand_after, pieces_after}
-use Rattle.update_writes.proofs.PutLaws.{all_none, all_then, all_stop, all_as}
+use Rattle.update_writes.proofs.PutLaws.{all_none, all_one, all_front, all_then, all_stop, all_as}
 
 each_middle : (P : Block → Type 0) (bs : List Block) (b : Block) (cs : List Block)
     → AllByRecursion P (bs ++ (b ∷ cs)) → P b
@@ -33,7 +34,7 @@ each_middle P (x ∷ bs) b cs each = each_middle P bs b cs each.1
 
 -- ---- What a block rests on, after others were put
 
-module _ {D : Type 0} (s : SourceGhosts D) (d : DeviceGhosts D) where
+module _ {D : Type 0} (s : SourceGhosts D) (d : DeviceGhosts D) (old_end : ℕ) where
   pub block_may : (e : State D) (line : List Block) (b : Block) → MayPutAll s e line → MayPut s e b
       → MayOverwrite s e b.at (length b.bytes)
   block_may e line b all may =
@@ -50,7 +51,7 @@ module _ {D : Type 0} (s : SourceGhosts D) (d : DeviceGhosts D) where
 
   -- what was put leaves it
   pub may_on : {T : Type 0} (r : Result T ElfError) (e f : State D) (at n : ℕ) (line : List Block)
-      → PutsAll s d r e f line → MayOverwrite s e at n → MayOverwrite s f at n
+      → PutsAll s d old_end r e f line → MayOverwrite s e at n → MayOverwrite s f at n
   may_on r e f at n line puts may =
       let size = puts.size in
       let within = may.within in
@@ -78,6 +79,29 @@ unfolding block_end
 fill_fits kept fill from end size within =
     let filled = length-replicate (end - max from kept) fill in
     omega (arith, filled, within)
+
+-- ---- The fill of a gap, of which zeros behind the old end are not put
+
+module _ {D : Type 0} (s : SourceGhosts D) (d : DeviceGhosts D) (old_end : ℕ) (e : State D)
+    (kept fill from end : ℕ)
+    (may : MayOverwrite s e (max from kept) (end - max from kept)) where
+  pub front_may : MayOverwrite s e (max from kept) (put_end fill old_end end - max from kept)
+  front_may =
+      let most = put_end_most fill old_end end in
+      may_within s d e (max from kept) (end - max from kept) (max from kept)
+      (put_end fill old_end end - max from kept) (omega arith) (omega (arith, most)) may
+
+  pub front_put : (r : Result (Unit {0}) ElfError) (f : State D)
+      → Overwrites s d r e f (max from kept)
+      (replicate (put_end fill old_end end - max from kept) fill)
+      → PutsAll s d old_end r e f (fill_block kept fill from end ∷ [])
+  front_put r f over =
+      all_front s d old_end r e f (put_front kept fill old_end from end)
+      (fill_block kept fill from end) (front_fewer kept fill old_end from end)
+      (front_stands kept fill old_end from end) (front_past kept fill old_end from end)
+      (all_one s d old_end e f (put_front kept fill old_end from end)
+      (fill_fits kept fill from (put_end fill old_end end) (s.size e.source) front_may.within) r
+      over)
 
 -- ---- Rows
 
@@ -115,25 +139,25 @@ module _ (kept fill end : ℕ) (pieces : Part → List (ℕ × List ℕ)) where
   line_last from flags = refl
 
 -- the blocks before the part with an index stand, which ends at a place
-pub record AreSoFar {D : Type 0} (s : SourceGhosts D) (d : DeviceGhosts D) (e f : State D)
-    (kept fill end : ℕ) (pieces : Part → List (ℕ × List ℕ)) (plan : List PartAt)
+pub record AreSoFar {D : Type 0} (s : SourceGhosts D) (d : DeviceGhosts D) (old_end : ℕ)
+    (e f : State D) (kept fill end : ℕ) (pieces : Part → List (ℕ × List ℕ)) (plan : List PartAt)
     (flags : List Bool) (i from : ℕ) : Type 0 where
   pub done : List Block
-  pub puts : PutsAll s d (Ok (tt {0})) e f done
+  pub puts : PutsAll s d old_end (Ok (tt {0})) e f done
   pub all : done ++ left_line kept fill end pieces from (drop i plan) (drop i flags)
       ≡ put_blocks kept fill end pieces plan flags
   pub line : AreInLine end from (blocks_at fill pieces (drop i plan))
 
-module _ {D : Type 0} (s : SourceGhosts D) (d : DeviceGhosts D) (e : State D) (kept fill end : ℕ)
-    (pieces : Part → List (ℕ × List ℕ)) (plan : List PartAt) (flags : List Bool)
+module _ {D : Type 0} (s : SourceGhosts D) (d : DeviceGhosts D) (old_end : ℕ) (e : State D)
+    (kept fill end : ℕ) (pieces : Part → List (ℕ × List ℕ)) (plan : List PartAt) (flags : List Bool)
     (may : MayPutAll s e (put_blocks kept fill end pieces plan flags)) where
   abbrev IsSoFar : State D → ℕ → ℕ → Type 0
-  IsSoFar f i from = AreSoFar s d e f kept fill end pieces plan flags i from
+  IsSoFar f i from = AreSoFar s d old_end e f kept fill end pieces plan flags i from
 
   pub walk_starts : AreInLine end 0 (blocks_at fill pieces plan) → IsSoFar e 0 0
   walk_starts line = record {
     done = [];
-    puts = all_none s d e may.base;
+    puts = all_none s d old_end e may.base;
     all = refl;
     line = line;
   }
@@ -185,14 +209,15 @@ module _ {D : Type 0} (s : SourceGhosts D) (d : DeviceGhosts D) (e : State D) (k
       (each_next f i from there count long put) in
       let filled = length-replicate ((get_or plan i no_part).at - max from kept) fill in
       subst (λ (n : ℕ). MayOverwrite s f (max from kept) n) filled
-      (may_on s d (Ok (tt {0})) e f (max from kept)
+      (may_on s d old_end (Ok (tt {0})) e f (max from kept)
       (length (replicate ((get_or plan i no_part).at - max from kept) fill)) put.done put.puts
-      (block_may s d e (put_blocks kept fill end pieces plan flags) (gap_at i from) may one))
+      (block_may s d old_end e (put_blocks kept fill end pieces plan flags) (gap_at i from) may
+      one))
 
   -- the part behind it, too
   pub part_may : (f g : State D) (i from : ℕ) → i < length plan → length flags ≡ length plan
       → HasLength pieces (get_or plan i no_part) → IsSoFar f i from
-      → PutsAll s d (Ok (tt {0})) f g (gap_at i from ∷ []) → get_or flags i false ≡ true
+      → PutsAll s d old_end (Ok (tt {0})) f g (gap_at i from ∷ []) → get_or flags i false ≡ true
       → MayOverwrite s g (get_or plan i no_part).at (get_or plan i no_part).len
   part_may f g i from there count long put gap changes =
       let b : Block = block_at fill pieces (get_or plan i no_part) in
@@ -208,10 +233,10 @@ module _ {D : Type 0} (s : SourceGhosts D) (d : DeviceGhosts D) (e : State D) (k
       let size : length (stacked_text fill (pieces (get_or plan i no_part).part)) ≡ (get_or plan i no_part).len =
       omega (arith, all, long) in
       subst (λ (n : ℕ). MayOverwrite s g (get_or plan i no_part).at n) size
-      (may_on s d (Ok (tt {0})) e g (get_or plan i no_part).at
+      (may_on s d old_end (Ok (tt {0})) e g (get_or plan i no_part).at
       (length (stacked_text fill (pieces (get_or plan i no_part).part))) (put.done ++ (gap_at i from ∷ []))
-      (all_then s d tt (Ok tt) e f g put.done (gap_at i from ∷ []) put.puts gap)
-      (block_may s d e (put_blocks kept fill end pieces plan flags)
+      (all_then s d old_end tt (Ok tt) e f g put.done (gap_at i from ∷ []) put.puts gap)
+      (block_may s d old_end e (put_blocks kept fill end pieces plan flags)
       (block_at fill pieces (get_or plan i no_part)) may one))
 
   -- the part ends within the image
@@ -228,22 +253,24 @@ module _ {D : Type 0} (s : SourceGhosts D) (d : DeviceGhosts D) (e : State D) (k
   -- the gap was refused
   pub gap_stops : (x : ElfError) (f g : State D) (i from : ℕ) → i < length plan
       → length flags ≡ length plan → HasLength pieces (get_or plan i no_part)
-      → IsSoFar f i from → PutsAll {T = Unit {0}} s d (Err x) f g (gap_at i from ∷ [])
-      → PutsAll {T = Unit {0}} s d (Err x) e g (put_blocks kept fill end pieces plan flags)
+      → IsSoFar f i from → PutsAll {T = Unit {0}} s d old_end (Err x) f g (gap_at i from ∷ [])
+      → PutsAll {T = Unit {0}} s d old_end (Err x) e g (put_blocks kept fill end pieces plan flags)
   gap_stops x f g i from there count long put gap =
-      all_as s d (Err x) e g ((put.done ++ (gap_at i from ∷ [])) ++ (part_at i ++ rest_at i))
+      all_as s d old_end (Err x) e g
+      ((put.done ++ (gap_at i from ∷ [])) ++ (part_at i ++ rest_at i))
       (put_blocks kept fill end pieces plan flags)
       (append_assoc put.done (gap_at i from ∷ []) (part_at i ++ rest_at i)
       ∙ next_is f i from there count long put)
-      (all_stop s d x e g (put.done ++ (gap_at i from ∷ [])) (part_at i ++ rest_at i)
-      (all_then s d tt (Err x) e f g put.done (gap_at i from ∷ []) put.puts gap))
+      (all_stop s d old_end x e g (put.done ++ (gap_at i from ∷ [])) (part_at i ++ rest_at i)
+      (all_then s d old_end tt (Err x) e f g put.done (gap_at i from ∷ []) put.puts gap))
 
   both_put : (q : Result (Unit {0}) ElfError) (f g h : State D) (i from : ℕ) → (put : IsSoFar f i from)
-      → PutsAll s d (Ok (tt {0})) f g (gap_at i from ∷ []) → PutsAll s d q g h (part_at i)
-      → PutsAll s d q e h ((put.done ++ (gap_at i from ∷ [])) ++ part_at i)
+      → PutsAll s d old_end (Ok (tt {0})) f g (gap_at i from ∷ [])
+      → PutsAll s d old_end q g h (part_at i)
+      → PutsAll s d old_end q e h ((put.done ++ (gap_at i from ∷ [])) ++ part_at i)
   both_put q f g h i from put gap one =
-      all_then s d tt q e g h (put.done ++ (gap_at i from ∷ [])) (part_at i)
-      (all_then s d tt (Ok tt) e f g put.done (gap_at i from ∷ []) put.puts gap) one
+      all_then s d old_end tt q e g h (put.done ++ (gap_at i from ∷ [])) (part_at i)
+      (all_then s d old_end tt (Ok tt) e f g put.done (gap_at i from ∷ []) put.puts gap) one
 
   both_is : (f : State D) (i from : ℕ) → i < length plan → length flags ≡ length plan
       → HasLength pieces (get_or plan i no_part) → (put : IsSoFar f i from)
@@ -257,20 +284,21 @@ module _ {D : Type 0} (s : SourceGhosts D) (d : DeviceGhosts D) (e : State D) (k
   -- the part was refused
   pub part_stops : (x : ElfError) (f g h : State D) (i from : ℕ) → i < length plan
       → length flags ≡ length plan → HasLength pieces (get_or plan i no_part)
-      → IsSoFar f i from → PutsAll s d (Ok (tt {0})) f g (gap_at i from ∷ [])
-      → PutsAll {T = Unit {0}} s d (Err x) g h (part_at i)
-      → PutsAll {T = Unit {0}} s d (Err x) e h (put_blocks kept fill end pieces plan flags)
+      → IsSoFar f i from → PutsAll s d old_end (Ok (tt {0})) f g (gap_at i from ∷ [])
+      → PutsAll {T = Unit {0}} s d old_end (Err x) g h (part_at i)
+      → PutsAll {T = Unit {0}} s d old_end (Err x) e h (put_blocks kept fill end pieces plan flags)
   part_stops x f g h i from there count long put gap one =
-      all_as s d (Err x) e h (((put.done ++ (gap_at i from ∷ [])) ++ part_at i) ++ rest_at i)
+      all_as s d old_end (Err x) e h
+      (((put.done ++ (gap_at i from ∷ [])) ++ part_at i) ++ rest_at i)
       (put_blocks kept fill end pieces plan flags) (both_is f i from there count long put)
-      (all_stop s d x e h ((put.done ++ (gap_at i from ∷ [])) ++ part_at i) (rest_at i)
+      (all_stop s d old_end x e h ((put.done ++ (gap_at i from ∷ [])) ++ part_at i) (rest_at i)
       (both_put (Err x) f g h i from put gap one))
 
   -- both stand
   pub walk_goes_on : (f g h : State D) (i from : ℕ) → i < length plan
       → length flags ≡ length plan → HasLength pieces (get_or plan i no_part)
-      → IsSoFar f i from → PutsAll s d (Ok (tt {0})) f g (gap_at i from ∷ [])
-      → PutsAll s d (Ok (tt {0})) g h (part_at i)
+      → IsSoFar f i from → PutsAll s d old_end (Ok (tt {0})) f g (gap_at i from ∷ [])
+      → PutsAll s d old_end (Ok (tt {0})) g h (part_at i)
       → IsSoFar h (i + 1) ((get_or plan i no_part).at + (get_or plan i no_part).len)
   walk_goes_on f g h i from there count long put gap one = record {
     done = (put.done ++ (gap_at i from ∷ [])) ++ part_at i;
@@ -300,19 +328,20 @@ module _ {D : Type 0} (s : SourceGhosts D) (d : DeviceGhosts D) (e : State D) (k
       (sym (last_is f i from past count put)) may.blocks) in
       let filled = length-replicate (end - max from kept) fill in
       subst (λ (n : ℕ). MayOverwrite s f (max from kept) n) filled
-      (may_on s d (Ok (tt {0})) e f (max from kept) (length (replicate (end - max from kept) fill))
+      (may_on s d old_end (Ok (tt {0})) e f (max from kept)
+      (length (replicate (end - max from kept) fill))
       put.done put.puts
-      (block_may s d e (put_blocks kept fill end pieces plan flags) (fill_block kept fill from end) may
-      one))
+      (block_may s d old_end e (put_blocks kept fill end pieces plan flags)
+      (fill_block kept fill from end) may one))
 
   pub walk_ends : (r : Result (Unit {0}) ElfError) (f g : State D) (i from : ℕ)
       → length plan ≤ i → length flags ≡ length plan → IsSoFar f i from
-      → PutsAll s d r f g (fill_block kept fill from end ∷ [])
-      → PutsAll s d r e g (put_blocks kept fill end pieces plan flags)
+      → PutsAll s d old_end r f g (fill_block kept fill from end ∷ [])
+      → PutsAll s d old_end r e g (put_blocks kept fill end pieces plan flags)
   walk_ends r f g i from past count put gap =
-      all_as s d r e g (put.done ++ (fill_block kept fill from end ∷ []))
+      all_as s d old_end r e g (put.done ++ (fill_block kept fill from end ∷ []))
       (put_blocks kept fill end pieces plan flags) (last_is f i from past count put)
-      (all_then s d tt r e f g put.done (fill_block kept fill from end ∷ []) put.puts gap)
+      (all_then s d old_end tt r e f g put.done (fill_block kept fill from end ∷ []) put.puts gap)
 
 -- ---- What is at hand
 
@@ -340,12 +369,12 @@ pub long_on : {D : Type 0} (e f : State D)
 long_on e f state p long =
     subst (λ (ps : List (ℕ × List ℕ)). p.len ≡ pieces_length ps) (sym (pieces_after e f state p.part)) long
 
-pub puts_on : {D : Type 0} (s : SourceGhosts D) (d : DeviceGhosts D) (e f : State D)
+pub puts_on : {D : Type 0} (s : SourceGhosts D) (d : DeviceGhosts D) (old_end : ℕ) (e f : State D)
     → f ≡ record e { o = record e.o { base = f.o.base }; source = f.source }
     → (r : Result (Unit {0}) ElfError) (g : State D) (c : Bool) (fill : ℕ) (p : PartAt)
-    → PutsAll s d r f g (when c (block_at fill (stored_pieces f.o) p))
-    → PutsAll s d r f g (when c (block_at fill (stored_pieces e.o) p))
-puts_on s d e f state r g c fill p puts =
+    → PutsAll s d old_end r f g (when c (block_at fill (stored_pieces f.o) p))
+    → PutsAll s d old_end r f g (when c (block_at fill (stored_pieces e.o) p))
+puts_on s d old_end e f state r g c fill p puts =
     subst (λ (ps : List (ℕ × List ℕ)).
-    PutsAll s d r f g (when c (record { at = p.at; bytes = stacked_text fill ps })))
+    PutsAll s d old_end r f g (when c (record { at = p.at; bytes = stacked_text fill ps })))
     (pieces_after e f state p.part) puts

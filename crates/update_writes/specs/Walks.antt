@@ -1,6 +1,6 @@
 -- What a walk over a plan puts over a device: the parts that change, and the fill between the
 -- parts.
-use Rattle.std.specs.Prelude.{◌≡◌, ◌⊎◌, ℕ, ◌<◌, ◌^◌, ◌≤◌, Bool, true, IsTrue, List, [], ◌∷◌, ◌++◌, length, Some, is_some, sum_by, Result, OnOk, OnErr, IfErr}
+use Rattle.std.specs.Prelude.{◌≡◌, ◌⊎◌, ◌==◌, ℕ, ◌<◌, ◌^◌, ◌≤◌, min, if◌then◌else◌, Bool, true, IsTrue, List, [], ◌∷◌, ◌++◌, length, Some, is_some, sum_by, Result, OnOk, OnErr, IfErr}
 use Rattle.std.specs.List.{AllByRecursion}
 use Rattle.elf_types.specs.declared.errors.ElfError.{ElfError}
 use Rattle.elf_types.specs.declared.errors.ElfError.TheVariants.{Write}
@@ -34,6 +34,10 @@ abbrev pub put_blocks : ℕ → ℕ → ℕ → (Part → List (ℕ × List ℕ)
 put_blocks kept fill end pieces plan flags =
     written_between kept fill end 0 (rows_of fill pieces plan flags)
 
+-- where the fill of a gap with that end need be put up to: zeros up to the old end of the device
+abbrev pub put_end : ℕ → ℕ → ℕ → ℕ
+put_end fill old_end end = if fill == 0 then min end old_end else end
+
 -- ---- What it rests on
 
 -- a block lies in the device, and no home that shares a place with it rests on the base
@@ -58,9 +62,10 @@ NeedNoRead state (p ∷ ps) (c ∷ cs) =
 
 -- ---- What it leaves
 
--- Where the device is written with blocks of an image, of which these are next, they stand there
--- afterwards; after a refusal each byte is the old one or that of the image. Nothing is read.
-pub record PutsAll {D T : Type 0} (s : SourceGhosts D) (d : DeviceGhosts D)
+-- Where the device is written with blocks of an image, of which these are next, and what it held
+-- before ended by a place, they stand there afterwards; after a refusal each byte is the old one or
+-- that of the image. Nothing is read.
+pub record PutsAll {D T : Type 0} (s : SourceGhosts D) (d : DeviceGhosts D) (old_end : ℕ)
     (result : Result T ElfError) (old new : State D) (line : List Block) : Type 0 where
   pub change : ChangesBase s old new
   pub size : s.size new.source ≡ s.size old.source
@@ -69,6 +74,7 @@ pub record PutsAll {D T : Type 0} (s : SourceGhosts D) (d : DeviceGhosts D)
   pub err : IfErr result (λ e. e ≡ Write)
   pub way : (before image held : List ℕ) (blocks rest : List Block)
       → s.holds old.source ≡ Some held → AllByRecursion (HoldsBlock image) line
+      → length before ≤ old_end
       → (s.size old.source ≡ length before) ⊎ (s.size old.source ≡ length image)
       → IsUnderWay before image held (s.size old.source) blocks (line ++ rest)
       → (after : List ℕ) × (s.holds new.source ≡ Some after)

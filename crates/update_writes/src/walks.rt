@@ -1,6 +1,6 @@
 //! The walk over the plan of an image: the parts that change, and the fill between the parts.
 
-ghost use Rattle.std.specs.Prelude.{◌≡◌, ◌+◌, ◌-◌, ◌^◌, ◌≤◌, ◌<◌, max, true, [], ◌∷◌, length, All};
+ghost use Rattle.std.specs.Prelude.{◌≡◌, ℕ, ◌+◌, ◌-◌, ◌^◌, ◌≤◌, ◌<◌, max, true, [], ◌∷◌, length, All};
 ghost use Rattle.elf_object.specs.Changed.{when};
 ghost use Rattle.writing_laws.specs.Lines.{AreInLine};
 ghost use Rattle.writing_laws.specs.Plan.{fill_block};
@@ -8,7 +8,7 @@ ghost use Rattle.elf_descriptor.specs.Fronts.{HoldsBase};
 ghost use Rattle.elf_update.specs.Pieces.{block_at, blocks_at, HasLength};
 ghost use Rattle.elf_update.specs.Descriptors.{HasStoredPlaces, stored_pieces};
 ghost use Rattle.update_writes.specs.Overwrites.{NeedsNoRead, MayOverwrite};
-ghost use Rattle.update_writes.specs.Walks.{put_blocks, NeedNoRead, MayPutAll, PutsAll};
+ghost use Rattle.update_writes.specs.Walks.{put_end, put_blocks, NeedNoRead, MayPutAll, PutsAll};
 
 use crate::fills::write_fill;
 use crate::pieces::write_part;
@@ -18,24 +18,37 @@ use elf_outside::Device;
 use elf_types::ElfError;
 use elf_update::Ground;
 
+/// Where the fill that is put ends, of a gap that ends at a place: zeros are put up to the old end
+/// of the device alone, since behind it there are zeros.
+fn fill_end(fill: u8, old_end: u64, end: u64) -> u64
+    ensures { result ≡ put_end fill old_end end }
+{
+    if fill == 0 {
+        return end.min(old_end);
+    }
+    end
+}
+
 /// Puts the fill of the gap from one place to another: what lies behind the bytes of the base that
-/// count.
+/// count. Zeros behind the old end of the device stand there already.
 fn write_gap<D: Device>(
     elf: &mut Elf<D>,
     page: &mut [u8],
     ground: Ground,
     from: u64,
     end: u64,
+    old_end: u64,
 ) -> Result<(), ElfError>
     requires room { 0 < length page.old }
     requires may { MayOverwrite D.Source elf.old (max from ground.kept)
         (end - max from ground.kept) }
-    ensures puts { PutsAll D.Source D.Device.own result elf.old elf.new
+    ensures puts { PutsAll D.Source D.Device.own old_end result elf.old elf.new
         (fill_block ground.kept ground.fill from end ∷ []) }
     ensures page { length page.new ≡ length page.old }
 {
     let start = from.max(ground.kept);
-    write_fill(elf, page, start, end.saturating_sub(start), ground.fill)
+    let stop = fill_end(ground.fill, old_end, end);
+    write_fill(elf, page, start, stop.saturating_sub(start), ground.fill)
 }
 
 /// Puts a part where it changes.
@@ -53,7 +66,7 @@ fn write_changed<D: Device>(
     requires long { HasLength (stored_pieces elf.old.o) part }
     requires small { part.at + part.len < 2 ^ 64 }
     requires may { changes ≡ true → MayOverwrite D.Source elf.old part.at part.len }
-    ensures puts { PutsAll D.Source D.Device.own result elf.old elf.new
+    ensures puts { (old_end : ℕ) → PutsAll D.Source D.Device.own old_end result elf.old elf.new
         (when changes (block_at fill (stored_pieces elf.old.o) part)) }
     ensures page { length page.new ≡ length page.old }
 {
@@ -64,8 +77,9 @@ fn write_changed<D: Device>(
 }
 
 /// Puts the parts of a plan that change over the device, each where it stands, and the fill between
-/// the parts. The parts that change are at hand. It refuses `Write` alone, reads nothing and takes
-/// no memory.
+/// the parts. What the device held before it was lengthened ended by the place `old_end`, and zeros
+/// are put up to there alone. The parts that change are at hand. It refuses `Write` alone, reads
+/// nothing and takes no memory.
 pub fn write_parts<D: Device>(
     elf: &mut Elf<D>,
     page: &mut [u8],
@@ -73,6 +87,7 @@ pub fn write_parts<D: Device>(
     changed: &[bool],
     ground: Ground,
     end: u64,
+    old_end: u64,
 ) -> Result<(), ElfError>
     requires room { 0 < length page.old }
     requires stored { HasStoredPlaces elf.old.o }
@@ -82,13 +97,13 @@ pub fn write_parts<D: Device>(
     requires line { AreInLine end 0 (blocks_at ground.fill (stored_pieces elf.old.o) plan.now) }
     requires may { MayPutAll D.Source elf.old
         (put_blocks ground.kept ground.fill end (stored_pieces elf.old.o) plan.now changed.now) }
-    ensures { PutsAll D.Source D.Device.own result elf.old elf.new
+    ensures { PutsAll D.Source D.Device.own old_end result elf.old elf.new
         (put_blocks ground.kept ground.fill end (stored_pieces elf.old.o) plan.now changed.now) }
 {
     let mut from = 0;
     for i in 0..plan.len() {
         let part = plan[i];
-        if let Err(e) = write_gap(elf, page, ground, from, part.at) {
+        if let Err(e) = write_gap(elf, page, ground, from, part.at, old_end) {
             return Err(e);
         }
         let _object = elf.dirty();
@@ -97,5 +112,5 @@ pub fn write_parts<D: Device>(
         }
         from = part.at + part.len;
     }
-    write_gap(elf, page, ground, from, end)
+    write_gap(elf, page, ground, from, end, old_end)
 }

@@ -46,7 +46,8 @@ returns g c = λ b.
     (walked_longer g.D.Source g.D.Device g.met.D.Source.sized c.args.planned.now c.args.changed.now
     c.args.elf.now b c.size_base.new.self
     c.args.planned.now.places.end (planned_end b.was c.args.planned.now b.planned) c.requires.grows
-    c.in_default.ensures.cuts c.in_default.ensures.ok c.write_over.result c.write_over.new.elf
+    c.in_default.ensures.cuts c.in_default.ensures.ok c.args.old_end
+    (omega (arith, c.requires.ends)) c.write_over.result c.write_over.new.elf
     (c.write_over.ensures (longer_begun g.D.Source g.D.Device g.met.D.Source.sized
     c.args.planned.now c.args.changed.now c.args.elf.now b
     c.size_base.new.self c.args.planned.now.places.end (planned_end b.was c.args.planned.now b.planned) c.requires.grows

@@ -81,16 +81,16 @@ write_parts-requires-clause-may g c =
 pub returns : goal.returns
 returns g c = λ b.
     let end = planned_end b.was c.args.planned.now b.planned in
-    subst (λ (l : List Block). PutsAll {T = Unit {0}} g.D.Source g.D.Device c.write_parts.result
+    subst (λ (l : List Block). PutsAll {T = Unit {0}} g.D.Source g.D.Device c.args.old_end c.write_parts.result
     c.args.elf.now c.write_parts.new.elf l)
     (line_is g.D.Source c.args.planned.now c.args.changed.now c.args.elf.now b c.dirty-object.ensures.sound.object
     (omega (arith, end, c.requires.end, c.ranges.end)) c.ground_of-ground.result.kept c.ground_of-ground.result.fill
     c.ground_of-ground.ensures.kept c.ground_of-ground.ensures.fill)
-    (subst (λ (l : List PartAt). PutsAll {T = Unit {0}} g.D.Source g.D.Device c.write_parts.result
+    (subst (λ (l : List PartAt). PutsAll {T = Unit {0}} g.D.Source g.D.Device c.args.old_end c.write_parts.result
     c.args.elf.now c.write_parts.new.elf
     (put_blocks c.ground_of-ground.result.kept c.ground_of-ground.result.fill c.args.planned.now.places.end
     (stored_pieces c.args.elf.now.o) l c.args.changed.now)) c.as_slice.ensures
-    (subst (λ (n : ℕ). PutsAll {T = Unit {0}} g.D.Source g.D.Device c.write_parts.result
+    (subst (λ (n : ℕ). PutsAll {T = Unit {0}} g.D.Source g.D.Device c.args.old_end c.write_parts.result
     c.args.elf.now c.write_parts.new.elf
     (put_blocks c.ground_of-ground.result.kept c.ground_of-ground.result.fill n
     (stored_pieces c.args.elf.now.o) c.as_slice.result.now c.args.changed.now)) c.requires.end c.write_parts.ensures))

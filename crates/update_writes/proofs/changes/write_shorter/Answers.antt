@@ -19,7 +19,7 @@ returns-in-Err g c = λ b.
     writes_of g.D.Source g.D.Device g.met.D.Source.sized c.args.planned.now c.args.changed.now
     c.args.elf.now b (Err c.in-Err.e) c.write_over.new.elf
     (not_written g.D.Source g.D.Device g.met.D.Source.sized c.args.planned.now c.args.changed.now
-    c.args.elf.now b c.in-Err.e c.write_over.new.elf
+    c.args.elf.now b c.args.old_end (omega (arith, c.requires.ends)) c.in-Err.e c.write_over.new.elf
     (omega (arith, end, c.requires.fits)) (c.in-Err.ensures b))
 
 pub size_base-requires-clause-ready : goal.size_base-requires-clause-ready
@@ -44,7 +44,7 @@ returns g c = λ b.
     writes_of g.D.Source g.D.Device g.met.D.Source.sized c.args.planned.now c.args.changed.now
     c.args.elf.now b c.size_base.result c.size_base.new.self
     (walked_cut g.D.Source g.D.Device g.met.D.Source.sized c.args.planned.now c.args.changed.now
-    c.args.elf.now b c.size_base.result
+    c.args.elf.now b c.args.old_end (omega (arith, c.requires.ends)) c.size_base.result
     c.write_over.new.elf c.size_base.new.self c.args.planned.now.places.end end (omega (arith, end, c.requires.fits))
     (c.in_default.ensures b) c.size_base.ensures.cuts c.size_base.ensures.ok c.size_base.ensures.unfinished
     c.size_base.ensures.uses c.size_base.ensures.err)

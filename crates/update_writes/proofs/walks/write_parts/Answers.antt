@@ -11,7 +11,7 @@ use Rattle.update_writes.proofs.walks.write_parts.Goals as goal
 pub loop-i-init : goal.loop-i-init
 loop-i-init g c = record {
   put =
-      walk_starts g.D.Source g.D.Device c.args.elf.now c.args.ground.kept c.args.ground.fill
+      walk_starts g.D.Source g.D.Device c.args.old_end c.args.elf.now c.args.ground.kept c.args.ground.fill
       c.args.end (stored_pieces c.args.elf.now.o)
       c.args.plan.now c.args.changed.now c.requires.may c.requires.line;
   page = refl;
@@ -20,7 +20,7 @@ loop-i-init g c = record {
 pub write_gap-requires-clause-may : goal.write_gap-requires-clause-may
 write_gap-requires-clause-may g c =
     let l = c.loop-i in
-    gap_may g.D.Source g.D.Device c.args.elf.now c.args.ground.kept c.args.ground.fill c.args.end
+    gap_may g.D.Source g.D.Device c.args.old_end c.args.elf.now c.args.ground.kept c.args.ground.fill c.args.end
     (stored_pieces c.args.elf.now.o)
     c.args.plan.now c.args.changed.now c.requires.may l.elf l.i l.from c.loop-i-test.true c.requires.count
     (All-get_or (HasLength (stored_pieces c.args.elf.now.o)) c.args.plan.now l.i no_part
@@ -29,7 +29,7 @@ write_gap-requires-clause-may g c =
 pub returns-in-Err : goal.returns-in-Err
 returns-in-Err g c =
     let l = c.loop-i in
-    gap_stops g.D.Source g.D.Device c.args.elf.now c.args.ground.kept c.args.ground.fill c.args.end
+    gap_stops g.D.Source g.D.Device c.args.old_end c.args.elf.now c.args.ground.kept c.args.ground.fill c.args.end
     (stored_pieces c.args.elf.now.o)
     c.args.plan.now c.args.changed.now c.requires.may c.in-Err.e l.elf c.write_gap.new.elf l.i
     l.from c.loop-i-test.true c.requires.count
@@ -43,7 +43,7 @@ write_changed-requires-clause-base g c = c.in_default.ensures.puts.change.base
 pub write_changed-requires-clause-stored : goal.write_changed-requires-clause-stored
 write_changed-requires-clause-stored g c =
     let l = c.loop-i in
-    let both = all_then g.D.Source g.D.Device tt (Ok tt) c.args.elf.now l.elf c.write_gap.new.elf
+    let both = all_then g.D.Source g.D.Device c.args.old_end tt (Ok tt) c.args.elf.now l.elf c.write_gap.new.elf
     l.invariant.put.done _ l.invariant.put.puts
     c.in_default.ensures.puts in
     stored_after c.args.elf.now c.write_gap.new.elf both.change.state both.change.long
@@ -52,7 +52,7 @@ write_changed-requires-clause-stored g c =
 pub write_changed-requires-clause-held : goal.write_changed-requires-clause-held
 write_changed-requires-clause-held g c = λ changes.
     let l = c.loop-i in
-    let both = all_then g.D.Source g.D.Device tt (Ok tt) c.args.elf.now l.elf c.write_gap.new.elf
+    let both = all_then g.D.Source g.D.Device c.args.old_end tt (Ok tt) c.args.elf.now l.elf c.write_gap.new.elf
     l.invariant.put.done _ l.invariant.put.puts
     c.in_default.ensures.puts in
     hand_on c.args.elf.now c.write_gap.new.elf c.args.plan.now c.args.changed.now l.i both.change.state
@@ -61,7 +61,7 @@ write_changed-requires-clause-held g c = λ changes.
 pub write_changed-requires-clause-long : goal.write_changed-requires-clause-long
 write_changed-requires-clause-long g c =
     let l = c.loop-i in
-    let both = all_then g.D.Source g.D.Device tt (Ok tt) c.args.elf.now l.elf c.write_gap.new.elf
+    let both = all_then g.D.Source g.D.Device c.args.old_end tt (Ok tt) c.args.elf.now l.elf c.write_gap.new.elf
     l.invariant.put.done _ l.invariant.put.puts
     c.in_default.ensures.puts in
     long_on c.args.elf.now c.write_gap.new.elf both.change.state (get_or c.args.plan.now l.i no_part)
@@ -71,7 +71,7 @@ write_changed-requires-clause-long g c =
 pub write_changed-requires-clause-small : goal.write_changed-requires-clause-small
 write_changed-requires-clause-small g c =
     let l = c.loop-i in
-    let ends = part_ends g.D.Source g.D.Device c.args.elf.now c.args.ground.kept c.args.ground.fill
+    let ends = part_ends g.D.Source g.D.Device c.args.old_end c.args.elf.now c.args.ground.kept c.args.ground.fill
     c.args.end (stored_pieces c.args.elf.now.o)
     c.args.plan.now c.args.changed.now c.requires.may l.elf l.i l.from c.loop-i-test.true
     (All-get_or (HasLength (stored_pieces c.args.elf.now.o)) c.args.plan.now l.i no_part
@@ -81,7 +81,7 @@ write_changed-requires-clause-small g c =
 pub write_changed-requires-clause-may : goal.write_changed-requires-clause-may
 write_changed-requires-clause-may g c = λ changes.
     let l = c.loop-i in
-    part_may g.D.Source g.D.Device c.args.elf.now c.args.ground.kept c.args.ground.fill c.args.end
+    part_may g.D.Source g.D.Device c.args.old_end c.args.elf.now c.args.ground.kept c.args.ground.fill c.args.end
     (stored_pieces c.args.elf.now.o)
     c.args.plan.now c.args.changed.now c.requires.may l.elf c.write_gap.new.elf l.i l.from
     c.loop-i-test.true c.requires.count
@@ -92,10 +92,10 @@ write_changed-requires-clause-may g c = λ changes.
 pub returns-in-Err-write_changed : goal.returns-in-Err-write_changed
 returns-in-Err-write_changed g c =
     let l = c.loop-i in
-    let both = all_then g.D.Source g.D.Device tt (Ok tt) c.args.elf.now l.elf c.write_gap.new.elf
+    let both = all_then g.D.Source g.D.Device c.args.old_end tt (Ok tt) c.args.elf.now l.elf c.write_gap.new.elf
     l.invariant.put.done _ l.invariant.put.puts
     c.in_default.ensures.puts in
-    part_stops g.D.Source g.D.Device c.args.elf.now c.args.ground.kept c.args.ground.fill c.args.end
+    part_stops g.D.Source g.D.Device c.args.old_end c.args.elf.now c.args.ground.kept c.args.ground.fill c.args.end
     (stored_pieces c.args.elf.now.o)
     c.args.plan.now c.args.changed.now c.requires.may c.in-Err-write_changed.e l.elf
     c.write_gap.new.elf c.write_changed.new.elf l.i l.from
@@ -103,15 +103,15 @@ returns-in-Err-write_changed g c =
     (All-get_or (HasLength (stored_pieces c.args.elf.now.o)) c.args.plan.now l.i no_part
     c.loop-i-test.true c.requires.long) l.invariant.put
     c.in_default.ensures.puts
-    (puts_on g.D.Source g.D.Device c.args.elf.now c.write_gap.new.elf both.change.state
+    (puts_on g.D.Source g.D.Device c.args.old_end c.args.elf.now c.write_gap.new.elf both.change.state
     (Err c.in-Err-write_changed.e) c.write_changed.new.elf
     (get_or c.args.changed.now l.i false) c.args.ground.fill (get_or c.args.plan.now l.i no_part)
-    c.in-Err-write_changed.ensures.puts)
+    (c.in-Err-write_changed.ensures.puts c.args.old_end))
 
 pub overflow_add-from : goal.overflow_add-from
 overflow_add-from g c =
     let l = c.loop-i in
-    let ends = part_ends g.D.Source g.D.Device c.args.elf.now c.args.ground.kept c.args.ground.fill
+    let ends = part_ends g.D.Source g.D.Device c.args.old_end c.args.elf.now c.args.ground.kept c.args.ground.fill
     c.args.end (stored_pieces c.args.elf.now.o)
     c.args.plan.now c.args.changed.now c.requires.may l.elf l.i l.from c.loop-i-test.true
     (All-get_or (HasLength (stored_pieces c.args.elf.now.o)) c.args.plan.now l.i no_part
@@ -121,27 +121,28 @@ overflow_add-from g c =
 pub loop-i-preserved : goal.loop-i-preserved
 loop-i-preserved g c =
     let l = c.loop-i in
-    let both = all_then g.D.Source g.D.Device tt (Ok tt) c.args.elf.now l.elf c.write_gap.new.elf
+    let both = all_then g.D.Source g.D.Device c.args.old_end tt (Ok tt) c.args.elf.now l.elf c.write_gap.new.elf
     l.invariant.put.done _ l.invariant.put.puts
     c.in_default.ensures.puts in record {
       put =
-          walk_goes_on g.D.Source g.D.Device c.args.elf.now c.args.ground.kept c.args.ground.fill
+          walk_goes_on g.D.Source g.D.Device c.args.old_end c.args.elf.now c.args.ground.kept c.args.ground.fill
           c.args.end (stored_pieces c.args.elf.now.o)
           c.args.plan.now c.args.changed.now c.requires.may l.elf c.write_gap.new.elf c.write_changed.new.elf l.i l.from
           c.loop-i-test.true c.requires.count
           (All-get_or (HasLength (stored_pieces c.args.elf.now.o)) c.args.plan.now l.i no_part
           c.loop-i-test.true c.requires.long) l.invariant.put
           c.in_default.ensures.puts
-          (puts_on g.D.Source g.D.Device c.args.elf.now c.write_gap.new.elf both.change.state (Ok tt) c.write_changed.new.elf
+          (puts_on g.D.Source g.D.Device c.args.old_end c.args.elf.now c.write_gap.new.elf both.change.state (Ok tt) c.write_changed.new.elf
           (get_or c.args.changed.now l.i false) c.args.ground.fill
-          (get_or c.args.plan.now l.i no_part) c.in_default-write_changed.ensures.puts);
+          (get_or c.args.plan.now l.i no_part)
+          (c.in_default-write_changed.ensures.puts c.args.old_end));
       page = c.in_default-write_changed.ensures.page ∙ c.in_default.ensures.page ∙ l.invariant.page;
     }
 
 pub write_gap-requires-2-clause-may : goal.write_gap-requires-2-clause-may
 write_gap-requires-2-clause-may g c =
     let l = c.loop-i in
-    last_may g.D.Source g.D.Device c.args.elf.now c.args.ground.kept c.args.ground.fill c.args.end
+    last_may g.D.Source g.D.Device c.args.old_end c.args.elf.now c.args.ground.kept c.args.ground.fill c.args.end
     (stored_pieces c.args.elf.now.o)
     c.args.plan.now c.args.changed.now c.requires.may l.elf l.i l.from
     (omega (arith, c.loop-i-test.false)) c.requires.count l.invariant.put
@@ -149,7 +150,7 @@ write_gap-requires-2-clause-may g c =
 pub returns : goal.returns
 returns g c =
     let l = c.loop-i in
-    walk_ends g.D.Source g.D.Device c.args.elf.now c.args.ground.kept c.args.ground.fill c.args.end
+    walk_ends g.D.Source g.D.Device c.args.old_end c.args.elf.now c.args.ground.kept c.args.ground.fill c.args.end
     (stored_pieces c.args.elf.now.o)
     c.args.plan.now c.args.changed.now c.requires.may c.write_gap-2.result l.elf c.write_gap-2.new.elf l.i l.from
     (omega (arith, c.loop-i-test.false)) c.requires.count l.invariant.put c.write_gap-2.ensures.puts

@@ -5,7 +5,7 @@ use Rattle.update_writes.proofs.walks.write_parts.Given as goal
 
 abbrev pub invariant-loop-i : goal.invariant-loop-i
 invariant-loop-i g l = record {
-  put : AreSoFar g.D.Source g.D.Device l.initial.elf l.elf l.ground.kept l.ground.fill l.end
+  put : AreSoFar g.D.Source g.D.Device l.old_end l.initial.elf l.elf l.ground.kept l.ground.fill l.end
       (stored_pieces l.initial.elf.o) l.plan l.changed l.i l.from;
   page : length l.page ≡ length l.initial.page;
 }
