@@ -14,7 +14,7 @@ use Rattle.command_objects.specs.BuiltHashes.{buckets_of, order_key, gnu_order_o
 use Rattle.command_objects.specs.Laws.{SortedAreBuilt}
 
 -- each number after the first has no smaller key than the one before
-abbrev Ascend : (ℕ → ℕ) → ℕ → ℕ → Type 0
+abbrev pub Ascend : (ℕ → ℕ) → ℕ → ℕ → Type 0
 Ascend key a m = (i : ℕ) → a < i → i < a + m → key (i - 1) ≤ key i
 
 -- ---- Sorted by a key
@@ -40,7 +40,7 @@ module _ (key : ℕ → ℕ) where
       by true rest = All-cons P x (y ∷ l) here each
       by false rest = All-cons P y (inserted_by key x l) (All-head P y l each) rest
 
-  sorted_from : (a least m : ℕ) → least ≤ a → All (λ x. least ≤ x) (sorted_by key (range_with_len a m))
+  pub sorted_from : (a least m : ℕ) → least ≤ a → All (λ x. least ≤ x) (sorted_by key (range_with_len a m))
   sorted_from a least zero below = All-nil (λ x. least ≤ x)
   sorted_from a least (suc m) below =
       inserted_all (λ x. least ≤ x) a (sorted_by key (range_with_len (a + 1) m)) below (sorted_from (a + 1) least m (omega arith))
@@ -111,10 +111,10 @@ out_of_order (Some b) (Some c) = ⊎_elim
     (λ (h : b ≤ c). le-ltb c b h ∙ sym (le-ltb (c + 1) (b + 1) (omega arith)))
     (cases_lt c b)
 
-abbrev key_of : List (Option ℕ) → ℕ → ℕ
+abbrev pub key_of : List (Option ℕ) → ℕ → ℕ
 key_of buckets i = order_key (get_or buckets i None)
 
-ascends : (buckets : List (Option ℕ)) → first_unsorted buckets ≡ None → Ascend (key_of buckets) 0 (length buckets)
+pub ascends : (buckets : List (Option ℕ)) → first_unsorted buckets ≡ None → Ascend (key_of buckets) 0 (length buckets)
 unfolding first_unsorted
 ascends buckets e i from below =
     let none = none_passes (λ j. is_unsorted_after (get_or buckets (j - 1) None) (get_or buckets j None)) 1 (length buckets - 1) e i from (omega arith) in

@@ -99,7 +99,7 @@ twice_bit word once twice b c i first second = by (cases_eq i b) (cases_eq i c)
         ∙ sym (at false false (ne_eqb b i (λ e. another (sym e)))
         (ne_eqb c i (λ e. other (sym e))))
 
-bits_some : (class : Class) → 0 < bloom_bits class
+pub bits_some : (class : Class) → 0 < bloom_bits class
 bits_some C32 = omega arith
 bits_some C64 = omega arith
 

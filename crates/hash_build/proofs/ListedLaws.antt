@@ -103,7 +103,7 @@ names_long o s =
     ∙ length-enumerate_from 0 (syms_of (items_at o s 0))
 
 module _ (o : Object) (s i : ℕ) where
-  name_at : (x : Sym) → slice_get (syms_of (items_at o s 0)) i ≡ Some x
+  pub name_at : (x : Sym) → slice_get (syms_of (items_at o s 0)) i ≡ Some x
       → get_or (listed_names o s) i None ≡ listed_name o s i x
   unfolding listed_names
   name_at x there =

@@ -348,7 +348,7 @@ begins_with : (key : ℕ → ℕ) (n : ℕ) → key 0 ≡ 0
 begins_with key zero least = refl
 begins_with key (suc n) least = first_kept key 0 (sorted_by key (range_with_len 1 n)) least
 
-whole_order : (key : ℕ → ℕ) (n : ℕ) → key 0 ≡ 0 → IsOrder (sorted_by key (range_with_len 0 n)) n
+pub whole_order : (key : ℕ → ℕ) (n : ℕ) → key 0 ≡ 0 → IsOrder (sorted_by key (range_with_len 0 n)) n
 whole_order key n least =
     let long : length (sorted_by key (range_with_len 0 n)) ≡ n =
     length-sorted_by key (range_with_len 0 n) ∙ length-range_with_len 0 n in

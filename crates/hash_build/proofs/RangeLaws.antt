@@ -106,11 +106,11 @@ module _ (buckets : List (Option ℕ)) where
   unfoldable pub first_at : ℕ → ℕ → ℕ → ℕ
   first_at bucket low m = get_or (filter (is_here bucket) (range_with_len low m)) 0 0
 
-  first_none : (bucket low : ℕ) → first_at bucket low 0 ≡ 0
+  pub first_none : (bucket low : ℕ) → first_at bucket low 0 ≡ 0
   unfolding first_at
   first_none bucket low = refl
 
-  first_step : (bucket low m : ℕ)
+  pub first_step : (bucket low m : ℕ)
       → first_at bucket low (suc m) ≡ cond (is_here bucket low) low (first_at bucket (low + 1) m)
   unfolding first_at
   first_step bucket low m = by (is_here bucket low)
@@ -122,7 +122,7 @@ module _ (buckets : List (Option ℕ)) where
       by true = refl
       by false = refl
 
-  first_all : (bucket : ℕ) → first_at bucket 0 (length buckets) ≡ first_in buckets bucket
+  pub first_all : (bucket : ℕ) → first_at bucket 0 (length buckets) ≡ first_in buckets bucket
   unfolding first_at in_bucket
   first_all bucket = refl
 
@@ -140,7 +140,7 @@ module _ (buckets : List (Option ℕ)) where
   unfolding next_in
   next_none i is = ap (next_by i) is
 
-  next_some : (i bucket m : ℕ) → get_or buckets i None ≡ Some bucket
+  pub next_some : (i bucket m : ℕ) → get_or buckets i None ≡ Some bucket
       → suc i + m ≡ length buckets → next_in buckets i ≡ first_at bucket (suc i) m
   unfolding next_in in_bucket first_at
   next_some i bucket m is whole =

@@ -151,7 +151,7 @@ module _ (h : GnuHash) (count : ℕ) where
       (λ w is marked. let here = none i (omega arith) in cc)
       (λ w is marked. ends_more (i, w) (gnu_chain h count n (i + 1)) ∙ never_ends n (i + 1) (λ j le. none j (omega arith)))
 
-  does_end : (n i j : ℕ) → h.symoffset ≤ i → i ≤ j → j < i + n → is_marked h count j ≡ true → ends (gnu_chain h count n i) ≡ true
+  pub does_end : (n i j : ℕ) → h.symoffset ≤ i → i ≤ j → j < i + n → is_marked h count j ≡ true → ends (gnu_chain h count n i) ≡ true
   unfolding gnu_chain
   does_end zero i j from le lt marked = absurd (omega arith)
   does_end (suc n) i j from le lt marked = by_first n i (λ c. ends c ≡ true)
@@ -234,7 +234,7 @@ module _ (h : GnuHash) (count : ℕ) where
     here_more w None none end = cc
     here_more w (Some rows) none end = at_first w (list_any (λ (row : ℕ × ℕ). row.0 == i && row.1 / 2 == hash / 2) rows) none
 
-    reached : (n first : ℕ) → first ≤ i → ((j : ℕ) → first ≤ j → j < i → is_marked h count j ≡ false) → ends (gnu_chain h count n first) ≡ true
+    pub reached : (n first : ℕ) → first ≤ i → ((j : ℕ) → first ≤ j → j < i → is_marked h count j ≡ false) → ends (gnu_chain h count n first) ≡ true
         → is_on_with i hash (gnu_chain h count n first) ≡ has_hash (gnu_word h count i) hash
     unfolding gnu_chain
     reached zero first le free end = cc

@@ -79,7 +79,7 @@ position_none {X} p xs is i d below = by_place (cases_lt (position_or_len p xs) 
 
 -- ---- Names
 
-named : (name : List ℕ) (found : Option (List ℕ)) → is_name name found ≡ true → found ≡ Some name
+pub named : (name : List ℕ) (found : Option (List ℕ)) → is_name name found ≡ true → found ≡ Some name
 named name None is = cc
 named name (Some other) is = ap Some ((bytes_eq-Decides other name).0 is)
 
