@@ -1,0 +1,14 @@
+pub mod NameLaws
+pub mod KeptLaws
+pub mod SectionLaws
+pub mod ArrangedLaws
+pub mod RebuiltLaws
+pub mod FollowedLaws
+pub mod WritableLaws
+pub mod HeaderBytes
+pub mod PlaceLaws
+pub mod MadeObject
+pub mod MadeSections
+pub mod MadeFront
+pub mod LoadedParts
+pub mod LoadedLaws
