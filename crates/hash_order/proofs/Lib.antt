@@ -1,0 +1,12 @@
+pub mod IndexLaws
+pub mod MovingLaws
+pub mod CheckLaws
+pub mod ReadLaws
+pub mod DataLaws
+pub mod FollowLaws
+pub mod ItemLaws
+pub mod StoreLaws
+pub mod OrderLaws
+pub mod PlanLaws
+pub mod StoringLaws
+pub mod EndLaws
