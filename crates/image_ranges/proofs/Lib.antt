@@ -1,0 +1,4 @@
+pub mod RangeLaws
+pub mod WalkLaws
+pub mod ImageLaws
+pub mod CheckLaws

@@ -1,0 +1,260 @@
+-- Ranges of bytes as the pieces of parts.
+use Rattle.std.proofs.Common.{◌≡◌, ℕ, zero, suc, ◌+◌, ◌<◌, ◌≤◌, Bool, true, false, List, [], ◌∷◌, length, take, drop, get_or, Option, Some, None, Result, Ok, Err, refl, sym, ap, ◌∙◌, subst, arith, length-take, length-drop}
+use Rattle.std.specs.Prelude.{if◌then◌else◌, ◌==◌, OnOk}
+use Rattle.elf_types.specs.declared.errors.ElfError.{ElfError}
+use Rattle.elf_types.specs.declared.records.Part.{Part}
+use Rattle.elf_outside.specs.declared.sources.Source.{Ghosts}
+use Rattle.elf_outside.proofs.RangeLemmas.{take-drop-range}
+use Rattle.writing_laws.specs.Plan.{places_below}
+use Rattle.elf_descriptor.specs.State.{State}
+use Rattle.elf_update.specs.declared.parts.Origin.{Origin}
+use Rattle.elf_update.specs.declared.parts.Origin.TheVariants.{Piece, Base}
+use Rattle.elf_update.specs.declared.parts.PieceExtent.{PieceExtent}
+use Rattle.elf_update.specs.Origins.{absent_piece, origin_bytes, origin_due, ReadyFor, IsExtent, CopiesBy}
+use Rattle.elf_update.specs.Descriptors.{kept_of_elf, faults_of, taken_of}
+use Rattle.elf_update.proofs.CopyLaws.{base_bytes}
+use Rattle.elf_update.proofs.DescriptorLaws.{one_within, one_copied, one_extent, none_within}
+use Rattle.image_ranges.specs.declared.ranges.ByteRange.{ByteRange}
+use Rattle.image_ranges.specs.declared.parts.RangedParts.{RangedParts}
+use Rattle.image_ranges.specs.Ranges.{bytes_under, range_bytes, IsInside, range_due, range_at, pieces_at, LiesInside, due_at, piece_due, KeptRanges, kept_of_parts, ranged_pieces, ranged_base, ranged_due, AreInside, parts_faults, parts_taken}
+
+-- ---- A range
+
+module _ (held base : List ℕ) (range : ByteRange) where
+  pub under_held : range.held ≡ true → bytes_under held base range ≡ held
+  under_held is = ap (λ (b : Bool). if b then held else base) is
+
+  pub under_base : range.held ≡ false → bytes_under held base range ≡ base
+  under_base is = ap (λ (b : Bool). if b then held else base) is
+
+  -- a range of it lies in the bytes that it is one of
+  pub part_inside : (bytes : List ℕ) (from n : ℕ) → bytes_under held base range ≡ bytes
+      → IsInside held base range → from + n ≤ range.len → range.at + from + n ≤ length bytes
+  part_inside bytes from n under inside there =
+      let long = ap (λ (l : List ℕ). length l) under in omega (arith, long, inside, there)
+
+  pub part_copied : (bytes : List ℕ) (from n : ℕ) (out : List ℕ) → bytes_under held base range ≡ bytes
+      → from + n ≤ range.len → out ≡ take n (drop (range.at + from) bytes)
+      → out ≡ take n (drop from (range_bytes held base range))
+  part_copied bytes from n out under there put =
+      put ∙ ap (λ (l : List ℕ). take n (drop (range.at + from) l)) (sym under)
+      ∙ sym (take-drop-range (bytes_under held base range) range.at range.len from n there)
+
+  pub range_long : IsInside held base range → length (range_bytes held base range) ≡ range.len
+  range_long inside =
+      let part = length-take range.len (drop range.at (bytes_under held base range)) in
+      let rest = length-drop range.at (bytes_under held base range) in
+      omega (arith, part, rest, inside)
+
+pub base_copied : {T : Type 0} (held base : List ℕ) (range : ByteRange) (r : Result T ElfError)
+    (from n : ℕ) (out : List ℕ) (told : Type 0) → range.held ≡ false → from + n ≤ range.len
+    → (told → OnOk r (out ≡ take n (drop (range.at + from) base)))
+    → told → OnOk r (out ≡ take n (drop from (range_bytes held base range)))
+base_copied held base range (Ok x) from n out told is there put known =
+    part_copied held base range base from n out (under_base held base range is) there (put known)
+base_copied held base range (Err e) from n out told is there put known = tt
+
+pub base_due : (range : ByteRange) (n : ℕ) → range.held ≡ false → n ≤ (if range.held then 0 else n)
+base_due range n is =
+    subst (λ (b : Bool). n ≤ (if b then 0 else n)) (sym is) (let all : n ≤ n = omega arith in all)
+
+-- ---- A piece of a part, of which this is the range
+
+first_is : (bytes : List ℕ) (p from n : ℕ) → 0 < n
+    → from + n ≤ length (get_or ((1, bytes) ∷ []) p absent_piece).1 → p ≡ 0
+first_is bytes zero from n some there = refl
+first_is bytes (suc p) from n some there = absurd (omega (arith, some, there))
+
+module _ (held base : List ℕ) (o : Option ByteRange) (range : ByteRange) (is : o ≡ Some range) where
+  pub inside_is : LiesInside held base o → IsInside held base range
+  inside_is inside = subst (λ (x : Option ByteRange). LiesInside held base x) is inside
+
+  module _ (p from n : ℕ) (some : 0 < n)
+      (there : from + n ≤ length (get_or (pieces_at held base o) p absent_piece).1) where
+    in_first : from + n ≤ length (get_or ((1, range_bytes held base range) ∷ []) p absent_piece).1
+    in_first =
+        subst (λ (x : Option ByteRange). from + n ≤ length (get_or (pieces_at held base x) p absent_piece).1)
+        is there
+
+    pub piece_within : from + n ≤ range.len
+    piece_within =
+        let all = one_within (range_bytes held base range) p from n some in_first in
+        let long = length-take range.len (drop range.at (bytes_under held base range)) in
+        omega (arith, all, long)
+
+    pub piece_copied : {T : Type 0} (r : Result T ElfError) (out : List ℕ) (told : Type 0)
+        → (told → OnOk r (out ≡ take n (drop from (range_bytes held base range))))
+        → told → OnOk r (out ≡ take n (drop from (get_or (pieces_at held base o) p absent_piece).1))
+    piece_copied (Err e) out told put known = tt
+    piece_copied (Ok x) out told put known =
+        subst (λ (x : Option ByteRange).
+        out ≡ take n (drop from (get_or (pieces_at held base x) p absent_piece).1)) (sym is)
+        (one_copied (range_bytes held base range) p from n out some in_first (put known))
+
+    pub piece_asked : (if range.held then 0 else n) ≤ piece_due o p from (from + n)
+    piece_asked =
+        let first = first_is (range_bytes held base range) p from n some in_first in
+        let due : (if p == 0 then due_at o else 0) ≡ range_due range =
+        ap (λ (q : ℕ). if q == 0 then due_at o else 0) first ∙ ap due_at is in
+        let within = piece_within in
+        subst (λ (m : ℕ). (if range.held then 0 else n) ≤ places_below m from (from + n)) (sym due)
+        (by_held range.held)
+      where
+        by_held : (b : Bool) → (if b then 0 else n) ≤ places_below (if b then 0 else range.len) from (from + n)
+        by_held true = omega arith
+        by_held false = let within = piece_within in omega (arith, within)
+
+pub pieces_count : (held base : List ℕ) (o : Option ByteRange) (range : ByteRange) → o ≡ Some range
+    → 1 ≡ length (pieces_at held base o)
+pieces_count held base o range is = sym (ap (λ (x : Option ByteRange). length (pieces_at held base x)) is)
+
+pub no_pieces : (held base : List ℕ) (o : Option ByteRange) → o ≡ None
+    → 0 ≡ length (pieces_at held base o)
+no_pieces held base o is = sym (ap (λ (x : Option ByteRange). length (pieces_at held base x)) is)
+
+pub piece_extent : (held base : List ℕ) (o : Option ByteRange) (range : ByteRange) (p : ℕ)
+    (extent : PieceExtent) → o ≡ Some range → extent.align ≡ 1 → extent.len ≡ range.len
+    → LiesInside held base o → p < length (pieces_at held base o)
+    → IsExtent extent (get_or (pieces_at held base o) p absent_piece)
+piece_extent held base o range p extent is align len inside there =
+    let first = subst (λ (x : Option ByteRange). p < length (pieces_at held base x)) is there in
+    let long = range_long held base range (inside_is held base o range is inside) in
+    subst (λ (x : Option ByteRange). IsExtent extent (get_or (pieces_at held base x) p absent_piece))
+    (sym is)
+    (one_extent (range_bytes held base range) p extent first align (len ∙ sym long))
+
+pub no_piece : (held base : List ℕ) (o : Option ByteRange) (p : ℕ) → o ≡ None
+    → p < length (pieces_at held base o) → ⊥
+no_piece held base o p is there =
+    let none = subst (λ (x : Option ByteRange). p < length (pieces_at held base x)) is there in
+    absurd (omega (arith, none))
+
+pub none_there : (held base : List ℕ) (o : Option ByteRange) (p from n : ℕ) → o ≡ None → 0 < n
+    → from + n ≤ length (get_or (pieces_at held base o) p absent_piece).1 → ⊥
+none_there held base o p from n is some there =
+    none_within p from n some
+    (subst (λ (x : Option ByteRange). from + n ≤ length (get_or (pieces_at held base x) p absent_piece).1)
+    is there)
+
+-- ---- A part
+
+pub part_count : (k : KeptRanges) (of : Part) (o : Option ByteRange) (n : ℕ)
+    → o ≡ range_at k.ranges of
+    → ((held base : List ℕ) → n ≡ length (pieces_at held base o))
+    → n ≡ length (ranged_pieces k of)
+part_count k of o n range count =
+    count k.held k.elf.o.base
+    ∙ ap (λ (x : Option ByteRange). length (pieces_at k.held k.elf.o.base x)) range
+
+pub part_extent : (k : KeptRanges) (of : Part) (o : Option ByteRange) (p : ℕ) (extent : PieceExtent)
+    → o ≡ range_at k.ranges of → AreInside k → p < length (ranged_pieces k of)
+    → ((held base : List ℕ) (i : ℕ) → LiesInside held base o → i < length (pieces_at held base o)
+    → IsExtent extent (get_or (pieces_at held base o) i absent_piece))
+    → IsExtent extent (get_or (ranged_pieces k of) p absent_piece)
+part_extent k of o p extent range inside there is =
+    subst (λ (x : Option ByteRange).
+    IsExtent extent (get_or (pieces_at k.held k.elf.o.base x) p absent_piece)) range
+    (is k.held k.elf.o.base p
+    (subst (λ (x : Option ByteRange). LiesInside k.held k.elf.o.base x) (sym range) (inside of))
+    (subst (λ (x : Option ByteRange). p < length (pieces_at k.held k.elf.o.base x)) (sym range) there))
+
+-- ---- Where bytes come from
+
+module _ (k : KeptRanges) (of : Origin) (part : Part) (p : ℕ) (o : Option ByteRange)
+    (is : of ≡ Piece part p) (range : o ≡ range_at k.ranges part) where
+  pub origin_inside : ReadyFor (AreInside k) of → LiesInside k.held k.elf.o.base o
+  origin_inside ready =
+      let all : AreInside k = subst (λ (x : Origin). ReadyFor (AreInside k) x) is ready in
+      subst (λ (x : Option ByteRange). LiesInside k.held k.elf.o.base x) (sym range) (all part)
+
+  pub origin_within : (n : ℕ) → n ≤ length (origin_bytes (ranged_pieces k) (ranged_base k) of)
+      → n ≤ length (get_or (pieces_at k.held k.elf.o.base o) p absent_piece).1
+  origin_within n there =
+      subst (λ (x : Option ByteRange). n ≤ length (get_or (pieces_at k.held k.elf.o.base x) p absent_piece).1)
+      (sym range)
+      (subst (λ (x : Origin). n ≤ length (origin_bytes (ranged_pieces k) (ranged_base k) x)) is there)
+
+  pub origin_copied : {T : Type 0} (r : Result T ElfError) (from n : ℕ) (out : List ℕ) (told : Type 0)
+      → (told → OnOk r (out ≡ take n (drop from (get_or (pieces_at k.held k.elf.o.base o) p absent_piece).1)))
+      → told → OnOk r (out ≡ take n (drop from (origin_bytes (ranged_pieces k) (ranged_base k) of)))
+  origin_copied r from n out told put known =
+      subst (λ (x : Origin).
+      OnOk r (out ≡ take n (drop from (origin_bytes (ranged_pieces k) (ranged_base k) x)))) (sym is)
+      (subst (λ (x : Option ByteRange).
+      OnOk r (out ≡ take n (drop from (get_or (pieces_at k.held k.elf.o.base x) p absent_piece).1)))
+      range (put known))
+
+  pub origin_asked : (from to : ℕ) → piece_due o p from to
+      ≡ places_below (origin_due (ranged_due k) (length (ranged_base k)) of) from to
+  origin_asked from to =
+      ap (λ (x : Option ByteRange). piece_due x p from to) range
+      ∙ sym (ap (λ (x : Origin).
+      places_below (origin_due (ranged_due k) (length (ranged_base k)) x) from to) is)
+
+module _ (k : KeptRanges) (of : Origin) (is : of ≡ Base) where
+  pub between_within : (n : ℕ) → n ≤ length (origin_bytes (ranged_pieces k) (ranged_base k) of)
+      → n ≤ length (ranged_base k)
+  between_within n there =
+      subst (λ (x : Origin). n ≤ length (origin_bytes (ranged_pieces k) (ranged_base k) x)) is there
+
+  pub between_in_base : (n : ℕ) → n ≤ length (origin_bytes (ranged_pieces k) (ranged_base k) of)
+      → n ≤ length k.elf.o.base
+  between_in_base n there =
+      let within = between_within n there in
+      let long = length-take k.kept k.elf.o.base in
+      omega (arith, within, long)
+
+  pub between_copied : {T : Type 0} (r : Result T ElfError) (from n : ℕ) (out : List ℕ) (told : Type 0)
+      → from + n ≤ length (origin_bytes (ranged_pieces k) (ranged_base k) of)
+      → (told → OnOk r (out ≡ take n (drop from k.elf.o.base)))
+      → told → OnOk r (out ≡ take n (drop from (origin_bytes (ranged_pieces k) (ranged_base k) of)))
+  between_copied (Err e) from n out told there put known = tt
+  between_copied (Ok y) from n out told there put known =
+      let within = between_within (from + n) there in
+      let long = length-take k.kept k.elf.o.base in
+      let place : 0 + from ≡ from = omega arith in
+      let same : take n (drop from (ranged_base k)) ≡ take n (drop from k.elf.o.base) =
+      take-drop-range k.elf.o.base 0 k.kept from n (omega (arith, within, long))
+      ∙ ap (λ (m : ℕ). take n (drop m k.elf.o.base)) place in
+      subst (λ (x : Origin).
+      out ≡ take n (drop from (origin_bytes (ranged_pieces k) (ranged_base k) x))) (sym is)
+      (put known ∙ sym same)
+
+  pub between_asked : (from n : ℕ) → from + n ≤ length (origin_bytes (ranged_pieces k) (ranged_base k) of)
+      → n ≤ places_below (origin_due (ranged_due k) (length (ranged_base k)) of) from (from + n)
+  between_asked from n there =
+      subst (λ (x : Origin).
+      n ≤ places_below (origin_due (ranged_due k) (length (ranged_base k)) x) from (from + n)) (sym is)
+      (base_bytes n from (length (ranged_base k)) (between_within (from + n) there))
+
+-- ---- Copies
+
+pub copies_more : {S T : Type 0} (g : Ghosts S) (r : Result T ElfError) (old new : State S)
+    (n m : ℕ) → n ≤ m → CopiesBy (kept_of_elf g) (faults_of g) (taken_of g) r old new n
+    → CopiesBy (kept_of_elf g) (faults_of g) (taken_of g) r old new m
+copies_more g r old new n m more copies =
+    let no_more = copies.asks.no_more in
+    record {
+      leaves = copies.leaves;
+      later = copies.later;
+      read = copies.read;
+      asks = record { later = copies.asks.later; no_more = omega (arith, no_more, more) };
+    }
+
+-- a copy by the descriptor is one by the parts
+
+pub copies_by_parts : {S T : Type 0} (g : Ghosts S) (r : Result T ElfError) (old new : RangedParts S)
+    (n m : ℕ) → n ≡ m → new ≡ record old { elf = new.elf }
+    → CopiesBy (kept_of_elf g) (faults_of g) (taken_of g) r old.elf new.elf n
+    → CopiesBy (kept_of_parts g) (parts_faults g) (parts_taken g) r old new m
+copies_by_parts {S} g r old new n m same stays copies = record {
+  leaves = ap (λ (x : RangedParts S). kept_of_parts g x) stays
+      ∙ ap (λ x. record (kept_of_parts g old) { elf = x }) copies.leaves;
+  later = copies.later;
+  read = copies.read;
+  asks = record {
+    later = copies.asks.later;
+    no_more = subst (λ (k : ℕ). g.taken new.elf.source ≤ g.taken old.elf.source + k) same
+        copies.asks.no_more;
+  };
+}

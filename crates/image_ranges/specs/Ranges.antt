@@ -1,0 +1,88 @@
+-- The parts of an image as ranges of bytes: of those that are held, or of the base of a descriptor.
+use Rattle.std.specs.Prelude.{ℕ, ◌+◌, ◌≤◌, ◌==◌, List, [], ◌∷◌, length, take, drop, slice_get, Option, Some, None, IfSome, if◌then◌else◌}
+use Rattle.elf_types.specs.declared.records.Part.{Part}
+use Rattle.elf_types.specs.declared.records.Part.TheVariants as part
+use Rattle.elf_outside.specs.declared.sources.Source.{Ghosts}
+use Rattle.writing_laws.specs.Plan.{places_below}
+use Rattle.elf_update.specs.Descriptors.{KeptElf, kept_of_elf}
+use Rattle.image_ranges.specs.declared.ranges.ByteRange.{ByteRange}
+use Rattle.image_ranges.specs.declared.ranges.PartRanges.{PartRanges}
+use Rattle.image_ranges.specs.declared.parts.RangedParts.{RangedParts}
+
+-- ---- One range
+
+-- the bytes that it is a range of
+abbrev pub bytes_under : List ℕ → List ℕ → ByteRange → List ℕ
+bytes_under held base range = if range.held then held else base
+
+abbrev pub range_bytes : List ℕ → List ℕ → ByteRange → List ℕ
+range_bytes held base range = take range.len (drop range.at (bytes_under held base range))
+
+abbrev pub IsInside : List ℕ → List ℕ → ByteRange → Type 0
+IsInside held base range = range.at + range.len ≤ length (bytes_under held base range)
+
+-- how many of its bytes are read from a source
+abbrev pub range_due : ByteRange → ℕ
+range_due range = if range.held then 0 else range.len
+
+-- ---- The range of a part, where it has one
+
+abbrev pub range_at : PartRanges → Part → Option ByteRange
+range_at ranges part.Header = Some ranges.header
+range_at ranges part.Segments = Some ranges.segments
+range_at ranges part.Table = Some ranges.table
+range_at ranges (part.Section s) = slice_get ranges.sections s
+range_at ranges _ = None
+
+-- its bytes are one piece of the part
+abbrev pub pieces_at : List ℕ → List ℕ → Option ByteRange → List (ℕ × List ℕ)
+pieces_at held base None = []
+pieces_at held base (Some range) = (1, range_bytes held base range) ∷ []
+
+abbrev pub LiesInside : List ℕ → List ℕ → Option ByteRange → Type 0
+LiesInside held base range = IfSome range (IsInside held base)
+
+abbrev pub due_at : Option ByteRange → ℕ
+due_at None = 0
+due_at (Some range) = range_due range
+
+-- what a piece of the part is due from one place to another
+abbrev pub piece_due : Option ByteRange → ℕ → ℕ → ℕ → ℕ
+piece_due range p from to = places_below (if p == 0 then due_at range else 0) from to
+
+-- ---- Those of all parts
+
+-- all of the parts but what reading their source changes
+pub record KeptRanges : Type 0 where
+  pub elf : KeptElf
+  pub held : List ℕ
+  pub ranges : PartRanges
+  pub kept : ℕ
+
+abbrev pub kept_of_parts : {S : Type 0} → Ghosts S → RangedParts S → KeptRanges
+kept_of_parts g parts = record {
+  elf = kept_of_elf g parts.elf;
+  held = parts.held;
+  ranges = parts.ranges;
+  kept = parts.kept;
+}
+
+abbrev pub ranged_pieces : KeptRanges → Part → List (ℕ × List ℕ)
+ranged_pieces k of = pieces_at k.held k.elf.o.base (range_at k.ranges of)
+
+-- what stands between the parts
+abbrev pub ranged_base : KeptRanges → List ℕ
+ranged_base k = take k.kept k.elf.o.base
+
+abbrev pub ranged_due : KeptRanges → Part → ℕ
+ranged_due k of = due_at (range_at k.ranges of)
+
+-- each range lies in the bytes that it is one of
+abbrev pub AreInside : KeptRanges → Type 0
+AreInside k = (of : Part) → LiesInside k.held k.elf.o.base (range_at k.ranges of)
+
+abbrev pub parts_faults : {S : Type 0} → Ghosts S → RangedParts S → ℕ
+parts_faults g parts = g.faults parts.elf.source
+
+abbrev pub parts_taken : {S : Type 0} → Ghosts S → RangedParts S → ℕ
+parts_taken g parts = g.taken parts.elf.source

@@ -1,0 +1,115 @@
+//! Whether an image can be written.
+
+ghost use Rattle.std.specs.Prelude.{◌≡◌, ◌+◌, ◌≤◌, true, All, IfSome};
+ghost use Rattle.image_ranges.specs.Images.{IsReadyImage, StandsAfter, ArePlanned};
+ghost use Rattle.image_ranges.specs.Ranges.{IsInside, AreInside, kept_of_parts};
+
+use crate::images::RangedImage;
+use crate::parts::RangedParts;
+use crate::ranges::{ByteRange, range_at};
+use elf_layout::PartAt;
+use elf_outside::Source;
+
+/// Whether a range ends within so many bytes.
+fn ends_within(range: ByteRange, len: u64) -> bool
+    ensures { result ≡ true → range.at + range.len ≤ len }
+{
+    range.at <= len && range.len <= len - range.at
+}
+
+/// Whether a range lies in the bytes that it is one of.
+fn is_inside<S: Source>(parts: &RangedParts<S>, range: ByteRange) -> bool
+    ensures { result ≡ true → IsInside parts.now.held parts.now.elf.o.base range }
+{
+    if range.held {
+        return ends_within(range, parts.held.len());
+    }
+    ends_within(range, parts.elf.base_len())
+}
+
+/// Whether those of the sections do.
+fn are_sections_inside<S: Source>(parts: &RangedParts<S>) -> bool
+    ensures { result ≡ true
+        → All (IsInside parts.now.held parts.now.elf.o.base) parts.now.ranges.sections }
+{
+    for range in parts.ranges.sections.as_slice() {
+        if !is_inside(parts, *range) {
+            return false;
+        }
+    }
+    true
+}
+
+/// Whether those of all parts do.
+fn are_inside<S: Source>(parts: &RangedParts<S>) -> bool
+    ensures { result ≡ true → AreInside (kept_of_parts S.Source parts.now) }
+{
+    let header = is_inside(parts, parts.ranges.header);
+    let segments = is_inside(parts, parts.ranges.segments);
+    let table = is_inside(parts, parts.ranges.table);
+    if !header {
+        return false;
+    }
+    if !segments {
+        return false;
+    }
+    if !table {
+        return false;
+    }
+    are_sections_inside(parts)
+}
+
+/// The end of a part that stands behind the end so far and is as long as its range; None of any
+/// other one.
+fn end_behind<S: Source>(parts: &RangedParts<S>, part: PartAt, end: u64) -> Option<u64>
+    requires { AreInside (kept_of_parts S.Source parts.now) }
+    ensures { IfSome result (StandsAfter (kept_of_parts S.Source parts.now) part end) }
+{
+    match range_at(&parts.ranges, part.part) {
+        Some(range) => {
+            if range.len != part.len {
+                return None;
+            }
+            if part.at < end {
+                return None;
+            }
+            part.at.checked_add(part.len)
+        }
+        None => None,
+    }
+}
+
+/// Whether the parts of a plan, each as long as its range, stand one behind the other before an
+/// end.
+fn are_planned<S: Source>(parts: &RangedParts<S>, plan: &[PartAt], end: u64) -> bool
+    requires { AreInside (kept_of_parts S.Source parts.now) }
+    ensures { result ≡ true → ArePlanned (kept_of_parts S.Source parts.now) plan.now end }
+{
+    let mut from = 0;
+    for part in plan {
+        match end_behind(parts, *part, from) {
+            Some(after) => from = after,
+            None => return false,
+        }
+    }
+    from <= end
+}
+
+impl<S: Source> RangedImage<S> {
+    /// Whether the image can be written: where it says so, each range lies in the bytes that it is
+    /// one of, and the parts of the plan stand one behind the other. It looks at each range and at
+    /// each part once, reads nothing and takes no memory.
+    pub fn is_ready(&self) -> bool
+        ensures { result ≡ true → IsReadyImage (kept_of_parts S.Source self.now.parts) self.now.plan
+            self.now.end }
+    {
+        if !are_inside(&self.parts) {
+            return false;
+        }
+        let len = self.parts.elf.base_len();
+        if self.parts.kept > len {
+            return false;
+        }
+        are_planned(&self.parts, self.plan.as_slice(), self.end)
+    }
+}

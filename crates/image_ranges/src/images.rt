@@ -1,0 +1,57 @@
+//! The image whose parts are ranges of bytes.
+
+ghost use Rattle.std.specs.Prelude.{Some, None, if◌then◌else◌};
+ghost use Rattle.image_ranges.specs.Images.{IsReadyImage, ranged_text, ranged_asks};
+ghost use Rattle.image_ranges.specs.Ranges.{kept_of_parts};
+
+use crate::parts::RangedParts;
+use elf_layout::Parts;
+use elf_outside::{Sink, Source};
+use elf_types::ElfError;
+use elf_update::{Ground, Page, put_image};
+use object_files::Image;
+
+/// An image whose parts are copied, and what is needed to write it in one go.
+#[derive(Drop)]
+pub struct RangedImage<S: Source> {
+    /// Its parts.
+    pub parts: RangedParts<S>,
+    /// Where they stand: those that are not empty, by their places.
+    pub plan: Parts,
+    /// Its length in bytes.
+    pub end: u64,
+}
+
+/// The image is written page by page: of its source each byte of a range of the base is asked for
+/// once, and of the base between the parts each that stands there.
+impl<S: Source> Image for RangedImage<S> {
+    type From = S;
+
+    ghost ready = { λ i. IsReadyImage (kept_of_parts S.Source i.parts) i.plan i.end };
+
+    ghost bytes = { λ i. if i.parts.elf.told
+        then Some (ranged_text (kept_of_parts S.Source i.parts) i.plan i.end) else None };
+
+    ghost source = { λ i. i.parts.elf.source };
+
+    ghost due = { λ i. ranged_asks (kept_of_parts S.Source i.parts) i.plan i.end };
+
+    fn put_to<K: Sink>(&mut self, sink: &mut K) -> Result<(), ElfError> {
+        let mut page = match Page::new(self.parts.elf.alloc()) {
+            Ok(page) => page,
+            Err(e) => return Err(e),
+        };
+        let ground = Ground {
+            kept: self.parts.kept,
+            fill: 0,
+        };
+        put_image(
+            &mut self.parts,
+            &mut page,
+            sink,
+            self.plan.as_slice(),
+            ground,
+            self.end,
+        )
+    }
+}

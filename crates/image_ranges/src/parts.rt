@@ -1,0 +1,170 @@
+//! Ranges of bytes as the parts of an image.
+
+ghost use Rattle.std.specs.Prelude.{◌≡◌, ℕ, List, ◌<◌, ◌+◌, ◌^◌, ◌≤◌, IsTrue, length, take, drop, slice_index_or, if◌then◌else◌, IfErr, OnOk};
+ghost use Rattle.elf_update.specs.Origins.{absent_piece, CopiesBy, IsExtent};
+ghost use Rattle.elf_update.specs.Descriptors.{kept_of_elf, faults_of, taken_of};
+ghost use Rattle.image_ranges.specs.Ranges.{IsInside, LiesInside, range_bytes, pieces_at, piece_due};
+
+use crate::ranges::{ByteRange, PartRanges, copy_held, range_at};
+use elf_descriptor::Elf;
+use elf_outside::Source;
+use elf_types::{ElfError, Octets, Part};
+use elf_update::{ImageParts, Origin, PieceExtent};
+
+/// The parts of an image: each is one piece, a range of the bytes that are held or of the base of a
+/// descriptor. Between the parts stand the first bytes of that base.
+#[derive(Drop)]
+pub struct RangedParts<S: Source> {
+    /// The descriptor from whose base it is copied.
+    pub elf: Elf<S>,
+    /// The bytes that are held.
+    pub held: Octets,
+    /// The ranges of the parts.
+    pub ranges: PartRanges,
+    /// How many first bytes of the base stand between the parts.
+    pub kept: u64,
+}
+
+/// Copies bytes of a range from a place in it on into the whole of `buf`. It refuses `Read` alone
+/// and takes no memory.
+fn copy_range<S: Source>(
+    elf: &mut Elf<S>,
+    held: &Octets,
+    range: ByteRange,
+    from: u64,
+    buf: &mut [u8],
+) -> Result<(), ElfError>
+    requires inside { IsInside held.now elf.old.o.base range }
+    requires there { from + length buf.old ≤ range.len }
+    ensures bytes { IsTrue elf.old.told → OnOk result (buf.new ≡ take (length buf.old)
+        (drop from (range_bytes held.now elf.old.o.base range))) }
+    ensures copies { CopiesBy (kept_of_elf S.Source) (faults_of S.Source) (taken_of S.Source) result
+        elf.old elf.new (if range.held then 0 else length buf.old) }
+    ensures err { IfErr result (λ e. e ≡ ElfError.Read) }
+{
+    if range.held {
+        let _count = held.len();
+        let place = range.at + from;
+        copy_held(held.as_slice(), place, buf);
+        return Ok(());
+    }
+    let _len = elf.base_len();
+    let at = range.at + from;
+    elf.copy_base(at, buf)
+}
+
+/// Copies bytes of a piece of a part, of which this is the range, at least one, from a place in it
+/// on into the whole of `buf`. It refuses `Read` alone and takes no memory.
+fn copy_some<S: Source>(
+    elf: &mut Elf<S>,
+    held: &Octets,
+    range: Option<ByteRange>,
+    p: u32,
+    from: u64,
+    buf: &mut [u8],
+) -> Result<(), ElfError>
+    requires inside { LiesInside held.now elf.old.o.base range }
+    requires there { from + length buf.old
+        ≤ length (slice_index_or (pieces_at held.now elf.old.o.base range) p absent_piece).1 }
+    requires some { 0 < length buf.old }
+    ensures bytes { IsTrue elf.old.told → OnOk result (buf.new ≡ take (length buf.old) (drop from
+        (slice_index_or (pieces_at held.now elf.old.o.base range) p absent_piece).1)) }
+    ensures copies { CopiesBy (kept_of_elf S.Source) (faults_of S.Source) (taken_of S.Source) result
+        elf.old elf.new (piece_due range p from (from + length buf.old)) }
+    ensures err { IfErr result (λ e. e ≡ ElfError.Read) }
+{
+    match range {
+        Some(range) => copy_range(elf, held, range, from, buf),
+        None => Ok(()),
+    }
+}
+
+/// The same of any number of bytes.
+fn copy_piece<S: Source>(
+    elf: &mut Elf<S>,
+    held: &Octets,
+    range: Option<ByteRange>,
+    p: u32,
+    from: u64,
+    buf: &mut [u8],
+) -> Result<(), ElfError>
+    requires inside { LiesInside held.now elf.old.o.base range }
+    requires there { from + length buf.old
+        ≤ length (slice_index_or (pieces_at held.now elf.old.o.base range) p absent_piece).1 }
+    ensures bytes { IsTrue elf.old.told → OnOk result (buf.new ≡ take (length buf.old) (drop from
+        (slice_index_or (pieces_at held.now elf.old.o.base range) p absent_piece).1)) }
+    ensures copies { CopiesBy (kept_of_elf S.Source) (faults_of S.Source) (taken_of S.Source) result
+        elf.old elf.new (piece_due range p from (from + length buf.old)) }
+    ensures err { IfErr result (λ e. e ≡ ElfError.Read) }
+{
+    if buf.is_empty() {
+        return Ok(());
+    }
+    copy_some(elf, held, range, p, from, buf)
+}
+
+/// The number of pieces of a part, of which this is the range.
+fn count_pieces(range: Option<ByteRange>) -> u32
+    ensures { (held base : List ℕ) → result ≡ length (pieces_at held base range) }
+{
+    match range {
+        Some(_) => 1,
+        None => 0,
+    }
+}
+
+/// The alignment and the length of a piece that is there.
+fn extent_of(range: Option<ByteRange>) -> PieceExtent
+    ensures { (held base : List ℕ) (p : ℕ) → LiesInside held base range
+        → p < length (pieces_at held base range)
+        → IsExtent result (slice_index_or (pieces_at held base range) p absent_piece) }
+{
+    match range {
+        Some(range) => PieceExtent {
+            align: 1,
+            len: range.len,
+        },
+        None => PieceExtent { align: 1, len: 0 },
+    }
+}
+
+impl<S: Source> ImageParts for RangedParts<S> {
+    ghost use Rattle.std.specs.Prelude.{ℕ, List};
+    ghost use Rattle.image_ranges.specs.Ranges.{KeptRanges, AreInside, kept_of_parts, ranged_pieces, ranged_base, ranged_due, parts_faults, parts_taken};
+
+    ghost Kept = { KeptRanges };
+
+    ghost kept = { kept_of_parts S.Source };
+
+    ghost ready = { AreInside };
+
+    ghost told = { λ k. k.elf.told };
+
+    ghost pieces = { ranged_pieces };
+
+    ghost base = { ranged_base };
+
+    ghost due = { ranged_due };
+
+    ghost faults = { parts_faults S.Source };
+
+    ghost taken = { parts_taken S.Source };
+
+    fn piece_count(&self, part: Part) -> u32 {
+        count_pieces(range_at(&self.ranges, part))
+    }
+
+    fn piece(&self, part: Part, _p: u32) -> PieceExtent {
+        extent_of(range_at(&self.ranges, part))
+    }
+
+    fn copy(&mut self, of: Origin, from: u64, buf: &mut [u8]) -> Result<(), ElfError> {
+        match of {
+            Origin::Piece(part, p) => {
+                let range = range_at(&self.ranges, part);
+                copy_piece(&mut self.elf, &self.held, range, p, from, buf)
+            }
+            Origin::Base => self.elf.copy_base(from, buf),
+        }
+    }
+}

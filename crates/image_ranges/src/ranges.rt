@@ -1,0 +1,55 @@
+//! Where the bytes of an image's parts are.
+
+ghost use Rattle.std.specs.Prelude.{◌≡◌, ◌+◌, ◌≤◌, length, take, drop};
+ghost use Rattle.image_ranges.specs.Ranges.{range_at};
+
+use elf_types::{List, Part};
+
+/// A range of bytes: of those that are held, or of the base.
+#[derive(Clone, Copy, Debug, PartialEq, Eq)]
+pub struct ByteRange {
+    /// Whether it is a range of the bytes that are held, and not of the base.
+    pub held: bool,
+    /// The place of its first byte among them.
+    pub at: u64,
+    /// The number of its bytes.
+    pub len: u64,
+}
+
+/// The ranges of the parts of an image.
+#[derive(Drop)]
+pub struct PartRanges {
+    /// That of the ELF header.
+    pub header: ByteRange,
+    /// That of the program header table.
+    pub segments: ByteRange,
+    /// That of the section header table.
+    pub table: ByteRange,
+    /// Those of the sections, by number from 0 on.
+    pub sections: List<ByteRange>,
+}
+
+/// The range of a part; None of a section that has none, of the object and of a piece. It takes no
+/// memory.
+pub fn range_at(ranges: &PartRanges, part: Part) -> Option<ByteRange>
+    ensures { result ≡ range_at ranges.now part }
+{
+    match part {
+        Part::Header => Some(ranges.header),
+        Part::Segments => Some(ranges.segments),
+        Part::Table => Some(ranges.table),
+        Part::Section(s) => ranges.sections.get(s as u64),
+        Part::Object => None,
+        Part::Piece(_, _) => None,
+    }
+}
+
+/// Copies the bytes from the place `at` on into the whole of `buf`.
+pub(crate) fn copy_held(bytes: &[u8], at: u64, buf: &mut [u8])
+    requires { at + length buf.old ≤ length bytes.now }
+    ensures { buf.new ≡ take (length buf.old) (drop at bytes.now) }
+{
+    let start = at as usize;
+    let range = &bytes[start..start + buf.len()];
+    buf.copy_from_slice(range);
+}
