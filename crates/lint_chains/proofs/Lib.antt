@@ -1,3 +1,4 @@
 mod WalkLemmas
 mod ChainLemmas
 mod EntryWalks
+mod ReachLaws

@@ -1,13 +1,14 @@
 -- Walks over an object that look for the place of a bad chain, step by step.
-use Rattle.std.proofs.Common.{◌≡◌, ℕ, Option, Some, None, Result, Ok, Err, IsTrue, IfSome, IfNone, refl, sym, ◌∙◌, subst}
+use Rattle.std.proofs.Common.{◌≡◌, ℕ, Option, Some, None, Result, Ok, Err, IsTrue, IfSome, IfNone, IfErr, refl, sym, ◌∙◌, subst}
 use Rattle.elf_types.specs.declared.errors.ElfError.{ElfError}
 use Rattle.elf_types.specs.declared.errors.ElfError.TheVariants as error
 use Rattle.elf_outside.specs.declared.sources.Source.{Ghosts as SourceGhosts}
 use Rattle.elf_object.specs.Object.{Object}
 use Rattle.elf_descriptor.specs.State.{State}
 use Rattle.tool_output.specs.declared.stops.Stop.{Stop}
+use Rattle.tool_output.specs.declared.stops.Stop.TheVariants.{Read, Write, Memory}
 use Rattle.tool_output.specs.Stops.{stop_of}
-use Rattle.object_output.specs.Steps.{LeavesElf, Learns, Looked}
+use Rattle.object_output.specs.Steps.{LeavesElf, Learns, Looked, ReadsElf}
 use Rattle.object_output.proofs.ElfSteps.{left_as, settled_elf, elf_left, elf_left_then, still_told}
 use Rattle.object_output.proofs.LearnLemmas.{learns_after, learns_as}
 use Rattle.lint_chains.specs.Chains.{bad_place}
@@ -30,6 +31,15 @@ met_bad s stated e r a b h same stops bad = rw bad (record {
   value = λ told. sym (same told refl);
   reads = record { elf = settled_elf s (Unit {0}) a b tt h.elf; read = tt; write = tt };
 })
+
+-- a step that may want memory, once it has left the object
+pub reads_either : {S T : Type 0} (s : SourceGhosts S) (a b : State S) → LeavesElf s a b
+    → (r : Result T Stop) → IfErr r (λ stop. stop ≡ Memory) → ReadsElf s r a b
+reads_either s a b left (Ok x) want = record { elf = left; read = tt; write = tt }
+reads_either s a b left (Err Memory) want =
+    record { elf = left_as s (Unit {0}) ⊥ a b (λ no. tt) left; read = tt; write = tt }
+reads_either s a b left (Err Read) want = cc
+reads_either s a b left (Err Write) want = cc
 
 -- ---- A walk that is under way
 

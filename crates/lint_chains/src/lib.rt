@@ -4,6 +4,7 @@
 mod by_chain;
 mod entries;
 mod notes;
+mod reach;
 mod versions;
 
 pub use notes::bad_notes;

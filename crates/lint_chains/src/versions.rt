@@ -3,19 +3,29 @@
 ghost use Rattle.lint_findings.specs.Steps.{FindsElf};
 ghost use Rattle.lint_chains.specs.Chains as rule;
 ghost use Rattle.lint_chains.specs.Chains.{verdef_names_bad, verneed_names_bad};
+ghost use Rattle.lint_chains.specs.Reach.{verdaux_next, vernaux_next};
 
 use crate::by_chain::{ChainRule, each_bad_chain};
-use crate::entries::{Entry, walk_entries, walk_names};
+use crate::entries::{Entry, bad_names, walk_entries};
 use elf_descriptor::Elf;
 use elf_outside::{Sink, Source};
-use elf_types::ScnId;
 use elf_types::constants::{SHT_GNU_VERDEF, SHT_GNU_VERNEED};
-use gelf_view::{Verdaux, Verdef, Vernaux, Verneed};
+use elf_types::{Halves, Order, ScnId};
+use gelf_view::{Verdaux, Verdef, Vernaux, Verneed, verdaux_in, vernaux_in};
 use lint_findings::is_plain_of;
 use tool_output::{FileName, Outputs, Stop};
 
 impl Entry for Verdef {
     ghost names_bad = { verdef_names_bad };
+
+    ghost next_in = { verdaux_next };
+
+    fn next_name_in(bytes: &[u8], at: u64, order: Order) -> Option<u32> {
+        match verdaux_in(bytes, at, order) {
+            Ok(name) => Some(name.next),
+            Err(_) => None,
+        }
+    }
 
     #[tactic(auto, unfolding(crate::specs::Chains::verdef_names_bad))]
     fn find_bad_name<S: Source>(
@@ -23,13 +33,23 @@ impl Entry for Verdef {
         elf: &mut Elf<S>,
         s: ScnId,
         at: u64,
+        reach: &Halves,
     ) -> Result<Option<u64>, Stop> {
-        walk_names::<Verdaux, S>(elf, s, self.first_aux(at))
+        bad_names::<Verdaux, S>(elf, s, self.first_aux(at), reach)
     }
 }
 
 impl Entry for Verneed {
     ghost names_bad = { verneed_names_bad };
+
+    ghost next_in = { vernaux_next };
+
+    fn next_name_in(bytes: &[u8], at: u64, order: Order) -> Option<u32> {
+        match vernaux_in(bytes, at, order) {
+            Ok(name) => Some(name.next),
+            Err(_) => None,
+        }
+    }
 
     #[tactic(auto, unfolding(crate::specs::Chains::verneed_names_bad))]
     fn find_bad_name<S: Source>(
@@ -37,8 +57,9 @@ impl Entry for Verneed {
         elf: &mut Elf<S>,
         s: ScnId,
         at: u64,
+        reach: &Halves,
     ) -> Result<Option<u64>, Stop> {
-        walk_names::<Vernaux, S>(elf, s, self.first_aux(at))
+        bad_names::<Vernaux, S>(elf, s, self.first_aux(at), reach)
     }
 }
 

@@ -19,7 +19,7 @@ returns-in-Ok-Some g c =
     let answer = rw c.in-Ok-Some.field-0-is at c.in-Ok-Some.ensures.answer in
     learns_as g.S.Source (λ o. entries_bad (entry.names_bad o s) (from_first (first_place (length (data_bytes o s))) (g.R.VersionEntry.entries o s 0))) (λ o. entries_bad (entry.names_bad o s) (g.R.VersionEntry.entries o s 0 c.in-Ok-Some.first)) _ c.args.elf.now _
     (λ told. ap (λ (p : Option ℕ). entries_bad (entry.names_bad o s) (from_first p (g.R.VersionEntry.entries o s 0))) (first_there o s (Some c.in-Ok-Some.first) (answer.1 refl)))
-    (learns_after g.S.Source (λ o. entries_bad (entry.names_bad o s) (g.R.VersionEntry.entries o s 0 c.in-Ok-Some.first)) _ c.args.elf.now c.first_entry.new.elf _ (queried g.S.Source _ _ _ c.args.elf.now _ c.in-Ok-Some.ensures.queries (once_read _ _ _ _)) c.walk_from.ensures)
+    (learns_after g.S.Source (λ o. entries_bad (entry.names_bad o s) (g.R.VersionEntry.entries o s 0 c.in-Ok-Some.first)) _ c.args.elf.now c.first_entry.new.elf _ (queried g.S.Source _ _ _ c.args.elf.now _ c.in-Ok-Some.ensures.queries (once_read _ _ _ _)) c.walk_reached.ensures)
 
 pub returns-in-Ok-None : goal.returns-in-Ok-None
 returns-in-Ok-None g c =
