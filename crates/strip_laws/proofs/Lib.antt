@@ -5,6 +5,11 @@ pub mod ArrangedLaws
 pub mod RebuiltLaws
 pub mod FollowedLaws
 pub mod WritableLaws
+pub mod HalfLaws
+pub mod CopyLaws
+pub mod OrderLaws
+pub mod RehashLaws
+pub mod MadeLaws
 pub mod HeaderBytes
 pub mod PlaceLaws
 pub mod MadeObject

@@ -20,7 +20,6 @@ use Rattle.object_laws.proofs.RangeLaws.{each_made}
 use Rattle.command_objects.specs.Followed.{kept_sections, kept_from_1}
 use Rattle.command_objects.specs.Arranged.{Rebuilt, over_base, arranged}
 use Rattle.command_objects.specs.Rebuilt.{renews_names, kept_names, kept_refusal, table_refusal, index_refusal, rebuild_refusal, rebuilt, rebuilt_section, rebuilt_sections, rebuilt_index, rebuilt_tail, rebuilt_object, assembled}
-use Rattle.strip_laws.specs.Made.{RebuiltIsObject}
 use Rattle.strip_laws.proofs.KeptLaws.{kept_few, followed_small}
 use Rattle.strip_laws.proofs.SectionLaws.{HasSmallTable, rebuilt_section_is}
 use Rattle.strip_laws.proofs.ArrangedLaws.{arranged_keeps, placed_from_is}
@@ -129,43 +128,39 @@ assembled_is o base layout index sections ok are small each few low none =
       fill = lit< tt;
     }
 
+-- over the base that a tail leaves
+pub over_base_is : (o : Object) (tail : Option ℕ) (index : ℕ) (sections : List Section)
+    → IsObject o → All (IsSection o.header.class) sections → length sections ≤ 2 ^ 20
+    → index < 2 ^ 32 → index_refusal o sections index ≡ None
+    → IsObject (assembled (over_base o tail) o index sections)
+unfolding over_base created_over
+over_base_is o None index sections ok each few low passed =
+    assembled_is o [] false index sections ok (All-nil (λ n. n < 2 ^ 8)) (lit< tt) each few low
+    (no_index o sections index passed)
+over_base_is o (Some tail) index sections ok each few low passed =
+    let size = length-take tail o.base in
+    let small = ok.base_length in
+    assembled_is o (take tail o.base) true index sections ok
+    (All-take (λ n. n < 2 ^ 8) tail o.base ok.base) (omega (arith, size, small)) each few low
+    (no_index o sections index passed)
+
 pub rebuilt_object_is : (o : Object) (removed : List ℕ) (r : Rebuilt) → IsObject o
     → IsRebuilt o removed r → IsObject (rebuilt_object o removed)
-unfolding rebuilt_object rebuilt_sections rebuilt_index over_base created_over
-rebuilt_object_is o removed r ok known = by_tail (rebuilt_tail o removed)
-  where
-    each : All (IsSection o.header.class) (rebuilt_sections o removed)
-    each = each_made (IsSection o.header.class) (rebuilt_section o removed)
-        (kept_sections o removed) (λ s. rebuilt_section_is o removed s ok known.names)
-
-    few : length (rebuilt_sections o removed) ≤ 2 ^ 20
-    few =
-        let count = length-map (kept_sections o removed) (rebuilt_section o removed) in
-        let all = ok.section_count in
-        omega (arith, count, kept_few o removed, all)
-
-    low : rebuilt_index o removed < 2 ^ 32
-    low = followed_small o removed o.header.shstrndx ok ok.header.shstrndx
-
-    none : rebuilt_sections o removed ≡ [] → rebuilt_index o removed ≡ 0
-    none = no_index o (rebuilt_sections o removed) (rebuilt_index o removed) known.index
-
-    by_tail : (tail : Option ℕ) → IsObject (assembled
-        (over_base o tail) o (rebuilt_index o removed) (rebuilt_sections o removed))
-    by_tail None =
-        assembled_is o [] false (rebuilt_index o removed) (rebuilt_sections o removed) ok
-        (All-nil (λ n. n < 2 ^ 8)) (lit< tt) each few low none
-    by_tail (Some tail) =
-        let size = length-take tail o.base in
-        let small = ok.base_length in
-        assembled_is o (take tail o.base) true (rebuilt_index o removed)
-        (rebuilt_sections o removed) ok
-        (All-take (λ n. n < 2 ^ 8) tail o.base ok.base) (omega (arith, size, small))
-        each few low none
+unfolding rebuilt_object rebuilt_sections rebuilt_index
+rebuilt_object_is o removed r ok known =
+    let count = length-map (kept_sections o removed) (rebuilt_section o removed) in
+    let all = ok.section_count in
+    over_base_is o (rebuilt_tail o removed) (rebuilt_index o removed)
+    (rebuilt_sections o removed) ok
+    (each_made (IsSection o.header.class) (rebuilt_section o removed) (kept_sections o removed)
+    (λ s. rebuilt_section_is o removed s ok known.names))
+    (omega (arith, count, kept_few o removed, all))
+    (followed_small o removed o.header.shstrndx ok ok.header.shstrndx) known.index
 
 -- ---- With its places
 
-pub rebuilt_is_object : RebuiltIsObject
+pub rebuilt_is_object : (o : Object) (removed : List ℕ) (r : Rebuilt) → IsObject o
+    → rebuilt o removed ≡ Ok r → IsObject r.object
 rebuilt_is_object o removed r ok e =
     let known = rebuilt_known o removed r e in
     let is = rebuilt_object_is o removed r ok known in

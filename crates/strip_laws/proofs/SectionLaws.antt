@@ -30,7 +30,7 @@ one_is_aligned : IsTrue (is_piece_align 1)
 unfolding is_piece_align ones
 one_is_aligned = refl
 
-made_section_is : (class : Class) (h : Shdr) (items : Items) → IsShdr h
+pub made_section_is : (class : Class) (h : Shdr) (items : Items) → IsShdr h
     → IsTrue (shdr_fits class h) → IsSection class (made_section h items)
 unfolding made_section
 made_section_is class h items is fitting = record {
@@ -59,7 +59,7 @@ made_section_is class h items is fitting = record {
 -- ---- Its header
 
 -- a header with another name and other links
-relinked_is : (class : Class) (h : Shdr) (name link info : ℕ) → IsShdr h
+pub relinked_is : (class : Class) (h : Shdr) (name link info : ℕ) → IsShdr h
     → IsTrue (shdr_fits class h) → name < 2 ^ 32 → link < 2 ^ 32 → info < 2 ^ 32
     → IsShdr (record h { name = name; link = link; info = info })
     × IsTrue (shdr_fits class (record h { name = name; link = link; info = info }))

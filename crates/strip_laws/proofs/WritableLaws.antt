@@ -22,6 +22,7 @@ use Rattle.elf_object.specs.Object.{Object, Section, Piece, absent_section, new_
 use Rattle.elf_object.specs.Open.{opened_section, begun, created_over}
 use Rattle.elf_object.specs.Refusal.{too_many, unfit_segment, unfit_in_piece, unfit_in_section, unfit_item, missing_in_section, missing_home, content_refusal, placing_refusal, refusal}
 use Rattle.elf_object.specs.Steps.{stored_ehdr, with_ehdr, with_phdrs, with_layout, own_piece}
+use Rattle.elf_object.specs.Calls.{newphdr_refusal}
 use Rattle.elf_object.specs.Valid.{IsObject}
 use Rattle.elf_object.proofs.PassedLaws.{not_refused}
 use Rattle.object_laws.proofs.PlacedLaws.{each_row}
@@ -54,12 +55,12 @@ rows_none f n (x ∷ l) each =
 -- ---- Sections whose pieces are own
 
 -- a piece has items of its own, which fit
-abbrev OwnFits : Class → Piece → Type 0
+abbrev pub OwnFits : Class → Piece → Type 0
 OwnFits class p = (owned : Items) × (p.own ≡ Some owned) × (first_unfit class owned ≡ None)
 
-record IsOwned (class : Class) (c : Section) : Type 0 where
-  inside : c.home.out ≡ false
-  pieces : All (OwnFits class) c.pieces
+pub record HasOwnPieces (class : Class) (c : Section) : Type 0 where
+  pub inside : c.home.out ≡ false
+  pub pieces : All (OwnFits class) c.pieces
 
 piece_passes : (class : Class) (s i : ℕ) (p : Piece) → OwnFits class p
     → unfit_in_piece class s i p ≡ None
@@ -71,7 +72,7 @@ piece_passes class s i p is =
     ]) is.1
     ∙ ap (λ (x : Option ℕ). option_map (Unfit (part.Piece s i)) x) is.2
 
-section_passes : (class : Class) (s : ℕ) (c : Section) → IsOwned class c
+section_passes : (class : Class) (s : ℕ) (c : Section) → HasOwnPieces class c
     → unfit_in_section class s c ≡ None
 unfolding unfit_in_section
 section_passes class s c is = by_test (has_file_bytes s c)
@@ -85,7 +86,7 @@ section_passes class s c is = by_test (has_file_bytes s c)
         (λ p own. piece_passes class s i p own) c.pieces is.pieces)
     by_test false = refl
 
-home_passes : (class : Class) (s : ℕ) (c : Section) → IsOwned class c
+home_passes : (class : Class) (s : ℕ) (c : Section) → HasOwnPieces class c
     → missing_in_section s c ≡ None
 unfolding missing_in_section
 home_passes class s c is =
@@ -94,12 +95,12 @@ home_passes class s c is =
 
 -- ---- An object of such sections
 
-record HasContent (q : Object) : Type 0 where
-  few : nat_le PN_XNUM (length q.phdrs) ≡ false
-  first : occupies_file (section_at q 0).header ≡ false
-  segments : unfit_segment q ≡ None
-  sections : All (IsOwned q.header.class) q.sections
-  marked : q.header_marked ≡ true
+pub record HasContent (q : Object) : Type 0 where
+  pub few : nat_le PN_XNUM (length q.phdrs) ≡ false
+  pub first : occupies_file (section_at q 0).header ≡ false
+  pub segments : unfit_segment q ≡ None
+  pub sections : All (HasOwnPieces q.header.class) q.sections
+  pub marked : q.header_marked ≡ true
 
 neither : (a b c d : Bool) → a ≡ false → d ≡ false
     → refused_if ((a && b) || (c && d)) TooMany ≡ None
@@ -118,11 +119,11 @@ content_none q is =
     (next_none (unfit_segment q) (unfit_item q ∷ missing_home q ∷ []) is.segments
     (next_none (unfit_item q) (missing_home q ∷ [])
     (rows_none (unfit_in_section q.header.class) 0 q.sections (λ s.
-    All-weaker (IsOwned q.header.class) (λ c. unfit_in_section q.header.class s c ≡ None)
+    All-weaker (HasOwnPieces q.header.class) (λ c. unfit_in_section q.header.class s c ≡ None)
     (λ c own. section_passes q.header.class s c own) q.sections is.sections))
     (next_none (missing_home q) []
     (rows_none missing_in_section 0 q.sections (λ s.
-    All-weaker (IsOwned q.header.class) (λ c. missing_in_section s c ≡ None)
+    All-weaker (HasOwnPieces q.header.class) (λ c. missing_in_section s c ≡ None)
     (λ c own. home_passes q.header.class s c own) q.sections is.sections))
     refl)))
 
@@ -136,7 +137,7 @@ header_dirty q marked =
     by_marks false true c d e = refl
     by_marks false false c d e = cc
 
-is_writable : (q : Object) → HasContent q → IsWritable q
+pub is_writable : (q : Object) → HasContent q → IsWritable q
 unfolding refusal
 is_writable q is =
     let dirty = header_dirty q is.marked in
@@ -157,8 +158,8 @@ is_writable q is =
 
 -- ---- Sections of what is made
 
-made_owned : (class : Class) (h : Shdr) (owned : Items) → first_unfit class owned ≡ None
-    → IsOwned class (made_section h owned)
+pub made_owned : (class : Class) (h : Shdr) (owned : Items) → first_unfit class owned ≡ None
+    → HasOwnPieces class (made_section h owned)
 unfolding made_section
 made_owned class h owned fit =
     record { inside = refl; pieces = pieces (occupies_file h) }
@@ -169,15 +170,15 @@ made_owned class h owned fit =
         (All-nil (OwnFits class))
     pieces false = All-nil (OwnFits class)
 
-new_owned : (class : Class) → IsOwned class new_section
+pub new_owned : (class : Class) → HasOwnPieces class new_section
 new_owned class = record { inside = refl; pieces = All-nil (OwnFits class) }
 
 rebuilt_owned : (o : Object) (removed : List ℕ) (s : ℕ) → IsObject o → FitsClass o
-    → s < length o.sections → IsOwned o.header.class (rebuilt_section o removed s)
+    → s < length o.sections → HasOwnPieces o.header.class (rebuilt_section o removed s)
 unfolding rebuilt_section
 rebuilt_owned o removed s ok fit inside = by_test (s == 0) refl
   where
-    by_test : (b : Bool) → (s == 0) ≡ b → IsOwned o.header.class
+    by_test : (b : Bool) → (s == 0) ≡ b → HasOwnPieces o.header.class
         (if b then new_section
         else made_section (rebuilt_header o removed s) (rebuilt_items o removed s))
     by_test true e = new_owned o.header.class
@@ -187,16 +188,16 @@ rebuilt_owned o removed s ok fit inside = by_test (s == 0) refl
         (rebuilt_items_fit o removed s ok fit from inside)
 
 all_owned : (o : Object) (removed : List ℕ) → IsObject o → FitsClass o
-    → All (IsOwned o.header.class) (rebuilt_sections o removed)
+    → All (HasOwnPieces o.header.class) (rebuilt_sections o removed)
 unfolding rebuilt_sections kept_sections
 all_owned o removed ok fit =
-    All-map (IsOwned o.header.class) (rebuilt_section o removed)
+    All-map (HasOwnPieces o.header.class) (rebuilt_section o removed)
     (filter (λ s. not (is_among removed s)) (range_with_len 0 (length o.sections)))
     (All-filter (λ s. not (is_among removed s))
-    (λ s. IsOwned o.header.class (rebuilt_section o removed s))
+    (λ s. HasOwnPieces o.header.class (rebuilt_section o removed s))
     (range_with_len 0 (length o.sections))
     (All-weaker (λ s. IsInRange 0 (0 + length o.sections) s)
-    (λ s. IsOwned o.header.class (rebuilt_section o removed s))
+    (λ s. HasOwnPieces o.header.class (rebuilt_section o removed s))
     (λ s is. rebuilt_owned o removed s ok fit (omega (arith, is.1)))
     (range_with_len 0 (length o.sections)) (range_within 0 (length o.sections))))
 
@@ -224,40 +225,44 @@ first_empty o removed stays =
 assembled_content : (o : Object) (base : List ℕ) (layout : Bool) (index : ℕ)
     (sections : List Section) → nat_le PN_XNUM (length o.phdrs) ≡ false
     → occupies_file (get_or sections 0 absent_section).header ≡ false → unfit_segment o ≡ None
-    → All (IsOwned o.header.class) sections
+    → All (HasOwnPieces o.header.class) sections
     → HasContent (assembled
     (with_layout (created_over o.header.class o.header.order base) layout) o index sections)
 unfolding assembled with_ehdr stored_ehdr with_phdrs created_over unfit_segment section_at
 assembled_content o base layout index sections few first segments each =
     record { few = few; first = first; segments = segments; sections = each; marked = refl }
 
+-- over the base that a tail leaves
+pub over_base_content : (o : Object) (tail : Option ℕ) (index : ℕ) (sections : List Section)
+    → newphdr_refusal (length o.phdrs) ≡ None
+    → occupies_file (get_or sections 0 absent_section).header ≡ false → unfit_segment o ≡ None
+    → All (HasOwnPieces o.header.class) sections
+    → HasContent (assembled (over_base o tail) o index sections)
+unfolding over_base created_over
+over_base_content o None index sections passed first segments each =
+    assembled_content o [] false index sections
+    (not_refused (nat_le PN_XNUM (length o.phdrs)) TooMany passed) first segments each
+over_base_content o (Some tail) index sections passed first segments each =
+    assembled_content o (take tail o.base) true index sections
+    (not_refused (nat_le PN_XNUM (length o.phdrs)) TooMany passed) first segments each
+
 rebuilt_content : (o : Object) (removed : List ℕ) (r : Rebuilt) → IsObject o → FitsClass o
     → is_among removed 0 ≡ false → IsRebuilt o removed r
     → HasContent (rebuilt_object o removed)
-unfolding rebuilt_object over_base created_over
-rebuilt_content o removed r ok fit stays known = by_tail (rebuilt_tail o removed)
-  where
-    few : nat_le PN_XNUM (length o.phdrs) ≡ false
-    few = not_refused (nat_le PN_XNUM (length o.phdrs)) TooMany known.segments
-
-    by_tail : (tail : Option ℕ) → HasContent (assembled
-        (over_base o tail) o (rebuilt_index o removed) (rebuilt_sections o removed))
-    by_tail None =
-        assembled_content o [] false (rebuilt_index o removed) (rebuilt_sections o removed) few
-        (first_empty o removed stays) fit.segments (all_owned o removed ok fit)
-    by_tail (Some tail) =
-        assembled_content o (take tail o.base) true (rebuilt_index o removed)
-        (rebuilt_sections o removed) few (first_empty o removed stays) fit.segments
-        (all_owned o removed ok fit)
+unfolding rebuilt_object
+rebuilt_content o removed r ok fit stays known =
+    over_base_content o (rebuilt_tail o removed) (rebuilt_index o removed)
+    (rebuilt_sections o removed) known.segments (first_empty o removed stays) fit.segments
+    (all_owned o removed ok fit)
 
 -- ---- With its places
 
-section_from_owned : (q : Object) (tail s : ℕ) (c : Section) → IsOwned q.header.class c
-    → IsOwned q.header.class (section_from q tail s c)
+section_from_owned : (q : Object) (tail s : ℕ) (c : Section) → HasOwnPieces q.header.class c
+    → HasOwnPieces q.header.class (section_from q tail s c)
 unfolding section_from
 section_from_owned q tail s c is = by_place (place_from q tail s)
   where
-    by_place : (place : Option ℕ) → IsOwned q.header.class (elim place [
+    by_place : (place : Option ℕ) → HasOwnPieces q.header.class (elim place [
       | None ↦ c
       | Some new ↦ record c { header = record c.header { offset = new }; marked = true }
     ])
@@ -286,7 +291,7 @@ first_from f [] same first = first
 first_from f (c ∷ l) same first =
     ap (λ (t : ℕ). not (t == 0 || t == 8)) (same c) ∙ first
 
-placed_content : (q : Object) (tail : ℕ) → HasContent q → HasContent (placed_from q tail)
+pub placed_content : (q : Object) (tail : ℕ) → HasContent q → HasContent (placed_from q tail)
 unfolding placed_from with_ehdr stored_ehdr unfit_segment section_at
 placed_content q tail is = by_test (length q.sections == 0)
   where
@@ -300,12 +305,12 @@ placed_content q tail is = by_test (length q.sections == 0)
       few = is.few;
       first = first_from (section_from q tail) q.sections (section_from_type q tail 0) is.first;
       segments = is.segments;
-      sections = All-map (IsOwned q.header.class) (λ row. section_from q tail row.0 row.1)
+      sections = All-map (HasOwnPieces q.header.class) (λ row. section_from q tail row.0 row.1)
           (enumerate_from 0 q.sections)
-          (each_row (λ row. IsOwned q.header.class (section_from q tail row.0 row.1)) q.sections
-          absent_section
+          (each_row (λ row. HasOwnPieces q.header.class (section_from q tail row.0 row.1))
+          q.sections absent_section
           (λ i h. section_from_owned q tail i (get_or q.sections i absent_section)
-          (All-get_or (IsOwned q.header.class) q.sections i absent_section h is.sections)));
+          (All-get_or (HasOwnPieces q.header.class) q.sections i absent_section h is.sections)));
       marked = refl;
     }
 

@@ -1,4 +1,5 @@
--- What is known of an object that strip or copy makes anew without some sections.
+-- What is known of the objects that strip and unstrip make anew, besides that they are objects
+-- (MadeAreObjects of command_objects): they can be written.
 use Rattle.std.specs.Prelude.{◌≡◌, ℕ, Bool, true, false, List, None, Ok}
 use Rattle.elf_ident.specs.declared.fronts.Front.{Front}
 use Rattle.elf_ident.specs.Reading.{IsFittingFront}
@@ -10,17 +11,7 @@ use Rattle.command_objects.specs.Words.{is_among}
 use Rattle.command_objects.specs.Removed.{removed_sections, removed_by_name}
 use Rattle.command_objects.specs.Arranged.{Rebuilt}
 use Rattle.command_objects.specs.Rebuilt.{rebuilt}
-
--- it is an object
-abbrev pub RebuiltIsObject : Type 0
-RebuiltIsObject =
-    (o : Object) (removed : List ℕ) (r : Rebuilt) → IsObject o → rebuilt o removed ≡ Ok r
-    → IsObject r.object
-
--- the program headers and the own items of an object fit its class
-pub record FitsClass (o : Object) : Type 0 where
-  pub segments : unfit_segment o ≡ None
-  pub items : unfit_item o ≡ None
+use Rattle.command_objects.specs.Split.{debug_of, unstripped}
 
 -- an update has something to write, and is refused at most for the places of the parts
 pub record IsWritable (o : Object) : Type 0 where
@@ -28,7 +19,14 @@ pub record IsWritable (o : Object) : Type 0 where
   pub content : content_refusal o ≡ None
   pub refused : refusal o ≡ placing_refusal o
 
--- it can be written, where section 0 stays and the object fits its class
+-- ---- Without some sections
+
+-- the program headers and the own items of an object fit its class
+pub record FitsClass (o : Object) : Type 0 where
+  pub segments : unfit_segment o ≡ None
+  pub items : unfit_item o ≡ None
+
+-- what is made of it can be written, where section 0 stays
 abbrev pub RebuiltIsWritable : Type 0
 RebuiltIsWritable =
     (o : Object) (removed : List ℕ) (r : Rebuilt) → IsObject o → FitsClass o
@@ -43,3 +41,13 @@ pub record FirstStays : Type 0 where
   pub strip : (debug_only : Bool) (names : List (List ℕ)) (o : Object)
       → is_among (removed_sections debug_only names o) 0 ≡ false
   pub copy : (names : List (List ℕ)) (o : Object) → is_among (removed_by_name names o) 0 ≡ false
+
+-- ---- Split and combined
+
+-- the debug half of an object whose program headers fit its class can be written, and so can what
+-- two halves are combined to
+pub record HalvesAreWritable : Type 0 where
+  pub debug : (o p : Object) → IsObject o → unfit_segment o ≡ None → debug_of o ≡ Ok p
+      → IsWritable p
+  pub combined : (o d : Object) (r : Rebuilt) → IsObject o → IsObject d → unfit_segment o ≡ None
+      → unstripped o d ≡ Ok r → IsWritable r.object

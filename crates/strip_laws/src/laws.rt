@@ -1,19 +1,20 @@
 //! Laws over the definitions. Each is the contract of a function that does nothing: what it ensures
 //! holds of every object, and is proved.
 
-ghost use Rattle.command_objects.specs.Laws.{LoadableBytesStay};
-ghost use Rattle.strip_laws.specs.Made.{BegunFitsClass, FirstStays, RebuiltIsObject, RebuiltIsWritable};
+ghost use Rattle.command_objects.specs.Laws.{LoadableBytesStay, MadeAreObjects};
+ghost use Rattle.strip_laws.specs.Made.{BegunFitsClass, FirstStays, HalvesAreWritable, RebuiltIsWritable};
 
 use writing_laws::based::beginnings_are_based;
 
-/// What is made of an object without some of its sections is an object, whatever sections they are,
-/// and whether its source tells its bytes or not.
-pub fn rebuilt_is_object()
-    ensures { RebuiltIsObject }
+/// What strip, copy, rehash and unstrip make of objects, and the debug half of one, are objects,
+/// whether the sources of those tell their bytes or not.
+#[tactic(auto, using(crate::proofs::MadeLaws::made_are_objects))]
+pub fn made_are_objects()
+    ensures { MadeAreObjects }
 {}
 
-/// Where section 0 stays, and program headers and items of the object fit its class, what is made
-/// of it has something to write, and an update refuses it for its places alone.
+/// Where section 0 stays, and program headers and items of an object fit its class, what is made of
+/// it without some sections has something to write, and an update refuses it for its places alone.
 pub fn rebuilt_is_writable()
     ensures { RebuiltIsWritable }
 {}
@@ -28,6 +29,13 @@ pub fn begun_fits_class()
 #[tactic(auto, using(crate::proofs::KeptLaws::first_stays))]
 pub fn first_stays()
     ensures { FirstStays }
+{}
+
+/// Where the program headers fit the class, the debug half of an object and what two halves are
+/// combined to have something to write, and an update refuses them for their places alone.
+#[tactic(auto, using(crate::proofs::HalfLaws::halves_are_writable))]
+pub fn halves_are_writable()
+    ensures { HalvesAreWritable }
 {}
 
 /// Each byte that is loaded is the same in what strip writes, but for `e_shoff`, `e_shnum` and

@@ -1,6 +1,7 @@
-//! Laws of what strip makes: it is an object, an update refuses it for its places alone, and it
-//! keeps each byte that is loaded. Their statements stand in `specs/` here and in command_objects,
-//! and the lemmas that prove them in `proofs/`.
+//! Laws of what strip, copy, rehash and unstrip make: they are objects; an update refuses what
+//! strip and unstrip make for its places alone; and what strip writes keeps each byte that is
+//! loaded. Their statements stand in `specs/` here and in command_objects, and the lemmas that
+//! prove them in `proofs/`.
 #![tactic(auto)]
 
 pub mod laws;

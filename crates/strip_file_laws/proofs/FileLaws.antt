@@ -1,0 +1,165 @@
+-- The file that strip writes is the image of what it makes of FILE's object.
+use Rattle.std.proofs.Common.{◌≡◌, ℕ, Bool, List, [], ◌∷◌, Option, Some, None, Result, Ok, Err, refl, sym, ap, ◌∙◌}
+use Rattle.std.specs.Prelude.{codes, if◌then◌else◌}
+use Rattle.std.proofs.lemmas.Slice.Eq.{bytes_eq-Decides}
+use Rattle.elf_types.specs.Answers.{answered, or_refused, ◌>>=◌}
+use Rattle.elf_types.specs.declared.errors.ElfError.{ElfError}
+use Rattle.elf_outside.specs.Names.{Map}
+use Rattle.elf_ident.specs.declared.file_kinds.FileKind.{FileKind}
+use Rattle.elf_ident.specs.declared.file_kinds.FileKind.TheVariants.{Archive, Elf, Other}
+use Rattle.elf_ident.specs.declared.fronts.Front.{Front}
+use Rattle.elf_ident.specs.FileKinds.{file_kind}
+use Rattle.elf_ident.specs.Front.{front}
+use Rattle.elf_ident.proofs.Refusals.{answered_ok, bind_ok, or_refused_ok}
+use Rattle.elf_object.specs.Object.{Object}
+use Rattle.elf_object.specs.Open.{begun, begun_or_refused, opened}
+use Rattle.command_objects.specs.Removed.{removed_sections}
+use Rattle.command_objects.specs.Arranged.{Rebuilt}
+use Rattle.command_objects.specs.Rebuilt.{rebuilt, stripped}
+use Rattle.command_objects.specs.Split.{debug_of}
+use Rattle.command_objects.specs.Files.{file_of, file_made}
+use Rattle.command_objects.specs.Laws.{LoadableBytesStay}
+use Rattle.tool_output.specs.Outcomes.{FileWrite, write_of}
+use Rattle.tool_output.specs.Made.{Done, Complaint, complaint, made, made_file, of_file, written_outcome}
+use Rattle.tool_text.specs.declared.commands.StripOptions.{StripOptions}
+use Rattle.object_output.specs.Images.{object_by, file_object}
+use Rattle.command_outcomes.specs.Files.{bytes_named, object_named}
+use Rattle.command_outcomes.specs.Strip.{allocated_complaint, strip_alone, strip_split, strip_done, strip_outcome}
+use Rattle.strip_file_laws.specs.LoadedFiles.{StripWrites, LoadedFilesStay}
+
+of_file_ok : {A : Type 0} (file : List ℕ) (r : Result A ElfError) (x : A)
+    → of_file file r ≡ Ok x → r ≡ Ok x
+of_file_ok file (Ok y) x e = cc
+of_file_ok file (Err d) x e = cc
+
+-- ---- The object of FILE
+
+opened_by : (kind : FileKind) (image : List ℕ) (o : Object) → object_by kind image ≡ Ok o
+    → opened image ≡ Ok o
+unfolding object_by
+opened_by Archive image o e = cc
+opened_by Elf image o e = e
+opened_by Other image o e = e
+
+begun_as : (f : Front) (image : List ℕ) (o : Object) → front image ≡ Ok f → opened image ≡ Ok o
+    → o ≡ begun f image
+unfolding opened
+begun_as f image o is e =
+    let same : Ok o ≡ Ok (begun f image) =
+    sym e ∙ ap (λ (x : Result Front ElfError). begun_or_refused x image) is in
+    cc
+
+object_is : (named : Map) (file image : List ℕ) (f : Front) (o : Object)
+    → named file ≡ Some image → front image ≡ Ok f → object_named named file ≡ Ok o
+    → o ≡ begun f image
+unfolding object_named bytes_named file_object
+object_is named file image f o held is e =
+    let read = bind_ok (or_refused (named file) (complaint file (codes "not found")))
+    (λ bytes. of_file file (object_by (file_kind bytes) bytes)) o e in
+    let there = or_refused_ok (named file) (complaint file (codes "not found")) read.0 read.1 in
+    let same : read.0 ≡ image = let both : Some read.0 ≡ Some image = sym there ∙ held in cc in
+    let one = of_file_ok file (object_by (file_kind read.0) read.0) o read.2 in
+    begun_as f image o is
+    (ap opened (sym same) ∙ opened_by (file_kind read.0) read.0 o one)
+
+-- ---- The file OUT
+
+-- of files of which OUT is the first
+first_written : (out bytes : List ℕ) (later : List FileWrite) (w : FileWrite)
+    → write_of (made_file out bytes ∷ later) out ≡ Some w → w.bytes ≡ bytes
+unfolding write_of
+first_written out bytes later w e =
+    let first : Some (made_file out bytes) ≡ Some w =
+    sym (ap (λ (b : Bool). if b then Some (made_file out bytes) else write_of later out)
+    ((bytes_eq-Decides out out).1 refl)) ∙ e in
+    let same : made_file out bytes ≡ w = cc in
+    sym (ap (λ (x : FileWrite). x.bytes) same)
+
+-- the bytes that an update writes of what is made
+abbrev image_made : Object → List ℕ → Result (List ℕ) ElfError
+image_made o removed = rebuilt o removed >>= λ r. file_of r.object
+
+alone_written : (o : Object) (removed out file : List ℕ) (done : Done) (w : FileWrite)
+    → strip_alone o removed out file ≡ Ok done → write_of done.writes out ≡ Some w
+    → image_made o removed ≡ Ok w.bytes
+unfolding strip_alone
+alone_written o removed out file done w e written =
+    let bytes = bind_ok (of_file file (image_made o removed)) (λ bytes. Ok (made out bytes)) done e
+    in
+    let whole : made out bytes.0 ≡ done = let both = bytes.2 in cc in
+    let same = first_written out bytes.0 [] w
+    (ap (λ (d : Done). write_of d.writes out) whole ∙ written) in
+    of_file_ok file (image_made o removed) bytes.0 bytes.1
+    ∙ ap (λ (l : List ℕ). Ok l) (sym same)
+
+split_written : (o : Object) (removed out debug file : List ℕ) (done : Done) (w : FileWrite)
+    → strip_split o removed out debug file ≡ Ok done → write_of done.writes out ≡ Some w
+    → image_made o removed ≡ Ok w.bytes
+unfolding strip_split
+split_written o removed out debug file done w e written =
+    let whole = bind_ok (answered (allocated_complaint o removed file) o) _ done e in
+    let object = answered_ok (allocated_complaint o removed file) o whole.0 whole.1 in
+    let half = bind_ok (of_file file (rebuilt whole.0 removed)) _ done whole.2 in
+    let debug_half = bind_ok (of_file file (debug_of whole.0)) _ done half.2 in
+    let bytes = bind_ok (of_file file (file_of half.0.object)) _ done debug_half.2 in
+    let debug_bytes = bind_ok (of_file file (file_of debug_half.0)) _ done bytes.2 in
+    let files : Done = record {
+      shown = [];
+      writes = made_file out bytes.0 ∷ made_file debug debug_bytes.0 ∷ [];
+    } in
+    let all : files ≡ done = let both = debug_bytes.2 in cc in
+    let same = first_written out bytes.0 (made_file debug debug_bytes.0 ∷ []) w
+    (ap (λ (d : Done). write_of d.writes out) all ∙ written) in
+    let one : rebuilt o removed ≡ Ok half.0 =
+    ap (λ (x : Object). rebuilt x removed) object.1
+    ∙ of_file_ok file (rebuilt whole.0 removed) half.0 half.1 in
+    ap (λ (x : Result Rebuilt ElfError). x >>= λ r. file_of r.object) one
+    ∙ of_file_ok file (file_of half.0.object) bytes.0 bytes.1
+    ∙ ap (λ (l : List ℕ). Ok l) (sym same)
+
+-- ---- What strip gives
+
+done_written : (options : StripOptions) (named : Map) (file image : List ℕ) (f : Front)
+    (done : Done) (w : FileWrite) → named file ≡ Some image → front image ≡ Ok f
+    → strip_done options named file ≡ Ok done → write_of done.writes options.out ≡ Some w
+    → file_made (stripped options.debug_only options.names (begun f image)) ≡ Ok w.bytes
+unfolding strip_done stripped
+done_written options named file image f done w held is e written =
+    let found = bind_ok (object_named named file) _ done e in
+    let same = object_is named file image f found.0 held is found.1 in
+    ap (λ (x : Object).
+    image_made x (removed_sections options.debug_only options.names x)) (sym same)
+    ∙ by_debug found.0 options.debug found.2
+  where
+    by_debug : (o : Object) (debug : Option (List ℕ))
+        → ◌≡◌ {A = Result Done Complaint} (elim debug [
+          | None ↦ strip_alone o (removed_sections options.debug_only options.names o)
+              options.out file
+          | Some name ↦ strip_split o (removed_sections options.debug_only options.names o)
+              options.out name file
+        ]) (Ok done)
+        → image_made o (removed_sections options.debug_only options.names o) ≡ Ok w.bytes
+    by_debug o None h =
+        alone_written o (removed_sections options.debug_only options.names o) options.out file
+        done w h written
+    by_debug o (Some name) h =
+        split_written o (removed_sections options.debug_only options.names o) options.out name
+        file done w h written
+
+outcome_written : (options : StripOptions) (named : Map) (file image : List ℕ) (f : Front)
+    (w : FileWrite) → StripWrites options named file image f w
+    → file_made (stripped options.debug_only options.names (begun f image)) ≡ Ok w.bytes
+unfolding strip_outcome written_outcome write_of
+outcome_written options named file image f w is =
+    by_done (strip_done options named file) refl is.written
+  where
+    by_done : (r : Result Done Complaint) → strip_done options named file ≡ r
+        → write_of (written_outcome (codes "strip") r).writes options.out ≡ Some w
+        → file_made (stripped options.debug_only options.names (begun f image)) ≡ Ok w.bytes
+    by_done (Ok done) e h = done_written options named file image f done w is.held is.is_front e h
+    by_done (Err c) e h = cc
+
+pub loaded_files_stay : LoadableBytesStay → LoadedFilesStay
+loaded_files_stay stay options named file image f out is k loaded inside fixed =
+    stay image f options.debug_only options.names out.bytes is.bytes is.is_front is.usual
+    (outcome_written options named file image f out is) k loaded inside fixed
