@@ -1,0 +1,5 @@
+pub mod SectionLemmas
+pub mod StepLemmas
+pub mod CallLemmas
+pub mod RehashLemmas
+pub mod WriteLemmas
