@@ -32,12 +32,14 @@ found_more {X} P l n x there found here = λ i d below.
     subst (λ (j : ℕ). P (get_or l j d)) same (by_default l n there here d))
     (cases_lt i n)
   where
-    by_default : (xs : List X) (j : ℕ) → j < length xs → P (get_or xs j x) → (d : X) → P (get_or xs j d)
+    by_default : (xs : List X) (j : ℕ) → j < length xs → P (get_or xs j x) → (d : X)
+        → P (get_or xs j d)
     by_default [] j there is d = absurd (omega (arith, there))
     by_default (y ∷ xs) zero there is d = is
     by_default (y ∷ xs) (suc j) there is d = by_default xs j (omega (arith, there)) is d
 
-get_each : {X : Type 0} (P : X → Type 0) (l : List X) (i : ℕ) → AllByRecursion P l → IfSome (slice_get l i) P
+get_each : {X : Type 0} (P : X → Type 0) (l : List X) (i : ℕ) → AllByRecursion P l
+    → IfSome (slice_get l i) P
 get_each P [] i each = tt
 get_each P (x ∷ l) zero each = each.0
 get_each P (x ∷ l) (suc i) each = get_each P l i each.1
@@ -81,7 +83,8 @@ after_sum k p end None fits long first is = tt
 -- the first parts are as long, and what stands in line behind them stands in line behind all
 pub record PlannedBelow (k : KeptRanges) (plan : List PartAt) (end i from : ℕ) : Type 0 where
   pub long : FoundBelow (HasLength (ranged_pieces k)) plan i
-  pub line : AreInLine end from (ranged_blocks k (drop i plan)) → AreInLine end 0 (ranged_blocks k plan)
+  pub line : AreInLine end from (ranged_blocks k (drop i plan))
+      → AreInLine end 0 (ranged_blocks k plan)
 
 pub plan_begins : (k : KeptRanges) (plan : List PartAt) (end : ℕ) → PlannedBelow k plan end 0 0
 plan_begins k plan end = record {

@@ -79,13 +79,16 @@ module _ (o : Object) (k : KeptRanges) (plan : List PartAt) (end : ℕ)
   text_is : ranged_text k plan end ≡ image o
   unfolding places_of blocks_at image
   text_is =
-      ap (λ (n : ℕ). in_line n (ground_byte (ranged_base k) k.kept 0) 0 (ranged_blocks k plan)) same_end
-      ∙ ap (λ (b : List ℕ). in_line (places_of o).end (ground_byte b k.kept 0) 0 (ranged_blocks k plan))
+      ap (λ (n : ℕ). in_line n (ground_byte (ranged_base k) k.kept 0) 0
+      (ranged_blocks k plan)) same_end
+      ∙ ap (λ (b : List ℕ). in_line (places_of o).end (ground_byte b k.kept 0) 0
+      (ranged_blocks k plan))
       (are.base ∙ sym (base_placed o are.ready.dirty))
       ∙ ap (λ (n : ℕ).
       in_line (places_of o).end (ground_byte (placed o).base n 0) 0 (ranged_blocks k plan)) are.kept
       ∙ ap (λ (n : ℕ).
-      in_line (places_of o).end (ground_byte (placed o).base (kept_base o) n) 0 (ranged_blocks k plan))
+      in_line (places_of o).end (ground_byte (placed o).base (kept_base o) n) 0
+      (ranged_blocks k plan))
       (sym are.fill)
       ∙ ap (λ (bs : List Block).
       in_line (places_of o).end (ground_byte (placed o).base (kept_base o) o.fill) 0 bs) same_blocks

@@ -33,7 +33,8 @@ module _ (held base : List ℕ) (range : ByteRange) where
   part_inside bytes from n under inside there =
       let long = ap (λ (l : List ℕ). length l) under in omega (arith, long, inside, there)
 
-  pub part_copied : (bytes : List ℕ) (from n : ℕ) (out : List ℕ) → bytes_under held base range ≡ bytes
+  pub part_copied : (bytes : List ℕ) (from n : ℕ) (out : List ℕ)
+      → bytes_under held base range ≡ bytes
       → from + n ≤ range.len → out ≡ take n (drop (range.at + from) bytes)
       → out ≡ take n (drop from (range_bytes held base range))
   part_copied bytes from n out under there put =
@@ -73,7 +74,8 @@ module _ (held base : List ℕ) (o : Option ByteRange) (range : ByteRange) (is :
       (there : from + n ≤ length (get_or (pieces_at held base o) p absent_piece).1) where
     in_first : from + n ≤ length (get_or ((1, range_bytes held base range) ∷ []) p absent_piece).1
     in_first =
-        subst (λ (x : Option ByteRange). from + n ≤ length (get_or (pieces_at held base x) p absent_piece).1)
+        subst (λ (x : Option ByteRange). from + n ≤ length (get_or
+        (pieces_at held base x) p absent_piece).1)
         is there
 
     pub piece_within : from + n ≤ range.len
@@ -100,13 +102,15 @@ module _ (held base : List ℕ) (o : Option ByteRange) (range : ByteRange) (is :
         subst (λ (m : ℕ). (if range.held then 0 else n) ≤ places_below m from (from + n)) (sym due)
         (by_held range.held)
       where
-        by_held : (b : Bool) → (if b then 0 else n) ≤ places_below (if b then 0 else range.len) from (from + n)
+        by_held : (b : Bool) → (if b then 0 else n) ≤ places_below
+            (if b then 0 else range.len) from (from + n)
         by_held true = omega arith
         by_held false = let within = piece_within in omega (arith, within)
 
 pub pieces_count : (held base : List ℕ) (o : Option ByteRange) (range : ByteRange) → o ≡ Some range
     → 1 ≡ length (pieces_at held base o)
-pieces_count held base o range is = sym (ap (λ (x : Option ByteRange). length (pieces_at held base x)) is)
+pieces_count held base o range is = sym (ap (λ (x : Option ByteRange). length
+    (pieces_at held base x)) is)
 
 pub no_pieces : (held base : List ℕ) (o : Option ByteRange) → o ≡ None
     → 0 ≡ length (pieces_at held base o)
@@ -119,7 +123,8 @@ pub piece_extent : (held base : List ℕ) (o : Option ByteRange) (range : ByteRa
 piece_extent held base o range p extent is align len inside there =
     let first = subst (λ (x : Option ByteRange). p < length (pieces_at held base x)) is there in
     let long = range_long held base range (inside_is held base o range is inside) in
-    subst (λ (x : Option ByteRange). IsExtent extent (get_or (pieces_at held base x) p absent_piece))
+    subst (λ (x : Option ByteRange). IsExtent extent (get_or
+    (pieces_at held base x) p absent_piece))
     (sym is)
     (one_extent (range_bytes held base range) p extent first align (len ∙ sym long))
 
@@ -133,7 +138,8 @@ pub none_there : (held base : List ℕ) (o : Option ByteRange) (p from n : ℕ) 
     → from + n ≤ length (get_or (pieces_at held base o) p absent_piece).1 → ⊥
 none_there held base o p from n is some there =
     none_within p from n some
-    (subst (λ (x : Option ByteRange). from + n ≤ length (get_or (pieces_at held base x) p absent_piece).1)
+    (subst (λ (x : Option ByteRange). from + n ≤ length (get_or
+    (pieces_at held base x) p absent_piece).1)
     is there)
 
 -- ---- A part
@@ -156,7 +162,8 @@ part_extent k of o p extent range inside there is =
     IsExtent extent (get_or (pieces_at k.held k.elf.o.base x) p absent_piece)) range
     (is k.held k.elf.o.base p
     (subst (λ (x : Option ByteRange). LiesInside k.held k.elf.o.base x) (sym range) (inside of))
-    (subst (λ (x : Option ByteRange). p < length (pieces_at k.held k.elf.o.base x)) (sym range) there))
+    (subst (λ (x : Option ByteRange). p < length (pieces_at k.held k.elf.o.base x))
+    (sym range) there))
 
 -- ---- Where bytes come from
 
@@ -170,12 +177,16 @@ module _ (k : KeptRanges) (of : Origin) (part : Part) (p : ℕ) (o : Option Byte
   pub origin_within : (n : ℕ) → n ≤ length (origin_bytes (ranged_pieces k) (ranged_base k) of)
       → n ≤ length (get_or (pieces_at k.held k.elf.o.base o) p absent_piece).1
   origin_within n there =
-      subst (λ (x : Option ByteRange). n ≤ length (get_or (pieces_at k.held k.elf.o.base x) p absent_piece).1)
+      subst (λ (x : Option ByteRange). n ≤ length (get_or
+      (pieces_at k.held k.elf.o.base x) p absent_piece).1)
       (sym range)
-      (subst (λ (x : Origin). n ≤ length (origin_bytes (ranged_pieces k) (ranged_base k) x)) is there)
+      (subst (λ (x : Origin). n ≤ length (origin_bytes (ranged_pieces k)
+      (ranged_base k) x)) is there)
 
-  pub origin_copied : {T : Type 0} (r : Result T ElfError) (from n : ℕ) (out : List ℕ) (told : Type 0)
-      → (told → OnOk r (out ≡ take n (drop from (get_or (pieces_at k.held k.elf.o.base o) p absent_piece).1)))
+  pub origin_copied : {T : Type 0} (r : Result T ElfError) (from n : ℕ) (out : List ℕ)
+      (told : Type 0)
+      → (told → OnOk r (out ≡ take n (drop from (get_or
+      (pieces_at k.held k.elf.o.base o) p absent_piece).1)))
       → told → OnOk r (out ≡ take n (drop from (origin_bytes (ranged_pieces k) (ranged_base k) of)))
   origin_copied r from n out told put known =
       subst (λ (x : Origin).
@@ -204,7 +215,8 @@ module _ (k : KeptRanges) (of : Origin) (is : of ≡ Base) where
       let long = length-take k.kept k.elf.o.base in
       omega (arith, within, long)
 
-  pub between_copied : {T : Type 0} (r : Result T ElfError) (from n : ℕ) (out : List ℕ) (told : Type 0)
+  pub between_copied : {T : Type 0} (r : Result T ElfError) (from n : ℕ) (out : List ℕ)
+      (told : Type 0)
       → from + n ≤ length (origin_bytes (ranged_pieces k) (ranged_base k) of)
       → (told → OnOk r (out ≡ take n (drop from k.elf.o.base)))
       → told → OnOk r (out ≡ take n (drop from (origin_bytes (ranged_pieces k) (ranged_base k) of)))
@@ -220,11 +232,13 @@ module _ (k : KeptRanges) (of : Origin) (is : of ≡ Base) where
       out ≡ take n (drop from (origin_bytes (ranged_pieces k) (ranged_base k) x))) (sym is)
       (put known ∙ sym same)
 
-  pub between_asked : (from n : ℕ) → from + n ≤ length (origin_bytes (ranged_pieces k) (ranged_base k) of)
+  pub between_asked : (from n : ℕ) → from + n ≤ length (origin_bytes (ranged_pieces k)
+      (ranged_base k) of)
       → n ≤ places_below (origin_due (ranged_due k) (length (ranged_base k)) of) from (from + n)
   between_asked from n there =
       subst (λ (x : Origin).
-      n ≤ places_below (origin_due (ranged_due k) (length (ranged_base k)) x) from (from + n)) (sym is)
+      n ≤ places_below (origin_due (ranged_due k) (length (ranged_base k)) x) from (from + n))
+      (sym is)
       (base_bytes n from (length (ranged_base k)) (between_within (from + n) there))
 
 -- ---- Copies
@@ -243,7 +257,8 @@ copies_more g r old new n m more copies =
 
 -- a copy by the descriptor is one by the parts
 
-pub copies_by_parts : {S T : Type 0} (g : Ghosts S) (r : Result T ElfError) (old new : RangedParts S)
+pub copies_by_parts : {S T : Type 0} (g : Ghosts S) (r : Result T ElfError)
+    (old new : RangedParts S)
     (n m : ℕ) → n ≡ m → new ≡ record old { elf = new.elf }
     → CopiesBy (kept_of_elf g) (faults_of g) (taken_of g) r old.elf new.elf n
     → CopiesBy (kept_of_parts g) (parts_faults g) (parts_taken g) r old new m

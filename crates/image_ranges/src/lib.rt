@@ -5,6 +5,7 @@
 
 mod checks;
 pub mod images;
+pub mod laws;
 pub mod parts;
 pub mod ranges;
 

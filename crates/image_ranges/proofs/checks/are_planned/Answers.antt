@@ -6,7 +6,8 @@ use Rattle.image_ranges.proofs.CheckLaws.{plan_begins, plan_goes_on, plan_ends}
 use Rattle.image_ranges.proofs.checks.are_planned.Goals as goal
 
 pub loop-part-init : goal.loop-part-init
-loop-part-init g c = plan_begins (kept_of_parts g.S.Source c.args.parts.now) c.args.plan.now c.args.end
+loop-part-init g c = plan_begins (kept_of_parts g.S.Source c.args.parts.now) c.args.plan.now
+    c.args.end
 
 pub loop-part-preserved : goal.loop-part-preserved
 loop-part-preserved g c =

@@ -10,12 +10,14 @@ loop-range-init g c = λ i d below. absurd (omega (arith, below))
 
 pub loop-range-preserved : goal.loop-range-preserved
 loop-range-preserved g c =
-    found_more (IsInside c.args.parts.now.held c.args.parts.now.elf.o.base) c.as_slice-range-items.result.now
+    found_more (IsInside c.args.parts.now.held c.args.parts.now.elf.o.base)
+    c.as_slice-range-items.result.now
     c.loop-range.range-index _ c.loop-range-test.true c.loop-range.invariant
     (c.is_inside.ensures c.if-not-is_inside.false)
 
 pub returns : goal.returns
 returns g c = λ is.
-    subst (λ (l : List ByteRange). All (IsInside c.args.parts.now.held c.args.parts.now.elf.o.base) l)
+    subst (λ (l : List ByteRange). All (IsInside c.args.parts.now.held c.args.parts.now.elf.o.base)
+    l)
     c.as_slice-range-items.ensures
     (λ i d there. c.loop-range.invariant i d (omega (arith, there, c.loop-range-test.false)))

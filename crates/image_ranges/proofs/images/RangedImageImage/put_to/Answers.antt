@@ -10,7 +10,8 @@ returns-in-Err-clause-puts g c =
     c.in-Err.ensures.err
 
 pub returns-in-Err-clause-sink : goal.returns-in-Err-clause-sink
-returns-in-Err-clause-sink g c = nothing_used g.K.Sink c.in-Err.e c.args.sink.now c.in-Err.ensures.err
+returns-in-Err-clause-sink g c = nothing_used g.K.Sink c.in-Err.e c.args.sink.now
+    c.in-Err.ensures.err
 
 pub returns-in-Err-clause-source : goal.returns-in-Err-clause-source
 returns-in-Err-clause-source g c =

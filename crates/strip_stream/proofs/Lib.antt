@@ -1,0 +1,4 @@
+pub mod HomeLaws
+pub mod FrontLaws
+pub mod PlaceLaws
+pub mod ArrangeLaws

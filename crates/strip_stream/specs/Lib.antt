@@ -1,0 +1,4 @@
+pub mod Fronts
+pub mod Homes
+pub mod Places
+pub mod Arranging
