@@ -17,3 +17,4 @@ pub mod MadeSections
 pub mod MadeFront
 pub mod LoadedParts
 pub mod LoadedLaws
+pub mod Computing

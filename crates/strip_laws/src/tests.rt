@@ -1,0 +1,18 @@
+//! That a whole executable meets what the law on loaded bytes asks, computed by proof.
+#![tactic(auto, unfolding(crate::proofs::Computing::all_words))]
+
+ghost use Rattle.elf_ident.specs.Front.{front};
+ghost use Rattle.command_objects.specs.Executable.{executable64};
+ghost use Rattle.strip_laws.specs.Samples.{StaysIn};
+
+/// Its header is a usual one. `e_entry` stands in its first segment of type `PT_LOAD`, and place
+/// 1300 in its last one.
+fn executables_are_usual()
+    ensures entry { StaysIn 24 (front executable64) }
+    ensures data { StaysIn 1300 (front executable64) }
+{}
+
+#[test]
+fn executables_meet_the_premises() {
+    executables_are_usual();
+}
