@@ -1,0 +1,11 @@
+//! Tests of listed headers and of the places of their parts, and of what is held in its file form.
+//! They demand values, since a call that always wanted memory would meet the contracts too. They
+//! stand in a crate of their own, since a crate with tests is proved twice.
+#![tactic(auto)]
+
+#[cfg(test)]
+mod behind;
+#[cfg(test)]
+mod forms;
+#[cfg(test)]
+mod listing;
