@@ -1,0 +1,447 @@
+-- An object that was created gets its program headers, its sections and its header.
+use Rattle.std.proofs.Common.{◌≡◌, ◌⊎◌, inl, inr, ◌+◌, ◌-◌, ◌<◌, ◌≤◌, ◌==◌, ◌&&◌, ℕ, suc, Bool, true, false, not, List, [], ◌∷◌, length, map, Option, Some, None, Result, Ok, Err, if◌then◌else◌, refl, sym, ap, ◌∙◌, subst, arith}
+use Rattle.std.specs.Prelude.{IfErr, IfSome, OnOk, nat_le, filter}
+use Rattle.std.specs.List.{range_with_len}
+use Rattle.std.proofs.lemmas.Bool.{and_cases, eq-eqb, eqb-true, ne_eqb, leb-false, not-false}
+use Rattle.std.proofs.lemmas.List.{length-map}
+use Rattle.elf_types.specs.declared.constants.TheConstants.{MAX_SECTIONS}
+use Rattle.elf_types.specs.declared.records.Class.{Class}
+use Rattle.elf_types.specs.declared.records.Ehdr.{Ehdr}
+use Rattle.elf_types.specs.declared.records.Phdr.{Phdr}
+use Rattle.elf_types.specs.declared.records.Shdr.{Shdr}
+use Rattle.elf_types.specs.declared.records.Part.TheVariants as part
+use Rattle.elf_types.specs.declared.errors.ElfError.{ElfError}
+use Rattle.elf_types.specs.declared.errors.ElfError.TheVariants.{Memory, Read, Write, NoSection, Unfit}
+use Rattle.elf_types.specs.Answers.{refused_if, first_refusal, answered, IsRefusal}
+use Rattle.elf_outside.specs.Asks.{ReadRose}
+use Rattle.elf_xlate.specs.declared.content.Items.{Items}
+use Rattle.elf_xlate.specs.Fields.{fits}
+use Rattle.elf_xlate.specs.Headers.{ehdr_fits}
+use Rattle.elf_object.specs.Object.{Object, Section, new_section}
+use Rattle.elf_object.specs.Words.{Edits}
+use Rattle.elf_object.specs.Steps.{stored_ehdr, with_ehdr, with_phdrs, with_sections, with_null_section}
+use Rattle.elf_object.specs.Calls.{newphdr_refusal, update_ehdr_refusal}
+use Rattle.elf_object.specs.Calls as calls
+use Rattle.elf_object.specs.Valid.{IsObject}
+use Rattle.elf_object.proofs.AnswerLaws.{answered_value, answered_refusal}
+use Rattle.elf_object.proofs.PassedLaws.{none_first, not_refused}
+use Rattle.elf_descriptor.specs.State.{State}
+use Rattle.elf_descriptor.specs.Edits.{StepsTo, stepped, grown, nulled}
+use Rattle.command_objects.specs.Words.{is_among}
+use Rattle.command_objects.specs.Followed.{kept_from_1}
+use Rattle.command_objects.specs.Rebuilt.{made_section, assembled, index_refusal}
+use Rattle.object_making.specs.Making.{made_sections, sections_by, AddsMade}
+use Rattle.object_making.specs.Made.{with_more}
+use Rattle.object_making.specs.Refused.{RefusedBy, UnreadBy}
+use Rattle.object_making.proofs.RefusedLaws.{alone}
+use Rattle.strip_rebuild.specs.declared.keepers.Keeper.{Keeper}
+use Rattle.strip_rebuild.specs.Keepers.{header_by, items_by, refusal_by, index_by}
+use Rattle.strip_rebuild.specs.Answers.{sections_of, filled_refusal, HasSections, IsFilled}
+use Rattle.strip_rebuild.proofs.MakeLaws.{refused_unread, unread_stated, stated_quiet, quiet_rose}
+use Rattle.strip_rebuild.proofs.NumberLaws.{kept_few}
+
+-- ---- No sections
+
+pub kept_none : (o : Object) (removed : List ℕ) → length o.sections ≡ 0
+    → kept_from_1 o removed ≡ []
+unfolding kept_from_1
+kept_none o removed none =
+    ap (λ (n : ℕ). filter (λ s. not (is_among removed s)) (range_with_len 1 (n - 1))) none
+
+same_object : (m : Object) → m.sections ≡ [] → m.header.shnum ≡ 0 → m ≡ with_sections m []
+same_object m empty count =
+    ap (λ (l : List Section). record m { sections = l }) empty
+    ∙ ap (λ (n : ℕ). record m { header = record m.header { shnum = n }; sections = [] }) count
+
+none_made : (k : Keeper) (o : Object) → length o.sections ≡ 0 → sections_of k o ≡ []
+unfolding sections_of
+none_made k o none =
+    ap (λ (b : Bool). if b then [] else new_section
+    ∷ sections_by (header_by k o) (items_by k o) (kept_from_1 o k.removed.now))
+    (eq-eqb (length o.sections) 0 none)
+
+pub no_sections : {S : Type 0} (told : Bool) (k : Keeper) (o : Object) (made : State S)
+    → length o.sections ≡ 0 → made.o.sections ≡ [] → made.o.header.shnum ≡ 0
+    → HasSections told (sections_of k o) made made
+no_sections told k o made none empty count = record {
+  sections = [];
+  object = same_object made.o empty count;
+  long = ap (λ (l : List Section). length l) (sym (none_made k o none));
+  exact = λ t. sym (none_made k o none);
+  told_is = refl;
+}
+
+-- ---- Section 0
+
+pub null_memory : {S : Type 0} (e : ElfError) (old new stepped : S)
+    → Edits {A = Unit {0}} (Err e) old new (Ok tt) stepped → e ≡ Memory
+null_memory Memory old new stepped came = refl
+null_memory e old new stepped came =
+    let clash : ◌≡◌ {A = Result (Unit {0}) ElfError} (Ok tt) (Err e) = came.0 in cc
+
+module _ {S : Type 0} (made mid : State S) (empty : made.o.sections ≡ [])
+    (is : mid ≡ nulled made) where
+  null_object : with_null_section made.o ≡ with_sections made.o (new_section ∷ [])
+  unfolding with_null_section
+  null_object =
+      ap (λ (b : Bool). if b then with_sections made.o (new_section ∷ []) else made.o)
+      (eq-eqb (length made.o.sections) 0 (ap (λ (l : List Section). length l) empty))
+
+  null_state : mid ≡ grown calls.newnull made
+  null_state =
+      is
+      ∙ ap (λ (b : Bool). if b then grown calls.newnull made else made)
+      (eq-eqb (length made.o.sections) 0 (ap (λ (l : List Section). length l) empty))
+
+  pub null_made : mid.o ≡ with_sections made.o (new_section ∷ [])
+  null_made = ap (λ (s : State S). s.o) null_state ∙ null_object
+
+  pub null_told : mid.told ≡ made.told
+  null_told = ap (λ (s : State S). s.told) null_state
+
+  pub null_some : 0 < length mid.o.sections
+  null_some =
+      let one : length mid.o.sections ≡ 1 = ap (λ (o : Object). length o.sections) null_made in
+      omega (arith, one)
+
+  pub null_class : mid.o.header.class ≡ made.o.header.class
+  null_class = ap (λ (o : Object). o.header.class) null_made
+
+  pub null_room : (o : Object) (removed numbers : List ℕ) → IsObject o → (length o.sections ≡ 0 → ⊥)
+      → numbers ≡ kept_from_1 o removed
+      → length mid.o.sections + length numbers ≤ MAX_SECTIONS
+  null_room o removed numbers ok some at =
+      let one : length mid.o.sections ≡ 1 = ap (λ (o : Object). length o.sections) null_made in
+      let long : length numbers ≡ length (kept_from_1 o removed) =
+      ap (λ (l : List ℕ). length l) at in
+      omega (arith, one, long, kept_few o removed, ok.section_count, some)
+
+-- ---- The others
+
+made_long : (hs : List Shdr) (a : List Items) → length a ≡ length hs
+    → length (made_sections hs a) ≡ length hs
+unfolding made_sections
+made_long [] a same = refl
+made_long (h ∷ hs) [] same = absurd (omega (arith, same))
+made_long (h ∷ hs) (x ∷ a) same =
+    let later = made_long hs a (omega (arith, same)) in omega (arith, later)
+
+made_stated : (header : ℕ → Shdr) (items : ℕ → Items) (numbers : List ℕ)
+    → made_sections (map header numbers) (map items numbers) ≡ sections_by header items numbers
+unfolding made_sections sections_by
+made_stated header items [] = refl
+made_stated header items (s ∷ numbers) =
+    ap (λ (l : List Section). made_section (header s) (items s) ∷ l)
+    (made_stated header items numbers)
+
+stated_long : (header : ℕ → Shdr) (items : ℕ → Items) (numbers : List ℕ)
+    → length (sections_by header items numbers) ≡ length numbers
+unfolding sections_by
+stated_long header items numbers =
+    length-map numbers (λ s. made_section (header s) (items s))
+
+some_made : (k : Keeper) (o : Object) → (length o.sections ≡ 0 → ⊥)
+    → sections_of k o
+    ≡ new_section ∷ sections_by (header_by k o) (items_by k o) (kept_from_1 o k.removed.now)
+unfolding sections_of
+some_made k o some =
+    ap (λ (b : Bool). if b then [] else new_section
+    ∷ sections_by (header_by k o) (items_by k o) (kept_from_1 o k.removed.now))
+    (ne_eqb (length o.sections) 0 some)
+
+more_made : (m : Object) (l : List Section)
+    → with_more (with_sections m (new_section ∷ [])) l ≡ with_sections m (new_section ∷ l)
+more_made m l = refl
+
+pub all_sections_made : {S : Type 0} (told : Bool) (k : Keeper) (o : Object) (numbers : List ℕ)
+    (made mid new : State S) → (length o.sections ≡ 0 → ⊥)
+    → numbers ≡ kept_from_1 o k.removed.now
+    → mid.o ≡ with_sections made.o (new_section ∷ []) → mid.told ≡ made.told
+    → AddsMade told (header_by k o) (items_by k o) numbers mid new
+    → HasSections told (sections_of k o) made new
+all_sections_made {S} told k o numbers made mid new some at mid_is mid_told adds =
+    let header = header_by k o in
+    let items = items_by k o in
+    let rest = made_sections (map header numbers) adds.contents in
+    let stated : sections_of k o ≡ new_section ∷ sections_by header items numbers =
+    some_made k o some
+    ∙ ap (λ (l : List ℕ). new_section ∷ sections_by header items l) (sym at) in
+    record {
+      sections = new_section ∷ rest;
+      object = adds.state.object
+          ∙ ap (λ (m : Object). with_more m rest) mid_is
+          ∙ more_made made.o rest;
+      long = ap suc (made_long (map header numbers) adds.contents
+          (adds.long ∙ sym (length-map numbers header))
+          ∙ length-map numbers header
+          ∙ sym (stated_long header items numbers))
+          ∙ ap (λ (l : List Section). length l) (sym stated);
+      exact = λ t.
+          ap (λ (l : List Section). new_section ∷ l)
+          (ap (made_sections (map header numbers)) (adds.exact t)
+          ∙ made_stated header items numbers)
+          ∙ sym stated;
+      told_is = adds.state.told ∙ mid_told;
+    }
+
+-- ---- Refusals, one after another
+
+filled_first : (k : Keeper) (o : Object) (e : ElfError) → newphdr_refusal (length o.phdrs) ≡ Some e
+    → filled_refusal k o ≡ Some e
+unfolding filled_refusal
+filled_first k o e is =
+    ap (λ (r : Option ElfError). first_refusal (r
+    ∷ first_refusal (map (refusal_by k o) (kept_from_1 o k.removed.now))
+    ∷ index_refusal o (sections_of k o) (index_by k o) ∷ [])) is
+
+unread_by : (r q : Option ElfError) (e : ElfError) → (r ≡ Some e → q ≡ Some e) → UnreadBy r e
+    → UnreadBy q e
+unread_by r q Memory behind by = tt
+unread_by r q Read behind by = tt
+unread_by r q Write behind by = by
+unread_by r q e behind by = behind by
+
+pub segments_refused : (k : Keeper) (o : Object) (e : ElfError)
+    → RefusedBy (newphdr_refusal (length o.phdrs)) e → UnreadBy (filled_refusal k o) e
+segments_refused k o e by =
+    unread_by (newphdr_refusal (length o.phdrs)) (filled_refusal k o) e (filled_first k o e)
+    (refused_unread (newphdr_refusal (length o.phdrs)) e by)
+
+module _ (k : Keeper) (o : Object) (segments : newphdr_refusal (length o.phdrs) ≡ None) where
+  filled_second : filled_refusal k o
+      ≡ first_refusal (first_refusal (map (refusal_by k o) (kept_from_1 o k.removed.now))
+      ∷ index_refusal o (sections_of k o) (index_by k o) ∷ [])
+  unfolding filled_refusal
+  filled_second =
+      ap (λ (r : Option ElfError). first_refusal (r
+      ∷ first_refusal (map (refusal_by k o) (kept_from_1 o k.removed.now))
+      ∷ index_refusal o (sections_of k o) (index_by k o) ∷ [])) segments
+
+  pub sections_refused : (numbers : List ℕ) (e : ElfError)
+      → numbers ≡ kept_from_1 o k.removed.now
+      → UnreadBy (first_refusal (map (refusal_by k o) numbers)) e
+      → UnreadBy (filled_refusal k o) e
+  sections_refused numbers e at by =
+      unread_by (first_refusal (map (refusal_by k o) numbers)) (filled_refusal k o) e
+      (λ is. filled_second
+      ∙ ap (λ (r : Option ElfError). first_refusal (r
+      ∷ index_refusal o (sections_of k o) (index_by k o) ∷ []))
+      (ap (λ (l : List ℕ). first_refusal (map (refusal_by k o) l)) (sym at) ∙ is)) by
+
+  pub filled_third : (numbers : List ℕ) → numbers ≡ kept_from_1 o k.removed.now
+      → first_refusal (map (refusal_by k o) numbers) ≡ None
+      → filled_refusal k o ≡ index_refusal o (sections_of k o) (index_by k o)
+  filled_third numbers at none =
+      filled_second
+      ∙ ap (λ (r : Option ElfError). first_refusal (r
+      ∷ index_refusal o (sections_of k o) (index_by k o) ∷ []))
+      (ap (λ (l : List ℕ). first_refusal (map (refusal_by k o) l)) (sym at) ∙ none)
+      ∙ alone (index_refusal o (sections_of k o) (index_by k o))
+
+-- ---- The header
+
+abbrev by_parts : Class → ℕ → Ehdr → Option ElfError
+by_parts class n h = first_refusal
+    (refused_if (not (h.shstrndx == 0) && nat_le n h.shstrndx) (NoSection h.shstrndx n)
+    ∷ refused_if (not (fits class h.entry && fits class h.phoff && fits class h.shoff))
+    (Unfit part.Header 0)
+    ∷ [])
+
+header_parts : (m : Object) (h : Ehdr)
+    → update_ehdr_refusal m h ≡ by_parts m.header.class (length m.sections) h
+unfolding update_ehdr_refusal stored_ehdr ehdr_fits
+header_parts m h = refl
+
+index_parts : (o : Object) (sections : List Section) (index : ℕ)
+    → index_refusal o sections index
+    ≡ by_parts o.header.class (length sections) (record o.header { shstrndx = index })
+unfolding index_refusal update_ehdr_refusal stored_ehdr ehdr_fits
+index_parts o sections index = refl
+
+pub header_refused : (o m : Object) (sections : List Section) (index : ℕ)
+    → m.header.class ≡ o.header.class → length m.sections ≡ length sections
+    → update_ehdr_refusal m (record o.header { shstrndx = index })
+    ≡ index_refusal o sections index
+header_refused o m sections index class count =
+    header_parts m (record o.header { shstrndx = index })
+    ∙ ap (λ (c : Class). by_parts c (length m.sections) (record o.header { shstrndx = index }))
+    class
+    ∙ ap (λ (n : ℕ). by_parts o.header.class n (record o.header { shstrndx = index })) count
+    ∙ sym (index_parts o sections index)
+
+index_below : (class : Class) (n index : ℕ) (h : Ehdr) → h.shstrndx ≡ index
+    → by_parts class n h ≡ None → (index ≡ 0) ⊎ (index < n)
+index_below class n index h at none =
+    let first : (not (h.shstrndx == 0) && nat_le n h.shstrndx) ≡ false =
+    not_refused (not (h.shstrndx == 0) && nat_le n h.shstrndx) (NoSection h.shstrndx n)
+    (none_first (refused_if (not (h.shstrndx == 0) && nat_le n h.shstrndx)
+    (NoSection h.shstrndx n)) _ none) in
+    subst (λ (i : ℕ). (i ≡ 0) ⊎ (i < n)) at
+    (elim (and_cases (not (h.shstrndx == 0)) (nat_le n h.shstrndx) first) [
+      | inl zero_is ↦ inl (eqb-true h.shstrndx 0 (not-false (h.shstrndx == 0) zero_is))
+      | inr low ↦ inr (leb-false n h.shstrndx low)
+    ])
+
+-- ---- All of it
+
+segments_then : (m : Object) (phdrs : List Phdr) (l : List Section)
+    → with_sections (with_phdrs m phdrs) l ≡ with_phdrs (with_sections m l) phdrs
+unfolding with_phdrs
+segments_then m phdrs l = refl
+
+pub with_segments_same : (m : Object) (phdrs : List Phdr)
+    → ((with_phdrs m phdrs).sections ≡ m.sections)
+    × ((with_phdrs m phdrs).header.shnum ≡ m.header.shnum)
+    × ((with_phdrs m phdrs).header.class ≡ m.header.class)
+unfolding with_phdrs
+with_segments_same m phdrs = (refl, refl, refl)
+
+filled_index : (m o : Object) (index : ℕ) (l : List Section)
+    → ((assembled m o index l).header.shstrndx ≡ index)
+    × ((assembled m o index l).sections ≡ l)
+unfolding assembled with_ehdr stored_ehdr with_phdrs
+filled_index m o index l = (refl, refl)
+
+as_assembled : (m o : Object) (index : ℕ) (l : List Section)
+    → with_ehdr (with_phdrs (with_sections m l) o.phdrs) (record o.header { shstrndx = index })
+    ≡ assembled m o index l
+unfolding assembled
+as_assembled m o index l = refl
+
+module _ {S : Type 0} (told : Bool) (o : Object) (index : ℕ) (stated : List Section)
+    (made segments filled new : State S)
+    (segments_are : segments ≡ stepped (calls.phdrs_mut o.phdrs) made)
+    (class : made.o.header.class ≡ o.header.class)
+    (has : HasSections told stated segments filled) where
+  segments_object : segments.o ≡ with_phdrs made.o o.phdrs
+  segments_object = ap (λ (s : State S). s.o) segments_are
+
+  filled_object : filled.o ≡ with_phdrs (with_sections made.o has.sections) o.phdrs
+  filled_object =
+      has.object
+      ∙ ap (λ (m : Object). with_sections m has.sections) segments_object
+      ∙ segments_then made.o o.phdrs has.sections
+
+  filled_class : filled.o.header.class ≡ o.header.class
+  filled_class =
+      ap (λ (m : Object). m.header.class) has.object
+      ∙ ap (λ (m : Object). m.header.class) segments_object
+      ∙ (with_segments_same made.o o.phdrs).2
+      ∙ class
+
+  filled_count : length filled.o.sections ≡ length stated
+  filled_count = ap (λ (m : Object). length m.sections) has.object ∙ has.long
+
+  -- the refusal of the header is that of the string index
+  pub last_refused : update_ehdr_refusal filled.o (record o.header { shstrndx = index })
+      ≡ index_refusal o stated index
+  last_refused = header_refused o filled.o stated index filled_class filled_count
+
+  is_filled : index_refusal o stated index ≡ None
+      → new ≡ stepped (calls.update_ehdr (record o.header { shstrndx = index })) filled
+      → IsFilled told o index stated made new
+  is_filled passes is =
+      let object : new.o ≡ assembled made.o o index has.sections =
+      ap (λ (s : State S). s.o) is
+      ∙ ap (λ (m : Object). with_ehdr m (record o.header { shstrndx = index })) filled_object
+      ∙ as_assembled made.o o index has.sections in
+      let parts = filled_index made.o o index has.sections in
+      let below = index_below o.header.class (length stated) index
+      (record o.header { shstrndx = index }) refl (sym (index_parts o stated index) ∙ passes) in
+      record {
+        sections = has.sections;
+        object = object;
+        long = has.long;
+        exact = has.exact;
+        told_is = ap (λ (s : State S). s.told) is ∙ has.told_is
+            ∙ ap (λ (s : State S). s.told) segments_are;
+        index_is = subst (λ (m : Object).
+            (m.header.shstrndx ≡ 0) ⊎ (m.header.shstrndx < length m.sections)) (sym object)
+            (rw (parts.0, parts.1, has.long) below);
+      }
+
+  pub filled_on : (r : Result (Unit {0}) ElfError)
+      → r ≡ answered (update_ehdr_refusal filled.o (record o.header { shstrndx = index })) tt
+      → StepsTo r filled new
+      (stepped (calls.update_ehdr (record o.header { shstrndx = index })) filled)
+      → OnOk r (IsFilled told o index stated made new)
+  filled_on (Ok u) answer steps =
+      is_filled (sym last_refused ∙ (answered_value
+      (update_ehdr_refusal filled.o (record o.header { shstrndx = index })) tt u
+      (sym answer)).0) steps
+  filled_on (Err e) answer steps = tt
+
+-- ---- Of a result
+
+pub on_ok : {T A B : Type 0} (r : Result T ElfError) → (A → B) → OnOk r A → OnOk r B
+on_ok (Ok x) f is = f is
+on_ok (Err e) f is = tt
+
+pub none_passed : (k : Keeper) (o : Object) (numbers : List ℕ) → length o.sections ≡ 0
+    → numbers ≡ kept_from_1 o k.removed.now
+    → first_refusal (map (refusal_by k o) numbers) ≡ None
+none_passed k o numbers none at =
+    ap (λ (l : List ℕ). first_refusal (map (refusal_by k o) l))
+    (at ∙ kept_none o k.removed.now none)
+
+module _ {S : Type 0} (o : Object) (made mid : State S)
+    (is : mid ≡ stepped (calls.phdrs_mut o.phdrs) made) where
+  pub segments_empty : made.o.sections ≡ [] → mid.o.sections ≡ []
+  segments_empty empty =
+      ap (λ (s : State S). s.o.sections) is ∙ (with_segments_same made.o o.phdrs).0 ∙ empty
+
+  pub segments_count : made.o.header.shnum ≡ 0 → mid.o.header.shnum ≡ 0
+  segments_count count =
+      ap (λ (s : State S). s.o.header.shnum) is ∙ (with_segments_same made.o o.phdrs).1 ∙ count
+
+  pub segments_class : made.o.header.class ≡ o.header.class
+      → mid.o.header.class ≡ o.header.class
+  segments_class class =
+      ap (λ (s : State S). s.o.header.class) is ∙ (with_segments_same made.o o.phdrs).2 ∙ class
+
+pub header_states : (m : Object) (h : Ehdr) → IfSome (update_ehdr_refusal m h) IsRefusal
+unfolding update_ehdr_refusal
+header_states m h =
+    by (not (h.shstrndx == 0) && nat_le (length m.sections) h.shstrndx)
+    (not (ehdr_fits (stored_ehdr m.header h)))
+  where
+    by : (a b : Bool) → IfSome (first_refusal
+        (refused_if a (NoSection h.shstrndx (length m.sections))
+        ∷ refused_if b (Unfit part.Header 0) ∷ [])) IsRefusal
+    by true b = tt
+    by false true = tt
+    by false false = tt
+
+-- the refusal of the header is the last one
+module _ (k : Keeper) (o : Object) (numbers : List ℕ) (at : numbers ≡ kept_from_1 o k.removed.now)
+    (segments : newphdr_refusal (length o.phdrs) ≡ None)
+    (before : first_refusal (map (refusal_by k o) numbers) ≡ None) (q : Option ElfError)
+    (states : IfSome q IsRefusal) (index : ℕ) (index_is : index ≡ index_by k o)
+    (same : q ≡ index_refusal o (sections_of k o) index) where
+  index_last : q ≡ filled_refusal k o
+  index_last =
+      same ∙ ap (index_refusal o (sections_of k o)) index_is
+      ∙ sym (filled_third k o segments numbers at before)
+
+  pub passed_on : (r : Result (Unit {0}) ElfError) → r ≡ answered q tt
+      → OnOk r (filled_refusal k o ≡ None)
+  passed_on (Ok u) answer = sym index_last ∙ (answered_value q tt u (sym answer)).0
+  passed_on (Err e) answer = tt
+
+  stated_refusal : (e : ElfError) → ◌≡◌ {A = Result (Unit {0}) ElfError} (Err e) (answered q tt)
+      → IsRefusal e
+  stated_refusal e answer =
+      subst (λ (x : Option ElfError). IfSome x IsRefusal) (answered_refusal q tt e (sym answer))
+      states
+
+  pub refused_on : (r : Result (Unit {0}) ElfError) → r ≡ answered q tt
+      → IfErr r (UnreadBy (filled_refusal k o))
+  refused_on (Ok u) answer = tt
+  refused_on (Err e) answer =
+      unread_stated (filled_refusal k o) e (stated_refusal e answer)
+      (sym index_last ∙ answered_refusal q tt e (sym answer))
+
+  pub rose_on : (r : Result (Unit {0}) ElfError) (a b : ℕ) → r ≡ answered q tt → ReadRose r a b
+  rose_on (Ok u) a b answer = tt
+  rose_on (Err e) a b answer =
+      quiet_rose (Unit {0}) e a b (stated_quiet e (stated_refusal e answer))

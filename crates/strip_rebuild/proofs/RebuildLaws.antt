@@ -1,0 +1,424 @@
+-- The object that is made anew: what it is answered with, and what is asked for.
+use Rattle.std.proofs.Common.{◌≡◌, ◌≢◌, ◌⊎◌, inl, inr, ◌≤◌, ◌==◌, ◌&&◌, ℕ, Bool, true, false, not, List, [], ◌∷◌, length, map, Option, Some, None, Result, Ok, Err, if◌then◌else◌, refl, sym, ap, ◌∙◌, subst, arith}
+use Rattle.std.specs.Prelude.{IsTrue, IfSome, OnOk, nat_le, min}
+use Rattle.std.specs.List.{flat_map}
+use Rattle.elf_types.specs.declared.errors.ElfError.{ElfError}
+use Rattle.elf_types.specs.declared.errors.ElfError.TheVariants.{Memory, Read, Write, TooLarge, NoSection, NoData, OutOfFile, Ragged, TooMany, Unfit}
+use Rattle.elf_types.specs.declared.constants.TheConstants.{PN_XNUM}
+use Rattle.elf_types.specs.declared.records.Part.TheVariants as part
+use Rattle.elf_types.specs.Answers.{refused_if, first_refusal, answered, err_of, ◌>>=◌}
+use Rattle.elf_outside.specs.declared.sources.Source.{Ghosts}
+use Rattle.elf_xlate.specs.declared.content.Items.{Items}
+use Rattle.elf_xlate.specs.Headers.{ehdr_fits}
+use Rattle.elf_xlate.specs.Translation.{decoded}
+use Rattle.elf_object.specs.Object.{Object, Section, section_at, piece_at, is_dirty}
+use Rattle.elf_object.specs.Open.{created_over}
+use Rattle.elf_object.specs.Answers.{content, no_section, no_data, no_content, out_of_file, piece_count, raw_refusal, data_refusal}
+use Rattle.elf_object.specs.Calls.{newphdr_refusal, update_ehdr_refusal}
+use Rattle.elf_object.specs.Due.{homes_due}
+use Rattle.elf_object.specs.Steps.{stored_ehdr}
+use Rattle.elf_object.specs.Valid.{IsObject}
+use Rattle.elf_object.specs.Words.{result_map}
+use Rattle.elf_object.proofs.StepLaws.{first_refusal-met, first_refusal-more}
+use Rattle.elf_descriptor.specs.State.{State}
+use Rattle.elf_descriptor.specs.Edits.{StepsTo}
+use Rattle.command_objects.specs.Arranged.{Rebuilt, over_base, base_end, tail_of, tail_refusal, placed_from, arranged}
+use Rattle.command_objects.specs.Words.{is_among, is_program}
+use Rattle.command_objects.specs.Followed.{kept_from_1}
+use Rattle.command_objects.specs.Rebuilt.{assembled, rebuilt, rebuild_refusal, rebuilt_object, rebuilt_sections, rebuilt_index, rebuilt_tail, renews_names, kept_names, table_refusal, kept_refusal, items_follow, index_refusal}
+use Rattle.object_making.specs.Based.{IsMadeOver}
+use Rattle.object_making.specs.Placing.{made_of, arranged_refusal, arranged_state}
+use Rattle.object_making.specs.Refused.{UnreadBy}
+use Rattle.strip_removed.specs.Steps.{IsRemovable}
+use Rattle.strip_rebuild.specs.declared.naming.Names.{Names}
+use Rattle.strip_rebuild.specs.declared.naming.Names.TheVariants as names
+use Rattle.strip_rebuild.specs.declared.keepers.Keeper.{Keeper}
+use Rattle.strip_rebuild.specs.Makes.{AsksFor}
+use Rattle.strip_rebuild.specs.Keepers.{index_by, reads_by, RenewsAs, AreNames, KeepsFor}
+use Rattle.strip_rebuild.specs.Answers.{RebuildAnswers, EarlyBy, early_refusal, homes_asked, sections_of, filled_refusal, IsFilled, ChecksNames, Rebuilds}
+use Rattle.strip_rebuild.proofs.AskLaws.{asks_as, asks_stop}
+use Rattle.strip_rebuild.proofs.NumberLaws.{zero_stays}
+use Rattle.strip_rebuild.proofs.KeptLaws.{none_among, among_any, homes_told, early_told, index_told}
+use Rattle.strip_rebuild.proofs.SectionLaws.{sections_told}
+
+-- ---- No early refusal is TooLarge
+
+abbrev IsSmall : ElfError → Type 0
+IsSmall TooLarge = ⊥
+IsSmall e = Unit {0}
+
+abbrev AreSmall : Option ElfError → Type 0
+AreSmall r = IfSome r IsSmall
+
+small_if : (b : Bool) (e : ElfError) → IsSmall e → AreSmall (refused_if b e)
+small_if true e is = is
+small_if false e is = tt
+
+small_then : (r : Option ElfError) (rest : List (Option ElfError)) → AreSmall r
+    → AreSmall (first_refusal rest) → AreSmall (first_refusal (r ∷ rest))
+small_then None rest one others = others
+small_then (Some e) rest one others = one
+
+small_content : (o : Object) (s : ℕ) → AreSmall (err_of (content o s))
+unfolding content
+small_content o s =
+    by (section_at o s).home.out
+    (decoded (section_at o s).home.kind o.header.class o.header.order (section_at o s).raw)
+  where
+    by : (b : Bool) (d : Option Items)
+        → AreSmall (err_of {A = Items} (if b then Err (OutOfFile s)
+        else (elim d [ None ↦ Err (Ragged s) | Some x ↦ Ok x ])))
+    by true d = tt
+    by false None = tt
+    by false (Some x) = tt
+
+small_data : (o : Object) (s : ℕ) → AreSmall (data_refusal o s 0)
+unfolding data_refusal no_content
+small_data o s =
+    small_then (no_section o s) (no_data o s 0 ∷ no_content o s 0 ∷ [])
+    (small_if (nat_le (length o.sections) s) (NoSection s (length o.sections)) tt)
+    (small_then (no_data o s 0) (no_content o s 0 ∷ [])
+    (small_if (nat_le (piece_count o s) 0) (NoData 0 (piece_count o s)) tt)
+    (small_then (no_content o s 0) [] (by (piece_at o s 0).own) tt))
+  where
+    by : (own : Option Items)
+        → AreSmall (elim own [ None ↦ err_of (content o s) | Some items ↦ None ])
+    by None = small_content o s
+    by (Some items) = tt
+
+small_raw : (o : Object) (s : ℕ) → AreSmall (raw_refusal o s)
+unfolding raw_refusal
+small_raw o s =
+    small_then (no_section o s) (out_of_file o s ∷ [])
+    (small_if (nat_le (length o.sections) s) (NoSection s (length o.sections)) tt)
+    (small_then (out_of_file o s) []
+    (small_if (section_at o s).home.out (OutOfFile s) tt) tt)
+
+small_kept : (o : Object) (removed : List ℕ) (s : ℕ) → AreSmall (kept_refusal o removed s)
+unfolding kept_refusal
+small_kept o removed s =
+    small_then (raw_refusal o s)
+    ((if items_follow o removed s then data_refusal o s 0 else None) ∷ []) (small_raw o s)
+    (small_then (if items_follow o removed s then data_refusal o s 0 else None) []
+    (by (items_follow o removed s)) tt)
+  where
+    by : (b : Bool) → AreSmall (if b then data_refusal o s 0 else None)
+    by true = small_data o s
+    by false = tt
+
+small_all : (f : ℕ → Option ElfError) (l : List ℕ) → ((s : ℕ) → AreSmall (f s))
+    → AreSmall (first_refusal (map f l))
+small_all f [] each = tt
+small_all f (s ∷ l) each = small_then (f s) (map f l) (each s) (small_all f l each)
+
+small_index : (o : Object) (sections : List Section) (index : ℕ)
+    → AreSmall (index_refusal o sections index)
+unfolding index_refusal update_ehdr_refusal
+small_index o sections index =
+    by (not (index == 0) && nat_le (length sections) index)
+    (not (ehdr_fits (stored_ehdr (record o.header { shnum = length sections })
+    (record o.header { shstrndx = index }))))
+  where
+    by : (a b : Bool) → AreSmall (first_refusal (refused_if a (NoSection index (length sections))
+        ∷ refused_if b (Unfit part.Header 0) ∷ []))
+    by true b = tt
+    by false true = tt
+    by false false = tt
+
+small_early : (o : Object) (removed : List ℕ) → AreSmall (early_refusal o removed)
+unfolding early_refusal
+small_early o removed =
+    let all = first_refusal (map (kept_refusal o removed) (kept_from_1 o removed)) in
+    let last = index_refusal o (rebuilt_sections o removed) (rebuilt_index o removed) in
+    small_then (newphdr_refusal (length o.phdrs)) (all ∷ last ∷ [])
+    (small_if (nat_le PN_XNUM (length o.phdrs)) TooMany tt)
+    (small_then all (last ∷ []) (small_all (kept_refusal o removed) (kept_from_1 o removed)
+    (small_kept o removed))
+    (small_then last [] (small_index o (rebuilt_sections o removed) (rebuilt_index o removed)) tt))
+
+-- ---- Answers
+
+early_by : (r : Option ElfError) (e : ElfError) → AreSmall r → UnreadBy r e → EarlyBy r e
+early_by r Memory small by = tt
+early_by r Read small by = tt
+early_by r Write small by = by
+early_by r TooLarge small by = absurd (subst (λ (x : Option ElfError). IfSome x IsSmall) by small)
+early_by r e small by = by
+
+module _ (o : Object) (removed : List ℕ) where
+  abbrev names_refusal : Option ElfError
+  names_refusal = if renews_names o removed then table_refusal (kept_names o removed) else None
+
+  refused_early : (e : ElfError) → early_refusal o removed ≡ Some e
+      → rebuild_refusal o removed ≡ Some e
+  unfolding early_refusal rebuild_refusal
+  refused_early e is =
+      first_refusal-met (newphdr_refusal (length o.phdrs)
+      ∷ first_refusal (map (kept_refusal o removed) (kept_from_1 o removed))
+      ∷ index_refusal o (rebuilt_sections o removed) (rebuilt_index o removed) ∷ [])
+      (names_refusal ∷ []) e is
+
+  refused_late : early_refusal o removed ≡ None
+      → rebuild_refusal o removed ≡ first_refusal (names_refusal ∷ [])
+  unfolding early_refusal rebuild_refusal
+  refused_late is =
+      first_refusal-more (newphdr_refusal (length o.phdrs)
+      ∷ first_refusal (map (kept_refusal o removed) (kept_from_1 o removed))
+      ∷ index_refusal o (rebuilt_sections o removed) (rebuilt_index o removed) ∷ [])
+      names_refusal is
+
+  rebuilt_refused : (e : ElfError) → rebuild_refusal o removed ≡ Some e
+      → rebuilt o removed ≡ Err e
+  unfolding rebuilt
+  rebuilt_refused e is =
+      ap (λ (r : Option ElfError). answered r (made_of (rebuilt_object o removed)
+      (rebuilt_tail o removed)) >>= arranged) is
+
+  rebuilt_passed : rebuild_refusal o removed ≡ None
+      → rebuilt o removed ≡ arranged (made_of (rebuilt_object o removed) (rebuilt_tail o removed))
+  unfolding rebuilt
+  rebuilt_passed is =
+      ap (λ (r : Option ElfError). answered r (made_of (rebuilt_object o removed)
+      (rebuilt_tail o removed)) >>= arranged) is
+
+  answers_early : (e : ElfError) → UnreadBy (early_refusal o removed) e
+      → RebuildAnswers (Err e) (rebuilt o removed)
+  answers_early Memory by = tt
+  answers_early Read by = tt
+  answers_early Write by = by
+  answers_early e by = rebuilt_refused e (refused_early e by)
+
+-- want of memory and failed reads are answered by anything
+pub faults_answer : (e : ElfError) (stated : Result Rebuilt ElfError) → (e ≡ Memory) ⊎ (e ≡ Read)
+    → RebuildAnswers (Err e) stated
+faults_answer e stated (inl is) =
+    subst (λ (x : ElfError). RebuildAnswers (Err x) stated) (sym is) tt
+faults_answer e stated (inr is) =
+    subst (λ (x : ElfError). RebuildAnswers (Err x) stated) (sym is) tt
+
+pub faults_early : (e : ElfError) (stated : Option ElfError) → (e ≡ Memory) ⊎ (e ≡ Read)
+    → EarlyBy stated e
+faults_early e stated (inl is) = subst (λ (x : ElfError). EarlyBy stated x) (sym is) tt
+faults_early e stated (inr is) = subst (λ (x : ElfError). EarlyBy stated x) (sym is) tt
+
+-- ---- A created object
+
+over_fresh : (o : Object) (tail : Option ℕ)
+    → ((over_base o tail).sections ≡ []) × ((over_base o tail).header.shnum ≡ 0)
+    × ((over_base o tail).header.class ≡ o.header.class)
+unfolding over_base created_over
+over_fresh o None = (refl, refl, refl)
+over_fresh o (Some n) = (refl, refl, refl)
+
+pub fresh : {S : Type 0} (told : Bool) (o : Object) (tail : Option ℕ) (made : State S)
+    → IsMadeOver told o tail made
+    → (made.o.sections ≡ []) × (made.o.header.shnum ≡ 0) × (made.o.header.class ≡ o.header.class)
+fresh told o tail made is =
+    let parts = over_fresh o tail in (
+      ap (λ (m : Object). m.sections) is.made_is.object ∙ parts.0,
+      ap (λ (m : Object). m.header.shnum) is.made_is.object ∙ parts.1,
+      ap (λ (m : Object). m.header.class) is.made_is.object ∙ parts.2,
+    )
+
+least : (b : Bool) (n m : ℕ) → IfSome (if b then Some (min n m) else None) (λ k. k ≤ n)
+least true n m = omega arith
+least false n m = tt
+
+pub tail_within : (o : Object) (removed : List ℕ) (tail : Option ℕ)
+    → tail ≡ rebuilt_tail o removed → IfSome tail (λ n. n ≤ length o.base)
+unfolding rebuilt_tail tail_of base_end
+tail_within o removed tail is =
+    subst (λ (t : Option ℕ). IfSome t (λ n. n ≤ length o.base)) (sym is)
+    (least (is_program o) (length o.base) _)
+
+-- ---- The steps
+
+module _ {S : Type 0} (g : Ghosts S) (old new : State S) (k : Keeper) (is : IsObject old.o)
+    (clean : is_dirty old.o ≡ false) (removable : IsRemovable old.o k.removed.now)
+    (keeps : KeepsFor old.told old.o k) where
+  abbrev Whole : (T : Type 0) → Result Rebuilt ElfError → Result T ElfError → Type 0
+  Whole T seen r =
+      Rebuilds {T = T} g k.removed.now seen r (homes_asked old.o k.removed.now) old new
+
+  stays : is_among k.removed.now 0 ≡ false
+  stays = zero_stays old.o k.removed.now removable
+
+  early_is : filled_refusal k old.o ≡ early_refusal old.o k.removed.now
+  early_is = early_told old.told old.o k keeps stays is clean
+
+  pub homes_are : {T : Type 0} (r : Result T ElfError) (numbers : List ℕ)
+      → numbers ≡ kept_from_1 old.o k.removed.now
+      → AsksFor g r old new (homes_due old.o [] (flat_map (reads_by k old.o) numbers))
+      → AsksFor g r old new (homes_asked old.o k.removed.now)
+  homes_are r numbers at asks =
+      subst (λ (l : List ℕ). AsksFor g r old new (homes_due old.o [] l))
+      (ap (flat_map (reads_by k old.o)) at ∙ homes_told old.told old.o k keeps is clean) asks
+
+  -- it can not be filled
+  pub fill_refused : {T : Type 0} (e : ElfError) → UnreadBy (filled_refusal k old.o) e
+      → AsksFor {T = Unit {0}} g (Err e) old new (homes_asked old.o k.removed.now)
+      → Whole T (Err e) (Err e)
+  fill_refused {T} e by asks =
+      let early = subst (λ (r : Option ElfError). UnreadBy r e) early_is by in
+      record {
+        answer = λ t. answers_early old.o k.removed.now e early;
+        early = early_by (early_refusal old.o k.removed.now) e
+            (small_early old.o k.removed.now) early;
+        asks = asks_stop g {T = Unit {0}} {U = T} e old new (homes_asked old.o k.removed.now) asks;
+      }
+
+  module _ (passed : filled_refusal k old.o ≡ None)
+      (asked : AsksFor {T = Unit {0}} g (Ok tt) old new (homes_asked old.o k.removed.now)) where
+    passes : early_refusal old.o k.removed.now ≡ None
+    passes = sym early_is ∙ passed
+
+    -- by what becomes of the names
+    large_refused : (n : Names) → RenewsAs (renews_names old.o k.removed.now) n
+        → AreNames old.o k.removed.now n → n ≡ names.TooLarge
+        → rebuild_refusal old.o k.removed.now ≡ Some TooLarge
+    large_refused names.TooLarge renews are same =
+        refused_late old.o k.removed.now passes
+        ∙ ap (λ (b : Bool). first_refusal
+        ((if b then table_refusal (kept_names old.o k.removed.now) else None) ∷ [])) renews
+        ∙ ap (λ (r : Option ElfError). first_refusal (r ∷ [])) are
+    large_refused names.Stay renews are same = cc
+    large_refused (names.Anew n) renews are same = cc
+
+    names_passed : (n : Names) → RenewsAs (renews_names old.o k.removed.now) n
+        → AreNames old.o k.removed.now n → n ≢ names.TooLarge
+        → rebuild_refusal old.o k.removed.now ≡ None
+    names_passed names.TooLarge renews are fits = absurd (fits refl)
+    names_passed names.Stay renews are fits =
+        refused_late old.o k.removed.now passes
+        ∙ ap (λ (b : Bool). first_refusal
+        ((if b then table_refusal (kept_names old.o k.removed.now) else None) ∷ [])) renews
+    names_passed (names.Anew n) renews are fits =
+        refused_late old.o k.removed.now passes
+        ∙ ap (λ (b : Bool). first_refusal
+        ((if b then table_refusal (kept_names old.o k.removed.now) else None) ∷ [])) renews
+        ∙ ap (λ (r : Option ElfError). first_refusal (r ∷ [])) are.0
+
+    checked_large : (n : Names) (e : ElfError) → ChecksNames n (Err e)
+        → (n ≡ names.TooLarge) × (e ≡ TooLarge)
+    checked_large names.Stay e came = cc
+    checked_large (names.Anew n) e came = cc
+    checked_large names.TooLarge e came = (refl, let same : e ≡ TooLarge = cc in same)
+
+    checked_fits : (n : Names) (x : Unit {0}) → ChecksNames n (Ok x) → n ≢ names.TooLarge
+    checked_fits n x came large =
+        let clash : ◌≡◌ {A = Result (Unit {0}) ElfError} (Ok x) (Err TooLarge) =
+        subst (λ (m : Names). ChecksNames m (Ok x)) large came in cc
+
+    -- their table is too large
+    pub names_refused : {T : Type 0} (e : ElfError) → ChecksNames k.names (Err e)
+        → Whole T (Err e) (Err e)
+    names_refused {T} e came =
+        let large = checked_large k.names e came in
+        subst (λ (x : ElfError). Whole T (Err x) (Err x)) (sym large.1) (record {
+          answer = λ t. rebuilt_refused old.o k.removed.now TooLarge
+              (large_refused k.names keeps.renews (keeps.names_are t) large.0);
+          early = passes;
+          asks = asks_as g {T = Unit {0}} {U = T} (Ok tt) (Err TooLarge) old new
+              (homes_asked old.o k.removed.now) tt asked;
+        })
+
+    -- ---- What was filled is the stated object
+
+    module _ {M : Type 0} (tail : Option ℕ) (made filled placed : State M) (x : Unit {0})
+        (tail_is : tail ≡ rebuilt_tail old.o k.removed.now)
+        (created : IsMadeOver old.told old.o tail made)
+        (is_filled : IsFilled old.told old.o (index_by k old.o) (sections_of k old.o) made filled)
+        (checked : ChecksNames k.names (Ok x)) where
+      kept_pass : (t : ℕ) → is_among (kept_from_1 old.o k.removed.now) t ≡ true
+          → kept_refusal old.o k.removed.now t ≡ None
+      unfolding early_refusal
+      kept_pass t kept =
+          none_among (kept_refusal old.o k.removed.now) (kept_from_1 old.o k.removed.now) t
+          (second_none (newphdr_refusal (length old.o.phdrs))
+          (first_refusal (map (kept_refusal old.o k.removed.now)
+          (kept_from_1 old.o k.removed.now))) _ passes)
+          (among_any old.o k.removed.now t ∙ kept)
+        where
+          second_none : (a b : Option ElfError) (rest : List (Option ElfError))
+              → first_refusal (a ∷ b ∷ rest) ≡ None → b ≡ None
+          second_none None None rest none = refl
+          second_none None (Some e) rest none = cc
+          second_none (Some e) b rest none = cc
+
+      made_sections_are : (told : Bool) → IsTrue told → KeepsFor told old.o k
+          → sections_of k old.o ≡ rebuilt_sections old.o k.removed.now
+      made_sections_are true t keeps_too =
+          sections_told old.o k keeps_too is clean kept_pass stays
+          (checked_fits k.names x checked)
+      made_sections_are false t keeps_too = cc
+
+      object_is : IsTrue old.told → filled.o ≡ rebuilt_object old.o k.removed.now
+      unfolding rebuilt_object
+      object_is t =
+          is_filled.object
+          ∙ ap (λ (m : Object). assembled m old.o (index_by k old.o) is_filled.sections)
+          (created.exact t ∙ ap (over_base old.o) tail_is)
+          ∙ ap (λ (i : ℕ). assembled (over_base old.o (rebuilt_tail old.o k.removed.now)) old.o i
+          is_filled.sections) (index_told old.told old.o k keeps stays)
+          ∙ ap (assembled (over_base old.o (rebuilt_tail old.o k.removed.now)) old.o
+          (rebuilt_index old.o k.removed.now))
+          (is_filled.exact t ∙ made_sections_are old.told t keeps)
+
+      stated_is : IsTrue old.told
+          → rebuilt old.o k.removed.now ≡ arranged (made_of filled.o tail)
+      stated_is t =
+          rebuilt_passed old.o k.removed.now
+          (names_passed k.names keeps.renews (keeps.names_are t) (checked_fits k.names x checked))
+          ∙ ap (λ (m : Object). arranged (made_of m (rebuilt_tail old.o k.removed.now)))
+          (sym (object_is t))
+          ∙ ap (λ (n : Option ℕ). arranged (made_of filled.o n)) (sym tail_is)
+
+      -- a refusal of a place is that it is too large
+      arrange_large : (t : Option ℕ) (e : ElfError)
+          → ◌≡◌ {A = Result (Unit {0}) ElfError} (Err e) (answered (arranged_refusal filled.o t) tt)
+          → e ≡ TooLarge
+      unfolding tail_refusal
+      arrange_large None e came = cc
+      arrange_large (Some n) e came = by _ came
+        where
+          by : (b : Bool)
+              → ◌≡◌ {A = Result (Unit {0}) ElfError} (Err e) (answered (refused_if b TooLarge) tt)
+              → e ≡ TooLarge
+          by true same = cc
+          by false same = cc
+
+      placed_told : (t : Option ℕ) → (arranged_state filled t).told ≡ filled.told
+      placed_told None = refl
+      placed_told (Some n) = by (length filled.o.sections == 0)
+        where
+          by : (b : Bool)
+              → (if b then filled else record filled { o = placed_from filled.o n; ready = false }).told
+              ≡ filled.told
+          by true = refl
+          by false = refl
+
+      pub placed_whole : (r : Result (Unit {0}) ElfError)
+          → result_map (λ u. made_of placed.o tail) r ≡ arranged (made_of filled.o tail)
+          → r ≡ answered (arranged_refusal filled.o tail) tt
+          → Whole (Unit {0}) (result_map (λ u. made_of placed.o tail) r) r
+      placed_whole (Ok u) came answer = record {
+        answer = λ t. stated_is t ∙ sym came;
+        early = tt;
+        asks = asked;
+      }
+      placed_whole (Err e) came answer =
+          let large = arrange_large tail e answer in
+          subst (λ (d : ElfError). Whole (Unit {0}) (Err d) (Err d)) (sym large) (record {
+            answer = λ t. stated_is t ∙ sym came ∙ ap (λ (d : ElfError). Err d) large;
+            early = passes;
+            asks = asks_as g {T = Unit {0}} {U = Unit {0}} (Ok tt) (Err TooLarge) old new
+                (homes_asked old.o k.removed.now) tt asked;
+          })
+
+      pub placed_made : (r : Result (Unit {0}) ElfError)
+          → StepsTo r filled placed (arranged_state filled tail)
+          → OnOk r (placed.told ≡ true)
+      placed_made (Ok u) steps =
+          ap (λ (s : State M). s.told) steps
+          ∙ placed_told tail ∙ is_filled.told_is ∙ created.made_is.told
+      placed_made (Err e) steps = tt

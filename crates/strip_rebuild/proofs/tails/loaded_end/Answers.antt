@@ -1,0 +1,20 @@
+use Rattle.std.proofs.Common.{sym, ap, ◌∙◌}
+use Rattle.elf_types.specs.declared.records.Shdr.{Shdr}
+use Rattle.elf_object.specs.Object.{section_at}
+use Rattle.elf_object.proofs.AnswerLaws.{home_value}
+use Rattle.strip_rebuild.specs.Ends.{at_most_word, home_end}
+use Rattle.strip_rebuild.proofs.EndLaws.{home_is, home_never}
+use Rattle.strip_rebuild.proofs.tails.loaded_end.Goals as goal
+
+pub unreachable-requires : goal.unreachable-requires
+unreachable-requires g c =
+    home_never c.args.elf.now.o c.args.s.0 _ c.requires c.in-Err.ensures
+
+pub returns : goal.returns
+returns g c =
+    let o = c.args.elf.now.o in
+    let s = c.args.s.0 in
+    let home = home_value o s (c.in-Ok.at, c.in-Ok.len) (sym c.in-Ok.ensures) in
+    c.home_end.ensures
+    ∙ ap (λ (h : Shdr). at_most_word (home_end h c.in-Ok.at c.in-Ok.len)) c.section_header.ensures
+    ∙ ap at_most_word (home_is (section_at o s) c.in-Ok.at c.in-Ok.len home.1 home.2)

@@ -1,0 +1,125 @@
+-- How an object that is made anew is answered.
+use Rattle.std.specs.Prelude.{◌≡◌, ◌⊎◌, ◌<◌, ◌+◌, ℕ, ◌==◌, Bool, List, [], ◌∷◌, length, unwrap_or, if◌then◌else◌, map, Option, Some, None, Result, Ok, Err, IsTrue, IfErr}
+use Rattle.std.specs.List.{flat_map}
+use Rattle.elf_types.specs.Answers.{first_refusal}
+use Rattle.elf_types.specs.declared.errors.ElfError.{ElfError}
+use Rattle.elf_types.specs.declared.errors.ElfError.TheVariants as errors
+use Rattle.elf_types.specs.declared.errors.ElfError.TheVariants.{Memory, Read, Write}
+use Rattle.elf_outside.specs.declared.sources.Source.{Ghosts}
+use Rattle.elf_object.specs.Object.{Object, Section, new_section}
+use Rattle.elf_object.specs.Calls.{newphdr_refusal}
+use Rattle.elf_object.specs.Due.{homes_due}
+use Rattle.elf_object.specs.Steps.{with_sections}
+use Rattle.elf_descriptor.specs.State.{State}
+use Rattle.command_objects.specs.Arranged.{Rebuilt}
+use Rattle.command_objects.specs.Words.{header_at, number_or_0}
+use Rattle.command_objects.specs.Followed.{kept_from_1, symbols_follow, members_follow, indexes_follow, extended_table}
+use Rattle.command_objects.specs.Rebuilt.{assembled, rebuilt, kept_refusal, index_refusal, rebuilt_sections, rebuilt_index, rebuilt_tail}
+use Rattle.object_making.specs.Making.{sections_by}
+use Rattle.strip_removed.specs.Calls.{names_home}
+use Rattle.strip_rebuild.specs.declared.naming.Names.{Names}
+use Rattle.strip_rebuild.specs.declared.naming.Names.TheVariants.{Stay, Anew, TooLarge}
+use Rattle.strip_rebuild.specs.declared.keepers.Keeper.{Keeper}
+use Rattle.strip_rebuild.specs.Keepers.{header_by, items_by, refusal_by, index_by}
+use Rattle.strip_rebuild.specs.Makes.{AsksFor}
+
+-- ---- Answers
+
+-- over a source that tells its bytes: as stated, but for want of memory and failed reads
+abbrev pub RebuildAnswers : Result Rebuilt ElfError → Result Rebuilt ElfError → Type 0
+RebuildAnswers (Ok r) stated = stated ≡ Ok r
+RebuildAnswers (Err Memory) stated = Unit {0}
+RebuildAnswers (Err Read) stated = Unit {0}
+RebuildAnswers (Err Write) stated = ⊥
+RebuildAnswers (Err e) stated = stated ≡ Err e
+
+-- what is refused by counts, kinds, extents and sizes, over every source
+unfoldable pub early_refusal : Object → List ℕ → Option ElfError
+early_refusal o removed = first_refusal
+    (newphdr_refusal (length o.phdrs)
+    ∷ first_refusal (map (kept_refusal o removed) (kept_from_1 o removed))
+    ∷ index_refusal o (rebuilt_sections o removed) (rebuilt_index o removed)
+    ∷ [])
+
+-- so such a refusal comes exactly where it is stated, and another one is TooLarge, of the names or
+-- of a place behind the base
+abbrev pub EarlyBy : Option ElfError → ElfError → Type 0
+EarlyBy stated Memory = Unit {0}
+EarlyBy stated Read = Unit {0}
+EarlyBy stated Write = ⊥
+EarlyBy stated errors.TooLarge = stated ≡ None
+EarlyBy stated e = stated ≡ Some e
+
+-- ---- What is read
+
+-- the homes that are looked at for a section that is kept
+unfoldable pub kept_reads : Object → List ℕ → ℕ → List ℕ
+kept_reads o removed s =
+    if symbols_follow o s then number_or_0 (extended_table o removed s) ∷ s ∷ []
+    else (if members_follow o s then s ∷ []
+    else (if indexes_follow o removed s then s ∷ (header_at o s).link ∷ [] else s ∷ []))
+
+-- and for all of them
+unfoldable pub kept_homes : Object → List ℕ → List ℕ
+kept_homes o removed = flat_map (kept_reads o removed) (kept_from_1 o removed)
+
+abbrev pub homes_asked : Object → List ℕ → ℕ
+homes_asked o removed = homes_due o [] (kept_homes o removed)
+
+-- what may be asked for: the base before the tail, and these homes
+abbrev pub made_due : Object → List ℕ → ℕ
+made_due o removed = unwrap_or (rebuilt_tail o removed) 0 + homes_asked o removed
+
+-- and before that the names
+unfoldable pub rebuild_due : Object → List ℕ → ℕ
+rebuild_due o removed = homes_due o [] (names_home o) + made_due o removed
+
+-- ---- What is filled in, by a keeper
+
+-- section 0, where there are sections, and what is made of each section that is kept
+unfoldable pub sections_of : Keeper → Object → List Section
+sections_of k o =
+    if length o.sections == 0 then []
+    else new_section ∷ sections_by (header_by k o) (items_by k o) (kept_from_1 o k.removed.now)
+
+unfoldable pub filled_refusal : Keeper → Object → Option ElfError
+filled_refusal k o = first_refusal
+    (newphdr_refusal (length o.phdrs)
+    ∷ first_refusal (map (refusal_by k o) (kept_from_1 o k.removed.now))
+    ∷ index_refusal o (sections_of k o) (index_by k o)
+    ∷ [])
+
+-- an object got sections, as many as are stated, and these over a source that tells its bytes
+pub record HasSections {S : Type 0} (told : Bool) (stated : List Section) (old new : State S)
+    : Type 0 where
+  pub sections : List Section
+  pub object : new.o ≡ with_sections old.o sections
+  pub long : length sections ≡ length stated
+  pub exact : IsTrue told → sections ≡ stated
+  pub told_is : new.told ≡ old.told
+
+-- it got the program headers and the header of another besides
+pub record IsFilled {S : Type 0} (told : Bool) (o : Object) (index : ℕ) (stated : List Section)
+    (old new : State S) : Type 0 where
+  pub sections : List Section
+  pub object : new.o ≡ assembled old.o o index sections
+  pub long : length sections ≡ length stated
+  pub exact : IsTrue told → sections ≡ stated
+  pub told_is : new.told ≡ old.told
+  pub index_is : (new.o.header.shstrndx ≡ 0) ⊎ (new.o.header.shstrndx < length new.o.sections)
+
+-- names whose table would be too large are refused
+abbrev pub ChecksNames : Names → Result (Unit {0}) ElfError → Type 0
+ChecksNames Stay result = result ≡ Ok tt
+ChecksNames (Anew names) result = result ≡ Ok tt
+ChecksNames TooLarge result = result ≡ Err errors.TooLarge
+
+-- ---- The whole step
+
+-- It answers as is stated of the object without the removed sections, and leaves that.
+pub record Rebuilds {S T : Type 0} (g : Ghosts S) (removed : List ℕ)
+    (seen : Result Rebuilt ElfError) (result : Result T ElfError) (due : ℕ) (old new : State S)
+    : Type 0 where
+  pub answer : IsTrue old.told → RebuildAnswers seen (rebuilt old.o removed)
+  pub early : IfErr result (EarlyBy (early_refusal old.o removed))
+  pub asks : AsksFor g result old new due

@@ -1,0 +1,188 @@
+//! The items of a section's home, from its bytes.
+
+ghost use Rattle.std.specs.Prelude.{◌≡◌, ◌<◌, ◌∷◌, [], length, None, IfOk, IfErr};
+ghost use Rattle.elf_xlate.specs.declared.content.Items.TheVariants as items;
+ghost use Rattle.elf_object.specs.Answers.{words_of, syms_of, raw_refusal};
+ghost use Rattle.strip_rebuild.specs.Makes.{Makes, FitsAs, FitsAny, SymsFit};
+ghost use Rattle.strip_rebuild.specs.Homes.{home_items, home_refusal, bytes_at_home, is_there, words_at_home, syms_at_home, words_found, syms_found, section_refusal, Decodes, DecodesIf};
+
+use crate::lists::{none_if_refused, syms_in, words_in};
+use elf_descriptor::Elf;
+use elf_outside::Source;
+use elf_types::{Class, DataId, ElfError, Kind, List, Octets, Order, ScnId, Syms, Words};
+use elf_xlate::{Items, XlateError, to_memory};
+use std::alloc::Global;
+
+/// The refusal of a translation, as that of the section with a number.
+fn section_refusal(s: u32, e: XlateError) -> ElfError
+    ensures { result ≡ section_refusal s e }
+{
+    match e {
+        XlateError::Memory => ElfError::Memory,
+        XlateError::Ragged => ElfError::Ragged { section: s },
+        XlateError::Unfit { index: _index } => ElfError::Ragged { section: s },
+    }
+}
+
+/// The items that bytes hold of the section with a number. It refuses `Ragged` and `Memory`.
+fn decode(
+    alloc: Global,
+    kind: Kind,
+    class: Class,
+    order: Order,
+    s: u32,
+    bytes: &[u8],
+) -> Result<Items, ElfError>
+    ensures { Decodes s kind class order bytes.now result }
+{
+    match to_memory(alloc, kind, class, order, bytes) {
+        Ok(items) => Ok(items),
+        Err(e) => Err(section_refusal(s, e)),
+    }
+}
+
+/// The same where their kind was told; else that is refused.
+fn decode_if(
+    alloc: Global,
+    kind: Result<Kind, ElfError>,
+    class: Class,
+    order: Order,
+    s: u32,
+    bytes: &[u8],
+) -> Result<Items, ElfError>
+    ensures { DecodesIf s kind class order bytes.now result }
+{
+    match kind {
+        Ok(kind) => decode(alloc, kind, class, order, s, bytes),
+        Err(e) => Err(e),
+    }
+}
+
+/// The items of the home of a section that is there, of the kind that its first piece holds. It
+/// refuses in this order: `OutOfFile`, `NoData`, `Ragged`; and `Memory` and `Read`. It reads the
+/// home at the first use.
+pub(crate) fn home_items<S: Source>(elf: &mut Elf<S>, s: ScnId) -> Result<Items, ElfError>
+    requires { s.0 < length elf.old.o.sections }
+    ensures { Makes S.Source (λ o. home_items o s.0) FitsAs (λ o. home_refusal o s.0)
+        (λ o. s.0 ∷ []) result elf.old elf.new }
+{
+    let first = DataId {
+        section: s.0,
+        piece: 0,
+    };
+    let kind = elf.piece_kind(first);
+    let header = elf.ehdr();
+    let alloc = elf.alloc();
+    match elf.raw(s) {
+        Ok(bytes) => decode_if(alloc, kind, header.class, header.order, s.0, bytes),
+        Err(e) => Err(e),
+    }
+}
+
+/// A section's home as it is. It refuses `OutOfFile`; and `Memory` and `Read`.
+pub(crate) fn bytes_at_home<S: Source>(elf: &mut Elf<S>, s: ScnId) -> Result<Items, ElfError>
+    ensures { Makes S.Source (λ o. bytes_at_home o s.0) FitsAs (λ o. raw_refusal o s.0)
+        (λ o. s.0 ∷ []) result elf.old elf.new }
+{
+    let alloc = elf.alloc();
+    match elf.raw(s) {
+        Ok(bytes) => copy_items(alloc, bytes),
+        Err(e) => Err(e),
+    }
+}
+
+/// Bytes as items, copied. It refuses `Memory` alone.
+pub(crate) fn copy_items(alloc: Global, bytes: &[u8]) -> Result<Items, ElfError>
+    ensures ok { IfOk result (λ made. made ≡ items.Bytes bytes.now) }
+    ensures err { IfErr result (λ e. e ≡ ElfError.Memory) }
+{
+    match Octets::from_slice(alloc, bytes) {
+        Ok(copy) => Ok(Items::Bytes(copy)),
+        Err(e) => Err(e),
+    }
+}
+
+/// The words of the home of a section that is there; it refuses as `home_items`.
+pub(crate) fn own_words<S: Source>(elf: &mut Elf<S>, s: ScnId) -> Result<Words, ElfError>
+    requires { s.0 < length elf.old.o.sections }
+    ensures { Makes S.Source (λ o. words_of (home_items o s.0)) FitsAny
+        (λ o. home_refusal o s.0) (λ o. s.0 ∷ []) result elf.old elf.new }
+{
+    let alloc = elf.alloc();
+    match home_items(elf, s) {
+        Ok(items) => Ok(words_in(alloc, items)),
+        Err(e) => Err(e),
+    }
+}
+
+/// The symbols of the home of a section that is there; it refuses as `home_items`.
+pub(crate) fn own_syms<S: Source>(elf: &mut Elf<S>, s: ScnId) -> Result<Syms, ElfError>
+    requires { s.0 < length elf.old.o.sections }
+    ensures { Makes S.Source (λ o. syms_of (home_items o s.0)) SymsFit
+        (λ o. home_refusal o s.0) (λ o. s.0 ∷ []) result elf.old elf.new }
+{
+    let alloc = elf.alloc();
+    match home_items(elf, s) {
+        Ok(items) => Ok(syms_in(alloc, items)),
+        Err(e) => Err(e),
+    }
+}
+
+/// The words of the home of a section that is there, and none where that is refused. It refuses
+/// `Memory` and `Read` alone.
+fn words_at_home<S: Source>(elf: &mut Elf<S>, s: ScnId) -> Result<Words, ElfError>
+    requires { s.0 < length elf.old.o.sections }
+    ensures { Makes S.Source (λ o. words_at_home o s.0) FitsAny (λ o. None)
+        (λ o. s.0 ∷ []) result elf.old elf.new }
+{
+    let alloc = elf.alloc();
+    match own_words(elf, s) {
+        Ok(words) => Ok(words),
+        Err(e) => none_if_refused(alloc, e),
+    }
+}
+
+/// The symbols of the home of a section that is there, and none where that is refused. It refuses
+/// `Memory` and `Read` alone.
+fn syms_at_home<S: Source>(elf: &mut Elf<S>, s: ScnId) -> Result<Syms, ElfError>
+    requires { s.0 < length elf.old.o.sections }
+    ensures { Makes S.Source (λ o. syms_at_home o s.0) FitsAny (λ o. None)
+        (λ o. s.0 ∷ []) result elf.old elf.new }
+{
+    let alloc = elf.alloc();
+    match own_syms(elf, s) {
+        Ok(syms) => Ok(syms),
+        Err(e) => none_if_refused(alloc, e),
+    }
+}
+
+/// Whether a number is that of a section from 1 on.
+fn is_there<S: Source>(elf: &Elf<S>, s: u32) -> bool
+    ensures { result ≡ is_there elf.now.o s }
+{
+    s != 0 && s < elf.shnum()
+}
+
+/// The words of the home of a section, and none where its items are refused or of another kind, or
+/// the number is not that of a section from 1 on. It refuses `Memory` and `Read` alone.
+pub(crate) fn home_words<S: Source>(elf: &mut Elf<S>, s: u32) -> Result<Words, ElfError>
+    ensures { Makes S.Source (λ o. words_found o s) FitsAny (λ o. None) (λ o. s ∷ [])
+        result elf.old elf.new }
+{
+    if is_there(elf, s) {
+        return words_at_home(elf, ScnId(s));
+    }
+    Ok(List::new(elf.alloc()))
+}
+
+/// The symbols of the home of a section, and none where its items are refused or of another kind,
+/// or the number is not that of a section from 1 on. It refuses `Memory` and `Read` alone.
+pub(crate) fn home_syms<S: Source>(elf: &mut Elf<S>, s: u32) -> Result<Syms, ElfError>
+    ensures { Makes S.Source (λ o. syms_found o s) FitsAny (λ o. None) (λ o. s ∷ [])
+        result elf.old elf.new }
+{
+    if is_there(elf, s) {
+        return syms_at_home(elf, ScnId(s));
+    }
+    Ok(List::new(elf.alloc()))
+}

@@ -1,0 +1,236 @@
+//! What is made of each section that is kept.
+
+ghost use Rattle.std.specs.Prelude.{◌≡◌, ◌==◌, ◌<◌, ◌∷◌, [], length, slice_index, None};
+ghost use Rattle.elf_xlate.specs.declared.content.Items.TheVariants as items;
+ghost use Rattle.elf_object.specs.Answers.{words_of, syms_of};
+ghost use Rattle.command_objects.specs.Words.{header_at};
+ghost use Rattle.command_objects.specs.Followed.{followed_syms, followed_words};
+ghost use Rattle.strip_rebuild.specs.Homes.{home_items, home_refusal, syms_found};
+ghost use Rattle.strip_rebuild.specs.Makes.{Makes, FitsAs};
+ghost use Rattle.strip_rebuild.specs.Keepers.{header_by, items_by, kept_by, symbols_by, group_by, words_by, indexes_by, serves, name_by, items_or_names, kept_refusal_by, refusal_or_none, refusal_by, reads_by};
+
+use crate::homes::{bytes_at_home, copy_items, home_syms, home_words, own_syms, own_words};
+use crate::making::{group_items, index_items, symbol_items};
+use crate::naming::Names;
+use elf_descriptor::Elf;
+use elf_outside::Source;
+use elf_types::{ElfError, ScnId, Shdr, Words};
+use elf_xlate::Items;
+use object_making::SectionMaker;
+use strip_items::{Numbering, followed_header};
+use strip_kept::{is_group, is_kept, is_symbol_table};
+use strip_names::NewNames;
+use strip_removed::SectionSet;
+
+/// What makes the sections that are kept, by what was worked out before.
+#[derive(Drop)]
+pub(crate) struct Keeper<'a> {
+    /// What is removed.
+    pub(crate) removed: &'a SectionSet,
+    /// The map of the numbers.
+    pub(crate) numbering: Numbering,
+    /// Of each section the number of its extended indexes, and 0 where it has none.
+    pub(crate) tables: Words,
+    /// The names.
+    pub(crate) names: Names,
+}
+
+/// The number at an index, and 0 where there is none.
+fn number_at(numbers: &Words, i: u32) -> u32
+    ensures { result ≡ slice_index numbers.now i }
+{
+    numbers.get(u64::from(i)).unwrap_or(0)
+}
+
+/// The name field of a section's header: the place of its name where the names are made anew.
+fn name_of(names: &Names, s: ScnId, name: u32) -> u32
+    ensures { result ≡ name_by names.now s.0 name }
+{
+    match names {
+        Names::Anew(names) => number_at(&names.places, s.0),
+        Names::Stay => name,
+        Names::TooLarge => name,
+    }
+}
+
+impl Keeper<'_> {
+    /// Whether a table that is there is one of symbols that follow, whose extended indexes a
+    /// section holds.
+    #[tactic(auto, unfolding(command_objects::specs::Followed::symbols_follow))]
+    fn serves<S: Source>(&self, elf: &Elf<S>, s: ScnId, table: ScnId) -> bool
+        requires { table.0 < length elf.now.o.sections }
+        ensures { result ≡ serves self.now elf.now.o s.0 table.0 }
+    {
+        is_symbol_table(&elf.section_header(table)) && number_at(&self.tables, table.0) == s.0
+    }
+
+    /// Whether a section that is there holds the extended indexes of the symbols to which it links,
+    /// and both are kept.
+    fn holds_indexes<S: Source>(&self, elf: &Elf<S>, s: ScnId, link: u32) -> bool
+        requires { link ≡ (header_at elf.now.o s.0).link }
+        ensures { result ≡ indexes_by self.now elf.now.o s.0 }
+    {
+        if is_kept(elf, self.removed, link) {
+            return self.serves(elf, s, ScnId(link));
+        }
+        false
+    }
+
+    /// The symbols of a table that is there, with the words of their extended indexes.
+    fn symbols_with<S: Source>(
+        &self,
+        elf: &mut Elf<S>,
+        s: ScnId,
+        words: &[u32],
+    ) -> Result<Items, ElfError>
+        requires { s.0 < length elf.old.o.sections }
+        ensures { Makes S.Source (λ o. items.Sym
+            (followed_syms self.now.numbering words.now (syms_of (home_items o s.0))))
+            FitsAs (λ o. home_refusal o s.0) (λ o. s.0 ∷ []) result elf.old elf.new }
+    {
+        let alloc = elf.alloc();
+        match own_syms(elf, s) {
+            Ok(syms) => symbol_items(alloc, &self.numbering, words, syms.as_slice()),
+            Err(e) => Err(e),
+        }
+    }
+
+    /// The symbols of a table that is there.
+    fn symbols<S: Source>(&self, elf: &mut Elf<S>, s: ScnId) -> Result<Items, ElfError>
+        requires { s.0 < length elf.old.o.sections }
+        ensures { Makes S.Source (λ o. symbols_by self.now o s.0) FitsAs
+            (λ o. home_refusal o s.0) (λ o. slice_index self.now.tables s.0 ∷ s.0 ∷ [])
+            result elf.old elf.new }
+    {
+        match home_words(elf, number_at(&self.tables, s.0)) {
+            Ok(words) => self.symbols_with(elf, s, words.as_slice()),
+            Err(e) => Err(e),
+        }
+    }
+
+    /// The words of a group that is there.
+    fn group<S: Source>(&self, elf: &mut Elf<S>, s: ScnId) -> Result<Items, ElfError>
+        requires { s.0 < length elf.old.o.sections }
+        ensures { Makes S.Source (λ o. group_by self.now o s.0) FitsAs
+            (λ o. home_refusal o s.0) (λ o. s.0 ∷ []) result elf.old elf.new }
+    {
+        let alloc = elf.alloc();
+        match own_words(elf, s) {
+            Ok(words) => group_items(alloc, &self.numbering, words.as_slice()),
+            Err(e) => Err(e),
+        }
+    }
+
+    /// Extended indexes, with the symbols of the section to which they link.
+    fn indexes_with<S: Source>(
+        &self,
+        elf: &mut Elf<S>,
+        link: u32,
+        words: &[u32],
+    ) -> Result<Items, ElfError>
+        ensures { Makes S.Source (λ o. items.Word
+            (followed_words self.now.numbering (syms_found o link) words.now))
+            FitsAs (λ o. None) (λ o. link ∷ []) result elf.old elf.new }
+    {
+        let alloc = elf.alloc();
+        match home_syms(elf, link) {
+            Ok(syms) => index_items(alloc, &self.numbering, syms.as_slice(), words),
+            Err(e) => Err(e),
+        }
+    }
+
+    /// The extended indexes of the symbols to which a section links that is there.
+    fn indexes<S: Source>(&self, elf: &mut Elf<S>, s: ScnId, link: u32) -> Result<Items, ElfError>
+        requires there { s.0 < length elf.old.o.sections }
+        requires link { link ≡ (header_at elf.old.o s.0).link }
+        ensures { Makes S.Source (λ o. words_by self.now o s.0) FitsAs
+            (λ o. home_refusal o s.0) (λ o. s.0 ∷ (header_at o s.0).link ∷ [])
+            result elf.old elf.new }
+    {
+        match own_words(elf, s) {
+            Ok(words) => self.indexes_with(elf, link, words.as_slice()),
+            Err(e) => Err(e),
+        }
+    }
+
+    /// The items of a section that is there and is not the table of the names where that is made
+    /// anew.
+    #[tactic(auto, unfolding(command_objects::specs::Followed::symbols_follow, command_objects::specs::Followed::members_follow))]
+    fn kept<S: Source>(&self, elf: &mut Elf<S>, s: ScnId) -> Result<Items, ElfError>
+        requires { s.0 < length elf.old.o.sections }
+        ensures { Makes S.Source (λ o. kept_by self.now o s.0) FitsAs
+            (λ o. kept_refusal_by self.now o s.0) (λ o. reads_by self.now o s.0)
+            result elf.old elf.new }
+    {
+        let h = elf.section_header(s);
+        if is_symbol_table(&h) {
+            return self.symbols(elf, s);
+        }
+        if is_group(&h) {
+            return self.group(elf, s);
+        }
+        if self.holds_indexes(elf, s, h.link) {
+            return self.indexes(elf, s, h.link);
+        }
+        bytes_at_home(elf, s)
+    }
+
+    /// The table of the names for their section, and else the items of a section that is there.
+    fn names_or_kept<S: Source>(
+        &self,
+        elf: &mut Elf<S>,
+        s: ScnId,
+        names: &NewNames,
+    ) -> Result<Items, ElfError>
+        requires { s.0 < length elf.old.o.sections }
+        ensures { Makes S.Source
+            (λ o. items_or_names (Names.Anew names.now) (s.0 == o.header.shstrndx)
+            (kept_by self.now o s.0))
+            FitsAs
+            (λ o. refusal_or_none (Names.Anew names.now) (s.0 == o.header.shstrndx)
+            (kept_refusal_by self.now o s.0))
+            (λ o. reads_by self.now o s.0) result elf.old elf.new }
+    {
+        if s.0 == elf.shstrndx() {
+            return copy_items(elf.alloc(), names.table.as_slice());
+        }
+        self.kept(elf, s)
+    }
+
+    /// The items of a section that is there.
+    fn made_items<S: Source>(&self, elf: &mut Elf<S>, s: ScnId) -> Result<Items, ElfError>
+        requires { s.0 < length elf.old.o.sections }
+        ensures { Makes S.Source (λ o. items_by self.now o s.0) FitsAs
+            (λ o. refusal_by self.now o s.0) (λ o. reads_by self.now o s.0)
+            result elf.old elf.new }
+    {
+        match &self.names {
+            Names::Anew(names) => self.names_or_kept(elf, s, names),
+            Names::Stay => self.kept(elf, s),
+            Names::TooLarge => self.kept(elf, s),
+        }
+    }
+}
+
+impl SectionMaker for Keeper<'_> {
+    ghost header = { λ k. header_by k };
+
+    ghost items = { λ k. items_by k };
+
+    ghost refusal = { λ k. refusal_by k };
+
+    ghost reads = { λ k. reads_by k };
+
+    fn header<S: Source>(&self, elf: &Elf<S>, s: ScnId) -> Shdr {
+        let _sound = elf.is_out_of_file(s);
+        let h = elf.section_header(s);
+        Shdr {
+            name: name_of(&self.names, s, h.name),
+            ..followed_header(&self.numbering, &h)
+        }
+    }
+
+    fn items<S: Source>(&self, elf: &mut Elf<S>, s: ScnId) -> Result<Items, ElfError> {
+        self.made_items(elf, s)
+    }
+}

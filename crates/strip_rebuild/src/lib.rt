@@ -1,0 +1,17 @@
+//! The image made anew with the sections that are kept: an object of the kept sections, whose
+//! links, group members, symbols and extended indexes follow the new numbers, over the base of a
+//! program.
+#![tactic(auto)]
+
+mod filling;
+mod homes;
+mod keepers;
+mod keeping;
+mod lists;
+mod making;
+mod naming;
+mod numbers;
+mod rebuilding;
+mod tails;
+
+pub use rebuilding::{Rebuilt, rebuild};

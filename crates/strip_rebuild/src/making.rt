@@ -1,0 +1,60 @@
+//! Items that follow, as the data of a section.
+
+ghost use Rattle.std.specs.Prelude.{◌≡◌, IfOk, IfErr};
+ghost use Rattle.elf_xlate.specs.declared.content.Items.TheVariants as items;
+ghost use Rattle.command_objects.specs.Followed as rules;
+
+use elf_types::{ElfError, Sym};
+use elf_xlate::Items;
+use std::alloc::Global;
+use strip_items::{Numbering, followed_group, followed_syms, followed_words};
+
+/// Symbols, with the words of their extended indexes. It refuses `Memory` alone.
+pub(crate) fn symbol_items(
+    alloc: Global,
+    numbering: &Numbering,
+    words: &[u32],
+    syms: &[Sym],
+) -> Result<Items, ElfError>
+    ensures ok { IfOk result (λ made. made
+        ≡ items.Sym (rules.followed_syms numbering.now words.now syms.now)) }
+    ensures err { IfErr result (λ e. e ≡ ElfError.Memory) }
+{
+    match followed_syms(alloc, numbering, words, syms) {
+        Ok(made) => Ok(Items::Sym(made)),
+        Err(e) => Err(e),
+    }
+}
+
+/// The words of a group. It refuses `Memory` alone.
+pub(crate) fn group_items(
+    alloc: Global,
+    numbering: &Numbering,
+    words: &[u32],
+) -> Result<Items, ElfError>
+    ensures ok { IfOk result (λ made. made
+        ≡ items.Word (rules.followed_group numbering.now words.now)) }
+    ensures err { IfErr result (λ e. e ≡ ElfError.Memory) }
+{
+    match followed_group(alloc, numbering, words) {
+        Ok(made) => Ok(Items::Word(made)),
+        Err(e) => Err(e),
+    }
+}
+
+/// Extended indexes, with their symbols. It refuses `Memory` alone.
+pub(crate) fn index_items(
+    alloc: Global,
+    numbering: &Numbering,
+    syms: &[Sym],
+    words: &[u32],
+) -> Result<Items, ElfError>
+    ensures ok { IfOk result (λ made. made
+        ≡ items.Word (rules.followed_words numbering.now syms.now words.now)) }
+    ensures err { IfErr result (λ e. e ≡ ElfError.Memory) }
+{
+    match followed_words(alloc, numbering, syms, words) {
+        Ok(made) => Ok(Items::Word(made)),
+        Err(e) => Err(e),
+    }
+}
