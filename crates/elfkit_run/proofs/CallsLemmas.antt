@@ -1,19 +1,18 @@
 -- The command calls: a script is read, and then a file.
-use Rattle.std.proofs.Common.{◌≡◌, ◌≢◌, ◌⊎◌, inl, inr, ◌+◌, ◌≤◌, ℕ, Bool, true, List, [], ◌∷◌, length, codes, Option, Some, None, Result, Ok, Err, IfSome, IfOk, IsTrue, refl, sym, ap, ◌∙◌, subst, arith}
+use Rattle.std.proofs.Common.{◌≡◌, ◌≢◌, ◌+◌, ◌≤◌, ℕ, Bool, true, List, [], length, codes, Option, Some, None, Result, Ok, Err, IfSome, IsTrue, refl, sym, arith}
 use Rattle.std.specs.Prelude.{OnOk}
 use Rattle.std.proofs.lemmas.Result.{on_ok_weaker}
-use Rattle.elf_outside.specs.Counts.{Rose}
 use Rattle.elf_outside.specs.Names.{Map}
 use Rattle.elf_outside.specs.declared.sinks.Sink.{Ghosts as SinkGhosts}
 use Rattle.elf_outside.specs.declared.file_sets.Files.{Ghosts as FilesGhosts}
 use Rattle.tool_output.specs.declared.stops.Stop.{Stop}
 use Rattle.tool_output.specs.declared.outputs.Outputs.{Outputs}
 use Rattle.tool_output.specs.Marks.{Mark}
-use Rattle.tool_output.specs.Names.{Name, file_name}
-use Rattle.tool_output.specs.Reports.{Report, Reports, no_report, refusal_report}
-use Rattle.tool_output.specs.Steps.{Writes, Performs}
+use Rattle.tool_output.specs.Names.{file_name}
+use Rattle.tool_output.specs.Reports.{no_report, refusal_report}
+use Rattle.tool_output.specs.Steps.{Performs}
 use Rattle.tool_output.specs.Statuses.{refused_status}
-use Rattle.tool_output.specs.Files.{report_on, asks_on, both_bounds, IsWithin, OnlyReads, LeavesFiles, ReportsFiles}
+use Rattle.tool_output.specs.Files.{report_on, asks_on, both_bounds, IsWithin, LeavesFiles, ReportsFiles}
 use Rattle.tool_output.specs.Outcomes.{Does, report_outcome}
 use Rattle.tool_output.proofs.StepLemmas.{keeps_then, writes_went, writes_then, writes_stop, writes_nothing, stops_as}
 use Rattle.tool_output.proofs.FileLemmas.{within_both, told_after, only_reads_then, totals_then, leaves_stop, report_on_same, asks_on_same}

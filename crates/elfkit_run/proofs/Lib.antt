@@ -2,4 +2,5 @@ pub mod CallsLemmas
 pub mod CallsUpdateLemmas
 pub mod CommandLemmas
 pub mod ObjectLemmas
+pub mod RehashLemmas
 pub mod TitleLemmas

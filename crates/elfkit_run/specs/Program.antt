@@ -1,5 +1,5 @@
 -- What the program does, by the words and the bytes of the files.
-use Rattle.std.specs.Prelude.{◌≡◌, ◌<◌, ℕ, List, Bool, true, false, IsTrue, Option, Some, None, Result, Ok, Err}
+use Rattle.std.specs.Prelude.{◌≡◌, ◌<◌, ℕ, List, Bool, true, false, IsTrue, Some, None, Result, Ok, Err}
 use Rattle.elf_outside.specs.Names.{Map}
 use Rattle.tool_output.specs.declared.statuses.Status.{Status}
 use Rattle.tool_output.specs.declared.statuses.Status.TheVariants.{Done, BadWords}
@@ -17,6 +17,7 @@ use Rattle.usage_text.specs.Usages.{usage_line}
 use Rattle.usage_text.specs.Notices.{notice_text}
 use Rattle.tool_text.specs.Reading.{reading}
 use Rattle.command_outcomes.specs.Selftest.{selftest_outcome}
+use Rattle.command_outcomes.specs.Copy.{rehash_outcome}
 use Rattle.elfkit_run.specs.Sentences.{says, not_built}
 use Rattle.elfkit_run.specs.Calls.{calls_outcome, calls_update_outcome}
 use Rattle.elfkit_run.specs.Readelf.{readelf_outcome}
@@ -37,7 +38,7 @@ command_outcome (Calls None file script) named = calls_outcome file script named
 command_outcome (Calls (Some output) file script) named =
     calls_update_outcome output file script named
 command_outcome (Selftest out count) named = selftest_outcome out count
-command_outcome (Rehash out file) named = not_built
+command_outcome (Rehash out file) named = rehash_outcome named out file
 command_outcome (Copy changes out file) named = not_built
 command_outcome (Unstrip out stripped debug) named = not_built
 command_outcome (Lines files) named = lines_outcome files named
@@ -75,7 +76,7 @@ is_built (Strip options file) = false
 is_built (Elflint files) = true
 is_built (Calls output file script) = true
 is_built (Selftest out count) = true
-is_built (Rehash out file) = false
+is_built (Rehash out file) = true
 is_built (Copy changes out file) = false
 is_built (Unstrip out stripped debug) = false
 is_built (Lines files) = true

@@ -18,6 +18,7 @@ pub mod elflint;
 pub mod lines;
 pub mod nm;
 pub mod readelf;
+pub mod rehash;
 pub mod selftest;
 pub mod size;
 pub mod strings;
@@ -31,6 +32,7 @@ use elflint::elflint;
 use lines::lines;
 use nm::nm;
 use readelf::readelf;
+use rehash::rehash;
 use selftest::selftest;
 use size::size;
 use std::alloc::Global;
@@ -148,7 +150,7 @@ pub fn run_command<F: Files, O: Sink, E: Sink>(
             script,
         } => calls_by_output(alloc, output, file, script, files, outputs),
         Command::Selftest { out, count } => selftest(alloc, out, *count, files, outputs),
-        Command::Rehash { .. } => not_built(files, outputs),
+        Command::Rehash { out, file } => rehash(alloc, out, file, files, outputs),
         Command::Copy { .. } => not_built(files, outputs),
         Command::Unstrip { .. } => not_built(files, outputs),
         Command::Lines { files: names } => lines(alloc, names, files, outputs),

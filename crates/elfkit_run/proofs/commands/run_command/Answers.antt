@@ -101,8 +101,21 @@ pub returns-in-Selftest-clause-given : goal.returns-in-Selftest-clause-given
 unfolding writes_files
 returns-in-Selftest-clause-given g c = rw c.in-Selftest.is (λ no. cc)
 
+pub rehash-requires : goal.rehash-requires
+rehash-requires g c = rw c.in-Rehash.is at c.requires
+
+pub returns-in-Rehash-clause-does : goal.returns-in-Rehash-clause-does
+unfolding command_outcome is_built
+returns-in-Rehash-clause-does g c =
+    rw c.in-Rehash.is (λ told. c.rehash.ensures.does (told refl))
+
+pub returns-in-Rehash-clause-untouched : goal.returns-in-Rehash-clause-untouched
+unfolding is_built
+returns-in-Rehash-clause-untouched g c = rw c.in-Rehash.is (λ no. cc)
+
 pub returns-in-Rehash-clause-given : goal.returns-in-Rehash-clause-given
-returns-in-Rehash-clause-given g c = λ reading. refl
+unfolding writes_files
+returns-in-Rehash-clause-given g c = rw c.in-Rehash.is (λ no. cc)
 
 pub returns-in-Copy-clause-given : goal.returns-in-Copy-clause-given
 returns-in-Copy-clause-given g c = λ reading. refl
