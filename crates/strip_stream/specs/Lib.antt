@@ -2,3 +2,6 @@ pub mod Fronts
 pub mod Homes
 pub mod Places
 pub mod Arranging
+pub mod Holding
+pub mod Planning
+pub mod Streaming

@@ -1,6 +1,8 @@
 //! Laws of what an image that is made anew stores.
 
 ghost use Rattle.strip_stream.specs.Fronts.{HeldBytesStay};
+ghost use Rattle.strip_stream.specs.Holding.{HeldFrontsAreStored};
+ghost use Rattle.strip_stream.specs.Streaming.{StreamedPartsAreRanges};
 ghost use Rattle.strip_stream.specs.Homes.{HomesStand, HomesAreStored};
 
 /// What is held stays in its range, whatever is held behind it.
@@ -18,4 +20,15 @@ pub fn homes_stand()
 /// A section that is made with the bytes of such a home is stored as that range of the base.
 pub fn homes_are_stored()
     ensures { HomesAreStored }
+{}
+
+/// The front that is held of listed headers is that of the object that has them.
+pub fn held_fronts_are_stored()
+    ensures { HeldFrontsAreStored }
+{}
+
+/// Ranges of the parts of an object that is made anew make its image, where its front is held and
+/// each of its sections that has bytes in the file is a range of the base or of what is held.
+pub fn streamed_parts_are_ranges()
+    ensures { StreamedPartsAreRanges }
 {}

@@ -6,10 +6,14 @@
 
 mod arranging;
 mod fronts;
+mod holding;
 mod items;
 pub mod laws;
 mod places;
+mod planning;
 
 pub use arranging::arrange_listed;
 pub use fronts::{hold_header, hold_sections, hold_segments};
+pub use holding::{FrontRanges, hold_front};
 pub use items::hold_items;
+pub use planning::plan_listed;

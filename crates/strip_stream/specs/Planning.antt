@@ -1,0 +1,15 @@
+-- An object of which the headers are listed, that an update writes where its places allow it.
+use Rattle.std.specs.Prelude.{◌≡◌, ℕ, Bool, true, None, length}
+use Rattle.elf_object.specs.Object.{Object, is_dirty}
+use Rattle.elf_object.specs.Refusal.{content_refusal}
+use Rattle.elf_object.specs.Valid.{IsObject}
+use Rattle.listed_layout.specs.declared.listed.Listed.{Listed}
+use Rattle.listed_layout.specs.Listing.{IsListed}
+
+pub record IsLaidOut (o : Object) (x : Listed) (layout : Bool) (base : ℕ) : Type 0 where
+  pub object : IsObject o
+  pub dirty : is_dirty o ≡ true
+  pub content : content_refusal o ≡ None
+  pub listed : IsListed o x
+  pub layout_is : o.layout ≡ layout
+  pub base_is : length o.base ≡ base
