@@ -32,7 +32,7 @@ fold_keeps : {A B : Type 0} (P : A → Type 0) (f : A → B → A)
 fold_keeps P f keeps a [] is = is
 fold_keeps P f keeps a (x ∷ l) is = fold_keeps P f keeps (f a x) l (keeps a x is)
 
-new_index_small : (order : List ℕ) (i : ℕ) → length order ≤ 2 ^ 32 → i < 2 ^ 32
+pub new_index_small : (order : List ℕ) (i : ℕ) → length order ≤ 2 ^ 32 → i < 2 ^ 32
     → new_index order i < 2 ^ 32
 unfolding new_index
 new_index_small order i few small = by_place (position (nat_eq i) order) refl
