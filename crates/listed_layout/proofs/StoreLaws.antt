@@ -1,5 +1,5 @@
 -- Listed headers with the places of an object's parts.
-use Rattle.std.proofs.Common.{◌≡◌, ℕ, zero, suc, ◌+◌, ◌-◌, ◌<◌, ◌≤◌, Bool, true, false, List, [], ◌∷◌, ◌++◌, length, get_or, refl, sym, ap, ◌∙◌, subst, arith, ⊎_elim, length-append}
+use Rattle.std.proofs.Common.{◌≡◌, ℕ, ◌+◌, ◌-◌, ◌<◌, Bool, true, false, List, [], ◌∷◌, ◌++◌, length, get_or, refl, sym, ap, ◌∙◌, subst, arith, ⊎_elim, length-append}
 use Rattle.std.specs.Prelude.{if◌then◌else◌, ◌==◌}
 use Rattle.std.proofs.Math.Seq.{get_or-append_seam}
 use Rattle.std.proofs.lemmas.Bool.{cases_lt, ne_eqb}
@@ -8,7 +8,7 @@ use Rattle.elf_types.specs.declared.records.Ehdr.{Ehdr}
 use Rattle.elf_types.specs.declared.records.Shdr.{Shdr}
 use Rattle.elf_ident.specs.Front.{zero_shdr}
 use Rattle.elf_layout.specs.declared.parts.Places.{Places}
-use Rattle.elf_object.specs.Object.{Object, Section, header_of, section_at, is_null, occupies_file, is_dirty}
+use Rattle.elf_object.specs.Object.{Object, Section, header_of, section_at, is_dirty}
 use Rattle.elf_object.specs.Joined.{file_bytes}
 use Rattle.elf_object.specs.Derived.{derived_header, numbered_shdr}
 use Rattle.elf_object.specs.Layout.{places_of, placed_by, placed, placed_header, placed_shdr, placed_section}

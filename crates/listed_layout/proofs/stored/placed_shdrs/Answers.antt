@@ -1,4 +1,4 @@
-use Rattle.std.proofs.Common.{List, [], sym, subst, arith}
+use Rattle.std.proofs.Common.{List, sym, subst, arith}
 use Rattle.elf_types.specs.declared.records.Shdr.{Shdr}
 use Rattle.listed_layout.proofs.StoreLaws.{StoredBelow, none_stored, one_stored, all_stored}
 use Rattle.listed_layout.proofs.stored.placed_shdrs.Goals as goal
