@@ -23,7 +23,7 @@ use Rattle.symbol_lookup.proofs.LeastLaws.{position_none}
 use Rattle.lint_hashes.specs.Gnu.{is_marked, has_hash}
 use Rattle.lint_hashes.proofs.GnuChains.{does_end, reached}
 use Rattle.hash_build.proofs.ListedLaws.{option_at}
-use Rattle.hash_laws.proofs.NameLaws.{each_is, all_pass, in_some, in_its}
+use Rattle.hash_laws.proofs.NameLaws.{each_is, each_passes, in_some, in_its}
 use Rattle.hash_laws.proofs.GnuBloom.{words_long, words_low, hash_passes}
 use Rattle.hash_laws.proofs.GnuBytes.{Fits, whole_bytes}
 
@@ -363,7 +363,7 @@ module _ (class : Class) (shape : GnuShape) (names : List (Option (List ℕ)))
   every_end =
       list_all-map (λ (k : ℕ). ends (gnu_chain_from h n k)) (first_in buckets)
       (range_with_len 0 shape.nbuckets)
-      ∙ all_pass (λ (b : ℕ). ends (gnu_chain_from h n (first_in buckets b))) chain_ends
+      ∙ each_passes (λ (b : ℕ). ends (gnu_chain_from h n (first_in buckets b))) chain_ends
       (range_with_len 0 shape.nbuckets)
 
   -- ---- Each listed symbol is found

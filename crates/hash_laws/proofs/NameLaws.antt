@@ -50,10 +50,10 @@ zero_unlisted o s = by_list (syms_of (items_at o s 0))
 
 -- ---- Tests
 
-pub all_pass : {X : Type 0} (test : X → Bool) → ((x : X) → test x ≡ true) → (xs : List X)
+pub each_passes : {X : Type 0} (test : X → Bool) → ((x : X) → test x ≡ true) → (xs : List X)
     → list_all test xs ≡ true
-all_pass test passes [] = refl
-all_pass test passes (x ∷ xs) = and_from _ _ (passes x) (all_pass test passes xs)
+each_passes test passes [] = refl
+each_passes test passes (x ∷ xs) = and_from _ _ (passes x) (each_passes test passes xs)
 
 pub six : (a b c d e f : Bool) → a ≡ true → b ≡ true → c ≡ true → d ≡ true → e ≡ true
     → f ≡ true → (a && b && c && d && e && f) ≡ true

@@ -43,17 +43,17 @@ use Rattle.command_objects.specs.Laws.{RehashKeepsLookup}
 use Rattle.hash_laws.specs.Rehash.{RehashKeepsInImages}
 use Rattle.hash_laws.proofs.SameLaws.{no_string_at, StringsAlike, names_alike}
 use Rattle.hash_laws.proofs.RenumberedLaws.{SameItems, still_renumbered, lookup_kept}
-use Rattle.hash_laws.proofs.TypeLaws.{differ, there_by_type}
+use Rattle.hash_laws.proofs.TypeLaws.{apart_types, there_by_type}
 use Rattle.hash_laws.proofs.ReorderedLaws.{four_none}
-use Rattle.hash_laws.proofs.ReorderedItems.{Owns, Stands}
-use Rattle.hash_laws.proofs.RehashedLaws.{IsDone, rehash_done, table_type}
-use Rattle.hash_laws.proofs.ReopenedSections.{IsClean, settled, clean_items, again_count, again_clean, again_kind, again_link, clean_again, clean_content, string_again}
+use Rattle.hash_laws.proofs.ReorderedItems.{HasOwn, IsOwnOrSame}
+use Rattle.hash_laws.proofs.RehashedLaws.{IsEnded, rehash_ends, table_type}
+use Rattle.hash_laws.proofs.ReopenedSections.{IsHomeAlone, settled, home_items, again_count, again_clean, again_kind, again_link, clean_again, clean_content, string_again}
 
 -- ---- As it is opened
 
 -- a section as its header gives it
 record IsOpened (c : Section) : Type 0 where
-  clean : IsClean c
+  clean : IsHomeAlone c
   kind : c.home.kind ≡ section_kind c.header
 
 opened_is : (image : List ℕ) (h : Shdr) → IsOpened (opened_section image h)
@@ -150,7 +150,7 @@ module _ (before o : Object) (ok_before : IsObject before) (ok : IsObject o)
 
     -- as it was
     module _ (same : section_at o t ≡ section_at before t) where
-      clean : IsClean (section_at o t)
+      clean : IsHomeAlone (section_at o t)
       clean = ap (λ (c : Section). c.pieces) same ∙ (was t inside).clean
 
       kind : (section_at o t).home.kind ≡ section_kind (section_at o t).header
@@ -172,7 +172,7 @@ module _ (before o : Object) (ok_before : IsObject before) (ok : IsObject o)
       same_string = string_again o ok dirty passed t positive within there clean kind
 
     -- or with items of its own
-    module _ (owns : Owns before o t) where
+    module _ (owns : HasOwn before o t) where
       alone : (section_at o t).pieces
           ≡ own_piece owns.left (get_or (section_at before t).pieces 0 home_piece).align ∷ []
       alone =
@@ -186,7 +186,7 @@ module _ (before o : Object) (ok_before : IsObject before) (ok : IsObject o)
 
       ranged : AreItems owns.left
       ranged =
-          owns.items (subst AreItems (sym (clean_items before t (was t inside).clean))
+          owns.items (subst AreItems (sym (home_items before t (was t inside).clean))
           (content_ranged before t ok_before))
 
       own_kind : items_kind owns.left ≡ section_kind (section_at o t).header
@@ -216,24 +216,24 @@ module _ (before o : Object) (ok_before : IsObject before) (ok : IsObject o)
 
       owned_again : items_at again t 0 ≡ items_at o t 0
       owned_again =
-          clean_items again t (again_clean o ok dirty passed t positive within own_there)
+          home_items again t (again_clean o ok dirty passed t positive within own_there)
           ∙ ap or_empty own_content ∙ sym own_items
 
-    stands_again : Stands before o t → items_at again t 0 ≡ items_at o t 0
+    stands_again : IsOwnOrSame before o t → items_at again t 0 ≡ items_at o t 0
     stands_again (inl same) = same_items same
     stands_again (inr owns) = owned_again owns
 
-    stands_there : Stands before o t → occupies_file (section_at o t).header ≡ true
+    stands_there : IsOwnOrSame before o t → occupies_file (section_at o t).header ≡ true
     stands_there (inl same) = there same
     stands_there (inr owns) = own_there owns
 
-    stands_kind : Stands before o t
+    stands_kind : IsOwnOrSame before o t
         → section_kind (section_at o t).header ≡ section_kind (section_at before t).header
     stands_kind (inl same) = ap (λ (c : Section). section_kind c.header) same
     stands_kind (inr owns) = ap section_kind (header owns)
 
     -- its content can be told where it could
-    told : Stands before o t → no_content o t 0 ≡ None → err_of (content again t) ≡ None
+    told : IsOwnOrSame before o t → no_content o t 0 ≡ None → err_of (content again t) ≡ None
     unfolding no_content piece_at
     told (inl same) none =
         ap err_of (same_content same)
@@ -253,7 +253,7 @@ occupies_by h stype is some =
     ap (λ (n : ℕ). not (n == SHT_NULL || n == SHT_NOBITS)) is ∙ ap (λ (b : Bool). not b) some
 
 module _ (before o : Object) (s : ℕ) (ok_before : IsObject before) (ok : IsObject o)
-    (table : (header_at before s).stype ≡ SHT_DYNSYM) (done : IsDone before o s)
+    (table : (header_at before s).stype ≡ SHT_DYNSYM) (done : IsEnded before o s)
     (zeroth : (header_at before 0).stype ≡ SHT_NULL) (passed : refusal o ≡ None)
     (keeps : SettlingKeepsItems o)
     (was : (t : ℕ) → t < length before.sections → IsOpened (section_at before t)) where
@@ -270,13 +270,13 @@ module _ (before o : Object) (s : ℕ) (ok_before : IsObject before) (ok : IsObj
     where
       by : (t ≡ 0) ⊎ (t ≡ 0 → ⊥) → 0 < t
       by (inl first) =
-          absurd (differ stype SHT_NULL some (header_at before t).stype is
+          absurd (apart_types stype SHT_NULL some (header_at before t).stype is
           (ap (λ (k : ℕ). (header_at before k).stype) first ∙ zeroth))
       by (inr other) = omega (arith, other)
 
   items_by_type : (t stype : ℕ) → (header_at before t).stype ≡ stype
       → (stype == SHT_NULL) ≡ false → (stype == SHT_NULL || stype == SHT_NOBITS) ≡ false
-      → Stands before o t → items_at written t 0 ≡ items_at o t 0
+      → IsOwnOrSame before o t → items_at written t 0 ≡ items_at o t 0
   items_by_type t stype is some full stands =
       stands_again before o ok_before ok done.dirty passed keeps count was t
       (from_1 t stype is some) (there_by_type before t stype is some)
@@ -298,7 +298,7 @@ module _ (before o : Object) (s : ℕ) (ok_before : IsObject before) (ok : IsObj
       stands_there before o ok_before ok done.dirty passed keeps count was s positive inside
       occupies done.way.table
 
-  table_clean : IsClean (section_at written s)
+  table_clean : IsHomeAlone (section_at written s)
   table_clean = again_clean o ok done.dirty passed s positive (omega (arith, inside, count)) at_hand
 
   lent_before : lend_refusal o kinds.Sym s 0 ≡ None
@@ -407,7 +407,7 @@ pub rehash_law : ((o : Object) → ReopenLaw o) → ((o : Object) → SettlingKe
 unfolding file_of
 rehash_law reopens keeps before after s is zeroth =
     let ok = beginnings_are.from_image is.image before is.bytes is.is_before in
-    let done = rehash_done before is.edited s is.table is.is_edited in
+    let done = rehash_ends before is.edited s is.table is.is_edited in
     let made_ok = rehashed_is_object before is.edited ok is.is_edited in
     let made = answered_value (refusal is.edited) (image is.edited) is.out is.is_out in
     let tied : IsTied is.edited = λ clean.

@@ -25,21 +25,16 @@ use Rattle.command_objects.specs.BuiltHashes.{GnuShape, gnu_order_of, gnu_order_
 use Rattle.command_objects.specs.Reordered.{new_index, reordered, reorder_refusal}
 use Rattle.command_objects.specs.Rehashed.{dynamic_symbols, gnu_section, sysv_section, shape_of, nbucket_of, with_gnu, with_sysv, where_there, laid_out, or_fault, rehashed_at, rehashed}
 use Rattle.command_objects.specs.Rehashed.RehashFault.{NoDynamicHash}
+use Rattle.elf_ident.proofs.Refusals.{bind_ok}
 use Rattle.hash_laws.proofs.SameLaws.{SameStrings, strings_stay, strings_both}
 use Rattle.hash_laws.proofs.RenumberedLaws.{IsRenumbered, SameTables, tables_items, not_renumbered, still_renumbered}
 use Rattle.hash_laws.proofs.ReorderedLaws.{own_step, reordered_strings}
-use Rattle.hash_laws.proofs.TypeLaws.{differ}
+use Rattle.hash_laws.proofs.TypeLaws.{apart_types}
 use Rattle.hash_laws.proofs.OrderedNames.{order_long, reordered_renumbers}
 use Rattle.hash_laws.proofs.CountLaws.{symbols_passed, few_names}
-use Rattle.hash_laws.proofs.ReorderedItems.{Stands, stands_still, table_owns, rels_own, relas_own}
+use Rattle.hash_laws.proofs.ReorderedItems.{IsOwnOrSame, still_own_or_same, table_owns, rels_own, relas_own}
 
--- ---- Answers in a row
-
--- what came of two steps
-pub came : {A B E : Type 0} (r : Result A E) (next : A → Result B E) (y : B)
-    → (r >>= next) ≡ Ok y → (x : A) × (r ≡ Ok x) × (next x ≡ Ok y)
-came (Ok x) next y is = (x, refl, is)
-came (Err e) next y is = cc
+-- ---- Answers
 
 no_fault : (r : Result Object ElfError) (p : Object) → or_fault r ≡ Ok p → r ≡ Ok p
 no_fault (Ok o) p is = let same : o ≡ p = cc in ap Ok same
@@ -90,13 +85,13 @@ module _ (o : Object) (s t stype : ℕ) (left : Items) (inside : t < length o.se
     (is_table : (header_at o s).stype ≡ SHT_DYNSYM) where
   apart : (n other : ℕ) → (stype == other) ≡ false → (header_at o n).stype ≡ other → n ≢ t
   apart n other differs type same =
-      differ stype other differs (header_at o t).stype is
+      apart_types stype other differs (header_at o t).stype is
       (ap (λ (k : ℕ). (header_at o k).stype) (sym same) ∙ type)
 
   pub tables_stay : SameTables o (with_own o t 0 left) s
   tables_stay =
       let step = own_step o t left inside
-      (λ type. differ stype SHT_STRTAB aside.no_strings (header_at o t).stype is type) in
+      (λ type. apart_types stype SHT_STRTAB aside.no_strings (header_at o t).stype is type) in
       record {
         strings = step.strings;
         symbols = step.others s (apart s SHT_DYNSYM aside.no_table is_table);
@@ -144,11 +139,11 @@ pub record IsOnTheWay (before o : Object) (s : ℕ) : Type 0 where
   pub new : ℕ → ℕ
   pub renumbered : IsRenumbered before o s new
   pub strings : SameStrings before o
-  pub table : Stands before o s
+  pub table : IsOwnOrSame before o s
   pub rels : (n : ℕ) → (header_at before n).stype ≡ SHT_REL → (header_at before n).link ≡ s
-      → Stands before o n
+      → IsOwnOrSame before o n
   pub relas : (n : ℕ) → (header_at before n).stype ≡ SHT_RELA → (header_at before n).link ≡ s
-      → Stands before o n
+      → IsOwnOrSame before o n
 
 begun : (o : Object) (s : ℕ) → IsOnTheWay o o s
 begun o s = record {
@@ -167,10 +162,10 @@ goes_on before o p s way same = record {
   renumbered = still_renumbered before o p s way.new way.renumbered way.strings.stype
       way.strings.link (tables_items o p s same);
   strings = strings_both before o p way.strings same.strings;
-  table = stands_still before o p s same.symbols way.table;
-  rels = λ n is link. stands_still before o p n (same.rels n (way.strings.stype n ∙ is))
+  table = still_own_or_same before o p s same.symbols way.table;
+  rels = λ n is link. still_own_or_same before o p n (same.rels n (way.strings.stype n ∙ is))
       (way.rels n is link);
-  relas = λ n is link. stands_still before o p n (same.relas n (way.strings.stype n ∙ is))
+  relas = λ n is link. still_own_or_same before o p n (same.relas n (way.strings.stype n ∙ is))
       (way.relas n is link);
 }
 
@@ -179,7 +174,7 @@ replaced : (o p : Object) (t : ℕ) (left : Items) → edited (replace t 0 left)
     → (p ≡ with_own o t 0 left) × (is_dirty p ≡ true)
 unfolding replace_refusal
 replaced o p t left is =
-    let done = came ((replace t 0 left).answer o) (λ x. Ok (with_own o t 0 left)) p is in
+    let done = bind_ok ((replace t 0 left).answer o) (λ x. Ok (with_own o t 0 left)) p is in
     let same : with_own o t 0 left ≡ p = let e = done.2 in cc in
     let passed = (answered_value (replace_refusal o t 0 left) (tt {0}) done.0 done.1).0 in
     let others = none_rest (no_section o t) _ passed in
@@ -208,16 +203,16 @@ pub record GnuMade (o p : Object) (s g : ℕ) : Type 0 where
 gnu_made_of : (o p : Object) (s g : ℕ) → with_gnu o s g ≡ Ok p → GnuMade o p s g
 unfolding with_gnu gnu_order_answer
 gnu_made_of o p s g is =
-    let old = came (data_answer o g 0) _ p is in
+    let old = bind_ok (data_answer o g 0) _ p is in
     let shape : GnuShape = shape_of o.header.class o.header.order (bytes_of old.0) in
-    let order = came (answered (hash_refusal o s)
+    let order = bind_ok (answered (hash_refusal o s)
     (gnu_order_of shape.nbuckets (listed_names o s))) _ p old.2 in
     let order_is = answered_value (hash_refusal o s)
     (gnu_order_of shape.nbuckets (listed_names o s)) order.0 order.1 in
-    let sorted = came (answered (reorder_refusal o s) (reordered o s order.0)) _ p order.2 in
+    let sorted = bind_ok (answered (reorder_refusal o s) (reordered o s order.0)) _ p order.2 in
     let sorted_is = answered_value (reorder_refusal o s) (reordered o s order.0) sorted.0
     sorted.1 in
-    let bytes = came (build_gnu_answer sorted.0 s shape) _ p sorted.2 in
+    let bytes = bind_ok (build_gnu_answer sorted.0 s shape) _ p sorted.2 in
     let stored = replaced sorted.0 p g (items.Bytes bytes.0) bytes.2 in
     record {
       nbuckets = shape.nbuckets;
@@ -273,9 +268,9 @@ pub record SysvMade (o p : Object) (s h : ℕ) : Type 0 where
 sysv_made_of : (o p : Object) (s h : ℕ) → with_sysv o s h ≡ Ok p → SysvMade o p s h
 unfolding with_sysv build_sysv_answer
 sysv_made_of o p s h is =
-    let old = came (data_answer o h 0) _ p is in
+    let old = bind_ok (data_answer o h 0) _ p is in
     let nbucket : ℕ = nbucket_of (words_of old.0) in
-    let words = came
+    let words = bind_ok
     (answered (hash_refusal o s) (sysv_words (sysv_built nbucket (listed_names o s)))) _ p old.2 in
     let stored = replaced o p h (items.Word words.0) words.2 in
     record {
@@ -300,13 +295,13 @@ sysv_goes_on before o p s h is_table found way is =
 -- ---- Both
 
 -- what is made is dirty, of a table whose symbols could be told
-pub record IsDone (before after : Object) (s : ℕ) : Type 0 where
+pub record IsEnded (before after : Object) (s : ℕ) : Type 0 where
   pub way : IsOnTheWay before after s
   pub lent : lend_refusal before kinds.Sym s 0 ≡ None
   pub dirty : is_dirty after ≡ true
 
 gnu_done : (o p : Object) (s g : ℕ) → (header_at o s).stype ≡ SHT_DYNSYM
-    → gnu_section o s ≡ Some g → with_gnu o s g ≡ Ok p → IsDone o p s
+    → gnu_section o s ≡ Some g → with_gnu o s g ≡ Ok p → IsEnded o p s
 gnu_done o p s g is_table found is =
     let made = gnu_made_of o p s g is in
     record {
@@ -317,7 +312,7 @@ gnu_done o p s g is_table found is =
 
 sysv_done : (before o p : Object) (s h : ℕ) → (header_at before s).stype ≡ SHT_DYNSYM
     → sysv_section before s ≡ Some h → IsOnTheWay before o s → with_sysv o s h ≡ Ok p
-    → IsDone before p s
+    → IsEnded before p s
 sysv_done before o p s h is_table found way is =
     let made = sysv_made_of o p s h is in
     record {
@@ -334,7 +329,7 @@ dirty_laid_out o = by (is_program o)
     by true = refl
     by false = refl
 
-laid_done : (before o : Object) (s : ℕ) → IsDone before o s → IsDone before (laid_out o) s
+laid_done : (before o : Object) (s : ℕ) → IsEnded before o s → IsEnded before (laid_out o) s
 laid_done before o s is = record {
   way = goes_on before o (laid_out o) s is.way (laid_out_stays o s);
   lent = is.lent;
@@ -347,8 +342,8 @@ module _ (o p : Object) (s : ℕ) (is_table : (header_at o s).stype ≡ SHT_DYNS
   Steps g h = (where_there (λ p n. with_gnu p s n) g o >>= λ p.
       where_there (λ q n. with_sysv q s n) h p >>= λ q. Ok (laid_out q)) ≡ Ok p
 
-  ended : (q : Object) → IsDone o q s → laid_out q ≡ p → IsDone o p s
-  ended q is laid = subst (λ (r : Object). IsDone o r s) laid (laid_done o q s is)
+  ended : (q : Object) → IsEnded o q s → laid_out q ≡ p → IsEnded o p s
+  ended q is laid = subst (λ (r : Object). IsEnded o r s) laid (laid_done o q s is)
 
   same_ok : (q r : Object) → ◌≡◌ {A = Result Object ElfError} (Ok q) (Ok r) → q ≡ r
   same_ok q r is = cc
@@ -360,22 +355,22 @@ module _ (o p : Object) (s : ℕ) (is_table : (header_at o s).stype ≡ SHT_DYNS
   by_gnu (Some n) is_gnu q made = gnu_goes_on o q s n is_table is_gnu made
 
   with_words : (g : Option ℕ) (h : ℕ) → gnu_section o s ≡ g → sysv_section o s ≡ Some h
-      → Steps g (Some h) → IsDone o p s
+      → Steps g (Some h) → IsEnded o p s
   with_words g h is_gnu is_sysv is =
-      let first = came (where_there (λ p n. with_gnu p s n) g o) _ p is in
-      let second = came (with_sysv first.0 s h) _ p first.2 in
+      let first = bind_ok (where_there (λ p n. with_gnu p s n) g o) _ p is in
+      let second = bind_ok (with_sysv first.0 s h) _ p first.2 in
       ended second.0
       (sysv_done o first.0 second.0 s h is_table is_sysv (by_gnu g is_gnu first.0 first.1)
       second.1) (same_ok (laid_out second.0) p second.2)
 
-  without_words : (g : ℕ) → gnu_section o s ≡ Some g → Steps (Some g) None → IsDone o p s
+  without_words : (g : ℕ) → gnu_section o s ≡ Some g → Steps (Some g) None → IsEnded o p s
   without_words g is_gnu is =
-      let first = came (with_gnu o s g) _ p is in
+      let first = bind_ok (with_gnu o s g) _ p is in
       ended first.0 (gnu_done o first.0 s g is_table is_gnu first.1)
       (same_ok (laid_out first.0) p first.2)
 
   at_both : (g h : Option ℕ) → gnu_section o s ≡ g → sysv_section o s ≡ h
-      → rehashed_at o s g h ≡ Ok p → IsDone o p s
+      → rehashed_at o s g h ≡ Ok p → IsEnded o p s
   unfolding rehashed_at
   at_both None None is_gnu is_sysv is = cc
   at_both None (Some h) is_gnu is_sysv is = with_words None h is_gnu is_sysv (no_fault _ p is)
@@ -384,10 +379,10 @@ module _ (o p : Object) (s : ℕ) (is_table : (header_at o s).stype ≡ SHT_DYNS
       with_words (Some g) h is_gnu is_sysv (no_fault _ p is)
 
 -- it comes to an end where there is a table of dynamic symbols
-pub rehash_done : (o p : Object) (s : ℕ) → dynamic_symbols o ≡ Some s → rehashed o ≡ Ok p
-    → IsDone o p s
+pub rehash_ends : (o p : Object) (s : ℕ) → dynamic_symbols o ≡ Some s → rehashed o ≡ Ok p
+    → IsEnded o p s
 unfolding rehashed
-rehash_done o p s table is =
+rehash_ends o p s table is =
     at_both o p s (table_type o s table) (gnu_section o s) (sysv_section o s) refl refl
     (sym (ap (λ (found : Option ℕ). elim found [
       | None ↦ Err NoDynamicHash

@@ -16,7 +16,8 @@ use Rattle.command_objects.specs.Words.{header_at}
 use Rattle.command_objects.specs.Listed.{listed_names, find_linear_answer}
 use Rattle.command_objects.specs.Laws.{symbol_at, FoundAlike, LooksUpAlike, NamesAlike, rel_symbol, rela_symbol, RehashKeepsLookup}
 use Rattle.hash_build.proofs.ListedLaws.{names_long}
-use Rattle.hash_laws.proofs.SameLaws.{SameAt, same_items, same_lend, SameStrings, names_same}
+use Rattle.hash_order.proofs.StoreLaws.{IsSameAt, same_items, same_lend}
+use Rattle.hash_laws.proofs.SameLaws.{SameStrings, names_same}
 
 -- each symbol of section s has a new index; lookups and relocations go with it
 pub record IsRenumbered (before after : Object) (s : ℕ) (new : ℕ → ℕ) : Type 0 where
@@ -109,7 +110,7 @@ pub record SameItems (o p : Object) (s : ℕ) : Type 0 where
       → items_at p n 0 ≡ items_at o n 0
 
 module _ (o p : Object) (s : ℕ) (same : SameTables o p s) where
-  at : (n : ℕ) → section_at p n ≡ section_at o n → SameAt o p n
+  at : (n : ℕ) → section_at p n ≡ section_at o n → IsSameAt o p n
   at n section = record {
     header = same.strings.header;
     count = same.strings.count;

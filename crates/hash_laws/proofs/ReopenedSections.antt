@@ -34,21 +34,21 @@ use Rattle.object_laws.proofs.PlacedLaws.{update_passes}
 use Rattle.object_laws.proofs.StandLaws.{section_count-placed, joined-placed}
 use Rattle.object_laws.proofs.AgainLaws.{placed_section_header}
 use Rattle.object_laws.proofs.SettledLaws.{unrefused, section_raw, section_extent, settle-dirty}
-use Rattle.hash_laws.proofs.SameLaws.{content_by, content_is, blocks_of, is_missing, string_of, string_by}
+use Rattle.hash_laws.proofs.SameLaws.{content_by, content_as, blocks_of, is_missing, string_of, string_by}
 
 -- ---- A piece alone
 
 -- the one piece of a section is clean
-abbrev pub IsClean : Section → Type 0
-IsClean c = c.pieces ≡ home_piece ∷ []
+abbrev pub IsHomeAlone : Section → Type 0
+IsHomeAlone c = c.pieces ≡ home_piece ∷ []
 
-clean_pieces : (class : Class) (order : Order) (c : Section) → IsClean c
+clean_pieces : (class : Class) (order : Order) (c : Section) → IsHomeAlone c
     → aligned_pieces class order c ≡ (1, c.raw) ∷ []
 unfolding aligned_pieces piece_bytes
 clean_pieces class order c is =
     ap (map (λ p. (p.align, piece_bytes class order c.raw p))) is
 
-clean_bytes : (o : Object) (t : ℕ) → IsClean (section_at o t)
+clean_bytes : (o : Object) (t : ℕ) → IsHomeAlone (section_at o t)
     → has_file_bytes t (section_at o t) ≡ true → file_bytes o t ≡ (section_at o t).raw
 unfolding file_bytes pieces_end piece_blocks
 clean_bytes o t is filled =
@@ -61,16 +61,16 @@ clean_bytes o t is filled =
     (clean_pieces o.header.class o.header.order (section_at o t) is)
     ∙ alone_spread 1 (section_at o t).raw o.fill
 
-pub clean_items : (o : Object) (t : ℕ) → IsClean (section_at o t)
+pub home_items : (o : Object) (t : ℕ) → IsHomeAlone (section_at o t)
     → items_at o t 0 ≡ or_empty (content o t)
 unfolding items_at piece_at
-clean_items o t is =
+home_items o t is =
     ap (λ (l : List Piece). elim ((get_or l 0 home_piece).own) [
       | None ↦ or_empty (content o t)
       | Some items ↦ items
     ]) is
 
-clean_strings : (c : Section) → IsClean c → c.header.stype ≡ SHT_STRTAB → (kind : Kind)
+clean_strings : (c : Section) → IsHomeAlone c → c.header.stype ≡ SHT_STRTAB → (kind : Kind)
     → c.home.kind ≡ kind → holds_strings c
     ≡ (SHT_STRTAB == SHT_STRTAB && (same_kind kind kinds.Bytes && true))
 unfolding holds_strings
@@ -185,7 +185,7 @@ module _ (o : Object) (ok : IsObject o) (dirty : is_dirty o ≡ true)
 
     -- ---- What it is then
 
-    pub again_clean : IsClean (section_at again t)
+    pub again_clean : IsHomeAlone (section_at again t)
     unfolding settled_section
     again_clean = ap (λ (c : Section). c.pieces) section_is
 
@@ -211,7 +211,7 @@ module _ (o : Object) (ok : IsObject o) (dirty : is_dirty o ≡ true)
 
     -- ---- A section that is clean
 
-    module _ (clean : IsClean (section_at o t))
+    module _ (clean : IsHomeAlone (section_at o t))
         (kind : (section_at o t).home.kind ≡ section_kind (section_at o t).header) where
       is_clean : home_is_clean (section_at o t) ≡ true
       unfolding home_is_clean
@@ -245,7 +245,7 @@ module _ (o : Object) (ok : IsObject o) (dirty : is_dirty o ≡ true)
 
       pub clean_content : content again t ≡ content o t
       clean_content =
-          content_is again t
+          content_as again t
           ∙ ap (λ (b : Bool). content_by t b (section_at again t).home.kind again.header.class
           again.header.order (section_at again t).raw) (again_in_file ∙ sym was_in_file)
           ∙ ap (λ (k : Kind). content_by t (section_at o t).home.out k again.header.class
@@ -256,11 +256,11 @@ module _ (o : Object) (ok : IsObject o) (dirty : is_dirty o ≡ true)
           o.header.class r (section_at again t).raw) again_order
           ∙ ap (content_by t (section_at o t).home.out (section_at o t).home.kind o.header.class
           o.header.order) raw_same
-          ∙ sym (content_is o t)
+          ∙ sym (content_as o t)
 
       pub clean_again : items_at again t 0 ≡ items_at o t 0
       clean_again =
-          clean_items again t again_clean ∙ ap or_empty clean_content ∙ sym (clean_items o t clean)
+          home_items again t again_clean ∙ ap or_empty clean_content ∙ sym (home_items o t clean)
 
       -- its strings
       blocks_same : blocks_of again.header.class again.header.order (section_at again t)

@@ -24,7 +24,7 @@ use Rattle.hash_laws.proofs.ReorderedLaws.{owned, symbols_lent, item_lent, reord
 -- ---- A section with items of its own
 
 -- in place of those that it had
-pub record Owns (before o : Object) (n : ℕ) : Type 0 where
+pub record HasOwn (before o : Object) (n : ℕ) : Type 0 where
   pub left : Items
   pub section : section_at o n ≡ owned (section_at before n) left
   pub kind : items_kind left ≡ items_kind (items_at before n 0)
@@ -33,13 +33,13 @@ pub record Owns (before o : Object) (n : ℕ) : Type 0 where
   pub content : no_content before n 0 ≡ None
 
 -- or as it was
-abbrev pub Stands : Object → Object → ℕ → Type 0
-Stands before o n = (section_at o n ≡ section_at before n) ⊎ Owns before o n
+abbrev pub IsOwnOrSame : Object → Object → ℕ → Type 0
+IsOwnOrSame before o n = (section_at o n ≡ section_at before n) ⊎ HasOwn before o n
 
-pub stands_still : (before o p : Object) (n : ℕ) → section_at p n ≡ section_at o n
-    → Stands before o n → Stands before p n
-stands_still before o p n same (inl is) = inl (same ∙ is)
-stands_still before o p n same (inr owns) = inr (record {
+pub still_own_or_same : (before o p : Object) (n : ℕ) → section_at p n ≡ section_at o n
+    → IsOwnOrSame before o n → IsOwnOrSame before p n
+still_own_or_same before o p n same (inl is) = inl (same ∙ is)
+still_own_or_same before o p n same (inr owns) = inr (record {
   left = owns.left;
   section = same ∙ owns.section;
   kind = owns.kind;
@@ -137,7 +137,7 @@ module _ (order : List ℕ) (few : length order ≤ 2 ^ 32) where
 
   module _ (o : Object) (s : ℕ) (is_table : (header_at o s).stype ≡ SHT_DYNSYM)
       (passed : reorder_refusal o s ≡ None) where
-    pub table_owns : Owns o (reordered o s order) s
+    pub table_owns : HasOwn o (reordered o s order) s
     table_owns =
         let lent = symbols_lent o s order is_table passed in
         record {
@@ -156,7 +156,7 @@ module _ (order : List ℕ) (few : length order ≤ 2 ^ 32) where
         → (stype == SHT_DYNSYM) ≡ false → kind_by_symbols stype ≡ Some kind
         → kind ≢ kinds.Empty
         → ((left : Items) → items_kind left ≡ kind → AreItems left
-        → AreItems (items_by_symbols order left)) → Owns o (reordered o s order) n
+        → AreItems (items_by_symbols order left)) → HasOwn o (reordered o s order) n
     owns_by n stype kind is link some no_group no_table goes full ranged =
         let lent = item_lent o s order is_table passed n stype kind is link some no_group no_table
         goes in
@@ -172,10 +172,10 @@ module _ (order : List ℕ) (few : length order ≤ 2 ^ 32) where
         }
 
     pub rels_own : (n : ℕ) → (header_at o n).stype ≡ SHT_REL → (header_at o n).link ≡ s
-        → Owns o (reordered o s order) n
+        → HasOwn o (reordered o s order) n
     rels_own n is link = owns_by n SHT_REL kinds.Rel is link refl refl refl refl (λ is. cc) rels_are
 
     pub relas_own : (n : ℕ) → (header_at o n).stype ≡ SHT_RELA → (header_at o n).link ≡ s
-        → Owns o (reordered o s order) n
+        → HasOwn o (reordered o s order) n
     relas_own n is link =
         owns_by n SHT_RELA kinds.Rela is link refl refl refl refl (λ is. cc) relas_are

@@ -20,8 +20,9 @@ use Rattle.elf_object.proofs.PassedLaws.{none_first, none_rest}
 use Rattle.elf_object.proofs.StepLaws.{same_kind-same, section_at-with_own, section_at-with_own_other, section_count-with_own, piece_count-with_own, piece_at-with_own, items_at-with_own, kind_at-with_own, section_count-with_section, section_at-with_shdr, section_at-with_shdr_other}
 use Rattle.command_objects.specs.Words.{header_at}
 use Rattle.command_objects.specs.Reordered.{in_order, new_index, kind_by_symbols, items_by_symbols, with_signature, reordered_section, reordered, too_few_items, reorder_refusal_of, reorder_refusal}
-use Rattle.hash_laws.proofs.TypeLaws.{differ, there_by_type, lent_there, lent_piece}
-use Rattle.hash_laws.proofs.SameLaws.{SameAt, same_items, same_lend, SameStrings, strings_stay, strings_both}
+use Rattle.hash_laws.proofs.TypeLaws.{apart_types, there_by_type, lent_there, lent_piece}
+use Rattle.hash_order.proofs.StoreLaws.{IsSameAt, same_items, same_lend}
+use Rattle.hash_laws.proofs.SameLaws.{SameStrings, strings_stay, strings_both}
 
 -- ---- A step on one section
 
@@ -110,10 +111,10 @@ abbrev pub owned : Section → Items → Section
 owned c left =
     record c { pieces = set c.pieces 0 (own_piece left (get_or c.pieces 0 home_piece).align) }
 
-pub own_is : (o : Object) (n : ℕ) (left : Items) → n < length o.sections
+pub owned_is : (o : Object) (n : ℕ) (left : Items) → n < length o.sections
     → section_at (with_own o n 0 left) n ≡ owned (section_at o n) left
 unfolding piece_at
-own_is o n left inside = section_at-with_own o n 0 left inside
+owned_is o n left inside = section_at-with_own o n 0 left inside
 
 -- ---- A section that follows the order
 
@@ -307,7 +308,7 @@ module _ (o : Object) (s : ℕ) (order : List ℕ) (is_table : (header_at o s).s
 
   begun : StepOf o first s
   begun =
-      own_step o s moved inside (λ is. differ SHT_DYNSYM SHT_STRTAB refl _ is_table is)
+      own_step o s moved inside (λ is. apart_types SHT_DYNSYM SHT_STRTAB refl _ is_table is)
 
   bound : 0 + length o.sections ≤ length first.sections
   bound = omega (arith, begun.strings.count)
@@ -334,7 +335,7 @@ module _ (o : Object) (s : ℕ) (order : List ℕ) (is_table : (header_at o s).s
       (r.strings.stype s ∙ begun.strings.stype s ∙ is_table) refl refl)
       ∙ r.before
 
-  same_symbols : SameAt first after s
+  same_symbols : IsSameAt first after s
   same_symbols = record {
     header = strings_after.header;
     count = strings_after.count;
@@ -350,7 +351,7 @@ module _ (o : Object) (s : ℕ) (order : List ℕ) (is_table : (header_at o s).s
   pub reordered_table : section_at (reordered o s order) s
       ≡ owned (section_at o s) (items.Sym (in_order order (syms_of (items_at o s 0))))
   unfolding reordered
-  reordered_table = symbols_stay ∙ own_is o s moved inside
+  reordered_table = symbols_stay ∙ owned_is o s moved inside
 
   own_content : no_content first s 0 ≡ None
   unfolding no_content
@@ -390,7 +391,7 @@ module _ (o : Object) (s : ℕ) (order : List ℕ) (is_table : (header_at o s).s
 
     apart : n ≢ s
     apart same =
-        differ stype SHT_DYNSYM no_table (header_at o n).stype is
+        apart_types stype SHT_DYNSYM no_table (header_at o n).stype is
         (ap (λ (k : ℕ). (header_at o k).stype) same ∙ is_table)
 
     abbrev refused_by : Option Kind → Option ElfError
@@ -415,7 +416,7 @@ module _ (o : Object) (s : ℕ) (order : List ℕ) (is_table : (header_at o s).s
     abbrev r : Reaches s order first after n
     r = reach n below
 
-    mid_same : SameAt o r.mid n
+    mid_same : IsSameAt o r.mid n
     mid_same = record {
       header = r.strings.header ∙ begun.strings.header;
       count = r.strings.count ∙ begun.strings.count;
@@ -434,7 +435,7 @@ module _ (o : Object) (s : ℕ) (order : List ℕ) (is_table : (header_at o s).s
     stepped : StepOf r.mid (next s order r.mid n) n
     stepped = reorder_step s order r.mid n mid_inside
 
-    at_end : SameAt (next s order r.mid n) after n
+    at_end : IsSameAt (next s order r.mid n) after n
     at_end = record {
       header = strings_after.header ∙ sym (stepped.strings.header ∙ r.strings.header);
       count = strings_after.count ∙ sym (stepped.strings.count ∙ r.strings.count);
@@ -451,7 +452,7 @@ module _ (o : Object) (s : ℕ) (order : List ℕ) (is_table : (header_at o s).s
         (follows s order r.mid n stype kind
         (r.strings.stype n ∙ begun.strings.stype n ∙ is)
         (r.strings.link n ∙ begun.strings.link n ∙ link) no_group goes)
-        ∙ own_is r.mid n (items_by_symbols order (items_at r.mid n 0)) mid_inside
+        ∙ owned_is r.mid n (items_by_symbols order (items_at r.mid n 0)) mid_inside
         ∙ ap (λ (c : Section). owned c (items_by_symbols order (items_at r.mid n 0)))
         mid_same.section
         ∙ ap (λ (l : Items). owned (section_at o n) (items_by_symbols order l))

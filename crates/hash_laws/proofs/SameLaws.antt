@@ -1,9 +1,9 @@
 -- Objects in which a section is the same: its items, its strings, and the names of its symbols.
-use Rattle.std.proofs.Common.{◌≡◌, ◌≢◌, ◌-◌, ◌^◌, ◌==◌, ◌&&◌, ◌⊎◌, inl, inr, ℕ, Bool, true, false, not, List, [], ◌∷◌, length, get_or, map, Option, Some, None, is_none, Result, Ok, Err, refl, sym, ap, ◌∙◌}
+use Rattle.std.proofs.Common.{◌≡◌, ◌≢◌, ◌-◌, ◌^◌, ◌==◌, ◌&&◌, ◌⊎◌, inl, inr, ℕ, Bool, true, false, not, List, [], ◌∷◌, length, map, Option, Some, None, is_none, Result, Ok, Err, refl, sym, ap, ◌∙◌}
 use Rattle.std.specs.Prelude.{filter, min, nat_le, slice_get, if◌then◌else◌}
 use Rattle.std.specs.List.{enumerate_from}
 use Rattle.std.proofs.lemmas.Bool.{and_left, cases_eq, ne_eqb}
-use Rattle.elf_types.specs.Answers.{refused_if, first_refusal, answered, err_of}
+use Rattle.elf_types.specs.Answers.{refused_if, first_refusal, answered}
 use Rattle.elf_types.specs.declared.constants.TheConstants.{SHT_STRTAB}
 use Rattle.elf_types.specs.declared.records.Class.{Class}
 use Rattle.elf_types.specs.declared.records.Ehdr.{Ehdr}
@@ -11,27 +11,21 @@ use Rattle.elf_types.specs.declared.records.Kind.{Kind}
 use Rattle.elf_types.specs.declared.records.Order.{Order}
 use Rattle.elf_types.specs.declared.records.Sym.{Sym}
 use Rattle.elf_types.specs.declared.errors.ElfError.{ElfError}
-use Rattle.elf_types.specs.declared.errors.ElfError.TheVariants.{NoSection, NoData, WrongKind, OutOfFile, Ragged, NotStrings, NoString, Unended}
+use Rattle.elf_types.specs.declared.errors.ElfError.TheVariants.{NoSection, OutOfFile, Ragged, NotStrings, NoString, Unended}
 use Rattle.elf_xlate.specs.declared.content.Items.{Items}
-use Rattle.elf_xlate.specs.Translation.{decoded, items_kind}
+use Rattle.elf_xlate.specs.Translation.{decoded}
 use Rattle.strtab_build.specs.Table.{string_at}
 use Rattle.elf_object.specs.Blocks.{Block, block_covers, stacked, last_end}
 use Rattle.elf_object.specs.Joined.{aligned_pieces, piece_blocks, pieces_end}
-use Rattle.elf_object.specs.Object.{Object, Section, Piece, section_at, piece_at, home_piece, home_is_clean}
-use Rattle.elf_object.specs.Answers.{content, or_empty, items_at, syms_of, kind_at, piece_count, same_kind, no_content, lend_refusal}
+use Rattle.elf_object.specs.Object.{Object, Section, section_at, home_is_clean}
+use Rattle.elf_object.specs.Answers.{content, items_at, syms_of}
 use Rattle.elf_object.specs.Strings.{holds_strings, has_nul, bytes_from, piece_over, string_refusal_unread, string_refusal, string_answer, readable, symbol_name}
 use Rattle.command_objects.specs.Words.{header_at}
 use Rattle.command_objects.specs.Listed.{not_empty, is_defined_global, listed_name, listed_names}
 
--- two objects of one header, with as many sections and the same section t
-pub record SameAt (o p : Object) (t : ℕ) : Type 0 where
-  pub header : p.header ≡ o.header
-  pub count : length p.sections ≡ length o.sections
-  pub section : section_at p t ≡ section_at o t
+-- ---- Content
 
--- ---- Items
-
--- the content of a section
+-- the content of a section by what it is made of
 abbrev pub content_by : ℕ → Bool → Kind → Class → Order → List ℕ → Result Items ElfError
 content_by t out kind class order raw =
     if out then Err (OutOfFile t)
@@ -40,67 +34,12 @@ content_by t out kind class order raw =
       | Some items ↦ Ok items
     ])
 
-abbrev content_of : Class → Order → ℕ → Section → Result Items ElfError
-content_of class order t c = content_by t c.home.out c.home.kind class order c.raw
-
-pub content_is : (o : Object) (t : ℕ)
+pub content_as : (o : Object) (t : ℕ)
     → content o t
     ≡ content_by t (section_at o t).home.out (section_at o t).home.kind o.header.class
     o.header.order (section_at o t).raw
 unfolding content
-content_is o t = refl
-
-abbrev first_piece : Section → Piece
-first_piece c = get_or c.pieces 0 home_piece
-
-abbrev items_of : Class → Order → ℕ → Section → Items
-items_of class order t c = elim ((first_piece c).own) [
-  | None ↦ or_empty (content_of class order t c)
-  | Some items ↦ items
-]
-
-abbrev kind_of : Section → Kind
-kind_of c = elim ((first_piece c).own) [ None ↦ c.home.kind | Some items ↦ items_kind items ]
-
-abbrev lend_of : Class → Order → ℕ → Kind → ℕ → Section → Option ElfError
-lend_of class order count kind t c =
-    first_refusal
-    (refused_if (nat_le count t) (NoSection t count)
-    ∷ refused_if (nat_le (length c.pieces) 0) (NoData 0 (length c.pieces))
-    ∷ refused_if (not (same_kind (kind_of c) kind)) (WrongKind (kind_of c))
-    ∷ elim ((first_piece c).own) [
-      | None ↦ err_of (content_of class order t c)
-      | Some items ↦ None
-    ]
-    ∷ [])
-
-items_by : (o : Object) (t : ℕ)
-    → items_at o t 0 ≡ items_of o.header.class o.header.order t (section_at o t)
-unfolding items_at piece_at content
-items_by o t = refl
-
-lend_by : (o : Object) (kind : Kind) (t : ℕ)
-    → lend_refusal o kind t 0
-    ≡ lend_of o.header.class o.header.order (length o.sections) kind t (section_at o t)
-unfolding lend_refusal kind_at piece_count no_content piece_at content
-lend_by o kind t = refl
-
-module _ (o p : Object) (t : ℕ) (same : SameAt o p t) where
-  pub same_items : items_at p t 0 ≡ items_at o t 0
-  same_items =
-      items_by p t
-      ∙ ap (λ (h : Ehdr). items_of h.class h.order t (section_at p t)) same.header
-      ∙ ap (items_of o.header.class o.header.order t) same.section
-      ∙ sym (items_by o t)
-
-  pub same_lend : (kind : Kind) → lend_refusal p kind t 0 ≡ lend_refusal o kind t 0
-  same_lend kind =
-      lend_by p kind t
-      ∙ ap (λ (h : Ehdr). lend_of h.class h.order (length p.sections) kind t (section_at p t))
-      same.header
-      ∙ ap (λ (n : ℕ). lend_of o.header.class o.header.order n kind t (section_at p t)) same.count
-      ∙ ap (lend_of o.header.class o.header.order (length o.sections) kind t) same.section
-      ∙ sym (lend_by o kind t)
+content_as o t = refl
 
 -- ---- Strings
 

@@ -14,7 +14,7 @@ use Rattle.command_objects.specs.HashSections.{SysvHash, sysv_words, sysv_in, sy
 use Rattle.command_objects.specs.BuiltHashes.{buckets_of, in_bucket, is_in, first_in, next_in, sysv_built}
 use Rattle.hash_build.proofs.ListedLaws.{option_at}
 use Rattle.hash_build.proofs.RangeLaws.{is_here, first_at, first_none, first_step, first_all, next_some}
-use Rattle.hash_laws.proofs.NameLaws.{each_is, all_pass, six, among, in_some, in_its}
+use Rattle.hash_laws.proofs.NameLaws.{each_is, each_passes, six, among, in_some, in_its}
 
 -- ---- Along a chain
 
@@ -203,7 +203,7 @@ module _ (count : ℕ) (names : List (Option (List ℕ))) (some : 0 < count)
   every_end =
       list_all-map (λ (k : ℕ). ends (sysv_chain links (length links) k)) (first_in hashed)
       (range_with_len 0 count)
-      ∙ all_pass (λ (b : ℕ). ends (sysv_chain links (length links) (first_in hashed b)))
+      ∙ each_passes (λ (b : ℕ). ends (sysv_chain links (length links) (first_in hashed b)))
       (λ b. ap ends (chain_is b)) (range_with_len 0 count)
 
   is_member : (k : ℕ) (name : List ℕ) → k < length names → get_or names k None ≡ Some name

@@ -15,8 +15,8 @@ use Rattle.command_objects.specs.Words.{header_at}
 -- ---- Section types
 
 -- a number is not two
-pub differ : (a b : ℕ) → (a == b) ≡ false → (x : ℕ) → x ≡ a → x ≡ b → ⊥
-differ a b apart x one other = eqb-false a b apart (sym one ∙ other)
+pub apart_types : (a b : ℕ) → (a == b) ≡ false → (x : ℕ) → x ≡ a → x ≡ b → ⊥
+apart_types a b apart x one other = eqb-false a b apart (sym one ∙ other)
 
 -- a section of a type that is not 0 is there
 pub there_by_type : (o : Object) (t stype : ℕ) → (header_at o t).stype ≡ stype
