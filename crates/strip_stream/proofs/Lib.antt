@@ -5,3 +5,4 @@ pub mod ArrangeLaws
 pub mod HoldLaws
 pub mod PlanLaws
 pub mod StreamLaws
+pub mod StoredLaws

@@ -5,3 +5,4 @@ pub mod Arranging
 pub mod Holding
 pub mod Planning
 pub mod Streaming
+pub mod Streams

@@ -11,9 +11,11 @@ mod items;
 pub mod laws;
 mod places;
 mod planning;
+mod streaming;
 
 pub use arranging::arrange_listed;
 pub use fronts::{hold_header, hold_sections, hold_segments};
 pub use holding::{FrontRanges, hold_front};
 pub use items::hold_items;
 pub use planning::plan_listed;
+pub use streaming::{Streamed, stream_listed};
