@@ -9,3 +9,5 @@ mod behind;
 mod forms;
 #[cfg(test)]
 mod listing;
+#[cfg(test)]
+mod streaming;
