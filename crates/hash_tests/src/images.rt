@@ -65,7 +65,7 @@ const UNDEFINED: Sym = Sym { shndx: 0, ..GLOBAL };
 const ZERO: Sym = Sym { shndx: 0, ..LOCAL };
 
 /// The names of the symbols. No NUL ends the last one.
-const STRINGS: &[u8] = b"\0a\0b\0printf\0exit\0hidden\0missing\0tail";
+pub const STRINGS: &[u8] = b"\0a\0b\0printf\0exit\0hidden\0missing\0tail";
 
 /// Symbols in the order of two buckets: of the first are `a` and `printf`, of the second `exit` and
 /// `b`. Symbol 1 is local, 2 is undefined, 3 has an empty name, the name of 4 has no end, and that
@@ -90,7 +90,7 @@ const IN_ORDER: &[Sym] = &[
 ];
 
 /// Symbols out of it: `b`, `a`, one that is undefined, and `printf`.
-const OUT_OF_ORDER: &[Sym] = &[
+pub const OUT_OF_ORDER: &[Sym] = &[
     ZERO,
     Sym { name: 3, ..GLOBAL },
     Sym { name: 1, ..GLOBAL },

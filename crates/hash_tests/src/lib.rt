@@ -5,8 +5,14 @@
 #[cfg(test)]
 mod built;
 #[cfg(test)]
+mod dynamic;
+#[cfg(test)]
 mod images;
 #[cfg(test)]
 mod refused;
 #[cfg(test)]
+mod rehashed;
+#[cfg(test)]
 mod rows;
+#[cfg(test)]
+mod unhashed;

@@ -1,0 +1,79 @@
+//! Images whose hash sections are not built anew.
+
+use crate::dynamic::{
+    FEW_INDEXES, FEW_VERSIONS, OTHER_LINKS, OUT, RAGGED, RAGGED_RELOCATIONS, VERSIONS,
+};
+use crate::images::{GNU, Question, SORTED, SYMBOLS, first_piece, is_answered, is_refusal};
+use elf_descriptor::Elf;
+use elf_outside::Source;
+use elf_types::ElfError;
+use gelf_view::{half, sym};
+use rehash_tool::rehash;
+use test_images::{NARROW, WIDE};
+
+/// It is refused so.
+#[derive(Clone, Copy)]
+struct Refused(ElfError);
+
+impl Question for Refused {
+    fn is_answered<S: Source>(&self, elf: &mut Elf<S>) -> bool {
+        is_refusal(&rehash(elf), self.0)
+    }
+}
+
+#[test]
+fn tables_that_are_ragged_or_not_there_are_refused_in_the_order_of_the_steps(rt: HostRuntime) {
+    let out = Refused(ElfError::OutOfFile { section: GNU.0 });
+    assert!(rt; is_answered(rt.alloc(), &out, WIDE, &OUT) == Ok(true));
+    let symbols = Refused(ElfError::Ragged { section: SYMBOLS.0 });
+    assert!(rt; is_answered(rt.alloc(), &symbols, WIDE, &RAGGED) == Ok(true));
+    let relocations = Refused(ElfError::Ragged { section: 6 });
+    assert!(rt; is_answered(rt.alloc(), &relocations, WIDE, &RAGGED_RELOCATIONS) == Ok(true));
+}
+
+#[test]
+fn fewer_versions_or_extended_indexes_than_symbols_are_refused(rt: HostRuntime) {
+    let versions = Refused(ElfError::NoEntry { index: 4, count: 3 });
+    assert!(rt; is_answered(rt.alloc(), &versions, WIDE, &FEW_VERSIONS) == Ok(true));
+    assert!(rt; is_answered(rt.alloc(), &versions, NARROW, &FEW_VERSIONS) == Ok(true));
+    let indexes = Refused(ElfError::NoEntry { index: 4, count: 1 });
+    assert!(rt; is_answered(rt.alloc(), &indexes, WIDE, &FEW_INDEXES) == Ok(true));
+}
+
+/// The order is refused before anything changes.
+struct Unchanged;
+
+impl Question for Unchanged {
+    fn is_answered<S: Source>(&self, elf: &mut Elf<S>) -> bool {
+        if rehash(elf).is_ok() || elf.dirty() {
+            return false;
+        }
+        let named = match sym(elf, first_piece(SYMBOLS), 1) {
+            Ok(held) => held.name == 3,
+            Err(_) => false,
+        };
+        named && half(elf, first_piece(VERSIONS), 1) == Ok(1)
+    }
+}
+
+#[test]
+fn a_refused_order_leaves_the_object(rt: HostRuntime) {
+    assert!(rt; is_answered(rt.alloc(), &Unchanged, WIDE, &FEW_VERSIONS) == Ok(true));
+    assert!(rt; is_answered(rt.alloc(), &Unchanged, WIDE, &FEW_INDEXES) == Ok(true));
+}
+
+/// There is none, and nothing is done.
+struct Absent;
+
+impl Question for Absent {
+    fn is_answered<S: Source>(&self, elf: &mut Elf<S>) -> bool {
+        rehash(elf) == Ok(false) && !elf.dirty()
+    }
+}
+
+#[test]
+fn symbols_that_are_not_dynamic_and_sections_of_other_tables_are_no_dynamic_hash(rt: HostRuntime) {
+    assert!(rt; is_answered(rt.alloc(), &Absent, WIDE, &SORTED) == Ok(true));
+    assert!(rt; is_answered(rt.alloc(), &Absent, NARROW, &SORTED) == Ok(true));
+    assert!(rt; is_answered(rt.alloc(), &Absent, WIDE, &OTHER_LINKS) == Ok(true));
+}
