@@ -1,0 +1,5 @@
+pub mod Again
+pub mod Whole
+pub mod DebugHalf
+pub mod Placed
+pub mod StrippedHalf
