@@ -1,52 +1,42 @@
-//! The image of an open file with its hash sections built anew, and the new file of it.
+//! The command, by the image of an open file.
 
 ghost use Rattle.std.specs.Prelude.{codes};
-ghost use Rattle.object_output.specs.Images.{file_object};
-ghost use Rattle.rehash_tool.specs.Writes.{image_outcome};
+ghost use Rattle.command_objects.specs.Rehashed.{rehashed};
+ghost use Rattle.rehash_tool.specs.Writes.{rehashed_done};
 
-use crate::writing::{refuse_for, write_rehashed};
+use crate::writing::write_rehashed;
+use elf_descriptor::Elf;
 use elf_outside::{Files, Sink, Source};
-use object_files::FileEdit;
-use object_output::begin_image;
+use object_writing::ImageCommand;
 use std::alloc::Global;
 use tool_output::{Outputs, Stop};
 
-/// The name of the file that is made.
+/// rehash, by the name of the file that is made.
 #[derive(Clone, Copy)]
-pub struct RehashEdit<'a> {
+pub struct RehashCommand<'a> {
     /// The name.
     pub out: &'a str,
 }
 
-/// The hash sections of the image that the file holds are built anew, and what this leaves is
-/// written to the new file while the first one is open. What has no front of an image, and an
-/// archive, has the message that says why: then no file is made.
-impl FileEdit for RehashEdit<'_> {
-    ghost command = { λ _. codes "rehash" };
+/// The hash sections of the image are built anew, and what this leaves is written to the new file
+/// while the old one is open.
+impl ImageCommand for RehashCommand<'_> {
+    ghost named = { λ _. codes "rehash" };
 
-    ghost outcome = { λ t name bytes. image_outcome name t.out.now (file_object bytes) };
+    ghost done = { λ t file o. rehashed_done file t.out.now (rehashed o) };
 
-    fn command(&self) -> &'static str {
+    fn name(&self) -> &'static str {
         "rehash"
     }
 
-    fn edit<S: Source, F: Files, O: Sink, E: Sink>(
+    fn write<S: Source, F: Files, O: Sink, E: Sink>(
         &self,
         alloc: Global,
-        src: S,
-        name: &[u8],
+        elf: &mut Elf<S>,
+        file: &[u8],
         files: &mut F,
         outputs: &mut Outputs<'_, O, E>,
-    ) -> (S, Result<bool, Stop>) {
-        match begin_image(alloc, src) {
-            Ok(mut elf) => {
-                let written = write_rehashed(alloc, &mut elf, name, self.out, files, outputs);
-                (elf.end(), written)
-            }
-            Err((src, e)) => {
-                let refused = refuse_for(name, e, outputs);
-                (src, refused)
-            }
-        }
+    ) -> Result<bool, Stop> {
+        write_rehashed(alloc, elf, file, self.out, files, outputs)
     }
 }

@@ -1,6 +1,6 @@
 //! The command `rehash`: the hash sections of the dynamic symbols of an image are built anew, and
 //! the image that this leaves is written to a new file. `rehash` does so with a descriptor,
-//! `write_rehashed` writes what it leaves, and `RehashEdit` does both with what an open file holds.
+//! `write_rehashed` writes what it leaves, and `RehashCommand` does both with what an open file holds.
 #![tactic(auto)]
 
 pub mod edits;
@@ -11,6 +11,6 @@ mod shapes;
 mod steps;
 pub mod writing;
 
-pub use edits::RehashEdit;
+pub use edits::RehashCommand;
 pub use rehashing::rehash;
 pub use writing::write_rehashed;

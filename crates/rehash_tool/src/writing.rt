@@ -5,34 +5,16 @@ ghost use Rattle.tool_output.specs.Names.{file_name};
 ghost use Rattle.tool_output.specs.Made.{written_outcome};
 ghost use Rattle.tool_output.specs.Reports.{Reports, refusal_report};
 ghost use Rattle.tool_output.specs.Steps.{LeavesOutputs};
-ghost use Rattle.object_output.specs.Refusals.{Refuses};
-ghost use Rattle.rehash_tool.specs.Writes.{done_by, written_done, object_outcome, WritesFile};
+ghost use Rattle.object_writing.specs.Writes.{WritesFile};
+ghost use Rattle.rehash_tool.specs.Writes.{done_by, rehashed_done};
+ghost use Rattle.command_objects.specs.Rehashed.{rehashed};
 
 use crate::rehashing::rehash;
 use elf_descriptor::Elf;
 use elf_outside::{Files, Sink, Source};
-use elf_types::ElfError;
-use object_files::write_image;
+use object_writing::{refuse_for, write_object};
 use std::alloc::Global;
 use tool_output::{FileName, Message, Outputs, Stop};
-use update_plan::update_null;
-
-/// Refuses a file for an error of the library, or stops where the error is no refusal.
-pub fn refuse_for<O: Sink, E: Sink>(
-    file: &[u8],
-    e: ElfError,
-    outputs: &mut Outputs<'_, O, E>,
-) -> Result<bool, Stop>
-    ensures { Refuses O.Sink E.Sink (codes "rehash") (file_name file.now) e result
-        outputs.old outputs.new }
-{
-    let message = Message {
-        command: "rehash",
-        name: &FileName::of(file),
-        text: e,
-    };
-    outputs.refuse_by(&message, e)
-}
 
 /// Refuses a file that has no hash section of dynamic symbols.
 fn refuse_absent<O: Sink, E: Sink>(
@@ -50,28 +32,8 @@ fn refuse_absent<O: Sink, E: Sink>(
     })
 }
 
-/// Writes the image of an object to a new file, or the message that says why it has none: then the
-/// file is not made.
-fn write_updated<S: Source, F: Files, O: Sink, E: Sink>(
-    alloc: Global,
-    elf: &mut Elf<S>,
-    file: &[u8],
-    out: &str,
-    files: &mut F,
-    outputs: &mut Outputs<'_, O, E>,
-) -> Result<bool, Stop>
-    ensures { WritesFile S.Source F.Files O.Sink E.Sink
-        (written_outcome (codes "rehash") (written_done file.now out.now elf.old.o))
-        result elf.old elf.new files.old files.new outputs.old outputs.new }
-{
-    let _dirty = elf.dirty();
-    match update_null(elf) {
-        Ok(_) => write_image(alloc, elf, out, files, outputs),
-        Err(e) => refuse_for(file, e, outputs),
-    }
-}
-
-/// The same where the hash sections were built anew; where there is none, the message says so.
+/// Writes the image of an object whose hash sections were built anew to a new file; where there is
+/// none, the message says so.
 fn write_done<S: Source, F: Files, O: Sink, E: Sink>(
     alloc: Global,
     elf: &mut Elf<S>,
@@ -86,7 +48,7 @@ fn write_done<S: Source, F: Files, O: Sink, E: Sink>(
         result elf.old elf.new files.old files.new outputs.old outputs.new }
 {
     if done {
-        return write_updated(alloc, elf, file, out, files, outputs);
+        return write_object(alloc, elf, "rehash", file, out, files, outputs);
     }
     refuse_absent(file, outputs)
 }
@@ -107,11 +69,11 @@ pub fn write_rehashed<S: Source, F: Files, O: Sink, E: Sink>(
     outputs: &mut Outputs<'_, O, E>,
 ) -> Result<bool, Stop>
     ensures { WritesFile S.Source F.Files O.Sink E.Sink
-        (object_outcome file.now out.now elf.old.o)
+        (written_outcome (codes "rehash") (rehashed_done file.now out.now (rehashed elf.old.o)))
         result elf.old elf.new files.old files.new outputs.old outputs.new }
 {
     match rehash(elf) {
         Ok(done) => write_done(alloc, elf, done, file, out, files, outputs),
-        Err(e) => refuse_for(file, e, outputs),
+        Err(e) => refuse_for("rehash", file, e, outputs),
     }
 }

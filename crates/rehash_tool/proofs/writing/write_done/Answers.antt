@@ -2,7 +2,7 @@ use Rattle.rehash_tool.proofs.WriteLemmas.{absent_said}
 use Rattle.rehash_tool.proofs.writing.write_done.Goals as goal
 
 pub returns-then-done : goal.returns-then-done
-returns-then-done g c = rw c.if-done.true c.write_updated.ensures
+returns-then-done g c = rw c.if-done.true c.write_object.ensures
 
 pub returns : goal.returns
 returns g c =
