@@ -3,4 +3,5 @@ pub mod CallsUpdateLemmas
 pub mod CommandLemmas
 pub mod ObjectLemmas
 pub mod RehashLemmas
+pub mod StripLemmas
 pub mod TitleLemmas

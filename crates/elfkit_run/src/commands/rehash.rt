@@ -8,8 +8,8 @@ ghost use Rattle.tool_output.specs.Outcomes.{Does};
 ghost use Rattle.command_outcomes.specs.Copy.{rehash_outcome};
 
 use elf_outside::{Files, Sink};
-use object_files::edit_file;
-use rehash_tool::RehashEdit;
+use object_writing::edit_named;
+use rehash_tool::RehashCommand;
 use std::alloc::Global;
 use tool_output::{Outputs, Stop};
 use tool_text::Text;
@@ -32,6 +32,6 @@ pub fn rehash<F: Files, O: Sink, E: Sink>(
     ensures leaves { LeavesFiles F.Files O.Sink E.Sink
         result files.old files.new outputs.old outputs.new }
 {
-    let edit = RehashEdit { out: out.as_str() };
-    edit_file(alloc, &edit, file.as_str(), files, outputs)
+    let command = RehashCommand { out: out.as_str() };
+    edit_named(alloc, &command, file.as_str(), files, outputs)
 }

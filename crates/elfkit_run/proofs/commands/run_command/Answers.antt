@@ -94,8 +94,20 @@ returns-in-Calls-clause-given g c = rw c.in-Calls.is c.calls_by_output.ensures.g
 pub calls_by_output-requires : goal.calls_by_output-requires
 calls_by_output-requires g c = rw c.in-Calls.is at c.requires
 
+pub strip_alone-requires : goal.strip_alone-requires
+strip_alone-requires g c = (rw c.in-Strip.is at c.requires).0
+
+pub returns-in-Strip-clause-does : goal.returns-in-Strip-clause-does
+unfolding command_outcome is_built
+returns-in-Strip-clause-does g c = rw c.in-Strip.is c.strip_alone.ensures.does
+
+pub returns-in-Strip-clause-untouched : goal.returns-in-Strip-clause-untouched
+unfolding is_built
+returns-in-Strip-clause-untouched g c = rw c.in-Strip.is c.strip_alone.ensures.untouched
+
 pub returns-in-Strip-clause-given : goal.returns-in-Strip-clause-given
-returns-in-Strip-clause-given g c = λ reading. refl
+unfolding writes_files
+returns-in-Strip-clause-given g c = rw c.in-Strip.is (λ no. cc)
 
 pub returns-in-Selftest-clause-given : goal.returns-in-Selftest-clause-given
 unfolding writes_files

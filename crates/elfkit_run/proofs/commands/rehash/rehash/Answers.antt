@@ -1,13 +1,13 @@
-use Rattle.elfkit_run.proofs.RehashLemmas.{unwritten, rehash_does}
+use Rattle.object_output.specs.Images.{file_object}
+use Rattle.elfkit_run.proofs.RehashLemmas.{rehash_unwritten, rehash_is}
 use Rattle.elfkit_run.proofs.commands.rehash.rehash.Goals as goal
 
-pub edit_file-requires : goal.edit_file-requires
-edit_file-requires g c = λ bytes.
+pub edit_named-requires : goal.edit_named-requires
+edit_named-requires g c = λ bytes.
     rw (c.as_str.ensures, c.as_str-2.ensures)
-    (unwritten c.args.out.now c.args.file.now bytes c.requires)
+    (rehash_unwritten c.args.out.now c.args.file.now c.requires (file_object bytes))
 
 pub returns-clause-does : goal.returns-clause-does
 returns-clause-does g c = λ told.
-    rehash_does g.F.Files g.O.Sink g.E.Sink c.args.out.now c.args.file.now c.edit_file.result
-    c.args.files.now c.edit_file.new.files c.args.outputs.now c.edit_file.new.outputs
-    ((rw (c.as_str.ensures, c.as_str-2.ensures) at c.edit_file.ensures.does) told)
+    rw (rehash_is (g.F.named c.args.files.now) c.args.out.now c.args.file.now)
+    ((rw (c.as_str.ensures, c.as_str-2.ensures) at c.edit_named.ensures.does) told)
