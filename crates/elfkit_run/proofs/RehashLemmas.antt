@@ -18,7 +18,7 @@ module _ (out file : List ℕ) (differ : out ≢ file) where
   by_object : (q : Result Object Complaint)
       → write_of (written_outcome (codes "rehash") (q >>= λ o. written_done file out o)).writes
       file ≡ None
-  unfolding written_outcome
+  unfolding written_outcome write_of
   by_object (Ok o) = unwritten (codes "rehash") out file differ (of_file file (file_of o))
   by_object (Err c) = refl
 

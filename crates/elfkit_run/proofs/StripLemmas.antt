@@ -1,5 +1,5 @@
 -- The command strip, by the image of the file that it names.
-use Rattle.std.proofs.Common.{◌≡◌, ◌≢◌, ℕ, Bool, List, codes, Option, Some, None, Result, Ok, refl, ap}
+use Rattle.std.proofs.Common.{◌≡◌, ◌≢◌, ℕ, Bool, List, codes, Option, Some, None, Result, ap}
 use Rattle.elf_types.specs.declared.errors.ElfError.{ElfError}
 use Rattle.elf_types.specs.Answers.{◌>>=◌}
 use Rattle.elf_outside.specs.Names.{Map}
@@ -9,7 +9,7 @@ use Rattle.command_objects.specs.Rebuilt.{rebuilt}
 use Rattle.command_objects.specs.Files.{file_of}
 use Rattle.tool_text.specs.declared.commands.StripOptions.{StripOptions}
 use Rattle.tool_output.specs.Outcomes.{write_of}
-use Rattle.tool_output.specs.Made.{made, of_file, written_outcome}
+use Rattle.tool_output.specs.Made.{of_file, written_outcome}
 use Rattle.command_outcomes.specs.Files.{object_named}
 use Rattle.command_outcomes.specs.Strip.{strip_alone, strip_split, strip_done, strip_outcome}
 use Rattle.object_writing.specs.Writes.{image_done, named_done}

@@ -9,5 +9,5 @@ edit_named-requires g c = λ bytes.
 
 pub returns-clause-does : goal.returns-clause-does
 returns-clause-does g c = λ told.
-    rw (rehash_is (g.F.named c.args.files.now) c.args.out.now c.args.file.now)
+    rw (rehash_is (g.F.Files.named c.args.files.now) c.args.out.now c.args.file.now)
     ((rw (c.as_str.ensures, c.as_str-2.ensures) at c.edit_named.ensures.does) told)

@@ -10,5 +10,5 @@ edit_named-requires g c = λ bytes.
 
 pub returns-clause-does : goal.returns-clause-does
 returns-clause-does g c = λ told.
-    rw (strip_is c.args.options.now (g.F.named c.args.files.now) c.args.file.now c.requires.alone)
+    rw (strip_is c.args.options.now (g.F.Files.named c.args.files.now) c.args.file.now c.requires.alone)
     ((rw (c.as_str.ensures, c.as_str-2.ensures) at c.edit_named.ensures.does) told)
