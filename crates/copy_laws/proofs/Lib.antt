@@ -1,0 +1,6 @@
+pub mod NoneRemoved
+pub mod EachChange
+pub mod AllChanges
+pub mod SameItems
+pub mod Reopened
+pub mod KeptSections

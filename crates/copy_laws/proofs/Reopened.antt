@@ -1,0 +1,178 @@
+-- What copy writes, opened again, and its sections.
+use Rattle.std.proofs.Common.{◌≡◌, ℕ, ◌<◌, Bool, true, false, List, [], ◌∷◌, length, Option, Some, None, Result, Ok, refl, sym, ap, ◌∙◌, arith}
+use Rattle.std.specs.Prelude.{All, if◌then◌else◌, ◌==◌, ◌||◌, map}
+use Rattle.std.proofs.lemmas.Bool.{or_left, or_right, ne_eqb}
+use Rattle.elf_types.specs.declared.records.Shdr.{Shdr}
+use Rattle.elf_types.specs.declared.errors.ElfError.{ElfError}
+use Rattle.elf_xlate.specs.declared.content.Items.{Items}
+use Rattle.elf_xlate.specs.Headers.{IsPhdr}
+use Rattle.elf_xlate.specs.Translation.{encoded}
+use Rattle.elf_ident.proofs.Refusals.{answered_ok}
+use Rattle.elf_layout.specs.declared.parts.Places.{Places}
+use Rattle.elf_object.specs.Blocks.{stacked, last_end, spread}
+use Rattle.elf_object.specs.Object.{Object, Section, Piece, section_at, occupies_file, is_null, is_dirty, some_section_marked}
+use Rattle.elf_object.specs.Open.{opened, created_over}
+use Rattle.elf_object.specs.Joined.{piece_bytes, aligned_pieces, piece_blocks, pieces_end, file_bytes}
+use Rattle.elf_object.specs.Derived.{numbered_shdr}
+use Rattle.elf_object.specs.Layout.{places_of, placed_header, placed_shdr, placed_by, section_place}
+use Rattle.elf_object.specs.Image.{image}
+use Rattle.elf_object.specs.Refusal.{refusal}
+use Rattle.elf_object.specs.Settled.{settled_section, settled_over, settle}
+use Rattle.elf_object.specs.Steps.{own_piece, with_ehdr, with_phdrs, stored_ehdr}
+use Rattle.elf_object.specs.Valid.{IsObject, IsTied, as_opened}
+use Rattle.elf_object.proofs.SettledSections.{section_at-settled}
+use Rattle.object_laws.specs.Laws.{ReopenLaw}
+use Rattle.object_laws.proofs.ImageLaws.{section_at-placed, placed-dirty}
+use Rattle.object_laws.proofs.ItemLaws.{alone_spread}
+use Rattle.object_laws.proofs.SettledLaws.{settle-dirty}
+use Rattle.object_laws.proofs.StandLaws.{section_count-placed, joined-placed, file_bytes_when}
+use Rattle.object_laws.proofs.AgainLaws.{placed_section_header}
+use Rattle.command_objects.specs.Words.{header_at}
+use Rattle.command_objects.specs.Arranged.{over_base}
+use Rattle.command_objects.specs.Rebuilt.{rebuilt_object, rebuilt_index, rebuilt_sections, rebuilt_tail, assembled}
+use Rattle.command_objects.specs.Files.{file_of}
+use Rattle.command_objects.specs.KeepingLaws.{without_places}
+
+-- ---- The object before its places are given
+
+-- what is made of an object, but for its sections
+pub record IsFrontOf (o : Object) (removed : List ℕ) (r : Object) : Type 0 where
+  pub class : r.header.class ≡ o.header.class
+  pub order : r.header.order ≡ o.header.order
+  pub index : r.header.shstrndx ≡ rebuilt_index o removed
+  pub phdrs : r.phdrs ≡ o.phdrs
+  pub marked : r.header_marked ≡ true
+  pub sections : r.sections ≡ rebuilt_sections o removed
+
+pub front_is : (o : Object) (removed : List ℕ) → IsFrontOf o removed (rebuilt_object o removed)
+unfolding rebuilt_object assembled with_ehdr with_phdrs stored_ehdr over_base created_over
+front_is o removed = by_tail (rebuilt_tail o removed)
+  where
+    by_tail : (t : Option ℕ) → IsFrontOf o removed
+        (assembled (over_base o t) o (rebuilt_index o removed) (rebuilt_sections o removed))
+    by_tail None = record {
+      class = refl;
+      order = refl;
+      index = refl;
+      phdrs = refl;
+      marked = refl;
+      sections = refl;
+    }
+    by_tail (Some tail) = record {
+      class = refl;
+      order = refl;
+      index = refl;
+      phdrs = refl;
+      marked = refl;
+      sections = refl;
+    }
+
+-- ---- What is marked
+
+pub marked_dirty : (o : Object) → o.header_marked ≡ true → is_dirty o ≡ true
+unfolding is_dirty
+marked_dirty o marked =
+    or_left (o.marked || o.header_marked || o.segments_marked) (some_section_marked o)
+    (or_left (o.marked || o.header_marked) o.segments_marked
+    (or_right o.marked o.header_marked marked))
+
+-- ---- The image, opened again
+
+ok_inner : {A E : Type 0} (a b : A) → ◌≡◌ {A = Result A E} (Ok a) (Ok b) → a ≡ b
+ok_inner a b h = cc
+
+pub ok_same : {A E : Type 0} (r : Result A E) (a b : A) → r ≡ Ok a → r ≡ Ok b → a ≡ b
+ok_same {A} {E} r a b e f = ok_inner {A = A} {E = E} a b (sym e ∙ f)
+
+pub written_of : (o : Object) (out : List ℕ) → file_of o ≡ Ok out
+    → (refusal o ≡ None) × (image o ≡ out)
+unfolding file_of
+written_of o out e = answered_ok (refusal o) (image o) out e
+
+pub reopened : (reopens : (o : Object) → ReopenLaw o) (m after : Object) (out : List ℕ)
+    → IsObject m → All IsPhdr m.phdrs → m.header_marked ≡ true → file_of m ≡ Ok out
+    → opened out ≡ Ok after → after ≡ as_opened (settle m)
+reopened reopens m after out ok ranged marked written is =
+    let both = written_of m out written in
+    let dirty = marked_dirty m marked in
+    let tied : IsTied m = λ clean. absurd (let clash : true ≡ false = sym dirty ∙ clean in cc) in
+    let again = reopens m ok ranged tied both.0 in
+    ok_same {A = Object} {E = ElfError} (opened out) after (as_opened (settle m)) is
+    (sym (ap opened both.1) ∙ again)
+
+-- a section of it
+pub record IsReopened (m after : Object) (s : ℕ) : Type 0 where
+  pub header : header_at after s ≡ placed_shdr (places_of m) m s (header_at m s)
+  pub raw : (section_at after s).raw ≡ file_bytes m s
+
+at_opened : (o : Object) (s : ℕ) → section_at (as_opened o) s ≡ section_at o s
+unfolding section_at
+at_opened o s = refl
+
+pub reopened_at : (m after : Object) (s : ℕ) → after ≡ as_opened (settle m)
+    → m.header_marked ≡ true → s < length m.sections → IsReopened m after s
+unfolding settled_section
+reopened_at m after s is marked below =
+    let dirty = marked_dirty m marked in
+    let q = placed_by (places_of m) m in
+    let count = section_count-placed (places_of m) m in
+    let small : s < length q.sections = omega (arith, below, count) in
+    let at : section_at after s
+    ≡ settled_section (length (image m)) (file_bytes q s) (section_at q s).header =
+    ap (λ (x : Object). section_at x s) is
+    ∙ at_opened (settle m) s
+    ∙ ap (λ (x : Object). section_at x s) (settle-dirty m dirty)
+    ∙ ap (λ (x : Object). section_at (settled_over (image m) x) s) (placed-dirty m dirty)
+    ∙ section_at-settled (image m) q s small in
+    record {
+      header = ap (λ (c : Section). c.header) at
+          ∙ ap (λ (c : Section). c.header) (section_at-placed (places_of m) m s below)
+          ∙ placed_section_header (places_of m) m s (section_at m s);
+      raw = ap (λ (c : Section). c.raw) at ∙ joined-placed (places_of m) m s;
+    }
+
+-- its header has the size of its bytes
+pub shdr_kept : (places : Places) (m : Object) (s : ℕ) (h : Shdr) → 0 < s
+    → (occupies_file h ≡ true → length (file_bytes m s) ≡ h.size)
+    → without_places (placed_shdr places m s h) ≡ without_places h
+unfolding placed_shdr
+shdr_kept places m s h from size =
+    by_tests (s == 0) (is_null h) (occupies_file h)
+    (ne_eqb s 0 (λ none. omega (arith, from, none))) size
+  where
+    by_tests : (first empty filled : Bool) → first ≡ false
+        → (filled ≡ true → length (file_bytes m s) ≡ h.size)
+        → without_places (if first then numbered_shdr (placed_header places m) h
+        else (if empty then h else (record h {
+          offset = section_place places s;
+          size = if filled then length (file_bytes m s) else h.size;
+        }))) ≡ without_places h
+    by_tests true empty filled e k = cc
+    by_tests false true filled e k = refl
+    by_tests false false true e k =
+        ap (λ (n : ℕ). without_places (record h { size = n })) (k refl)
+    by_tests false false false e k = refl
+
+-- ---- The bytes of one own piece
+
+pub piece_bytes_are : (q : Object) (s : ℕ) (own : Items)
+    → (section_at q s).pieces ≡ own_piece own 1 ∷ [] → 0 < s
+    → occupies_file (header_at q s) ≡ true
+    → file_bytes q s ≡ encoded q.header.class q.header.order own
+unfolding file_bytes pieces_end piece_blocks aligned_pieces piece_bytes
+piece_bytes_are q s own pieces from filled =
+    let class = q.header.class in
+    let order = q.header.order in
+    let bytes : Piece → ℕ × List ℕ = λ p. (
+      p.align,
+      elim (p.own) [
+        | None ↦ (section_at q s).raw
+        | Some l ↦ encoded q.header.class q.header.order l
+      ],
+    ) in
+    ap (λ (b : Bool). if b
+    then spread (pieces_end q s) (λ _. q.fill) (piece_blocks q s)
+    else []) (file_bytes_when s (section_at q s) from ∙ filled)
+    ∙ ap (λ (ps : List Piece).
+    spread (last_end 0 (stacked 0 (map bytes ps))) (λ _. q.fill) (stacked 0 (map bytes ps))) pieces
+    ∙ alone_spread 1 (encoded q.header.class q.header.order own) q.fill
