@@ -48,7 +48,7 @@ const SAID: [Said; 9] = [
     ),
     ("rehash -o O --help", Status::Done, REHASH_HELP, b""),
     ("--version F", Status::Done, b"elfkit 0.1.0\n", b""),
-    ("strip -g -o O -- -x", Status::Refused, b"", NOT_BUILT),
+    ("strip -g -o O -f D -- -x", Status::Refused, b"", NOT_BUILT),
     ("unstrip -o O F D", Status::Refused, b"", NOT_BUILT),
 ];
 
