@@ -13,3 +13,5 @@ mod image;
 mod sections;
 #[cfg(test)]
 mod segments;
+#[cfg(test)]
+mod stripped;

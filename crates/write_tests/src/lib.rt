@@ -7,6 +7,10 @@ mod calls;
 #[cfg(test)]
 mod images;
 #[cfg(test)]
+mod rehash;
+#[cfg(test)]
 mod selftest;
 #[cfg(test)]
 mod stops;
+#[cfg(test)]
+mod strip;

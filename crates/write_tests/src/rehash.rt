@@ -1,0 +1,331 @@
+//! What rehash leaves: its message, and the file that is made of the image, or none.
+
+use crate::calls::{OLD, Updated, holds};
+use elf_types::constants::{
+    SHT_DYNSYM, SHT_GNU_HASH, SHT_GNU_VERSYM, SHT_HASH, SHT_RELA, SHT_STRTAB,
+};
+use elf_types::{ElfError, Rela, Shdr, Sym};
+use std::alloc::Global;
+use test_images::{
+    Content, Field, HeaderField, NULL_SECTION, OBJECT, Put, Recipe, SectionField, Start, WIDE,
+    image_of,
+};
+use test_runs::{DONE, Ending, Failing, Left, NOTHING, REFUSED, run_leaving};
+
+/// A run of rehash over an image.
+fn run_rehash(
+    alloc: Global,
+    line: &str,
+    file: &Recipe,
+    failing: Failing,
+) -> Result<Left, ElfError> {
+    let image = match image_of(alloc, file) {
+        Ok(image) => image,
+        Err(e) => return Err(e),
+    };
+    let given = Updated {
+        image,
+        bad_read: 0,
+        script: b"",
+    };
+    run_leaving(alloc, line, &given, failing, "O")
+}
+
+/// Whether a run ends so, and leaves the name O as it was.
+fn is_left(alloc: Global, line: &str, file: &Recipe, ending: &Ending) -> bool {
+    match run_rehash(alloc, line, file, NOTHING) {
+        Ok(left) => match &left.held {
+            Some(held) => left.ran.is(ending) && held.as_slice() == OLD,
+            None => false,
+        },
+        Err(_) => false,
+    }
+}
+
+/// Whether a run over an image makes another one, and says nothing.
+fn is_made(alloc: Global, file: &Recipe, made: &Recipe) -> bool {
+    let Ok(made) = image_of(alloc, made) else {
+        return false;
+    };
+    match run_rehash(alloc, "rehash -o O F", file, NOTHING) {
+        Ok(left) => left.ran.is(&DONE) && holds(&left.held, &made.bytes),
+        Err(_) => false,
+    }
+}
+
+// ---- Nothing to build
+
+#[test]
+fn an_image_without_dynamic_symbols_has_no_dynamic_hash(rt: HostRuntime) {
+    let ending = Ending {
+        err: b"rehash: F: no dynamic hash\n",
+        ..REFUSED
+    };
+    assert!(rt; is_left(rt.alloc(), "rehash -o O F", &OBJECT, &ending));
+}
+
+#[test]
+fn a_file_that_is_not_there_and_one_that_is_no_image_are_refused(rt: HostRuntime) {
+    let absent = Ending {
+        err: b"rehash: X: not found\n",
+        ..REFUSED
+    };
+    assert!(rt; is_left(rt.alloc(), "rehash -o O X", &OBJECT, &absent));
+    let no_image = Ending {
+        err: b"rehash: S: too short\n",
+        ..REFUSED
+    };
+    assert!(rt; is_left(rt.alloc(), "rehash -o O S", &OBJECT, &no_image));
+}
+
+// ---- An object
+
+/// A symbol of zeros.
+const ZERO: Sym = Sym {
+    name: 0,
+    info: 0,
+    other: 0,
+    shndx: 0,
+    value: 0,
+    size: 0,
+};
+
+/// `a`, which is global and defined.
+const A: Sym = Sym {
+    name: 1,
+    info: 0x10,
+    shndx: 0xfff1,
+    value: 0x1000,
+    ..ZERO
+};
+
+/// `x`, which is undefined.
+const X: Sym = Sym {
+    name: 3,
+    info: 0x10,
+    ..ZERO
+};
+
+/// The strings.
+const STRINGS: Shdr = Shdr {
+    stype: SHT_STRTAB,
+    offset: 64,
+    size: 5,
+    addralign: 1,
+    ..NULL_SECTION
+};
+
+/// The dynamic symbols.
+const SYMBOLS: Shdr = Shdr {
+    stype: SHT_DYNSYM,
+    offset: 72,
+    size: 72,
+    link: 1,
+    info: 1,
+    addralign: 8,
+    entsize: 24,
+    ..NULL_SECTION
+};
+
+/// The hash section of words.
+const WORDS: Shdr = Shdr {
+    stype: SHT_HASH,
+    offset: 144,
+    size: 24,
+    link: 2,
+    addralign: 8,
+    entsize: 4,
+    ..NULL_SECTION
+};
+
+/// GNU's hash section.
+const GNU: Shdr = Shdr {
+    stype: SHT_GNU_HASH,
+    offset: 168,
+    size: 32,
+    link: 2,
+    addralign: 8,
+    ..NULL_SECTION
+};
+
+/// Relocations by the symbols.
+const RELOCATIONS: Shdr = Shdr {
+    stype: SHT_RELA,
+    offset: 200,
+    size: 24,
+    link: 2,
+    addralign: 8,
+    entsize: 24,
+    ..NULL_SECTION
+};
+
+/// Versions of the symbols.
+const VERSIONS: Shdr = Shdr {
+    stype: SHT_GNU_VERSYM,
+    entsize: 2,
+    ..RELOCATIONS
+};
+
+/// A relocation by symbol 1.
+const BY_FIRST: Rela = Rela {
+    offset: 8,
+    sym: 1,
+    rtype: 1,
+    addend: 0,
+};
+
+/// The same by symbol 2.
+const BY_SECOND: Rela = Rela { sym: 2, ..BY_FIRST };
+
+/// `a` stands before the undefined symbol, and both hash sections are too short.
+const FILE: Recipe = Recipe {
+    form: WIDE,
+    start: Start::Table(64, 6, 0),
+    puts: &[
+        Put::Sections(&[NULL_SECTION, STRINGS, SYMBOLS, WORDS, GNU, RELOCATIONS]),
+        Put::Home(1, Content::Bytes(b"\0a\0x\0")),
+        Put::Home(2, Content::Syms(&[ZERO, A, X])),
+        Put::Home(3, Content::Words(&[1])),
+        Put::Home(
+            4,
+            Content::Bytes(&[1, 0, 0, 0, 0, 0, 0, 0, 1, 0, 0, 0, 6, 0, 0, 0]),
+        ),
+        Put::Home(5, Content::Relas(&[BY_FIRST])),
+    ],
+};
+
+/// GNU's hash section of `a`, whose hash is 0x2b606, as symbol 2.
+const GNU_OF_A: &[u8] = &[
+    1, 0, 0, 0, 2, 0, 0, 0, 1, 0, 0, 0, 6, 0, 0, 0, 0x40, 0, 0, 1, 0, 0, 0, 0, 2, 0, 0, 0, 7, 0xb6,
+    2, 0,
+];
+
+/// The undefined symbol stands first, the relocation names `a` as before, and the parts stand one
+/// behind the other.
+const MADE: Recipe = Recipe {
+    form: WIDE,
+    start: Start::Table(224, 6, 0),
+    puts: &[
+        Put::Sections(&[NULL_SECTION, STRINGS, SYMBOLS, WORDS, GNU, RELOCATIONS]),
+        Put::Bytes(64, b"\0a\0x\0"),
+        Put::Content(72, Content::Syms(&[ZERO, X, A])),
+        Put::Content(144, Content::Words(&[1, 3, 2, 0, 0, 0])),
+        Put::Bytes(168, GNU_OF_A),
+        Put::Content(200, Content::Relas(&[BY_SECOND])),
+    ],
+};
+
+#[test]
+fn hash_sections_and_relocations_of_an_object_are_built_anew(rt: HostRuntime) {
+    assert!(rt; is_made(rt.alloc(), &FILE, &MADE));
+    assert!(rt; is_made(rt.alloc(), &MADE, &MADE));
+}
+
+// ---- Refusals of the steps
+
+/// A version for each symbol but one.
+const FEW: Recipe = Recipe {
+    form: WIDE,
+    start: Start::Table(64, 6, 0),
+    puts: &[
+        Put::Sections(&[NULL_SECTION, STRINGS, SYMBOLS, WORDS, GNU, VERSIONS]),
+        Put::Home(1, Content::Bytes(b"\0a\0x\0")),
+        Put::Home(2, Content::Syms(&[ZERO, A, X])),
+        Put::Home(3, Content::Words(&[1])),
+        Put::Home(4, Content::Bytes(&[0; 16])),
+        Put::Home(5, Content::Halves(&[0, 1])),
+    ],
+};
+
+/// GNU's hash section lies out of the file.
+const OUT: Recipe = Recipe {
+    form: WIDE,
+    start: Start::Table(64, 6, 0),
+    puts: &[
+        Put::Sections(&[NULL_SECTION, STRINGS, SYMBOLS, WORDS, GNU, RELOCATIONS]),
+        Put::Home(1, Content::Bytes(b"\0a\0x\0")),
+        Put::Home(2, Content::Syms(&[ZERO, A, X])),
+        Put::Field(Field::Section(4, SectionField::Offset), 0x1_0000),
+    ],
+};
+
+#[test]
+fn a_refused_step_is_told_and_makes_no_file(rt: HostRuntime) {
+    let few = Ending {
+        err: b"rehash: F: no entry 2 of 2\n",
+        ..REFUSED
+    };
+    assert!(rt; is_left(rt.alloc(), "rehash -o O F", &FEW, &few));
+    let out = Ending {
+        err: b"rehash: F: section 4 out of file\n",
+        ..REFUSED
+    };
+    assert!(rt; is_left(rt.alloc(), "rehash -o O F", &OUT, &out));
+}
+
+// ---- A program
+
+/// The sections of a program, each behind the other. Only GNU's hash section is there.
+const PROGRAM_SECTIONS: &[Shdr] = &[NULL_SECTION, STRINGS, SYMBOLS, GNU, RELOCATIONS];
+
+/// A program whose section is as long as it becomes.
+const PROGRAM: Recipe = Recipe {
+    form: WIDE,
+    start: Start::Table(120, 5, 0),
+    puts: &[
+        Put::Field(Field::Header(HeaderField::Phoff), 64),
+        Put::Field(Field::Header(HeaderField::Phentsize), 56),
+        Put::Field(Field::Header(HeaderField::Phnum), 1),
+        Put::Sections(PROGRAM_SECTIONS),
+        Put::Home(1, Content::Bytes(b"\0a\0x\0\0\0\0")),
+        Put::Home(2, Content::Syms(&[ZERO, A, X])),
+        Put::Home(3, Content::Bytes(&[0; 32])),
+        Put::Home(4, Content::Relas(&[BY_FIRST])),
+    ],
+};
+
+/// Its parts stay where they are.
+const PROGRAM_MADE: Recipe = Recipe {
+    form: WIDE,
+    start: Start::Table(120, 5, 0),
+    puts: &[
+        Put::Field(Field::Header(HeaderField::Phoff), 64),
+        Put::Field(Field::Header(HeaderField::Phentsize), 56),
+        Put::Field(Field::Header(HeaderField::Phnum), 1),
+        Put::Sections(PROGRAM_SECTIONS),
+        Put::Home(1, Content::Bytes(b"\0a\0x\0\0\0\0")),
+        Put::Home(2, Content::Syms(&[ZERO, X, A])),
+        Put::Home(3, Content::Bytes(GNU_OF_A)),
+        Put::Home(4, Content::Relas(&[BY_SECOND])),
+    ],
+};
+
+/// A program whose section is shorter than it becomes, with another part right behind it.
+const SHORT: Recipe = Recipe {
+    form: WIDE,
+    start: Start::Table(120, 5, 0),
+    puts: &[
+        Put::Field(Field::Header(HeaderField::Phoff), 64),
+        Put::Field(Field::Header(HeaderField::Phentsize), 56),
+        Put::Field(Field::Header(HeaderField::Phnum), 1),
+        Put::Sections(PROGRAM_SECTIONS),
+        Put::Home(1, Content::Bytes(b"\0a\0x\0\0\0\0")),
+        Put::Home(2, Content::Syms(&[ZERO, A, X])),
+        Put::Home(3, Content::Bytes(&[0; 16])),
+        Put::Home(4, Content::Relas(&[BY_FIRST])),
+    ],
+};
+
+#[test]
+fn the_parts_of_a_program_stay_where_they_are(rt: HostRuntime) {
+    assert!(rt; is_made(rt.alloc(), &PROGRAM, &PROGRAM_MADE));
+}
+
+#[test]
+fn a_section_of_a_program_that_grows_into_another_part_is_refused(rt: HostRuntime) {
+    let ending = Ending {
+        err: b"rehash: F: overlap section 3 section 4\n",
+        ..REFUSED
+    };
+    assert!(rt; is_left(rt.alloc(), "rehash -o O F", &SHORT, &ending));
+}
