@@ -20,6 +20,7 @@ use Rattle.command_objects.specs.Copied.{Changes, CopyFault, copied, names_in, s
 use Rattle.command_objects.specs.Split.{UnstripFault, debug_of, unstripped, removed_allocated}
 use Rattle.command_objects.specs.Split.UnstripFault.{Elf}
 use Rattle.command_objects.specs.Files.{file_of}
+use Rattle.command_objects.specs.Laws.{AreChanges}
 
 -- ---- Copy keeps the rest
 
@@ -131,7 +132,7 @@ pub record BytesAreGiven (c : Changes) (before after : Object) : Type 0 where
 
 abbrev pub CopyLaw : Type 0
 CopyLaw =
-    (c : Changes) (before after : Object) → IsCopied c before after
+    (c : Changes) (before after : Object) → AreChanges c → IsCopied c before after
     → SectionsAreKept c before after × BytesAreGiven c before after
 
 -- ---- Split and combine

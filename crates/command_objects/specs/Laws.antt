@@ -7,7 +7,7 @@ use Rattle.elf_types.specs.declared.records.Class.{Class}
 use Rattle.elf_types.specs.declared.records.Phdr.{Phdr}
 use Rattle.elf_types.specs.declared.records.Sym.{Sym}
 use Rattle.elf_types.specs.declared.errors.ElfError.{ElfError}
-use Rattle.elf_types.specs.declared.constants.TheConstants.{PT_LOAD, SHT_REL, SHT_RELA}
+use Rattle.elf_types.specs.declared.constants.TheConstants.{PT_LOAD, SHT_NULL, SHT_REL, SHT_RELA}
 use Rattle.elf_xlate.specs.Fields.{Field, field, place_in}
 use Rattle.elf_xlate.specs.Headers.{ehdr_size, shdr_size}
 use Rattle.elf_ident.specs.declared.fronts.Front.{Front}
@@ -181,6 +181,8 @@ pub record RehashKeepsLookup (before after : Object) (s : ℕ) : Type 0 where
   pub relas : (n i : ℕ) → (header_at before n).stype ≡ SHT_RELA → (header_at before n).link ≡ s
       → NamesAlike before after s (rela_symbol before n i) (rela_symbol after n i)
 
+-- of an image whose section 0 is of type SHT_NULL: what is written has no bytes of section 0
 abbrev pub RehashLaw : Type 0
 RehashLaw =
-    (before after : Object) (s : ℕ) → IsRehashed before after s → RehashKeepsLookup before after s
+    (before after : Object) (s : ℕ) → IsRehashed before after s
+    → (header_at before 0).stype ≡ SHT_NULL → RehashKeepsLookup before after s

@@ -13,7 +13,8 @@ use Rattle.command_objects.specs.Rebuilt.{rebuilt, renews_names}
 use Rattle.command_objects.specs.Copied.{Changes, CopyFault, or_strip, names_in, section_named, with_bytes, with_name, with_section_flags, with_added, named, changes_names, with_changes, copied}
 use Rattle.command_objects.specs.KeepingLaws.{or_nowhere, chosen_for_bytes, chosen_for_names, chosen_for_flags, or_old, chosen, without_places}
 use Rattle.strip_laws.proofs.ArrangedLaws.{arranged_keeps}
-use Rattle.copy_laws.proofs.EachChange.{Follows, SameHeader, SamePieces, follows_itself, follows_both, pieces_itself, pieces_both, or_strip_ok, updated_known, updated_follows, updated_header, updated_pieces, flagged_known, flagged_follows, flagged_header, flagged_pieces, added_known, named_known, names_follow, names_header, names_pieces, places_header, places_pieces, places_follow}
+use Rattle.copy_laws.proofs.EachChange.{Follows, SameHeader, SamePieces, follows_itself, follows_both, pieces_itself, pieces_both, or_strip_ok, updated_known, updated_follows, updated_header, updated_pieces, flagged_known, flagged_follows, flagged_header, flagged_pieces, added_known}
+use Rattle.copy_laws.proofs.NamesAndPlaces.{named_known, names_follow, names_header, names_pieces, places_header, places_pieces, places_follow}
 
 -- ---- One after the other
 

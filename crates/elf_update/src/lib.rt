@@ -6,11 +6,11 @@ mod data;
 mod descriptors;
 pub mod entries;
 mod fronts;
-pub mod items;
+mod items;
 mod pages;
 mod parts;
 mod puts;
-pub mod rows;
+mod rows;
 mod updates;
 mod walks;
 

@@ -39,8 +39,7 @@ use Rattle.object_laws.proofs.StandLaws.{section_count-placed}
 use Rattle.strip_laws.proofs.RehashLaws.{rehashed_is_object}
 use Rattle.command_objects.specs.Files.{file_of}
 use Rattle.command_objects.specs.Words.{header_at}
-use Rattle.command_objects.specs.Laws.{RehashKeepsLookup}
-use Rattle.hash_laws.specs.Rehash.{RehashKeepsInImages}
+use Rattle.command_objects.specs.Laws.{RehashKeepsLookup, RehashLaw}
 use Rattle.hash_laws.proofs.SameLaws.{no_string_at, StringsAlike, names_alike}
 use Rattle.hash_laws.proofs.RenumberedLaws.{SameItems, still_renumbered, lookup_kept}
 use Rattle.hash_laws.proofs.TypeLaws.{apart_types, there_by_type}
@@ -403,7 +402,7 @@ same_value : {A E : Type 0} (x y : A) → ◌≡◌ {A = Result A E} (Ok x) (Ok 
 same_value x y is = cc
 
 pub rehash_law : ((o : Object) → ReopenLaw o) → ((o : Object) → SettlingKeepsItems o)
-    → RehashKeepsInImages
+    → RehashLaw
 unfolding file_of
 rehash_law reopens keeps before after s is zeroth =
     let ok = beginnings_are.from_image is.image before is.bytes is.is_before in

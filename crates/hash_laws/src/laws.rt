@@ -2,8 +2,8 @@
 //! holds, and is proved.
 
 ghost use Rattle.hash_laws.specs.Built.{BuiltAreFound, BuiltHaveNoFinding};
-ghost use Rattle.hash_laws.specs.Rehash.{RehashKeepsInImages, RehashedKeepsLookup};
-ghost use Rattle.command_objects.specs.Laws.{BuiltHashesAreWhole};
+ghost use Rattle.hash_laws.specs.Rehash.{RehashedKeepsLookup};
+ghost use Rattle.command_objects.specs.Laws.{BuiltHashesAreWhole, RehashLaw};
 
 use object_laws::laws::{reopen_law, settling_keeps_items};
 
@@ -39,7 +39,7 @@ pub fn rehash_keeps_lookup()
 /// The same of an image and of the image that rehash writes of it, where section 0 is of type
 /// `SHT_NULL` (gABI chapter 4, "Sections"): section 0 is written without bytes, whatever it holds.
 pub fn rehash_law()
-    ensures { RehashKeepsInImages }
+    ensures { RehashLaw }
 {
     reopen_law();
     settling_keeps_items();

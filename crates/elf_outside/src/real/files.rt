@@ -13,17 +13,26 @@ use elf_types::Octets;
 use std::alloc::Global;
 use std::fs::{File, OpenOptions};
 use std::io::{Error, ErrorKind, Read};
+use std::os::unix::fs::{OpenOptionsExt, PermissionsExt};
 use std::{io, rt};
 
 /// The most bytes that are held of what has no length.
 const MOST_HELD: u64 = 1 << 30;
+
+/// Who may read and write a file that is made where none was opened before.
+const NEW_MODE: u32 = 0o666;
+
+/// The bits of a mode that say who may read, write and run a file.
+const PERMISSIONS: u32 = 0o777;
 
 /// The files of the system by their paths. They tell no bytes. What is opened to be read is read to
 /// its end at once where it is no regular file or tells the length 0, as a pipe or a file of /proc
 /// does; so to open a directory fails.
 ///
 /// A file that is open is not made anew, under whatever name, since that would take the bytes from
-/// under those who read it: `create` then answers `Failed`, and the file is as it was.
+/// under those who read it: `create` then answers `Failed`, and the file is as it was. A file that
+/// was not there gets the permissions of the file that was opened first, as the umask leaves them, so
+/// that what is made of a program can be run; one that was there keeps its own.
 ///
 /// They keep what the system said of the last call that failed. Of the calls on a file they know
 /// once it was closed.
@@ -31,6 +40,7 @@ const MOST_HELD: u64 = 1 << 30;
 pub struct RealFiles<R> {
     system: R,
     open: OpenInodes,
+    mode: Option<u32>,
     read_faults: u64,
     write_faults: u64,
     taken: u64,
@@ -60,6 +70,7 @@ impl<R: rt::Files<File = File>> RealFiles<R> {
         RealFiles {
             system,
             open: OpenInodes::new(alloc),
+            mode: None,
             read_faults: 0,
             write_faults: 0,
             taken: 0,
@@ -107,7 +118,10 @@ impl<R: rt::Files<File = File>> RealFiles<R> {
         ensures not_live { OnErr result (self.new.live ≡ self.old.live) }
     {
         match open_file(alloc, &self.system, name, writes) {
-            Ok(file) => self.count_in(file),
+            Ok((mode, file)) => {
+                self.mode = self.mode.or(Some(mode));
+                self.count_in(file)
+            }
             Err(Refusal::NotThere) => Err(OpenFault::NotThere),
             Err(Refusal::Memory) => Err(OpenFault::Memory),
             Err(Refusal::Failed(failure)) => {
@@ -145,7 +159,8 @@ impl<R: rt::Files<File = File>> Files for RealFiles<R> {
     }
 
     fn create(&mut self, alloc: Global, name: &str) -> Result<RealFile, OpenFault> {
-        match create_file(alloc, &self.system, &self.open, name) {
+        let mode = self.mode.unwrap_or(NEW_MODE);
+        match create_file(alloc, &self.system, &self.open, name, mode) {
             Ok(file) => self.count_in(file),
             Err(Refusal::Failed(failure)) => {
                 self.last = Some(failure);
@@ -169,15 +184,15 @@ impl<R: rt::Files<File = File>> Files for RealFiles<R> {
     }
 }
 
-/// Opens a file for reading, and for writing too where that is asked.
+/// Opens a file for reading, and for writing too where that is asked. Its permissions come first.
 fn open_file<R: rt::Files<File = File>>(
     alloc: Global,
     system: &R,
     name: &str,
     writes: bool,
-) -> Result<RealFile, Refusal>
-    ensures faults { IfOk result (λ f. (f.faults ≡ 0) × (f.inner.write_faults ≡ 0)) }
-    ensures numbers { IfOk result (λ f. (f.taken ≡ 0) × (f.inner.given ≡ 0)) }
+) -> Result<(u32, RealFile), Refusal>
+    ensures faults { IfOk result (λ f. (f.1.faults ≡ 0) × (f.1.inner.write_faults ≡ 0)) }
+    ensures numbers { IfOk result (λ f. (f.1.taken ≡ 0) × (f.1.inner.given ≡ 0)) }
 {
     let Ok(kept) = String::from_str(alloc, name) else {
         return Err(Refusal::Memory);
@@ -191,12 +206,14 @@ fn open_file<R: rt::Files<File = File>>(
     }
 }
 
-/// Makes a file of the name, or cuts the one that is there to nothing, unless it is open already.
+/// Makes a file of the name and the permissions, or cuts the one that is there to nothing, unless it
+/// is open already.
 fn create_file<R: rt::Files<File = File>>(
     alloc: Global,
     system: &R,
     open: &OpenInodes,
     name: &str,
+    mode: u32,
 ) -> Result<RealFile, Refusal>
     ensures faults { IfOk result (λ f. (f.faults ≡ 0) × (f.inner.write_faults ≡ 0)) }
     ensures numbers { IfOk result (λ f. (f.taken ≡ 0) × (f.inner.given ≡ 0)) }
@@ -206,16 +223,13 @@ fn create_file<R: rt::Files<File = File>>(
         return Err(Refusal::Memory);
     };
     let mut how = OpenOptions::new();
-    how.read(true).write(true).create(true);
+    how.read(true).write(true).create(true).mode(mode);
     let file = match how.open(system, name) {
         Ok(file) => file,
         Err(e) => return Err(refused(kept, Attempt::Create, e)),
     };
     match cut_whole(&file, open) {
-        Ok(inode) => Ok(RealFile::new(
-            alloc,
-            SystemFile::new(kept, file, inode, None, 0),
-        )),
+        Ok(inode) => Ok(RealFile::new(alloc, SystemFile::new(kept, file, inode, None, 0))),
         Err(e) => Err(refused(kept, Attempt::Create, e)),
     }
 }
@@ -225,10 +239,7 @@ fn cut_whole(file: &File, open: &OpenInodes) -> io::Result<Inode> {
     let about = file.metadata()?;
     let inode = Inode::of(&about);
     if about.is_file() && open.has(inode) {
-        return Err(Error::new(
-            ErrorKind::InvalidInput,
-            "it is a file that is open already",
-        ));
+        return Err(Error::new(ErrorKind::InvalidInput, "it is a file that is open already"));
     }
     if about.is_file() && about.len() > 0 {
         file.set_len(0)?;
@@ -241,36 +252,55 @@ fn refused(name: String, attempt: Attempt, why: Error) -> Refusal {
     Refusal::Failed(Failure { name, attempt, why })
 }
 
-/// What was opened, with its length, or with its bytes where they are to be held.
-fn take_in(alloc: Global, name: String, file: File, writes: bool) -> Result<RealFile, Refusal>
-    ensures faults { IfOk result (λ f. (f.faults ≡ 0) × (f.inner.write_faults ≡ 0)) }
-    ensures numbers { IfOk result (λ f. (f.taken ≡ 0) × (f.inner.given ≡ 0)) }
+/// What a file is as it is opened.
+#[derive(Drop)]
+struct Opened {
+    inode: Inode,
+    mode: u32,
+    /// Its bytes, where they are to be held.
+    held: Option<Octets>,
+    len: u64,
+}
+
+/// What was opened, with its length, or with its bytes where they are to be held; and before it its
+/// permissions.
+fn take_in(
+    alloc: Global,
+    name: String,
+    file: File,
+    writes: bool,
+) -> Result<(u32, RealFile), Refusal>
+    ensures faults { IfOk result (λ f. (f.1.faults ≡ 0) × (f.1.inner.write_faults ≡ 0)) }
+    ensures numbers { IfOk result (λ f. (f.1.taken ≡ 0) × (f.1.inner.given ≡ 0)) }
 {
-    match length_of(alloc, &file, writes) {
-        Ok((inode, held, len)) => Ok(RealFile::new(
-            alloc,
-            SystemFile::new(name, file, inode, held, len),
+    match look_at(alloc, &file, writes) {
+        Ok(opened) => Ok((
+            opened.mode,
+            RealFile::new(
+                alloc,
+                SystemFile::new(name, file, opened.inode, opened.held, opened.len),
+            ),
         )),
         Err(e) if e.kind() == ErrorKind::OutOfMemory => Err(Refusal::Memory),
         Err(e) => Err(refused(name, Attempt::Read, e)),
     }
 }
 
-/// The length of a file that was opened, after which one it is, and its bytes where they are to be
-/// held.
-fn length_of(
-    alloc: Global,
-    file: &File,
-    writes: bool,
-) -> io::Result<(Inode, Option<Octets>, u64)> {
+/// Looks at a file that was opened, and reads its bytes where they are to be held.
+fn look_at(alloc: Global, file: &File, writes: bool) -> io::Result<Opened> {
     let about = file.metadata()?;
-    let inode = Inode::of(&about);
-    if writes || (about.is_file() && about.len() > 0) {
-        return Ok((inode, None, about.len()));
+    let mut opened = Opened {
+        inode: Inode::of(&about),
+        mode: about.permissions().mode() & PERMISSIONS,
+        held: None,
+        len: about.len(),
+    };
+    if !writes && (!about.is_file() || opened.len == 0) {
+        let held = read_whole(alloc, file)?;
+        opened.len = held.len();
+        opened.held = Some(held);
     }
-    let held = read_whole(alloc, file)?;
-    let len = held.len();
-    Ok((inode, Some(held), len))
+    Ok(opened)
 }
 
 /// The bytes of a file up to its end.
