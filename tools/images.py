@@ -25,3 +25,30 @@ def five_sections():
     """Five sections of eight bytes from 64 on."""
     content = b"".join(bytes([i]) * 8 for i in range(1, 6))
     return image(content, [bytes(64)] + [section(1, 56 + 8 * i, 8, align=8) for i in range(1, 6)], 0)
+
+
+def each_table():
+    """Symbols with extended indexes, a group, relocations, notes, a hash section and versions: each kind of table once."""
+    symbols = bytes(24) + struct.pack("<IBBHQQ", 1, 0x12, 0, 0xFFFF, 16, 4) + struct.pack("<IBBHQQ", 3, 0x12, 0, 1, 8, 4)
+    tables = [
+        (1, bytes(32), 0, 0, 4, 0),
+        (3, b"\0a\0b\0", 0, 0, 1, 0),
+        (11, symbols, 2, 1, 8, 24),
+        (18, struct.pack("<III", 0, 1, 0), 3, 0, 4, 4),
+        (17, struct.pack("<II", 1, 1), 3, 1, 4, 4),
+        (4, struct.pack("<QQq", 0, (1 << 32) | 1, 4), 3, 1, 8, 24),
+        (7, struct.pack("<III", 4, 4, 1) + b"GNU\0" + bytes(4), 0, 0, 4, 0),
+        (5, struct.pack("<IIIIII", 1, 3, 1, 0, 2, 0), 3, 0, 8, 4),
+        (0x6FFFFFF6, struct.pack("<IIII", 1, 1, 1, 0) + bytes(8) + struct.pack("<III", 1, 2, 3), 3, 0, 8, 0),
+        (0x6FFFFFFF, struct.pack("<HHH", 0, 1, 2), 3, 0, 2, 2),
+        (0x6FFFFFFD, struct.pack("<HHHHIII", 1, 0, 1, 1, 0, 20, 0) + struct.pack("<II", 1, 0), 2, 1, 4, 0),
+        (0x6FFFFFFE, struct.pack("<HHIII", 1, 1, 1, 16, 0) + struct.pack("<IHHII", 0, 0, 2, 3, 0), 2, 1, 4, 0),
+        (6, struct.pack("<QQQQ", 1, 1, 0, 0), 2, 0, 8, 16),
+    ]
+    content, headers = b"", [bytes(64)]
+    for stype, held, link, info, align, entsize in tables:
+        content += bytes(-(64 + len(content)) % align)
+        headers.append(section(stype, 64 + len(content), len(held), link, info, align, entsize))
+        content += held
+    content += bytes(-len(content) % 8)
+    return image(content, headers, 2)

@@ -8,6 +8,7 @@ mod devices;
 mod files;
 #[cfg(test)]
 mod other_names;
+mod permissions;
 #[cfg(test)]
 mod read_ahead;
 #[cfg(test)]
