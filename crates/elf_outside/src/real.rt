@@ -2,7 +2,7 @@
 
 pub mod failure;
 pub mod files;
-pub mod inodes;
+pub mod open_files;
 pub mod read_ahead;
 pub mod sink;
 pub mod system_file;

@@ -1,9 +1,9 @@
 //! The permissions of files that are made.
 
-use crate::steps::Step::{Append, Read};
+use crate::steps::Step::Append;
 use crate::system::path_of;
 use crate::visits::{Told, Way, are_visited};
-use elf_outside::RealFiles;
+use elf_outside::{Files, RealFiles};
 use std::fs::Permissions;
 use std::os::unix::fs::PermissionsExt;
 use std::test::Fail;
@@ -11,9 +11,6 @@ use std::{fs, io};
 
 /// A file that is made.
 const MADE: [(Way, Told); 1] = [(Way::Create, Ok(&[Append(b"abc", true)]))];
-
-/// A file that is read.
-const READ: [(Way, Told); 1] = [(Way::Open, Ok(&[Read(0, 3, Some(b"abc"))]))];
 
 /// What its owner may read, write and run.
 const PROGRAM: u32 = 0o700;
@@ -23,15 +20,20 @@ fn mode_of(rt: &HostRuntime, path: &str) -> io::Result<u32> {
     Ok(fs::metadata(rt, path)?.permissions().mode() & 0o777)
 }
 
-/// Whether a file that is made can be run as the one that was opened first, which is no program
-/// when it is made itself.
+/// Whether a file that is made while a program is open can be run as that, and the program, which
+/// was made while none was open, could not.
 fn can_be_run(rt: &HostRuntime, program: &str, made: &str) -> Result<bool, Fail> {
     let mut files = RealFiles::new(rt.alloc(), rt.clone()?);
     let mut stated = are_visited(rt.alloc(), &mut files, program, &MADE);
     stated &= mode_of(rt, program)? & 0o111 == 0;
     fs::set_permissions(rt, program, Permissions::from_mode(PROGRAM))?;
-    stated &= are_visited(rt.alloc(), &mut files, program, &READ);
-    stated &= are_visited(rt.alloc(), &mut files, made, &MADE);
+    match files.open(rt.alloc(), program) {
+        Ok(file) => {
+            stated &= are_visited(rt.alloc(), &mut files, made, &MADE);
+            files.close(program, file);
+        }
+        Err(_) => stated = false,
+    }
     stated &= mode_of(rt, made)? == PROGRAM;
     fs::remove_file(rt, program)?;
     fs::remove_file(rt, made)?;

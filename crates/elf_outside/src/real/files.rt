@@ -7,23 +7,20 @@ ghost use Rattle.elf_outside.specs.Counts.{Rose, next_count};
 use crate::file_sets::{Files, OpenFault};
 use crate::real::RealFile;
 use crate::real::failure::{Attempt, Failure};
-use crate::real::inodes::{Inode, OpenInodes};
+use crate::real::open_files::{OpenFile, OpenFiles};
 use crate::real::system_file::SystemFile;
 use elf_types::Octets;
 use std::alloc::Global;
 use std::fs::{File, OpenOptions};
 use std::io::{Error, ErrorKind, Read};
-use std::os::unix::fs::{OpenOptionsExt, PermissionsExt};
+use std::os::unix::fs::OpenOptionsExt;
 use std::{io, rt};
 
 /// The most bytes that are held of what has no length.
 const MOST_HELD: u64 = 1 << 30;
 
-/// Who may read and write a file that is made where none was opened before.
+/// Who may read and write a file that is made while none is open.
 const NEW_MODE: u32 = 0o666;
-
-/// The bits of a mode that say who may read, write and run a file.
-const PERMISSIONS: u32 = 0o777;
 
 /// The files of the system by their paths. They tell no bytes. What is opened to be read is read to
 /// its end at once where it is no regular file or tells the length 0, as a pipe or a file of /proc
@@ -31,16 +28,16 @@ const PERMISSIONS: u32 = 0o777;
 ///
 /// A file that is open is not made anew, under whatever name, since that would take the bytes from
 /// under those who read it: `create` then answers `Failed`, and the file is as it was. A file that
-/// was not there gets the permissions of the file that was opened first, as the umask leaves them, so
-/// that what is made of a program can be run; one that was there keeps its own.
+/// was not there gets the permissions of the file that was opened first of those that are open, as
+/// the umask leaves them, so that what is made of a program can be run; one that was there keeps
+/// its own.
 ///
 /// They keep what the system said of the last call that failed. Of the calls on a file they know
 /// once it was closed.
 #[derive(Drop)]
 pub struct RealFiles<R> {
     system: R,
-    open: OpenInodes,
-    mode: Option<u32>,
+    open: OpenFiles,
     read_faults: u64,
     write_faults: u64,
     taken: u64,
@@ -69,8 +66,7 @@ impl<R: rt::Files<File = File>> RealFiles<R> {
     {
         RealFiles {
             system,
-            open: OpenInodes::new(alloc),
-            mode: None,
+            open: OpenFiles::new(alloc),
             read_faults: 0,
             write_faults: 0,
             taken: 0,
@@ -98,7 +94,7 @@ impl<R: rt::Files<File = File>> RealFiles<R> {
         ensures live { OnOk result (self.new.live ≡ next_count self.old.live) }
         ensures not_live { OnErr result (self.new.live ≡ self.old.live) }
     {
-        if self.open.add(file.inner.inode).is_err() {
+        if self.open.add(file.inner.as_opened).is_err() {
             return Err(OpenFault::Memory);
         }
         self.live = self.live.saturating_add(1);
@@ -118,10 +114,7 @@ impl<R: rt::Files<File = File>> RealFiles<R> {
         ensures not_live { OnErr result (self.new.live ≡ self.old.live) }
     {
         match open_file(alloc, &self.system, name, writes) {
-            Ok((mode, file)) => {
-                self.mode = self.mode.or(Some(mode));
-                self.count_in(file)
-            }
+            Ok(file) => self.count_in(file),
             Err(Refusal::NotThere) => Err(OpenFault::NotThere),
             Err(Refusal::Memory) => Err(OpenFault::Memory),
             Err(Refusal::Failed(failure)) => {
@@ -159,7 +152,7 @@ impl<R: rt::Files<File = File>> Files for RealFiles<R> {
     }
 
     fn create(&mut self, alloc: Global, name: &str) -> Result<RealFile, OpenFault> {
-        let mode = self.mode.unwrap_or(NEW_MODE);
+        let mode = self.open.first_mode().unwrap_or(NEW_MODE);
         match create_file(alloc, &self.system, &self.open, name, mode) {
             Ok(file) => self.count_in(file),
             Err(Refusal::Failed(failure)) => {
@@ -177,22 +170,22 @@ impl<R: rt::Files<File = File>> Files for RealFiles<R> {
         self.taken = self.taken.saturating_add(file.taken);
         self.given = self.given.saturating_add(file.inner.given);
         self.live = self.live.saturating_sub(1);
-        self.open.remove(file.inner.inode);
+        self.open.remove(file.inner.as_opened.inode);
         if file.faults > 0 || file.inner.write_faults > 0 {
             self.last = Some(file.into_inner().into_failure());
         }
     }
 }
 
-/// Opens a file for reading, and for writing too where that is asked. Its permissions come first.
+/// Opens a file for reading, and for writing too where that is asked.
 fn open_file<R: rt::Files<File = File>>(
     alloc: Global,
     system: &R,
     name: &str,
     writes: bool,
-) -> Result<(u32, RealFile), Refusal>
-    ensures faults { IfOk result (λ f. (f.1.faults ≡ 0) × (f.1.inner.write_faults ≡ 0)) }
-    ensures numbers { IfOk result (λ f. (f.1.taken ≡ 0) × (f.1.inner.given ≡ 0)) }
+) -> Result<RealFile, Refusal>
+    ensures faults { IfOk result (λ f. (f.faults ≡ 0) × (f.inner.write_faults ≡ 0)) }
+    ensures numbers { IfOk result (λ f. (f.taken ≡ 0) × (f.inner.given ≡ 0)) }
 {
     let Ok(kept) = String::from_str(alloc, name) else {
         return Err(Refusal::Memory);
@@ -206,12 +199,12 @@ fn open_file<R: rt::Files<File = File>>(
     }
 }
 
-/// Makes a file of the name and the permissions, or cuts the one that is there to nothing, unless it
-/// is open already.
+/// Makes a file of the name and the permissions, or cuts the one that is there to nothing, unless
+/// it is open already.
 fn create_file<R: rt::Files<File = File>>(
     alloc: Global,
     system: &R,
-    open: &OpenInodes,
+    open: &OpenFiles,
     name: &str,
     mode: u32,
 ) -> Result<RealFile, Refusal>
@@ -229,22 +222,22 @@ fn create_file<R: rt::Files<File = File>>(
         Err(e) => return Err(refused(kept, Attempt::Create, e)),
     };
     match cut_whole(&file, open) {
-        Ok(inode) => Ok(RealFile::new(alloc, SystemFile::new(kept, file, inode, None, 0))),
+        Ok(as_opened) => Ok(RealFile::new(alloc, SystemFile::new(kept, file, as_opened, None, 0))),
         Err(e) => Err(refused(kept, Attempt::Create, e)),
     }
 }
 
 /// Cuts a file that was opened to nothing, where it is a file of a disk and is not open already.
-fn cut_whole(file: &File, open: &OpenInodes) -> io::Result<Inode> {
+fn cut_whole(file: &File, open: &OpenFiles) -> io::Result<OpenFile> {
     let about = file.metadata()?;
-    let inode = Inode::of(&about);
-    if about.is_file() && open.has(inode) {
+    let as_opened = OpenFile::of(&about);
+    if about.is_file() && open.has(as_opened.inode) {
         return Err(Error::new(ErrorKind::InvalidInput, "it is a file that is open already"));
     }
     if about.is_file() && about.len() > 0 {
         file.set_len(0)?;
     }
-    Ok(inode)
+    Ok(as_opened)
 }
 
 /// The refusal of a call that the system failed.
@@ -252,55 +245,36 @@ fn refused(name: String, attempt: Attempt, why: Error) -> Refusal {
     Refusal::Failed(Failure { name, attempt, why })
 }
 
-/// What a file is as it is opened.
-#[derive(Drop)]
-struct Opened {
-    inode: Inode,
-    mode: u32,
-    /// Its bytes, where they are to be held.
-    held: Option<Octets>,
-    len: u64,
-}
-
-/// What was opened, with its length, or with its bytes where they are to be held; and before it its
-/// permissions.
-fn take_in(
-    alloc: Global,
-    name: String,
-    file: File,
-    writes: bool,
-) -> Result<(u32, RealFile), Refusal>
-    ensures faults { IfOk result (λ f. (f.1.faults ≡ 0) × (f.1.inner.write_faults ≡ 0)) }
-    ensures numbers { IfOk result (λ f. (f.1.taken ≡ 0) × (f.1.inner.given ≡ 0)) }
+/// What was opened, with its length, or with its bytes where they are to be held.
+fn take_in(alloc: Global, name: String, file: File, writes: bool) -> Result<RealFile, Refusal>
+    ensures faults { IfOk result (λ f. (f.faults ≡ 0) × (f.inner.write_faults ≡ 0)) }
+    ensures numbers { IfOk result (λ f. (f.taken ≡ 0) × (f.inner.given ≡ 0)) }
 {
-    match look_at(alloc, &file, writes) {
-        Ok(opened) => Ok((
-            opened.mode,
-            RealFile::new(
-                alloc,
-                SystemFile::new(name, file, opened.inode, opened.held, opened.len),
-            ),
+    match length_of(alloc, &file, writes) {
+        Ok((as_opened, held, len)) => Ok(RealFile::new(
+            alloc,
+            SystemFile::new(name, file, as_opened, held, len),
         )),
         Err(e) if e.kind() == ErrorKind::OutOfMemory => Err(Refusal::Memory),
         Err(e) => Err(refused(name, Attempt::Read, e)),
     }
 }
 
-/// Looks at a file that was opened, and reads its bytes where they are to be held.
-fn look_at(alloc: Global, file: &File, writes: bool) -> io::Result<Opened> {
+/// The length of a file that was opened, after which one it is and its bytes where they are to be
+/// held.
+fn length_of(
+    alloc: Global,
+    file: &File,
+    writes: bool,
+) -> io::Result<(OpenFile, Option<Octets>, u64)> {
     let about = file.metadata()?;
-    let mut opened = Opened {
-        inode: Inode::of(&about),
-        mode: about.permissions().mode() & PERMISSIONS,
-        held: None,
-        len: about.len(),
-    };
-    if !writes && (!about.is_file() || opened.len == 0) {
-        let held = read_whole(alloc, file)?;
-        opened.len = held.len();
-        opened.held = Some(held);
+    let as_opened = OpenFile::of(&about);
+    if writes || (about.is_file() && about.len() > 0) {
+        return Ok((as_opened, None, about.len()));
     }
-    Ok(opened)
+    let held = read_whole(alloc, file)?;
+    let len = held.len();
+    Ok((as_opened, Some(held), len))
 }
 
 /// The bytes of a file up to its end.

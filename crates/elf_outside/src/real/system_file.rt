@@ -5,7 +5,7 @@ ghost use Rattle.std.specs.Prelude.{refl, ◌≡◌, ◌+◌, ◌-◌, ◌<◌, 
 use crate::devices::Device;
 use crate::ranges::copy_range;
 use crate::real::failure::{Attempt, Failure};
-use crate::real::inodes::Inode;
+use crate::real::open_files::OpenFile;
 use crate::real::transfers::{read_from, write_from, write_zeros_from};
 use crate::sources::{Failed, Source};
 use elf_types::Octets;
@@ -22,7 +22,7 @@ use std::io::{Error, ErrorKind};
 pub struct SystemFile {
     name: String,
     file: File,
-    pub(super) inode: Inode,
+    pub(super) as_opened: OpenFile,
     held: Option<Octets>,
     len: u64,
     faults: u64,
@@ -40,7 +40,7 @@ impl SystemFile {
     pub(super) fn new(
         name: String,
         file: File,
-        inode: Inode,
+        as_opened: OpenFile,
         held: Option<Octets>,
         len: u64,
     ) -> SystemFile
@@ -51,7 +51,7 @@ impl SystemFile {
         SystemFile {
             name,
             file,
-            inode,
+            as_opened,
             held,
             len,
             faults: 0,
