@@ -8,6 +8,7 @@ mod devices;
 mod files;
 #[cfg(test)]
 mod other_names;
+#[cfg(test)]
 mod permissions;
 #[cfg(test)]
 mod read_ahead;
