@@ -1,5 +1,5 @@
 -- What all changes of copy leave of an object, one after the other.
-use Rattle.std.proofs.Common.{◌≡◌, ◌≢◌, ℕ, ◌<◌, Bool, true, false, List, [], ◌∷◌, ◌++◌, length, map, Option, Some, Result, Ok, Err, refl, sym, ap, ◌∙◌, subst, arith}
+use Rattle.std.proofs.Common.{◌≡◌, ◌≢◌, ℕ, ◌<◌, Bool, true, false, List, [], ◌∷◌, ◌++◌, length, map, Option, Some, None, Result, Ok, Err, refl, sym, ap, ◌∙◌, subst, arith}
 use Rattle.std.specs.Prelude.{if◌then◌else◌, nat_eq}
 use Rattle.std.specs.List.{list_any}
 use Rattle.std.proofs.lemmas.Bool.{or_parts, eqb-false}
@@ -8,12 +8,13 @@ use Rattle.elf_ident.proofs.Refusals.{bind_ok}
 use Rattle.elf_object.specs.Object.{Object, Section, section_at}
 use Rattle.command_objects.specs.Words.{header_at, is_among, in_turn}
 use Rattle.command_objects.specs.Removed.{removed_by_name}
-use Rattle.command_objects.specs.Arranged.{Rebuilt, arranged}
+use Rattle.command_objects.specs.Arranged.{Rebuilt, arranged, place_from, section_from}
 use Rattle.command_objects.specs.Rebuilt.{rebuilt, renews_names}
 use Rattle.command_objects.specs.Copied.{Changes, CopyFault, or_strip, names_in, section_named, with_bytes, with_name, with_section_flags, with_added, named, changes_names, with_changes, copied}
 use Rattle.command_objects.specs.KeepingLaws.{or_nowhere, chosen_for_bytes, chosen_for_names, chosen_for_flags, or_old, chosen, without_places}
 use Rattle.strip_laws.proofs.ArrangedLaws.{arranged_keeps}
-use Rattle.copy_laws.proofs.EachChange.{Follows, SameHeader, SamePieces, follows_itself, follows_both, pieces_itself, pieces_both, or_strip_ok, updated_known, updated_follows, updated_header, updated_pieces, flagged_known, flagged_follows, flagged_header, flagged_pieces, added_known}
+use Rattle.strip_laws.proofs.MadeSections.{section_placed}
+use Rattle.copy_laws.proofs.EachChange.{Follows, SameHeader, SamePieces, follows_itself, follows_both, pieces_itself, pieces_both, or_strip_ok, updated_known, updated_follows, updated_header, updated_pieces, flagged_known, flagged_follows, flagged_header, flagged_pieces, added_known, added_follows}
 use Rattle.copy_laws.proofs.NamesAndPlaces.{named_known, names_follow, names_header, names_pieces, places_header, places_pieces, places_follow}
 
 -- ---- One after the other
@@ -33,14 +34,14 @@ in_turn_each R change itself both each a (x ∷ l) c e =
 
 -- ---- Numbers that are not among others
 
-among_parts : (l m : List ℕ) (s : ℕ) → is_among (l ++ m) s ≡ false
+pub among_parts : (l m : List ℕ) (s : ℕ) → is_among (l ++ m) s ≡ false
     → (is_among l s ≡ false) × (is_among m s ≡ false)
 unfolding is_among
 among_parts l m s e =
     or_parts (list_any (nat_eq s) l) (list_any (nat_eq s) m)
     (sym (list_any-append (nat_eq s) l m) ∙ e)
 
-not_the_one : (s n : ℕ) → is_among (n ∷ []) s ≡ false → s ≢ n
+pub not_the_one : (s n : ℕ) → is_among (n ∷ []) s ≡ false → s ≢ n
 unfolding is_among
 not_the_one s n e = eqb-false s n (or_parts (nat_eq s n) false e).0
 
@@ -211,7 +212,7 @@ pub record NamesLeave (o p : Object) : Type 0 where
   pub header : (s : ℕ) → s < length o.sections → SameHeader o p s
   pub pieces : (s : ℕ) → s < length o.sections → s ≢ o.header.shstrndx → SamePieces o p s
 
-names_leave : (b : Bool) (renewed : Bool) (o : Object) (names : List (Option (List ℕ)))
+pub names_leave : (b : Bool) (renewed : Bool) (o : Object) (names : List (Option (List ℕ)))
     (p : Object) → (if b then named renewed o names else Ok o) ≡ Ok p → NamesLeave o p
 names_leave true renewed o names p e =
     let k = named_known renewed o names p e in
@@ -227,6 +228,23 @@ names_leave false renewed o names p e =
       header = λ s h. refl;
       pieces = λ s h other. pieces_itself o s;
     })
+
+added_follow : (o : Object) (l : List (List ℕ × List ℕ)) (p : Object)
+    → in_turn with_added o l ≡ Ok p → Follows o p
+added_follow = in_turn_each Follows with_added follows_itself follows_both
+    (λ a x b e. added_follows a x b e)
+
+pub changes_follow : (c : Changes) (renewed : Bool) (o p : Object)
+    → with_changes c renewed o ≡ Ok p → Follows o p
+changes_follow c renewed o p e =
+    let k = changed_known c renewed o p e in
+    let last = names_leave (changes_names c) renewed k.added
+    (k.names ++ map (λ change. Some change.0) c.add) p k.last in
+    follows_both o k.updated p (bytes_follow o c.update k.updated k.is_updated)
+    (follows_both k.updated k.flagged p
+    (flags_follow k.names k.updated c.flags k.flagged k.is_flagged)
+    (follows_both k.flagged k.added p (added_follow k.flagged c.add k.added k.is_added)
+    last.follows))
 
 -- what all of them leave
 pub record ChangesLeave (c : Changes) (renewed : Bool) (o p : Object) : Type 0 where
@@ -252,7 +270,7 @@ changes_leave c renewed o p some e =
     (k.names ++ map (λ change. Some change.0) c.add) p k.last in
     record {
       known = k;
-      follows = follows_both o k.flagged p ab (follows_both k.flagged k.added p g.follows d.follows);
+      follows = changes_follow c renewed o p e;
       header = λ s h none.
           d.header s (omega (arith, h, more_b, more_c))
           ∙ ap (λ (x : Section). without_places x.header)
@@ -330,6 +348,32 @@ places_leave old new e =
       pieces = λ s h. places_pieces old.object tail s h;
     })
 
+-- the place of each name stays too
+from_name : (o : Object) (tail s : ℕ) (c : Section)
+    → (section_from o tail s c).header.name ≡ c.header.name
+unfolding section_from
+from_name o tail s c = by_place (place_from o tail s)
+  where
+    by_place : (place : Option ℕ) → (let made : Section = elim place [
+      | None ↦ c
+      | Some at ↦ record c { header = record c.header { offset = at }; marked = true }
+    ] in made.header.name) ≡ c.header.name
+    by_place None = refl
+    by_place (Some at) = refl
+
+pub record KeepsNames (old new : Object) : Type 0 where
+  pub stays : (s : ℕ) → s < length old.sections → (header_at new s).name ≡ (header_at old s).name
+
+pub places_names : (old new : Rebuilt) → arranged old ≡ Ok new → KeepsNames old.object new.object
+places_names old new e =
+    arranged_keeps (KeepsNames old.object) old new e
+    (record { stays = λ s h. refl })
+    (λ tail is passed. record {
+      stays = λ s h.
+          ap (λ (c : Section). c.header.name) (section_placed old.object tail s h)
+          ∙ from_name old.object tail s (section_at old.object s);
+    })
+
 -- ---- What copy makes
 
 pub record IsMade (c : Changes) (o : Object) (m : Rebuilt) : Type 0 where
@@ -339,6 +383,7 @@ pub record IsMade (c : Changes) (o : Object) (m : Rebuilt) : Type 0 where
   pub is_changed : with_changes c (renews_names o (removed_by_name c.remove o)) first.object
       ≡ Ok changed
   pub places : PlacesLeave changed m.object
+  pub named : KeepsNames changed m.object
 
 pub made_known : (c : Changes) (o : Object) (m : Rebuilt) → copied c o ≡ Ok m → IsMade c o m
 unfolding copied
@@ -352,5 +397,7 @@ made_known c o m e =
       changed = changed.0;
       is_changed = changed.1;
       places = places_leave (record { object = changed.0; tail = first.0.tail }) m
+          (or_strip_ok (arranged (record { object = changed.0; tail = first.0.tail })) m changed.2);
+      named = places_names (record { object = changed.0; tail = first.0.tail }) m
           (or_strip_ok (arranged (record { object = changed.0; tail = first.0.tail })) m changed.2);
     }

@@ -17,9 +17,10 @@ use Rattle.elf_object.specs.Steps.{new_number, with_section, with_piece_at, with
 use Rattle.elf_object.proofs.PassedLaws.{passed_one}
 use Rattle.elf_object.proofs.StepLaws.{section_count-with_section, section_at-with_section, section_at-with_section_other, section_at-with_own, section_at-with_own_other}
 use Rattle.command_objects.specs.Words.{header_at, edited}
-use Rattle.command_objects.specs.Copied.{or_strip, names_in, section_named, update_fault, with_bytes, flags_fault, with_bits, with_section_flags, added_header, with_added, named}
+use Rattle.command_objects.specs.Copied.{or_strip, names_in, section_named, update_fault, with_bytes, flags_fault, with_bits, with_section_flags, added_header, with_added}
 use Rattle.command_objects.specs.Copied.CopyFault.{NoBytes}
 use Rattle.command_objects.specs.KeepingLaws.{without_places}
+
 -- ---- What may stay
 
 -- the front of an object, but for its header's places; and no section goes
@@ -91,7 +92,7 @@ pub first_test : {E : Type 0} (test : Bool) (e : E) (rest : List (Option E))
 first_test true e rest h = cc
 first_test false e rest h = refl
 
-positive : (n : ℕ) → (n == 0) ≡ false → 0 < n
+pub positive : (n : ℕ) → (n == 0) ≡ false → 0 < n
 positive zero e = cc
 positive (suc n) e = omega arith
 
@@ -342,7 +343,7 @@ piece_count_kept : (o : Object) (n : ℕ) (own : Items)
 unfolding with_new_piece
 piece_count_kept o n own = section_count-with_section o n _
 
-shdr_count_kept : (o : Object) (n : ℕ) (h : Shdr)
+pub shdr_count_kept : (o : Object) (n : ℕ) (h : Shdr)
     → length (with_shdr o n h).sections ≡ length o.sections
 unfolding with_shdr
 shdr_count_kept o n h = section_count-with_section o n _
@@ -385,6 +386,40 @@ one_more_is o bytes =
           ∙ ap (λ (c : Section). c.pieces ++ own_piece own 1 ∷ []) (grown_at o);
     }
 
+-- also of an object that has none
+follows_grown : (o : Object) → Follows o (with_new_section o)
+unfolding with_new_section
+follows_grown o =
+    let count = length-append o.sections
+    (if length o.sections == 0 then new_section ∷ new_section ∷ [] else new_section ∷ []) in
+    record {
+      class = refl;
+      order = refl;
+      index = refl;
+      phdrs = refl;
+      marked = λ h. h;
+      count = omega (arith, count);
+    }
+
+pub added_follows : (o : Object) (change : List ℕ × List ℕ) (p : Object)
+    → with_added o change ≡ Ok p → Follows o p
+unfolding with_added
+added_follows o change p e =
+    let s = new_number o in
+    let own : Items = items.Bytes change.1 in
+    let whole = or_strip_ok _ p e in
+    let first = bind_ok (edited newscn o) _ p whole in
+    let second = bind_ok (edited (update_shdr s added_header) first.0) _ p first.2 in
+    let a = edited_is newscn o first.0 first.1 in
+    let b = edited_is (update_shdr s added_header) first.0 second.0 second.1 in
+    let c = edited_is (newdata s own) second.0 p second.2 in
+    let one = subst (λ (q : Object). Follows o q) a.2 (follows_grown o) in
+    let two = subst (λ (q : Object). Follows first.0 q) b.2
+    (follows_shdr first.0 (new_number o) added_header) in
+    let three = subst (λ (q : Object). Follows second.0 q) c.2
+    (follows_piece second.0 (new_number o) (items.Bytes change.1)) in
+    follows_both o first.0 p one (follows_both first.0 second.0 p two three)
+
 pub added_known : (o : Object) (change : List ℕ × List ℕ) (p : Object)
     → with_added o change ≡ Ok p → 0 < length o.sections → IsAdded o change.1 p
 unfolding with_added one_more
@@ -403,7 +438,8 @@ added_known o change p e some =
     ap (λ (t : Bool). if t then 1 else length o.sections) none in
     let all : one_more o (length o.sections) change.1 ≡ p =
     sym (ap (λ (k : ℕ). one_more o k change.1) number)
-    ∙ sym (ap (λ (q : Object). with_new_piece (with_shdr q s added_header) s own 1) (grown_is o none))
+    ∙ sym (ap (λ (q : Object). with_new_piece (with_shdr q s added_header) s own 1)
+    (grown_is o none))
     ∙ ap (λ (q : Object). with_new_piece (with_shdr q s added_header) s own 1) a.2
     ∙ ap (λ (q : Object). with_new_piece q s own 1) b.2
     ∙ c.2 in

@@ -1,58 +1,47 @@
--- What copy keeps: header and bytes of each section that no change chooses.
-use Rattle.std.proofs.Common.{◌≡◌, ℕ, zero, suc, ◌+◌, ◌-◌, ◌<◌, ◌≤◌, Bool, true, false, not, ◌&&◌, List, [], ◌∷◌, length, get_or, Option, None, Ok, refl, sym, ap, ◌∙◌, subst, arith, inl, inr, ⊎_elim}
-use Rattle.std.specs.Prelude.{All, if◌then◌else◌, ◌==◌, ◌||◌, map}
+-- Where no section is removed: what is made of a section has its header and its bytes.
+use Rattle.std.proofs.Common.{◌≡◌, ℕ, zero, suc, ◌+◌, ◌-◌, ◌<◌, ◌≤◌, Bool, true, false, not, ◌&&◌, List, [], ◌∷◌, length, get_or, Option, None, refl, sym, ap, ◌∙◌, arith, inl, inr, ⊎_elim}
+use Rattle.std.specs.Prelude.{if◌then◌else◌, ◌==◌, ◌||◌, map}
 use Rattle.std.specs.List.{range_with_len}
-use Rattle.std.proofs.lemmas.Bool.{cases_eq, cases_lt, ne_eqb, and_right}
+use Rattle.std.proofs.lemmas.Bool.{cases_eq, cases_lt, ne_eqb}
 use Rattle.std.proofs.lemmas.List.{nil_from_length}
 use Rattle.std.proofs.lemmas.List.FromFn.{length-map-range_with_len, get_or-map-range_with_len}
 use Rattle.elf_types.specs.Answers.{first_refusal}
 use Rattle.elf_types.specs.declared.records.Class.{Class}
 use Rattle.elf_types.specs.declared.records.Kind.{Kind}
 use Rattle.elf_types.specs.declared.records.Order.{Order}
-use Rattle.elf_types.specs.declared.records.Phdr.{Phdr}
 use Rattle.elf_types.specs.declared.records.Shdr.{Shdr}
 use Rattle.elf_types.specs.declared.errors.ElfError.{ElfError}
 use Rattle.elf_types.specs.declared.errors.ElfError.TheVariants.{OutOfFile}
 use Rattle.elf_xlate.specs.declared.content.Items.{Items}
 use Rattle.elf_xlate.specs.declared.content.Items.TheVariants as items
-use Rattle.elf_xlate.specs.Headers.{IsPhdr}
 use Rattle.elf_xlate.specs.Translation.{encoded, EncodesAsDecoded}
 use Rattle.strtab_build.specs.Table.{table}
 use Rattle.elf_object.specs.Object.{Object, Section, Piece, section_at, absent_section, new_section, occupies_file}
 use Rattle.elf_object.specs.Open.{home_len}
 use Rattle.elf_object.specs.Answers.{no_section, out_of_file, raw_refusal, data_refusal}
 use Rattle.elf_object.specs.Joined.{file_bytes}
-use Rattle.elf_object.specs.Layout.{places_of}
 use Rattle.elf_object.specs.Steps.{own_piece}
 use Rattle.elf_object.specs.Valid.{IsObject}
 use Rattle.elf_object.proofs.PassedLaws.{none_first, none_rest, not_refused}
-use Rattle.object_laws.specs.Laws.{ReopenLaw}
 use Rattle.object_laws.proofs.ImageLaws.{joined-none}
 use Rattle.object_laws.proofs.KeepLaws.{section_at_is}
-use Rattle.object_laws.proofs.OpenLaws.{opened_is, opened_phdrs}
 use Rattle.object_laws.proofs.StandLaws.{file_bytes_when}
 use Rattle.command_objects.specs.Words.{header_at}
-use Rattle.command_objects.specs.Removed.{removed_by_name}
 use Rattle.command_objects.specs.Followed.{renumbering}
 use Rattle.command_objects.specs.Arranged.{Rebuilt}
-use Rattle.command_objects.specs.Rebuilt.{rebuilt, renews_names, rebuilt_items, kept_items, kept_names, kept_refusal, items_follow, made_section, rebuilt_header, rebuilt_section, rebuilt_sections, rebuilt_object, rebuilt_index, rebuilt_tail}
-use Rattle.command_objects.specs.Copied.{Changes, with_changes}
-use Rattle.command_objects.specs.Laws.{AreChanges}
-use Rattle.command_objects.specs.KeepingLaws.{IsCopied, without_places}
-use Rattle.strip_laws.proofs.RebuiltLaws.{IsRebuilt, rebuilt_known}
-use Rattle.strip_laws.proofs.CopyLaws.{copied_is_object}
-use Rattle.copy_laws.specs.CopyKeeps.{CopyKeepsSections}
-use Rattle.copy_laws.proofs.NoneRemoved.{none_removed, all_kept, all_from_1, all_same, header_same, followed_same}
-use Rattle.copy_laws.proofs.SameItems.{IsOpenedAt, opened_at, kept_same}
-use Rattle.copy_laws.proofs.EachChange.{Follows, follows_both, pieces_both}
-use Rattle.copy_laws.proofs.AllChanges.{made_known, ChangesLeave, changes_leave, PlacesLeave, places_leave, bytes_pieces, not_chosen}
-use Rattle.copy_laws.proofs.Reopened.{front_is, ok_same, reopened, IsReopened, reopened_at, shdr_kept, piece_bytes_are}
+use Rattle.command_objects.specs.Rebuilt.{renews_names, rebuilt_items, kept_items, kept_names, kept_refusal, items_follow, made_section, rebuilt_header, rebuilt_section, rebuilt_sections, rebuilt_object, rebuilt_index}
+use Rattle.command_objects.specs.KeepingLaws.{without_places}
+use Rattle.strip_laws.proofs.RebuiltLaws.{IsRebuilt}
+use Rattle.copy_laws.proofs.NoneRemoved.{all_kept, all_from_1, all_same, header_same, followed_same}
+use Rattle.copy_laws.proofs.SameItems.{IsOpenedAt, kept_same}
+use Rattle.copy_laws.proofs.Reopened.{front_is, piece_bytes_are}
 
 -- ---- Where no section is removed
 
 -- what is rebuilt has each section from 1 on as it is made of the one with its number
-made_of : (o : Object) (s : ℕ) → 1 ≤ s → s < length o.sections
-    → section_at (rebuilt_object o []) s ≡ made_section (rebuilt_header o [] s) (rebuilt_items o [] s)
+pub made_of : (o : Object) (s : ℕ) → 1 ≤ s → s < length o.sections
+    → section_at (rebuilt_object o []) s
+    ≡ made_section (rebuilt_header o [] s) (rebuilt_items o [] s)
 unfolding section_at rebuilt_sections rebuilt_section
 made_of o s from below =
     ap (λ (l : List Section). get_or l s absent_section) (front_is o []).sections
@@ -63,17 +52,27 @@ made_of o s from below =
     else made_section (rebuilt_header o [] s) (rebuilt_items o [] s))
     (ne_eqb s 0 (λ none. omega (arith, from, none)))
 
-made_count : (o : Object) → length (rebuilt_object o []).sections ≡ length o.sections
+pub made_count : (o : Object) → length (rebuilt_object o []).sections ≡ length o.sections
 unfolding rebuilt_sections
 made_count o =
     ap length (front_is o []).sections
     ∙ ap (λ (l : List ℕ). length (map (rebuilt_section o []) l)) (all_kept o)
     ∙ length-map-range_with_len (rebuilt_section o []) 0 (length o.sections)
 
-header_made : (o : Object) (s : ℕ)
+pub header_made : (o : Object) (s : ℕ)
     → without_places (rebuilt_header o [] s) ≡ without_places (header_at o s)
 unfolding rebuilt_header
 header_made o s = ap without_places (header_same (renumbering o []) (header_at o s) (all_same o))
+
+pub same_index : (o : Object) → rebuilt_index o [] ≡ o.header.shstrndx
+unfolding rebuilt_index
+same_index o = followed_same (renumbering o []) o.header.shstrndx (all_same o)
+
+pub plain_header : (o : Object) (s : ℕ)
+    → without_places (made_section (rebuilt_header o [] s) (rebuilt_items o [] s)).header
+    ≡ without_places (header_at o s)
+unfolding made_section
+plain_header o s = header_made o s
 
 none_in_range : (f : ℕ → Option ElfError) (a n s : ℕ)
     → first_refusal (map f (range_with_len a n)) ≡ None → a ≤ s → s < a + n → f s ≡ None
@@ -90,14 +89,14 @@ none_in_range f a (suc n) s none from below = elim (cases_eq s a) [
         ⊎_elim (λ less. omega (arith, less)) (λ past. absurd (other (omega (arith, from, past))))
         (cases_lt a v)
 
-passed_at : (o : Object) (r : Rebuilt) (s : ℕ) → IsRebuilt o [] r → 1 ≤ s
+pub passed_at : (o : Object) (r : Rebuilt) (s : ℕ) → IsRebuilt o [] r → 1 ≤ s
     → s < length o.sections → kept_refusal o [] s ≡ None
 passed_at o r s known from below =
     none_in_range (kept_refusal o []) 1 (length o.sections - 1) s
     (sym (ap (λ (l : List ℕ). first_refusal (map (kept_refusal o []) l)) (all_from_1 o))
     ∙ known.kept) from (omega (arith, from, below))
 
-raw_inside : (o : Object) (s : ℕ) → kept_refusal o [] s ≡ None
+pub raw_inside : (o : Object) (s : ℕ) → kept_refusal o [] s ≡ None
     → (section_at o s).home.out ≡ false
 unfolding kept_refusal raw_refusal
 raw_inside o s passed =
@@ -109,7 +108,7 @@ raw_inside o s passed =
 
 -- ---- Sections in a file, and others
 
-filled_pieces : (h : Shdr) (own : Items) → occupies_file h ≡ true
+pub filled_pieces : (h : Shdr) (own : Items) → occupies_file h ≡ true
     → (made_section h own).pieces ≡ own_piece own 1 ∷ []
 unfolding made_section
 filled_pieces h own filled =
@@ -127,7 +126,7 @@ unfolding home_len
 no_size o s at filled =
     at.len ∙ ap (λ (b : Bool). if b then (header_at o s).size else 0) filled
 
-same_filled : (a b : Shdr) → a.stype ≡ b.stype → occupies_file a ≡ occupies_file b
+pub same_filled : (a b : Shdr) → a.stype ≡ b.stype → occupies_file a ≡ occupies_file b
 same_filled a b e = ap (λ (t : ℕ). not (t == 0 || t == 8)) e
 
 -- ---- What an object has of a section of another one
@@ -139,7 +138,44 @@ pub record HasSection (o m : Object) (s : ℕ) : Type 0 where
   pub size : occupies_file (header_at m s) ≡ true
       → length (file_bytes m s) ≡ (header_at m s).size
 
--- with the pieces that it is made with
+-- its bytes, with the pieces that it is made with
+pub has_bytes :
+    (back : (kind : Kind) (class : Class) (order : Order) (bytes : List ℕ)
+    → EncodesAsDecoded kind class order bytes)
+    (o m : Object) (s : ℕ) → IsObject o → IsOpenedAt o s → kept_refusal o [] s ≡ None → 1 ≤ s
+    → (renews_names o [] && s == o.header.shstrndx) ≡ false
+    → m.header.class ≡ o.header.class → m.header.order ≡ o.header.order
+    → (header_at m s).stype ≡ (header_at o s).stype
+    → (section_at m s).pieces ≡ (made_section (rebuilt_header o [] s) (rebuilt_items o [] s)).pieces
+    → file_bytes m s ≡ (section_at o s).raw
+unfolding rebuilt_items
+has_bytes back o m s ok at passed from plain class order stype pieces =
+    by_type (occupies_file (header_at o s)) refl
+  where
+    same : occupies_file (header_at m s) ≡ occupies_file (header_at o s)
+    same = same_filled (header_at m s) (header_at o s) stype
+
+    made : occupies_file (rebuilt_header o [] s) ≡ occupies_file (header_at o s)
+    made = same_filled (rebuilt_header o [] s) (header_at o s)
+        (ap (λ (h : Shdr). h.stype) (header_made o s))
+
+    by_type : (b : Bool) → occupies_file (header_at o s) ≡ b
+        → file_bytes m s ≡ (section_at o s).raw
+    by_type true e =
+        piece_bytes_are m s (rebuilt_items o [] s)
+        (pieces ∙ filled_pieces (rebuilt_header o [] s) (rebuilt_items o [] s) (made ∙ e))
+        (omega (arith, from)) (same ∙ e)
+        ∙ ap (λ (c : Class). encoded c m.header.order (rebuilt_items o [] s)) class
+        ∙ ap (λ (r : Order). encoded o.header.class r (rebuilt_items o [] s)) order
+        ∙ ap (λ (b : Bool). encoded o.header.class o.header.order
+        (if b then items.Bytes (table (kept_names o [])) else kept_items o [] s)) plain
+        ∙ kept_same back o s ok at passed
+    by_type false e =
+        let len = (section_at_is o s ok).home.inside (raw_inside o s passed) in
+        let none = no_size o s at e in
+        joined-none m s (file_bytes_when s (section_at m s) (omega (arith, from)) ∙ same ∙ e)
+        ∙ sym (nil_from_length (section_at o s).raw (len ∙ none))
+
 pub has_section :
     (back : (kind : Kind) (class : Class) (order : Order) (bytes : List ℕ)
     → EncodesAsDecoded kind class order bytes)
@@ -149,163 +185,18 @@ pub has_section :
     → without_places (header_at m s) ≡ without_places (header_at o s)
     → (section_at m s).pieces ≡ (made_section (rebuilt_header o [] s) (rebuilt_items o [] s)).pieces
     → HasSection o m s
-unfolding rebuilt_items
 has_section back o m s ok at passed from plain class order header pieces =
+    let stype : (header_at m s).stype ≡ (header_at o s).stype =
+    ap (λ (h : Shdr). h.stype) header in
+    let bytes = has_bytes back o m s ok at passed from plain class order stype pieces in
     record {
       header = header;
-      bytes = bytes (occupies_file (header_at o s)) refl;
+      bytes = bytes;
       size = λ filled.
-          let old : occupies_file (header_at o s) ≡ true = sym same ∙ filled in
-          ap length (bytes (occupies_file (header_at o s)) refl)
+          let old : occupies_file (header_at o s) ≡ true =
+          sym (same_filled (header_at m s) (header_at o s) stype) ∙ filled in
+          ap length bytes
           ∙ (section_at_is o s ok).home.inside (raw_inside o s passed)
           ∙ size_of o s at old
           ∙ sym (ap (λ (h : Shdr). h.size) header);
-    }
-  where
-    same : occupies_file (header_at m s) ≡ occupies_file (header_at o s)
-    same = same_filled (header_at m s) (header_at o s) (ap (λ (h : Shdr). h.stype) header)
-
-    made : occupies_file (rebuilt_header o [] s) ≡ occupies_file (header_at o s)
-    made = same_filled (rebuilt_header o [] s) (header_at o s)
-        (ap (λ (h : Shdr). h.stype) (header_made o s))
-
-    bytes : (b : Bool) → occupies_file (header_at o s) ≡ b
-        → file_bytes m s ≡ (section_at o s).raw
-    bytes true e =
-        piece_bytes_are m s (rebuilt_items o [] s)
-        (pieces ∙ filled_pieces (rebuilt_header o [] s) (rebuilt_items o [] s) (made ∙ e))
-        (omega (arith, from)) (same ∙ e)
-        ∙ ap (λ (c : Class). encoded c m.header.order (rebuilt_items o [] s)) class
-        ∙ ap (λ (r : Order). encoded o.header.class r (rebuilt_items o [] s)) order
-        ∙ ap (λ (b : Bool). encoded o.header.class o.header.order
-        (if b then items.Bytes (table (kept_names o [])) else kept_items o [] s)) plain
-        ∙ kept_same back o s ok at passed
-    bytes false e =
-        let len = (section_at_is o s ok).home.inside (raw_inside o s passed) in
-        let none = no_size o s at e in
-        joined-none m s (file_bytes_when s (section_at m s) (omega (arith, from)) ∙ same ∙ e)
-        ∙ sym (nil_from_length (section_at o s).raw (len ∙ none))
-
--- ---- What copy makes, and what is opened again
-
--- what copy makes, in its steps
-pub record IsCopiedTo (c : Changes) (before after : Object) (r m : Rebuilt) : Type 0 where
-  pub ok : IsObject before
-  pub known : IsRebuilt before (removed_by_name c.remove before) r
-  pub base : PlacesLeave (rebuilt_object before (removed_by_name c.remove before)) r.object
-  pub changed : Object
-  pub changes : ChangesLeave c (renews_names before (removed_by_name c.remove before)) r.object
-      changed
-  pub places : PlacesLeave changed m.object
-  pub follows : Follows r.object m.object
-  pub marked : m.object.header_marked ≡ true
-  pub again : (s : ℕ) → s < length m.object.sections → IsReopened m.object after s
-
-pub copied_to : (reopens : (o : Object) → ReopenLaw o) (c : Changes) (before after : Object)
-    (r : Rebuilt) → AreChanges c → (k : IsCopied c before after)
-    → rebuilt before (removed_by_name c.remove before) ≡ Ok r → 0 < length r.object.sections
-    → IsCopiedTo c before after r k.made
-copied_to reopens c before after r are k e some =
-    let removed = removed_by_name c.remove before in
-    let made = made_known c before k.made k.is_made in
-    let same = ok_same {A = Rebuilt} {E = ElfError} (rebuilt before removed) made.first r made.is_first e in
-    let renewed = renews_names before removed in
-    let is_changed =
-    ap (λ (x : Rebuilt). with_changes c renewed x.object) (sym same) ∙ made.is_changed in
-    let ok = opened_is k.image before k.bytes k.is_before in
-    let known = rebuilt_known before removed r e in
-    let base = places_leave
-    (record { object = rebuilt_object before removed; tail = rebuilt_tail before removed }) r
-    known.is in
-    let changes = changes_leave c renewed r.object made.changed some is_changed in
-    let follows = follows_both r.object made.changed k.made.object changes.follows
-    made.places.follows in
-    let front = front_is before removed in
-    let all = follows_both (rebuilt_object before removed) r.object k.made.object base.follows
-    follows in
-    let marked = all.marked front.marked in
-    let ranged = subst (λ (l : List Phdr). All IsPhdr l) (sym (all.phdrs ∙ front.phdrs))
-    (opened_phdrs k.image before k.bytes k.is_before) in
-    let is = reopened reopens k.made.object after k.out
-    (copied_is_object before c k.made ok are k.is_made) ranged marked k.is_out k.is_after in
-    record {
-      ok = ok;
-      known = known;
-      base = base;
-      changed = made.changed;
-      changes = changes;
-      places = made.places;
-      follows = follows;
-      marked = marked;
-      again = λ s below. reopened_at k.made.object after s is marked below;
-    }
-
--- ---- The law
-
-same_index : (o : Object) → rebuilt_index o [] ≡ o.header.shstrndx
-unfolding rebuilt_index
-same_index o = followed_same (renumbering o []) o.header.shstrndx (all_same o)
-
-plain_header : (o : Object) (s : ℕ)
-    → without_places (made_section (rebuilt_header o [] s) (rebuilt_items o [] s)).header
-    ≡ without_places (header_at o s)
-unfolding made_section
-plain_header o s = header_made o s
-
-pub copy_keeps_sections : (reopens : (o : Object) → ReopenLaw o)
-    → ((kind : Kind) (class : Class) (order : Order) (bytes : List ℕ)
-    → EncodesAsDecoded kind class order bytes)
-    → CopyKeepsSections
-copy_keeps_sections reopens back c before after are k r s left =
-    let none : removed_by_name c.remove before ≡ [] =
-    ap (λ (l : List (List ℕ)). removed_by_name l before) left.none_removed ∙ none_removed before in
-    let removed = removed_by_name c.remove before in
-    let e : rebuilt before [] ≡ Ok r = sym (ap (rebuilt before) none) ∙ left.rebuilt in
-    let known = rebuilt_known before [] r e in
-    let base = places_leave
-    (record { object = rebuilt_object before []; tail = rebuilt_tail before [] }) r known.is in
-    let count = made_count before in
-    let grows = base.follows.count in
-    let there = left.there in
-    let from = left.from_1 in
-    let some : 0 < length r.object.sections = omega (arith, there, count, grows) in
-    let to = copied_to reopens c before after r are k left.rebuilt some in
-    let m = k.made.object in
-    let in_base : s < length (rebuilt_object before []).sections = omega (arith, there, count) in
-    let in_r : s < length r.object.sections = omega (arith, there, count, grows) in
-    let more = to.changes.follows.count in
-    let in_changed : s < length to.changed.sections = omega (arith, in_r, more) in
-    let last = to.places.follows.count in
-    let in_m : s < length m.sections = omega (arith, in_changed, last) in
-    let free = not_chosen c (renews_names before removed) r.object to.changed s to.changes.known
-    left.not_chosen in
-    let front = front_is before [] in
-    let frame = follows_both (rebuilt_object before []) r.object m base.follows to.follows in
-    let index : r.object.header.shstrndx ≡ before.header.shstrndx =
-    base.follows.index ∙ front.index ∙ same_index before in
-    let at = opened_at k.image before s k.is_before there in
-    let passed = passed_at before r s known from there in
-    let made = made_of before s from there in
-    let header : without_places (header_at m s) ≡ without_places (header_at before s) =
-    to.places.header s in_changed ∙ to.changes.header s in_r free.flags ∙ base.header s in_base
-    ∙ ap (λ (x : Section). without_places x.header) made
-    ∙ plain_header before s in
-    let pieces = pieces_both (rebuilt_object before []) r.object m s (base.pieces s in_base)
-    (pieces_both r.object to.changes.known.updated m s
-    (bytes_pieces r.object c.update to.changes.known.updated s to.changes.known.is_updated
-    free.bytes)
-    (pieces_both to.changes.known.updated to.changed m s
-    (to.changes.pieces s in_r (λ clash. left.no_table (clash ∙ index)))
-    (to.places.pieces s in_changed))) in
-    let has = has_section back before m s to.ok at passed from
-    (and_right (renews_names before []) (s == before.header.shstrndx)
-    (ne_eqb s before.header.shstrndx left.no_table))
-    (frame.class ∙ front.class) (frame.order ∙ front.order) header
-    (pieces.pieces ∙ ap (λ (x : Section). x.pieces) made) in
-    let again = to.again s in_m in
-    record {
-      header = ap without_places again.header
-          ∙ shdr_kept (places_of m) m s (header_at m s) (omega (arith, from)) has.size
-          ∙ has.header;
-      bytes = again.raw ∙ has.bytes;
     }

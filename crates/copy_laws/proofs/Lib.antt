@@ -5,3 +5,11 @@ pub mod AllChanges
 pub mod SameItems
 pub mod Reopened
 pub mod KeptSections
+pub mod CopySteps
+pub mod GivenBytes
+pub mod SectionStrings
+pub mod TableNames
+pub mod NamePlaces
+pub mod RenewedNames
+pub mod KeptNames
+pub mod CopyLaw

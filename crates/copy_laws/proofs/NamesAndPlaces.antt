@@ -1,6 +1,6 @@
 -- What the table of the names, written anew, and new places leave of an object's front and of its
 -- sections.
-use Rattle.std.proofs.Common.{◌≡◌, ◌≢◌, ℕ, ◌+◌, ◌<◌, Bool, true, false, not, List, [], ◌∷◌, length, drop, get_or, Option, Some, None, Ok, refl, sym, ap, ◌∙◌, arith}
+use Rattle.std.proofs.Common.{◌≡◌, ◌≢◌, ℕ, ◌+◌, ◌<◌, Bool, true, false, not, List, [], ◌∷◌, length, drop, get_or, set, Option, Some, None, Ok, refl, sym, ap, ◌∙◌, arith}
 use Rattle.std.specs.Prelude.{if◌then◌else◌, ◌==◌, map}
 use Rattle.std.specs.List.{enumerate_from}
 use Rattle.std.proofs.lemmas.Bool.{not-false}
@@ -8,12 +8,15 @@ use Rattle.std.proofs.lemmas.List.{length-map, get_or-map}
 use Rattle.std.proofs.lemmas.List.FromFn.{length-enumerate_from, get_or-enumerate_from}
 use Rattle.elf_types.specs.Answers.{refused_if, first_refusal, answered}
 use Rattle.elf_types.specs.declared.records.Shdr.{Shdr}
+use Rattle.elf_xlate.specs.declared.content.Items.{Items}
 use Rattle.elf_xlate.specs.declared.content.Items.TheVariants as items
 use Rattle.strtab_build.specs.Table.{table, place_of}
 use Rattle.elf_ident.proofs.Refusals.{answered_ok, bind_ok}
-use Rattle.elf_object.specs.Object.{Object, Section, section_at, absent_section}
-use Rattle.elf_object.specs.Steps.{with_ehdr, stored_ehdr}
+use Rattle.elf_object.specs.Object.{Object, Section, Piece, section_at, piece_at, absent_section, home_piece}
+use Rattle.elf_object.specs.Steps.{with_ehdr, stored_ehdr, own_piece}
 use Rattle.elf_object.specs.Strings.{or_empty_name}
+use Rattle.elf_object.proofs.StepLaws.{section_at-with_own}
+use Rattle.command_objects.specs.Words.{header_at}
 use Rattle.command_objects.specs.Arranged.{place_from, section_from, table_place_from, placed_from}
 use Rattle.command_objects.specs.Rebuilt.{table_refusal}
 use Rattle.command_objects.specs.Copied.{or_strip, named_section, with_names, named}
@@ -125,6 +128,47 @@ names_pieces o names s below other =
           ∙ ap (λ (h : Shdr). h.stype) kept.header;
       pieces = stored.pieces ∙ ap (λ (c : Section). c.pieces) at ∙ kept.pieces;
     }
+
+-- the place of a name in the new table
+place_named : (names : List (List ℕ)) (s : ℕ) (c : Section) → (s == 0) ≡ false
+    → (named_section names s c).header.name ≡ place_of (get_or ([] ∷ names) s []) names
+place_named names s c from =
+    ap (λ (b : Bool).
+    let made : Section = if b then c else (record c {
+      header = record c.header { name = place_of (get_or ([] ∷ names) s []) names };
+      marked = true;
+    }) in made.header.name) from
+
+pub names_place : (o : Object) (names : List (List ℕ)) (s : ℕ) → s < length o.sections
+    → (s == 0) ≡ false
+    → (header_at (with_names o names) s).name ≡ place_of (get_or ([] ∷ names) s []) names
+unfolding with_names headed
+names_place o names s below from =
+    let count = headed_count o names in
+    ap (λ (h : Shdr). h.name)
+    (own_header (headed o names) o.header.shstrndx s (items.Bytes (table names))
+    (omega (arith, below, count)))
+    ∙ ap (λ (c : Section). c.header.name) (headed_at o names s below)
+    ∙ place_named names s (section_at o s) from
+
+-- the table itself
+pub names_table : (o : Object) (names : List (List ℕ)) (own : Items)
+    → o.header.shstrndx < length o.sections
+    → (section_at o o.header.shstrndx).pieces ≡ own_piece own 1 ∷ []
+    → (section_at (with_names o names) o.header.shstrndx).pieces
+    ≡ own_piece (items.Bytes (table names)) 1 ∷ []
+unfolding with_names headed piece_at
+names_table o names own below pieces =
+    let count = headed_count o names in
+    let kept : (section_at (headed o names) o.header.shstrndx).pieces ≡ own_piece own 1 ∷ [] =
+    ap (λ (c : Section). c.pieces) (headed_at o names o.header.shstrndx below)
+    ∙ (named_section_kept names o.header.shstrndx (section_at o o.header.shstrndx)).pieces
+    ∙ pieces in
+    ap (λ (c : Section). c.pieces)
+    (section_at-with_own (headed o names) o.header.shstrndx 0 (items.Bytes (table names))
+    (omega (arith, below, count)))
+    ∙ ap (λ (ps : List Piece).
+    set ps 0 (own_piece (items.Bytes (table names)) (get_or ps 0 home_piece).align)) kept
 
 -- ---- Places from a tail on
 

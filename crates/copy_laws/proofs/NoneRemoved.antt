@@ -247,7 +247,8 @@ word_same m word same =
       | None ↦ 0
       | Some new ↦ if not (new == word) && nat_lt new SHN_LORESERVE then 0 else new
     ] in made) same
-    ∙ ap (λ (b : Bool). let made : ℕ = if not b && nat_lt word SHN_LORESERVE then 0 else word in made)
+    ∙ ap (λ (b : Bool).
+    let made : ℕ = if not b && nat_lt word SHN_LORESERVE then 0 else word in made)
     (eq-eqb word word refl)
 
 of_sym_same : (m : Renumbering) (word : ℕ) (x : Option Sym) → IsSame m

@@ -1,7 +1,10 @@
 -- What copy writes, opened again, and its sections.
 use Rattle.std.proofs.Common.{◌≡◌, ℕ, ◌<◌, Bool, true, false, List, [], ◌∷◌, length, Option, Some, None, Result, Ok, refl, sym, ap, ◌∙◌, arith}
 use Rattle.std.specs.Prelude.{All, if◌then◌else◌, ◌==◌, ◌||◌, map}
+use Rattle.std.specs.List.{enumerate_from}
 use Rattle.std.proofs.lemmas.Bool.{or_left, or_right, ne_eqb}
+use Rattle.std.proofs.lemmas.List.{length-map}
+use Rattle.std.proofs.lemmas.List.FromFn.{length-enumerate_from}
 use Rattle.elf_types.specs.declared.records.Shdr.{Shdr}
 use Rattle.elf_types.specs.declared.errors.ElfError.{ElfError}
 use Rattle.elf_xlate.specs.declared.content.Items.{Items}
@@ -10,10 +13,10 @@ use Rattle.elf_xlate.specs.Translation.{encoded}
 use Rattle.elf_ident.proofs.Refusals.{answered_ok}
 use Rattle.elf_layout.specs.declared.parts.Places.{Places}
 use Rattle.elf_object.specs.Blocks.{stacked, last_end, spread}
-use Rattle.elf_object.specs.Object.{Object, Section, Piece, section_at, occupies_file, is_null, is_dirty, some_section_marked}
-use Rattle.elf_object.specs.Open.{opened, created_over}
+use Rattle.elf_object.specs.Object.{Object, Section, Piece, section_at, header_of, occupies_file, is_null, is_dirty, some_section_marked}
+use Rattle.elf_object.specs.Open.{home_len, opened, created_over}
 use Rattle.elf_object.specs.Joined.{piece_bytes, aligned_pieces, piece_blocks, pieces_end, file_bytes}
-use Rattle.elf_object.specs.Derived.{numbered_shdr}
+use Rattle.elf_object.specs.Derived.{where_any, derived_header, numbered_shdr}
 use Rattle.elf_object.specs.Layout.{places_of, placed_header, placed_shdr, placed_by, section_place}
 use Rattle.elf_object.specs.Image.{image}
 use Rattle.elf_object.specs.Refusal.{refusal}
@@ -24,14 +27,15 @@ use Rattle.elf_object.proofs.SettledSections.{section_at-settled}
 use Rattle.object_laws.specs.Laws.{ReopenLaw}
 use Rattle.object_laws.proofs.ImageLaws.{section_at-placed, placed-dirty}
 use Rattle.object_laws.proofs.ItemLaws.{alone_spread}
-use Rattle.object_laws.proofs.SettledLaws.{settle-dirty}
-use Rattle.object_laws.proofs.StandLaws.{section_count-placed, joined-placed, file_bytes_when}
+use Rattle.object_laws.proofs.SettledLaws.{settle-dirty, section_extent}
+use Rattle.object_laws.proofs.StandLaws.{where_some, section_count-placed, joined-placed, file_bytes_when}
 use Rattle.object_laws.proofs.AgainLaws.{placed_section_header}
 use Rattle.command_objects.specs.Words.{header_at}
 use Rattle.command_objects.specs.Arranged.{over_base}
 use Rattle.command_objects.specs.Rebuilt.{rebuilt_object, rebuilt_index, rebuilt_sections, rebuilt_tail, assembled}
 use Rattle.command_objects.specs.Files.{file_of}
 use Rattle.command_objects.specs.KeepingLaws.{without_places}
+use Rattle.copy_laws.proofs.SameItems.{opened_inside}
 
 -- ---- The object before its places are given
 
@@ -89,16 +93,21 @@ pub written_of : (o : Object) (out : List ℕ) → file_of o ≡ Ok out
 unfolding file_of
 written_of o out e = answered_ok (refusal o) (image o) out e
 
+pub opens : (reopens : (o : Object) → ReopenLaw o) (m : Object) (out : List ℕ) → IsObject m
+    → All IsPhdr m.phdrs → m.header_marked ≡ true → file_of m ≡ Ok out
+    → opened out ≡ Ok (as_opened (settle m))
+opens reopens m out ok ranged marked written =
+    let both = written_of m out written in
+    let dirty = marked_dirty m marked in
+    let tied : IsTied m = λ clean. absurd (let clash : true ≡ false = sym dirty ∙ clean in cc) in
+    sym (ap opened both.1) ∙ reopens m ok ranged tied both.0
+
 pub reopened : (reopens : (o : Object) → ReopenLaw o) (m after : Object) (out : List ℕ)
     → IsObject m → All IsPhdr m.phdrs → m.header_marked ≡ true → file_of m ≡ Ok out
     → opened out ≡ Ok after → after ≡ as_opened (settle m)
 reopened reopens m after out ok ranged marked written is =
-    let both = written_of m out written in
-    let dirty = marked_dirty m marked in
-    let tied : IsTied m = λ clean. absurd (let clash : true ≡ false = sym dirty ∙ clean in cc) in
-    let again = reopens m ok ranged tied both.0 in
     ok_same {A = Object} {E = ElfError} (opened out) after (as_opened (settle m)) is
-    (sym (ap opened both.1) ∙ again)
+    (opens reopens m out ok ranged marked written)
 
 -- a section of it
 pub record IsReopened (m after : Object) (s : ℕ) : Type 0 where
@@ -130,6 +139,71 @@ reopened_at m after s is marked below =
           ∙ placed_section_header (places_of m) m s (section_at m s);
       raw = ap (λ (c : Section). c.raw) at ∙ joined-placed (places_of m) m s;
     }
+
+-- ---- Its front
+
+index_settled : (bytes : List ℕ) (m : Object)
+    → (settled_over bytes (placed_by (places_of m) m)).header.shstrndx
+    ≡ where_any (length m.sections) m.header.shstrndx
+unfolding settled_over placed_by placed_header derived_header header_of
+index_settled bytes m = refl
+
+count_settled : (bytes : List ℕ) (q : Object)
+    → length (settled_over bytes q).sections ≡ length q.sections
+unfolding settled_over
+count_settled bytes q =
+    length-map (enumerate_from 0 q.sections)
+    (λ row. settled_section (length bytes) (file_bytes q row.0) row.1.header)
+    ∙ length-enumerate_from 0 q.sections
+
+pub reopened_index : (m after : Object) → after ≡ as_opened (settle m) → m.header_marked ≡ true
+    → 0 < length m.sections
+    → (after.header.shstrndx ≡ m.header.shstrndx) × (length after.sections ≡ length m.sections)
+reopened_index m after is marked some =
+    let dirty = marked_dirty m marked in
+    let over : settle m ≡ settled_over (image m) (placed_by (places_of m) m) =
+    settle-dirty m dirty
+    ∙ ap (λ (q : Object). settled_over (image m) q) (placed-dirty m dirty) in (
+      ap (λ (q : Object). q.header.shstrndx) is
+          ∙ ap (λ (q : Object). q.header.shstrndx) over
+          ∙ index_settled (image m) m
+          ∙ where_some (length m.sections) m.header.shstrndx some,
+      ap (λ (q : Object). length q.sections) is
+          ∙ ap (λ (q : Object). length q.sections) over
+          ∙ count_settled (image m) (placed_by (places_of m) m)
+          ∙ section_count-placed (places_of m) m,
+    )
+
+-- ---- Its headers
+
+-- the place of a name
+pub placed_name : (places : Places) (m : Object) (s : ℕ) (h : Shdr)
+    → (placed_shdr places m s h).name ≡ h.name
+unfolding placed_shdr numbered_shdr
+placed_name places m s h = by_tests (s == 0) (is_null h) (occupies_file h)
+  where
+    by_tests : (first empty filled : Bool) → (if first then numbered_shdr (placed_header places m) h
+        else (if empty then h else (record h {
+          offset = section_place places s;
+          size = if filled then length (file_bytes m s) else h.size;
+        }))).name ≡ h.name
+    by_tests true empty filled = refl
+    by_tests false true filled = refl
+    by_tests false false filled = refl
+
+-- a section of it lies in the file
+pub reopened_inside : (m after : Object) (out : List ℕ) (s : ℕ) → opened out ≡ Ok after
+    → IsReopened m after s → s < length after.sections → s < length m.sections → 0 < s
+    → (section_at after s).home.out ≡ false
+reopened_inside m after out s e again in_after below from =
+    let header : header_at after s ≡ header_at (placed_by (places_of m) m) s =
+    again.header
+    ∙ sym (ap (λ (c : Section). c.header) (section_at-placed (places_of m) m s below)
+    ∙ placed_section_header (places_of m) m s (section_at m s)) in
+    let extent = section_extent m s below (ne_eqb s 0 (λ none. omega (arith, from, none))) in
+    opened_inside out after s e in_after
+    (ap length (again.raw ∙ sym (joined-placed (places_of m) m s))
+    ∙ sym extent ∙ sym (ap home_len header))
 
 -- its header has the size of its bytes
 pub shdr_kept : (places : Places) (m : Object) (s : ℕ) (h : Shdr) → 0 < s

@@ -1,7 +1,7 @@
 -- Where no section is removed, the items of a section that is made anew are its bytes, encoded.
-use Rattle.std.proofs.Common.{◌≡◌, ◌≢◌, ℕ, ◌<◌, Bool, true, false, not, ◌&&◌, ◌||◌, List, [], ◌∷◌, length, get_or, Option, Some, None, Result, Ok, Err, refl, sym, ap, ◌∙◌, subst, arith}
-use Rattle.std.specs.Prelude.{IfSome, if◌then◌else◌, ◌==◌, filter}
-use Rattle.std.proofs.lemmas.Bool.{and_parts, eqb-true}
+use Rattle.std.proofs.Common.{◌≡◌, ◌≢◌, ℕ, ◌+◌, ◌<◌, Bool, true, false, not, ◌&&◌, ◌||◌, List, [], ◌∷◌, length, take, drop, get_or, Option, Some, None, Result, Ok, Err, refl, sym, ap, ◌∙◌, subst, arith}
+use Rattle.std.specs.Prelude.{IfSome, nat_lt, if◌then◌else◌, ◌==◌, filter}
+use Rattle.std.proofs.lemmas.Bool.{and_left, and_parts, eq-eqb, eqb-true}
 use Rattle.std.proofs.lemmas.List.{length-map, get_or-map}
 use Rattle.std.proofs.lemmas.List.Elements.{filter_passes}
 use Rattle.std.proofs.lemmas.Option.{get_or_from_slice_get, slice_get_within}
@@ -23,7 +23,7 @@ use Rattle.elf_xlate.proofs.Decoded.{decoded_kind}
 use Rattle.elf_ident.specs.declared.fronts.Front.{Front}
 use Rattle.elf_ident.specs.Front.{front, zero_shdr}
 use Rattle.elf_object.specs.Object.{Object, Section, Piece, section_at, piece_at, absent_section, home_piece}
-use Rattle.elf_object.specs.Open.{home_len, home_of, opened_section, begun, begun_or_refused, opened}
+use Rattle.elf_object.specs.Open.{home_len, home_of, home_bytes, opened_section, begun, begun_or_refused, opened}
 use Rattle.elf_object.specs.Answers.{content, or_empty, items_at, words_of, syms_of, same_kind, no_section, no_data, no_content, raw_refusal, data_refusal}
 use Rattle.elf_object.specs.Valid.{IsObject}
 use Rattle.elf_object.proofs.PassedLaws.{none_first, none_rest}
@@ -76,6 +76,47 @@ opened_at image o s e below =
     let small : s < length (begun found.0 image).sections =
     omega (arith, below, ap (λ (q : Object). length q.sections) found.1) in
     subst (λ (q : Object). IsOpenedAt q s) found.1 (begun_at found.0 image s small)
+
+-- whose bytes are as many as its header says lies in the file
+inside_by_length : (image : List ℕ) (h : Shdr)
+    → length (home_bytes (home_of (length image) h) image) ≡ home_len h
+    → (home_of (length image) h).out ≡ false
+unfolding home_bytes home_of
+inside_by_length image h long =
+    by_out (not (home_len h == 0) && nat_lt (length image) (h.offset + home_len h)) refl long
+  where
+    by_out : (b : Bool)
+        → (not (home_len h == 0) && nat_lt (length image) (h.offset + home_len h)) ≡ b
+        → length (if b then [] else take (home_len h) (drop h.offset image)) ≡ home_len h
+        → b ≡ false
+    by_out false e size = refl
+    by_out true e size =
+        let none : (not (home_len h == 0) && nat_lt (length image) (h.offset + home_len h))
+        ≡ false =
+        and_left (not (home_len h == 0)) (nat_lt (length image) (h.offset + home_len h))
+        (ap not (eq-eqb (home_len h) 0 (sym size))) in
+        sym e ∙ none
+
+begun_inside : (f : Front) (image : List ℕ) (s : ℕ) → s < length (begun f image).sections
+    → length (section_at (begun f image) s).raw ≡ home_len (header_at (begun f image) s)
+    → (section_at (begun f image) s).home.out ≡ false
+unfolding opened_section
+begun_inside f image s below long =
+    let at = begun_section f image s below in
+    ap (λ (c : Section). c.home.out) at
+    ∙ inside_by_length image (header_at (begun f image) s)
+    (sym (ap (λ (c : Section). length c.raw) at) ∙ long)
+
+pub opened_inside : (image : List ℕ) (o : Object) (s : ℕ) → opened image ≡ Ok o
+    → s < length o.sections → length (section_at o s).raw ≡ home_len (header_at o s)
+    → (section_at o s).home.out ≡ false
+unfolding opened
+opened_inside image o s e below =
+    let found = begun_from (front image) image o e in
+    let small : s < length (begun found.0 image).sections =
+    omega (arith, below, ap (λ (q : Object). length q.sections) found.1) in
+    subst (λ (q : Object). length (section_at q s).raw ≡ home_len (header_at q s)
+    → (section_at q s).home.out ≡ false) found.1 (begun_inside found.0 image s small)
 
 -- ---- Items that are read are written as they were
 

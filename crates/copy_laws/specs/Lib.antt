@@ -1,1 +1,1 @@
-pub mod CopyKeeps
+pub mod CopyOpens
