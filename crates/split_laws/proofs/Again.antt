@@ -1,4 +1,5 @@
--- An object that was made anew, as its image is opened again: its front, and its sections by number.
+-- An object that was made anew, as its image is opened again: its front, and its sections by
+-- number.
 use Rattle.std.proofs.Common.{◌≡◌, ℕ, ◌<◌, Bool, true, false, not, ◌||◌, List, [], ◌∷◌, length, None, Ok, refl, sym, ap, ◌∙◌, arith}
 use Rattle.std.specs.Prelude.{All, if◌then◌else◌, ◌==◌}
 use Rattle.std.specs.List.{enumerate_from}
@@ -32,10 +33,16 @@ use Rattle.command_objects.specs.Rebuilt.{made_section}
 use Rattle.command_objects.specs.Files.{file_of}
 use Rattle.command_objects.specs.KeepingLaws.{SameHeader}
 use Rattle.split_laws.specs.Halves.{without_place}
-use Rattle.strip_laws.proofs.MadeSections.{made_bytes}
+use Rattle.strip_laws.proofs.MadeSections.{header_made, made_bytes}
 use Rattle.strip_laws.proofs.PlaceLaws.{section_place_stays}
 
 -- ---- The object of an image that was written
+
+pub record IsWrittenAs (q : Object) (out : List ℕ) : Type 0 where
+  pub ok : IsObject q
+  pub phdrs : All IsPhdr q.phdrs
+  pub dirty : is_dirty q ≡ true
+  pub written : file_of q ≡ Ok out
 
 pub record IsReopened (q : Object) (out : List ℕ) (p : Object) : Type 0 where
   pub ok : IsObject q
@@ -43,6 +50,11 @@ pub record IsReopened (q : Object) (out : List ℕ) (p : Object) : Type 0 where
   pub dirty : is_dirty q ≡ true
   pub written : file_of q ≡ Ok out
   pub again : opened out ≡ Ok p
+
+pub written_reopened : (q : Object) (out : List ℕ) (p : Object) → IsWrittenAs q out
+    → opened out ≡ Ok p → IsReopened q out p
+written_reopened q out p w again =
+    record { ok = w.ok; phdrs = w.phdrs; dirty = w.dirty; written = w.written; again = again }
 
 -- with its places
 abbrev pub settled_anew : Object → Object
@@ -53,15 +65,22 @@ pub written_known : (q : Object) (out : List ℕ) → file_of q ≡ Ok out
 unfolding file_of
 written_known q out e = answered_ok (refusal q) (image q) out e
 
-pub reopened_as : ((o : Object) → ReopenLaw o) → (q : Object) (out : List ℕ) (p : Object)
-    → IsReopened q out p → p ≡ as_opened (settled_anew q)
-reopened_as reopens q out p w =
+-- what was written is an image
+pub opens_again : ((o : Object) → ReopenLaw o) → (q : Object) (out : List ℕ) → IsWrittenAs q out
+    → opened out ≡ Ok (as_opened (settle q))
+opens_again reopens q out w =
     let value = written_known q out w.written in
     let tied : IsTied q = λ clean. let both : true ≡ false = sym w.dirty ∙ clean in cc in
     let law : opened (image q) ≡ Ok (as_opened (settle q)) =
     reopens q w.ok w.phdrs tied value.0 in
-    let same : Ok p ≡ Ok (as_opened (settle q)) =
-    sym w.again ∙ ap opened (sym value.1) ∙ law in
+    ap opened (sym value.1) ∙ law
+
+pub reopened_as : ((o : Object) → ReopenLaw o) → (q : Object) (out : List ℕ) (p : Object)
+    → IsReopened q out p → p ≡ as_opened (settled_anew q)
+reopened_as reopens q out p w =
+    let law = opens_again reopens q out
+    (record { ok = w.ok; phdrs = w.phdrs; dirty = w.dirty; written = w.written }) in
+    let same : Ok p ≡ Ok (as_opened (settle q)) = sym w.again ∙ law in
     let one : p ≡ as_opened (settle q) = cc in
     one
     ∙ ap (λ (x : Object). as_opened x)
@@ -211,10 +230,6 @@ pub record IsFiled (q p : Object) (s : ℕ) (h : Shdr) (bytes : List ℕ) : Type
   pub pieces : (section_at p s).pieces ≡ home_piece ∷ []
   pub place : q.layout ≡ true → (header_at p s).offset ≡ h.offset
 
-header_of_made : (h : Shdr) (owned : Items) → (made_section h owned).header ≡ h
-unfolding made_section
-header_of_made h owned = refl
-
 pub section_filed : (q p : Object) (s : ℕ) (h : Shdr) (owned : Items) (bytes : List ℕ)
     → p ≡ as_opened (settled_anew q) → 0 < s → s < length q.sections
     → section_at q s ≡ made_section h owned
@@ -224,7 +239,7 @@ unfolding settled_section home_of
 section_filed q p s h owned bytes is from below made coded =
     let again = section_reopened q p s is below in
     let header : (section_at q s).header ≡ h =
-    ap (λ (c : Section). c.header) made ∙ header_of_made h owned in
+    ap (λ (c : Section). c.header) made ∙ header_made h owned in
     let stored = ap (λ (x : Shdr). placed_shdr (places_of q) q s x) header in
     let filled : occupies_file h ≡ true → file_bytes q s ≡ bytes =
     λ full. made_bytes q s h owned made from full ∙ coded in

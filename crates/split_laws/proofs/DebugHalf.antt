@@ -5,13 +5,14 @@ use Rattle.std.proofs.lemmas.Bool.{ne_eqb}
 use Rattle.std.proofs.lemmas.List.Elements.{All-nil}
 use Rattle.std.proofs.lemmas.List.FromFn.{length-map-range_with_len, get_or-map-range_with_len}
 use Rattle.elf_types.specs.Answers.{first_refusal}
+use Rattle.elf_types.specs.Lists.{AreBytes}
 use Rattle.elf_types.specs.declared.records.Phdr.{Phdr}
 use Rattle.elf_types.specs.declared.constants.TheConstants.{SHT_NOBITS}
 use Rattle.elf_xlate.specs.declared.content.Items.TheVariants as items
 use Rattle.elf_xlate.specs.Headers.{IsPhdr}
 use Rattle.elf_ident.proofs.Refusals.{answered_ok}
 use Rattle.elf_object.specs.Object.{Object, absent_section, new_section, section_at, occupies_file}
-use Rattle.elf_object.specs.Open.{created_over}
+use Rattle.elf_object.specs.Open.{created_over, opened}
 use Rattle.elf_object.specs.Steps.{stored_ehdr, with_ehdr, with_phdrs}
 use Rattle.elf_object.specs.Answers.{raw_refusal}
 use Rattle.elf_object.specs.Layout.{section_numbers}
@@ -23,11 +24,12 @@ use Rattle.object_laws.proofs.OpenLaws.{opened_is, opened_phdrs}
 use Rattle.command_objects.specs.Words.{header_at}
 use Rattle.command_objects.specs.Rebuilt.{made_section, assembled, index_refusal}
 use Rattle.command_objects.specs.Split.{is_loaded_from_file, debug_section, debug_sections, debug_half, debug_raw_refusal, debug_refusal, debug_of}
+use Rattle.command_objects.specs.Files.{file_of}
 use Rattle.command_objects.specs.KeepingLaws.{SameHeader}
 use Rattle.strip_laws.proofs.HalfLaws.{debug_is_object, halves_are_writable}
 use Rattle.strip_laws.proofs.MadeSections.{bytes_encoded}
 use Rattle.split_laws.specs.Halves.{without_place, IsDebugHalf, DebugHalfKeeps}
-use Rattle.split_laws.proofs.Again.{IsReopened, IsFiled, settled_anew, reopened_as, front_reopened, header_reopened, with_size_same, section_filed}
+use Rattle.split_laws.proofs.Again.{IsWrittenAs, IsReopened, IsFiled, settled_anew, written_reopened, reopened_as, front_reopened, header_reopened, with_size_same, section_filed}
 use Rattle.split_laws.proofs.Whole.{HasRaw, inside_from, raw_opened, opened_fits, same_headers, numbers_pass}
 
 -- ---- What is not refused, and what is made then
@@ -55,7 +57,7 @@ debug_made o p e =
     }
 
 -- a section that keeps its bytes has a home in the file
-raw_passed : (o : Object) (s : ℕ)
+pub raw_passed : (o : Object) (s : ℕ)
     → first_refusal (map (debug_raw_refusal o) (section_numbers o)) ≡ None
     → 1 ≤ s → s < length o.sections → is_loaded_from_file (header_at o s) ≡ false
     → raw_refusal o s ≡ None
@@ -84,7 +86,7 @@ half_phdrs : (o : Object) → (debug_half o).phdrs ≡ o.phdrs
 unfolding debug_half assembled with_ehdr with_phdrs
 half_phdrs o = refl
 
-half_count : (o : Object) → length (debug_half o).sections ≡ length o.sections
+pub half_count : (o : Object) → length (debug_half o).sections ≡ length o.sections
 unfolding debug_half assembled with_ehdr with_phdrs
 half_count o = length-map-range_with_len (debug_section o) 0 (length o.sections)
 
@@ -113,25 +115,32 @@ half_made o s loaded from is =
 
 -- ---- Written and opened again
 
+pub debug_half_written : (whole : Object) (image : List ℕ) (half : Object) (out : List ℕ)
+    → AreBytes image → opened image ≡ Ok whole → debug_of whole ≡ Ok half → file_of half ≡ Ok out
+    → IsWrittenAs half out
+debug_half_written whole image half out bytes is_whole is_half is_out =
+    let ok = opened_is image whole bytes is_whole in
+    let made = debug_made whole half is_half in
+    let fits = opened_fits image whole bytes is_whole in
+    let same : whole.phdrs ≡ half.phdrs =
+    sym (half_phdrs whole) ∙ ap (λ (x : Object). x.phdrs) made.is in
+    record {
+      ok = debug_is_object whole half ok is_half;
+      phdrs = subst (λ (l : List Phdr). All IsPhdr l) same
+          (opened_phdrs image whole bytes is_whole);
+      dirty = (halves_are_writable.debug whole half ok fits.segments is_half).dirty;
+      written = is_out;
+    }
+
 pub half_reopened : (whole debug : Object) (is : IsDebugHalf whole debug)
     → IsReopened is.half is.out debug
 half_reopened whole debug is =
-    let ok = opened_is is.image whole is.bytes is.is_whole in
-    let made = debug_made whole is.half is.is_half in
-    let fits = opened_fits is.image whole is.bytes is.is_whole in
-    let same : whole.phdrs ≡ is.half.phdrs =
-    sym (half_phdrs whole) ∙ ap (λ (x : Object). x.phdrs) made.is in
-    record {
-      ok = debug_is_object whole is.half ok is.is_half;
-      phdrs = subst (λ (l : List Phdr). All IsPhdr l) same
-          (opened_phdrs is.image whole is.bytes is.is_whole);
-      dirty = (halves_are_writable.debug whole is.half ok fits.segments is.is_half).dirty;
-      written = is.is_out;
-      again = is.is_debug;
-    }
+    written_reopened is.half is.out debug
+    (debug_half_written whole is.image is.half is.out is.bytes is.is_whole is.is_half is.is_out)
+    is.is_debug
 
 -- what is loaded of the file
-loaded_filed : (q whole debug : Object) (s : ℕ) → q ≡ debug_half whole
+pub loaded_filed : (q whole debug : Object) (s : ℕ) → q ≡ debug_half whole
     → debug ≡ as_opened (settled_anew q) → 1 ≤ s → s < length whole.sections
     → is_loaded_from_file (header_at whole s) ≡ true
     → IsFiled q debug s (record (header_at whole s) { stype = SHT_NOBITS }) []
@@ -144,7 +153,7 @@ loaded_filed q whole debug s is again from below loaded =
     (bytes_encoded q.header.class q.header.order [] (All-nil (λ n. n < 2 ^ 8)))
 
 -- and what is not
-other_filed : (q whole debug : Object) (s : ℕ) → q ≡ debug_half whole
+pub other_filed : (q whole debug : Object) (s : ℕ) → q ≡ debug_half whole
     → debug ≡ as_opened (settled_anew q) → 1 ≤ s → s < length whole.sections
     → is_loaded_from_file (header_at whole s) ≡ false → HasRaw whole s
     → IsFiled q debug s (header_at whole s) (section_at whole s).raw

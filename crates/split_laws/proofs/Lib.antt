@@ -3,3 +3,16 @@ pub mod Whole
 pub mod DebugHalf
 pub mod Placed
 pub mod StrippedHalf
+pub mod Matching
+pub mod Inside
+pub mod Counterparts
+pub mod CombinedSections
+pub mod Combined
+pub mod CombineFaults
+pub mod CombineLaws
+pub mod Overlaps
+pub mod Extents
+pub mod TailBounds
+pub mod LaidParts
+pub mod ProgramParts
+pub mod SplitLaws

@@ -1,11 +1,12 @@
 -- What is made of an image without some sections, written and opened again, has of the image
 -- (`StrippedHalfKeeps`).
-use Rattle.std.proofs.Common.{◌≡◌, ℕ, zero, suc, ◌-◌, ◌<◌, ◌≤◌, Bool, true, false, not, List, [], ◌∷◌, length, get_or, Option, Some, None, Ok, refl, sym, ap, ◌∙◌, subst, arith}
+use Rattle.std.proofs.Common.{◌≡◌, ℕ, zero, suc, ◌-◌, ◌<◌, ◌≤◌, Bool, true, false, not, List, [], ◌∷◌, length, get_or, Option, None, Ok, refl, sym, ap, ◌∙◌, subst, arith}
 use Rattle.std.specs.Prelude.{All, if◌then◌else◌, ◌==◌, map}
 use Rattle.std.proofs.lemmas.Bool.{ne_eqb}
 use Rattle.std.proofs.lemmas.List.{length-map, get_or-map}
 use Rattle.std.proofs.lemmas.List.Elements.{All-get_or}
 use Rattle.elf_types.specs.Answers.{first_refusal}
+use Rattle.elf_types.specs.Lists.{AreBytes}
 use Rattle.elf_types.specs.declared.records.Ehdr.{Ehdr}
 use Rattle.elf_types.specs.declared.records.Phdr.{Phdr}
 use Rattle.elf_types.specs.declared.records.Shdr.{Shdr}
@@ -14,11 +15,11 @@ use Rattle.elf_xlate.specs.declared.content.Items.{Items}
 use Rattle.elf_xlate.specs.Headers.{IsPhdr}
 use Rattle.elf_xlate.specs.Translation.{encoded}
 use Rattle.elf_object.specs.Object.{Object, Section, absent_section, new_section, section_at, occupies_file}
-use Rattle.elf_object.specs.Open.{created_over}
+use Rattle.elf_object.specs.Open.{opened}
 use Rattle.elf_object.specs.Derived.{derived_header}
 use Rattle.elf_object.specs.Layout.{places_of, segments_place, placed_header}
 use Rattle.elf_object.specs.Object.{header_of}
-use Rattle.elf_object.specs.Steps.{stored_ehdr, with_ehdr, with_phdrs}
+use Rattle.elf_object.specs.Steps.{with_ehdr, with_phdrs}
 use Rattle.elf_object.specs.Answers.{raw_refusal, data_refusal}
 use Rattle.elf_object.specs.Valid.{as_opened}
 use Rattle.elf_object.proofs.PassedLaws.{none_first, none_rest}
@@ -26,8 +27,9 @@ use Rattle.object_laws.specs.Laws.{ReopenLaw}
 use Rattle.object_laws.proofs.OpenLaws.{opened_is, opened_phdrs}
 use Rattle.command_objects.specs.Words.{is_allocated, is_program, header_at, is_among}
 use Rattle.command_objects.specs.Followed.{kept_sections, kept_from_1, followed_header}
-use Rattle.command_objects.specs.Arranged.{Rebuilt, base_end, tail_of, over_base, placed_from}
-use Rattle.command_objects.specs.Rebuilt.{items_follow, kept_refusal, made_section, rebuilt_items, rebuilt_header, rebuilt_section, rebuilt_sections, rebuilt_tail, rebuilt_object, rebuilt, assembled}
+use Rattle.command_objects.specs.Arranged.{Rebuilt, placed_from}
+use Rattle.command_objects.specs.Rebuilt.{rebuilt_index, items_follow, kept_refusal, made_section, rebuilt_items, rebuilt_header, rebuilt_section, rebuilt_sections, rebuilt_tail, rebuilt_object, rebuilt, assembled}
+use Rattle.command_objects.specs.Files.{file_of}
 use Rattle.command_objects.specs.KeepingLaws.{SameHeader}
 use Rattle.strip_laws.proofs.ArrangedLaws.{arranged_keeps}
 use Rattle.strip_laws.proofs.KeptLaws.{IsInRange, kept_few, kept_first, kept_in_range}
@@ -36,10 +38,10 @@ use Rattle.strip_laws.proofs.PlaceLaws.{segments_place_stays}
 use Rattle.strip_laws.proofs.RebuiltLaws.{rebuilt_known, rebuilt_is_object}
 use Rattle.strip_laws.proofs.WritableLaws.{rebuilt_is_writable}
 use Rattle.split_laws.specs.Halves.{without_place, without_index, without_links, origin_number, IsStrippedHalf, StrippedHalfKeeps}
-use Rattle.split_laws.proofs.Again.{IsReopened, HasFront, IsFiled, settled_anew, with_size, with_size_same, reopened_as, front_reopened, header_reopened, section_filed}
+use Rattle.split_laws.proofs.Again.{IsWrittenAs, IsReopened, HasFront, IsFiled, settled_anew, with_size, with_size_same, written_reopened, reopened_as, front_reopened, header_reopened, section_filed}
 use Rattle.split_laws.proofs.DebugHalf.{raw_or_none}
-use Rattle.split_laws.proofs.Placed.{IsMadeAs, placed_front, made_as, placed_as}
-use Rattle.split_laws.proofs.Whole.{HasRaw, inside_from, raw_opened, opened_fits, same_headers}
+use Rattle.split_laws.proofs.Placed.{HasFrontOf, IsMadeAs, assembled_front, assembled_laid, placed_front, made_as, placed_as}
+use Rattle.split_laws.proofs.Whole.{HasRaw, inside_from, raw_opened, opened_fits, same_headers, reindexed}
 
 -- ---- Which section is made of which
 
@@ -116,46 +118,26 @@ pub record IsMadeWithout (o : Object) (removed : List ℕ) (q : Object) : Type 0
   pub layout : is_program o ≡ true → q.layout ≡ true
   pub sections : (t : ℕ) → 1 ≤ t → t < length (kept_sections o removed)
       → 1 ≤ origin_number o removed t
-      → IsMadeAs (section_at q t) (rebuilt_header o removed (origin_number o removed t))
+      → IsMadeAs (Unit {0}) (section_at q t) (rebuilt_header o removed (origin_number o removed t))
       (rebuilt_items o removed (origin_number o removed t))
 
-tail_laid : (o : Object) (removed : List ℕ) → is_program o ≡ true
+rebuilt_front : (o : Object) (removed : List ℕ)
+    → HasFrontOf o (rebuilt_index o removed) (rebuilt_sections o removed)
+    (rebuilt_object o removed)
+unfolding rebuilt_object
+rebuilt_front o removed =
+    assembled_front o (rebuilt_tail o removed) (rebuilt_index o removed)
+    (rebuilt_sections o removed)
+
+rebuilt_laid : (o : Object) (removed : List ℕ) → is_program o ≡ true
     → (rebuilt_object o removed).layout ≡ true
-unfolding rebuilt_object rebuilt_tail tail_of over_base assembled with_ehdr with_phdrs
-tail_laid o removed program =
-    ap (λ (b : Bool). (over_base o (if b
-    then Some (base_end o (map (section_at o) (kept_sections o removed)))
-    else None)).layout) program
+unfolding rebuilt_object rebuilt_tail
+rebuilt_laid o removed program =
+    assembled_laid o (map (section_at o) (kept_sections o removed)) (rebuilt_index o removed)
+    (rebuilt_sections o removed) program
 
-rebuilt_front : (o : Object) (removed : List ℕ) (tail : Option ℕ)
-    → rebuilt_tail o removed ≡ tail
-    → (SameHeader (without_index o.header) (without_index (rebuilt_object o removed).header))
-    × ((rebuilt_object o removed).header.phoff ≡ o.header.phoff)
-    × ((rebuilt_object o removed).phdrs ≡ o.phdrs)
-unfolding rebuilt_object over_base created_over assembled with_ehdr with_phdrs stored_ehdr
-rebuilt_front o removed tail is = (
-  record {
-    class = ap (λ (t : Option ℕ). o.header.class) is ∙ class_over (rebuilt_tail o removed);
-    order = order_over (rebuilt_tail o removed);
-    osabi = refl;
-    abiversion = refl;
-    etype = refl;
-    machine = refl;
-    entry = refl;
-    flags = refl;
-    shstrndx = refl;
-  },
-  refl,
-  refl,
-)
-  where
-    class_over : (tail : Option ℕ) → o.header.class ≡ (over_base o tail).header.class
-    class_over None = refl
-    class_over (Some n) = refl
-
-    order_over : (tail : Option ℕ) → o.header.order ≡ (over_base o tail).header.order
-    order_over None = refl
-    order_over (Some n) = refl
+unindexed : (a b : Ehdr) → SameHeader a b → SameHeader (without_index a) (without_index b)
+unindexed a b same = reindexed a b 0 0 same refl
 
 rebuilt_count : (o : Object) (removed : List ℕ)
     → length (rebuilt_object o removed).sections ≡ length (kept_sections o removed)
@@ -164,34 +146,23 @@ rebuilt_count o removed = length-map (kept_sections o removed) (rebuilt_section 
 
 rebuilt_made : (o : Object) (removed : List ℕ) → IsMadeWithout o removed (rebuilt_object o removed)
 rebuilt_made o removed =
-    let front = rebuilt_front o removed (rebuilt_tail o removed) refl in
+    let front = rebuilt_front o removed in
     record {
-      header = front.0;
-      phoff = front.1;
-      phdrs = front.2;
+      header = unindexed (record o.header { shstrndx = rebuilt_index o removed })
+          (rebuilt_object o removed).header front.header;
+      phoff = front.phoff;
+      phdrs = front.phdrs;
       count = rebuilt_count o removed;
-      layout = tail_laid o removed;
+      layout = rebuilt_laid o removed;
       sections = λ t from below number.
-          subst (λ (c : Section). IsMadeAs c (rebuilt_header o removed (origin_number o removed t))
+          subst (λ (c : Section). IsMadeAs (Unit {0}) c
+          (rebuilt_header o removed (origin_number o removed t))
           (rebuilt_items o removed (origin_number o removed t)))
           (sym (rebuilt_at o removed t below
           ∙ section_rebuilt o removed (origin_number o removed t) number))
-          (made_as (rebuilt_header o removed (origin_number o removed t))
+          (made_as (Unit {0}) (rebuilt_header o removed (origin_number o removed t))
           (rebuilt_items o removed (origin_number o removed t)));
     }
-
-unindexed : (a b : Ehdr) → SameHeader a b → SameHeader (without_index a) (without_index b)
-unindexed a b same = record {
-  class = same.class;
-  order = same.order;
-  osabi = same.osabi;
-  abiversion = same.abiversion;
-  etype = same.etype;
-  machine = same.machine;
-  entry = same.entry;
-  flags = same.flags;
-  shstrndx = refl;
-}
 
 placed_made : (o : Object) (removed : List ℕ) (q : Object) (tail : ℕ) → IsMadeWithout o removed q
     → IsMadeWithout o removed (placed_from q tail)
@@ -206,7 +177,7 @@ placed_made o removed q tail made =
       count = front.count ∙ made.count;
       layout = λ program. front.layout ∙ made.layout program;
       sections = λ t from below number.
-          placed_as q tail t (rebuilt_header o removed (origin_number o removed t))
+          placed_as (Unit {0}) q tail t (rebuilt_header o removed (origin_number o removed t))
           (rebuilt_items o removed (origin_number o removed t)) (omega (arith, below, made.count))
           (made.sections t from below number);
     }
@@ -223,20 +194,28 @@ made_without o removed r e =
 
 -- ---- Written and opened again
 
+pub stripped_written : (removed : List ℕ) (whole : Object) (image : List ℕ) (r : Rebuilt)
+    (out : List ℕ) → AreBytes image → opened image ≡ Ok whole → is_among removed 0 ≡ false
+    → rebuilt whole removed ≡ Ok r → file_of r.object ≡ Ok out → IsWrittenAs r.object out
+stripped_written removed whole image r out bytes is_whole stays is_made is_out =
+    let ok = opened_is image whole bytes is_whole in
+    let fits = opened_fits image whole bytes is_whole in
+    let made = made_without whole removed r is_made in
+    record {
+      ok = rebuilt_is_object whole removed r ok is_made;
+      phdrs = subst (λ (l : List Phdr). All IsPhdr l) (sym made.phdrs)
+          (opened_phdrs image whole bytes is_whole);
+      dirty = (rebuilt_is_writable whole removed r ok fits stays is_made).dirty;
+      written = is_out;
+    }
+
 pub stripped_reopened : (removed : List ℕ) (whole stripped : Object)
     (is : IsStrippedHalf removed whole stripped) → IsReopened is.made.object is.out stripped
 stripped_reopened removed whole stripped is =
-    let ok = opened_is is.image whole is.bytes is.is_whole in
-    let fits = opened_fits is.image whole is.bytes is.is_whole in
-    let made = made_without whole removed is.made is.is_made in
-    record {
-      ok = rebuilt_is_object whole removed is.made ok is.is_made;
-      phdrs = subst (λ (l : List Phdr). All IsPhdr l) (sym made.phdrs)
-          (opened_phdrs is.image whole is.bytes is.is_whole);
-      dirty = (rebuilt_is_writable whole removed is.made ok fits is.first_stays is.is_made).dirty;
-      written = is.is_out;
-      again = is.is_stripped;
-    }
+    written_reopened is.made.object is.out stripped
+    (stripped_written removed whole is.image is.made is.out is.bytes is.is_whole is.first_stays
+    is.is_made is.is_out)
+    is.is_stripped
 
 -- ---- Headers
 
@@ -274,18 +253,20 @@ module _ (whole stripped q : Object) (removed : List ℕ) (made : IsMadeWithout 
   abbrev number : ℕ
   number = origin_number whole removed t
 
-  abbrev origin : IsMadeAs (section_at q t) (rebuilt_header whole removed number)
+  abbrev origin : IsMadeAs (Unit {0}) (section_at q t) (rebuilt_header whole removed number)
       (rebuilt_items whole removed number)
   origin = made.sections t from below kept.from
 
-  filed : (bytes : List ℕ)
+  pub filed : (bytes : List ℕ)
       → encoded q.header.class q.header.order (rebuilt_items whole removed number) ≡ bytes
-      → IsFiled q stripped t (record (rebuilt_header whole removed number) { offset = origin.place })
+      → IsFiled q stripped t
+      (record (rebuilt_header whole removed number) { offset = origin.place })
       bytes
   filed bytes coded =
-      section_filed q stripped t (record (rebuilt_header whole removed number) { offset = origin.place })
-      (rebuilt_items whole removed number) bytes again from (omega (arith, below, made.count)) origin.is
-      coded
+      section_filed q stripped t
+      (record (rebuilt_header whole removed number) { offset = origin.place })
+      (rebuilt_items whole removed number) bytes again from (omega (arith, below, made.count))
+      origin.is coded
 
   flags_again : (header_at stripped t).flags ≡ (header_at whole number).flags
   flags_again =
@@ -294,7 +275,8 @@ module _ (whole stripped q : Object) (removed : List ℕ) (made : IsMadeWithout 
       ∙ header_flags whole removed number origin.place bytes
 
   allocated_filed : is_allocated (header_at whole number) ≡ true → HasRaw whole number
-      → IsFiled q stripped t (record (rebuilt_header whole removed number) { offset = origin.place })
+      → IsFiled q stripped t
+      (record (rebuilt_header whole removed number) { offset = origin.place })
       (section_at whole number).raw
   allocated_filed allocated raw =
       filed (section_at whole number).raw
@@ -321,11 +303,11 @@ module _ (whole stripped q : Object) (removed : List ℕ) (made : IsMadeWithout 
       → (header_at stripped t).offset ≡ (header_at whole number).offset
   place_kept program allocated raw =
       (allocated_filed allocated raw).place (made.layout program)
-      ∙ origin.stays (allocated_kept whole removed number ∙ allocated)
+      ∙ origin.stays tt (allocated_kept whole removed number ∙ allocated)
       ∙ offset_same whole removed number
 
 -- the place of the program headers
-phoff_again : (q p : Object) → HasFront q p → (length q.phdrs == 0) ≡ false → q.layout ≡ true
+pub phoff_again : (q p : Object) → HasFront q p → (length q.phdrs == 0) ≡ false → q.layout ≡ true
     → p.header.phoff ≡ q.header.phoff
 unfolding placed_header derived_header header_of
 phoff_again q p front some layout =

@@ -82,7 +82,7 @@ pub record HasRaw (o : Object) (s : ℕ) : Type 0 where
       → length (section_at o s).raw ≡ (header_at o s).size
   pub empty : occupies_file (header_at o s) ≡ false → (section_at o s).raw ≡ []
 
-home_opened : (image : List ℕ) (h : Shdr)
+pub home_opened : (image : List ℕ) (h : Shdr)
     → (opened_section image h).home.len ≡ (if occupies_file h then h.size else 0)
 unfolding opened_section home_of home_len
 home_opened image h = refl
@@ -125,6 +125,21 @@ same_headers a b c first later = record {
   entry = first.entry ∙ later.entry;
   flags = first.flags ∙ later.flags;
   shstrndx = first.shstrndx ∙ later.shstrndx;
+}
+
+-- with other string indexes that are the same
+pub reindexed : (a b : Ehdr) (i j : ℕ) → SameHeader a b → i ≡ j
+    → SameHeader (record a { shstrndx = i }) (record b { shstrndx = j })
+reindexed a b i j same index = record {
+  class = same.class;
+  order = same.order;
+  osabi = same.osabi;
+  abiversion = same.abiversion;
+  etype = same.etype;
+  machine = same.machine;
+  entry = same.entry;
+  flags = same.flags;
+  shstrndx = index;
 }
 
 -- a test of each section that none fails

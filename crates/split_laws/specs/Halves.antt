@@ -1,9 +1,10 @@
 -- What the two halves of an image, written and opened again, have of it: the debug half, and the
 -- image without some of its sections.
-use Rattle.std.specs.Prelude.{◌≡◌, ℕ, ◌<◌, ◌≤◌, true, false, List, length, slice_index, if◌then◌else◌, Ok}
+use Rattle.std.specs.Prelude.{◌≡◌, ℕ, ◌<◌, ◌≤◌, true, false, List, length, slice_index, if◌then◌else◌, Ok, Err}
 use Rattle.elf_types.specs.Lists.{AreBytes}
 use Rattle.elf_types.specs.declared.records.Ehdr.{Ehdr}
 use Rattle.elf_types.specs.declared.records.Shdr.{Shdr}
+use Rattle.elf_types.specs.declared.errors.ElfError.TheVariants.{TooLarge}
 use Rattle.elf_types.specs.declared.constants.TheConstants.{SHT_NOBITS}
 use Rattle.elf_object.specs.Object.{Object, section_at}
 use Rattle.elf_object.specs.Open.{opened}
@@ -11,9 +12,10 @@ use Rattle.command_objects.specs.Words.{is_allocated, is_program, header_at, is_
 use Rattle.command_objects.specs.Followed.{kept_sections}
 use Rattle.command_objects.specs.Arranged.{Rebuilt}
 use Rattle.command_objects.specs.Rebuilt.{rebuilt}
-use Rattle.command_objects.specs.Split.{is_loaded_from_file, debug_of}
+use Rattle.command_objects.specs.Split.{UnstripFault, is_loaded_from_file, debug_of, matches, unstripped}
+use Rattle.command_objects.specs.Split.UnstripFault.{Elf}
 use Rattle.command_objects.specs.Files.{file_of}
-use Rattle.command_objects.specs.KeepingLaws.{SameHeader}
+use Rattle.command_objects.specs.KeepingLaws.{SameHeader, IsSplit, SameButPlaces}
 
 -- ---- The debug half
 
@@ -102,3 +104,28 @@ abbrev pub StrippedHalfKeeps : Type 0
 StrippedHalfKeeps =
     (removed : List ℕ) (whole stripped : Object) → IsStrippedHalf removed whole stripped
     → KeepsAllocated removed whole stripped
+
+-- ---- Both
+
+-- the two halves of an image match
+abbrev pub HalvesMatch : Type 0
+HalvesMatch =
+    (removed : List ℕ) (whole stripped debug : Object) → IsSplit removed whole stripped debug
+    → is_among removed 0 ≡ false → matches stripped debug ≡ true
+
+-- what the two halves are combined to, which is refused at most for a place that is too large:
+-- what is written of it is an image, which answers as the first one but for places
+pub record CombinesBack (whole stripped debug : Object) : Type 0 where
+  pub refused :
+      (fault : UnstripFault) → unstripped stripped debug ≡ Err fault → fault ≡ Elf TooLarge
+  pub opens :
+      (r : Rebuilt) (out : List ℕ) → unstripped stripped debug ≡ Ok r → file_of r.object ≡ Ok out
+      → (o : Object) × (opened out ≡ Ok o)
+  pub same :
+      (r : Rebuilt) (out : List ℕ) (o : Object) → unstripped stripped debug ≡ Ok r
+      → file_of r.object ≡ Ok out → opened out ≡ Ok o → SameButPlaces whole o
+
+abbrev pub HalvesCombine : Type 0
+HalvesCombine =
+    (removed : List ℕ) (whole stripped debug : Object) → IsSplit removed whole stripped debug
+    → is_among removed 0 ≡ false → CombinesBack whole stripped debug

@@ -1,7 +1,8 @@
 //! Laws over the definitions. Each is the contract of a function that does nothing: what it ensures
 //! holds of every image, and is proved.
 
-ghost use Rattle.split_laws.specs.Halves.{DebugHalfKeeps, StrippedHalfKeeps};
+ghost use Rattle.command_objects.specs.KeepingLaws.{SplitLaw};
+ghost use Rattle.split_laws.specs.Halves.{DebugHalfKeeps, HalvesCombine, HalvesMatch, StrippedHalfKeeps};
 
 use object_laws::laws::reopen_law;
 
@@ -22,4 +23,36 @@ pub fn stripped_half_keeps()
     ensures { StrippedHalfKeeps }
 {
     reopen_law();
+}
+
+/// The two halves of an image match, as unstrip asks of two files, where section 0 stays and nothing
+/// that is allocated is removed.
+pub fn halves_match()
+    ensures { HalvesMatch }
+{
+    debug_half_keeps();
+    stripped_half_keeps();
+}
+
+/// Combining the two halves is refused at most as `TooLarge`, and what is written of it, opened
+/// again, answers each getter as the image does, but for places and derived values. In a program
+/// the program headers and what is allocated keep their places.
+pub fn halves_combine()
+    ensures { HalvesCombine }
+{
+    reopen_law();
+    debug_half_keeps();
+    stripped_half_keeps();
+}
+
+/// What strip splits an image into combines again: combining is refused at most as `TooLarge`, and
+/// so is the update that writes it, whose file, opened again, answers each getter as the image does,
+/// but for places and derived values.
+pub fn split_law()
+    ensures { SplitLaw }
+{
+    reopen_law();
+    debug_half_keeps();
+    stripped_half_keeps();
+    halves_combine();
 }

@@ -1,5 +1,6 @@
-//! Laws of the two halves that strip splits an image into, as they are opened again. Their
-//! statements stand in `specs/`, and the lemmas that prove them in `proofs/`.
+//! Laws of the two halves that strip splits an image into, as they are opened again, and of what
+//! they are combined to. Their statements stand in `specs/`, and the lemmas that prove them in
+//! `proofs/`.
 #![tactic(auto)]
 
 pub mod laws;
