@@ -1,6 +1,7 @@
 -- The file that strip writes is the image of what it makes of FILE's object.
 use Rattle.std.proofs.Common.{◌≡◌, ℕ, Bool, List, [], ◌∷◌, Option, Some, None, Result, Ok, Err, refl, sym, ap, ◌∙◌}
 use Rattle.std.specs.Prelude.{codes, if◌then◌else◌}
+use Rattle.std.specs.Option.{option_map}
 use Rattle.std.proofs.lemmas.Slice.Eq.{bytes_eq-Decides}
 use Rattle.elf_types.specs.Answers.{answered, or_refused, ◌>>=◌}
 use Rattle.elf_types.specs.declared.errors.ElfError.{ElfError}
@@ -16,7 +17,7 @@ use Rattle.elf_object.specs.Open.{begun, begun_or_refused, opened}
 use Rattle.command_objects.specs.Removed.{removed_sections}
 use Rattle.command_objects.specs.Arranged.{Rebuilt}
 use Rattle.command_objects.specs.Rebuilt.{rebuilt, stripped}
-use Rattle.command_objects.specs.Split.{debug_of}
+use Rattle.command_objects.specs.Split.{debug_of, removed_allocated}
 use Rattle.command_objects.specs.Files.{file_of, file_made}
 use Rattle.command_objects.specs.Laws.{LoadableBytesStay}
 use Rattle.tool_output.specs.Outcomes.{FileWrite, write_of}
@@ -24,10 +25,10 @@ use Rattle.tool_output.specs.Made.{Done, Complaint, complaint, made, made_file, 
 use Rattle.tool_text.specs.declared.commands.StripOptions.{StripOptions}
 use Rattle.object_output.specs.Images.{object_by, file_object}
 use Rattle.command_outcomes.specs.Files.{bytes_named, object_named}
-use Rattle.command_outcomes.specs.Strip.{allocated_complaint, strip_alone, strip_split, strip_done, strip_outcome}
+use Rattle.command_outcomes.specs.Strip.{allocated_text, allocated_complaint, strip_alone, strip_split, strip_done, strip_outcome}
 use Rattle.strip_file_laws.specs.LoadedFiles.{StripWrites, LoadedFilesStay}
 
-of_file_ok : {A : Type 0} (file : List ℕ) (r : Result A ElfError) (x : A)
+pub of_file_ok : {A : Type 0} (file : List ℕ) (r : Result A ElfError) (x : A)
     → of_file file r ≡ Ok x → r ≡ Ok x
 of_file_ok file (Ok y) x e = cc
 of_file_ok file (Err d) x e = cc
@@ -49,18 +50,22 @@ begun_as f image o is e =
     sym e ∙ ap (λ (x : Result Front ElfError). begun_or_refused x image) is in
     cc
 
-object_is : (named : Map) (file image : List ℕ) (f : Front) (o : Object)
-    → named file ≡ Some image → front image ≡ Ok f → object_named named file ≡ Ok o
-    → o ≡ begun f image
+pub named_opens : (named : Map) (file image : List ℕ) (o : Object) → named file ≡ Some image
+    → object_named named file ≡ Ok o → opened image ≡ Ok o
 unfolding object_named bytes_named file_object
-object_is named file image f o held is e =
+named_opens named file image o held e =
     let read = bind_ok (or_refused (named file) (complaint file (codes "not found")))
     (λ bytes. of_file file (object_by (file_kind bytes) bytes)) o e in
     let there = or_refused_ok (named file) (complaint file (codes "not found")) read.0 read.1 in
     let same : read.0 ≡ image = let both : Some read.0 ≡ Some image = sym there ∙ held in cc in
     let one = of_file_ok file (object_by (file_kind read.0) read.0) o read.2 in
-    begun_as f image o is
-    (ap opened (sym same) ∙ opened_by (file_kind read.0) read.0 o one)
+    ap opened (sym same) ∙ opened_by (file_kind read.0) read.0 o one
+
+object_is : (named : Map) (file image : List ℕ) (f : Front) (o : Object)
+    → named file ≡ Some image → front image ≡ Ok f → object_named named file ≡ Ok o
+    → o ≡ begun f image
+object_is named file image f o held is e =
+    begun_as f image o is (named_opens named file image o held e)
 
 -- ---- The file OUT
 
@@ -92,11 +97,27 @@ alone_written o removed out file done w e written =
     of_file_ok file (image_made o removed) bytes.0 bytes.1
     ∙ ap (λ (l : List ℕ). Ok l) (sym same)
 
-split_written : (o : Object) (removed out debug file : List ℕ) (done : Done) (w : FileWrite)
-    → strip_split o removed out debug file ≡ Ok done → write_of done.writes out ≡ Some w
-    → image_made o removed ≡ Ok w.bytes
+none_mapped : {A B : Type 0} (f : A → B) (x : Option A) → option_map f x ≡ None → x ≡ None
+none_mapped f None e = refl
+none_mapped f (Some y) e = cc
+
+-- what strip -f makes of an object, and the bytes of its two files
+pub record IsSplitDone (o : Object) (removed out debug : List ℕ) (done : Done) : Type 0 where
+  pub stays : removed_allocated o removed ≡ None
+  pub made : Rebuilt
+  pub is_made : rebuilt o removed ≡ Ok made
+  pub half : Object
+  pub is_half : debug_of o ≡ Ok half
+  pub bytes : List ℕ
+  pub is_bytes : file_of made.object ≡ Ok bytes
+  pub debug_bytes : List ℕ
+  pub is_debug_bytes : file_of half ≡ Ok debug_bytes
+  pub writes : done.writes ≡ made_file out bytes ∷ made_file debug debug_bytes ∷ []
+
+pub split_known : (o : Object) (removed out debug file : List ℕ) (done : Done)
+    → strip_split o removed out debug file ≡ Ok done → IsSplitDone o removed out debug done
 unfolding strip_split
-split_written o removed out debug file done w e written =
+split_known o removed out debug file done e =
     let whole = bind_ok (answered (allocated_complaint o removed file) o) _ done e in
     let object = answered_ok (allocated_complaint o removed file) o whole.0 whole.1 in
     let half = bind_ok (of_file file (rebuilt whole.0 removed)) _ done whole.2 in
@@ -108,13 +129,31 @@ split_written o removed out debug file done w e written =
       writes = made_file out bytes.0 ∷ made_file debug debug_bytes.0 ∷ [];
     } in
     let all : files ≡ done = let both = debug_bytes.2 in cc in
-    let same = first_written out bytes.0 (made_file debug debug_bytes.0 ∷ []) w
-    (ap (λ (d : Done). write_of d.writes out) all ∙ written) in
-    let one : rebuilt o removed ≡ Ok half.0 =
-    ap (λ (x : Object). rebuilt x removed) object.1
-    ∙ of_file_ok file (rebuilt whole.0 removed) half.0 half.1 in
-    ap (λ (x : Result Rebuilt ElfError). x >>= λ r. file_of r.object) one
-    ∙ of_file_ok file (file_of half.0.object) bytes.0 bytes.1
+    record {
+      stays = none_mapped (λ s. complaint file (allocated_text s)) (removed_allocated o removed)
+          object.0;
+      made = half.0;
+      is_made = ap (λ (x : Object). rebuilt x removed) object.1
+          ∙ of_file_ok file (rebuilt whole.0 removed) half.0 half.1;
+      half = debug_half.0;
+      is_half = ap (λ (x : Object). debug_of x) object.1
+          ∙ of_file_ok file (debug_of whole.0) debug_half.0 debug_half.1;
+      bytes = bytes.0;
+      is_bytes = of_file_ok file (file_of half.0.object) bytes.0 bytes.1;
+      debug_bytes = debug_bytes.0;
+      is_debug_bytes = of_file_ok file (file_of debug_half.0) debug_bytes.0 debug_bytes.1;
+      writes = sym (ap (λ (d : Done). d.writes) all);
+    }
+
+split_written : (o : Object) (removed out debug file : List ℕ) (done : Done) (w : FileWrite)
+    → strip_split o removed out debug file ≡ Ok done → write_of done.writes out ≡ Some w
+    → image_made o removed ≡ Ok w.bytes
+split_written o removed out debug file done w e written =
+    let known = split_known o removed out debug file done e in
+    let same = first_written out known.bytes (made_file debug known.debug_bytes ∷ []) w
+    (ap (λ (l : List FileWrite). write_of l out) (sym known.writes) ∙ written) in
+    ap (λ (x : Result Rebuilt ElfError). x >>= λ r. file_of r.object) known.is_made
+    ∙ known.is_bytes
     ∙ ap (λ (l : List ℕ). Ok l) (sym same)
 
 -- ---- What strip gives

@@ -1,0 +1,2 @@
+pub mod FileKinds
+pub mod RejoinLaws

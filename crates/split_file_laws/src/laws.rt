@@ -1,0 +1,17 @@
+//! The law is the contract of a function that does nothing: what it ensures holds, and is proved.
+
+ghost use Rattle.split_file_laws.specs.SplitFiles.{SplitFilesRejoin};
+
+use object_laws::laws::reopen_law;
+use split_laws::laws::{halves_combine, split_law};
+
+/// Where strip -f ends with 0 on a FILE whose section 0 is all zero but for size, link and info,
+/// unstrip of the two files that it wrote says that a place is too large, or makes OUT, and OUT,
+/// opened again, answers each getter as FILE does, but for places and derived values.
+pub fn split_files_rejoin()
+    ensures { SplitFilesRejoin }
+{
+    reopen_law();
+    halves_combine();
+    split_law();
+}
