@@ -1,17 +1,13 @@
 -- The file that strip writes is the image of what it makes of FILE's object.
-use Rattle.std.proofs.Common.{◌≡◌, ℕ, Bool, List, [], ◌∷◌, Option, Some, None, Result, Ok, Err, refl, sym, ap, ◌∙◌}
-use Rattle.std.specs.Prelude.{codes, if◌then◌else◌}
+use Rattle.std.proofs.Common.{◌≡◌, ℕ, List, [], ◌∷◌, Option, Some, None, Result, Ok, refl, sym, ap, ◌∙◌}
+use Rattle.std.specs.Prelude.{codes}
 use Rattle.std.specs.Option.{option_map}
-use Rattle.std.proofs.lemmas.Slice.Eq.{bytes_eq-Decides}
-use Rattle.elf_types.specs.Answers.{answered, or_refused, ◌>>=◌}
+use Rattle.elf_types.specs.Answers.{answered, ◌>>=◌}
 use Rattle.elf_types.specs.declared.errors.ElfError.{ElfError}
 use Rattle.elf_outside.specs.Names.{Map}
-use Rattle.elf_ident.specs.declared.file_kinds.FileKind.{FileKind}
-use Rattle.elf_ident.specs.declared.file_kinds.FileKind.TheVariants.{Archive, Elf, Other}
 use Rattle.elf_ident.specs.declared.fronts.Front.{Front}
-use Rattle.elf_ident.specs.FileKinds.{file_kind}
 use Rattle.elf_ident.specs.Front.{front}
-use Rattle.elf_ident.proofs.Refusals.{answered_ok, bind_ok, or_refused_ok}
+use Rattle.elf_ident.proofs.Refusals.{answered_ok, bind_ok}
 use Rattle.elf_object.specs.Object.{Object}
 use Rattle.elf_object.specs.Open.{begun, begun_or_refused, opened}
 use Rattle.command_objects.specs.Removed.{removed_sections}
@@ -21,26 +17,14 @@ use Rattle.command_objects.specs.Split.{debug_of, removed_allocated}
 use Rattle.command_objects.specs.Files.{file_of, file_made}
 use Rattle.command_objects.specs.Laws.{LoadableBytesStay}
 use Rattle.tool_output.specs.Outcomes.{FileWrite, write_of}
-use Rattle.tool_output.specs.Made.{Done, Complaint, complaint, made, made_file, of_file, written_outcome}
+use Rattle.tool_output.specs.Made.{Done, Complaint, complaint, made, made_file, of_file}
 use Rattle.tool_text.specs.declared.commands.StripOptions.{StripOptions}
-use Rattle.object_output.specs.Images.{object_by, file_object}
-use Rattle.command_outcomes.specs.Files.{bytes_named, object_named}
+use Rattle.command_outcomes.specs.Files.{object_named}
 use Rattle.command_outcomes.specs.Strip.{allocated_text, allocated_complaint, strip_alone, strip_split, strip_done, strip_outcome}
 use Rattle.strip_file_laws.specs.LoadedFiles.{StripWrites, LoadedFilesStay}
-
-pub of_file_ok : {A : Type 0} (file : List ℕ) (r : Result A ElfError) (x : A)
-    → of_file file r ≡ Ok x → r ≡ Ok x
-of_file_ok file (Ok y) x e = cc
-of_file_ok file (Err d) x e = cc
+use Rattle.strip_file_laws.proofs.Written.{of_file_ok, object_known, first_written, outcome_done}
 
 -- ---- The object of FILE
-
-opened_by : (kind : FileKind) (image : List ℕ) (o : Object) → object_by kind image ≡ Ok o
-    → opened image ≡ Ok o
-unfolding object_by
-opened_by Archive image o e = cc
-opened_by Elf image o e = e
-opened_by Other image o e = e
 
 begun_as : (f : Front) (image : List ℕ) (o : Object) → front image ≡ Ok f → opened image ≡ Ok o
     → o ≡ begun f image
@@ -52,14 +36,11 @@ begun_as f image o is e =
 
 pub named_opens : (named : Map) (file image : List ℕ) (o : Object) → named file ≡ Some image
     → object_named named file ≡ Ok o → opened image ≡ Ok o
-unfolding object_named bytes_named file_object
 named_opens named file image o held e =
-    let read = bind_ok (or_refused (named file) (complaint file (codes "not found")))
-    (λ bytes. of_file file (object_by (file_kind bytes) bytes)) o e in
-    let there = or_refused_ok (named file) (complaint file (codes "not found")) read.0 read.1 in
-    let same : read.0 ≡ image = let both : Some read.0 ≡ Some image = sym there ∙ held in cc in
-    let one = of_file_ok file (object_by (file_kind read.0) read.0) o read.2 in
-    ap opened (sym same) ∙ opened_by (file_kind read.0) read.0 o one
+    let read = object_known named file o e in
+    let same : read.image ≡ image =
+    let both : Some read.image ≡ Some image = sym read.held ∙ held in cc in
+    ap opened (sym same) ∙ read.opens
 
 object_is : (named : Map) (file image : List ℕ) (f : Front) (o : Object)
     → named file ≡ Some image → front image ≡ Ok f → object_named named file ≡ Ok o
@@ -68,17 +49,6 @@ object_is named file image f o held is e =
     begun_as f image o is (named_opens named file image o held e)
 
 -- ---- The file OUT
-
--- of files of which OUT is the first
-first_written : (out bytes : List ℕ) (later : List FileWrite) (w : FileWrite)
-    → write_of (made_file out bytes ∷ later) out ≡ Some w → w.bytes ≡ bytes
-unfolding write_of
-first_written out bytes later w e =
-    let first : Some (made_file out bytes) ≡ Some w =
-    sym (ap (λ (b : Bool). if b then Some (made_file out bytes) else write_of later out)
-    ((bytes_eq-Decides out out).1 refl)) ∙ e in
-    let same : made_file out bytes ≡ w = cc in
-    sym (ap (λ (x : FileWrite). x.bytes) same)
 
 -- the bytes that an update writes of what is made
 abbrev image_made : Object → List ℕ → Result (List ℕ) ElfError
@@ -92,8 +62,8 @@ alone_written o removed out file done w e written =
     let bytes = bind_ok (of_file file (image_made o removed)) (λ bytes. Ok (made out bytes)) done e
     in
     let whole : made out bytes.0 ≡ done = let both = bytes.2 in cc in
-    let same = first_written out bytes.0 [] w
-    (ap (λ (d : Done). write_of d.writes out) whole ∙ written) in
+    let same = ap (λ (x : FileWrite). x.bytes) (first_written out bytes.0 [] done.writes w
+    (sym (ap (λ (d : Done). d.writes) whole)) written) in
     of_file_ok file (image_made o removed) bytes.0 bytes.1
     ∙ ap (λ (l : List ℕ). Ok l) (sym same)
 
@@ -150,8 +120,9 @@ split_written : (o : Object) (removed out debug file : List ℕ) (done : Done) (
     → image_made o removed ≡ Ok w.bytes
 split_written o removed out debug file done w e written =
     let known = split_known o removed out debug file done e in
-    let same = first_written out known.bytes (made_file debug known.debug_bytes ∷ []) w
-    (ap (λ (l : List FileWrite). write_of l out) (sym known.writes) ∙ written) in
+    let same = ap (λ (x : FileWrite). x.bytes)
+    (first_written out known.bytes (made_file debug known.debug_bytes ∷ []) done.writes w
+    known.writes written) in
     ap (λ (x : Result Rebuilt ElfError). x >>= λ r. file_of r.object) known.is_made
     ∙ known.is_bytes
     ∙ ap (λ (l : List ℕ). Ok l) (sym same)
@@ -188,15 +159,11 @@ done_written options named file image f done w held is e written =
 outcome_written : (options : StripOptions) (named : Map) (file image : List ℕ) (f : Front)
     (w : FileWrite) → StripWrites options named file image f w
     → file_made (stripped options.debug_only options.names (begun f image)) ≡ Ok w.bytes
-unfolding strip_outcome written_outcome write_of
+unfolding strip_outcome
 outcome_written options named file image f w is =
-    by_done (strip_done options named file) refl is.written
-  where
-    by_done : (r : Result Done Complaint) → strip_done options named file ≡ r
-        → write_of (written_outcome (codes "strip") r).writes options.out ≡ Some w
-        → file_made (stripped options.debug_only options.names (begun f image)) ≡ Ok w.bytes
-    by_done (Ok done) e h = done_written options named file image f done w is.held is.is_front e h
-    by_done (Err c) e h = cc
+    let done = outcome_done (codes "strip") (strip_done options named file) options.out w
+    is.written in
+    done_written options named file image f done.0 w is.held is.is_front done.1 done.2
 
 pub loaded_files_stay : LoadableBytesStay → LoadedFilesStay
 loaded_files_stay stay options named file image f out is k loaded inside fixed =

@@ -1,0 +1,15 @@
+//! The law is the contract of a function that does nothing: what it ensures holds, and is proved.
+
+ghost use Rattle.copy_file_laws.specs.CopiedFiles.{CopiedFilesKeep};
+
+use copy_laws::laws::{copy_law, copy_opens};
+
+/// Where copy writes OUT, that is the image of what copy makes of FILE with the changes of the
+/// words. OUT opens again, and has of FILE and of the files of `-u` and `-a` what the law of copy
+/// says.
+pub fn copied_files_keep()
+    ensures { CopiedFilesKeep }
+{
+    copy_law();
+    copy_opens();
+}
