@@ -32,6 +32,33 @@ in_turn_each R change itself both each a (x ∷ l) c e =
     both a next.0 c (each a x next.0 next.1)
     (in_turn_each R change itself both each next.0 l c next.2)
 
+-- what each change keeps of a section that is there
+record StaysThere (R : Object → Object → Type 0) (s : ℕ) (old new : Object) : Type 0 where
+  stays : s < length old.sections → R old new × (s < length new.sections)
+
+pub in_turn_there : {B E : Type 0} (R : Object → Object → Type 0) (s : ℕ)
+    (change : Object → B → Result Object E)
+    → ((o : Object) → R o o) → ((a b c : Object) → R a b → R b c → R a c)
+    → ((a : Object) (x : B) (b : Object) → change a x ≡ Ok b → Follows a b)
+    → ((a : Object) (x : B) (b : Object) → change a x ≡ Ok b → s < length a.sections → R a b)
+    → (o : Object) (l : List B) (p : Object) → in_turn change o l ≡ Ok p
+    → s < length o.sections → R o p
+in_turn_there R s change itself both follows each o l p e below =
+    let all = in_turn_each (StaysThere R s) change
+    (λ a. record { stays = λ h. (itself a, h) })
+    (λ a b c first second. record {
+      stays = λ h.
+          let one = first.stays h in
+          let two = second.stays one.1 in
+          (both a b c one.0 two.0, two.1);
+    })
+    (λ a x b f. record {
+      stays = λ h.
+          let more = (follows a x b f).count in
+          (each a x b f h, omega (arith, h, more));
+    }) o l p e in
+    (all.stays below).0
+
 -- ---- Numbers that are not among others
 
 pub among_parts : (l m : List ℕ) (s : ℕ) → is_among (l ++ m) s ≡ false
@@ -53,28 +80,13 @@ bytes_follow = in_turn_each Follows with_bytes follows_itself follows_both
     (λ a x b e. updated_follows a x b (updated_known a x b e))
 
 -- headers stay
-record HeaderStays (s : ℕ) (old new : Object) : Type 0 where
-  stays : s < length old.sections
-      → (header_at new s ≡ header_at old s) × (s < length new.sections)
-
 pub bytes_header : (o : Object) (l : List (List ℕ × List ℕ)) (p : Object) (s : ℕ)
     → in_turn with_bytes o l ≡ Ok p → s < length o.sections → header_at p s ≡ header_at o s
-bytes_header o l p s e below =
-    let all = in_turn_each (HeaderStays s) with_bytes
-    (λ a. record { stays = λ h. (refl, h) })
-    (λ a b c first second. record {
-      stays = λ h.
-          let one = first.stays h in
-          let two = second.stays one.1 in
-          (two.0 ∙ one.0, two.1);
-    })
-    (λ a x b f. record {
-      stays = λ h.
-          let k = updated_known a x b f in
-          let more = (updated_follows a x b k).count in
-          (updated_header a x b s k h, omega (arith, h, more));
-    }) o l p e in
-    (all.stays below).0
+bytes_header o l p s =
+    in_turn_there (λ old new. header_at new s ≡ header_at old s) s with_bytes (λ a. refl)
+    (λ a b c first second. second ∙ first)
+    (λ a x b e. updated_follows a x b (updated_known a x b e))
+    (λ a x b e h. updated_header a x b s (updated_known a x b e) h) o l p
 
 -- those of a section that is not chosen stay
 pub bytes_pieces : (o : Object) (l : List (List ℕ × List ℕ)) (p : Object) (s : ℕ)
@@ -123,28 +135,14 @@ flags_header names o (x ∷ l) p s e none =
     flags_header names next.0 l p s next.2 parts.1
     ∙ flagged_header names o x next.0 s k (not_the_one s k.number parts.0)
 
-record PiecesStay (s : ℕ) (old new : Object) : Type 0 where
-  stays : s < length old.sections → SamePieces old new s × (s < length new.sections)
-
 pub flags_pieces : (names : List (Option (List ℕ))) (o : Object) (l : List (List ℕ × ℕ))
     (p : Object) (s : ℕ) → in_turn (with_section_flags names) o l ≡ Ok p → s < length o.sections
     → SamePieces o p s
-flags_pieces names o l p s e below =
-    let all = in_turn_each (PiecesStay s) (with_section_flags names)
-    (λ a. record { stays = λ h. (pieces_itself a s, h) })
-    (λ a b c first second. record {
-      stays = λ h.
-          let one = first.stays h in
-          let two = second.stays one.1 in
-          (pieces_both a b c s one.0 two.0, two.1);
-    })
-    (λ a x b f. record {
-      stays = λ h.
-          let k = flagged_known names a x b f in
-          let more = (flagged_follows names a x b k).count in
-          (flagged_pieces names a x b s k h, omega (arith, h, more));
-    }) o l p e in
-    (all.stays below).0
+flags_pieces names o l p s =
+    in_turn_there (λ old new. SamePieces old new s) s (with_section_flags names)
+    (λ a. pieces_itself a s) (λ a b c first second. pieces_both a b c s first second)
+    (λ a x b e. flagged_follows names a x b (flagged_known names a x b e))
+    (λ a x b e h. flagged_pieces names a x b s (flagged_known names a x b e) h) o l p
 
 -- ---- New sections
 

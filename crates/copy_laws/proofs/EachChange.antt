@@ -401,37 +401,43 @@ follows_grown o =
       count = omega (arith, count);
     }
 
+-- the three edits
+added_is : (o : Object) (change : List ℕ × List ℕ) (p : Object) → with_added o change ≡ Ok p
+    → with_new_piece (with_shdr (with_new_section o) (new_number o) added_header) (new_number o)
+    (items.Bytes change.1) 1
+    ≡ p
+unfolding with_added
+added_is o change p e =
+    let s = new_number o in
+    let own : Items = items.Bytes change.1 in
+    let whole = or_strip_ok _ p e in
+    let first = bind_ok (edited newscn o) _ p whole in
+    let second = bind_ok (edited (update_shdr s added_header) first.0) _ p first.2 in
+    let a = edited_is newscn o first.0 first.1 in
+    let b = edited_is (update_shdr s added_header) first.0 second.0 second.1 in
+    let c = edited_is (newdata s own) second.0 p second.2 in
+    ap (λ (q : Object). with_new_piece (with_shdr q s added_header) s own 1) a.2
+    ∙ ap (λ (q : Object). with_new_piece q s own 1) b.2
+    ∙ c.2
+
 pub added_follows : (o : Object) (change : List ℕ × List ℕ) (p : Object)
     → with_added o change ≡ Ok p → Follows o p
-unfolding with_added
 added_follows o change p e =
     let s = new_number o in
     let own : Items = items.Bytes change.1 in
-    let whole = or_strip_ok _ p e in
-    let first = bind_ok (edited newscn o) _ p whole in
-    let second = bind_ok (edited (update_shdr s added_header) first.0) _ p first.2 in
-    let a = edited_is newscn o first.0 first.1 in
-    let b = edited_is (update_shdr s added_header) first.0 second.0 second.1 in
-    let c = edited_is (newdata s own) second.0 p second.2 in
-    let one = subst (λ (q : Object). Follows o q) a.2 (follows_grown o) in
-    let two = subst (λ (q : Object). Follows first.0 q) b.2
-    (follows_shdr first.0 (new_number o) added_header) in
-    let three = subst (λ (q : Object). Follows second.0 q) c.2
-    (follows_piece second.0 (new_number o) (items.Bytes change.1)) in
-    follows_both o first.0 p one (follows_both first.0 second.0 p two three)
+    let a = with_new_section o in
+    let b = with_shdr (with_new_section o) (new_number o) added_header in
+    subst (λ (q : Object). Follows o q) (added_is o change p e)
+    (follows_both o a (with_new_piece b s own 1) (follows_grown o)
+    (follows_both a b (with_new_piece b s own 1) (follows_shdr a s added_header)
+    (follows_piece b s own)))
 
 pub added_known : (o : Object) (change : List ℕ × List ℕ) (p : Object)
     → with_added o change ≡ Ok p → 0 < length o.sections → IsAdded o change.1 p
-unfolding with_added one_more
+unfolding one_more
 added_known o change p e some =
     let s = new_number o in
     let own : Items = items.Bytes change.1 in
-    let whole = or_strip_ok _ p e in
-    let first = bind_ok (edited newscn o) _ p whole in
-    let second = bind_ok (edited (update_shdr s added_header) first.0) _ p first.2 in
-    let a = edited_is newscn o first.0 first.1 in
-    let b = edited_is (update_shdr s added_header) first.0 second.0 second.1 in
-    let c = edited_is (newdata s own) second.0 p second.2 in
     let none : (length o.sections == 0) ≡ false =
     ne_eqb (length o.sections) 0 (λ zero_is. omega (arith, some, zero_is)) in
     let number : s ≡ length o.sections =
@@ -440,7 +446,5 @@ added_known o change p e some =
     sym (ap (λ (k : ℕ). one_more o k change.1) number)
     ∙ sym (ap (λ (q : Object). with_new_piece (with_shdr q s added_header) s own 1)
     (grown_is o none))
-    ∙ ap (λ (q : Object). with_new_piece (with_shdr q s added_header) s own 1) a.2
-    ∙ ap (λ (q : Object). with_new_piece q s own 1) b.2
-    ∙ c.2 in
+    ∙ added_is o change p e in
     subst (λ (q : Object). IsAdded o change.1 q) all (one_more_is o change.1)

@@ -10,7 +10,7 @@ use Rattle.command_objects.specs.Words.{header_at, in_turn}
 use Rattle.command_objects.specs.Copied.{Changes, with_section_flags, with_bits, changes_names, named}
 use Rattle.copy_laws.proofs.EachChange.{SamePieces, pieces_both, IsFlagged, flagged_known, flagged_follows}
 use Rattle.copy_laws.proofs.NamesAndPlaces.{named_known}
-use Rattle.copy_laws.proofs.AllChanges.{in_turn_each, bytes_follow, bytes_header, flags_follow, flags_pieces, added_grow, IsChanged}
+use Rattle.copy_laws.proofs.AllChanges.{in_turn_there, bytes_follow, bytes_header, flags_follow, flags_pieces, added_grow, IsChanged}
 
 -- ---- Other flags
 
@@ -35,29 +35,14 @@ flagged_name : (names : List (Option (List ℕ))) (o : Object) (change : List �
 flagged_name names o change p s k below =
     ap (λ (q : Object). (header_at q s).name) k.is ∙ shdr_name o k.number s change.1 below
 
-record NameStays (s : ℕ) (old new : Object) : Type 0 where
-  stays : s < length old.sections
-      → ((header_at new s).name ≡ (header_at old s).name) × (s < length new.sections)
-
 flags_name : (names : List (Option (List ℕ))) (o : Object) (l : List (List ℕ × ℕ)) (p : Object)
     (s : ℕ) → in_turn (with_section_flags names) o l ≡ Ok p → s < length o.sections
     → (header_at p s).name ≡ (header_at o s).name
-flags_name names o l p s e below =
-    let all = in_turn_each (NameStays s) (with_section_flags names)
-    (λ a. record { stays = λ h. (refl, h) })
-    (λ a b c first second. record {
-      stays = λ h.
-          let one = first.stays h in
-          let two = second.stays one.1 in
-          (two.0 ∙ one.0, two.1);
-    })
-    (λ a x b f. record {
-      stays = λ h.
-          let k = flagged_known names a x b f in
-          let more = (flagged_follows names a x b k).count in
-          (flagged_name names a x b s k h, omega (arith, h, more));
-    }) o l p e in
-    (all.stays below).0
+flags_name names o l p s =
+    in_turn_there (λ old new. (header_at new s).name ≡ (header_at old s).name) s
+    (with_section_flags names) (λ a. refl) (λ a b c first second. second ∙ first)
+    (λ a x b e. flagged_follows names a x b (flagged_known names a x b e))
+    (λ a x b e h. flagged_name names a x b s (flagged_known names a x b e) h) o l p
 
 -- ---- Up to the new sections
 
