@@ -20,7 +20,7 @@ use Rattle.copy_laws.proofs.SameItems.{opened_at}
 use Rattle.copy_laws.proofs.EachChange.{pieces_both}
 use Rattle.copy_laws.proofs.AllChanges.{bytes_pieces, not_chosen}
 use Rattle.copy_laws.proofs.Reopened.{front_is, shdr_kept}
-use Rattle.copy_laws.proofs.KeptSections.{plain_header, made_of, passed_at, has_section}
+use Rattle.copy_laws.proofs.KeptSections.{plain_header, made_of_section, passed_at, has_section}
 use Rattle.copy_laws.proofs.CopySteps.{KeepsAll, keeps_all}
 use Rattle.copy_laws.proofs.GivenBytes.{bytes_given}
 use Rattle.copy_laws.proofs.KeptNames.{names_stay}
@@ -47,7 +47,7 @@ section_stays back c before after r s k all left =
     let free = not_chosen c (renews_names before (removed_by_name c.remove before)) r.object
     to.changed s q left.not_chosen in
     let front = front_is before [] in
-    let made = made_of before s from there in
+    let made = made_of_section before s from there in
     let header : without_places (header_at m s) ≡ without_places (header_at before s) =
     to.places.header s (all.in_changed s there)
     ∙ to.changes.header s (all.in_r s there) free.flags

@@ -35,13 +35,13 @@ use Rattle.copy_laws.proofs.SameItems.{opened_at}
 use Rattle.copy_laws.proofs.EachChange.{pieces_both, positive}
 use Rattle.copy_laws.proofs.AllChanges.{bytes_follow, bytes_header, bytes_pieces, not_chosen}
 use Rattle.copy_laws.proofs.Reopened.{front_is, IsReopened, reopened_index, reopened_inside, placed_name}
-use Rattle.copy_laws.proofs.KeptSections.{same_index, plain_header, made_of, made_count, passed_at, raw_inside, has_bytes}
+use Rattle.copy_laws.proofs.KeptSections.{same_index, plain_header, made_of_section, made_count, passed_at, raw_inside, has_bytes}
 use Rattle.copy_laws.proofs.CopySteps.{KeepsAll}
 use Rattle.copy_laws.proofs.GivenBytes.{given_bytes, index_below}
-use Rattle.copy_laws.proofs.SectionStrings.{blocks_are, HasStrings, opened_strings, own_strings, same_string}
-use Rattle.copy_laws.proofs.TableNames.{IsWhole, named_there, name_whole}
+use Rattle.copy_laws.proofs.SectionStrings.{blocks_are, IsStringSection, opened_strings, own_strings, same_string}
+use Rattle.copy_laws.proofs.TableNames.{HasNoNul, named_there, name_whole}
 use Rattle.copy_laws.proofs.NamePlaces.{kept_up_to, plain_name, plain_pieces}
-use Rattle.copy_laws.proofs.RenewedNames.{IsNamedIn, IsNameTable, AreNames, texts_of, named_stays, name_is, renewed_type, strings_fill, made_named, names_kept, renamed_bytes, name_at, name_count, names_are, text_at, last_named}
+use Rattle.copy_laws.proofs.RenewedNames.{IsNamedIn, IsNameTable, AreByteNames, texts_of, named_stays, name_is, renewed_type, strings_fill, made_named, names_kept, renamed_bytes, listed_name_at, listed_count, names_are, text_at, last_named}
 
 -- ---- Where the table of the names is not made anew
 
@@ -92,7 +92,7 @@ table_alike back c before after r t offset k all stays plain from below in_after
     let renewed_is : renews_names before (removed_by_name c.remove before) ≡ false =
     ap (renews_names before) all.none ∙ plain in
     let again = to.again t (all.in_made t below) in
-    let made = made_of before t from below in
+    let made = made_of_section before t from below in
     let front = front_is before [] in
     let pieces = pieces_both (rebuilt_object before []) r.object m t
     (all.base.pieces t (all.in_base t below))
@@ -162,7 +162,7 @@ plain_names back c before after r s k all left stays plain =
     ∙ to.named.stays s (all.in_changed s there)
     ∙ plain_name c renewed r.object to.changed s to.changes.known renewed_is (all.in_r s there)
     ∙ all.named.stays s (all.in_base s there)
-    ∙ ap (λ (x : Section). x.header.name) (made_of before s left.from_1 there)
+    ∙ ap (λ (x : Section). x.header.name) (made_of_section before s left.from_1 there)
     ∙ made_name before s plain in
     let below = table_below c before after r k.made all (omega (arith, there)) in
     let in_made = all.in_made before.header.shstrndx below in
@@ -202,7 +202,7 @@ name_table o renewed =
 named_again : (m after : Object) (out : List ℕ) (t s : ℕ) (name : List ℕ) → IsNamedIn m t s name
     → opened out ≡ Ok after → after ≡ as_opened (settle m) → m.header_marked ≡ true
     → m.header.shstrndx ≡ t → 1 ≤ t → t < length m.sections
-    → IsReopened m after t → IsReopened m after s → IsWhole name
+    → IsReopened m after t → IsReopened m after s → HasNoNul name
     → section_name after s ≡ Some name
 named_again m after out t s name named e is marked index from below again_t again_s whole =
     let held = reopened_index m after is marked (omega (arith, below)) in
@@ -214,20 +214,20 @@ named_again m after out t s name named e is marked index from below again_t agai
     again_t.raw
     ∙ given_bytes m t (table named.names) named.pieces (omega (arith, from))
     (strings_fill (header_at m t) named.stype) named.bytes in
-    let has : HasStrings after t (table named.names) =
-    subst (λ (l : List ℕ). HasStrings after t l) raw
+    let has : IsStringSection after t (table named.names) =
+    subst (λ (l : List ℕ). IsStringSection after t l) raw
     (opened_strings after t in_after (opened_at out after t e in_after)
     (reopened_inside m after out t e again_t in_after below (omega (arith, from))) stype) in
     let one : t ≡ after.header.shstrndx = sym (held.0 ∙ index) in
     named_there after s named.names name
-    (subst (λ (i : ℕ). HasStrings after i (table named.names)) one has)
+    (subst (λ (i : ℕ). IsStringSection after i (table named.names)) one has)
     (ne_eqb after.header.shstrndx 0 (λ none. omega (arith, one, none, from)))
     (ap (λ (h : Shdr). h.name) again_s.header ∙ placed_name (places_of m) m s (header_at m s)
     ∙ named.place) named.there whole
 
 -- the names that are written, of those that the object has
-all_bytes : (c : Changes) (names : List (Option (List ℕ))) → AreChanges c → AreNames names
-    → AreNames (names ++ map (λ change. Some change.0) c.add)
+all_bytes : (c : Changes) (names : List (Option (List ℕ))) → AreChanges c → AreByteNames names
+    → AreByteNames (names ++ map (λ change. Some change.0) c.add)
 all_bytes c names are each =
     All-append (λ (name : Option (List ℕ)). AreBytes (or_empty_name name)) names
     (map (λ change. Some change.0) c.add) each
@@ -240,10 +240,10 @@ all_bytes c names are each =
 record IsGivenName (names : List (Option (List ℕ))) (s : ℕ) (name : List ℕ) : Type 0 where
   here : get_or ([] ∷ texts_of names) s [] ≡ name
   there : Contains (texts_of names) name
-  bytes : AreNames names
+  bytes : AreByteNames names
 
 given_name : (names more : List (Option (List ℕ))) (s : ℕ) (name : List ℕ) → 1 ≤ s
-    → s < length names → get_or names s None ≡ Some name → AreNames (names ++ more)
+    → s < length names → get_or names s None ≡ Some name → AreByteNames (names ++ more)
     → IsGivenName (names ++ more) s name
 given_name names more s name from below is bytes =
     let long = length-append names more in
@@ -304,12 +304,12 @@ renewed_names c before after r s are k all left stays renewed =
     let free = not_chosen c anew r.object to.changed s q left.not_chosen in
     let kept = names_kept (names_in q.updated) c.rename q.names s q.is_names free.names in
     let long = kept.count in
-    let count = name_count q.updated (omega (arith, s_in_updated)) in
+    let count = listed_count q.updated (omega (arith, s_in_updated)) in
     let strings = own_strings q.updated q.updated.header.shstrndx (table at.names) t_in_updated
     at.pieces at.stype at.bytes in
     let given = given_name q.names (map (λ change. Some change.0) c.add) s
     name from (omega (arith, s_in_updated, long, count))
-    (kept.name ∙ name_at q.updated s from s_in_updated ∙ read)
+    (kept.name ∙ listed_name_at q.updated s from s_in_updated ∙ read)
     (all_bytes c q.names are
     (renamed_bytes (names_in q.updated) c.rename q.names q.is_names are.rename
     (names_are q.updated (table at.names) strings.blocks at.bytes))) in

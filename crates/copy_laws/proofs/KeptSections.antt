@@ -39,11 +39,11 @@ use Rattle.copy_laws.proofs.Reopened.{front_is, piece_bytes_are}
 -- ---- Where no section is removed
 
 -- what is rebuilt has each section from 1 on as it is made of the one with its number
-pub made_of : (o : Object) (s : ℕ) → 1 ≤ s → s < length o.sections
+pub made_of_section : (o : Object) (s : ℕ) → 1 ≤ s → s < length o.sections
     → section_at (rebuilt_object o []) s
     ≡ made_section (rebuilt_header o [] s) (rebuilt_items o [] s)
 unfolding section_at rebuilt_sections rebuilt_section
-made_of o s from below =
+made_of_section o s from below =
     ap (λ (l : List Section). get_or l s absent_section) (front_is o []).sections
     ∙ ap (λ (l : List ℕ). get_or (map (rebuilt_section o []) l) s absent_section) (all_kept o)
     ∙ get_or-map-range_with_len (rebuilt_section o []) 0 (length o.sections) s s absent_section

@@ -31,9 +31,9 @@ use Rattle.copy_laws.proofs.NoneRemoved.{all_from_1}
 use Rattle.copy_laws.proofs.EachChange.{SamePieces}
 use Rattle.copy_laws.proofs.NamesAndPlaces.{named_known, names_header, names_place, names_table}
 use Rattle.copy_laws.proofs.AllChanges.{among_parts, not_the_one}
-use Rattle.copy_laws.proofs.KeptSections.{made_of, header_made, filled_pieces}
+use Rattle.copy_laws.proofs.KeptSections.{made_of_section, header_made, filled_pieces}
 use Rattle.copy_laws.proofs.SectionStrings.{own_strings}
-use Rattle.copy_laws.proofs.TableNames.{IsWhole, named_there, table_bytes, name_bytes}
+use Rattle.copy_laws.proofs.TableNames.{HasNoNul, named_there, table_is_bytes, name_bytes}
 
 -- ---- A name in the table of an object that is made
 
@@ -59,7 +59,7 @@ named_stays a b t s name is same place = record {
 
 -- its section has that name
 pub name_is : (o : Object) (s : ℕ) (name : List ℕ) → IsNamedIn o o.header.shstrndx s name
-    → (o.header.shstrndx == 0) ≡ false → o.header.shstrndx < length o.sections → IsWhole name
+    → (o.header.shstrndx == 0) ≡ false → o.header.shstrndx < length o.sections → HasNoNul name
     → section_name o s ≡ Some name
 name_is o s name is some below whole =
     named_there o s is.names name
@@ -130,7 +130,7 @@ unfolding rebuilt_items
 new_table o t is =
     let stype : (rebuilt_header o [] t).stype ≡ SHT_STRTAB =
     ap (λ (h : Shdr). h.stype) (header_made o t) ∙ is.stype in
-    ap (λ (c : Section). c.pieces) (made_of o t is.from is.below)
+    ap (λ (c : Section). c.pieces) (made_of_section o t is.from is.below)
     ∙ filled_pieces (rebuilt_header o [] t) (rebuilt_items o [] t)
     (strings_fill (rebuilt_header o [] t) stype)
     ∙ ap (λ (b : Bool). own_piece (if b && t == o.header.shstrndx
@@ -143,7 +143,7 @@ new_type : (o : Object) (t : ℕ) → IsNameTable o t
     → (header_at (rebuilt_object o []) t).stype ≡ SHT_STRTAB
 unfolding made_section
 new_type o t is =
-    ap (λ (c : Section). c.header.stype) (made_of o t is.from is.below)
+    ap (λ (c : Section). c.header.stype) (made_of_section o t is.from is.below)
     ∙ ap (λ (h : Shdr). h.stype) (header_made o t)
     ∙ is.stype
 
@@ -152,7 +152,7 @@ new_place : (o : Object) (s : ℕ) → renews_names o [] ≡ true → 1 ≤ s �
     ≡ place_of (or_empty_name (section_name o s)) (kept_names o [])
 unfolding made_section rebuilt_header rebuilt_name
 new_place o s renewed from below =
-    ap (λ (c : Section). c.header.name) (made_of o s from below)
+    ap (λ (c : Section). c.header.name) (made_of_section o s from below)
     ∙ ap (λ (b : Bool). if b
     then place_of (or_empty_name (section_name o s)) (kept_names o [])
     else (header_at o s).name) renewed
@@ -167,14 +167,14 @@ made_named o t s bytes is blocks are from below = record {
   pieces = new_table o t is;
   place = new_place o s is.renewed from below;
   there = among_names o s from below;
-  bytes = table_bytes (kept_names o []) (all_names o bytes blocks are);
+  bytes = table_is_bytes (kept_names o []) (all_names o bytes blocks are);
 }
 
 -- ---- New names
 
 -- the names that are given are bytes
-abbrev pub AreNames : List (Option (List ℕ)) → Type 0
-AreNames names = All (λ name. AreBytes (or_empty_name name)) names
+abbrev pub AreByteNames : List (Option (List ℕ)) → Type 0
+AreByteNames names = All (λ name. AreBytes (or_empty_name name)) names
 
 -- a section is given a name
 renamed_known : (names : List (Option (List ℕ))) (change : List ℕ × List ℕ)
@@ -225,35 +225,35 @@ names_kept names (x ∷ l) new s e none =
 
 pub renamed_bytes : (names : List (Option (List ℕ))) (l : List (List ℕ × List ℕ))
     (new : List (Option (List ℕ))) → in_turn with_name names l ≡ Ok new
-    → All (λ change. AreBytes change.1) l → AreNames names → AreNames new
+    → All (λ change. AreBytes change.1) l → AreByteNames names → AreByteNames new
 unfolding in_turn
 renamed_bytes names [] new e each are =
-    let same : names ≡ new = cc in subst (λ (m : List (Option (List ℕ))). AreNames m) same are
+    let same : names ≡ new = cc in subst (λ (m : List (Option (List ℕ))). AreByteNames m) same are
 renamed_bytes names (x ∷ l) new e each are =
     let next = bind_ok (with_name names x) (λ b. in_turn with_name b l) new e in
     let k = renamed_known names x next.0 next.1 in
     renamed_bytes next.0 l new next.2 (All-tail (λ (c : List ℕ × List ℕ). AreBytes c.1) x l each)
-    (subst (λ (m : List (Option (List ℕ))). AreNames m) k.2
+    (subst (λ (m : List (Option (List ℕ))). AreByteNames m) k.2
     (All-set (λ (name : Option (List ℕ)). AreBytes (or_empty_name name)) names k.0 (Some x.1)
     (All-head (λ (c : List ℕ × List ℕ). AreBytes c.1) x l each) are))
 
 -- the names of an object
-pub name_at : (o : Object) (s : ℕ) → 1 ≤ s → s < length o.sections
+pub listed_name_at : (o : Object) (s : ℕ) → 1 ≤ s → s < length o.sections
     → get_or (names_in o) s None ≡ section_name o s
 unfolding names_in
-name_at o zero from below = absurd (omega (arith, from))
-name_at o (suc j) from below =
+listed_name_at o zero from below = absurd (omega (arith, from))
+listed_name_at o (suc j) from below =
     get_or-map-range_with_len (section_name o) 1 (length o.sections - 1) j (suc j) None
     (omega (arith, below)) (omega arith)
 
-pub name_count : (o : Object) → 0 < length o.sections → length (names_in o) ≡ length o.sections
+pub listed_count : (o : Object) → 0 < length o.sections → length (names_in o) ≡ length o.sections
 unfolding names_in
-name_count o some =
+listed_count o some =
     omega (arith, some, length-map-range_with_len (section_name o) 1 (length o.sections - 1))
 
 pub names_are : (o : Object) (bytes : List ℕ)
     → piece_blocks o o.header.shstrndx ≡ stacked 0 ((1, bytes) ∷ []) → AreBytes bytes
-    → AreNames (names_in o)
+    → AreByteNames (names_in o)
 unfolding names_in
 names_are o bytes blocks are =
     All-cons (λ (name : Option (List ℕ)). AreBytes (or_empty_name name)) None
@@ -282,7 +282,7 @@ text_at names (suc j) from below =
     Contains-get_or (texts_of names) j [] (omega (arith, inside, long)) in
     (here, subst (λ (x : List ℕ). Contains (texts_of names) x) here in_texts)
 
-texts_are : (names : List (Option (List ℕ))) → AreNames names
+texts_are : (names : List (Option (List ℕ))) → AreByteNames names
     → All (λ name. AreBytes name) (texts_of names)
 texts_are names are =
     All-map (λ (name : List ℕ). AreBytes name) or_empty_name (drop 1 names)
@@ -296,7 +296,7 @@ written_named : (o : Object) (t s : ℕ) (names : List (Option (List ℕ))) (nam
     → (s == 0) ≡ false
     → (header_at o t).stype ≡ SHT_STRTAB → (section_at o t).pieces ≡ own_piece own 1 ∷ []
     → get_or ([] ∷ texts_of names) s [] ≡ name → Contains (texts_of names) name
-    → AreNames names → IsNamedIn (with_names o (texts_of names)) t s name
+    → AreByteNames names → IsNamedIn (with_names o (texts_of names)) t s name
 written_named o t s names name own index t_below below from stype pieces here there are =
     let texts = texts_of names in
     let header = names_header o (texts_of names) t t_below in
@@ -311,7 +311,7 @@ written_named o t s names name own index t_below below from stype pieces here th
       place = names_place o (texts_of names) s below from
           ∙ ap (λ (x : List ℕ). place_of x (texts_of names)) here;
       there = there;
-      bytes = table_bytes (texts_of names) (texts_are names are);
+      bytes = table_is_bytes (texts_of names) (texts_are names are);
     }
 
 -- whether new names are given or not
@@ -320,7 +320,7 @@ pub last_named : (b renewed : Bool) (o p : Object) (t s : ℕ) (names : List (Op
     → t ≡ o.header.shstrndx → t < length o.sections → s < length o.sections → (s == 0) ≡ false
     → IsNamedIn o t s name
     → get_or ([] ∷ texts_of names) s [] ≡ name → Contains (texts_of names) name
-    → AreNames names → IsNamedIn p t s name
+    → AreByteNames names → IsNamedIn p t s name
 last_named true renewed o p t s names name e index t_below below from is here there are =
     subst (λ (q : Object). IsNamedIn q t s name) (sym (named_known renewed o names p e).1)
     (written_named o t s names name (items.Bytes (table is.names)) index t_below below from

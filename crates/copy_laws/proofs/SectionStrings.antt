@@ -111,7 +111,7 @@ not_lost o s inside = and_right (home_is_clean (section_at o s)) (section_at o s
 
 -- two objects that were opened have the same string at an offset of a section with the same type
 -- and the same bytes
-pub record SameStrings (a b : Object) (s : ℕ) : Type 0 where
+pub record IsSameTable (a b : Object) (s : ℕ) : Type 0 where
   pub in_a : s < length a.sections
   pub in_b : s < length b.sections
   pub a_at : IsOpenedAt a s
@@ -121,7 +121,7 @@ pub record SameStrings (a b : Object) (s : ℕ) : Type 0 where
   pub stype : (header_at a s).stype ≡ (header_at b s).stype
   pub raw : (section_at a s).raw ≡ (section_at b s).raw
 
-pub same_string : (a b : Object) (s offset : ℕ) → SameStrings a b s
+pub same_string : (a b : Object) (s offset : ℕ) → IsSameTable a b s
     → string_answer a s offset ≡ string_answer b s offset
 same_string a b s offset same =
     string_is a s offset
@@ -148,7 +148,7 @@ same_string a b s offset same =
 -- ---- One piece
 
 -- a string section has one piece, with these bytes, which is in the file
-pub record HasStrings (o : Object) (t : ℕ) (bytes : List ℕ) : Type 0 where
+pub record IsStringSection (o : Object) (t : ℕ) (bytes : List ℕ) : Type 0 where
   pub below : t < length o.sections
   pub holds : holds_strings (section_at o t) ≡ true
   pub inside : (home_is_clean (section_at o t) && (section_at o t).home.out) ≡ false
@@ -157,7 +157,7 @@ pub record HasStrings (o : Object) (t : ℕ) (bytes : List ℕ) : Type 0 where
 -- that of an object that was opened
 pub opened_strings : (o : Object) (t : ℕ) → t < length o.sections → IsOpenedAt o t
     → (section_at o t).home.out ≡ false → (header_at o t).stype ≡ SHT_STRTAB
-    → HasStrings o t (section_at o t).raw
+    → IsStringSection o t (section_at o t).raw
 opened_strings o t below at inside stype = record {
   below = below;
   holds = holds_by_type o t at ∙ eq-eqb (header_at o t).stype SHT_STRTAB stype;
@@ -200,7 +200,7 @@ own_blocks o t bytes pieces are =
 
 pub own_strings : (o : Object) (t : ℕ) (bytes : List ℕ) → t < length o.sections
     → (section_at o t).pieces ≡ own_piece (items.Bytes bytes) 1 ∷ []
-    → (header_at o t).stype ≡ SHT_STRTAB → AreBytes bytes → HasStrings o t bytes
+    → (header_at o t).stype ≡ SHT_STRTAB → AreBytes bytes → IsStringSection o t bytes
 own_strings o t bytes below pieces stype are = record {
   below = below;
   holds = own_holds o t bytes pieces stype;
@@ -235,7 +235,7 @@ ended end t offset bytes nul =
     ∙ ap (λ (b : Bool). answered
     (first_refusal (None ∷ refused_if (not b) (Unended offset) ∷ [])) (string_at bytes offset)) nul
 
-pub string_there : (o : Object) (t offset : ℕ) (bytes : List ℕ) → HasStrings o t bytes
+pub string_there : (o : Object) (t offset : ℕ) (bytes : List ℕ) → IsStringSection o t bytes
     → offset < length bytes → has_nul (drop offset bytes) ≡ true
     → string_answer o t offset ≡ Ok (string_at bytes offset)
 string_there o t offset bytes has within nul =

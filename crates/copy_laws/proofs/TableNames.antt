@@ -22,13 +22,13 @@ use Rattle.elf_object.specs.Object.{Object, section_at}
 use Rattle.elf_object.specs.Joined.{piece_blocks}
 use Rattle.elf_object.specs.Strings.{piece_over, has_nul, string_in, string_refusal, string_answer, readable, section_name, or_empty_name}
 use Rattle.command_objects.specs.Words.{header_at}
-use Rattle.copy_laws.proofs.SectionStrings.{HasStrings, string_there}
+use Rattle.copy_laws.proofs.SectionStrings.{IsStringSection, string_there}
 
 -- ---- A name in a table
 
 -- no NUL stands in it
-abbrev pub IsWhole : List ℕ → Type 0
-IsWhole name = All (λ b. b ≢ 0) name
+abbrev pub HasNoNul : List ℕ → Type 0
+HasNoNul name = All (λ b. b ≢ 0) name
 
 -- behind the end of some bytes there is only the empty string
 nothing_beyond : (name bytes : List ℕ) (offset : ℕ) → length bytes ≤ offset
@@ -40,7 +40,7 @@ nothing_beyond name bytes offset past is some =
     omega (arith, none, some)
 
 -- its place is in the table
-name_within : (name : List ℕ) (names : List (List ℕ)) → Contains names name → IsWhole name
+name_within : (name : List ℕ) (names : List (List ℕ)) → Contains names name → HasNoNul name
     → place_of name names < length (table names)
 unfolding place_of table
 name_within [] names there whole = omega arith
@@ -65,7 +65,7 @@ name_ended names offset within =
 
 -- it is read at its place
 name_there : (o : Object) (t : ℕ) (names : List (List ℕ)) (name : List ℕ)
-    → HasStrings o t (table names) → Contains names name → IsWhole name
+    → IsStringSection o t (table names) → Contains names name → HasNoNul name
     → string_answer o t (place_of name names) ≡ Ok name
 name_there o t names name has there whole =
     let within = name_within name names there whole in
@@ -75,8 +75,8 @@ name_there o t names name has there whole =
 
 -- the name of a section whose header has its place
 pub named_there : (o : Object) (s : ℕ) (names : List (List ℕ)) (name : List ℕ)
-    → HasStrings o o.header.shstrndx (table names) → (o.header.shstrndx == 0) ≡ false
-    → (header_at o s).name ≡ place_of name names → Contains names name → IsWhole name
+    → IsStringSection o o.header.shstrndx (table names) → (o.header.shstrndx == 0) ≡ false
+    → (header_at o s).name ≡ place_of name names → Contains names name → HasNoNul name
     → section_name o s ≡ Some name
 unfolding section_name
 named_there o s names name has some place there whole =
@@ -113,29 +113,29 @@ strings_bytes (name ∷ names) each =
     (All-head (λ (l : List ℕ). AreBytes l) name names each) nul_is)
     (strings_bytes names (All-tail (λ (l : List ℕ). AreBytes l) name names each))
 
-pub table_bytes : (names : List (List ℕ)) → All (λ name. AreBytes name) names
+pub table_is_bytes : (names : List (List ℕ)) → All (λ name. AreBytes name) names
     → AreBytes (table names)
 unfolding table strings
-table_bytes names each =
+table_is_bytes names each =
     All-cons (λ n. n < 2 ^ 8) 0 (flat_map (λ name. name ++ 0 ∷ []) (distinct names)) (omega arith)
     (strings_bytes (distinct names) (distinct_bytes names each))
 
 -- ---- Names that are read
 
-front_whole : (l : List ℕ) → IsWhole (take_while (λ b. not (b == 0)) l)
+front_whole : (l : List ℕ) → HasNoNul (take_while (λ b. not (b == 0)) l)
 front_whole [] = All-nil (λ (b : ℕ). b ≢ 0)
 front_whole (x ∷ l) =
-    subst (λ (m : List ℕ). IsWhole m) (sym (take_while-cons (λ b. not (b == 0)) x l))
+    subst (λ (m : List ℕ). HasNoNul m) (sym (take_while-cons (λ b. not (b == 0)) x l))
     (by_test (x == 0) refl (front_whole l))
   where
-    by_test : (b : Bool) → (x == 0) ≡ b → IsWhole (take_while (λ b. not (b == 0)) l)
-        → IsWhole (cond (not b) (x ∷ take_while (λ b. not (b == 0)) l) [])
+    by_test : (b : Bool) → (x == 0) ≡ b → HasNoNul (take_while (λ b. not (b == 0)) l)
+        → HasNoNul (cond (not b) (x ∷ take_while (λ b. not (b == 0)) l) [])
     by_test true is later = All-nil (λ (b : ℕ). b ≢ 0)
     by_test false is later =
         All-cons (λ (b : ℕ). b ≢ 0) x (take_while (λ b. not (b == 0)) l)
         (λ zero_is. eqb-false x 0 is zero_is) later
 
-string_whole : (bytes : List ℕ) (offset : ℕ) → IsWhole (string_at bytes offset)
+string_whole : (bytes : List ℕ) (offset : ℕ) → HasNoNul (string_at bytes offset)
 unfolding string_at
 string_whole bytes offset = front_whole (drop offset bytes)
 
@@ -145,10 +145,10 @@ bytes_of_string bytes offset are =
     All-take (λ n. n < 2 ^ 8) (prefix_len (λ b. not (b == 0)) (drop offset bytes))
     (drop offset bytes) (All-drop (λ n. n < 2 ^ 8) offset bytes are)
 
-in_whole : (o : Object) (t offset : ℕ) → IsWhole (string_in o t offset)
+in_whole : (o : Object) (t offset : ℕ) → HasNoNul (string_in o t offset)
 in_whole o t offset = by_over (piece_over o t offset)
   where
-    by_over : (over : Option Block) → IsWhole (elim over [
+    by_over : (over : Option Block) → HasNoNul (elim over [
       | None ↦ []
       | Some b ↦ string_at b.bytes (offset - b.at)
     ])
@@ -197,9 +197,9 @@ name_has P o s none each = by_index (o.header.shstrndx == 0)
         by_refusal (string_refusal o o.header.shstrndx (section_at o s).header.name)
         (section_at o s).header.name
 
-pub name_whole : (o : Object) (s : ℕ) → IsWhole (or_empty_name (section_name o s))
+pub name_whole : (o : Object) (s : ℕ) → HasNoNul (or_empty_name (section_name o s))
 name_whole o s =
-    name_has IsWhole o s (All-nil (λ (b : ℕ). b ≢ 0))
+    name_has HasNoNul o s (All-nil (λ (b : ℕ). b ≢ 0))
     (λ offset. in_whole o o.header.shstrndx offset)
 
 pub name_bytes : (o : Object) (s : ℕ) (bytes : List ℕ)
