@@ -1,24 +1,32 @@
 -- The changes of copy and its faults, as they are stated.
-use Rattle.std.specs.Prelude.{◌≡◌, true, List, map, Option, Some, None, Result, Ok, Err}
+use Rattle.std.specs.Prelude.{◌≡◌, ℕ, true, List, map, Option, Some, None, Result, Ok, Err}
 use Rattle.std.specs.List.{list_all}
 use Rattle.elf_types.specs.declared.errors.ElfError.{ElfError}
-use Rattle.elf_types.specs.Answers.{FollowsBy, stated_refusal}
+use Rattle.elf_types.specs.declared.errors.ElfError.TheVariants.{Memory, Read, Write}
+use Rattle.elf_types.specs.Answers.{stated_refusal}
 use Rattle.tool_text.specs.Reading.{is_section_name}
 use Rattle.command_objects.specs.Copied.{Changes as StatedChanges, CopyFault as StatedFault}
-use Rattle.command_objects.specs.Copied.CopyFault as stated_faults
+use Rattle.copy_changes.specs.declared.changes.NameBytes.{NameBytes}
+use Rattle.copy_changes.specs.declared.changes.NameBits.{NameBits}
 use Rattle.copy_changes.specs.declared.changes.Changes.{Changes}
 use Rattle.copy_changes.specs.declared.faults.CopyFault.{CopyFault}
 use Rattle.copy_changes.specs.declared.faults.CopyFault.TheVariants as faults
 
 -- ---- Changes
 
+abbrev pub bytes_pair : NameBytes → List ℕ × List ℕ
+bytes_pair n = (n.name, n.bytes)
+
+abbrev pub bits_pair : NameBits → List ℕ × ℕ
+bits_pair n = (n.name, n.bits)
+
 abbrev pub stated_changes : Changes → StatedChanges
 stated_changes c = record {
   remove = c.remove;
-  update = map (λ n. (n.name, n.bytes)) c.update;
-  rename = map (λ n. (n.name, n.bytes)) c.rename;
-  flags = map (λ n. (n.name, n.bits)) c.flags;
-  add = map (λ n. (n.name, n.bytes)) c.add;
+  update = map bytes_pair c.update;
+  rename = map bytes_pair c.rename;
+  flags = map bits_pair c.flags;
+  add = map bytes_pair c.add;
 }
 
 -- no name that a section gets holds a NUL byte, so that a string table can hold it
@@ -30,19 +38,31 @@ pub record HasPlainNames (c : Changes) : Type 0 where
 
 abbrev pub strip_fault : Option ElfError → Option StatedFault
 strip_fault None = None
-strip_fault (Some e) = Some (stated_faults.Strip e)
+strip_fault (Some e) = Some (StatedFault.Strip e)
 
 -- the fault that is stated for one that came; none for want of memory and for a failed read
 abbrev pub stated_fault : CopyFault → Option StatedFault
-stated_fault (faults.NoSection name) = Some (stated_faults.NoSection name)
-stated_fault (faults.NoBytes name) = Some (stated_faults.NoBytes name)
-stated_fault (faults.Allocated name) = Some (stated_faults.Allocated name)
-stated_fault (faults.Fixed name) = Some (stated_faults.Fixed name)
-stated_fault faults.NoTable = Some stated_faults.NoTable
+stated_fault (faults.NoSection name) = Some (StatedFault.NoSection name)
+stated_fault (faults.NoBytes name) = Some (StatedFault.NoBytes name)
+stated_fault (faults.Allocated name) = Some (StatedFault.Allocated name)
+stated_fault (faults.Fixed name) = Some (StatedFault.Fixed name)
+stated_fault faults.NoTable = Some StatedFault.NoTable
 stated_fault (faults.Strip e) = strip_fault (stated_refusal e)
 
--- a step's answer without its value: of the faults those of a descriptor alone, since no other one
--- has its cause in memory or in a source
+-- a fault with a name is the stated one, or there was no memory for the name
+abbrev pub IsFault : StatedFault → CopyFault → Type 0
+IsFault fault (faults.Strip e) = e ≡ Memory
+IsFault fault came = stated_fault came ≡ Some fault
+
+-- no read failed, and nothing was written
+abbrev pub IsUnread : {T : Type 0} → Result T CopyFault → Type 0
+IsUnread (Ok x) = Unit {0}
+IsUnread (Err (faults.Strip Read)) = ⊥
+IsUnread (Err (faults.Strip Write)) = ⊥
+IsUnread (Err fault) = Unit {0}
+
+-- an answer without its value: of the faults those of a descriptor alone, since no other one has
+-- its cause in memory or in a source
 abbrev pub outer_result : {T : Type 0} → Result T CopyFault → Result (Unit {0}) ElfError
 outer_result (Ok x) = Ok tt
 outer_result (Err (faults.Strip e)) = Err e

@@ -2,7 +2,9 @@
 #![tactic(auto)]
 
 mod changes;
+mod faulting;
 mod faults;
 
 pub use changes::{Changes, NameBits, NameBytes};
+pub use faulting::{fault_allocated, fault_fixed, fault_no_bytes, fault_no_section};
 pub use faults::CopyFault;
