@@ -14,7 +14,7 @@ use Rattle.command_objects.specs.Copied.{Changes, CopyFault, or_strip, names_in,
 use Rattle.command_objects.specs.KeepingLaws.{or_nowhere, chosen_for_bytes, chosen_for_names, chosen_for_flags, or_old, chosen, without_places}
 use Rattle.strip_laws.proofs.ArrangedLaws.{arranged_keeps}
 use Rattle.strip_laws.proofs.MadeSections.{section_placed}
-use Rattle.copy_laws.proofs.EachChange.{Follows, SameHeader, SamePieces, follows_itself, follows_both, pieces_itself, pieces_both, or_strip_ok, updated_known, updated_follows, updated_header, updated_pieces, flagged_known, flagged_follows, flagged_header, flagged_pieces, added_known, added_follows}
+use Rattle.copy_laws.proofs.EachChange.{Follows, KeepsHeader, SamePieces, follows_itself, follows_both, pieces_itself, pieces_both, or_strip_ok, updated_known, updated_follows, updated_header, updated_pieces, flagged_known, flagged_follows, flagged_header, flagged_pieces, added_known, added_follows}
 use Rattle.copy_laws.proofs.NamesAndPlaces.{named_known, names_follow, names_header, names_pieces, places_header, places_pieces, places_follow}
 
 -- ---- One after the other
@@ -119,10 +119,10 @@ flags_follow names = in_turn_each Follows (with_section_flags names) follows_its
 
 pub flags_header : (names : List (Option (List ℕ))) (o : Object) (l : List (List ℕ × ℕ))
     (p : Object) (s : ℕ) → in_turn (with_section_flags names) o l ≡ Ok p
-    → is_among (chosen_for_flags names l) s ≡ false → SameHeader o p s
+    → is_among (chosen_for_flags names l) s ≡ false → KeepsHeader o p s
 unfolding in_turn
 flags_header names o [] p s e none =
-    let same : o ≡ p = cc in subst (λ (q : Object). SameHeader o q s) same refl
+    let same : o ≡ p = cc in subst (λ (q : Object). KeepsHeader o q s) same refl
 flags_header names o (x ∷ l) p s e none =
     let next = bind_ok (with_section_flags names o x)
     (λ b. in_turn (with_section_flags names) b l) p e in
@@ -207,7 +207,7 @@ changed_known c renewed o p e =
 -- what the last step, the names, leaves of sections and front
 pub record NamesLeave (o p : Object) : Type 0 where
   pub follows : Follows o p
-  pub header : (s : ℕ) → s < length o.sections → SameHeader o p s
+  pub header : (s : ℕ) → s < length o.sections → KeepsHeader o p s
   pub pieces : (s : ℕ) → s < length o.sections → s ≢ o.header.shstrndx → SamePieces o p s
 
 pub names_leave : (b : Bool) (renewed : Bool) (o : Object) (names : List (Option (List ℕ)))
@@ -249,7 +249,7 @@ pub record ChangesLeave (c : Changes) (renewed : Bool) (o p : Object) : Type 0 w
   pub known : IsChanged c renewed o p
   pub follows : Follows o p
   pub header : (s : ℕ) → s < length o.sections
-      → is_among (chosen_for_flags known.names c.flags) s ≡ false → SameHeader o p s
+      → is_among (chosen_for_flags known.names c.flags) s ≡ false → KeepsHeader o p s
   pub pieces : (s : ℕ) → s < length o.sections → s ≢ o.header.shstrndx
       → SamePieces known.updated p s
 
@@ -329,7 +329,7 @@ not_chosen c renewed o p s k none =
 
 pub record PlacesLeave (o p : Object) : Type 0 where
   pub follows : Follows o p
-  pub header : (s : ℕ) → s < length o.sections → SameHeader o p s
+  pub header : (s : ℕ) → s < length o.sections → KeepsHeader o p s
   pub pieces : (s : ℕ) → s < length o.sections → SamePieces o p s
 
 pub places_leave : (old new : Rebuilt) → arranged old ≡ Ok new → PlacesLeave old.object new.object
@@ -374,7 +374,7 @@ places_names old new e =
 
 -- ---- What copy makes
 
-pub record IsMade (c : Changes) (o : Object) (m : Rebuilt) : Type 0 where
+pub record IsMadeByCopy (c : Changes) (o : Object) (m : Rebuilt) : Type 0 where
   pub first : Rebuilt
   pub is_first : rebuilt o (removed_by_name c.remove o) ≡ Ok first
   pub changed : Object
@@ -383,7 +383,7 @@ pub record IsMade (c : Changes) (o : Object) (m : Rebuilt) : Type 0 where
   pub places : PlacesLeave changed m.object
   pub named : KeepsNames changed m.object
 
-pub made_known : (c : Changes) (o : Object) (m : Rebuilt) → copied c o ≡ Ok m → IsMade c o m
+pub made_known : (c : Changes) (o : Object) (m : Rebuilt) → copied c o ≡ Ok m → IsMadeByCopy c o m
 unfolding copied
 made_known c o m e =
     let removed = removed_by_name c.remove o in

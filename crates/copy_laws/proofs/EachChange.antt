@@ -33,8 +33,8 @@ pub record Follows (old new : Object) : Type 0 where
   pub count : length old.sections ≤ length new.sections
 
 -- a section's header but for its name and its place
-abbrev pub SameHeader : Object → Object → ℕ → Type 0
-SameHeader old new s = without_places (header_at new s) ≡ without_places (header_at old s)
+abbrev pub KeepsHeader : Object → Object → ℕ → Type 0
+KeepsHeader old new s = without_places (header_at new s) ≡ without_places (header_at old s)
 
 -- a section's type and its pieces
 pub record SamePieces (old new : Object) (s : ℕ) : Type 0 where
@@ -92,9 +92,9 @@ pub first_test : {E : Type 0} (test : Bool) (e : E) (rest : List (Option E))
 first_test true e rest h = cc
 first_test false e rest h = refl
 
-pub positive : (n : ℕ) → (n == 0) ≡ false → 0 < n
-positive zero e = cc
-positive (suc n) e = omega arith
+pub positive_by_test : (n : ℕ) → (n == 0) ≡ false → 0 < n
+positive_by_test zero e = cc
+positive_by_test (suc n) e = omega arith
 
 -- ---- Other bytes
 
@@ -133,7 +133,7 @@ updated_known o change p e =
       filled = subst (λ (k : ℕ). occupies_file (header_at o k) ≡ true) tested.1
           (not-false (occupies_file (header_at o found.0))
           (first_test (not (occupies_file (header_at o found.0))) (NoBytes change.0) _ tested.0));
-      from = positive n two.0;
+      from = positive_by_test n two.0;
       below = leb-false (length o.sections) n one.0;
       some = leb-false (piece_count o n) 0 three.0;
       is = sym made.2;
@@ -156,9 +156,9 @@ pub follows_own : (o : Object) (n p : ℕ) (own : Items) → Follows o (with_own
 unfolding with_own with_piece_at
 follows_own o n p own = follows_section o n _
 
-pub own_header : (o : Object) (n s : ℕ) (own : Items) → s < length o.sections
+pub header_stays_own : (o : Object) (n s : ℕ) (own : Items) → s < length o.sections
     → header_at (with_own o n 0 own) s ≡ header_at o s
-own_header o n s own below = elim (cases_eq s n) [
+header_stays_own o n s own below = elim (cases_eq s n) [
   | inl same ↦ subst (λ (k : ℕ). header_at (with_own o k 0 own) s ≡ header_at o s) same
       (ap (λ (c : Section). c.header) (section_at-with_own o s 0 own below))
   | inr other ↦ ap (λ (c : Section). c.header) (section_at-with_own_other o n s 0 own other)
@@ -182,7 +182,7 @@ pub updated_header : (o : Object) (change : List ℕ × List ℕ) (p : Object) (
     → IsUpdated o change p → s < length o.sections → header_at p s ≡ header_at o s
 updated_header o change p s k below =
     ap (λ (q : Object). header_at q s) k.is
-    ∙ own_header o k.number s (items.Bytes change.1) below
+    ∙ header_stays_own o k.number s (items.Bytes change.1) below
 
 pub updated_pieces : (o : Object) (change : List ℕ × List ℕ) (p : Object) (s : ℕ)
     → (k : IsUpdated o change p) → s ≢ k.number → SamePieces o p s
@@ -258,7 +258,7 @@ flagged_follows names o change p k =
     (follows_shdr o k.number (with_bits change.1 (header_at o k.number)))
 
 pub flagged_header : (names : List (Option (List ℕ))) (o : Object) (change : List ℕ × ℕ)
-    (p : Object) (s : ℕ) → (k : IsFlagged names o change p) → s ≢ k.number → SameHeader o p s
+    (p : Object) (s : ℕ) → (k : IsFlagged names o change p) → s ≢ k.number → KeepsHeader o p s
 flagged_header names o change p s k other =
     ap (λ (q : Object). without_places (header_at q s)) k.is
     ∙ ap (λ (c : Section). without_places c.header)
@@ -273,7 +273,7 @@ flagged_pieces names o change p s k below =
 -- ---- New sections
 
 -- of an object that has sections: one more behind them, which has these bytes
-pub record IsAdded (o : Object) (bytes : List ℕ) (p : Object) : Type 0 where
+pub record IsAddedLast (o : Object) (bytes : List ℕ) (p : Object) : Type 0 where
   pub follows : Follows o p
   pub count : length p.sections ≡ length o.sections + 1
   pub others : (s : ℕ) → s < length o.sections → section_at p s ≡ section_at o s
@@ -357,7 +357,7 @@ one_more : Object → ℕ → List ℕ → Object
 one_more o n bytes = with_new_piece (with_shdr (grown o) n added_header) n (items.Bytes bytes) 1
 
 one_more_is : (o : Object) (bytes : List ℕ)
-    → IsAdded o bytes (one_more o (length o.sections) bytes)
+    → IsAddedLast o bytes (one_more o (length o.sections) bytes)
 unfolding one_more
 one_more_is o bytes =
     let n = length o.sections in
@@ -433,7 +433,7 @@ added_follows o change p e =
     (follows_piece b s own)))
 
 pub added_known : (o : Object) (change : List ℕ × List ℕ) (p : Object)
-    → with_added o change ≡ Ok p → 0 < length o.sections → IsAdded o change.1 p
+    → with_added o change ≡ Ok p → 0 < length o.sections → IsAddedLast o change.1 p
 unfolding one_more
 added_known o change p e some =
     let s = new_number o in
@@ -447,4 +447,4 @@ added_known o change p e some =
     ∙ sym (ap (λ (q : Object). with_new_piece (with_shdr q s added_header) s own 1)
     (grown_is o none))
     ∙ added_is o change p e in
-    subst (λ (q : Object). IsAdded o change.1 q) all (one_more_is o change.1)
+    subst (λ (q : Object). IsAddedLast o change.1 q) all (one_more_is o change.1)

@@ -32,10 +32,10 @@ use Rattle.command_objects.specs.KeepingLaws.{IsCopied, IsLeft, chosen_for_bytes
 use Rattle.strtab_build.specs.Table.{place_of}
 use Rattle.strip_laws.proofs.KeptLaws.{IsInRange, kept_in_range}
 use Rattle.copy_laws.proofs.SameItems.{opened_at}
-use Rattle.copy_laws.proofs.EachChange.{pieces_both, positive}
+use Rattle.copy_laws.proofs.EachChange.{pieces_both, positive_by_test}
 use Rattle.copy_laws.proofs.AllChanges.{bytes_follow, bytes_header, bytes_pieces, not_chosen}
 use Rattle.copy_laws.proofs.Reopened.{front_is, IsReopened, reopened_index, reopened_inside, placed_name}
-use Rattle.copy_laws.proofs.KeptSections.{same_index, plain_header, made_of_section, made_count, passed_at, raw_inside, has_bytes}
+use Rattle.copy_laws.proofs.KeptSections.{same_index, plain_header, made_of_section, made_count, passed_at, raw_inside, remade_bytes}
 use Rattle.copy_laws.proofs.CopySteps.{KeepsAll}
 use Rattle.copy_laws.proofs.GivenBytes.{given_bytes, index_below}
 use Rattle.copy_laws.proofs.SectionStrings.{blocks_are, IsStringSection, opened_strings, own_strings, same_string}
@@ -119,7 +119,7 @@ table_alike back c before after r t offset k all stays plain from below in_after
           ∙ type-placed (places_of m) m t (header_at m t)
           ∙ stype;
       raw = again.raw
-          ∙ has_bytes back before m t to.ok at passed from
+          ∙ remade_bytes back before m t to.ok at passed from
           (and_left (renews_names before []) (t == before.header.shstrndx) plain)
           (all.follows.class ∙ front.class) (all.follows.order ∙ front.order) stype
           (pieces.pieces ∙ ap (λ (x : Section). x.pieces) made);
@@ -167,7 +167,7 @@ plain_names back c before after r s k all left stays plain =
     let below = table_below c before after r k.made all (omega (arith, there)) in
     let in_made = all.in_made before.header.shstrndx below in
     named_alike after before s index name (λ full offset.
-    let some = positive before.header.shstrndx full in
+    let some = positive_by_test before.header.shstrndx full in
     table_alike back c before after r before.header.shstrndx offset k all stays plain
     (omega (arith, some)) below (omega (arith, in_made, count)))
 

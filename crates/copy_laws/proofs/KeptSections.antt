@@ -139,7 +139,7 @@ pub record HasSection (o m : Object) (s : ℕ) : Type 0 where
       → length (file_bytes m s) ≡ (header_at m s).size
 
 -- its bytes, with the pieces that it is made with
-pub has_bytes :
+pub remade_bytes :
     (back : (kind : Kind) (class : Class) (order : Order) (bytes : List ℕ)
     → EncodesAsDecoded kind class order bytes)
     (o m : Object) (s : ℕ) → IsObject o → IsOpenedAt o s → kept_refusal o [] s ≡ None → 1 ≤ s
@@ -149,7 +149,7 @@ pub has_bytes :
     → (section_at m s).pieces ≡ (made_section (rebuilt_header o [] s) (rebuilt_items o [] s)).pieces
     → file_bytes m s ≡ (section_at o s).raw
 unfolding rebuilt_items
-has_bytes back o m s ok at passed from plain class order stype pieces =
+remade_bytes back o m s ok at passed from plain class order stype pieces =
     by_type (occupies_file (header_at o s)) refl
   where
     same : occupies_file (header_at m s) ≡ occupies_file (header_at o s)
@@ -188,7 +188,7 @@ pub has_section :
 has_section back o m s ok at passed from plain class order header pieces =
     let stype : (header_at m s).stype ≡ (header_at o s).stype =
     ap (λ (h : Shdr). h.stype) header in
-    let bytes = has_bytes back o m s ok at passed from plain class order stype pieces in
+    let bytes = remade_bytes back o m s ok at passed from plain class order stype pieces in
     record {
       header = header;
       bytes = bytes;

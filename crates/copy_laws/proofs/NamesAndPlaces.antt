@@ -23,7 +23,7 @@ use Rattle.command_objects.specs.Copied.{or_strip, named_section, with_names, na
 use Rattle.command_objects.specs.Copied.CopyFault.{NoTable}
 use Rattle.command_objects.specs.KeepingLaws.{without_places}
 use Rattle.strip_laws.proofs.MadeSections.{section_placed}
-use Rattle.copy_laws.proofs.EachChange.{Follows, SameHeader, SamePieces, follows_itself, follows_both, or_strip_ok, first_test, follows_own, own_header, own_pieces}
+use Rattle.copy_laws.proofs.EachChange.{Follows, KeepsHeader, SamePieces, follows_itself, follows_both, or_strip_ok, first_test, follows_own, header_stays_own, own_pieces}
 
 -- ---- The table of the names
 
@@ -105,12 +105,12 @@ names_follow o names =
     (follows_own (headed o names) o.header.shstrndx 0 (items.Bytes (table names)))
 
 pub names_header : (o : Object) (names : List (List ℕ)) (s : ℕ) → s < length o.sections
-    → SameHeader o (with_names o names) s
+    → KeepsHeader o (with_names o names) s
 unfolding with_names headed
 names_header o names s below =
     let count = headed_count o names in
     ap without_places
-    (own_header (headed o names) o.header.shstrndx s (items.Bytes (table names))
+    (header_stays_own (headed o names) o.header.shstrndx s (items.Bytes (table names))
     (omega (arith, below, count)))
     ∙ ap (λ (c : Section). without_places c.header) (headed_at o names s below)
     ∙ (named_section_kept names s (section_at o s)).header
@@ -146,7 +146,7 @@ unfolding with_names headed
 names_place o names s below from =
     let count = headed_count o names in
     ap (λ (h : Shdr). h.name)
-    (own_header (headed o names) o.header.shstrndx s (items.Bytes (table names))
+    (header_stays_own (headed o names) o.header.shstrndx s (items.Bytes (table names))
     (omega (arith, below, count)))
     ∙ ap (λ (c : Section). c.header.name) (headed_at o names s below)
     ∙ place_named names s (section_at o s) from
@@ -184,7 +184,7 @@ from_kept o tail s c = by_place (place_from o tail s)
     by_place (Some at) = record { header = refl; pieces = refl }
 
 pub places_header : (o : Object) (tail s : ℕ) → s < length o.sections
-    → SameHeader o (placed_from o tail) s
+    → KeepsHeader o (placed_from o tail) s
 places_header o tail s below =
     ap (λ (c : Section). without_places c.header) (section_placed o tail s below)
     ∙ (from_kept o tail s (section_at o s)).header
