@@ -19,11 +19,12 @@ use Rattle.command_objects.specs.Laws.{AreChanges}
 use Rattle.command_objects.specs.KeepingLaws.{IsCopied, rebuilt_for}
 use Rattle.strip_laws.proofs.RebuiltLaws.{IsRebuilt, rebuilt_known}
 use Rattle.strip_laws.proofs.CopyLaws.{copied_is_object}
+use Rattle.strip_laws.proofs.WrittenLaws.{ok_same, opens_again, settled_again}
 use Rattle.copy_laws.specs.CopyOpens.{CopyOpens}
 use Rattle.copy_laws.proofs.NoneRemoved.{none_removed}
 use Rattle.copy_laws.proofs.EachChange.{Follows, follows_both}
 use Rattle.copy_laws.proofs.AllChanges.{made_known, ChangesLeave, changes_leave, changes_follow, PlacesLeave, places_leave, KeepsNames, places_names}
-use Rattle.copy_laws.proofs.Reopened.{front_is, ok_same, opens, reopened, IsReopened, reopened_at}
+use Rattle.copy_laws.proofs.Reopened.{front_is, marked_dirty, IsReopened, reopened_at}
 use Rattle.copy_laws.proofs.KeptSections.{made_count, same_index}
 
 -- ---- What is written opens again
@@ -57,8 +58,10 @@ copied_can_reopen c image before m are bytes is e =
 
 pub copy_opens : (reopens : (o : Object) → ReopenLaw o) → CopyOpens
 copy_opens reopens c image before m out are bytes is e written =
-    let w = copied_can_reopen c image before m are bytes is e in
-    (as_opened (settle m.object), opens reopens m.object out w.object w.phdrs w.marked written)
+    let w = copied_can_reopen c image before m are bytes is e in (
+      as_opened (settle m.object),
+      opens_again reopens m.object out w.object w.phdrs (marked_dirty m.object w.marked) written,
+    )
 
 -- ---- Its steps
 
@@ -93,8 +96,8 @@ copied_to reopens c before after r are k e some =
     known.is in
     let changes = changes_leave c renewed r.object made.changed some is_changed in
     let w = copied_can_reopen c k.image before k.made are k.bytes k.is_before k.is_made in
-    let is = reopened reopens k.made.object after k.out w.object w.phdrs w.marked k.is_out
-    k.is_after in
+    let is = settled_again reopens k.made.object after k.out w.object w.phdrs
+    (marked_dirty k.made.object w.marked) k.is_out k.is_after in
     record {
       ok = opened_is k.image before k.bytes k.is_before;
       base = base;

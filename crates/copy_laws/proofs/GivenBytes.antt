@@ -38,10 +38,11 @@ use Rattle.strip_laws.proofs.ArrangedLaws.{arranged_keeps}
 use Rattle.strip_laws.proofs.KeptLaws.{IsInRange, kept_first, kept_in_range, first_stays}
 use Rattle.strip_laws.proofs.RebuiltLaws.{rebuilt_known}
 use Rattle.strip_laws.proofs.MadeSections.{bytes_encoded}
+use Rattle.strip_laws.proofs.WrittenLaws.{ok_same}
 use Rattle.copy_laws.proofs.EachChange.{pieces_both, IsUpdated, updated_known, updated_header, IsFlagged, flagged_known, shdr_count_kept, added_known}
 use Rattle.copy_laws.proofs.NamesAndPlaces.{named_known, places_pieces}
 use Rattle.copy_laws.proofs.AllChanges.{in_turn_each, made_known, changed_known, places_leave, added_grow, bytes_pieces, bytes_follow, flags_follow, names_leave}
-use Rattle.copy_laws.proofs.Reopened.{front_is, ok_same, piece_bytes_are}
+use Rattle.copy_laws.proofs.Reopened.{front_is, piece_bytes_are}
 use Rattle.copy_laws.proofs.KeptSections.{same_filled}
 use Rattle.copy_laws.proofs.CopySteps.{copied_to}
 

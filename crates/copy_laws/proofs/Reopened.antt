@@ -1,16 +1,13 @@
 -- What copy writes, opened again, and its sections.
-use Rattle.std.proofs.Common.{◌≡◌, ℕ, ◌<◌, Bool, true, false, List, [], ◌∷◌, length, Option, Some, None, Result, Ok, refl, sym, ap, ◌∙◌, arith}
-use Rattle.std.specs.Prelude.{All, if◌then◌else◌, ◌==◌, ◌||◌, map}
+use Rattle.std.proofs.Common.{◌≡◌, ℕ, ◌<◌, Bool, true, false, List, [], ◌∷◌, length, Option, Some, None, Ok, refl, sym, ap, ◌∙◌, arith}
+use Rattle.std.specs.Prelude.{if◌then◌else◌, ◌==◌, ◌||◌, map}
 use Rattle.std.specs.List.{enumerate_from}
 use Rattle.std.proofs.lemmas.Bool.{or_left, or_right, ne_eqb}
 use Rattle.std.proofs.lemmas.List.{length-map}
 use Rattle.std.proofs.lemmas.List.FromFn.{length-enumerate_from}
 use Rattle.elf_types.specs.declared.records.Shdr.{Shdr}
-use Rattle.elf_types.specs.declared.errors.ElfError.{ElfError}
 use Rattle.elf_xlate.specs.declared.content.Items.{Items}
-use Rattle.elf_xlate.specs.Headers.{IsPhdr}
 use Rattle.elf_xlate.specs.Translation.{encoded}
-use Rattle.elf_ident.proofs.Refusals.{answered_ok}
 use Rattle.elf_layout.specs.declared.parts.Places.{Places}
 use Rattle.elf_object.specs.Blocks.{stacked, last_end, spread}
 use Rattle.elf_object.specs.Object.{Object, Section, Piece, section_at, header_of, occupies_file, is_null, is_dirty, some_section_marked}
@@ -19,12 +16,10 @@ use Rattle.elf_object.specs.Joined.{piece_bytes, aligned_pieces, piece_blocks, p
 use Rattle.elf_object.specs.Derived.{where_any, derived_header, numbered_shdr}
 use Rattle.elf_object.specs.Layout.{places_of, placed_header, placed_shdr, placed_by, section_place}
 use Rattle.elf_object.specs.Image.{image}
-use Rattle.elf_object.specs.Refusal.{refusal}
 use Rattle.elf_object.specs.Settled.{settled_section, settled_over, settle}
 use Rattle.elf_object.specs.Steps.{own_piece, with_ehdr, with_phdrs, stored_ehdr}
-use Rattle.elf_object.specs.Valid.{IsObject, IsTied, as_opened}
+use Rattle.elf_object.specs.Valid.{as_opened}
 use Rattle.elf_object.proofs.SettledSections.{section_at-settled}
-use Rattle.object_laws.specs.Laws.{ReopenLaw}
 use Rattle.object_laws.proofs.ImageLaws.{section_at-placed, placed-dirty}
 use Rattle.object_laws.proofs.ItemLaws.{alone_spread}
 use Rattle.object_laws.proofs.SettledLaws.{settle-dirty, section_extent}
@@ -33,7 +28,6 @@ use Rattle.object_laws.proofs.AgainLaws.{placed_section_header}
 use Rattle.command_objects.specs.Words.{header_at}
 use Rattle.command_objects.specs.Arranged.{over_base}
 use Rattle.command_objects.specs.Rebuilt.{rebuilt_object, rebuilt_index, rebuilt_sections, rebuilt_tail, assembled}
-use Rattle.command_objects.specs.Files.{file_of}
 use Rattle.command_objects.specs.KeepingLaws.{without_places}
 use Rattle.copy_laws.proofs.SameItems.{opened_inside}
 
@@ -81,33 +75,6 @@ marked_dirty o marked =
     (or_right o.marked o.header_marked marked))
 
 -- ---- The image, opened again
-
-ok_inner : {A E : Type 0} (a b : A) → ◌≡◌ {A = Result A E} (Ok a) (Ok b) → a ≡ b
-ok_inner a b h = cc
-
-pub ok_same : {A E : Type 0} (r : Result A E) (a b : A) → r ≡ Ok a → r ≡ Ok b → a ≡ b
-ok_same {A} {E} r a b e f = ok_inner {A = A} {E = E} a b (sym e ∙ f)
-
-pub written_of : (o : Object) (out : List ℕ) → file_of o ≡ Ok out
-    → (refusal o ≡ None) × (image o ≡ out)
-unfolding file_of
-written_of o out e = answered_ok (refusal o) (image o) out e
-
-pub opens : (reopens : (o : Object) → ReopenLaw o) (m : Object) (out : List ℕ) → IsObject m
-    → All IsPhdr m.phdrs → m.header_marked ≡ true → file_of m ≡ Ok out
-    → opened out ≡ Ok (as_opened (settle m))
-opens reopens m out ok ranged marked written =
-    let both = written_of m out written in
-    let dirty = marked_dirty m marked in
-    let tied : IsTied m = λ clean. absurd (let clash : true ≡ false = sym dirty ∙ clean in cc) in
-    sym (ap opened both.1) ∙ reopens m ok ranged tied both.0
-
-pub reopened : (reopens : (o : Object) → ReopenLaw o) (m after : Object) (out : List ℕ)
-    → IsObject m → All IsPhdr m.phdrs → m.header_marked ≡ true → file_of m ≡ Ok out
-    → opened out ≡ Ok after → after ≡ as_opened (settle m)
-reopened reopens m after out ok ranged marked written is =
-    ok_same {A = Object} {E = ElfError} (opened out) after (as_opened (settle m)) is
-    (opens reopens m out ok ranged marked written)
 
 -- a section of it
 pub record IsReopened (m after : Object) (s : ℕ) : Type 0 where

@@ -1,7 +1,7 @@
 -- What rehash writes of an image, opened again, keeps what a lookup finds.
 use Rattle.std.proofs.Common.{◌≡◌, ◌<◌, ◌≤◌, ◌⊎◌, inl, inr, ◌==◌, ◌||◌, ℕ, Bool, true, false, not, List, [], ◌∷◌, length, get_or, set, All, Option, Some, None, Result, Ok, Err, refl, sym, ap, ◌∙◌, subst, arith}
 use Rattle.std.specs.Prelude.{if◌then◌else◌}
-use Rattle.std.proofs.lemmas.Bool.{both_ways, cases_eq, cases_lt, lt-leb}
+use Rattle.std.proofs.lemmas.Bool.{cases_eq, cases_lt, lt-leb}
 use Rattle.std.proofs.lemmas.List.{get_or-map, get_or_past, length-map}
 use Rattle.elf_types.specs.Kinds.{section_kind}
 use Rattle.elf_types.specs.Answers.{refused_if, err_of}
@@ -27,8 +27,8 @@ use Rattle.elf_object.specs.Refusal.{refusal}
 use Rattle.elf_object.specs.Settled.{settled_section, settle}
 use Rattle.elf_object.specs.Steps.{own_piece}
 use Rattle.elf_object.specs.Strings.{readable, string_answer}
-use Rattle.elf_object.specs.Valid.{IsObject, IsTied, as_opened}
-use Rattle.elf_object.proofs.AnswerLaws.{answered_value, items_kind_at, lend_passed}
+use Rattle.elf_object.specs.Valid.{IsObject, as_opened}
+use Rattle.elf_object.proofs.AnswerLaws.{items_kind_at, lend_passed}
 use Rattle.elf_object.proofs.SettledSections.{section_at-settled}
 use Rattle.elf_object.proofs.StepLaws.{same_kind-same}
 use Rattle.object_laws.specs.Laws.{ReopenLaw, SettlingKeepsItems}
@@ -37,7 +37,7 @@ use Rattle.object_laws.proofs.KeepLaws.{section_at_is}
 use Rattle.object_laws.proofs.LawsHold.{beginnings_are}
 use Rattle.object_laws.proofs.StandLaws.{section_count-placed}
 use Rattle.strip_laws.proofs.RehashLaws.{rehashed_is_object}
-use Rattle.command_objects.specs.Files.{file_of}
+use Rattle.strip_laws.proofs.WrittenLaws.{written_known, settled_again}
 use Rattle.command_objects.specs.Words.{header_at}
 use Rattle.command_objects.specs.Laws.{RehashKeepsLookup, RehashLaw}
 use Rattle.hash_laws.proofs.SameLaws.{no_string_at, StringsAlike, names_alike}
@@ -398,27 +398,19 @@ module _ (before o : Object) (s : ℕ) (ok_before : IsObject before) (ok : IsObj
 
 -- ---- The law
 
-same_value : {A E : Type 0} (x y : A) → ◌≡◌ {A = Result A E} (Ok x) (Ok y) → x ≡ y
-same_value x y is = cc
-
 pub rehash_law : ((o : Object) → ReopenLaw o) → ((o : Object) → SettlingKeepsItems o)
     → RehashLaw
-unfolding file_of
 rehash_law reopens keeps before after s is zeroth =
     let ok = beginnings_are.from_image is.image before is.bytes is.is_before in
     let done = rehash_ends before is.edited s is.table is.is_edited in
     let made_ok = rehashed_is_object before is.edited ok is.is_edited in
-    let made = answered_value (refusal is.edited) (image is.edited) is.out is.is_out in
-    let tied : IsTied is.edited = λ clean.
-    absurd (both_ways (is_dirty is.edited) clean done.dirty) in
+    let made = written_known is.edited is.out is.is_out in
     let phdrs : All IsPhdr is.edited.phdrs =
     subst (λ (l : List Phdr). All IsPhdr l) (sym done.way.strings.phdrs)
     (beginnings_are.phdrs is.image before is.bytes is.is_before) in
-    let again : opened (image is.edited) ≡ Ok (as_opened (settle is.edited)) =
-    reopens is.edited made_ok phdrs tied made.0 in
     let same : as_opened (settle is.edited) ≡ after =
-    same_value (as_opened (settle is.edited)) after
-    (sym again ∙ ap opened (sym made.1) ∙ is.is_after) in
+    sym (settled_again reopens is.edited after is.out made_ok phdrs done.dirty is.is_out
+    is.is_after) in
     subst (λ (p : Object). RehashKeepsLookup before p s) same
     (kept_in_image before is.edited s ok made_ok (table_type before s is.table) done zeroth made.0
     (keeps is.edited) (opened_at is.image before is.is_before))

@@ -21,8 +21,8 @@ use Rattle.command_objects.specs.Split.{UnstripFault, unstripped}
 use Rattle.command_objects.specs.Files.{file_of}
 use Rattle.command_objects.specs.KeepingLaws.{IsSplit, SameButPlaces, CombinesAgain, SplitLaw}
 use Rattle.strip_laws.proofs.KeptLaws.{first_stays}
+use Rattle.strip_laws.proofs.WrittenLaws.{ok_same, opens_again}
 use Rattle.split_laws.specs.Halves.{HalvesCombine}
-use Rattle.split_laws.proofs.Again.{opens_again}
 use Rattle.split_laws.proofs.DebugHalf.{debug_half_written}
 use Rattle.split_laws.proofs.StrippedHalf.{stripped_written}
 use Rattle.tool_text.specs.declared.commands.StripOptions.{StripOptions}
@@ -59,8 +59,7 @@ unfolding strip_done
 split_of options named file image debug whole done asked held is_whole e =
     let found = bind_ok (object_named named file) _ done e in
     let opens = named_opens named file image found.0 held found.1 in
-    let same : found.0 ≡ whole =
-    let both : Ok found.0 ≡ Ok whole = sym opens ∙ is_whole in cc in
+    let same : found.0 ≡ whole = ok_same (opened image) found.0 whole opens is_whole in
     let by_debug : Option (List ℕ) → Result Done Complaint = λ d. elim d [
       | None ↦ strip_alone found.0
           (removed_sections options.debug_only options.names found.0) options.out file
@@ -210,12 +209,12 @@ split_files_rejoin reopens combine law options named file image whole later out 
     writes
     ∙ second_held options.out was.debug_out files.bytes files.debug_bytes (named was.debug_out)
     was.apart in
-    let one = opens_again reopens files.made.object files.bytes
-    (stripped_written removed whole image files.made files.bytes was.bytes was.is_whole stays
-    files.is_made files.is_bytes) in
-    let other = opens_again reopens files.half files.debug_bytes
-    (debug_half_written whole image files.half files.debug_bytes was.bytes was.is_whole
-    files.is_half files.is_debug_bytes) in
+    let w = stripped_written removed whole image files.made files.bytes was.bytes was.is_whole stays
+    files.is_made files.is_bytes in
+    let one = opens_again reopens files.made.object files.bytes w.ok w.phdrs w.dirty w.written in
+    let v = debug_half_written whole image files.half files.debug_bytes was.bytes was.is_whole
+    files.is_half files.is_debug_bytes in
+    let other = opens_again reopens files.half files.debug_bytes v.ok v.phdrs v.dirty v.written in
     let s = as_opened (settle files.made.object) in
     let d = as_opened (settle files.half) in
     let split : IsSplit removed whole s d = record {

@@ -1,6 +1,6 @@
 -- An object that was made anew, as its image is opened again: its front, and its sections by
 -- number.
-use Rattle.std.proofs.Common.{◌≡◌, ℕ, ◌<◌, Bool, true, false, not, ◌||◌, List, [], ◌∷◌, length, None, Ok, refl, sym, ap, ◌∙◌, arith}
+use Rattle.std.proofs.Common.{◌≡◌, ℕ, ◌<◌, Bool, true, false, not, ◌||◌, List, [], ◌∷◌, length, Ok, refl, sym, ap, ◌∙◌, arith}
 use Rattle.std.specs.Prelude.{All, if◌then◌else◌, ◌==◌}
 use Rattle.std.specs.List.{enumerate_from}
 use Rattle.std.proofs.lemmas.Bool.{ne_eqb}
@@ -13,16 +13,14 @@ use Rattle.elf_types.specs.Kinds.{section_kind}
 use Rattle.elf_xlate.specs.Headers.{IsPhdr}
 use Rattle.elf_xlate.specs.Translation.{encoded}
 use Rattle.elf_xlate.specs.declared.content.Items.{Items}
-use Rattle.elf_ident.proofs.Refusals.{answered_ok}
 use Rattle.elf_object.specs.Object.{Object, Section, home_piece, section_at, header_of, occupies_file, is_null, is_dirty}
 use Rattle.elf_object.specs.Open.{home_of, opened}
 use Rattle.elf_object.specs.Joined.{file_bytes}
 use Rattle.elf_object.specs.Derived.{where_any, derived_header, numbered_shdr}
 use Rattle.elf_object.specs.Layout.{places_of, section_place, size_in_file, placed_header, placed_shdr, placed_section, placed_by}
 use Rattle.elf_object.specs.Image.{image}
-use Rattle.elf_object.specs.Refusal.{refusal}
-use Rattle.elf_object.specs.Settled.{settled_section, settled_over, settle}
-use Rattle.elf_object.specs.Valid.{IsObject, IsTied, as_opened}
+use Rattle.elf_object.specs.Settled.{settled_section, settled_over}
+use Rattle.elf_object.specs.Valid.{IsObject, as_opened}
 use Rattle.elf_object.proofs.SettledSections.{section_at-settled}
 use Rattle.object_laws.specs.Laws.{ReopenLaw}
 use Rattle.object_laws.proofs.ImageLaws.{section_at-placed, joined-none, placed-dirty}
@@ -35,6 +33,7 @@ use Rattle.command_objects.specs.KeepingLaws.{SameHeader}
 use Rattle.split_laws.specs.Halves.{without_place}
 use Rattle.strip_laws.proofs.MadeSections.{header_made, made_bytes}
 use Rattle.strip_laws.proofs.PlaceLaws.{section_place_stays}
+use Rattle.strip_laws.proofs.WrittenLaws.{settled_again}
 
 -- ---- The object of an image that was written
 
@@ -60,29 +59,10 @@ written_reopened q out p w again =
 abbrev pub settled_anew : Object → Object
 settled_anew q = settled_over (image q) (placed_by (places_of q) q)
 
-pub written_known : (q : Object) (out : List ℕ) → file_of q ≡ Ok out
-    → (refusal q ≡ None) × (image q ≡ out)
-unfolding file_of
-written_known q out e = answered_ok (refusal q) (image q) out e
-
--- what was written is an image
-pub opens_again : ((o : Object) → ReopenLaw o) → (q : Object) (out : List ℕ) → IsWrittenAs q out
-    → opened out ≡ Ok (as_opened (settle q))
-opens_again reopens q out w =
-    let value = written_known q out w.written in
-    let tied : IsTied q = λ clean. let both : true ≡ false = sym w.dirty ∙ clean in cc in
-    let law : opened (image q) ≡ Ok (as_opened (settle q)) =
-    reopens q w.ok w.phdrs tied value.0 in
-    ap opened (sym value.1) ∙ law
-
 pub reopened_as : ((o : Object) → ReopenLaw o) → (q : Object) (out : List ℕ) (p : Object)
     → IsReopened q out p → p ≡ as_opened (settled_anew q)
 reopened_as reopens q out p w =
-    let law = opens_again reopens q out
-    (record { ok = w.ok; phdrs = w.phdrs; dirty = w.dirty; written = w.written }) in
-    let same : Ok p ≡ Ok (as_opened (settle q)) = sym w.again ∙ law in
-    let one : p ≡ as_opened (settle q) = cc in
-    one
+    settled_again reopens q p out w.ok w.phdrs w.dirty w.written w.again
     ∙ ap (λ (x : Object). as_opened x)
     (settle-dirty q w.dirty ∙ ap (settled_over (image q)) (placed-dirty q w.dirty))
 

@@ -27,8 +27,9 @@ use Rattle.command_objects.specs.KeepingLaws.{IsSplit, SameSection, SameButPlace
 use Rattle.strip_laws.proofs.HalfLaws.{combined_is_object, halves_are_writable}
 use Rattle.strip_laws.proofs.MadeSections.{bytes_encoded}
 use Rattle.strip_laws.proofs.RebuiltLaws.{rebuilt_known}
+use Rattle.strip_laws.proofs.WrittenLaws.{opens_again}
 use Rattle.split_laws.specs.Halves.{origin_number, KeepsForDebug, DebugHalfKeeps, KeepsAllocated, StrippedHalfKeeps, HalvesCombine}
-use Rattle.split_laws.proofs.Again.{IsWrittenAs, settled_anew, written_reopened, opens_again, reopened_as, front_reopened, header_reopened, section_reopened, with_size_same, section_filed}
+use Rattle.split_laws.proofs.Again.{IsWrittenAs, settled_anew, written_reopened, reopened_as, front_reopened, header_reopened, section_reopened, with_size_same, section_filed}
 use Rattle.split_laws.proofs.Combined.{IsMadeWhole, arranged_whole}
 use Rattle.split_laws.proofs.CombinedSections.{not_loaded}
 use Rattle.split_laws.proofs.CombineFaults.{raw_none, index_none, no_fault, fault_is, made_is}
@@ -265,12 +266,12 @@ halves_combine reopens debug_keeps stripped_keeps removed whole stripped debug i
     (made_is stripped debug r none e) in
     record {
       refused = λ fault e. fault_is stripped debug fault none e;
-      opens = λ r out e written. (
-        as_opened (settle r.object),
-        opens_again reopens r.object out
-            (combined_written removed whole stripped debug r out are e written
-            (sym (made r e).phdrs)),
-      );
+      opens = λ r out e written.
+          let w = combined_written removed whole stripped debug r out are e written
+          (sym (made r e).phdrs) in (
+            as_opened (settle r.object),
+            opens_again reopens r.object out w.ok w.phdrs w.dirty written,
+          );
       same = λ r out o e written again.
           whole_again reopens removed whole stripped debug r out o are e written again (made r e);
     }

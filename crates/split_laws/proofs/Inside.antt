@@ -22,8 +22,9 @@ use Rattle.command_objects.specs.Followed.{kept_sections}
 use Rattle.command_objects.specs.Rebuilt.{rebuilt_items}
 use Rattle.command_objects.specs.Split.{is_loaded_from_file}
 use Rattle.strip_laws.proofs.RebuiltLaws.{rebuilt_known}
+use Rattle.strip_laws.proofs.WrittenLaws.{written_known}
 use Rattle.split_laws.specs.Halves.{IsDebugHalf, IsStrippedHalf, origin_number}
-use Rattle.split_laws.proofs.Again.{IsReopened, IsFiled, settled_anew, written_known, reopened_as, front_reopened}
+use Rattle.split_laws.proofs.Again.{IsReopened, IsFiled, settled_anew, reopened_as, front_reopened}
 use Rattle.split_laws.proofs.DebugHalf.{IsDebugOf, debug_made, raw_passed, half_reopened, half_count, loaded_filed, other_filed}
 use Rattle.split_laws.proofs.StrippedHalf.{kept_number, made_without, stripped_reopened, filed}
 use Rattle.split_laws.proofs.Whole.{section_opened, inside_from, raw_opened}

@@ -24,8 +24,8 @@ use Rattle.command_objects.specs.Rebuilt.{rebuilt_header}
 use Rattle.command_objects.specs.Split.{combined_object}
 use Rattle.strip_laws.proofs.MadeSections.{header_made, allocated_items, allocated_kept, section_placed, section_moved}
 use Rattle.strip_laws.proofs.PlaceLaws.{moved_behind, table_behind, unmoved_allocated}
+use Rattle.strip_laws.proofs.WrittenLaws.{written_known}
 use Rattle.split_laws.specs.Halves.{origin_number}
-use Rattle.split_laws.proofs.Again.{written_known}
 use Rattle.split_laws.proofs.Combined.{IsMadeWhole, combined_whole, placed_whole}
 use Rattle.split_laws.proofs.CombineLaws.{AreHalves, whole_raw}
 use Rattle.split_laws.proofs.Counterparts.{counterpart_some}

@@ -15,6 +15,7 @@ pub mod PlaceLaws
 pub mod MadeObject
 pub mod MadeSections
 pub mod MadeFront
+pub mod WrittenLaws
 pub mod LoadedParts
 pub mod LoadedLaws
 pub mod Computing

@@ -15,7 +15,6 @@ use Rattle.elf_ident.proofs.Refusals.{answered_ok, bind_ok}
 use Rattle.elf_object.specs.Object.{Object, Section, section_at, is_dirty}
 use Rattle.elf_object.specs.Open.{begun, begun_or_refused, opened}
 use Rattle.elf_object.specs.Image.{image as image_of}
-use Rattle.elf_object.specs.Refusal.{refusal}
 use Rattle.elf_object.proofs.PassedLaws.{not_refused}
 use Rattle.object_laws.proofs.OpenLaws.{front_known, known_fits, opened_is}
 use Rattle.writing_laws.specs.Based.{BeginningsAreBased}
@@ -31,6 +30,7 @@ use Rattle.strip_laws.proofs.RebuiltLaws.{rebuilt_known}
 use Rattle.strip_laws.proofs.WritableLaws.{rebuilt_is_writable, begun_fits_class}
 use Rattle.strip_laws.proofs.MadeObject.{stripped_over, rebuilt_over}
 use Rattle.strip_laws.proofs.LoadedParts.{stripped_from, made_byte}
+use Rattle.strip_laws.proofs.WrittenLaws.{written_known}
 
 -- ---- What is loaded stands before the tail
 
@@ -120,10 +120,6 @@ made_from : (debug_only : Bool) (names : List (List ℕ)) (o : Object) (r : Rebu
 unfolding stripped
 made_from debug_only names o r e = e
 
-written_from : (o : Object) (out : List ℕ) → file_of o ≡ Ok out → image_of o ≡ out
-unfolding file_of
-written_from o out e = (answered_ok (refusal o) (image_of o) out e).1
-
 segments_begun : (f : Front) (image : List ℕ) → (begun f image).phdrs ≡ f.phdrs
 unfolding begun
 segments_begun f image = refl
@@ -145,7 +141,7 @@ loadable_bytes_stay based image f debug_only names out are is usual written k lo
     written in
     let r = made.0 in
     let rebuilt_as = made_from debug_only names (begun f image) r made.1 in
-    let image_is = written_from r.object out made.2 in
+    let image_is = (written_known r.object out made.2).1 in
     let known = rebuilt_known (begun f image) removed r rebuilt_as in
     let stays = first_stays.strip debug_only names (begun f image) in
     let there = slice_get_within f.phdrs loaded.segment loaded.phdr loaded.there in

@@ -1,0 +1,42 @@
+-- What an update writes of a dirty object, opened again, is that object settled.
+use Rattle.std.proofs.Common.{◌≡◌, ℕ, true, List, None, Result, Ok, sym, ap, ◌∙◌}
+use Rattle.std.specs.Prelude.{All}
+use Rattle.std.proofs.lemmas.Bool.{both_ways}
+use Rattle.elf_types.specs.declared.errors.ElfError.{ElfError}
+use Rattle.elf_xlate.specs.Headers.{IsPhdr}
+use Rattle.elf_ident.proofs.Refusals.{answered_ok}
+use Rattle.elf_object.specs.Object.{Object, is_dirty}
+use Rattle.elf_object.specs.Open.{opened}
+use Rattle.elf_object.specs.Image.{image}
+use Rattle.elf_object.specs.Refusal.{refusal}
+use Rattle.elf_object.specs.Settled.{settle}
+use Rattle.elf_object.specs.Valid.{IsObject, IsTied, as_opened}
+use Rattle.object_laws.specs.Laws.{ReopenLaw}
+use Rattle.command_objects.specs.Files.{file_of}
+
+ok_inner : {A E : Type 0} (a b : A) → ◌≡◌ {A = Result A E} (Ok a) (Ok b) → a ≡ b
+ok_inner a b h = cc
+
+-- one answer is one value
+pub ok_same : {A E : Type 0} (r : Result A E) (a b : A) → r ≡ Ok a → r ≡ Ok b → a ≡ b
+ok_same {A} {E} r a b e f = ok_inner {A = A} {E = E} a b (sym e ∙ f)
+
+pub written_known : (q : Object) (out : List ℕ) → file_of q ≡ Ok out
+    → (refusal q ≡ None) × (image q ≡ out)
+unfolding file_of
+written_known q out e = answered_ok (refusal q) (image q) out e
+
+pub opens_again : (reopens : (o : Object) → ReopenLaw o) (q : Object) (out : List ℕ)
+    → IsObject q → All IsPhdr q.phdrs → is_dirty q ≡ true → file_of q ≡ Ok out
+    → opened out ≡ Ok (as_opened (settle q))
+opens_again reopens q out ok phdrs dirty written =
+    let value = written_known q out written in
+    let tied : IsTied q = λ clean. absurd (both_ways (is_dirty q) clean dirty) in
+    ap opened (sym value.1) ∙ reopens q ok phdrs tied value.0
+
+pub settled_again : (reopens : (o : Object) → ReopenLaw o) (q p : Object) (out : List ℕ)
+    → IsObject q → All IsPhdr q.phdrs → is_dirty q ≡ true → file_of q ≡ Ok out → opened out ≡ Ok p
+    → p ≡ as_opened (settle q)
+settled_again reopens q p out ok phdrs dirty written again =
+    ok_same {A = Object} {E = ElfError} (opened out) p (as_opened (settle q)) again
+    (opens_again reopens q out ok phdrs dirty written)
