@@ -22,6 +22,7 @@ use Rattle.command_objects.specs.Files.{file_of}
 use Rattle.command_objects.specs.KeepingLaws.{IsSplit, SameButPlaces, CombinesAgain, SplitLaw}
 use Rattle.strip_laws.proofs.KeptLaws.{first_stays}
 use Rattle.strip_laws.proofs.WrittenLaws.{ok_same, opens_again}
+use Rattle.split_laws.specs.Getters.{AlikeImagesAnswerAlike}
 use Rattle.split_laws.specs.Halves.{HalvesCombine}
 use Rattle.split_laws.proofs.DebugHalf.{debug_half_written}
 use Rattle.split_laws.proofs.StrippedHalf.{stripped_written}
@@ -171,27 +172,29 @@ joined_ends whole s d out stripped debug again opens = by_combined (unstripped s
         inl (ap refuse (again.refused fault e))
     by_combined (Ok r) e = by_refusal r (refusal r.object) e refl
 
-rejoined : (whole : Object) (later : Map) (out stripped debug : List ℕ)
-    (r : Result Done Complaint) → unstrip_done later out stripped debug ≡ r
-    → EndsAs whole out stripped r
+rejoined : (image : List ℕ) (whole : Object) (later : Map) (out stripped debug : List ℕ)
+    (r : Result Done Complaint) → AlikeImagesAnswerAlike → opened image ≡ Ok whole
+    → unstrip_done later out stripped debug ≡ r → EndsAs whole out stripped r
     → (unstrip_outcome later out stripped debug ≡ too_large_outcome stripped)
     ⊎ Rejoins whole out (unstrip_outcome later out stripped debug)
 unfolding unstrip_outcome
-rejoined whole later out stripped debug r e (inl large) =
+rejoined image whole later out stripped debug r alike is_whole e (inl large) =
     inl (ap (λ (x : Result Done Complaint). written_outcome (codes "unstrip") x) (e ∙ large))
-rejoined whole later out stripped debug r e (inr back) = inr (record {
+rejoined image whole later out stripped debug r alike is_whole e (inr back) = inr (record {
   bytes = back.bytes;
   is = ap (λ (x : Result Done Complaint). written_outcome (codes "unstrip") x) (e ∙ back.is);
   object = back.object;
   opens = back.opens;
   same = back.same;
+  answers = alike image back.bytes whole back.object is_whole back.opens back.same;
 })
 
 -- ---- The law
 
 pub split_files_rejoin : ((o : Object) → ReopenLaw o) → HalvesCombine → SplitLaw
-    → SplitFilesRejoin
-split_files_rejoin reopens combine law options named file image whole later out stripped debug was =
+    → AlikeImagesAnswerAlike → SplitFilesRejoin
+split_files_rejoin reopens combine law alike options named file image whole later out stripped debug
+    was =
     let removed = removed_sections options.debug_only options.names whole in
     let stays = first_stays.strip options.debug_only options.names whole in
     let ended = done_of options named file was.ended in
@@ -234,7 +237,8 @@ split_files_rejoin reopens combine law options named file image whole later out 
       is_stripped = one;
       is_debug = other;
     } in
-    rejoined whole later out stripped debug (joined out stripped debug s d)
+    rejoined image whole later out stripped debug (joined out stripped debug s d) alike
+    was.is_whole
     (joined_as later out stripped debug s d
     (held_opens later stripped files.bytes s stripped_held one)
     (held_opens later debug files.debug_bytes d debug_held other))

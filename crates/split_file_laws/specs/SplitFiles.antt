@@ -9,6 +9,7 @@ use Rattle.elf_object.specs.Object.{Object}
 use Rattle.elf_object.specs.Open.{opened}
 use Rattle.command_objects.specs.Words.{header_at}
 use Rattle.command_objects.specs.KeepingLaws.{SameButPlaces}
+use Rattle.split_laws.specs.Getters.{SameAnswers}
 use Rattle.tool_text.specs.declared.commands.StripOptions.{StripOptions}
 use Rattle.tool_output.specs.Outcomes.{Outcome, write_of, held_after}
 use Rattle.tool_output.specs.Made.{made, complaint, written_outcome}
@@ -40,14 +41,15 @@ abbrev pub too_large_outcome : List ℕ → Outcome
 too_large_outcome stripped =
     written_outcome (codes "unstrip") (Err (complaint stripped (error_text TooLarge)))
 
--- it makes OUT, which is an image that answers as the first one did but for places and derived
--- values
+-- it makes OUT, which is an image that is the same as the first one but for places and derived
+-- values, and answers each getter as that did
 pub record Rejoins (whole : Object) (out : List ℕ) (outcome : Outcome) : Type 0 where
   pub bytes : List ℕ
   pub is : outcome ≡ written_outcome (codes "unstrip") (Ok (made out bytes))
   pub object : Object
   pub opens : opened bytes ≡ Ok object
   pub same : SameButPlaces whole object
+  pub answers : SameAnswers whole object
 
 abbrev pub SplitFilesRejoin : Type 0
 SplitFilesRejoin =

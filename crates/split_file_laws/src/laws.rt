@@ -3,7 +3,7 @@
 ghost use Rattle.split_file_laws.specs.SplitFiles.{SplitFilesRejoin};
 
 use object_laws::laws::reopen_law;
-use split_laws::laws::{halves_combine, split_law};
+use split_laws::laws::{alike_images_answer_alike, halves_combine, split_law};
 
 /// Where strip -f ends with 0 on a FILE whose section 0 is all zero but for size, link and info,
 /// unstrip of the two files that it wrote says that a place is too large, or makes OUT, and OUT,
@@ -14,4 +14,5 @@ pub fn split_files_rejoin()
     reopen_law();
     halves_combine();
     split_law();
+    alike_images_answer_alike();
 }

@@ -43,7 +43,7 @@ pub record IsWrittenAs (q : Object) (out : List ℕ) : Type 0 where
   pub dirty : is_dirty q ≡ true
   pub written : file_of q ≡ Ok out
 
-pub record IsReopened (q : Object) (out : List ℕ) (p : Object) : Type 0 where
+pub record ReopensAs (q : Object) (out : List ℕ) (p : Object) : Type 0 where
   pub ok : IsObject q
   pub phdrs : All IsPhdr q.phdrs
   pub dirty : is_dirty q ≡ true
@@ -51,7 +51,7 @@ pub record IsReopened (q : Object) (out : List ℕ) (p : Object) : Type 0 where
   pub again : opened out ≡ Ok p
 
 pub written_reopened : (q : Object) (out : List ℕ) (p : Object) → IsWrittenAs q out
-    → opened out ≡ Ok p → IsReopened q out p
+    → opened out ≡ Ok p → ReopensAs q out p
 written_reopened q out p w again =
     record { ok = w.ok; phdrs = w.phdrs; dirty = w.dirty; written = w.written; again = again }
 
@@ -60,7 +60,7 @@ abbrev pub settled_anew : Object → Object
 settled_anew q = settled_over (image q) (placed_by (places_of q) q)
 
 pub reopened_as : ((o : Object) → ReopenLaw o) → (q : Object) (out : List ℕ) (p : Object)
-    → IsReopened q out p → p ≡ as_opened (settled_anew q)
+    → ReopensAs q out p → p ≡ as_opened (settled_anew q)
 reopened_as reopens q out p w =
     settled_again reopens q p out w.ok w.phdrs w.dirty w.written w.again
     ∙ ap (λ (x : Object). as_opened x)

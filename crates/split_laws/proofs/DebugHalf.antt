@@ -1,5 +1,5 @@
 -- What the debug half of an image, written and opened again, has of it (`DebugHalfKeeps`).
-use Rattle.std.proofs.Common.{◌≡◌, ℕ, ◌-◌, ◌^◌, ◌<◌, ◌≤◌, Bool, true, false, List, [], ◌∷◌, length, None, Ok, refl, sym, ap, ◌∙◌, subst, arith}
+use Rattle.std.proofs.Common.{◌≡◌, ℕ, ◌-◌, ◌^◌, ◌<◌, ◌≤◌, Bool, true, false, List, [], ◌∷◌, length, get_or, None, Ok, refl, sym, ap, ◌∙◌, subst, arith}
 use Rattle.std.specs.Prelude.{All, if◌then◌else◌, map}
 use Rattle.std.proofs.lemmas.Bool.{ne_eqb}
 use Rattle.std.proofs.lemmas.List.Elements.{All-nil}
@@ -11,9 +11,8 @@ use Rattle.elf_types.specs.declared.constants.TheConstants.{SHT_NOBITS}
 use Rattle.elf_xlate.specs.declared.content.Items.TheVariants as items
 use Rattle.elf_xlate.specs.Headers.{IsPhdr}
 use Rattle.elf_ident.proofs.Refusals.{answered_ok}
-use Rattle.elf_object.specs.Object.{Object, absent_section, new_section, section_at, occupies_file}
-use Rattle.elf_object.specs.Open.{created_over, opened}
-use Rattle.elf_object.specs.Steps.{stored_ehdr, with_ehdr, with_phdrs}
+use Rattle.elf_object.specs.Object.{Object, Section, absent_section, new_section, section_at, occupies_file}
+use Rattle.elf_object.specs.Open.{opened}
 use Rattle.elf_object.specs.Answers.{raw_refusal}
 use Rattle.elf_object.specs.Layout.{section_numbers}
 use Rattle.elf_object.specs.Calls.{newphdr_refusal}
@@ -22,14 +21,16 @@ use Rattle.elf_object.proofs.PassedLaws.{none_first, none_rest}
 use Rattle.object_laws.specs.Laws.{ReopenLaw}
 use Rattle.object_laws.proofs.OpenLaws.{opened_is, opened_phdrs}
 use Rattle.command_objects.specs.Words.{header_at}
-use Rattle.command_objects.specs.Rebuilt.{made_section, assembled, index_refusal}
+use Rattle.command_objects.specs.Arranged.{over_base}
+use Rattle.command_objects.specs.Rebuilt.{made_section, index_refusal}
 use Rattle.command_objects.specs.Split.{is_loaded_from_file, debug_section, debug_sections, debug_half, debug_raw_refusal, debug_refusal, debug_of}
 use Rattle.command_objects.specs.Files.{file_of}
 use Rattle.command_objects.specs.KeepingLaws.{SameHeader}
 use Rattle.strip_laws.proofs.HalfLaws.{debug_is_object, halves_are_writable}
 use Rattle.strip_laws.proofs.MadeSections.{bytes_encoded}
 use Rattle.split_laws.specs.Halves.{without_place, IsDebugHalf, DebugHalfKeeps}
-use Rattle.split_laws.proofs.Again.{IsWrittenAs, IsReopened, IsFiled, settled_anew, written_reopened, reopened_as, front_reopened, header_reopened, with_size_same, section_filed}
+use Rattle.split_laws.proofs.Again.{IsWrittenAs, ReopensAs, IsFiled, settled_anew, written_reopened, reopened_as, front_reopened, header_reopened, with_size_same, section_filed}
+use Rattle.split_laws.proofs.Placed.{HasFrontOf, assembled_front}
 use Rattle.split_laws.proofs.Whole.{HasRaw, inside_from, raw_opened, opened_fits, same_headers, numbers_pass}
 
 -- ---- What is not refused, and what is made then
@@ -68,33 +69,21 @@ raw_passed o s passed from below stays =
 
 -- ---- Its front, and its sections by number
 
-half_front : (o : Object) → SameHeader o.header (debug_half o).header
-unfolding debug_half assembled with_ehdr with_phdrs stored_ehdr created_over
-half_front o = record {
-  class = refl;
-  order = refl;
-  osabi = refl;
-  abiversion = refl;
-  etype = refl;
-  machine = refl;
-  entry = refl;
-  flags = refl;
-  shstrndx = refl;
-}
-
-half_phdrs : (o : Object) → (debug_half o).phdrs ≡ o.phdrs
-unfolding debug_half assembled with_ehdr with_phdrs
-half_phdrs o = refl
+half_front : (o : Object) → HasFrontOf o o.header.shstrndx (debug_sections o) (debug_half o)
+unfolding debug_half over_base
+half_front o = assembled_front o None o.header.shstrndx (debug_sections o)
 
 pub half_count : (o : Object) → length (debug_half o).sections ≡ length o.sections
-unfolding debug_half assembled with_ehdr with_phdrs
-half_count o = length-map-range_with_len (debug_section o) 0 (length o.sections)
+half_count o =
+    ap (λ (l : List Section). length l) (half_front o).sections_are
+    ∙ length-map-range_with_len (debug_section o) 0 (length o.sections)
 
 half_at : (o : Object) (s : ℕ) → s < length o.sections
     → section_at (debug_half o) s ≡ debug_section o s
-unfolding section_at debug_half assembled with_ehdr with_phdrs
+unfolding section_at
 half_at o s below =
-    get_or-map-range_with_len (debug_section o) 0 (length o.sections) s s absent_section below
+    ap (λ (l : List Section). get_or l s absent_section) (half_front o).sections_are
+    ∙ get_or-map-range_with_len (debug_section o) 0 (length o.sections) s s absent_section below
     (omega arith)
 
 half_made : (o : Object) (s : ℕ) (loaded : Bool) → 1 ≤ s
@@ -123,7 +112,7 @@ debug_half_written whole image half out bytes is_whole is_half is_out =
     let made = debug_made whole half is_half in
     let fits = opened_fits image whole bytes is_whole in
     let same : whole.phdrs ≡ half.phdrs =
-    sym (half_phdrs whole) ∙ ap (λ (x : Object). x.phdrs) made.is in
+    sym (half_front whole).phdrs ∙ ap (λ (x : Object). x.phdrs) made.is in
     record {
       ok = debug_is_object whole half ok is_half;
       phdrs = subst (λ (l : List Phdr). All IsPhdr l) same
@@ -133,7 +122,7 @@ debug_half_written whole image half out bytes is_whole is_half is_out =
     }
 
 pub half_reopened : (whole debug : Object) (is : IsDebugHalf whole debug)
-    → IsReopened is.half is.out debug
+    → ReopensAs is.half is.out debug
 half_reopened whole debug is =
     written_reopened is.half is.out debug
     (debug_half_written whole is.image is.half is.out is.bytes is.is_whole is.is_half is.is_out)
@@ -186,9 +175,10 @@ debug_half_keeps reopens whole debug is =
     let header = header_reopened is.half debug written.ok front in
     record {
       header = same_headers whole.header is.half.header debug.header
-          (subst (λ (x : Object). SameHeader whole.header x.header) made.is (half_front whole))
+          (subst (λ (x : Object). SameHeader whole.header x.header) made.is
+          (half_front whole).header)
           header;
-      phdrs = front.phdrs ∙ sym (ap (λ (x : Object). x.phdrs) made.is) ∙ half_phdrs whole;
+      phdrs = front.phdrs ∙ sym (ap (λ (x : Object). x.phdrs) made.is) ∙ (half_front whole).phdrs;
       count = front.count ∙ sym (ap (λ (x : Object). length x.sections) made.is)
           ∙ half_count whole;
       headers = λ s from below.

@@ -24,20 +24,20 @@ use Rattle.command_objects.specs.Split.{is_loaded_from_file}
 use Rattle.strip_laws.proofs.RebuiltLaws.{rebuilt_known}
 use Rattle.strip_laws.proofs.WrittenLaws.{written_known}
 use Rattle.split_laws.specs.Halves.{IsDebugHalf, IsStrippedHalf, origin_number}
-use Rattle.split_laws.proofs.Again.{IsReopened, IsFiled, settled_anew, reopened_as, front_reopened}
+use Rattle.split_laws.proofs.Again.{ReopensAs, IsFiled, settled_anew, reopened_as, front_reopened}
 use Rattle.split_laws.proofs.DebugHalf.{IsDebugOf, debug_made, raw_passed, half_reopened, half_count, loaded_filed, other_filed}
 use Rattle.split_laws.proofs.StrippedHalf.{kept_number, made_without, stripped_reopened, filed}
 use Rattle.split_laws.proofs.Whole.{section_opened, inside_from, raw_opened}
 
 -- what was written is made of bytes, and what is opened of it is an object
-pub reopened_bytes : (q : Object) (out : List ℕ) (p : Object) → IsReopened q out p → AreBytes out
+pub reopened_bytes : (q : Object) (out : List ℕ) (p : Object) → ReopensAs q out p → AreBytes out
 reopened_bytes q out p w =
     let known = written_known q out w.written in
     subst AreBytes known.1 (image_are q w.ok known.0)
 
 -- ---- A home
 
-none_out : (image : List ℕ) (h : Shdr) → home_len h ≡ 0
+pub none_out : (image : List ℕ) (h : Shdr) → home_len h ≡ 0
     → (opened_section image h).home.out ≡ false
 unfolding opened_section home_of
 none_out image h none =
@@ -90,7 +90,7 @@ debug_passes reopens whole debug s is from below =
     made : IsDebugOf whole is.half
     made = debug_made whole is.half is.is_half
 
-    written : IsReopened is.half is.out debug
+    written : ReopensAs is.half is.out debug
     written = half_reopened whole debug is
 
     again : debug ≡ as_opened (settled_anew is.half)

@@ -1,7 +1,7 @@
 pub mod Again
 pub mod Whole
-pub mod DebugHalf
 pub mod Placed
+pub mod DebugHalf
 pub mod StrippedHalf
 pub mod Matching
 pub mod Inside
@@ -16,3 +16,4 @@ pub mod TailBounds
 pub mod LaidParts
 pub mod ProgramParts
 pub mod SplitLaws
+pub mod Getters

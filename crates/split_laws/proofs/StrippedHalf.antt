@@ -38,7 +38,7 @@ use Rattle.strip_laws.proofs.PlaceLaws.{segments_place_stays}
 use Rattle.strip_laws.proofs.RebuiltLaws.{rebuilt_known, rebuilt_is_object}
 use Rattle.strip_laws.proofs.WritableLaws.{rebuilt_is_writable}
 use Rattle.split_laws.specs.Halves.{without_place, without_index, without_links, origin_number, IsStrippedHalf, StrippedHalfKeeps}
-use Rattle.split_laws.proofs.Again.{IsWrittenAs, IsReopened, HasFront, IsFiled, settled_anew, with_size, with_size_same, written_reopened, reopened_as, front_reopened, header_reopened, section_filed}
+use Rattle.split_laws.proofs.Again.{IsWrittenAs, ReopensAs, HasFront, IsFiled, settled_anew, with_size, with_size_same, written_reopened, reopened_as, front_reopened, header_reopened, section_filed}
 use Rattle.split_laws.proofs.DebugHalf.{raw_or_none}
 use Rattle.split_laws.proofs.Placed.{HasFrontOf, IsMadeAs, assembled_front, assembled_laid, placed_front, made_as, placed_as}
 use Rattle.split_laws.proofs.Whole.{HasRaw, inside_from, raw_opened, opened_fits, same_headers, reindexed}
@@ -210,7 +210,7 @@ stripped_written removed whole image r out bytes is_whole stays is_made is_out =
     }
 
 pub stripped_reopened : (removed : List ℕ) (whole stripped : Object)
-    (is : IsStrippedHalf removed whole stripped) → IsReopened is.made.object is.out stripped
+    (is : IsStrippedHalf removed whole stripped) → ReopensAs is.made.object is.out stripped
 stripped_reopened removed whole stripped is =
     written_reopened is.made.object is.out stripped
     (stripped_written removed whole is.image is.made is.out is.bytes is.is_whole is.first_stays

@@ -2,6 +2,7 @@
 //! holds of every image, and is proved.
 
 ghost use Rattle.command_objects.specs.KeepingLaws.{SplitLaw};
+ghost use Rattle.split_laws.specs.Getters.{AlikeImagesAnswerAlike};
 ghost use Rattle.split_laws.specs.Halves.{DebugHalfKeeps, HalvesCombine, HalvesMatch, StrippedHalfKeeps};
 
 use object_laws::laws::reopen_law;
@@ -56,3 +57,9 @@ pub fn split_law()
     stripped_half_keeps();
     halves_combine();
 }
+
+/// Two images that are the same but for places and derived values answer each getter alike that
+/// looks at neither, and name their sections alike. Section 0 is aside.
+pub fn alike_images_answer_alike()
+    ensures { AlikeImagesAnswerAlike }
+{}
