@@ -1,0 +1,13 @@
+use Rattle.elf_descriptor.specs.Edits.{numbers_of}
+use Rattle.copy_edits.proofs.EditLaws.{data_added, data_refused}
+use Rattle.copy_edits.proofs.edits.add_items.Goals as goal
+
+pub returns-in-Ok : goal.returns-in-Ok
+returns-in-Ok c =
+    data_added c.args.s c.args.items (numbers_of c.in-Ok._d) c.args.elf.now c.newdata.new.self
+    c.in-Ok.ensures.0 c.in-Ok.ensures.1
+
+pub returns-in-Err : goal.returns-in-Err
+returns-in-Err c =
+    data_refused c.args.s c.args.items c.in-Err.e c.args.elf.now c.newdata.new.self
+    c.in-Err.ensures.1

@@ -1,0 +1,22 @@
+use Rattle.std.proofs.Common.{arith}
+use Rattle.elf_object.specs.Object.{Object}
+use Rattle.copy_edits.specs.Names.{names_now}
+use Rattle.copy_edits.proofs.FaultLaws.{number_there}
+use Rattle.copy_edits.proofs.FindLaws.{found_number, found_end}
+use Rattle.copy_edits.proofs.finding.find_section.Goals as goal
+
+pub returns-in-Ok-clause-finds : goal.returns-in-Ok-clause-finds
+returns-in-Ok-clause-finds c =
+    found_number _ (λ (o : Object). names_now o c.args.marks.now c.args.renames.now)
+    c.args.name.now c.in-Ok.number c.in-Ok.number c.or_no_section.result c.args.elf.now
+    c.find_number.new.elf c.in-Ok.ensures.reads c.in-Ok.ensures.told c.or_no_section.ensures
+
+pub returns-in-Ok-clause-there : goal.returns-in-Ok-clause-there
+returns-in-Ok-clause-there c =
+    number_there c.args.elf.now.o c.in-Ok.number c.args.name.now c.or_no_section.result
+    c.or_no_section.ensures c.in-Ok.ensures.there
+
+pub returns-in-Err-clause-finds : goal.returns-in-Err-clause-finds
+returns-in-Err-clause-finds c =
+    found_end _ (λ s. s) _ c.in-Err.e c.args.elf.now c.find_number.new.elf
+    (λ m n rose. omega (arith, rose)) c.in-Err.ensures.reads

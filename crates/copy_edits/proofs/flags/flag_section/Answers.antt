@@ -1,0 +1,37 @@
+use Rattle.std.proofs.Common.{ℕ, sym, subst}
+use Rattle.elf_types.specs.Answers.{answered, ◌>>=◌}
+use Rattle.elf_object.specs.Object.{Object}
+use Rattle.elf_object.specs.Calls as calls
+use Rattle.command_objects.specs.Words.{header_at, edited}
+use Rattle.command_objects.specs.Copied.{section_named, or_strip, with_bits, flags_fault, with_section_flags}
+use Rattle.copy_edits.specs.Names.{names_now}
+use Rattle.copy_edits.specs.Steps.{IsThere}
+use Rattle.copy_edits.proofs.StepLaws.{find_then, find_end}
+use Rattle.copy_edits.proofs.flags.flag_section.Goals as goal
+
+pub flag_at-requires : goal.flag_at-requires
+flag_at-requires c =
+    subst (λ (o : Object). IsThere o c.in-Ok.s) (sym c.in-Ok.ensures.finds.object)
+    c.in-Ok.ensures.there
+
+pub returns-in-Ok : goal.returns-in-Ok
+unfolding with_section_flags
+returns-in-Ok c =
+    let x = c.args.change.now in
+    let names = names_now c.args.elf.now.o c.args.marks.now c.args.renames.now in
+    find_then (λ s. s) (section_named names x.name)
+    (λ (o : Object) (s : ℕ). answered (flags_fault o s x.name x.bits) s
+    >>= λ s. or_strip (edited (calls.update_shdr s (with_bits x.bits (header_at o s))) o))
+    c.in-Ok.s c.flag_at.result c.args.elf.now c.find_section.new.elf c.flag_at.new.elf
+    c.in-Ok.ensures.finds c.flag_at.ensures
+
+pub returns-in-Err : goal.returns-in-Err
+unfolding with_section_flags
+returns-in-Err c =
+    let x = c.args.change.now in
+    let o = c.args.elf.now.o in
+    let names = names_now o c.args.marks.now c.args.renames.now in
+    find_end (Unit {0}) (λ s. s) (section_named names x.name)
+    (λ (s : ℕ). answered (flags_fault o s x.name x.bits) s
+    >>= λ s. or_strip (edited (calls.update_shdr s (with_bits x.bits (header_at o s))) o))
+    c.in-Err.fault c.args.elf.now c.find_section.new.elf c.in-Err.ensures.finds
