@@ -1,5 +1,5 @@
 -- The file that copy writes is the image of what it makes of FILE's object.
-use Rattle.std.proofs.Common.{◌≡◌, ℕ, ◌^◌, ◌<◌, List, [], ◌∷◌, Some, Result, Ok, Err, sym, ap, subst}
+use Rattle.std.proofs.Common.{◌≡◌, ℕ, ◌^◌, ◌<◌, List, [], ◌∷◌, Some, Result, Ok, Err, sym, ap, ◌∙◌, subst}
 use Rattle.std.specs.Prelude.{All, codes}
 use Rattle.std.proofs.lemmas.List.Elements.{All-nil, All-cons, All-head, All-tail, All-map}
 use Rattle.elf_types.specs.Lists.{AreBytes}
@@ -15,14 +15,14 @@ use Rattle.tool_text.specs.declared.commands.CopyChanges.{CopyChanges}
 use Rattle.tool_text.specs.declared.commands.NamedBits.{NamedBits}
 use Rattle.tool_text.specs.declared.commands.NamedFile.{NamedFile}
 use Rattle.tool_text.specs.declared.commands.Renaming.{Renaming}
-use Rattle.tool_output.specs.Outcomes.{FileWrite}
-use Rattle.tool_output.specs.Made.{Done, Complaint, complaint, made, of_file}
+use Rattle.tool_output.specs.Outcomes.{FileWrite, write_of}
+use Rattle.tool_output.specs.Made.{Done, Complaint, complaint, made, made_file, of_file, written_outcome}
 use Rattle.command_outcomes.specs.Files.{bytes_named, object_named, bytes_of_each}
 use Rattle.command_outcomes.specs.Strip.{or_complaint}
 use Rattle.command_outcomes.specs.Copy.{changes_with, copy_text, copy_done, copy_outcome}
 use Rattle.copy_laws.specs.CopyOpens.{CopyOpens}
-use Rattle.strip_file_laws.proofs.Written.{of_file_ok, bytes_known, object_known, first_written, outcome_done}
-use Rattle.copy_file_laws.specs.CopiedFiles.{AreInRange, CopiedFilesKeep}
+use Rattle.strip_file_laws.proofs.Written.{of_file_ok, bytes_known, object_known, first_found, first_written, outcome_done, outcome_ended}
+use Rattle.copy_file_laws.specs.CopiedFiles.{AreInRange, CopiedFilesKeep, CopyGivesFile}
 
 -- ---- The files of -u and -a
 
@@ -171,3 +171,15 @@ copied_files_keep law opens c named out file w ranges written =
       kept = both.0;
       given = both.1;
     }
+
+pub copy_gives_file : CopyGivesFile
+unfolding copy_outcome written_outcome
+copy_gives_file c named out file ended =
+    let found = outcome_ended (codes "copy") (copy_done c named out file) ended in
+    let done = done_known c named out file found.0 found.1 in (
+      made_file out done.bytes,
+      ap (λ (r : Result Done Complaint). write_of (written_outcome (codes "copy") r).writes out)
+          found.1
+          ∙ ap (λ (d : Done). write_of d.writes out) (sym done.is)
+          ∙ first_found out done.bytes [],
+    )

@@ -41,3 +41,10 @@ CopiedFilesKeep =
     (c : CopyChanges) (named : Map) (out file : List ℕ) (w : FileWrite) → AreInRange c named
     → write_of (copy_outcome c named out file).writes out ≡ Some w
     → CopyWrites c named file w
+
+-- and it has one wherever its status is 0
+abbrev pub CopyGivesFile : Type 0
+CopyGivesFile =
+    (c : CopyChanges) (named : Map) (out file : List ℕ)
+    → (copy_outcome c named out file).status ≡ 0
+    → (w : FileWrite) × (write_of (copy_outcome c named out file).writes out ≡ Some w)

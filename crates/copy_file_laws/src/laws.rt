@@ -1,8 +1,14 @@
-//! The law is the contract of a function that does nothing: what it ensures holds, and is proved.
+//! Laws of a command. Each is the contract of a function that does nothing: what it ensures holds,
+//! and is proved.
 
-ghost use Rattle.copy_file_laws.specs.CopiedFiles.{CopiedFilesKeep};
+ghost use Rattle.copy_file_laws.specs.CopiedFiles.{CopiedFilesKeep, CopyGivesFile};
 
 use copy_laws::laws::{copy_law, copy_opens};
+
+/// Where copy ends with status 0 it writes OUT.
+pub fn copy_gives_file()
+    ensures { CopyGivesFile }
+{}
 
 /// Where copy writes OUT, that is the image of what copy makes of FILE with the changes of the
 /// words. OUT opens again, and has of FILE and of the files of `-u` and `-a` what the law of copy

@@ -1,5 +1,5 @@
 -- Of a command that makes files: the object of a file that it reads, and the files that it makes.
-use Rattle.std.proofs.Common.{◌≡◌, ℕ, Bool, List, ◌∷◌, Some, Result, Ok, Err, refl, sym, ap, ◌∙◌}
+use Rattle.std.proofs.Common.{◌≡◌, ℕ, Bool, List, ◌∷◌, Some, Result, Ok, Err, refl, sym, ap, ◌∙◌, arith}
 use Rattle.std.specs.Prelude.{codes, if◌then◌else◌}
 use Rattle.std.proofs.lemmas.Slice.Eq.{bytes_eq-Decides}
 use Rattle.elf_types.specs.declared.errors.ElfError.{ElfError}
@@ -10,6 +10,7 @@ use Rattle.elf_ident.specs.FileKinds.{file_kind}
 use Rattle.elf_ident.proofs.Refusals.{bind_ok, or_refused_ok}
 use Rattle.elf_object.specs.Object.{Object}
 use Rattle.elf_object.specs.Open.{opened}
+use Rattle.tool_output.specs.Reports.{refusal_report}
 use Rattle.tool_output.specs.Outcomes.{FileWrite, write_of}
 use Rattle.tool_output.specs.Made.{Done, Complaint, complaint, made_file, of_file, written_outcome}
 use Rattle.object_output.specs.Images.{object_by, file_object}
@@ -57,14 +58,19 @@ object_known named file o e =
 -- ---- A file that is made
 
 -- of files of which OUT is the first
+pub first_found : (out bytes : List ℕ) (later : List FileWrite)
+    → write_of (made_file out bytes ∷ later) out ≡ Some (made_file out bytes)
+unfolding write_of
+first_found out bytes later =
+    ap (λ (b : Bool). if b then Some (made_file out bytes) else write_of later out)
+    ((bytes_eq-Decides out out).1 refl)
+
 pub first_written : (out bytes : List ℕ) (later writes : List FileWrite) (w : FileWrite)
     → writes ≡ made_file out bytes ∷ later → write_of writes out ≡ Some w
     → w ≡ made_file out bytes
-unfolding write_of
 first_written out bytes later writes w is e =
     let first : Some (made_file out bytes) ≡ Some w =
-    sym (ap (λ (b : Bool). if b then Some (made_file out bytes) else write_of later out)
-    ((bytes_eq-Decides out out).1 refl))
+    sym (first_found out bytes later)
     ∙ ap (λ (l : List FileWrite). write_of l out) (sym is) ∙ e in
     let same : made_file out bytes ≡ w = cc in sym same
 
@@ -75,3 +81,10 @@ pub outcome_done : (command : List ℕ) (r : Result Done Complaint) (out : List 
 unfolding written_outcome write_of
 outcome_done command (Ok done) out w e = (done, refl, e)
 outcome_done command (Err c) out w e = cc
+
+-- neither is what ends with 0
+pub outcome_ended : (command : List ℕ) (r : Result Done Complaint)
+    → (written_outcome command r).status ≡ 0 → (done : Done) × (r ≡ Ok done)
+unfolding written_outcome refusal_report
+outcome_ended command (Ok done) e = (done, refl)
+outcome_ended command (Err c) e = let clash : 1 ≡ 0 = e in absurd (omega (arith, clash))
