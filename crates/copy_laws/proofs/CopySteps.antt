@@ -24,7 +24,7 @@ use Rattle.copy_laws.specs.CopyOpens.{CopyOpens}
 use Rattle.copy_laws.proofs.NoneRemoved.{none_removed}
 use Rattle.copy_laws.proofs.EachChange.{Follows, follows_both}
 use Rattle.copy_laws.proofs.AllChanges.{made_known, ChangesLeave, changes_leave, changes_follow, PlacesLeave, places_leave, KeepsNames, places_names}
-use Rattle.copy_laws.proofs.Reopened.{front_is, marked_dirty, IsReopened, reopened_at}
+use Rattle.copy_laws.proofs.Reopened.{front_is, marked_dirty, IsWrittenAgain, reopened_at}
 use Rattle.copy_laws.proofs.KeptSections.{made_count, same_index}
 
 -- ---- What is written opens again
@@ -76,7 +76,7 @@ pub record IsCopiedTo (c : Changes) (before after : Object) (r m : Rebuilt) : Ty
   pub follows : Follows r.object m.object
   pub marked : m.object.header_marked ≡ true
   pub is : after ≡ as_opened (settle m.object)
-  pub again : (s : ℕ) → s < length m.object.sections → IsReopened m.object after s
+  pub again : (s : ℕ) → s < length m.object.sections → IsWrittenAgain m.object after s
 
 pub copied_to : (reopens : (o : Object) → ReopenLaw o) (c : Changes) (before after : Object)
     (r : Rebuilt) → AreChanges c → (k : IsCopied c before after)

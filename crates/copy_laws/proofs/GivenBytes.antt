@@ -1,10 +1,8 @@
 -- What copy gives: the bytes of the last change that chooses a section, and those of new sections.
-use Rattle.std.proofs.Common.{◌≡◌, ◌≢◌, ℕ, zero, suc, ◌+◌, ◌<◌, Bool, true, false, not, ◌&&◌, List, [], ◌∷◌, ◌++◌, length, get_or, set, Option, Some, None, Result, Ok, refl, sym, ap, ◌∙◌, subst, arith, inl, inr, ⊎_elim}
+use Rattle.std.proofs.Common.{◌≡◌, ◌≢◌, ℕ, zero, suc, ◌+◌, ◌<◌, Bool, true, false, not, ◌&&◌, List, [], ◌∷◌, ◌++◌, length, Option, Some, None, Result, Ok, refl, sym, ap, ◌∙◌, subst, arith, ⊎_elim}
 use Rattle.std.specs.Prelude.{All, nat_le, if◌then◌else◌, ◌==◌, map, slice_get}
-use Rattle.std.specs.List.{enumerate_from}
-use Rattle.std.proofs.lemmas.Bool.{cases_eq, cases_lt, ne_eqb, eqb-true, leb-false, not-false, and_cases, and_parts, and_right}
+use Rattle.std.proofs.lemmas.Bool.{ne_eqb, eqb-true, leb-false, not-false, and_cases, and_parts, and_right}
 use Rattle.std.proofs.lemmas.List.{length-map}
-use Rattle.std.proofs.lemmas.List.FromFn.{length-enumerate_from}
 use Rattle.std.proofs.lemmas.List.Elements.{All-head, All-tail, All-get_or}
 use Rattle.std.proofs.lemmas.Option.{slice_get_within, get_or_from_slice_get}
 use Rattle.elf_types.specs.Lists.{AreBytes}
@@ -15,154 +13,33 @@ use Rattle.elf_xlate.specs.Headers.{ehdr_fits}
 use Rattle.elf_xlate.specs.declared.content.Items.{Items}
 use Rattle.elf_xlate.specs.declared.content.Items.TheVariants as items
 use Rattle.elf_ident.proofs.Refusals.{bind_ok}
-use Rattle.elf_object.specs.Object.{Object, Section, Piece, section_at, piece_at, absent_section, new_section, home_piece, occupies_file}
+use Rattle.elf_object.specs.Object.{Object, Section, section_at, occupies_file}
 use Rattle.elf_object.specs.Joined.{file_bytes}
 use Rattle.elf_object.specs.Answers.{piece_count}
-use Rattle.elf_object.specs.Steps.{with_own, own_piece, with_ehdr, stored_ehdr}
+use Rattle.elf_object.specs.Steps.{own_piece, stored_ehdr}
 use Rattle.elf_object.specs.Calls.{update_ehdr_refusal}
 use Rattle.elf_object.proofs.PassedLaws.{passed_two}
-use Rattle.elf_object.proofs.StepLaws.{section_count-with_own, section_at-with_own, section_at-with_own_other}
+use Rattle.elf_object.proofs.StepLaws.{section_count-with_own}
 use Rattle.object_laws.specs.Laws.{ReopenLaw}
-use Rattle.object_laws.proofs.KeepLaws.{at_or}
-use Rattle.object_laws.proofs.RangeLaws.{each_made}
-use Rattle.object_laws.proofs.StandLaws.{section_at-past}
 use Rattle.command_objects.specs.Words.{header_at, in_turn, is_among}
 use Rattle.command_objects.specs.Removed.{removed_by_name}
 use Rattle.command_objects.specs.Followed.{kept_sections, kept_from_1}
-use Rattle.command_objects.specs.Arranged.{Rebuilt, section_from, table_place_from, placed_from}
-use Rattle.command_objects.specs.Rebuilt.{rebuilt, renews_names, made_section, rebuilt_items, rebuilt_header, rebuilt_section, rebuilt_sections, rebuilt_object, rebuilt_tail, rebuilt_index, index_refusal}
+use Rattle.command_objects.specs.Arranged.{Rebuilt}
+use Rattle.command_objects.specs.Rebuilt.{rebuilt, renews_names, rebuilt_section, rebuilt_sections, rebuilt_object, rebuilt_tail, rebuilt_index, index_refusal}
 use Rattle.command_objects.specs.Copied.{Changes, names_in, section_named, with_bytes, with_section_flags, with_bits, with_added, added_header, changes_names, named}
 use Rattle.command_objects.specs.Laws.{AreChanges}
 use Rattle.command_objects.specs.KeepingLaws.{IsCopied, IsLastUpdate, BytesAreGiven}
-use Rattle.strip_laws.proofs.ArrangedLaws.{arranged_keeps}
 use Rattle.strip_laws.proofs.KeptLaws.{IsInRange, kept_first, kept_in_range, first_stays}
 use Rattle.strip_laws.proofs.RebuiltLaws.{rebuilt_known}
 use Rattle.strip_laws.proofs.MadeSections.{bytes_encoded}
 use Rattle.strip_laws.proofs.WrittenLaws.{ok_same}
 use Rattle.copy_laws.proofs.EachChange.{pieces_both, IsUpdated, updated_known, updated_header, IsFlagged, flagged_known, shdr_count_kept, added_known}
-use Rattle.copy_laws.proofs.NamesAndPlaces.{named_known, places_pieces}
+use Rattle.copy_laws.proofs.NamesAndPlaces.{named_known}
 use Rattle.copy_laws.proofs.AllChanges.{in_turn_each, made_known, changed_known, places_leave, added_grow, bytes_pieces, bytes_follow, flags_follow, names_leave}
 use Rattle.copy_laws.proofs.Reopened.{front_is, piece_bytes_are}
-use Rattle.copy_laws.proofs.KeptSections.{same_filled}
+use Rattle.copy_laws.proofs.KeptSections.{filled_by_type}
+use Rattle.copy_laws.proofs.OnePiece.{AreAlone, own_set, one_set, bytes_alone, rebuilt_pieces}
 use Rattle.copy_laws.proofs.CopySteps.{copied_to}
-
--- ---- At most one piece
-
--- a section has no piece, or one, which is aligned to 1
-abbrev pub IsAlone : List Piece → Type 0
-IsAlone [] = Unit {0}
-IsAlone (p ∷ []) = p.align ≡ 1
-IsAlone (p ∷ q ∷ ps) = ⊥
-
-abbrev AreAlone : Object → Type 0
-AreAlone o = (s : ℕ) → IsAlone (section_at o s).pieces
-
-made_alone : (h : Shdr) (own : Items) → IsAlone (made_section h own).pieces
-unfolding made_section
-made_alone h own = by_test (occupies_file h)
-  where
-    by_test : (b : Bool) → IsAlone (if b then own_piece own 1 ∷ [] else [])
-    by_test true = refl
-    by_test false = tt
-
-rebuilt_alone : (o : Object) (removed : List ℕ) (s : ℕ)
-    → IsAlone (rebuilt_section o removed s).pieces
-unfolding rebuilt_section
-rebuilt_alone o removed s = by_test (s == 0)
-  where
-    by_test : (b : Bool) → IsAlone (if b then new_section
-        else made_section (rebuilt_header o removed s) (rebuilt_items o removed s)).pieces
-    by_test true = tt
-    by_test false = made_alone (rebuilt_header o removed s) (rebuilt_items o removed s)
-
-all_alone : (o : Object) (removed : List ℕ) → AreAlone (rebuilt_object o removed)
-unfolding section_at rebuilt_sections
-all_alone o removed s =
-    subst (λ (l : List Section). IsAlone (get_or l s absent_section).pieces)
-    (sym (front_is o removed).sections)
-    (at_or (λ (c : Section). IsAlone c.pieces)
-    (map (rebuilt_section o removed) (kept_sections o removed)) s absent_section
-    (each_made (λ (c : Section). IsAlone c.pieces) (rebuilt_section o removed)
-    (kept_sections o removed)
-    (λ i. rebuilt_alone o removed i)) tt)
-
-alone_set : (l : List Piece) (own : Items) → IsAlone l
-    → IsAlone (set l 0 (own_piece own (get_or l 0 home_piece).align))
-alone_set [] own h = tt
-alone_set (p ∷ []) own h = h
-alone_set (p ∷ q ∷ ps) own h = absurd h
-
--- the piece that is given
-one_set : (l : List Piece) (own : Items) → IsAlone l → 0 < length l
-    → set l 0 (own_piece own (get_or l 0 home_piece).align) ≡ own_piece own 1 ∷ []
-one_set [] own h some = absurd (omega (arith, some))
-one_set (p ∷ []) own h some = ap (λ (n : ℕ). own_piece own n ∷ []) h
-one_set (p ∷ q ∷ ps) own h some = absurd h
-
-own_set : (o : Object) (n : ℕ) (own : Items) → n < length o.sections
-    → (section_at (with_own o n 0 own) n).pieces
-    ≡ set (section_at o n).pieces 0
-    (own_piece own (get_or (section_at o n).pieces 0 home_piece).align)
-unfolding piece_at
-own_set o n own below = ap (λ (c : Section). c.pieces) (section_at-with_own o n 0 own below)
-
--- other bytes keep it
-own_alone : (o : Object) (n s : ℕ) (own : Items) → n < length o.sections
-    → IsAlone (section_at o s).pieces → IsAlone (section_at (with_own o n 0 own) s).pieces
-own_alone o n s own below alone = elim (cases_eq s n) [
-  | inl same ↦
-      subst (λ (k : ℕ). IsAlone (section_at (with_own o n 0 own) k).pieces) (sym same)
-      (subst (λ (l : List Piece). IsAlone l) (sym (own_set o n own below))
-      (alone_set (section_at o n).pieces own
-      (subst (λ (k : ℕ). IsAlone (section_at o k).pieces) same alone)))
-  | inr other ↦
-      subst (λ (c : Section). IsAlone c.pieces)
-      (sym (section_at-with_own_other o n s 0 own other)) alone
-]
-
-updated_alone : (o : Object) (change : List ℕ × List ℕ) (p : Object) (s : ℕ)
-    → IsUpdated o change p → IsAlone (section_at o s).pieces → IsAlone (section_at p s).pieces
-updated_alone o change p s k alone =
-    subst (λ (q : Object). IsAlone (section_at q s).pieces) (sym k.is)
-    (own_alone o k.number s (items.Bytes change.1) k.below alone)
-
-record AloneStays (s : ℕ) (old new : Object) : Type 0 where
-  stays : IsAlone (section_at old s).pieces → IsAlone (section_at new s).pieces
-
-bytes_alone : (o : Object) (l : List (List ℕ × List ℕ)) (p : Object) (s : ℕ)
-    → in_turn with_bytes o l ≡ Ok p → IsAlone (section_at o s).pieces
-    → IsAlone (section_at p s).pieces
-bytes_alone o l p s e =
-    (in_turn_each (AloneStays s) with_bytes (λ a. record { stays = λ h. h })
-    (λ a b c first second. record { stays = λ h. second.stays (first.stays h) })
-    (λ a x b f. record { stays = λ h. updated_alone a x b s (updated_known a x b f) h }) o l p
-    e).stays
-
-length-placed_from : (o : Object) (tail : ℕ)
-    → length (placed_from o tail).sections ≡ length o.sections
-unfolding placed_from with_ehdr
-length-placed_from o tail = by_test (length o.sections == 0)
-  where
-    by_test : (b : Bool) → length (if b then o else with_ehdr
-        (record o {
-          sections = map (λ row. section_from o tail row.0 row.1) (enumerate_from 0 o.sections);
-        })
-        (record o.header { shoff = table_place_from o tail })).sections ≡ length o.sections
-    by_test true = refl
-    by_test false =
-        length-map (enumerate_from 0 o.sections) (λ row. section_from o tail row.0 row.1)
-        ∙ length-enumerate_from 0 o.sections
-
-placed_alone : (o : Object) (tail s : ℕ) → IsAlone (section_at o s).pieces
-    → IsAlone (section_at (placed_from o tail) s).pieces
-placed_alone o tail s alone =
-    ⊎_elim
-    (λ below. subst (λ (l : List Piece). IsAlone l)
-    (sym (places_pieces o tail s below).pieces) alone)
-    (λ past. subst (λ (c : Section). IsAlone c.pieces)
-    (sym (section_at-past (placed_from o tail) s
-    (omega (arith, past, length-placed_from o tail)))) tt)
-    (cases_lt s (length o.sections))
 
 -- ---- Changes in two rows
 
@@ -225,16 +102,6 @@ after_one o x l new p e f =
     subst (λ (q : Object). in_turn with_bytes q l ≡ Ok p)
     (ok_same (with_bytes o x) next.0 new next.1 e) next.2
 
--- what is rebuilt has at most one piece in each section, also with its places
-rebuilt_pieces : (o : Object) (removed : List ℕ) (r : Rebuilt) → rebuilt o removed ≡ Ok r
-    → AreAlone r.object
-rebuilt_pieces o removed r e s =
-    let known = rebuilt_known o removed r e in
-    arranged_keeps (λ q. IsAlone (section_at q s).pieces)
-    (record { object = rebuilt_object o removed; tail = rebuilt_tail o removed }) r known.is
-    (all_alone o removed s)
-    (λ tail is passed. placed_alone (rebuilt_object o removed) tail s (all_alone o removed s))
-
 -- the steps of the changes of bytes
 record LastUpdate (c : Changes) (r p : Object) (s : ℕ) (bytes : List ℕ) : Type 0 where
   filled : occupies_file (header_at p s) ≡ true
@@ -273,7 +140,7 @@ last_update c o p r s bytes alone last e =
     subst (λ (n : ℕ). occupies_file (header_at last.new n) ≡ true) number
     (ap (λ (h : Shdr). occupies_file h) headed ∙ u.filled) in
     record {
-      filled = same_filled (header_at p s) (header_at last.new s) stays.stype ∙ filled;
+      filled = filled_by_type (header_at p s) (header_at last.new s) stays.stype ∙ filled;
       pieces = stays.pieces ∙ here;
       from = subst (λ (n : ℕ). 0 < n) number u.from;
       below = subst (λ (n : ℕ). n < length r.object.sections) number (omega (arith, under, count));
@@ -307,7 +174,7 @@ updated_is reopens c before after r s bytes are k last other =
     are.update) in
     (to.again s in_m).raw
     ∙ given_bytes k.made.object s bytes (stays.pieces ∙ is.pieces) is.from
-    (same_filled (header_at k.made.object s) (header_at to.changes.known.updated s) stays.stype
+    (filled_by_type (header_at k.made.object s) (header_at to.changes.known.updated s) stays.stype
     ∙ is.filled) bytes_are
 
 -- ---- New sections
@@ -371,10 +238,10 @@ flags_same_count names o l p e =
 -- ---- The table of the names is there
 
 -- the string index is below the number of sections
-pub index_below : (o : Object) (sections : List Section) (index : ℕ)
+pub string_index_below : (o : Object) (sections : List Section) (index : ℕ)
     → index_refusal o sections index ≡ None → 0 < length sections → index < length sections
 unfolding index_refusal update_ehdr_refusal stored_ehdr
-index_below o sections index passed some =
+string_index_below o sections index passed some =
     let tests = passed_two (not (index == 0) && nat_le (length sections) index)
     (not (ehdr_fits (stored_ehdr (record o.header { shnum = length sections })
     (record o.header { shstrndx = index }))))
@@ -465,8 +332,8 @@ added_is reopens c before after r i name bytes are k e at =
     let index : q.added.header.shstrndx ≡ rebuilt_index before removed =
     g.follows.index ∙ b.index ∙ a.index ∙ base.follows.index ∙ (front_is before removed).index in
     let listed = ap length (front_is before removed).sections in
-    let low = index_below before (rebuilt_sections before removed) (rebuilt_index before removed)
-    is.index (omega (arith, count, long, listed)) in
+    let low = string_index_below before (rebuilt_sections before removed)
+    (rebuilt_index before removed) is.index (omega (arith, count, long, listed)) in
     let in_added = given.below in
     let last = d.follows.count in
     let in_changed : length r.object.sections + i < length to.changed.sections =
@@ -487,7 +354,7 @@ added_is reopens c before after r i name bytes are k e at =
     (to.again (length r.object.sections + i) in_m).raw
     ∙ given_bytes k.made.object (length r.object.sections + i) bytes (stays.pieces ∙ given.pieces)
     (omega (arith, some))
-    (same_filled (header_at k.made.object (length r.object.sections + i))
+    (filled_by_type (header_at k.made.object (length r.object.sections + i))
     (header_at q.added (length r.object.sections + i)) stays.stype ∙ given.filled)
     bytes_are
 

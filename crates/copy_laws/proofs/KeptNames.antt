@@ -34,10 +34,10 @@ use Rattle.strip_laws.proofs.KeptLaws.{IsInRange, kept_in_range}
 use Rattle.copy_laws.proofs.SameItems.{opened_at}
 use Rattle.copy_laws.proofs.EachChange.{pieces_both, positive_by_test}
 use Rattle.copy_laws.proofs.AllChanges.{bytes_follow, bytes_header, bytes_pieces, not_chosen}
-use Rattle.copy_laws.proofs.Reopened.{front_is, IsReopened, reopened_index, reopened_inside, placed_name}
+use Rattle.copy_laws.proofs.Reopened.{front_is, IsWrittenAgain, reopened_index, reopened_inside, placed_name}
 use Rattle.copy_laws.proofs.KeptSections.{same_index, plain_header, made_of_section, made_count, passed_at, raw_inside, remade_bytes}
 use Rattle.copy_laws.proofs.CopySteps.{KeepsAll}
-use Rattle.copy_laws.proofs.GivenBytes.{given_bytes, index_below}
+use Rattle.copy_laws.proofs.GivenBytes.{given_bytes, string_index_below}
 use Rattle.copy_laws.proofs.SectionStrings.{blocks_are, IsStringSection, opened_strings, own_strings, same_string}
 use Rattle.copy_laws.proofs.TableNames.{HasNoNul, named_there, name_whole}
 use Rattle.copy_laws.proofs.NamePlaces.{kept_up_to, plain_name, plain_pieces}
@@ -131,7 +131,7 @@ table_below : (c : Changes) (before after : Object) (r m : Rebuilt) → KeepsAll
 table_below c before after r m all some =
     let count = made_count before in
     let listed = ap length (front_is before []).sections in
-    let low = index_below before (rebuilt_sections before []) (rebuilt_index before [])
+    let low = string_index_below before (rebuilt_sections before []) (rebuilt_index before [])
     all.known.index (omega (arith, some, count, listed)) in
     omega (arith, low, same_index before, listed, count)
 
@@ -202,7 +202,7 @@ name_table o renewed =
 named_again : (m after : Object) (out : List ℕ) (t s : ℕ) (name : List ℕ) → IsNamedIn m t s name
     → opened out ≡ Ok after → after ≡ as_opened (settle m) → m.header_marked ≡ true
     → m.header.shstrndx ≡ t → 1 ≤ t → t < length m.sections
-    → IsReopened m after t → IsReopened m after s → HasNoNul name
+    → IsWrittenAgain m after t → IsWrittenAgain m after s → HasNoNul name
     → section_name after s ≡ Some name
 named_again m after out t s name named e is marked index from below again_t again_s whole =
     let held = reopened_index m after is marked (omega (arith, below)) in

@@ -126,8 +126,8 @@ unfolding home_len
 no_size o s at filled =
     at.len ∙ ap (λ (b : Bool). if b then (header_at o s).size else 0) filled
 
-pub same_filled : (a b : Shdr) → a.stype ≡ b.stype → occupies_file a ≡ occupies_file b
-same_filled a b e = ap (λ (t : ℕ). not (t == 0 || t == 8)) e
+pub filled_by_type : (a b : Shdr) → a.stype ≡ b.stype → occupies_file a ≡ occupies_file b
+filled_by_type a b e = ap (λ (t : ℕ). not (t == 0 || t == 8)) e
 
 -- ---- What an object has of a section of another one
 
@@ -153,10 +153,10 @@ remade_bytes back o m s ok at passed from plain class order stype pieces =
     by_type (occupies_file (header_at o s)) refl
   where
     same : occupies_file (header_at m s) ≡ occupies_file (header_at o s)
-    same = same_filled (header_at m s) (header_at o s) stype
+    same = filled_by_type (header_at m s) (header_at o s) stype
 
     made : occupies_file (rebuilt_header o [] s) ≡ occupies_file (header_at o s)
-    made = same_filled (rebuilt_header o [] s) (header_at o s)
+    made = filled_by_type (rebuilt_header o [] s) (header_at o s)
         (ap (λ (h : Shdr). h.stype) (header_made o s))
 
     by_type : (b : Bool) → occupies_file (header_at o s) ≡ b
@@ -194,7 +194,7 @@ has_section back o m s ok at passed from plain class order header pieces =
       bytes = bytes;
       size = λ filled.
           let old : occupies_file (header_at o s) ≡ true =
-          sym (same_filled (header_at m s) (header_at o s) stype) ∙ filled in
+          sym (filled_by_type (header_at m s) (header_at o s) stype) ∙ filled in
           ap length bytes
           ∙ (section_at_is o s ok).home.inside (raw_inside o s passed)
           ∙ size_of o s at old

@@ -6,6 +6,7 @@ pub mod SameItems
 pub mod Reopened
 pub mod KeptSections
 pub mod CopySteps
+pub mod OnePiece
 pub mod GivenBytes
 pub mod SectionStrings
 pub mod TableNames

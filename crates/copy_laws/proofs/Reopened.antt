@@ -34,7 +34,7 @@ use Rattle.copy_laws.proofs.SameItems.{opened_inside}
 -- ---- The object before its places are given
 
 -- what is made of an object, but for its sections
-pub record IsFrontOf (o : Object) (removed : List ℕ) (r : Object) : Type 0 where
+pub record HasFrontAnew (o : Object) (removed : List ℕ) (r : Object) : Type 0 where
   pub class : r.header.class ≡ o.header.class
   pub order : r.header.order ≡ o.header.order
   pub index : r.header.shstrndx ≡ rebuilt_index o removed
@@ -42,11 +42,11 @@ pub record IsFrontOf (o : Object) (removed : List ℕ) (r : Object) : Type 0 whe
   pub marked : r.header_marked ≡ true
   pub sections : r.sections ≡ rebuilt_sections o removed
 
-pub front_is : (o : Object) (removed : List ℕ) → IsFrontOf o removed (rebuilt_object o removed)
+pub front_is : (o : Object) (removed : List ℕ) → HasFrontAnew o removed (rebuilt_object o removed)
 unfolding rebuilt_object assembled with_ehdr with_phdrs stored_ehdr over_base created_over
 front_is o removed = by_tail (rebuilt_tail o removed)
   where
-    by_tail : (t : Option ℕ) → IsFrontOf o removed
+    by_tail : (t : Option ℕ) → HasFrontAnew o removed
         (assembled (over_base o t) o (rebuilt_index o removed) (rebuilt_sections o removed))
     by_tail None = record {
       class = refl;
@@ -77,7 +77,7 @@ marked_dirty o marked =
 -- ---- The image, opened again
 
 -- a section of it
-pub record IsReopened (m after : Object) (s : ℕ) : Type 0 where
+pub record IsWrittenAgain (m after : Object) (s : ℕ) : Type 0 where
   pub header : header_at after s ≡ placed_shdr (places_of m) m s (header_at m s)
   pub raw : (section_at after s).raw ≡ file_bytes m s
 
@@ -86,7 +86,7 @@ unfolding section_at
 at_opened o s = refl
 
 pub reopened_at : (m after : Object) (s : ℕ) → after ≡ as_opened (settle m)
-    → m.header_marked ≡ true → s < length m.sections → IsReopened m after s
+    → m.header_marked ≡ true → s < length m.sections → IsWrittenAgain m after s
 unfolding settled_section
 reopened_at m after s is marked below =
     let dirty = marked_dirty m marked in
@@ -160,7 +160,7 @@ placed_name places m s h = by_tests (s == 0) (is_null h) (occupies_file h)
 
 -- a section of it lies in the file
 pub reopened_inside : (m after : Object) (out : List ℕ) (s : ℕ) → opened out ≡ Ok after
-    → IsReopened m after s → s < length after.sections → s < length m.sections → 0 < s
+    → IsWrittenAgain m after s → s < length after.sections → s < length m.sections → 0 < s
     → (section_at after s).home.out ≡ false
 reopened_inside m after out s e again in_after below from =
     let header : header_at after s ≡ header_at (placed_by (places_of m) m) s =
