@@ -1,5 +1,5 @@
 -- What a keeper makes of a section.
-use Rattle.std.proofs.Common.{◌≡◌, ◌==◌, ◌&&◌, ℕ, Bool, true, false, List, [], ◌∷◌, ◌++◌, None, Result, Ok, Err, if◌then◌else◌, refl, sym, ap, ◌∙◌, subst}
+use Rattle.std.proofs.Common.{◌≡◌, ◌==◌, ◌&&◌, ◌||◌, ℕ, Bool, true, false, List, [], ◌∷◌, ◌++◌, None, Result, Ok, Err, if◌then◌else◌, refl, sym, ap, ◌∙◌, subst}
 use Rattle.std.specs.Prelude.{IfOk, IfErr, slice_get, slice_index, unwrap_or}
 use Rattle.std.proofs.lemmas.Option.{unwrap_or-slice_get}
 use Rattle.elf_types.specs.declared.records.Class.{Class}
@@ -27,7 +27,7 @@ use Rattle.strip_rebuild.specs.declared.naming.Names.TheVariants.{Anew}
 use Rattle.strip_rebuild.specs.declared.keepers.Keeper.{Keeper}
 use Rattle.strip_rebuild.specs.Makes.{Makes, FitsAs, FitsAny, SymsFit}
 use Rattle.strip_rebuild.specs.Homes.{home_items, home_refusal, bytes_at_home, words_found, syms_found}
-use Rattle.strip_rebuild.specs.Keepers.{name_by, header_by, serves, indexes_by, symbols_by, group_by, words_by, kept_by, items_or_names, items_by, follows_by, kept_refusal_by, refusal_or_none, refusal_by, reads_by}
+use Rattle.strip_rebuild.specs.Keepers.{name_by, header_by, serves, indexes_by, symbols_by, group_by, words_by, kept_by, items_or_names, items_by, follows_by, is_renewed, makes_by, kept_refusal_by, refusal_or_none, refusal_by, reads_by}
 use Rattle.strip_rebuild.proofs.FitLaws.{followed_fit}
 use Rattle.strip_rebuild.proofs.MakeLaws.{unread_any, makes_then, makes_as, makes_nothing, makes_both, makes_early}
 
@@ -82,6 +82,31 @@ module _ (o : Object) (s : ℕ) (h : Shdr) (r b : Bool) (at : h ≡ header_at o 
   pub members_told : r ≡ is_loose SHT_GROUP kinds.Word h → members_follow o s ≡ b
   unfolding members_follow
   members_told is = sym (ap (is_loose SHT_GROUP kinds.Word) at) ∙ sym is ∙ test
+
+-- its items follow, or what it has is made
+module _ (k : Keeper) (o : Object) (s : ℕ) where
+  pub follows_symbols : symbols_follow o s ≡ true → true ≡ follows_by k o s
+  unfolding follows_by
+  follows_symbols one = rw one refl
+
+  pub follows_members : symbols_follow o s ≡ false → members_follow o s ≡ true
+      → true ≡ follows_by k o s
+  unfolding follows_by
+  follows_members one two = rw (one, two) refl
+
+  pub follows_indexes : (r : Bool) → symbols_follow o s ≡ false → members_follow o s ≡ false
+      → r ≡ indexes_by k o s → r ≡ follows_by k o s
+  unfolding follows_by
+  follows_indexes r one two is = is ∙ rw (one, two) refl
+
+  pub makes_renewed : is_renewed k.names (s == o.header.shstrndx) ≡ true → true ≡ makes_by k o s
+  unfolding makes_by
+  makes_renewed is = sym (ap (λ (b : Bool). b || follows_by k o s) is)
+
+  pub makes_others : (r : Bool) → is_renewed k.names (s == o.header.shstrndx) ≡ false
+      → r ≡ follows_by k o s → r ≡ makes_by k o s
+  unfolding makes_by
+  makes_others r not_names is = is ∙ sym (ap (λ (b : Bool). b || follows_by k o s) not_names)
 
 -- ---- Items
 

@@ -348,7 +348,7 @@ module _ (told : Bool) (o : Object) (k : Keeper) (keeps : KeepsFor told o k) (is
       map_members (refusal_by k o) (kept_refusal o k.removed.now) (kept_from_1 o k.removed.now)
       (λ s any. refusal_told s (sym (among_any o k.removed.now s) ∙ any))
 
-  reads_told : (s : ℕ) → is_among (kept_from_1 o k.removed.now) s ≡ true
+  pub reads_told : (s : ℕ) → is_among (kept_from_1 o k.removed.now) s ≡ true
       → reads_by k o s ≡ kept_reads o k.removed.now s
   unfolding reads_by kept_reads
   reads_told s kept =

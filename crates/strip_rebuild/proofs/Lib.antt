@@ -9,7 +9,7 @@ pub mod NameLaws
 pub mod NumberLaws
 pub mod EndLaws
 pub mod KeptLaws
-mod SectionLaws
-mod FillLaws
-mod RebuildLaws
-mod WholeLaws
+pub mod SectionLaws
+pub mod FillLaws
+pub mod RebuildLaws
+pub mod WholeLaws

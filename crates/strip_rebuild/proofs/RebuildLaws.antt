@@ -181,7 +181,7 @@ module _ (o : Object) (removed : List ℕ) where
       ap (λ (r : Option ElfError). answered r (made_of (rebuilt_object o removed)
       (rebuilt_tail o removed)) >>= arranged) is
 
-  answers_early : (e : ElfError) → UnreadBy (early_refusal o removed) e
+  pub answers_early : (e : ElfError) → UnreadBy (early_refusal o removed) e
       → RebuildAnswers (Err e) (rebuilt o removed)
   answers_early Memory by = tt
   answers_early Read by = tt

@@ -75,6 +75,16 @@ items_by k o s = items_or_names k.names (s == o.header.shstrndx) (kept_by k o s)
 unfoldable pub follows_by : Keeper → Object → ℕ → Bool
 follows_by k o s = symbols_follow o s || members_follow o s || indexes_by k o s
 
+-- the section of the names, where these are made anew
+abbrev pub is_renewed : Names → Bool → Bool
+is_renewed (Anew names) is_names = is_names
+is_renewed Stay is_names = false
+is_renewed TooLarge is_names = false
+
+-- what it has is made, and not taken as it is
+unfoldable pub makes_by : Keeper → Object → ℕ → Bool
+makes_by k o s = is_renewed k.names (s == o.header.shstrndx) || follows_by k o s
+
 -- of the items that follow, or of the bytes
 unfoldable pub kept_refusal_by : Keeper → Object → ℕ → Option ElfError
 kept_refusal_by k o s = if follows_by k o s then home_refusal o s else raw_refusal o s

@@ -7,7 +7,7 @@ ghost use Rattle.command_objects.specs.Words.{header_at};
 ghost use Rattle.command_objects.specs.Followed.{followed_syms, followed_words};
 ghost use Rattle.strip_rebuild.specs.Homes.{home_items, home_refusal, syms_found};
 ghost use Rattle.strip_rebuild.specs.Makes.{Makes, FitsAs};
-ghost use Rattle.strip_rebuild.specs.Keepers.{header_by, items_by, kept_by, symbols_by, group_by, words_by, indexes_by, serves, name_by, items_or_names, kept_refusal_by, refusal_or_none, refusal_by, reads_by};
+ghost use Rattle.strip_rebuild.specs.Keepers.{header_by, items_by, kept_by, symbols_by, group_by, words_by, indexes_by, serves, name_by, items_or_names, follows_by, is_renewed, makes_by, kept_refusal_by, refusal_or_none, refusal_by, reads_by};
 
 use crate::homes::{bytes_at_home, copy_items, home_syms, home_words, own_syms, own_words};
 use crate::making::{group_items, index_items, symbol_items};
@@ -24,15 +24,15 @@ use strip_removed::SectionSet;
 
 /// What makes the sections that are kept, by what was worked out before.
 #[derive(Drop)]
-pub(crate) struct Keeper<'a> {
+pub struct Keeper<'a> {
     /// What is removed.
-    pub(crate) removed: &'a SectionSet,
+    pub removed: &'a SectionSet,
     /// The map of the numbers.
-    pub(crate) numbering: Numbering,
+    pub numbering: Numbering,
     /// Of each section the number of its extended indexes, and 0 where it has none.
-    pub(crate) tables: Words,
+    pub tables: Words,
     /// The names.
-    pub(crate) names: Names,
+    pub names: Names,
 }
 
 /// The number at an index, and 0 where there is none.
@@ -50,6 +50,17 @@ fn name_of(names: &Names, s: ScnId, name: u32) -> u32
         Names::Anew(names) => number_at(&names.places, s.0),
         Names::Stay => name,
         Names::TooLarge => name,
+    }
+}
+
+/// Whether the names are made anew, where a section is the one that holds them.
+fn is_renewed(names: &Names, is_names: bool) -> bool
+    ensures { result ≡ is_renewed names.now is_names }
+{
+    match names {
+        Names::Anew(_) => is_names,
+        Names::Stay => false,
+        Names::TooLarge => false,
     }
 }
 
@@ -74,6 +85,35 @@ impl Keeper<'_> {
             return self.serves(elf, s, ScnId(link));
         }
         false
+    }
+
+    /// Whether the items of a section that is there follow.
+    #[tactic(auto, unfolding(command_objects::specs::Followed::symbols_follow, command_objects::specs::Followed::members_follow))]
+    fn follows<S: Source>(&self, elf: &Elf<S>, s: ScnId) -> bool
+        requires { s.0 < length elf.now.o.sections }
+        ensures { result ≡ follows_by self.now elf.now.o s.0 }
+    {
+        let h = elf.section_header(s);
+        if is_symbol_table(&h) {
+            return true;
+        }
+        if is_group(&h) {
+            return true;
+        }
+        self.holds_indexes(elf, s, h.link)
+    }
+
+    /// Whether what a section that is there has in the new image is made: its items follow, or it
+    /// holds the names that are made anew. Else its bytes are taken as they are. It reads nothing
+    /// and takes no memory.
+    pub fn makes<S: Source>(&self, elf: &Elf<S>, s: ScnId) -> bool
+        requires { s.0 < length elf.now.o.sections }
+        ensures { result ≡ makes_by self.now elf.now.o s.0 }
+    {
+        if is_renewed(&self.names, s.0 == elf.shstrndx()) {
+            return true;
+        }
+        self.follows(elf, s)
     }
 
     /// The symbols of a table that is there, with the words of their extended indexes.

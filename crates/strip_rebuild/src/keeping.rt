@@ -20,7 +20,7 @@ use strip_removed::SectionSet;
 
 /// What makes the sections of an object without the removed ones, of which section 0 is none. It
 /// refuses `Memory` and `Read` alone, and reads the home of the names at the first use.
-pub(crate) fn keep_sections<'a, S: Source>(
+pub fn keep_sections<'a, S: Source>(
     alloc: Global,
     elf: &mut Elf<S>,
     removed: &'a SectionSet,

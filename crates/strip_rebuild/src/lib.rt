@@ -14,4 +14,9 @@ mod numbers;
 mod rebuilding;
 mod tails;
 
+pub use keepers::Keeper;
+pub use keeping::keep_sections;
+pub use naming::{Names, check_names};
+pub use numbers::kept_numbers;
 pub use rebuilding::{Rebuilt, rebuild};
+pub use tails::tail_of;

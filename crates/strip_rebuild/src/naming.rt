@@ -5,6 +5,7 @@ ghost use Rattle.elf_types.specs.declared.errors.ElfError.TheVariants.{Memory, R
 ghost use Rattle.elf_object.specs.Due.{homes_due};
 ghost use Rattle.command_objects.specs.Rebuilt.{renews_names};
 ghost use Rattle.strip_removed.specs.Calls.{names_home};
+ghost use Rattle.strip_rebuild.specs.Answers.{ChecksNames};
 ghost use Rattle.strip_rebuild.specs.Keepers.{AreNames, NamesFor, RenewsAs};
 ghost use Rattle.strip_rebuild.specs.Makes.{AsksFor};
 
@@ -18,13 +19,24 @@ use strip_removed::SectionSet;
 
 /// What becomes of the names.
 #[derive(Drop)]
-pub(crate) enum Names {
+pub enum Names {
     /// They stay as they are.
     Stay,
     /// They are made anew.
     Anew(NewNames),
     /// Their table would be too large, which is told after what comes before it.
     TooLarge,
+}
+
+/// Refuses names whose table would be too large, as `TooLarge`, and nothing else.
+pub fn check_names(names: &Names) -> Result<(), ElfError>
+    ensures { ChecksNames names.now result }
+{
+    match names {
+        Names::Stay => Ok(()),
+        Names::Anew(_) => Ok(()),
+        Names::TooLarge => Err(ElfError::TooLarge),
+    }
 }
 
 /// What an error is that came while names were made anew: `TooLarge` is told later.

@@ -42,7 +42,7 @@ fn push_below(removed: &SectionSet, count: u32, numbers: &mut Words) -> Result<(
 }
 
 /// The numbers of the sections from 1 on that are kept, ascending. It refuses `Memory` alone.
-pub(crate) fn kept_numbers<S: Source>(
+pub fn kept_numbers<S: Source>(
     alloc: Global,
     elf: &Elf<S>,
     removed: &SectionSet,

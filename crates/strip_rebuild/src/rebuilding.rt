@@ -8,14 +8,14 @@ ghost use Rattle.command_objects.specs.Followed.{kept_from_1};
 ghost use Rattle.command_objects.specs.Rebuilt.{rebuilt, rebuilt_tail};
 ghost use Rattle.object_making.specs.Based.{IsMadeOver};
 ghost use Rattle.strip_removed.specs.Steps.{IsRemovable};
-ghost use Rattle.strip_rebuild.specs.Answers.{RebuildAnswers, EarlyBy, early_refusal, Rebuilds, ChecksNames, homes_asked, made_due, rebuild_due};
+ghost use Rattle.strip_rebuild.specs.Answers.{RebuildAnswers, EarlyBy, early_refusal, Rebuilds, homes_asked, made_due, rebuild_due};
 ghost use Rattle.strip_rebuild.specs.Keepers.{KeepsFor};
 ghost use Rattle.strip_rebuild.specs.Makes.{AsksFor};
 
 use crate::filling::fill;
 use crate::keepers::Keeper;
 use crate::keeping::keep_sections;
-use crate::naming::Names;
+use crate::naming::check_names;
 use crate::numbers::kept_numbers;
 use crate::tails::tail_of;
 use elf_descriptor::Elf;
@@ -33,17 +33,6 @@ pub struct Rebuilt {
     pub elf: Elf<NoSource>,
     /// The place, in bytes; None without program headers.
     pub tail: Option<u64>,
-}
-
-/// Refuses names whose table would be too large.
-fn check_names(names: &Names) -> Result<(), ElfError>
-    ensures { ChecksNames names.now result }
-{
-    match names {
-        Names::Stay => Ok(()),
-        Names::Anew(_) => Ok(()),
-        Names::TooLarge => Err(ElfError::TooLarge),
-    }
 }
 
 /// Fills an object that was created over the base of another one, and gives what stands behind the

@@ -107,7 +107,7 @@ fn with_homes<S: Source>(elf: &Elf<S>, removed: &SectionSet, end: u64) -> u64
 /// nothing and takes no memory.
 ///
 /// Source: gABI chapter 5, "Program Header", p_offset and p_filesz.
-pub(crate) fn tail_of<S: Source>(elf: &Elf<S>, removed: &SectionSet) -> Option<u64>
+pub fn tail_of<S: Source>(elf: &Elf<S>, removed: &SectionSet) -> Option<u64>
     ensures { result ≡ rebuilt_tail elf.now.o removed.now }
 {
     if elf.phnum() == 0 {

@@ -72,6 +72,19 @@ header_from o tail s first there = by_test (is_movable o s) refl
         ∙ sym (ap (λ (c : Section). c.header)
         (from_none o tail s (section_at o s) (section_keeps o tail s is)))
 
+-- ---- How many there are
+
+pub first_count : (empty headers : List Shdr) (h : Shdr) → empty ≡ [] → headers ≡ empty ++ h ∷ []
+    → length headers ≡ 1
+first_count empty headers h none put =
+    ap (λ (l : List Shdr). length l) (put ∙ ap (λ (l : List Shdr). l ++ h ∷ []) none)
+
+pub next_count : (headers next : List Shdr) (h : Shdr) (s : ℕ) → length headers ≡ s
+    → next ≡ headers ++ h ∷ [] → length next ≡ s + 1
+next_count headers next h s count more =
+    ap (λ (l : List Shdr). length l) more ∙ length-append headers (h ∷ [])
+    ∙ ap (λ (k : ℕ). k + 1) count
+
 -- ---- One after the other
 
 pub first_behind : (o : Object) (x : Listed) (tail limit : ℕ) (listed empty headers : List Shdr)

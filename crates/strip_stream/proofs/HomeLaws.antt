@@ -12,6 +12,7 @@ use Rattle.elf_types.specs.declared.records.Shdr.{Shdr}
 use Rattle.elf_types.specs.declared.errors.ElfError.{ElfError}
 use Rattle.elf_ident.specs.declared.fronts.Front.{Front}
 use Rattle.elf_ident.specs.Front.{front}
+use Rattle.elf_xlate.specs.declared.content.Items.{Items}
 use Rattle.elf_xlate.specs.declared.content.Items.TheVariants as items
 use Rattle.elf_xlate.specs.Translation.{encoded}
 use Rattle.elf_xlate.proofs.Bytes.{lowest_same}
@@ -84,13 +85,13 @@ home_is_bytes o s object = by_list o.sections object.sections
 abbrev one_piece : List ℕ → List (ℕ × List ℕ)
 one_piece bytes = (1, bytes) ∷ []
 
-made_pieces : (class : Class) (order : Order) (h : Shdr) (raw : List ℕ) → occupies_file h ≡ true
-    → aligned_pieces class order (made_section h (items.Bytes raw))
-    ≡ (1, encoded class order (items.Bytes raw)) ∷ []
+pub made_pieces : (class : Class) (order : Order) (h : Shdr) (made : Items)
+    → occupies_file h ≡ true
+    → aligned_pieces class order (made_section h made) ≡ (1, encoded class order made) ∷ []
 unfolding aligned_pieces made_section piece_bytes
-made_pieces class order h raw filled =
+made_pieces class order h made filled =
     ap (λ (b : Bool). map (λ p. (p.align, piece_bytes class order [] p))
-    (if b then own_piece (items.Bytes raw) 1 ∷ [] else [])) filled
+    (if b then own_piece made 1 ∷ [] else [])) filled
 
 stored_bytes : (class : Class) (order : Order) (raw : List ℕ) → AreBytes raw
     → encoded class order (items.Bytes raw) ≡ raw
@@ -99,7 +100,7 @@ stored_bytes class order raw are = lowest_same raw are
 
 pub homes_are_stored : HomesAreStored
 homes_are_stored o s class order h object tied clean inside filled =
-    made_pieces class order h (section_at o s).raw filled
+    made_pieces class order h (items.Bytes (section_at o s).raw) filled
     ∙ ap one_piece
     (stored_bytes class order (section_at o s).raw (home_is_bytes o s object)
     ∙ homes_stand o s tied clean inside)

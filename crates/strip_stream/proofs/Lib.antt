@@ -6,3 +6,4 @@ pub mod HoldLaws
 pub mod PlanLaws
 pub mod StreamLaws
 pub mod StoredLaws
+pub mod UnreadLaws

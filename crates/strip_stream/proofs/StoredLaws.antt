@@ -93,17 +93,17 @@ pub stored_class : (o : Object) (x : Listed) → IsReady o → IsListed (placed 
 stored_class o x ready is = listed_class (placed o) x is ∙ placed_class o ready
 
 -- the parts have as many places
-pub places_long : (o : Object) (p : PlannedParts) → IsPlanned o p → 0 < length o.sections
-    → length p.places.at ≡ length o.sections + 2
+pub places_long : (o : Object) (p : PlannedParts) → IsPlanned o p
+    → length p.places.at ≡ length o.sections - 1 + 3
 unfolding parts_of
-places_long o p is some =
+places_long o p is =
     let count = places_count o (record { parts = parts_of o; places = places_of o })
     (record { passed = is.ready.passed; parts = refl; places = refl }) in
     let same = ap (λ (x : Places). length x.at) is.places in
     let sections = length-map-range_with_len (section_part o) 1 (length o.sections - 1) in
     let all = length-append (map (section_part o) (range_with_len 1 (length o.sections - 1)))
     (table_part o ∷ []) in
-    omega (arith, count, same, sections, all, some)
+    omega (arith, count, same, sections, all)
 
 pad_placed : (o : Object) → IsReady o → (placed o).pad ≡ o.pad
 unfolding placed_by

@@ -52,6 +52,7 @@ fn place_sections(alloc: Global, x: &Listed, tail: u64, limit: u64) -> Result<Be
     ensures ok { IfOk result (λ behind. (o : Object) → IsListed o x.now
         → limit ≡ limit_of o.header.class
         → ArePlacedBehind o tail limit (length o.sections) behind.headers behind.end) }
+    ensures count { IfOk result (λ behind. length behind.headers ≡ length x.now.headers) }
     ensures err { IfErr result (λ e. (e ≡ Memory) ⊎ IsAbove x.now tail limit e) }
 {
     let listed = x.headers.as_slice();
@@ -83,6 +84,8 @@ pub fn arrange_listed(alloc: Global, x: Listed, tail: u64) -> Result<Listed, Elf
     requires sizes { length x.sizes ≡ length x.headers }
     ensures ok { IfOk result (λ next. (o : Object) → IsListed o x
         → IsArrangedBehind o tail next) }
+    ensures count { IfOk result (λ next. length next.headers ≡ length x.headers) }
+    ensures sizes { IfOk result (λ next. next.sizes ≡ x.sizes) }
     ensures err { IfErr result (λ e. (e ≡ Memory) ⊎ IsRefusedBehind x tail e) }
 {
     let limit = greatest_place(x.header.class);

@@ -1,7 +1,8 @@
 //! The plan of an image of which the headers are listed.
 
-ghost use Rattle.std.specs.Prelude.{◌≡◌, ◌≤◌, length, IfOk, IfErr};
+ghost use Rattle.std.specs.Prelude.{◌≡◌, ◌≤◌, ℕ, length, IfOk, IfErr};
 ghost use Rattle.elf_types.specs.declared.constants.TheConstants.{MAX_SECTIONS};
+ghost use Rattle.elf_outside.specs.Asks.{ReadRose};
 ghost use Rattle.elf_object.specs.Object.{Object};
 ghost use Rattle.update_plan.specs.Placing.{IsRefused};
 ghost use Rattle.elf_update.specs.Updates.{IsPlanned};
@@ -18,7 +19,8 @@ use update_plan::plan;
 
 /// The plan of the image of an object of which the headers are listed, and where its parts stand:
 /// with `layout` where the headers say, over so many bytes of a base. It refuses as an update of
-/// that object does: `Overlap`, `TooLarge`; and `Memory` in place of a value and of these two.
+/// that object does: `Overlap`, `TooLarge`; and `Memory` in place of a value and of these two. It
+/// reads nothing.
 ///
 /// Source: gABI chapter 4, "ELF Header" and "Section Header"; elf_update and ELF_F_LAYOUT of
 /// elf(3E).
@@ -34,6 +36,7 @@ pub fn plan_listed(
         → IsPlanned o planned) }
     ensures err { IfErr result (λ e. (o : Object) → IsLaidOut o x.now layout base
         → IsRefused o e) }
+    ensures unread { (a b : ℕ) → ReadRose result a b }
 {
     parts_may_be_capped();
     let parts = match list_parts(alloc, x) {

@@ -1,9 +1,10 @@
 //! What an image is written from, where its headers are listed and the bytes of its sections are
 //! ranges.
 
-ghost use Rattle.std.specs.Prelude.{◌≡◌, ◌⊎◌, ◌<◌, ◌≤◌, true, false, length, All, IsTrue, IfOk, IfErr};
+ghost use Rattle.std.specs.Prelude.{◌≡◌, ◌⊎◌, ◌≤◌, ℕ, true, false, length, All, IsTrue, IfOk, IfErr};
 ghost use Rattle.elf_types.specs.declared.constants.TheConstants.{MAX_SECTIONS};
 ghost use Rattle.elf_types.specs.declared.errors.ElfError.TheVariants.{Memory};
+ghost use Rattle.elf_outside.specs.Asks.{ReadRose};
 ghost use Rattle.elf_xlate.specs.Headers.{ehdr_fits, phdr_fits, shdr_fits};
 ghost use Rattle.elf_object.specs.Object.{Object};
 ghost use Rattle.elf_object.specs.Valid.{IsObject};
@@ -50,15 +51,8 @@ fn segments_fit(class: Class, phdrs: &[Phdr]) -> bool
     true
 }
 
-/// Headers that do not fit their class, which no object has.
-fn unfit_front() -> ElfError {
-    ElfError::Unfit {
-        part: Part::Table,
-        index: 0,
-    }
-}
-
-/// Holds the front of an image of which the headers are listed with their places.
+/// Holds the front of an image of which the headers are listed with their places. Headers that do
+/// not fit their class, which no object has, are refused as `Unfit`.
 fn hold_stored(
     held: &mut Octets,
     x: &Listed,
@@ -67,15 +61,25 @@ fn hold_stored(
 ) -> Result<FrontRanges, ElfError>
     ensures ok { IfOk result (HoldsFront x.now pad phdrs.now held.old held.new) }
     ensures err { IfErr result (λ e. (e ≡ Memory) ⊎ IsNoFront x.now phdrs.now) }
+    ensures unread { (a b : ℕ) → ReadRose result a b }
 {
     if !ehdr_fits(&x.header) {
-        return Err(unfit_front());
+        return Err(ElfError::Unfit {
+            part: Part::Table,
+            index: 0,
+        });
     }
     if !headers_fit(x) {
-        return Err(unfit_front());
+        return Err(ElfError::Unfit {
+            part: Part::Table,
+            index: 0,
+        });
     }
     if !segments_fit(x.header.class, phdrs) {
-        return Err(unfit_front());
+        return Err(ElfError::Unfit {
+            part: Part::Table,
+            index: 0,
+        });
     }
     match hold_front(held, x, pad, phdrs) {
         Ok(front) => Ok(front),
@@ -95,6 +99,7 @@ pub struct Streamed {
 /// Works out where the parts of an image stand of which the headers are listed, and holds its front
 /// behind what is held. It refuses as an update of an object does that has these headers: `Overlap`,
 /// `TooLarge`; and `Memory`. Headers that do not fit their class, which no object has, are `Unfit`.
+/// It reads nothing.
 ///
 /// Source: gABI chapter 4, "ELF Header" and "Section Header"; elf_update of elf(3E).
 pub fn stream_listed(
@@ -107,12 +112,12 @@ pub fn stream_listed(
     held: &mut Octets,
 ) -> Result<Streamed, ElfError>
     requires few { length x.headers ≤ MAX_SECTIONS }
-    requires some { 0 < length x.headers }
     requires sizes { length x.sizes ≡ length x.headers }
     ensures ok { IfOk result (λ streamed. (o : Object) → IsLaidOut o x layout base → pad ≡ o.pad
         → phdrs.now ≡ o.phdrs → IsStreamed o held.old held.new streamed) }
     ensures err { IfErr result (λ e. (o : Object) → IsLaidOut o x layout base
         → phdrs.now ≡ o.phdrs → IsRefused o e) }
+    ensures unread { (a b : ℕ) → ReadRose result a b }
 {
     let planned = match plan_listed(alloc, &x, layout, base) {
         Ok(planned) => planned,
@@ -121,6 +126,9 @@ pub fn stream_listed(
     let places = planned.places.at.len();
     let parts = x.headers.len() + 2;
     if places < parts {
+        return Err(ElfError::TooMany);
+    }
+    if places < 3 {
         return Err(ElfError::TooMany);
     }
     let next = match store_places(alloc, x, &planned.places) {

@@ -2,7 +2,7 @@ use Rattle.std.proofs.Common.{◌≡◌, ◌<◌, ℕ, List, length, inr, refl, 
 use Rattle.elf_types.specs.declared.records.Shdr.{Shdr}
 use Rattle.listed_layout.proofs.StoreLaws.{row_listed}
 use Rattle.strip_stream.specs.Arranging.{ArePlacedBehind}
-use Rattle.strip_stream.proofs.ArrangeLaws.{first_behind, next_behind_is, some_is_above}
+use Rattle.strip_stream.proofs.ArrangeLaws.{first_behind, next_behind_is, some_is_above, first_count, next_count}
 use Rattle.strip_stream.proofs.arranging.place_sections.Goals as goal
 
 pub loop-s-init : goal.loop-s-init
@@ -12,6 +12,7 @@ loop-s-init c = record {
       c.push.new.self _ c.as_slice-listed.ensures c.requires.some c.in_ok-headers.ensures.ok
       c.in_ok-push.ensures.ok is;
   within = omega (arith, c.requires.some);
+  count = first_count _ _ _ c.in_ok-headers.ensures.ok c.in_ok-push.ensures.ok;
 }
 
 pub loop-s-preserved : goal.loop-s-preserved
@@ -33,6 +34,8 @@ loop-s-preserved c =
           (let first = c.loop-s.auto.s in omega (arith, first)) limit)
           c.in_ok-push-in-Some.ensures.ok;
       within = omega (arith, there);
+      count =
+          next_count _ _ _ c.loop-s.s c.loop-s.invariant.count c.in_ok-push-in-Some.ensures.ok;
     }
 
 pub returns-in-None-clause-err : goal.returns-in-None-clause-err
@@ -63,3 +66,11 @@ returns-clause-ok c = λ o is limit.
     omega (arith, long, count, c.loop-s-test.false, c.loop-s.invariant.within) in
     subst (λ (n : ℕ). ArePlacedBehind o c.args.tail c.args.limit n c.loop-s.headers c.loop-s.end)
     last (c.loop-s.invariant.placed o is limit)
+
+pub returns-clause-count : goal.returns-clause-count
+returns-clause-count c =
+    let long : length c.as_slice-listed.result.now ≡ length c.args.x.now.headers =
+    ap (λ (l : List Shdr). length l) c.as_slice-listed.ensures in
+    let so_far = c.loop-s.invariant.count in
+    let within = c.loop-s.invariant.within in
+    omega (arith, long, so_far, within, c.loop-s-test.false)

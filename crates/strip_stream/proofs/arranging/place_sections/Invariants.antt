@@ -10,4 +10,5 @@ invariant-loop-s l = record {
   placed : (o : Object) → IsListed o l.x → l.limit ≡ limit_of o.header.class
       → ArePlacedBehind o l.tail l.limit l.s l.headers l.end;
   within : l.s ≤ length l.x.headers;
+  count : length l.headers ≡ l.s;
 }

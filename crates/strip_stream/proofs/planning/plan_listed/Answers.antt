@@ -1,4 +1,6 @@
+use Rattle.elf_update.specs.declared.updates.PlannedParts.{PlannedParts}
 use Rattle.strip_stream.proofs.PlanLaws.{wanted, not_listed, not_planned, all_planned}
+use Rattle.strip_stream.proofs.UnreadLaws.{wanted_unread, placed_unread}
 use Rattle.strip_stream.proofs.planning.plan_listed.Goals as goal
 
 pub plan-requires : goal.plan-requires
@@ -29,3 +31,15 @@ returns-in-Err-plan-clause-err c = λ o is.
     (c.parts_may_be_capped.ensures o is.object) c.in-Ok.parts
     (c.in-Ok.ensures.ok o is.object is.listed) c.in-Ok-place.places c.in-Ok-place.ensures.answer
     c.in-Err-plan.e c.in-Err-plan.ensures.err
+
+pub returns-in-Err-clause-unread : goal.returns-in-Err-clause-unread
+returns-in-Err-clause-unread c = wanted_unread PlannedParts c.in-Err.e c.in-Err.ensures.err
+
+pub returns-in-Err-place-clause-unread : goal.returns-in-Err-place-clause-unread
+returns-in-Err-place-clause-unread c =
+    placed_unread c.in-Ok.parts c.args.layout c.args.base c.args.x.now.header.class
+    PlannedParts c.in-Err-place.e c.in-Err-place.ensures.answer
+
+pub returns-in-Err-plan-clause-unread : goal.returns-in-Err-plan-clause-unread
+returns-in-Err-plan-clause-unread c =
+    wanted_unread PlannedParts c.in-Err-plan.e c.in-Err-plan.ensures.err

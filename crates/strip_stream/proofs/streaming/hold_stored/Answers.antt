@@ -1,6 +1,8 @@
 use Rattle.std.proofs.Common.{◌∙◌, inl, inr, sym}
 use Rattle.elf_object.specs.Layout.{placed}
+use Rattle.strip_stream.specs.declared.holding.FrontRanges.{FrontRanges}
 use Rattle.strip_stream.proofs.StoredLaws.{no_unfit_header, placed_object, stored_class}
+use Rattle.strip_stream.proofs.UnreadLaws.{wanted_unread}
 use Rattle.strip_stream.proofs.streaming.hold_stored.Goals as goal
 
 pub returns-then-not-ehdr_fits-clause-err : goal.returns-then-not-ehdr_fits-clause-err
@@ -28,3 +30,6 @@ hold_front-requires-clause-sections c = c.headers_fit.ensures.fit c.if-not-heade
 
 pub returns-in-Err-clause-err : goal.returns-in-Err-clause-err
 returns-in-Err-clause-err c = inl c.in-Err.ensures.err
+
+pub returns-in-Err-clause-unread : goal.returns-in-Err-clause-unread
+returns-in-Err-clause-unread c = wanted_unread FrontRanges c.in-Err.e c.in-Err.ensures.err

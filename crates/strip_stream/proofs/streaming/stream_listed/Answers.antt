@@ -1,6 +1,11 @@
 use Rattle.std.proofs.Common.{arith}
+use Rattle.elf_outside.proofs.AskLemmas.{read_rose_on}
+use Rattle.elf_update.specs.declared.updates.PlannedParts.{PlannedParts}
 use Rattle.elf_update.proofs.UpdateLaws.{wants_passed}
+use Rattle.strip_stream.specs.declared.holding.FrontRanges.{FrontRanges}
+use Rattle.strip_stream.specs.declared.streaming.Streamed.{Streamed}
 use Rattle.strip_stream.proofs.StoredLaws.{places_long, streamed_of, not_held}
+use Rattle.strip_stream.proofs.UnreadLaws.{wanted_unread}
 use Rattle.strip_stream.proofs.streaming.stream_listed.Goals as goal
 
 pub returns-in-Err-clause-err : goal.returns-in-Err-clause-err
@@ -9,9 +14,13 @@ returns-in-Err-clause-err c = λ o is are. c.in-Err.ensures.err o is
 pub returns-then-places-parts-clause-err : goal.returns-then-places-parts-clause-err
 returns-then-places-parts-clause-err c = λ o is are.
     let count = is.listed.count in
-    let long = places_long o c.in-Ok.planned (c.in-Ok.ensures.ok o is)
-    (omega (arith, count, c.requires.some)) in
+    let long = places_long o c.in-Ok.planned (c.in-Ok.ensures.ok o is) in
     absurd (omega (arith, count, long, c.if-places-parts.true, c.len-places.ensures))
+
+pub returns-then-places-lt3-clause-err : goal.returns-then-places-lt3-clause-err
+returns-then-places-lt3-clause-err c = λ o is are.
+    let long = places_long o c.in-Ok.planned (c.in-Ok.ensures.ok o is) in
+    absurd (omega (arith, long, c.if-places-lt3.true, c.len-places.ensures))
 
 pub returns-in-Err-store_places-clause-err : goal.returns-in-Err-store_places-clause-err
 returns-in-Err-store_places-clause-err c = λ o is are.
@@ -31,3 +40,16 @@ returns-in-Err-hold_stored-clause-err c = λ o is are.
     (c.in-Ok.ensures.ok o is).ready
     (c.in-Ok-store_places.ensures.ok o is.listed is.dirty (c.in-Ok.ensures.ok o is).places) are
     c.in-Err-hold_stored.ensures.err
+
+pub returns-in-Err-clause-unread : goal.returns-in-Err-clause-unread
+returns-in-Err-clause-unread c = λ a b.
+    read_rose_on PlannedParts Streamed c.in-Err.e a b (c.in-Err.ensures.unread a b)
+
+pub returns-in-Err-store_places-clause-unread : goal.returns-in-Err-store_places-clause-unread
+returns-in-Err-store_places-clause-unread c =
+    wanted_unread Streamed c.in-Err-store_places.e c.in-Err-store_places.ensures.err
+
+pub returns-in-Err-hold_stored-clause-unread : goal.returns-in-Err-hold_stored-clause-unread
+returns-in-Err-hold_stored-clause-unread c = λ a b.
+    read_rose_on FrontRanges Streamed c.in-Err-hold_stored.e a b
+    (c.in-Err-hold_stored.ensures.unread a b)
