@@ -1,5 +1,5 @@
 -- The files of a command, made one after another.
-use Rattle.std.proofs.Common.{◌≡◌, ◌≢◌, ◌⊎◌, inr, ◌∷◌, ℕ, Bool, true, false, List, [], length, take, Option, Some, None, Result, Ok, Err, IfSome, IsTrue, if◌then◌else◌, refl, sym, ap, ◌∙◌, subst, arith}
+use Rattle.std.proofs.Common.{◌≡◌, ◌≢◌, ◌⊎◌, inl, inr, ◌∷◌, ℕ, Bool, true, false, List, [], length, take, Option, Some, None, Result, Ok, Err, IfSome, OnErr, IsTrue, if◌then◌else◌, refl, sym, ap, ◌∙◌, subst, arith}
 use Rattle.std.specs.Str.{bytes_eq}
 use Rattle.std.proofs.lemmas.Bool.{true≢false}
 use Rattle.std.proofs.lemmas.List.{take_all}
@@ -17,6 +17,7 @@ use Rattle.tool_output.proofs.StepLemmas.{writes_went}
 use Rattle.tool_output.proofs.FileLemmas.{only_reads_none}
 use Rattle.tool_output.proofs.OutcomeLemmas.{may_hold_same}
 use Rattle.tool_output.proofs.MadeLemmas.{made_held, made_left, stopped_done, writes_whole}
+use Rattle.object_files.specs.Making.{InOrder}
 
 -- ---- One file, once what waited was put
 
@@ -185,3 +186,58 @@ module _ {F D O E U : Type 0} (f : FilesGhosts F D) (o : SinkGhosts O) (e : Sink
       asks = tt;
       gives = tt;
     }
+
+-- ---- Their order
+
+module _ {F D : Type 0} (f : FilesGhosts F D) (first second : List ℕ) where
+  abbrev Ordered : {T : Type 0} → Result T Stop → F → F → Option (List ℕ) → Type 0
+  Ordered r a b image = IfSome image (λ bytes. OnErr r
+      ((f.named b second ≡ f.named a second) ⊎ (f.named b first ≡ Some bytes)))
+
+  -- none is made
+  none_ordered : {T : Type 0} (r : Result T Stop) (a : F) (image : Option (List ℕ))
+      → Ordered r a a image
+  none_ordered r a None = tt
+  none_ordered (Ok x) a (Some bytes) = tt
+  none_ordered (Err stop) a (Some bytes) = inl refl
+
+  pub order_none : {T : Type 0} (image : Option (List ℕ)) (r : Result T Stop) (a : F)
+      → InOrder f first second image r a a
+  order_none image r a = record { order = λ told. none_ordered r a image }
+
+  -- both are
+  done_ordered : {T : Type 0} (x : T) (a b : F) (image : Option (List ℕ))
+      → Ordered {T = T} (Ok x) a b image
+  done_ordered x a b None = tt
+  done_ordered x a b (Some bytes) = tt
+
+  pub order_done : {T : Type 0} (image : Option (List ℕ)) (x : T) (a b : F)
+      → InOrder {T = T} f first second image (Ok x) a b
+  order_done image x a b = record { order = λ told. done_ordered x a b image }
+
+  module _ (differ : first ≢ second) (n m : ℕ) (a b : F) (stop : Stop) where
+    -- the first is not whole
+    pub order_first : {T U : Type 0} (image : Option (List ℕ))
+        → MakesFile {T = T} f first image (Err stop) n m a b
+        → InOrder {T = U} f first second image (Err stop) a b
+    order_first {T} {U} image h = record { order = λ told. by image }
+      where
+        same : f.named b second ≡ f.named a second
+        same = h.others.same second (λ is. differ (sym is))
+
+        by : (image : Option (List ℕ)) → Ordered {T = U} (Err stop) a b image
+        by None = tt
+        by (Some bytes) = inl same
+
+    -- the second is not
+    pub order_second : {T U V : Type 0} (image other : Option (List ℕ)) (x : T) (k l : ℕ) (c : F)
+        → MakesFile {T = T} f first image (Ok x) n m a b
+        → MakesFile {T = U} f second other (Err stop) k l b c
+        → InOrder {T = V} f first second image (Err stop) a c
+    order_second {T} {U} {V} image other x k l c h g = record { order = λ told. by told image h }
+      where
+        by : IsTrue (f.tells a) → (image : Option (List ℕ))
+            → MakesFile {T = T} f first image (Ok x) n m a b
+            → Ordered {T = V} (Err stop) a c image
+        by told None made = tt
+        by told (Some bytes) made = inr (g.others.same first differ ∙ made.made told)

@@ -1,11 +1,12 @@
 -- A file that is made of an image.
-use Rattle.std.specs.Prelude.{◌≡◌, ◌≤◌, ℕ, List, Option, None, Result, Ok, Err, OnOk, OnErr, IfSome}
+use Rattle.std.specs.Prelude.{◌≡◌, ◌≤◌, ◌⊎◌, ℕ, List, Option, Some, None, Result, Ok, Err, OnOk, OnErr, IfSome, IsTrue}
 use Rattle.elf_types.specs.declared.errors.ElfError.{ElfError}
 use Rattle.elf_outside.specs.Asks.{Leaves}
 use Rattle.elf_outside.specs.Counts.{Rose, RaisedAtMost}
 use Rattle.elf_outside.specs.Writes.{Appends, AppendsFront}
 use Rattle.elf_outside.specs.declared.sources.Source.{Ghosts as SourceGhosts}
 use Rattle.elf_outside.specs.declared.devices.Device.{Ghosts as DeviceGhosts}
+use Rattle.elf_outside.specs.declared.file_sets.Files.{Ghosts as FilesGhosts}
 use Rattle.tool_output.specs.declared.stops.Stop.{Stop}
 use Rattle.tool_output.specs.Steps.{OnRead, OnWrite}
 use Rattle.tool_output.specs.Stops.{stop_of}
@@ -38,6 +39,12 @@ pub record FillsFile {D S T : Type 0} (w : SourceGhosts D) (d : DeviceGhosts D) 
   pub write : OnWrite result (Rose (d.write_faults old) (d.write_faults new))
   pub source : ReadsFrom s source_old source_new due
   pub read : OnRead result (Rose (s.faults source_old) (s.faults source_new))
+
+-- Where a step that makes two files stops, the second holds what it held, or the first is whole.
+pub record InOrder {F D T : Type 0} (f : FilesGhosts F D) (first second : List ℕ)
+    (image : Option (List ℕ)) (result : Result T Stop) (old new : F) : Type 0 where
+  pub order : IsTrue (f.tells old) → IfSome image (λ bytes. OnErr result
+      ((f.named new second ≡ f.named old second) ⊎ (f.named new first ≡ Some bytes)))
 
 -- a report, the files that are written, and how many bytes are handed to writes at most; no bound
 -- on what is asked for is promised

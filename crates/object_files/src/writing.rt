@@ -7,7 +7,7 @@ ghost use Rattle.tool_output.specs.Made.{made_file, outcome_with};
 ghost use Rattle.tool_output.specs.Outcomes.{Does};
 ghost use Rattle.tool_output.specs.Reports.{no_report};
 ghost use Rattle.tool_output.specs.Statuses.{refused_status};
-ghost use Rattle.object_files.specs.Making.{ReadsFrom};
+ghost use Rattle.object_files.specs.Making.{ReadsFrom, InOrder};
 
 use crate::images::Image;
 use crate::making::make_file;
@@ -64,10 +64,13 @@ pub fn write_images<I: Image, J: Image, F: Files, O: Sink, E: Sink>(
         (outcome_with no_report
         (made_file first_name.now bytes ∷ made_file second_name.now others ∷ []))
         result files.old files.new outputs.old outputs.new)) }
+    ensures order { InOrder F.Files first_name.now second_name.now (I.bytes first.old)
+        result files.old files.new }
     ensures leaves { LeavesFilesBy F.Files O.Sink E.Sink
         (Rose (I.From.faults (I.source first.old)) (I.From.faults (I.source first.new))
         ⊎ Rose (J.From.faults (J.source second.old)) (J.From.faults (J.source second.new)))
         result files.old files.new outputs.old outputs.new }
+    ensures live { F.live files.old < 2 ^ 64 - 2 → F.live files.new ≡ F.live files.old }
 {
     outputs.flush()?;
     make_file(alloc, first, first_name, files)?;

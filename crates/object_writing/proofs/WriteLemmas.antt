@@ -136,7 +136,7 @@ module _ {F D O E : Type 0} (f : FilesGhosts F D) (o : SinkGhosts O) (e : SinkGh
 
 -- ---- The update
 
-update_refusal : (p : Object) (d : ElfError) → calls.update_null.answer p ≡ Err d
+pub update_refusal : (p : Object) (d : ElfError) → calls.update_null.answer p ≡ Err d
     → (refusal p ≡ Some d) × IsRefusal d
 update_refusal p d is = by (refusal p) (update_refuses p) is
   where
@@ -147,7 +147,7 @@ update_refusal p d is = by (refusal p) (update_refuses p) is
         let same : c ≡ d = cc in
         (ap (λ (x : ElfError). Some x) same, subst (λ (x : ElfError). IsRefusal x) same h)
 
-update_passes : (p : Object) (n : ℕ) → calls.update_null.answer p ≡ Ok n → refusal p ≡ None
+pub update_passes : (p : Object) (n : ℕ) → calls.update_null.answer p ≡ Ok n → refusal p ≡ None
 update_passes p n is = by (refusal p) is
   where
     by : (x : Option ElfError) → answered x (image_length p) ≡ Ok n → x ≡ None
