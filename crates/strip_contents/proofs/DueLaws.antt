@@ -1,0 +1,92 @@
+-- What is asked for, by a keeper, is at most what is stated of the object.
+use Rattle.std.proofs.Common.{◌≡◌, ◌≢◌, ◌+◌, ◌≤◌, ◌==◌, ◌&&◌, ◌||◌, ℕ, Bool, true, false, List, [], ◌∷◌, if◌then◌else◌, refl, sym, ap, ◌∙◌, subst, arith}
+use Rattle.std.specs.Prelude.{nat_eq, sum_by}
+use Rattle.std.specs.List.{list_any}
+use Rattle.std.proofs.lemmas.Bool.{eq-eqb, or_right}
+use Rattle.std.proofs.lemmas.List.Sums.{sum_by-cons}
+use Rattle.elf_object.specs.Object.{Object, is_dirty}
+use Rattle.elf_object.specs.Due.{homes_due}
+use Rattle.elf_object.specs.Valid.{IsObject}
+use Rattle.command_objects.specs.Words.{is_among}
+use Rattle.command_objects.specs.Followed.{kept_from_1}
+use Rattle.command_objects.specs.Rebuilt.{renews_names, items_follow}
+use Rattle.strip_removed.specs.Calls.{names_home}
+use Rattle.strip_rebuild.specs.declared.naming.Names.{Names}
+use Rattle.strip_rebuild.specs.declared.naming.Names.TheVariants.{Stay, Anew, TooLarge}
+use Rattle.strip_rebuild.specs.declared.keepers.Keeper.{Keeper}
+use Rattle.strip_rebuild.specs.Answers.{kept_reads}
+use Rattle.strip_rebuild.specs.Keepers.{follows_by, is_renewed, makes_by, reads_by, RenewsAs, KeepsFor}
+use Rattle.strip_rebuild.proofs.KeptLaws.{among_any, kept_parts, follows_told, reads_told}
+use Rattle.strip_contents.specs.Ranges.{section_due}
+use Rattle.strip_contents.specs.Contents.{sections_due}
+use Rattle.strip_contents.specs.Plans.{is_made, kept_due, stream_due}
+
+-- sums over the members of a list
+sums_less : (f h : ℕ → ℕ) (l : List ℕ)
+    → ((s : ℕ) → list_any (nat_eq s) l ≡ true → f s ≤ h s) → sum_by f l ≤ sum_by h l
+sums_less f h [] less = omega arith
+sums_less f h (x ∷ l) less =
+    let here = less x (ap (λ (b : Bool). b || list_any (nat_eq x) l) (eq-eqb x x refl)) in
+    let rest = sums_less f h l
+    (λ s is. less s (or_right (nat_eq s x) (list_any (nat_eq s) l) is)) in
+    let one = sum_by-cons f x l in
+    let other = sum_by-cons h x l in
+    omega (arith, here, rest, one, other)
+
+renewed_made : (names : Names) (renews b : Bool) → RenewsAs renews names
+    → is_renewed names b ≡ true → (renews && b) ≡ true
+renewed_made Stay renews b known is = cc
+renewed_made (Anew names) renews b known is = ap (λ (r : Bool). r && b) known ∙ is
+renewed_made TooLarge renews b known is = cc
+
+either : (a b c d : Bool) → (a ≡ true → c ≡ true) → b ≡ d → (a || b) ≡ true → (c || d) ≡ true
+either true b c d one same is = ap (λ (x : Bool). x || d) (one refl)
+either false b true d one same is = refl
+either false b false d one same is = sym same ∙ is
+
+module _ (told : Bool) (o : Object) (k : Keeper) (keeps : KeepsFor told o k) (is : IsObject o)
+    (clean : is_dirty o ≡ false) where
+  made_too : (s : ℕ) → s ≢ 0 → makes_by k o s ≡ true → is_made o k.removed.now s ≡ true
+  unfolding makes_by
+  made_too s some makes =
+      either (is_renewed k.names (s == o.header.shstrndx)) (follows_by k o s)
+      (renews_names o k.removed.now && s == o.header.shstrndx) (items_follow o k.removed.now s)
+      (renewed_made k.names (renews_names o k.removed.now) (s == o.header.shstrndx) keeps.renews)
+      (follows_told told o k keeps is clean s some) makes
+
+  section_less : (s : ℕ) → is_among (kept_from_1 o k.removed.now) s ≡ true
+      → section_due k o s ≤ kept_due o k.removed.now s
+  unfolding kept_due
+  section_less s kept =
+      by_test (makes_by k o s) (made_too s (kept_parts o k.removed.now s kept).0)
+      (is_made o k.removed.now s)
+      (ap (λ (l : List ℕ). homes_due o [] l) (reads_told told o k keeps is clean s kept))
+    where
+      by_test : (a : Bool) → (a ≡ true → is_made o k.removed.now s ≡ true) → (b : Bool)
+          → homes_due o [] (reads_by k o s) ≡ homes_due o [] (kept_reads o k.removed.now s)
+          → (if a then homes_due o [] (reads_by k o s) else 0)
+          ≤ (if is_made o k.removed.now s then homes_due o [] (kept_reads o k.removed.now s) else 0)
+      by_test false made b same = omega arith
+      by_test true made b same =
+          let all : (if is_made o k.removed.now s
+          then homes_due o [] (kept_reads o k.removed.now s) else 0)
+          ≡ homes_due o [] (kept_reads o k.removed.now s) =
+          ap (λ (x : Bool). if x then homes_due o [] (kept_reads o k.removed.now s) else 0)
+          (made refl) in
+          omega (arith, same, all)
+
+  pub sections_less : sections_due k o (kept_from_1 o k.removed.now)
+      ≤ sum_by (kept_due o k.removed.now) (kept_from_1 o k.removed.now)
+  sections_less =
+      sums_less (section_due k o) (kept_due o k.removed.now) (kept_from_1 o k.removed.now)
+      (λ s any. section_less s (sym (among_any o k.removed.now s) ∙ any))
+
+  pub all_less : homes_due o [] (names_home o) + sections_due k o (kept_from_1 o k.removed.now)
+      ≤ stream_due o k.removed.now
+  unfolding stream_due
+  all_less = let less = sections_less in omega (arith, less)
+
+pub names_less : (o : Object) (removed : List ℕ)
+    → homes_due o [] (names_home o) ≤ stream_due o removed
+unfolding stream_due
+names_less o removed = omega arith

@@ -1,0 +1,250 @@
+-- The plan of an object that is made anew, before its places are given and with them.
+use Rattle.std.proofs.Common.{◌≡◌, ◌⊎◌, inl, inr, ◌<◌, ◌≤◌, ◌==◌, ◌||◌, ℕ, Bool, true, false, not, List, [], ◌∷◌, length, map, Option, Some, None, Result, Ok, Err, if◌then◌else◌, refl, sym, ap, ◌∙◌, subst, arith}
+use Rattle.std.specs.Prelude.{IfOk, IfErr, is_some, unwrap_or}
+use Rattle.std.specs.List.{enumerate_from}
+use Rattle.std.proofs.lemmas.List.{length-map}
+use Rattle.std.proofs.lemmas.List.FromFn.{length-enumerate_from}
+use Rattle.std.proofs.lemmas.Result.{IfOk-weaker, IfErr-weaker}
+use Rattle.elf_types.specs.declared.constants.TheConstants.{SHT_NULL, SHT_NOBITS, MAX_SECTIONS}
+use Rattle.elf_types.specs.declared.records.Class.{Class}
+use Rattle.elf_types.specs.declared.records.Order.{Order}
+use Rattle.elf_types.specs.declared.records.Ehdr.{Ehdr}
+use Rattle.elf_types.specs.declared.records.Shdr.{Shdr}
+use Rattle.elf_types.specs.declared.errors.ElfError.{ElfError}
+use Rattle.elf_types.specs.declared.errors.ElfError.TheVariants.{Memory, TooLarge}
+use Rattle.elf_outside.specs.Asks.{ReadRose}
+use Rattle.elf_object.specs.Object.{Object, Section, section_at, occupies_file}
+use Rattle.elf_object.specs.Image.{kept_base}
+use Rattle.elf_object.specs.Joined.{aligned_pieces}
+use Rattle.elf_object.specs.Steps.{with_ehdr, stored_ehdr}
+use Rattle.update_plan.specs.Placing.{IsRefused}
+use Rattle.command_objects.specs.Arranged.{place_from, section_from, table_place_from, placed_from}
+use Rattle.strip_laws.proofs.MadeSections.{section_placed}
+use Rattle.object_making.specs.Placing.{arranged_refusal}
+use Rattle.listed_layout.specs.declared.listed.Listed.{Listed}
+use Rattle.image_ranges.specs.declared.ranges.ByteRange.{ByteRange}
+use Rattle.strip_stream.proofs.UnreadLaws.{wanted_unread}
+use Rattle.strip_contents.specs.declared.contents.Contents.{Contents}
+use Rattle.strip_contents.specs.declared.plans.RangedPlan.{RangedPlan}
+use Rattle.strip_contents.specs.Plans.{new_header, arranged_object, IsArrangedTo, IsRefusedTo, ArrangesTo, HasRanges, AreRangesBy, IsCopied, PlansCopied, IsGathered, MayBeWritten, IsPlannedTo, IsUnplanned, listed_of, PlansGathered}
+
+-- ---- What stays where places are given
+
+-- two objects have the same front, but for places, and the same base
+record HasSameFront (q p : Object) : Type 0 where
+  class : q.header.class ≡ p.header.class
+  order : q.header.order ≡ p.header.order
+  layout : q.layout ≡ p.layout
+  base : q.base ≡ p.base
+  pad : q.pad ≡ p.pad
+  phdrs : q.phdrs ≡ p.phdrs
+  fill : q.fill ≡ p.fill
+  count : length q.sections ≡ length p.sections
+
+same_front : (p : Object) → HasSameFront p p
+same_front p = record {
+  class = refl;
+  order = refl;
+  layout = refl;
+  base = refl;
+  pad = refl;
+  phdrs = refl;
+  fill = refl;
+  count = refl;
+}
+
+placed_front : (p : Object) (tail : ℕ) → HasSameFront (placed_from p tail) p
+unfolding placed_from with_ehdr stored_ehdr
+placed_front p tail = by_test (length p.sections == 0)
+  where
+    by_test : (b : Bool) → HasSameFront (if b then p else with_ehdr
+        (record p {
+          sections = map (λ row. section_from p tail row.0 row.1) (enumerate_from 0 p.sections);
+        })
+        (record p.header { shoff = table_place_from p tail })) p
+    by_test true = same_front p
+    by_test false = record {
+      class = refl;
+      order = refl;
+      layout = refl;
+      base = refl;
+      pad = refl;
+      phdrs = refl;
+      fill = refl;
+      count = length-map (enumerate_from 0 p.sections) (λ row. section_from p tail row.0 row.1)
+          ∙ length-enumerate_from 0 p.sections;
+    }
+
+arranged_front : (p : Object) (tail : Option ℕ) → HasSameFront (arranged_object p tail) p
+arranged_front p None = same_front p
+arranged_front p (Some n) = placed_front p n
+
+type_stays : (p : Object) (tail s : ℕ) (c : Section)
+    → (section_from p tail s c).header.stype ≡ c.header.stype
+unfolding section_from
+type_stays p tail s c = by_place (place_from p tail s)
+  where
+    by_place : (place : Option ℕ) → (let made : Section = elim place [
+      | None ↦ c
+      | Some at ↦ record c { header = record c.header { offset = at }; marked = true }
+    ] in made.header.stype) ≡ c.header.stype
+    by_place None = refl
+    by_place (Some at) = refl
+
+pieces_stay : (class : Class) (order : Order) (p : Object) (tail s : ℕ) (c : Section)
+    → aligned_pieces class order (section_from p tail s c) ≡ aligned_pieces class order c
+unfolding section_from aligned_pieces
+pieces_stay class order p tail s c = by_place (place_from p tail s)
+  where
+    by_place : (place : Option ℕ) → aligned_pieces class order (elim place [
+      | None ↦ c
+      | Some at ↦ record c { header = record c.header { offset = at }; marked = true }
+    ]) ≡ aligned_pieces class order c
+    by_place None = refl
+    by_place (Some at) = refl
+
+module _ (p : Object) (base held : List ℕ) (ranges : List ByteRange)
+    (is : HasRanges p base held ranges) where
+  placed_ranges : (tail : ℕ) → HasRanges (placed_from p tail) base held ranges
+  placed_ranges tail = record {
+    each = λ s first there filled later.
+        let front = placed_front p tail in
+        let count = front.count in
+        let below : s < length p.sections = omega (arith, there, count) in
+        let at = section_placed p tail s below in
+        let full : occupies_file (section_at p s).header ≡ true =
+        ap (λ (t : ℕ). not (t == SHT_NULL || t == SHT_NOBITS))
+        (sym (type_stays p tail s (section_at p s)))
+        ∙ ap (λ (c : Section). occupies_file c.header) (sym at)
+        ∙ filled in
+        is.each s first below full later
+        ∙ sym (ap (aligned_pieces (placed_from p tail).header.class
+        (placed_from p tail).header.order) at
+        ∙ pieces_stay (placed_from p tail).header.class (placed_from p tail).header.order p tail s
+        (section_at p s)
+        ∙ ap (λ (c : Class). aligned_pieces c (placed_from p tail).header.order (section_at p s))
+        front.class
+        ∙ ap (λ (d : Order). aligned_pieces p.header.class d (section_at p s)) front.order);
+  }
+
+  arranged_ranges : (tail : Option ℕ) → HasRanges (arranged_object p tail) base held ranges
+  arranged_ranges None = is
+  arranged_ranges (Some n) = placed_ranges n
+
+-- ---- With its places
+
+kept_is : (q : Object) (tail : Option ℕ) → q.layout ≡ is_some tail
+    → length q.base ≡ unwrap_or tail 0 → kept_base q ≡ unwrap_or tail 0
+unfolding kept_base
+kept_is q None layout long = ap (λ (b : Bool). if b then length q.base else 0) layout
+kept_is q (Some n) layout long = ap (λ (b : Bool). if b then length q.base else 0) layout ∙ long
+
+module _ (o p : Object) (x next : Listed) (ranges : List ByteRange) (held : List ℕ)
+    (tail : Option ℕ) (is : IsGathered o p x ranges held tail)
+    (arranged : IsArrangedTo p tail next) where
+  copied : MayBeWritten (arranged_object p tail)
+      → IsCopied o (arranged_object p tail) next ranges held tail
+  copied may =
+      let front = arranged_front p tail in
+      let layout = front.layout ∙ is.layout in
+      let long = ap (λ (l : List ℕ). length l) front.base ∙ is.long in
+      record {
+        laid = record {
+          object = may.object;
+          dirty = may.dirty;
+          content = may.content;
+          listed = arranged.listed;
+          layout_is = layout;
+          base_is = long;
+        };
+        pad = front.pad ∙ is.pad;
+        phdrs = front.phdrs ∙ is.phdrs;
+        fill = front.fill ∙ is.fill;
+        base = is.base ∙ sym front.base;
+        kept = kept_is (arranged_object p tail) tail layout long;
+        ranges = arranged_ranges p o.base held ranges is.ranges tail;
+      }
+
+-- ---- What the step answers
+
+module _ (o : Object) (index : ℕ) (x : Contents) (listed : Listed) (tail : Option ℕ)
+    (at : listed ≡ listed_of o index x) where
+  gathered_at : (p : Object) → IsGathered o p (listed_of o index x) x.ranges x.held tail
+      → IsGathered o p listed x.ranges x.held tail
+  gathered_at p is = subst (λ (l : Listed). IsGathered o p l x.ranges x.held tail) (sym at) is
+
+  module _ (next : Listed)
+      (arranged : (p : Object)
+      → IsGathered o p (listed_of o index x) x.ranges x.held tail → IsArrangedTo p tail next) where
+    pub gathered_planned : (r : Result RangedPlan ElfError)
+        → PlansCopied o next x.ranges x.held tail r → PlansGathered o index x tail r
+    gathered_planned r plans = record {
+      ok = IfOk-weaker r
+          (λ plan. (q : Object) → IsCopied o q next x.ranges x.held tail
+          → AreRangesBy q o.base plan)
+          (λ plan. (p : Object) → IsGathered o p (listed_of o index x) x.ranges x.held tail
+          → IsPlannedTo o p tail plan)
+          (λ plan made p is. record {
+            passed = (arranged p is).passed;
+            ranges = λ may. made (arranged_object p tail)
+                (copied o p (listed_of o index x) next x.ranges x.held tail is (arranged p is) may);
+          }) plans.ok;
+      err = IfErr-weaker r
+          (λ e. (q : Object) → IsCopied o q next x.ranges x.held tail → IsRefused q e)
+          (λ e. (p : Object) → IsGathered o p (listed_of o index x) x.ranges x.held tail
+          → IsUnplanned p tail e)
+          (λ e refused p is. inr (inr (
+            (arranged p is).passed,
+            λ may. refused (arranged_object p tail)
+                (copied o p (listed_of o index x) next x.ranges x.held tail is (arranged p is) may),
+          ))) plans.err;
+      unread = plans.unread;
+    }
+
+  pub arranged_as : (next : Listed) → ArrangesTo listed tail (Ok next) → (p : Object)
+      → IsGathered o p (listed_of o index x) x.ranges x.held tail → IsArrangedTo p tail next
+  arranged_as next arranges p is = arranges.ok p (gathered_at p is).listed
+
+  large_unread : (e : ElfError) → e ≡ TooLarge → (a b : ℕ)
+      → ReadRose {T = RangedPlan} (Err e) a b
+  large_unread e large a b =
+      subst (λ (d : ElfError). ReadRose {T = RangedPlan} (Err d) a b) (sym large) tt
+
+  pub not_arranged : (e : ElfError) → ArrangesTo listed tail (Err e)
+      → PlansGathered o index x tail (Err e)
+  not_arranged e arranges = by arranges.err
+    where
+      by : (e ≡ Memory) ⊎ IsRefusedTo listed tail e → PlansGathered o index x tail (Err e)
+      by (inl want) = record {
+        ok = tt;
+        err = λ p is. inl want;
+        unread = wanted_unread RangedPlan e want;
+      }
+      by (inr refused) = record {
+        ok = tt;
+        err = λ p is.
+            inr (inl (refused.error, refused.refused p (gathered_at p is).listed));
+        unread = large_unread e refused.error;
+      }
+
+-- the headers that are listed in code
+pub listed_is : (o : Object) (index : ℕ) (x : Contents) (h : Ehdr) (count : ℕ)
+    → h ≡ new_header o index count → count ≡ length x.headers
+    → ◌≡◌ {A = Listed} (record { header = h; headers = x.headers; sizes = x.sizes })
+    (listed_of o index x)
+listed_is o index x h count header at =
+    ap (λ (y : Ehdr). record { header = y; headers = x.headers; sizes = x.sizes })
+    (header ∙ ap (new_header o index) at)
+
+-- there are as many when they are arranged
+module _ (x : Contents) (listed : Listed) (tail : Option ℕ) (next : Listed)
+    (at : listed.headers ≡ x.headers) where
+  pub next_few : length x.headers ≤ MAX_SECTIONS → ArrangesTo listed tail (Ok next)
+      → length next.headers ≤ MAX_SECTIONS
+  next_few few arranges =
+      let count = arranges.count in
+      let same = ap (λ (l : List Shdr). length l) at in
+      omega (arith, few, count, same)
+
+  pub next_same : ArrangesTo listed tail (Ok next) → length next.sizes ≡ length next.headers
+  next_same arranges = arranges.sizes ∙ sym arranges.count

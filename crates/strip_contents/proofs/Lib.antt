@@ -1,0 +1,11 @@
+pub mod RangeLaws
+pub mod KeepingLaws
+pub mod SegmentLaws
+pub mod CheckLaws
+pub mod ArrangeLaws
+pub mod CopyLaws
+pub mod GatherLaws
+pub mod ListLaws
+pub mod AnswerLaws
+pub mod DueLaws
+pub mod WholeLaws

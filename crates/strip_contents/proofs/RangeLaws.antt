@@ -1,0 +1,247 @@
+-- Where the bytes of a section are that is taken as it is, and of one that is made.
+use Rattle.std.proofs.Common.{◌≡◌, ◌==◌, ◌||◌, ◌<◌, ℕ, zero, suc, Bool, true, false, List, [], ◌∷◌, ◌++◌, length, take, drop, Option, Some, None, Result, Ok, Err, if◌then◌else◌, refl, sym, ap, ◌∙◌, subst, arith}
+use Rattle.std.specs.Prelude.{IsTrue, IfOk, IfErr}
+use Rattle.std.proofs.lemmas.Bool.{ne_eqb, or_parts}
+use Rattle.std.proofs.lemmas.List.{append-nil}
+use Rattle.std.proofs.lemmas.Result.{IfOk-weaker}
+use Rattle.elf_types.specs.declared.records.Ehdr.{Ehdr}
+use Rattle.elf_types.specs.declared.records.Class.{Class}
+use Rattle.elf_types.specs.declared.errors.ElfError.{ElfError}
+use Rattle.elf_types.specs.declared.errors.ElfError.TheVariants.{Memory, OutOfFile}
+use Rattle.elf_types.specs.Answers.{answered, refused_if}
+use Rattle.elf_outside.specs.declared.sources.Source.{Ghosts}
+use Rattle.elf_xlate.specs.declared.content.Items.{Items}
+use Rattle.elf_xlate.specs.declared.content.Items.TheVariants as items
+use Rattle.elf_xlate.specs.Translation.{encoded, first_unfit}
+use Rattle.elf_object.specs.Object.{Object, section_at, header_of, is_dirty}
+use Rattle.elf_object.specs.Answers.{no_section, raw_refusal}
+use Rattle.elf_object.specs.Due.{homes_due}
+use Rattle.elf_object.specs.Valid.{IsObject, IsTied}
+use Rattle.elf_object.proofs.AnswerLaws.{answered_value}
+use Rattle.object_laws.proofs.KeepLaws.{section_at_is}
+use Rattle.elf_descriptor.specs.Homes.{out_answer}
+use Rattle.elf_descriptor.specs.State.{State}
+use Rattle.elf_descriptor.specs.Reads.{Looks}
+use Rattle.update_plan.proofs.RowLaws.{ok_is}
+use Rattle.command_objects.specs.Followed.{symbols_follow, members_follow}
+use Rattle.strip_laws.proofs.MadeSections.{bytes_encoded}
+use Rattle.object_making.specs.Making.{reading}
+use Rattle.object_making.specs.Refused.{UnreadBy}
+use Rattle.object_making.proofs.MakingLaws.{memory_unread, passes_on, one_read, one_unread}
+use Rattle.image_ranges.specs.declared.ranges.ByteRange.{ByteRange}
+use Rattle.image_ranges.specs.Ranges.{range_bytes}
+use Rattle.strip_rebuild.specs.declared.naming.Names.{Names}
+use Rattle.strip_rebuild.specs.declared.naming.Names.TheVariants.{Stay, Anew, TooLarge}
+use Rattle.strip_rebuild.specs.declared.keepers.Keeper.{Keeper}
+use Rattle.strip_rebuild.specs.Homes.{home_refusal}
+use Rattle.strip_rebuild.specs.Keepers.{indexes_by, kept_by, items_or_names, items_by, follows_by, is_renewed, makes_by, kept_refusal_by, refusal_or_none, refusal_by, reads_by}
+use Rattle.strip_rebuild.specs.Makes.{AsksFor}
+use Rattle.strip_rebuild.proofs.AskLaws.{asks_looks, asks_nothing}
+use Rattle.strip_rebuild.proofs.HomeLaws.{no_section_there, raw_there}
+use Rattle.strip_stream.specs.Fronts.{HoldsMore}
+use Rattle.strip_stream.proofs.FrontLaws.{held_bytes_stay}
+use Rattle.strip_stream.proofs.HomeLaws.{homes_stand}
+use Rattle.strip_contents.specs.Ranges.{base_place, home_range, FindsHome, bytes_by, IsRangeOf, section_due, FindsRange}
+
+-- ---- Homes
+
+pub out_value : (o : Object) (s : ℕ) (out : Bool)
+    → ◌≡◌ {A = Result Bool ElfError} (Ok out) (out_answer o s) → out ≡ (section_at o s).home.out
+unfolding out_answer
+out_value o s out is =
+    (answered_value (no_section o s) (section_at o s).home.out out (sym is)).1
+
+pub out_never : (o : Object) (s : ℕ) (e : ElfError) → s < length o.sections
+    → ◌≡◌ {A = Result Bool ElfError} (Err e) (out_answer o s) → ⊥
+unfolding out_answer
+out_never o s e there is =
+    let clash : ◌≡◌ {A = Result Bool ElfError} (Err e) (Ok (section_at o s).home.out) =
+    is ∙ ap (λ (r : Option ElfError). answered r (section_at o s).home.out)
+    (no_section_there o s there) in cc
+
+pub range_same : (o : Object) (s at len place : ℕ) → at ≡ (section_at o s).home.at
+    → len ≡ (section_at o s).home.len → place ≡ base_place at len
+    → ◌≡◌ {A = ByteRange} (record { held = false; at = place; len = len }) (home_range o s)
+range_same o s at len place at_is len_is place_is =
+    let made : ℕ → ℕ → ByteRange = λ p n. record { held = false; at = p; len = n } in
+    ap (λ (p : ℕ). made p len) place_is
+    ∙ ap (λ (n : ℕ). made (base_place n len) len) at_is
+    ∙ ap (λ (n : ℕ). made (base_place (section_at o s).home.at n) n) len_is
+
+-- the place of no bytes does not count
+place_free : (at len : ℕ) (base : List ℕ)
+    → take len (drop (base_place at len) base) ≡ take len (drop at base)
+place_free at zero base = refl
+place_free at (suc n) base =
+    ap (λ (b : Bool). take (suc n) (drop (if b then 0 else at) base))
+    (ne_eqb (suc n) 0 (λ none. omega (arith, none)))
+
+-- ---- What is taken as it is
+
+items_stay : (names : Names) (b : Bool) (kept : Items) → is_renewed names b ≡ false
+    → items_or_names names b kept ≡ kept
+items_stay Stay b kept not_names = refl
+items_stay (Anew names) b kept not_names =
+    ap (λ (t : Bool). if t then items.Bytes names.table else kept) not_names
+items_stay TooLarge b kept not_names = refl
+
+refusal_stays : (names : Names) (b : Bool) (kept : Option ElfError) → is_renewed names b ≡ false
+    → refusal_or_none names b kept ≡ kept
+refusal_stays Stay b kept not_names = refl
+refusal_stays (Anew names) b kept not_names =
+    ap (λ (t : Bool). if t then None else kept) not_names
+refusal_stays TooLarge b kept not_names = refl
+
+module _ (k : Keeper) (o : Object) (s : ℕ) (taken : makes_by k o s ≡ false) where
+  not_names : is_renewed k.names (s == o.header.shstrndx) ≡ false
+  unfolding makes_by
+  not_names =
+      (or_parts (is_renewed k.names (s == o.header.shstrndx)) (follows_by k o s) taken).0
+
+  not_follows : follows_by k o s ≡ false
+  unfolding makes_by
+  not_follows =
+      (or_parts (is_renewed k.names (s == o.header.shstrndx)) (follows_by k o s) taken).1
+
+  taken_kept : kept_by k o s ≡ items.Bytes (section_at o s).raw
+  unfolding kept_by follows_by
+  taken_kept =
+      let last = or_parts (symbols_follow o s || members_follow o s) (indexes_by k o s)
+      not_follows in
+      let both = or_parts (symbols_follow o s) (members_follow o s) last.0 in
+      rw (both.0, both.1, last.1) refl
+
+  pub taken_items : items_by k o s ≡ items.Bytes (section_at o s).raw
+  unfolding items_by
+  taken_items =
+      items_stay k.names (s == o.header.shstrndx) (kept_by k o s) not_names ∙ taken_kept
+
+  pub taken_refusal : refusal_by k o s ≡ raw_refusal o s
+  unfolding refusal_by kept_refusal_by
+  taken_refusal =
+      refusal_stays k.names (s == o.header.shstrndx) (kept_refusal_by k o s) not_names
+      ∙ ap (λ (b : Bool). if b then home_refusal o s else raw_refusal o s) not_follows
+
+  taken_bytes : IsObject o → bytes_by k o s ≡ (section_at o s).raw
+  unfolding bytes_by
+  taken_bytes is =
+      ap (encoded o.header.class o.header.order) taken_items
+      ∙ bytes_encoded o.header.class o.header.order (section_at o s).raw
+      (section_at_is o s is).home.bytes
+
+module _ {S : Type 0} (g : Ghosts S) (k : Keeper) (s : ℕ) (state : State S) (held : List ℕ)
+    (there : s < length state.o.sections) (is : IsObject state.o)
+    (clean : is_dirty state.o ≡ false) (tied : IsTrue state.told → IsTied state.o)
+    (taken : makes_by k state.o s ≡ false) where
+  inside_found : (range : ByteRange) → (section_at state.o s).home.out ≡ false
+      → range ≡ home_range state.o s → FindsRange g k s (Ok range) state state held held
+  inside_found range inside at = record {
+    ok = record {
+      added = [];
+      all = sym (append-nil held);
+      long = λ t.
+          ap (λ (r : ByteRange). r.len) at
+          ∙ sym ((section_at_is state.o s is).home.inside inside)
+          ∙ ap (λ (l : List ℕ). length l) (sym (taken_bytes k state.o s taken is));
+      is = λ t later.
+          ap (range_bytes (held ++ later) state.o.base) at
+          ∙ place_free (section_at state.o s).home.at (section_at state.o s).home.len
+          state.o.base
+          ∙ sym (homes_stand state.o s (tied t) clean inside)
+          ∙ sym (taken_bytes k state.o s taken is);
+    };
+    passed = taken_refusal k state.o s taken
+        ∙ raw_there state.o s there
+        ∙ ap (λ (b : Bool). refused_if b (OutOfFile s)) inside;
+    err = tt;
+    asks = asks_nothing g (Ok range) state (section_due k state.o s) tt;
+  }
+
+  outside_found : (e : ElfError) → (section_at state.o s).home.out ≡ true → e ≡ OutOfFile s
+      → FindsRange g k s (Err e) state state held held
+  outside_found e outside at =
+      subst (λ (d : ElfError). FindsRange g k s (Err d) state state held held) (sym at)
+      (record {
+        ok = tt;
+        passed = tt;
+        err = taken_refusal k state.o s taken
+            ∙ raw_there state.o s there
+            ∙ ap (λ (b : Bool). refused_if b (OutOfFile s)) outside;
+        asks = asks_nothing g (Err (OutOfFile s)) state (section_due k state.o s) tt;
+      })
+
+  pub home_found : (r : Result ByteRange ElfError) → FindsHome state.o s r
+      → FindsRange g k s r state state held held
+  home_found (Ok range) found = inside_found range found.0 found.1
+  home_found (Err e) found = outside_found e found.0 found.1
+
+-- ---- What is made
+
+pub fits_told : (o : Object) (h : Ehdr) (made : Items)
+    → ◌≡◌ {A = Result Ehdr ElfError} (Ok h) (Ok (header_of o))
+    → first_unfit o.header.class made ≡ None → first_unfit h.class made ≡ None
+unfolding header_of
+fits_told o h made told fits =
+    ap (λ (x : Ehdr). first_unfit x.class made) (ok_is h (header_of o) told) ∙ fits
+
+encoded_told : (o : Object) (h : Ehdr) (made : Items)
+    → ◌≡◌ {A = Result Ehdr ElfError} (Ok h) (Ok (header_of o))
+    → encoded h.class h.order made ≡ encoded o.header.class o.header.order made
+unfolding header_of
+encoded_told o h made told =
+    ap (λ (x : Ehdr). encoded x.class x.order made) (ok_is h (header_of o) told)
+
+module _ {S : Type 0} (g : Ghosts S) (k : Keeper) (s : ℕ) (old new : State S)
+    (held : List ℕ) (makes : makes_by k old.o s ≡ true) where
+  due_is : homes_due old.o [] (reads_by k old.o s) ≡ section_due k old.o s
+  due_is = sym (ap (λ (b : Bool). if b then homes_due old.o [] (reads_by k old.o s) else 0) makes)
+
+  asks_made : (q : Result ByteRange ElfError) → Looks g (reading (λ o. reads_by k o s)) q old new
+      → AsksFor g q old new (section_due k old.o s)
+  asks_made q looks =
+      subst (λ (n : ℕ). AsksFor g q old new n) due_is
+      (asks_looks g q old new (λ o. reads_by k o s) looks)
+
+  module _ (next : List ℕ) (h : Ehdr) (made : Items)
+      (header : ◌≡◌ {A = Result Ehdr ElfError} (Ok h) (Ok (header_of old.o)))
+      (told : IsTrue old.told → made ≡ items_by k old.o s) where
+    made_bytes : IsTrue old.told → encoded h.class h.order made ≡ bytes_by k old.o s
+    unfolding bytes_by
+    made_bytes t =
+        encoded_told old.o h made header
+        ∙ ap (encoded old.o.header.class old.o.header.order) (told t)
+
+    range_made : (range : ByteRange)
+        → HoldsMore (encoded h.class h.order made) held next range
+        → IsRangeOf old.told old.o.base (bytes_by k old.o s) held next range
+    range_made range holds = record {
+      added = encoded h.class h.order made;
+      all = holds.all;
+      long = λ t. holds.len ∙ ap (λ (l : List ℕ). length l) (made_bytes t);
+      is = λ t later.
+          held_bytes_stay (encoded h.class h.order made) held next later old.o.base range holds
+          ∙ made_bytes t;
+    }
+
+    pub made_found : (q : Result ByteRange ElfError) → refusal_by k old.o s ≡ None
+        → Looks g (reading (λ o. reads_by k o s)) (Ok made) old new
+        → IfOk q (HoldsMore (encoded h.class h.order made) held next)
+        → IfErr q (λ e. e ≡ Memory) → FindsRange g k s q old new held next
+    made_found q passed looks holds only = record {
+      ok = IfOk-weaker q (HoldsMore (encoded h.class h.order made) held next)
+          (IsRangeOf old.told old.o.base (bytes_by k old.o s) held next) range_made holds;
+      passed = passes_on q (refusal_by k old.o s ≡ None) passed;
+      err = memory_unread q (refusal_by k old.o s) only;
+      asks = asks_made q (one_read g made q old new (λ o. reads_by k o s) only looks);
+    }
+
+  pub made_refused : (e : ElfError) → UnreadBy (refusal_by k old.o s) e
+      → Looks {T = Items} g (reading (λ o. reads_by k o s)) (Err e) old new
+      → FindsRange g k s (Err e) old new held held
+  made_refused e by looks = record {
+    ok = tt;
+    passed = tt;
+    err = by;
+    asks = asks_made (Err e)
+        (one_unread {T = Items} {U = ByteRange} g e old new (λ o. reads_by k o s) looks);
+  }

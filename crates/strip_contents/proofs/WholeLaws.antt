@@ -1,0 +1,192 @@
+-- The whole step, one part after another.
+use Rattle.std.proofs.Common.{◌≡◌, ◌⊎◌, inl, inr, ◌+◌, ◌≤◌, ℕ, Bool, true, false, List, [], length, map, Option, Some, None, Result, Ok, Err, refl, sym, ap, ◌∙◌, subst, arith}
+use Rattle.std.specs.Prelude.{IsTrue, IfSome, nat_le}
+use Rattle.elf_types.specs.declared.constants.TheConstants.{PN_XNUM}
+use Rattle.elf_types.specs.declared.errors.ElfError.{ElfError}
+use Rattle.elf_types.specs.declared.errors.ElfError.TheVariants.{Memory, Read, TooMany}
+use Rattle.elf_types.specs.Answers.{refused_if, first_refusal, answered, IsRefusal}
+use Rattle.elf_outside.specs.declared.sources.Source.{Ghosts}
+use Rattle.elf_object.specs.Object.{Object, is_dirty}
+use Rattle.elf_object.specs.Calls.{newphdr_refusal}
+use Rattle.elf_object.specs.Due.{homes_due}
+use Rattle.elf_object.specs.Valid.{IsObject, IsTied}
+use Rattle.elf_descriptor.specs.State.{State}
+use Rattle.command_objects.specs.Followed.{kept_from_1}
+use Rattle.command_objects.specs.Files.{file_made}
+use Rattle.command_objects.specs.Rebuilt.{rebuilt}
+use Rattle.strip_laws.specs.Made.{FitsClass}
+use Rattle.object_making.specs.Refused.{RefusedBy, UnreadBy}
+use Rattle.object_making.proofs.RefusedLaws.{answer_refused}
+use Rattle.strip_removed.specs.Calls.{names_home}
+use Rattle.strip_removed.specs.Steps.{IsRemovable}
+use Rattle.strip_rebuild.specs.declared.keepers.Keeper.{Keeper}
+use Rattle.strip_rebuild.specs.Answers.{filled_refusal}
+use Rattle.strip_rebuild.specs.Keepers.{KeepsFor, header_by, refusal_by}
+use Rattle.strip_rebuild.specs.Makes.{AsksFor}
+use Rattle.strip_rebuild.proofs.AskLaws.{asks_as, asks_stop, asks_more, asks_nothing, asks_twice}
+use Rattle.strip_rebuild.proofs.FillLaws.{segments_refused, sections_refused}
+use Rattle.strip_rebuild.proofs.MakeLaws.{refused_quiet, quiet_rose}
+use Rattle.strip_contents.specs.declared.contents.Contents.{Contents}
+use Rattle.strip_contents.specs.declared.plans.RangedPlan.{RangedPlan}
+use Rattle.strip_contents.specs.Contents.{AreKept, HasContents, KeepsContents, sections_due}
+use Rattle.strip_contents.specs.Ranges.{bytes_by}
+use Rattle.strip_contents.specs.Plans.{FileAnswers, PlansKept, StreamsRebuilt, stream_due}
+use Rattle.strip_contents.proofs.AnswerLaws.{early_answer}
+use Rattle.strip_contents.proofs.DueLaws.{all_less, names_less}
+
+-- ---- What is known of an object that was read
+
+module _ {S : Type 0} (old mid : State S) (object : mid.o ≡ old.o) (told : mid.told ≡ old.told)
+  where
+    pub tied_stays : (IsTrue old.told → IsTied old.o) → IsTrue mid.told → IsTied mid.o
+    tied_stays tied t =
+        subst IsTied (sym object) (tied (subst (λ (b : Bool). IsTrue b) told t))
+
+    pub fits_stays : FitsClass old.o → FitsClass mid.o
+    fits_stays fit = subst FitsClass (sym object) fit
+
+    pub segments_stay : (n : ℕ) → n ≡ length old.o.phdrs → newphdr_refusal n ≡ None
+        → newphdr_refusal (length mid.o.phdrs) ≡ None
+    segments_stay n at passed =
+        ap (λ (o : Object). newphdr_refusal (length o.phdrs)) object
+        ∙ ap newphdr_refusal (sym at) ∙ passed
+
+    pub sections_stay : (k : Keeper) (numbers : List ℕ)
+        → numbers ≡ kept_from_1 old.o k.removed.now
+        → first_refusal (map (refusal_by k old.o) numbers) ≡ None
+        → first_refusal (map (refusal_by k mid.o) (kept_from_1 mid.o k.removed.now)) ≡ None
+    sections_stay k numbers at passed =
+        ap (λ (o : Object). first_refusal (map (refusal_by k o) (kept_from_1 o k.removed.now)))
+        object
+        ∙ ap (λ (l : List ℕ). first_refusal (map (refusal_by k old.o) l)) (sym at)
+        ∙ passed
+
+    pub contents_stay : (k : Keeper) (x : Contents) → HasContents k old x → HasContents k mid x
+    contents_stay k x has = record {
+      few = has.few;
+      same = has.same;
+      none = λ none. has.none (sym (ap (λ (o : Object). length o.sections) object) ∙ none);
+      some = λ some.
+          subst (λ (o : Object). AreKept mid.told o.base (header_by k o) (bytes_by k o)
+          (kept_from_1 o k.removed.now) x) (sym object)
+          (subst (λ (b : Bool). AreKept b old.o.base (header_by k old.o) (bytes_by k old.o)
+          (kept_from_1 old.o k.removed.now) x) (sym told)
+          (has.some (λ none. some (ap (λ (o : Object). length o.sections) object ∙ none))));
+    }
+
+-- ---- By a keeper
+
+segments_state : (n : ℕ) → IfSome (newphdr_refusal n) IsRefusal
+segments_state n = by (nat_le PN_XNUM n)
+  where
+    by : (b : Bool) → IfSome (refused_if b TooMany) IsRefusal
+    by true = tt
+    by false = tt
+
+module _ {S : Type 0} (g : Ghosts S) (k : Keeper) (old new : State S) (is : IsObject old.o)
+    (clean : is_dirty old.o ≡ false) (removable : IsRemovable old.o k.removed.now)
+    (keeps : KeepsFor old.told old.o k) (numbers : List ℕ) where
+  abbrev Streams : Result RangedPlan ElfError → State S → Type 0
+  Streams r next =
+      StreamsRebuilt g k.removed.now r (sections_due k old.o numbers) old next
+
+  pub too_many : (e : ElfError) (n : ℕ) → n ≡ length old.o.phdrs
+      → ◌≡◌ {A = Result (Unit {0}) ElfError} (Err e) (answered (newphdr_refusal n) tt)
+      → Streams (Err e) old
+  too_many e n at came =
+      let by : RefusedBy (newphdr_refusal n) e =
+      answer_refused (newphdr_refusal n) (tt {0}) e (segments_state n) came in
+      record {
+        answer = λ t.
+            early_answer g old k is clean removable keeps e
+            (segments_refused k old.o e
+            (subst (λ (m : ℕ). RefusedBy (newphdr_refusal m) e) at by));
+        asks = asks_nothing g (Err e) old (sections_due k old.o numbers)
+            (quiet_rose RangedPlan e (g.faults old.source) (g.faults old.source)
+            (refused_quiet (newphdr_refusal n) e by));
+      }
+
+  pub sections_fail : (e : ElfError) → newphdr_refusal (length old.o.phdrs) ≡ None
+      → numbers ≡ kept_from_1 old.o k.removed.now → KeepsContents g k numbers (Err e) old new
+      → Streams (Err e) new
+  sections_fail e segments at keeping = record {
+    answer = λ t.
+        early_answer g old k is clean removable keeps e
+        (sections_refused k old.o segments numbers e at keeping.err);
+    asks = asks_stop g {T = Contents} {U = RangedPlan} e old new (sections_due k old.o numbers)
+        keeping.asks;
+  }
+
+  pub sections_planned : (x : Contents) (r : Result RangedPlan ElfError)
+      → KeepsContents g k numbers (Ok x) old new → PlansKept new k.removed.now r → Streams r new
+  sections_planned x r keeping plans = record {
+    answer = λ t.
+        subst (λ (o : Object). FileAnswers o.base r (file_made (rebuilt o k.removed.now)))
+        keeping.asks.object
+        (plans.answer (subst (λ (b : Bool). IsTrue b) (sym keeping.asks.told) t));
+    asks = asks_as g (Ok x) r old new (sections_due k old.o numbers)
+        (plans.unread (g.faults old.source) (g.faults new.source)) keeping.asks;
+  }
+
+-- ---- The whole step
+
+module _ {S : Type 0} (g : Ghosts S) (removed : List ℕ) (old mid : State S) where
+  stops_early : (e : ElfError) → (e ≡ Memory) ⊎ (e ≡ Read)
+      → AsksFor {T = RangedPlan} g (Err e) old mid (homes_due old.o [] (names_home old.o))
+      → StreamsRebuilt g removed (Err e) (stream_due old.o removed) old mid
+  stops_early e only asks = record {
+    answer = λ t. free e only (file_made (rebuilt old.o removed));
+    asks = asks_more g (Err e) old mid (homes_due old.o [] (names_home old.o))
+        (stream_due old.o removed) (names_less old.o removed) asks;
+  }
+    where
+      free : (d : ElfError) → (d ≡ Memory) ⊎ (d ≡ Read) → (stated : Result (List ℕ) ElfError)
+          → FileAnswers old.o.base (Err d) stated
+      free d (inl want) stated =
+          subst (λ (x : ElfError). FileAnswers old.o.base (Err x) stated) (sym want) tt
+      free d (inr read) stated =
+          subst (λ (x : ElfError). FileAnswers old.o.base (Err x) stated) (sym read) tt
+
+  pub keeper_stops : (e : ElfError) → (e ≡ Memory) ⊎ (e ≡ Read)
+      → AsksFor {T = Keeper} g (Err e) old mid (homes_due old.o [] (names_home old.o))
+      → StreamsRebuilt g removed (Err e) (stream_due old.o removed) old mid
+  keeper_stops e only asks =
+      stops_early e only (asks_stop g {T = Keeper} {U = RangedPlan} e old mid
+      (homes_due old.o [] (names_home old.o)) asks)
+
+  pub numbers_stop : (k : Keeper) (e : ElfError) → e ≡ Memory
+      → AsksFor {T = Keeper} g (Ok k) old mid (homes_due old.o [] (names_home old.o))
+      → StreamsRebuilt g removed (Err e) (stream_due old.o removed) old mid
+  numbers_stop k e want asks =
+      subst (λ (d : ElfError).
+      StreamsRebuilt g removed (Err d) (stream_due old.o removed) old mid) (sym want)
+      (stops_early Memory (inl refl)
+      (asks_as g (Ok k) (Err Memory) old mid (homes_due old.o [] (names_home old.o)) tt asks))
+
+  pub all_planned : (new : State S) (k : Keeper) (numbers : List ℕ)
+      (r : Result RangedPlan ElfError) → k.removed.now ≡ removed → IsObject old.o
+      → is_dirty old.o ≡ false → KeepsFor old.told old.o k
+      → numbers ≡ kept_from_1 mid.o k.removed.now
+      → AsksFor {T = Keeper} g (Ok k) old mid (homes_due old.o [] (names_home old.o))
+      → StreamsRebuilt g k.removed.now r (sections_due k mid.o numbers) mid new
+      → StreamsRebuilt g removed r (stream_due old.o removed) old new
+  all_planned new k numbers r gone is clean keeps at first second =
+      let object = first.object in
+      let numbers_at : numbers ≡ kept_from_1 old.o k.removed.now =
+      at ∙ ap (λ (o : Object). kept_from_1 o k.removed.now) object in
+      let due : sections_due k mid.o numbers
+      ≡ sections_due k old.o (kept_from_1 old.o k.removed.now) =
+      ap (λ (o : Object). sections_due k o numbers) object
+      ∙ ap (sections_due k old.o) numbers_at in
+      subst (λ (l : List ℕ). StreamsRebuilt g l r (stream_due old.o l) old new) gone (record {
+        answer = λ t.
+            subst (λ (o : Object). FileAnswers o.base r (file_made (rebuilt o k.removed.now)))
+            object (second.answer (subst (λ (b : Bool). IsTrue b) (sym first.told) t));
+        asks = asks_more g r old new
+            (homes_due old.o [] (names_home old.o)
+            + sections_due k old.o (kept_from_1 old.o k.removed.now))
+            (stream_due old.o k.removed.now) (all_less old.told old.o k keeps is clean)
+            (asks_twice g (Ok k) r old mid new (homes_due old.o [] (names_home old.o))
+            (sections_due k old.o (kept_from_1 old.o k.removed.now)) first
+            (subst (λ (n : ℕ). AsksFor g r mid new n) due second.asks));
+      })

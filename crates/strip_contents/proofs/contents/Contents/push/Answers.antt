@@ -1,0 +1,11 @@
+use Rattle.std.proofs.Common.{refl}
+use Rattle.strip_contents.proofs.contents.Contents.push.Goals as goal
+
+pub returns-clause-pushed : goal.returns-clause-pushed
+returns-clause-pushed c = record {
+  headers = c.in_ok-push.ensures.ok;
+  sizes = c.in_ok-push-2.ensures.ok;
+  ranges = c.in_ok-push-3.ensures.ok;
+  held = refl;
+  small = c.ranges.size.fits;
+}

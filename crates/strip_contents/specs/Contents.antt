@@ -1,0 +1,105 @@
+-- What is kept of the sections of an object: their headers, how many bytes they have in the file,
+-- and where these are (gABI chapter 4, "Sections").
+use Rattle.std.specs.Prelude.{◌≡◌, ℕ, ◌+◌, ◌<◌, ◌≤◌, ◌^◌, Bool, List, [], ◌∷◌, ◌++◌, length, map, sum_by, All, None, Result, IsTrue, IfOk, IfErr, OnOk, if◌then◌else◌}
+use Rattle.elf_types.specs.Answers.{first_refusal}
+use Rattle.elf_types.specs.declared.constants.TheConstants.{MAX_SECTIONS}
+use Rattle.elf_types.specs.declared.records.Shdr.{Shdr}
+use Rattle.elf_types.specs.declared.errors.ElfError.{ElfError}
+use Rattle.elf_outside.specs.declared.sources.Source.{Ghosts}
+use Rattle.elf_ident.specs.Front.{zero_shdr}
+use Rattle.elf_object.specs.Object.{Object, occupies_file}
+use Rattle.elf_descriptor.specs.State.{State}
+use Rattle.command_objects.specs.Followed.{kept_from_1}
+use Rattle.object_making.specs.Refused.{UnreadBy}
+use Rattle.image_ranges.specs.declared.ranges.ByteRange.{ByteRange}
+use Rattle.image_ranges.specs.Ranges.{range_bytes}
+use Rattle.strip_rebuild.specs.declared.keepers.Keeper.{Keeper}
+use Rattle.strip_rebuild.specs.Keepers.{header_by, refusal_by}
+use Rattle.strip_rebuild.specs.Makes.{AsksFor}
+use Rattle.strip_contents.specs.declared.contents.Contents.{Contents}
+use Rattle.strip_contents.specs.Ranges.{bytes_by, section_due}
+
+-- how many of so many bytes a section with a header has in the file
+abbrev pub kept_size : Shdr → ℕ → ℕ
+kept_size h len = if occupies_file h then len else 0
+
+-- ---- One section more
+
+-- a header, a size and a range were put behind the others
+pub record IsPushed (h : Shdr) (size : ℕ) (range : ByteRange) (old new : Contents) : Type 0 where
+  pub headers : new.headers ≡ old.headers ++ h ∷ []
+  pub sizes : new.sizes ≡ old.sizes ++ size ∷ []
+  pub ranges : new.ranges ≡ old.ranges ++ range ∷ []
+  pub held : new.held ≡ old.held
+  pub small : size < 2 ^ 64
+
+-- a section with a header and bytes was put behind the others
+pub record IsAdded (told : Bool) (base : List ℕ) (h : Shdr) (bytes : List ℕ) (old new : Contents)
+    : Type 0 where
+  pub size : ℕ
+  pub range : ByteRange
+  pub added : List ℕ
+  pub headers : new.headers ≡ old.headers ++ h ∷ []
+  pub sizes : new.sizes ≡ old.sizes ++ size ∷ []
+  pub ranges : new.ranges ≡ old.ranges ++ range ∷ []
+  pub held : new.held ≡ old.held ++ added
+  pub small : size < 2 ^ 64
+  pub size_is : IsTrue told → size ≡ kept_size h (length bytes)
+  pub is : IsTrue told → (later : List ℕ)
+      → range_bytes (new.held ++ later) base range ≡ bytes
+
+-- a step adds what a keeper makes of a section, and leaves the object
+pub record AddsSection {S : Type 0} (g : Ghosts S) (k : Keeper) (s : ℕ)
+    (result : Result (Unit {0}) ElfError) (old new : State S) (contents next : Contents)
+    : Type 0 where
+  pub ok : OnOk result
+      (IsAdded old.told old.o.base (header_by k old.o s) (bytes_by k old.o s) contents next)
+  pub passed : OnOk result (refusal_by k old.o s ≡ None)
+  pub err : IfErr result (UnreadBy (refusal_by k old.o s))
+  pub asks : AsksFor g result old new (section_due k old.o s)
+
+-- ---- All of them
+
+-- Section 0 and these were kept: they have the stated headers, and where the source tells its bytes
+-- the stated ones, in their ranges, whatever is held behind.
+pub record AreKept (told : Bool) (base : List ℕ) (header : ℕ → Shdr) (bytes : ℕ → List ℕ)
+    (numbers : List ℕ) (x : Contents) : Type 0 where
+  pub headers : x.headers ≡ zero_shdr ∷ map header numbers
+  pub sized : length x.sizes ≡ length numbers + 1
+  pub small : All (λ n. n < 2 ^ 64) x.sizes
+  pub sizes : IsTrue told
+      → x.sizes ≡ 0 ∷ map (λ s. kept_size (header s) (length (bytes s))) numbers
+  pub ranges : IsTrue told → (later : List ℕ)
+      → map (range_bytes (x.held ++ later) base) x.ranges ≡ [] ∷ map bytes numbers
+
+abbrev pub AreKeptBy : {S : Type 0} → Keeper → State S → List ℕ → Contents → Type 0
+AreKeptBy k s numbers x =
+    AreKept s.told s.o.base (header_by k s.o) (bytes_by k s.o) numbers x
+
+-- what is asked for
+abbrev pub sections_due : Keeper → Object → List ℕ → ℕ
+sections_due k o numbers = sum_by (section_due k o) numbers
+
+-- a step adds what a keeper makes of some sections, and leaves the object
+pub record AddsSections {S : Type 0} (g : Ghosts S) (k : Keeper) (numbers : List ℕ)
+    (result : Result (Unit {0}) ElfError) (old new : State S) (next : Contents) : Type 0 where
+  pub ok : OnOk result (AreKeptBy k old numbers next)
+  pub passed : OnOk result (first_refusal (map (refusal_by k old.o) numbers) ≡ None)
+  pub err : IfErr result (UnreadBy (first_refusal (map (refusal_by k old.o) numbers)))
+  pub asks : AsksFor g result old new (sections_due k old.o numbers)
+
+-- what was kept of an object: nothing where it has no sections
+pub record HasContents {S : Type 0} (k : Keeper) (s : State S) (x : Contents) : Type 0 where
+  pub few : length x.headers ≤ MAX_SECTIONS
+  pub same : length x.sizes ≡ length x.headers
+  pub none : length s.o.sections ≡ 0 → (x.headers ≡ []) × (x.sizes ≡ [])
+  pub some : (length s.o.sections ≡ 0 → ⊥)
+      → AreKeptBy k s (kept_from_1 s.o k.removed.now) x
+
+-- a step keeps what a keeper makes of all sections that are kept, and leaves the object
+pub record KeepsContents {S : Type 0} (g : Ghosts S) (k : Keeper) (numbers : List ℕ)
+    (result : Result Contents ElfError) (old new : State S) : Type 0 where
+  pub ok : IfOk result (HasContents k old)
+  pub passed : OnOk result (first_refusal (map (refusal_by k old.o) numbers) ≡ None)
+  pub err : IfErr result (UnreadBy (first_refusal (map (refusal_by k old.o) numbers)))
+  pub asks : AsksFor g result old new (sections_due k old.o numbers)

@@ -1,0 +1,223 @@
+-- The plan of an image that is made anew, by its listed headers and the ranges of its sections: when
+-- it is that of an object, and what it answers (gABI chapter 4, "ELF Header" and "Section Header").
+use Rattle.std.specs.Prelude.{◌≡◌, ◌⊎◌, ℕ, ◌==◌, ◌+◌, ◌<◌, ◌&&◌, ◌||◌, Bool, true, List, [], ◌++◌, length, take, slice_get, sum_by, unwrap_or, if◌then◌else◌, Option, Some, None, is_some, Result, Ok, Err, IsTrue, IfOk, IfErr}
+use Rattle.std.proofs.Math.ListN.{replicate}
+use Rattle.elf_types.specs.declared.constants.TheConstants.{EV_CURRENT}
+use Rattle.elf_types.specs.declared.records.Ehdr.{Ehdr}
+use Rattle.elf_types.specs.declared.errors.ElfError.{ElfError}
+use Rattle.elf_types.specs.declared.errors.ElfError.TheVariants.{Memory, Read, Write, TooLarge}
+use Rattle.elf_outside.specs.Asks.{ReadRose}
+use Rattle.elf_outside.specs.declared.sources.Source.{Ghosts}
+use Rattle.elf_object.specs.Object.{Object, header_of, section_at, occupies_file, is_dirty}
+use Rattle.elf_object.specs.Due.{homes_due}
+use Rattle.elf_object.specs.Image.{kept_base}
+use Rattle.elf_object.specs.Joined.{aligned_pieces}
+use Rattle.elf_object.specs.Refusal.{content_refusal}
+use Rattle.elf_object.specs.Valid.{IsObject}
+use Rattle.elf_descriptor.specs.State.{State}
+use Rattle.update_plan.specs.Placing.{IsRefused}
+use Rattle.elf_update.specs.Descriptors.{KeptElf}
+use Rattle.command_objects.specs.Arranged.{placed_from}
+use Rattle.command_objects.specs.Files.{file_made}
+use Rattle.command_objects.specs.Followed.{kept_from_1}
+use Rattle.command_objects.specs.Rebuilt.{rebuilt, renews_names, items_follow}
+use Rattle.object_making.specs.Placing.{arranged_refusal}
+use Rattle.listed_layout.specs.declared.listed.Listed.{Listed}
+use Rattle.listed_layout.specs.Listing.{IsListed}
+use Rattle.image_ranges.specs.declared.ranges.ByteRange.{ByteRange}
+use Rattle.image_ranges.specs.Ranges.{KeptRanges, pieces_at}
+use Rattle.image_ranges.specs.Images.{AreRangesOf, ranged_text}
+use Rattle.strip_removed.specs.Calls.{names_home}
+use Rattle.strip_rebuild.specs.Answers.{kept_reads}
+use Rattle.strip_rebuild.specs.Makes.{AsksFor}
+use Rattle.strip_stream.specs.declared.streaming.Streamed.{Streamed}
+use Rattle.strip_stream.specs.Planning.{IsLaidOut}
+use Rattle.strip_contents.specs.declared.contents.Contents.{Contents}
+use Rattle.strip_contents.specs.declared.plans.RangedPlan.{RangedPlan}
+
+-- ---- The header
+
+-- the header of an object that was created with the class and the order of another one, and has the
+-- stored fields of its header, its program headers, a string index and so many sections
+unfoldable pub new_header : Object → ℕ → ℕ → Ehdr
+new_header o index count = record (header_of o) {
+  version = EV_CURRENT;
+  ehsize = 0;
+  phentsize = 0;
+  shentsize = 0;
+  shnum = count;
+  shstrndx = index;
+}
+
+-- ---- Places behind a tail, where there is one
+
+abbrev pub arranged_object : Object → Option ℕ → Object
+arranged_object p None = p
+arranged_object p (Some tail) = placed_from p tail
+
+-- the object is arranged, and these are its headers
+pub record IsArrangedTo (p : Object) (tail : Option ℕ) (next : Listed) : Type 0 where
+  pub passed : arranged_refusal p tail ≡ None
+  pub listed : IsListed (arranged_object p tail) next
+
+-- it is refused
+pub record IsRefusedTo (x : Listed) (tail : Option ℕ) (e : ElfError) : Type 0 where
+  pub error : e ≡ TooLarge
+  pub refused : (p : Object) → IsListed p x → arranged_refusal p tail ≡ Some TooLarge
+
+-- listed headers are arranged, as many as before, or their places are refused
+pub record ArrangesTo (x : Listed) (tail : Option ℕ) (result : Result Listed ElfError)
+    : Type 0 where
+  pub ok : IfOk result (λ next. (p : Object) → IsListed p x → IsArrangedTo p tail next)
+  pub count : IfOk result (λ next. length next.headers ≡ length x.headers)
+  pub sizes : IfOk result (λ next. length next.sizes ≡ length x.headers)
+  pub err : IfErr result (λ e. (e ≡ Memory) ⊎ IsRefusedTo x tail e)
+
+-- ---- Ranges
+
+-- each section of an object that has bytes in the file is the range that stands for it
+pub record HasRanges (q : Object) (base held : List ℕ) (ranges : List ByteRange) : Type 0 where
+  pub each : (s : ℕ) → 0 < s → s < length q.sections
+      → occupies_file (section_at q s).header ≡ true → (later : List ℕ)
+      → pieces_at (held ++ later) base (slice_get ranges s)
+      ≡ aligned_pieces q.header.class q.header.order (section_at q s)
+
+-- all of the parts of an image but what is copied of the base of a descriptor
+abbrev pub kept_with : KeptElf → RangedPlan → KeptRanges
+kept_with e x = record { elf = e; held = x.held; ranges = x.ranges; kept = x.kept }
+
+-- they are those of an object, over a base
+abbrev pub AreRangesBy : Object → List ℕ → RangedPlan → Type 0
+AreRangesBy q base x =
+    (e : KeptElf) → e.o.base ≡ base → AreRangesOf q (kept_with e x) x.plan x.end
+
+-- ---- From listed headers to the plan
+
+-- what was planned and held of them, and the ranges of the sections, over so many bytes of the base
+abbrev pub plan_of : List ℕ → List ByteRange → ℕ → Streamed → RangedPlan
+plan_of held ranges kept streamed = record {
+  held = held;
+  ranges = record {
+    header = streamed.front.header;
+    segments = streamed.front.segments;
+    table = streamed.front.table;
+    sections = ranges;
+  };
+  kept = kept;
+  plan = streamed.planned.parts;
+  end = streamed.planned.places.end;
+}
+
+-- an object is made of another one: of its headers these are listed, its sections have these ranges,
+-- and the bytes before the tail are its base
+pub record IsCopied (o q : Object) (x : Listed) (found : List ByteRange) (held : List ℕ)
+    (tail : Option ℕ) : Type 0 where
+  pub laid : IsLaidOut q x (is_some tail) (unwrap_or tail 0)
+  pub pad : q.pad ≡ replicate 7 0
+  pub phdrs : q.phdrs ≡ o.phdrs
+  pub fill : q.fill ≡ 0
+  pub base : take (unwrap_or tail 0) o.base ≡ q.base
+  pub kept : kept_base q ≡ unwrap_or tail 0
+  pub ranges : HasRanges q o.base held found
+
+-- what is planned of such an object, or refused; nothing is read
+pub record PlansCopied (o : Object) (x : Listed) (ranges : List ByteRange) (held : List ℕ)
+    (tail : Option ℕ) (result : Result RangedPlan ElfError) : Type 0 where
+  pub ok : IfOk result (λ plan. (q : Object) → IsCopied o q x ranges held tail
+      → AreRangesBy q o.base plan)
+  pub err : IfErr result (λ e. (q : Object) → IsCopied o q x ranges held tail → IsRefused q e)
+  pub unread : (a b : ℕ) → ReadRose result a b
+
+-- the same before its places are given
+pub record IsGathered (o p : Object) (x : Listed) (found : List ByteRange) (held : List ℕ)
+    (tail : Option ℕ) : Type 0 where
+  pub listed : IsListed p x
+  pub layout : p.layout ≡ is_some tail
+  pub long : length p.base ≡ unwrap_or tail 0
+  pub pad : p.pad ≡ replicate 7 0
+  pub phdrs : p.phdrs ≡ o.phdrs
+  pub fill : p.fill ≡ 0
+  pub base : take (unwrap_or tail 0) o.base ≡ p.base
+  pub ranges : HasRanges p o.base held found
+
+-- an update writes it, where its places allow that
+pub record MayBeWritten (q : Object) : Type 0 where
+  pub object : IsObject q
+  pub dirty : is_dirty q ≡ true
+  pub content : content_refusal q ≡ None
+
+-- it is arranged, and what an update writes of it is planned
+pub record IsPlannedTo (o p : Object) (tail : Option ℕ) (x : RangedPlan) : Type 0 where
+  pub passed : arranged_refusal p tail ≡ None
+  pub ranges : MayBeWritten (arranged_object p tail)
+      → AreRangesBy (arranged_object p tail) o.base x
+
+-- it is not planned: its places are refused, or the update is
+abbrev pub IsUnplanned : Object → Option ℕ → ElfError → Type 0
+IsUnplanned p tail e =
+    (e ≡ Memory)
+    ⊎ ((e ≡ TooLarge) × (arranged_refusal p tail ≡ Some TooLarge))
+    ⊎ ((arranged_refusal p tail ≡ None)
+    × (MayBeWritten (arranged_object p tail) → IsRefused (arranged_object p tail) e))
+
+-- the headers of what was kept, with the new header
+abbrev pub listed_of : Object → ℕ → Contents → Listed
+listed_of o index x = record {
+  header = new_header o index (length x.headers);
+  headers = x.headers;
+  sizes = x.sizes;
+}
+
+-- what is planned of the object of which that was kept, or refused; nothing is read
+pub record PlansGathered (o : Object) (index : ℕ) (x : Contents) (tail : Option ℕ)
+    (result : Result RangedPlan ElfError) : Type 0 where
+  pub ok : IfOk result (λ plan. (p : Object)
+      → IsGathered o p (listed_of o index x) x.ranges x.held tail → IsPlannedTo o p tail plan)
+  pub err : IfErr result (λ e. (p : Object)
+      → IsGathered o p (listed_of o index x) x.ranges x.held tail → IsUnplanned p tail e)
+  pub unread : (a b : ℕ) → ReadRose result a b
+
+-- ---- The whole step
+
+-- these bytes are written of it, over a base
+abbrev pub CopiesAs : List ℕ → RangedPlan → List ℕ → Type 0
+CopiesAs base x bytes =
+    (e : KeptElf) → e.o.base ≡ base → ranged_text (kept_with e x) x.plan x.end ≡ bytes
+
+-- the plan of a stated file, or its refusal; or memory is wanted, or a read failed
+abbrev pub FileAnswers : List ℕ → Result RangedPlan ElfError → Result (List ℕ) ElfError → Type 0
+FileAnswers base (Ok x) stated =
+    (bytes : List ℕ) × (stated ≡ Ok bytes) × CopiesAs base x bytes
+FileAnswers base (Err Memory) stated = Unit {0}
+FileAnswers base (Err Read) stated = Unit {0}
+FileAnswers base (Err Write) stated = ⊥
+FileAnswers base (Err e) stated = stated ≡ Err e
+
+-- a step answers the plan of the file that an update writes of the object without the removed
+-- sections, where the source tells its bytes; it reads nothing
+pub record PlansKept {S : Type 0} (s : State S) (removed : List ℕ)
+    (result : Result RangedPlan ElfError) : Type 0 where
+  pub answer : IsTrue s.told → FileAnswers s.o.base result (file_made (rebuilt s.o removed))
+  pub unread : (a b : ℕ) → ReadRose result a b
+
+-- the section of a kept number is made: its items follow, or it has the names that are made anew
+abbrev pub is_made : Object → List ℕ → ℕ → Bool
+is_made o removed s =
+    (renews_names o removed && s == o.header.shstrndx) || items_follow o removed s
+
+-- the homes that are looked at for such a section; nothing is asked for another one
+unfoldable pub kept_due : Object → List ℕ → ℕ → ℕ
+kept_due o removed s =
+    if is_made o removed s then homes_due o [] (kept_reads o removed s) else 0
+
+-- what is asked for: the names, and the homes of the sections that are made
+unfoldable pub stream_due : Object → List ℕ → ℕ
+stream_due o removed =
+    homes_due o [] (names_home o) + sum_by (kept_due o removed) (kept_from_1 o removed)
+
+-- a step that reads besides answers so, and leaves the object
+pub record StreamsRebuilt {S : Type 0} (g : Ghosts S) (removed : List ℕ)
+    (result : Result RangedPlan ElfError) (due : ℕ) (old new : State S) : Type 0 where
+  pub answer : IsTrue old.told
+      → FileAnswers old.o.base result (file_made (rebuilt old.o removed))
+  pub asks : AsksFor g result old new due

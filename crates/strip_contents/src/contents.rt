@@ -1,0 +1,63 @@
+//! What is kept of the sections of an object.
+
+ghost use Rattle.std.specs.Prelude.{◌≡◌, [], OnOk, IfErr};
+ghost use Rattle.elf_types.specs.declared.errors.ElfError.TheVariants.{Memory};
+ghost use Rattle.strip_contents.specs.Contents.{IsPushed, kept_size};
+
+use elf_object::occupies_file;
+use elf_types::{Addrs, ElfError, List, Octets, Shdr, Shdrs};
+use image_ranges::ByteRange;
+use std::alloc::Global;
+
+/// The headers of the sections of a new image, how many bytes each has in the file, and where these
+/// are.
+#[derive(Drop)]
+pub struct Contents {
+    /// The headers, by number from 0 on.
+    pub headers: Shdrs,
+    /// The number of bytes in the file of each.
+    pub sizes: Addrs,
+    /// The range of each.
+    pub ranges: List<ByteRange>,
+    /// The bytes that are held.
+    pub held: Octets,
+}
+
+impl Contents {
+    /// Those of no section. It takes no memory.
+    pub(crate) fn new(alloc: Global) -> Contents
+        ensures headers { result.headers ≡ [] }
+        ensures sizes { result.sizes ≡ [] }
+        ensures ranges { result.ranges ≡ [] }
+        ensures held { result.held ≡ [] }
+    {
+        Contents {
+            headers: List::new(alloc),
+            sizes: List::new(alloc),
+            ranges: List::new(alloc),
+            held: List::new(alloc),
+        }
+    }
+
+    /// Adds a section with a header, so many bytes in the file, and a range. It refuses `Memory`
+    /// alone; what a refusal leaves is not stated.
+    pub(crate) fn push(&mut self, h: Shdr, size: u64, range: ByteRange) -> Result<(), ElfError>
+        ensures pushed { OnOk result (IsPushed h size range self.old self.new) }
+        ensures err { IfErr result (λ e. e ≡ Memory) }
+    {
+        self.headers.push(h)?;
+        self.sizes.push(size)?;
+        self.ranges.push(range)?;
+        Ok(())
+    }
+}
+
+/// How many of so many bytes a section with a header has in the file.
+pub(crate) fn kept_size(h: &Shdr, len: u64) -> u64
+    ensures { result ≡ kept_size h.now len }
+{
+    if occupies_file(h) {
+        return len;
+    }
+    0
+}

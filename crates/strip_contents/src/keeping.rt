@@ -1,0 +1,133 @@
+//! What is kept of all sections that stay.
+
+ghost use Rattle.std.specs.Prelude.{◌≡◌, ◌<◌, [], length, false, All, IsTrue};
+ghost use Rattle.elf_object.specs.Object.{is_dirty};
+ghost use Rattle.elf_object.specs.Valid.{IsObject, IsTied};
+ghost use Rattle.command_objects.specs.Followed.{kept_from_1};
+ghost use Rattle.strip_contents.specs.Contents.{AddsSection, AddsSections, AreKeptBy, KeepsContents};
+
+use crate::contents::{Contents, kept_size};
+use crate::ranges::find_range;
+use elf_descriptor::Elf;
+use elf_outside::Source;
+use elf_types::{ElfError, ScnId, Shdr};
+use image_ranges::ByteRange;
+use object_making::SectionMaker;
+use std::alloc::Global;
+use strip_rebuild::Keeper;
+
+/// The header of section 0: zeros.
+const FIRST: Shdr = Shdr {
+    name: 0,
+    stype: 0,
+    flags: 0,
+    addr: 0,
+    offset: 0,
+    size: 0,
+    link: 0,
+    info: 0,
+    addralign: 0,
+    entsize: 0,
+};
+
+/// A range of no bytes.
+const NOTHING: ByteRange = ByteRange {
+    held: true,
+    at: 0,
+    len: 0,
+};
+
+/// Adds what is made of a section that is there.
+fn add_section<S: Source>(
+    keeper: &Keeper<'_>,
+    elf: &mut Elf<S>,
+    s: ScnId,
+    contents: &mut Contents,
+) -> Result<(), ElfError>
+    requires there { s.0 < length elf.old.o.sections }
+    requires object { IsObject elf.old.o }
+    requires clean { is_dirty elf.old.o ≡ false }
+    requires tied { IsTrue elf.old.told → IsTied elf.old.o }
+    ensures { AddsSection S.Source keeper.now s.0 result elf.old elf.new
+        contents.old contents.new }
+{
+    let header = keeper.header(elf, s);
+    match find_range(keeper, elf, s, &mut contents.held) {
+        Ok(range) => contents.push(header, kept_size(&header, range.len), range),
+        Err(e) => Err(e),
+    }
+}
+
+/// Adds what is made of sections that are there, behind section 0.
+fn add_sections<S: Source>(
+    keeper: &Keeper<'_>,
+    elf: &mut Elf<S>,
+    numbers: &[u32],
+    contents: &mut Contents,
+) -> Result<(), ElfError>
+    requires there { All (λ s. s < length elf.old.o.sections) numbers.now }
+    requires object { IsObject elf.old.o }
+    requires clean { is_dirty elf.old.o ≡ false }
+    requires tied { IsTrue elf.old.told → IsTied elf.old.o }
+    requires first { AreKeptBy keeper.now elf.old [] contents.old }
+    ensures { AddsSections S.Source keeper.now numbers.now result elf.old elf.new contents.new }
+{
+    for s in numbers {
+        match add_section(keeper, elf, ScnId(*s), contents) {
+            Ok(()) => {}
+            Err(e) => return Err(e),
+        }
+    }
+    Ok(())
+}
+
+/// Adds section 0, and then what is made of sections that are there.
+fn fill_contents<S: Source>(
+    keeper: &Keeper<'_>,
+    elf: &mut Elf<S>,
+    numbers: &[u32],
+    contents: &mut Contents,
+) -> Result<(), ElfError>
+    requires there { All (λ s. s < length elf.old.o.sections) numbers.now }
+    requires object { IsObject elf.old.o }
+    requires clean { is_dirty elf.old.o ≡ false }
+    requires tied { IsTrue elf.old.told → IsTied elf.old.o }
+    requires headers { contents.old.headers ≡ [] }
+    requires sizes { contents.old.sizes ≡ [] }
+    requires ranges { contents.old.ranges ≡ [] }
+    ensures { AddsSections S.Source keeper.now numbers.now result elf.old elf.new contents.new }
+{
+    if let Err(e) = contents.push(FIRST, 0, NOTHING) {
+        return Err(e);
+    }
+    add_sections(keeper, elf, numbers, contents)
+}
+
+/// What a keeper makes of the sections of an object that stay, in their order: the headers, the
+/// sizes in the file, and where the bytes are. A section that is taken as it is is a range of the
+/// base, and is not read; the file form of what is made is held. Nothing of the object is dirty. It
+/// refuses the first section that the keeper refuses, and besides `Memory` and `Read`. It reads
+/// each home of what is made at the first use.
+///
+/// Source: gABI chapter 4, "Sections".
+pub fn keep_contents<S: Source>(
+    alloc: Global,
+    keeper: &Keeper<'_>,
+    elf: &mut Elf<S>,
+    numbers: &[u32],
+) -> Result<Contents, ElfError>
+    requires numbers { numbers.now ≡ kept_from_1 elf.old.o keeper.now.removed.now }
+    requires clean { is_dirty elf.old.o ≡ false }
+    requires tied { IsTrue elf.old.told → IsTied elf.old.o }
+    ensures { KeepsContents S.Source keeper.now numbers.now result elf.old elf.new }
+{
+    let _sound = elf.dirty();
+    let mut contents = Contents::new(alloc);
+    if elf.shnum() == 0 {
+        return Ok(contents);
+    }
+    match fill_contents(keeper, elf, numbers, &mut contents) {
+        Ok(()) => Ok(contents),
+        Err(e) => Err(e),
+    }
+}

@@ -1,0 +1,55 @@
+//! Where the bytes of a section of the new image are.
+
+ghost use Rattle.std.specs.Prelude.{◌≡◌, ◌<◌, length, true, false, IsTrue};
+ghost use Rattle.elf_object.specs.Object.{is_dirty};
+ghost use Rattle.elf_object.specs.Valid.{IsObject, IsTied};
+ghost use Rattle.strip_rebuild.specs.Keepers.{makes_by};
+ghost use Rattle.strip_contents.specs.Ranges.{FindsRange};
+
+use crate::homes::home_range;
+use elf_descriptor::Elf;
+use elf_outside::Source;
+use elf_types::{ElfError, Octets, ScnId};
+use image_ranges::ByteRange;
+use object_making::SectionMaker;
+use strip_rebuild::Keeper;
+use strip_stream::hold_items;
+
+/// The range of what is made of a section that is there, whose file form is held behind the others.
+fn made_range<S: Source>(
+    keeper: &Keeper<'_>,
+    elf: &mut Elf<S>,
+    s: ScnId,
+    held: &mut Octets,
+) -> Result<ByteRange, ElfError>
+    requires there { s.0 < length elf.old.o.sections }
+    requires makes { makes_by keeper.now elf.old.o s.0 ≡ true }
+    ensures { FindsRange S.Source keeper.now s.0 result elf.old elf.new held.old held.new }
+{
+    let header = elf.ehdr();
+    match keeper.items(elf, s) {
+        Ok(items) => hold_items(held, header.class, header.order, &items),
+        Err(e) => Err(e),
+    }
+}
+
+/// The range of the bytes that a section of the new image has, which is made of one that is there:
+/// its home where it is taken as it is, and else what is made of it, which is held behind the
+/// others. It refuses as the keeper, and reads what is made alone.
+pub(crate) fn find_range<S: Source>(
+    keeper: &Keeper<'_>,
+    elf: &mut Elf<S>,
+    s: ScnId,
+    held: &mut Octets,
+) -> Result<ByteRange, ElfError>
+    requires there { s.0 < length elf.old.o.sections }
+    requires object { IsObject elf.old.o }
+    requires clean { is_dirty elf.old.o ≡ false }
+    requires tied { IsTrue elf.old.told → IsTied elf.old.o }
+    ensures { FindsRange S.Source keeper.now s.0 result elf.old elf.new held.old held.new }
+{
+    if keeper.makes(elf, s) {
+        return made_range(keeper, elf, s, held);
+    }
+    home_range(elf, s)
+}

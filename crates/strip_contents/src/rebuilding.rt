@@ -1,0 +1,112 @@
+//! The plan of the image without the removed sections.
+
+ghost use Rattle.std.specs.Prelude.{◌≡◌, false, None, IsTrue, length, map};
+ghost use Rattle.elf_types.specs.Answers.{first_refusal};
+ghost use Rattle.elf_object.specs.Calls.{newphdr_refusal};
+ghost use Rattle.elf_object.specs.Object.{is_dirty};
+ghost use Rattle.elf_object.specs.Valid.{IsObject, IsTied};
+ghost use Rattle.command_objects.specs.Followed.{kept_from_1};
+ghost use Rattle.strip_laws.specs.Made.{FitsClass};
+ghost use Rattle.strip_removed.specs.Steps.{IsRemovable};
+ghost use Rattle.strip_rebuild.specs.Keepers.{KeepsFor, refusal_by};
+ghost use Rattle.strip_contents.specs.Contents.{HasContents, sections_due};
+ghost use Rattle.strip_contents.specs.Plans.{PlansKept, StreamsRebuilt, stream_due};
+
+use crate::checks::{check_last, check_segments};
+use crate::contents::Contents;
+use crate::keeping::keep_contents;
+use crate::planning::plan_contents;
+use crate::plans::RangedPlan;
+use elf_descriptor::Elf;
+use elf_outside::Source;
+use elf_types::ElfError;
+use std::alloc::Global;
+use strip_rebuild::{Keeper, keep_sections, kept_numbers, tail_of};
+use strip_removed::SectionSet;
+
+/// The plan of what was kept, where no section was refused.
+fn plan_kept<S: Source>(
+    alloc: Global,
+    keeper: &Keeper<'_>,
+    elf: &Elf<S>,
+    contents: Contents,
+) -> Result<RangedPlan, ElfError>
+    requires object { IsObject elf.now.o }
+    requires clean { is_dirty elf.now.o ≡ false }
+    requires fits { FitsClass elf.now.o }
+    requires removable { IsRemovable elf.now.o keeper.now.removed.now }
+    requires keeps { KeepsFor elf.now.told elf.now.o keeper.now }
+    requires contents { HasContents keeper.now elf.now contents }
+    requires segments { newphdr_refusal (length elf.now.o.phdrs) ≡ None }
+    requires sections { first_refusal (map (refusal_by keeper.now elf.now.o)
+        (kept_from_1 elf.now.o keeper.now.removed.now)) ≡ None }
+    ensures { PlansKept elf.now keeper.now.removed.now result }
+{
+    let index = keeper.numbering.followed(elf.shstrndx());
+    let count = contents.headers.len() as u32;
+    match check_last(&keeper.names, index, count) {
+        Ok(()) => {
+            let tail = tail_of(elf, keeper.removed);
+            plan_contents(alloc, elf, contents, index, tail)
+        }
+        Err(e) => Err(e),
+    }
+}
+
+/// The plan by a keeper.
+fn plan_by<S: Source>(
+    alloc: Global,
+    keeper: &Keeper<'_>,
+    elf: &mut Elf<S>,
+    numbers: &[u32],
+) -> Result<RangedPlan, ElfError>
+    requires object { IsObject elf.old.o }
+    requires clean { is_dirty elf.old.o ≡ false }
+    requires tied { IsTrue elf.old.told → IsTied elf.old.o }
+    requires fits { FitsClass elf.old.o }
+    requires removable { IsRemovable elf.old.o keeper.now.removed.now }
+    requires keeps { KeepsFor elf.old.told elf.old.o keeper.now }
+    requires numbers { numbers.now ≡ kept_from_1 elf.old.o keeper.now.removed.now }
+    ensures { StreamsRebuilt S.Source keeper.now.removed.now result
+        (sections_due keeper.now elf.old.o numbers.now) elf.old elf.new }
+{
+    if let Err(e) = check_segments(elf.phnum()) {
+        return Err(e);
+    }
+    match keep_contents(alloc, keeper, elf, numbers) {
+        Ok(contents) => plan_kept(alloc, keeper, elf, contents),
+        Err(e) => Err(e),
+    }
+}
+
+/// The plan of the file of an object without the removed sections, which an update writes of the
+/// object that is made anew: where each part stands, and where its bytes are. A section that is
+/// taken as it is is a range of the base, and is not read; the headers, the tables, and the items
+/// that follow are held in their file form. Nothing of the object is dirty, and only sections are
+/// removed that may be. It refuses as `rebuild` of strip_rebuild, and then as the update of that
+/// object; and `Memory` and `Read`. It asks for at most the names, and the homes of the sections
+/// whose items follow, that of a symbol table once more for its extended indexes.
+///
+/// Source: strip(1) of the development tools; gABI chapters 4 and 5.
+pub fn plan_rebuilt<S: Source>(
+    alloc: Global,
+    elf: &mut Elf<S>,
+    removed: &SectionSet,
+) -> Result<RangedPlan, ElfError>
+    requires clean { is_dirty elf.old.o ≡ false }
+    requires tied { IsTrue elf.old.told → IsTied elf.old.o }
+    requires fits { FitsClass elf.old.o }
+    requires removable { IsRemovable elf.old.o removed.now }
+    ensures { StreamsRebuilt S.Source removed.now result (stream_due elf.old.o removed.now)
+        elf.old elf.new }
+{
+    let _sound = elf.dirty();
+    let keeper = match keep_sections(alloc, elf, removed) {
+        Ok(keeper) => keeper,
+        Err(e) => return Err(e),
+    };
+    match kept_numbers(alloc, elf, removed) {
+        Ok(numbers) => plan_by(alloc, &keeper, elf, numbers.as_slice()),
+        Err(e) => Err(e),
+    }
+}
