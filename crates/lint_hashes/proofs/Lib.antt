@@ -4,5 +4,6 @@ pub mod AllSteps
 pub mod LentLemmas
 pub mod ListedLemmas
 pub mod SysvWords
+pub mod PathLaws
 pub mod SysvWhole
 pub mod GnuWhole

@@ -12,7 +12,7 @@ use Rattle.command_objects.specs.HashSections.{SysvHash, sysv_in, sysv_chain, sy
 use Rattle.command_objects.specs.Words.{is_among}
 use Rattle.lint_hashes.specs.declared.sysv.SysvTable.{SysvTable}
 use Rattle.lint_hashes.proofs.ListedLemmas.{by_hash}
-use Rattle.lint_hashes.specs.Sysv.{table_in, counts_are, section_of, chain_has, bucket_has, has_end, is_found, is_true, all_are_found, is_whole_table}
+use Rattle.lint_hashes.specs.Sysv.{table_in, counts_are, section_of, chain_has, bucket_has, has_end, is_found, is_true, all_are_found, chains_hold, is_whole_table}
 
 all_same : {X : Type 0} (f g : X → Bool) → ((x : X) → f x ≡ g x) → (xs : List X) → list_all f xs ≡ list_all g xs
 all_same f g same [] = refl
@@ -82,7 +82,7 @@ module _ (words : List ℕ) (t : SysvTable) (names : List (Option (List ℕ))) w
 
   -- with the section's own counts
   whole_by : nat_le 2 (length words) ≡ true → t.nbucket ≡ slice_index_or words 0 0 → t.nchain ≡ slice_index_or words 1 0 → is_whole_sysv words names ≡ is_whole_table words t names
-  unfolding is_whole_sysv is_whole_table counts_are sysv_in
+  unfolding is_whole_sysv is_whole_table chains_hold counts_are sysv_in
   whole_by two first second =
       let H = sysv_in words in
       let same : section_of t words ≡ H = ap (λ (n : ℕ). section_of (record { section = t.section; nbucket = n; nchain = t.nchain }) words) first in

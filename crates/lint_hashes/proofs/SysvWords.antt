@@ -1,14 +1,14 @@
 -- The words of a hash section of type SHT_HASH, and the chains that they make.
-use Rattle.std.proofs.Common.{◌≡◌, ◌≢◌, ◌⊎◌, inl, inr, ℕ, zero, suc, ◌+◌, ◌<◌, ◌≤◌, Bool, true, false, ◌||◌, List, ◌∷◌, length, drop, get_or, Option, Some, None, refl, sym, ap, ◌∙◌, arith}
+use Rattle.std.proofs.Common.{◌≡◌, ◌≢◌, ◌⊎◌, inl, inr, ℕ, zero, suc, ◌+◌, ◌<◌, ◌≤◌, Bool, true, false, ◌||◌, List, [], ◌∷◌, ◌++◌, length, take, drop, get_or, Option, Some, None, refl, sym, ap, ◌∙◌, arith}
 use Rattle.std.specs.Prelude.{nat_eq, slice_get, slice_index_or}
 use Rattle.std.specs.List.{list_any}
 use Rattle.std.specs.Option.{option_map}
-use Rattle.std.proofs.lemmas.List.{get_or-take, get_or-drop, length-drop}
+use Rattle.std.proofs.lemmas.List.{get_or-take, get_or-drop, length-drop, take_all, take_more}
 use Rattle.std.proofs.lemmas.Option.{slice_get-get_or, slice_get_past, slice_get_cases}
 use Rattle.command_objects.specs.HashSections.{sysv_chain}
 use Rattle.command_objects.specs.Words.{is_among}
 use Rattle.lint_hashes.specs.declared.sysv.SysvTable.{SysvTable}
-use Rattle.lint_hashes.specs.Sysv.{section_of, chain_has}
+use Rattle.lint_hashes.specs.Sysv.{section_of, chain_has, with_word}
 
 -- ---- Words
 
@@ -20,6 +20,25 @@ get_drop k at xs = by_place (slice_get_cases xs (k + at)).1
     by_place (inl (x, lt, is, same)) =
         is ∙ ap Some (sym same) ∙ ap Some (sym (get_or-drop k xs at x)) ∙ sym (slice_get-get_or (drop k xs) at x (omega (arith, length-drop k xs)))
     by_place (inr (past, is)) = is ∙ sym (slice_get_past (drop k xs) at (omega (arith, length-drop k xs)))
+
+-- words that are read one after another
+pub word_more : (words list : List ℕ) (i : ℕ) → list ≡ take i words
+    → with_word list (slice_get words i) ≡ take (i + 1) words
+unfolding with_word
+word_more words list i is = by_place (slice_get_cases words i).1
+  where
+    by_place : ((x : ℕ) × (i < length words) × (slice_get words i ≡ Some x) × (get_or words i x ≡ x))
+        ⊎ ((length words ≤ i) × (slice_get words i ≡ None))
+        → with_word list (slice_get words i) ≡ take (i + 1) words
+    by_place (inl (x, lt, there, same)) =
+        ap (with_word list) there ∙ ap (λ (l : List ℕ). l ++ x ∷ []) is
+        ∙ ap (λ (y : ℕ). take i words ++ y ∷ []) (sym same) ∙ sym (take_more words i x lt)
+    by_place (inr (past, none)) =
+        ap (with_word list) none ∙ is ∙ take_all i words past
+        ∙ sym (take_all (i + 1) words (omega (arith, past)))
+
+pub words_all : (words : List ℕ) (i : ℕ) → length words ≤ i → take i words ≡ words
+words_all words i past = take_all i words past
 
 pub chain_word : (words : List ℕ) (t : SysvTable) (at : ℕ) → slice_get words (2 + t.nbucket + at) ≡ slice_get (section_of t words).chains at
 chain_word words t at = get_drop (2 + t.nbucket) at words

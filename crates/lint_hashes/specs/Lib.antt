@@ -1,4 +1,5 @@
 pub mod Gnu
 pub mod Sysv
+pub mod Paths
 pub mod Listed
 pub mod Hashes

@@ -1,13 +1,11 @@
 -- What the rule on hash sections of type SHT_HASH works out of the words of one.
-use Rattle.std.specs.Prelude.{◌≡◌, ℕ, ◌+◌, ◌%◌, ◌<◌, ◌==◌, ◌&&◌, not, Bool, true, false, List, length, take, drop, slice_get, slice_index_or, is_some, Option, Some, None}
+use Rattle.std.specs.Prelude.{◌≡◌, ℕ, ◌+◌, ◌%◌, ◌<◌, ◌==◌, ◌&&◌, not, Bool, true, false, List, [], ◌∷◌, ◌++◌, length, take, drop, slice_get, slice_index_or, is_some, Option, Some, None}
 use Rattle.std.specs.List.{list_all}
 use Rattle.std.specs.Option.{option_map}
 use Rattle.elf_types.specs.declared.records.ScnId.{ScnId}
-use Rattle.elf_object.specs.Object.{Object}
 use Rattle.command_objects.specs.Hashes.{elf_hash}
 use Rattle.command_objects.specs.HashSections.{SysvHash, sysv_chain, each_listed}
 use Rattle.command_objects.specs.Words.{is_among}
-use Rattle.lint_findings.specs.Looking.{words}
 use Rattle.lint_hashes.specs.declared.sysv.SysvTable.{SysvTable}
 
 -- ---- The two counts
@@ -26,10 +24,15 @@ unfoldable pub counts_are : SysvTable → ℕ → ℕ → Bool
 counts_are t total count =
     not (t.nbucket == 0) && (t.nchain == count && total == 2 + t.nbucket + t.nchain)
 
--- a table that takes up its section, with a bucket at least
-pub record TakesUp (o : Object) (t : SysvTable) : Type 0 where
+-- a table that takes up its words, with a bucket at least
+pub record TakesUp (words : List ℕ) (t : SysvTable) : Type 0 where
   pub some : 0 < t.nbucket
-  pub count : length (words o t.section.0) ≡ 2 + t.nbucket + t.nchain
+  pub count : length words ≡ 2 + t.nbucket + t.nchain
+
+-- words with one more, where it is there
+unfoldable pub with_word : List ℕ → Option ℕ → List ℕ
+with_word list None = list
+with_word list (Some word) = list ++ word ∷ []
 
 -- ---- Chains
 
@@ -68,11 +71,15 @@ abbrev pub all_are_found : List ℕ → SysvTable → List (Option (List ℕ)) �
 all_are_found words t names =
     each_listed (λ i name. is_found words t (Some (elf_hash name)) i) names
 
+-- the chain of each bucket has an end, and each is on that of its name's
+unfoldable pub chains_hold : List ℕ → SysvTable → List (Option (List ℕ)) → Bool
+chains_hold words t names =
+    list_all (has_end words t) (section_of t words).buckets && all_are_found words t names
+
 -- all that a section that is whole is
 unfoldable pub is_whole_table : List ℕ → SysvTable → List (Option (List ℕ)) → Bool
 is_whole_table words t names =
-    counts_are t (length words) (length names)
-    && (list_all (has_end words t) (section_of t words).buckets && all_are_found words t names)
+    counts_are t (length words) (length names) && chains_hold words t names
 
 abbrev pub is_whole_in : List ℕ → Option SysvTable → List (Option (List ℕ)) → Bool
 is_whole_in words None names = false

@@ -5,6 +5,8 @@ mod gnu;
 mod gnu_sections;
 mod hashes;
 mod listed;
+mod paths;
 mod sysv;
+mod words;
 
 pub use hashes::{gnu_hashes_not_whole, hashes_not_whole};

@@ -1,12 +1,10 @@
 //! Hash sections of type `SHT_HASH`, and whether one is whole: a number of buckets, a number of
 //! chain words, the buckets, and a chain word for each symbol.
 //!
-//! The chain of each bucket is walked, and that of its name for each listed symbol: as many steps
-//! as there are words where chains are apart and short. Chains that share their words are walked
-//! for each bucket and symbol on them.
+//! The words are read once, and what the chains of the buckets lead to is kept by symbol, so chains
+//! that share their words take no longer than such that do not.
 
-ghost use Rattle.std.specs.Prelude.{◌≡◌, ℕ, ◌<◌, ◌+◌, length, slice_get, slice_index_or, IfOk, IfSome, IsTrue};
-ghost use Rattle.std.specs.List.{list_all};
+ghost use Rattle.std.specs.Prelude.{◌≡◌, ℕ, ◌<◌, ◌+◌, ◌++◌, ◌∷◌, [], length, slice_get, IfErr, IfOk, IfSome, IsTrue};
 ghost use Rattle.std.specs.Option.{option_map};
 ghost use Rattle.command_objects.specs.HashSections.{is_whole_sysv};
 ghost use Rattle.command_objects.specs.Listed.{listed_names};
@@ -14,12 +12,14 @@ ghost use Rattle.object_output.specs.Steps.{Learns};
 ghost use Rattle.lint_findings.specs.Looking.{words};
 ghost use Rattle.lint_hashes.specs.Listed.{listed_hash, AreListed};
 ghost use Rattle.lint_hashes.specs.Sysv as sysv;
-ghost use Rattle.lint_hashes.specs.Sysv.{section_of, TakesUp};
+ghost use Rattle.lint_hashes.specs.Sysv.{TakesUp};
+ghost use Rattle.lint_hashes.specs.Paths.{ArePaths};
 
 use crate::listed::{Listed, NameHash, listed_hash};
+use crate::paths::{Paths, is_found_in, paths_of};
 use elf_descriptor::Elf;
 use elf_outside::Source;
-use elf_types::{DataId, ScnId};
+use elf_types::{DataId, ScnId, Words};
 use gelf_view::item_count;
 use lint_findings::item_at;
 use tool_output::Stop;
@@ -90,144 +90,124 @@ fn counts_are(t: SysvTable, total: u64, count: u64) -> bool
     t.nbucket != 0 && u64::from(t.nchain) == count && total == wanted
 }
 
-/// The symbol behind one on a chain, or None where the chain leaves the table.
-#[tactic(auto, using(crate::proofs::SysvWords::chain_word))]
-fn behind<S: Source>(elf: &mut Elf<S>, t: SysvTable, at: u32) -> Result<Option<u32>, Stop>
-    ensures { Learns S.Source
-        (λ o. slice_get (section_of t (words o t.section.0)).chains at) result elf.old elf.new }
+/// Words with one more; it stops where there is no memory.
+fn push_word(mut list: Words, word: u32) -> Result<Words, Stop>
+    ensures ok { IfOk result (λ l. l ≡ list ++ word ∷ []) }
+    ensures err { IfErr result (λ stop. stop ≡ Stop.Memory) }
 {
-    word_at(elf, t.section, 2 + u64::from(t.nbucket) + u64::from(at))
+    match list.push(word) {
+        Ok(()) => Ok(list),
+        Err(e) => Err(Stop::want_of(e)),
+    }
 }
 
-/// Whether symbol `i` is on the chain from one on, or None where the chain leaves the table or has
-/// no end within as many steps as there are chain words.
-fn chain_has<S: Source>(
-    elf: &mut Elf<S>,
-    t: SysvTable,
-    first: u32,
-    i: u64,
-) -> Result<Option<bool>, Stop>
-    ensures { Learns S.Source (λ o. sysv.chain_has (words o t.section.0) t first i)
+/// Words with that at an index of a section, where it is there.
+#[tactic(auto, unfolding(crate::specs::Sysv::with_word))]
+fn with_word<S: Source>(elf: &mut Elf<S>, s: ScnId, list: Words, i: u64) -> Result<Words, Stop>
+    ensures { Learns S.Source (λ o. sysv.with_word list (slice_get (words o s.0) i))
         result elf.old elf.new }
 {
-    let mut at = first;
-    let mut met = false;
-    for step in 0..t.nchain {
-        if at == 0 {
-            return Ok(Some(met));
-        }
-        met = met | (i == u64::from(at));
-        match behind(elf, t, at) {
-            Ok(Some(next)) => at = next,
-            Ok(None) => return Ok(None),
-            Err(stop) => return Err(stop),
-        }
-    }
-    if at == 0 {
-        return Ok(Some(met));
-    }
-    Ok(None)
-}
-
-/// Whether symbol `i` is on the chain of a bucket, or None where the chain has no end.
-#[tactic(auto, using(crate::proofs::SysvWords::bucket_rules), unfolding(crate::specs::Sysv::bucket_has))]
-fn bucket_has<S: Source>(
-    elf: &mut Elf<S>,
-    t: SysvTable,
-    bucket: u32,
-    i: u64,
-) -> Result<Option<bool>, Stop>
-    requires takes { TakesUp elf.old.o t }
-    requires there { bucket < t.nbucket }
-    ensures { Learns S.Source (λ o. sysv.bucket_has (words o t.section.0) t bucket i)
-        result elf.old elf.new }
-{
-    match word_at(elf, t.section, 2 + u64::from(bucket)) {
-        Ok(Some(first)) => chain_has(elf, t, first, i),
-        Ok(None) => Ok(None),
+    match word_at(elf, s, i) {
+        Ok(Some(word)) => push_word(list, word),
+        Ok(None) => Ok(list),
         Err(stop) => Err(stop),
     }
 }
 
-/// Whether the chain of a bucket has an end.
-#[tactic(auto, unfolding(crate::specs::Sysv::has_end, crate::specs::Sysv::bucket_has))]
-fn has_end<S: Source>(elf: &mut Elf<S>, t: SysvTable, bucket: u32) -> Result<bool, Stop>
-    requires takes { TakesUp elf.old.o t }
-    requires there { bucket < t.nbucket }
-    ensures { Learns S.Source (λ o. let h = section_of t (words o t.section.0) in
-        sysv.has_end (words o t.section.0) t (slice_index_or h.buckets bucket 0))
-        result elf.old elf.new }
+/// The words of a section that has so many. It stops by `Read` where a read of the source failed,
+/// and by `Memory`.
+fn read_words<S: Source>(elf: &mut Elf<S>, s: ScnId, total: u64) -> Result<Words, Stop>
+    requires { total ≡ length (words elf.old.o s.0) }
+    ensures { Learns S.Source (λ o. words o s.0) result elf.old elf.new }
 {
-    match bucket_has(elf, t, bucket, 0) {
-        Ok(found) => Ok(found.is_some()),
-        Err(stop) => Err(stop),
+    let mut list = Words::new(elf.alloc());
+    for i in 0..total {
+        list = with_word(elf, s, list, i)?;
     }
-}
-
-/// Whether the chain of each bucket has an end.
-fn chains_end<S: Source>(elf: &mut Elf<S>, t: SysvTable) -> Result<bool, Stop>
-    requires { TakesUp elf.old.o t }
-    ensures { Learns S.Source (λ o. let h = section_of t (words o t.section.0) in
-        list_all (sysv.has_end (words o t.section.0) t) h.buckets) result elf.old elf.new }
-{
-    for bucket in 0..t.nbucket {
-        let ended = has_end(elf, t, bucket)?;
-        if !ended {
-            return Ok(false);
-        }
-    }
-    Ok(true)
-}
-
-/// Whether symbol `i` is on the chain of the bucket of a hash, where it is listed by one.
-#[tactic(auto, unfolding(crate::specs::Sysv::is_found))]
-fn is_found_by<S: Source>(
-    elf: &mut Elf<S>,
-    t: SysvTable,
-    listed: Option<u32>,
-    i: u64,
-) -> Result<bool, Stop>
-    requires { TakesUp elf.old.o t }
-    ensures { Learns S.Source (λ o. sysv.is_found (words o t.section.0) t listed i)
-        result elf.old elf.new }
-{
-    let Some(hash) = listed else {
-        return Ok(true);
-    };
-    match bucket_has(elf, t, hash % t.nbucket, i) {
-        Ok(Some(met)) => Ok(met),
-        Ok(None) => Ok(false),
-        Err(stop) => Err(stop),
-    }
+    Ok(list)
 }
 
 /// Whether symbol `i` is on the chain of its name's bucket, where it is listed.
-fn is_found<S: Source>(elf: &mut Elf<S>, t: SysvTable, l: Listed, i: u64) -> Result<bool, Stop>
-    requires takes { TakesUp elf.old.o t }
+fn is_found<S: Source>(
+    elf: &mut Elf<S>,
+    held: &Words,
+    t: SysvTable,
+    paths: &Paths,
+    l: Listed,
+    i: u64,
+) -> Result<bool, Stop>
+    requires takes { TakesUp held.now t }
+    requires are { ArePaths held.now t paths.now }
     requires listed { AreListed elf.old.o l }
-    ensures { Learns S.Source (λ o. sysv.is_found (words o t.section.0) t
+    ensures { Learns S.Source (λ o. sysv.is_found held.now t
         (listed_hash NameHash.Sysv o l.section.0 i) i) result elf.old elf.new }
 {
     match listed_hash(elf, NameHash::Sysv, l, i) {
-        Ok(listed) => is_found_by(elf, t, listed, i),
+        Ok(listed) => Ok(is_found_in(held, t, paths, listed, i)),
         Err(stop) => Err(stop),
     }
 }
 
 /// Whether each listed symbol is on the chain of its name's bucket.
-fn all_are_found<S: Source>(elf: &mut Elf<S>, t: SysvTable, l: Listed) -> Result<bool, Stop>
-    requires takes { TakesUp elf.old.o t }
+fn all_are_found<S: Source>(
+    elf: &mut Elf<S>,
+    held: &Words,
+    t: SysvTable,
+    paths: &Paths,
+    l: Listed,
+) -> Result<bool, Stop>
+    requires takes { TakesUp held.now t }
+    requires are { ArePaths held.now t paths.now }
     requires listed { AreListed elf.old.o l }
-    ensures { Learns S.Source (λ o. sysv.all_are_found (words o t.section.0) t
+    ensures { Learns S.Source (λ o. sysv.all_are_found held.now t
         (listed_names o l.section.0)) result elf.old elf.new }
 {
     for i in 1..l.count {
-        let found = is_found(elf, t, l, i)?;
+        let found = is_found(elf, held, t, paths, l, i)?;
         if !found {
             return Ok(false);
         }
     }
     Ok(true)
+}
+
+/// Whether the chain of each bucket has an end, and each listed symbol is on that of its name's.
+#[tactic(auto, unfolding(crate::specs::Sysv::chains_hold))]
+fn chains_hold<S: Source>(
+    elf: &mut Elf<S>,
+    held: &Words,
+    t: SysvTable,
+    l: Listed,
+) -> Result<bool, Stop>
+    requires takes { TakesUp held.now t }
+    requires listed { AreListed elf.old.o l }
+    ensures { Learns S.Source (λ o. sysv.chains_hold held.now t (listed_names o l.section.0))
+        result elf.old elf.new }
+{
+    match paths_of(elf.alloc(), held, t) {
+        Ok(Some(paths)) => all_are_found(elf, held, t, &paths, l),
+        Ok(None) => Ok(false),
+        Err(e) => Err(Stop::want_of(e)),
+    }
+}
+
+/// Whether the words of a section that begins with the two counts of a table are as many as these
+/// say, and it is whole.
+#[tactic(auto, unfolding(crate::specs::Sysv::is_whole_table))]
+fn are_whole<S: Source>(
+    elf: &mut Elf<S>,
+    held: &Words,
+    t: SysvTable,
+    l: Listed,
+) -> Result<bool, Stop>
+    requires { AreListed elf.old.o l }
+    ensures { Learns S.Source (λ o. sysv.is_whole_table held.now t (listed_names o l.section.0))
+        result elf.old elf.new }
+{
+    if !counts_are(t, held.len(), l.count) {
+        return Ok(false);
+    }
+    chains_hold(elf, held, t, l)
 }
 
 /// Whether a section that begins with the two counts of a table is whole.
@@ -246,9 +226,8 @@ fn is_whole_table<S: Source>(
     if !counts_are(t, total, l.count) {
         return Ok(false);
     }
-    match chains_end(elf, t) {
-        Ok(true) => all_are_found(elf, t, l),
-        Ok(false) => Ok(false),
+    match read_words(elf, t.section, total) {
+        Ok(held) => are_whole(elf, &held, t, l),
         Err(stop) => Err(stop),
     }
 }

@@ -3,7 +3,6 @@ use Rattle.object_output.proofs.ElfSteps.{elf_left}
 use Rattle.object_output.proofs.LearnLemmas.{learns_by, learns_after}
 use Rattle.command_objects.specs.Hashes.{elf_hash}
 use Rattle.command_objects.specs.Listed.{listed_names}
-use Rattle.lint_findings.specs.Looking.{words}
 use Rattle.lint_hashes.specs.declared.listed.NameHash.TheVariants.{Sysv}
 use Rattle.lint_hashes.specs.Listed.{listed_hash}
 use Rattle.lint_hashes.specs.Sysv.{is_found, all_are_found}
@@ -13,10 +12,10 @@ use Rattle.lint_hashes.proofs.sysv.all_are_found.Goals as goal
 
 pub loop-i-init : goal.loop-i-init
 loop-i-init g c =
-    let o = c.args.elf.now.o in
-    let w = words o c.args.t.section.0 in record {
+    let w = c.args.held.now in record {
       begun = omega arith;
-      left = λ told. after_first o c.args.l.section.0 (λ (i : ℕ) (name : List ℕ). is_found w c.args.t (Some (elf_hash name)) i);
+      left = λ told. after_first c.args.elf.now.o c.args.l.section.0
+          (λ (i : ℕ) (name : List ℕ). is_found w c.args.t (Some (elf_hash name)) i);
       elf = elf_left g.S.Source c.args.elf.now;
     }
 
@@ -25,12 +24,15 @@ loop-i-preserved g c =
     let o = c.args.elf.now.o in
     let t = c.args.t in
     let s = c.args.l.section.0 in
-    let w = words o t.section.0 in
+    let w = c.args.held.now in
     let i = c.loop-i.i in
-    let learned = learns_after g.S.Source (λ m. is_found (words m t.section.0) t (listed_hash Sysv m s i) i) (Ok c.in_ok-found.found) c.args.elf.now _ _ c.loop-i.invariant.elf c.in_ok-found.ensures in
+    let learned = learns_after g.S.Source (λ m. is_found w t (listed_hash Sysv m s i) i)
+    (Ok c.in_ok-found.found) c.args.elf.now _ _ c.loop-i.invariant.elf c.in_ok-found.ensures in
     record {
       begun = omega arith;
-      left = λ told. each_more o s Sysv (λ (k : ℕ) (hash : ℕ). is_found w t (Some hash) k) i (c.loop-i.invariant.left told) (omega (arith, c.requires.listed.count, c.loop-i-test.true))
+      left = λ told. each_more o s Sysv (λ (k : ℕ) (hash : ℕ). is_found w t (Some hash) k) i
+          (c.loop-i.invariant.left told)
+          (omega (arith, c.requires.listed.count, c.loop-i-test.true))
           (sym (found_by_hash w t (listed_hash Sysv o s i) i) ∙ sym (learned.value told) ∙ (cc));
       elf = learned.reads.elf;
     }
@@ -40,11 +42,14 @@ returns-then-not-found g c =
     let o = c.args.elf.now.o in
     let t = c.args.t in
     let s = c.args.l.section.0 in
-    let w = words o t.section.0 in
+    let w = c.args.held.now in
     let i = c.loop-i.i in
-    let learned = learns_after g.S.Source (λ m. is_found (words m t.section.0) t (listed_hash Sysv m s i) i) (Ok c.in_ok-found.found) c.args.elf.now _ _ c.loop-i.invariant.elf c.in_ok-found.ensures in
-    learns_by g.S.Source (λ m. all_are_found (words m t.section.0) t (listed_names m s)) false c.args.elf.now _ learned.reads.elf
-    (λ told. each_fails o s Sysv (λ (k : ℕ) (hash : ℕ). is_found w t (Some hash) k) i (c.loop-i.invariant.left told) (omega (arith, c.requires.listed.count, c.loop-i-test.true))
+    let learned = learns_after g.S.Source (λ m. is_found w t (listed_hash Sysv m s i) i)
+    (Ok c.in_ok-found.found) c.args.elf.now _ _ c.loop-i.invariant.elf c.in_ok-found.ensures in
+    learns_by g.S.Source (λ m. all_are_found w t (listed_names m s)) false c.args.elf.now _
+    learned.reads.elf
+    (λ told. each_fails o s Sysv (λ (k : ℕ) (hash : ℕ). is_found w t (Some hash) k) i
+    (c.loop-i.invariant.left told) (omega (arith, c.requires.listed.count, c.loop-i-test.true))
     (sym (found_by_hash w t (listed_hash Sysv o s i) i) ∙ sym (learned.value told) ∙ (cc)))
 
 pub returns : goal.returns
@@ -52,6 +57,8 @@ returns g c =
     let o = c.args.elf.now.o in
     let t = c.args.t in
     let s = c.args.l.section.0 in
-    let w = words o t.section.0 in
-    learns_by g.S.Source (λ m. all_are_found (words m t.section.0) t (listed_names m s)) true c.args.elf.now _ c.loop-i.invariant.elf
-    (λ told. each_passed o s Sysv (λ (k : ℕ) (hash : ℕ). is_found w t (Some hash) k) c.loop-i.i (c.loop-i.invariant.left told) (omega (arith, c.requires.listed.count, c.loop-i-test.false)))
+    let w = c.args.held.now in
+    learns_by g.S.Source (λ m. all_are_found w t (listed_names m s)) true c.args.elf.now _
+    c.loop-i.invariant.elf
+    (λ told. each_passed o s Sysv (λ (k : ℕ) (hash : ℕ). is_found w t (Some hash) k) c.loop-i.i
+    (c.loop-i.invariant.left told) (omega (arith, c.requires.listed.count, c.loop-i-test.false)))

@@ -3,14 +3,13 @@ use Rattle.std.specs.List.{list_all, enumerate_from}
 use Rattle.command_objects.specs.Hashes.{elf_hash}
 use Rattle.command_objects.specs.Listed.{listed_names}
 use Rattle.object_output.specs.Steps.{LeavesElf}
-use Rattle.lint_findings.specs.Looking.{words}
 use Rattle.lint_hashes.specs.Sysv.{is_found}
 use Rattle.lint_hashes.proofs.sysv.all_are_found.Given as goal
 
 abbrev pub invariant-loop-i : goal.invariant-loop-i
 invariant-loop-i g l =
-    let w = words l.initial.elf.o l.t.section.0 in
-    let test : ℕ × Option (List ℕ) → Bool = λ row. elim (row.1) [ None ↦ true | Some name ↦ is_found w l.t (Some (elf_hash name)) row.0 ] in
+    let test : ℕ × Option (List ℕ) → Bool = λ row.
+    elim (row.1) [ None ↦ true | Some name ↦ is_found l.held l.t (Some (elf_hash name)) row.0 ] in
     let rows = enumerate_from 0 (listed_names l.initial.elf.o l.l.section.0) in
     record {
       begun : 1 ≤ l.i;
