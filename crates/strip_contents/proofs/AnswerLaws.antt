@@ -33,7 +33,7 @@ use Rattle.object_making.specs.Refused.{UnreadBy}
 use Rattle.image_ranges.proofs.ImageLaws.{ranges_make_image}
 use Rattle.strip_removed.specs.Steps.{IsRemovable}
 use Rattle.strip_rebuild.specs.declared.keepers.Keeper.{Keeper}
-use Rattle.strip_rebuild.specs.Answers.{RebuildAnswers, ChecksNames, Rebuilds, IsFilled, homes_asked, filled_refusal, sections_of}
+use Rattle.strip_rebuild.specs.Answers.{RebuildAnswers, ChecksNames, Rebuilds, IsFilled, homes_asked, refusal_of, sections_of}
 use Rattle.strip_rebuild.specs.Keepers.{KeepsFor, refusal_by, index_by}
 use Rattle.strip_rebuild.specs.Makes.{AsksFor}
 use Rattle.strip_rebuild.proofs.AskLaws.{asks_nothing}
@@ -156,7 +156,7 @@ module _ {S : Type 0} (g : Ghosts S) (s : State S) (k : Keeper) (is : IsObject s
   stays : is_among k.removed.now 0 ≡ false
   stays = zero_stays s.o k.removed.now removable
 
-  pub early_answer : (e : ElfError) → UnreadBy (filled_refusal k s.o) e
+  pub early_answer : (e : ElfError) → UnreadBy (refusal_of k s.o) e
       → FileAnswers s.o.base (Err e) (file_made stated)
   early_answer e by =
       refused_answers s.o.base e s.o k.removed.now
@@ -167,9 +167,10 @@ module _ {S : Type 0} (g : Ghosts S) (s : State S) (k : Keeper) (is : IsObject s
       (sections : first_refusal (map (refusal_by k s.o) (kept_from_1 s.o k.removed.now)) ≡ None)
       (x : Contents) (has : HasContents k s x) (index count : ℕ) (index_as : index ≡ index_by k s.o)
       (count_as : count ≡ length x.headers) where
-    filled_is : filled_refusal k s.o ≡ index_beyond index count
+    filled_is : refusal_of k s.o ≡ index_beyond index count
     filled_is =
-        filled_third k s.o segments (kept_from_1 s.o k.removed.now) refl sections
+        filled_third s.o (refusal_by k s.o) (kept_from_1 s.o k.removed.now) (sections_of k s.o)
+        (index_by k s.o) segments sections
         ∙ index_is s.o (sections_of k s.o) (index_by k s.o) is
         ∙ ap (λ (i : ℕ). index_beyond i (length (sections_of k s.o))) (sym index_as)
         ∙ ap (index_beyond index) (sym (count_as ∙ contents_count k s x has))
@@ -178,7 +179,7 @@ module _ {S : Type 0} (g : Ghosts S) (s : State S) (k : Keeper) (is : IsObject s
     index_answer : (e : ElfError) → index_beyond index count ≡ Some e
         → FileAnswers s.o.base (Err e) (file_made stated)
     index_answer e refused =
-        early_answer e (unread_stated (filled_refusal k s.o) e
+        early_answer e (unread_stated (refusal_of k s.o) e
         (subst (λ (r : Option ElfError). IfSome r IsRefusal) refused (index_states index count))
         (filled_is ∙ refused))
 

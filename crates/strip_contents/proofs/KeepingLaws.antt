@@ -1,5 +1,5 @@
 -- What is kept of sections, one after another.
-use Rattle.std.proofs.Common.{◌≡◌, ◌+◌, ◌<◌, ◌≤◌, ◌^◌, ◌==◌, ℕ, Bool, true, false, List, [], ◌∷◌, ◌++◌, length, map, take, get_or, take_all, append_assoc, length-append, None, Result, Ok, Err, refl, sym, ap, ◌∙◌, subst, arith, lit<}
+use Rattle.std.proofs.Common.{◌≡◌, ◌+◌, ◌-◌, ◌<◌, ◌≤◌, ◌^◌, ◌==◌, ℕ, Bool, true, false, List, [], ◌∷◌, ◌++◌, length, map, take, get_or, take_all, append_assoc, length-append, None, Result, Ok, Err, refl, sym, ap, ◌∙◌, subst, arith, lit<}
 use Rattle.std.specs.Prelude.{All, IsTrue, IfErr, OnOk, sum_by}
 use Rattle.std.proofs.lemmas.List.{length-map, map-append, take_more}
 use Rattle.std.proofs.lemmas.List.Elements.{All-append, All-cons, All-nil}
@@ -23,7 +23,7 @@ use Rattle.strip_rebuild.specs.declared.keepers.Keeper.{Keeper}
 use Rattle.strip_rebuild.specs.Keepers.{header_by, refusal_by}
 use Rattle.strip_rebuild.specs.Makes.{AsksFor}
 use Rattle.strip_rebuild.proofs.AskLaws.{asks_as, asks_stop, asks_more, asks_nothing, asks_twice}
-use Rattle.strip_rebuild.proofs.FillLaws.{kept_none, none_passed}
+use Rattle.strip_rebuild.proofs.FillLaws.{none_passed}
 use Rattle.strip_rebuild.proofs.NumberLaws.{kept_few}
 use Rattle.strip_contents.specs.declared.contents.Contents.{Contents}
 use Rattle.strip_contents.specs.Ranges.{bytes_by, section_due, FindsRange}
@@ -293,7 +293,9 @@ module _ {S : Type 0} (g : Ghosts S) (k : Keeper) (numbers : List ℕ) (old new 
       none = λ n. (headers, sizes);
       some = λ some. absurd (some none);
     };
-    passed = none_passed k old.o numbers none at;
+    passed = none_passed old.o (refusal_by k old.o) numbers none
+        (subst (λ (l : List ℕ). length l ≤ length old.o.sections - 1) (sym at)
+        (kept_few old.o k.removed.now));
     err = tt;
     asks = asks_nothing g (Ok x) old (sections_due k old.o numbers) tt;
   }

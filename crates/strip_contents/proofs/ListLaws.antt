@@ -31,7 +31,7 @@ use Rattle.image_ranges.specs.declared.ranges.ByteRange.{ByteRange}
 use Rattle.image_ranges.specs.Ranges.{range_bytes, pieces_at}
 use Rattle.strip_rebuild.specs.declared.keepers.Keeper.{Keeper}
 use Rattle.strip_rebuild.specs.Keepers.{header_by, items_by, index_by}
-use Rattle.strip_rebuild.specs.Answers.{sections_of}
+use Rattle.strip_rebuild.specs.Answers.{filled_sections, sections_of}
 use Rattle.strip_stream.proofs.HomeLaws.{made_pieces}
 use Rattle.strip_contents.specs.declared.contents.Contents.{Contents}
 use Rattle.strip_contents.specs.Ranges.{bytes_by}
@@ -220,7 +220,7 @@ module _ (p : Object) (none : p.sections ≡ []) where
 -- ---- The sections that a keeper makes
 
 pub sections_none : (k : Keeper) (o : Object) → length o.sections ≡ 0 → sections_of k o ≡ []
-unfolding sections_of
+unfolding filled_sections
 sections_none k o none =
     ap (λ (b : Bool). if b then [] else new_section
     ∷ sections_by (header_by k o) (items_by k o) (kept_from_1 o k.removed.now))
@@ -229,7 +229,7 @@ sections_none k o none =
 pub sections_some : (k : Keeper) (o : Object) → (length o.sections ≡ 0 → ⊥)
     → sections_of k o
     ≡ new_section ∷ sections_by (header_by k o) (items_by k o) (kept_from_1 o k.removed.now)
-unfolding sections_of
+unfolding filled_sections
 sections_some k o some =
     ap (λ (b : Bool). if b then [] else new_section
     ∷ sections_by (header_by k o) (items_by k o) (kept_from_1 o k.removed.now))

@@ -20,8 +20,8 @@ use Rattle.object_making.proofs.RefusedLaws.{answer_refused}
 use Rattle.strip_removed.specs.Calls.{names_home}
 use Rattle.strip_removed.specs.Steps.{IsRemovable}
 use Rattle.strip_rebuild.specs.declared.keepers.Keeper.{Keeper}
-use Rattle.strip_rebuild.specs.Answers.{filled_refusal}
-use Rattle.strip_rebuild.specs.Keepers.{KeepsFor, header_by, refusal_by}
+use Rattle.strip_rebuild.specs.Answers.{sections_of}
+use Rattle.strip_rebuild.specs.Keepers.{KeepsFor, header_by, refusal_by, index_by}
 use Rattle.strip_rebuild.specs.Makes.{AsksFor}
 use Rattle.strip_rebuild.proofs.AskLaws.{asks_as, asks_stop, asks_more, asks_nothing, asks_twice}
 use Rattle.strip_rebuild.proofs.FillLaws.{segments_refused, sections_refused}
@@ -99,7 +99,8 @@ module _ {S : Type 0} (g : Ghosts S) (k : Keeper) (old new : State S) (is : IsOb
       record {
         answer = λ t.
             early_answer g old k is clean removable keeps e
-            (segments_refused k old.o e
+            (segments_refused old.o (refusal_by k old.o) (kept_from_1 old.o k.removed.now)
+            (sections_of k old.o) (index_by k old.o) e
             (subst (λ (m : ℕ). RefusedBy (newphdr_refusal m) e) at by));
         asks = asks_nothing g (Err e) old (sections_due k old.o numbers)
             (quiet_rose RangedPlan e (g.faults old.source) (g.faults old.source)
@@ -112,7 +113,10 @@ module _ {S : Type 0} (g : Ghosts S) (k : Keeper) (old new : State S) (is : IsOb
   sections_fail e segments at keeping = record {
     answer = λ t.
         early_answer g old k is clean removable keeps e
-        (sections_refused k old.o segments numbers e at keeping.err);
+        (sections_refused old.o (refusal_by k old.o) (kept_from_1 old.o k.removed.now)
+        (sections_of k old.o) (index_by k old.o) segments e
+        (subst (λ (l : List ℕ). UnreadBy (first_refusal (map (refusal_by k old.o) l)) e) at
+        keeping.err));
     asks = asks_stop g {T = Contents} {U = RangedPlan} e old new (sections_due k old.o numbers)
         keeping.asks;
   }

@@ -1,7 +1,8 @@
 -- What steps in a row ask for, that leave an object.
-use Rattle.std.proofs.Common.{◌≡◌, ℕ, ◌+◌, ◌≤◌, Bool, false, true, List, [], Result, Err, refl, ◌∙◌, arith}
+use Rattle.std.proofs.Common.{◌≡◌, ℕ, ◌+◌, ◌≤◌, Bool, false, true, List, [], Result, Err, refl, sym, ◌∙◌, subst, arith}
 use Rattle.std.specs.Prelude.{IsTrue}
 use Rattle.elf_types.specs.declared.errors.ElfError.{ElfError}
+use Rattle.elf_types.specs.declared.errors.ElfError.TheVariants.{Memory}
 use Rattle.elf_outside.specs.declared.sources.Source.{Ghosts}
 use Rattle.elf_outside.specs.Asks.{ReadRose}
 use Rattle.elf_outside.proofs.AskLemmas.{asks_both, asks_fewer, asks_then, read_rose_on}
@@ -79,6 +80,13 @@ module _ {S : Type 0} (g : Ghosts S) where
       taken = record { later = omega arith; no_more = omega arith };
     };
   }
+
+  -- memory is wanted at once
+  pub asks_memory : {U : Type 0} (s : State S) (n : ℕ) (e : ElfError) → e ≡ Memory
+      → AsksFor {T = U} g (Err e) s s n
+  asks_memory {U} s n e is =
+      subst (λ (d : ElfError). AsksFor {T = U} g (Err d) s s n) (sym is)
+      (asks_nothing {T = U} (Err Memory) s n tt)
 
   pub asks_twice : {T U : Type 0} (r : Result T ElfError) (q : Result U ElfError)
       (old mid new : State S) (n m : ℕ) → AsksFor g r old mid n → AsksFor g q mid new m

@@ -1,7 +1,6 @@
 -- An object that was created gets its program headers, its sections and its header.
 use Rattle.std.proofs.Common.{◌≡◌, ◌⊎◌, inl, inr, ◌+◌, ◌-◌, ◌<◌, ◌≤◌, ◌==◌, ◌&&◌, ℕ, suc, Bool, true, false, not, List, [], ◌∷◌, length, map, Option, Some, None, Result, Ok, Err, if◌then◌else◌, refl, sym, ap, ◌∙◌, subst, arith}
-use Rattle.std.specs.Prelude.{IfErr, IfSome, OnOk, nat_le, filter}
-use Rattle.std.specs.List.{range_with_len}
+use Rattle.std.specs.Prelude.{IfErr, IfSome, OnOk, nat_le}
 use Rattle.std.proofs.lemmas.Bool.{and_cases, eq-eqb, eqb-true, ne_eqb, leb-false, not-false}
 use Rattle.std.proofs.lemmas.List.{length-map}
 use Rattle.elf_types.specs.declared.constants.TheConstants.{MAX_SECTIONS}
@@ -27,7 +26,6 @@ use Rattle.elf_object.proofs.AnswerLaws.{answered_value, answered_refusal}
 use Rattle.elf_object.proofs.PassedLaws.{none_first, not_refused}
 use Rattle.elf_descriptor.specs.State.{State}
 use Rattle.elf_descriptor.specs.Edits.{StepsTo, stepped, grown, nulled}
-use Rattle.command_objects.specs.Words.{is_among}
 use Rattle.command_objects.specs.Followed.{kept_from_1}
 use Rattle.command_objects.specs.Rebuilt.{made_section, assembled, index_refusal}
 use Rattle.object_making.specs.Making.{made_sections, sections_by, AddsMade}
@@ -36,40 +34,55 @@ use Rattle.object_making.specs.Refused.{RefusedBy, UnreadBy}
 use Rattle.object_making.proofs.RefusedLaws.{alone}
 use Rattle.strip_rebuild.specs.declared.keepers.Keeper.{Keeper}
 use Rattle.strip_rebuild.specs.Keepers.{header_by, items_by, refusal_by, index_by}
-use Rattle.strip_rebuild.specs.Answers.{sections_of, filled_refusal, HasSections, IsFilled}
+use Rattle.strip_rebuild.specs.Answers.{filled_sections, filled_refusal, sections_of, refusal_of, HasSections, IsFilled}
 use Rattle.strip_rebuild.proofs.MakeLaws.{refused_unread, unread_stated, stated_quiet, quiet_rose}
-use Rattle.strip_rebuild.proofs.NumberLaws.{kept_few}
 
 -- ---- No sections
 
-pub kept_none : (o : Object) (removed : List ℕ) → length o.sections ≡ 0
-    → kept_from_1 o removed ≡ []
-unfolding kept_from_1
-kept_none o removed none =
-    ap (λ (n : ℕ). filter (λ s. not (is_among removed s)) (range_with_len 1 (n - 1))) none
+none_listed : (numbers : List ℕ) → length numbers ≤ 0 → numbers ≡ []
+none_listed [] none = refl
+none_listed (s ∷ numbers) none = absurd (omega (arith, none))
+
+-- there are no numbers then
+no_numbers : (o : Object) (numbers : List ℕ) → length o.sections ≡ 0
+    → length numbers ≤ length o.sections - 1 → numbers ≡ []
+no_numbers o numbers none few = none_listed numbers (omega (arith, none, few))
 
 same_object : (m : Object) → m.sections ≡ [] → m.header.shnum ≡ 0 → m ≡ with_sections m []
 same_object m empty count =
     ap (λ (l : List Section). record m { sections = l }) empty
     ∙ ap (λ (n : ℕ). record m { header = record m.header { shnum = n }; sections = [] }) count
 
-none_made : (k : Keeper) (o : Object) → length o.sections ≡ 0 → sections_of k o ≡ []
-unfolding sections_of
-none_made k o none =
-    ap (λ (b : Bool). if b then [] else new_section
-    ∷ sections_by (header_by k o) (items_by k o) (kept_from_1 o k.removed.now))
+none_made : (o : Object) (header : ℕ → Shdr) (items : ℕ → Items) (numbers : List ℕ)
+    → length o.sections ≡ 0 → filled_sections o header items numbers ≡ []
+unfolding filled_sections
+none_made o header items numbers none =
+    ap (λ (b : Bool). if b then [] else new_section ∷ sections_by header items numbers)
     (eq-eqb (length o.sections) 0 none)
 
-pub no_sections : {S : Type 0} (told : Bool) (k : Keeper) (o : Object) (made : State S)
-    → length o.sections ≡ 0 → made.o.sections ≡ [] → made.o.header.shnum ≡ 0
-    → HasSections told (sections_of k o) made made
-no_sections told k o made none empty count = record {
+pub has_none : {S : Type 0} (told : Bool) (stated : List Section) (made : State S) → stated ≡ []
+    → made.o.sections ≡ [] → made.o.header.shnum ≡ 0 → HasSections told stated made made
+has_none told stated made none empty count = record {
   sections = [];
   object = same_object made.o empty count;
-  long = ap (λ (l : List Section). length l) (sym (none_made k o none));
-  exact = λ t. sym (none_made k o none);
+  long = ap (λ (l : List Section). length l) (sym none);
+  exact = λ t. sym none;
   told_is = refl;
 }
+
+pub no_sections : {S : Type 0} (told : Bool) (o : Object) (header : ℕ → Shdr) (items : ℕ → Items)
+    (numbers : List ℕ) (made : State S) → length o.sections ≡ 0 → made.o.sections ≡ []
+    → made.o.header.shnum ≡ 0
+    → HasSections told (filled_sections o header items numbers) made made
+no_sections told o header items numbers made none empty count =
+    has_none told (filled_sections o header items numbers) made
+    (none_made o header items numbers none) empty count
+
+pub none_passed : (o : Object) (refusal : ℕ → Option ElfError) (numbers : List ℕ)
+    → length o.sections ≡ 0 → length numbers ≤ length o.sections - 1
+    → first_refusal (map refusal numbers) ≡ None
+none_passed o refusal numbers none few =
+    ap (λ (l : List ℕ). first_refusal (map refusal l)) (no_numbers o numbers none few)
 
 -- ---- Section 0
 
@@ -107,14 +120,12 @@ module _ {S : Type 0} (made mid : State S) (empty : made.o.sections ≡ [])
   pub null_class : mid.o.header.class ≡ made.o.header.class
   null_class = ap (λ (o : Object). o.header.class) null_made
 
-  pub null_room : (o : Object) (removed numbers : List ℕ) → IsObject o → (length o.sections ≡ 0 → ⊥)
-      → numbers ≡ kept_from_1 o removed
+  pub null_room : (o : Object) (numbers : List ℕ) → IsObject o → (length o.sections ≡ 0 → ⊥)
+      → length numbers ≤ length o.sections - 1
       → length mid.o.sections + length numbers ≤ MAX_SECTIONS
-  null_room o removed numbers ok some at =
+  null_room o numbers ok some few =
       let one : length mid.o.sections ≡ 1 = ap (λ (o : Object). length o.sections) null_made in
-      let long : length numbers ≡ length (kept_from_1 o removed) =
-      ap (λ (l : List ℕ). length l) at in
-      omega (arith, one, long, kept_few o removed, ok.section_count, some)
+      omega (arith, one, few, ok.section_count, some)
 
 -- ---- The others
 
@@ -140,32 +151,26 @@ unfolding sections_by
 stated_long header items numbers =
     length-map numbers (λ s. made_section (header s) (items s))
 
-some_made : (k : Keeper) (o : Object) → (length o.sections ≡ 0 → ⊥)
-    → sections_of k o
-    ≡ new_section ∷ sections_by (header_by k o) (items_by k o) (kept_from_1 o k.removed.now)
-unfolding sections_of
-some_made k o some =
-    ap (λ (b : Bool). if b then [] else new_section
-    ∷ sections_by (header_by k o) (items_by k o) (kept_from_1 o k.removed.now))
+some_made : (o : Object) (header : ℕ → Shdr) (items : ℕ → Items) (numbers : List ℕ)
+    → (length o.sections ≡ 0 → ⊥)
+    → filled_sections o header items numbers ≡ new_section ∷ sections_by header items numbers
+unfolding filled_sections
+some_made o header items numbers some =
+    ap (λ (b : Bool). if b then [] else new_section ∷ sections_by header items numbers)
     (ne_eqb (length o.sections) 0 some)
 
 more_made : (m : Object) (l : List Section)
     → with_more (with_sections m (new_section ∷ [])) l ≡ with_sections m (new_section ∷ l)
 more_made m l = refl
 
-pub all_sections_made : {S : Type 0} (told : Bool) (k : Keeper) (o : Object) (numbers : List ℕ)
-    (made mid new : State S) → (length o.sections ≡ 0 → ⊥)
-    → numbers ≡ kept_from_1 o k.removed.now
+pub all_sections_made : {S : Type 0} (told : Bool) (o : Object) (header : ℕ → Shdr)
+    (items : ℕ → Items) (numbers : List ℕ) (made mid new : State S) → (length o.sections ≡ 0 → ⊥)
     → mid.o ≡ with_sections made.o (new_section ∷ []) → mid.told ≡ made.told
-    → AddsMade told (header_by k o) (items_by k o) numbers mid new
-    → HasSections told (sections_of k o) made new
-all_sections_made {S} told k o numbers made mid new some at mid_is mid_told adds =
-    let header = header_by k o in
-    let items = items_by k o in
+    → AddsMade told header items numbers mid new
+    → HasSections told (filled_sections o header items numbers) made new
+all_sections_made {S} told o header items numbers made mid new some mid_is mid_told adds =
     let rest = made_sections (map header numbers) adds.contents in
-    let stated : sections_of k o ≡ new_section ∷ sections_by header items numbers =
-    some_made k o some
-    ∙ ap (λ (l : List ℕ). new_section ∷ sections_by header items l) (sym at) in
+    let stated = some_made o header items numbers some in
     record {
       sections = new_section ∷ rest;
       object = adds.state.object
@@ -186,14 +191,6 @@ all_sections_made {S} told k o numbers made mid new some at mid_is mid_told adds
 
 -- ---- Refusals, one after another
 
-filled_first : (k : Keeper) (o : Object) (e : ElfError) → newphdr_refusal (length o.phdrs) ≡ Some e
-    → filled_refusal k o ≡ Some e
-unfolding filled_refusal
-filled_first k o e is =
-    ap (λ (r : Option ElfError). first_refusal (r
-    ∷ first_refusal (map (refusal_by k o) (kept_from_1 o k.removed.now))
-    ∷ index_refusal o (sections_of k o) (index_by k o) ∷ [])) is
-
 unread_by : (r q : Option ElfError) (e : ElfError) → (r ≡ Some e → q ≡ Some e) → UnreadBy r e
     → UnreadBy q e
 unread_by r q Memory behind by = tt
@@ -201,42 +198,44 @@ unread_by r q Read behind by = tt
 unread_by r q Write behind by = by
 unread_by r q e behind by = behind by
 
-pub segments_refused : (k : Keeper) (o : Object) (e : ElfError)
-    → RefusedBy (newphdr_refusal (length o.phdrs)) e → UnreadBy (filled_refusal k o) e
-segments_refused k o e by =
-    unread_by (newphdr_refusal (length o.phdrs)) (filled_refusal k o) e (filled_first k o e)
-    (refused_unread (newphdr_refusal (length o.phdrs)) e by)
-
-module _ (k : Keeper) (o : Object) (segments : newphdr_refusal (length o.phdrs) ≡ None) where
-  filled_second : filled_refusal k o
-      ≡ first_refusal (first_refusal (map (refusal_by k o) (kept_from_1 o k.removed.now))
-      ∷ index_refusal o (sections_of k o) (index_by k o) ∷ [])
+module _ (o : Object) (refusal : ℕ → Option ElfError) (numbers : List ℕ)
+    (sections : List Section) (index : ℕ) where
+  filled_first : (e : ElfError) → newphdr_refusal (length o.phdrs) ≡ Some e
+      → filled_refusal o refusal numbers sections index ≡ Some e
   unfolding filled_refusal
-  filled_second =
-      ap (λ (r : Option ElfError). first_refusal (r
-      ∷ first_refusal (map (refusal_by k o) (kept_from_1 o k.removed.now))
-      ∷ index_refusal o (sections_of k o) (index_by k o) ∷ [])) segments
+  filled_first e is =
+      ap (λ (r : Option ElfError). first_refusal (r ∷ first_refusal (map refusal numbers)
+      ∷ index_refusal o sections index ∷ [])) is
 
-  pub sections_refused : (numbers : List ℕ) (e : ElfError)
-      → numbers ≡ kept_from_1 o k.removed.now
-      → UnreadBy (first_refusal (map (refusal_by k o) numbers)) e
-      → UnreadBy (filled_refusal k o) e
-  sections_refused numbers e at by =
-      unread_by (first_refusal (map (refusal_by k o) numbers)) (filled_refusal k o) e
-      (λ is. filled_second
-      ∙ ap (λ (r : Option ElfError). first_refusal (r
-      ∷ index_refusal o (sections_of k o) (index_by k o) ∷ []))
-      (ap (λ (l : List ℕ). first_refusal (map (refusal_by k o) l)) (sym at) ∙ is)) by
+  pub segments_refused : (e : ElfError) → RefusedBy (newphdr_refusal (length o.phdrs)) e
+      → UnreadBy (filled_refusal o refusal numbers sections index) e
+  segments_refused e by =
+      unread_by (newphdr_refusal (length o.phdrs)) (filled_refusal o refusal numbers sections index)
+      e (filled_first e) (refused_unread (newphdr_refusal (length o.phdrs)) e by)
 
-  pub filled_third : (numbers : List ℕ) → numbers ≡ kept_from_1 o k.removed.now
-      → first_refusal (map (refusal_by k o) numbers) ≡ None
-      → filled_refusal k o ≡ index_refusal o (sections_of k o) (index_by k o)
-  filled_third numbers at none =
-      filled_second
-      ∙ ap (λ (r : Option ElfError). first_refusal (r
-      ∷ index_refusal o (sections_of k o) (index_by k o) ∷ []))
-      (ap (λ (l : List ℕ). first_refusal (map (refusal_by k o) l)) (sym at) ∙ none)
-      ∙ alone (index_refusal o (sections_of k o) (index_by k o))
+  module _ (segments : newphdr_refusal (length o.phdrs) ≡ None) where
+    filled_second : filled_refusal o refusal numbers sections index
+        ≡ first_refusal (first_refusal (map refusal numbers) ∷ index_refusal o sections index ∷ [])
+    unfolding filled_refusal
+    filled_second =
+        ap (λ (r : Option ElfError). first_refusal (r ∷ first_refusal (map refusal numbers)
+        ∷ index_refusal o sections index ∷ [])) segments
+
+    pub sections_refused : (e : ElfError) → UnreadBy (first_refusal (map refusal numbers)) e
+        → UnreadBy (filled_refusal o refusal numbers sections index) e
+    sections_refused e by =
+        unread_by (first_refusal (map refusal numbers))
+        (filled_refusal o refusal numbers sections index) e
+        (λ is. filled_second
+        ∙ ap (λ (r : Option ElfError). first_refusal (r ∷ index_refusal o sections index ∷ [])) is)
+        by
+
+    pub filled_third : first_refusal (map refusal numbers) ≡ None
+        → filled_refusal o refusal numbers sections index ≡ index_refusal o sections index
+    filled_third none =
+        filled_second
+        ∙ ap (λ (r : Option ElfError). first_refusal (r ∷ index_refusal o sections index ∷ [])) none
+        ∙ alone (index_refusal o sections index)
 
 -- ---- The header
 
@@ -377,13 +376,6 @@ pub on_ok : {T A B : Type 0} (r : Result T ElfError) → (A → B) → OnOk r A 
 on_ok (Ok x) f is = f is
 on_ok (Err e) f is = tt
 
-pub none_passed : (k : Keeper) (o : Object) (numbers : List ℕ) → length o.sections ≡ 0
-    → numbers ≡ kept_from_1 o k.removed.now
-    → first_refusal (map (refusal_by k o) numbers) ≡ None
-none_passed k o numbers none at =
-    ap (λ (l : List ℕ). first_refusal (map (refusal_by k o) l))
-    (at ∙ kept_none o k.removed.now none)
-
 module _ {S : Type 0} (o : Object) (made mid : State S)
     (is : mid ≡ stepped (calls.phdrs_mut o.phdrs) made) where
   pub segments_empty : made.o.sections ≡ [] → mid.o.sections ≡ []
@@ -412,36 +404,59 @@ header_states m h =
     by false true = tt
     by false false = tt
 
--- the refusal of the header is the last one
-module _ (k : Keeper) (o : Object) (numbers : List ℕ) (at : numbers ≡ kept_from_1 o k.removed.now)
-    (segments : newphdr_refusal (length o.phdrs) ≡ None)
-    (before : first_refusal (map (refusal_by k o) numbers) ≡ None) (q : Option ElfError)
-    (states : IfSome q IsRefusal) (index : ℕ) (index_is : index ≡ index_by k o)
-    (same : q ≡ index_refusal o (sections_of k o) index) where
-  index_last : q ≡ filled_refusal k o
-  index_last =
-      same ∙ ap (index_refusal o (sections_of k o)) index_is
-      ∙ sym (filled_third k o segments numbers at before)
-
-  pub passed_on : (r : Result (Unit {0}) ElfError) → r ≡ answered q tt
-      → OnOk r (filled_refusal k o ≡ None)
-  passed_on (Ok u) answer = sym index_last ∙ (answered_value q tt u (sym answer)).0
-  passed_on (Err e) answer = tt
-
-  stated_refusal : (e : ElfError) → ◌≡◌ {A = Result (Unit {0}) ElfError} (Err e) (answered q tt)
+-- what an answer refuses is no want of memory and no fault
+module _ (q : Option ElfError) (states : IfSome q IsRefusal) where
+  pub stated_answer : (e : ElfError) → ◌≡◌ {A = Result (Unit {0}) ElfError} (Err e) (answered q tt)
       → IsRefusal e
-  stated_refusal e answer =
+  stated_answer e answer =
       subst (λ (x : Option ElfError). IfSome x IsRefusal) (answered_refusal q tt e (sym answer))
       states
-
-  pub refused_on : (r : Result (Unit {0}) ElfError) → r ≡ answered q tt
-      → IfErr r (UnreadBy (filled_refusal k o))
-  refused_on (Ok u) answer = tt
-  refused_on (Err e) answer =
-      unread_stated (filled_refusal k o) e (stated_refusal e answer)
-      (sym index_last ∙ answered_refusal q tt e (sym answer))
 
   pub rose_on : (r : Result (Unit {0}) ElfError) (a b : ℕ) → r ≡ answered q tt → ReadRose r a b
   rose_on (Ok u) a b answer = tt
   rose_on (Err e) a b answer =
-      quiet_rose (Unit {0}) e a b (stated_quiet e (stated_refusal e answer))
+      quiet_rose (Unit {0}) e a b (stated_quiet e (stated_answer e answer))
+
+-- the refusal of the header is the last one
+module _ (o : Object) (refusal : ℕ → Option ElfError) (numbers : List ℕ) (sections : List Section)
+    (index : ℕ) (segments : newphdr_refusal (length o.phdrs) ≡ None)
+    (before : first_refusal (map refusal numbers) ≡ None) (q : Option ElfError)
+    (states : IfSome q IsRefusal) (same : q ≡ index_refusal o sections index) where
+  index_last : q ≡ filled_refusal o refusal numbers sections index
+  index_last = same ∙ sym (filled_third o refusal numbers sections index segments before)
+
+  pub passed_on : (r : Result (Unit {0}) ElfError) → r ≡ answered q tt
+      → OnOk r (filled_refusal o refusal numbers sections index ≡ None)
+  passed_on (Ok u) answer = sym index_last ∙ (answered_value q tt u (sym answer)).0
+  passed_on (Err e) answer = tt
+
+  pub refused_on : (r : Result (Unit {0}) ElfError) → r ≡ answered q tt
+      → IfErr r (UnreadBy (filled_refusal o refusal numbers sections index))
+  refused_on (Ok u) answer = tt
+  refused_on (Err e) answer =
+      unread_stated (filled_refusal o refusal numbers sections index) e
+      (stated_answer q states e answer)
+      (sym index_last ∙ answered_refusal q tt e (sym answer))
+
+-- ---- By a keeper
+
+module _ (k : Keeper) (o : Object) (numbers : List ℕ) (index : ℕ)
+    (at : numbers ≡ kept_from_1 o k.removed.now) (index_is : index ≡ index_by k o) where
+  pub refusal_kept : filled_refusal o (refusal_by k o) numbers
+      (filled_sections o (header_by k o) (items_by k o) numbers) index
+      ≡ refusal_of k o
+  refusal_kept =
+      ap (λ (l : List ℕ). filled_refusal o (refusal_by k o) l
+      (filled_sections o (header_by k o) (items_by k o) l) index) at
+      ∙ ap (filled_refusal o (refusal_by k o) (kept_from_1 o k.removed.now) (sections_of k o))
+      index_is
+
+  pub filled_kept : {S : Type 0} (told : Bool) (made new : State S)
+      (r : Result (Unit {0}) ElfError)
+      → OnOk r (IsFilled told o index (filled_sections o (header_by k o) (items_by k o) numbers)
+      made new)
+      → OnOk r (IsFilled told o (index_by k o) (sections_of k o) made new)
+  filled_kept told made new r is =
+      subst (λ (i : ℕ). OnOk r (IsFilled told o i (sections_of k o) made new)) index_is
+      (subst (λ (l : List ℕ). OnOk r (IsFilled told o index
+      (filled_sections o (header_by k o) (items_by k o) l) made new)) at is)

@@ -37,7 +37,7 @@ use Rattle.strip_rebuild.specs.declared.naming.Names.TheVariants.{Stay, Anew, To
 use Rattle.strip_rebuild.specs.declared.keepers.Keeper.{Keeper}
 use Rattle.strip_rebuild.specs.Homes.{decoded_refusal, home_refusal}
 use Rattle.strip_rebuild.specs.Keepers.{indexes_by, follows_by, kept_refusal_by, refusal_or_none, refusal_by, reads_by, index_by, header_by, items_by, RenewsAs, KeepsFor}
-use Rattle.strip_rebuild.specs.Answers.{early_refusal, kept_reads, kept_homes, sections_of, filled_refusal}
+use Rattle.strip_rebuild.specs.Answers.{early_refusal, kept_reads, kept_homes, filled_sections, filled_refusal, sections_of, refusal_of}
 use Rattle.strip_rebuild.proofs.CleanLaws.{clean_piece, clean_kind}
 use Rattle.strip_rebuild.proofs.HomeLaws.{no_section_there, raw_there}
 use Rattle.strip_rebuild.proofs.NumberLaws.{first_among, kept_with_0}
@@ -403,7 +403,7 @@ module _ (told : Bool) (o : Object) (k : Keeper) (keeps : KeepsFor told o k)
   index_told = ap (λ (m : Renumbering). followed m o.header.shstrndx) keeps.numbering_is
 
   pub count_told : length (sections_of k o) ≡ length (rebuilt_sections o k.removed.now)
-  unfolding sections_of rebuilt_sections
+  unfolding filled_sections rebuilt_sections
   count_told =
       by_test (length o.sections == 0)
       ∙ sym (length-map (if length o.sections == 0 then []
@@ -420,7 +420,7 @@ module _ (told : Bool) (o : Object) (k : Keeper) (keeps : KeepsFor told o k)
           ap suc (sections_long (header_by k o) (items_by k o) (kept_from_1 o k.removed.now))
 
   pub early_told : IsObject o → is_dirty o ≡ false
-      → filled_refusal k o ≡ early_refusal o k.removed.now
+      → refusal_of k o ≡ early_refusal o k.removed.now
   unfolding filled_refusal early_refusal
   early_told is clean =
       let kept = kept_from_1 o k.removed.now in

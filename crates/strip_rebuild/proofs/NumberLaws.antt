@@ -6,6 +6,7 @@ use Rattle.std.proofs.lemmas.Bool.{ne_eqb, eq-eqb, cases_eq, or_right}
 use Rattle.std.proofs.lemmas.List.Elements.{filter-append, All-filter}
 use Rattle.std.proofs.lemmas.List.FromFn.{get_or-range_with_len, length-range_with_len}
 use Rattle.elf_object.specs.Object.{Object}
+use Rattle.elf_object.specs.Due.{all_sections}
 use Rattle.elf_object.specs.Layout.{section_numbers}
 use Rattle.command_objects.specs.Words.{is_among}
 use Rattle.command_objects.specs.Followed.{kept_from_1, kept_sections, renumbering}
@@ -74,7 +75,7 @@ kept_there o removed =
     omega (arith, at, long, below))
 
 -- there are fewer than sections
-filter_few : (p : ℕ → Bool) (l : List ℕ) → length (filter p l) ≤ length l
+pub filter_few : (p : ℕ → Bool) (l : List ℕ) → length (filter p l) ≤ length l
 filter_few p [] = omega arith
 filter_few p (x ∷ l) = by_test (p x) (filter_few p l)
   where
@@ -92,6 +93,20 @@ kept_few o removed =
       filter_few (λ s. not (is_among removed s)) (section_numbers o),
       length-range_with_len 1 (length o.sections - 1),
     )
+
+-- where nothing is removed all are kept
+all_stay : (l : List ℕ) → filter (λ s. not (is_among [] s)) l ≡ l
+unfolding is_among
+all_stay [] = refl
+all_stay (s ∷ l) = ap (λ (t : List ℕ). s ∷ t) (all_stay l)
+
+pub numbers_all : (o : Object) → kept_from_1 o [] ≡ section_numbers o
+unfolding kept_from_1
+numbers_all o = all_stay (section_numbers o)
+
+pub sections_all : (o : Object) → kept_sections o [] ≡ all_sections o
+unfolding kept_sections
+sections_all o = all_stay (all_sections o)
 
 -- ---- Section 0 stays
 

@@ -35,7 +35,7 @@ use Rattle.strip_rebuild.specs.declared.naming.Names.TheVariants as names
 use Rattle.strip_rebuild.specs.declared.keepers.Keeper.{Keeper}
 use Rattle.strip_rebuild.specs.Makes.{AsksFor}
 use Rattle.strip_rebuild.specs.Keepers.{index_by, reads_by, RenewsAs, AreNames, KeepsFor}
-use Rattle.strip_rebuild.specs.Answers.{RebuildAnswers, EarlyBy, early_refusal, homes_asked, sections_of, filled_refusal, IsFilled, ChecksNames, Rebuilds}
+use Rattle.strip_rebuild.specs.Answers.{RebuildAnswers, EarlyBy, early_refusal, homes_asked, sections_of, refusal_of, IsFilled, ChecksNames, Rebuilds}
 use Rattle.strip_rebuild.proofs.AskLaws.{asks_as, asks_stop}
 use Rattle.strip_rebuild.proofs.NumberLaws.{zero_stays}
 use Rattle.strip_rebuild.proofs.KeptLaws.{none_among, among_any, homes_told, early_told, index_told}
@@ -43,14 +43,14 @@ use Rattle.strip_rebuild.proofs.SectionLaws.{sections_told}
 
 -- ---- No early refusal is TooLarge
 
-abbrev IsSmall : ElfError → Type 0
+abbrev pub IsSmall : ElfError → Type 0
 IsSmall TooLarge = ⊥
 IsSmall e = Unit {0}
 
-abbrev AreSmall : Option ElfError → Type 0
+abbrev pub AreSmall : Option ElfError → Type 0
 AreSmall r = IfSome r IsSmall
 
-small_if : (b : Bool) (e : ElfError) → IsSmall e → AreSmall (refused_if b e)
+pub small_if : (b : Bool) (e : ElfError) → IsSmall e → AreSmall (refused_if b e)
 small_if true e is = is
 small_if false e is = tt
 
@@ -86,7 +86,7 @@ small_data o s =
     by None = small_content o s
     by (Some items) = tt
 
-small_raw : (o : Object) (s : ℕ) → AreSmall (raw_refusal o s)
+pub small_raw : (o : Object) (s : ℕ) → AreSmall (raw_refusal o s)
 unfolding raw_refusal
 small_raw o s =
     small_then (no_section o s) (out_of_file o s ∷ [])
@@ -111,7 +111,7 @@ small_all : (f : ℕ → Option ElfError) (l : List ℕ) → ((s : ℕ) → AreS
 small_all f [] each = tt
 small_all f (s ∷ l) each = small_then (f s) (map f l) (each s) (small_all f l each)
 
-small_index : (o : Object) (sections : List Section) (index : ℕ)
+pub small_index : (o : Object) (sections : List Section) (index : ℕ)
     → AreSmall (index_refusal o sections index)
 unfolding index_refusal update_ehdr_refusal
 small_index o sections index =
@@ -189,12 +189,12 @@ module _ (o : Object) (removed : List ℕ) where
   answers_early e by = rebuilt_refused e (refused_early e by)
 
 -- want of memory and failed reads are answered by anything
-pub faults_answer : (e : ElfError) (stated : Result Rebuilt ElfError) → (e ≡ Memory) ⊎ (e ≡ Read)
-    → RebuildAnswers (Err e) stated
-faults_answer e stated (inl is) =
-    subst (λ (x : ElfError). RebuildAnswers (Err x) stated) (sym is) tt
-faults_answer e stated (inr is) =
-    subst (λ (x : ElfError). RebuildAnswers (Err x) stated) (sym is) tt
+pub faults_answer : {A : Type 0} (e : ElfError) (stated : Result A ElfError)
+    → (e ≡ Memory) ⊎ (e ≡ Read) → RebuildAnswers (Err e) stated
+faults_answer {A} e stated (inl is) =
+    subst (λ (x : ElfError). RebuildAnswers {A = A} (Err x) stated) (sym is) tt
+faults_answer {A} e stated (inr is) =
+    subst (λ (x : ElfError). RebuildAnswers {A = A} (Err x) stated) (sym is) tt
 
 pub faults_early : (e : ElfError) (stated : Option ElfError) → (e ≡ Memory) ⊎ (e ≡ Read)
     → EarlyBy stated e
@@ -231,6 +231,31 @@ tail_within o removed tail is =
     subst (λ (t : Option ℕ). IfSome t (λ n. n ≤ length o.base)) (sym is)
     (least (is_program o) (length o.base) _)
 
+-- ---- Places
+
+-- a refusal of a place is that it is too large
+pub arrange_large : (o : Object) (t : Option ℕ) (e : ElfError)
+    → ◌≡◌ {A = Result (Unit {0}) ElfError} (Err e) (answered (arranged_refusal o t) tt)
+    → e ≡ TooLarge
+unfolding tail_refusal
+arrange_large o None e came = cc
+arrange_large o (Some n) e came = by _ came
+  where
+    by : (b : Bool)
+        → ◌≡◌ {A = Result (Unit {0}) ElfError} (Err e) (answered (refused_if b TooLarge) tt)
+        → e ≡ TooLarge
+    by true same = cc
+    by false same = cc
+
+pub placed_told : {M : Type 0} (s : State M) (t : Option ℕ) → (arranged_state s t).told ≡ s.told
+placed_told s None = refl
+placed_told s (Some n) = by (length s.o.sections == 0)
+  where
+    by : (b : Bool)
+        → (if b then s else record s { o = placed_from s.o n; ready = false }).told ≡ s.told
+    by true = refl
+    by false = refl
+
 -- ---- The steps
 
 module _ {S : Type 0} (g : Ghosts S) (old new : State S) (k : Keeper) (is : IsObject old.o)
@@ -243,7 +268,7 @@ module _ {S : Type 0} (g : Ghosts S) (old new : State S) (k : Keeper) (is : IsOb
   stays : is_among k.removed.now 0 ≡ false
   stays = zero_stays old.o k.removed.now removable
 
-  early_is : filled_refusal k old.o ≡ early_refusal old.o k.removed.now
+  early_is : refusal_of k old.o ≡ early_refusal old.o k.removed.now
   early_is = early_told old.told old.o k keeps stays is clean
 
   pub homes_are : {T : Type 0} (r : Result T ElfError) (numbers : List ℕ)
@@ -255,7 +280,7 @@ module _ {S : Type 0} (g : Ghosts S) (old new : State S) (k : Keeper) (is : IsOb
       (ap (flat_map (reads_by k old.o)) at ∙ homes_told old.told old.o k keeps is clean) asks
 
   -- it can not be filled
-  pub fill_refused : {T : Type 0} (e : ElfError) → UnreadBy (filled_refusal k old.o) e
+  pub fill_refused : {T : Type 0} (e : ElfError) → UnreadBy (refusal_of k old.o) e
       → AsksFor {T = Unit {0}} g (Err e) old new (homes_asked old.o k.removed.now)
       → Whole T (Err e) (Err e)
   fill_refused {T} e by asks =
@@ -267,7 +292,7 @@ module _ {S : Type 0} (g : Ghosts S) (old new : State S) (k : Keeper) (is : IsOb
         asks = asks_stop g {T = Unit {0}} {U = T} e old new (homes_asked old.o k.removed.now) asks;
       }
 
-  module _ (passed : filled_refusal k old.o ≡ None)
+  module _ (passed : refusal_of k old.o ≡ None)
       (asked : AsksFor {T = Unit {0}} g (Ok tt) old new (homes_asked old.o k.removed.now)) where
     passes : early_refusal old.o k.removed.now ≡ None
     passes = sym early_is ∙ passed
@@ -373,30 +398,6 @@ module _ {S : Type 0} (g : Ghosts S) (old new : State S) (k : Keeper) (is : IsOb
           (sym (object_is t))
           ∙ ap (λ (n : Option ℕ). arranged (made_of filled.o n)) (sym tail_is)
 
-      -- a refusal of a place is that it is too large
-      arrange_large : (t : Option ℕ) (e : ElfError)
-          → ◌≡◌ {A = Result (Unit {0}) ElfError} (Err e) (answered (arranged_refusal filled.o t) tt)
-          → e ≡ TooLarge
-      unfolding tail_refusal
-      arrange_large None e came = cc
-      arrange_large (Some n) e came = by _ came
-        where
-          by : (b : Bool)
-              → ◌≡◌ {A = Result (Unit {0}) ElfError} (Err e) (answered (refused_if b TooLarge) tt)
-              → e ≡ TooLarge
-          by true same = cc
-          by false same = cc
-
-      placed_told : (t : Option ℕ) → (arranged_state filled t).told ≡ filled.told
-      placed_told None = refl
-      placed_told (Some n) = by (length filled.o.sections == 0)
-        where
-          by : (b : Bool)
-              → (if b then filled else record filled { o = placed_from filled.o n; ready = false }).told
-              ≡ filled.told
-          by true = refl
-          by false = refl
-
       pub placed_whole : (r : Result (Unit {0}) ElfError)
           → result_map (λ u. made_of placed.o tail) r ≡ arranged (made_of filled.o tail)
           → r ≡ answered (arranged_refusal filled.o tail) tt
@@ -407,7 +408,7 @@ module _ {S : Type 0} (g : Ghosts S) (old new : State S) (k : Keeper) (is : IsOb
         asks = asked;
       }
       placed_whole (Err e) came answer =
-          let large = arrange_large tail e answer in
+          let large = arrange_large filled.o tail e answer in
           subst (λ (d : ElfError). Whole (Unit {0}) (Err d) (Err d)) (sym large) (record {
             answer = λ t. stated_is t ∙ sym came ∙ ap (λ (d : ElfError). Err d) large;
             early = passes;
@@ -420,5 +421,5 @@ module _ {S : Type 0} (g : Ghosts S) (old new : State S) (k : Keeper) (is : IsOb
           → OnOk r (placed.told ≡ true)
       placed_made (Ok u) steps =
           ap (λ (s : State M). s.told) steps
-          ∙ placed_told tail ∙ is_filled.told_is ∙ created.made_is.told
+          ∙ placed_told filled tail ∙ is_filled.told_is ∙ created.made_is.told
       placed_made (Err e) steps = tt

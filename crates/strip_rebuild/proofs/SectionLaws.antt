@@ -32,7 +32,7 @@ use Rattle.strip_rebuild.specs.declared.naming.Names.TheVariants.{Stay, Anew, To
 use Rattle.strip_rebuild.specs.declared.keepers.Keeper.{Keeper}
 use Rattle.strip_rebuild.specs.Homes.{or_empty_items, decoded_items, home_items, home_refusal, or_none, is_there, words_at_home, syms_at_home, words_found, syms_found}
 use Rattle.strip_rebuild.specs.Keepers.{name_by, header_by, symbols_by, group_by, words_by, kept_by, items_or_names, items_by, indexes_by, RenewsAs, AreNames, KeepsFor}
-use Rattle.strip_rebuild.specs.Answers.{sections_of}
+use Rattle.strip_rebuild.specs.Answers.{filled_sections, sections_of}
 use Rattle.strip_rebuild.proofs.CleanLaws.{clean_piece, clean_kind}
 use Rattle.strip_rebuild.proofs.HomeLaws.{raw_there}
 use Rattle.strip_rebuild.proofs.NumberLaws.{kept_with_0}
@@ -315,7 +315,7 @@ module _ (o : Object) (k : Keeper) (keeps : KeepsFor true o k) (is : IsObject o)
 
   pub sections_told : is_among k.removed.now 0 ≡ false → k.names ≢ TooLarge
       → sections_of k o ≡ rebuilt_sections o k.removed.now
-  unfolding sections_of sections_by rebuilt_sections rebuilt_section
+  unfolding filled_sections sections_by rebuilt_sections rebuilt_section
   sections_told stays fits =
       ap (λ (l : List Section). if length o.sections == 0 then [] else new_section ∷ l)
       (map_members (λ s. made_section (header_by k o s) (items_by k o s))

@@ -2,10 +2,12 @@
 use Rattle.std.specs.Prelude.{◌≡◌, ◌⊎◌, ◌<◌, ◌+◌, ℕ, ◌==◌, Bool, List, [], ◌∷◌, length, unwrap_or, if◌then◌else◌, map, Option, Some, None, Result, Ok, Err, IsTrue, IfErr}
 use Rattle.std.specs.List.{flat_map}
 use Rattle.elf_types.specs.Answers.{first_refusal}
+use Rattle.elf_types.specs.declared.records.Shdr.{Shdr}
 use Rattle.elf_types.specs.declared.errors.ElfError.{ElfError}
 use Rattle.elf_types.specs.declared.errors.ElfError.TheVariants as errors
 use Rattle.elf_types.specs.declared.errors.ElfError.TheVariants.{Memory, Read, Write}
 use Rattle.elf_outside.specs.declared.sources.Source.{Ghosts}
+use Rattle.elf_xlate.specs.declared.content.Items.{Items}
 use Rattle.elf_object.specs.Object.{Object, Section, new_section}
 use Rattle.elf_object.specs.Calls.{newphdr_refusal}
 use Rattle.elf_object.specs.Due.{homes_due}
@@ -26,7 +28,7 @@ use Rattle.strip_rebuild.specs.Makes.{AsksFor}
 -- ---- Answers
 
 -- over a source that tells its bytes: as stated, but for want of memory and failed reads
-abbrev pub RebuildAnswers : Result Rebuilt ElfError → Result Rebuilt ElfError → Type 0
+abbrev pub RebuildAnswers : {A : Type 0} → Result A ElfError → Result A ElfError → Type 0
 RebuildAnswers (Ok r) stated = stated ≡ Ok r
 RebuildAnswers (Err Memory) stated = Unit {0}
 RebuildAnswers (Err Read) stated = Unit {0}
@@ -74,20 +76,29 @@ made_due o removed = unwrap_or (rebuilt_tail o removed) 0 + homes_asked o remove
 unfoldable pub rebuild_due : Object → List ℕ → ℕ
 rebuild_due o removed = homes_due o [] (names_home o) + made_due o removed
 
--- ---- What is filled in, by a keeper
+-- ---- What is filled in
 
--- section 0, where there are sections, and what is made of each section that is kept
-unfoldable pub sections_of : Keeper → Object → List Section
-sections_of k o =
-    if length o.sections == 0 then []
-    else new_section ∷ sections_by (header_by k o) (items_by k o) (kept_from_1 o k.removed.now)
+-- section 0, where there are sections, and what is made of those with these numbers
+unfoldable pub filled_sections : Object → (ℕ → Shdr) → (ℕ → Items) → List ℕ → List Section
+filled_sections o header items numbers =
+    if length o.sections == 0 then [] else new_section ∷ sections_by header items numbers
 
-unfoldable pub filled_refusal : Keeper → Object → Option ElfError
-filled_refusal k o = first_refusal
+unfoldable pub filled_refusal : Object → (ℕ → Option ElfError) → List ℕ → List Section → ℕ
+    → Option ElfError
+filled_refusal o refusal numbers sections index = first_refusal
     (newphdr_refusal (length o.phdrs)
-    ∷ first_refusal (map (refusal_by k o) (kept_from_1 o k.removed.now))
-    ∷ index_refusal o (sections_of k o) (index_by k o)
+    ∷ first_refusal (map refusal numbers)
+    ∷ index_refusal o sections index
     ∷ [])
+
+-- by a keeper
+abbrev pub sections_of : Keeper → Object → List Section
+sections_of k o =
+    filled_sections o (header_by k o) (items_by k o) (kept_from_1 o k.removed.now)
+
+abbrev pub refusal_of : Keeper → Object → Option ElfError
+refusal_of k o =
+    filled_refusal o (refusal_by k o) (kept_from_1 o k.removed.now) (sections_of k o) (index_by k o)
 
 -- an object got sections, as many as are stated, and these over a source that tells its bytes
 pub record HasSections {S : Type 0} (told : Bool) (stated : List Section) (old new : State S)

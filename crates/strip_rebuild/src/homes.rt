@@ -79,8 +79,11 @@ pub(crate) fn home_items<S: Source>(elf: &mut Elf<S>, s: ScnId) -> Result<Items,
     }
 }
 
-/// A section's home as it is. It refuses `OutOfFile`; and `Memory` and `Read`.
-pub(crate) fn bytes_at_home<S: Source>(elf: &mut Elf<S>, s: ScnId) -> Result<Items, ElfError>
+/// A section's home as it is, as items. It refuses in this order: `NoSection`, `OutOfFile`; and
+/// `Memory` and `Read`. It leaves the object, and reads the home at the first use.
+///
+/// Source: elf_rawdata of elf(3E).
+pub fn bytes_at_home<S: Source>(elf: &mut Elf<S>, s: ScnId) -> Result<Items, ElfError>
     ensures { Makes S.Source (λ o. bytes_at_home o s.0) FitsAs (λ o. raw_refusal o s.0)
         (λ o. s.0 ∷ []) result elf.old elf.new }
 {

@@ -14,6 +14,8 @@ mod numbers;
 mod rebuilding;
 mod tails;
 
+pub use filling::fill;
+pub use homes::bytes_at_home;
 pub use keepers::Keeper;
 pub use keeping::keep_sections;
 pub use naming::{Names, check_names};

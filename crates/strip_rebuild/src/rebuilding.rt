@@ -12,7 +12,7 @@ ghost use Rattle.strip_rebuild.specs.Answers.{RebuildAnswers, EarlyBy, early_ref
 ghost use Rattle.strip_rebuild.specs.Keepers.{KeepsFor};
 ghost use Rattle.strip_rebuild.specs.Makes.{AsksFor};
 
-use crate::filling::fill;
+use crate::filling::fill_kept;
 use crate::keepers::Keeper;
 use crate::keeping::keep_sections;
 use crate::naming::check_names;
@@ -56,7 +56,7 @@ fn fill_and_place<S: Source>(
         (homes_asked elf.old.o keeper.now.removed.now) elf.old elf.new }
     ensures made { OnOk result (made.new.told ≡ true) }
 {
-    if let Err(e) = fill(keeper, elf, numbers, made) {
+    if let Err(e) = fill_kept(keeper, elf, numbers, made) {
         return Err(e);
     }
     if let Err(e) = check_names(&keeper.names) {
