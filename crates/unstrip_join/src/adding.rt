@@ -1,0 +1,43 @@
+//! Sections that are added one after another, each with the bytes of a home.
+
+ghost use Rattle.std.specs.Prelude.{◌≡◌, ◌<◌, ◌∷◌, [], length, true, None, OnOk, IfErr};
+ghost use Rattle.elf_types.specs.declared.constants.TheConstants.{MAX_SECTIONS};
+ghost use Rattle.elf_xlate.specs.Headers.{shdr_fits};
+ghost use Rattle.elf_object.specs.Answers.{raw_refusal};
+ghost use Rattle.elf_object.specs.Due.{homes_due};
+ghost use Rattle.command_objects.specs.Rebuilt.{made_section};
+ghost use Rattle.object_making.specs.Refused.{UnreadBy};
+ghost use Rattle.strip_rebuild.specs.Homes.{bytes_at_home};
+ghost use Rattle.strip_rebuild.specs.Makes.{AsksFor};
+ghost use Rattle.unstrip_join.specs.Joined.{HasMore};
+
+use elf_descriptor::Elf;
+use elf_outside::{NoSource, Source};
+use elf_types::{ElfError, ScnId, Shdr};
+use object_making::add_section;
+use strip_rebuild::bytes_at_home;
+
+/// Adds a section with this header, which fits, and the bytes of a section's home behind those of
+/// another object, of which there are some. It refuses as `raw`; and `Memory` and `Read`.
+pub(crate) fn add_home<S: Source>(
+    elf: &mut Elf<S>,
+    s: ScnId,
+    header: &Shdr,
+    made: &mut Elf<NoSource>,
+) -> Result<(), ElfError>
+    requires some { 0 < length made.old.o.sections }
+    requires room { length made.old.o.sections < MAX_SECTIONS }
+    requires class { made.old.o.header.class ≡ elf.old.o.header.class }
+    requires fits { shdr_fits elf.old.o.header.class header.now ≡ true }
+    ensures adds { OnOk result (HasMore elf.old.told
+        (made_section header.now (bytes_at_home elf.old.o s.0) ∷ []) made.old made.new) }
+    ensures passed { OnOk result (raw_refusal elf.old.o s.0 ≡ None) }
+    ensures err { IfErr result (UnreadBy (raw_refusal elf.old.o s.0)) }
+    ensures asks { AsksFor S.Source result elf.old elf.new
+        (homes_due elf.old.o [] (s.0 ∷ [])) }
+{
+    match bytes_at_home(elf, s) {
+        Ok(items) => add_section(made, header, items),
+        Err(e) => Err(e),
+    }
+}

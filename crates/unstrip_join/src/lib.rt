@@ -1,0 +1,14 @@
+//! The two halves of a program joined: the header, the program headers and the loaded bytes of the
+//! stripped half, and the sections of the debug half (eu-unstrip(1)).
+#![tactic(auto)]
+
+mod adding;
+mod combining;
+mod faults;
+mod filling;
+mod joining;
+mod loaded;
+mod matching;
+
+pub use faults::UnstripFault;
+pub use joining::unstrip;
