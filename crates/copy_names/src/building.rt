@@ -1,0 +1,208 @@
+//! The new table of all names.
+
+ghost use Rattle.std.specs.Prelude.{◌≡◌, ◌==◌, ◌+◌, ◌-◌, ◌∷◌, ℕ, List as Seq, [], true, drop, length, map, IsTrue, IfOk, IfErr};
+ghost use Rattle.std.specs.List.{list_all};
+ghost use Rattle.elf_types.specs.declared.errors.ElfError.TheVariants.{Memory};
+ghost use Rattle.tool_text.specs.Reading.{is_section_name};
+ghost use Rattle.command_objects.specs.Copied.{changes_names};
+ghost use Rattle.strip_removed.specs.Calls.{ReadsNames};
+ghost use Rattle.copy_changes.specs.Stated.{bytes_pair, HasPlainNames, stated_changes};
+ghost use Rattle.copy_names.specs.Texts.{all_texts, AreAdded, AddsTo};
+ghost use Rattle.copy_names.specs.Stores.{IsBuilt, IsNaming};
+
+use crate::naming::Naming;
+use crate::placing::{Making, place_section, place_text};
+use copy_changes::{Changes, NameBytes};
+use elf_descriptor::Elf;
+use elf_outside::Source;
+use elf_types::{ElfError, List, ScnId};
+use std::alloc::Global;
+use strip_names::NewNames;
+use strtab_build::Strings;
+
+/// Adds the names of the sections from 1 on, and answers whether the table is not too large.
+fn place_sections<S: Source>(
+    elf: &mut Elf<S>,
+    marks: &List<u64>,
+    changes: &Changes,
+    making: &mut Making,
+) -> Result<bool, ElfError>
+    requires told { IsTrue elf.old.told }
+    requires plain { HasPlainNames changes.now }
+    requires strings { making.old.strings ≡ [] }
+    requires places { making.old.places ≡ 0 ∷ [] }
+    ensures added { IfOk result (AddsTo (all_texts elf.old.o marks.now changes.now)
+        making.new.strings making.new.places (length elf.old.o.sections - 1)) }
+    ensures reads { ReadsNames S.Source result elf.old elf.new }
+{
+    for s in 1..elf.shnum() {
+        match place_section(elf, ScnId(s), marks, changes, making) {
+            Ok(fits) => {
+                if !fits {
+                    return Ok(false);
+                }
+            }
+            Err(e) => return Err(e),
+        }
+    }
+    Ok(true)
+}
+
+/// Adds the names of sections that are to come, and answers whether the table is not too large. It
+/// refuses `Memory` alone.
+fn place_added(adds: &[NameBytes], making: &mut Making) -> Result<bool, ElfError>
+    requires { list_all (λ n. is_section_name n.name) adds.now ≡ true }
+    ensures added { (texts : Seq (Seq ℕ)) (n : ℕ)
+        → drop n texts ≡ map (λ a. a.name) adds.now
+        → AreAdded texts making.old.strings making.old.places n
+        → IfOk result (AddsTo texts making.new.strings making.new.places
+        (n + length adds.now)) }
+    ensures err { IfErr result (λ e. e ≡ Memory) }
+{
+    for change in adds {
+        match place_text(making, change.name.as_slice()) {
+            Ok(fits) => {
+                if !fits {
+                    return Ok(false);
+                }
+            }
+            Err(e) => return Err(e),
+        }
+    }
+    Ok(true)
+}
+
+/// Adds all names, and answers whether the table is not too large.
+fn place_all<S: Source>(
+    elf: &mut Elf<S>,
+    marks: &List<u64>,
+    changes: &Changes,
+    making: &mut Making,
+) -> Result<bool, ElfError>
+    requires told { IsTrue elf.old.told }
+    requires plain { HasPlainNames changes.now }
+    requires strings { making.old.strings ≡ [] }
+    requires places { making.old.places ≡ 0 ∷ [] }
+    ensures added { IfOk result (AddsTo (all_texts elf.old.o marks.now changes.now)
+        making.new.strings making.new.places
+        (length (all_texts elf.old.o marks.now changes.now))) }
+    ensures reads { ReadsNames S.Source result elf.old elf.new }
+{
+    match place_sections(elf, marks, changes, making) {
+        Ok(fits) => {
+            if !fits {
+                return Ok(false);
+            }
+            place_added(changes.add.as_slice(), making)
+        }
+        Err(e) => Err(e),
+    }
+}
+
+/// A table in the making without names, and the place of section 0, which has none. It refuses
+/// `Memory` alone.
+fn begin(alloc: Global) -> Result<Making, ElfError>
+    ensures begun { IfOk result (λ making. (making.strings ≡ []) × (making.places ≡ 0 ∷ [])) }
+    ensures err { IfErr result (λ e. e ≡ Memory) }
+{
+    let mut places = List::new(alloc);
+    match places.push(0) {
+        Ok(()) => Ok(Making {
+            strings: Strings::new(alloc),
+            places,
+        }),
+        Err(e) => Err(e),
+    }
+}
+
+/// The table of names that were added, and their places. It refuses `Memory` alone.
+fn finish_table(making: Making) -> Result<Naming, ElfError>
+    ensures built { (texts : Seq (Seq ℕ))
+        → AddsTo texts making.strings making.places (length texts) true
+        → IfOk result (IsBuilt texts) }
+    ensures err { IfErr result (λ e. e ≡ Memory) }
+{
+    let Making { strings, places } = making;
+    match strings.finish() {
+        Ok(table) => Ok(Naming::Anew(NewNames { table, places })),
+        Err(e) => Err(e),
+    }
+}
+
+/// The same where the table is not too large.
+fn finish(making: Making, fits: bool) -> Result<Naming, ElfError>
+    ensures built { (texts : Seq (Seq ℕ))
+        → AddsTo texts making.strings making.places (length texts) fits
+        → IfOk result (IsBuilt texts) }
+    ensures err { IfErr result (λ e. e ≡ Memory) }
+{
+    if fits {
+        return finish_table(making);
+    }
+    Ok(Naming::TooLarge)
+}
+
+/// The table of all names, as they are by the marks, and of those that are added.
+fn build_table<S: Source>(
+    alloc: Global,
+    elf: &mut Elf<S>,
+    marks: &List<u64>,
+    changes: &Changes,
+) -> Result<Naming, ElfError>
+    requires told { IsTrue elf.old.told }
+    requires plain { HasPlainNames changes.now }
+    ensures built { IfOk result (IsBuilt (all_texts elf.old.o marks.now changes.now)) }
+    ensures reads { ReadsNames S.Source result elf.old elf.new }
+{
+    let mut making = match begin(alloc) {
+        Ok(making) => making,
+        Err(e) => return Err(e),
+    };
+    match place_all(elf, marks, changes, &mut making) {
+        Ok(fits) => finish(making, fits),
+        Err(e) => Err(e),
+    }
+}
+
+/// Whether a list holds nothing.
+fn holds_none(list: &List<NameBytes>) -> bool
+    ensures { result ≡ (length (map bytes_pair list.now) == 0) }
+{
+    list.is_empty()
+}
+
+/// Whether names change: sections are renamed or added.
+fn changes_names(changes: &Changes) -> bool
+    ensures { result ≡ changes_names (stated_changes changes.now) }
+{
+    !(holds_none(&changes.rename) && holds_none(&changes.add))
+}
+
+/// What becomes of the names of an object that was made anew, where `renewed` says whether it has a
+/// table for them alone, and the marks are those of `rename_sections`: the table of the names of all
+/// sections by these marks, and behind them of those that are added. A name that cannot be read
+/// counts as the empty one. It stores nothing and refuses want of memory alone; that there is no
+/// table, or that it is too large, is told by `store_names`, after what comes before it.
+///
+/// Source: gABI chapter 4, "String Table", and "Section Header", sh_name.
+pub fn plan_names<S: Source>(
+    alloc: Global,
+    elf: &mut Elf<S>,
+    marks: &List<u64>,
+    changes: &Changes,
+    renewed: bool,
+) -> Result<Naming, ElfError>
+    requires told { IsTrue elf.old.told }
+    requires plain { HasPlainNames changes.now }
+    ensures naming { IfOk result (IsNaming (changes_names (stated_changes changes.now)) renewed
+        (all_texts elf.old.o marks.now changes.now)) }
+    ensures reads { ReadsNames S.Source result elf.old elf.new }
+{
+    if !changes_names(changes) {
+        return Ok(Naming::Stay);
+    }
+    if !renewed {
+        return Ok(Naming::NoTable);
+    }
+    build_table(alloc, elf, marks, changes)
+}

@@ -1,0 +1,119 @@
+//! Names that are added to a table in the making, with their places.
+
+ghost use Rattle.std.specs.Prelude.{◌≡◌, ◌≢◌, ◌<◌, ◌∷◌, ◌++◌, [], true, false, length, All, IsTrue, IfOk, IfErr};
+ghost use Rattle.std.specs.Option.{option_copied};
+ghost use Rattle.elf_types.specs.declared.errors.ElfError.TheVariants.{Memory};
+ghost use Rattle.elf_object.specs.Strings as strings;
+ghost use Rattle.strip_removed.specs.Calls.{ReadsNames};
+ghost use Rattle.strip_names.specs.Names.{is_too_large, IsAddedAt};
+ghost use Rattle.copy_changes.specs.Stated.{HasPlainNames};
+ghost use Rattle.copy_edits.specs.Names.{name_now};
+
+use copy_changes::Changes;
+use copy_edits::{mark_of, new_name};
+use elf_descriptor::Elf;
+use elf_outside::Source;
+use elf_types::{ElfError, List, ScnId, Words};
+use gelf_view::section_name;
+use strtab_build::Strings;
+
+/// A table of names in the making.
+#[derive(Drop)]
+pub(crate) struct Making {
+    /// The names.
+    pub(crate) strings: Strings,
+    /// The place of the name of each section so far.
+    pub(crate) places: Words,
+}
+
+/// Appends a place. It refuses `Memory` alone.
+fn push_place(places: &mut Words, place: u32) -> Result<bool, ElfError>
+    ensures pushed { IfOk result (λ fits.
+        (fits ≡ true) × (places.new ≡ places.old ++ place ∷ [])) }
+    ensures err { IfErr result (λ e. e ≡ Memory) }
+{
+    match places.push(place) {
+        Ok(()) => Ok(true),
+        Err(e) => Err(e),
+    }
+}
+
+/// False where an error says that a table is too large, and else the error.
+fn false_if_large(e: ElfError) -> Result<bool, ElfError>
+    ensures large { IfOk result (λ fits. (fits ≡ false) × (is_too_large e ≡ true)) }
+    ensures err { IfErr result (λ other. (other ≡ e) × (is_too_large e ≡ false)) }
+{
+    match e {
+        ElfError::TooLarge => Ok(false),
+        _ => Err(e),
+    }
+}
+
+/// Adds a name to a table, appends its place to the others, and answers whether the table is not
+/// too large. It refuses `Memory` alone.
+pub(crate) fn place_text(making: &mut Making, name: &[u8]) -> Result<bool, ElfError>
+    requires { All (λ b. b ≢ 0) name.now }
+    ensures placed { IfOk result (λ fits. IsAddedAt making.old.strings making.new.strings
+        making.old.places making.new.places name.now fits) }
+    ensures err { IfErr result (λ e. e ≡ Memory) }
+{
+    match making.strings.add(name) {
+        Ok(place) => push_place(&mut making.places, place),
+        Err(e) => false_if_large(e),
+    }
+}
+
+/// The same of a name that was found, and of the empty one where there is none.
+fn place_found(making: &mut Making, name: Option<&[u8]>) -> Result<bool, ElfError>
+    requires { All (λ b. b ≢ 0) (strings.or_empty_name (option_copied name)) }
+    ensures placed { IfOk result (λ fits. IsAddedAt making.old.strings making.new.strings
+        making.old.places making.new.places
+        (strings.or_empty_name (option_copied name.entry)) fits) }
+    ensures err { IfErr result (λ e. e ≡ Memory) }
+{
+    match name {
+        Some(name) => place_text(making, name),
+        None => place_text(making, &[]),
+    }
+}
+
+/// The same of the name of a section that is there, as it is stored.
+fn place_stored<S: Source>(
+    elf: &mut Elf<S>,
+    s: ScnId,
+    making: &mut Making,
+) -> Result<bool, ElfError>
+    requires there { s.0 < length elf.old.o.sections }
+    requires told { IsTrue elf.old.told }
+    ensures placed { IfOk result (λ fits. IsAddedAt making.old.strings making.new.strings
+        making.old.places making.new.places
+        (strings.or_empty_name (strings.section_name elf.old.o s.0)) fits) }
+    ensures reads { ReadsNames S.Source result elf.old elf.new }
+{
+    match section_name(elf, s) {
+        Ok(name) => place_found(making, name),
+        Err(e) => Err(e),
+    }
+}
+
+/// The same of the name that a section which is there has by now.
+pub(crate) fn place_section<S: Source>(
+    elf: &mut Elf<S>,
+    s: ScnId,
+    marks: &List<u64>,
+    changes: &Changes,
+    making: &mut Making,
+) -> Result<bool, ElfError>
+    requires there { s.0 < length elf.old.o.sections }
+    requires told { IsTrue elf.old.told }
+    requires plain { HasPlainNames changes.now }
+    ensures placed { IfOk result (λ fits. IsAddedAt making.old.strings making.new.strings
+        making.old.places making.new.places
+        (strings.or_empty_name (name_now elf.old.o marks.now changes.now.rename s.0)) fits) }
+    ensures reads { ReadsNames S.Source result elf.old elf.new }
+{
+    match new_name(&changes.rename, mark_of(marks, s.0)) {
+        Some(name) => place_text(making, name.as_slice()),
+        None => place_stored(elf, s, making),
+    }
+}
