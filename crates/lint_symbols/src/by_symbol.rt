@@ -1,18 +1,21 @@
 //! Rules that look at each symbol of each symbol table. Its symbols are told one by one, so a table
-//! is held once, as the bytes of its section, whatever the number of rules.
+//! is held once, as the bytes of its section, whatever the number of rules. For a rule that looks
+//! at their names the end of the strings is looked for once a table.
 
-ghost use Rattle.std.specs.Prelude.{◌≡◌, ◌<◌, ℕ, Bool as TheBool, length, IfSome, IfNone, None, [], true};
+ghost use Rattle.std.specs.Prelude.{◌≡◌, ◌<◌, ℕ, Bool as TheBool, length, IfOk, IfSome, IfNone, IsTrue, None, [], true};
 ghost use Rattle.elf_types.specs.declared.records.Sym.{Sym as TheSym};
 ghost use Rattle.elf_types.specs.declared.records.Kind.TheVariants as kinds;
 ghost use Rattle.elf_object.specs.Object.{Object};
 ghost use Rattle.elf_object.specs.Answers.{lend_refusal};
-ghost use Rattle.object_output.specs.Steps.{Learns};
+ghost use Rattle.object_output.specs.Steps.{Learns, ReadsElf};
+ghost use Rattle.bytes_at_hand.specs.Strings.{EndsAt};
 ghost use Rattle.lint_findings.specs.declared.places.Place.TheVariants.{Item};
 ghost use Rattle.lint_findings.specs.Findings.{at_items, finding, findings_shown, found_if};
 ghost use Rattle.lint_findings.specs.Looking.{symbols as stated_symbols};
 ghost use Rattle.lint_findings.specs.Steps.{FindsElf};
 ghost use Rattle.lint_symbols.specs.Symbols.{at_symbols, at_symbols_of, has_symbols, symbols_of, IsTable};
 
+use bytes_at_hand::strings_end;
 use elf_descriptor::Elf;
 use elf_outside::{Sink, Source};
 use elf_types::{DataId, ScnId, Sym};
@@ -45,10 +48,18 @@ pub struct Table {
 pub trait SymbolRule {
     ghost finds: { Object → ℕ → ℕ → TheSym → TheBool };
 
-    /// Whether it has a finding at symbol `i` of a table. It stops by `Read` where a read of the
-    /// source failed, and by `Memory`.
-    fn finds<S: Source>(&self, elf: &mut Elf<S>, t: Table, i: u64, x: Sym) -> Result<bool, Stop>
-        requires { IsTable elf.old.o t }
+    /// Whether it has a finding at symbol `i` of a table, whose strings end there where that is
+    /// known. It stops by `Read` where a read of the source failed, and by `Memory`.
+    fn finds<S: Source>(
+        &self,
+        elf: &mut Elf<S>,
+        t: Table,
+        end: Option<u64>,
+        i: u64,
+        x: Sym,
+    ) -> Result<bool, Stop>
+        requires table { IsTable elf.old.o t }
+        requires end { IsTrue elf.old.told → IfSome end (EndsAt elf.old.o t.strings.0) }
         ensures { Learns S.Source (λ o. finds o t.section.0 i x) result elf.old elf.new };
 }
 
@@ -110,6 +121,8 @@ struct BySymbol<'a, R> {
     number: u32,
     /// The text of its findings.
     text: &'static str,
+    /// Whether it looks at the names of symbols.
+    names: bool,
     /// The file.
     name: &'a FileName<'a>,
 }
@@ -119,18 +132,20 @@ fn show_symbol<R: SymbolRule, S: Source, O: Sink, E: Sink>(
     by: &BySymbol<'_, R>,
     elf: &mut Elf<S>,
     t: Table,
+    end: Option<u64>,
     i: u64,
     x: Sym,
     outputs: &mut Outputs<'_, O, E>,
 ) -> Result<bool, Stop>
-    requires { IsTable elf.old.o t }
+    requires table { IsTable elf.old.o t }
+    requires end { IsTrue elf.old.told → IfSome end (EndsAt elf.old.o t.strings.0) }
     ensures { FindsElf S.Source O.Sink E.Sink
         (λ o. found_if (R.finds o t.section.0 i x)
         (finding by.now.number (Item t.section.0 i) by.now.text.now)) by.now.name.now
         result elf.old elf.new outputs.old outputs.new }
 {
     let rule = by.rule;
-    match rule.finds(elf, t, i, x) {
+    match rule.finds(elf, t, end, i, x) {
         Ok(holds) => {
             let place = Place::Item(t.section.0, i);
             find_if(holds, by.name, by.number, place, by.text, outputs)
@@ -144,9 +159,11 @@ fn each_symbol<R: SymbolRule, S: Source, O: Sink, E: Sink>(
     by: &BySymbol<'_, R>,
     elf: &mut Elf<S>,
     t: Table,
+    end: Option<u64>,
     outputs: &mut Outputs<'_, O, E>,
 ) -> Result<bool, Stop>
-    requires { IsTable elf.old.o t }
+    requires table { IsTable elf.old.o t }
+    requires end { IsTrue elf.old.told → IfSome end (EndsAt elf.old.o t.strings.0) }
     ensures { FindsElf S.Source O.Sink E.Sink
         (λ o. at_items by.now.number by.now.text.now t.section.0 (R.finds o t.section.0)
         (stated_symbols o t.section.0)) by.now.name.now
@@ -159,10 +176,42 @@ fn each_symbol<R: SymbolRule, S: Source, O: Sink, E: Sink>(
     let mut found = false;
     for i in 0..t.count {
         let x = item_there::<S, Sym>(elf, d, i)?;
-        let was_found = show_symbol(by, elf, t, i, x, outputs)?;
+        let was_found = show_symbol(by, elf, t, end, i, x, outputs)?;
         found = found | was_found;
     }
     Ok(found)
+}
+
+/// Where the strings of a table end, where a rule looks at the names of its symbols and that can be
+/// told.
+fn end_of_names<S: Source>(names: bool, elf: &mut Elf<S>, t: Table) -> Result<Option<u64>, Stop>
+    ensures end { IsTrue elf.old.told → IfOk result
+        (λ end. IfSome end (EndsAt elf.old.o t.strings.0)) }
+    ensures reads { ReadsElf S.Source result elf.old elf.new }
+{
+    if !names || !t.named || t.count == 0 {
+        return Ok(None);
+    }
+    strings_end(elf, t.strings)
+}
+
+/// Says what a rule finds at each symbol of a table, whose strings' end is looked for before.
+fn show_table<R: SymbolRule, S: Source, O: Sink, E: Sink>(
+    by: &BySymbol<'_, R>,
+    elf: &mut Elf<S>,
+    t: Table,
+    outputs: &mut Outputs<'_, O, E>,
+) -> Result<bool, Stop>
+    requires { IsTable elf.old.o t }
+    ensures { FindsElf S.Source O.Sink E.Sink
+        (λ o. at_items by.now.number by.now.text.now t.section.0 (R.finds o t.section.0)
+        (stated_symbols o t.section.0)) by.now.name.now
+        result elf.old elf.new outputs.old outputs.new }
+{
+    match end_of_names(by.names, elf, t) {
+        Ok(end) => each_symbol(by, elf, t, end, outputs),
+        Err(stop) => Err(stop),
+    }
 }
 
 impl<R: SymbolRule> SectionTool for BySymbol<'_, R> {
@@ -176,18 +225,19 @@ impl<R: SymbolRule> SectionTool for BySymbol<'_, R> {
         outputs: &mut Outputs<'_, O, E>,
     ) -> Result<bool, Stop> {
         match table_of(elf, s) {
-            Some(t) => each_symbol(self, elf, t, outputs),
+            Some(t) => show_table(self, elf, t, outputs),
             None => Ok(false),
         }
     }
 }
 
 /// Says what a rule of that number finds at the symbols of each symbol table, by section and index,
-/// with one text for all its findings.
+/// with one text for all its findings. `names` tells whether it looks at their names.
 pub fn each_symbol_by<R: SymbolRule, S: Source, O: Sink, E: Sink>(
     rule: &R,
     number: u32,
     text: &'static str,
+    names: bool,
     name: &FileName<'_>,
     elf: &mut Elf<S>,
     outputs: &mut Outputs<'_, O, E>,
@@ -199,6 +249,7 @@ pub fn each_symbol_by<R: SymbolRule, S: Source, O: Sink, E: Sink>(
         rule,
         number,
         text,
+        names,
         name,
     };
     each_section(&tool, elf, outputs)

@@ -98,11 +98,22 @@ impl SymbolRule for SymbolNames {
     ghost finds = { rule.has_no_name };
 
     #[tactic(auto, unfolding(crate::specs::Symbols::has_no_name))]
-    fn finds<S: Source>(&self, elf: &mut Elf<S>, t: Table, _i: u64, x: Sym) -> Result<bool, Stop> {
+    fn finds<S: Source>(
+        &self,
+        elf: &mut Elf<S>,
+        t: Table,
+        end: Option<u64>,
+        _i: u64,
+        x: Sym,
+    ) -> Result<bool, Stop> {
         if !t.named {
             return Ok(false);
         }
-        match string_at(elf, t.strings, u64::from(x.name)) {
+        let at = u64::from(x.name);
+        if let Some(end) = end {
+            return Ok(at >= end);
+        }
+        match string_at(elf, t.strings, at) {
             Ok(Some(_)) => Ok(false),
             Ok(None) => Ok(true),
             Err(stop) => Err(stop),
@@ -122,7 +133,15 @@ pub fn unreadable_symbol_names<S: Source, O: Sink, E: Sink>(
     ensures { FindsElf S.Source O.Sink E.Sink rule.unreadable_symbol_names name.now
         result elf.old elf.new outputs.old outputs.new }
 {
-    each_symbol_by(&SymbolNames, 22, "name cannot be read", name, elf, outputs)
+    each_symbol_by(
+        &SymbolNames,
+        22,
+        "name cannot be read",
+        true,
+        name,
+        elf,
+        outputs,
+    )
 }
 
 /// Local symbols behind the first other one.
@@ -133,7 +152,14 @@ impl SymbolRule for LateLocals {
     ghost finds = { rule.is_late_local };
 
     #[tactic(auto, unfolding(crate::specs::Symbols::is_late_local))]
-    fn finds<S: Source>(&self, _elf: &mut Elf<S>, t: Table, i: u64, x: Sym) -> Result<bool, Stop> {
+    fn finds<S: Source>(
+        &self,
+        _elf: &mut Elf<S>,
+        t: Table,
+        _end: Option<u64>,
+        i: u64,
+        x: Sym,
+    ) -> Result<bool, Stop> {
         Ok(is_local(&x) && i >= u64::from(t.first_other))
     }
 }
@@ -154,6 +180,7 @@ pub fn local_symbols_among_the_others<S: Source, O: Sink, E: Sink>(
         &LateLocals,
         23,
         "local symbol among the others",
+        false,
         name,
         elf,
         outputs,
@@ -168,7 +195,14 @@ impl SymbolRule for EarlyOthers {
     ghost finds = { rule.is_early_other };
 
     #[tactic(auto, unfolding(crate::specs::Symbols::is_early_other))]
-    fn finds<S: Source>(&self, _elf: &mut Elf<S>, t: Table, i: u64, x: Sym) -> Result<bool, Stop> {
+    fn finds<S: Source>(
+        &self,
+        _elf: &mut Elf<S>,
+        t: Table,
+        _end: Option<u64>,
+        i: u64,
+        x: Sym,
+    ) -> Result<bool, Stop> {
         Ok(!is_local(&x) && i < u64::from(t.first_other))
     }
 }
@@ -189,6 +223,7 @@ pub fn other_symbols_among_the_local<S: Source, O: Sink, E: Sink>(
         &EarlyOthers,
         24,
         "symbol among the local ones",
+        false,
         name,
         elf,
         outputs,
@@ -203,7 +238,14 @@ impl SymbolRule for SymbolSections {
     ghost finds = { rule.is_of_no_section };
 
     #[tactic(auto, unfolding(crate::specs::Symbols::is_of_no_section))]
-    fn finds<S: Source>(&self, elf: &mut Elf<S>, _t: Table, _i: u64, x: Sym) -> Result<bool, Stop> {
+    fn finds<S: Source>(
+        &self,
+        elf: &mut Elf<S>,
+        _t: Table,
+        _end: Option<u64>,
+        _i: u64,
+        x: Sym,
+    ) -> Result<bool, Stop> {
         let index = u32::from(x.shndx);
         Ok(index >= elf.shnum() && index < SHN_LORESERVE)
     }
@@ -226,6 +268,7 @@ pub fn symbols_of_no_section<S: Source, O: Sink, E: Sink>(
         &SymbolSections,
         25,
         "symbol of no section",
+        false,
         name,
         elf,
         outputs,

@@ -13,9 +13,9 @@ ghost use Rattle.readelf_blocks.specs.Blocks.{rel_entry, rela_entry, line_row, f
 
 use crate::at_hand::{TableBytes, item_of, most_items};
 use crate::relocation_lines::{Entry, RelocationLine};
+use bytes_at_hand::string_from;
 use elf_outside::Sink;
 use elf_types::{ElfError, List, Rel, Rela, Sym};
-use gelf_view::string_in;
 use section_data::Item;
 use std::alloc::Global;
 use tool_output::{Outputs, Stop};
@@ -84,20 +84,9 @@ fn name_in(strings: &[u8], symbol: Option<Sym>) -> Option<&[u8]>
     ensures { option_copied result ≡ blocks.name_in strings.now symbol }
 {
     match symbol {
-        Some(x) => name_at(strings, x.name),
+        Some(x) => string_from(strings, x.name),
         None => None,
     }
-}
-
-/// The string that begins at a place.
-fn name_at(strings: &[u8], place: u32) -> Option<&[u8]>
-    ensures { option_copied result ≡ blocks.name_at strings.now place }
-{
-    let at = place as usize;
-    if strings.len() < at {
-        return None;
-    }
-    string_in(&strings[at..])
 }
 
 /// Looks up the symbols of the relocations of a block, from one on.

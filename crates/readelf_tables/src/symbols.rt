@@ -1,23 +1,31 @@
-//! The lines of the symbol tables.
+//! The lines of the symbol tables. Where the strings of a table end is looked for before its rows:
+//! a name that begins behind that can not be read, and is not looked for.
 
-ghost use Rattle.std.specs.Prelude.{◌≡◌, ◌++◌, OnOk, IfErr};
+ghost use Rattle.std.specs.Prelude.{◌≡◌, ◌++◌, ◌<◌, None, OnOk, IfErr, IfOk, IfSome, IsTrue};
 ghost use Rattle.std.specs.Option.{option_copied};
 ghost use Rattle.elf_types.specs.Writers.{WantsMemory};
+ghost use Rattle.elf_types.specs.declared.records.Kind.TheVariants as kinds;
+ghost use Rattle.elf_object.specs.Answers.{items_at, syms_of};
 ghost use Rattle.elf_object.specs.Strings as strings;
-ghost use Rattle.tool_output.specs.Reports.{shown};
-ghost use Rattle.object_output.specs.Steps.{ReportsElf};
+ghost use Rattle.tool_output.specs.Lines.{numbered_lines};
+ghost use Rattle.tool_output.specs.Reports.{Reports, shown};
+ghost use Rattle.tool_output.specs.Steps.{LeavesOutputs};
+ghost use Rattle.object_output.specs.Steps.{ReadsElf, ReportsElf};
+ghost use Rattle.bytes_at_hand.specs.Strings.{EndsAt};
+ghost use Rattle.readelf_tables.specs.Tables.{row_at, HasRows};
 ghost use Rattle.readelf_tables.specs.Symbols.{SymbolsFit, special_text, place_text, symbol_start, symbol_names, symbol_end, symbol_line, symbol_row, symbols_title, symbols_of_section, holds_symbols, symbols_report};
 
-use crate::tables::{Row, Rows, show_each, show_table};
+use crate::tables::{Row, Rows, show_table};
+use bytes_at_hand::{is_past, strings_end};
 use elf_descriptor::Elf;
 use elf_outside::{Sink, Source};
 use elf_types::constants::{SHN_ABS, SHN_COMMON, SHN_UNDEF, SHT_DYNSYM, SHT_SYMTAB};
 use elf_types::{
-    ElfError, Octets, ScnId, Sym, bind, binding_name, put_decimal, put_hex, put_text, stt,
+    DataId, ElfError, Octets, ScnId, Sym, bind, binding_name, put_decimal, put_hex, put_text, stt,
     symbol_type_name, vis, visibility_name,
 };
 use gelf_view::{SymPlace, shndx_table};
-use object_output::{Bracketed, string_at, symbol_place};
+use object_output::{Bracketed, item_there, string_at, symbol_place};
 use readelf_rows::{
     Links, SectionPart, Table, each_plain, links_of, put_decimal_column, put_hex_column,
     put_name_column, put_row_start,
@@ -130,20 +138,46 @@ impl Line for SymbolLine<'_> {
     }
 }
 
-/// Shows the line of a symbol whose place is known, and whose name stands in a section.
-fn show_symbol<S: Source, O: Sink, E: Sink>(
-    elf: &mut Elf<S>,
-    names: ScnId,
+/// Shows the line of a symbol whose name can not be read.
+fn show_unnamed<O: Sink, E: Sink>(
     index: u64,
     symbol: Sym,
     place: Option<SymPlace>,
     outputs: &mut Outputs<'_, O, E>,
 ) -> Result<bool, Stop>
+    ensures reports { Reports O.Sink E.Sink result outputs.old outputs.new
+        (shown (symbol_line index symbol place None)) }
+    ensures leaves { LeavesOutputs O.Sink E.Sink ⊥ result outputs.old outputs.new }
+{
+    outputs.show(&SymbolLine {
+        index,
+        symbol,
+        place,
+        name: None,
+    })
+}
+
+/// Shows the line of a symbol whose place is known, and whose name stands in a section, whose
+/// strings end there where that is known.
+fn show_symbol<S: Source, O: Sink, E: Sink>(
+    elf: &mut Elf<S>,
+    names: ScnId,
+    end: Option<u64>,
+    index: u64,
+    symbol: Sym,
+    place: Option<SymPlace>,
+    outputs: &mut Outputs<'_, O, E>,
+) -> Result<bool, Stop>
+    requires { IsTrue elf.old.told → IfSome end (EndsAt elf.old.o names.0) }
     ensures { ReportsElf S.Source O.Sink E.Sink (λ o. shown (symbol_line index symbol place
         (strings.readable (strings.string_answer o names.0 symbol.name))))
         result elf.old elf.new outputs.old outputs.new }
 {
-    match string_at(elf, names, u64::from(symbol.name)) {
+    let at = u64::from(symbol.name);
+    if is_past(end, at) {
+        return show_unnamed(index, symbol, place, outputs);
+    }
+    match string_at(elf, names, at) {
         Ok(name) => outputs.show(&SymbolLine {
             index,
             symbol,
@@ -152,6 +186,86 @@ fn show_symbol<S: Source, O: Sink, E: Sink>(
         }),
         Err(stop) => Err(stop),
     }
+}
+
+/// Shows the row of symbol `i` of a section, which was looked at.
+fn show_row<S: Source, O: Sink, E: Sink>(
+    elf: &mut Elf<S>,
+    s: ScnId,
+    links: Links,
+    end: Option<u64>,
+    i: u64,
+    symbol: Sym,
+    outputs: &mut Outputs<'_, O, E>,
+) -> Result<bool, Stop>
+    requires fits { SymbolsFit elf.old.o s.0 links }
+    requires end { IsTrue elf.old.told → IfSome end (EndsAt elf.old.o links.linked.0) }
+    ensures { ReportsElf S.Source O.Sink E.Sink (λ o. shown (symbol_row o s.0 i symbol))
+        result elf.old elf.new outputs.old outputs.new }
+{
+    match symbol_place(elf, s, i, symbol, links.indexes) {
+        Ok(place) => show_symbol(elf, links.linked, end, i, symbol, place, outputs),
+        Err(stop) => Err(stop),
+    }
+}
+
+/// Shows the row of symbol `i` of a table, where there is such a symbol.
+fn show_row_at<S: Source, O: Sink, E: Sink>(
+    elf: &mut Elf<S>,
+    table: Table,
+    end: Option<u64>,
+    i: u64,
+    outputs: &mut Outputs<'_, O, E>,
+) -> Result<bool, Stop>
+    requires rows { HasRows kinds.Sym syms_of SymbolsFit elf.old.o table }
+    requires end { IsTrue elf.old.told → IfSome end (EndsAt elf.old.o table.links.linked.0) }
+    requires there { i < table.count }
+    ensures { let s = table.section.0 in ReportsElf S.Source O.Sink E.Sink
+        (λ o. shown (row_at (symbol_row o s) (syms_of (items_at o s 0)) i))
+        result elf.old elf.new outputs.old outputs.new }
+{
+    let s = table.section;
+    let d = DataId {
+        section: s.0,
+        piece: 0,
+    };
+    match item_there::<S, Sym>(elf, d, i) {
+        Ok(symbol) => show_row(elf, s, table.links, end, i, symbol, outputs),
+        Err(stop) => Err(stop),
+    }
+}
+
+/// Shows a row for each symbol of a table, one after the other.
+fn show_each_row<S: Source, O: Sink, E: Sink>(
+    elf: &mut Elf<S>,
+    table: Table,
+    end: Option<u64>,
+    outputs: &mut Outputs<'_, O, E>,
+) -> Result<bool, Stop>
+    requires rows { HasRows kinds.Sym syms_of SymbolsFit elf.old.o table }
+    requires end { IsTrue elf.old.told → IfSome end (EndsAt elf.old.o table.links.linked.0) }
+    ensures { let s = table.section.0 in ReportsElf S.Source O.Sink E.Sink
+        (λ o. shown (numbered_lines (symbol_row o s) 0 (syms_of (items_at o s 0))))
+        result elf.old elf.new outputs.old outputs.new }
+{
+    let mut refused = false;
+    for i in 0..table.count {
+        let was_refused = show_row_at(elf, table, end, i, outputs)?;
+        refused = refused | was_refused;
+    }
+    Ok(refused)
+}
+
+/// Where the strings of the symbols of a table end, where there are symbols and that can be told.
+fn end_of_names<S: Source>(elf: &mut Elf<S>, table: Table) -> Result<Option<u64>, Stop>
+    ensures end { IsTrue elf.old.told → IfOk result
+        (λ end. IfSome end (EndsAt elf.old.o table.links.linked.0)) }
+    ensures reads { ReadsElf S.Source result elf.old elf.new }
+{
+    if table.count == 0 {
+        return Ok(None);
+    }
+    strings_end(elf, table.links.linked)
 }
 
 impl Row for Sym {
@@ -184,10 +298,7 @@ impl Row for Sym {
         links: Links,
         outputs: &mut Outputs<'_, O, E>,
     ) -> Result<bool, Stop> {
-        match symbol_place(elf, s, i, self, links.indexes) {
-            Ok(place) => show_symbol(elf, links.linked, i, self, place, outputs),
-            Err(stop) => Err(stop),
-        }
+        show_row(elf, s, links, None, i, self, outputs)
     }
 }
 
@@ -197,7 +308,10 @@ impl Rows for Sym {
         table: Table,
         outputs: &mut Outputs<'_, O, E>,
     ) -> Result<bool, Stop> {
-        show_each::<Sym, S, O, E>(elf, table, outputs)
+        match end_of_names(elf, table) {
+            Ok(end) => show_each_row(elf, table, end, outputs),
+            Err(stop) => Err(stop),
+        }
     }
 }
 

@@ -1,6 +1,7 @@
 use Rattle.std.proofs.Common.{sym}
 use Rattle.elf_object.proofs.AnswerLaws.{answered_value}
-use Rattle.readelf_blocks.proofs.AtHandLemmas.{some_weaker, holds_items}
+use Rattle.bytes_at_hand.proofs.Ends.{some_weaker}
+use Rattle.readelf_blocks.proofs.AtHandLemmas.{holds_items}
 use Rattle.readelf_blocks.proofs.at_hand.item_bytes.Goals as goal
 
 pub returns-in-Ok : goal.returns-in-Ok

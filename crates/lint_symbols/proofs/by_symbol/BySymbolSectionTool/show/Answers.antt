@@ -12,7 +12,7 @@ returns-in-Some g c =
     let by = c.args.self.now in
     elf_as g.S.Source g.O.Sink g.E.Sink _ _ _ c.args.elf.now _ c.args.outputs.now _
     (λ told. ap (findings_shown by.name.now) (table_found by.number by.text.now r.finds c.args.elf.now.o c.args.s.0 c.in-Some.t.section.0 (ap (λ (x : ScnId). x.0) c.in-Some.ensures.section) c.in-Some.ensures.is.looked))
-    c.each_symbol.ensures
+    c.show_table.ensures
 
 pub returns-in-None : goal.returns-in-None
 returns-in-None g c =

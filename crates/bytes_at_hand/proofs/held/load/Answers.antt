@@ -3,7 +3,7 @@ use Rattle.elf_object.specs.Calls as calls
 use Rattle.object_output.proofs.OnceReads.{once_unless}
 use Rattle.object_output.proofs.OnceSums.{once_one}
 use Rattle.object_output.proofs.QueryLemmas.{reads_on, reads_stop, settled_ok, settled_none}
-use Rattle.readelf_blocks.proofs.at_hand.load.Goals as goal
+use Rattle.bytes_at_hand.proofs.held.load.Goals as goal
 
 pub returns-in-Ok : goal.returns-in-Ok
 returns-in-Ok g c =

@@ -1,0 +1,159 @@
+-- Bytes up to their last NUL, and the strings that begin in them.
+use Rattle.std.proofs.Common.{◌≡◌, ◌⊎◌, inl, inr, ℕ, ◌+◌, ◌-◌, ◌<◌, ◌≤◌, ◌==◌, ◌||◌, not, Bool, true, false, cond, List, [], ◌∷◌, ◌++◌, length, take, drop, get_or, Option, Some, None, refl, sym, ap, ◌∙◌, arith}
+use Rattle.std.specs.Prelude.{nat_lt, slice_index, take_while, is_some, if◌then◌else◌}
+use Rattle.std.specs.Option.{option_map}
+use Rattle.std.proofs.lemmas.Bool.{cond-true, cond-false, eq-eqb, ne_eqb, eqb-true, cases_lt, lt-ltb, le-ltb}
+use Rattle.std.proofs.lemmas.List.{length-take-le, length-drop, get_or-drop, get_or-take, take-append-drop, drop-append-le, drop_all}
+use Rattle.std.proofs.lemmas.List.Elements.{All-from_get_or}
+use Rattle.std.proofs.lemmas.List.Folds.{list_any_at, list_any_none}
+use Rattle.std.proofs.lemmas.List.Sums.{take_while-cons}
+use Rattle.memchr.specs.Find.{IsLastByte, is_byte}
+use Rattle.elf_object.specs.Strings.{has_nul}
+use Rattle.gelf_view.specs.Records.{string_front}
+use Rattle.bytes_at_hand.specs.Strings.{AreEnded, IsLastEnd}
+
+-- ---- The last NUL, as a search for it answers
+
+pub found_last : (bytes : List ℕ) (last : ℕ) → IsLastByte (is_byte 0) bytes (Some last)
+    → IsLastEnd bytes (last + 1)
+found_last bytes last found = record {
+  within = omega (arith, found.0.high);
+  nul = λ some.
+      let same : last + 1 - 1 ≡ last = omega arith in
+      ap (λ (k : ℕ). slice_index bytes k) same ∙ eqb-true (get_or bytes last 0) 0 found.1;
+  free = λ k from below is.
+      found.0.after k (omega (arith, from)) below (eq-eqb (get_or bytes k 0) 0 is);
+}
+
+pub found_none : (bytes : List ℕ) → IsLastByte (is_byte 0) bytes None → IsLastEnd bytes 0
+found_none bytes nowhere = record {
+  within = omega arith;
+  nul = λ some. absurd (omega (arith, some));
+  free = λ k from below is. nowhere k (omega arith) below (eq-eqb (get_or bytes k 0) 0 is);
+}
+
+-- ---- The string at the front
+
+abbrev goes_on : ℕ → Bool
+goes_on b = not (b == 0)
+
+abbrev front_by : Bool → List ℕ → Option (List ℕ)
+front_by has name = if has then Some name else None
+
+abbrev behind : ℕ → Option (List ℕ) → Option (List ℕ)
+behind x name = option_map (λ (l : List ℕ). x ∷ l) name
+
+front_behind : (x : ℕ) (name : List ℕ) (has : Bool) → front_by has (x ∷ name) ≡ behind x (front_by has name)
+front_behind x name true = refl
+front_behind x name false = refl
+
+front_first : (x : ℕ) (name : List ℕ) (nul has : Bool)
+    → front_by (nul || has) (cond (not nul) (x ∷ name) [])
+    ≡ (if nul then Some [] else behind x (front_by has name))
+front_first x name true has = refl
+front_first x name false has = front_behind x name has
+
+front_more : (x : ℕ) (l : List ℕ)
+    → string_front (x ∷ l) ≡ (if x == 0 then Some [] else behind x (string_front l))
+unfolding string_front
+front_more x l =
+    ap (front_by ((x == 0) || has_nul l)) (take_while-cons goes_on x l)
+    ∙ front_first x (take_while goes_on l) (x == 0) (has_nul l)
+
+front_none : string_front [] ≡ None
+unfolding string_front
+front_none = refl
+
+-- what follows a string with its NUL is none of it
+front_append : (l rest : List ℕ) → has_nul l ≡ true → string_front (l ++ rest) ≡ string_front l
+front_append [] rest has = cc
+front_append (x ∷ l) rest has =
+    front_more x (l ++ rest)
+    ∙ by_first x l rest (front_append l rest) (x == 0) has
+    ∙ sym (front_more x l)
+  where
+    by_first : (x : ℕ) (l rest : List ℕ)
+        → (has_nul l ≡ true → string_front (l ++ rest) ≡ string_front l)
+        → (nul : Bool) → (nul || has_nul l) ≡ true
+        → (if nul then Some [] else behind x (string_front (l ++ rest)))
+        ≡ (if nul then Some [] else behind x (string_front l))
+    by_first x l rest later true has = refl
+    by_first x l rest later false has = ap (behind x) (later has)
+
+no_front : (l : List ℕ) → has_nul l ≡ false → string_front l ≡ None
+unfolding string_front
+no_front l none = cond-false _ _ _ none
+
+some_front : (l : List ℕ) → has_nul l ≡ true → is_some (string_front l) ≡ true
+unfolding string_front
+some_front l has = ap (λ (r : Option (List ℕ)). is_some r) (cond-true _ _ _ has)
+
+-- no string begins past the end
+pub no_string : (bytes : List ℕ) (place : ℕ) → length bytes < place
+    → None ≡ string_front (drop place bytes)
+no_string bytes place past =
+    sym (ap string_front (drop_all place bytes (omega (arith, past))) ∙ front_none)
+
+-- ---- Bytes up to their last NUL
+
+module _ (bytes : List ℕ) (n : ℕ) (is : IsLastEnd bytes n) where
+  abbrev cut : List ℕ
+  cut = take n bytes
+
+  cut_len : length cut ≡ n
+  cut_len = length-take-le n bytes is.within
+
+  -- from the end on there is no NUL
+  past : (at : ℕ) → n ≤ at → has_nul (drop at bytes) ≡ false
+  past at from =
+      list_any_none (λ b. b == 0) (drop at bytes)
+      (All-from_get_or (λ b. (b == 0) ≡ false) (drop at bytes) 0
+      (λ k below.
+      ap (λ (b : ℕ). b == 0) (get_or-drop at bytes k 0)
+      ∙ ne_eqb (get_or bytes (at + k) 0) 0
+      (is.free (at + k) (omega (arith, from)) (omega (arith, below, length-drop at bytes)))))
+
+  -- and from each place before it one follows
+  before : (at : ℕ) → at < n → has_nul (drop at cut) ≡ true
+  before at lt =
+      let place : at + (n - 1 - at) ≡ n - 1 = omega (arith, lt) in
+      list_any_at (λ b. b == 0) (drop at cut) (n - 1 - at) 0
+      (omega (arith, length-drop at cut, cut_len, lt))
+      (ap (λ (b : ℕ). b == 0)
+      (get_or-drop at cut (n - 1 - at) 0
+      ∙ ap (λ (k : ℕ). get_or cut k 0) place
+      ∙ get_or-take n bytes (n - 1) 0 (omega (arith, lt))
+      ∙ is.nul (omega (arith, lt))))
+
+  whole : (at : ℕ) → at ≤ n → drop at bytes ≡ drop at cut ++ drop n bytes
+  whole at le =
+      ap (λ (l : List ℕ). drop at l) (sym (take-append-drop n bytes))
+      ∙ drop-append-le at cut (drop n bytes) (omega (arith, cut_len, le))
+
+  none_left : (at : ℕ) → n ≤ at → string_front (drop at cut) ≡ None
+  none_left at from =
+      ap string_front (drop_all at cut (omega (arith, cut_len, from))) ∙ front_none
+
+  -- the same strings begin in them
+  pub same_strings : (at : ℕ) → string_front (drop at cut) ≡ string_front (drop at bytes)
+  same_strings at = by_place (cases_lt at n)
+    where
+      by_place : (at < n) ⊎ (n ≤ at) → string_front (drop at cut) ≡ string_front (drop at bytes)
+      by_place (inl lt) =
+          sym (ap string_front (whole at (omega (arith, lt)))
+          ∙ front_append (drop at cut) (drop n bytes) (before at lt))
+      by_place (inr from) =
+          none_left at from ∙ sym (no_front (drop at bytes) (past at from))
+
+  -- and one at each place
+  pub each_ended : AreEnded cut
+  each_ended at = by_place (cases_lt at n)
+    where
+      by_place : (at < n) ⊎ (n ≤ at)
+          → is_some (string_front (drop at cut)) ≡ nat_lt at (length cut)
+      by_place (inl lt) =
+          some_front (drop at cut) (before at lt)
+          ∙ sym (lt-ltb at (length cut) (omega (arith, cut_len, lt)))
+      by_place (inr from) =
+          ap (λ (r : Option (List ℕ)). is_some r) (none_left at from)
+          ∙ sym (le-ltb at (length cut) (omega (arith, cut_len, from)))

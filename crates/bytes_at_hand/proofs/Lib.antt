@@ -1,0 +1,3 @@
+pub mod OneTable
+pub mod LastNul
+pub mod Ends
