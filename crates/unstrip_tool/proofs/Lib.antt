@@ -1,0 +1,9 @@
+pub mod AllocatedLemmas
+pub mod SplitLemmas
+pub mod HalfLemmas
+pub mod WriteLemmas
+pub mod DoneLemmas
+pub mod BesideLemmas
+pub mod OpenedLemmas
+pub mod JoinLemmas
+pub mod EndLemmas

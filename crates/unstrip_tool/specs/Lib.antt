@@ -1,0 +1,5 @@
+pub mod Allocated
+pub mod Splitting
+pub mod Writes
+pub mod Refusing
+pub mod Joins
