@@ -1,5 +1,7 @@
 mod Sorting
+mod ListedLemmas
 mod PoolLemmas
+mod KeptLemmas
 mod ToolLemmas
 mod Keys
 mod FoundTable

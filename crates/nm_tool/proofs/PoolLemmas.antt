@@ -1,17 +1,17 @@
 -- The pool of the symbols that are listed, and its entries.
-use Rattle.std.proofs.Common.{◌≡◌, ◌⊎◌, inl, inr, ◌++◌, ◌+◌, ◌-◌, ◌<◌, ◌≤◌, ℕ, zero, suc, Bool, true, false, ◌&&◌, List, [], ◌∷◌, length, take, drop, get_or, Option, Some, None, refl, sym, ap, ◌∙◌, subst, arith, append_assoc, append-nil}
+use Rattle.std.proofs.Common.{◌≡◌, ◌++◌, ◌+◌, ◌-◌, ◌≤◌, ℕ, zero, suc, Bool, true, false, ◌&&◌, List, [], ◌∷◌, length, take, drop, Option, Some, None, refl, sym, ap, ◌∙◌, arith, append-nil}
 use Rattle.std.specs.Prelude.{not, slice_get, if◌then◌else◌}
-use Rattle.std.proofs.lemmas.List.{at_drop_more, at_drop_all, take-append-le, drop-append-le, length-append, length-drop}
+use Rattle.std.proofs.lemmas.List.{take-append-le, drop-append-le, length-append, length-drop}
 use Rattle.std.proofs.Math.Seq.{take-length}
-use Rattle.std.proofs.lemmas.Option.{slice_get_cases}
 use Rattle.elf_types.specs.declared.records.Sym.{Sym}
 use Rattle.elf_object.specs.Object.{Object}
 use Rattle.tool_text.specs.declared.options.NmOptions.{NmOptions}
 use Rattle.nm_tool.specs.declared.pools.Spot.{Spot}
 use Rattle.nm_tool.specs.declared.pools.Pool.{Pool}
 use Rattle.nm_tool.specs.Order.{Entry}
-use Rattle.nm_tool.specs.Listed.{symbols, listed_name, is_empty, is_kept, is_wanted, is_listed, entry_of, entry_if, listed_from, listed}
+use Rattle.nm_tool.specs.Listed.{symbols, listed_name, is_empty, is_kept, is_wanted, is_listed, entry_of, entry_if, listed}
 use Rattle.nm_tool.specs.Pools.{spot_entries, if_wanted, wanted_at, with_name, with_symbol, pool_of}
+use Rattle.nm_tool.proofs.ListedLemmas.{all_listed}
 
 -- how many bytes the names have
 abbrev pub spots_total : List Spot → ℕ
@@ -79,40 +79,22 @@ module _ (options : NmOptions) (o : Object) (s : ℕ) where
   pool_sized zero = refl
   pool_sized (suc n) = sized_with (n + 1) (pool_of options o s n) (wanted_at options o s (n + 1)) (pool_sized n)
 
-  next_left : (n : ℕ) (x : Sym) → slice_get (symbols o s) (n + 1) ≡ Some x → n + 1 < length (symbols o s) → x ≡ get_or (symbols o s) (n + 1) x
-      → entries (pool_of options o s (suc n)) ++ listed_from options o s (n + 1 + 1) (drop (n + 1 + 1) (symbols o s))
-      ≡ entries (pool_of options o s n) ++ listed_from options o s (n + 1) (drop (n + 1) (symbols o s))
-  unfolding pool_of listed_from
-  next_left n x is lt here =
-      let rest = listed_from options o s (n + 1 + 1) (drop (n + 1 + 1) (symbols o s)) in
-      ap (λ (es : List Entry). es ++ rest) (more (n + 1) (pool_of options o s n) x (pool_sized n) is)
-      ∙ append_assoc (entries (pool_of options o s n)) (entry_if options o s (n + 1) x) rest
-      ∙ ap (λ (es : List Entry). entries (pool_of options o s n) ++ es)
-      (ap (λ (y : Sym). entry_if options o s (n + 1) y ++ rest) here ∙ sym (at_drop_more (listed_from options o s (n + 1)) (symbols o s) (n + 1) x lt))
+  made_more : (n : ℕ) (x : Sym) → slice_get (symbols o s) (n + 1) ≡ Some x
+      → entries (pool_of options o s (suc n))
+      ≡ entries (pool_of options o s n) ++ entry_if options o s (n + 1) x
+  unfolding pool_of
+  made_more n x is = more (n + 1) (pool_of options o s n) x (pool_sized n) is
 
-  left_by : (n : ℕ) → n + 1 ≤ length (symbols o s) - 1 → entries (pool_of options o s n) ++ listed_from options o s (n + 1) (drop (n + 1) (symbols o s)) ≡ listed options o s
-      → ((x : Sym) × (n + 1 < length (symbols o s)) × (slice_get (symbols o s) (n + 1) ≡ Some x) × (get_or (symbols o s) (n + 1) x ≡ x)) ⊎ ((length (symbols o s) ≤ n + 1) × (slice_get (symbols o s) (n + 1) ≡ None))
-      → entries (pool_of options o s (suc n)) ++ listed_from options o s (n + 1 + 1) (drop (n + 1 + 1) (symbols o s)) ≡ listed options o s
-  left_by n le before (inl there) = next_left n there.0 there.2 there.1 (sym there.3) ∙ before
-  left_by n le before (inr past) = absurd (omega (arith, past.0, le))
-
-  pool_left : (n : ℕ) → n ≤ length (symbols o s) - 1 → entries (pool_of options o s n) ++ listed_from options o s (n + 1) (drop (n + 1) (symbols o s)) ≡ listed options o s
-  unfolding pool_of spot_entries listed
-  pool_left zero le = refl
-  pool_left (suc n) le =
-      let at : suc n + 1 ≡ n + 1 + 1 = omega arith in
-      subst (λ (k : ℕ). entries (pool_of options o s (suc n)) ++ listed_from options o s k (drop k (symbols o s)) ≡ listed options o s) (sym at)
-      (left_by n (omega (arith, le)) (pool_left n (omega (arith, le))) (slice_get_cases (symbols o s) (n + 1)).1)
+  made_none : entries (pool_of options o s 0) ≡ []
+  unfolding pool_of spot_entries
+  made_none = refl
 
   -- the entries of the pool of all symbols
-  pub pool_entries : (count : ℕ) → count ≡ length (symbols o s) → spot_entries options.by_value (pool_of options o s (count - 1)).names (pool_of options o s (count - 1)).spots ≡ listed options o s
-  unfolding listed_from spot_entries
+  pub pool_entries : (count : ℕ) → count ≡ length (symbols o s)
+      → spot_entries options.by_value (pool_of options o s (count - 1)).names
+      (pool_of options o s (count - 1)).spots ≡ listed options o s
   pool_entries count is =
-      let n = count - 1 in
-      let none : listed_from options o s (n + 1) (drop (n + 1) (symbols o s)) ≡ [] = at_drop_all (listed_from options o s (n + 1)) (symbols o s) (n + 1) (omega (arith, is)) in
-      sym (append-nil (entries (pool_of options o s n)))
-      ∙ ap (λ (es : List Entry). entries (pool_of options o s n) ++ es) (sym none)
-      ∙ pool_left n (omega (arith, is))
+      all_listed options o s (λ (n : ℕ). entries (pool_of options o s n)) made_none made_more count is
 
   -- one symbol more
   pub pool_next : (i : ℕ) (pool : Pool) → 1 ≤ i → pool ≡ pool_of options o s (i - 1) → with_symbol options o s pool i ≡ pool_of options o s (i + 1 - 1)

@@ -73,6 +73,12 @@ unfolding inserted
 all_inserted P e [] pe all = (pe, tt)
 all_inserted P e (g ∷ gs) pe all = all_either P e g gs (inserted e gs) (is_lt (entry_cmp g e)) pe all.0 all.1 (all_inserted P e gs pe all.1)
 
+pub all_in_order : (P : Entry → Type 0) (es : List Entry) → AllByRecursion P es
+    → AllByRecursion P (in_order es)
+unfolding in_order
+all_in_order P [] all = tt
+all_in_order P (e ∷ es) all = all_inserted P e (in_order es) all.0 (all_in_order P es all.1)
+
 lt_is : (r : Ordering) → is_lt r ≡ true → r ≡ Less
 lt_is Less e = refl
 lt_is Equal e = cc

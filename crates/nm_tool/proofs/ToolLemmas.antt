@@ -3,7 +3,9 @@ use Rattle.std.proofs.Common.{◌≡◌, ◌∙◌, ℕ, Bool, List, ◌-◌, le
 use Rattle.std.specs.Option.{option_map}
 use Rattle.std.proofs.lemmas.Simd.{map-map}
 use Rattle.elf_types.specs.declared.records.Kind.TheVariants as kinds
+use Rattle.elf_types.specs.declared.records.Class.{Class}
 use Rattle.elf_types.specs.declared.records.ScnId.{ScnId}
+use Rattle.elf_types.specs.declared.records.Sym.{Sym}
 use Rattle.elf_types.specs.declared.errors.ElfError.{ElfError}
 use Rattle.elf_types.specs.Text.{error_text}
 use Rattle.elf_xlate.specs.declared.content.Items.{Items}
@@ -11,9 +13,11 @@ use Rattle.elf_xlate.specs.declared.content.Items.TheVariants as items
 use Rattle.elf_xlate.specs.Translation.{items_kind, items_count}
 use Rattle.elf_outside.specs.declared.sources.Source.{Ghosts as SourceGhosts}
 use Rattle.elf_outside.specs.declared.sinks.Sink.{Ghosts as SinkGhosts}
-use Rattle.elf_object.specs.Object.{Object}
+use Rattle.elf_object.specs.Object.{Object, section_at}
 use Rattle.elf_object.specs.Answers.{count_at, items_at, syms_of, lend_refusal}
 use Rattle.elf_descriptor.specs.State.{State}
+use Rattle.gelf_view.specs.Calls.{IsTable}
+use Rattle.gelf_view.specs.declared.symbols.SymPlace.{SymPlace}
 use Rattle.tool_text.specs.declared.options.NmOptions.{NmOptions}
 use Rattle.tool_output.specs.declared.stops.Stop.{Stop}
 use Rattle.tool_output.specs.declared.stops.Stop.TheVariants.{Memory}
@@ -28,7 +32,11 @@ use Rattle.nm_tool.specs.Order.{Entry, in_order}
 use Rattle.nm_tool.specs.Keys.{as_entry}
 use Rattle.nm_tool.specs.Listed.{symbols, symbol_table}
 use Rattle.nm_tool.specs.Pools.{spot_entries, pool_of}
-use Rattle.nm_tool.specs.Tool.{entry_report, entries_report, rows_report, table_report, object_report, nm_report}
+use Rattle.nm_tool.specs.declared.symbols.Tables.{Tables}
+use Rattle.nm_tool.specs.Letters.{is_undefined, symbol_letter}
+use Rattle.nm_tool.specs.Rows.{row_text}
+use Rattle.nm_tool.specs.Tables.{AreTables}
+use Rattle.nm_tool.specs.Tool.{placed_row, entry_report, entries_report, rows_report, table_report, object_report, nm_report}
 use Rattle.nm_tool.specs.PoolReports.{row_report, pool_report}
 use Rattle.nm_tool.proofs.PoolLemmas.{pool_entries}
 
@@ -58,6 +66,26 @@ module _ (options : NmOptions) (file : Name) (o : Object) (s : ℕ) where
   pub table_refused : (r : Option ElfError) (e : ElfError) → r ≡ Some e → table_report options file o s r ≡ refusal_report (codes "nm") file (error_text e)
   unfolding table_report
   table_refused r e is = ap (table_report options file o s) is
+
+-- a row by what is worked out of it first
+pub row_placed : (options : NmOptions) (file : Name) (o : Object) (x : Sym) (place : Option SymPlace)
+    (class : Class) (undefined : Bool) (letter : ℕ) (name : List ℕ)
+    → class ≡ o.header.class → undefined ≡ is_undefined place → letter ≡ symbol_letter o x place
+    → row_text options class file undefined x letter name ≡ placed_row options file o x place name
+unfolding placed_row
+row_placed options file o x place class undefined letter name of_class of_place of_letter =
+    ap (λ (c : Class). row_text options c file undefined x letter name) of_class
+    ∙ ap (λ (u : Bool). row_text options o.header.class file u x letter name) of_place
+    ∙ ap (λ (l : ℕ). row_text options o.header.class file (is_undefined place) x l name) of_letter
+
+pub tables_are : (o : Object) (s : ScnId) (t : Tables) → t.symbols ≡ s
+    → t.names.0 ≡ (section_at o s.0).header.link → IsTable o s.0 t.indexes
+    → lend_refusal o kinds.Sym s.0 0 ≡ None → AreTables o t
+tables_are o s t is names indexes passed = record {
+  passed = subst (λ (u : ScnId). lend_refusal o kinds.Sym u.0 0 ≡ None) (sym is) passed;
+  names = subst (λ (u : ScnId). t.names.0 ≡ (section_at o u.0).header.link) (sym is) names;
+  indexes = subst (λ (u : ScnId). IsTable o u.0 t.indexes) (sym is) indexes;
+}
 
 some_is : {X : Type 0} {x y : X} → Some x ≡ Some y → x ≡ y
 some_is h = cc

@@ -7,3 +7,4 @@ pub mod Keys
 pub mod Pools
 pub mod Tables
 pub mod PoolReports
+pub mod Kept

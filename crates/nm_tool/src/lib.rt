@@ -1,6 +1,7 @@
 //! nm: the symbols of an object as lines of text (POSIX nm).
 #![tactic(auto)]
 
+mod kept;
 mod laws;
 mod letters;
 mod listed;

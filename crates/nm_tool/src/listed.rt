@@ -73,9 +73,9 @@ fn if_wanted<S: Source>(
     }
 }
 
-/// The same by its index.
+/// Symbol `i`, where it is there and wanted whatever its name.
 #[tactic(auto, unfolding(crate::specs::Pools::wanted_at))]
-fn wanted_at<S: Source>(
+pub fn wanted_at<S: Source>(
     elf: &mut Elf<S>,
     t: Tables,
     options: &NmOptions,

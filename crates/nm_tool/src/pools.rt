@@ -1,4 +1,5 @@
-//! The symbols that are listed, held until they are sorted.
+//! The symbols that are listed with copies of their names, held until they are sorted: where the
+//! bytes of the names are not at hand, as where they were edited.
 
 ghost use Rattle.std.specs.Prelude.{◌≡◌, if◌then◌else◌, [], IfOk, IfErr, All, map};
 ghost use Rattle.elf_types.specs.declared.errors.ElfError.TheVariants.{Memory};
@@ -61,7 +62,7 @@ impl Pool {
 
 /// The row of a symbol that has this name.
 #[tactic(auto, unfolding(crate::specs::Keys::as_entry))]
-fn row_of<'a>(by_value: bool, spot: Spot, name: &'a [u8]) -> Row<'a>
+pub fn row_of<'a>(by_value: bool, spot: Spot, name: &'a [u8]) -> Row<'a>
     ensures entry { as_entry by_value result ≡ record {
       value = if by_value then spot.value else 0;
       name = name.now;

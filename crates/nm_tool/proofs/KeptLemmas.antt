@@ -1,0 +1,296 @@
+-- The symbols that are wanted whatever their names, the rows of those that are listed, and their
+-- indexes in order.
+use Rattle.std.proofs.Common.{◌≡◌, ◌++◌, ◌+◌, ◌-◌, ◌<◌, ◌≤◌, ℕ, zero, suc, Bool, true, false, ◌&&◌, List, [], ◌∷◌, length, drop, get_or, map, Option, Some, None, IsTrue, refl, sym, ap, ◌∙◌, arith, append-nil, append_assoc}
+use Rattle.std.specs.Prelude.{not, slice_get, if◌then◌else◌}
+use Rattle.std.specs.List.{flat_map, AllByRecursion}
+use Rattle.std.proofs.lemmas.List.{flat_map_more, at_drop_more, at_drop_all, drop_more, length-drop, map-append}
+use Rattle.std.proofs.lemmas.Option.{slice_get-get_or}
+use Rattle.std.proofs.lemmas.Simd.{map-map}
+use Rattle.elf_types.specs.declared.records.Sym.{Sym}
+use Rattle.elf_object.specs.Object.{Object, section_at}
+use Rattle.elf_object.specs.Strings.{string_answer, readable, symbol_name}
+use Rattle.elf_descriptor.specs.State.{State}
+use Rattle.tool_text.specs.declared.options.NmOptions.{NmOptions}
+use Rattle.tool_output.specs.Names.{Name}
+use Rattle.tool_output.specs.Reports.{Report, joined, all_joined, reports_of}
+use Rattle.bytes_at_hand.specs.Strings.{HoldsStrings}
+use Rattle.nm_tool.specs.declared.kept.Kept.{Kept}
+use Rattle.nm_tool.specs.declared.order.Row.{Row}
+use Rattle.nm_tool.specs.Order.{Entry, in_order}
+use Rattle.nm_tool.specs.Keys.{as_entry}
+use Rattle.nm_tool.specs.Listed.{symbols, listed_name, name_or_none, is_empty, is_kept, is_wanted, is_listed, entry_of, entry_if, listed_from, listed}
+use Rattle.nm_tool.specs.Pools.{if_wanted, wanted_at}
+use Rattle.nm_tool.specs.Tool.{symbol_report, entry_report, entries_report, rows_report}
+use Rattle.nm_tool.specs.Kept.{kept_symbol, with_kept, kept_of, shown_name, shown_in, named_entry, kept_entry, kept_entries, order_of, row_if, shown_row, index_report}
+use Rattle.nm_tool.proofs.ListedLemmas.{all_listed}
+use Rattle.nm_tool.proofs.Sorting.{all_in_order}
+
+-- ---- The entries of what is kept
+
+module _ (options : NmOptions) (o : Object) (s : ℕ) where
+  abbrev entry : Kept → List Entry
+  entry k = kept_entry options.by_value (shown_name o s) k
+
+  entry_is : (i : ℕ) (x : Sym)
+      → entry (kept_symbol x i)
+      ≡ (if is_empty (listed_name o s x) then [] else entry_of options o s i x ∷ [])
+  unfolding listed_name symbol_name entry_of
+  entry_is i x = refl
+
+  module _ (list : List Kept) (i : ℕ) (x : Sym) where
+    abbrev made : Option Sym → List Kept
+    made w = elim w [ None ↦ list | Some y ↦ list ++ kept_symbol y i ∷ [] ]
+
+    turned : (empty : Bool)
+        → (if empty then [] else entry_of options o s i x ∷ [])
+        ≡ (if not empty then entry_of options o s i x ∷ [] else [])
+    turned true = refl
+    turned false = refl
+
+    one_more : flat_map entry (list ++ kept_symbol x i ∷ [])
+        ≡ flat_map entry list
+        ++ (if not (is_empty (listed_name o s x)) then entry_of options o s i x ∷ [] else [])
+    one_more =
+        sym (flat_map_more entry [] list (kept_symbol x i))
+        ∙ ap (λ (es : List Entry). flat_map entry list ++ es)
+        (entry_is i x ∙ turned (is_empty (listed_name o s x)))
+
+    by_tests : (kept wanted : Bool)
+        → flat_map entry (made (if kept then (if wanted then Some x else None) else None))
+        ≡ flat_map entry list
+        ++ (if kept && (wanted && not (is_empty (listed_name o s x)))
+        then entry_of options o s i x ∷ [] else [])
+    by_tests false wanted = sym (append-nil (flat_map entry list))
+    by_tests true false = sym (append-nil (flat_map entry list))
+    by_tests true true = one_more
+
+    more : slice_get (symbols o s) i ≡ Some x
+        → flat_map entry (with_kept options o s list i)
+        ≡ flat_map entry list ++ entry_if options o s i x
+    unfolding with_kept wanted_at is_listed
+    more is =
+        ap (λ (g : Option Sym). flat_map entry
+        (made (elim g [ None ↦ None | Some y ↦ if_wanted options o s i y ]))) is
+        ∙ by_tests (is_kept options x) (is_wanted options o s i x)
+
+  none_kept : kept_entries options.by_value (shown_name o s) (kept_of options o s 0) ≡ []
+  unfolding kept_of kept_entries
+  none_kept = refl
+
+  more_kept : (n : ℕ) (x : Sym) → slice_get (symbols o s) (n + 1) ≡ Some x
+      → kept_entries options.by_value (shown_name o s) (kept_of options o s (suc n))
+      ≡ kept_entries options.by_value (shown_name o s) (kept_of options o s n)
+      ++ entry_if options o s (n + 1) x
+  unfolding kept_of kept_entries
+  more_kept n x is = more (kept_of options o s n) (n + 1) x is
+
+  -- those of all symbols are what is listed
+  pub kept_listed : (count : ℕ) → count ≡ length (symbols o s)
+      → kept_entries options.by_value (shown_name o s) (kept_of options o s (count - 1))
+      ≡ listed options o s
+  kept_listed count is =
+      all_listed options o s
+      (λ (n : ℕ). kept_entries options.by_value (shown_name o s) (kept_of options o s n))
+      none_kept more_kept count is
+
+  -- one symbol more
+  pub kept_next : (i : ℕ) (list : List Kept) → 1 ≤ i → list ≡ kept_of options o s (i - 1)
+      → with_kept options o s list i ≡ kept_of options o s (i + 1 - 1)
+  unfolding kept_of
+  kept_next zero list begun is = absurd (omega (arith, begun))
+  kept_next (suc n) list begun is =
+      let before : suc n - 1 ≡ n = omega arith in
+      let after : suc n + 1 - 1 ≡ suc n = omega arith in
+      let here : suc n ≡ n + 1 = omega arith in
+      ap (λ (l : List Kept). with_kept options o s l (suc n)) (is ∙ ap (kept_of options o s) before)
+      ∙ ap (with_kept options o s (kept_of options o s n)) here
+      ∙ sym (ap (kept_of options o s) after)
+
+-- ---- Rows
+
+module _ (v : Bool) (name_of : ℕ → List ℕ) where
+  rows_none : (rows : List Row) → rows ≡ [] → map (as_entry v) rows ≡ []
+  rows_none rows none = ap (map (as_entry v)) none
+
+  pub rows_begin : (rows : List Row) (list : List Kept) → rows ≡ []
+      → map (as_entry v) rows ++ kept_entries v name_of (drop 0 list)
+      ≡ kept_entries v name_of list
+  rows_begin rows list none =
+      ap (λ (es : List Entry). es ++ kept_entries v name_of list) (rows_none rows none)
+
+  pub rows_more : (rows more : List Row) (list : List Kept) (i : ℕ) (k : Kept) (name : List ℕ)
+      → i < length list → k ≡ get_or list i k → name ≡ name_of k.name
+      → map (as_entry v) more ≡ map (as_entry v) rows ++ named_entry v k name
+      → map (as_entry v) rows ++ kept_entries v name_of (drop i list) ≡ kept_entries v name_of list
+      → map (as_entry v) more ++ kept_entries v name_of (drop (i + 1) list)
+      ≡ kept_entries v name_of list
+  unfolding kept_entries
+  rows_more rows more list i k name lt here named made so_far =
+      let later = flat_map (kept_entry v name_of) (drop (i + 1) list) in
+      ap (λ (es : List Entry). es ++ later)
+      (made ∙ ap (λ (l : List ℕ). map (as_entry v) rows ++ named_entry v k l) named)
+      ∙ append_assoc (map (as_entry v) rows) (kept_entry v name_of k) later
+      ∙ ap (λ (es : List Entry). map (as_entry v) rows ++ es)
+      (ap (λ (m : Kept). kept_entry v name_of m ++ later) here
+      ∙ sym (at_drop_more (flat_map (kept_entry v name_of)) list i k lt))
+      ∙ so_far
+
+  pub rows_all : (rows : List Row) (list : List Kept) (i : ℕ) → length list ≤ i
+      → map (as_entry v) rows ++ kept_entries v name_of (drop i list) ≡ kept_entries v name_of list
+      → map (as_entry v) rows ≡ kept_entries v name_of list
+  unfolding kept_entries
+  rows_all rows list i past so_far =
+      sym (append-nil (map (as_entry v) rows))
+      ∙ ap (λ (es : List Entry). map (as_entry v) rows ++ es)
+      (sym (at_drop_all (flat_map (kept_entry v name_of)) list i past))
+      ∙ so_far
+
+-- the rows with one more, or none for an empty name
+pub row_made : (v : Bool) (rows more : List Row) (row : Row) (k : Kept) (name : List ℕ)
+    → is_empty name ≡ false → more ≡ rows ++ row ∷ []
+    → as_entry v row
+    ≡ record { value = if v then k.value else 0; name = name; index = k.index }
+    → map (as_entry v) more ≡ map (as_entry v) rows ++ named_entry v k name
+row_made v rows more row k name some made is =
+    let e : Entry = record { value = if v then k.value else 0; name = name; index = k.index } in
+    ap (map (as_entry v)) made ∙ map-append (as_entry v) rows (row ∷ [])
+    ∙ ap (λ (x : Entry). map (as_entry v) rows ++ x ∷ []) is
+    ∙ ap (λ (b : Bool). map (as_entry v) rows ++ (if b then [] else e ∷ [])) (sym some)
+
+pub row_left : (v : Bool) (rows : List Row) (k : Kept) (name : List ℕ) → is_empty name ≡ true
+    → map (as_entry v) rows ≡ map (as_entry v) rows ++ named_entry v k name
+row_left v rows k name empty =
+    let e : Entry = record { value = if v then k.value else 0; name = name; index = k.index } in
+    sym (append-nil (map (as_entry v) rows))
+    ∙ ap (λ (b : Bool). map (as_entry v) rows ++ (if b then [] else e ∷ [])) (sym empty)
+
+-- ---- Indexes
+
+row_index : (v : Bool) (r : Row) → (as_entry v r).index ≡ r.index
+unfolding as_entry
+row_index v r = refl
+
+map_same : {X Y : Type 0} (f g : X → Y) → ((x : X) → f x ≡ g x) → (xs : List X) → map f xs ≡ map g xs
+map_same f g same [] = refl
+map_same {X} {Y} f g same (x ∷ xs) =
+    ap (λ (y : Y). y ∷ map f xs) (same x) ∙ ap (λ (ys : List Y). g x ∷ ys) (map_same f g same xs)
+
+pub order_made : (v : Bool) (name_of : ℕ → List ℕ) (list : List Kept) (old new : List Row)
+    → map (as_entry v) old ≡ kept_entries v name_of list
+    → map (as_entry v) new ≡ in_order (map (as_entry v) old)
+    → map (λ (r : Row). r.index) new ≡ order_of v name_of list
+unfolding order_of
+order_made v name_of list old new made sorted =
+    map_same (λ (r : Row). r.index) (λ (r : Row). (as_entry v r).index)
+    (λ r. sym (row_index v r)) new
+    ∙ sym (map-map (λ (e : Entry). e.index) (as_entry v) new)
+    ∙ ap (map (λ (e : Entry). e.index))
+    (sorted ∙ ap in_order made)
+
+flat_same : {X Y : Type 0} (f g : X → List Y) → ((x : X) → f x ≡ g x) → (xs : List X)
+    → flat_map f xs ≡ flat_map g xs
+flat_same f g same [] = refl
+flat_same {X} {Y} f g same (x ∷ xs) =
+    ap (λ (ys : List Y). ys ++ flat_map f xs) (same x)
+    ∙ ap (λ (ys : List Y). g x ++ ys) (flat_same f g same xs)
+
+-- the same order by the same names
+pub order_same : (v : Bool) (f g : ℕ → List ℕ) → ((at : ℕ) → f at ≡ g at) → (list : List Kept)
+    → order_of v f list ≡ order_of v g list
+unfolding order_of kept_entries
+order_same v f g same list =
+    ap (λ (es : List Entry). map (λ (e : Entry). e.index) (in_order es))
+    (flat_same (kept_entry v f) (kept_entry v g)
+    (λ k. ap (named_entry v k) (same k.name)) list)
+
+-- names that stand in the bytes of the section to which a table links
+pub names_held : {S : Type 0} (state : State S) (s names : ℕ) (strings : List ℕ)
+    → names ≡ (section_at state.o s).header.link → HoldsStrings state names strings
+    → IsTrue state.told → (at : ℕ) → shown_in strings at ≡ shown_name state.o s at
+names_held state s names strings linked holds told at =
+    ap name_or_none (sym (holds told at))
+    ∙ ap (λ (n : ℕ). name_or_none (readable (string_answer state.o n at))) linked
+
+-- ---- What is said of them
+
+some_same : (x y : Sym) → ◌≡◌ {A = Option Sym} (Some x) (Some y) → x ≡ y
+some_same x y same = cc
+
+first_left : (l : List Sym) (i : ℕ) (x : Sym) (xs : List Sym) → drop i l ≡ x ∷ xs
+    → (slice_get l i ≡ Some x) × (drop (i + 1) l ≡ xs)
+first_left l i x xs left =
+    let lt : i < length l =
+    omega (arith, length-drop i l, ap (λ (m : List Sym). length m) left) in
+    let both : ◌≡◌ {A = List Sym} (get_or l i x ∷ drop (i + 1) l) (x ∷ xs) =
+    sym (drop_more l i x lt) ∙ left in
+    let head : get_or l i x ≡ x = cc in
+    let tail : drop (i + 1) l ≡ xs = cc in
+    (slice_get-get_or l i x lt ∙ ap Some head, tail)
+
+module _ (options : NmOptions) (file : Name) (o : Object) (s : ℕ) where
+  -- an entry has the name of its symbol
+  abbrev IsNamed : Entry → Type 0
+  IsNamed e = (x : Sym) → slice_get (symbols o s) e.index ≡ Some x → e.name ≡ listed_name o s x
+
+  named_if : (i : ℕ) (x : Sym) (listed : Bool) → slice_get (symbols o s) i ≡ Some x
+      → AllByRecursion IsNamed (if listed then entry_of options o s i x ∷ [] else [])
+  unfolding entry_of
+  named_if i x true here =
+      (λ y there. ap (listed_name o s) (some_same x y (sym here ∙ there)), tt)
+  named_if i x false here = tt
+
+  both_named : (es fs : List Entry) → AllByRecursion IsNamed es → AllByRecursion IsNamed fs
+      → AllByRecursion IsNamed (es ++ fs)
+  both_named [] fs all more = more
+  both_named (e ∷ es) fs all more = (all.0, both_named es fs all.1 more)
+
+  from_named : (xs : List Sym) (i : ℕ) → drop i (symbols o s) ≡ xs
+      → AllByRecursion IsNamed (listed_from options o s i xs)
+  unfolding listed_from
+  from_named [] i left = tt
+  from_named (x ∷ xs) i left =
+      let here = first_left (symbols o s) i x xs left in
+      both_named (entry_if options o s i x) (listed_from options o s (i + 1) xs)
+      (named_if i x (is_listed options o s i x) here.0) (from_named xs (i + 1) here.1)
+
+  all_named : AllByRecursion IsNamed (listed options o s)
+  unfolding listed
+  all_named = from_named (drop 1 (symbols o s)) 1 refl
+
+  report_is : (e : Entry) → IsNamed e
+      → entry_report options file o s e.index e.name ≡ index_report options file o s e.index
+  unfolding entry_report index_report shown_row
+  report_is e named = by_symbol (slice_get (symbols o s) e.index) refl
+    where
+      by_symbol : (g : Option Sym) → slice_get (symbols o s) e.index ≡ g
+          → symbol_report options file o s e.index e.name g ≡ row_if options file o s e.index g
+      by_symbol None is = refl
+      by_symbol (Some x) is =
+          ap (λ (name : List ℕ). symbol_report options file o s e.index name (Some x)) (named x is)
+
+  abbrev line : Entry → Report
+  line e = entry_report options file o s e.index e.name
+
+  reports_are : (es : List Entry) → AllByRecursion IsNamed es
+      → reports_of line es
+      ≡ reports_of (index_report options file o s) (map (λ (e : Entry). e.index) es)
+  unfolding reports_of all_joined
+  reports_are [] all = refl
+  reports_are (e ∷ es) all =
+      ap (λ (r : Report). joined r (all_joined (map line es))) (report_is e all.0)
+      ∙ ap (joined (index_report options file o s e.index)) (reports_are es all.1)
+
+  -- the rows of a table are those of its kept symbols in order
+  pub order_reported : (count : ℕ) (list : List Kept) (order : List ℕ)
+      → count ≡ length (symbols o s) → list ≡ kept_of options o s (count - 1)
+      → order ≡ order_of options.by_value (shown_name o s) list
+      → rows_report options file o s ≡ reports_of (index_report options file o s) order
+  unfolding rows_report entries_report order_of
+  order_reported count list order counted kept is =
+      reports_are (in_order (listed options o s))
+      (all_in_order IsNamed (listed options o s) all_named)
+      ∙ ap (λ (es : List Entry). reports_of (index_report options file o s)
+      (map (λ (e : Entry). e.index) (in_order es)))
+      (sym (ap (kept_entries options.by_value (shown_name o s)) kept
+      ∙ kept_listed options o s count counted))
+      ∙ sym (ap (reports_of (index_report options file o s)) is)
