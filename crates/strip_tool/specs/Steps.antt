@@ -1,28 +1,24 @@
 -- The step of strip on a descriptor.
-use Rattle.std.specs.Prelude.{◌≡◌, ◌≤◌, ℕ, Bool, true, List, IsTrue, IfOk, IfSome, Result, Ok, Err}
+use Rattle.std.specs.Prelude.{◌≡◌, ◌≤◌, ℕ, Bool, List, IsTrue, Result}
 use Rattle.elf_types.specs.declared.errors.ElfError.{ElfError}
-use Rattle.elf_types.specs.Answers.{stated_refusal}
 use Rattle.elf_outside.specs.declared.sources.Source.{Ghosts}
 use Rattle.elf_outside.specs.Asks.{Leaves, ReadRose}
 use Rattle.elf_descriptor.specs.State.{State}
-use Rattle.command_objects.specs.Arranged.{Rebuilt}
+use Rattle.command_objects.specs.Files.{file_made}
 use Rattle.command_objects.specs.Removed.{removed_sections}
 use Rattle.command_objects.specs.Rebuilt.{rebuilt}
-use Rattle.strip_rebuild.specs.declared.rebuilding.Rebuilt.{Rebuilt as Made}
+use Rattle.strip_contents.specs.declared.plans.RangedPlan.{RangedPlan}
+use Rattle.strip_contents.specs.Plans.{FileAnswers}
 
--- an object was made as is stated, or refused so
-abbrev pub IsMade : Result Made ElfError → Result Rebuilt ElfError → Type 0
-IsMade (Ok r) stated = stated ≡ Ok (record { object = r.elf.o; tail = r.tail })
-IsMade (Err e) stated = IfSome (stated_refusal e) (λ d. stated ≡ Err d)
-
--- It makes the object without the removed sections, where the source tells its bytes. Over every
--- source it leaves what the source holds, tells the cause of a failed read, and what it makes is
--- known.
-pub record Strips {S : Type 0} (g : Ghosts S) (debug_only : Bool) (names : List (List ℕ))
-    (result : Result Made ElfError) (old new : State S) : Type 0 where
+-- It plans the file of the object without the removed sections, or refuses it, where the source
+-- tells its bytes. Over every source it leaves the object and what the source holds, and tells the
+-- cause of a failed read.
+pub record PlansStripped {S : Type 0} (g : Ghosts S) (debug_only : Bool) (names : List (List ℕ))
+    (result : Result RangedPlan ElfError) (old new : State S) : Type 0 where
+  pub answer : IsTrue old.told → FileAnswers old.o.base result
+      (file_made (rebuilt old.o (removed_sections debug_only names old.o)))
+  pub object : new.o ≡ old.o
+  pub told : new.told ≡ old.told
   pub leaves : Leaves g old.source new.source
   pub later : g.faults old.source ≤ g.faults new.source
   pub read : ReadRose result (g.faults old.source) (g.faults new.source)
-  pub made : IsTrue old.told
-      → IsMade result (rebuilt old.o (removed_sections debug_only names old.o))
-  pub told : IfOk result (λ r. r.elf.told ≡ true)

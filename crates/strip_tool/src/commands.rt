@@ -1,12 +1,16 @@
 //! The image of an open file without the sections that are removed, and the new file of it.
 
 ghost use Rattle.std.specs.Prelude.{codes};
+ghost use Rattle.object_output.specs.Images.{file_object};
+ghost use Rattle.tool_output.specs.Made.{written_outcome};
+ghost use Rattle.object_writing.specs.Writes.{image_done};
 ghost use Rattle.strip_tool.specs.Writes.{object_done};
 
-use crate::making::make_stripped;
-use elf_descriptor::Elf;
+use crate::writing::write_stripped;
 use elf_outside::{Files, Sink, Source};
-use object_writing::{ImageCommand, refuse_for, write_object};
+use object_files::FileEdit;
+use object_output::begin_image;
+use object_writing::refuse_for;
 use std::alloc::Global;
 use tool_output::{Outputs, Stop};
 use tool_text::Args;
@@ -22,39 +26,38 @@ pub struct StripCommand<'a> {
     pub out: &'a str,
 }
 
-/// The image is made anew without the sections that are removed, and written to the new file. The
-/// object that is made is held meanwhile. What is refused has the message that says why: then no
-/// file is made.
-impl ImageCommand for StripCommand<'_> {
-    ghost named = { λ _. codes "strip" };
+/// The image without the sections that are removed is written to the new file, while the old one is
+/// open: what stays as it is is copied range by range. What has no front of an image, an archive,
+/// and an image that cannot be made anew have the message that says why: then no file is made.
+impl FileEdit for StripCommand<'_> {
+    ghost command = { λ _. codes "strip" };
 
-    ghost done = { λ t file o. object_done t.debug_only t.names.now file t.out.now o };
+    ghost outcome = { λ t name bytes. written_outcome (codes "strip")
+        (image_done (λ file o. object_done t.debug_only t.names.now file t.out.now o) name
+        (file_object bytes)) };
 
-    fn name(&self) -> &'static str {
+    fn command(&self) -> &'static str {
         "strip"
     }
 
-    fn write<S: Source, F: Files, O: Sink, E: Sink>(
+    fn edit<S: Source, F: Files, O: Sink, E: Sink>(
         &self,
         alloc: Global,
-        elf: &mut Elf<S>,
-        file: &[u8],
+        src: S,
+        name: &[u8],
         files: &mut F,
         outputs: &mut Outputs<'_, O, E>,
-    ) -> Result<bool, Stop> {
-        match make_stripped(alloc, elf, self.debug_only, self.names) {
-            Ok(mut made) => {
-                write_object(
-                    alloc,
-                    &mut made.elf,
-                    "strip",
-                    file,
-                    self.out,
-                    files,
-                    outputs,
-                )
+    ) -> (S, Result<bool, Stop>) {
+        match begin_image(alloc, src) {
+            Ok(elf) => {
+                let _sound = elf.dirty();
+                let (after, written) = write_stripped(self, alloc, elf, name, files, outputs);
+                (after.end(), written)
             }
-            Err(e) => refuse_for("strip", file, e, outputs),
+            Err((src, e)) => {
+                let refused = refuse_for("strip", name, e, outputs);
+                (src, refused)
+            }
         }
     }
 }

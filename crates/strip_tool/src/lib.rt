@@ -1,10 +1,15 @@
 //! The command `strip` without `-f`: the image of a file without the sections that are removed is
-//! written to a new file. `make_stripped` makes its object with a descriptor, and `StripCommand`
-//! writes what that gives.
+//! written to a new file, range by range of the open one. `plan_stripped` answers where each part
+//! of it stands and where its bytes are, `write_plan` copies them, and `StripCommand` does both.
 #![tactic(auto)]
 
 pub mod commands;
-pub mod making;
+pub mod copying;
+pub mod named;
+pub mod planning;
+mod writing;
 
 pub use commands::StripCommand;
-pub use making::make_stripped;
+pub use copying::write_plan;
+pub use named::strip_named;
+pub use planning::plan_stripped;

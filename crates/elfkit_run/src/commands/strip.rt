@@ -7,15 +7,14 @@ ghost use Rattle.tool_output.specs.Outcomes.{Does};
 ghost use Rattle.command_outcomes.specs.Strip.{strip_outcome};
 
 use elf_outside::{Files, Sink};
-use object_writing::edit_named;
 use std::alloc::Global;
-use strip_tool::StripCommand;
+use strip_tool::{StripCommand, strip_named};
 use tool_output::{Outputs, Stop};
 use tool_text::{StripOptions, Text};
 
 /// The command strip without `-f`: the image without what is removed is written to a new file while
-/// the old one is open. Where it is refused, the message says why, and no file is made. The answer
-/// tells whether it was refused.
+/// the old one is open, and what stays as it is is copied range by range. Where it is refused, the
+/// message says why, and no file is made. The answer tells whether it was refused.
 pub fn strip<F: Files, O: Sink, E: Sink>(
     alloc: Global,
     options: &StripOptions,
@@ -36,5 +35,5 @@ pub fn strip<F: Files, O: Sink, E: Sink>(
         names: &options.names,
         out: options.out.as_str(),
     };
-    edit_named(alloc, &command, file.as_str(), files, outputs)
+    strip_named(alloc, &command, file.as_str(), files, outputs)
 }

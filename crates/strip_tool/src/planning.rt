@@ -1,0 +1,37 @@
+//! The plan of what is kept.
+
+ghost use Rattle.std.specs.Prelude.{◌≡◌, false, IsTrue};
+ghost use Rattle.elf_object.specs.Object.{is_dirty};
+ghost use Rattle.elf_object.specs.Valid.{IsTied};
+ghost use Rattle.strip_laws.specs.Made.{FitsClass};
+ghost use Rattle.strip_tool.specs.Steps.{PlansStripped};
+
+use elf_descriptor::Elf;
+use elf_outside::Source;
+use elf_types::ElfError;
+use std::alloc::Global;
+use strip_contents::{RangedPlan, plan_rebuilt};
+use strip_removed::removed;
+use tool_text::Args;
+
+/// The plan of the image of an object in which nothing is dirty, without the sections that the
+/// names and the kind of the command remove: where each part stands, and where its bytes are. It
+/// refuses as `plan_rebuilt`, and reads as `removed` and `plan_rebuilt`.
+///
+/// Source: strip(1) of the development tools.
+pub fn plan_stripped<S: Source>(
+    alloc: Global,
+    elf: &mut Elf<S>,
+    debug_only: bool,
+    names: &Args,
+) -> Result<RangedPlan, ElfError>
+    requires clean { is_dirty elf.old.o ≡ false }
+    requires tied { IsTrue elf.old.told → IsTied elf.old.o }
+    requires fits { FitsClass elf.old.o }
+    ensures { PlansStripped S.Source debug_only names.now result elf.old elf.new }
+{
+    match removed(alloc, elf, debug_only, names) {
+        Ok(set) => plan_rebuilt(alloc, elf, &set),
+        Err(e) => Err(e),
+    }
+}
