@@ -1,0 +1,332 @@
+-- What comes of an object that was made anew.
+use Rattle.std.proofs.Common.{◌≡◌, ◌⊎◌, ◌==◌, ◌&&◌, ◌||◌, ◌+◌, ◌-◌, ◌<◌, ◌≤◌, ℕ, zero, suc, Bool, true, false, not, cond, List, [], ◌∷◌, length, Option, Some, None, Result, Ok, Err, refl, sym, ap, ◌∙◌, subst, inl, inr, arith, ⊎_elim}
+use Rattle.std.specs.Prelude.{IsTrue, IfSome, filter, nat_eq, nat_lt, nat_le, if◌then◌else◌}
+use Rattle.std.specs.List.{range_with_len, list_any, position, position_from}
+use Rattle.std.proofs.lemmas.Bool.{and_parts, and_cases, cases_eq, eqb-true, ne_eqb, not-true, not-false, leb-false, ltb-true, lt-ltb, eq-eqb}
+use Rattle.std.proofs.lemmas.Iterator.Adapters.{position_from-zero}
+use Rattle.elf_types.specs.declared.errors.ElfError.{ElfError}
+use Rattle.elf_types.specs.declared.errors.ElfError.TheVariants.{Memory, Read, Write, TooLarge, NoSection, Unfit}
+use Rattle.elf_types.specs.declared.records.Part.TheVariants as part
+use Rattle.elf_types.specs.Answers.{refused_if, first_refusal, answered, FollowsBy, ◌>>=◌}
+use Rattle.elf_descriptor.specs.State.{State}
+use Rattle.elf_descriptor.specs.Edits.{StepsTo}
+use Rattle.elf_object.specs.Object.{Object, Section}
+use Rattle.elf_object.specs.Calls.{update_ehdr_refusal}
+use Rattle.elf_object.specs.Steps.{stored_ehdr}
+use Rattle.elf_xlate.specs.Headers.{ehdr_fits}
+use Rattle.command_objects.specs.Words.{is_among, number_or_0}
+use Rattle.command_objects.specs.Followed.{Renumbering, renumbering, kept_sections, kept_from_1, followed, renumbered, is_section_number}
+use Rattle.command_objects.specs.Arranged.{Rebuilt, arranged, tail_refusal, placed_from, parts_from}
+use Rattle.command_objects.specs.Rebuilt.{rebuilt, rebuilt_object, rebuilt_sections, rebuilt_index, rebuilt_tail, renews_names, index_refusal}
+use Rattle.command_objects.specs.Copied.{Changes, CopyFault as StatedFault, or_strip, with_changes}
+use Rattle.object_making.specs.Placing.{made_of, arranged_refusal, placed_state, arranged_state}
+use Rattle.elf_layout.specs.Layout.{some_above, limit_of}
+use Rattle.strip_removed.specs.Steps.{IsRemovable}
+use Rattle.strip_rebuild.proofs.NumberLaws.{zero_stays, kept_with_0}
+use Rattle.strip_laws.proofs.RebuiltLaws.{rebuilt_known}
+use Rattle.copy_laws.proofs.Reopened.{front_is}
+use Rattle.copy_laws.proofs.AllChanges.{places_leave}
+use Rattle.copy_changes.specs.declared.faults.CopyFault.{CopyFault}
+use Rattle.copy_changes.specs.declared.faults.CopyFault.TheVariants as faults
+use Rattle.copy_changes.specs.Stated.{stated_fault, IsUnread}
+use Rattle.copy_edits.specs.Steps.{IsThere, Alters}
+use Rattle.copy_edits.proofs.FaultLaws.{unread_on}
+use Rattle.copy_edits.proofs.StepLaws.{told_on, refused_bind}
+use Rattle.elf_copy.specs.Copies.{placed, changed_placed, usable_at, IsUsable, IsNoSection, Places}
+
+-- ---- A refusal of a step, as a fault
+
+pub strip_given : {A : Type 0} (e : ElfError) (r : Result A ElfError) → r ≡ Err e
+    → IfSome (stated_fault (faults.Strip e)) (λ d. or_strip r ≡ Err d)
+strip_given Memory r is = tt
+strip_given Read r is = tt
+strip_given {A} e r is = ap (λ (x : Result A ElfError). or_strip x) is
+
+-- ---- Places
+
+module _ {S : Type 0} (s : State S) where
+  placed_told : (tail : ℕ) → (placed_state s tail).told ≡ s.told
+  placed_told tail = by_count (length s.o.sections == 0)
+    where
+      by_count : (b : Bool)
+          → (if b then s else record s { o = placed_from s.o tail; ready = false }).told ≡ s.told
+      by_count true = refl
+      by_count false = refl
+
+  arranged_told : (tail : Option ℕ) → (arranged_state s tail).told ≡ s.told
+  arranged_told None = refl
+  arranged_told (Some tail) = placed_told tail
+
+-- a tail is refused for its places alone
+tail_large : (o : Object) (n : ℕ) (d : ElfError) → tail_refusal o n ≡ Some d → d ≡ TooLarge
+unfolding tail_refusal
+tail_large o n d is = by_test (some_above (limit_of o.header.class) (parts_from o n)) is
+  where
+    by_test : (b : Bool) → refused_if b TooLarge ≡ Some d → d ≡ TooLarge
+    by_test true is = cc
+    by_test false is = cc
+
+module _ {S : Type 0} (tail : Option ℕ) (old new : State S) where
+  pub placed_all : StepsTo {A = Unit {0}} {E = ElfError} (Ok tt) old new (arranged_state old tail)
+      → Ok (made_of new.o tail) ≡ arranged (made_of old.o tail)
+      → Places (placed tail old.o) tail (Ok tt) old new
+  placed_all state is = record {
+    told = ap (λ (s : State S). s.told) state ∙ arranged_told old tail;
+    unread = tt;
+    placed = λ t. ap (λ (r : Result Rebuilt ElfError). or_strip r) (sym is);
+  }
+
+  large_only : (e : ElfError)
+      → ◌≡◌ {A = Result (Unit {0}) ElfError} (Err e) (answered (arranged_refusal old.o tail) tt)
+      → e ≡ TooLarge
+  large_only e is = by_tail tail is
+    where
+      by_refusal : (o : Option ElfError) → ((d : ElfError) → o ≡ Some d → d ≡ TooLarge)
+          → ◌≡◌ {A = Result (Unit {0}) ElfError} (Err e) (answered o tt) → e ≡ TooLarge
+      by_refusal None only is = cc
+      by_refusal (Some d) only is = let same : e ≡ d = cc in same ∙ only d refl
+
+      by_tail : (t : Option ℕ)
+          → ◌≡◌ {A = Result (Unit {0}) ElfError} (Err e) (answered (arranged_refusal old.o t) tt)
+          → e ≡ TooLarge
+      by_tail None is = cc
+      by_tail (Some n) is = by_refusal (tail_refusal old.o n) (tail_large old.o n) is
+
+  pub placed_end : (e : ElfError)
+      → StepsTo {A = Unit {0}} {E = ElfError} (Err e) old new (arranged_state old tail)
+      → ◌≡◌ {A = Result Rebuilt ElfError} (Err e) (arranged (made_of old.o tail))
+      → ◌≡◌ {A = Result (Unit {0}) ElfError} (Err e) (answered (arranged_refusal old.o tail) tt)
+      → Places (placed tail old.o) tail (Err (faults.Strip e)) old new
+  placed_end e state is answer = record {
+    told = ap (λ (s : State S). s.told) state;
+    unread =
+        subst (λ (d : ElfError). IsUnread {T = Unit {0}} (Err (faults.Strip d)))
+        (sym (large_only e answer)) tt;
+    placed = λ t. strip_given e (arranged (made_of old.o tail)) (sym is);
+  }
+
+-- ---- Changes and places
+
+module _ {S : Type 0} (c : Changes) (renewed : Bool) (tail : Option ℕ) (old mid : State S) where
+  pub changed_placed_then : (q : Result (Unit {0}) CopyFault) (new : State S)
+      → Alters {T = Unit {0}} (with_changes c renewed old.o) (Ok tt) old mid
+      → Places (placed tail mid.o) tail q mid new
+      → Places (changed_placed c renewed tail old.o) tail q old new
+  changed_placed_then q new first second = record {
+    told = second.told ∙ first.told;
+    unread = second.unread;
+    placed = λ t.
+        subst (λ (r : Result Object StatedFault).
+        FollowsBy (λ (u : Unit {0}). made_of new.o tail) stated_fault q (r >>= placed tail))
+        (sym (first.altered t)) (second.placed (told_on old mid first.told t));
+  }
+
+  pub changed_placed_end : (f : CopyFault)
+      → Alters {T = Unit {0}} (with_changes c renewed old.o) (Err f) old mid
+      → Places (changed_placed c renewed tail old.o) tail (Err f) old mid
+  changed_placed_end f first = record {
+    told = first.told;
+    unread = first.unread;
+    placed = λ t.
+        refused_bind (with_changes c renewed old.o) (placed tail) (stated_fault f)
+        (first.altered t);
+  }
+
+-- the index of an object that is usable is that of a section, or 0
+pub usable_low : (o : Object) (renewed : Bool) → IsUsable o renewed
+    → (o.header.shstrndx ≡ 0) ⊎ (o.header.shstrndx < length o.sections)
+usable_low o renewed (inl none) = inl none.0
+usable_low o renewed (inr there) = inr there.1
+
+-- ---- The test of the index
+
+usable_zero : (index : ℕ) (count : ℕ) (renewed : Bool) → index ≡ 0
+    → usable_at index count renewed ≡ not renewed
+usable_zero index count renewed none =
+    ap (λ (b : Bool). if b then not renewed else nat_lt index count) (eq-eqb index 0 none)
+
+usable_other : (index : ℕ) (count : ℕ) (renewed : Bool) → (index ≡ 0 → ⊥)
+    → usable_at index count renewed ≡ nat_lt index count
+usable_other index count renewed some =
+    ap (λ (b : Bool). if b then not renewed else nat_lt index count) (ne_eqb index 0 some)
+
+module _ (o : Object) (renewed : Bool) (index count : ℕ) (b : Bool)
+    (index_is : index ≡ o.header.shstrndx) (count_is : count ≡ length o.sections)
+    (is : b ≡ usable_at index count renewed) where
+  pub checked_usable : b ≡ true → IsUsable o renewed
+  checked_usable holds = elim (cases_eq index 0) [
+    | inl none ↦ inl (
+      sym index_is ∙ none,
+      not-true renewed (sym (usable_zero index count renewed none) ∙ sym is ∙ holds),
+    )
+    | inr some ↦
+        let below = ltb-true index count
+        (sym (usable_other index count renewed some) ∙ sym is ∙ holds) in
+        inr (omega (arith, some, index_is), omega (arith, below, index_is, count_is))
+  ]
+
+  pub checked_unusable : b ≡ false → IsUsable o renewed → ⊥
+  checked_unusable fails (inl none) =
+      let holds = usable_zero index count renewed (index_is ∙ none.0) in
+      let both : false ≡ true =
+      sym fails ∙ is ∙ holds ∙ ap not none.1 in cc
+  checked_unusable fails (inr there) =
+      let from = there.0 in
+      let below = there.1 in
+      let some : index ≡ 0 → ⊥ = λ none. omega (arith, none, index_is, from) in
+      let holds = usable_other index count renewed some
+      ∙ lt-ltb index count (omega (arith, index_is, count_is, below)) in
+      let both : false ≡ true = sym fails ∙ is ∙ holds in cc
+
+pub no_section_unread : (T : Type 0) (e : ElfError) → IsNoSection e
+    → IsUnread {T = T} (Err (faults.Strip e))
+no_section_unread T Read is = absurd is
+no_section_unread T Write is = absurd is
+no_section_unread T e is = tt
+
+-- ---- What rebuild makes has a usable index
+
+two_passed : {E : Type 0} (a b : Bool) (d e : E)
+    → first_refusal (refused_if a d ∷ refused_if b e ∷ []) ≡ None → a ≡ false
+two_passed true b d e is = cc
+two_passed false b d e is = refl
+
+index_low : (o : Object) (sections : List Section) (index : ℕ)
+    → index_refusal o sections index ≡ None → (index ≡ 0) ⊎ (index < length sections)
+unfolding index_refusal update_ehdr_refusal stored_ehdr
+index_low o sections index passed =
+    ⊎_elim
+    (λ zero_is. inl (eqb-true index 0 (not-false (index == 0) zero_is)))
+    (λ below. inr (leb-false (length sections) index below))
+    (and_cases (not (index == 0)) (nat_le (length sections) index)
+    (two_passed (not (index == 0) && nat_le (length sections) index)
+    (not (ehdr_fits (stored_ehdr (record o.header { shnum = length sections })
+    (record o.header { shstrndx = index }))))
+    (NoSection index (length sections)) (Unfit part.Header 0) passed))
+
+module _ (f : ℕ → Bool) (n : ℕ) where
+  among_some : (a m : ℕ) → list_any (nat_eq n) (filter f (range_with_len a m)) ≡ true → 0 < m
+  among_some a zero is = let never : false ≡ true = is in cc
+  among_some a (suc m) is = omega arith
+
+  among_from : (a m : ℕ) → list_any (nat_eq n) (filter f (range_with_len a m)) ≡ true → a ≤ n
+  among_from a zero is = let never : false ≡ true = is in cc
+  among_from a (suc m) is = by_kept (f a) (among_from (a + 1) m) is
+    where
+      by_here : (b : Bool) → nat_eq n a ≡ b
+          → (list_any (nat_eq n) (filter f (range_with_len (a + 1) m)) ≡ true → a + 1 ≤ n)
+          → (b || list_any (nat_eq n) (filter f (range_with_len (a + 1) m))) ≡ true → a ≤ n
+      by_here true here later is = let same = eqb-true n a here in omega (arith, same)
+      by_here false here later is = let more = later is in omega (arith, more)
+
+      by_kept : (b : Bool)
+          → (list_any (nat_eq n) (filter f (range_with_len (a + 1) m)) ≡ true → a + 1 ≤ n)
+          → list_any (nat_eq n)
+          (cond b (a ∷ filter f (range_with_len (a + 1) m)) (filter f (range_with_len (a + 1) m)))
+          ≡ true → a ≤ n
+      by_kept true later is = by_here (nat_eq n a) refl later is
+      by_kept false later is = let more = later is in omega (arith, more)
+
+-- the position of one that is there
+found_past : (n : ℕ) (l : List ℕ) (a : ℕ) → list_any (nat_eq n) l ≡ true → 0 < a
+    → 0 < number_or_0 (position_from (nat_eq n) a l)
+found_past n [] a is from = let never : false ≡ true = is in cc
+found_past n (x ∷ l) a is from = by_test (nat_eq n x) (λ e. found_past n l (a + 1) e (omega (arith, from))) is
+  where
+    by_test : (b : Bool)
+        → (list_any (nat_eq n) l ≡ true → 0 < number_or_0 (position_from (nat_eq n) (a + 1) l))
+        → (b || list_any (nat_eq n) l) ≡ true
+        → 0 < number_or_0 (cond b (Some a) (position_from (nat_eq n) (a + 1) l))
+    by_test true later is = from
+    by_test false later is = later is
+
+followed_by : (m : Renumbering) (n : ℕ) (b : Bool) → is_section_number m n ≡ b
+    → followed m n ≡ (if b then number_or_0 (position (nat_eq n) m.kept) else n)
+unfolding followed renumbered
+followed_by m n b is =
+    ap (λ (t : Bool). if t then number_or_0 (position (nat_eq n) m.kept) else n) is
+
+module _ (o : Object) (removed : List ℕ) (n : ℕ) (removable : IsRemovable o removed)
+    (kept : is_among (kept_from_1 o removed) n ≡ true) where
+  from_1 : 0 < n
+  unfolding is_among kept_from_1
+  from_1 =
+      let from = among_from (λ s. not (is_among removed s)) n 1 (length o.sections - 1) kept in
+      omega (arith, from)
+
+  some_sections : 0 < length o.sections
+  unfolding is_among kept_from_1
+  some_sections =
+      let some = among_some (λ s. not (is_among removed s)) n 1 (length o.sections - 1) kept in
+      omega (arith, some)
+
+  kept_is : kept_sections o removed ≡ 0 ∷ kept_from_1 o removed
+  kept_is =
+      let some = some_sections in
+      kept_with_0 o removed (zero_stays o removed removable)
+      ∙ ap (λ (b : Bool). if b then [] else 0 ∷ kept_from_1 o removed)
+      (ne_eqb (length o.sections) 0 (λ none. omega (arith, none, some)))
+
+  listed_past : 0 < number_or_0 (position_from (nat_eq n) 0 (0 ∷ kept_from_1 o removed))
+  unfolding is_among
+  listed_past =
+      let from = from_1 in
+      subst (λ (b : Bool).
+      0 < number_or_0 (cond b (Some 0) (position_from (nat_eq n) (0 + 1) (kept_from_1 o removed))))
+      (sym (ne_eqb n 0 (λ none. omega (arith, none, from))))
+      (found_past n (kept_from_1 o removed) 1 kept (omega arith))
+
+  position_past : 0 < number_or_0 (position (nat_eq n) (kept_sections o removed))
+  position_past =
+      subst (λ (p : Option ℕ). 0 < number_or_0 p)
+      (sym (ap (λ (l : List ℕ). position (nat_eq n) l) kept_is
+      ∙ position_from-zero (nat_eq n) (0 ∷ kept_from_1 o removed))) listed_past
+
+  followed_past : 0 < followed (renumbering o removed) n
+  followed_past = by_test (is_section_number (renumbering o removed) n) refl
+    where
+      by_if : (b : Bool)
+          → 0 < (if b then number_or_0 (position (nat_eq n) (kept_sections o removed)) else n)
+      by_if true = position_past
+      by_if false = from_1
+
+      by_test : (b : Bool) → is_section_number (renumbering o removed) n ≡ b
+          → 0 < followed (renumbering o removed) n
+      by_test b is =
+          subst (λ (k : ℕ). 0 < k) (sym (followed_by (renumbering o removed) n b is)) (by_if b)
+
+index_past : (o : Object) (removed : List ℕ) → IsRemovable o removed
+    → renews_names o removed ≡ true → 0 < rebuilt_index o removed
+unfolding renews_names rebuilt_index
+index_past o removed removable e =
+    followed_past o removed o.header.shstrndx removable (and_parts _ _ e).0
+
+usable_none : (o : Object) (b : Bool) → (b ≡ true → 0 < o.header.shstrndx)
+    → o.header.shstrndx ≡ 0 → IsUsable o b
+usable_none o true past none = let from = past refl in absurd (omega (arith, from, none))
+usable_none o false past none = inl (none, refl)
+
+usable_by : (o : Object) (b : Bool) → (b ≡ true → 0 < o.header.shstrndx)
+    → (o.header.shstrndx ≡ 0) ⊎ (o.header.shstrndx < length o.sections) → IsUsable o b
+usable_by o b past (inl none) = usable_none o b past none
+usable_by o b past (inr below) = elim (cases_eq o.header.shstrndx 0) [
+  | inl none ↦ usable_none o b past none
+  | inr some ↦ inr (omega (arith, some), below)
+]
+
+pub rebuilt_usable : (o : Object) (removed : List ℕ) (r : Rebuilt) → IsRemovable o removed
+    → rebuilt o removed ≡ Ok r → IsUsable r.object (renews_names o removed)
+rebuilt_usable o removed r removable e =
+    let known = rebuilt_known o removed r e in
+    let base = places_leave
+    (record { object = rebuilt_object o removed; tail = rebuilt_tail o removed }) r known.is in
+    let front = front_is o removed in
+    let index : r.object.header.shstrndx ≡ rebuilt_index o removed =
+    base.follows.index ∙ front.index in
+    let count = base.follows.count in
+    let listed = ap (λ (l : List Section). length l) front.sections in
+    usable_by r.object (renews_names o removed)
+    (λ renews. let past = index_past o removed removable renews in omega (arith, past, index))
+    (⊎_elim (λ none. inl (index ∙ none))
+    (λ below. inr (omega (arith, below, index, count, listed)))
+    (index_low o (rebuilt_sections o removed) (rebuilt_index o removed) known.index))

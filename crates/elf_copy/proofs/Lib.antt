@@ -1,0 +1,4 @@
+pub mod NamingLaws
+pub mod ChangeLaws
+pub mod FinishLaws
+pub mod CopyLaws

@@ -1,0 +1,119 @@
+//! The changes of an object that was made anew, from the last one back.
+
+ghost use Rattle.std.specs.Prelude.{◌≡◌, Err, IsTrue};
+ghost use Rattle.command_objects.specs.Copied.{with_changes};
+ghost use Rattle.copy_changes.specs.Stated.{HasPlainNames, stated_changes};
+ghost use Rattle.copy_edits.specs.Names.{names_now};
+ghost use Rattle.copy_edits.specs.Steps.{Alters};
+ghost use Rattle.copy_names.specs.Stores.{HasTable};
+ghost use Rattle.elf_copy.specs.Copies.{added_named, flagged_named, after_names, after_updates, IsUsable};
+
+use copy_changes::{Changes, CopyFault};
+use copy_edits::{add_sections, flag_sections, rename_sections, update_sections};
+use copy_names::{Naming, plan_names, store_names};
+use elf_descriptor::Elf;
+use elf_outside::NoSource;
+use elf_types::List;
+use std::alloc::Global;
+
+/// A fault in place of names, which are dropped.
+fn refuse_names(_naming: Naming, fault: CopyFault) -> Result<(), CopyFault>
+    ensures { result ≡ Err fault }
+{
+    Err(fault)
+}
+
+/// Adds sections, and then stores what becomes of the names.
+fn add_and_name(
+    alloc: Global,
+    elf: &mut Elf<NoSource>,
+    changes: &Changes,
+    naming: Naming,
+) -> Result<(), CopyFault>
+    requires { HasTable naming elf.old.o }
+    ensures { Alters (added_named (stated_changes changes.now) naming elf.old.o)
+        result elf.old elf.new }
+{
+    match add_sections(alloc, elf, changes.add.as_slice()) {
+        Ok(()) => store_names(elf, naming),
+        Err(fault) => refuse_names(naming, fault),
+    }
+}
+
+/// Gives sections other flags before that.
+fn flag_and_add(
+    alloc: Global,
+    elf: &mut Elf<NoSource>,
+    marks: &List<u64>,
+    changes: &Changes,
+    naming: Naming,
+) -> Result<(), CopyFault>
+    requires { HasTable naming elf.old.o }
+    ensures { Alters (flagged_named (stated_changes changes.now)
+        (names_now elf.old.o marks.now changes.now.rename) naming elf.old.o)
+        result elf.old elf.new }
+{
+    match flag_sections(alloc, elf, marks, &changes.rename, changes.flags.as_slice()) {
+        Ok(()) => add_and_name(alloc, elf, changes, naming),
+        Err(fault) => refuse_names(naming, fault),
+    }
+}
+
+/// Works out before that what becomes of the names, which are those by the marks.
+fn plan_and_flag(
+    alloc: Global,
+    elf: &mut Elf<NoSource>,
+    marks: &List<u64>,
+    changes: &Changes,
+    renewed: bool,
+) -> Result<(), CopyFault>
+    requires told { IsTrue elf.old.told }
+    requires plain { HasPlainNames changes.now }
+    requires usable { IsUsable elf.old.o renewed }
+    ensures { Alters (after_names (stated_changes changes.now) renewed elf.old.o
+        (names_now elf.old.o marks.now changes.now.rename)) result elf.old elf.new }
+{
+    match plan_names(alloc, elf, marks, changes, renewed) {
+        Ok(naming) => flag_and_add(alloc, elf, marks, changes, naming),
+        Err(e) => Err(CopyFault::Strip(e)),
+    }
+}
+
+/// Gives sections other names before that.
+fn rename_and_plan(
+    alloc: Global,
+    elf: &mut Elf<NoSource>,
+    changes: &Changes,
+    renewed: bool,
+) -> Result<(), CopyFault>
+    requires told { IsTrue elf.old.told }
+    requires plain { HasPlainNames changes.now }
+    requires usable { IsUsable elf.old.o renewed }
+    ensures { Alters (after_updates (stated_changes changes.now) renewed elf.old.o)
+        result elf.old elf.new }
+{
+    match rename_sections(alloc, elf, &changes.rename) {
+        Ok(marks) => plan_and_flag(alloc, elf, &marks, changes, renewed),
+        Err(fault) => Err(fault),
+    }
+}
+
+/// Makes all changes of an object whose string index is usable. `renewed` says whether it has a
+/// table of its own for the names of its sections.
+pub(crate) fn make_changes(
+    alloc: Global,
+    elf: &mut Elf<NoSource>,
+    changes: &Changes,
+    renewed: bool,
+) -> Result<(), CopyFault>
+    requires told { IsTrue elf.old.told }
+    requires plain { HasPlainNames changes.now }
+    requires usable { IsUsable elf.old.o renewed }
+    ensures { Alters (with_changes (stated_changes changes.now) renewed elf.old.o)
+        result elf.old elf.new }
+{
+    match update_sections(alloc, elf, changes.update.as_slice()) {
+        Ok(()) => rename_and_plan(alloc, elf, changes, renewed),
+        Err(fault) => Err(fault),
+    }
+}
