@@ -1,0 +1,18 @@
+use Rattle.copy_tool.proofs.NameLemmas.{changes_are, plain_renamed, plain_added}
+use Rattle.copy_tool.proofs.changes.changes_of.Goals as goal
+
+pub returns-clause-ok : goal.returns-clause-ok
+returns-clause-ok c =
+    changes_are c.args.words.now c.in_ok-remove.remove c.args.update c.in_ok-rename.rename
+    c.in_ok-flags.flags c.args.add
+    (rw c.as_slice.ensures at c.in_ok-remove.ensures.ok)
+    (rw c.as_slice-2.ensures at c.in_ok-rename.ensures.ok)
+    (rw c.as_slice-3.ensures at c.in_ok-flags.ensures.ok)
+
+pub returns-clause-plain : goal.returns-clause-plain
+returns-clause-plain c = record {
+  rename =
+      plain_renamed c.args.words.now c.in_ok-rename.rename c.requires.names
+      (rw c.as_slice-2.ensures at c.in_ok-rename.ensures.ok);
+  add = plain_added c.args.words.now c.args.add c.requires.names c.requires.added;
+}

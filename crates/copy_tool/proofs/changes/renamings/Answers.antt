@@ -1,0 +1,12 @@
+use Rattle.std.proofs.Common.{ap}
+use Rattle.tool_text.specs.declared.commands.Renaming.{Renaming}
+use Rattle.copy_changes.specs.Stated.{bytes_pair}
+use Rattle.copy_tool.proofs.NameLemmas.{mapped_more}
+use Rattle.copy_tool.proofs.changes.renamings.Goals as goal
+
+pub loop-one-preserved : goal.loop-one-preserved
+loop-one-preserved c =
+    rw c.in_ok-push.ensures.ok (mapped_more bytes_pair
+    (λ (r : Renaming). (r.old, r.new)) c.loop-one.list c.in_ok-item.item c.args.each.now
+    c.loop-one.one-index c.one-item.result c.loop-one-test.true c.one-item.is
+    (ap bytes_pair c.in_ok-item.ensures.ok) c.loop-one.invariant)

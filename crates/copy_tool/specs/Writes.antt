@@ -1,0 +1,27 @@
+-- What copy gives of the object of a file.
+use Rattle.std.specs.Prelude.{ℕ, List, Result}
+use Rattle.elf_types.specs.Answers.{◌>>=◌}
+use Rattle.elf_object.specs.Object.{Object}
+use Rattle.command_objects.specs.Arranged.{Rebuilt}
+use Rattle.command_objects.specs.Copied.{Changes, CopyFault, copied}
+use Rattle.tool_output.specs.Made.{Done, Complaint, complaint}
+use Rattle.command_outcomes.specs.Strip.{or_complaint}
+use Rattle.command_outcomes.specs.Copy.{copy_text}
+use Rattle.object_writing.specs.Writes.{written_done}
+
+-- what a command of copy is to do: its changes, and the file that it makes
+pub record Copying : Type 0 where
+  pub changes : Changes
+  pub out : List ℕ
+
+abbrev pub copying_of : Changes → List ℕ → Copying
+copying_of changes out = record { changes = changes; out = out }
+
+-- the file of what was made with the changes, or why there is none
+abbrev pub made_done : List ℕ → List ℕ → Result Rebuilt CopyFault → Result Done Complaint
+made_done file out r =
+    or_complaint (λ fault. complaint file (copy_text fault)) r >>= λ r.
+    written_done file out r.object
+
+abbrev pub copied_done : Changes → List ℕ → List ℕ → Object → Result Done Complaint
+copied_done changes file out o = made_done file out (copied changes o)

@@ -1,0 +1,16 @@
+//! The command `copy`: the image of a file, with sections removed, given other bytes, renamed,
+//! given other flags and added, is written to a new file. `read_changes` reads the files of the
+//! words, `write_copied` makes the object with a descriptor and writes its image, and `copy_file`
+//! does both for the file that a command line names.
+#![tactic(auto)]
+
+mod changes;
+pub mod commands;
+mod faults;
+mod files;
+pub mod reading;
+pub mod writing;
+
+pub use commands::{CopyCommand, copy_file};
+pub use reading::read_changes;
+pub use writing::write_copied;
