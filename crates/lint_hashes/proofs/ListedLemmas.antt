@@ -1,6 +1,6 @@
 -- The symbols that a hash section lists, one by one.
 use Rattle.std.proofs.Common.{◌≡◌, ◌⊎◌, inl, inr, ℕ, ◌+◌, ◌<◌, ◌≤◌, Bool, true, false, List, [], ◌∷◌, length, drop, get_or, map, Option, Some, None, Ok, refl, sym, ap, ◌∙◌, arith}
-use Rattle.std.specs.Prelude.{slice_get}
+use Rattle.std.specs.Prelude.{◌==◌, ◌&&◌, not, slice_get, if◌then◌else◌}
 use Rattle.std.specs.List.{enumerate_from, list_all}
 use Rattle.std.specs.Option.{option_map}
 use Rattle.std.proofs.lemmas.List.{length-map}
@@ -11,7 +11,9 @@ use Rattle.elf_types.specs.declared.records.Kind.TheVariants as kinds
 use Rattle.elf_types.specs.declared.records.Sym.{Sym}
 use Rattle.elf_object.specs.Object.{Object}
 use Rattle.elf_object.specs.Answers.{items_at, count_at, lend_refusal, syms_of}
-use Rattle.command_objects.specs.Listed.{listed_name, listed_names}
+use Rattle.elf_object.specs.Strings.{readable, string_answer, symbol_name}
+use Rattle.command_objects.specs.Words.{header_at}
+use Rattle.command_objects.specs.Listed.{is_defined_global, not_empty, listed_name, listed_names}
 use Rattle.object_output.proofs.ListCounts.{syms_counted}
 use Rattle.lint_findings.specs.Looking.{symbols}
 use Rattle.lint_findings.proofs.LentLemmas.{lent_count, symbols_are}
@@ -34,6 +36,20 @@ module _ {A : Type 0} (l : List A) (i : ℕ) where
       by_place : ((x : A) × (i < length l) × (slice_get l i ≡ Some x) × (get_or l i x ≡ x)) ⊎ ((length l ≤ i) × (slice_get l i ≡ None)) → slice_get (enumerate_from 0 l) i ≡ None
       by_place (inl (x, lt, there, same)) = let both = sym is ∙ there in cc
       by_place (inr (past, none)) = slice_get_past (enumerate_from 0 l) i (omega (arith, length-enumerate_from 0 l, past))
+
+-- ---- A name that can not be read
+
+pub unread_name : (o : Object) (s i : ℕ) (x : Sym) (by : NameHash)
+    → readable (string_answer o (header_at o s).link x.name) ≡ None
+    → ◌≡◌ {A = Option ℕ} None (option_map (hash_by by) (listed_name o s i x))
+unfolding listed_name symbol_name
+unread_name o s i x by none = by_test (not (i == 0) && is_defined_global x)
+  where
+    by_test : (t : Bool) → ◌≡◌ {A = Option ℕ} None (option_map (hash_by by)
+        (if t then not_empty (readable (string_answer o (header_at o s).link x.name)) else None))
+    by_test true =
+        ap (λ (name : Option (List ℕ)). option_map (hash_by by) (not_empty name)) (sym none)
+    by_test false = refl
 
 -- ---- Tests
 

@@ -4,13 +4,14 @@ ghost use Rattle.std.specs.Prelude.{◌≡◌, ◌<◌, length, true, IfOk, IfSo
 ghost use Rattle.command_objects.specs.HashSections.{is_whole_gnu};
 ghost use Rattle.command_objects.specs.Listed.{listed_names};
 ghost use Rattle.object_output.specs.Steps.{Learns, ReadsElf};
+ghost use Rattle.bytes_at_hand.specs.Strings.{EndsAt};
 ghost use Rattle.lint_findings.specs.Looking.{data_bytes};
 ghost use Rattle.lint_hashes.specs.Gnu as gnu;
 ghost use Rattle.lint_hashes.specs.Gnu.{section_of, IsSoundIn, LiesIn};
 ghost use Rattle.lint_hashes.specs.Listed.{listed_hash, AreListed};
 
 use crate::gnu::{GnuTable, run_after, sound_in};
-use crate::listed::{Listed, NameHash, listed_hash};
+use crate::listed::{Listed, NameHash, end_of_names, listed_hash};
 use elf_descriptor::Elf;
 use elf_outside::Source;
 use elf_types::{DataId, Order, ScnId};
@@ -85,24 +86,54 @@ fn run_behind<S: Source>(
     s: ScnId,
     t: GnuTable,
     l: Listed,
+    end: Option<u64>,
     start: u64,
     i: u64,
 ) -> Result<Option<u64>, Stop>
     requires lies { LiesIn (length (data_bytes elf.old.o s.0)) t }
     requires there { i < t.count }
     requires listed { AreListed elf.old.o l }
+    requires end { IsTrue elf.old.told → IfSome end (EndsAt elf.old.o l.strings.0) }
     ensures { Learns S.Source (λ o. gnu.run_after t.class (section_of t (data_bytes o s.0)) t.count
         start i (listed_hash NameHash.Gnu o l.section.0 i)) result elf.old elf.new }
 {
-    match listed_hash(elf, NameHash::Gnu, l, i) {
+    match listed_hash(elf, NameHash::Gnu, l, end, i) {
         Ok(listed) => run_by(elf, s, t, start, i, listed),
         Err(stop) => Err(stop),
     }
 }
 
 /// Whether each listed symbol passes the bloom and is on the chain of its name's bucket, in a
-/// section in which the chain of each bucket has an end.
+/// section in which the chain of each bucket has an end; the names end there where that is known.
 fn all_are_found<S: Source>(
+    elf: &mut Elf<S>,
+    s: ScnId,
+    t: GnuTable,
+    l: Listed,
+    end: Option<u64>,
+) -> Result<bool, Stop>
+    requires lies { LiesIn (length (data_bytes elf.old.o s.0)) t }
+    requires count { t.count ≡ l.count }
+    requires listed { AreListed elf.old.o l }
+    requires end { IsTrue elf.old.told → IfSome end (EndsAt elf.old.o l.strings.0) }
+    requires ends { IsTrue elf.old.told
+        → gnu.chains_end (section_of t (data_bytes elf.old.o s.0)) t.count ≡ true }
+    ensures { Learns S.Source (λ o. gnu.all_are_found t.class (section_of t (data_bytes o s.0))
+        t.count (listed_names o l.section.0)) result elf.old elf.new }
+{
+    let mut start = 1;
+    for i in 1..l.count {
+        match run_behind(elf, s, t, l, end, start, i) {
+            Ok(Some(next)) => start = next,
+            Ok(None) => return Ok(false),
+            Err(stop) => return Err(stop),
+        }
+    }
+    Ok(true)
+}
+
+/// The same, after the end of the names is looked for.
+fn each_is_found<S: Source>(
     elf: &mut Elf<S>,
     s: ScnId,
     t: GnuTable,
@@ -116,15 +147,10 @@ fn all_are_found<S: Source>(
     ensures { Learns S.Source (λ o. gnu.all_are_found t.class (section_of t (data_bytes o s.0))
         t.count (listed_names o l.section.0)) result elf.old elf.new }
 {
-    let mut start = 1;
-    for i in 1..l.count {
-        match run_behind(elf, s, t, l, start, i) {
-            Ok(Some(next)) => start = next,
-            Ok(None) => return Ok(false),
-            Err(stop) => return Err(stop),
-        }
+    match end_of_names(elf, l) {
+        Ok(end) => all_are_found(elf, s, t, l, end),
+        Err(stop) => Err(stop),
     }
-    Ok(true)
 }
 
 /// Whether GNU's hash section is whole: it has a bucket and a bloom word at least, the bloom and
@@ -139,7 +165,7 @@ pub fn is_whole<S: Source>(elf: &mut Elf<S>, s: ScnId, l: Listed) -> Result<bool
         (data_bytes o s.0) (listed_names o l.section.0)) result elf.old elf.new }
 {
     match table_of(elf, s, l.count) {
-        Ok(Some(t)) => all_are_found(elf, s, t, l),
+        Ok(Some(t)) => each_is_found(elf, s, t, l),
         Ok(None) => Ok(false),
         Err(stop) => Err(stop),
     }

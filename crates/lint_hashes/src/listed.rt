@@ -1,14 +1,16 @@
 //! The symbols that a hash section lists, by the hashes of their names.
 
-ghost use Rattle.std.specs.Prelude.{◌≡◌, ◌<◌, ◌==◌, ◌&&◌, not, length, is_some, slice_get, IfSome, Some};
+ghost use Rattle.std.specs.Prelude.{◌≡◌, ◌<◌, ◌==◌, ◌&&◌, not, length, is_some, slice_get, IfOk, IfSome, IsTrue, Some};
 ghost use Rattle.std.specs.Option.{option_map};
 ghost use Rattle.command_objects.specs.Listed.{is_defined_global, listed_name, not_empty};
 ghost use Rattle.command_objects.specs.Words.{header_at};
-ghost use Rattle.object_output.specs.Steps.{Learns};
+ghost use Rattle.object_output.specs.Steps.{Learns, ReadsElf};
+ghost use Rattle.bytes_at_hand.specs.Strings.{EndsAt};
 ghost use Rattle.lint_findings.specs.Looking.{links_to_symbols, symbols};
 ghost use Rattle.lint_hashes.specs.Listed as listed;
 ghost use Rattle.lint_hashes.specs.Listed.{hash_by, AreListed};
 
+use bytes_at_hand::{is_past, strings_end};
 use elf_descriptor::Elf;
 use elf_outside::Source;
 use elf_types::constants::{SHN_UNDEF, STB_LOCAL};
@@ -103,44 +105,65 @@ fn symbol_at<S: Source>(elf: &mut Elf<S>, l: Listed, i: u64) -> Result<Option<Sy
     item_at::<S, Sym>(elf, l.section, i)
 }
 
-/// The hash of the name of symbol `i`, which was looked at, where it is listed.
+/// Where the names of a table end, where it has symbols behind the first and that can be told.
+pub fn end_of_names<S: Source>(elf: &mut Elf<S>, l: Listed) -> Result<Option<u64>, Stop>
+    ensures end { IsTrue elf.old.told → IfOk result
+        (λ end. IfSome end (EndsAt elf.old.o l.strings.0)) }
+    ensures reads { ReadsElf S.Source result elf.old elf.new }
+{
+    if l.count < 2 {
+        return Ok(None);
+    }
+    strings_end(elf, l.strings)
+}
+
+/// The hash of the name of symbol `i`, which was looked at, where it is listed. A name that begins
+/// where names end can not be read, and is not looked for.
 #[tactic(auto, unfolding(command_objects::specs::Listed::listed_name, elf_object::specs::Strings::symbol_name))]
 fn hash_if_listed<S: Source>(
     elf: &mut Elf<S>,
     by: NameHash,
     l: Listed,
+    end: Option<u64>,
     i: u64,
     x: Sym,
 ) -> Result<Option<u32>, Stop>
-    requires { AreListed elf.old.o l }
+    requires listed { AreListed elf.old.o l }
+    requires end { IsTrue elf.old.told → IfSome end (EndsAt elf.old.o l.strings.0) }
     ensures { Learns S.Source (λ o. option_map (hash_by by) (listed_name o l.section.0 i x))
         result elf.old elf.new }
 {
     if !may_be_listed(i, x) {
         return Ok(None);
     }
-    match string_at(elf, l.strings, u64::from(x.name)) {
+    let at = u64::from(x.name);
+    if is_past(end, at) {
+        return Ok(None);
+    }
+    match string_at(elf, l.strings, at) {
         Ok(Some(name)) => Ok(hash_unless_empty(by, name)),
         Ok(None) => Ok(None),
         Err(stop) => Err(stop),
     }
 }
 
-/// The hash of the name of symbol `i` of a table, where it is listed. It stops by `Read` where a
-/// read of the source failed, and by `Memory`.
+/// The hash of the name of symbol `i` of a table, where it is listed; the names end there where that
+/// is known. It stops by `Read` where a read of the source failed, and by `Memory`.
 ///
 /// Source: gABI chapter 5, "Hash Table".
 pub fn listed_hash<S: Source>(
     elf: &mut Elf<S>,
     by: NameHash,
     l: Listed,
+    end: Option<u64>,
     i: u64,
 ) -> Result<Option<u32>, Stop>
-    requires { AreListed elf.old.o l }
+    requires listed { AreListed elf.old.o l }
+    requires end { IsTrue elf.old.told → IfSome end (EndsAt elf.old.o l.strings.0) }
     ensures { Learns S.Source (λ o. listed.listed_hash by o l.section.0 i) result elf.old elf.new }
 {
     match symbol_at(elf, l, i) {
-        Ok(Some(x)) => hash_if_listed(elf, by, l, i, x),
+        Ok(Some(x)) => hash_if_listed(elf, by, l, end, i, x),
         Ok(None) => Ok(None),
         Err(stop) => Err(stop),
     }

@@ -9,13 +9,14 @@ ghost use Rattle.std.specs.Option.{option_map};
 ghost use Rattle.command_objects.specs.HashSections.{is_whole_sysv};
 ghost use Rattle.command_objects.specs.Listed.{listed_names};
 ghost use Rattle.object_output.specs.Steps.{Learns};
+ghost use Rattle.bytes_at_hand.specs.Strings.{EndsAt};
 ghost use Rattle.lint_findings.specs.Looking.{words};
 ghost use Rattle.lint_hashes.specs.Listed.{listed_hash, AreListed};
 ghost use Rattle.lint_hashes.specs.Sysv as sysv;
 ghost use Rattle.lint_hashes.specs.Sysv.{TakesUp};
 ghost use Rattle.lint_hashes.specs.Paths.{ArePaths};
 
-use crate::listed::{Listed, NameHash, listed_hash};
+use crate::listed::{Listed, NameHash, end_of_names, listed_hash};
 use crate::paths::{Paths, is_found_in, paths_of};
 use elf_descriptor::Elf;
 use elf_outside::Source;
@@ -134,22 +135,50 @@ fn is_found<S: Source>(
     t: SysvTable,
     paths: &Paths,
     l: Listed,
+    end: Option<u64>,
     i: u64,
 ) -> Result<bool, Stop>
     requires takes { TakesUp held.now t }
     requires are { ArePaths held.now t paths.now }
     requires listed { AreListed elf.old.o l }
+    requires end { IsTrue elf.old.told → IfSome end (EndsAt elf.old.o l.strings.0) }
     ensures { Learns S.Source (λ o. sysv.is_found held.now t
         (listed_hash NameHash.Sysv o l.section.0 i) i) result elf.old elf.new }
 {
-    match listed_hash(elf, NameHash::Sysv, l, i) {
+    match listed_hash(elf, NameHash::Sysv, l, end, i) {
         Ok(listed) => Ok(is_found_in(held, t, paths, listed, i)),
         Err(stop) => Err(stop),
     }
 }
 
-/// Whether each listed symbol is on the chain of its name's bucket.
+/// Whether each listed symbol is on the chain of its name's bucket; the names end there where that
+/// is known.
 fn all_are_found<S: Source>(
+    elf: &mut Elf<S>,
+    held: &Words,
+    t: SysvTable,
+    paths: &Paths,
+    l: Listed,
+    end: Option<u64>,
+) -> Result<bool, Stop>
+    requires takes { TakesUp held.now t }
+    requires are { ArePaths held.now t paths.now }
+    requires listed { AreListed elf.old.o l }
+    requires end { IsTrue elf.old.told → IfSome end (EndsAt elf.old.o l.strings.0) }
+    ensures { Learns S.Source (λ o. sysv.all_are_found held.now t
+        (listed_names o l.section.0)) result elf.old elf.new }
+{
+    for i in 1..l.count {
+        let found = is_found(elf, held, t, paths, l, end, i)?;
+        if !found {
+            return Ok(false);
+        }
+    }
+    Ok(true)
+}
+
+/// The same, after the end of the names is looked for.
+fn each_is_found<S: Source>(
     elf: &mut Elf<S>,
     held: &Words,
     t: SysvTable,
@@ -162,13 +191,10 @@ fn all_are_found<S: Source>(
     ensures { Learns S.Source (λ o. sysv.all_are_found held.now t
         (listed_names o l.section.0)) result elf.old elf.new }
 {
-    for i in 1..l.count {
-        let found = is_found(elf, held, t, paths, l, i)?;
-        if !found {
-            return Ok(false);
-        }
+    match end_of_names(elf, l) {
+        Ok(end) => all_are_found(elf, held, t, paths, l, end),
+        Err(stop) => Err(stop),
     }
-    Ok(true)
 }
 
 /// Whether the chain of each bucket has an end, and each listed symbol is on that of its name's.
@@ -185,7 +211,7 @@ fn chains_hold<S: Source>(
         result elf.old elf.new }
 {
     match paths_of(elf.alloc(), held, t) {
-        Ok(Some(paths)) => all_are_found(elf, held, t, &paths, l),
+        Ok(Some(paths)) => each_is_found(elf, held, t, &paths, l),
         Ok(None) => Ok(false),
         Err(e) => Err(Stop::want_of(e)),
     }

@@ -12,7 +12,13 @@ use Rattle.lint_hashes.proofs.GnuWords.{bucket_some}
 use Rattle.lint_hashes.proofs.GnuChains.{run_begins}
 use Rattle.lint_hashes.proofs.GnuWhole.{found_by, step_some, step_none}
 use Rattle.lint_hashes.proofs.ListedLemmas.{after_first, each_more, each_fails, each_passed}
+use Rattle.bytes_at_hand.proofs.Ends.{end_stays}
 use Rattle.lint_hashes.proofs.gnu_sections.all_are_found.Goals as goal
+
+pub run_behind-requires-clause-end : goal.run_behind-requires-clause-end
+run_behind-requires-clause-end g c =
+    end_stays g.S.Source c.args.elf.now c.loop-i.elf c.args.l.strings.0 c.args.end
+    c.loop-i.invariant.elf c.requires.end
 
 pub loop-i-init : goal.loop-i-init
 loop-i-init g c =

@@ -8,15 +8,15 @@ use Rattle.lint_hashes.specs.Gnu.{section_of, chains_end, all_are_found, LiesIn}
 use Rattle.lint_hashes.proofs.GnuWhole.{whole_where, ends_where, not_whole}
 use Rattle.lint_hashes.proofs.gnu_sections.is_whole.Goals as goal
 
-pub all_are_found-requires-clause-lies : goal.all_are_found-requires-clause-lies
-all_are_found-requires-clause-lies g c =
+pub each_is_found-requires-clause-lies : goal.each_is_found-requires-clause-lies
+each_is_found-requires-clause-lies g c =
     subst (λ (m : Object). LiesIn (length (data_bytes m c.args.s.0)) c.in-Ok-Some.t) (sym c.in-Ok-Some.ensures.reads.elf.object) (rw c.in-Ok-Some.field-0-is at c.in-Ok-Some.ensures.lies)
 
-pub all_are_found-requires-clause-count : goal.all_are_found-requires-clause-count
-all_are_found-requires-clause-count g c = rw c.in-Ok-Some.field-0-is at c.in-Ok-Some.ensures.count
+pub each_is_found-requires-clause-count : goal.each_is_found-requires-clause-count
+each_is_found-requires-clause-count g c = rw c.in-Ok-Some.field-0-is at c.in-Ok-Some.ensures.count
 
-pub all_are_found-requires-clause-ends : goal.all_are_found-requires-clause-ends
-all_are_found-requires-clause-ends g c = λ told.
+pub each_is_found-requires-clause-ends : goal.each_is_found-requires-clause-ends
+each_is_found-requires-clause-ends g c = λ told.
     let o = c.args.elf.now.o in
     let s = c.args.s.0 in
     let t = c.in-Ok-Some.t in
@@ -33,7 +33,7 @@ returns-in-Ok-Some g c =
     let found = λ (m : Object). all_are_found t.class (section_of t (data_bytes m s)) t.count (listed_names m names) in
     learns_as g.S.Source (λ m. is_whole_gnu m.header.class m.header.order (data_bytes m s) (listed_names m names)) found _ c.args.elf.now _
     (λ told. whole_where o.header.class o.header.order (data_bytes o s) (listed_names o names) c.args.l.count c.requires.count t (rw c.in-Ok-Some.field-0-is at (c.in-Ok-Some.ensures.is told)))
-    (learns_after g.S.Source found _ c.args.elf.now _ _ c.in-Ok-Some.ensures.reads.elf c.all_are_found.ensures)
+    (learns_after g.S.Source found _ c.args.elf.now _ _ c.in-Ok-Some.ensures.reads.elf c.each_is_found.ensures)
 
 pub returns-in-Ok-None : goal.returns-in-Ok-None
 returns-in-Ok-None g c =

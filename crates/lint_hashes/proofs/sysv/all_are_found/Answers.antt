@@ -1,4 +1,5 @@
 use Rattle.std.proofs.Common.{ℕ, List, true, false, Some, Ok, sym, ◌∙◌, arith}
+use Rattle.bytes_at_hand.proofs.Ends.{end_stays}
 use Rattle.object_output.proofs.ElfSteps.{elf_left}
 use Rattle.object_output.proofs.LearnLemmas.{learns_by, learns_after}
 use Rattle.command_objects.specs.Hashes.{elf_hash}
@@ -18,6 +19,11 @@ loop-i-init g c =
           (λ (i : ℕ) (name : List ℕ). is_found w c.args.t (Some (elf_hash name)) i);
       elf = elf_left g.S.Source c.args.elf.now;
     }
+
+pub is_found-requires-clause-end : goal.is_found-requires-clause-end
+is_found-requires-clause-end g c =
+    end_stays g.S.Source c.args.elf.now c.loop-i.elf c.args.l.strings.0 c.args.end
+    c.loop-i.invariant.elf c.requires.end
 
 pub loop-i-preserved : goal.loop-i-preserved
 loop-i-preserved g c =

@@ -1,0 +1,38 @@
+use Rattle.std.proofs.Common.{◌≡◌, Bool, true, length, IsTrue, sym, subst}
+use Rattle.elf_object.specs.Object.{Object}
+use Rattle.command_objects.specs.Listed.{listed_names}
+use Rattle.object_output.proofs.LearnLemmas.{learns_after}
+use Rattle.bytes_at_hand.proofs.Ends.{end_stays}
+use Rattle.lint_findings.specs.Looking.{data_bytes}
+use Rattle.lint_hashes.specs.Gnu.{section_of, chains_end, all_are_found, LiesIn}
+use Rattle.lint_hashes.specs.Listed.{AreListed}
+use Rattle.lint_hashes.proofs.gnu_sections.each_is_found.Goals as goal
+
+pub all_are_found-requires-clause-lies : goal.all_are_found-requires-clause-lies
+all_are_found-requires-clause-lies g c =
+    subst (λ (o : Object). LiesIn (length (data_bytes o c.args.s.0)) c.args.t)
+    (sym c.in-Ok.ensures.reads.elf.object) c.requires.lies
+
+pub all_are_found-requires-clause-listed : goal.all_are_found-requires-clause-listed
+all_are_found-requires-clause-listed g c =
+    subst (λ (o : Object). AreListed o c.args.l) (sym c.in-Ok.ensures.reads.elf.object)
+    c.requires.listed
+
+pub all_are_found-requires-clause-end : goal.all_are_found-requires-clause-end
+all_are_found-requires-clause-end g c =
+    end_stays g.S.Source c.args.elf.now c.end_of_names.new.elf c.args.l.strings.0 c.in-Ok.end
+    c.in-Ok.ensures.reads.elf c.in-Ok.ensures.end
+
+pub all_are_found-requires-clause-ends : goal.all_are_found-requires-clause-ends
+all_are_found-requires-clause-ends g c = λ told.
+    let t = c.args.t in
+    let left = c.in-Ok.ensures.reads.elf in
+    subst (λ (o : Object). chains_end (section_of t (data_bytes o c.args.s.0)) t.count ≡ true)
+    (sym left.object) (c.requires.ends (subst (λ (is : Bool). IsTrue is) left.told told))
+
+pub returns-in-Ok : goal.returns-in-Ok
+returns-in-Ok g c =
+    let t = c.args.t in
+    learns_after g.S.Source (λ o. all_are_found t.class (section_of t (data_bytes o c.args.s.0))
+    t.count (listed_names o c.args.l.section.0)) _ c.args.elf.now _ _
+    c.in-Ok.ensures.reads.elf c.all_are_found.ensures
