@@ -14,7 +14,7 @@ const UNOPENED: Failing = Failing { open: 1, ..NOTHING };
 /// Words, how they end, and what stands on both outputs.
 type Said = (&'static str, Status, &'static [u8], &'static [u8]);
 
-const SAID: [Said; 9] = [
+const SAID: [Said; 8] = [
     (
         "size",
         Status::BadWords,
@@ -48,8 +48,7 @@ const SAID: [Said; 9] = [
     ),
     ("rehash -o O --help", Status::Done, REHASH_HELP, b""),
     ("--version F", Status::Done, b"elfkit 0.1.0\n", b""),
-    ("strip -g -o O -f D -- -x", Status::Refused, b"", NOT_BUILT),
-    ("unstrip -o O F D", Status::Refused, b"", NOT_BUILT),
+    ("copy -o O -- -x", Status::Refused, b"", NOT_BUILT),
 ];
 
 /// Help on rehash.

@@ -3,5 +3,6 @@ pub mod CallsUpdateLemmas
 pub mod CommandLemmas
 pub mod ObjectLemmas
 pub mod RehashLemmas
+pub mod SplitLemmas
 pub mod StripLemmas
 pub mod TitleLemmas

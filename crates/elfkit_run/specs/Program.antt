@@ -1,5 +1,5 @@
 -- What the program does, by the words and the bytes of the files.
-use Rattle.std.specs.Prelude.{◌≡◌, ◌<◌, ℕ, List, Bool, true, false, IsTrue, Option, Some, None, is_none, Result, Ok, Err}
+use Rattle.std.specs.Prelude.{◌≡◌, ◌<◌, ℕ, List, Bool, true, false, IsTrue, Some, None, Result, Ok, Err}
 use Rattle.elf_outside.specs.Names.{Map}
 use Rattle.tool_output.specs.declared.statuses.Status.{Status}
 use Rattle.tool_output.specs.declared.statuses.Status.TheVariants.{Done, BadWords}
@@ -12,13 +12,12 @@ use Rattle.usage_text.specs.declared.notices.Notice.{Notice}
 use Rattle.tool_text.specs.declared.commands.Request.{Request}
 use Rattle.tool_text.specs.declared.commands.Request.TheVariants.{Run, Tell}
 use Rattle.tool_text.specs.declared.commands.Command.{Command}
-use Rattle.tool_text.specs.declared.commands.StripOptions.{StripOptions}
 use Rattle.tool_text.specs.declared.commands.Command.TheVariants.{Readelf, Nm, Size, Strings, Strip, Elflint, Calls, Selftest, Rehash, Copy, Unstrip, Lines}
 use Rattle.usage_text.specs.Usages.{usage_line}
 use Rattle.usage_text.specs.Notices.{notice_text}
 use Rattle.tool_text.specs.Reading.{reading}
 use Rattle.command_outcomes.specs.Selftest.{selftest_outcome}
-use Rattle.command_outcomes.specs.Strip.{strip_outcome}
+use Rattle.command_outcomes.specs.Strip.{strip_outcome, unstrip_outcome}
 use Rattle.command_outcomes.specs.Copy.{rehash_outcome}
 use Rattle.elfkit_run.specs.Sentences.{says, not_built}
 use Rattle.elfkit_run.specs.Calls.{calls_outcome, calls_update_outcome}
@@ -29,17 +28,12 @@ use Rattle.elfkit_run.specs.Nm.{nm_outcome}
 use Rattle.elfkit_run.specs.Size.{size_outcome}
 use Rattle.elfkit_run.specs.Strings.{strings_outcome}
 
--- strip, which is built without -f
-abbrev pub strip_by_debug : Option (List ℕ) → StripOptions → Map → List ℕ → Outcome
-strip_by_debug None options named file = strip_outcome options named file
-strip_by_debug (Some debug) options named file = not_built
-
 unfoldable pub command_outcome : Command → Map → Outcome
 command_outcome (Readelf parts files) named = readelf_outcome parts files named
 command_outcome (Nm options files) named = nm_outcome options files named
 command_outcome (Size files) named = size_outcome files named
 command_outcome (Strings options files) named = strings_outcome options files named
-command_outcome (Strip options file) named = strip_by_debug options.debug options named file
+command_outcome (Strip options file) named = strip_outcome options named file
 command_outcome (Elflint files) named = elflint_outcome files named
 command_outcome (Calls None file script) named = calls_outcome file script named
 command_outcome (Calls (Some output) file script) named =
@@ -47,7 +41,7 @@ command_outcome (Calls (Some output) file script) named =
 command_outcome (Selftest out count) named = selftest_outcome out count
 command_outcome (Rehash out file) named = rehash_outcome named out file
 command_outcome (Copy changes out file) named = not_built
-command_outcome (Unstrip out stripped debug) named = not_built
+command_outcome (Unstrip out stripped debug) named = unstrip_outcome named out stripped debug
 command_outcome (Lines files) named = lines_outcome files named
 
 -- the usage line of words that are refused
@@ -79,13 +73,13 @@ is_built (Readelf parts files) = true
 is_built (Nm options files) = true
 is_built (Size files) = true
 is_built (Strings options files) = true
-is_built (Strip options file) = is_none options.debug
+is_built (Strip options file) = true
 is_built (Elflint files) = true
 is_built (Calls output file script) = true
 is_built (Selftest out count) = true
 is_built (Rehash out file) = true
 is_built (Copy changes out file) = false
-is_built (Unstrip out stripped debug) = false
+is_built (Unstrip out stripped debug) = true
 is_built (Lines files) = true
 
 -- it opens none on words that are refused or ask for a notice, nor for a form that is not built

@@ -1,6 +1,6 @@
 //! The commands, one file each, and the answer to those that are not built yet.
 
-ghost use Rattle.std.specs.Prelude.{◌≡◌, ◌≢◌, true, false, Some, is_none, IsTrue};
+ghost use Rattle.std.specs.Prelude.{◌≡◌, true, false, Some, IsTrue};
 ghost use Rattle.tool_output.specs.Marks.{said};
 ghost use Rattle.tool_output.specs.Steps.{Performs, OnRead, LeavesOutputs};
 ghost use Rattle.tool_output.specs.Files.{LeavesFiles};
@@ -9,7 +9,7 @@ ghost use Rattle.tool_output.specs.Outcomes.{Does};
 ghost use Rattle.elfkit_run.specs.Calls.{calls_update_outcome};
 ghost use Rattle.elfkit_run.specs.Sentences.{line_of, not_built};
 ghost use Rattle.tool_text.specs.Forms.{IsOutputApart, IsWellFormed};
-ghost use Rattle.elfkit_run.specs.Program.{command_outcome, strip_by_debug, is_built, writes_files};
+ghost use Rattle.elfkit_run.specs.Program.{command_outcome, is_built, writes_files};
 
 pub mod calls;
 pub mod calls_in_place;
@@ -21,8 +21,10 @@ pub mod readelf;
 pub mod rehash;
 pub mod selftest;
 pub mod size;
+pub mod split;
 pub mod strings;
 pub mod strip;
+pub mod unstrip;
 
 use crate::sentences::say;
 use calls::calls;
@@ -36,11 +38,12 @@ use readelf::readelf;
 use rehash::rehash;
 use selftest::selftest;
 use size::size;
+use split::strip_by_debug;
 use std::alloc::Global;
 use strings::strings;
-use strip::strip;
 use tool_output::{Outputs, Side, Stop};
-use tool_text::{CallsOutput, Command, StripOptions, Text};
+use tool_text::{CallsOutput, Command, Text};
+use unstrip::unstrip;
 
 /// Says a sentence on standard error, which counts as a refusal.
 fn refuse<O: Sink, E: Sink>(outputs: &mut Outputs<'_, O, E>, text: &str) -> Result<bool, Stop>
@@ -110,31 +113,6 @@ fn calls_by_output<F: Files, O: Sink, E: Sink>(
     }
 }
 
-/// Runs strip, of which the form with `-f` is not built.
-#[tactic(auto, unfolding(crate::specs::Program::is_built))]
-fn strip_alone<F: Files, O: Sink, E: Sink>(
-    alloc: Global,
-    options: &StripOptions,
-    file: &Text,
-    files: &mut F,
-    outputs: &mut Outputs<'_, O, E>,
-) -> Result<bool, Stop>
-    requires { options.now.out ≢ file.now }
-    ensures does { (IsTrue (is_none options.now.debug) → IsTrue (F.tells files.old)) →
-        Does F.Files O.Sink E.Sink refused_status
-        (strip_by_debug options.now.debug options.now (F.named files.old) file.now)
-        result files.old files.new outputs.old outputs.new }
-    ensures untouched { is_none options.now.debug ≡ false →
-        (files.new ≡ files.old) × OnRead result ⊥ }
-    ensures leaves { LeavesFiles F.Files O.Sink E.Sink
-        result files.old files.new outputs.old outputs.new }
-{
-    match options.debug {
-        None => strip(alloc, options, file, files, outputs),
-        Some(_) => not_built(files, outputs),
-    }
-}
-
 /// Runs a command that was read.
 #[tactic(auto, unfolding(crate::specs::Program::command_outcome, crate::specs::Program::is_built, crate::specs::Program::writes_files))]
 pub fn run_command<F: Files, O: Sink, E: Sink>(
@@ -169,7 +147,7 @@ pub fn run_command<F: Files, O: Sink, E: Sink>(
             options,
             files: names,
         } => strings(alloc, options, names, files, outputs),
-        Command::Strip { options, file } => strip_alone(alloc, options, file, files, outputs),
+        Command::Strip { options, file } => strip_by_debug(alloc, options, file, files, outputs),
         Command::Elflint { files: names } => elflint(alloc, names, files, outputs),
         Command::Calls {
             output,
@@ -179,7 +157,11 @@ pub fn run_command<F: Files, O: Sink, E: Sink>(
         Command::Selftest { out, count } => selftest(alloc, out, *count, files, outputs),
         Command::Rehash { out, file } => rehash(alloc, out, file, files, outputs),
         Command::Copy { .. } => not_built(files, outputs),
-        Command::Unstrip { .. } => not_built(files, outputs),
+        Command::Unstrip {
+            out,
+            stripped,
+            debug,
+        } => unstrip(alloc, out, stripped, debug, files, outputs),
         Command::Lines { files: names } => lines(alloc, names, files, outputs),
     }
 }

@@ -38,7 +38,7 @@ fn run_row(alloc: Global, row: &Row) -> Result<Left, ElfError> {
 
 /// Words and images that are refused, by name and in their order: the file that is there, its
 /// front, the homes of the sections that are kept, and the index of the names.
-const UNWRITTEN: [Row; 6] = [
+const UNWRITTEN: [Row; 5] = [
     Row {
         words: "strip -o O G",
         file: OBJECT,
@@ -88,14 +88,6 @@ const UNWRITTEN: [Row; 6] = [
         },
         ending: Ending {
             err: b"strip: F: no section 9 of 1\n",
-            ..REFUSED
-        },
-    },
-    Row {
-        words: "strip -f D -o O F",
-        file: OBJECT,
-        ending: Ending {
-            err: b"elfkit: form not built\n",
             ..REFUSED
         },
     },

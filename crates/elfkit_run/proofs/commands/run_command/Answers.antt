@@ -94,16 +94,17 @@ returns-in-Calls-clause-given g c = rw c.in-Calls.is c.calls_by_output.ensures.g
 pub calls_by_output-requires : goal.calls_by_output-requires
 calls_by_output-requires g c = rw c.in-Calls.is at c.requires
 
-pub strip_alone-requires : goal.strip_alone-requires
-strip_alone-requires g c = (rw c.in-Strip.is at c.requires).0
+pub strip_by_debug-requires : goal.strip_by_debug-requires
+strip_by_debug-requires g c = rw c.in-Strip.is at c.requires
 
 pub returns-in-Strip-clause-does : goal.returns-in-Strip-clause-does
 unfolding command_outcome is_built
-returns-in-Strip-clause-does g c = rw c.in-Strip.is c.strip_alone.ensures.does
+returns-in-Strip-clause-does g c =
+    rw c.in-Strip.is (λ told. c.strip_by_debug.ensures.does (told refl))
 
 pub returns-in-Strip-clause-untouched : goal.returns-in-Strip-clause-untouched
 unfolding is_built
-returns-in-Strip-clause-untouched g c = rw c.in-Strip.is c.strip_alone.ensures.untouched
+returns-in-Strip-clause-untouched g c = rw c.in-Strip.is (λ no. cc)
 
 pub returns-in-Strip-clause-given : goal.returns-in-Strip-clause-given
 unfolding writes_files
@@ -132,5 +133,18 @@ returns-in-Rehash-clause-given g c = rw c.in-Rehash.is (λ no. cc)
 pub returns-in-Copy-clause-given : goal.returns-in-Copy-clause-given
 returns-in-Copy-clause-given g c = λ reading. refl
 
+pub unstrip-requires : goal.unstrip-requires
+unstrip-requires g c = rw c.in-Unstrip.is at c.requires
+
+pub returns-in-Unstrip-clause-does : goal.returns-in-Unstrip-clause-does
+unfolding command_outcome is_built
+returns-in-Unstrip-clause-does g c =
+    rw c.in-Unstrip.is (λ told. c.unstrip.ensures.does (told refl))
+
+pub returns-in-Unstrip-clause-untouched : goal.returns-in-Unstrip-clause-untouched
+unfolding is_built
+returns-in-Unstrip-clause-untouched g c = rw c.in-Unstrip.is (λ no. cc)
+
 pub returns-in-Unstrip-clause-given : goal.returns-in-Unstrip-clause-given
-returns-in-Unstrip-clause-given g c = λ reading. refl
+unfolding writes_files
+returns-in-Unstrip-clause-given g c = rw c.in-Unstrip.is (λ no. cc)
