@@ -21,6 +21,13 @@ def two_symbols():
     return image(content, [bytes(64), section(3, 64, 3), section(2, 72, 48, 1, 1, 8, 24)], 1)
 
 
+def names_alone():
+    """The same, where no section links to the string table."""
+    held = bytearray(two_symbols())
+    held[120 + 2 * 64 + 40] = 0
+    return bytes(held)
+
+
 def five_sections():
     """Five sections of eight bytes from 64 on."""
     content = b"".join(bytes([i]) * 8 for i in range(1, 6))

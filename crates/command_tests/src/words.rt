@@ -1,4 +1,4 @@
-//! Words that are refused or ask for help, forms that are not built, and operands.
+//! Words that are refused or ask for help, and operands.
 
 use crate::runs::{Bytes, Ending, Failing, NOTHING, REFUSED, ends, run_line, run_words};
 use elf_types::{Class, ElfError, Order};
@@ -48,15 +48,11 @@ const SAID: [Said; 8] = [
     ),
     ("rehash -o O --help", Status::Done, REHASH_HELP, b""),
     ("--version F", Status::Done, b"elfkit 0.1.0\n", b""),
-    ("copy -o O -- -x", Status::Refused, b"", NOT_BUILT),
 ];
 
 /// Help on rehash.
 const REHASH_HELP: &[u8] =
     b"usage: elfkit rehash -o OUT FILE\n  -o OUT        the file that is written\n";
-
-/// The form is not built.
-const NOT_BUILT: &[u8] = b"elfkit: form not built\n";
 
 /// Whether the words end so, though no file can be opened.
 fn ends_unopened(alloc: Global, said: &Said) -> Result<bool, ElfError> {
@@ -66,7 +62,7 @@ fn ends_unopened(alloc: Global, said: &Said) -> Result<bool, ElfError> {
 }
 
 #[test]
-fn words_that_are_refused_told_of_or_not_built_open_no_file(rt: HostRuntime) -> Result<(), Fail> {
+fn words_that_are_refused_or_ask_for_help_open_no_file(rt: HostRuntime) -> Result<(), Fail> {
     for said in SAID.iter() {
         assert!(rt; ends_unopened(rt.alloc(), said)?);
     }

@@ -7,7 +7,7 @@ use Rattle.elf_outside.specs.declared.file_sets.Files.{Ghosts as FilesGhosts}
 use Rattle.tool_output.specs.declared.outputs.Outputs.{Outputs}
 use Rattle.tool_output.specs.declared.outputs.Side.TheVariants.{Out, Error}
 use Rattle.tool_output.specs.Marks.{said}
-use Rattle.tool_output.specs.Steps.{Writes, Performs}
+use Rattle.tool_output.specs.Steps.{Writes}
 use Rattle.tool_output.specs.declared.statuses.Status.{Status}
 use Rattle.tool_output.specs.Statuses.{status_code, refused_status}
 use Rattle.tool_output.specs.Outcomes.{Does}
@@ -21,20 +21,8 @@ use Rattle.usage_text.specs.declared.notices.Notice.{Notice}
 use Rattle.tool_text.specs.declared.commands.Request.{Request}
 use Rattle.tool_text.specs.declared.commands.Request.TheVariants.{Run, Tell}
 use Rattle.tool_text.specs.Reading.{reading}
-use Rattle.elfkit_run.specs.Sentences.{line_of, says, not_built}
+use Rattle.elfkit_run.specs.Sentences.{line_of, says}
 use Rattle.elfkit_run.specs.Program.{usage_outcome, notice_outcome, request_outcome, outcome_by, program, IsStatusOf}
-
--- a form that is not built ends with 1
-status_of_refusal : (result : Result Bool Stop) → IfOk result (λ refused. refused ≡ true) → IfOk result (λ refused. refused_status refused ≡ 1)
-status_of_refusal (Ok refused) h = rw h refl
-status_of_refusal (Err stop) h = tt
-
-pub not_built_done : {F D O E : Type 0} (f : FilesGhosts F D) (o : SinkGhosts O) (e : SinkGhosts E) (a : F) (s t : Outputs O E) (result : Result Bool Stop)
-    → Performs o e result s t (said Error (line_of (codes "elfkit: form not built"))) true
-    → Does f o e refused_status not_built result a a s t
-unfolding not_built says
-not_built_done f o e a s t result h =
-    says_done f o e a a s t refused_status _ 1 result h.writes (status_of_refusal result h.value_is)
 
 -- the usage line of words that are refused
 abbrev pub bad_words : {T : Type 0} → Result T Stop → Result Status Stop

@@ -18,8 +18,8 @@ use Rattle.usage_text.specs.Notices.{notice_text}
 use Rattle.tool_text.specs.Reading.{reading}
 use Rattle.command_outcomes.specs.Selftest.{selftest_outcome}
 use Rattle.command_outcomes.specs.Strip.{strip_outcome, unstrip_outcome}
-use Rattle.command_outcomes.specs.Copy.{rehash_outcome}
-use Rattle.elfkit_run.specs.Sentences.{says, not_built}
+use Rattle.command_outcomes.specs.Copy.{copy_outcome, rehash_outcome}
+use Rattle.elfkit_run.specs.Sentences.{says}
 use Rattle.elfkit_run.specs.Calls.{calls_outcome, calls_update_outcome}
 use Rattle.elfkit_run.specs.Readelf.{readelf_outcome}
 use Rattle.elfkit_run.specs.Lines.{lines_outcome}
@@ -40,7 +40,7 @@ command_outcome (Calls (Some output) file script) named =
     calls_update_outcome output file script named
 command_outcome (Selftest out count) named = selftest_outcome out count
 command_outcome (Rehash out file) named = rehash_outcome named out file
-command_outcome (Copy changes out file) named = not_built
+command_outcome (Copy changes out file) named = copy_outcome changes named out file
 command_outcome (Unstrip out stripped debug) named = unstrip_outcome named out stripped debug
 command_outcome (Lines files) named = lines_outcome files named
 
@@ -67,24 +67,9 @@ program words named = outcome_by (reading words) named
 
 -- ---- Words that make a run open files
 
--- a command of a form that is built
-unfoldable pub is_built : Command → Bool
-is_built (Readelf parts files) = true
-is_built (Nm options files) = true
-is_built (Size files) = true
-is_built (Strings options files) = true
-is_built (Strip options file) = true
-is_built (Elflint files) = true
-is_built (Calls output file script) = true
-is_built (Selftest out count) = true
-is_built (Rehash out file) = true
-is_built (Copy changes out file) = false
-is_built (Unstrip out stripped debug) = true
-is_built (Lines files) = true
-
--- it opens none on words that are refused or ask for a notice, nor for a form that is not built
+-- it opens none on words that are refused or ask for a notice
 unfoldable pub needs_files : Request → Bool
-needs_files (Run command) = is_built command
+needs_files (Run command) = true
 needs_files (Tell notice) = false
 
 unfoldable pub opens_files : Result Request Usage → Bool

@@ -11,7 +11,3 @@ line_of text = text ++ codes "\n"
 -- a line on standard error and a status
 unfoldable pub says : List ℕ → ℕ → Outcome
 says text status = only_says (said Error (line_of text)) status
-
--- words that are read, for a form that is not built yet
-unfoldable pub not_built : Outcome
-not_built = says (codes "elfkit: form not built") 1

@@ -80,16 +80,15 @@ fn run_words<F: Files, O: Sink, E: Sink>(
 /// Runs elfkit on the words after the program's name, over a set of files and the two outputs:
 ///
 /// - `Done`: nothing was refused;
-/// - `Refused`: a file was refused, or the form is not built yet;
+/// - `Refused`: something was refused;
 /// - `BadWords`: the words are refused, with their usage line on `err`;
 /// - `ReadFailed`, `WriteFailed`, `NoMemory`: a read failed; a write of a file, of `out` or of
 ///   `err` failed; there was no memory.
 ///
 /// With the last three the run stopped on the way: both outputs have gained what was written up to
 /// one point, and nothing after it. Each file that was opened is closed again. Words that are
-/// refused, that ask for help or for the version, or of a form that is not built, open no file. A
-/// command that writes no file hands nothing to writes, also over files that do not tell their
-/// bytes.
+/// refused, or that ask for help or for the version, open no file. A command that writes no file
+/// hands nothing to writes, also over files that do not tell their bytes.
 pub fn run<F: Files, O: Sink, E: Sink>(
     alloc: Global,
     words: &Args,

@@ -5,6 +5,10 @@
 #[cfg(test)]
 mod calls;
 #[cfg(test)]
+mod copy;
+#[cfg(test)]
+mod copy_files;
+#[cfg(test)]
 mod images;
 #[cfg(test)]
 mod join;

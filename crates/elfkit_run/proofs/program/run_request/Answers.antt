@@ -1,8 +1,6 @@
-use Rattle.std.proofs.Common.{Bool}
+use Rattle.std.proofs.Common.{refl}
 use Rattle.std.proofs.lemmas.Result.{err_from_is_err_and}
-use Rattle.tool_output.specs.declared.statuses.Status.{Status}
 use Rattle.tool_output.specs.Statuses.{status_code, refused_status}
-use Rattle.tool_output.proofs.StepLemmas.{read_as}
 use Rattle.tool_output.proofs.OutcomeLemmas.{does_as, stops_so}
 use Rattle.elfkit_run.specs.Program.{request_outcome, needs_files, needs_writes}
 use Rattle.elfkit_run.proofs.CommandLemmas.{notice_done}
@@ -12,26 +10,22 @@ pub returns-in_ok-refused-in-Run-clause-does : goal.returns-in_ok-refused-in-Run
 unfolding request_outcome needs_files
 returns-in_ok-refused-in-Run-clause-does g c = rw c.in-Run.is (λ told.
     does_as g.F.Files g.O.Sink g.E.Sink c.args.files.now _ c.args.outputs.now _ refused_status
-    status_code _ _ _ c.of_refused.ensures (c.in_ok-refused-in-Run.ensures.does told))
+    status_code _ _ _ c.of_refused.ensures (c.in_ok-refused-in-Run.ensures.does (told refl)))
 
 pub returns-in_err-refused-in-Run-clause-does : goal.returns-in_err-refused-in-Run-clause-does
 unfolding request_outcome needs_files
 returns-in_err-refused-in-Run-clause-does g c = rw c.in-Run.is (λ told.
     let p = err_from_is_err_and c.from_residual.result c.from_residual.ensures.1 in
     rw (p.1, p.2) (stops_so g.F.Files g.O.Sink g.E.Sink c.args.files.now _ c.args.outputs.now _
-    refused_status status_code _ _ (c.in_err-refused-in-Run.ensures.does told)))
+    refused_status status_code _ _ (c.in_err-refused-in-Run.ensures.does (told refl))))
 
 pub returns-in_ok-refused-in-Run-clause-untouched : goal.returns-in_ok-refused-in-Run-clause-untouched
 unfolding needs_files
-returns-in_ok-refused-in-Run-clause-untouched g c = rw c.in-Run.is (λ closed.
-    let u = c.in_ok-refused-in-Run.ensures.untouched closed in (u.0, tt))
+returns-in_ok-refused-in-Run-clause-untouched g c = rw c.in-Run.is (λ closed. cc)
 
 pub returns-in_err-refused-in-Run-clause-untouched : goal.returns-in_err-refused-in-Run-clause-untouched
 unfolding needs_files
-returns-in_err-refused-in-Run-clause-untouched g c = rw c.in-Run.is (λ closed.
-    let p = err_from_is_err_and c.from_residual.result c.from_residual.ensures.1 in
-    let u = c.in_err-refused-in-Run.ensures.untouched closed in
-    rw (p.1, p.2) (u.0, read_as g.O.Sink g.E.Sink Bool Status _ ⊥ u.1))
+returns-in_err-refused-in-Run-clause-untouched g c = rw c.in-Run.is (λ closed. cc)
 
 pub returns-in_ok-tell-in-Tell-clause-does : goal.returns-in_ok-tell-in-Tell-clause-does
 returns-in_ok-tell-in-Tell-clause-does g c = rw c.in-Tell.is (λ told.
