@@ -9,6 +9,8 @@ mod copy;
 #[cfg(test)]
 mod copy_files;
 #[cfg(test)]
+mod groups;
+#[cfg(test)]
 mod images;
 #[cfg(test)]
 mod join;

@@ -5,7 +5,9 @@ use elf_outside::MemFiles;
 use elf_types::{ElfError, Octets};
 use std::alloc::Global;
 use std::test::Fail;
-use test_images::{Field, HeaderField, Image, NARROW, OBJECT, Put, Recipe, SectionField, image_of};
+use test_images::{
+    Field, HeaderField, Image, NARROW, OBJECT, Put, Recipe, SectionField, Start, image_of,
+};
 use test_runs::{DONE, Ending, Given, Left, NOTHING, REFUSED, add_file, run_leaving};
 
 /// An image as the file F, and a file O.
@@ -22,14 +24,18 @@ impl Given for Stripped {
 }
 
 /// The words, an image, and how the run ends.
-struct Row {
-    words: &'static str,
-    file: Recipe,
-    ending: Ending,
+#[derive(Drop)]
+pub struct Row {
+    /// The words.
+    pub words: &'static str,
+    /// The image.
+    pub file: Recipe,
+    /// How the run ends.
+    pub ending: Ending,
 }
 
 /// What a run leaves.
-fn run_row(alloc: Global, row: &Row) -> Result<Left, ElfError> {
+pub fn run_row(alloc: Global, row: &Row) -> Result<Left, ElfError> {
     let given = Stripped {
         image: image_of(alloc, &row.file)?,
     };
@@ -94,7 +100,7 @@ const UNWRITTEN: [Row; 5] = [
 ];
 
 /// Whether a run ends so, and leaves the file O as it was.
-fn leaves_old(alloc: Global, row: &Row) -> Result<bool, ElfError> {
+pub fn leaves_old(alloc: Global, row: &Row) -> Result<bool, ElfError> {
     let left = run_row(alloc, row)?;
     let old = Octets::from_slice(alloc, OLD)?;
     Ok(left.ran.is(&row.ending) && holds(&left.held, &old))
@@ -137,6 +143,36 @@ fn made_len(alloc: Global, file: &Recipe) -> Result<u64, ElfError> {
 fn symbols_go_with_their_strings(rt: HostRuntime) -> Result<(), Fail> {
     for (file, len) in &SYMBOLS_GO {
         assert!(rt; made_len(rt.alloc(), file) == Ok(*len));
+    }
+    Ok(())
+}
+
+/// Executables without sections, in two forms.
+const WITHOUT_SECTIONS: [Recipe; 2] = [
+    Recipe {
+        start: Start::HeaderAlone,
+        ..OBJECT
+    },
+    Recipe {
+        form: NARROW,
+        start: Start::HeaderAlone,
+        puts: &[],
+    },
+];
+
+/// Whether strip leaves an image as it is.
+fn leaves_same(alloc: Global, file: &Recipe) -> Result<bool, ElfError> {
+    let given = Stripped {
+        image: image_of(alloc, file)?,
+    };
+    let left = run_leaving(alloc, "strip -o O F", &given, NOTHING, "O")?;
+    Ok(left.ran.is(&DONE) && holds(&left.held, &given.image.bytes))
+}
+
+#[test]
+fn an_image_without_sections_is_made_the_same(rt: HostRuntime) -> Result<(), Fail> {
+    for file in &WITHOUT_SECTIONS {
+        assert!(rt; leaves_same(rt.alloc(), file) == Ok(true));
     }
     Ok(())
 }

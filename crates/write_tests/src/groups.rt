@@ -1,0 +1,163 @@
+//! The groups that strip leaves, told byte by byte: members that are removed go, and those that
+//! stay have their new numbers.
+
+use crate::calls::holds;
+use crate::strip::{Row, leaves_old, run_row};
+use elf_types::constants::{SHT_GROUP, SHT_PROGBITS, SHT_STRTAB};
+use elf_types::{ElfError, Shdr};
+use std::alloc::Global;
+use std::test::Fail;
+use test_images::{Content, Field, NULL_SECTION, Put, Recipe, SectionField, Start, WIDE, image_of};
+use test_runs::{DONE, Ending, REFUSED};
+
+/// Bytes with a name.
+const BODY: Shdr = Shdr {
+    name: 1,
+    stype: SHT_PROGBITS,
+    addralign: 1,
+    ..NULL_SECTION
+};
+
+/// A group.
+const GROUP: Shdr = Shdr {
+    stype: SHT_GROUP,
+    addralign: 4,
+    entsize: 4,
+    ..NULL_SECTION
+};
+
+/// The names.
+const NAMES: Shdr = Shdr {
+    stype: SHT_STRTAB,
+    addralign: 1,
+    ..NULL_SECTION
+};
+
+/// The sections `.a` and `.b`, a group of both, and the names.
+const SECTIONS: [Shdr; 5] = [NULL_SECTION, BODY, Shdr { name: 4, ..BODY }, GROUP, NAMES];
+
+/// The parts of an object with these sections, behind its headers.
+const PARTS: [Put; 5] = [
+    Put::Sections(&SECTIONS),
+    Put::Home(1, Content::Bytes(b"aa")),
+    Put::Home(2, Content::Bytes(b"bb")),
+    Put::Home(3, Content::Words(&[1, 1, 2])),
+    Put::Home(4, Content::Bytes(b"\0.a\0.b\0")),
+];
+
+/// That object.
+const GROUPED: Recipe = Recipe {
+    form: WIDE,
+    start: Start::Table(64, 5, 4),
+    puts: &PARTS,
+};
+
+/// What is left without `.a`.
+const ONE_LEFT: [Put; 4] = [
+    Put::Bytes(64, b"bb"),
+    Put::Content(68, Content::Words(&[1, 1])),
+    Put::Bytes(76, b"\0.b\0"),
+    Put::Sections(&[
+        NULL_SECTION,
+        Shdr {
+            offset: 64,
+            size: 2,
+            ..BODY
+        },
+        Shdr {
+            offset: 68,
+            size: 8,
+            ..GROUP
+        },
+        Shdr {
+            offset: 76,
+            size: 4,
+            ..NAMES
+        },
+    ]),
+];
+
+/// What is left without `.a` and `.b`.
+const NONE_LEFT: [Put; 3] = [
+    Put::Content(64, Content::Words(&[1])),
+    Put::Bytes(68, b"\0"),
+    Put::Sections(&[
+        NULL_SECTION,
+        Shdr {
+            offset: 64,
+            size: 4,
+            ..GROUP
+        },
+        Shdr {
+            offset: 68,
+            size: 1,
+            ..NAMES
+        },
+    ]),
+];
+
+/// Words, and the image that they make of that object: a group of one member, and one of its flags
+/// alone.
+const MADE: [(&str, Recipe); 2] = [
+    (
+        "strip -R .a -o O F",
+        Recipe {
+            form: WIDE,
+            start: Start::Table(80, 4, 3),
+            puts: &ONE_LEFT,
+        },
+    ),
+    (
+        "strip -R .a -R .b -o O F",
+        Recipe {
+            form: WIDE,
+            start: Start::Table(72, 3, 2),
+            puts: &NONE_LEFT,
+        },
+    ),
+];
+
+/// Whether the words leave this image of the object.
+fn leaves(alloc: Global, words: &'static str, made: &Recipe) -> Result<bool, ElfError> {
+    let row = Row {
+        words,
+        file: GROUPED,
+        ending: DONE,
+    };
+    let left = run_row(alloc, &row)?;
+    let image = image_of(alloc, made)?;
+    Ok(left.ran.is(&row.ending) && holds(&left.held, &image.bytes))
+}
+
+#[test]
+fn a_group_keeps_the_members_that_stay(rt: HostRuntime) -> Result<(), Fail> {
+    for (words, made) in &MADE {
+        assert!(rt; leaves(rt.alloc(), words, made) == Ok(true));
+    }
+    Ok(())
+}
+
+/// A group that is no whole number of words.
+const RAGGED: Row = Row {
+    words: "strip -R .a -o O F",
+    file: Recipe {
+        puts: &[
+            Put::Sections(&SECTIONS),
+            Put::Home(1, Content::Bytes(b"aa")),
+            Put::Home(2, Content::Bytes(b"bb")),
+            Put::Home(3, Content::Words(&[1, 1, 2])),
+            Put::Home(4, Content::Bytes(b"\0.a\0.b\0")),
+            Put::Field(Field::Section(3, SectionField::Size), 11),
+        ],
+        ..GROUPED
+    },
+    ending: Ending {
+        err: b"strip: F: section 3 ragged\n",
+        ..REFUSED
+    },
+};
+
+#[test]
+fn a_ragged_group_makes_no_file(rt: HostRuntime) {
+    assert!(rt; leaves_old(rt.alloc(), &RAGGED) == Ok(true));
+}
