@@ -14,7 +14,7 @@ const UNOPENED: Failing = Failing { open: 1, ..NOTHING };
 /// Words, how they end, and what stands on both outputs.
 type Said = (&'static str, Status, &'static [u8], &'static [u8]);
 
-const SAID: [Said; 8] = [
+const SAID: [Said; 7] = [
     (
         "size",
         Status::BadWords,

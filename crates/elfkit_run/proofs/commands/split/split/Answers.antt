@@ -5,7 +5,8 @@ use Rattle.elfkit_run.proofs.commands.split.split.Goals as goal
 
 pub invariant_of-halves : goal.invariant_of-halves
 invariant_of-halves g c =
-    rw (c.as_str.ensures, c.as_str-2.ensures) c.requires.differ.third_differs
+    rw (c.as_str.ensures, c.as_str-2.ensures)
+    (record { apart = c.requires.differ.third_differs })
 
 pub edit_named-requires : goal.edit_named-requires
 edit_named-requires g c = λ bytes.

@@ -2,7 +2,7 @@ use Rattle.elfkit_run.proofs.commands.unstrip.unstrip.Goals as goal
 
 pub invariant_of-names : goal.invariant_of-names
 invariant_of-names g c =
-    rw (c.as_str.ensures, c.as_str-2.ensures) c.requires.last_two_differ
+    rw (c.as_str.ensures, c.as_str-2.ensures) (record { apart = c.requires.last_two_differ })
 
 pub join_files-requires-clause-stripped : goal.join_files-requires-clause-stripped
 join_files-requires-clause-stripped g c =
