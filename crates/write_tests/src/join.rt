@@ -358,7 +358,7 @@ const NONE: Fault = Fault {
 };
 
 /// How a run ends where calls fail.
-fn stopped(alloc: Global, fault: Fault, made: &Octets) -> Stopped {
+fn end_of(alloc: Global, fault: Fault, made: &Octets) -> Stopped {
     match run_join(alloc, &OBJECT, fault.stripped, fault.debug, fault.calls) {
         Ok(left) => Stopped {
             status: left.ran.status,
@@ -374,7 +374,7 @@ fn stopped(alloc: Global, fault: Fault, made: &Octets) -> Stopped {
 /// How it ends where the file of that number is not handed out.
 fn unopened(alloc: Global, open: u64, made: &Octets) -> Stopped {
     let calls = Failing { open, ..NOTHING };
-    stopped(alloc, Fault { calls, ..NONE }, made)
+    end_of(alloc, Fault { calls, ..NONE }, made)
 }
 
 /// Whether a half that is not handed out stops the run as a failed read, and the new file as a
@@ -403,7 +403,7 @@ fn stop_unwritten(alloc: Global, made: &Octets) -> bool {
         status: Status::NoMemory,
         held: State::Old,
     };
-    stopped(
+    end_of(
         alloc,
         Fault {
             calls: write,
@@ -411,7 +411,7 @@ fn stop_unwritten(alloc: Global, made: &Octets) -> bool {
         },
         made,
     ) == UNWRITTEN
-        && stopped(
+        && end_of(
             alloc,
             Fault {
                 calls: memory,
@@ -441,7 +441,7 @@ fn read_fault(of_debug: bool, read: u64) -> Fault {
 fn unread(alloc: Global, of_debug: bool, made: &Octets) -> u32 {
     let mut count = 0u32;
     for read in 1..9u64 {
-        let left = stopped(alloc, read_fault(of_debug, read), made);
+        let left = end_of(alloc, read_fault(of_debug, read), made);
         if left == UNREAD {
             count = count.saturating_add(1);
         } else if left != WHOLE {

@@ -462,7 +462,7 @@ fn left_of(alloc: Global, failing: Failing, name: &str, made: &Octets) -> (Statu
 }
 
 /// How a run ends, and what it leaves of both.
-fn stopped(alloc: Global, failing: Failing, made: &Made) -> Stopped {
+fn end_of(alloc: Global, failing: Failing, made: &Made) -> Stopped {
     let (status, out) = left_of(alloc, failing, "O", &made.out);
     let (_, debug) = left_of(alloc, failing, "D", &made.debug);
     Stopped { status, out, debug }
@@ -474,7 +474,7 @@ fn stop_in_turn(alloc: Global, made: &Made) -> bool {
     let mut first = 0u32;
     let mut second = 0u32;
     for write in 1..9u64 {
-        let left = stopped(alloc, Failing { write, ..NOTHING }, made);
+        let left = end_of(alloc, Failing { write, ..NOTHING }, made);
         if left == IN_FIRST {
             first = first.saturating_add(1);
         } else if left == IN_SECOND {
@@ -493,9 +493,9 @@ fn stop_unopened(alloc: Global, made: &Made) -> bool {
         status: Status::ReadFailed,
         ..BEFORE_FIRST
     };
-    stopped(alloc, Failing { open: 1, ..NOTHING }, made) == unread
-        && stopped(alloc, Failing { open: 2, ..NOTHING }, made) == BEFORE_FIRST
-        && stopped(alloc, Failing { open: 3, ..NOTHING }, made) == BEFORE_SECOND
+    end_of(alloc, Failing { open: 1, ..NOTHING }, made) == unread
+        && end_of(alloc, Failing { open: 2, ..NOTHING }, made) == BEFORE_FIRST
+        && end_of(alloc, Failing { open: 3, ..NOTHING }, made) == BEFORE_SECOND
 }
 
 /// Whether a run over files that want more memory than there is leaves both.
@@ -508,7 +508,7 @@ fn stop_wanting(alloc: Global, made: &Made) -> bool {
         status: Status::NoMemory,
         ..BEFORE_FIRST
     };
-    stopped(alloc, failing, made) == wanting
+    end_of(alloc, failing, made) == wanting
 }
 
 /// Both halves, or none where there is no memory for them.
