@@ -28,6 +28,9 @@ const ROWS: [Row; 4] = [
 
 /// Whether a section has a name.
 fn is_named(elf: &mut Elf<NoSource>, s: ScnId, wanted: &[u8]) -> bool {
+    if s.0 >= elf.shnum() {
+        return false;
+    }
     match section_name(elf, s) {
         Ok(Some(name)) => name == wanted,
         _ => false,
