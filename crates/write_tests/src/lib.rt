@@ -13,13 +13,9 @@ mod groups;
 #[cfg(test)]
 mod images;
 #[cfg(test)]
-mod join;
-#[cfg(test)]
 mod rehash;
 #[cfg(test)]
 mod selftest;
-#[cfg(test)]
-mod split;
 #[cfg(test)]
 mod stops;
 #[cfg(test)]
