@@ -1,5 +1,4 @@
--- What copy keeps, and that what was split combines again, as laws over the definitions. They
--- are stated here, and not proved yet.
+-- What copy keeps, and that what was split combines again, as laws over the definitions.
 use Rattle.std.specs.Prelude.{◌≡◌, ◌≢◌, ℕ, ◌+◌, ◌<◌, ◌≤◌, Bool, true, false, List, [], ◌∷◌, ◌++◌, length, slice_get, Option, Some, None, Result, Ok, Err}
 use Rattle.std.specs.List.{flat_map}
 use Rattle.elf_types.specs.declared.records.Ehdr.{Ehdr}

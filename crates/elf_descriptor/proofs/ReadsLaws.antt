@@ -1,5 +1,5 @@
 -- What calls in a row do to a source, and what is held after them.
-use Rattle.std.proofs.Common.{◌≡◌, ℕ, ◌+◌, ◌≤◌, Bool, true, false, List, [], ◌∷◌, ◌++◌, Result, refl, ◌∙◌, subst, arith}
+use Rattle.std.proofs.Common.{◌≡◌, ℕ, ◌+◌, ◌≤◌, Bool, true, false, List, [], ◌∷◌, ◌++◌, Result, Ok, refl, ◌∙◌, subst, arith}
 use Rattle.std.specs.Prelude.{IsTrue, IfErr, ◌||◌, if◌then◌else◌}
 use Rattle.std.proofs.lemmas.List.Elements.{Contains-append_left, Contains-append_right}
 use Rattle.std.proofs.lemmas.List.Sums.{sum_by-append, sum_by-cons}
@@ -73,6 +73,49 @@ dues_stay o before after (s ∷ sections) stays =
 pub unread_before : (before after : Bool) → (IsTrue before → IsTrue after) → after ≡ false → before ≡ false
 unread_before false after stays unread = refl
 unread_before true after stays unread = let is = stays refl in cc
+
+-- two calls in a row among the same homes, on an object that the first one leaves: each home is
+-- read once
+pub reads_among : {S T U : Type 0} (g : Ghosts S) (x : T) (q : Result U ElfError)
+    (old mid new : State S) (homes holding : List ℕ) → mid.o ≡ old.o
+    → Reads g (Ok x) old mid homes holding (homes_due old.o old.loaded homes)
+    → Reads g q mid new homes holding (homes_due mid.o mid.loaded homes)
+    → Reads g q old new homes holding (homes_due old.o old.loaded homes)
+reads_among g x q old mid new homes holding same first second =
+    let later : Reads g q mid new homes holding (homes_due old.o mid.loaded homes) =
+    subst (λ (o : Object). Reads g q mid new homes holding (homes_due o mid.loaded homes)) same
+    second in
+    let before = first.first_use tt in
+    let both = asks_both g (Ok x) q old.source mid.source new.source
+    (homes_due old.o old.loaded homes) (homes_due old.o mid.loaded homes)
+    first.source later.source in
+    record {
+      source = record {
+        leaves = both.leaves;
+        later = both.later;
+        read = both.read;
+        taken = record {
+          later = both.taken.later;
+          no_more = omega (arith, before, later.source.taken.no_more);
+        };
+      };
+      told = later.told ∙ first.told;
+      ready = later.ready ∙ first.ready;
+      loads = λ i other. later.loads i other ∙ first.loads i other;
+      stays = λ i is. later.stays i (first.stays i is);
+      holds = λ i other. later.holds i other ∙ first.holds i other;
+      holds_on = λ s p is. later.holds_on s p (first.holds_on s p is);
+      room = λ i unread. later.room i unread ∙ first.room i
+          (unread_before (is_loaded mid.loaded i) (is_loaded new.loaded i)
+          (later.stays i) unread);
+      first_use = λ refused. omega (
+        arith,
+        before,
+        subst (λ (o : Object). g.taken new.source + homes_due o new.loaded homes
+            ≤ g.taken mid.source + homes_due o mid.loaded homes)
+            same (second.first_use refused),
+      );
+    }
 
 -- two calls in a row on an object that the first one leaves, of which the second answers
 pub reads_both : {S T U : Type 0} (g : Ghosts S) (r : Result T ElfError) (q : Result U ElfError) (old mid new : State S) (a b x y : List ℕ) (n m : ℕ)

@@ -8,7 +8,7 @@ use Rattle.elf_types.specs.declared.records.Sym.{Sym}
 use Rattle.elf_types.specs.Answers.{IsRefusal, err_of}
 use Rattle.elf_outside.specs.declared.sources.Source.{Ghosts}
 use Rattle.elf_outside.specs.Asks.{ReadRose}
-use Rattle.elf_outside.proofs.AskLemmas.{asks_both, read_rose_on}
+use Rattle.elf_outside.proofs.AskLemmas.{read_rose_on}
 use Rattle.elf_object.specs.Words.{Answers, AnswersRead, Refusals}
 use Rattle.elf_object.specs.Object.{Object, section_at, piece_at, home_is_clean}
 use Rattle.elf_object.specs.Due.{is_loaded, homes_due, is_refused_unread, when_clean, when_piece_clean, with_others}
@@ -17,7 +17,7 @@ use Rattle.elf_object.specs.Calls as calls
 use Rattle.elf_object.specs.Strings.{string_answer, strptr}
 use Rattle.elf_descriptor.specs.State.{State}
 use Rattle.elf_descriptor.specs.Reads.{Reads, Queries, Looks, wanted}
-use Rattle.elf_descriptor.proofs.ReadsLaws.{reads_then, reads_nothing, dues_stay, unread_before}
+use Rattle.elf_descriptor.proofs.ReadsLaws.{reads_then, reads_nothing, dues_stay, reads_among}
 use Rattle.symbol_lookup.specs.Lookups.{link_of, table_homes}
 use Rattle.symbol_lookup.proofs.SearchLaws.{IsFew, reads_few, few_due}
 use Rattle.hash_build.specs.Calls.{IsWantOrUnsorted}
@@ -235,42 +235,12 @@ module _ {S : Type 0} (g : Ghosts S) (s : ℕ) where
   table_both x q old mid new first second =
       let same = first.object in
       let homes = table_homes old.o s in
-      let later : Reads g q mid new homes homes (homes_due old.o mid.loaded homes) =
+      let later : Reads g q mid new homes homes (homes_due mid.o mid.loaded homes) =
       subst (λ (o : Object). Reads g q mid new (table_homes o s) (table_homes o s)
-      (homes_due o mid.loaded (table_homes o s))) same second.reads in
-      let before = first.reads.first_use tt in
-      let both = asks_both g (Ok x) q old.source mid.source new.source
-      (homes_due old.o old.loaded homes) (homes_due old.o mid.loaded homes)
-      first.reads.source later.source in
+      (homes_due mid.o mid.loaded (table_homes o s))) same second.reads in
       record {
         object = second.object ∙ same;
-        reads = record {
-          source = record {
-            leaves = both.leaves;
-            later = both.later;
-            read = both.read;
-            taken = record {
-              later = both.taken.later;
-              no_more = omega (arith, before, later.source.taken.no_more);
-            };
-          };
-          told = later.told ∙ first.reads.told;
-          ready = later.ready ∙ first.reads.ready;
-          loads = λ i other. later.loads i other ∙ first.reads.loads i other;
-          stays = λ i is. later.stays i (first.reads.stays i is);
-          holds = λ i other. later.holds i other ∙ first.reads.holds i other;
-          holds_on = λ n p is. later.holds_on n p (first.reads.holds_on n p is);
-          room = λ i unread. later.room i unread ∙ first.reads.room i
-              (unread_before (is_loaded mid.loaded i) (is_loaded new.loaded i)
-              (later.stays i) unread);
-          first_use = λ refused. omega (
-            arith,
-            before,
-            subst (λ (o : Object). g.taken new.source + homes_due o new.loaded (table_homes o s)
-                ≤ g.taken mid.source + homes_due o mid.loaded (table_homes o s))
-                same (second.reads.first_use refused),
-          );
-        };
+        reads = reads_among g x q old mid new homes homes same first.reads later;
         ended = ended_before old mid q (stops_before old mid same first.reads.stays) second.ended;
       }
 

@@ -7,13 +7,13 @@ use Rattle.elf_types.specs.declared.errors.ElfError.TheVariants.{Memory, Read}
 use Rattle.elf_types.specs.Answers.{IsRefusal}
 use Rattle.elf_outside.specs.declared.sources.Source.{Ghosts}
 use Rattle.elf_outside.specs.Asks.{ReadRose}
-use Rattle.elf_outside.proofs.AskLemmas.{asks_both, read_rose_on}
+use Rattle.elf_outside.proofs.AskLemmas.{read_rose_on}
 use Rattle.elf_object.specs.Object.{Object, piece_at}
 use Rattle.elf_object.specs.Due.{is_loaded, homes_due, is_refused_unread, unless_refused, when_piece_clean}
 use Rattle.elf_object.specs.Calls.{Call}
 use Rattle.elf_descriptor.specs.State.{State}
 use Rattle.elf_descriptor.specs.Reads.{Reads, Queries}
-use Rattle.elf_descriptor.proofs.ReadsLaws.{reads_then, reads_nothing, dues_stay, unread_before}
+use Rattle.elf_descriptor.proofs.ReadsLaws.{reads_then, reads_nothing, dues_stay, reads_among}
 use Rattle.symbol_lookup.proofs.SearchLaws.{IsFew, reads_few, few_due}
 use Rattle.hash_order.specs.Reading.{MayStop, ReadsHomes}
 
@@ -125,43 +125,8 @@ module _ {S : Type 0} (g : Ghosts S) (homes : List ℕ) where
   pub homes_both : {T U : Type 0} (x : T) (q : Result U ElfError) (old mid new : State S)
       → ReadsHomes g homes (Ok x) old mid → ReadsHomes g homes q mid new
       → ReadsHomes g homes q old new
-  homes_both x q old mid new first second =
-      let same = first.object in
-      let later : Reads g q mid new homes homes (homes_due old.o mid.loaded homes) =
-      subst (λ (o : Object). Reads g q mid new homes homes (homes_due o mid.loaded homes)) same
-      second.reads in
-      let before = first.reads.first_use tt in
-      let both = asks_both g (Ok x) q old.source mid.source new.source
-      (homes_due old.o old.loaded homes) (homes_due old.o mid.loaded homes)
-      first.reads.source later.source in
-      record {
-        object = second.object ∙ same;
-        reads = record {
-          source = record {
-            leaves = both.leaves;
-            later = both.later;
-            read = both.read;
-            taken = record {
-              later = both.taken.later;
-              no_more = omega (arith, before, later.source.taken.no_more);
-            };
-          };
-          told = later.told ∙ first.reads.told;
-          ready = later.ready ∙ first.reads.ready;
-          loads = λ i other. later.loads i other ∙ first.reads.loads i other;
-          stays = λ i is. later.stays i (first.reads.stays i is);
-          holds = λ i other. later.holds i other ∙ first.reads.holds i other;
-          holds_on = λ n p is. later.holds_on n p (first.reads.holds_on n p is);
-          room = λ i unread. later.room i unread ∙ first.reads.room i
-              (unread_before (is_loaded mid.loaded i) (is_loaded new.loaded i)
-              (later.stays i) unread);
-          first_use = λ refused. omega (
-            arith,
-            before,
-            subst (λ (o : Object). g.taken new.source + homes_due o new.loaded homes
-                ≤ g.taken mid.source + homes_due o mid.loaded homes)
-                same (second.reads.first_use refused),
-          );
-        };
-        ended = ended_before old mid q same first.reads.stays second.ended;
-      }
+  homes_both x q old mid new first second = record {
+    object = second.object ∙ first.object;
+    reads = reads_among g x q old mid new homes homes first.object first.reads second.reads;
+    ended = ended_before old mid q first.object first.reads.stays second.ended;
+  }

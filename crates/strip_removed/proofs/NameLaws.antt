@@ -7,14 +7,14 @@ use Rattle.elf_types.specs.declared.errors.ElfError.TheVariants.{Memory, Read}
 use Rattle.elf_types.specs.Answers.{IsRefusal}
 use Rattle.elf_outside.specs.declared.sources.Source.{Ghosts}
 use Rattle.elf_outside.specs.Asks.{ReadRose}
-use Rattle.elf_outside.proofs.AskLemmas.{asks_both, read_rose_on}
+use Rattle.elf_outside.proofs.AskLemmas.{read_rose_on}
 use Rattle.elf_object.specs.Words.{Answers}
 use Rattle.elf_object.specs.Object.{Object, section_at}
 use Rattle.elf_object.specs.Due.{is_loaded, homes_due, when_clean, is_refused_unread, unless_refused}
 use Rattle.elf_object.specs.Calls.{Call}
 use Rattle.elf_descriptor.specs.State.{State}
 use Rattle.elf_descriptor.specs.Reads.{Reads, Queries, wanted}
-use Rattle.elf_descriptor.proofs.ReadsLaws.{reads_then, reads_nothing, reads_wider, reads_within, dues_stay, unread_before}
+use Rattle.elf_descriptor.proofs.ReadsLaws.{reads_then, reads_nothing, reads_wider, reads_within, dues_stay, reads_among}
 use Rattle.gelf_view.specs.SectionNames.{name_reads, section_name}
 use Rattle.strip_removed.specs.Calls.{names_home, MayEnd, ReadsNames, numbers_call, found}
 
@@ -190,43 +190,13 @@ module _ {S : Type 0} (g : Ghosts S) where
   names_both x q old mid new first second =
       let same = first.object in
       let home = names_home old.o in
-      let later : Reads g q mid new home [] (homes_due old.o mid.loaded home) =
+      let later : Reads g q mid new home [] (homes_due mid.o mid.loaded home) =
       subst (λ (o : Object).
-      Reads g q mid new (names_home o) [] (homes_due o mid.loaded (names_home o)))
+      Reads g q mid new (names_home o) [] (homes_due mid.o mid.loaded (names_home o)))
       same second.reads in
-      let before = first.reads.first_use tt in
-      let both = asks_both g (Ok x) q old.source mid.source new.source
-      (homes_due old.o old.loaded home) (homes_due old.o mid.loaded home)
-      first.reads.source later.source in
       record {
         object = second.object ∙ same;
-        reads = record {
-          source = record {
-            leaves = both.leaves;
-            later = both.later;
-            read = both.read;
-            taken = record {
-              later = both.taken.later;
-              no_more = omega (arith, before, later.source.taken.no_more);
-            };
-          };
-          told = later.told ∙ first.reads.told;
-          ready = later.ready ∙ first.reads.ready;
-          loads = λ i other. later.loads i other ∙ first.reads.loads i other;
-          stays = λ i is. later.stays i (first.reads.stays i is);
-          holds = λ i other. later.holds i other ∙ first.reads.holds i other;
-          holds_on = λ s p is. later.holds_on s p (first.reads.holds_on s p is);
-          room = λ i unread. later.room i unread ∙ first.reads.room i
-              (unread_before (is_loaded mid.loaded i) (is_loaded new.loaded i)
-              (later.stays i) unread);
-          first_use = λ refused. omega (
-            arith,
-            before,
-            subst (λ (o : Object). g.taken new.source + homes_due o new.loaded (names_home o)
-                ≤ g.taken mid.source + homes_due o mid.loaded (names_home o))
-                same (second.reads.first_use refused),
-          );
-        };
+        reads = reads_among g x q old mid new home [] same first.reads later;
         ended = ended_before old mid q (ends_before old mid same first.reads.stays) second.ended;
       }
 

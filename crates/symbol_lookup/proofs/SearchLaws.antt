@@ -10,12 +10,12 @@ use Rattle.elf_types.specs.declared.errors.ElfError.TheVariants.{Memory, Read, B
 use Rattle.elf_types.specs.Answers.{IsRefusal}
 use Rattle.elf_outside.specs.declared.sources.Source.{Ghosts}
 use Rattle.elf_outside.specs.Asks.{ReadRose}
-use Rattle.elf_outside.proofs.AskLemmas.{asks_both, asks_fewer, read_rose_on}
+use Rattle.elf_outside.proofs.AskLemmas.{asks_fewer, read_rose_on}
 use Rattle.elf_object.specs.Object.{Object}
 use Rattle.elf_object.specs.Due.{is_loaded, holds_items, home_due, homes_due}
 use Rattle.elf_descriptor.specs.State.{State}
 use Rattle.elf_descriptor.specs.Reads.{Reads}
-use Rattle.elf_descriptor.proofs.ReadsLaws.{reads_then, reads_nothing, dues_stay, unread_before}
+use Rattle.elf_descriptor.proofs.ReadsLaws.{reads_then, reads_nothing, dues_stay, reads_among}
 use Rattle.symbol_lookup.specs.Lookups.{Needs, needs_memory, IsBad}
 use Rattle.symbol_lookup.specs.Searches.{Searches, MayEnd}
 
@@ -138,35 +138,13 @@ ended_before n old mid (Err e) before ended = before e ended
 
 -- one step after another
 pub searches_both : {S T U : Type 0} (g : Ghosts S) (n : Needs) (x : T) (q : Result U ElfError) (old mid new : State S) → Searches g n (Ok x) old mid → Searches g n q mid new → Searches g n q old new
-searches_both g n x q old mid new first second =
-    let same = first.object in
-    let later : Reads g q mid new n.homes n.homes (homes_due old.o mid.loaded n.homes) =
-    subst (λ (o : Object). Reads g q mid new n.homes n.homes (homes_due o mid.loaded n.homes)) same second.reads in
-    let before = first.reads.first_use tt in
-    let both = asks_both g (Ok x) q old.source mid.source new.source (homes_due old.o old.loaded n.homes) (homes_due old.o mid.loaded n.homes) first.reads.source later.source in
-    record {
-      object = second.object ∙ same;
-      reads = record {
-        source = record {
-          leaves = both.leaves;
-          later = both.later;
-          read = both.read;
-          taken = record {
-            later = both.taken.later;
-            no_more = omega (arith, before, later.source.taken.no_more);
-          };
-        };
-        told = later.told ∙ first.reads.told;
-        ready = later.ready ∙ first.reads.ready;
-        loads = λ i other. later.loads i other ∙ first.reads.loads i other;
-        stays = λ i is. later.stays i (first.reads.stays i is);
-        holds = λ i other. later.holds i other ∙ first.reads.holds i other;
-        holds_on = λ s p is. later.holds_on s p (first.reads.holds_on s p is);
-        room = λ i unread. later.room i unread ∙ first.reads.room i (unread_before (is_loaded mid.loaded i) (is_loaded new.loaded i) (later.stays i) unread);
-        first_use = λ refused. omega (arith, before, subst (λ (o : Object). g.taken new.source + homes_due o new.loaded n.homes ≤ g.taken mid.source + homes_due o mid.loaded n.homes) same (second.reads.first_use refused));
-      };
-      ended = ended_before n old mid q (may_end_before n old mid same first.reads.stays first.reads.holds_on) second.ended;
-    }
+searches_both g n x q old mid new first second = record {
+  object = second.object ∙ first.object;
+  reads = reads_among g x q old mid new n.homes n.homes first.object first.reads second.reads;
+  ended = ended_before n old mid q
+      (may_end_before n old mid first.object first.reads.stays first.reads.holds_on)
+      second.ended;
+}
 
 -- another value, and another form of an end
 pub searches_value : {S T U : Type 0} (g : Ghosts S) (n : Needs) (x : T) (y : U) (old new : State S) → Searches g n (Ok x) old new → Searches g n (Ok y) old new
