@@ -18,7 +18,8 @@ loop-p-init g c = record {
 pub write_piece-requires-clause-stored : goal.write_piece-requires-clause-stored
 write_piece-requires-clause-stored g c =
     let over = c.loop-p.invariant.put.over in
-    stored_after c.args.elf.now c.loop-p.elf over.change.state over.change.long c.dirty-object.ensures.sound.object c.requires.stored
+    stored_after c.args.elf.now c.loop-p.elf over.change.state over.change.long
+    c.dirty-object.ensures.sound.object c.requires.stored
 
 pub write_piece-requires-clause-held : goal.write_piece-requires-clause-held
 write_piece-requires-clause-held g c =

@@ -52,7 +52,8 @@ write_range-requires-clause-stored g c =
 
 pub write_range-requires-clause-held : goal.write_range-requires-clause-held
 write_range-requires-clause-held g c =
-    at_hand_after c.args.elf.now c.write_fill.new.elf c.in_default.ensures.filled.change.state c.args.part c.requires.held
+    at_hand_after c.args.elf.now c.write_fill.new.elf c.in_default.ensures.filled.change.state
+    c.args.part c.requires.held
 
 pub write_range-requires-clause-long : goal.write_range-requires-clause-long
 write_range-requires-clause-long g c =
