@@ -1,5 +1,5 @@
 -- An image that a tool is to speak of.
-use Rattle.std.proofs.Common.{◌≡◌, ◌≢◌, ◌+◌, ◌≤◌, ℕ, Bool, false, true, List, [], Option, Some, None, Result, Ok, Err, IfSome, IfOk, IsTrue, refl, sym, ap, ◌∙◌, subst, arith}
+use Rattle.std.proofs.Common.{◌≡◌, ◌≢◌, ◌+◌, ◌*◌, ◌≤◌, ℕ, Bool, false, true, List, [], Option, Some, None, Result, Ok, Err, IfSome, IfOk, IsTrue, refl, sym, ap, ◌∙◌, subst, arith}
 use Rattle.std.specs.Prelude.{is_some, OnOk, if◌then◌else◌}
 use Rattle.elf_types.specs.declared.constants.TheConstants.{MAX_IMAGE}
 use Rattle.elf_types.specs.declared.errors.ElfError.{ElfError}
@@ -15,7 +15,7 @@ use Rattle.elf_ident.specs.declared.file_kinds.FileKind.TheVariants.{Archive, El
 use Rattle.elf_ident.specs.FileKinds.{file_kind}
 use Rattle.elf_object.specs.Object.{Object}
 use Rattle.elf_object.specs.Open.{opened}
-use Rattle.elf_object.specs.Due.{homes_due, all_sections}
+use Rattle.elf_object.specs.Due.{all_sections}
 use Rattle.elf_ident.specs.Front.{front_bytes, most_front_bytes}
 use Rattle.elf_ident.specs.Reading.{HasTables}
 use Rattle.elf_descriptor.specs.State.{State}
@@ -27,7 +27,8 @@ use Rattle.tool_output.specs.Names.{Name}
 use Rattle.tool_output.specs.Reports.{Report, Reports, refusal_report}
 use Rattle.tool_output.specs.Sources.{ReportsOn}
 use Rattle.tool_output.proofs.SourceLemmas.{stated_error}
-use Rattle.object_output.specs.Steps.{ReportsElf, LeavesElfBy, WentOn, homes_left}
+use Rattle.object_output.specs.Steps.{ReportsOver, LeavesElfOver, WentOn, homes_left, homes_total, asked_again}
+use Rattle.object_output.specs.Looks.{Looks}
 use Rattle.object_output.specs.Images.{object_by, file_object, image_report, object_asks, image_asks}
 use Rattle.object_output.proofs.OnceReads.{due_at_first}
 use Rattle.object_output.proofs.SourceSteps.{leaves_then, rose_from_first}
@@ -128,9 +129,9 @@ module _ (command : List ℕ) (report : Name → Object → Report) (name : Name
   shown_on o e r t u (Some image) told x stated is h = rw stated (h is)
 
   -- the object of the image is reported on
-  pub image_shown : {S O E : Type 0} (s : SourceGhosts S) (o : SinkGhosts O) (e : SinkGhosts E) (r : Result Bool Stop) (src : S) (a b : State S) (t u : Outputs O E) (n : ℕ)
+  pub image_shown : {S O E : Type 0} {passes : ℕ} (s : SourceGhosts S) (o : SinkGhosts O) (e : SinkGhosts E) (r : Result Bool Stop) (src : S) (a b : State S) (t u : Outputs O E) (n : ℕ)
       → Asks {T = Object} s (Ok a.o) src a.source n → IfSome (s.holds src) (λ image. Follows (Ok a.o) (opened image)) → IsBegun s src a
-      → ReportsElf s o e (report name) r a b t u → ReportsOn s o e (image_report command report name) r src b.source t u
+      → ReportsOver s o e passes (report name) r a b t u → ReportsOn s o e (image_report command report name) r src b.source t u
   image_shown s o e r src a b t u n asks stated is h =
       let p = asks.later in
       let q = h.elf.later in
@@ -155,38 +156,38 @@ on_ok (Ok x) P h = h
 on_ok (Err stop) P h = tt
 
 -- of an object no more than its homes, and nothing by what reads none
-by_reads : (reads : Bool) (x : Object) (front before begun after left : ℕ) → begun ≤ before + front
-    → after ≤ begun + left → left ≤ homes_due x [] (all_sections x)
-    → (reads ≡ false → after ≡ begun) → after ≤ before + (front + object_asks reads x)
-unfolding object_asks
-by_reads true x front before begun after left h k l unread = omega (arith, h, k, l)
-by_reads false x front before begun after left h k l unread =
+by_reads : (reads : Bool) (homes again front before begun after left : ℕ) → begun ≤ before + front
+    → after ≤ begun + left + again → left ≤ homes → (reads ≡ false → after ≡ begun)
+    → after ≤ before + (front + (if reads then homes + again else 0))
+by_reads true homes again front before begun after left h k l unread = omega (arith, h, k, l)
+by_reads false homes again front before begun after left h k l unread =
     let same = unread refl in omega (arith, h, same)
 
-module _ {S : Type 0} (s : SourceGhosts S) (src : S) (reads : Bool) where
+module _ {S : Type 0} (s : SourceGhosts S) (src : S) (looks : Looks) where
   -- the object of the image was reported on
   pub image_asked : (r : Result Bool Stop) (a b : State S)
       → IfSome (s.holds src) (λ image. Follows (Ok a.o) (opened image))
       → IfSome (s.holds src) (λ image. s.taken a.source ≤ s.taken src + front_bytes image)
-      → LeavesElfBy s (WentOn r) a b → (reads ≡ false → b ≡ a)
-      → OnOk r (IfSome (s.holds src) (λ image. s.taken b.source ≤ s.taken src + image_asks reads image))
-  unfolding image_asks
+      → LeavesElfOver s looks.passes (WentOn r) a b → (looks.reads ≡ false → b ≡ a)
+      → OnOk r (IfSome (s.holds src) (λ image. s.taken b.source ≤ s.taken src + image_asks looks image))
+  unfolding image_asks object_asks
   image_asked (Err stop) a b stated front left unread = tt
   image_asked (Ok x) a b stated front left unread = on_image (s.holds src) stated front
     where
       on_image : (held : Option (List ℕ)) → IfSome held (λ image. Follows (Ok a.o) (opened image))
           → IfSome held (λ image. s.taken a.source ≤ s.taken src + front_bytes image)
-          → IfSome held (λ image. s.taken b.source ≤ s.taken src + image_asks reads image)
+          → IfSome held (λ image. s.taken b.source ≤ s.taken src + image_asks looks image)
       on_image None is bound = tt
       on_image (Some image) is bound =
-          rw is (by_reads reads a.o (front_bytes image) (s.taken src) (s.taken a.source)
-          (s.taken b.source) (homes_left a) bound
-          (asked_at (s.taken a.source) (s.taken b.source) (homes_left a) (homes_left b) (left.asked tt))
+          rw is (by_reads looks.reads (homes_total a.o) (looks.passes * asked_again a.o)
+          (front_bytes image) (s.taken src) (s.taken a.source) (s.taken b.source) (homes_left a) bound
+          (asked_at (s.taken a.source) (s.taken b.source) (homes_left a) (homes_left b)
+          (looks.passes * asked_again a.o) (left.asked tt))
           (due_at_first a.o a.loaded (all_sections a.o))
           (λ off. ap (λ (z : State S). s.taken z.source) (unread off)))
         where
-          asked_at : (x y l m : ℕ) → y + m ≤ x + l → y ≤ x + l
-          asked_at x y l m h = omega arith
+          asked_at : (x y l m n : ℕ) → y + m ≤ x + l + n → y ≤ x + l + n
+          asked_at x y l m n h = omega arith
 
   -- and where sections are not read, no more than the front
   pub image_unread : (a b : State S) → b ≡ a
@@ -197,10 +198,10 @@ module _ {S : Type 0} (s : SourceGhosts S) (src : S) (reads : Bool) where
       (sym same) front
 
 -- what is no image asked for the front alone
-pub refused_asked : (r : Result Bool Stop) (reads : Bool) (holds : Option (List ℕ)) (a b : ℕ)
+pub refused_asked : (r : Result Bool Stop) (looks : Looks) (holds : Option (List ℕ)) (a b : ℕ)
     → IfSome holds (λ image. b ≤ a + front_bytes image)
-    → OnOk r (IfSome holds (λ image. b ≤ a + image_asks reads image))
+    → OnOk r (IfSome holds (λ image. b ≤ a + image_asks looks image))
 unfolding image_asks
-refused_asked (Err stop) reads holds a b h = tt
-refused_asked (Ok x) reads None a b h = tt
-refused_asked (Ok x) reads (Some image) a b h = omega (arith, h)
+refused_asked (Err stop) looks holds a b h = tt
+refused_asked (Ok x) looks None a b h = tt
+refused_asked (Ok x) looks (Some image) a b h = omega (arith, h)

@@ -3,11 +3,13 @@ pub mod ElfSteps
 pub mod FileLemmas
 pub mod ImageLemmas
 pub mod LearnLemmas
+pub mod LetGo
 pub mod ListCounts
 pub mod MemberAsked
 pub mod MemberLemmas
 pub mod NameLemmas
 pub mod ObtainLemmas
+pub mod PassSteps
 pub mod OnceReads
 pub mod OnceSums
 pub mod QueryLemmas

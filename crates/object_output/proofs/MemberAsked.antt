@@ -11,6 +11,7 @@ use Rattle.ar_members.specs.Archives.{Walk, first_walk, members_left, next_due, 
 use Rattle.ar_members.proofs.EntryLemmas.{due_begins}
 use Rattle.ar_members.proofs.Told.{told_by, told_then, told_both, told_as}
 use Rattle.tool_output.specs.declared.stops.Stop.{Stop}
+use Rattle.object_output.specs.Looks.{Looks}
 use Rattle.object_output.specs.Images.{image_asks}
 use Rattle.object_output.specs.Archives.{member_bytes, member_asks, left_asks, archive_asks}
 use Rattle.object_output.proofs.MemberLemmas.{of_range}
@@ -25,11 +26,11 @@ header_most len at = by_test (leb (at + 60) len)
     by_test false = omega arith
 
 -- what a call of the archive answered of the member at a place
-abbrev asks_at : Bool → List ℕ → Result (ℕ × ℕ) ElfError → ℕ
-asks_at reads bytes (Ok place) = image_asks reads (take place.1 (drop place.0 bytes))
-asks_at reads bytes (Err e) = 0
+abbrev asks_at : Looks → List ℕ → Result (ℕ × ℕ) ElfError → ℕ
+asks_at looks bytes (Ok place) = image_asks looks (take place.1 (drop place.0 bytes))
+asks_at looks bytes (Err e) = 0
 
-module _ (reads : Bool) (header : ArHdr) (holds : Option (List ℕ)) (size a b : ℕ)
+module _ (looks : Looks) (header : ArHdr) (holds : Option (List ℕ)) (size a b : ℕ)
     (look : b ≤ a + header_asks size header.at) where
   behind : (n c m : ℕ) → m ≡ n → c ≤ b + n → c ≤ a + (60 + m)
   behind n c m same h = let most = header_most size header.at in omega (arith, look, most, same, h)
@@ -38,27 +39,27 @@ module _ (reads : Bool) (header : ArHdr) (holds : Option (List ℕ)) (size a b :
   pub member_within : (r : Result Bool Stop) (now : Option (List ℕ)) (at len c : ℕ) → now ≡ holds
       → IfSome holds (λ bytes. HasBody bytes header)
       → IfSome holds (λ bytes. member_at bytes header.at ≡ Ok (at, len))
-      → OnOk r (IfSome (range_of at len now) (λ image. c ≤ b + image_asks reads image))
-      → OnOk r (IfSome holds (λ bytes. c ≤ a + member_asks reads bytes header))
+      → OnOk r (IfSome (range_of at len now) (λ image. c ≤ b + image_asks looks image))
+      → OnOk r (IfSome holds (λ bytes. c ≤ a + member_asks looks bytes header))
   member_within (Err stop) now at len c same there given asked = tt
   member_within (Ok x) now at len c same there given asked =
-      told_both (λ bytes. image_asks reads (member_bytes bytes header)
-      ≡ image_asks reads (take len (drop at bytes)))
-      (λ bytes. c ≤ b + image_asks reads (take len (drop at bytes))) holds
+      told_both (λ bytes. image_asks looks (member_bytes bytes header)
+      ≡ image_asks looks (take len (drop at bytes)))
+      (λ bytes. c ≤ b + image_asks looks (take len (drop at bytes))) holds
       (told_both (λ bytes. HasBody bytes header) (λ bytes. member_at bytes header.at ≡ Ok (at, len))
-      holds there given (λ bytes body is. ap (asks_at reads bytes) (sym body ∙ is)))
-      (told_as (λ bytes. c ≤ b + image_asks reads (take len (drop at bytes))) holds now same
-      (of_range (λ image. c ≤ b + image_asks reads image) at len now asked))
-      (λ bytes is within. behind (image_asks reads (take len (drop at bytes))) c
-      (image_asks reads (member_bytes bytes header)) is within)
+      holds there given (λ bytes body is. ap (asks_at looks bytes) (sym body ∙ is)))
+      (told_as (λ bytes. c ≤ b + image_asks looks (take len (drop at bytes))) holds now same
+      (of_range (λ image. c ≤ b + image_asks looks image) at len now asked))
+      (λ bytes is within. behind (image_asks looks (take len (drop at bytes))) c
+      (image_asks looks (member_bytes bytes header)) is within)
 
   -- or that was all
   pub member_unread : (r : Result Bool Stop)
-      → OnOk r (IfSome holds (λ bytes. b ≤ a + member_asks reads bytes header))
+      → OnOk r (IfSome holds (λ bytes. b ≤ a + member_asks looks bytes header))
   member_unread (Err stop) = tt
   member_unread (Ok x) = told_by holds
-      (λ bytes there. behind (image_asks reads (member_bytes bytes header)) b
-      (image_asks reads (member_bytes bytes header)) refl (omega arith))
+      (λ bytes there. behind (image_asks looks (member_bytes bytes header)) b
+      (image_asks looks (member_bytes bytes header)) refl (omega arith))
 
 -- ---- What is left of the members
 
@@ -77,16 +78,16 @@ list_is : (left : Members) (answer : Result (Option ArHdr × Members) ElfError)
     → next_of left ≡ answer → left.list ≡ members_in answer
 list_is left answer is = in_next left.list left.bad ∙ ap members_in is
 
-module _ (reads : Bool) (bytes : List ℕ) where
+module _ (looks : Looks) (bytes : List ℕ) where
   -- they are the next one, and those after it
   left_by : (old new : Walk) (header : ArHdr)
       → next_of (members_left bytes old) ≡ Ok (Some header, members_left bytes new)
-      → sum_by (member_asks reads bytes) (members_left bytes old).list
-      ≡ member_asks reads bytes header + sum_by (member_asks reads bytes) (members_left bytes new).list
+      → sum_by (member_asks looks bytes) (members_left bytes old).list
+      ≡ member_asks looks bytes header + sum_by (member_asks looks bytes) (members_left bytes new).list
   left_by old new header is =
-      ap (sum_by (member_asks reads bytes))
+      ap (sum_by (member_asks looks bytes))
       (list_is (members_left bytes old) (Ok (Some header, members_left bytes new)) is)
-      ∙ sum_by-cons (member_asks reads bytes) header (members_left bytes new).list
+      ∙ sum_by-cons (member_asks looks bytes) header (members_left bytes new).list
 
   -- the walk to the next member is within what is left
   next_within : (walk : Walk) → next_due bytes walk ≤ left_due bytes walk
@@ -97,10 +98,10 @@ module _ (reads : Bool) (bytes : List ℕ) where
       by_test false x y h = h
 
 -- nothing was asked for yet
-pub asked_begins : (reads : Bool) (holds : Option (List ℕ)) (walk : Walk) (a : ℕ)
-    → IfSome holds (λ bytes. a + left_asks reads bytes walk ≤ a + left_asks reads bytes walk)
-asked_begins reads holds walk a = told_by holds
-    (λ bytes there. same (a + left_asks reads bytes walk))
+pub asked_begins : (looks : Looks) (holds : Option (List ℕ)) (walk : Walk) (a : ℕ)
+    → IfSome holds (λ bytes. a + left_asks looks bytes walk ≤ a + left_asks looks bytes walk)
+asked_begins looks holds walk a = told_by holds
+    (λ bytes there. same (a + left_asks looks bytes walk))
   where
     same : (n : ℕ) → n ≤ n
     same n = omega arith
@@ -117,23 +118,23 @@ last_within w b c u v s whole walked = omega (arith, whole, walked)
 due_within : (w b c u v s : ℕ) → b + (u + s) ≤ w → v ≤ u → c ≤ b + v → c ≤ w
 due_within w b c u v s whole less walked = omega (arith, whole, less, walked)
 
-module _ (reads : Bool) (holds now : Option (List ℕ)) (same : now ≡ holds) (first old : Walk)
+module _ (looks : Looks) (holds now : Option (List ℕ)) (same : now ≡ holds) (first old : Walk)
     (a b : ℕ) (asked : IfSome holds (λ bytes.
-    b + left_asks reads bytes old ≤ a + left_asks reads bytes first)) where
+    b + left_asks looks bytes old ≤ a + left_asks looks bytes first)) where
   -- a member is next, and was reported on
   pub asked_goes_on : (after : Option (List ℕ)) (new : Walk) (header : ArHdr) (c d : ℕ)
       → after ≡ now
       → IfSome now (λ bytes. next_of (members_left bytes old)
       ≡ Ok (Some header, members_left bytes new))
       → IfSome now (λ bytes. c + left_due bytes new ≤ b + left_due bytes old)
-      → IfSome after (λ bytes. d ≤ c + member_asks reads bytes header)
-      → IfSome holds (λ bytes. d + left_asks reads bytes new ≤ a + left_asks reads bytes first)
+      → IfSome after (λ bytes. d ≤ c + member_asks looks bytes header)
+      → IfSome holds (λ bytes. d + left_asks looks bytes new ≤ a + left_asks looks bytes first)
   asked_goes_on after new header c d still next walked shown =
       let Next = λ (bytes : List ℕ). next_of (members_left bytes old)
       ≡ Ok (Some header, members_left bytes new) in
       let Walked = λ (bytes : List ℕ). c + left_due bytes new ≤ b + left_due bytes old in
-      let Shown = λ (bytes : List ℕ). d ≤ c + member_asks reads bytes header in
-      told_both (λ bytes. b + left_asks reads bytes old ≤ a + left_asks reads bytes first)
+      let Shown = λ (bytes : List ℕ). d ≤ c + member_asks looks bytes header in
+      told_both (λ bytes. b + left_asks looks bytes old ≤ a + left_asks looks bytes first)
       (λ bytes. Next bytes × (Walked bytes × Shown bytes)) holds asked
       (told_as (λ bytes. Next bytes × (Walked bytes × Shown bytes)) holds now same
       (told_both Next (λ bytes. Walked bytes × Shown bytes) now next
@@ -141,59 +142,59 @@ module _ (reads : Bool) (holds now : Option (List ℕ)) (same : now ≡ holds) (
       (λ bytes w s. (w, s)))
       (λ bytes n both. (n, both))))
       (λ bytes whole each.
-      step_within (a + left_asks reads bytes first) b c d (left_due bytes old) (left_due bytes new)
-      (sum_by (member_asks reads bytes) (members_left bytes old).list)
-      (member_asks reads bytes header)
-      (sum_by (member_asks reads bytes) (members_left bytes new).list)
-      whole (left_by reads bytes old new header each.0) each.1.0 each.1.1)
+      step_within (a + left_asks looks bytes first) b c d (left_due bytes old) (left_due bytes new)
+      (sum_by (member_asks looks bytes) (members_left bytes old).list)
+      (member_asks looks bytes header)
+      (sum_by (member_asks looks bytes) (members_left bytes new).list)
+      whole (left_by looks bytes old new header each.0) each.1.0 each.1.1)
 
   -- none is left
   pub asked_ends : (new : Walk) (c : ℕ)
       → IfSome now (λ bytes. c + left_due bytes new ≤ b + left_due bytes old)
-      → IfSome holds (λ bytes. c ≤ a + left_asks reads bytes first)
+      → IfSome holds (λ bytes. c ≤ a + left_asks looks bytes first)
   asked_ends new c walked =
-      told_both (λ bytes. b + left_asks reads bytes old ≤ a + left_asks reads bytes first)
+      told_both (λ bytes. b + left_asks looks bytes old ≤ a + left_asks looks bytes first)
       (λ bytes. c + left_due bytes new ≤ b + left_due bytes old) holds asked
       (told_as (λ bytes. c + left_due bytes new ≤ b + left_due bytes old) holds now same walked)
       (λ bytes whole walked.
-      last_within (a + left_asks reads bytes first) b c (left_due bytes old) (left_due bytes new)
-      (sum_by (member_asks reads bytes) (members_left bytes old).list) whole walked)
+      last_within (a + left_asks looks bytes first) b c (left_due bytes old) (left_due bytes new)
+      (sum_by (member_asks looks bytes) (members_left bytes old).list) whole walked)
 
   -- or the walk was refused
   pub asked_breaks : (c : ℕ) → IfSome now (λ bytes. c ≤ b + next_due bytes old)
-      → IfSome holds (λ bytes. c ≤ a + left_asks reads bytes first)
+      → IfSome holds (λ bytes. c ≤ a + left_asks looks bytes first)
   asked_breaks c walked =
-      told_both (λ bytes. b + left_asks reads bytes old ≤ a + left_asks reads bytes first)
+      told_both (λ bytes. b + left_asks looks bytes old ≤ a + left_asks looks bytes first)
       (λ bytes. c ≤ b + next_due bytes old) holds asked
       (told_as (λ bytes. c ≤ b + next_due bytes old) holds now same walked)
       (λ bytes whole walked.
-      due_within (a + left_asks reads bytes first) b c (left_due bytes old) (next_due bytes old)
-      (sum_by (member_asks reads bytes) (members_left bytes old).list)
-      whole (next_within reads bytes old) walked)
+      due_within (a + left_asks looks bytes first) b c (left_due bytes old) (next_due bytes old)
+      (sum_by (member_asks looks bytes) (members_left bytes old).list)
+      whole (next_within looks bytes old) walked)
 
 -- ---- An archive
 
-module _ (reads : Bool) (holds : Option (List ℕ)) (a b : ℕ) (line : b ≤ a + 8) where
+module _ (looks : Looks) (holds : Option (List ℕ)) (a b : ℕ) (line : b ≤ a + 8) where
   behind_line : (c n : ℕ) → c ≤ b + n → c ≤ a + (8 + n)
   behind_line c n h = omega (arith, line, h)
 
   -- its walk was begun behind its first line
   pub archive_walked : (r : Result Bool Stop) (now : Option (List ℕ)) (walk : Walk) (c : ℕ)
       → now ≡ holds → walk ≡ first_walk
-      → OnOk r (IfSome now (λ bytes. c ≤ b + left_asks reads bytes walk))
-      → OnOk r (IfSome holds (λ bytes. c ≤ a + archive_asks reads bytes))
+      → OnOk r (IfSome now (λ bytes. c ≤ b + left_asks looks bytes walk))
+      → OnOk r (IfSome holds (λ bytes. c ≤ a + archive_asks looks bytes))
   unfolding archive_asks
   archive_walked (Err stop) now walk c same begun asked = tt
   archive_walked (Ok x) now walk c same begun asked =
-      told_then (λ bytes. c ≤ b + left_asks reads bytes first_walk) holds
-      (told_as (λ bytes. c ≤ b + left_asks reads bytes first_walk) holds now same
+      told_then (λ bytes. c ≤ b + left_asks looks bytes first_walk) holds
+      (told_as (λ bytes. c ≤ b + left_asks looks bytes first_walk) holds now same
       (rw begun at asked))
-      (λ bytes within. behind_line c (left_asks reads bytes first_walk) within)
+      (λ bytes within. behind_line c (left_asks looks bytes first_walk) within)
 
   -- or it was refused by then
   pub archive_unwalked : (r : Result Bool Stop)
-      → OnOk r (IfSome holds (λ bytes. b ≤ a + archive_asks reads bytes))
+      → OnOk r (IfSome holds (λ bytes. b ≤ a + archive_asks looks bytes))
   unfolding archive_asks
   archive_unwalked (Err stop) = tt
   archive_unwalked (Ok x) = told_by holds
-      (λ bytes there. behind_line b (left_asks reads bytes first_walk) (omega arith))
+      (λ bytes there. behind_line b (left_asks looks bytes first_walk) (omega arith))

@@ -101,14 +101,14 @@ due_one o loaded s = omega (arith, sum_by-cons (home_due o loaded) s [], none (h
     none : (f : ℕ → ℕ) → sum_by f [] ≡ 0
     none f = refl
 
-due_falls : (o : Object) (before after : List Bool) (s : ℕ)
+pub due_falls : (o : Object) (before after : List Bool) (s : ℕ)
     → ((i : ℕ) → IsTrue (is_loaded before i) → IsTrue (is_loaded after i))
     → home_due o after s ≤ home_due o before s
 due_falls o before after s stays =
     omega (arith, due_one o before s, due_one o after s, dues_stay o before after (s ∷ []) stays)
 
 -- where nothing is loaded, all homes are due
-nothing_loaded : (i : ℕ) → is_loaded [] i ≡ false
+pub nothing_loaded : (i : ℕ) → is_loaded [] i ≡ false
 unfolding is_loaded
 nothing_loaded i = refl
 

@@ -1,7 +1,7 @@
 -- Sums over lists in which each number stands at most once.
-use Rattle.std.proofs.Common.{◌≡◌, ℕ, ◌+◌, ◌-◌, ◌≤◌, Bool, true, false, List, [], ◌∷◌, ◌++◌, refl, sym, ap, ◌∙◌, subst, arith}
+use Rattle.std.proofs.Common.{◌≡◌, ℕ, zero, suc, ◌+◌, ◌-◌, ◌<◌, ◌≤◌, Bool, true, false, List, [], ◌∷◌, ◌++◌, refl, sym, ap, ◌∙◌, subst, arith}
 use Rattle.std.specs.Prelude.{if◌then◌else◌, not, ◌==◌, ◌||◌, filter, Contains}
-use Rattle.std.specs.List.{sum_by, list_any}
+use Rattle.std.specs.List.{sum_by, list_any, range_with_len}
 use Rattle.std.proofs.lemmas.Bool.{eqb-true, eq-eqb}
 use Rattle.std.proofs.lemmas.List.Sums.{sum_by-append, sum_by-cons}
 use Rattle.std.proofs.lemmas.Map.Views.{Contains-from_any}
@@ -181,6 +181,41 @@ once_others xs ys first second = record { at_most = λ s f. by_test s f (has xs 
     by_test s f true is = omega (arith, sum_by-append (at s f) xs (others xs ys), first.at_most s f, not_other s f xs ys is)
     by_test s f false is =
         omega (arith, sum_by-append (at s f) xs (others xs ys), not_in s f xs is, second.at_most s f, fewer (at s f) xs ys)
+
+-- a range has each of its numbers once
+
+-- below its first number none is in it
+below_range : (a n x : ℕ) → x < a → has (range_with_len a n) x ≡ false
+below_range a zero x lt = refl
+below_range a (suc n) x lt = by_test (a == x) refl (below_range (a + 1) n x (omega arith))
+  where
+    by_test : (t : Bool) → (a == x) ≡ t → has (range_with_len (a + 1) n) x ≡ false
+        → (t || has (range_with_len (a + 1) n) x) ≡ false
+    by_test false is rest = rest
+    by_test true is rest = let same = eqb-true a x is in absurd (omega (arith, same, lt))
+
+pub once_range : (a n : ℕ) → Once (range_with_len a n)
+once_range a zero = once_none
+once_range a (suc n) =
+    let rest = once_range (a + 1) n in
+    record { at_most = λ s f. by_test s f (s == a) refl (rest.at_most s f) }
+  where
+    by_test : (s : ℕ) (f : ℕ → ℕ) (t : Bool) → (s == a) ≡ t
+        → sum_by (at s f) (range_with_len (a + 1) n) ≤ f s
+        → sum_by (at s f) (a ∷ range_with_len (a + 1) n) ≤ f s
+    by_test s f false is rest =
+        let first = ap (λ b. if b then f a else 0) is in
+        omega (arith, sum_by-cons (at s f) a (range_with_len (a + 1) n), first, rest)
+    by_test s f true is rest =
+        let same = eqb-true s a is in
+        let out = below_range (a + 1) n s (omega (arith, same)) in
+        let none = not_in s f (range_with_len (a + 1) n) out in
+        omega (arith, sum_by-cons (at s f) a (range_with_len (a + 1) n), none, at_le s a f)
+
+-- a sum of what differs at one number rose by no more than what that number adds
+pub rose_at : (f g h : ℕ → ℕ) (s : ℕ) (xs : List ℕ) → Once xs
+    → ((x : ℕ) → g x ≤ f x + (if s == x then h x else 0)) → sum_by g xs ≤ sum_by f xs + h s
+rose_at f g h s xs once le = omega (arith, below_both g f (at s h) xs le, once.at_most s h)
 
 -- ---- What is in both lists
 

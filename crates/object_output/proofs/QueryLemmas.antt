@@ -1,5 +1,5 @@
 -- Calls of a descriptor that leave its object, as steps of a tool.
-use Rattle.std.proofs.Common.{◌≡◌, ℕ, Bool, List, length, Option, Some, None, Result, Ok, Err, IsTrue, IfOk, IfErr, refl, sym, ap, subst}
+use Rattle.std.proofs.Common.{◌≡◌, ℕ, Bool, List, length, Option, Some, None, Result, Ok, Err, IsTrue, IfOk, IfErr, refl, sym, ap, subst, arith}
 use Rattle.std.specs.Prelude.{slice_get, IsSome}
 use Rattle.elf_types.specs.declared.errors.ElfError.{ElfError}
 use Rattle.elf_types.specs.declared.errors.ElfError.TheVariants as error
@@ -34,7 +34,9 @@ queried s c holding r a b h once = record {
   told = h.reads.told;
   source = h.reads.source.leaves;
   later = h.reads.source.later;
-  asked = reads_once s r a b (c.reads a.o) holding _ h.object once h.reads;
+  asked = λ well.
+      let once_more = reads_once s r a b (c.reads a.o) holding _ h.object once h.reads well in
+      omega (arith, once_more);
 }
 
 -- it looks at the object

@@ -1,5 +1,5 @@
 -- The public call of a tool, which ends the outputs.
-use Rattle.std.proofs.Common.{◌≡◌, inl, inr, Bool, [], Result, Ok, Err, ◌∙◌, subst, sym, arith}
+use Rattle.std.proofs.Common.{◌≡◌, inl, inr, ℕ, Bool, [], Result, Ok, Err, ◌∙◌, subst, sym, arith}
 use Rattle.elf_outside.specs.declared.sources.Source.{Ghosts as SourceGhosts}
 use Rattle.elf_outside.specs.declared.sinks.Sink.{Ghosts as SinkGhosts}
 use Rattle.elf_object.specs.Object.{Object}
@@ -10,8 +10,8 @@ use Rattle.tool_output.specs.declared.outputs.Outputs.{Outputs}
 use Rattle.tool_output.specs.Reports.{Report}
 use Rattle.tool_output.specs.Steps.{Ends, OnRead, OnWrite, OnKept, LeavesSinks, SinkRose}
 use Rattle.tool_output.proofs.EndLemmas.{ended_over, ok_at}
-use Rattle.object_output.specs.Steps.{ReportsElf, WentOn, SourceRose}
-use Rattle.object_output.specs.Shows.{ShowsElf}
+use Rattle.object_output.specs.Steps.{ReportsOver, WentOn, SourceRose}
+use Rattle.object_output.specs.Shows.{ShowsOver}
 use Rattle.object_output.proofs.ElfSteps.{left_as}
 
 module _ {S O E : Type 0} (s : SourceGhosts S) (o : SinkGhosts O) (e : SinkGhosts E) where
@@ -56,10 +56,10 @@ module _ {S O E : Type 0} (s : SourceGhosts S) (o : SinkGhosts O) (e : SinkGhost
       err_later = omega (arith, k.err_later, l.err_later);
     }
 
-  pub shows : (report : Object → Report) (r result : Result Bool Stop) (a b : State S) (t u : Outputs O E) (out_old out_new out : O) (err_old err_new err : E)
+  pub shows : {n : ℕ} (report : Object → Report) (r result : Result Bool Stop) (a b : State S) (t u : Outputs O E) (out_old out_new out : O) (err_old err_new err : E)
       → t.page.now ≡ [] → t.out.now ≡ out_old → t.err.now ≡ err_old → out ≡ out_new → err ≡ err_new
-      → ReportsElf s o e report r a b t u → Ends o e r result u out err
-      → ShowsElf s o e report result a b out_old out_new err_old err_new
+      → ReportsOver s o e n report r a b t u → Ends o e r result u out err
+      → ShowsOver s o e n report result a b out_old out_new err_old err_new
   shows report r result a b t u out_old out_new out err_old err_new err empty p q x y h k = record {
     ended = λ told. ended_over o e t u out_old out_new out err_old err_new err empty p q x y r result (report a.o).marks (h.reports told).writes k;
     answer = λ told. ok_at r result (λ refused. refused ≡ (report a.o).refused) k.answer (h.reports told).value_is;

@@ -1,6 +1,6 @@
 -- What a tool says of an archive: of each member, in their order, what it says of an image, and why
 -- the archive is refused, if it is. How many bytes it asks for.
-use Rattle.std.specs.Prelude.{ℕ, ◌+◌, Bool, List, take, drop, Option, Some, None, Result, Ok, Err}
+use Rattle.std.specs.Prelude.{ℕ, ◌+◌, List, take, drop, Option, Some, None, Result, Ok, Err}
 use Rattle.std.specs.List.{sum_by}
 use Rattle.elf_types.specs.declared.errors.ElfError.{ElfError}
 use Rattle.elf_types.specs.declared.errors.ElfError.TheVariants.{BadMember}
@@ -14,6 +14,7 @@ use Rattle.ar_members.specs.Members.{Members, members}
 use Rattle.elf_object.specs.Object.{Object}
 use Rattle.tool_output.specs.Names.{Name, file_name, member_name}
 use Rattle.tool_output.specs.Reports.{Report, no_report, refusal_report, joined, reports_of}
+use Rattle.object_output.specs.Looks.{Looks}
 use Rattle.object_output.specs.Images.{image_report, image_asks}
 
 -- the bytes of the member of a header
@@ -57,15 +58,15 @@ archive_report command report name archive =
 -- ---- How many bytes are asked for at most
 
 -- for a member: its header once more, and then what is asked for of an image, which it need not be
-abbrev pub member_asks : Bool → List ℕ → ArHdr → ℕ
-member_asks reads archive header = HEADER_LEN + image_asks reads (member_bytes archive header)
+abbrev pub member_asks : Looks → List ℕ → ArHdr → ℕ
+member_asks looks archive header = HEADER_LEN + image_asks looks (member_bytes archive header)
 
 -- for what is left of an archive: what the walk over it asks for, each header and the tables of
 -- long names, and what is asked for its members
-abbrev pub left_asks : Bool → List ℕ → Walk → ℕ
-left_asks reads archive walk =
-    left_due archive walk + sum_by (member_asks reads archive) (members_left archive walk).list
+abbrev pub left_asks : Looks → List ℕ → Walk → ℕ
+left_asks looks archive walk =
+    left_due archive walk + sum_by (member_asks looks archive) (members_left archive walk).list
 
 -- for an archive: its first line, and all that is behind it
-unfoldable pub archive_asks : Bool → List ℕ → ℕ
-archive_asks reads archive = FIRST + left_asks reads archive first_walk
+unfoldable pub archive_asks : Looks → List ℕ → ℕ
+archive_asks looks archive = FIRST + left_asks looks archive first_walk

@@ -1,5 +1,5 @@
 -- What a tool says of an image: the report on its object, or why it is refused.
-use Rattle.std.specs.Prelude.{ℕ, ◌+◌, Bool, List, [], Result, Ok, Err, if◌then◌else◌}
+use Rattle.std.specs.Prelude.{ℕ, ◌+◌, ◌*◌, List, Result, Ok, Err, if◌then◌else◌}
 use Rattle.elf_types.specs.declared.errors.ElfError.{ElfError}
 use Rattle.elf_types.specs.declared.errors.ElfError.TheVariants.{Magic}
 use Rattle.elf_types.specs.Text.{error_text}
@@ -9,9 +9,10 @@ use Rattle.elf_ident.specs.FileKinds.{file_kind}
 use Rattle.elf_ident.specs.Front.{front_bytes}
 use Rattle.elf_object.specs.Object.{Object}
 use Rattle.elf_object.specs.Open.{opened}
-use Rattle.elf_object.specs.Due.{homes_due, all_sections}
 use Rattle.tool_output.specs.Names.{Name}
 use Rattle.tool_output.specs.Reports.{Report, refusal_report}
+use Rattle.object_output.specs.Steps.{homes_total, asked_again}
+use Rattle.object_output.specs.Looks.{Looks}
 
 -- the report on an object, or the message that says why there is none
 abbrev pub object_report : List ℕ → (Name → Object → Report) → Name → Result Object ElfError
@@ -27,14 +28,15 @@ image_report command report name image = object_report command report name (open
 -- ---- How many bytes are asked for at most
 
 -- of an object, once it has begun: by a tool that reads sections, their homes that lie in the file,
--- each once
-unfoldable pub object_asks : Bool → Object → ℕ
-object_asks reads o = if reads then homes_due o [] (all_sections o) else 0
+-- each once, and where homes overlap once more for each pass over them
+unfoldable pub object_asks : Looks → Object → ℕ
+object_asks looks o =
+    if looks.reads then homes_total o + looks.passes * asked_again o else 0
 
 -- of an image: the front what is stated of it, and then what is asked of its object
-unfoldable pub image_asks : Bool → List ℕ → ℕ
-image_asks reads image =
-    front_bytes image + elim (opened image) [ Ok o ↦ object_asks reads o | Err e ↦ 0 ]
+unfoldable pub image_asks : Looks → List ℕ → ℕ
+image_asks looks image =
+    front_bytes image + elim (opened image) [ Ok o ↦ object_asks looks o | Err e ↦ 0 ]
 
 -- ---- For a command that takes no archive
 

@@ -2,6 +2,7 @@ pub mod Steps
 pub mod Answers
 pub mod Refusals
 pub mod Shows
+pub mod Looks
 pub mod Images
 pub mod Archives
 pub mod Files

@@ -35,7 +35,7 @@ fn show_member<T: ObjectTool, S: Source, O: Sink, E: Sink>(
     ensures walk { result.0.walk ≡ archive.walk }
     ensures asks { OnOk result.1 (IfSome (S.holds archive.source) (λ bytes.
         S.taken result.0.source
-        ≤ S.taken archive.source + member_asks (T.reads tool.now) bytes header.now)) }
+        ≤ S.taken archive.source + member_asks (T.looks tool.now) bytes header.now)) }
 {
     let name = FileName::of_member(file, header.name.as_slice());
     match archive.member(header.at) {
@@ -66,7 +66,7 @@ fn show_members<T: ObjectTool, S: Source, O: Sink, E: Sink>(
         result.1 archive.source result.0.source outputs.old outputs.new }
     ensures asks { OnOk result.1 (IfSome (S.holds archive.source) (λ bytes.
         S.taken result.0.source
-        ≤ S.taken archive.source + left_asks (T.reads tool.now) bytes archive.walk)) }
+        ≤ S.taken archive.source + left_asks (T.looks tool.now) bytes archive.walk)) }
 {
     let mut refused = false;
     loop {
@@ -107,7 +107,7 @@ pub fn show_archive<T: ObjectTool, S: Source, O: Sink, E: Sink>(
         (archive_report (T.command tool.now) (T.report tool.now) (file_name file.now))
         result.1 src result.0 outputs.old outputs.new }
     ensures asks { OnOk result.1 (IfSome (S.holds src) (λ bytes.
-        S.taken result.0 ≤ S.taken src + archive_asks (T.reads tool.now) bytes)) }
+        S.taken result.0 ≤ S.taken src + archive_asks (T.looks tool.now) bytes)) }
 {
     match Ar::begin(alloc, src) {
         Ok(archive) => {

@@ -34,7 +34,7 @@ pub fn show_file<T: ObjectTool, S: Source, O: Sink, E: Sink>(
         result.1 src result.0 outputs.old outputs.new }
     ensures asks { OnOk result.1 (IfSome (S.holds src) (λ bytes.
         S.taken result.0 ≤ S.taken src + file_asks
-        (image_asks (T.reads tool.now)) (archive_asks (T.reads member_tool.now)) bytes)) }
+        (image_asks (T.looks tool.now)) (archive_asks (T.looks member_tool.now)) bytes)) }
 {
     let name = FileName::of(file);
     match kind_of_source(&mut src) {

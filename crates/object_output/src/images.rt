@@ -40,7 +40,8 @@ pub fn begin_image<S: Source>(alloc: Global, mut src: S) -> Result<Elf<S>, (S, E
 /// Gives a tool's report on the image that a source holds, under a name, and hands the source back.
 /// What has no front of an image has the message that says why. It stops by `Read` only where a
 /// read of the source failed. Of each home that lies in the file no more than its bytes are asked
-/// for, and none by a tool that reads no sections.
+/// for, and none by a tool that reads no sections; where homes overlap, once more for each of its
+/// passes over them.
 pub fn show_image<T: ObjectTool, S: Source, O: Sink, E: Sink>(
     alloc: Global,
     tool: &T,
@@ -52,8 +53,8 @@ pub fn show_image<T: ObjectTool, S: Source, O: Sink, E: Sink>(
         (image_report (T.command tool.now) (T.report tool.now) name.now)
         result.1 src result.0 outputs.old outputs.new }
     ensures asks { OnOk result.1 (IfSome (S.holds src) (λ image.
-        S.taken result.0 ≤ S.taken src + image_asks (T.reads tool.now) image)) }
-    ensures unread { T.reads tool.now ≡ false → IfSome (S.holds src) (λ image.
+        S.taken result.0 ≤ S.taken src + image_asks (T.looks tool.now) image)) }
+    ensures unread { (T.looks tool.now).reads ≡ false → IfSome (S.holds src) (λ image.
         S.taken result.0 ≤ S.taken src + front_bytes image) }
 {
     match Elf::begin(alloc, src) {

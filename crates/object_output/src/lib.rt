@@ -6,6 +6,7 @@
 #![tactic(auto)]
 
 pub mod archives;
+pub mod crowded;
 pub mod files;
 pub mod images;
 pub mod items;
@@ -15,6 +16,7 @@ pub mod symbols;
 pub mod tools;
 
 pub use archives::show_archive;
+pub use crowded::{is_crowded, is_out};
 pub use files::show_file;
 pub use images::{begin_image, show_image};
 pub use items::{item_there, phdr_at, stop_for};

@@ -6,7 +6,7 @@ ghost use Rattle.std.specs.Option.{option_copied};
 ghost use Rattle.elf_object.specs.Strings as strings;
 ghost use Rattle.elf_descriptor.specs.Rests.{Rests};
 ghost use Rattle.tool_output.specs.Reports.{reports_of};
-ghost use Rattle.object_output.specs.Steps.{ReportsElf, ReadsElf, Learns};
+ghost use Rattle.object_output.specs.Steps.{ReportsOver, ReadsElf, Learns};
 ghost use Rattle.object_output.specs.Sections.{bracketed, report_if, sections_named};
 
 use crate::items::stop_for;
@@ -116,14 +116,14 @@ impl<T: SectionTool> SectionTool for Named<'_, T> {
 }
 
 /// Gives a tool's report on each section of a name, by number. The answer tells whether something
-/// was refused.
+/// was refused. It goes over the sections as `each_section` does.
 pub fn each_section_named<T: SectionTool, S: Source, O: Sink, E: Sink>(
     tool: &T,
     name: &str,
     elf: &mut Elf<S>,
     outputs: &mut Outputs<'_, O, E>,
 ) -> Result<bool, Stop>
-    ensures { ReportsElf S.Source O.Sink E.Sink
+    ensures { ReportsOver S.Source O.Sink E.Sink 1
         (λ o. reports_of (T.report tool.now o) (sections_named name.now o))
         result elf.old elf.new outputs.old outputs.new }
 {

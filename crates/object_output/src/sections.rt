@@ -4,8 +4,9 @@ ghost use Rattle.std.specs.Prelude.{◌≡◌, ◌<◌, ℕ, length};
 ghost use Rattle.elf_object.specs.Object.{Object, section_at};
 ghost use Rattle.elf_object.specs.Due.{all_sections};
 ghost use Rattle.tool_output.specs.Reports.{Report, reports_of};
-ghost use Rattle.object_output.specs.Steps.{ReportsElf};
+ghost use Rattle.object_output.specs.Steps.{ReportsElf, ReportsOver};
 
+use crate::crowded::{is_crowded, let_go};
 use elf_descriptor::Elf;
 use elf_outside::{Sink, Source};
 use elf_types::{ScnId, Shdr};
@@ -44,19 +45,23 @@ pub trait SectionTool {
 }
 
 /// Gives a tool's report on each section, by number. The answer tells whether something was
-/// refused.
+/// refused. Where the homes are longer together than the image, so that some overlap, each section
+/// is let go behind its report: what is held is that section, and of the others those alone that a
+/// later one names. Then the pass may ask for each home once more.
 pub fn each_section<T: SectionTool, S: Source, O: Sink, E: Sink>(
     tool: &T,
     elf: &mut Elf<S>,
     outputs: &mut Outputs<'_, O, E>,
 ) -> Result<bool, Stop>
-    ensures { ReportsElf S.Source O.Sink E.Sink
+    ensures { ReportsOver S.Source O.Sink E.Sink 1
         (λ o. reports_of (T.report tool.now o) (all_sections o))
         result elf.old elf.new outputs.old outputs.new }
 {
+    let crowded = is_crowded(elf);
     let mut refused = false;
     for s in 0..elf.shnum() {
         let was_refused = tool.show(elf, ScnId(s), outputs)?;
+        let_go(crowded, elf, ScnId(s));
         refused = refused | was_refused;
     }
     Ok(refused)

@@ -1,12 +1,13 @@
 //! A tool that says something of an object.
 
-ghost use Rattle.std.specs.Prelude.{◌≡◌, ℕ, List, Bool, false};
+ghost use Rattle.std.specs.Prelude.{◌≡◌, ℕ, List, false};
 ghost use Rattle.elf_object.specs.Object.{Object};
 ghost use Rattle.tool_output.specs.Names.{Name};
 ghost use Rattle.tool_output.specs.Reports.{Report};
-ghost use Rattle.object_output.specs.Steps.{ReportsElf};
+ghost use Rattle.object_output.specs.Steps.{ReportsOver};
 ghost use Rattle.object_output.specs.Refusals.{Refuses};
-ghost use Rattle.object_output.specs.Shows.{ShowsElf};
+ghost use Rattle.object_output.specs.Shows.{ShowsOver};
+ghost use Rattle.object_output.specs.Looks.{Looks};
 
 use elf_descriptor::Elf;
 use elf_outside::{Sink, Source};
@@ -18,14 +19,14 @@ use tool_output::{FileName, Message, Outputs, Stop};
 ///
 /// - `command` is its name, which stands before its messages.
 /// - `report` is what it says of an object, under the name of its file.
-/// - `reads` is whether it reads homes of sections. One that does not leaves the descriptor as it
-///   was.
+/// - `looks` is how it looks at the sections: whether it reads homes, and how many passes over them
+///   it makes. One that reads none leaves the descriptor as it was.
 pub trait ObjectTool {
     ghost command: { Self → List ℕ };
 
     ghost report: { Self → Name → Object → Report };
 
-    ghost reads: { Self → Bool };
+    ghost looks: { Self → Looks };
 
     /// The command's name.
     fn command(&self) -> &'static str
@@ -40,9 +41,9 @@ pub trait ObjectTool {
         name: &FileName<'_>,
         outputs: &mut Outputs<'_, O, E>,
     ) -> Result<bool, Stop>
-        ensures reports { ReportsElf S.Source O.Sink E.Sink (report self.now name.now)
-            result elf.old elf.new outputs.old outputs.new }
-        ensures unread { reads self.now ≡ false → elf.new ≡ elf.old };
+        ensures reports { ReportsOver S.Source O.Sink E.Sink (looks self.now).passes
+            (report self.now name.now) result elf.old elf.new outputs.old outputs.new }
+        ensures unread { (looks self.now).reads ≡ false → elf.new ≡ elf.old };
 }
 
 /// Refuses a file, or a member of an archive, for an error of the library: gives its message, or
@@ -75,9 +76,10 @@ pub fn show_object<T: ObjectTool, S: Source, O: Sink, E: Sink>(
     out: &mut O,
     err: &mut E,
 ) -> Result<bool, Stop>
-    ensures shows { ShowsElf S.Source O.Sink E.Sink (T.report tool.now name.now)
+    ensures shows { ShowsOver S.Source O.Sink E.Sink (T.looks tool.now).passes
+        (T.report tool.now name.now)
         result elf.old elf.new out.old out.new err.old err.new }
-    ensures unread { T.reads tool.now ≡ false → elf.new ≡ elf.old }
+    ensures unread { (T.looks tool.now).reads ≡ false → elf.new ≡ elf.old }
 {
     let mut page = Octets::new(alloc);
     let mut outputs = Outputs::new(out, err, &mut page);

@@ -22,11 +22,11 @@ returns-in-Err-clause-reports g c =
 pub returns-in-Ok-clause-asks : goal.returns-in-Ok-clause-asks
 returns-in-Ok-clause-asks g c =
     let asks = c.in-Ok.ensures.asks in
-    rw c.end.ensures (archive_walked (g.T.ObjectTool.reads c.args.tool.now)
+    rw c.end.ensures (archive_walked (g.T.ObjectTool.looks c.args.tool.now)
     (g.S.Source.holds c.args.src) _ _ asks.taken.no_more _ _ _ _ asks.leaves.same_bytes
     c.in-Ok.ensures.walk
     c.show_members-archive.ensures.asks)
 
 pub returns-in-Err-clause-asks : goal.returns-in-Err-clause-asks
-returns-in-Err-clause-asks g c = archive_unwalked (g.T.ObjectTool.reads c.args.tool.now)
+returns-in-Err-clause-asks g c = archive_unwalked (g.T.ObjectTool.looks c.args.tool.now)
     (g.S.Source.holds c.args.src) _ _ c.in-Err.ensures.asks.taken.no_more _

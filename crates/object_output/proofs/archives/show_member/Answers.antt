@@ -26,11 +26,11 @@ returns-in-Err-clause-reports g c =
 pub returns-in-Ok-clause-asks : goal.returns-in-Ok-clause-asks
 returns-in-Ok-clause-asks g c =
     let asks = c.in-Ok.ensures.asks in
-    rw c.into_inner.ensures (member_within (g.T.ObjectTool.reads c.args.tool.now) c.args.header.now
+    rw c.into_inner.ensures (member_within (g.T.ObjectTool.looks c.args.tool.now) c.args.header.now
     (g.S.Source.holds c.args.archive.source) _ _ _ asks.taken.no_more _ _ _ _ _
     asks.leaves.same_bytes c.requires c.in-Ok.ensures.body c.show_image-body.ensures.asks)
 
 pub returns-in-Err-clause-asks : goal.returns-in-Err-clause-asks
 returns-in-Err-clause-asks g c =
-    member_unread (g.T.ObjectTool.reads c.args.tool.now) c.args.header.now
+    member_unread (g.T.ObjectTool.looks c.args.tool.now) c.args.header.now
     (g.S.Source.holds c.args.archive.source) _ _ _ c.in-Err.ensures.asks.taken.no_more _

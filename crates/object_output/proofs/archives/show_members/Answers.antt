@@ -10,7 +10,7 @@ use Rattle.object_output.proofs.archives.show_members.Goals as goal
 pub loop-header-init : goal.loop-header-init
 loop-header-init g c = record {
   way = way_begins g.S.Source g.O.Sink g.E.Sink c.args.archive.source c.args.outputs.now _;
-  asks = asked_begins (g.T.ObjectTool.reads c.args.tool.now)
+  asks = asked_begins (g.T.ObjectTool.looks c.args.tool.now)
       (g.S.Source.holds c.args.archive.source) c.args.archive.walk _;
 }
 
@@ -31,7 +31,7 @@ loop-header-preserved g c =
           (rw c.in-Ok-Some.field-0-is at next.members))
           (after_read g.S.Source g.O.Sink g.E.Sink _ _ _ _ _ _ _ _ _ next.asks
           (rw c.in-Ok.is at member.reports)) refl;
-      asks = asked_goes_on (g.T.ObjectTool.reads c.args.tool.now)
+      asks = asked_goes_on (g.T.ObjectTool.looks c.args.tool.now)
           (g.S.Source.holds c.args.archive.source) (g.S.Source.holds c.loop-header.archive.source)
           i.way.source.same_bytes
           c.args.archive.walk c.loop-header.archive.walk _ _ i.asks _ c.next.new.self.walk header _
@@ -60,7 +60,7 @@ returns-in-Ok-None-clause-reports g c =
 pub returns-in-Ok-None-clause-asks : goal.returns-in-Ok-None-clause-asks
 returns-in-Ok-None-clause-asks g c =
     let i = c.loop-header.invariant in
-    asked_ends (g.T.ObjectTool.reads c.args.tool.now) (g.S.Source.holds c.args.archive.source)
+    asked_ends (g.T.ObjectTool.looks c.args.tool.now) (g.S.Source.holds c.args.archive.source)
     (g.S.Source.holds c.loop-header.archive.source) i.way.source.same_bytes
     c.args.archive.walk c.loop-header.archive.walk _ _ i.asks c.next.new.self.walk _
     c.in-Ok-None.ensures.left
@@ -79,7 +79,7 @@ returns-in-Ok-refuse-clause-reports g c =
 pub returns-in-Ok-refuse-clause-asks : goal.returns-in-Ok-refuse-clause-asks
 returns-in-Ok-refuse-clause-asks g c =
     let i = c.loop-header.invariant in
-    asked_breaks (g.T.ObjectTool.reads c.args.tool.now) (g.S.Source.holds c.args.archive.source)
+    asked_breaks (g.T.ObjectTool.looks c.args.tool.now) (g.S.Source.holds c.args.archive.source)
     (g.S.Source.holds c.loop-header.archive.source) i.way.source.same_bytes
     c.args.archive.walk c.loop-header.archive.walk _ _ i.asks _ c.in-Err.ensures.due
 

@@ -16,8 +16,8 @@ invariant-loop-header g l =
       way : OnWay s g.O.Sink g.E.Sink l.refused first.source l.archive.source l.initial.outputs
           l.outputs (left first.walk) (left l.archive.walk);
       asks : IfSome (s.holds first.source)
-          (λ bytes. s.taken l.archive.source + left_asks (tool.reads l.tool) bytes l.archive.walk
-          ≤ s.taken first.source + left_asks (tool.reads l.tool) bytes first.walk);
+          (λ bytes. s.taken l.archive.source + left_asks (tool.looks l.tool) bytes l.archive.walk
+          ≤ s.taken first.source + left_asks (tool.looks l.tool) bytes first.walk);
     }
 
 abbrev pub decreases-loop-header : goal.decreases-loop-header

@@ -21,8 +21,8 @@ pub returns-in-Ok-Archive-clause-asks : goal.returns-in-Ok-Archive-clause-asks
 returns-in-Ok-Archive-clause-asks g c =
     let tool = g.T.ObjectTool in
     let asks = c.in-Ok-Archive.ensures.asks in
-    file_within (image_asks (tool.reads c.args.tool.now))
-    (archive_asks (tool.reads c.args.member_tool.now)) (g.S.Source.holds c.args.src)
+    file_within (image_asks (tool.looks c.args.tool.now))
+    (archive_asks (tool.looks c.args.member_tool.now)) (g.S.Source.holds c.args.src)
     _ _ Archive _ _ _ asks.leaves.same_bytes
     (rw c.in-Ok-Archive.field-0-is at c.in-Ok-Archive.ensures.kind) asks.taken.no_more
     c.show_archive.ensures.asks
@@ -40,8 +40,8 @@ pub returns-in-Ok-Elf-clause-asks : goal.returns-in-Ok-Elf-clause-asks
 returns-in-Ok-Elf-clause-asks g c =
     let tool = g.T.ObjectTool in
     let asks = c.in-Ok-Elf.ensures.asks in
-    file_within (image_asks (tool.reads c.args.tool.now))
-    (archive_asks (tool.reads c.args.member_tool.now)) (g.S.Source.holds c.args.src)
+    file_within (image_asks (tool.looks c.args.tool.now))
+    (archive_asks (tool.looks c.args.member_tool.now)) (g.S.Source.holds c.args.src)
     _ _ Elf _ _ _ asks.leaves.same_bytes
     (rw c.in-Ok-Elf.field-0-is at c.in-Ok-Elf.ensures.kind) asks.taken.no_more
     c.show_image.ensures.asks
@@ -59,8 +59,8 @@ pub returns-in-Ok-Other-clause-asks : goal.returns-in-Ok-Other-clause-asks
 returns-in-Ok-Other-clause-asks g c =
     let tool = g.T.ObjectTool in
     let asks = c.in-Ok-Other.ensures.asks in
-    file_within (image_asks (tool.reads c.args.tool.now))
-    (archive_asks (tool.reads c.args.member_tool.now)) (g.S.Source.holds c.args.src)
+    file_within (image_asks (tool.looks c.args.tool.now))
+    (archive_asks (tool.looks c.args.member_tool.now)) (g.S.Source.holds c.args.src)
     _ _ Other _ _ _ asks.leaves.same_bytes
     (rw c.in-Ok-Other.field-0-is at c.in-Ok-Other.ensures.kind) asks.taken.no_more
     c.show_image-in-Ok-Other.ensures.asks
@@ -74,6 +74,6 @@ returns-in-Err-clause-reports g c =
 pub returns-in-Err-clause-asks : goal.returns-in-Err-clause-asks
 returns-in-Err-clause-asks g c =
     let tool = g.T.ObjectTool in
-    unread_within (image_asks (tool.reads c.args.tool.now))
-    (archive_asks (tool.reads c.args.member_tool.now)) (g.S.Source.holds c.args.src) _ _ _
+    unread_within (image_asks (tool.looks c.args.tool.now))
+    (archive_asks (tool.looks c.args.member_tool.now)) (g.S.Source.holds c.args.src) _ _ _
     c.in-Err.ensures.asks.taken.no_more

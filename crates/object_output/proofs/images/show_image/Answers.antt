@@ -11,12 +11,12 @@ returns-in-Ok-clause-reports g c =
 pub returns-in-Ok-clause-asks : goal.returns-in-Ok-clause-asks
 returns-in-Ok-clause-asks g c =
     let shown = c.show-shown.ensures in
-    rw c.end.ensures (image_asked g.S.Source c.args.src (g.T.ObjectTool.reads c.args.tool.now) _ c.in-Ok.elf _
+    rw c.end.ensures (image_asked g.S.Source c.args.src (g.T.ObjectTool.looks c.args.tool.now) _ c.in-Ok.elf _
     c.in-Ok.ensures.answer c.in-Ok.ensures.bound shown.reports.elf shown.unread)
 
 pub returns-in-Ok-clause-unread : goal.returns-in-Ok-clause-unread
 returns-in-Ok-clause-unread g c = λ off.
-    rw c.end.ensures (image_unread g.S.Source c.args.src (g.T.ObjectTool.reads c.args.tool.now) c.in-Ok.elf _
+    rw c.end.ensures (image_unread g.S.Source c.args.src (g.T.ObjectTool.looks c.args.tool.now) c.in-Ok.elf _
     (c.show-shown.ensures.unread off) c.in-Ok.ensures.bound)
 
 pub returns-in-Err-clause-reports : goal.returns-in-Err-clause-reports
@@ -29,7 +29,7 @@ returns-in-Err-clause-reports g c =
 
 pub returns-in-Err-clause-asks : goal.returns-in-Err-clause-asks
 returns-in-Err-clause-asks g c =
-    refused_asked _ (g.T.ObjectTool.reads c.args.tool.now) (g.S.Source.holds c.args.src) _ _ c.in-Err.ensures.bound
+    refused_asked _ (g.T.ObjectTool.looks c.args.tool.now) (g.S.Source.holds c.args.src) _ _ c.in-Err.ensures.bound
 
 pub returns-in-Err-clause-unread : goal.returns-in-Err-clause-unread
 returns-in-Err-clause-unread g c = λ off. c.in-Err.ensures.bound
