@@ -1,8 +1,9 @@
 //! The tool of the command lines.
 
-ghost use Rattle.std.specs.Prelude.{◌≡◌, true, codes};
+ghost use Rattle.std.specs.Prelude.{◌≡◌, codes};
 ghost use Rattle.tool_output.specs.Names.{file_name};
-ghost use Rattle.object_output.specs.Shows.{ShowsElf};
+ghost use Rattle.object_output.specs.Looks.{looks_over};
+ghost use Rattle.object_output.specs.Shows.{ShowsOver};
 ghost use Rattle.lines_tool.specs.Tool.{lines_report};
 
 use crate::tables::LineTables;
@@ -21,7 +22,7 @@ impl ObjectTool for LinesTool {
 
     ghost report = { λ _. lines_report };
 
-    ghost reads = { λ _. true };
+    ghost looks = { λ _. looks_over 1 };
 
     fn command(&self) -> &'static str {
         "lines"
@@ -49,7 +50,7 @@ pub fn lines<S: Source, O: Sink, E: Sink>(
     out: &mut O,
     err: &mut E,
 ) -> Result<bool, Stop>
-    ensures { ShowsElf S.Source O.Sink E.Sink (lines_report (file_name name.now))
+    ensures { ShowsOver S.Source O.Sink E.Sink 1 (lines_report (file_name name.now))
         result elf.old elf.new out.old out.new err.old err.new }
 {
     show_object(alloc, &LinesTool, elf, &FileName::of(name), out, err)

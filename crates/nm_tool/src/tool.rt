@@ -1,6 +1,6 @@
 //! The tool of the command nm.
 
-ghost use Rattle.std.specs.Prelude.{◌≡◌, ◌-◌, ◌<◌, None, true, length, IfOk, IfSome, IsTrue, codes};
+ghost use Rattle.std.specs.Prelude.{◌≡◌, ◌-◌, ◌<◌, None, length, IfOk, IfSome, IsTrue, codes};
 ghost use Rattle.std.specs.Option.{option_copied, option_map};
 ghost use Rattle.elf_types.specs.declared.records.Kind.TheVariants as kinds;
 ghost use Rattle.elf_object.specs.Object.{section_at};
@@ -9,6 +9,7 @@ ghost use Rattle.tool_output.specs.Reports.{Reports, shown, reports_of};
 ghost use Rattle.tool_output.specs.Steps.{LeavesOutputs};
 ghost use Rattle.tool_output.specs.Names.{file_name};
 ghost use Rattle.elf_object.specs.Strings as strings;
+ghost use Rattle.object_output.specs.Looks.{looks_over};
 ghost use Rattle.object_output.specs.Steps.{ReadsElf, ReportsElf};
 ghost use Rattle.bytes_at_hand.specs.Strings.{EndsAt};
 ghost use Rattle.object_output.specs.Shows.{ShowsElf};
@@ -490,7 +491,7 @@ impl ObjectTool for NmTool<'_> {
 
     ghost report = { λ t. nm_report t.options.now };
 
-    ghost reads = { λ _. true };
+    ghost looks = { λ _. looks_over 0 };
 
     fn command(&self) -> &'static str {
         "nm"

@@ -5,7 +5,7 @@ ghost use Rattle.elf_types.specs.Writers.{WantsMemory};
 ghost use Rattle.elf_types.specs.declared.records.Kind.TheVariants as kinds;
 ghost use Rattle.elf_object.specs.Answers.{lend_refusal, count_at};
 ghost use Rattle.tool_output.specs.Reports.{shown};
-ghost use Rattle.object_output.specs.Steps.{ReportsElf};
+ghost use Rattle.object_output.specs.Steps.{ReportsElf, ReportsOver};
 ghost use Rattle.gelf_view.specs.Notes.{IsNoteWithin};
 ghost use Rattle.readelf_chains.specs.Chains.{section_bytes};
 ghost use Rattle.readelf_chains.specs.Notes.{part_of, owner_of, hex_byte, desc_text, owner_text, note_line, note_text, notes_from, notes_title, notes_of_section, holds_notes, notes_report};
@@ -227,7 +227,7 @@ pub fn show_notes<S: Source, O: Sink, E: Sink>(
     elf: &mut Elf<S>,
     outputs: &mut Outputs<'_, O, E>,
 ) -> Result<bool, Stop>
-    ensures { ReportsElf S.Source O.Sink E.Sink (notes_report name.now)
+    ensures { ReportsOver S.Source O.Sink E.Sink 1 (notes_report name.now)
         result elf.old elf.new outputs.old outputs.new }
 {
     each_plain(&Notes, name, elf, outputs)

@@ -3,7 +3,7 @@
 ghost use Rattle.std.specs.Prelude.{◌≡◌, ◌++◌, OnOk, IfErr};
 ghost use Rattle.std.specs.Option.{option_copied};
 ghost use Rattle.elf_types.specs.Writers.{WantsMemory};
-ghost use Rattle.object_output.specs.Steps.{ReportsElf};
+ghost use Rattle.object_output.specs.Steps.{ReportsOver};
 ghost use Rattle.readelf_headers.specs.Sections.{section_start, section_places, section_numbers, section_line, sections_title, section_row, sections_report};
 
 use elf_descriptor::Elf;
@@ -124,7 +124,7 @@ pub fn show_sections<S: Source, O: Sink, E: Sink>(
     elf: &mut Elf<S>,
     outputs: &mut Outputs<'_, O, E>,
 ) -> Result<bool, Stop>
-    ensures { ReportsElf S.Source O.Sink E.Sink sections_report
+    ensures { ReportsOver S.Source O.Sink E.Sink 1 sections_report
         result elf.old elf.new outputs.old outputs.new }
 {
     let count = elf.shnum();

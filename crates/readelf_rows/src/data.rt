@@ -7,13 +7,13 @@ ghost use Rattle.elf_types.specs.Writers.{WantsMemory};
 ghost use Rattle.elf_object.specs.Object.{Object, section_at};
 ghost use Rattle.tool_output.specs.Names.{Name};
 ghost use Rattle.tool_output.specs.Reports.{Report};
-ghost use Rattle.object_output.specs.Steps.{ReportsElf};
+ghost use Rattle.object_output.specs.Steps.{ReportsElf, ReportsOver};
 ghost use Rattle.readelf_rows.specs.Data.{if_plain, plain_report, each_plain, data_title};
 
 use elf_descriptor::Elf;
 use elf_outside::{Sink, Source};
 use elf_types::{ElfError, Octets, ScnId, is_compressed, put_decimal, put_text};
-use object_output::{Bracketed, SectionTool, each_section, section_header};
+use object_output::{Bracketed, SectionTool, each_section, is_out, section_header};
 use tool_output::{FileName, InSection, Line, Message, Outputs, Stop};
 
 /// What is said of the data of the sections of some types.
@@ -43,18 +43,6 @@ pub trait SectionPart {
         requires { s.0 < length elf.old.o.sections }
         ensures { ReportsElf S.Source O.Sink E.Sink (λ o. report name.now o s.0)
             result elf.old elf.new outputs.old outputs.new };
-}
-
-/// Whether the home of a section that is there is out of the file.
-#[tactic(auto, unfolding(elf_descriptor::specs::Homes::out_answer))]
-fn is_out<S: Source>(elf: &Elf<S>, s: ScnId) -> bool
-    requires { s.0 < length elf.now.o.sections }
-    ensures { result ≡ (section_at elf.now.o s.0).home.out }
-{
-    match elf.is_out_of_file(s) {
-        Ok(out) => out,
-        Err(_) => unreachable!(),
-    }
 }
 
 /// Whether the present type of a section that is there is this one.
@@ -135,7 +123,7 @@ pub fn each_plain<P: SectionPart, S: Source, O: Sink, E: Sink>(
     elf: &mut Elf<S>,
     outputs: &mut Outputs<'_, O, E>,
 ) -> Result<bool, Stop>
-    ensures { ReportsElf S.Source O.Sink E.Sink
+    ensures { ReportsOver S.Source O.Sink E.Sink 1
         (λ o. each_plain P.has name.now o (P.report name.now o))
         result elf.old elf.new outputs.old outputs.new }
 {

@@ -5,7 +5,7 @@ ghost use Rattle.std.specs.Option.{option_copied};
 ghost use Rattle.elf_types.specs.Writers.{WantsMemory};
 ghost use Rattle.elf_object.specs.Strings as strings;
 ghost use Rattle.tool_output.specs.Reports.{shown};
-ghost use Rattle.object_output.specs.Steps.{ReportsElf};
+ghost use Rattle.object_output.specs.Steps.{ReportsElf, ReportsOver};
 ghost use Rattle.readelf_rows.specs.Links.{AreLinks};
 ghost use Rattle.readelf_tables.specs.Dynamic.{names_string, dyn_start, dyn_name_line, dyn_value_line, dyn_row, dynamic_title, dynamic_of_section, holds_dynamic, dynamic_report};
 
@@ -182,7 +182,7 @@ pub fn show_dynamic<S: Source, O: Sink, E: Sink>(
     elf: &mut Elf<S>,
     outputs: &mut Outputs<'_, O, E>,
 ) -> Result<bool, Stop>
-    ensures { ReportsElf S.Source O.Sink E.Sink (dynamic_report name.now)
+    ensures { ReportsOver S.Source O.Sink E.Sink 1 (dynamic_report name.now)
         result elf.old elf.new outputs.old outputs.new }
 {
     each_plain(&Dynamic, name, elf, outputs)

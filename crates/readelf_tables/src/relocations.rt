@@ -6,7 +6,7 @@ ghost use Rattle.elf_object.specs.Answers.{items_at};
 ghost use Rattle.elf_object.specs.Strings as strings;
 ghost use Rattle.tool_output.specs.Lines.{numbered_lines};
 ghost use Rattle.tool_output.specs.Reports.{shown};
-ghost use Rattle.object_output.specs.Steps.{ReportsElf, Learns};
+ghost use Rattle.object_output.specs.Steps.{ReportsElf, ReportsOver, Learns};
 ghost use Rattle.readelf_rows.specs.Links.{AreLinks};
 ghost use Rattle.readelf_blocks.specs.RelocationLines.{symbol_in, name_by, relocation_name, relocation_line};
 ghost use Rattle.readelf_blocks.specs.Blocks.{entry_row};
@@ -275,7 +275,7 @@ pub fn show_relocations<S: Source, O: Sink, E: Sink>(
     elf: &mut Elf<S>,
     outputs: &mut Outputs<'_, O, E>,
 ) -> Result<bool, Stop>
-    ensures { ReportsElf S.Source O.Sink E.Sink (relocations_report name.now)
+    ensures { ReportsOver S.Source O.Sink E.Sink 1 (relocations_report name.now)
         result elf.old elf.new outputs.old outputs.new }
 {
     each_plain(&Relocations, name, elf, outputs)

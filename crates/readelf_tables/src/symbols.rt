@@ -10,7 +10,7 @@ ghost use Rattle.elf_object.specs.Strings as strings;
 ghost use Rattle.tool_output.specs.Lines.{numbered_lines};
 ghost use Rattle.tool_output.specs.Reports.{Reports, shown};
 ghost use Rattle.tool_output.specs.Steps.{LeavesOutputs};
-ghost use Rattle.object_output.specs.Steps.{ReadsElf, ReportsElf};
+ghost use Rattle.object_output.specs.Steps.{ReadsElf, ReportsElf, ReportsOver};
 ghost use Rattle.bytes_at_hand.specs.Strings.{EndsAt};
 ghost use Rattle.readelf_tables.specs.Tables.{row_at, HasRows};
 ghost use Rattle.readelf_tables.specs.Symbols.{SymbolsFit, special_text, place_text, symbol_start, symbol_names, symbol_end, symbol_line, symbol_row, symbols_title, symbols_of_section, holds_symbols, symbols_report};
@@ -350,7 +350,7 @@ pub fn show_symbols<S: Source, O: Sink, E: Sink>(
     elf: &mut Elf<S>,
     outputs: &mut Outputs<'_, O, E>,
 ) -> Result<bool, Stop>
-    ensures { ReportsElf S.Source O.Sink E.Sink (symbols_report name.now)
+    ensures { ReportsOver S.Source O.Sink E.Sink 1 (symbols_report name.now)
         result elf.old elf.new outputs.old outputs.new }
 {
     each_plain(&Symbols, name, elf, outputs)

@@ -1,10 +1,11 @@
 -- What readelf shows of an object: the parts that are asked for by their letters, in their order.
-use Rattle.std.specs.Prelude.{Bool, true, false, ◌&&◌, List, [], ◌∷◌, if◌then◌else◌}
-use Rattle.std.specs.List.{list_any}
+use Rattle.std.specs.Prelude.{ℕ, Bool, true, false, ◌&&◌, List, [], ◌∷◌, if◌then◌else◌}
+use Rattle.std.specs.List.{list_any, count_by}
 use Rattle.elf_object.specs.Object.{Object, header_of}
 use Rattle.tool_text.specs.declared.options.ReadelfParts.{ReadelfParts}
 use Rattle.tool_output.specs.Names.{Name}
 use Rattle.tool_output.specs.Reports.{Report, no_report, reports_of}
+use Rattle.object_output.specs.Looks.{Looks}
 use Rattle.readelf_tool.specs.declared.parts.Letter.{Letter}
 use Rattle.readelf_tool.specs.declared.parts.Letter.TheVariants.{Header, Segments, Sections, Symbols, Relocations, Dynamic, Notes, Versions}
 use Rattle.readelf_headers.specs.Header.{header_report}
@@ -67,5 +68,17 @@ reads_sections Dynamic = true
 reads_sections Notes = true
 reads_sections Versions = true
 
+-- whether the part of a letter is shown and goes over the sections, which it does once
+abbrev pub goes_over : ReadelfParts → Letter → Bool
+goes_over parts letter = is_asked parts letter && reads_sections letter
+
+-- whether one does
 unfoldable pub shows_sections : ReadelfParts → Bool
-shows_sections parts = list_any (λ letter. is_asked parts letter && reads_sections letter) letters
+shows_sections parts = list_any (λ letter. goes_over parts letter) letters
+
+-- how many do
+unfoldable pub passes_of : ReadelfParts → ℕ
+passes_of parts = count_by (goes_over parts) letters
+
+abbrev pub readelf_looks : ReadelfParts → Looks
+readelf_looks parts = record { reads = shows_sections parts; passes = passes_of parts }

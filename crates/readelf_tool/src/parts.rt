@@ -1,10 +1,10 @@
 //! What readelf shows of an object: the parts that are asked for by their letters, in their order.
 
-ghost use Rattle.std.specs.Prelude.{◌≡◌, ◌&&◌, codes, false};
+ghost use Rattle.std.specs.Prelude.{◌≡◌, codes, false, if◌then◌else◌};
 ghost use Rattle.tool_output.specs.Names.{file_name};
-ghost use Rattle.object_output.specs.Steps.{ReportsElf};
-ghost use Rattle.object_output.specs.Shows.{ShowsElf};
-ghost use Rattle.readelf_tool.specs.Parts.{is_asked, reads_sections, letter_report, letter_part, readelf_report, shows_sections};
+ghost use Rattle.object_output.specs.Steps.{ReportsOver};
+ghost use Rattle.object_output.specs.Shows.{ShowsOver};
+ghost use Rattle.readelf_tool.specs.Parts.{is_asked, reads_sections, letter_report, letter_part, readelf_report, shows_sections, goes_over, passes_of, readelf_looks};
 
 use crate::versions::show_versions;
 use elf_descriptor::Elf;
@@ -67,16 +67,16 @@ fn is_asked(parts: &ReadelfParts, letter: Letter) -> bool
     }
 }
 
-/// Shows the part of a letter. That of the header and of the program headers reads nothing. The
-/// answer tells whether something was refused.
+/// Shows the part of a letter. That of the header and of the program headers reads nothing; each of
+/// the others goes over the sections once. The answer tells whether something was refused.
 fn show_letter<S: Source, O: Sink, E: Sink>(
     letter: Letter,
     name: &FileName<'_>,
     elf: &mut Elf<S>,
     outputs: &mut Outputs<'_, O, E>,
 ) -> Result<bool, Stop>
-    ensures reports { ReportsElf S.Source O.Sink E.Sink (letter_report letter name.now)
-        result elf.old elf.new outputs.old outputs.new }
+    ensures reports { ReportsOver S.Source O.Sink E.Sink (if reads_sections letter then 1 else 0)
+        (letter_report letter name.now) result elf.old elf.new outputs.old outputs.new }
     ensures unread { reads_sections letter ≡ false → elf.new ≡ elf.old }
 {
     match letter {
@@ -99,10 +99,10 @@ fn show_part<S: Source, O: Sink, E: Sink>(
     elf: &mut Elf<S>,
     outputs: &mut Outputs<'_, O, E>,
 ) -> Result<bool, Stop>
-    ensures reports { ReportsElf S.Source O.Sink E.Sink (letter_part parts.now name.now letter)
+    ensures reports { ReportsOver S.Source O.Sink E.Sink
+        (if goes_over parts.now letter then 1 else 0) (letter_part parts.now name.now letter)
         result elf.old elf.new outputs.old outputs.new }
-    ensures unread { (is_asked parts.now letter && reads_sections letter) ≡ false →
-        elf.new ≡ elf.old }
+    ensures unread { goes_over parts.now letter ≡ false → elf.new ≡ elf.old }
 {
     if is_asked(parts, letter) {
         show_letter(letter, name, elf, outputs)
@@ -119,8 +119,8 @@ pub fn show_parts<S: Source, O: Sink, E: Sink>(
     parts: &ReadelfParts,
     outputs: &mut Outputs<'_, O, E>,
 ) -> Result<bool, Stop>
-    ensures reports { ReportsElf S.Source O.Sink E.Sink (readelf_report parts.now name.now)
-        result elf.old elf.new outputs.old outputs.new }
+    ensures reports { ReportsOver S.Source O.Sink E.Sink (passes_of parts.now)
+        (readelf_report parts.now name.now) result elf.old elf.new outputs.old outputs.new }
     ensures unread { shows_sections parts.now ≡ false → elf.new ≡ elf.old }
 {
     let mut refused = false;
@@ -143,7 +143,7 @@ impl ObjectTool for ReadelfTool<'_> {
 
     ghost report = { λ t name. readelf_report t.parts.now name };
 
-    ghost reads = { λ t. shows_sections t.parts.now };
+    ghost looks = { λ t. readelf_looks t.parts.now };
 
     fn command(&self) -> &'static str {
         "readelf"
@@ -170,7 +170,7 @@ pub fn readelf<S: Source, O: Sink, E: Sink>(
     out: &mut O,
     err: &mut E,
 ) -> Result<bool, Stop>
-    ensures shows { ShowsElf S.Source O.Sink E.Sink
+    ensures shows { ShowsOver S.Source O.Sink E.Sink (passes_of parts.now)
         (readelf_report parts.now (file_name name.now))
         result elf.old elf.new out.old out.new err.old err.new }
     ensures unread { shows_sections parts.now ≡ false → elf.new ≡ elf.old }

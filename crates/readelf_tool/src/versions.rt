@@ -2,7 +2,7 @@
 //! definitions, and the needs.
 
 ghost use Rattle.std.specs.Prelude.{◌<◌};
-ghost use Rattle.object_output.specs.Steps.{ReportsElf};
+ghost use Rattle.object_output.specs.Steps.{ReportsOver};
 ghost use Rattle.readelf_tool.specs.Versions.{versions_of_section, holds_versions, versions_report};
 
 use elf_descriptor::Elf;
@@ -54,7 +54,7 @@ pub fn show_versions<S: Source, O: Sink, E: Sink>(
     elf: &mut Elf<S>,
     outputs: &mut Outputs<'_, O, E>,
 ) -> Result<bool, Stop>
-    ensures { ReportsElf S.Source O.Sink E.Sink (versions_report name.now)
+    ensures { ReportsOver S.Source O.Sink E.Sink 1 (versions_report name.now)
         result elf.old elf.new outputs.old outputs.new }
 {
     each_plain(&Versions, name, elf, outputs)

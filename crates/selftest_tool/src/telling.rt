@@ -1,10 +1,11 @@
 //! What is told of an image that a file holds.
 
-ghost use Rattle.std.specs.Prelude.{◌≡◌, ◌≤◌, ◌+◌, length, true, codes, None};
+ghost use Rattle.std.specs.Prelude.{◌≡◌, ◌≤◌, ◌+◌, length, codes, None};
 ghost use Rattle.elf_types.specs.declared.records.Kind.TheVariants as kinds;
 ghost use Rattle.elf_object.specs.Answers.{lend_refusal};
 ghost use Rattle.command_objects.specs.Generated.{numbered_name};
 ghost use Rattle.tool_output.specs.Reports.{shown};
+ghost use Rattle.object_output.specs.Looks.{looks_over};
 ghost use Rattle.object_output.specs.Steps.{Learns, ReportsElf};
 ghost use Rattle.selftest_tool.specs.Told.{value_sum, symbols_told, first_named, lines_text, told_report, told_outcome};
 
@@ -116,7 +117,7 @@ impl ObjectTool for Told {
 
     ghost report = { λ t name o. told_report t.count name o };
 
-    ghost reads = { λ _. true };
+    ghost looks = { λ _. looks_over 0 };
 
     fn command(&self) -> &'static str {
         "selftest"

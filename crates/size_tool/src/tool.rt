@@ -1,7 +1,8 @@
 //! The tool of the command size.
 
-ghost use Rattle.std.specs.Prelude.{◌≡◌, false, codes};
+ghost use Rattle.std.specs.Prelude.{◌≡◌, codes};
 ghost use Rattle.tool_output.specs.Names.{file_name};
+ghost use Rattle.object_output.specs.Looks.{no_look};
 ghost use Rattle.object_output.specs.Shows.{ShowsElf};
 ghost use Rattle.size_tool.specs.Tool.{size_report};
 
@@ -22,7 +23,7 @@ impl ObjectTool for SizeTool {
 
     ghost report = { λ _. size_report };
 
-    ghost reads = { λ _. false };
+    ghost looks = { λ _. no_look };
 
     fn command(&self) -> &'static str {
         "size"

@@ -2,9 +2,9 @@ use Rattle.std.proofs.Common.{◌+◌, drop, refl, rules, ◌∙◌}
 use Rattle.std.proofs.lemmas.Result.{err_from_is_err_and}
 use Rattle.tool_output.specs.Reports.{reports_of}
 use Rattle.tool_output.proofs.UnderWayLemmas.{reports_left, no_reports_left}
-use Rattle.object_output.proofs.ElfSteps.{elf_begins, elf_goes_on, elf_stops_at, elf_is_given}
+use Rattle.object_output.proofs.ElfSteps.{elf_begins, elf_goes_on, elf_stops_at, elf_is_given, elf_failed, over_more}
 use Rattle.readelf_tool.specs.Parts.{letters, letter_part, readelf_report}
-use Rattle.readelf_tool.proofs.PartLemmas.{part_unread}
+use Rattle.readelf_tool.proofs.PartLemmas.{part_unread, passes_next, passes_within}
 use Rattle.readelf_tool.proofs.parts.show_parts.Goals as goal
 
 pub loop-letter-init : goal.loop-letter-init
@@ -19,9 +19,12 @@ loop-letter-preserved g c =
     let parts = c.args.parts.now in
     let name = c.args.name.now in
     let i = c.loop-letter.letter-index in record {
-      report = elf_goes_on c.loop-letter.invariant.report _ (λ o. reports_of (λ l. letter_part parts name l o) (drop (i + 1) letters))
-          (λ told. reports_left (λ l. letter_part parts name l c.args.elf.now.o) letters i _ c.loop-letter-test.true (search rules))
-          c.in_ok-was_refused.ensures.reports refl;
+      report = over_more (elf_goes_on c.loop-letter.invariant.report _
+          (λ o. reports_of (λ l. letter_part parts name l o) (drop (i + 1) letters))
+          (λ told. reports_left (λ l. letter_part parts name l c.args.elf.now.o) letters i _
+          c.loop-letter-test.true (search rules))
+          c.in_ok-was_refused.ensures.reports refl) _
+          (passes_next parts _ i c.loop-letter-test.true (search rules));
       unread = λ off. c.in_ok-was_refused.ensures.unread (part_unread parts _ i c.loop-letter-test.true (search rules) off) ∙ c.loop-letter.invariant.unread off;
     }
 
@@ -31,9 +34,12 @@ returns-in_err-was_refused-clause-reports g c =
     let name = c.args.name.now in
     let i = c.loop-letter.letter-index in
     let p = err_from_is_err_and c.from_residual.result c.from_residual.ensures.1 in
-    rw (p.1, p.2) (elf_stops_at c.loop-letter.invariant.report _ (λ o. reports_of (λ l. letter_part parts name l o) (drop (i + 1) letters))
-    (λ told. reports_left (λ l. letter_part parts name l c.args.elf.now.o) letters i _ c.loop-letter-test.true (search rules))
-    c.in_err-was_refused.ensures.reports)
+    rw (p.1, p.2) (elf_failed g.S.Source g.O.Sink g.E.Sink _ _ c.args.elf.now _ c.args.outputs.now _
+    (elf_stops_at c.loop-letter.invariant.report _
+    (λ o. reports_of (λ l. letter_part parts name l o) (drop (i + 1) letters))
+    (λ told. reports_left (λ l. letter_part parts name l c.args.elf.now.o) letters i _
+    c.loop-letter-test.true (search rules))
+    c.in_err-was_refused.ensures.reports))
 
 pub returns-in_err-was_refused-clause-unread : goal.returns-in_err-was_refused-clause-unread
 returns-in_err-was_refused-clause-unread g c = λ off.
@@ -41,5 +47,6 @@ returns-in_err-was_refused-clause-unread g c = λ off.
 
 pub returns-clause-reports : goal.returns-clause-reports
 returns-clause-reports g c =
-    elf_is_given c.loop-letter.invariant.report
+    elf_is_given (over_more c.loop-letter.invariant.report _
+    (passes_within c.args.parts.now c.loop-letter.letter-index))
     (λ told. no_reports_left (λ l. letter_part c.args.parts.now c.args.name.now l c.args.elf.now.o) letters c.loop-letter.letter-index c.loop-letter-test.false)
