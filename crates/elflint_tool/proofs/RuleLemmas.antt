@@ -1,5 +1,6 @@
 -- What is said of all findings.
-use Rattle.std.proofs.Common.{◌≡◌, Bool, true, false, List, [], ◌∷◌, Result, Ok, Err, refl, sym, ap, ◌∙◌}
+use Rattle.std.proofs.Common.{◌≡◌, ◌+◌, ◌<◌, ◌≤◌, ℕ, Bool, true, false, List, [], ◌∷◌, length, take, Result, Ok, Err, refl, sym, ap, ◌∙◌, arith}
+use Rattle.std.proofs.lemmas.List.{length-take}
 use Rattle.elf_outside.specs.declared.sources.Source.{Ghosts as SourceGhosts}
 use Rattle.elf_outside.specs.declared.sinks.Sink.{Ghosts as SinkGhosts}
 use Rattle.elf_object.specs.Object.{Object}
@@ -8,8 +9,8 @@ use Rattle.tool_output.specs.declared.stops.Stop.{Stop}
 use Rattle.tool_output.specs.declared.outputs.Outputs.{Outputs}
 use Rattle.tool_output.specs.Names.{Name}
 use Rattle.tool_output.specs.Reports.{Report, shown, no_report, joined}
-use Rattle.object_output.specs.Steps.{ReportsElf}
-use Rattle.object_output.proofs.ElfSteps.{elf_then, elf_then_stop}
+use Rattle.object_output.specs.Steps.{ReportsOver, ReportsElf}
+use Rattle.object_output.proofs.ElfSteps.{elf_over, elf_failed, elf_then, elf_then_stop}
 use Rattle.lint_findings.specs.Findings.{Finding, findings_shown, findings_report, no_findings_line}
 use Rattle.lint_findings.proofs.FindingLemmas.{no_findings, found_none, none_where}
 use Rattle.tool_output.proofs.ReportLemmas.{none_joined, joined_none}
@@ -38,8 +39,24 @@ unfolding findings_report
 report_as name [] = let line = shown (no_findings_line name) in sym (ap (λ (r : Report). joined r line) (no_findings name) ∙ none_joined line)
 report_as name (f ∷ fs) = sym (joined_none (findings_shown name (f ∷ fs)))
 
--- a report that refuses nothing, and then another
-pub then_another : {S O E : Type 0} (s : SourceGhosts S) (o : SinkGhosts O) (e : SinkGhosts E) (p q : Object → Report) (r : Result Bool Stop) (a b : State S) (t u v : Outputs O E)
-    → ReportsElf s o e p (Ok false) a b t u → ReportsElf s o e q r b b u v → ReportsElf s o e (λ m. joined (p m) (q m)) r a b t v
-then_another s o e p q (Ok y) a b t u v h k = elf_then s o e p q a b b t u v false y y refl h k
-then_another s o e p q (Err stop) a b t u v h k = elf_then_stop s o e p q a b b t u v false stop h k
+-- a report that refuses nothing, and then another, which makes no pass
+pub then_another : {S O E : Type 0} {n : ℕ} (s : SourceGhosts S) (o : SinkGhosts O)
+    (e : SinkGhosts E) (p q : Object → Report) (r : Result Bool Stop) (a b : State S)
+    (t u v : Outputs O E) → ReportsOver s o e n p (Ok false) a b t u
+    → ReportsElf s o e q r b b u v → ReportsOver s o e n (λ m. joined (p m) (q m)) r a b t v
+then_another {S} {O} {E} {n} s o e p q (Ok y) a b t u v h k =
+    elf_over s o e (n + 0) n _ _ a b t v (omega arith)
+    (elf_then s o e p q a b b t u v false y y refl h k)
+then_another {S} {O} {E} {n} s o e p q (Err stop) a b t u v h k =
+    elf_failed s o e _ stop a b t v (elf_then_stop s o e p q a b b t u v false stop h k)
+
+-- ---- The passes of rules, one after another
+
+-- of one rule more
+pub one_more : {X : Type 0} (l : List X) (i : ℕ) → i < length l
+    → length (take i l) + 1 ≤ length (take (i + 1) l)
+one_more l i lt = omega (arith, length-take i l, length-take (i + 1) l, lt)
+
+-- of the first rules no more than of all
+pub no_more : {X : Type 0} (l : List X) (i : ℕ) → length (take i l) ≤ length l
+no_more l i = omega (arith, length-take i l)

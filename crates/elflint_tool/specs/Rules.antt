@@ -1,5 +1,5 @@
 -- The rules in their order, and what elflint says of an object.
-use Rattle.std.specs.Prelude.{List, [], ◌∷◌}
+use Rattle.std.specs.Prelude.{ℕ, List, [], ◌∷◌, length}
 use Rattle.std.specs.List.{flat_map}
 use Rattle.elf_object.specs.Object.{Object}
 use Rattle.tool_output.specs.Names.{Name}
@@ -57,6 +57,10 @@ all_rules =
     ∷ hashes_not_whole
     ∷ gnu_hashes_not_whole
     ∷ []
+
+-- each goes over the sections at most once
+unfoldable pub lint_passes : ℕ
+lint_passes = length all_rules
 
 -- what a rule finds
 abbrev pub finds : LintRule → Rule

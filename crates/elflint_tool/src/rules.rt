@@ -1,8 +1,9 @@
 //! The rules, one after another in their order.
 
+ghost use Rattle.std.specs.Prelude.{length};
 ghost use Rattle.std.specs.List.{flat_map};
-ghost use Rattle.elflint_tool.specs.Rules.{finds, findings};
-ghost use Rattle.lint_findings.specs.Steps.{FindsElf};
+ghost use Rattle.elflint_tool.specs.Rules.{finds, findings, lint_passes};
+ghost use Rattle.lint_findings.specs.Steps.{FindsOver};
 
 use elf_descriptor::Elf;
 use elf_outside::{Sink, Source};
@@ -130,14 +131,14 @@ const RULES: [LintRule; 32] = [
     LintRule::GnuHashesNotWhole,
 ];
 
-/// Says what a rule finds.
+/// Says what a rule finds. It goes over the sections at most once.
 fn look_by<S: Source, O: Sink, E: Sink>(
     rule: LintRule,
     name: &FileName<'_>,
     elf: &mut Elf<S>,
     outputs: &mut Outputs<'_, O, E>,
 ) -> Result<bool, Stop>
-    ensures { FindsElf S.Source O.Sink E.Sink (finds rule) name.now
+    ensures { FindsOver S.Source O.Sink E.Sink 1 (finds rule) name.now
         result elf.old elf.new outputs.old outputs.new }
 {
     match rule {
@@ -183,7 +184,8 @@ fn look_by_each<S: Source, O: Sink, E: Sink>(
     elf: &mut Elf<S>,
     outputs: &mut Outputs<'_, O, E>,
 ) -> Result<bool, Stop>
-    ensures { FindsElf S.Source O.Sink E.Sink (λ o. flat_map (λ r. finds r o) rules.now) name.now
+    ensures { FindsOver S.Source O.Sink E.Sink (length rules.now)
+        (λ o. flat_map (λ r. finds r o) rules.now) name.now
         result elf.old elf.new outputs.old outputs.new }
 {
     let mut found = false;
@@ -201,7 +203,7 @@ pub fn look_by_all_rules<S: Source, O: Sink, E: Sink>(
     elf: &mut Elf<S>,
     outputs: &mut Outputs<'_, O, E>,
 ) -> Result<bool, Stop>
-    ensures { FindsElf S.Source O.Sink E.Sink findings name.now
+    ensures { FindsOver S.Source O.Sink E.Sink lint_passes findings name.now
         result elf.old elf.new outputs.old outputs.new }
 {
     look_by_each(&RULES, name, elf, outputs)

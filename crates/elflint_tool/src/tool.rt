@@ -1,9 +1,10 @@
 //! The tool of the command elflint.
 
-ghost use Rattle.std.specs.Prelude.{◌≡◌, true, codes};
+ghost use Rattle.std.specs.Prelude.{◌≡◌, codes};
 ghost use Rattle.tool_output.specs.Names.{file_name};
-ghost use Rattle.object_output.specs.Shows.{ShowsElf};
-ghost use Rattle.elflint_tool.specs.Rules.{lint_report};
+ghost use Rattle.object_output.specs.Looks.{looks_over};
+ghost use Rattle.object_output.specs.Shows.{ShowsOver};
+ghost use Rattle.elflint_tool.specs.Rules.{lint_passes, lint_report};
 
 use crate::rules::look_by_all_rules;
 use elf_descriptor::Elf;
@@ -22,7 +23,7 @@ impl ObjectTool for LintTool {
 
     ghost report = { λ _. lint_report };
 
-    ghost reads = { λ _. true };
+    ghost looks = { λ _. looks_over lint_passes };
 
     fn command(&self) -> &'static str {
         "elflint"
@@ -46,7 +47,8 @@ impl ObjectTool for LintTool {
 /// each finding, or one that says that there are none. The lines name the object by `name`. The
 /// answer tells whether something was found. It stops by `Read` where a read of the source failed,
 /// by `Write` where a put failed, and by `Memory`. Each section is read once, whatever the number
-/// of rules that look at it.
+/// of rules that look at it; where sections overlap, once more for each rule at most, and each
+/// is let go behind it.
 ///
 /// Source: gABI chapters 4 and 5.
 pub fn elflint<S: Source, O: Sink, E: Sink>(
@@ -56,7 +58,7 @@ pub fn elflint<S: Source, O: Sink, E: Sink>(
     out: &mut O,
     err: &mut E,
 ) -> Result<bool, Stop>
-    ensures { ShowsElf S.Source O.Sink E.Sink (lint_report (file_name name.now))
+    ensures { ShowsOver S.Source O.Sink E.Sink lint_passes (lint_report (file_name name.now))
         result elf.old elf.new out.old out.new err.old err.new }
 {
     show_object(alloc, &LintTool, elf, &FileName::of(name), out, err)

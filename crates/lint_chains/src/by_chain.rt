@@ -6,7 +6,7 @@ ghost use Rattle.elf_object.specs.Due.{all_sections};
 ghost use Rattle.tool_output.specs.Stops.{stop_of};
 ghost use Rattle.object_output.specs.Steps.{Learns};
 ghost use Rattle.lint_findings.specs.Findings.{findings_shown};
-ghost use Rattle.lint_findings.specs.Steps.{FindsElf};
+ghost use Rattle.lint_findings.specs.Steps.{FindsOver};
 ghost use Rattle.lint_chains.specs.Chains.{at_bad_chains, bad_place, chain_found};
 
 use elf_descriptor::Elf;
@@ -90,7 +90,7 @@ pub fn each_bad_chain<R: ChainRule, S: Source, O: Sink, E: Sink>(
     elf: &mut Elf<S>,
     outputs: &mut Outputs<'_, O, E>,
 ) -> Result<bool, Stop>
-    ensures { FindsElf S.Source O.Sink E.Sink
+    ensures { FindsOver S.Source O.Sink E.Sink 1
         (λ o. at_bad_chains number (R.bad o) (all_sections o)) name.now
         result elf.old elf.new outputs.old outputs.new }
 {

@@ -3,7 +3,7 @@
 ghost use Rattle.std.specs.Prelude.{◌≡◌};
 ghost use Rattle.gelf_view.specs.Chains.{notes};
 ghost use Rattle.object_output.specs.Steps.{Learns};
-ghost use Rattle.lint_findings.specs.Steps.{FindsElf};
+ghost use Rattle.lint_findings.specs.Steps.{FindsOver};
 ghost use Rattle.lint_chains.specs.Chains as rule;
 ghost use Rattle.lint_chains.specs.Chains.{bad_place};
 
@@ -61,7 +61,7 @@ pub fn bad_notes<S: Source, O: Sink, E: Sink>(
     elf: &mut Elf<S>,
     outputs: &mut Outputs<'_, O, E>,
 ) -> Result<bool, Stop>
-    ensures { FindsElf S.Source O.Sink E.Sink rule.bad_notes name.now
+    ensures { FindsOver S.Source O.Sink E.Sink 1 rule.bad_notes name.now
         result elf.old elf.new outputs.old outputs.new }
 {
     each_bad_chain(&Notes, 29, name, elf, outputs)

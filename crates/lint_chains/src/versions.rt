@@ -1,6 +1,6 @@
 //! The rule 30: the version definitions and needs of each section.
 
-ghost use Rattle.lint_findings.specs.Steps.{FindsElf};
+ghost use Rattle.lint_findings.specs.Steps.{FindsOver};
 ghost use Rattle.lint_chains.specs.Chains as rule;
 ghost use Rattle.lint_chains.specs.Chains.{verdef_names_bad, verneed_names_bad};
 ghost use Rattle.lint_chains.specs.Reach.{verdaux_next, vernaux_next};
@@ -91,7 +91,7 @@ pub fn bad_versions<S: Source, O: Sink, E: Sink>(
     elf: &mut Elf<S>,
     outputs: &mut Outputs<'_, O, E>,
 ) -> Result<bool, Stop>
-    ensures { FindsElf S.Source O.Sink E.Sink rule.bad_versions name.now
+    ensures { FindsOver S.Source O.Sink E.Sink 1 rule.bad_versions name.now
         result elf.old elf.new outputs.old outputs.new }
 {
     each_bad_chain(&Versions, 30, name, elf, outputs)

@@ -6,7 +6,7 @@ ghost use Rattle.elf_object.specs.Due.{all_sections};
 ghost use Rattle.object_output.specs.Steps.{Learns};
 ghost use Rattle.lint_findings.specs.declared.places.Place.TheVariants.{Section};
 ghost use Rattle.lint_findings.specs.Findings.{at_sections, finding, findings_shown, found_if};
-ghost use Rattle.lint_findings.specs.Steps.{FindsElf};
+ghost use Rattle.lint_findings.specs.Steps.{FindsOver};
 
 use crate::findings::find_if;
 use crate::places::Place;
@@ -64,7 +64,7 @@ impl<R: SectionRule> SectionTool for BySection<'_, R> {
 }
 
 /// Says what a rule of that number finds at each section, by number, with one text for all its
-/// findings.
+/// findings, in one pass over the sections.
 pub fn each_section_by<R: SectionRule, S: Source, O: Sink, E: Sink>(
     rule: &R,
     number: u32,
@@ -73,7 +73,7 @@ pub fn each_section_by<R: SectionRule, S: Source, O: Sink, E: Sink>(
     elf: &mut Elf<S>,
     outputs: &mut Outputs<'_, O, E>,
 ) -> Result<bool, Stop>
-    ensures { FindsElf S.Source O.Sink E.Sink
+    ensures { FindsOver S.Source O.Sink E.Sink 1
         (λ o. at_sections number text.now (R.finds o) (all_sections o)) name.now
         result elf.old elf.new outputs.old outputs.new }
 {

@@ -14,7 +14,7 @@ pub use by_segment::{SegmentRule, each_segment};
 pub use data::item_at;
 pub use findings::{FindingLine, NoFindings, find, find_if};
 pub use looking::{
-    class, info_is_section, is_allocated, is_intact, is_looked_at, is_out, is_plain, is_plain_of,
+    class, info_is_section, is_allocated, is_intact, is_looked_at, is_plain, is_plain_of,
     is_ragged, is_relocations, is_string_table, is_symbol_table, linked_header,
 };
 pub use places::Place;

@@ -17,21 +17,7 @@ use elf_types::constants::{
 };
 use elf_types::{Class, DataId, Kind, NULL_SECTION, ScnId, Shdr, is_compressed, kind_of};
 use elf_xlate::item_size;
-use object_output::section_header;
-
-/// Whether the home of a section that is there is out of the file.
-///
-/// Source: gABI chapter 4, "Section Header", sh_offset and sh_size.
-#[tactic(auto, unfolding(elf_descriptor::specs::Homes::out_answer))]
-pub fn is_out<S: Source>(elf: &Elf<S>, s: ScnId) -> bool
-    requires { s.0 < length elf.now.o.sections }
-    ensures { result ≡ (section_at elf.now.o s.0).home.out }
-{
-    match elf.is_out_of_file(s) {
-        Ok(out) => out,
-        Err(_) => unreachable!(),
-    }
-}
+use object_output::{is_out, section_header};
 
 /// The class of an object.
 #[tactic(auto, unfolding(elf_object::specs::Object::header_of))]

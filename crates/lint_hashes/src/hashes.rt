@@ -5,7 +5,7 @@ ghost use Rattle.elf_types.specs.declared.records.Kind.TheVariants as kinds;
 ghost use Rattle.elf_object.specs.Object.{section_at};
 ghost use Rattle.elf_object.specs.Answers.{same_kind};
 ghost use Rattle.command_objects.specs.Words.{is_of};
-ghost use Rattle.lint_findings.specs.Steps.{FindsElf};
+ghost use Rattle.lint_findings.specs.Steps.{FindsOver};
 ghost use Rattle.lint_hashes.specs.Hashes as rule;
 
 use crate::listed::linked_symbols;
@@ -66,7 +66,7 @@ pub fn hashes_not_whole<S: Source, O: Sink, E: Sink>(
     elf: &mut Elf<S>,
     outputs: &mut Outputs<'_, O, E>,
 ) -> Result<bool, Stop>
-    ensures { FindsElf S.Source O.Sink E.Sink rule.hashes_not_whole name.now
+    ensures { FindsOver S.Source O.Sink E.Sink 1 rule.hashes_not_whole name.now
         result elf.old elf.new outputs.old outputs.new }
 {
     each_section_by(&Hashes, 31, "hash is not whole", name, elf, outputs)
@@ -104,7 +104,7 @@ pub fn gnu_hashes_not_whole<S: Source, O: Sink, E: Sink>(
     elf: &mut Elf<S>,
     outputs: &mut Outputs<'_, O, E>,
 ) -> Result<bool, Stop>
-    ensures { FindsElf S.Source O.Sink E.Sink rule.gnu_hashes_not_whole name.now
+    ensures { FindsOver S.Source O.Sink E.Sink 1 rule.gnu_hashes_not_whole name.now
         result elf.old elf.new outputs.old outputs.new }
 {
     each_section_by(&GnuHashes, 32, "hash is not whole", name, elf, outputs)

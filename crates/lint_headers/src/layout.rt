@@ -13,7 +13,8 @@ use elf_layout::{PartAt, Parts, overlap};
 use elf_outside::{Sink, Source};
 use elf_types::{Class, ElfError, Octets, Part, ScnId, put_part, put_text};
 use elf_xlate::{ehdr_size, phdr_size, shdr_size};
-use lint_findings::{Place, find, is_out};
+use lint_findings::{Place, find};
+use object_output::is_out;
 use std::alloc::Global;
 use tool_output::{FileName, Line, Outputs, Stop};
 

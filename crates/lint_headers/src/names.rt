@@ -2,7 +2,7 @@
 
 ghost use Rattle.std.specs.Prelude.{◌≡◌};
 ghost use Rattle.lint_headers.specs.Names as rule;
-ghost use Rattle.lint_findings.specs.Steps.{FindsElf};
+ghost use Rattle.lint_findings.specs.Steps.{FindsElf, FindsOver};
 
 use elf_descriptor::Elf;
 use elf_outside::{Sink, Source};
@@ -75,7 +75,7 @@ pub fn unreadable_section_names<S: Source, O: Sink, E: Sink>(
     elf: &mut Elf<S>,
     outputs: &mut Outputs<'_, O, E>,
 ) -> Result<bool, Stop>
-    ensures { FindsElf S.Source O.Sink E.Sink rule.unreadable_section_names name.now
+    ensures { FindsOver S.Source O.Sink E.Sink 1 rule.unreadable_section_names name.now
         result elf.old elf.new outputs.old outputs.new }
 {
     each_section_by(&SectionNames, 5, "name cannot be read", name, elf, outputs)

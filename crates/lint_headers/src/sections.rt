@@ -4,7 +4,7 @@ ghost use Rattle.std.specs.Prelude.{◌≡◌, ◌==◌, not};
 ghost use Rattle.std.specs.List.{list_any};
 ghost use Rattle.lint_findings.specs.Looking as looking;
 ghost use Rattle.lint_headers.specs.Sections as rule;
-ghost use Rattle.lint_findings.specs.Steps.{FindsElf};
+ghost use Rattle.lint_findings.specs.Steps.{FindsOver};
 
 use elf_descriptor::Elf;
 use elf_outside::{Sink, Source};
@@ -13,9 +13,9 @@ use elf_types::{Kind, ScnId, Shdr, kind_of};
 use elf_xlate::item_size;
 use lint_findings::{
     SectionRule, class, each_section_by, info_is_section, is_allocated, is_intact, is_looked_at,
-    is_out, is_ragged,
+    is_ragged,
 };
-use object_output::section_header;
+use object_output::{is_out, section_header};
 use tool_output::{FileName, Outputs, Stop};
 
 /// Whether a field of section 0 that is to be 0 is not.
@@ -56,7 +56,7 @@ pub fn section_0_in_use<S: Source, O: Sink, E: Sink>(
     elf: &mut Elf<S>,
     outputs: &mut Outputs<'_, O, E>,
 ) -> Result<bool, Stop>
-    ensures { FindsElf S.Source O.Sink E.Sink rule.section_0_in_use name.now
+    ensures { FindsOver S.Source O.Sink E.Sink 1 rule.section_0_in_use name.now
         result elf.old elf.new outputs.old outputs.new }
 {
     each_section_by(&Section0, 4, "section 0 is in use", name, elf, outputs)
@@ -83,7 +83,7 @@ pub fn sections_outside_the_file<S: Source, O: Sink, E: Sink>(
     elf: &mut Elf<S>,
     outputs: &mut Outputs<'_, O, E>,
 ) -> Result<bool, Stop>
-    ensures { FindsElf S.Source O.Sink E.Sink rule.sections_outside_the_file name.now
+    ensures { FindsOver S.Source O.Sink E.Sink 1 rule.sections_outside_the_file name.now
         result elf.old elf.new outputs.old outputs.new }
 {
     each_section_by(&OutsideTheFile, 6, "outside the file", name, elf, outputs)
@@ -110,7 +110,7 @@ pub fn ragged_sections<S: Source, O: Sink, E: Sink>(
     elf: &mut Elf<S>,
     outputs: &mut Outputs<'_, O, E>,
 ) -> Result<bool, Stop>
-    ensures { FindsElf S.Source O.Sink E.Sink rule.ragged_sections name.now
+    ensures { FindsOver S.Source O.Sink E.Sink 1 rule.ragged_sections name.now
         result elf.old elf.new outputs.old outputs.new }
 {
     each_section_by(
@@ -146,7 +146,7 @@ pub fn odd_alignments<S: Source, O: Sink, E: Sink>(
     elf: &mut Elf<S>,
     outputs: &mut Outputs<'_, O, E>,
 ) -> Result<bool, Stop>
-    ensures { FindsElf S.Source O.Sink E.Sink rule.odd_alignments name.now
+    ensures { FindsOver S.Source O.Sink E.Sink 1 rule.odd_alignments name.now
         result elf.old elf.new outputs.old outputs.new }
 {
     each_section_by(
@@ -182,7 +182,7 @@ pub fn unaligned_addresses<S: Source, O: Sink, E: Sink>(
     elf: &mut Elf<S>,
     outputs: &mut Outputs<'_, O, E>,
 ) -> Result<bool, Stop>
-    ensures { FindsElf S.Source O.Sink E.Sink rule.unaligned_addresses name.now
+    ensures { FindsOver S.Source O.Sink E.Sink 1 rule.unaligned_addresses name.now
         result elf.old elf.new outputs.old outputs.new }
 {
     each_section_by(
@@ -217,7 +217,7 @@ pub fn links_to_no_section<S: Source, O: Sink, E: Sink>(
     elf: &mut Elf<S>,
     outputs: &mut Outputs<'_, O, E>,
 ) -> Result<bool, Stop>
-    ensures { FindsElf S.Source O.Sink E.Sink rule.links_to_no_section name.now
+    ensures { FindsOver S.Source O.Sink E.Sink 1 rule.links_to_no_section name.now
         result elf.old elf.new outputs.old outputs.new }
 {
     each_section_by(
@@ -253,7 +253,7 @@ pub fn infos_of_no_section<S: Source, O: Sink, E: Sink>(
     elf: &mut Elf<S>,
     outputs: &mut Outputs<'_, O, E>,
 ) -> Result<bool, Stop>
-    ensures { FindsElf S.Source O.Sink E.Sink rule.infos_of_no_section name.now
+    ensures { FindsOver S.Source O.Sink E.Sink 1 rule.infos_of_no_section name.now
         result elf.old elf.new outputs.old outputs.new }
 {
     each_section_by(
@@ -293,7 +293,7 @@ pub fn wrong_entry_sizes<S: Source, O: Sink, E: Sink>(
     elf: &mut Elf<S>,
     outputs: &mut Outputs<'_, O, E>,
 ) -> Result<bool, Stop>
-    ensures { FindsElf S.Source O.Sink E.Sink rule.wrong_entry_sizes name.now
+    ensures { FindsOver S.Source O.Sink E.Sink 1 rule.wrong_entry_sizes name.now
         result elf.old elf.new outputs.old outputs.new }
 {
     each_section_by(&WrongEntrySizes, 12, "wrong entry size", name, elf, outputs)
@@ -323,7 +323,7 @@ pub fn unallocated_thread_storage<S: Source, O: Sink, E: Sink>(
     elf: &mut Elf<S>,
     outputs: &mut Outputs<'_, O, E>,
 ) -> Result<bool, Stop>
-    ensures { FindsElf S.Source O.Sink E.Sink rule.unallocated_thread_storage name.now
+    ensures { FindsOver S.Source O.Sink E.Sink 1 rule.unallocated_thread_storage name.now
         result elf.old elf.new outputs.old outputs.new }
 {
     each_section_by(

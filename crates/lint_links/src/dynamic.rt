@@ -6,7 +6,7 @@ ghost use Rattle.elf_types.specs.declared.records.Dyn.{Dyn as TheDyn};
 ghost use Rattle.object_output.specs.Steps.{Learns};
 ghost use Rattle.lint_links.specs.Dynamic as rule;
 ghost use Rattle.lint_findings.specs.Looking.{dyns};
-ghost use Rattle.lint_findings.specs.Steps.{FindsElf};
+ghost use Rattle.lint_findings.specs.Steps.{FindsOver};
 
 use elf_descriptor::Elf;
 use elf_outside::{Sink, Source};
@@ -103,7 +103,7 @@ pub fn dynamic_without_end<S: Source, O: Sink, E: Sink>(
     elf: &mut Elf<S>,
     outputs: &mut Outputs<'_, O, E>,
 ) -> Result<bool, Stop>
-    ensures { FindsElf S.Source O.Sink E.Sink rule.dynamic_without_end name.now
+    ensures { FindsOver S.Source O.Sink E.Sink 1 rule.dynamic_without_end name.now
         result elf.old elf.new outputs.old outputs.new }
 {
     each_section_by(&DynamicEnds, 28, "no end", name, elf, outputs)

@@ -2,7 +2,7 @@
 
 ghost use Rattle.std.specs.Prelude.{◌≡◌};
 ghost use Rattle.lint_links.specs.Links as rule;
-ghost use Rattle.lint_findings.specs.Steps.{FindsElf};
+ghost use Rattle.lint_findings.specs.Steps.{FindsOver};
 
 use elf_descriptor::Elf;
 use elf_outside::{Sink, Source};
@@ -47,7 +47,7 @@ pub fn symbols_without_strings<S: Source, O: Sink, E: Sink>(
     elf: &mut Elf<S>,
     outputs: &mut Outputs<'_, O, E>,
 ) -> Result<bool, Stop>
-    ensures { FindsElf S.Source O.Sink E.Sink rule.symbols_without_strings name.now
+    ensures { FindsOver S.Source O.Sink E.Sink 1 rule.symbols_without_strings name.now
         result elf.old elf.new outputs.old outputs.new }
 {
     each_section_by(
@@ -85,7 +85,7 @@ pub fn relocations_without_symbols<S: Source, O: Sink, E: Sink>(
     elf: &mut Elf<S>,
     outputs: &mut Outputs<'_, O, E>,
 ) -> Result<bool, Stop>
-    ensures { FindsElf S.Source O.Sink E.Sink rule.relocations_without_symbols name.now
+    ensures { FindsOver S.Source O.Sink E.Sink 1 rule.relocations_without_symbols name.now
         result elf.old elf.new outputs.old outputs.new }
 {
     each_section_by(
@@ -123,7 +123,7 @@ pub fn hashes_without_symbols<S: Source, O: Sink, E: Sink>(
     elf: &mut Elf<S>,
     outputs: &mut Outputs<'_, O, E>,
 ) -> Result<bool, Stop>
-    ensures { FindsElf S.Source O.Sink E.Sink rule.hashes_without_symbols name.now
+    ensures { FindsOver S.Source O.Sink E.Sink 1 rule.hashes_without_symbols name.now
         result elf.old elf.new outputs.old outputs.new }
 {
     each_section_by(
@@ -161,7 +161,7 @@ pub fn dynamic_without_strings<S: Source, O: Sink, E: Sink>(
     elf: &mut Elf<S>,
     outputs: &mut Outputs<'_, O, E>,
 ) -> Result<bool, Stop>
-    ensures { FindsElf S.Source O.Sink E.Sink rule.dynamic_without_strings name.now
+    ensures { FindsOver S.Source O.Sink E.Sink 1 rule.dynamic_without_strings name.now
         result elf.old elf.new outputs.old outputs.new }
 {
     each_section_by(

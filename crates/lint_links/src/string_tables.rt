@@ -4,7 +4,7 @@ ghost use Rattle.std.specs.Prelude.{◌≡◌};
 ghost use Rattle.object_output.specs.Steps.{Learns};
 ghost use Rattle.lint_findings.specs.Looking.{data_bytes};
 ghost use Rattle.lint_links.specs.StringTables as rule;
-ghost use Rattle.lint_findings.specs.Steps.{FindsElf};
+ghost use Rattle.lint_findings.specs.Steps.{FindsOver};
 
 use elf_descriptor::Elf;
 use elf_outside::{Sink, Source};
@@ -89,7 +89,7 @@ pub fn tables_without_first_nul<S: Source, O: Sink, E: Sink>(
     elf: &mut Elf<S>,
     outputs: &mut Outputs<'_, O, E>,
 ) -> Result<bool, Stop>
-    ensures { FindsElf S.Source O.Sink E.Sink rule.tables_without_first_nul name.now
+    ensures { FindsOver S.Source O.Sink E.Sink 1 rule.tables_without_first_nul name.now
         result elf.old elf.new outputs.old outputs.new }
 {
     each_section_by(&FirstBytes, 13, "no NUL at the start", name, elf, outputs)
@@ -123,7 +123,7 @@ pub fn tables_without_last_nul<S: Source, O: Sink, E: Sink>(
     elf: &mut Elf<S>,
     outputs: &mut Outputs<'_, O, E>,
 ) -> Result<bool, Stop>
-    ensures { FindsElf S.Source O.Sink E.Sink rule.tables_without_last_nul name.now
+    ensures { FindsOver S.Source O.Sink E.Sink 1 rule.tables_without_last_nul name.now
         result elf.old elf.new outputs.old outputs.new }
 {
     each_section_by(&LastBytes, 14, "no NUL at the end", name, elf, outputs)

@@ -12,7 +12,7 @@ ghost use Rattle.bytes_at_hand.specs.Strings.{EndsAt};
 ghost use Rattle.lint_findings.specs.declared.places.Place.TheVariants.{Item};
 ghost use Rattle.lint_findings.specs.Findings.{at_items, finding, findings_shown, found_if};
 ghost use Rattle.lint_findings.specs.Looking.{symbols as stated_symbols};
-ghost use Rattle.lint_findings.specs.Steps.{FindsElf};
+ghost use Rattle.lint_findings.specs.Steps.{FindsElf, FindsOver};
 ghost use Rattle.lint_symbols.specs.Symbols.{at_symbols, at_symbols_of, has_symbols, symbols_of, IsTable};
 
 use bytes_at_hand::strings_end;
@@ -242,7 +242,7 @@ pub fn each_symbol_by<R: SymbolRule, S: Source, O: Sink, E: Sink>(
     elf: &mut Elf<S>,
     outputs: &mut Outputs<'_, O, E>,
 ) -> Result<bool, Stop>
-    ensures { FindsElf S.Source O.Sink E.Sink (at_symbols number text.now R.finds) name.now
+    ensures { FindsOver S.Source O.Sink E.Sink 1 (at_symbols number text.now R.finds) name.now
         result elf.old elf.new outputs.old outputs.new }
 {
     let tool = BySymbol {

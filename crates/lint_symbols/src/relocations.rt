@@ -3,7 +3,7 @@
 ghost use Rattle.lint_findings.specs.Findings.{findings_shown};
 ghost use Rattle.lint_symbols.specs.Relocations as rule;
 ghost use Rattle.lint_symbols.specs.Relocations.{AreRelocations};
-ghost use Rattle.lint_findings.specs.Steps.{FindsElf};
+ghost use Rattle.lint_findings.specs.Steps.{FindsElf, FindsOver};
 
 use crate::by_relocation::{ByNoSymbol, Relocations, each_relocation, relocations_of};
 use elf_descriptor::Elf;
@@ -59,7 +59,7 @@ pub fn relocations_by_no_symbol<S: Source, O: Sink, E: Sink>(
     elf: &mut Elf<S>,
     outputs: &mut Outputs<'_, O, E>,
 ) -> Result<bool, Stop>
-    ensures { FindsElf S.Source O.Sink E.Sink rule.relocations_by_no_symbol name.now
+    ensures { FindsOver S.Source O.Sink E.Sink 1 rule.relocations_by_no_symbol name.now
         result elf.old elf.new outputs.old outputs.new }
 {
     let tool = ByNoSymbol {

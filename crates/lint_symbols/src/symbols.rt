@@ -5,7 +5,7 @@ ghost use Rattle.lint_findings.specs.Findings.{findings_shown};
 ghost use Rattle.lint_findings.specs.Looking.{symbols as stated_symbols};
 ghost use Rattle.lint_symbols.specs.Symbols as rule;
 ghost use Rattle.lint_symbols.specs.Symbols.{IsTable};
-ghost use Rattle.lint_findings.specs.Steps.{FindsElf};
+ghost use Rattle.lint_findings.specs.Steps.{FindsElf, FindsOver};
 
 use crate::by_symbol::{SymbolRule, Table, each_symbol_by, table_of};
 use elf_descriptor::Elf;
@@ -84,7 +84,7 @@ pub fn symbol_0_in_use<S: Source, O: Sink, E: Sink>(
     elf: &mut Elf<S>,
     outputs: &mut Outputs<'_, O, E>,
 ) -> Result<bool, Stop>
-    ensures { FindsElf S.Source O.Sink E.Sink rule.symbol_0_in_use name.now
+    ensures { FindsOver S.Source O.Sink E.Sink 1 rule.symbol_0_in_use name.now
         result elf.old elf.new outputs.old outputs.new }
 {
     each_section(&Symbol0 { name }, elf, outputs)
@@ -130,7 +130,7 @@ pub fn unreadable_symbol_names<S: Source, O: Sink, E: Sink>(
     elf: &mut Elf<S>,
     outputs: &mut Outputs<'_, O, E>,
 ) -> Result<bool, Stop>
-    ensures { FindsElf S.Source O.Sink E.Sink rule.unreadable_symbol_names name.now
+    ensures { FindsOver S.Source O.Sink E.Sink 1 rule.unreadable_symbol_names name.now
         result elf.old elf.new outputs.old outputs.new }
 {
     each_symbol_by(
@@ -173,7 +173,7 @@ pub fn local_symbols_among_the_others<S: Source, O: Sink, E: Sink>(
     elf: &mut Elf<S>,
     outputs: &mut Outputs<'_, O, E>,
 ) -> Result<bool, Stop>
-    ensures { FindsElf S.Source O.Sink E.Sink rule.local_symbols_among_the_others name.now
+    ensures { FindsOver S.Source O.Sink E.Sink 1 rule.local_symbols_among_the_others name.now
         result elf.old elf.new outputs.old outputs.new }
 {
     each_symbol_by(
@@ -216,7 +216,7 @@ pub fn other_symbols_among_the_local<S: Source, O: Sink, E: Sink>(
     elf: &mut Elf<S>,
     outputs: &mut Outputs<'_, O, E>,
 ) -> Result<bool, Stop>
-    ensures { FindsElf S.Source O.Sink E.Sink rule.other_symbols_among_the_local name.now
+    ensures { FindsOver S.Source O.Sink E.Sink 1 rule.other_symbols_among_the_local name.now
         result elf.old elf.new outputs.old outputs.new }
 {
     each_symbol_by(
@@ -261,7 +261,7 @@ pub fn symbols_of_no_section<S: Source, O: Sink, E: Sink>(
     elf: &mut Elf<S>,
     outputs: &mut Outputs<'_, O, E>,
 ) -> Result<bool, Stop>
-    ensures { FindsElf S.Source O.Sink E.Sink rule.symbols_of_no_section name.now
+    ensures { FindsOver S.Source O.Sink E.Sink 1 rule.symbols_of_no_section name.now
         result elf.old elf.new outputs.old outputs.new }
 {
     each_symbol_by(

@@ -1,11 +1,12 @@
-use Rattle.std.proofs.Common.{drop}
+use Rattle.std.proofs.Common.{length, take, drop}
 use Rattle.std.specs.List.{flat_map}
-use Rattle.object_output.specs.Steps.{ElfUnderWay}
+use Rattle.object_output.specs.Steps.{ElfOver}
 use Rattle.lint_findings.specs.Findings.{findings_shown}
 use Rattle.elflint_tool.specs.Rules.{finds}
 use Rattle.elflint_tool.proofs.rules.look_by_each.Given as goal
 
 abbrev pub invariant-loop-rule : goal.invariant-loop-rule
 invariant-loop-rule g l =
-    ElfUnderWay g.S.Source g.O.Sink g.E.Sink l.found l.initial.elf l.elf l.initial.outputs l.outputs
+    ElfOver g.S.Source g.O.Sink g.E.Sink (length (take l.rule-index l.rules)) l.found
+    l.initial.elf l.elf l.initial.outputs l.outputs
     (λ o. findings_shown l.name (flat_map (λ r. finds r o) l.rules)) (λ o. findings_shown l.name (flat_map (λ r. finds r o) (drop l.rule-index l.rules)))
