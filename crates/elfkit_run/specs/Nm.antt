@@ -1,8 +1,9 @@
 -- The command nm: the symbols of each file that it names.
-use Rattle.std.specs.Prelude.{ℕ, List, not, ◌&&◌, length, nat_lt, true, codes}
+use Rattle.std.specs.Prelude.{ℕ, List, not, ◌&&◌, length, nat_lt, codes}
 use Rattle.elf_outside.specs.Names.{Map}
 use Rattle.tool_output.specs.Outcomes.{Outcome}
 use Rattle.tool_text.specs.declared.options.NmOptions.{NmOptions}
+use Rattle.object_output.specs.Looks.{looks_over}
 use Rattle.nm_tool.specs.Tool.{nm_report}
 use Rattle.elfkit_run.specs.Titles.{title_if, titled_report}
 use Rattle.elfkit_run.specs.declared.titles.Title.{Title}
@@ -18,4 +19,4 @@ nm_outcome options names named =
     objects_outcome (codes "nm")
     (report (title_if (not options.name_each && many) Name))
     (report (title_if (not options.name_each) Name))
-    true names named
+    (looks_over 0) names named

@@ -1,11 +1,12 @@
 -- A command that speaks of the objects of files.
-use Rattle.std.specs.Prelude.{ℕ, List, Bool, Some, map}
+use Rattle.std.specs.Prelude.{ℕ, List, Some, map}
 use Rattle.elf_outside.specs.Names.{Map}
 use Rattle.elf_object.specs.Object.{Object}
 use Rattle.tool_output.specs.Names.{Name}
 use Rattle.tool_output.specs.Files.{report_on, asks_on, all_bounds}
 use Rattle.tool_output.specs.Outcomes.{Outcome, report_outcome}
 use Rattle.tool_output.specs.Reports.{Report, reports_of}
+use Rattle.object_output.specs.Looks.{Looks}
 use Rattle.object_output.specs.Images.{image_report, image_asks}
 use Rattle.object_output.specs.Archives.{archive_report, archive_asks}
 use Rattle.object_output.specs.Files.{file_report, file_asks}
@@ -17,14 +18,15 @@ unfoldable pub object_file_report : List ℕ → (Name → Object → Report) �
 object_file_report command report member_report =
     file_report (image_report command report) (archive_report command member_report)
 
--- how many bytes it asks a file for at most; one that reads no sections asks for none of them
-unfoldable pub object_file_asks : Bool → List ℕ → ℕ
-object_file_asks reads = file_asks (image_asks reads) (archive_asks reads)
+-- how many bytes it asks a file for at most; one that reads no sections asks for none of them, and
+-- one that does for each home once, and where homes overlap once more for each pass over them
+unfoldable pub object_file_asks : Looks → List ℕ → ℕ
+object_file_asks looks = file_asks (image_asks looks) (archive_asks looks)
 
 -- the files in their order
 unfoldable pub objects_outcome : List ℕ → (Name → Object → Report) → (Name → Object → Report)
-    → Bool → List (List ℕ) → Map → Outcome
-objects_outcome command report member_report reads names named =
+    → Looks → List (List ℕ) → Map → Outcome
+objects_outcome command report member_report looks names named =
     report_outcome
     (reports_of (report_on command (object_file_report command report member_report) named) names)
-    (all_bounds (map (asks_on (λ bytes. Some (object_file_asks reads bytes)) named) names))
+    (all_bounds (map (asks_on (λ bytes. Some (object_file_asks looks bytes)) named) names))

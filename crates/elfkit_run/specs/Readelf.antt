@@ -3,7 +3,7 @@ use Rattle.std.specs.Prelude.{ℕ, List, length, nat_lt, codes}
 use Rattle.elf_outside.specs.Names.{Map}
 use Rattle.tool_output.specs.Outcomes.{Outcome}
 use Rattle.tool_text.specs.declared.options.ReadelfParts.{ReadelfParts}
-use Rattle.readelf_tool.specs.Parts.{readelf_report, shows_sections}
+use Rattle.readelf_tool.specs.Parts.{readelf_report, readelf_looks}
 use Rattle.elfkit_run.specs.Titles.{title_if, titled_report}
 use Rattle.elfkit_run.specs.declared.titles.Title.{Title}
 use Rattle.elfkit_run.specs.declared.titles.Title.TheVariants.{File}
@@ -16,4 +16,4 @@ readelf_outcome parts names named =
     let report = λ (title : Title). titled_report title (readelf_report parts) in
     let many = nat_lt 1 (length names) in
     objects_outcome (codes "readelf") (report (title_if many File)) (report File)
-    (shows_sections parts) names named
+    (readelf_looks parts) names named

@@ -33,7 +33,7 @@ impl<T: ObjectTool> FileTool for OverFiles<'_, T> {
         (archive_report (T.command o.member_tool.now) (T.report o.member_tool.now)) };
 
     ghost asks = { λ o bytes. Some (file_asks
-        (image_asks (T.reads o.tool.now)) (archive_asks (T.reads o.member_tool.now)) bytes) };
+        (image_asks (T.looks o.tool.now)) (archive_asks (T.looks o.member_tool.now)) bytes) };
 
     fn command(&self) -> &'static str {
         self.tool.command()
@@ -51,7 +51,7 @@ impl<T: ObjectTool> FileTool for OverFiles<'_, T> {
 }
 
 /// Gives a tool's report on each file, in the order of the names, and that of `member_tool`, which
-/// is of the same command and reads sections where `tool` does, on each member of one that is an
+/// is of the same command and looks at sections as `tool` does, on each member of one that is an
 /// archive. The answer tells whether something was refused.
 pub fn each_object<T: ObjectTool, F: Files, O: Sink, E: Sink>(
     alloc: Global,
@@ -62,10 +62,10 @@ pub fn each_object<T: ObjectTool, F: Files, O: Sink, E: Sink>(
     outputs: &mut Outputs<'_, O, E>,
 ) -> Result<bool, Stop>
     requires command { T.command member_tool.now ≡ T.command tool.now }
-    requires reads { T.reads member_tool.now ≡ T.reads tool.now }
+    requires looks { T.looks member_tool.now ≡ T.looks tool.now }
     ensures does { IsTrue (F.tells files.old) → Does F.Files O.Sink E.Sink refused_status
         (objects_outcome (T.command tool.now) (T.report tool.now) (T.report member_tool.now)
-        (T.reads tool.now) names.now (F.named files.old))
+        (T.looks tool.now) names.now (F.named files.old))
         result files.old files.new outputs.old outputs.new }
     ensures given { F.given files.new ≡ F.given files.old }
     ensures leaves { LeavesFiles F.Files O.Sink E.Sink

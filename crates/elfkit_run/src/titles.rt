@@ -98,7 +98,7 @@ impl<T: ObjectTool> ObjectTool for Titled<'_, T> {
 
     ghost report = { λ t. titled_report t.title (T.report t.tool.now) };
 
-    ghost reads = { λ t. T.reads t.tool.now };
+    ghost looks = { λ t. T.looks t.tool.now };
 
     fn command(&self) -> &'static str {
         self.tool.command()

@@ -8,7 +8,8 @@ mod objects;
 mod runs;
 
 pub use objects::{
-    Elflint, Lines, Nm, OwnCall, Readelf, Said, Size, asked, readelf_of, said_by, strings_of,
+    Elflint, Lines, Nm, OwnCall, Readelf, Said, Size, asked, asked_by_elflint, readelf_of, said_by,
+    strings_of,
 };
 pub use runs::{
     Bytes, DONE, Ending, Failing, Given, Left, NOTHING, REFUSED, Ran, add_file, ends, numbered,

@@ -1,12 +1,12 @@
-//! What the tools' own calls say of an object, and how much of a file readelf asks for.
+//! What the tools' own calls say of an object, and how much of a file a tool asks for.
 
 use elf_descriptor::Elf;
 use elf_outside::{MemSink, MemSource, Sink, Source};
 use elf_types::{Addrs, ElfError, Octets};
-use elflint_tool::elflint;
+use elflint_tool::{LintTool, elflint};
 use lines_tool::lines;
 use nm_tool::nm;
-use object_output::show_file;
+use object_output::{ObjectTool, show_file};
 use readelf_tool::{ReadelfTool, readelf};
 use size_tool::size;
 use std::alloc::Global;
@@ -224,40 +224,50 @@ pub fn strings_of(alloc: Global, bytes: &[u8], options: &StringsOptions) -> Resu
     }
 }
 
-/// Shows the parts of a file or of its members, and gives its source back.
-fn show_parts<S: Source, O: Sink, E: Sink>(
+/// Gives a tool's report on a file or on its members, and gives its source back.
+fn show_all<T: ObjectTool, S: Source, O: Sink, E: Sink>(
     alloc: Global,
     source: S,
-    parts: &ReadelfParts,
+    tool: &T,
     out: &mut O,
     err: &mut E,
 ) -> S {
-    let tool = ReadelfTool { parts };
     let mut page = Octets::new(alloc);
     let mut outputs = Outputs::new(out, err, &mut page);
-    let (source, shown) = show_file(alloc, &tool, &tool, source, b"F", &mut outputs);
+    let (source, shown) = show_file(alloc, tool, tool, source, b"F", &mut outputs);
     let _refused = outputs.end(shown);
     source
 }
 
 /// How many bytes of it are asked for, over outputs.
-fn asked_over(
+fn asked_over<T: ObjectTool>(
     alloc: Global,
     bytes: Octets,
-    parts: &ReadelfParts,
+    tool: &T,
     out: &mut MemSink,
     err: &mut MemSink,
 ) -> u64 {
     let source = MemSource::new(bytes, Addrs::new(alloc));
-    show_parts(alloc, source, parts, out, err).asked()
+    show_all(alloc, source, tool, out, err).asked()
+}
+
+/// How many bytes of a file a tool asks for.
+fn asked_by<T: ObjectTool>(alloc: Global, bytes: &[u8], tool: &T) -> Result<u64, ElfError> {
+    let mut out = sink(alloc)?;
+    let mut err = sink(alloc)?;
+    match Octets::from_slice(alloc, bytes) {
+        Ok(bytes) => Ok(asked_over(alloc, bytes, tool, &mut out, &mut err)),
+        Err(e) => Err(e),
+    }
 }
 
 /// How many bytes of a file are asked for when readelf shows its parts, or those of its members.
 pub fn asked(alloc: Global, bytes: &[u8], parts: &ReadelfParts) -> Result<u64, ElfError> {
-    let mut out = sink(alloc)?;
-    let mut err = sink(alloc)?;
-    match Octets::from_slice(alloc, bytes) {
-        Ok(bytes) => Ok(asked_over(alloc, bytes, parts, &mut out, &mut err)),
-        Err(e) => Err(e),
-    }
+    asked_by(alloc, bytes, &ReadelfTool { parts })
+}
+
+/// How many bytes of a file are asked for when elflint looks at its object, or at those of its
+/// members.
+pub fn asked_by_elflint(alloc: Global, bytes: &[u8]) -> Result<u64, ElfError> {
+    asked_by(alloc, bytes, &LintTool)
 }

@@ -8,8 +8,8 @@ unfolding objects_outcome object_file_report
 returns-clause-does g c = λ told.
     let tool = g.T.ObjectTool in
     reads_done g.F.Files g.O.Sink g.E.Sink c.args.files.now _ c.args.outputs.now _ _ _ _ told c.each_file.ensures.reports.reads
-    (rw (← c.as_slice.ensures) (asked_alike c.each_file.result (tool.reads c.args.tool.now)
-    (tool.reads c.args.member_tool.now) (g.F.Files.named c.args.files.now) _ _ _
-    c.requires.reads (c.each_file.ensures.asks told)))
+    (rw (← c.as_slice.ensures) (asked_alike c.each_file.result (tool.looks c.args.tool.now)
+    (tool.looks c.args.member_tool.now) (g.F.Files.named c.args.files.now) _ _ _
+    c.requires.looks (c.each_file.ensures.asks told)))
     (rw (← c.as_slice.ensures)
     (rw c.requires.command at (c.each_file.ensures.reports.reports told)))

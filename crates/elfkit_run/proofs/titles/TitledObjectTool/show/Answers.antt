@@ -1,6 +1,6 @@
-use Rattle.std.proofs.Common.{refl}
+use Rattle.std.proofs.Common.{refl, arith}
 use Rattle.std.proofs.lemmas.Result.{err_from_is_err_and}
-use Rattle.object_output.proofs.ElfSteps.{elf_says, elf_left, elf_then, elf_then_stop, elf_stop}
+use Rattle.object_output.proofs.ElfSteps.{elf_says, elf_left, elf_over, elf_failed, elf_then, elf_then_stop, elf_stop}
 use Rattle.elfkit_run.specs.Titles.{title_report, titled_report}
 use Rattle.elfkit_run.proofs.titles.TitledObjectTool.show.Goals as goal
 
@@ -9,23 +9,26 @@ unfolding titled_report
 returns-in_err-title-clause-reports g c =
     let p = err_from_is_err_and c.from_residual.result c.from_residual.ensures.1 in
     let has_title = c.args.self.now.title in
-    rw (p.1, p.2) (elf_stop g.S.Source g.O.Sink g.E.Sink (λ o. title_report has_title c.args.name.now) (g.T.ObjectTool.report c.args.self.now.tool.now c.args.name.now) c.args.elf.now _ c.args.outputs.now _ _
+    rw (p.1, p.2) (elf_failed g.S.Source g.O.Sink g.E.Sink _ _ c.args.elf.now _ c.args.outputs.now _
+    (elf_stop g.S.Source g.O.Sink g.E.Sink (λ o. title_report has_title c.args.name.now) (g.T.ObjectTool.report c.args.self.now.tool.now c.args.name.now) c.args.elf.now _ c.args.outputs.now _ _
     (elf_says g.S.Source g.O.Sink g.E.Sink (λ o. title_report has_title c.args.name.now) _ c.args.elf.now _ c.args.outputs.now _ (elf_left g.S.Source c.args.elf.now)
-    (λ told. c.in_err-title.ensures.reports) c.in_err-title.ensures.leaves))
+    (λ told. c.in_err-title.ensures.reports) c.in_err-title.ensures.leaves)))
 
 pub returns-in_err-shown-clause-reports : goal.returns-in_err-shown-clause-reports
 unfolding titled_report
 returns-in_err-shown-clause-reports g c =
     let p = err_from_is_err_and c.from_residual-in_err-shown.result c.from_residual-in_err-shown.ensures.1 in
     let has_title = c.args.self.now.title in
-    rw (p.1, p.2) (elf_then_stop g.S.Source g.O.Sink g.E.Sink (λ o. title_report has_title c.args.name.now) (g.T.ObjectTool.report c.args.self.now.tool.now c.args.name.now) c.args.elf.now _ _ c.args.outputs.now _ _ _ _
+    rw (p.1, p.2) (elf_failed g.S.Source g.O.Sink g.E.Sink _ _ c.args.elf.now _ c.args.outputs.now _
+    (elf_then_stop g.S.Source g.O.Sink g.E.Sink (λ o. title_report has_title c.args.name.now) (g.T.ObjectTool.report c.args.self.now.tool.now c.args.name.now) c.args.elf.now _ _ c.args.outputs.now _ _ _ _
     (elf_says g.S.Source g.O.Sink g.E.Sink (λ o. title_report has_title c.args.name.now) _ c.args.elf.now _ c.args.outputs.now _ (elf_left g.S.Source c.args.elf.now)
-    (λ told. c.in_ok-title.ensures.reports) c.in_ok-title.ensures.leaves) c.in_err-shown.ensures.reports)
+    (λ told. c.in_ok-title.ensures.reports) c.in_ok-title.ensures.leaves) c.in_err-shown.ensures.reports))
 
 pub returns-clause-reports : goal.returns-clause-reports
 unfolding titled_report
 returns-clause-reports g c =
     let has_title = c.args.self.now.title in
-    elf_then g.S.Source g.O.Sink g.E.Sink (λ o. title_report has_title c.args.name.now) (g.T.ObjectTool.report c.args.self.now.tool.now c.args.name.now) c.args.elf.now _ _ c.args.outputs.now _ _ _ _ _ refl
+    elf_over g.S.Source g.O.Sink g.E.Sink _ _ _ _ c.args.elf.now _ c.args.outputs.now _ (omega arith)
+    (elf_then g.S.Source g.O.Sink g.E.Sink (λ o. title_report has_title c.args.name.now) (g.T.ObjectTool.report c.args.self.now.tool.now c.args.name.now) c.args.elf.now _ _ c.args.outputs.now _ _ _ _ _ refl
     (elf_says g.S.Source g.O.Sink g.E.Sink (λ o. title_report has_title c.args.name.now) _ c.args.elf.now _ c.args.outputs.now _ (elf_left g.S.Source c.args.elf.now)
-    (λ told. c.in_ok-title.ensures.reports) c.in_ok-title.ensures.leaves) c.in_ok-shown.ensures.reports
+    (λ told. c.in_ok-title.ensures.reports) c.in_ok-title.ensures.leaves) c.in_ok-shown.ensures.reports)
