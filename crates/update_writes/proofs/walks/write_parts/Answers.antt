@@ -132,7 +132,7 @@ loop-i-preserved g c =
           (All-get_or (HasLength (stored_pieces c.args.elf.now.o)) c.args.plan.now l.i no_part
           c.loop-i-test.true c.requires.long) l.invariant.put
           c.in_default.ensures.puts
-          (puts_on g.D.Source g.D.Device c.args.elf.now c.write_gap.new.elf
+          (puts_on g.D.Source g.D.Device c.args.old_end c.args.elf.now c.write_gap.new.elf
           both.change.state (Ok tt) c.write_changed.new.elf
           (get_or c.args.changed.now l.i false) c.args.ground.fill
           (get_or c.args.plan.now l.i no_part)
