@@ -53,13 +53,13 @@ use Rattle.strip_contents.proofs.ListLaws.{contents_count, gathered}
 -- ---- What is refused
 
 -- a refusal of the object is one of its file
-pub refused_answers : (base : List ℕ) (e : ElfError) (o : Object) (removed : List ℕ)
+pub early_as_stated : (base : List ℕ) (e : ElfError) (o : Object) (removed : List ℕ)
     → RebuildAnswers (Err e) (rebuilt o removed)
     → FileAnswers base (Err e) (file_made (rebuilt o removed))
-refused_answers base Memory o removed is = tt
-refused_answers base Read o removed is = tt
-refused_answers base Write o removed is = is
-refused_answers base e o removed is = ap file_made is
+early_as_stated base Memory o removed is = tt
+early_as_stated base Read o removed is = tt
+early_as_stated base Write o removed is = is
+early_as_stated base e o removed is = ap file_made is
 
 -- and so is one of the update
 update_answers : (base : List ℕ) (e : ElfError) (q : Object) (stated : Result (List ℕ) ElfError)
@@ -159,7 +159,7 @@ module _ {S : Type 0} (g : Ghosts S) (s : State S) (k : Keeper) (is : IsObject s
   pub early_answer : (e : ElfError) → UnreadBy (refusal_of k s.o) e
       → FileAnswers s.o.base (Err e) (file_made stated)
   early_answer e by =
-      refused_answers s.o.base e s.o k.removed.now
+      early_as_stated s.o.base e s.o k.removed.now
       (answers_early s.o k.removed.now e (subst (λ (r : Option ElfError). UnreadBy r e)
       (early_told s.told s.o k keeps stays is clean) by))
 
@@ -192,7 +192,7 @@ module _ {S : Type 0} (g : Ghosts S) (s : State S) (k : Keeper) (is : IsObject s
         let whole : Rebuilds {T = Unit {0}} g k.removed.now (Err e) (Err e)
         (homes_asked s.o k.removed.now) s s =
         names_refused g s s k is clean removable keeps (filled_is ∙ passed) asked e checks in
-        refused_answers s.o.base e s.o k.removed.now (whole.answer t)
+        early_as_stated s.o.base e s.o k.removed.now (whole.answer t)
 
     pub last_refused : (e : ElfError) → ChecksLast k.names index count (Err e) → IsTrue s.told
         → FileAnswers s.o.base (Err e) (file_made stated)

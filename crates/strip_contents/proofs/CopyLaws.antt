@@ -36,7 +36,7 @@ use Rattle.strip_stream.proofs.StoredLaws.{placed_class}
 use Rattle.strip_stream.proofs.StreamLaws.{streamed_parts_are_ranges}
 use Rattle.strip_stream.proofs.UnreadLaws.{wanted_unread}
 use Rattle.strip_contents.specs.declared.plans.RangedPlan.{RangedPlan}
-use Rattle.strip_contents.specs.Plans.{plan_of, new_header, AreRangesBy, IsCopied, PlansCopied, kept_with}
+use Rattle.strip_contents.specs.Plans.{plan_of, new_header, AreRangesBy, IsRangedAs, PlansCopied, kept_with}
 
 pub header_new : (o : Object) (h : Ehdr) (index count : ℕ)
     → ◌≡◌ {A = Result Ehdr ElfError} (Ok h) (Ok (header_of o))
@@ -106,7 +106,7 @@ module _ (q : Object) (s : ℕ) (ready : IsReady q) (first : 0 < s) (there : s <
 -- ---- The plan
 
 module _ (o q : Object) (x : Listed) (ranges : List ByteRange) (held next : List ℕ)
-    (tail : Option ℕ) (streamed : Streamed) (is : IsCopied o q x ranges held tail)
+    (tail : Option ℕ) (streamed : Streamed) (is : IsRangedAs o q x ranges held tail)
     (made : IsStreamed q held next streamed) where
   abbrev plan : RangedPlan
   plan = plan_of next ranges (unwrap_or tail 0) streamed
@@ -156,7 +156,7 @@ module _ (o : Object) (x : Listed) (ranges : List ByteRange) (held : List ℕ) (
     module _ (layout : Bool) (kept : ℕ) (phdrs slice : List Phdr) (laid : layout ≡ is_some tail)
         (kept_is : kept ≡ unwrap_or tail 0) (listed : phdrs ≡ o.phdrs) (at : slice ≡ phdrs)
       where
-        laid_as : (q : Object) → IsCopied o q x ranges held tail → IsLaidOut q x layout kept
+        laid_as : (q : Object) → IsRangedAs o q x ranges held tail → IsLaidOut q x layout kept
         laid_as q is =
             subst (λ (b : Bool). IsLaidOut q x b kept) (sym laid)
             (subst (λ (n : ℕ). IsLaidOut q x (is_some tail) n) (sym kept_is) is.laid)

@@ -17,7 +17,7 @@ use Rattle.strip_rebuild.specs.declared.keepers.Keeper.{Keeper}
 use Rattle.strip_rebuild.specs.Answers.{kept_reads}
 use Rattle.strip_rebuild.specs.Keepers.{follows_by, is_renewed, makes_by, reads_by, RenewsAs, KeepsFor}
 use Rattle.strip_rebuild.proofs.KeptLaws.{among_any, kept_parts, follows_told, reads_told}
-use Rattle.strip_contents.specs.Ranges.{section_due}
+use Rattle.strip_contents.specs.Ranges.{making_due}
 use Rattle.strip_contents.specs.Contents.{sections_due}
 use Rattle.strip_contents.specs.Plans.{is_made, kept_due, stream_due}
 
@@ -55,7 +55,7 @@ module _ (told : Bool) (o : Object) (k : Keeper) (keeps : KeepsFor told o k) (is
       (follows_told told o k keeps is clean s some) makes
 
   section_less : (s : ℕ) → is_among (kept_from_1 o k.removed.now) s ≡ true
-      → section_due k o s ≤ kept_due o k.removed.now s
+      → making_due k o s ≤ kept_due o k.removed.now s
   unfolding kept_due
   section_less s kept =
       by_test (makes_by k o s) (made_too s (kept_parts o k.removed.now s kept).0)
@@ -78,7 +78,7 @@ module _ (told : Bool) (o : Object) (k : Keeper) (keeps : KeepsFor told o k) (is
   pub sections_less : sections_due k o (kept_from_1 o k.removed.now)
       ≤ sum_by (kept_due o k.removed.now) (kept_from_1 o k.removed.now)
   sections_less =
-      sums_less (section_due k o) (kept_due o k.removed.now) (kept_from_1 o k.removed.now)
+      sums_less (making_due k o) (kept_due o k.removed.now) (kept_from_1 o k.removed.now)
       (λ s any. section_less s (sym (among_any o k.removed.now s) ∙ any))
 
   pub all_less : homes_due o [] (names_home o) + sections_due k o (kept_from_1 o k.removed.now)
@@ -86,7 +86,7 @@ module _ (told : Bool) (o : Object) (k : Keeper) (keeps : KeepsFor told o k) (is
   unfolding stream_due
   all_less = let less = sections_less in omega (arith, less)
 
-pub names_less : (o : Object) (removed : List ℕ)
+pub names_due_less : (o : Object) (removed : List ℕ)
     → homes_due o [] (names_home o) ≤ stream_due o removed
 unfolding stream_due
-names_less o removed = omega arith
+names_due_less o removed = omega arith

@@ -26,7 +26,7 @@ use Rattle.image_ranges.specs.declared.ranges.ByteRange.{ByteRange}
 use Rattle.strip_stream.proofs.UnreadLaws.{wanted_unread}
 use Rattle.strip_contents.specs.declared.contents.Contents.{Contents}
 use Rattle.strip_contents.specs.declared.plans.RangedPlan.{RangedPlan}
-use Rattle.strip_contents.specs.Plans.{new_header, arranged_object, IsArrangedTo, IsRefusedTo, ArrangesTo, HasRanges, AreRangesBy, IsCopied, PlansCopied, IsGathered, MayBeWritten, IsPlannedTo, IsUnplanned, listed_of, PlansGathered}
+use Rattle.strip_contents.specs.Plans.{new_header, arranged_object, IsArrangedTo, IsRefusedTo, ArrangesTo, HasRanges, AreRangesBy, IsRangedAs, PlansCopied, IsGathered, MayBeWritten, IsPlannedTo, IsUnplanned, listed_of, PlansGathered}
 
 -- ---- What stays where places are given
 
@@ -143,7 +143,7 @@ module _ (o p : Object) (x next : Listed) (ranges : List ByteRange) (held : List
     (tail : Option ℕ) (is : IsGathered o p x ranges held tail)
     (arranged : IsArrangedTo p tail next) where
   copied : MayBeWritten (arranged_object p tail)
-      → IsCopied o (arranged_object p tail) next ranges held tail
+      → IsRangedAs o (arranged_object p tail) next ranges held tail
   copied may =
       let front = arranged_front p tail in
       let layout = front.layout ∙ is.layout in
@@ -180,7 +180,7 @@ module _ (o : Object) (index : ℕ) (x : Contents) (listed : Listed) (tail : Opt
         → PlansCopied o next x.ranges x.held tail r → PlansGathered o index x tail r
     gathered_planned r plans = record {
       ok = IfOk-weaker r
-          (λ plan. (q : Object) → IsCopied o q next x.ranges x.held tail
+          (λ plan. (q : Object) → IsRangedAs o q next x.ranges x.held tail
           → AreRangesBy q o.base plan)
           (λ plan. (p : Object) → IsGathered o p (listed_of o index x) x.ranges x.held tail
           → IsPlannedTo o p tail plan)
@@ -190,7 +190,7 @@ module _ (o : Object) (index : ℕ) (x : Contents) (listed : Listed) (tail : Opt
                 (copied o p (listed_of o index x) next x.ranges x.held tail is (arranged p is) may);
           }) plans.ok;
       err = IfErr-weaker r
-          (λ e. (q : Object) → IsCopied o q next x.ranges x.held tail → IsRefused q e)
+          (λ e. (q : Object) → IsRangedAs o q next x.ranges x.held tail → IsRefused q e)
           (λ e. (p : Object) → IsGathered o p (listed_of o index x) x.ranges x.held tail
           → IsUnplanned p tail e)
           (λ e refused p is. inr (inr (
@@ -228,11 +228,11 @@ module _ (o : Object) (index : ℕ) (x : Contents) (listed : Listed) (tail : Opt
       }
 
 -- the headers that are listed in code
-pub listed_is : (o : Object) (index : ℕ) (x : Contents) (h : Ehdr) (count : ℕ)
+pub contents_listed : (o : Object) (index : ℕ) (x : Contents) (h : Ehdr) (count : ℕ)
     → h ≡ new_header o index count → count ≡ length x.headers
     → ◌≡◌ {A = Listed} (record { header = h; headers = x.headers; sizes = x.sizes })
     (listed_of o index x)
-listed_is o index x h count header at =
+contents_listed o index x h count header at =
     ap (λ (y : Ehdr). record { header = y; headers = x.headers; sizes = x.sizes })
     (header ∙ ap (new_header o index) at)
 

@@ -6,6 +6,7 @@ use Rattle.std.proofs.lemmas.List.Elements.{All-append, All-cons, All-nil}
 use Rattle.std.proofs.lemmas.List.Sums.{sum_by_more, sum_by_more_le}
 use Rattle.elf_types.specs.declared.constants.TheConstants.{MAX_SECTIONS}
 use Rattle.elf_types.specs.declared.records.Shdr.{Shdr}
+use Rattle.elf_types.specs.declared.records.TheConstants.{NULL_SECTION}
 use Rattle.elf_types.specs.declared.errors.ElfError.{ElfError}
 use Rattle.elf_types.specs.declared.errors.ElfError.TheVariants.{Memory}
 use Rattle.elf_types.specs.Answers.{first_refusal}
@@ -26,8 +27,8 @@ use Rattle.strip_rebuild.proofs.AskLaws.{asks_as, asks_stop, asks_more, asks_not
 use Rattle.strip_rebuild.proofs.FillLaws.{none_passed}
 use Rattle.strip_rebuild.proofs.NumberLaws.{kept_few}
 use Rattle.strip_contents.specs.declared.contents.Contents.{Contents}
-use Rattle.strip_contents.specs.Ranges.{bytes_by, section_due, FindsRange}
-use Rattle.strip_contents.specs.Contents.{kept_size, IsPushed, IsAdded, AddsSection, AreKept, AreKeptBy, sections_due, AddsSections, HasContents, KeepsContents}
+use Rattle.strip_contents.specs.Ranges.{bytes_by, making_due, FindsRange}
+use Rattle.strip_contents.specs.Contents.{kept_size, IsPushed, HasOneMore, KeepsSection, AreKept, AreKeptBy, sections_due, KeepsSections, HasContents, KeepsContents}
 
 -- ---- One section
 
@@ -38,7 +39,7 @@ module _ {S : Type 0} (g : Ghosts S) (k : Keeper) (s : ℕ) (old new : State S)
       → FindsRange g k s (Ok range) old new contents.held mid.held
       → mid.headers ≡ contents.headers → mid.sizes ≡ contents.sizes
       → mid.ranges ≡ contents.ranges → OnOk q (IsPushed h size range mid next)
-      → IfErr q (λ e. e ≡ Memory) → AddsSection g k s q old new contents next
+      → IfErr q (λ e. e ≡ Memory) → KeepsSection g k s q old new contents next
   section_added h size range (Ok x) header size_is found headers sizes ranges pushed only =
       record {
         ok = record {
@@ -62,32 +63,32 @@ module _ {S : Type 0} (g : Ghosts S) (k : Keeper) (s : ℕ) (old new : State S)
         };
         passed = found.passed;
         err = tt;
-        asks = asks_as g (Ok range) (Ok x) old new (section_due k old.o s) tt found.asks;
+        asks = asks_as g (Ok range) (Ok x) old new (making_due k old.o s) tt found.asks;
       }
   section_added h size range (Err e) header size_is found headers sizes ranges pushed only =
-      subst (λ (d : ElfError). AddsSection g k s (Err d) old new contents next) (sym only)
+      subst (λ (d : ElfError). KeepsSection g k s (Err d) old new contents next) (sym only)
       (record {
         ok = tt;
         passed = tt;
         err = tt;
-        asks = asks_as g (Ok range) (Err Memory) old new (section_due k old.o s) tt found.asks;
+        asks = asks_as g (Ok range) (Err Memory) old new (making_due k old.o s) tt found.asks;
       })
 
   pub section_refused : (e : ElfError)
       → FindsRange g k s (Err e) old new contents.held mid.held
-      → AddsSection g k s (Err e) old new contents next
+      → KeepsSection g k s (Err e) old new contents next
   section_refused e found = record {
     ok = tt;
     passed = tt;
     err = found.err;
-    asks = asks_stop g {T = ByteRange} {U = Unit {0}} e old new (section_due k old.o s) found.asks;
+    asks = asks_stop g {T = ByteRange} {U = Unit {0}} e old new (making_due k old.o s) found.asks;
   }
 
 -- ---- What is kept then
 
 module _ (told : Bool) (base : List ℕ) (header : ℕ → Shdr) (bytes : ℕ → List ℕ) (ms : List ℕ)
     (s : ℕ) (x y : Contents) (kept : AreKept told base header bytes ms x)
-    (more : IsAdded told base (header s) (bytes s) x y) where
+    (more : HasOneMore told base (header s) (bytes s) x y) where
   abbrev size_by : ℕ → ℕ
   size_by n = kept_size (header n) (length (bytes n))
 
@@ -130,18 +131,7 @@ module _ (told : Bool) (base : List ℕ) (header : ℕ → Shdr) (bytes : ℕ �
 -- section 0 alone
 pub first_kept : {S : Type 0} (k : Keeper) (s : State S) (start now : Contents)
     → start.headers ≡ [] → start.sizes ≡ [] → start.ranges ≡ []
-    → IsPushed (record {
-      name = 0;
-      stype = 0;
-      flags = 0;
-      addr = 0;
-      offset = 0;
-      size = 0;
-      link = 0;
-      info = 0;
-      addralign = 0;
-      entsize = 0;
-    }) 0 (record { held = true; at = 0; len = 0 }) start now
+    → IsPushed NULL_SECTION 0 (record { held = true; at = 0; len = 0 }) start now
     → AreKeptBy k s [] now
 unfolding zero_shdr
 first_kept k s start now headers sizes ranges pushed =
@@ -198,27 +188,27 @@ module _ {S : Type 0} (g : Ghosts S) (k : Keeper) (numbers : List ℕ) (first : 
         (tied (subst (λ (b : Bool). IsTrue b) so_far.asks.told t))
 
     -- ---- What it gives, of the object as it was
-    due_now : section_due k now.o (get_or numbers i 0) ≡ section_due k first.o (get_or numbers i 0)
-    due_now = ap (λ (o : Object). section_due k o (get_or numbers i 0)) so_far.asks.object
+    due_now : making_due k now.o (get_or numbers i 0) ≡ making_due k first.o (get_or numbers i 0)
+    due_now = ap (λ (o : Object). making_due k o (get_or numbers i 0)) so_far.asks.object
 
     asks_next : (r : Result (Unit {0}) ElfError) (next : State S)
-        → AsksFor g r now next (section_due k now.o (get_or numbers i 0))
+        → AsksFor g r now next (making_due k now.o (get_or numbers i 0))
         → AsksFor g r first next (sections_due k first.o (take i numbers)
-        + section_due k first.o (get_or numbers i 0))
+        + making_due k first.o (get_or numbers i 0))
     asks_next r next asks =
         asks_twice g (Ok (tt {0})) r first now next (sections_due k first.o (take i numbers))
-        (section_due k first.o (get_or numbers i 0)) so_far.asks
+        (making_due k first.o (get_or numbers i 0)) so_far.asks
         (subst (λ (n : ℕ). AsksFor g r now next n) due_now asks)
 
     added_next : (y : Contents)
-        → IsAdded now.told now.o.base (header_by k now.o (get_or numbers i 0))
+        → HasOneMore now.told now.o.base (header_by k now.o (get_or numbers i 0))
         (bytes_by k now.o (get_or numbers i 0)) x y
         → AreKeptBy k first (take (i + 1) numbers) y
     added_next y more =
-        let at_first = subst (λ (o : Object). IsAdded now.told o.base
+        let at_first = subst (λ (o : Object). HasOneMore now.told o.base
         (header_by k o (get_or numbers i 0)) (bytes_by k o (get_or numbers i 0)) x y)
         so_far.asks.object more in
-        let told_first = subst (λ (t : Bool). IsAdded t first.o.base
+        let told_first = subst (λ (t : Bool). HasOneMore t first.o.base
         (header_by k first.o (get_or numbers i 0)) (bytes_by k first.o (get_or numbers i 0)) x y)
         so_far.asks.told at_first in
         subst (λ (l : List ℕ). AreKeptBy k first l y) (sym (take_more numbers i 0 there))
@@ -226,11 +216,11 @@ module _ {S : Type 0} (g : Ghosts S) (k : Keeper) (numbers : List ℕ) (first : 
         (take i numbers) (get_or numbers i 0) x y so_far.kept told_first)
 
     pub keeping_more : (next : State S) (y : Contents)
-        → AddsSection g k (get_or numbers i 0) (Ok tt) now next x y
+        → KeepsSection g k (get_or numbers i 0) (Ok tt) now next x y
         → Keeping g k numbers first next y (i + 1)
     keeping_more next y adds = record {
       asks = subst (λ (n : ℕ). AsksFor {T = Unit {0}} g (Ok tt) first next n)
-          (sym (sum_by_more (section_due k first.o) numbers i 0 there))
+          (sym (sum_by_more (making_due k first.o) numbers i 0 there))
           (asks_next (Ok tt) next adds.asks);
       passed = passed_more (refusal_by k first.o) numbers i there so_far.passed
           (ap (λ (o : Object). refusal_by k o (get_or numbers i 0)) (sym so_far.asks.object)
@@ -240,8 +230,8 @@ module _ {S : Type 0} (g : Ghosts S) (k : Keeper) (numbers : List ℕ) (first : 
 
     -- ---- Where it is refused
     pub keeping_stops : (e : ElfError) (next : State S) (y z : Contents)
-        → AddsSection g k (get_or numbers i 0) (Err e) now next x y
-        → AddsSections g k numbers (Err e) first next z
+        → KeepsSection g k (get_or numbers i 0) (Err e) now next x y
+        → KeepsSections g k numbers (Err e) first next z
     keeping_stops e next y z adds = record {
       ok = tt;
       passed = tt;
@@ -250,15 +240,15 @@ module _ {S : Type 0} (g : Ghosts S) (k : Keeper) (numbers : List ℕ) (first : 
           (refusal_by k first.o (get_or numbers i 0)) e
           (ap (λ (o : Object). refusal_by k o (get_or numbers i 0)) so_far.asks.object) adds.err);
       asks = asks_more g (Err e) first next
-          (sections_due k first.o (take i numbers) + section_due k first.o (get_or numbers i 0))
+          (sections_due k first.o (take i numbers) + making_due k first.o (get_or numbers i 0))
           (sections_due k first.o numbers)
-          (sum_by_more_le (section_due k first.o) numbers i 0 there)
+          (sum_by_more_le (making_due k first.o) numbers i 0 there)
           (asks_next (Err e) next adds.asks);
     }
 
   -- ---- After the last one
   pub keeping_all : (now : State S) (x : Contents) (i : ℕ) → Keeping g k numbers first now x i
-      → length numbers ≤ i → AddsSections g k numbers (Ok tt) first now x
+      → length numbers ≤ i → KeepsSections g k numbers (Ok tt) first now x
   keeping_all now x i so_far all = record {
     ok = subst (λ (l : List ℕ). AreKeptBy k first l x) (take_all i numbers all) so_far.kept;
     passed = passed_all (refusal_by k first.o) numbers i all so_far.passed;
@@ -269,9 +259,9 @@ module _ {S : Type 0} (g : Ghosts S) (k : Keeper) (numbers : List ℕ) (first : 
 
   -- memory is wanted before the first one
   pub not_begun : (e : ElfError) (x : Contents) → e ≡ Memory
-      → AddsSections g k numbers (Err e) first first x
+      → KeepsSections g k numbers (Err e) first first x
   not_begun e x only =
-      subst (λ (d : ElfError). AddsSections g k numbers (Err d) first first x) (sym only)
+      subst (λ (d : ElfError). KeepsSections g k numbers (Err d) first first x) (sym only)
       (record {
         ok = tt;
         passed = tt;
@@ -301,7 +291,7 @@ module _ {S : Type 0} (g : Ghosts S) (k : Keeper) (numbers : List ℕ) (old new 
   }
 
   pub all_kept : (x : Contents) → IsObject old.o → (length old.o.sections ≡ 0 → ⊥)
-      → AddsSections g k numbers (Ok tt) old new x → KeepsContents g k numbers (Ok x) old new
+      → KeepsSections g k numbers (Ok tt) old new x → KeepsContents g k numbers (Ok x) old new
   all_kept x is some adds =
       let long = ap (λ (l : List Shdr). length l) adds.ok.headers in
       let count = length-map numbers (header_by k old.o) in
@@ -322,7 +312,7 @@ module _ {S : Type 0} (g : Ghosts S) (k : Keeper) (numbers : List ℕ) (old new 
       }
 
   pub none_kept_refused : (e : ElfError) (x : Contents)
-      → AddsSections g k numbers (Err e) old new x → KeepsContents g k numbers (Err e) old new
+      → KeepsSections g k numbers (Err e) old new x → KeepsContents g k numbers (Err e) old new
   none_kept_refused e x adds = record {
     ok = tt;
     passed = tt;

@@ -41,7 +41,7 @@ use Rattle.strip_rebuild.proofs.HomeLaws.{no_section_there, raw_there}
 use Rattle.strip_stream.specs.Fronts.{HoldsMore}
 use Rattle.strip_stream.proofs.FrontLaws.{held_bytes_stay}
 use Rattle.strip_stream.proofs.HomeLaws.{homes_stand}
-use Rattle.strip_contents.specs.Ranges.{base_place, home_range, FindsHome, bytes_by, IsRangeOf, section_due, FindsRange}
+use Rattle.strip_contents.specs.Ranges.{base_place, home_range, FindsHome, bytes_by, IsRangeOf, making_due, FindsRange}
 
 -- ---- Homes
 
@@ -154,7 +154,7 @@ module _ {S : Type 0} (g : Ghosts S) (k : Keeper) (s : ℕ) (state : State S) (h
         ∙ raw_there state.o s there
         ∙ ap (λ (b : Bool). refused_if b (OutOfFile s)) inside;
     err = tt;
-    asks = asks_nothing g (Ok range) state (section_due k state.o s) tt;
+    asks = asks_nothing g (Ok range) state (making_due k state.o s) tt;
   }
 
   outside_found : (e : ElfError) → (section_at state.o s).home.out ≡ true → e ≡ OutOfFile s
@@ -167,7 +167,7 @@ module _ {S : Type 0} (g : Ghosts S) (k : Keeper) (s : ℕ) (state : State S) (h
         err = taken_refusal k state.o s taken
             ∙ raw_there state.o s there
             ∙ ap (λ (b : Bool). refused_if b (OutOfFile s)) outside;
-        asks = asks_nothing g (Err (OutOfFile s)) state (section_due k state.o s) tt;
+        asks = asks_nothing g (Err (OutOfFile s)) state (making_due k state.o s) tt;
       })
 
   pub home_found : (r : Result ByteRange ElfError) → FindsHome state.o s r
@@ -177,11 +177,11 @@ module _ {S : Type 0} (g : Ghosts S) (k : Keeper) (s : ℕ) (state : State S) (h
 
 -- ---- What is made
 
-pub fits_told : (o : Object) (h : Ehdr) (made : Items)
+pub header_class_fits : (o : Object) (h : Ehdr) (made : Items)
     → ◌≡◌ {A = Result Ehdr ElfError} (Ok h) (Ok (header_of o))
     → first_unfit o.header.class made ≡ None → first_unfit h.class made ≡ None
 unfolding header_of
-fits_told o h made told fits =
+header_class_fits o h made told fits =
     ap (λ (x : Ehdr). first_unfit x.class made) (ok_is h (header_of o) told) ∙ fits
 
 encoded_told : (o : Object) (h : Ehdr) (made : Items)
@@ -193,11 +193,11 @@ encoded_told o h made told =
 
 module _ {S : Type 0} (g : Ghosts S) (k : Keeper) (s : ℕ) (old new : State S)
     (held : List ℕ) (makes : makes_by k old.o s ≡ true) where
-  due_is : homes_due old.o [] (reads_by k old.o s) ≡ section_due k old.o s
+  due_is : homes_due old.o [] (reads_by k old.o s) ≡ making_due k old.o s
   due_is = sym (ap (λ (b : Bool). if b then homes_due old.o [] (reads_by k old.o s) else 0) makes)
 
   asks_made : (q : Result ByteRange ElfError) → Looks g (reading (λ o. reads_by k o s)) q old new
-      → AsksFor g q old new (section_due k old.o s)
+      → AsksFor g q old new (making_due k old.o s)
   asks_made q looks =
       subst (λ (n : ℕ). AsksFor g q old new n) due_is
       (asks_looks g q old new (λ o. reads_by k o s) looks)

@@ -32,7 +32,7 @@ use Rattle.strip_contents.specs.Contents.{AreKept, HasContents, KeepsContents, s
 use Rattle.strip_contents.specs.Ranges.{bytes_by}
 use Rattle.strip_contents.specs.Plans.{FileAnswers, PlansKept, StreamsRebuilt, stream_due}
 use Rattle.strip_contents.proofs.AnswerLaws.{early_answer}
-use Rattle.strip_contents.proofs.DueLaws.{all_less, names_less}
+use Rattle.strip_contents.proofs.DueLaws.{all_less, names_due_less}
 
 -- ---- What is known of an object that was read
 
@@ -141,7 +141,7 @@ module _ {S : Type 0} (g : Ghosts S) (removed : List ℕ) (old mid : State S) wh
   stops_early e only asks = record {
     answer = λ t. free e only (file_made (rebuilt old.o removed));
     asks = asks_more g (Err e) old mid (homes_due old.o [] (names_home old.o))
-        (stream_due old.o removed) (names_less old.o removed) asks;
+        (stream_due old.o removed) (names_due_less old.o removed) asks;
   }
     where
       free : (d : ElfError) → (d ≡ Memory) ⊎ (d ≡ Read) → (stated : Result (List ℕ) ElfError)

@@ -17,7 +17,7 @@ use Rattle.strip_rebuild.specs.declared.keepers.Keeper.{Keeper}
 use Rattle.strip_rebuild.specs.Keepers.{header_by, refusal_by}
 use Rattle.strip_rebuild.specs.Makes.{AsksFor}
 use Rattle.strip_contents.specs.declared.contents.Contents.{Contents}
-use Rattle.strip_contents.specs.Ranges.{bytes_by, section_due}
+use Rattle.strip_contents.specs.Ranges.{bytes_by, making_due}
 
 -- how many of so many bytes a section with a header has in the file
 abbrev pub kept_size : Shdr → ℕ → ℕ
@@ -34,7 +34,7 @@ pub record IsPushed (h : Shdr) (size : ℕ) (range : ByteRange) (old new : Conte
   pub small : size < 2 ^ 64
 
 -- a section with a header and bytes was put behind the others
-pub record IsAdded (told : Bool) (base : List ℕ) (h : Shdr) (bytes : List ℕ) (old new : Contents)
+pub record HasOneMore (told : Bool) (base : List ℕ) (h : Shdr) (bytes : List ℕ) (old new : Contents)
     : Type 0 where
   pub size : ℕ
   pub range : ByteRange
@@ -49,14 +49,14 @@ pub record IsAdded (told : Bool) (base : List ℕ) (h : Shdr) (bytes : List ℕ)
       → range_bytes (new.held ++ later) base range ≡ bytes
 
 -- a step adds what a keeper makes of a section, and leaves the object
-pub record AddsSection {S : Type 0} (g : Ghosts S) (k : Keeper) (s : ℕ)
+pub record KeepsSection {S : Type 0} (g : Ghosts S) (k : Keeper) (s : ℕ)
     (result : Result (Unit {0}) ElfError) (old new : State S) (contents next : Contents)
     : Type 0 where
   pub ok : OnOk result
-      (IsAdded old.told old.o.base (header_by k old.o s) (bytes_by k old.o s) contents next)
+      (HasOneMore old.told old.o.base (header_by k old.o s) (bytes_by k old.o s) contents next)
   pub passed : OnOk result (refusal_by k old.o s ≡ None)
   pub err : IfErr result (UnreadBy (refusal_by k old.o s))
-  pub asks : AsksFor g result old new (section_due k old.o s)
+  pub asks : AsksFor g result old new (making_due k old.o s)
 
 -- ---- All of them
 
@@ -78,10 +78,10 @@ AreKeptBy k s numbers x =
 
 -- what is asked for
 abbrev pub sections_due : Keeper → Object → List ℕ → ℕ
-sections_due k o numbers = sum_by (section_due k o) numbers
+sections_due k o numbers = sum_by (making_due k o) numbers
 
 -- a step adds what a keeper makes of some sections, and leaves the object
-pub record AddsSections {S : Type 0} (g : Ghosts S) (k : Keeper) (numbers : List ℕ)
+pub record KeepsSections {S : Type 0} (g : Ghosts S) (k : Keeper) (numbers : List ℕ)
     (result : Result (Unit {0}) ElfError) (old new : State S) (next : Contents) : Type 0 where
   pub ok : OnOk result (AreKeptBy k old numbers next)
   pub passed : OnOk result (first_refusal (map (refusal_by k old.o) numbers) ≡ None)

@@ -110,7 +110,7 @@ plan_of held ranges kept streamed = record {
 
 -- an object is made of another one: of its headers these are listed, its sections have these ranges,
 -- and the bytes before the tail are its base
-pub record IsCopied (o q : Object) (x : Listed) (found : List ByteRange) (held : List ℕ)
+pub record IsRangedAs (o q : Object) (x : Listed) (found : List ByteRange) (held : List ℕ)
     (tail : Option ℕ) : Type 0 where
   pub laid : IsLaidOut q x (is_some tail) (unwrap_or tail 0)
   pub pad : q.pad ≡ replicate 7 0
@@ -123,9 +123,9 @@ pub record IsCopied (o q : Object) (x : Listed) (found : List ByteRange) (held :
 -- what is planned of such an object, or refused; nothing is read
 pub record PlansCopied (o : Object) (x : Listed) (ranges : List ByteRange) (held : List ℕ)
     (tail : Option ℕ) (result : Result RangedPlan ElfError) : Type 0 where
-  pub ok : IfOk result (λ plan. (q : Object) → IsCopied o q x ranges held tail
+  pub ok : IfOk result (λ plan. (q : Object) → IsRangedAs o q x ranges held tail
       → AreRangesBy q o.base plan)
-  pub err : IfErr result (λ e. (q : Object) → IsCopied o q x ranges held tail → IsRefused q e)
+  pub err : IfErr result (λ e. (q : Object) → IsRangedAs o q x ranges held tail → IsRefused q e)
   pub unread : (a b : ℕ) → ReadRose result a b
 
 -- the same before its places are given

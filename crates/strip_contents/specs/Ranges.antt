@@ -50,8 +50,8 @@ pub record IsRangeOf (told : Bool) (base bytes old new : List ℕ) (range : Byte
 
 -- what is asked for: the homes that are looked at where what a section has is made, and nothing of
 -- one that is taken as it is
-abbrev pub section_due : Keeper → Object → ℕ → ℕ
-section_due k o s = if makes_by k o s then homes_due o [] (reads_by k o s) else 0
+abbrev pub making_due : Keeper → Object → ℕ → ℕ
+making_due k o s = if makes_by k o s then homes_due o [] (reads_by k o s) else 0
 
 -- a step finds the range of a section of the new image, and leaves the object
 pub record FindsRange {S : Type 0} (g : Ghosts S) (k : Keeper) (s : ℕ)
@@ -60,4 +60,4 @@ pub record FindsRange {S : Type 0} (g : Ghosts S) (k : Keeper) (s : ℕ)
   pub ok : IfOk result (IsRangeOf old.told old.o.base (bytes_by k old.o s) held next)
   pub passed : OnOk result (refusal_by k old.o s ≡ None)
   pub err : IfErr result (UnreadBy (refusal_by k old.o s))
-  pub asks : AsksFor g result old new (section_due k old.o s)
+  pub asks : AsksFor g result old new (making_due k old.o s)

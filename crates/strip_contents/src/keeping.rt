@@ -4,31 +4,17 @@ ghost use Rattle.std.specs.Prelude.{◌≡◌, ◌<◌, [], length, false, All, 
 ghost use Rattle.elf_object.specs.Object.{is_dirty};
 ghost use Rattle.elf_object.specs.Valid.{IsObject, IsTied};
 ghost use Rattle.command_objects.specs.Followed.{kept_from_1};
-ghost use Rattle.strip_contents.specs.Contents.{AddsSection, AddsSections, AreKeptBy, KeepsContents};
+ghost use Rattle.strip_contents.specs.Contents.{KeepsSection, KeepsSections, AreKeptBy, KeepsContents};
 
 use crate::contents::{Contents, kept_size};
 use crate::ranges::find_range;
 use elf_descriptor::Elf;
 use elf_outside::Source;
-use elf_types::{ElfError, ScnId, Shdr};
+use elf_types::{ElfError, NULL_SECTION, ScnId};
 use image_ranges::ByteRange;
 use object_making::SectionMaker;
 use std::alloc::Global;
 use strip_rebuild::Keeper;
-
-/// The header of section 0: zeros.
-const FIRST: Shdr = Shdr {
-    name: 0,
-    stype: 0,
-    flags: 0,
-    addr: 0,
-    offset: 0,
-    size: 0,
-    link: 0,
-    info: 0,
-    addralign: 0,
-    entsize: 0,
-};
 
 /// A range of no bytes.
 const NOTHING: ByteRange = ByteRange {
@@ -48,7 +34,7 @@ fn add_section<S: Source>(
     requires object { IsObject elf.old.o }
     requires clean { is_dirty elf.old.o ≡ false }
     requires tied { IsTrue elf.old.told → IsTied elf.old.o }
-    ensures { AddsSection S.Source keeper.now s.0 result elf.old elf.new
+    ensures { KeepsSection S.Source keeper.now s.0 result elf.old elf.new
         contents.old contents.new }
 {
     let header = keeper.header(elf, s);
@@ -70,7 +56,7 @@ fn add_sections<S: Source>(
     requires clean { is_dirty elf.old.o ≡ false }
     requires tied { IsTrue elf.old.told → IsTied elf.old.o }
     requires first { AreKeptBy keeper.now elf.old [] contents.old }
-    ensures { AddsSections S.Source keeper.now numbers.now result elf.old elf.new contents.new }
+    ensures { KeepsSections S.Source keeper.now numbers.now result elf.old elf.new contents.new }
 {
     for s in numbers {
         match add_section(keeper, elf, ScnId(*s), contents) {
@@ -95,9 +81,9 @@ fn fill_contents<S: Source>(
     requires headers { contents.old.headers ≡ [] }
     requires sizes { contents.old.sizes ≡ [] }
     requires ranges { contents.old.ranges ≡ [] }
-    ensures { AddsSections S.Source keeper.now numbers.now result elf.old elf.new contents.new }
+    ensures { KeepsSections S.Source keeper.now numbers.now result elf.old elf.new contents.new }
 {
-    if let Err(e) = contents.push(FIRST, 0, NOTHING) {
+    if let Err(e) = contents.push(NULL_SECTION, 0, NOTHING) {
         return Err(e);
     }
     add_sections(keeper, elf, numbers, contents)

@@ -74,14 +74,14 @@ header_from o tail s first there = by_test (is_movable o s) refl
 
 -- ---- How many there are
 
-pub first_count : (empty headers : List Shdr) (h : Shdr) → empty ≡ [] → headers ≡ empty ++ h ∷ []
+pub first_as_many : (empty headers : List Shdr) (h : Shdr) → empty ≡ [] → headers ≡ empty ++ h ∷ []
     → length headers ≡ 1
-first_count empty headers h none put =
+first_as_many empty headers h none put =
     ap (λ (l : List Shdr). length l) (put ∙ ap (λ (l : List Shdr). l ++ h ∷ []) none)
 
-pub next_count : (headers next : List Shdr) (h : Shdr) (s : ℕ) → length headers ≡ s
+pub next_as_many : (headers next : List Shdr) (h : Shdr) (s : ℕ) → length headers ≡ s
     → next ≡ headers ++ h ∷ [] → length next ≡ s + 1
-next_count headers next h s count more =
+next_as_many headers next h s count more =
     ap (λ (l : List Shdr). length l) more ∙ length-append headers (h ∷ [])
     ∙ ap (λ (k : ℕ). k + 1) count
 

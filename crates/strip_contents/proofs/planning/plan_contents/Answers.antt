@@ -1,5 +1,5 @@
 use Rattle.std.proofs.Common.{refl}
-use Rattle.strip_contents.proofs.GatherLaws.{gathered_planned, arranged_as, not_arranged, listed_is, next_few, next_same}
+use Rattle.strip_contents.proofs.GatherLaws.{gathered_planned, arranged_as, not_arranged, contents_listed, next_few, next_same}
 use Rattle.strip_contents.proofs.planning.plan_contents.Goals as goal
 
 pub plan_copied-requires-clause-few : goal.plan_copied-requires-clause-few
@@ -12,7 +12,7 @@ plan_copied-requires-clause-sizes g c =
 
 pub returns-in-Ok : goal.returns-in-Ok
 returns-in-Ok g c =
-    let at = listed_is c.args.elf.now.o c.args.index c.args.contents c.new_header.result _
+    let at = contents_listed c.args.elf.now.o c.args.index c.args.contents c.new_header.result _
     c.new_header.ensures c.len-count.ensures in
     gathered_planned c.args.elf.now.o c.args.index c.args.contents _ c.args.tail at c.in-Ok.next
     (arranged_as c.args.elf.now.o c.args.index c.args.contents _ c.args.tail at c.in-Ok.next
@@ -20,7 +20,7 @@ returns-in-Ok g c =
 
 pub returns-in-Err : goal.returns-in-Err
 returns-in-Err g c =
-    let at = listed_is c.args.elf.now.o c.args.index c.args.contents c.new_header.result _
+    let at = contents_listed c.args.elf.now.o c.args.index c.args.contents c.new_header.result _
     c.new_header.ensures c.len-count.ensures in
     not_arranged c.args.elf.now.o c.args.index c.args.contents _ c.args.tail at c.in-Err.e
     c.in-Err.ensures

@@ -1,9 +1,9 @@
-use Rattle.strip_contents.proofs.RangeLaws.{fits_told, made_found, made_refused}
+use Rattle.strip_contents.proofs.RangeLaws.{header_class_fits, made_found, made_refused}
 use Rattle.strip_contents.proofs.ranges.made_range.Goals as goal
 
 pub hold_items-requires : goal.hold_items-requires
 hold_items-requires g c =
-    fits_told c.args.elf.now.o c.ehdr-header.result c.in-Ok.items c.ehdr-header.ensures
+    header_class_fits c.args.elf.now.o c.ehdr-header.result c.in-Ok.items c.ehdr-header.ensures
     c.in-Ok.ensures.fits
 
 pub returns-in-Ok : goal.returns-in-Ok

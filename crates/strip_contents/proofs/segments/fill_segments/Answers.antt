@@ -1,6 +1,6 @@
 use Rattle.std.proofs.Common.{arith}
 use Rattle.update_plan.proofs.RowLaws.{ok_is}
-use Rattle.strip_contents.proofs.SegmentLaws.{segments_more, segments_all}
+use Rattle.strip_contents.proofs.SegmentLaws.{segment_listed, segments_listed}
 use Rattle.strip_contents.proofs.segments.fill_segments.Goals as goal
 
 pub loop-i-init : goal.loop-i-init
@@ -13,12 +13,12 @@ phdr_at-requires g c =
 pub loop-i-preserved : goal.loop-i-preserved
 loop-i-preserved g c =
     let count = ok_is _ _ c.phnum-i-end.ensures in
-    segments_more c.args.elf.now.o.phdrs c.loop-i.phdrs _ c.loop-i.i c.phdr_at.result
+    segment_listed c.args.elf.now.o.phdrs c.loop-i.phdrs _ c.loop-i.i c.phdr_at.result
     (omega (arith, count, c.loop-i-test.true)) c.phdr_at.ensures c.loop-i.invariant
     c.in_ok-push.ensures.ok
 
 pub returns-clause-ok : goal.returns-clause-ok
 returns-clause-ok g c =
     let count = ok_is _ _ c.phnum-i-end.ensures in
-    segments_all c.args.elf.now.o.phdrs c.loop-i.phdrs c.loop-i.i
+    segments_listed c.args.elf.now.o.phdrs c.loop-i.phdrs c.loop-i.i
     (omega (arith, count, c.loop-i-test.false)) c.loop-i.invariant

@@ -2,7 +2,7 @@ use Rattle.std.proofs.Common.{◌≡◌, ◌<◌, ℕ, List, length, inr, refl, 
 use Rattle.elf_types.specs.declared.records.Shdr.{Shdr}
 use Rattle.listed_layout.proofs.StoreLaws.{row_listed}
 use Rattle.strip_stream.specs.Arranging.{ArePlacedBehind}
-use Rattle.strip_stream.proofs.ArrangeLaws.{first_behind, next_behind_is, some_is_above, first_count, next_count}
+use Rattle.strip_stream.proofs.ArrangeLaws.{first_behind, next_behind_is, some_is_above, first_as_many, next_as_many}
 use Rattle.strip_stream.proofs.arranging.place_sections.Goals as goal
 
 pub loop-s-init : goal.loop-s-init
@@ -12,7 +12,7 @@ loop-s-init c = record {
       c.push.new.self _ c.as_slice-listed.ensures c.requires.some c.in_ok-headers.ensures.ok
       c.in_ok-push.ensures.ok is;
   within = omega (arith, c.requires.some);
-  count = first_count _ _ _ c.in_ok-headers.ensures.ok c.in_ok-push.ensures.ok;
+  count = first_as_many _ _ _ c.in_ok-headers.ensures.ok c.in_ok-push.ensures.ok;
 }
 
 pub loop-s-preserved : goal.loop-s-preserved
@@ -35,7 +35,7 @@ loop-s-preserved c =
           c.in_ok-push-in-Some.ensures.ok;
       within = omega (arith, there);
       count =
-          next_count _ _ _ c.loop-s.s c.loop-s.invariant.count c.in_ok-push-in-Some.ensures.ok;
+          next_as_many _ _ _ c.loop-s.s c.loop-s.invariant.count c.in_ok-push-in-Some.ensures.ok;
     }
 
 pub returns-in-None-clause-err : goal.returns-in-None-clause-err
