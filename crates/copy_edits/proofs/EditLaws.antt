@@ -1,18 +1,18 @@
 -- Edits, as steps of copy.
-use Rattle.std.proofs.Common.{◌≡◌, ◌==◌, ◌≤◌, ℕ, Bool, List, [], ◌∷◌, ◌++◌, length, length-append, Option, Some, None, Result, Ok, Err, refl, sym, ap, ◌∙◌, subst, arith}
-use Rattle.std.specs.Prelude.{IsTrue, IsOk, IfSome, nat_le, not, if◌then◌else◌}
+use Rattle.std.proofs.Common.{◌≡◌, ◌==◌, ℕ, [], ◌∷◌, length, length-append, Option, Some, None, Result, Ok, Err, refl, sym, ap, ◌∙◌, arith}
+use Rattle.std.specs.Prelude.{IfSome, not, if◌then◌else◌}
 use Rattle.elf_types.specs.declared.records.Shdr.{Shdr}
 use Rattle.elf_types.specs.declared.records.Part.TheVariants as part
 use Rattle.elf_types.specs.declared.errors.ElfError.{ElfError}
-use Rattle.elf_types.specs.declared.errors.ElfError.TheVariants.{Memory, Read, Write, NoSection, Reserved, NoData, Unfit}
-use Rattle.elf_types.specs.Answers.{refused_if, first_refusal, answered, IsRefusal, ◌>>=◌}
+use Rattle.elf_types.specs.declared.errors.ElfError.TheVariants.{Memory, Read, Write, Unfit}
+use Rattle.elf_types.specs.Answers.{refused_if, answered, IsRefusal, ◌>>=◌}
 use Rattle.elf_xlate.specs.declared.content.Items.{Items}
 use Rattle.elf_xlate.specs.Headers.{shdr_fits}
 use Rattle.elf_xlate.specs.Translation.{first_unfit}
-use Rattle.elf_object.specs.Object.{Object, Section, section_at, new_section}
+use Rattle.elf_object.specs.Object.{Object, Section, new_section}
 use Rattle.elf_object.specs.Answers.{no_section, no_data, reserved, piece_count}
 use Rattle.elf_object.specs.Steps.{with_section, with_piece_at, with_own, with_shdr, with_new_section, with_new_piece, new_number}
-use Rattle.elf_object.specs.Words.{Edits, EditsWith, handing_back}
+use Rattle.elf_object.specs.Words.{Edits, handing_back}
 use Rattle.elf_object.specs.Calls.{Call, update_shdr_refusal, replace_refusal, newscn_refusal, newdata_refusal, unfit_items}
 use Rattle.elf_object.specs.Calls as calls
 use Rattle.elf_object.proofs.AnswerLaws.{answered_value}
@@ -21,7 +21,7 @@ use Rattle.elf_object.proofs.StepLaws.{section_count-with_section}
 use Rattle.elf_descriptor.specs.State.{State}
 use Rattle.elf_descriptor.specs.Edits.{stepped, grown}
 use Rattle.command_objects.specs.Words.{edited}
-use Rattle.command_objects.specs.Copied.{or_strip, CopyFault as StatedFault}
+use Rattle.command_objects.specs.Copied.{or_strip}
 use Rattle.object_making.specs.Refused.{RefusedBy}
 use Rattle.object_making.proofs.RefusedLaws.{answer_refused, edits_refused}
 use Rattle.object_making.proofs.AddLaws.{newscn_states, newdata_states}

@@ -1,5 +1,5 @@
 -- The first section of a name.
-use Rattle.std.proofs.Common.{◌≡◌, ◌≢◌, ◌==◌, ◌+◌, ◌-◌, ◌<◌, ◌≤◌, ℕ, zero, suc, Bool, true, false, cond, List, [], ◌∷◌, length, map, Option, Some, None, Result, Ok, Err, refl, sym, ap, ◌∙◌, subst, inl, inr, arith, ⊎_elim}
+use Rattle.std.proofs.Common.{◌≡◌, ◌≢◌, ◌+◌, ◌-◌, ◌<◌, ◌≤◌, ℕ, zero, suc, Bool, true, false, cond, List, [], ◌∷◌, length, map, Option, Some, None, Result, Ok, Err, refl, sym, ap, ◌∙◌, subst, inl, inr, arith, ⊎_elim}
 use Rattle.std.specs.Prelude.{IsTrue, IfOk, IfSome, slice_get, if◌then◌else◌}
 use Rattle.std.specs.List.{range_with_len, position, position_from}
 use Rattle.std.specs.Str.{bytes_eq}
@@ -8,7 +8,6 @@ use Rattle.std.proofs.lemmas.Bool.{cases_lt, cases_eq, eq-eqb, ne_eqb}
 use Rattle.std.proofs.lemmas.Iterator.Adapters.{position_from-zero}
 use Rattle.elf_types.specs.declared.errors.ElfError.{ElfError}
 use Rattle.elf_types.specs.declared.errors.ElfError.TheVariants.{Memory, Read, Write}
-use Rattle.elf_types.specs.Answers.{FollowsBy, or_refused}
 use Rattle.elf_outside.specs.Counts.{Rose}
 use Rattle.elf_outside.specs.declared.sources.Source.{Ghosts}
 use Rattle.elf_object.specs.Object.{Object}
@@ -19,12 +18,12 @@ use Rattle.elf_descriptor.specs.State.{State}
 use Rattle.elf_descriptor.specs.Reads.{Queries, wanted}
 use Rattle.gelf_view.specs.SectionNames as names
 use Rattle.command_objects.specs.Copied.{names_in, section_named, CopyFault as StatedFault}
-use Rattle.strip_removed.specs.Calls.{ReadsNames, MayEnd}
+use Rattle.strip_removed.specs.Calls.{ReadsNames}
 use Rattle.strip_removed.proofs.NameLaws.{ok_is, name_ends, name_value, name_end}
 use Rattle.copy_changes.specs.declared.changes.NameBytes.{NameBytes}
 use Rattle.copy_changes.specs.declared.faults.CopyFault.{CopyFault}
 use Rattle.copy_changes.specs.declared.faults.CopyFault.TheVariants as faults
-use Rattle.copy_changes.specs.Stated.{stated_fault, strip_fault, IsUnread}
+use Rattle.copy_changes.specs.Stated.{stated_fault, IsUnread}
 use Rattle.copy_edits.specs.Names.{mark_of, new_name, name_over, name_now, names_now}
 use Rattle.copy_edits.specs.Steps.{IsNumber, Finds}
 use Rattle.copy_edits.proofs.FaultLaws.{number_given, number_unread}

@@ -2,13 +2,11 @@
 use Rattle.std.proofs.Common.{◌≡◌, ◌==◌, ◌&&◌, ◌-◌, ◌^◌, ◌+◌, ◌<◌, ◌≤◌, ℕ, Bool, true, false, not, List, [], ◌∷◌, length, map, get_or, Option, Some, None, is_none, Result, Ok, Err, refl, sym, ap, ◌∙◌, subst, inl, inr, arith}
 use Rattle.std.specs.Prelude.{IsTrue, filter, min, nat_le, slice_get, if◌then◌else◌}
 use Rattle.std.specs.List.{range_with_len}
-use Rattle.std.proofs.Math.ListN.{length-set}
 use Rattle.std.proofs.lemmas.Bool.{cases_eq, cases_lt}
 use Rattle.std.proofs.lemmas.List.{get_or_past}
 use Rattle.elf_types.specs.declared.records.Class.{Class}
 use Rattle.elf_types.specs.declared.records.Order.{Order}
 use Rattle.elf_types.specs.declared.records.Ehdr.{Ehdr}
-use Rattle.elf_types.specs.declared.records.Shdr.{Shdr}
 use Rattle.elf_types.specs.declared.errors.ElfError.{ElfError}
 use Rattle.elf_types.specs.declared.errors.ElfError.TheVariants.{NoSection, NotStrings, OutOfFile, NoString, Unended}
 use Rattle.elf_types.specs.Answers.{refused_if, first_refusal, answered}
@@ -23,7 +21,7 @@ use Rattle.elf_descriptor.specs.State.{State}
 use Rattle.command_objects.specs.Words.{is_allocated, is_program, header_at, in_turn}
 use Rattle.command_objects.specs.Copied.{differ, with_bits, flags_fault, with_section_flags}
 use Rattle.command_objects.specs.Copied.CopyFault.{Fixed}
-use Rattle.copy_laws.proofs.EachChange.{IsFlagged, flagged_known}
+use Rattle.copy_laws.proofs.EachChange.{flagged_known}
 use Rattle.copy_changes.specs.declared.changes.NameBytes.{NameBytes}
 use Rattle.copy_changes.specs.declared.changes.NameBits.{NameBits}
 use Rattle.copy_changes.specs.declared.faults.CopyFault.{CopyFault}

@@ -1,15 +1,15 @@
 -- Steps of copy, one after another.
-use Rattle.std.proofs.Common.{◌≡◌, ◌≤◌, ℕ, Bool, length, Option, Some, None, Result, Ok, Err, refl, sym, ap, ◌∙◌, subst, arith}
+use Rattle.std.proofs.Common.{◌≡◌, Bool, length, Option, Some, None, Result, Ok, Err, refl, sym, ap, ◌∙◌, subst, arith}
 use Rattle.std.specs.Prelude.{IsTrue, IfSome}
 use Rattle.elf_types.specs.declared.errors.ElfError.{ElfError}
 use Rattle.elf_types.specs.declared.errors.ElfError.TheVariants.{Memory}
 use Rattle.elf_types.specs.Answers.{answered, ◌>>=◌}
-use Rattle.elf_object.specs.Object.{Object, Section}
+use Rattle.elf_object.specs.Object.{Object}
 use Rattle.elf_descriptor.specs.State.{State}
 use Rattle.command_objects.specs.Copied.{CopyFault as StatedFault}
 use Rattle.copy_changes.specs.declared.faults.CopyFault.{CopyFault}
 use Rattle.copy_changes.specs.declared.faults.CopyFault.TheVariants as faults
-use Rattle.copy_changes.specs.Stated.{stated_fault, IsFault, IsUnread}
+use Rattle.copy_changes.specs.Stated.{stated_fault, IsUnread}
 use Rattle.copy_edits.specs.Steps.{KeepsIndex, IsFaultIf, Finds, IsAltered, Alters}
 use Rattle.copy_edits.proofs.FaultLaws.{unread_on, fault_given, fault_unread, memory_unread, memory_given}
 

@@ -1,12 +1,12 @@
 -- Sections that get other bytes.
-use Rattle.std.proofs.Common.{◌≡◌, ◌==◌, ◌&&◌, ◌-◌, ◌^◌, ◌<◌, ◌≤◌, ℕ, Bool, true, false, not, List, [], ◌∷◌, length, Option, Some, None, refl, sym, ap, ◌∙◌, subst, inl, inr, arith}
+use Rattle.std.proofs.Common.{◌≡◌, ◌==◌, ◌&&◌, ◌-◌, ◌^◌, ◌<◌, ℕ, Bool, true, false, not, List, [], ◌∷◌, length, Some, None, sym, ap, ◌∙◌, subst, inl, inr, arith}
 use Rattle.std.specs.Prelude.{min}
 use Rattle.std.proofs.lemmas.Bool.{cases_lt, ne_eqb}
 use Rattle.elf_types.specs.Answers.{refused_if, first_refusal}
 use Rattle.elf_object.specs.Object.{Object, occupies_file}
 use Rattle.elf_object.specs.Joined.{pieces_end}
 use Rattle.command_objects.specs.Words.{is_allocated, is_program, header_at}
-use Rattle.command_objects.specs.Copied.{update_fault, CopyFault as StatedFault}
+use Rattle.command_objects.specs.Copied.{update_fault}
 use Rattle.command_objects.specs.Copied.CopyFault.{NoBytes, Allocated}
 use Rattle.copy_changes.specs.declared.faults.CopyFault.{CopyFault}
 use Rattle.copy_changes.specs.Stated.{IsFault}

@@ -1,6 +1,6 @@
 -- A name that is added to a table, and its place.
-use Rattle.std.proofs.Common.{◌≡◌, ◌≢◌, ◌⊎◌, ◌↔◌, ◌==◌, ◌-◌, ◌^◌, ◌<◌, ◌≤◌, ◌++◌, ℕ, zero, suc, Bool, true, false, not, cond, List, [], ◌∷◌, length, All, Option, Some, None, Result, Ok, Err, refl, sym, ap, ◌∙◌, subst}
-use Rattle.std.specs.Prelude.{◌&&◌, IfOk, IfErr, IsTrue, OnOk, slice_get, if◌then◌else◌}
+use Rattle.std.proofs.Common.{◌≡◌, ◌≢◌, ◌⊎◌, ◌↔◌, ◌==◌, ◌-◌, ◌^◌, ◌<◌, ◌++◌, ℕ, zero, suc, Bool, true, false, List, [], ◌∷◌, length, All, Option, Some, None, Result, Ok, Err, refl, sym, ap, ◌∙◌, subst}
+use Rattle.std.specs.Prelude.{IfOk, IfErr, slice_get, if◌then◌else◌}
 use Rattle.std.specs.List.{list_all, list_any}
 use Rattle.std.specs.Option.{option_map}
 use Rattle.std.proofs.lemmas.Bool.{and_parts, not-true}
@@ -10,7 +10,7 @@ use Rattle.strtab_build.specs.Table.{table, place_of, distinct}
 use Rattle.tool_text.specs.Reading.{is_section_name}
 use Rattle.elf_object.specs.Object.{Object}
 use Rattle.elf_object.specs.Strings.{section_name, or_empty_name}
-use Rattle.strip_names.specs.Names.{without_nul, found_name, is_too_large, IsAdded, IsPlaced, IsAddedAt}
+use Rattle.strip_names.specs.Names.{is_too_large, IsAddedAt}
 use Rattle.strip_names.proofs.AddLaws.{fits_ok, err_added, err_memory, added_at}
 use Rattle.strip_names.proofs.CopyLaws.{plain_copied, name_plain}
 use Rattle.copy_changes.specs.declared.changes.NameBytes.{NameBytes}

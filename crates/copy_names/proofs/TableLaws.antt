@@ -1,14 +1,13 @@
 -- The new table, and what becomes of the names.
-use Rattle.std.proofs.Common.{◌≡◌, ◌-◌, ◌^◌, ◌<◌, ◌≤◌, ℕ, Bool, true, false, List, [], ◌∷◌, length, map, take, take_all, Option, Some, None, Result, Ok, Err, refl, sym, ap, ◌∙◌, subst}
+use Rattle.std.proofs.Common.{◌≡◌, ◌-◌, ◌^◌, ◌≤◌, ℕ, Bool, true, List, ◌∷◌, length, map, take, take_all, Result, Ok, Err, ap, ◌∙◌, subst}
 use Rattle.std.specs.Prelude.{IfOk}
 use Rattle.std.proofs.lemmas.Bool.{le-ltb}
 use Rattle.elf_types.specs.declared.errors.ElfError.{ElfError}
 use Rattle.elf_types.specs.declared.errors.ElfError.TheVariants as errors
 use Rattle.elf_types.specs.Answers.{refused_if}
-use Rattle.strtab_build.specs.Table.{distinct, table, place_of}
+use Rattle.strtab_build.specs.Table.{table, place_of}
 use Rattle.strtab_build.proofs.TableLemmas.{table-distinct}
 use Rattle.command_objects.specs.Rebuilt.{table_refusal}
-use Rattle.strip_names.specs.declared.building.NewNames.{NewNames}
 use Rattle.copy_names.specs.declared.naming.Naming.{Naming}
 use Rattle.copy_names.specs.declared.naming.Naming.TheVariants.{Stay, NoTable, TooLarge, Anew}
 use Rattle.copy_names.specs.Texts.{AreAdded, AddsTo, IsTableOf}

@@ -1,14 +1,13 @@
 -- All names, added one after another.
-use Rattle.std.proofs.Common.{◌≡◌, ◌==◌, ◌+◌, ◌-◌, ◌^◌, ◌<◌, ◌≤◌, ◌++◌, ℕ, zero, suc, Bool, true, false, List, [], ◌∷◌, length, length-append, map, take, drop, get_or, Option, Some, None, Result, Ok, Err, refl, sym, ap, ◌∙◌, subst, arith}
-use Rattle.std.specs.Prelude.{◌||◌, IfOk, if◌then◌else◌}
-use Rattle.std.specs.List.{list_any, range_with_len, flat_map}
+use Rattle.std.proofs.Common.{◌≡◌, ◌+◌, ◌-◌, ◌^◌, ◌<◌, ◌≤◌, ◌++◌, ℕ, suc, Bool, true, false, List, [], ◌∷◌, length, length-append, map, take, drop, get_or, Option, Some, None, refl, sym, ap, ◌∙◌, subst, arith}
+use Rattle.std.specs.Prelude.{◌||◌}
+use Rattle.std.specs.List.{list_any, flat_map}
 use Rattle.std.specs.Str.{bytes_eq}
 use Rattle.std.proofs.lemmas.Bool.{lt-ltb, or_left, or_right}
 use Rattle.std.proofs.lemmas.Grind.{flat_map-append}
-use Rattle.std.proofs.lemmas.List.{length-map, length-drop, take_more, take_all, map_more, take-append-drop, get_or-map, get_or-drop, get_or_append_left, map-append}
+use Rattle.std.proofs.lemmas.List.{length-map, length-drop, take_more, map_more, take-append-drop, get_or-map, get_or-drop, get_or_append_left, map-append}
 use Rattle.std.proofs.lemmas.List.Folds.{list_any-append}
 use Rattle.std.proofs.lemmas.List.FromFn.{length-map-range_with_len, get_or-map-range_with_len}
-use Rattle.elf_types.specs.declared.errors.ElfError.{ElfError}
 use Rattle.elf_types.specs.declared.errors.ElfError.TheVariants.{TooLarge}
 use Rattle.elf_types.specs.Answers.{refused_if}
 use Rattle.strtab_build.specs.Table.{distinct, strings, table, place_of}
@@ -23,7 +22,7 @@ use Rattle.copy_changes.specs.declared.changes.NameBytes.{NameBytes}
 use Rattle.copy_changes.specs.declared.changes.Changes.{Changes}
 use Rattle.copy_changes.specs.Stated.{bytes_pair}
 use Rattle.copy_edits.specs.Names.{name_now, names_now}
-use Rattle.copy_names.specs.Texts.{all_texts, AreAdded, AddsTo}
+use Rattle.copy_names.specs.Texts.{all_texts, AreAdded}
 
 -- ---- Tables
 

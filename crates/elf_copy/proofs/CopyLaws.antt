@@ -1,12 +1,11 @@
 -- The whole of copy: what is removed, what is made anew of the rest, and what comes of that.
-use Rattle.std.proofs.Common.{◌≡◌, ◌⊎◌, ℕ, ◌+◌, Bool, false, List, [], Result, Ok, Err, refl, sym, ap, ◌∙◌, subst, inl, inr, arith}
-use Rattle.std.specs.Prelude.{IsTrue, IfOk, IfSome}
+use Rattle.std.proofs.Common.{◌≡◌, ◌⊎◌, ℕ, Bool, false, List, [], Result, Ok, Err, refl, sym, ap, ◌∙◌, subst, inl, inr, arith}
+use Rattle.std.specs.Prelude.{IsTrue, IfSome}
 use Rattle.elf_types.specs.declared.errors.ElfError.{ElfError}
 use Rattle.elf_types.specs.declared.errors.ElfError.TheVariants.{Memory, Read, Write}
-use Rattle.elf_types.specs.Answers.{FollowsBy, ◌>>=◌}
+use Rattle.elf_types.specs.Answers.{◌>>=◌}
 use Rattle.elf_outside.specs.Asks.{ReadRose}
 use Rattle.elf_outside.specs.declared.sources.Source.{Ghosts}
-use Rattle.elf_outside.proofs.AskLemmas.{read_rose_on}
 use Rattle.elf_object.specs.Object.{Object}
 use Rattle.elf_object.specs.Due.{homes_due}
 use Rattle.elf_object.specs.Words.{Wants, Answers}
@@ -26,7 +25,7 @@ use Rattle.strip_rebuild.proofs.AskLaws.{asks_reads, asks_as, asks_stop, asks_mo
 use Rattle.copy_changes.specs.declared.faults.CopyFault.{CopyFault}
 use Rattle.copy_changes.specs.declared.faults.CopyFault.TheVariants as faults
 use Rattle.copy_changes.specs.Stated.{stated_fault, IsUnread, outer_result}
-use Rattle.elf_copy.specs.Copies.{seen_made, CopyAnswers, changed_anew, IsUsable, IsNoSection, IsUnusable, Finishes, EndsEarly, EndsChanged, copy_due, CopiesWithout, Copies}
+use Rattle.elf_copy.specs.Copies.{seen_made, CopyAnswers, changed_anew, IsUsable, IsUnusable, Finishes, EndsEarly, EndsChanged, copy_due, CopiesWithout, Copies}
 use Rattle.elf_copy.proofs.FinishLaws.{rebuilt_usable}
 
 -- ---- What was asked for

@@ -1,6 +1,6 @@
 -- What comes of an object that was made anew.
 use Rattle.std.proofs.Common.{◌≡◌, ◌⊎◌, ◌==◌, ◌&&◌, ◌||◌, ◌+◌, ◌-◌, ◌<◌, ◌≤◌, ℕ, zero, suc, Bool, true, false, not, cond, List, [], ◌∷◌, length, Option, Some, None, Result, Ok, Err, refl, sym, ap, ◌∙◌, subst, inl, inr, arith, ⊎_elim}
-use Rattle.std.specs.Prelude.{IsTrue, IfSome, filter, nat_eq, nat_lt, nat_le, if◌then◌else◌}
+use Rattle.std.specs.Prelude.{IfSome, filter, nat_eq, nat_lt, nat_le, if◌then◌else◌}
 use Rattle.std.specs.List.{range_with_len, list_any, position, position_from}
 use Rattle.std.proofs.lemmas.Bool.{and_parts, and_cases, cases_eq, eqb-true, ne_eqb, not-true, not-false, leb-false, ltb-true, lt-ltb, eq-eqb}
 use Rattle.std.proofs.lemmas.Iterator.Adapters.{position_from-zero}
@@ -29,8 +29,7 @@ use Rattle.copy_laws.proofs.AllChanges.{places_leave}
 use Rattle.copy_changes.specs.declared.faults.CopyFault.{CopyFault}
 use Rattle.copy_changes.specs.declared.faults.CopyFault.TheVariants as faults
 use Rattle.copy_changes.specs.Stated.{stated_fault, IsUnread}
-use Rattle.copy_edits.specs.Steps.{IsThere, Alters}
-use Rattle.copy_edits.proofs.FaultLaws.{unread_on}
+use Rattle.copy_edits.specs.Steps.{Alters}
 use Rattle.copy_edits.proofs.StepLaws.{told_on, refused_bind}
 use Rattle.elf_copy.specs.Copies.{placed, changed_placed, usable_at, IsUsable, IsNoSection, Places}
 

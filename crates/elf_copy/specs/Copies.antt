@@ -1,5 +1,5 @@
 -- How copy answers, over a source that tells its bytes and over one that does not.
-use Rattle.std.specs.Prelude.{◌≡◌, ◌⊎◌, ℕ, ◌+◌, ◌==◌, nat_lt, not, Bool, true, false, List, [], ◌++◌, length, map, Option, Some, Result, Ok, Err, IfOk, IsTrue, if◌then◌else◌}
+use Rattle.std.specs.Prelude.{◌≡◌, ◌⊎◌, ℕ, ◌+◌, ◌==◌, nat_lt, not, Bool, true, false, List, [], ◌++◌, map, Option, Some, Result, Ok, Err, IfOk, IsTrue, if◌then◌else◌}
 use Rattle.elf_types.specs.declared.errors.ElfError.{ElfError}
 use Rattle.elf_types.specs.declared.errors.ElfError.TheVariants as errors
 use Rattle.elf_types.specs.Answers.{FollowsBy, ◌>>=◌}

@@ -1,4 +1,4 @@
-use Rattle.std.proofs.Common.{None, ap, sym, ◌∙◌}
+use Rattle.std.proofs.Common.{ap, ◌∙◌}
 use Rattle.elf_object.specs.Strings.{section_name, is_name}
 use Rattle.copy_edits.specs.Names.{mark_of, new_name}
 use Rattle.copy_edits.proofs.FindLaws.{found_new, found_old, named_reads}

@@ -1,5 +1,4 @@
-use Rattle.std.proofs.Common.{None, Some, sym}
-use Rattle.copy_edits.proofs.FindLaws.{new_none, new_some}
+use Rattle.copy_edits.proofs.FindLaws.{new_none}
 use Rattle.copy_edits.proofs.finding.new_name.Goals as goal
 
 pub returns-then-mark-eq0 : goal.returns-then-mark-eq0

@@ -1,4 +1,4 @@
-use Rattle.std.proofs.Common.{◌<◌, List, length, get_or, ap, ◌∙◌, arith}
+use Rattle.std.proofs.Common.{List, get_or, ap, ◌∙◌, arith}
 use Rattle.copy_changes.specs.declared.changes.NameBytes.{NameBytes}
 use Rattle.copy_edits.proofs.RenameLaws.{renamed_none, marks_long, mark_named, renamed_more, renamed_stop, renamed_all}
 use Rattle.copy_edits.proofs.renaming.fill_marks.Goals as goal

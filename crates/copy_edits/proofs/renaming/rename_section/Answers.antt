@@ -1,4 +1,3 @@
-use Rattle.std.proofs.Common.{◌<◌, length, sym, arith}
 use Rattle.copy_edits.proofs.RenameLaws.{renamed_at, renamed_end, set_long, mark_fits}
 use Rattle.copy_edits.proofs.renaming.rename_section.Goals as goal
 

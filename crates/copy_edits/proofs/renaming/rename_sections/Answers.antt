@@ -1,4 +1,4 @@
-use Rattle.std.proofs.Common.{ℕ, List, length, sym, ap, ◌∙◌}
+use Rattle.std.proofs.Common.{ℕ, ap, ◌∙◌}
 use Rattle.std.proofs.Math.ListN.{replicate}
 use Rattle.strip_removed.proofs.NameLaws.{ok_is}
 use Rattle.copy_edits.proofs.RenameLaws.{marks_given, marks_end, marks_wanted}

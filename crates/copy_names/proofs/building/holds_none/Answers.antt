@@ -1,4 +1,4 @@
-use Rattle.std.proofs.Common.{◌==◌, ℕ, length, sym, ap, ◌∙◌}
+use Rattle.std.proofs.Common.{◌==◌, ℕ, sym, ap, ◌∙◌}
 use Rattle.std.proofs.lemmas.List.{length-map}
 use Rattle.copy_changes.specs.Stated.{bytes_pair}
 use Rattle.copy_names.proofs.building.holds_none.Goals as goal

@@ -1,7 +1,6 @@
-use Rattle.std.proofs.Common.{◌≡◌, ◌≢◌, ◌+◌, ◌-◌, ◌<◌, ◌≤◌, ℕ, Bool, List, All, true, false, length, refl, sym, ap, ◌∙◌, subst, arith}
+use Rattle.std.proofs.Common.{◌≡◌, ◌≢◌, ◌+◌, ◌-◌, ℕ, List, All, true, false, length, refl, sym, subst, arith}
 use Rattle.std.proofs.lemmas.Option.{slice_get_read}
-use Rattle.strip_names.specs.Names.{IsAddedAt}
-use Rattle.copy_names.specs.Texts.{AreAdded, AddsTo}
+use Rattle.copy_names.specs.Texts.{AreAdded}
 use Rattle.copy_names.proofs.PlaceLaws.{plain_added}
 use Rattle.copy_names.proofs.TextLaws.{added_more, added_large, added_first}
 use Rattle.copy_names.proofs.building.place_added.Goals as goal

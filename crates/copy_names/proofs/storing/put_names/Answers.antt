@@ -1,4 +1,4 @@
-use Rattle.std.proofs.Common.{◌≡◌, ap, ◌∙◌, refl, arith}
+use Rattle.std.proofs.Common.{ap, ◌∙◌, refl, arith}
 use Rattle.strip_removed.proofs.NameLaws.{ok_is}
 use Rattle.elf_descriptor.specs.State.{State}
 use Rattle.copy_names.proofs.StoreLaws.{put_none, put_there, put_more, put_all}

@@ -1,7 +1,6 @@
-use Rattle.std.proofs.Common.{◌≡◌, ℕ, sym, ap, ◌∙◌, subst}
+use Rattle.std.proofs.Common.{ℕ, sym, ap, ◌∙◌, subst}
 use Rattle.elf_xlate.specs.declared.content.Items.TheVariants as items
 use Rattle.elf_object.specs.Steps.{with_own}
-use Rattle.elf_descriptor.specs.State.{State}
 use Rattle.strip_removed.proofs.NameLaws.{ok_is}
 use Rattle.copy_edits.specs.Steps.{IsThere}
 use Rattle.copy_names.proofs.StoreLaws.{table_put, table_kept}

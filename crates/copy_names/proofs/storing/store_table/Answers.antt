@@ -1,9 +1,4 @@
-use Rattle.std.proofs.Common.{◌≡◌, sym, ap, ◌∙◌, subst}
-use Rattle.elf_object.specs.Object.{Object}
-use Rattle.elf_xlate.specs.declared.content.Items.TheVariants as items
-use Rattle.elf_object.specs.Steps.{with_own}
-use Rattle.copy_edits.specs.Steps.{IsThere}
-use Rattle.copy_names.specs.Stores.{with_places, with_table}
+use Rattle.std.proofs.Common.{◌∙◌}
 use Rattle.copy_names.proofs.StoreLaws.{table_there, table_stored}
 use Rattle.copy_names.proofs.storing.store_table.Goals as goal
 

@@ -1,4 +1,4 @@
-use Rattle.std.proofs.Common.{List, ℕ, sym, ap, ◌∙◌, subst}
+use Rattle.std.proofs.Common.{sym, ap, ◌∙◌, subst}
 use Rattle.elf_object.specs.Object.{Object, is_dirty}
 use Rattle.strip_removed.specs.Steps.{IsRemovable}
 use Rattle.copy_changes.specs.Stated.{stated_changes}
