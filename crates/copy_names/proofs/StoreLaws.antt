@@ -195,7 +195,8 @@ no_pieces o s bytes e there refused = by_test (nat_le (piece_count o s) 0) refl
     unfit : Option ElfError
     unfit = unfit_items o s 0 (items.Bytes bytes)
 
-    last : (second : Option ElfError) → first_refusal (second ∷ None ∷ []) ≡ first_refusal (second ∷ [])
+    last : (second : Option ElfError)
+        → first_refusal (second ∷ None ∷ []) ≡ first_refusal (second ∷ [])
     last None = refl
     last (Some d) = refl
 

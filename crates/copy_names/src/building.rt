@@ -179,8 +179,8 @@ fn changes_names(changes: &Changes) -> bool
 }
 
 /// What becomes of the names of an object that was made anew, where `renewed` says whether it has a
-/// table for them alone, and the marks are those of `rename_sections`: the table of the names of all
-/// sections by these marks, and behind them of those that are added. A name that cannot be read
+/// table for them alone, and the marks are those of `rename_sections`: the table of the names of
+/// all sections by these marks, and behind them of those that are added. A name that cannot be read
 /// counts as the empty one. It stores nothing and refuses want of memory alone; that there is no
 /// table, or that it is too large, is told by `store_names`, after what comes before it.
 ///

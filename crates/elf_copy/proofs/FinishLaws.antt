@@ -230,7 +230,8 @@ module _ (f : ℕ → Bool) (n : ℕ) where
 found_past : (n : ℕ) (l : List ℕ) (a : ℕ) → list_any (nat_eq n) l ≡ true → 0 < a
     → 0 < number_or_0 (position_from (nat_eq n) a l)
 found_past n [] a is from = let never : false ≡ true = is in cc
-found_past n (x ∷ l) a is from = by_test (nat_eq n x) (λ e. found_past n l (a + 1) e (omega (arith, from))) is
+found_past n (x ∷ l) a is from =
+    by_test (nat_eq n x) (λ e. found_past n l (a + 1) e (omega (arith, from))) is
   where
     by_test : (b : Bool)
         → (list_any (nat_eq n) l ≡ true → 0 < number_or_0 (position_from (nat_eq n) (a + 1) l))

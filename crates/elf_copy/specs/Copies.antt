@@ -58,7 +58,8 @@ added_named c naming o = in_turn with_added o c.add >>= named_by naming
 -- other flags before that
 abbrev pub flagged_named : Changes → List (Option (List ℕ)) → Naming → Object
     → Result Object StatedFault
-flagged_named c names naming o = in_turn (with_section_flags names) o c.flags >>= added_named c naming
+flagged_named c names naming o =
+    in_turn (with_section_flags names) o c.flags >>= added_named c naming
 
 -- what is stated of the names in the end
 abbrev pub names_stored : Changes → Bool → List (Option (List ℕ)) → Object

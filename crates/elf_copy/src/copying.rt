@@ -130,11 +130,11 @@ fn copy_without<S: Source>(
 /// what goes with them; then with other bytes, other names, other flags and new sections, each kind
 /// in turn; and where a name changed with a new table of all names. Nothing of the object is dirty,
 /// and no name that a section gets holds a NUL byte. It refuses what `rebuild` refuses, and then as
-/// `update_sections`, `rename_sections`, `flag_sections`, `add_sections`, `store_names` and `arrange`
-/// refuse, in this order; and besides `Memory` and `Read`. Over a source that does not tell its
-/// bytes it may refuse `NoSection` of the string index that was made. It marks nothing of the object
-/// dirty, and keeps a copy of the bytes of the changes. It asks for at most the names, and what
-/// `rebuild` asks for.
+/// `update_sections`, `rename_sections`, `flag_sections`, `add_sections`, `store_names` and
+/// `arrange` refuse, in this order; and besides `Memory` and `Read`. Over a source that does not
+/// tell its bytes it may refuse `NoSection` of the string index that was made. It marks nothing of
+/// the object dirty, and keeps a copy of the bytes of the changes. It asks for at most the names,
+/// and what `rebuild` asks for.
 ///
 /// Source: objcopy(1) of the development tools.
 pub fn copy_of<S: Source>(

@@ -4,4 +4,5 @@ use Rattle.copy_changes.specs.Stated.{bytes_pair}
 use Rattle.copy_names.proofs.building.holds_none.Goals as goal
 
 pub returns : goal.returns
-returns c = c.is_empty.ensures ∙ ap (λ (n : ℕ). n == 0) (sym (length-map c.args.list.now bytes_pair))
+returns c =
+    c.is_empty.ensures ∙ ap (λ (n : ℕ). n == 0) (sym (length-map c.args.list.now bytes_pair))
