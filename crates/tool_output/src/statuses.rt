@@ -10,7 +10,7 @@ use crate::stops::Stop;
 pub enum Status {
     /// Done, and nothing was refused.
     Done,
-    /// Something was refused, or the form is not built yet.
+    /// Something was refused.
     Refused,
     /// The words are refused.
     BadWords,
