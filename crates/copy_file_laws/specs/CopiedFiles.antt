@@ -1,5 +1,5 @@
--- What the file that copy writes has of FILE, and of the files of -u and -a (objcopy(1) has the like
--- of it).
+-- What the file that copy writes has of FILE, and of the files of -u and -a (objcopy(1) has the
+-- like of it).
 use Rattle.std.specs.Prelude.{◌≡◌, ℕ, ◌^◌, ◌<◌, false, List, All, Some, Ok}
 use Rattle.elf_types.specs.Lists.{AreBytes}
 use Rattle.elf_outside.specs.Names.{Map}
@@ -18,8 +18,9 @@ pub record AreInRange (c : CopyChanges) (named : Map) : Type 0 where
   pub added : All (λ f. AreBytes f.name) c.add
   pub flags : All (λ f. f.bits < 2 ^ 64) c.flags
 
--- OUT is made anew: it is the image of the object that copied makes of FILE's, with the bytes of the
--- files of -u and -a, and it opens as the object after. Of that and of FILE's the law of copy holds.
+-- OUT is made anew: it is the image of the object that copied makes of FILE's, with the bytes of
+-- the files of -u and -a, and it opens as the object after. Of that and of FILE's the law of copy
+-- holds.
 pub record CopyWrites (c : CopyChanges) (named : Map) (file : List ℕ) (w : FileWrite)
     : Type 0 where
   pub update : List (List ℕ × List ℕ)

@@ -104,8 +104,8 @@ fn copy_named<F: Files, O: Sink, E: Sink>(
 /// first that is not there ends it. The answer tells whether something was refused.
 ///
 /// It stops by `Read` where a read failed, by `Write` where a put or a write of the file failed,
-/// and by `Memory`. Then the name of the new file holds what it held or a front of the image. The bytes
-/// of the files and the object that is made are held meanwhile.
+/// and by `Memory`. Then the name of the new file holds what it held or a front of the image. The
+/// bytes of the files and the object that is made are held meanwhile.
 pub fn copy_file<F: Files, O: Sink, E: Sink>(
     alloc: Global,
     words: &CopyChanges,

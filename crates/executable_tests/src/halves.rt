@@ -1,5 +1,5 @@
-//! The executable split into its halves, and joined again: every part is shown as before, and what is
-//! joined is split into the same halves.
+//! The executable split into its halves, and joined again: every part is shown as before, and what
+//! is joined is split into the same halves.
 
 use crate::image::executable;
 use elf_outside::MemFiles;

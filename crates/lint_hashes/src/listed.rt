@@ -147,8 +147,8 @@ fn hash_if_listed<S: Source>(
     }
 }
 
-/// The hash of the name of symbol `i` of a table, where it is listed; the names end there where that
-/// is known. It stops by `Read` where a read of the source failed, and by `Memory`.
+/// The hash of the name of symbol `i` of a table, where it is listed; the names end there where
+/// that is known. It stops by `Read` where a read of the source failed, and by `Memory`.
 ///
 /// Source: gABI chapter 5, "Hash Table".
 pub fn listed_hash<S: Source>(

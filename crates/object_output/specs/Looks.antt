@@ -1,8 +1,8 @@
 -- How a tool looks at the sections of an object.
 use Rattle.std.specs.Prelude.{ℕ, Bool, true, false}
 
--- A tool that reads sections asks for each home once. Where homes overlap it lets go of each section
--- that it went over, and each of its passes over them may ask for each home once more.
+-- A tool that reads sections asks for each home once. Where homes overlap it lets go of each
+-- section that it went over, and each of its passes over them may ask for each home once more.
 pub record Looks : Type 0 where
   pub reads : Bool  -- whether it reads homes of sections
   pub passes : ℕ  -- how many passes over the sections it makes

@@ -26,8 +26,8 @@ pub fn stripped_half_keeps()
     reopen_law();
 }
 
-/// The two halves of an image match, as unstrip asks of two files, where section 0 stays and nothing
-/// that is allocated is removed.
+/// The two halves of an image match, as unstrip asks of two files, where section 0 stays and
+/// nothing that is allocated is removed.
 pub fn halves_match()
     ensures { HalvesMatch }
 {
@@ -47,8 +47,8 @@ pub fn halves_combine()
 }
 
 /// What strip splits an image into combines again: combining is refused at most as `TooLarge`, and
-/// so is the update that writes it, whose file, opened again, answers each getter as the image does,
-/// but for places and derived values.
+/// so is the update that writes it, whose file, opened again, answers each getter as the image
+/// does, but for places and derived values.
 pub fn split_law()
     ensures { SplitLaw }
 {

@@ -1,5 +1,6 @@
--- The plan of an image that is made anew, by its listed headers and the ranges of its sections: when
--- it is that of an object, and what it answers (gABI chapter 4, "ELF Header" and "Section Header").
+-- The plan of an image that is made anew, by its listed headers and the ranges of its sections:
+-- when it is that of an object, and what it answers (gABI chapter 4, "ELF Header" and "Section
+-- Header").
 use Rattle.std.specs.Prelude.{◌≡◌, ◌⊎◌, ℕ, ◌==◌, ◌+◌, ◌<◌, ◌&&◌, ◌||◌, Bool, true, List, [], ◌++◌, length, take, slice_get, sum_by, unwrap_or, if◌then◌else◌, Option, Some, None, is_some, Result, Ok, Err, IsTrue, IfOk, IfErr}
 use Rattle.std.proofs.Math.ListN.{replicate}
 use Rattle.elf_types.specs.declared.constants.TheConstants.{EV_CURRENT}
@@ -108,8 +109,8 @@ plan_of held ranges kept streamed = record {
   end = streamed.planned.places.end;
 }
 
--- an object is made of another one: of its headers these are listed, its sections have these ranges,
--- and the bytes before the tail are its base
+-- an object is made of another one: of its headers these are listed, its sections have these
+-- ranges, and the bytes before the tail are its base
 pub record IsRangedAs (o q : Object) (x : Listed) (found : List ByteRange) (held : List ℕ)
     (tail : Option ℕ) : Type 0 where
   pub laid : IsLaidOut q x (is_some tail) (unwrap_or tail 0)

@@ -10,9 +10,9 @@ use std::alloc::Global;
 use strip_contents::RangedPlan;
 use tool_output::{Outputs, Stop};
 
-/// Writes an image of ranges to the new file `out`, where each range lies in its bytes and the parts
-/// stand one behind the other; one of which that is not so is not begun, and the step stops by
-/// `Memory`.
+/// Writes an image of ranges to the new file `out`, where each range lies in its bytes and the
+/// parts stand one behind the other; one of which that is not so is not begun, and the step stops
+/// by `Memory`.
 fn write_ready<S: Source, F: Files, O: Sink, E: Sink>(
     alloc: Global,
     image: &mut RangedImage<S>,

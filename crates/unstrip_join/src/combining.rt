@@ -33,8 +33,8 @@ fn loaded_header(debug: &Shdr, stripped: &Shdr) -> Shdr
     }
 }
 
-/// Adds an allocated section with a header of the debug half, which fits, and the type, the place and
-/// the bytes of one of the stripped half. It refuses as `raw`; and `Memory` and `Read`.
+/// Adds an allocated section with a header of the debug half, which fits, and the type, the place
+/// and the bytes of one of the stripped half. It refuses as `raw`; and `Memory` and `Read`.
 fn add_loaded<S: Source>(
     stripped: &mut Elf<S>,
     t: ScnId,

@@ -38,8 +38,8 @@ fn fill_sections<S: Source, T: Source>(
 
 /// Gives an object that was created the program headers of the stripped half, the sections and the
 /// header of the stripped half with the string index of the debug half. It refuses in this order:
-/// `TooMany` of `newphdr`; the first section that is refused; `NoSection` and `Unfit` of the header;
-/// and besides `Memory` and `Read`.
+/// `TooMany` of `newphdr`; the first section that is refused; `NoSection` and `Unfit` of the
+/// header; and besides `Memory` and `Read`.
 pub(crate) fn fill_joined<S: Source, T: Source>(
     stripped: &mut Elf<S>,
     debug: &mut Elf<T>,

@@ -19,8 +19,8 @@ use std::alloc::Global;
 use strip_rebuild::{Rebuilt, tail_of};
 use strip_removed::SectionSet;
 
-/// Fills an object that was created over the base of the stripped half, and gives what stands behind
-/// the base its places.
+/// Fills an object that was created over the base of the stripped half, and gives what stands
+/// behind the base its places.
 fn fill_and_place<S: Source, T: Source>(
     stripped: &mut Elf<S>,
     debug: &mut Elf<T>,
@@ -111,18 +111,18 @@ fn join_halves<S: Source, T: Source>(
     join(alloc, stripped, debug, loaded.as_slice())
 }
 
-/// The program of which two files are halves, neither dirty: over the base of the stripped one, with
-/// its header and its program headers, the sections of the debug half and its string index. The
-/// i-th allocated section has the type, the place and the bytes of the i-th one of the stripped
-/// half. What is not loaded stands behind the base, one after the other, and then the section header
-/// table. It refuses in this order: `Mismatch` where the headers, the program headers or the
+/// The program of which two files are halves, neither dirty: over the base of the stripped one,
+/// with its header and its program headers, the sections of the debug half and its string index.
+/// The i-th allocated section has the type, the place and the bytes of the i-th one of the stripped
+/// half. What is not loaded stands behind the base, one after the other, and then the section
+/// header table. It refuses in this order: `Mismatch` where the headers, the program headers or the
 /// allocated sections tell that they are no halves of one program; `TooMany` of `newphdr`, as
 /// `Elf`; for each section from 1 on of the debug half `OutOfFile`, as `Elf` where it is allocated
 /// and else as `Debug`; `NoSection` of the debug half's string index, as `Debug`; `TooLarge` where
-/// a place behind the base passes the limit, as `Elf`; and `Memory` and `Read`, by the half on which
-/// they came. It leaves both objects and marks nothing of them dirty. It asks the stripped half for
-/// at most its base before the tail and the homes of its allocated sections, and the debug half for
-/// the homes of its others.
+/// a place behind the base passes the limit, as `Elf`; and `Memory` and `Read`, by the half on
+/// which they came. It leaves both objects and marks nothing of them dirty. It asks the stripped
+/// half for at most its base before the tail and the homes of its allocated sections, and the debug
+/// half for the homes of its others.
 ///
 /// Source: eu-unstrip(1); gABI chapters 4 and 5.
 pub fn unstrip<S: Source, T: Source>(
