@@ -1,11 +1,14 @@
 //! nm: the symbols of an object as lines of text (POSIX nm).
 #![tactic(auto)]
 
+mod copied;
+mod form;
 mod kept;
 mod laws;
 mod letters;
 mod listed;
 mod order;
+mod ordered;
 mod pools;
 mod rows;
 mod symbols;

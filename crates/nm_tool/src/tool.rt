@@ -1,313 +1,35 @@
 //! The tool of the command nm.
 
 ghost use Rattle.std.specs.Prelude.{◌≡◌, ◌-◌, ◌<◌, None, length, IfOk, IfSome, IsTrue, codes};
-ghost use Rattle.std.specs.Option.{option_copied, option_map};
+ghost use Rattle.std.specs.Option.{option_map};
 ghost use Rattle.elf_types.specs.declared.records.Kind.TheVariants as kinds;
 ghost use Rattle.elf_object.specs.Object.{section_at};
 ghost use Rattle.elf_object.specs.Answers.{lend_refusal};
-ghost use Rattle.tool_output.specs.Reports.{Reports, shown, reports_of};
-ghost use Rattle.tool_output.specs.Steps.{LeavesOutputs};
 ghost use Rattle.tool_output.specs.Names.{file_name};
-ghost use Rattle.elf_object.specs.Strings as strings;
 ghost use Rattle.object_output.specs.Looks.{looks_over};
 ghost use Rattle.object_output.specs.Steps.{ReadsElf, ReportsElf};
 ghost use Rattle.bytes_at_hand.specs.Strings.{EndsAt};
 ghost use Rattle.object_output.specs.Shows.{ShowsElf};
 ghost use Rattle.nm_tool.specs.Tables.{AreTables};
-ghost use Rattle.nm_tool.specs.Listed.{is_table, name_or_none, symbol_table, symbols as stated_symbols};
-ghost use Rattle.nm_tool.specs.Rows.{row_text};
-ghost use Rattle.nm_tool.specs.Tool.{placed_row, symbol_row, rows_report, table_report, nm_report};
-ghost use Rattle.nm_tool.specs.Kept.{index_report, kept_of as stated_kept, shown_row};
-ghost use Rattle.nm_tool.specs.PoolReports.{row_report, pool_report};
+ghost use Rattle.nm_tool.specs.Listed.{is_table, symbol_table, symbols as stated_symbols};
+ghost use Rattle.nm_tool.specs.Tool.{rows_report, table_report, nm_report};
+ghost use Rattle.nm_tool.specs.Kept.{kept_of as stated_kept};
 
-use crate::kept::{Kept, kept_of, name_or_none, order_at_hand};
-use crate::letters::{is_undefined, symbol_letter};
-use crate::listed::pool_of;
-use crate::order::{Row, sorted};
-use crate::pools::{Pool, rows_of};
-use crate::rows::SymbolRow;
-use crate::symbols::{Tables, place_at, symbol_at, tables_of};
-use bytes_at_hand::{is_past, strings_end};
+use crate::copied::show_copied;
+use crate::form::Form;
+use crate::kept::{Kept, kept_of, order_at_hand};
+use crate::ordered::show_order;
+use crate::symbols::{Tables, tables_of};
+use bytes_at_hand::strings_end;
 use elf_descriptor::Elf;
 use elf_outside::{Sink, Source};
 use elf_types::constants::SHT_SYMTAB;
-use elf_types::{Class, DataId, ScnId, Sym, is_compressed};
-use gelf_view::{SymPlace, item_count};
-use object_output::{ObjectTool, section_header, show_object, string_at};
+use elf_types::{DataId, ScnId, Sym, is_compressed};
+use gelf_view::item_count;
+use object_output::{ObjectTool, section_header, show_object};
 use std::alloc::Global;
 use tool_output::{FileName, Message, Outputs, Stop};
 use tool_text::NmOptions;
-
-/// What the rows of a table show besides its symbols.
-#[derive(Clone, Copy)]
-struct Form<'a> {
-    /// The options.
-    options: &'a NmOptions,
-    /// The file, or the member of an archive.
-    file: &'a FileName<'a>,
-}
-
-/// Shows the row of a symbol whose place is known.
-#[tactic(auto, unfolding(crate::specs::Tool::placed_row, elf_object::specs::Object::header_of))]
-fn show_symbol<S: Source, O: Sink, E: Sink>(
-    elf: &Elf<S>,
-    form: Form<'_>,
-    symbol: Sym,
-    place: Option<SymPlace>,
-    name: &[u8],
-    outputs: &mut Outputs<'_, O, E>,
-) -> Result<bool, Stop>
-    ensures reports { Reports O.Sink E.Sink result outputs.old outputs.new
-        (shown (placed_row form.entry.options.now form.entry.file.now elf.now.o symbol place
-        name.now)) }
-    ensures leaves { LeavesOutputs O.Sink E.Sink ⊥ result outputs.old outputs.new }
-{
-    outputs.show(&SymbolRow {
-        options: form.options,
-        class: elf.ehdr().class,
-        file: form.file,
-        undefined: is_undefined(place),
-        symbol,
-        letter: symbol_letter(elf, &symbol, place),
-        name,
-    })
-}
-
-/// Shows the row of symbol `i`.
-fn show_placed<S: Source, O: Sink, E: Sink>(
-    elf: &mut Elf<S>,
-    t: Tables,
-    form: Form<'_>,
-    symbol: Sym,
-    row: &Row<'_>,
-    outputs: &mut Outputs<'_, O, E>,
-) -> Result<bool, Stop>
-    requires { AreTables elf.old.o t }
-    ensures { ReportsElf S.Source O.Sink E.Sink (λ o. shown (symbol_row form.entry.options.now
-        form.entry.file.now o t.symbols.0 row.now.index row.now.name.now symbol))
-        result elf.old elf.new outputs.old outputs.new }
-{
-    match place_at(elf, t, row.index, symbol) {
-        Ok(place) => show_symbol(elf, form, symbol, place, row.name, outputs),
-        Err(stop) => Err(stop),
-    }
-}
-
-/// Shows the row of a symbol by its index, where it is there.
-fn show_row<S: Source, O: Sink, E: Sink>(
-    elf: &mut Elf<S>,
-    t: Tables,
-    form: Form<'_>,
-    row: &Row<'_>,
-    outputs: &mut Outputs<'_, O, E>,
-) -> Result<bool, Stop>
-    requires { AreTables elf.old.o t }
-    ensures { ReportsElf S.Source O.Sink E.Sink
-        (λ o. row_report form.entry.options.now form.entry.file.now o t.symbols.0 row.now)
-        result elf.old elf.new outputs.old outputs.new }
-{
-    match symbol_at(elf, t, row.index) {
-        Ok(Some(symbol)) => show_placed(elf, t, form, symbol, row, outputs),
-        Ok(None) => Ok(false),
-        Err(stop) => Err(stop),
-    }
-}
-
-/// Shows rows, one after another.
-fn show_rows<S: Source, O: Sink, E: Sink>(
-    elf: &mut Elf<S>,
-    t: Tables,
-    form: Form<'_>,
-    rows: &[Row<'_>],
-    outputs: &mut Outputs<'_, O, E>,
-) -> Result<bool, Stop>
-    requires { AreTables elf.old.o t }
-    ensures { ReportsElf S.Source O.Sink E.Sink
-        (λ o. reports_of
-        (row_report form.entry.options.now form.entry.file.now o t.symbols.0) rows.now)
-        result elf.old elf.new outputs.old outputs.new }
-{
-    let mut refused = false;
-    for row in rows {
-        let was_refused = show_row(elf, t, form, row, outputs)?;
-        refused = refused | was_refused;
-    }
-    Ok(refused)
-}
-
-/// Shows a row for each symbol of a pool, in their order.
-fn show_pool<S: Source, O: Sink, E: Sink>(
-    elf: &mut Elf<S>,
-    t: Tables,
-    form: Form<'_>,
-    pool: &Pool,
-    outputs: &mut Outputs<'_, O, E>,
-) -> Result<bool, Stop>
-    requires { AreTables elf.old.o t }
-    ensures { ReportsElf S.Source O.Sink E.Sink
-        (λ o. pool_report form.entry.options.now form.entry.file.now o t.symbols.0 pool.now)
-        result elf.old elf.new outputs.old outputs.new }
-{
-    match rows_of(elf.alloc(), pool, form.options.by_value) {
-        Ok(rows) => {
-            let rows = sorted(rows, form.options.by_value);
-            show_rows(elf, t, form, rows.as_slice(), outputs)
-        }
-        Err(e) => Err(Stop::want_of(e)),
-    }
-}
-
-/// Shows the rows of a table with copies of the names.
-fn show_copied<S: Source, O: Sink, E: Sink>(
-    elf: &mut Elf<S>,
-    t: Tables,
-    count: u64,
-    form: Form<'_>,
-    outputs: &mut Outputs<'_, O, E>,
-) -> Result<bool, Stop>
-    requires tables { AreTables elf.old.o t }
-    requires count { count ≡ length (stated_symbols elf.old.o t.symbols.0) }
-    ensures { ReportsElf S.Source O.Sink E.Sink
-        (λ o. rows_report form.entry.options.now form.entry.file.now o t.symbols.0)
-        result elf.old elf.new outputs.old outputs.new }
-{
-    match pool_of(elf.alloc(), elf, t, form.options, count) {
-        Ok(pool) => show_pool(elf, t, form, &pool, outputs),
-        Err(stop) => Err(stop),
-    }
-}
-
-/// Shows the row of a symbol whose letter and name are known.
-fn show_lettered<O: Sink, E: Sink>(
-    form: Form<'_>,
-    class: Class,
-    undefined: bool,
-    symbol: Sym,
-    letter: u8,
-    name: Option<&[u8]>,
-    outputs: &mut Outputs<'_, O, E>,
-) -> Result<bool, Stop>
-    ensures reports { Reports O.Sink E.Sink result outputs.old outputs.new
-        (shown (row_text form.entry.options.now class form.entry.file.now undefined symbol letter
-        (name_or_none (option_copied name.entry)))) }
-    ensures leaves { LeavesOutputs O.Sink E.Sink ⊥ result outputs.old outputs.new }
-{
-    outputs.show(&SymbolRow {
-        options: form.options,
-        class,
-        file: form.file,
-        undefined,
-        symbol,
-        letter,
-        name: name_or_none(name),
-    })
-}
-
-/// The class of an object.
-#[tactic(auto, unfolding(elf_object::specs::Object::header_of))]
-fn class_of<S: Source>(elf: &Elf<S>) -> Class
-    ensures { result ≡ elf.now.o.header.class }
-{
-    elf.ehdr().class
-}
-
-/// Shows the row of a symbol whose place is known, and whose name stands in a section, whose
-/// strings end there where that is known.
-fn show_named<S: Source, O: Sink, E: Sink>(
-    elf: &mut Elf<S>,
-    names: ScnId,
-    end: Option<u64>,
-    form: Form<'_>,
-    symbol: Sym,
-    place: Option<SymPlace>,
-    outputs: &mut Outputs<'_, O, E>,
-) -> Result<bool, Stop>
-    requires { IsTrue elf.old.told → IfSome end (EndsAt elf.old.o names.0) }
-    ensures { ReportsElf S.Source O.Sink E.Sink (λ o. shown (placed_row form.entry.options.now
-        form.entry.file.now o symbol place
-        (name_or_none (strings.readable (strings.string_answer o names.0 symbol.name)))))
-        result elf.old elf.new outputs.old outputs.new }
-{
-    let at = u64::from(symbol.name);
-    if is_past(end, at) {
-        return show_symbol(elf, form, symbol, place, b"<none>", outputs);
-    }
-    let class = class_of(elf);
-    let undefined = is_undefined(place);
-    let letter = symbol_letter(elf, &symbol, place);
-    match string_at(elf, names, at) {
-        Ok(name) => show_lettered(form, class, undefined, symbol, letter, name, outputs),
-        Err(stop) => Err(stop),
-    }
-}
-
-/// Shows the row of symbol `i`, which was looked at.
-fn show_looked<S: Source, O: Sink, E: Sink>(
-    elf: &mut Elf<S>,
-    t: Tables,
-    end: Option<u64>,
-    form: Form<'_>,
-    i: u64,
-    symbol: Sym,
-    outputs: &mut Outputs<'_, O, E>,
-) -> Result<bool, Stop>
-    requires tables { AreTables elf.old.o t }
-    requires end { IsTrue elf.old.told → IfSome end (EndsAt elf.old.o t.names.0) }
-    ensures { ReportsElf S.Source O.Sink E.Sink (λ o. shown (shown_row form.entry.options.now
-        form.entry.file.now o t.symbols.0 i symbol))
-        result elf.old elf.new outputs.old outputs.new }
-{
-    match place_at(elf, t, i, symbol) {
-        Ok(place) => show_named(elf, t.names, end, form, symbol, place, outputs),
-        Err(stop) => Err(stop),
-    }
-}
-
-/// Shows the row of symbol `i`, where it is there.
-fn show_index<S: Source, O: Sink, E: Sink>(
-    elf: &mut Elf<S>,
-    t: Tables,
-    end: Option<u64>,
-    form: Form<'_>,
-    i: u64,
-    outputs: &mut Outputs<'_, O, E>,
-) -> Result<bool, Stop>
-    requires tables { AreTables elf.old.o t }
-    requires end { IsTrue elf.old.told → IfSome end (EndsAt elf.old.o t.names.0) }
-    ensures { ReportsElf S.Source O.Sink E.Sink
-        (λ o. index_report form.entry.options.now form.entry.file.now o t.symbols.0 i)
-        result elf.old elf.new outputs.old outputs.new }
-{
-    match symbol_at(elf, t, i) {
-        Ok(Some(symbol)) => show_looked(elf, t, end, form, i, symbol, outputs),
-        Ok(None) => Ok(false),
-        Err(stop) => Err(stop),
-    }
-}
-
-/// Shows the rows of the symbols of these indexes, one after another.
-fn show_order<S: Source, O: Sink, E: Sink>(
-    elf: &mut Elf<S>,
-    t: Tables,
-    end: Option<u64>,
-    form: Form<'_>,
-    order: &[u64],
-    outputs: &mut Outputs<'_, O, E>,
-) -> Result<bool, Stop>
-    requires tables { AreTables elf.old.o t }
-    requires end { IsTrue elf.old.told → IfSome end (EndsAt elf.old.o t.names.0) }
-    ensures { ReportsElf S.Source O.Sink E.Sink
-        (λ o. reports_of
-        (index_report form.entry.options.now form.entry.file.now o t.symbols.0) order.now)
-        result elf.old elf.new outputs.old outputs.new }
-{
-    let mut refused = false;
-    for i in order {
-        let was_refused = show_index(elf, t, end, form, *i, outputs)?;
-        refused = refused | was_refused;
-    }
-    Ok(refused)
-}
 
 /// Shows the rows of the kept symbols of a table, in the order of their names where these stand.
 fn show_ordered<S: Source, O: Sink, E: Sink>(

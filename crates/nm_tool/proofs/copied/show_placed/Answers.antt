@@ -2,7 +2,7 @@ use Rattle.tool_output.specs.Reports.{shown}
 use Rattle.object_output.proofs.ElfSteps.{elf_left, elf_says, elf_learns, elf_learns_none}
 use Rattle.object_output.specs.Symbols.{symbol_place}
 use Rattle.nm_tool.specs.Tool.{placed_row, symbol_row}
-use Rattle.nm_tool.proofs.tool.show_placed.Goals as goal
+use Rattle.nm_tool.proofs.copied.show_placed.Goals as goal
 
 pub returns-in-Ok : goal.returns-in-Ok
 unfolding symbol_row

@@ -7,7 +7,7 @@ use Rattle.bytes_at_hand.proofs.Ends.{unreadable_past}
 use Rattle.nm_tool.specs.Listed.{name_or_none}
 use Rattle.nm_tool.specs.Tool.{placed_row}
 use Rattle.nm_tool.proofs.ToolLemmas.{row_placed}
-use Rattle.nm_tool.proofs.tool.show_named.Goals as goal
+use Rattle.nm_tool.proofs.ordered.show_named.Goals as goal
 
 pub returns-then-is_past : goal.returns-then-is_past
 returns-then-is_past g c =

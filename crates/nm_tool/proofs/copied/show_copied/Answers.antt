@@ -6,7 +6,7 @@ use Rattle.nm_tool.specs.Tables.{AreTables}
 use Rattle.nm_tool.specs.Tool.{rows_report}
 use Rattle.nm_tool.specs.PoolReports.{pool_report}
 use Rattle.nm_tool.proofs.ToolLemmas.{pool_reported}
-use Rattle.nm_tool.proofs.tool.show_copied.Goals as goal
+use Rattle.nm_tool.proofs.copied.show_copied.Goals as goal
 
 pub show_pool-requires : goal.show_pool-requires
 show_pool-requires g c =

@@ -3,7 +3,7 @@ use Rattle.tool_output.specs.Reports.{reports_of}
 use Rattle.object_output.proofs.ElfSteps.{elf_as}
 use Rattle.nm_tool.specs.PoolReports.{row_report, pool_report}
 use Rattle.nm_tool.proofs.ToolLemmas.{rows_reported, no_memory}
-use Rattle.nm_tool.proofs.tool.show_pool.Goals as goal
+use Rattle.nm_tool.proofs.copied.show_pool.Goals as goal
 
 pub returns-in-Ok : goal.returns-in-Ok
 returns-in-Ok g c =

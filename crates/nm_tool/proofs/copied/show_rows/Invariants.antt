@@ -2,7 +2,7 @@ use Rattle.std.proofs.Common.{drop}
 use Rattle.tool_output.specs.Reports.{reports_of}
 use Rattle.object_output.specs.Steps.{ElfUnderWay}
 use Rattle.nm_tool.specs.PoolReports.{row_report}
-use Rattle.nm_tool.proofs.tool.show_rows.Given as goal
+use Rattle.nm_tool.proofs.copied.show_rows.Given as goal
 
 abbrev pub invariant-loop-row : goal.invariant-loop-row
 invariant-loop-row g l =

@@ -2,7 +2,7 @@ use Rattle.std.proofs.Common.{drop}
 use Rattle.tool_output.specs.Reports.{reports_of}
 use Rattle.object_output.specs.Steps.{ElfUnderWay}
 use Rattle.nm_tool.specs.Kept.{index_report}
-use Rattle.nm_tool.proofs.tool.show_order.Given as goal
+use Rattle.nm_tool.proofs.ordered.show_order.Given as goal
 
 abbrev pub invariant-loop-i : goal.invariant-loop-i
 invariant-loop-i g l =

@@ -7,7 +7,7 @@ use Rattle.nm_tool.specs.Listed.{symbols}
 use Rattle.nm_tool.specs.Tables.{AreTables}
 use Rattle.nm_tool.specs.Tool.{symbol_report, entry_report}
 use Rattle.nm_tool.specs.PoolReports.{row_report}
-use Rattle.nm_tool.proofs.tool.show_row.Goals as goal
+use Rattle.nm_tool.proofs.copied.show_row.Goals as goal
 
 pub show_placed-requires : goal.show_placed-requires
 show_placed-requires g c = subst (λ (o : Object). AreTables o c.args.t) (sym c.in-Ok-Some.ensures.reads.elf.object) c.requires

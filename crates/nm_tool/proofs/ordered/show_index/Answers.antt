@@ -7,7 +7,7 @@ use Rattle.bytes_at_hand.proofs.Ends.{end_stays}
 use Rattle.nm_tool.specs.Listed.{symbols}
 use Rattle.nm_tool.specs.Kept.{row_if, index_report}
 use Rattle.nm_tool.specs.Tables.{AreTables}
-use Rattle.nm_tool.proofs.tool.show_index.Goals as goal
+use Rattle.nm_tool.proofs.ordered.show_index.Goals as goal
 
 pub show_looked-requires-clause-tables : goal.show_looked-requires-clause-tables
 show_looked-requires-clause-tables g c =

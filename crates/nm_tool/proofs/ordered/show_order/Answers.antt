@@ -7,7 +7,7 @@ use Rattle.object_output.proofs.ElfSteps.{elf_begins, elf_goes_on, elf_stops_at,
 use Rattle.bytes_at_hand.proofs.Ends.{end_stays}
 use Rattle.nm_tool.specs.Tables.{AreTables}
 use Rattle.nm_tool.specs.Kept.{index_report}
-use Rattle.nm_tool.proofs.tool.show_order.Goals as goal
+use Rattle.nm_tool.proofs.ordered.show_order.Goals as goal
 
 pub loop-i-init : goal.loop-i-init
 loop-i-init g c =

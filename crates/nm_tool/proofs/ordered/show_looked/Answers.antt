@@ -9,7 +9,7 @@ use Rattle.nm_tool.specs.Kept.{shown_row}
 use Rattle.nm_tool.specs.Listed.{listed_name, name_or_none}
 use Rattle.nm_tool.specs.Tables.{AreTables}
 use Rattle.nm_tool.specs.Tool.{placed_row, symbol_row}
-use Rattle.nm_tool.proofs.tool.show_looked.Goals as goal
+use Rattle.nm_tool.proofs.ordered.show_looked.Goals as goal
 
 pub show_named-requires : goal.show_named-requires
 show_named-requires g c =

@@ -6,7 +6,7 @@ use Rattle.tool_output.proofs.UnderWayLemmas.{reports_left, no_reports_left}
 use Rattle.object_output.proofs.ElfSteps.{elf_begins, elf_goes_on, elf_stops_at, elf_is_given}
 use Rattle.nm_tool.specs.Tables.{AreTables}
 use Rattle.nm_tool.specs.PoolReports.{row_report}
-use Rattle.nm_tool.proofs.tool.show_rows.Goals as goal
+use Rattle.nm_tool.proofs.copied.show_rows.Goals as goal
 
 pub loop-row-init : goal.loop-row-init
 loop-row-init g c = elf_begins g.S.Source g.O.Sink g.E.Sink c.args.elf.now c.args.outputs.now _

@@ -1,0 +1,159 @@
+//! The rows of symbols whose order is known: each name is read where it stands, and none is copied.
+
+ghost use Rattle.std.specs.Prelude.{◌≡◌, IfSome, IsTrue};
+ghost use Rattle.std.specs.Option.{option_copied};
+ghost use Rattle.elf_object.specs.Strings as strings;
+ghost use Rattle.tool_output.specs.Reports.{Reports, shown, reports_of};
+ghost use Rattle.tool_output.specs.Steps.{LeavesOutputs};
+ghost use Rattle.object_output.specs.Steps.{ReportsElf};
+ghost use Rattle.bytes_at_hand.specs.Strings.{EndsAt};
+ghost use Rattle.nm_tool.specs.Tables.{AreTables};
+ghost use Rattle.nm_tool.specs.Listed.{name_or_none};
+ghost use Rattle.nm_tool.specs.Rows.{row_text};
+ghost use Rattle.nm_tool.specs.Tool.{placed_row};
+ghost use Rattle.nm_tool.specs.Kept.{index_report, shown_row};
+
+use crate::form::{Form, show_symbol};
+use crate::kept::name_or_none;
+use crate::letters::{is_undefined, symbol_letter};
+use crate::rows::SymbolRow;
+use crate::symbols::{Tables, place_at, symbol_at};
+use bytes_at_hand::is_past;
+use elf_descriptor::Elf;
+use elf_outside::{Sink, Source};
+use elf_types::{Class, ScnId, Sym};
+use gelf_view::SymPlace;
+use object_output::string_at;
+use tool_output::{Outputs, Stop};
+
+/// Shows the row of a symbol whose letter and name are known.
+fn show_lettered<O: Sink, E: Sink>(
+    form: Form<'_>,
+    class: Class,
+    undefined: bool,
+    symbol: Sym,
+    letter: u8,
+    name: Option<&[u8]>,
+    outputs: &mut Outputs<'_, O, E>,
+) -> Result<bool, Stop>
+    ensures reports { Reports O.Sink E.Sink result outputs.old outputs.new
+        (shown (row_text form.entry.options.now class form.entry.file.now undefined symbol letter
+        (name_or_none (option_copied name.entry)))) }
+    ensures leaves { LeavesOutputs O.Sink E.Sink ⊥ result outputs.old outputs.new }
+{
+    outputs.show(&SymbolRow {
+        options: form.options,
+        class,
+        file: form.file,
+        undefined,
+        symbol,
+        letter,
+        name: name_or_none(name),
+    })
+}
+
+/// The class of an object.
+#[tactic(auto, unfolding(elf_object::specs::Object::header_of))]
+fn class_of<S: Source>(elf: &Elf<S>) -> Class
+    ensures { result ≡ elf.now.o.header.class }
+{
+    elf.ehdr().class
+}
+
+/// Shows the row of a symbol whose place is known, and whose name stands in a section, whose
+/// strings end there where that is known.
+fn show_named<S: Source, O: Sink, E: Sink>(
+    elf: &mut Elf<S>,
+    names: ScnId,
+    end: Option<u64>,
+    form: Form<'_>,
+    symbol: Sym,
+    place: Option<SymPlace>,
+    outputs: &mut Outputs<'_, O, E>,
+) -> Result<bool, Stop>
+    requires { IsTrue elf.old.told → IfSome end (EndsAt elf.old.o names.0) }
+    ensures { ReportsElf S.Source O.Sink E.Sink (λ o. shown (placed_row form.entry.options.now
+        form.entry.file.now o symbol place
+        (name_or_none (strings.readable (strings.string_answer o names.0 symbol.name)))))
+        result elf.old elf.new outputs.old outputs.new }
+{
+    let at = u64::from(symbol.name);
+    if is_past(end, at) {
+        return show_symbol(elf, form, symbol, place, b"<none>", outputs);
+    }
+    let class = class_of(elf);
+    let undefined = is_undefined(place);
+    let letter = symbol_letter(elf, &symbol, place);
+    match string_at(elf, names, at) {
+        Ok(name) => show_lettered(form, class, undefined, symbol, letter, name, outputs),
+        Err(stop) => Err(stop),
+    }
+}
+
+/// Shows the row of symbol `i`, which was looked at.
+fn show_looked<S: Source, O: Sink, E: Sink>(
+    elf: &mut Elf<S>,
+    t: Tables,
+    end: Option<u64>,
+    form: Form<'_>,
+    i: u64,
+    symbol: Sym,
+    outputs: &mut Outputs<'_, O, E>,
+) -> Result<bool, Stop>
+    requires tables { AreTables elf.old.o t }
+    requires end { IsTrue elf.old.told → IfSome end (EndsAt elf.old.o t.names.0) }
+    ensures { ReportsElf S.Source O.Sink E.Sink (λ o. shown (shown_row form.entry.options.now
+        form.entry.file.now o t.symbols.0 i symbol))
+        result elf.old elf.new outputs.old outputs.new }
+{
+    match place_at(elf, t, i, symbol) {
+        Ok(place) => show_named(elf, t.names, end, form, symbol, place, outputs),
+        Err(stop) => Err(stop),
+    }
+}
+
+/// Shows the row of symbol `i`, where it is there.
+fn show_index<S: Source, O: Sink, E: Sink>(
+    elf: &mut Elf<S>,
+    t: Tables,
+    end: Option<u64>,
+    form: Form<'_>,
+    i: u64,
+    outputs: &mut Outputs<'_, O, E>,
+) -> Result<bool, Stop>
+    requires tables { AreTables elf.old.o t }
+    requires end { IsTrue elf.old.told → IfSome end (EndsAt elf.old.o t.names.0) }
+    ensures { ReportsElf S.Source O.Sink E.Sink
+        (λ o. index_report form.entry.options.now form.entry.file.now o t.symbols.0 i)
+        result elf.old elf.new outputs.old outputs.new }
+{
+    match symbol_at(elf, t, i) {
+        Ok(Some(symbol)) => show_looked(elf, t, end, form, i, symbol, outputs),
+        Ok(None) => Ok(false),
+        Err(stop) => Err(stop),
+    }
+}
+
+/// Shows the rows of the symbols of these indexes, one after another.
+pub fn show_order<S: Source, O: Sink, E: Sink>(
+    elf: &mut Elf<S>,
+    t: Tables,
+    end: Option<u64>,
+    form: Form<'_>,
+    order: &[u64],
+    outputs: &mut Outputs<'_, O, E>,
+) -> Result<bool, Stop>
+    requires tables { AreTables elf.old.o t }
+    requires end { IsTrue elf.old.told → IfSome end (EndsAt elf.old.o t.names.0) }
+    ensures { ReportsElf S.Source O.Sink E.Sink
+        (λ o. reports_of
+        (index_report form.entry.options.now form.entry.file.now o t.symbols.0) order.now)
+        result elf.old elf.new outputs.old outputs.new }
+{
+    let mut refused = false;
+    for i in order {
+        let was_refused = show_index(elf, t, end, form, *i, outputs)?;
+        refused = refused | was_refused;
+    }
+    Ok(refused)
+}
