@@ -14,6 +14,7 @@ mod faults;
 mod lines;
 #[cfg(test)]
 mod nm;
+#[cfg(test)]
 mod overlaps;
 #[cfg(test)]
 mod parts;

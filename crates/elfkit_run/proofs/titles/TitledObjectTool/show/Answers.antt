@@ -28,7 +28,9 @@ pub returns-clause-reports : goal.returns-clause-reports
 unfolding titled_report
 returns-clause-reports g c =
     let has_title = c.args.self.now.title in
-    elf_over g.S.Source g.O.Sink g.E.Sink _ _ _ _ c.args.elf.now _ c.args.outputs.now _ (omega arith)
+    let passes = (g.T.ObjectTool.looks c.args.self.now.tool.now).passes in
+    elf_over g.S.Source g.O.Sink g.E.Sink (0 + passes) passes _ _ c.args.elf.now _
+    c.args.outputs.now _ (omega arith)
     (elf_then g.S.Source g.O.Sink g.E.Sink (λ o. title_report has_title c.args.name.now) (g.T.ObjectTool.report c.args.self.now.tool.now c.args.name.now) c.args.elf.now _ _ c.args.outputs.now _ _ _ _ _ refl
     (elf_says g.S.Source g.O.Sink g.E.Sink (λ o. title_report has_title c.args.name.now) _ c.args.elf.now _ c.args.outputs.now _ (elf_left g.S.Source c.args.elf.now)
     (λ told. c.in_ok-title.ensures.reports) c.in_ok-title.ensures.leaves) c.in_ok-shown.ensures.reports)
