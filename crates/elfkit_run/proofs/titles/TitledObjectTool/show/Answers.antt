@@ -1,4 +1,4 @@
-use Rattle.std.proofs.Common.{refl, arith}
+use Rattle.std.proofs.Common.{◌+◌, refl, arith}
 use Rattle.std.proofs.lemmas.Result.{err_from_is_err_and}
 use Rattle.object_output.proofs.ElfSteps.{elf_says, elf_left, elf_over, elf_failed, elf_then, elf_then_stop, elf_stop}
 use Rattle.elfkit_run.specs.Titles.{title_report, titled_report}
