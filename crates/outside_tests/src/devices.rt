@@ -15,17 +15,14 @@ pub struct Made {
     pub bad_writes: &'static [u64],
 }
 
-/// A device, or none where the bytes pass the room.
-pub fn device(alloc: Global, made: &Made) -> Result<Option<MemDevice>, ElfError> {
+/// A device, or `TooLarge` where the bytes pass the room.
+pub fn device(alloc: Global, made: &Made) -> Result<MemDevice, ElfError> {
     if made.bytes.len() as u64 > made.room {
-        return Ok(None);
+        return Err(ElfError::TooLarge);
     }
     let bad_reads = Addrs::from_slice(alloc, made.bad_reads)?;
     let bad_writes = Addrs::from_slice(alloc, made.bad_writes)?;
-    match MemDevice::new(alloc, made.bytes, made.room, bad_reads, bad_writes) {
-        Ok(device) => Ok(Some(device)),
-        Err(e) => Err(e),
-    }
+    MemDevice::new(alloc, made.bytes, made.room, bad_reads, bad_writes)
 }
 
 /// A device, steps, how many bytes they ask for, and the bytes that they leave.
@@ -37,7 +34,7 @@ struct Row {
 }
 
 /// A device that grows up to its room.
-const GROWING: Row = Row {
+static GROWING: Row = Row {
     made: Made {
         bytes: b"ab",
         room: 7,
@@ -60,7 +57,7 @@ const GROWING: Row = Row {
 };
 
 /// A device whose first read and second, third and fourth write fail.
-const FAILING: Row = Row {
+static FAILING: Row = Row {
     made: Made {
         bytes: b"ab",
         room: 8,
@@ -82,7 +79,7 @@ const FAILING: Row = Row {
 };
 
 /// A device that grows by zeros up to its room, and whose third write fails.
-const ZEROS: Row = Row {
+static ZEROS: Row = Row {
     made: Made {
         bytes: b"ab",
         room: 8,
@@ -103,32 +100,39 @@ const ZEROS: Row = Row {
     left: b"ab\0\0\0c\0\0",
 };
 
-/// Whether the steps are answered, ask for so much and leave these bytes.
-fn is_left(alloc: Global, row: &Row) -> Result<bool, ElfError> {
-    let Some(mut device) = device(alloc, &row.made)? else {
-        return Ok(false);
-    };
-    let stated = answers_all(&mut device, row.steps) && device.asked() == row.asked;
-    Ok(stated && device.into_bytes().as_slice() == row.left)
+/// Whether the steps are answered and ask for so much.
+fn is_answered(device: &mut MemDevice, row: &Row) -> bool {
+    answers_all(device, row.steps) && device.asked() == row.asked
+}
+
+/// Whether they are, and leave these bytes.
+fn is_left(alloc: Global, row: &Row) -> bool {
+    match device(alloc, &row.made) {
+        Ok(mut device) => {
+            let stated = is_answered(&mut device, row);
+            device.into_bytes().as_slice() == row.left && stated
+        }
+        Err(_) => false,
+    }
 }
 
 #[test]
 fn a_device_grows_up_to_its_room(rt: HostRuntime) {
-    assert!(rt; is_left(rt.alloc(), &GROWING) == Ok(true));
+    assert!(rt; is_left(rt.alloc(), &GROWING));
 }
 
 #[test]
 fn a_device_grows_by_zeros_up_to_its_room(rt: HostRuntime) {
-    assert!(rt; is_left(rt.alloc(), &ZEROS) == Ok(true));
+    assert!(rt; is_left(rt.alloc(), &ZEROS));
 }
 
 #[test]
 fn the_reads_and_the_writes_that_were_named_fail(rt: HostRuntime) {
-    assert!(rt; is_left(rt.alloc(), &FAILING) == Ok(true));
+    assert!(rt; is_left(rt.alloc(), &FAILING));
 }
 
 /// A device whose third write fails.
-const PATCHED: Made = Made {
+static PATCHED: Made = Made {
     bytes: b"abcd",
     room: 6,
     bad_reads: &[],
@@ -155,14 +159,14 @@ fn is_patched<D: Device>(device: &mut D) -> bool {
 }
 
 /// Whether it is so of a device in memory.
-fn memory_is_patched(alloc: Global) -> Result<bool, ElfError> {
-    let Some(mut device) = device(alloc, &PATCHED)? else {
-        return Ok(false);
-    };
-    Ok(is_patched(&mut device))
+fn memory_is_patched(alloc: Global) -> bool {
+    match device(alloc, &PATCHED) {
+        Ok(mut device) => is_patched(&mut device),
+        Err(_) => false,
+    }
 }
 
 #[test]
 fn a_device_is_patched(rt: HostRuntime) {
-    assert!(rt; memory_is_patched(rt.alloc()) == Ok(true));
+    assert!(rt; memory_is_patched(rt.alloc()));
 }

@@ -7,11 +7,9 @@ mod devices;
 #[cfg(test)]
 mod files;
 #[cfg(test)]
-mod other_names;
-#[cfg(test)]
-mod permissions;
-#[cfg(test)]
 mod read_ahead;
+#[cfg(test)]
+mod scripts;
 #[cfg(test)]
 mod sinks;
 #[cfg(test)]

@@ -13,48 +13,65 @@ fn sink(alloc: Global, room: u64, bad_puts: &[u64]) -> Result<MemSink, ElfError>
     MemSink::new(alloc, room, bad_puts)
 }
 
+/// What is put into a sink.
+enum Fill {
+    /// Pieces.
+    Pieces(&'static [Put]),
+    /// Zeros.
+    Zeros(&'static [Zeros]),
+    /// Two bytes at a time, of which the second put is an error, and then zeros, of which three are
+    /// an error and two have room.
+    Checked,
+}
+
+/// Whether what is put is answered so.
+fn is_taken<K: Sink>(sink: &mut K, fill: &Fill) -> bool {
+    match fill {
+        Fill::Pieces(puts) => puts_all(sink, puts),
+        Fill::Zeros(puts) => zeros_all(sink, puts),
+        Fill::Checked => second_is_an_error(sink),
+    }
+}
+
+/// Whether it is by a sink with a room, of which the second put fails, and leaves what was taken.
+fn leaves(alloc: Global, room: u64, fill: &Fill, left: &[u8]) -> bool {
+    match sink(alloc, room, &[2]) {
+        Ok(mut sink) => {
+            let stated = is_taken(&mut sink, fill);
+            sink.into_bytes().as_slice() == left && stated
+        }
+        Err(_) => false,
+    }
+}
+
 /// Puts into a room of five bytes, of which the second is to fail.
-const PUTS: [Put; 6] = [
+static PUTS: Fill = Fill::Pieces(&[
     (b"ab", true),
     (b"cd", false),
     (b"cdef", false),
     (b"cde", true),
     (b"f", false),
     (b"", true),
-];
-
-/// Whether these puts are answered so, and leave what was taken.
-fn puts_are_taken(alloc: Global) -> Result<bool, ElfError> {
-    let mut sink = sink(alloc, 5, &[2])?;
-    let stated = puts_all(&mut sink, &PUTS);
-    Ok(stated && sink.into_bytes().as_slice() == b"abcde".as_slice())
-}
+]);
 
 #[test]
 fn puts_fail_where_they_were_named_or_pass_the_room(rt: HostRuntime) {
-    assert!(rt; puts_are_taken(rt.alloc()) == Ok(true));
+    assert!(rt; leaves(rt.alloc(), 5, &PUTS, b"abcde"));
 }
 
 /// Zeros put into a room of five bytes, of which the second put is to fail.
-const ZEROS: [Zeros; 6] = [
+static ZEROS: Fill = Fill::Zeros(&[
     (2, true),
     (1, false),
     (4, false),
     (3, true),
     (1, false),
     (0, true),
-];
-
-/// Whether these zeros are answered so, and leave what was taken.
-fn zeros_are_taken(alloc: Global) -> Result<bool, ElfError> {
-    let mut sink = sink(alloc, 5, &[2])?;
-    let stated = zeros_all(&mut sink, &ZEROS);
-    Ok(stated && sink.into_bytes().as_slice() == b"\0\0\0\0\0".as_slice())
-}
+]);
 
 #[test]
 fn zeros_fail_where_they_were_named_or_pass_the_room(rt: HostRuntime) {
-    assert!(rt; zeros_are_taken(rt.alloc()) == Ok(true));
+    assert!(rt; leaves(rt.alloc(), 5, &ZEROS, b"\0\0\0\0\0"));
 }
 
 /// Whether the second of three puts is an error, and so are three zeros where two have room.
@@ -67,20 +84,13 @@ fn second_is_an_error<K: Sink>(sink: &mut K) -> bool {
     stated
 }
 
-/// Whether a refused put is an error, and leaves what was put before and behind it.
-fn refused_put_is_an_error(alloc: Global) -> Result<bool, ElfError> {
-    let mut sink = sink(alloc, 6, &[2])?;
-    let stated = second_is_an_error(&mut sink);
-    Ok(stated && sink.into_bytes().as_slice() == b"abef\0\0".as_slice())
-}
-
 #[test]
 fn a_refused_put_is_an_error(rt: HostRuntime) {
-    assert!(rt; refused_put_is_an_error(rt.alloc()) == Ok(true));
+    assert!(rt; leaves(rt.alloc(), 6, &Fill::Checked, b"abef\0\0"));
 }
 
 /// A device with two bytes and room for six.
-const SHORT: Made = Made {
+static SHORT: Made = Made {
     bytes: b"ab",
     room: 6,
     bad_reads: &[],
@@ -88,22 +98,35 @@ const SHORT: Made = Made {
 };
 
 /// Puts into that device.
-const APPENDED: [Put; 2] = [(b"cd", true), (b"efg", false)];
+static APPENDED: [Put; 2] = [(b"cd", true), (b"efg", false)];
 
 /// Zeros that are put into it then.
-const LENGTHENED: [Zeros; 3] = [(3, false), (2, true), (1, false)];
+static LENGTHENED: [Zeros; 3] = [(3, false), (2, true), (1, false)];
 
-/// Whether a sink over a device appends, up to the device's room.
-fn device_sink_appends(alloc: Global) -> Result<bool, ElfError> {
-    let Some(device) = device(alloc, &SHORT)? else {
-        return Ok(false);
-    };
-    let mut sink = DeviceSink::new(device);
-    let stated = puts_all(&mut sink, &APPENDED) && zeros_all(&mut sink, &LENGTHENED);
-    Ok(stated && sink.into_inner().into_bytes().as_slice() == b"abcd\0\0".as_slice())
+/// Whether a sink takes pieces and then zeros as stated.
+fn are_taken<K: Sink>(sink: &mut K, puts: &[Put], zeros: &[Zeros]) -> bool {
+    puts_all(sink, puts) && zeros_all(sink, zeros)
+}
+
+/// Whether a sink over a device does, and the device has these bytes then.
+fn device_sink_leaves(
+    alloc: Global,
+    made: &Made,
+    puts: &[Put],
+    zeros: &[Zeros],
+    left: &[u8],
+) -> bool {
+    match device(alloc, made) {
+        Ok(device) => {
+            let mut sink = DeviceSink::new(device);
+            let stated = are_taken(&mut sink, puts, zeros);
+            sink.into_inner().into_bytes().as_slice() == left && stated
+        }
+        Err(_) => false,
+    }
 }
 
 #[test]
 fn a_sink_over_a_device_appends(rt: HostRuntime) {
-    assert!(rt; device_sink_appends(rt.alloc()) == Ok(true));
+    assert!(rt; device_sink_leaves(rt.alloc(), &SHORT, &APPENDED, &LENGTHENED, b"abcd\0\0"));
 }

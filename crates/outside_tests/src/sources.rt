@@ -14,7 +14,7 @@ pub fn source(alloc: Global, bytes: &[u8], bad_reads: &[u64]) -> Result<MemSourc
 }
 
 /// Reads of four bytes, of which the second and the fourth are to fail.
-const NAMED: [Read; 5] = [
+static NAMED: [Read; 5] = [
     (0, 2, Some(b"ab")),
     (1, 2, None),
     (1, 2, Some(b"bc")),
@@ -23,7 +23,7 @@ const NAMED: [Read; 5] = [
 ];
 
 /// Empty reads at each place of four bytes.
-const EMPTY: [Read; 5] = [
+static EMPTY: [Read; 5] = [
     (0, 0, Some(b"")),
     (1, 0, Some(b"")),
     (2, 0, Some(b"")),
@@ -32,25 +32,29 @@ const EMPTY: [Read; 5] = [
 ];
 
 /// Whether reads of four bytes are answered so, ask for so much and leave the bytes.
-fn reads_are_answered(
-    alloc: Global,
-    bad_reads: &[u64],
-    rows: &[Read],
-    asked: u64,
-) -> Result<bool, ElfError> {
-    let mut source = source(alloc, b"abcd", bad_reads)?;
-    let stated = reads_all(&mut source, rows) && source.asked() == asked;
-    Ok(stated && source.into_bytes().as_slice() == b"abcd".as_slice())
+fn reads_are_answered(alloc: Global, bad_reads: &[u64], rows: &[Read], asked: u64) -> bool {
+    match source(alloc, b"abcd", bad_reads) {
+        Ok(mut source) => {
+            let stated = ask_for(&mut source, rows, asked);
+            source.into_bytes().as_slice() == b"abcd".as_slice() && stated
+        }
+        Err(_) => false,
+    }
+}
+
+/// Whether reads are answered so, and ask for so much.
+fn ask_for(source: &mut MemSource, rows: &[Read], asked: u64) -> bool {
+    reads_all(source, rows) && source.asked() == asked
 }
 
 #[test]
 fn the_reads_that_were_named_fail(rt: HostRuntime) {
-    assert!(rt; reads_are_answered(rt.alloc(), &[2, 4], &NAMED, 10) == Ok(true));
+    assert!(rt; reads_are_answered(rt.alloc(), &[2, 4], &NAMED, 10));
 }
 
 #[test]
 fn no_read_fails_where_none_was_named(rt: HostRuntime) {
-    assert!(rt; reads_are_answered(rt.alloc(), &[], &EMPTY, 0) == Ok(true));
+    assert!(rt; reads_are_answered(rt.alloc(), &[], &EMPTY, 0));
 }
 
 /// The first four bytes, where the source has six.
@@ -86,25 +90,29 @@ fn ranges_are_read<S: Source>(alloc: Global, source: &mut S) -> bool {
     stated && is_range(alloc, source, 99, 0, Ok(b""))
 }
 
-/// How many bytes the reads of those ranges ask for, if they are answered so.
-fn asked_for_ranges(alloc: Global) -> Result<Option<u64>, ElfError> {
-    let mut source = source(alloc, b"abcdef", &[])?;
-    let stated = ranges_are_read(alloc, &mut source);
-    Ok(if stated { Some(source.asked()) } else { None })
+/// Whether the reads of those ranges are answered so, and ask for eight bytes; or the read of one
+/// fails, and is refused.
+fn is_asked(alloc: Global, source: &mut MemSource, fails: bool) -> bool {
+    if fails {
+        return is_range(alloc, source, 0, 6, Err(ElfError::Read));
+    }
+    ranges_are_read(alloc, source) && source.asked() == 8
+}
+
+/// Whether they are of a source of six bytes, of which the first read fails or none does.
+fn six_are_asked(alloc: Global, bad_reads: &[u64], fails: bool) -> bool {
+    match source(alloc, b"abcdef", bad_reads) {
+        Ok(mut source) => is_asked(alloc, &mut source, fails),
+        Err(_) => false,
+    }
 }
 
 #[test]
 fn ranges_are_read_whole(rt: HostRuntime) {
-    assert!(rt; asked_for_ranges(rt.alloc()) == Ok(Some(8)));
-}
-
-/// Whether a range whose read fails is refused.
-fn failed_range_is_refused(alloc: Global) -> Result<bool, ElfError> {
-    let mut source = source(alloc, b"abcdef", &[1])?;
-    Ok(is_range(alloc, &mut source, 0, 6, Err(ElfError::Read)))
+    assert!(rt; six_are_asked(rt.alloc(), &[], false));
 }
 
 #[test]
 fn a_failed_read_is_an_error(rt: HostRuntime) {
-    assert!(rt; failed_range_is_refused(rt.alloc()) == Ok(true));
+    assert!(rt; six_are_asked(rt.alloc(), &[1], true));
 }

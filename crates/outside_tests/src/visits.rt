@@ -62,20 +62,3 @@ where
         _ => false,
     }
 }
-
-/// Whether a name is visited so, one visit after another.
-pub fn are_visited<F: Files>(
-    alloc: Global,
-    files: &mut F,
-    name: &str,
-    visits: &[(Way, Told)],
-) -> bool
-where
-    F::File: Drop,
-{
-    let mut stated = true;
-    for (way, told) in visits {
-        stated &= is_visited(alloc, files, *way, name, *told);
-    }
-    stated
-}

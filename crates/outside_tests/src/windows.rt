@@ -3,11 +3,10 @@
 use crate::sources::source;
 use crate::steps::{Read, reads, reads_all};
 use elf_outside::{NoSource, Source, Window};
-use elf_types::ElfError;
 use std::alloc::Global;
 
 /// Reads of a window of four bytes, of which the third is to fail.
-const READS: [Read; 3] = [(0, 4, Some(b"cdef")), (3, 1, Some(b"f")), (0, 1, None)];
+static READS: [Read; 3] = [(0, 4, Some(b"cdef")), (3, 1, Some(b"f")), (0, 1, None)];
 
 /// A source, and whether its window of four bytes from the third on is read so.
 fn reads_window<S: Source>(source: S) -> (S, bool) {
@@ -20,14 +19,19 @@ fn reads_window<S: Source>(source: S) -> (S, bool) {
 }
 
 /// Whether a window reads its range, and gives the whole source back.
-fn window_reads(alloc: Global) -> Result<bool, ElfError> {
-    let (mut source, stated) = reads_window(source(alloc, b"abcdefgh", &[3])?);
-    Ok(stated && source.asked() == 6 && reads(&mut source, 0, 8, Some(b"abcdefgh")))
+fn window_reads(alloc: Global) -> bool {
+    match source(alloc, b"abcdefgh", &[3]) {
+        Ok(source) => {
+            let (mut source, stated) = reads_window(source);
+            stated && source.asked() == 6 && reads(&mut source, 0, 8, Some(b"abcdefgh"))
+        }
+        Err(_) => false,
+    }
 }
 
 #[test]
 fn a_window_reads_its_range(rt: HostRuntime) {
-    assert!(rt; window_reads(rt.alloc()) == Ok(true));
+    assert!(rt; window_reads(rt.alloc()));
 }
 
 #[test]
