@@ -1,2 +1,1 @@
 mod Rules
-mod Dues

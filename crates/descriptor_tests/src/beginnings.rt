@@ -1,13 +1,12 @@
 //! Descriptors that begin over images of all forms, and each refusal, with the source handed back.
 
-use crate::questions::{Question, SYMBOLS, asked, is_answered_in_all_forms};
+use crate::rows::{Due, ROW, Row, are_so};
+use crate::steps::{SYMBOLS, Step};
 use elf_descriptor::Elf;
 use elf_outside::{MemSource, Source};
 use elf_types::constants::{EI_CLASS, EI_DATA, EI_VERSION, MAX_IMAGE, MAX_SECTIONS};
-use elf_types::{ElfError, Kind, ScnId};
-use elf_xlate::item_size;
+use elf_types::{ElfError, Kind};
 use std::alloc::Global;
-use test_descriptors::front_size;
 use test_images::{
     FORMS, Field, Form, HeaderField, Image, OBJECT, Recipe, SectionField, Start, WIDE,
     numbers_in_section_0,
@@ -15,64 +14,62 @@ use test_images::{
 use test_sources::{Sparse, source};
 
 /// There are two program headers and three sections, and no mark.
-struct Front;
+const FRONT_STEPS: &[Step] = &[
+    Step::Counts(2, 3),
+    Step::Dirty(false),
+    Step::Pad(*b"padding"),
+];
 
-impl Question for Front {
-    fn is_answered<S: Source>(&self, elf: &mut Elf<S>) -> bool {
-        let counts = elf.phnum() == 2 && elf.shnum() == 3;
-        counts && !elf.dirty() && elf.pad() == *b"padding"
-    }
-}
-
-/// The counts stand in the header.
-const PLAIN: Recipe = Recipe {
-    start: Start::TwoTables,
-    ..OBJECT
-};
-
-/// They stand in section 0.
-const EXTENDED: Recipe = Recipe {
-    start: Start::NumbersInSection0,
-    ..OBJECT
-};
-
-/// Whether the front of an image in a form is read with so many section headers, and nothing else.
-fn is_front(alloc: Global, form: Form, recipe: &Recipe, sections: u64) -> bool {
-    asked(alloc, &Front, form, recipe, 0) == Ok(Some(front_size(form.0, 2, sections)))
-}
-
-/// Whether it is in all forms.
-fn are_fronts(alloc: Global, recipe: &Recipe, sections: u64) -> bool {
-    for form in FORMS.iter() {
-        if !is_front(alloc, *form, recipe, sections) {
-            return false;
-        }
-    }
-    true
-}
+/// Fronts, of which nothing else is read.
+static FRONTS: [Row; 2] = [
+    // the counts stand in the header
+    Row {
+        recipe: Recipe {
+            start: Start::TwoTables,
+            ..OBJECT
+        },
+        steps: FRONT_STEPS,
+        due: Some(Due {
+            segments: 2,
+            sections: 3,
+            more: 0,
+        }),
+        ..ROW
+    },
+    // they stand in section 0, which is read besides
+    Row {
+        recipe: Recipe {
+            start: Start::NumbersInSection0,
+            ..OBJECT
+        },
+        steps: FRONT_STEPS,
+        due: Some(Due {
+            segments: 2,
+            sections: 4,
+            more: 0,
+        }),
+        ..ROW
+    },
+];
 
 #[test]
 fn the_front_is_read_and_nothing_else(rt: HostRuntime) {
-    assert!(rt; are_fronts(rt.alloc(), &PLAIN, 3));
-    // Section 0 is read besides, where the numbers stand.
-    assert!(rt; are_fronts(rt.alloc(), &EXTENDED, 4));
+    assert!(rt; are_so(rt.alloc(), &FRONTS));
 }
 
 /// The symbol table has its home and one piece.
-struct Table;
-
-impl Question for Table {
-    fn is_answered<S: Source>(&self, elf: &mut Elf<S>) -> bool {
-        let size = 2 * item_size(Kind::Sym, elf.ehdr().class);
-        let at = elf.shdr(ScnId(2)).map(|header| header.offset);
-        let home = elf.home(ScnId(2)) == at.map(|at| (at, size));
-        home && elf.piece_kind(SYMBOLS) == Ok(Kind::Sym) && elf.pieces(ScnId(2)) == Ok(1)
-    }
-}
+static TABLE: [Row; 1] = [Row {
+    steps: &[
+        Step::SymbolsHome,
+        Step::Kind(SYMBOLS, Ok(Kind::Sym)),
+        Step::Pieces(2, Ok(1)),
+    ],
+    ..ROW
+}];
 
 #[test]
 fn each_section_has_its_home_and_one_piece(rt: HostRuntime) {
-    assert!(rt; is_answered_in_all_forms(rt.alloc(), &Table, &OBJECT));
+    assert!(rt; are_so(rt.alloc(), &TABLE));
 }
 
 /// A field of an image, a number for it, the length of the source, and the refusal then.

@@ -1,34 +1,43 @@
-//! Questions that are put to descriptors over real files.
+//! Descriptors over real files.
 
-use crate::questions::{Question, is_answered_over};
-use crate::reading::Symbols;
+use crate::reading::SYMBOL_STEPS;
+use crate::rows::answered_over;
 use crate::shapes::{
-    COUNTS, ExtendedCounts, HeaderAsOpened, NARROW_OBJECT, OUT, OutOfFile, RAGGED, Ragged,
+    AS_OPENED_STEPS, COUNT_STEPS, COUNTS, NARROW_OBJECT, OUT, OUT_STEPS, RAGGED, RAGGED_STEPS,
 };
+use crate::steps::Step;
 use elf_outside::{Files, RealFiles};
-use std::test::Fail;
+use std::alloc::Global;
 use std::{env, fs, process};
 use test_images::{OBJECT, Recipe, image_of};
 
+/// An image, and the steps that a descriptor over a file of it answers.
+type Row = (Recipe, &'static [Step]);
+
+static ROWS: [Row; 6] = [
+    (OBJECT, SYMBOL_STEPS),
+    (NARROW_OBJECT, SYMBOL_STEPS),
+    (COUNTS, COUNT_STEPS),
+    (RAGGED, RAGGED_STEPS),
+    (OUT, OUT_STEPS),
+    (OBJECT, AS_OPENED_STEPS),
+];
+
 /// A path in the system's folder for files that do not last.
-fn path_of(rt: &HostRuntime) -> Result<String, Fail> {
+fn path_of(rt: &HostRuntime) -> Option<String> {
+    let Ok(folder) = env::temp_dir(rt) else {
+        return None;
+    };
     let id = process::id(rt.process());
-    let name = format!(in rt.alloc(); "descriptor_tests-{id}")?;
-    let mut path = env::temp_dir(rt)?;
-    path.push(name.as_str())?;
-    Ok(String::from_str(rt.alloc(), path.to_str().unwrap_or(""))?)
+    let folder = folder.to_str().unwrap_or("");
+    format!(in rt.alloc(); "{folder}/descriptor_tests-{id}").ok()
 }
 
-/// Whether a question is answered over the file of a name.
-fn is_answered_over_file<Q: Question, F: Files>(
-    rt: &HostRuntime,
-    files: &mut F,
-    path: &str,
-    q: &Q,
-) -> bool {
-    match files.open(rt.alloc(), path) {
+/// Whether the steps are answered over the file of a name.
+fn are_answered<F: Files>(alloc: Global, files: &mut F, path: &str, steps: &[Step]) -> bool {
+    match files.open(alloc, path) {
         Ok(file) => {
-            let (file, answered) = is_answered_over(rt.alloc(), q, file);
+            let (file, answered) = answered_over(alloc, steps, file);
             files.close(path, file);
             answered
         }
@@ -36,40 +45,45 @@ fn is_answered_over_file<Q: Question, F: Files>(
     }
 }
 
-/// Whether a question is answered over a file of these bytes, which goes afterwards.
-fn is_answered_of<Q: Question>(
-    rt: &HostRuntime,
-    q: &Q,
-    path: &str,
-    bytes: &[u8],
-) -> Result<bool, Fail> {
-    fs::write(rt, path, bytes)?;
-    let mut files = RealFiles::new(rt.alloc(), rt.clone()?);
-    let answered = is_answered_over_file(rt, &mut files, path, q);
-    fs::remove_file(rt, path)?;
-    Ok(answered)
+/// Whether those of a row are over a file that holds the image, and goes afterwards.
+fn is_row<F: Files>(rt: &HostRuntime, files: &mut F, path: &str, row: &Row) -> bool {
+    match image_of(rt.alloc(), &row.0) {
+        Ok(image) => {
+            fs::write(rt, path, image.bytes.as_slice()).is_ok()
+                && are_answered(rt.alloc(), files, path, row.1)
+                && fs::remove_file(rt, path).is_ok()
+        }
+        Err(_) => false,
+    }
 }
 
-/// Whether a question is answered over a file that holds the image.
-fn is_answered_in_a_file<Q: Question>(
-    rt: &HostRuntime,
-    q: &Q,
-    recipe: &Recipe,
-) -> Result<bool, Fail> {
-    let path = path_of(rt)?;
-    match image_of(rt.alloc(), recipe) {
-        Ok(image) => is_answered_of(rt, q, path.as_str(), image.bytes.as_slice()),
-        Err(_) => Ok(false),
+/// Whether those of each row are.
+fn are_rows<F: Files>(rt: &HostRuntime, files: &mut F, path: &str, rows: &[Row]) -> bool {
+    for row in rows {
+        if !is_row(rt, files, path, row) {
+            return false;
+        }
+    }
+    true
+}
+
+/// Whether they are, of a path that is not there.
+fn are_rows_of(rt: &HostRuntime, path: &str, rows: &[Row]) -> bool {
+    match rt.clone() {
+        Ok(system) => are_rows(rt, &mut RealFiles::new(rt.alloc(), system), path, rows),
+        Err(_) => false,
+    }
+}
+
+/// Whether they are in the system's folder for files that do not last.
+fn files_are_answered(rt: &HostRuntime, rows: &[Row]) -> bool {
+    match path_of(rt) {
+        Some(path) => are_rows_of(rt, path.as_str(), rows),
+        None => false,
     }
 }
 
 #[test]
-fn descriptors_stand_over_files(rt: HostRuntime) -> Result<(), Fail> {
-    assert!(rt; is_answered_in_a_file(&rt, &Symbols, &OBJECT)?);
-    assert!(rt; is_answered_in_a_file(&rt, &Symbols, &NARROW_OBJECT)?);
-    assert!(rt; is_answered_in_a_file(&rt, &ExtendedCounts, &COUNTS)?);
-    assert!(rt; is_answered_in_a_file(&rt, &Ragged, &RAGGED)?);
-    assert!(rt; is_answered_in_a_file(&rt, &OutOfFile, &OUT)?);
-    assert!(rt; is_answered_in_a_file(&rt, &HeaderAsOpened, &OBJECT)?);
-    Ok(())
+fn descriptors_stand_over_files(rt: HostRuntime) {
+    assert!(rt; files_are_answered(&rt, &ROWS));
 }

@@ -1,10 +1,9 @@
-//! What callers of a descriptor learn from its contracts alone, and the tests of descriptors and
-//! of their cells. They stand in a crate of their own, since a crate with tests is proved twice.
+//! Tests of descriptors and of their cells. They stand in a crate of their own, since a crate with
+//! tests is proved twice.
 #![tactic(auto)]
 
 #[cfg(test)]
 mod beginnings;
-pub mod callers;
 #[cfg(test)]
 mod cells;
 #[cfg(test)]
@@ -14,10 +13,16 @@ mod files;
 #[cfg(test)]
 mod lends;
 #[cfg(test)]
-mod questions;
+mod limits;
 #[cfg(test)]
 mod reading;
 #[cfg(test)]
+mod refusals;
+#[cfg(test)]
 mod rooms;
 #[cfg(test)]
+mod rows;
+#[cfg(test)]
 mod shapes;
+#[cfg(test)]
+mod steps;

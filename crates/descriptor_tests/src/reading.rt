@@ -1,28 +1,12 @@
 //! What descriptors read, and what they hold.
 
-use crate::callers::{first_two, long, symbol};
-use crate::questions::{
-    Question, STRINGS, SYMBOLS, asked, is_answered_in_all_forms, is_answered_untold,
-};
-use elf_descriptor::{Elf, Held};
-use elf_outside::Source;
+use crate::rows::{Due, ROW, Row, are_so};
+use crate::steps::{STRINGS, SYMBOLS, Step};
 use elf_types::constants::{
     SHF_COMPRESSED, SHT_NOBITS, SHT_NULL, SHT_PROGBITS, SHT_REL, SHT_SYMTAB, SHT_SYMTAB_SHNDX,
 };
-use elf_types::{DataId, ElfError, Kind, ScnId, Sym};
-use std::alloc::Global;
-use test_descriptors::front_size;
-use test_images::{FORMS, Field, Form, OBJECT, Put, Recipe, SectionField, Start, WIDE};
-
-/// What the data of section 3 of five are once two fields are set.
-struct Row {
-    /// The image.
-    recipe: Recipe,
-    /// The kind and the number of its items, or the refusal.
-    told: Result<(Kind, u64), ElfError>,
-    /// How many bytes are asked for besides the front.
-    asked: u64,
-}
+use elf_types::{DataId, ElfError, Kind, Sym};
+use test_images::{Field, OBJECT, Put, Recipe, SectionField, Start, WIDE};
 
 /// Five sections.
 const FIVE: Recipe = Recipe {
@@ -30,8 +14,25 @@ const FIVE: Recipe = Recipe {
     ..OBJECT
 };
 
-/// Sections of all kinds.
-const ROWS: [Row; 9] = [
+/// The piece of the third.
+const THIRD: DataId = DataId {
+    section: 3,
+    piece: 0,
+};
+
+/// The front of that image.
+const FRONT: Due = Due {
+    segments: 0,
+    sections: 6,
+    more: 0,
+};
+
+/// That front and the eight bytes of a section.
+const FRONT_AND_EIGHT: Due = Due { more: 8, ..FRONT };
+
+/// Five sections of which two fields of the third are set: the kind and the number of its items, or
+/// the refusal, told twice, and no more bytes are asked for than once.
+static KINDS: [Row; 9] = [
     Row {
         recipe: Recipe {
             puts: &[
@@ -40,8 +41,12 @@ const ROWS: [Row; 9] = [
             ],
             ..FIVE
         },
-        told: Ok((Kind::Bytes, 8)),
-        asked: 8,
+        steps: &[
+            Step::Data(THIRD, Ok((Kind::Bytes, 8))),
+            Step::Data(THIRD, Ok((Kind::Bytes, 8))),
+        ],
+        due: Some(FRONT_AND_EIGHT),
+        ..ROW
     },
     Row {
         recipe: Recipe {
@@ -51,8 +56,12 @@ const ROWS: [Row; 9] = [
             ],
             ..FIVE
         },
-        told: Ok((Kind::Empty, 0)),
-        asked: 0,
+        steps: &[
+            Step::Data(THIRD, Ok((Kind::Empty, 0))),
+            Step::Data(THIRD, Ok((Kind::Empty, 0))),
+        ],
+        due: Some(FRONT),
+        ..ROW
     },
     Row {
         recipe: Recipe {
@@ -62,8 +71,12 @@ const ROWS: [Row; 9] = [
             ],
             ..FIVE
         },
-        told: Ok((Kind::Empty, 0)),
-        asked: 0,
+        steps: &[
+            Step::Data(THIRD, Ok((Kind::Empty, 0))),
+            Step::Data(THIRD, Ok((Kind::Empty, 0))),
+        ],
+        due: Some(FRONT),
+        ..ROW
     },
     Row {
         recipe: Recipe {
@@ -73,8 +86,12 @@ const ROWS: [Row; 9] = [
             ],
             ..FIVE
         },
-        told: Ok((Kind::Bytes, 0)),
-        asked: 0,
+        steps: &[
+            Step::Data(THIRD, Ok((Kind::Bytes, 0))),
+            Step::Data(THIRD, Ok((Kind::Bytes, 0))),
+        ],
+        due: Some(FRONT),
+        ..ROW
     },
     Row {
         recipe: Recipe {
@@ -84,8 +101,12 @@ const ROWS: [Row; 9] = [
             ],
             ..FIVE
         },
-        told: Err(ElfError::Ragged { section: 3 }),
-        asked: 0,
+        steps: &[
+            Step::Data(THIRD, Err(ElfError::Ragged { section: 3 })),
+            Step::Data(THIRD, Err(ElfError::Ragged { section: 3 })),
+        ],
+        due: Some(FRONT),
+        ..ROW
     },
     Row {
         recipe: Recipe {
@@ -95,8 +116,12 @@ const ROWS: [Row; 9] = [
             ],
             ..FIVE
         },
-        told: Err(ElfError::OutOfFile { section: 3 }),
-        asked: 0,
+        steps: &[
+            Step::Data(THIRD, Err(ElfError::OutOfFile { section: 3 })),
+            Step::Data(THIRD, Err(ElfError::OutOfFile { section: 3 })),
+        ],
+        due: Some(FRONT),
+        ..ROW
     },
     Row {
         recipe: Recipe {
@@ -106,8 +131,12 @@ const ROWS: [Row; 9] = [
             ],
             ..FIVE
         },
-        told: Ok((Kind::Bytes, 8)),
-        asked: 8,
+        steps: &[
+            Step::Data(THIRD, Ok((Kind::Bytes, 8))),
+            Step::Data(THIRD, Ok((Kind::Bytes, 8))),
+        ],
+        due: Some(FRONT_AND_EIGHT),
+        ..ROW
     },
     Row {
         recipe: Recipe {
@@ -117,8 +146,12 @@ const ROWS: [Row; 9] = [
             ],
             ..FIVE
         },
-        told: Ok((Kind::Bytes, 8)),
-        asked: 8,
+        steps: &[
+            Step::Data(THIRD, Ok((Kind::Bytes, 8))),
+            Step::Data(THIRD, Ok((Kind::Bytes, 8))),
+        ],
+        due: Some(FRONT_AND_EIGHT),
+        ..ROW
     },
     Row {
         recipe: Recipe {
@@ -131,82 +164,36 @@ const ROWS: [Row; 9] = [
             ],
             ..FIVE
         },
-        told: Ok((Kind::Word, 2)),
-        asked: 8,
+        steps: &[
+            Step::Data(THIRD, Ok((Kind::Word, 2))),
+            Step::Data(THIRD, Ok((Kind::Word, 2))),
+        ],
+        due: Some(FRONT_AND_EIGHT),
+        ..ROW
     },
 ];
 
-/// What the data of section 3 are.
-fn data_of<S: Source>(elf: &mut Elf<S>) -> Result<(Kind, u64), ElfError> {
-    let items = elf.data(DataId {
-        section: 3,
-        piece: 0,
-    })?;
-    Ok((items.kind(), items.count()))
-}
-
-impl Question for Row {
-    fn is_answered<S: Source>(&self, elf: &mut Elf<S>) -> bool {
-        data_of(elf) == self.told && data_of(elf) == self.told
-    }
-}
-
-/// Whether the data are told twice as the row says, and no more is asked for than once.
-fn is_told(alloc: Global, row: &Row, form: Form) -> bool {
-    let due = front_size(form.0, 0, 6).saturating_add(row.asked);
-    asked(alloc, row, form, &row.recipe, 0) == Ok(Some(due))
-        && is_answered_untold(alloc, row, form, &row.recipe) == Ok(true)
-}
-
-/// Whether those of each row are, in a form.
-fn are_told_in(alloc: Global, rows: &[Row], form: Form) -> bool {
-    for row in rows {
-        if !is_told(alloc, row, form) {
-            return false;
-        }
-    }
-    true
-}
-
-/// Whether they are in all forms.
-fn are_told(alloc: Global, rows: &[Row]) -> bool {
-    for form in FORMS.iter() {
-        if !are_told_in(alloc, rows, *form) {
-            return false;
-        }
-    }
-    true
-}
-
 #[test]
 fn sections_of_all_kinds_are_told_or_refused(rt: HostRuntime) {
-    assert!(rt; are_told(rt.alloc(), &ROWS));
+    assert!(rt; are_so(rt.alloc(), &KINDS));
 }
 
-/// A section whose first read fails is read again.
-struct FailsOnce;
-
-impl Question for FailsOnce {
-    fn is_answered<S: Source>(&self, elf: &mut Elf<S>) -> bool {
-        data_of(elf) == Err(ElfError::Read) && data_of(elf) == Ok((Kind::Bytes, 8))
-    }
-}
-
-/// Whether such a section is; the first three reads are those of the front.
-fn is_repeated(alloc: Global) -> bool {
-    match asked(alloc, &FailsOnce, WIDE, &FIVE, 4) {
-        Ok(asked) => asked.is_some(),
-        Err(_) => false,
-    }
-}
+/// A section whose first read fails is read again; the first three reads are those of the front.
+static REPEATED: [Row; 1] = [Row {
+    recipe: FIVE,
+    forms: &[WIDE],
+    bad_read: 4,
+    steps: &[
+        Step::Data(THIRD, Err(ElfError::Read)),
+        Step::Data(THIRD, Ok((Kind::Bytes, 8))),
+    ],
+    ..ROW
+}];
 
 #[test]
 fn a_failed_read_is_repeated(rt: HostRuntime) {
-    assert!(rt; is_repeated(rt.alloc()));
+    assert!(rt; are_so(rt.alloc(), &REPEATED));
 }
-
-/// There are two symbols, a zero one and an absolute function of 4 bytes.
-pub struct Symbols;
 
 /// The zero symbol.
 const ZERO: Sym = Sym {
@@ -219,7 +206,7 @@ const ZERO: Sym = Sym {
 };
 
 /// The function.
-const FUNCTION: Sym = Sym {
+pub const FUNCTION: Sym = Sym {
     name: 1,
     info: 0x12,
     other: 0,
@@ -228,65 +215,38 @@ const FUNCTION: Sym = Sym {
     size: 4,
 };
 
-impl Question for Symbols {
-    fn is_answered<S: Source>(&self, elf: &mut Elf<S>) -> bool {
-        let mut stated = first_two::<S, Sym>(elf, SYMBOLS) == Ok((ZERO, FUNCTION));
-        stated &= symbol(elf, SYMBOLS, 2) == Err(ElfError::NoEntry { index: 2, count: 2 });
-        stated &= symbol(elf, STRINGS, 0) == Err(ElfError::WrongKind { held: Kind::Bytes });
-        stated
-    }
-}
+/// There are two symbols, a zero one and an absolute function of 4 bytes.
+pub const SYMBOL_STEPS: &[Step] = &[
+    Step::FirstTwo(SYMBOLS, ZERO, FUNCTION),
+    Step::Symbol(SYMBOLS, 2, Err(ElfError::NoEntry { index: 2, count: 2 })),
+    Step::Symbol(STRINGS, 0, Err(ElfError::WrongKind { held: Kind::Bytes })),
+];
 
-/// Whether nothing is held of a piece.
-fn is_unread<S: Source>(elf: &Elf<S>, d: DataId) -> bool {
-    match elf.held(d) {
-        Ok(Held::Unread) => true,
-        _ => false,
-    }
-}
-
-/// Whether the bytes that are held of a piece are these.
-fn is_raw<S: Source>(elf: &Elf<S>, d: DataId, bytes: &[u8]) -> bool {
-    match elf.held(d) {
-        Ok(Held::Raw(there)) => there == bytes,
-        _ => false,
-    }
-}
-
-/// The home of the strings is held once it is read, and nothing of another section.
-struct Strings;
-
-impl Question for Strings {
-    fn is_answered<S: Source>(&self, elf: &mut Elf<S>) -> bool {
-        let mut stated = is_unread(elf, STRINGS);
-        stated &= long(elf, ScnId(1)) == Ok((3, 3));
-        stated &= is_raw(elf, STRINGS, b"\0a\0");
-        stated &= is_unread(elf, SYMBOLS);
-        stated && !elf.dirty()
-    }
-}
-
-/// The first base bytes are copied.
-struct Base;
-
-/// The first two base bytes, where there are so many.
-fn first_base<S: Source>(elf: &mut Elf<S>) -> Result<[u8; 2], ElfError> {
-    let mut start = [0u8; 2];
-    if 2 <= elf.base_len() {
-        elf.copy_base(0, &mut start)?;
-    }
-    Ok(start)
-}
-
-impl Question for Base {
-    fn is_answered<S: Source>(&self, elf: &mut Elf<S>) -> bool {
-        first_base(elf) == Ok(*b"\x7fE") && is_unread(elf, STRINGS)
-    }
-}
+/// Symbols; the home of the strings, which is held once it is read, and nothing of another section;
+/// and the first base bytes, which are copied.
+static HELD: [Row; 3] = [
+    Row {
+        steps: SYMBOL_STEPS,
+        ..ROW
+    },
+    Row {
+        steps: &[
+            Step::Unread(STRINGS, true),
+            Step::Long(1, Ok((3, 3))),
+            Step::Held(STRINGS, b"\0a\0"),
+            Step::Unread(SYMBOLS, true),
+            Step::Dirty(false),
+        ],
+        ..ROW
+    },
+    Row {
+        recipe: FIVE,
+        steps: &[Step::Base(*b"\x7fE"), Step::Unread(STRINGS, true)],
+        ..ROW
+    },
+];
 
 #[test]
 fn what_is_read_is_told_and_held(rt: HostRuntime) {
-    assert!(rt; is_answered_in_all_forms(rt.alloc(), &Symbols, &OBJECT));
-    assert!(rt; is_answered_in_all_forms(rt.alloc(), &Strings, &OBJECT));
-    assert!(rt; is_answered_in_all_forms(rt.alloc(), &Base, &FIVE));
+    assert!(rt; are_so(rt.alloc(), &HELD));
 }

@@ -116,7 +116,7 @@ const KEPT: Row = Row {
 };
 
 /// Edits, and the parts that differ by them.
-const ROWS: [Row; 9] = [
+static ROWS: [Row; 9] = [
     KEPT,
     Row {
         edit: Edit::Fill(9),

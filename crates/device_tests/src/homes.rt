@@ -22,7 +22,7 @@ pub const ROOM: u64 = 400;
 /// An object with eight bytes at 64, section 1, and eight at 80, section 2. Between them stand
 /// eight bytes that no part covers, and eight more before its table of section headers, which
 /// begins at 96 and ends it: at 216 in class 32, and at 288 in class 64.
-pub const TWO_HOMES: Setting = Setting {
+pub static TWO_HOMES: Setting = Setting {
     recipe: Recipe {
         start: Start::Table(96, 3, 0),
         puts: &[

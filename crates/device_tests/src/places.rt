@@ -105,7 +105,7 @@ impl Work for Row {
 
 /// Objects whose parts stand one behind the other, each at its alignment, and where the headers
 /// say.
-const ROWS: [Row; 4] = [
+static ROWS: [Row; 4] = [
     Row {
         len: None,
         layout: false,

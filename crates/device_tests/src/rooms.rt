@@ -3,8 +3,8 @@
 ghost use Rattle.std.specs.Prelude.{◌≡◌, length, IsTrue};
 ghost use Rattle.elf_descriptor.specs.Rooms.{has_room_for};
 
-use crate::callers::rooms::{keep_room, load_later, load_loaded, load_patiently, load_twice};
 use crate::homes::TWO_HOMES;
+use descriptor_callers::rooms::{keep_room, load_later, load_loaded, load_patiently, load_twice};
 use elf_descriptor::{Elf, Held};
 use elf_outside::{Device, Source};
 use elf_types::{DIRTY, DataId, ElfError, Part, ScnId};
@@ -126,7 +126,7 @@ const BOTH: Bad = Bad {
 };
 
 /// Homes that are read and not read.
-const ROWS: [Row; 6] = [
+static ROWS: [Row; 6] = [
     Row {
         way: Way::Once,
         bad: NONE,

@@ -3,8 +3,8 @@
 
 ghost use Rattle.std.specs.Prelude.{◌≡◌, length};
 
-use crate::callers::settling::{settle_over, tell_image};
 use crate::homes::{ROOM, TWO_HOMES, keep};
+use descriptor_callers::settling::{settle_over, tell_image};
 use elf_descriptor::Elf;
 use elf_outside::{Device, Source};
 use elf_types::constants::{SHT_INIT_ARRAY, SHT_PROGBITS};
@@ -151,7 +151,7 @@ impl Work for Row {
 
 /// Objects whose image is as long as the base, shorter, and longer: then the base is shorter than
 /// the device when the descriptor is settled, as after a write that failed.
-const ROWS: [Row; 7] = [
+static ROWS: [Row; 7] = [
     Row {
         edits: &[Edit::Layout],
     },

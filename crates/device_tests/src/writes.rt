@@ -2,8 +2,8 @@
 
 ghost use Rattle.std.specs.Prelude.{◌≡◌, length};
 
-use crate::callers::writes::{extend, give_length, write_over};
 use crate::homes::{TWO_HOMES, keep};
+use descriptor_callers::writes::{extend, give_length, write_over};
 use elf_descriptor::{Elf, Held};
 use elf_outside::{Device, Source};
 use elf_types::{DIRTY, DataId, ElfError, Part};
@@ -142,7 +142,7 @@ const FAILED: Result<(), ElfError> = Err(ElfError::Write);
 const NOT_MADE: Result<(), ElfError> = Err(ElfError::Short);
 
 /// Writes over the header, between two homes, over one of them, and of no byte.
-const WRITES: [Row; 3] = [
+static WRITES: [Row; 3] = [
     Row {
         bad: NONE,
         steps: &[
@@ -183,7 +183,7 @@ fn bytes_are_written_at_their_place_and_nothing_else(rt: HostRuntime) {
 }
 
 /// Devices that get longer and shorter.
-const LENGTHS: [Row; 5] = [
+static LENGTHS: [Row; 5] = [
     Row {
         bad: NONE,
         steps: &[

@@ -1,0 +1,4 @@
+mod RangeLemmas
+mod KeptRooms
+mod Settles
+mod Dues

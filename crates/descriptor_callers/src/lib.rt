@@ -1,0 +1,11 @@
+//! What callers of a descriptor, over a source and over a device, learn from its contracts alone.
+//! They stand in a crate without tests, so that nothing of them is proved twice.
+#![tactic(auto)]
+
+pub mod lending;
+pub mod once;
+pub mod ranges;
+pub mod reads;
+pub mod rooms;
+pub mod settling;
+pub mod writes;

@@ -1,0 +1,54 @@
+//! Objects without sections and program headers, and the most of them that there may be.
+
+use crate::steps::{Given, Step, answers_all};
+use elf_descriptor::Elf;
+use elf_types::constants::{MAX_PIECES, MAX_SECTIONS, PN_XNUM};
+use elf_types::{Class, DIRTY, ElfError, Order, Part, ScnId};
+use std::alloc::Global;
+
+/// Whether an object without sections and program headers answers steps.
+fn are_answered(alloc: Global, steps: &[Step]) -> bool {
+    answers_all(&mut Elf::create(alloc, Class::C32, Order::Least), steps)
+}
+
+/// As many program headers as the header can count, 2^20 sections with section 0, and 2^20 pieces
+/// of section 1, and no more.
+static MOST: [Step; 9] = [
+    Step::Newphdr(PN_XNUM - 1, Ok(())),
+    Step::Newphdr(PN_XNUM, Err(ElfError::TooMany)),
+    Step::Counts(PN_XNUM - 1, 0),
+    Step::Sections(MAX_SECTIONS - 1),
+    Step::Counts(PN_XNUM - 1, MAX_SECTIONS as u32),
+    Step::Newscn(Err(ElfError::TooMany)),
+    Step::EmptyPieces(1, MAX_PIECES),
+    Step::Add(1, None, Given::Bytes(&[]), Err(ElfError::TooMany)),
+    Step::Pieces(1, Ok(MAX_PIECES as u32)),
+];
+
+#[test]
+fn there_are_at_most_so_many(rt: HostRuntime) {
+    assert!(rt; are_answered(rt.alloc(), &MOST));
+}
+
+/// The first two sections of an object have the numbers 1 and 2, behind section 0.
+static NUMBERED: [Step; 4] = [
+    Step::Newscn(Ok(ScnId(1))),
+    Step::Newscn(Ok(ScnId(2))),
+    Step::Counts(0, 3),
+    Step::Flags(Part::Section(0), Ok(DIRTY)),
+];
+
+/// Section 0 is made where there is none, and nothing where it is there.
+static MADE_ONCE: [Step; 5] = [
+    Step::Newnull(Ok(())),
+    Step::Flags(Part::Section(0), Ok(DIRTY)),
+    Step::Newscn(Ok(ScnId(1))),
+    Step::Newnull(Ok(())),
+    Step::Counts(0, 2),
+];
+
+#[test]
+fn section_0_comes_with_the_first_or_alone(rt: HostRuntime) {
+    assert!(rt; are_answered(rt.alloc(), &NUMBERED));
+    assert!(rt; are_answered(rt.alloc(), &MADE_ONCE));
+}

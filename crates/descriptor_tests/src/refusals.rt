@@ -1,0 +1,176 @@
+//! Each refusal of an edit leaves every answer as it was.
+
+use crate::steps::{Change, Given, Step, answers};
+use elf_descriptor::Elf;
+use elf_outside::{MemSource, Source};
+use elf_types::{DIRTY, DataId, ElfError, LAYOUT, Part};
+use std::alloc::Global;
+use test_descriptors::all_agree;
+use test_images::{NARROW, OBJECT, Recipe, Start, image_of};
+use test_sources::{Sparse, source};
+
+/// There is no section 3.
+const NO_SECTION: ElfError = ElfError::NoSection { index: 3, count: 3 };
+
+/// There is no second piece.
+const NO_DATA: ElfError = ElfError::NoData { index: 1, count: 1 };
+
+/// The header does not fit.
+const UNFIT_HEADER: ElfError = ElfError::Unfit {
+    part: Part::Header,
+    index: 0,
+};
+
+/// The second program header does not fit.
+const UNFIT_SEGMENT: ElfError = ElfError::Unfit {
+    part: Part::Segments,
+    index: 1,
+};
+
+/// The header of section 1 does not fit.
+const UNFIT_SECTION: ElfError = ElfError::Unfit {
+    part: Part::Section(1),
+    index: 0,
+};
+
+/// The second item of its piece does not fit.
+const UNFIT_ITEM: ElfError = ElfError::Unfit {
+    part: Part::Piece(1, 0),
+    index: 1,
+};
+
+/// The second item of a new piece does not fit.
+const UNFIT_NEW_ITEM: ElfError = ElfError::Unfit {
+    part: Part::Piece(1, 1),
+    index: 1,
+};
+
+/// What does not fit class 32.
+const LARGE: u64 = 1 << 32;
+
+/// Two addresses, of which the second does not fit class 32.
+const TWO: Given = Given::Addrs(&[0, LARGE]);
+
+/// Pieces that are not there, and a section's that is.
+const IN_NO_SECTION: DataId = DataId {
+    section: 3,
+    piece: 1,
+};
+
+const IN_SECTION_0: DataId = DataId {
+    section: 0,
+    piece: 1,
+};
+
+const SECOND: DataId = DataId {
+    section: 1,
+    piece: 1,
+};
+
+const FIRST: DataId = DataId {
+    section: 1,
+    piece: 0,
+};
+
+/// Each refusal of an edit in class 32, but for those of want of memory and of the greatest counts.
+static REFUSALS: [Step; 20] = [
+    Step::StoreHeader(3, LARGE, Err(NO_SECTION)),
+    Step::StoreHeader(2, LARGE, Err(UNFIT_HEADER)),
+    Step::StoreSegment(2, LARGE, Err(ElfError::NoEntry { index: 2, count: 2 })),
+    Step::StoreSegment(1, LARGE, Err(UNFIT_SEGMENT)),
+    Step::Newphdr(0xffff, Err(ElfError::TooMany)),
+    Step::Store(0, 3, Change::Size(LARGE), Err(NO_SECTION)),
+    Step::Store(0, 0, Change::Size(LARGE), Err(ElfError::Reserved)),
+    Step::Store(0, 1, Change::Size(LARGE), Err(UNFIT_SECTION)),
+    Step::Add(3, Some(3), TWO, Err(NO_SECTION)),
+    Step::Add(0, Some(3), TWO, Err(ElfError::Reserved)),
+    Step::Add(1, Some(3), TWO, Err(ElfError::BadAlign { align: 3 })),
+    Step::Add(1, Some(1), TWO, Err(UNFIT_NEW_ITEM)),
+    Step::Replace(IN_NO_SECTION, TWO, Err(NO_SECTION)),
+    Step::Replace(IN_SECTION_0, TWO, Err(ElfError::Reserved)),
+    Step::Replace(SECOND, TWO, Err(NO_DATA)),
+    Step::Replace(FIRST, TWO, Err(UNFIT_ITEM)),
+    Step::Flag(Part::Section(3), false, DIRTY, Err(NO_SECTION)),
+    Step::Flag(Part::Piece(2, 1), false, DIRTY, Err(NO_DATA)),
+    Step::Flag(Part::Piece(2, 0), false, DIRTY, Err(ElfError::FlagKept)),
+    Step::Flag(Part::Object, false, DIRTY + LAYOUT, Err(ElfError::FlagKept)),
+];
+
+/// Whether each refusal comes as stated and leaves what another descriptor answers.
+fn all_leave<S: Source, F: Source>(elf: &mut Elf<S>, fresh: &Elf<F>, steps: &[Step]) -> bool {
+    for step in steps {
+        if !answers(elf, step) || !all_agree(elf, fresh) {
+            return false;
+        }
+    }
+    true
+}
+
+/// Whether they do over a source, which is given back.
+fn all_leave_over<S: Source, F: Source>(alloc: Global, src: S, fresh: &Elf<F>) -> (S, bool) {
+    match Elf::begin(alloc, src) {
+        Ok(mut elf) => {
+            let left = all_leave(&mut elf, fresh, &REFUSALS);
+            (elf.end(), left)
+        }
+        Err((src, _)) => (src, false),
+    }
+}
+
+/// The object in class 32, the greatest byte first.
+const TWO_TABLES: Recipe = Recipe {
+    form: NARROW,
+    start: Start::TwoTables,
+    ..OBJECT
+};
+
+/// A source of its bytes.
+fn told(alloc: Global) -> Option<MemSource> {
+    match image_of(alloc, &TWO_TABLES) {
+        Ok(image) => source(alloc, image.bytes, 0).ok(),
+        Err(_) => None,
+    }
+}
+
+/// A source that does not tell them.
+fn untold(alloc: Global) -> Option<Sparse> {
+    match image_of(alloc, &TWO_TABLES) {
+        Ok(image) => {
+            let len = image.bytes.len();
+            Some(Sparse::new(image.bytes, len))
+        }
+        Err(_) => None,
+    }
+}
+
+/// Whether they do over a source, where there is one.
+fn all_leave_of<S: Source, F: Source>(alloc: Global, src: Option<S>, fresh: &Elf<F>) -> bool
+where
+    S: Drop,
+{
+    match src {
+        Some(src) => all_leave_over(alloc, src, fresh).1,
+        None => false,
+    }
+}
+
+/// Whether they do over either source, beside another descriptor over the image.
+fn all_leave_beside<F: Source>(alloc: Global, fresh: &Elf<F>) -> bool {
+    all_leave_of(alloc, told(alloc), fresh) && all_leave_of(alloc, untold(alloc), fresh)
+}
+
+/// Whether they do beside one that begins over that image.
+fn refused_edits_leave(alloc: Global) -> bool {
+    match told(alloc) {
+        Some(src) => match Elf::begin(alloc, src) {
+            Ok(fresh) => all_leave_beside(alloc, &fresh),
+            Err(_) => false,
+        },
+        None => false,
+    }
+}
+
+#[test]
+fn a_refused_edit_changes_nothing(rt: HostRuntime) {
+    assert!(rt; refused_edits_leave(rt.alloc()));
+}

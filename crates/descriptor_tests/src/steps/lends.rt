@@ -1,0 +1,227 @@
+//! Items that are stored, lent, given and added.
+
+use super::{Given, Lending, STRINGS, SYMBOLS, Step};
+use elf_descriptor::Elf;
+use elf_outside::Source;
+use elf_types::{
+    Addrs, DIRTY, DataId, Dyn, ElfError, List, Octets, Part, Rel, Rela, ScnId, Sym, Syms,
+};
+use elf_xlate::Items;
+use section_data::Storable;
+use std::alloc::Global;
+
+/// The piece that is lent.
+const PIECE: DataId = STRINGS;
+
+/// A kind of items, which a call of its own lends.
+trait Kinded: Storable + PartialEq {
+    /// The list of the piece.
+    fn lend<S: Source>(elf: &mut Elf<S>) -> Result<&mut List<Self>, ElfError>;
+}
+
+impl Kinded for u16 {
+    fn lend<S: Source>(elf: &mut Elf<S>) -> Result<&mut List<u16>, ElfError> {
+        elf.halves_mut(PIECE)
+    }
+}
+
+impl Kinded for u32 {
+    fn lend<S: Source>(elf: &mut Elf<S>) -> Result<&mut List<u32>, ElfError> {
+        elf.words_mut(PIECE)
+    }
+}
+
+impl Kinded for u64 {
+    fn lend<S: Source>(elf: &mut Elf<S>) -> Result<&mut List<u64>, ElfError> {
+        elf.addrs_mut(PIECE)
+    }
+}
+
+impl Kinded for Sym {
+    fn lend<S: Source>(elf: &mut Elf<S>) -> Result<&mut List<Sym>, ElfError> {
+        elf.syms_mut(PIECE)
+    }
+}
+
+impl Kinded for Rel {
+    fn lend<S: Source>(elf: &mut Elf<S>) -> Result<&mut List<Rel>, ElfError> {
+        elf.rels_mut(PIECE)
+    }
+}
+
+impl Kinded for Rela {
+    fn lend<S: Source>(elf: &mut Elf<S>) -> Result<&mut List<Rela>, ElfError> {
+        elf.relas_mut(PIECE)
+    }
+}
+
+impl Kinded for Dyn {
+    fn lend<S: Source>(elf: &mut Elf<S>) -> Result<&mut List<Dyn>, ElfError> {
+        elf.dyns_mut(PIECE)
+    }
+}
+
+/// Appends an item to the list of the piece.
+fn append<T: Kinded, S: Source>(elf: &mut Elf<S>, item: T) -> Result<(), ElfError> {
+    T::lend(elf)?.push(item)
+}
+
+/// Whether the piece alone is marked.
+fn is_marked<S: Source>(elf: &Elf<S>) -> bool {
+    elf.flags(Part::Piece(1, 0)) == Ok(DIRTY) && elf.flags(Part::Section(1)) == Ok(0)
+}
+
+/// Whether an item is appended to a list that is lent, and another stored in place of the first.
+fn is_lent<T: Kinded, S: Source>(elf: &mut Elf<S>, appended: T, stored: T) -> bool {
+    let mut stated = append(elf, appended) == Ok(());
+    stated &= elf.update_item(PIECE, 0, stored) == Ok(());
+    stated &= elf.item::<T>(PIECE, 0) == Ok(stored);
+    stated &= elf.item::<T>(PIECE, 1) == Ok(appended);
+    stated && is_marked(elf)
+}
+
+/// Appends a byte.
+fn append_byte<S: Source>(elf: &mut Elf<S>, byte: u8) -> Result<(), ElfError> {
+    match elf.bytes_mut(PIECE) {
+        Ok(bytes) => bytes.push(byte),
+        Err(e) => Err(e),
+    }
+}
+
+/// How many items there are.
+fn count<S: Source>(elf: &mut Elf<S>) -> Result<u64, ElfError> {
+    match elf.data(PIECE) {
+        Ok(items) => Ok(items.count()),
+        Err(e) => Err(e),
+    }
+}
+
+/// Whether a list of a kind is lent.
+fn is_lent_as<S: Source>(elf: &mut Elf<S>, lending: &Lending) -> bool {
+    match lending {
+        Lending::Byte(byte) => {
+            append_byte(elf, *byte) == Ok(()) && count(elf) == Ok(2) && is_marked(elf)
+        }
+        Lending::Half(appended, stored) => is_lent(elf, *appended, *stored),
+        Lending::Word(appended, stored) => is_lent(elf, *appended, *stored),
+        Lending::Addr(appended, stored) => is_lent(elf, *appended, *stored),
+        Lending::Sym(appended, stored) => is_lent(elf, *appended, *stored),
+        Lending::Rel(appended, stored) => is_lent(elf, *appended, *stored),
+        Lending::Rela(appended, stored) => is_lent(elf, *appended, *stored),
+        Lending::Dyn(appended, stored) => is_lent(elf, *appended, *stored),
+    }
+}
+
+/// Adds a number to the values of the symbols that are lent, and answers how many there are.
+fn add_to_values<S: Source>(elf: &mut Elf<S>, more: u64) -> Result<u64, ElfError> {
+    let symbols = elf.syms_mut(SYMBOLS)?;
+    for symbol in symbols.as_mut_slice().iter_mut() {
+        symbol.value = symbol.value.wrapping_add(more);
+    }
+    Ok(symbols.len())
+}
+
+/// Adds 1 to each byte of the strings, which are lent, and answers how many there are.
+fn add_to_bytes<S: Source>(elf: &mut Elf<S>) -> Result<u64, ElfError> {
+    let bytes = elf.bytes_mut(STRINGS)?;
+    for byte in bytes.as_mut_slice().iter_mut() {
+        *byte = byte.wrapping_add(1);
+    }
+    Ok(bytes.len())
+}
+
+/// The items that are given.
+fn items_of(alloc: Global, given: &Given) -> Result<Items, ElfError> {
+    match given {
+        Given::Bytes(l) => Ok(Items::Bytes(Octets::from_slice(alloc, l)?)),
+        Given::Addrs(l) => Ok(Items::Addr(Addrs::from_slice(alloc, l)?)),
+        Given::Syms(l) => Ok(Items::Sym(Syms::from_slice(alloc, l)?)),
+    }
+}
+
+/// How many there are.
+fn count_of(given: &Given) -> u64 {
+    match given {
+        Given::Bytes(l) => l.len() as u64,
+        Given::Addrs(l) => l.len() as u64,
+        Given::Syms(l) => l.len() as u64,
+    }
+}
+
+/// Whether an answer is the one that is told; what is refused came back, so many items.
+fn is_answer<T: PartialEq + Drop>(
+    answer: Result<T, (Items, ElfError)>,
+    count: u64,
+    told: &Result<T, ElfError>,
+) -> bool {
+    match (answer, told) {
+        (Ok(done), Ok(wanted)) => done == *wanted,
+        (Err((items, e)), Err(wanted)) => e == *wanted && items.count() == count,
+        _ => false,
+    }
+}
+
+/// Whether a piece takes the items that are given, or refuses them so.
+fn is_replaced<S: Source>(
+    elf: &mut Elf<S>,
+    d: DataId,
+    given: &Given,
+    told: &Result<(), ElfError>,
+) -> bool {
+    match items_of(elf.alloc(), given) {
+        Ok(items) => is_answer(elf.replace(d, items), count_of(given), told),
+        Err(_) => false,
+    }
+}
+
+/// Adds a piece to a section, with an alignment or without.
+fn add<S: Source>(
+    elf: &mut Elf<S>,
+    s: ScnId,
+    align: Option<u64>,
+    items: Items,
+) -> Result<DataId, (Items, ElfError)> {
+    match align {
+        Some(align) => elf.newdata_aligned(s, items, align),
+        None => elf.newdata(s, items),
+    }
+}
+
+/// Whether a section takes the items that are given as a piece, or refuses them so.
+fn is_added<S: Source>(
+    elf: &mut Elf<S>,
+    s: ScnId,
+    align: Option<u64>,
+    given: &Given,
+    told: &Result<DataId, ElfError>,
+) -> bool {
+    match items_of(elf.alloc(), given) {
+        Ok(items) => is_answer(add(elf, s, align, items), count_of(given), told),
+        Err(_) => false,
+    }
+}
+
+/// Whether so many pieces without bytes are added to a section.
+fn are_added<S: Source>(elf: &mut Elf<S>, s: ScnId, count: u64) -> bool {
+    for _ in 0..count {
+        let none = Items::Bytes(Octets::new(elf.alloc()));
+        if elf.newdata(s, none).is_err() {
+            return false;
+        }
+    }
+    true
+}
+
+/// Whether a step that changes items, or adds some, is answered so.
+pub fn is_changed<S: Source>(elf: &mut Elf<S>, step: &Step) -> bool {
+    match step {
+        Step::StoreSymbol(d, i, symbol, told) => elf.update_item(*d, *i, *symbol) == *told,
+        Step::AddToValues(more, told) => add_to_values(elf, *more) == *told,
+        Step::AddToBytes(told) => add_to_bytes(elf) == *told,
+        Step::Replace(d, given, told) => is_replaced(elf, *d, given, told),
+        Step::Add(s, align, given, told) => is_added(elf, ScnId(*s), *align, given, told),
+        Step::EmptyPieces(s, count) => are_added(elf, ScnId(*s), *count),
+        Step::Lent(lending) => is_lent_as(elf, lending),
+        _ => false,
+    }
+}

@@ -1,0 +1,57 @@
+//! What a descriptor reads, and the memory that is taken for that and let go.
+
+use super::{STRINGS, Step};
+use descriptor_callers::reads::{first_two, long, symbol};
+use elf_descriptor::Elf;
+use elf_outside::Source;
+use elf_types::{DataId, ElfError, Kind, ScnId, Sym};
+use elf_xlate::Items;
+
+/// The kind and the number of the items of a piece.
+fn data_of<S: Source>(elf: &mut Elf<S>, d: DataId) -> Result<(Kind, u64), ElfError> {
+    let items = elf.data(d)?;
+    Ok((items.kind(), items.count()))
+}
+
+/// Whether the raw bytes of a section are told so.
+fn is_raw<S: Source>(elf: &mut Elf<S>, s: ScnId, told: Result<&[u8], ElfError>) -> bool {
+    match (elf.raw(s), told) {
+        (Ok(raw), Ok(bytes)) => raw == bytes,
+        (Err(e), Err(wanted)) => e == wanted,
+        _ => false,
+    }
+}
+
+/// Byte 1 of the strings.
+fn byte<S: Source>(elf: &mut Elf<S>) -> Option<u8> {
+    match elf.data(STRINGS) {
+        Ok(Items::Bytes(bytes)) => bytes.get(1),
+        _ => None,
+    }
+}
+
+/// The first two base bytes, where there are so many.
+fn first_base<S: Source>(elf: &mut Elf<S>) -> Result<[u8; 2], ElfError> {
+    let mut start = [0u8; 2];
+    if 2 <= elf.base_len() {
+        elf.copy_base(0, &mut start)?;
+    }
+    Ok(start)
+}
+
+/// Whether a step that reads, or takes memory or lets it go, is answered so.
+pub fn is_read<S: Source>(elf: &mut Elf<S>, step: &Step) -> bool {
+    match step {
+        Step::Data(d, told) => data_of(elf, *d) == *told,
+        Step::Long(s, told) => long(elf, ScnId(*s)) == *told,
+        Step::Raw(s, told) => is_raw(elf, ScnId(*s), *told),
+        Step::Byte(told) => byte(elf) == Some(*told),
+        Step::FirstTwo(d, first, second) => first_two::<S, Sym>(elf, *d) == Ok((*first, *second)),
+        Step::Symbol(d, i, told) => symbol(elf, *d, *i) == *told,
+        Step::Base(told) => first_base(elf) == Ok(*told),
+        Step::Reserve => elf.reserve() == Ok(()),
+        Step::ReserveHome(s, told) => elf.reserve_home(ScnId(*s)) == *told,
+        Step::Unload(s, told) => elf.unload(ScnId(*s)) == *told,
+        _ => false,
+    }
+}
