@@ -1,4 +1,5 @@
 pub mod RangeLaws
+pub mod RowLaws
 pub mod KeepingLaws
 pub mod SegmentLaws
 pub mod CheckLaws

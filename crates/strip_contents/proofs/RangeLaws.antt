@@ -1,25 +1,22 @@
 -- Where the bytes of a section are that is taken as it is, and of one that is made.
-use Rattle.std.proofs.Common.{◌≡◌, ◌==◌, ◌||◌, ◌<◌, ℕ, zero, suc, Bool, true, false, List, [], ◌∷◌, ◌++◌, length, take, drop, Option, Some, None, Result, Ok, Err, if◌then◌else◌, refl, sym, ap, ◌∙◌, subst, arith}
+use Rattle.std.proofs.Common.{◌≡◌, ◌==◌, ◌||◌, ◌<◌, ℕ, zero, suc, Bool, true, false, List, [], ◌++◌, length, take, drop, Option, None, Result, Ok, Err, if◌then◌else◌, refl, sym, ap, ◌∙◌, subst, arith}
 use Rattle.std.specs.Prelude.{IsTrue, IfOk, IfErr}
 use Rattle.std.proofs.lemmas.Bool.{ne_eqb, or_parts}
 use Rattle.std.proofs.lemmas.List.{append-nil}
 use Rattle.std.proofs.lemmas.Result.{IfOk-weaker}
 use Rattle.elf_types.specs.declared.records.Ehdr.{Ehdr}
-use Rattle.elf_types.specs.declared.records.Class.{Class}
 use Rattle.elf_types.specs.declared.errors.ElfError.{ElfError}
 use Rattle.elf_types.specs.declared.errors.ElfError.TheVariants.{Memory, OutOfFile}
-use Rattle.elf_types.specs.Answers.{answered, refused_if}
+use Rattle.elf_types.specs.Answers.{refused_if}
 use Rattle.elf_outside.specs.declared.sources.Source.{Ghosts}
 use Rattle.elf_xlate.specs.declared.content.Items.{Items}
 use Rattle.elf_xlate.specs.declared.content.Items.TheVariants as items
 use Rattle.elf_xlate.specs.Translation.{encoded, first_unfit}
 use Rattle.elf_object.specs.Object.{Object, section_at, header_of, is_dirty}
-use Rattle.elf_object.specs.Answers.{no_section, raw_refusal}
+use Rattle.elf_object.specs.Answers.{raw_refusal}
 use Rattle.elf_object.specs.Due.{homes_due}
 use Rattle.elf_object.specs.Valid.{IsObject, IsTied}
-use Rattle.elf_object.proofs.AnswerLaws.{answered_value}
 use Rattle.object_laws.proofs.KeepLaws.{section_at_is}
-use Rattle.elf_descriptor.specs.Homes.{out_answer}
 use Rattle.elf_descriptor.specs.State.{State}
 use Rattle.elf_descriptor.specs.Reads.{Looks}
 use Rattle.update_plan.proofs.RowLaws.{ok_is}
@@ -37,27 +34,13 @@ use Rattle.strip_rebuild.specs.Homes.{home_refusal}
 use Rattle.strip_rebuild.specs.Keepers.{indexes_by, kept_by, items_or_names, items_by, follows_by, is_renewed, makes_by, kept_refusal_by, refusal_or_none, refusal_by, reads_by}
 use Rattle.strip_rebuild.specs.Makes.{AsksFor}
 use Rattle.strip_rebuild.proofs.AskLaws.{asks_looks, asks_nothing}
-use Rattle.strip_rebuild.proofs.HomeLaws.{no_section_there, raw_there}
+use Rattle.strip_rebuild.proofs.HomeLaws.{raw_there}
 use Rattle.strip_stream.specs.Fronts.{HoldsMore}
 use Rattle.strip_stream.proofs.FrontLaws.{held_bytes_stay}
 use Rattle.strip_stream.proofs.HomeLaws.{homes_stand}
 use Rattle.strip_contents.specs.Ranges.{base_place, home_range, FindsHome, bytes_by, IsRangeOf, making_due, FindsRange}
 
 -- ---- Homes
-
-pub out_value : (o : Object) (s : ℕ) (out : Bool)
-    → ◌≡◌ {A = Result Bool ElfError} (Ok out) (out_answer o s) → out ≡ (section_at o s).home.out
-unfolding out_answer
-out_value o s out is =
-    (answered_value (no_section o s) (section_at o s).home.out out (sym is)).1
-
-pub out_never : (o : Object) (s : ℕ) (e : ElfError) → s < length o.sections
-    → ◌≡◌ {A = Result Bool ElfError} (Err e) (out_answer o s) → ⊥
-unfolding out_answer
-out_never o s e there is =
-    let clash : ◌≡◌ {A = Result Bool ElfError} (Err e) (Ok (section_at o s).home.out) =
-    is ∙ ap (λ (r : Option ElfError). answered r (section_at o s).home.out)
-    (no_section_there o s there) in cc
 
 pub range_same : (o : Object) (s at len place : ℕ) → at ≡ (section_at o s).home.at
     → len ≡ (section_at o s).home.len → place ≡ base_place at len

@@ -1,10 +1,14 @@
 //! Where the bytes of a section of the new image are.
 
-ghost use Rattle.std.specs.Prelude.{◌≡◌, ◌<◌, length, true, false, IsTrue};
+ghost use Rattle.std.specs.Prelude.{◌≡◌, ◌⊎◌, ◌<◌, length, true, false, IsTrue, IfOk, IfErr};
+ghost use Rattle.elf_types.specs.declared.errors.ElfError.TheVariants.{Memory, Read};
+ghost use Rattle.elf_xlate.specs.Translation.{encoded};
 ghost use Rattle.elf_object.specs.Object.{is_dirty};
 ghost use Rattle.elf_object.specs.Valid.{IsObject, IsTied};
 ghost use Rattle.strip_rebuild.specs.Keepers.{makes_by};
-ghost use Rattle.strip_contents.specs.Ranges.{FindsRange};
+ghost use Rattle.strip_rebuild.specs.Makes.{AsksFor};
+ghost use Rattle.strip_tables.specs.Rows.{AreInBase, rows_made, tables_due};
+ghost use Rattle.strip_contents.specs.Ranges.{IsRangeOf, FindsRange};
 
 use crate::homes::home_range;
 use elf_descriptor::Elf;
@@ -12,11 +16,14 @@ use elf_outside::Source;
 use elf_types::{ElfError, Octets, ScnId};
 use image_ranges::ByteRange;
 use object_making::SectionMaker;
+use strip_items::Numbering;
 use strip_rebuild::Keeper;
 use strip_stream::hold_items;
+use strip_tables::{FollowedRows, find_rows, hold_rows};
 
-/// The range of what is made of a section that is there, whose file form is held behind the others.
-fn made_range<S: Source>(
+/// The range of the items that are made of a section that is there, whose file form is held behind
+/// the others.
+fn items_range<S: Source>(
     keeper: &Keeper<'_>,
     elf: &mut Elf<S>,
     s: ScnId,
@@ -30,6 +37,53 @@ fn made_range<S: Source>(
     match keeper.items(elf, s) {
         Ok(items) => hold_items(held, header.class, header.order, &items),
         Err(e) => Err(e),
+    }
+}
+
+/// The range of what is made of rows that lie in the base, whose file form is held behind the
+/// others.
+fn rows_range<S: Source>(
+    elf: &mut Elf<S>,
+    numbering: &Numbering,
+    x: FollowedRows,
+    held: &mut Octets,
+) -> Result<ByteRange, ElfError>
+    requires inside { AreInBase elf.old.o.base x }
+    ensures ok { IfOk result (IsRangeOf elf.old.told elf.old.o.base
+        (encoded x.class x.order (rows_made numbering.now elf.old.o.base x)) held.old held.new) }
+    ensures asks { AsksFor S.Source result elf.old elf.new (tables_due x) }
+    ensures err { IfErr result (λ e. (e ≡ Memory) ⊎ (e ≡ Read)) }
+{
+    let at = held.len();
+    match hold_rows(elf, numbering, x, held) {
+        Ok(()) => Ok(ByteRange {
+            held: true,
+            at,
+            len: held.len() - at,
+        }),
+        Err(e) => Err(e),
+    }
+}
+
+/// The range of what is made of a section that is there, whose file form is held behind the others.
+/// A symbol table and its extended indexes are gone over some rows at a time, where they lie in the
+/// base as whole items, and are not loaded.
+fn made_range<S: Source>(
+    keeper: &Keeper<'_>,
+    elf: &mut Elf<S>,
+    s: ScnId,
+    held: &mut Octets,
+) -> Result<ByteRange, ElfError>
+    requires there { s.0 < length elf.old.o.sections }
+    requires object { IsObject elf.old.o }
+    requires clean { is_dirty elf.old.o ≡ false }
+    requires tied { IsTrue elf.old.told → IsTied elf.old.o }
+    requires makes { makes_by keeper.now elf.old.o s.0 ≡ true }
+    ensures { FindsRange S.Source keeper.now s.0 result elf.old elf.new held.old held.new }
+{
+    match find_rows(keeper, elf, s) {
+        Some(x) => rows_range(elf, &keeper.numbering, x, held),
+        None => items_range(keeper, elf, s, held),
     }
 }
 

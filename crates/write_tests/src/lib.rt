@@ -15,6 +15,8 @@ mod images;
 #[cfg(test)]
 mod rehash;
 #[cfg(test)]
+mod rows;
+#[cfg(test)]
 mod selftest;
 #[cfg(test)]
 mod stops;

@@ -1,7 +1,7 @@
 use Rattle.std.proofs.Common.{sym}
 use Rattle.elf_object.proofs.AnswerLaws.{home_value}
 use Rattle.strip_rebuild.proofs.EndLaws.{home_never}
-use Rattle.strip_contents.proofs.homes.extent.Goals as goal
+use Rattle.strip_tables.proofs.homes.extent.Goals as goal
 
 pub unreachable-requires : goal.unreachable-requires
 unreachable-requires g c =

@@ -1,5 +1,5 @@
-use Rattle.strip_contents.proofs.RangeLaws.{out_value, out_never}
-use Rattle.strip_contents.proofs.homes.is_out.Goals as goal
+use Rattle.strip_tables.proofs.HomeLaws.{out_value, out_never}
+use Rattle.strip_tables.proofs.homes.is_out.Goals as goal
 
 pub unreachable-requires : goal.unreachable-requires
 unreachable-requires g c =

@@ -1,0 +1,1 @@
+use Rattle.strip_tables.proofs.reading.read_rows.Goals as goal
