@@ -251,7 +251,7 @@ module _ (k : Keeper) (told : Bool) (o : Object) (s : ℕ) (x : FollowedRows) (i
   two_asked : (a b : ℕ) → homes_due o [] (a ∷ b ∷ []) ≡ home_due o [] a + home_due o [] b
   unfolding homes_due
   two_asked a b =
-      let sum : home_due o [] a + (home_due o [] b + 0) ≡ home_due o [] a + home_due o [] b =
+      let sum : 0 + home_due o [] a + home_due o [] b ≡ home_due o [] a + home_due o [] b =
       omega arith in sum
 
   -- ---- A symbol table

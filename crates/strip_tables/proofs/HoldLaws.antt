@@ -1,5 +1,5 @@
 -- What is held of rows, some of them after others, and what is asked for.
-use Rattle.std.proofs.Common.{◌≡◌, ◌+◌, ◌-◌, ◌*◌, ◌≤◌, ◌^◌, ℕ, Bool, List, [], ◌++◌, Result, Ok, Err, refl, sym, ap, ◌∙◌, subst, append_assoc, arith}
+use Rattle.std.proofs.Common.{◌≡◌, ◌+◌, ◌-◌, ◌*◌, ◌/◌, ◌<◌, ◌≤◌, ◌^◌, ℕ, Bool, List, [], ◌++◌, None, Result, Ok, Err, refl, sym, ap, ◌∙◌, subst, append_assoc, arith}
 use Rattle.std.specs.Prelude.{IsTrue, OnOk, IfErr, min}
 use Rattle.std.proofs.lemmas.Nat.{mul-le}
 use Rattle.std.proofs.lemmas.List.{append-nil}
@@ -91,10 +91,24 @@ due_all x n =
     (within_all x.words (item_size kinds.Word x.class) n)
     (within_all x.syms (item_size kinds.Sym x.class) n)
 
--- the rows of a step: the last one may have fewer
-pub step_order : (from to count : ℕ) → from ≤ count
-    → to ≡ min (min (from + 2048) (2 ^ 64 - 1)) count → from ≤ to
-step_order from to count within is = omega (arith, within, is)
+-- the rows of a step: the last one may have fewer, and one more may have none
+module _ (p n count : ℕ) (inside : p < n / 2048 + 1) (is : n ≡ count) where
+  pub step_first : min (p * 2048) count ≡ p * 2048
+  step_first = omega (arith, inside, is)
+
+  module _ (sum to : ℕ) (small : n < 2 ^ 64) (sum_is : sum ≡ min (p * 2048 + 2048) (2 ^ 64 - 1))
+      (to_is : to ≡ min sum n) where
+    pub step_order : p * 2048 ≤ to
+    step_order = omega (arith, inside, small, sum_is, to_is)
+
+    pub step_next : to ≡ min ((p + 1) * 2048) count
+    step_next = omega (arith, inside, is, small, sum_is, to_is)
+
+pub steps_begin : (count : ℕ) → 0 ≡ min (0 * 2048) count
+steps_begin count = omega arith
+
+pub steps_end : (p n count : ℕ) → n / 2048 + 1 ≤ p → n ≡ count → min (p * 2048) count ≡ count
+steps_end p n count past is = omega (arith, past, is)
 
 -- ---- Some rows
 

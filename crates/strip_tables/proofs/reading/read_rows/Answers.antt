@@ -1,1 +1,0 @@
-use Rattle.strip_tables.proofs.reading.read_rows.Goals as goal
