@@ -112,6 +112,12 @@ steps_end p n count past is = omega (arith, past, is)
 
 -- ---- Some rows
 
+pub stays_in_base : {S T : Type 0} (g : Ghosts S) (x : FollowedRows) (r : Result T ElfError)
+    (old new : State S) (n : ℕ) → AsksFor g r old new n → AreInBase old.o.base x
+    → AreInBase new.o.base x
+stays_in_base g x r old new n asks inside =
+    subst (λ (o : Object). AreInBase o.base x) (sym asks.object) inside
+
 module _ {S : Type 0} (g : Ghosts S) (m : Renumbering) (x : FollowedRows) (from to : ℕ)
     (old mid : State S) where
   abbrev words_due : ℕ
@@ -119,11 +125,6 @@ module _ {S : Type 0} (g : Ghosts S) (m : Renumbering) (x : FollowedRows) (from 
 
   abbrev syms_due : ℕ
   syms_due = items_within x.syms from to * item_size kinds.Sym x.class
-
-  pub still_in_base : {T : Type 0} (r : Result T ElfError) → AsksFor g r old mid words_due
-      → AreInBase old.o.base x → AreInBase mid.o.base x
-  still_in_base r asks inside =
-      subst (λ (o : Object). AreInBase o.base x) (sym asks.object) inside
 
   pub words_refused : {T U : Type 0} (e : ElfError) → AsksFor {T = T} g (Err e) old mid words_due
       → AsksFor {T = U} g (Err e) old mid (rows_due x from to)
@@ -190,10 +191,6 @@ module _ {S : Type 0} (g : Ghosts S) (m : Renumbering) (x : FollowedRows) (first
 
   module _ (now : State S) (held : List ℕ) (a b : ℕ) (order : a ≤ b)
       (so_far : HeldSoFar g m x first now start held a) where
-    pub in_base_now : AreInBase first.o.base x → AreInBase now.o.base x
-    in_base_now inside =
-        subst (λ (o : Object). AreInBase o.base x) (sym so_far.asks.object) inside
-
     asks_behind : (r : Result (Unit {0}) ElfError) (next : State S)
         → AsksFor g r now next (rows_due x a b) → AsksFor g r first next (rows_due x 0 b)
     asks_behind r next asks =

@@ -1,12 +1,11 @@
 use Rattle.std.proofs.Common.{Ok}
-use Rattle.strip_tables.proofs.ReadLaws.{memory_or_read}
-use Rattle.strip_tables.proofs.HoldLaws.{still_in_base, words_refused, syms_refused, both_asked, some_held}
+use Rattle.strip_tables.proofs.HoldLaws.{stays_in_base, words_refused, syms_refused}
 use Rattle.strip_tables.proofs.holding.hold_some.Goals as goal
 
 pub read_syms-requires-clause-inside : goal.read_syms-requires-clause-inside
 read_syms-requires-clause-inside g c =
-    (still_in_base g.S.Source c.args.numbering.now c.args.x c.args.from c.args.to c.args.elf.now
-    c.read_words.new.elf (Ok c.in-Ok.words) c.in-Ok.ensures.asks c.requires.inside).syms
+    (stays_in_base g.S.Source c.args.x (Ok c.in-Ok.words) c.args.elf.now c.read_words.new.elf _
+    c.in-Ok.ensures.asks c.requires.inside).syms
 
 pub returns-in-Err-clause-asks : goal.returns-in-Err-clause-asks
 returns-in-Err-clause-asks g c =
