@@ -92,8 +92,9 @@ fn fill_contents<S: Source>(
 /// What a keeper makes of the sections of an object that stay, in their order: the headers, the
 /// sizes in the file, and where the bytes are. A section that is taken as it is is a range of the
 /// base, and is not read; the file form of what is made is held. Nothing of the object is dirty. It
-/// refuses the first section that the keeper refuses, and besides `Memory` and `Read`. It reads
-/// each home of what is made at the first use.
+/// refuses the first section that the keeper refuses, and besides `Memory` and `Read`. A symbol
+/// table and its extended indexes are read some rows at a time and are not loaded, where they lie
+/// in the base as whole items; each other home of what is made is read at the first use.
 ///
 /// Source: gABI chapter 4, "Sections".
 pub fn keep_contents<S: Source>(

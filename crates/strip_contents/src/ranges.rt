@@ -1,6 +1,6 @@
 //! Where the bytes of a section of the new image are.
 
-ghost use Rattle.std.specs.Prelude.{◌≡◌, ◌⊎◌, ◌<◌, length, true, false, IsTrue, IfOk, IfErr};
+ghost use Rattle.std.specs.Prelude.{◌≡◌, ◌⊎◌, ◌-◌, ◌<◌, ◌≤◌, length, true, false, IsTrue, IfOk, IfErr};
 ghost use Rattle.elf_types.specs.declared.errors.ElfError.TheVariants.{Memory, Read};
 ghost use Rattle.elf_xlate.specs.Translation.{encoded};
 ghost use Rattle.elf_object.specs.Object.{is_dirty};
@@ -40,6 +40,20 @@ fn items_range<S: Source>(
     }
 }
 
+/// The range of the bytes that are held from a place on.
+fn range_from(held: &Octets, at: u64) -> ByteRange
+    requires { at ≤ length held.now }
+    ensures held { result.held ≡ true }
+    ensures at { result.at ≡ at }
+    ensures len { result.len ≡ length held.now - at }
+{
+    ByteRange {
+        held: true,
+        at,
+        len: held.len() - at,
+    }
+}
+
 /// The range of what is made of rows that lie in the base, whose file form is held behind the
 /// others.
 fn rows_range<S: Source>(
@@ -56,11 +70,7 @@ fn rows_range<S: Source>(
 {
     let at = held.len();
     match hold_rows(elf, numbering, x, held) {
-        Ok(()) => Ok(ByteRange {
-            held: true,
-            at,
-            len: held.len() - at,
-        }),
+        Ok(()) => Ok(range_from(held, at)),
         Err(e) => Err(e),
     }
 }

@@ -2,7 +2,7 @@ use Rattle.strip_contents.proofs.RowLaws.{rows_found}
 use Rattle.strip_contents.proofs.ranges.made_range.Goals as goal
 
 pub rows_range-requires : goal.rows_range-requires
-rows_range-requires g c = c.in-Some.ensures.inside
+rows_range-requires g c = record { inside = c.in-Some.ensures.inside }
 
 pub returns-in-Some : goal.returns-in-Some
 returns-in-Some g c =
