@@ -17,7 +17,7 @@ const LONG_ROOM: u64 = 300_000;
 
 /// Five sections of eight bytes, one behind the other, and then the table of section headers. In
 /// class 64 they stand at 64, 72, 80, 88 and 96, and the table at 104, up to 488.
-pub const FIVE: Setting = Setting {
+const FIVE: Setting = Setting {
     recipe: SECTIONS,
     room: ROOM,
 };
@@ -62,7 +62,7 @@ const MARKED: Row = Row {
 
 /// Edits for any class, without the caller's layout. What the update writes, in the order of its
 /// places, stands beside each; the length is set besides.
-pub const ROWS: [Row; 14] = [
+const ROWS: &[Row] = &[
     MARKED,
     // the header, and once a write failed the table
     Row {
@@ -169,7 +169,7 @@ pub const ROWS: [Row; 14] = [
 ];
 
 /// Edits for class 64, under the caller's layout.
-pub const LAID: [Row; 7] = [
+const LAID: &[Row] = &[
     Row {
         edits: &[Edit::Layout, Edit::Mark],
         ..MARKED
@@ -225,7 +225,7 @@ pub const LAID: [Row; 7] = [
 ];
 
 /// Edits for class 64, after which a gap lies behind the end that the device has, at 488.
-pub const GAPS: [Row; 2] = [
+const GAPS: &[Row] = &[
     // the header, section 2 up to 492, sections 3 to 5 from 496 on, the table at 520
     Row {
         edits: &[Edit::Bytes(2, 420)],
@@ -245,22 +245,22 @@ pub const GAPS: [Row; 2] = [
 ];
 
 /// Section 5 far behind the others, with zeros between them.
-pub const FAR: Row = Row {
+pub static FAR: [Row; 1] = [Row {
     edits: &[Edit::Layout, Edit::Place(5, 1 << 20)],
     reads: 1,
     writes: 3,
     again: 4,
     ..UNREAD
-};
+}];
 
 /// The five sections, over a device that can get long.
-pub const LONG: Setting = Setting {
+const LONG: Setting = Setting {
     recipe: SECTIONS,
     room: LONG_ROOM,
 };
 
 /// Edits of that object in class 64, after which more than a page is written in one place.
-pub const LONG_ROWS: [Row; 2] = [
+const LONG_ROWS: &[Row] = &[
     // the header, section 2 in two pages, sections 3 to 5 from 70,072 on, the table at 70,096
     Row {
         edits: &[Edit::Bytes(2, 70_000)],
@@ -280,7 +280,7 @@ pub const LONG_ROWS: [Row; 2] = [
 ];
 
 /// The five sections, of which the fifth has the same home as the first.
-pub const SHARED: Setting = Setting {
+const SHARED: Setting = Setting {
     recipe: Recipe {
         puts: &[Put::Field(Field::Section(5, SectionField::Offset), 64)],
         ..SECTIONS
@@ -289,7 +289,7 @@ pub const SHARED: Setting = Setting {
 };
 
 /// Edits of that object in class 64: each section gets a place of its own.
-pub const SHARED_ROWS: [Row; 2] = [
+const SHARED_ROWS: &[Row] = &[
     // the header, section 5 at 96, and the table
     Row {
         reads: 1,
@@ -308,7 +308,7 @@ pub const SHARED_ROWS: [Row; 2] = [
 ];
 
 /// The five sections, and five bytes behind all parts.
-pub const TAILED: Setting = Setting {
+const TAILED: Setting = Setting {
     recipe: Recipe {
         puts: &[Put::Bytes(488, b"tail\n")],
         ..SECTIONS
@@ -318,7 +318,7 @@ pub const TAILED: Setting = Setting {
 
 /// Edits of that object in class 64: what stands behind the parts is cut off, or written over, or
 /// stays under the caller's layout.
-pub const TAILED_ROWS: [Row; 3] = [
+const TAILED_ROWS: &[Row] = &[
     MARKED,
     // the header, section 2 up to 489, the fill up to the old end, 493, sections 3 to 5 from 496
     // on, and the table
@@ -336,6 +336,84 @@ pub const TAILED_ROWS: [Row; 3] = [
         ..UNREAD
     },
 ];
+
+/// An object, and edits of it.
+pub struct Edited {
+    /// The object.
+    pub setting: Setting,
+    /// The edits.
+    pub rows: &'static [Row],
+}
+
+/// Which object it is.
+#[derive(Clone, Copy)]
+pub enum Which {
+    /// Five sections, in any class and without the caller's layout.
+    Five,
+    /// The same under the caller's layout.
+    Laid,
+    /// The same, with a gap behind the end that the device has.
+    Gaps,
+    /// The same over a device that can get long.
+    Long,
+    /// Five sections of which two share a home.
+    Shared,
+    /// Five sections with bytes behind all parts.
+    Tailed,
+}
+
+/// All of them.
+pub static ALL: [Which; 6] = [
+    Which::Five,
+    Which::Laid,
+    Which::Gaps,
+    Which::Long,
+    Which::Shared,
+    Which::Tailed,
+];
+
+static FIVE_TABLE: Edited = Edited {
+    setting: FIVE,
+    rows: ROWS,
+};
+
+static LAID_TABLE: Edited = Edited {
+    setting: FIVE,
+    rows: LAID,
+};
+
+static GAPS_TABLE: Edited = Edited {
+    setting: FIVE,
+    rows: GAPS,
+};
+
+static LONG_TABLE: Edited = Edited {
+    setting: LONG,
+    rows: LONG_ROWS,
+};
+
+static SHARED_TABLE: Edited = Edited {
+    setting: SHARED,
+    rows: SHARED_ROWS,
+};
+
+static TAILED_TABLE: Edited = Edited {
+    setting: TAILED,
+    rows: TAILED_ROWS,
+};
+
+/// An object with its edits. This function alone names the tables, so that no other one's proof has
+/// them before it.
+pub fn table(which: Which) -> &'static Edited {
+    match which {
+        Which::Five => &FIVE_TABLE,
+        Which::Laid => &LAID_TABLE,
+        Which::Gaps => &GAPS_TABLE,
+        Which::Long => &LONG_TABLE,
+        Which::Shared => &SHARED_TABLE,
+        Which::Tailed => &TAILED_TABLE,
+    }
+}
 
 /// The bytes that an update to a sink puts: the image.
 pub fn image_of<S: Source>(elf: &mut Elf<S>) -> Option<Octets> {

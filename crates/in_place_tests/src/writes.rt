@@ -1,29 +1,25 @@
 //! Writes that fail, once and in several updates one after the other, and updates that are done
 //! again.
 
-ghost use Rattle.std.specs.Prelude.{◌≡◌, length};
-
 use crate::edits::{Edit, are_made};
-use crate::rows::{
-    FIVE, GAPS, LAID, LONG, LONG_ROWS, ROWS, Row, SHARED, SHARED_ROWS, TAILED, TAILED_ROWS, ends,
-    expect, expect_image, has_image,
-};
+use crate::rows::{ALL, Row, Which, ends, expect, expect_image, has_image, table};
+use crate::tasks::Task;
 use elf_descriptor::Elf;
 use elf_outside::{Device, Source};
 use elf_types::ElfError;
 use elf_types::constants::{SHT_NOTE, SHT_PROGBITS};
 use std::alloc::Global;
-use test_descriptors::{Bad, NONE, Setting, Work, all_but_marks_agree, is_done_by, is_done_in};
+use test_descriptors::{Setting, all_but_marks_agree, is_done_by, is_done_in};
 use test_images::{Image, WIDE};
 use update_in_place::update_in_place;
 
 /// Updates of which some fail, with edits after those, and one that ends.
 #[derive(Clone, Copy)]
-struct Repeated {
+pub struct Repeated {
     /// The edits before.
     edits: &'static [Edit],
     /// The writes that fail, by their numbers from the first update on.
-    writes: [u64; 3],
+    pub writes: [u64; 3],
     /// How many updates fail.
     fails: u64,
     /// The edits after those.
@@ -73,29 +69,21 @@ impl Repeated {
         }
         expect_image(elf, image)
     }
-}
 
-impl Work for Repeated {
-    fn bad(&self) -> Bad {
-        Bad {
-            writes: self.writes,
-            ..NONE
-        }
-    }
-
-    fn is_done<D: Device, F: Source>(
+    /// Whether the updates fail and end so.
+    pub fn is_done<D: Device, F: Source>(
         &self,
         elf: &mut Elf<D>,
         fresh: &mut Elf<F>,
         image: &mut Image,
-    ) -> bool
-        requires { length elf.old.room ≡ length elf.old.o.sections }
-    {
-        let mut stated = expect(fresh, self.edits, image) && are_made(elf, self.edits);
-        stated = stated && all_fail(elf, fresh, image, self.fails);
-        stated = stated && self.edit_again(elf, fresh, image);
-        stated = stated && all_fail(elf, fresh, image, self.more);
-        stated && ends(elf, image) && ends(elf, image)
+    ) -> bool {
+        expect(fresh, self.edits, image)
+            && are_made(elf, self.edits)
+            && all_fail(elf, fresh, image, self.fails)
+            && self.edit_again(elf, fresh, image)
+            && all_fail(elf, fresh, image, self.more)
+            && ends(elf, image)
+            && ends(elf, image)
     }
 }
 
@@ -109,7 +97,7 @@ fn is_repeated(alloc: Global, setting: &Setting, row: &Row, writes: [u64; 3], fa
         more: 0,
         alike: true,
     };
-    is_done_by(alloc, setting, WIDE, &work, fails == 2)
+    is_done_by(alloc, setting, WIDE, &Task::Repeated(work), fails == 2)
 }
 
 /// Whether an update whose write with this number fails can be repeated, also where one more fails,
@@ -146,19 +134,25 @@ fn are_repeated(alloc: Global, setting: &Setting, rows: &[Row]) -> bool {
     true
 }
 
+/// Whether those of all objects can.
+fn all_are_repeated(alloc: Global) -> bool {
+    for which in ALL.iter() {
+        let made = table(*which);
+        if !are_repeated(alloc, &made.setting, made.rows) {
+            return false;
+        }
+    }
+    true
+}
+
 #[test]
 fn an_update_that_fails_to_write_can_be_repeated(rt: HostRuntime) {
-    assert!(rt; are_repeated(rt.alloc(), &FIVE, &ROWS));
-    assert!(rt; are_repeated(rt.alloc(), &FIVE, &LAID));
-    assert!(rt; are_repeated(rt.alloc(), &FIVE, &GAPS));
-    assert!(rt; are_repeated(rt.alloc(), &LONG, &LONG_ROWS));
-    assert!(rt; are_repeated(rt.alloc(), &SHARED, &SHARED_ROWS));
-    assert!(rt; are_repeated(rt.alloc(), &TAILED, &TAILED_ROWS));
+    assert!(rt; all_are_repeated(rt.alloc()));
 }
 
 /// Edits after a failed update: the image gets shorter than the device, or longer, or as long, with
 /// other sections that move.
-const NEXT: [&[Edit]; 7] = [
+static NEXT: [&[Edit]; 7] = [
     &[Edit::Bytes(2, 0)],
     &[Edit::Bytes(2, 300)],
     &[Edit::Section(5)],
@@ -172,6 +166,7 @@ const NEXT: [&[Edit]; 7] = [
 /// written, where the first write of so many updates after the edits fails too.
 fn is_edited_after(
     alloc: Global,
+    setting: &Setting,
     row: &Row,
     bad: u64,
     then: &'static [Edit],
@@ -186,15 +181,21 @@ fn is_edited_after(
         more,
         alike,
     };
-    is_done_by(alloc, &FIVE, WIDE, &work, false)
+    is_done_by(alloc, setting, WIDE, &Task::Repeated(work), false)
 }
 
 /// Whether it is after each write of its update failed; after every second one an update fails once
 /// more.
-fn is_edited_between(alloc: Global, row: &Row, then: &'static [Edit], alike: bool) -> bool {
+fn is_edited_between(
+    alloc: Global,
+    setting: &Setting,
+    row: &Row,
+    then: &'static [Edit],
+    alike: bool,
+) -> bool {
     for bad in 1..row.writes.saturating_add(1) {
         let more = if alike { bad % 2 } else { 0 };
-        if !is_edited_after(alloc, row, bad, then, more, alike) {
+        if !is_edited_after(alloc, setting, row, bad, then, more, alike) {
             return false;
         }
     }
@@ -202,19 +203,20 @@ fn is_edited_between(alloc: Global, row: &Row, then: &'static [Edit], alike: boo
 }
 
 /// Whether an object is, by each of these edits, and by the flag of the caller's layout.
-fn is_edited_by_all(alloc: Global, row: &Row, next: &[&'static [Edit]]) -> bool {
+fn is_edited_by_all(alloc: Global, setting: &Setting, row: &Row, next: &[&'static [Edit]]) -> bool {
     for then in next {
-        if !is_edited_between(alloc, row, then, true) {
+        if !is_edited_between(alloc, setting, row, then, true) {
             return false;
         }
     }
-    is_edited_between(alloc, row, &[Edit::Layout], false)
+    is_edited_between(alloc, setting, row, &[Edit::Layout], false)
 }
 
-/// Whether each object is.
-fn are_edited_between(alloc: Global, rows: &[Row], next: &[&'static [Edit]]) -> bool {
-    for row in rows {
-        if !is_edited_by_all(alloc, row, next) {
+/// Whether each object of a table is.
+fn are_edited_between(alloc: Global, which: Which, next: &[&'static [Edit]]) -> bool {
+    let made = table(which);
+    for row in made.rows {
+        if !is_edited_by_all(alloc, &made.setting, row, next) {
             return false;
         }
     }
@@ -222,9 +224,10 @@ fn are_edited_between(alloc: Global, rows: &[Row], next: &[&'static [Edit]]) -> 
 }
 
 /// Whether each object under the caller's layout is, by another entry point.
-fn are_laid_between(alloc: Global, rows: &[Row]) -> bool {
-    for row in rows {
-        if !is_edited_between(alloc, row, &[Edit::Entry(9)], false) {
+fn are_laid_between(alloc: Global) -> bool {
+    let laid = table(Which::Laid);
+    for row in laid.rows {
+        if !is_edited_between(alloc, &laid.setting, row, &[Edit::Entry(9)], false) {
             return false;
         }
     }
@@ -233,57 +236,28 @@ fn are_laid_between(alloc: Global, rows: &[Row]) -> bool {
 
 #[test]
 fn an_object_is_edited_between_two_updates(rt: HostRuntime) {
-    assert!(rt; are_edited_between(rt.alloc(), &ROWS, &NEXT));
-    assert!(rt; are_laid_between(rt.alloc(), &LAID));
+    assert!(rt; are_edited_between(rt.alloc(), Which::Five, &NEXT));
+    assert!(rt; are_laid_between(rt.alloc()));
 }
 
 /// Zeros in place of another fill byte, which a failed update may have put behind the base.
-const ZEROS: [&[Edit]; 1] = [&[Edit::Fill(0)]];
+static ZEROS: [&[Edit]; 1] = [&[Edit::Fill(0)]];
 
 #[test]
 fn what_a_failed_update_put_behind_the_base_is_written_over(rt: HostRuntime) {
-    assert!(rt; are_edited_between(rt.alloc(), &GAPS, &ZEROS));
+    assert!(rt; are_edited_between(rt.alloc(), Which::Gaps, &ZEROS));
 }
 
-/// An update whose write with a number fails, and what it leaves of the device.
-#[derive(Clone, Copy)]
-struct Torn {
-    row: Row,
-    bad: u64,
-}
-
-impl Work for Torn {
-    fn bad(&self) -> Bad {
-        Bad {
-            writes: [self.bad, 0, 0],
-            ..NONE
-        }
-    }
-
-    fn is_done<D: Device, F: Source>(
-        &self,
-        elf: &mut Elf<D>,
-        fresh: &mut Elf<F>,
-        image: &mut Image,
-    ) -> bool
-        requires { length elf.old.room ≡ length elf.old.o.sections }
-    {
-        let stated = expect(fresh, self.row.edits, image) && are_made(elf, self.row.edits);
-        stated && update_in_place(elf) == Err(ElfError::Write)
-    }
-
-    fn may_leave(&self, held: &[u8], old: &[u8], new: &[u8]) -> bool {
-        if held.len() != old.len() && held.len() != new.len() {
-            return false;
-        }
-        for (i, byte) in held.iter().enumerate() {
-            let is_old = is_at(*byte, old.get(i), *byte == 0);
-            if !is_old && !is_at(*byte, new.get(i), false) {
-                return false;
-            }
-        }
-        true
-    }
+/// Whether an update after edits fails to write.
+pub fn is_torn<D: Device, F: Source>(
+    elf: &mut Elf<D>,
+    fresh: &mut Elf<F>,
+    image: &mut Image,
+    edits: &[Edit],
+) -> bool {
+    expect(fresh, edits, image)
+        && are_made(elf, edits)
+        && update_in_place(elf) == Err(ElfError::Write)
 }
 
 /// Whether a byte is that of its place, or what is said where that is past the end.
@@ -294,11 +268,25 @@ fn is_at(byte: u8, there: Option<&u8>, past: bool) -> bool {
     }
 }
 
-/// Whether each byte is the old one or the new one where a write fails, by each of the writes.
+/// Whether each byte that is held is an old one or a new one.
+pub fn leaves_old_or_new(held: &[u8], old: &[u8], new: &[u8]) -> bool {
+    if held.len() != old.len() && held.len() != new.len() {
+        return false;
+    }
+    for (i, byte) in held.iter().enumerate() {
+        let is_old = is_at(*byte, old.get(i), *byte == 0);
+        if !is_old && !is_at(*byte, new.get(i), false) {
+            return false;
+        }
+    }
+    true
+}
+
+/// Whether it is so where a write fails, by each of the writes.
 fn are_torn(alloc: Global, setting: &Setting, rows: &[Row]) -> bool {
     for row in rows {
         for bad in 1..row.writes.saturating_add(1) {
-            if !is_done_in(alloc, setting, WIDE, &Torn { row: *row, bad }) {
+            if !is_done_in(alloc, setting, WIDE, &Task::Torn(*row, bad)) {
                 return false;
             }
         }
@@ -306,12 +294,18 @@ fn are_torn(alloc: Global, setting: &Setting, rows: &[Row]) -> bool {
     true
 }
 
+/// Whether it is of all objects.
+fn all_are_torn(alloc: Global) -> bool {
+    for which in ALL.iter() {
+        let made = table(*which);
+        if !are_torn(alloc, &made.setting, made.rows) {
+            return false;
+        }
+    }
+    true
+}
+
 #[test]
 fn a_write_that_fails_leaves_old_or_new_bytes(rt: HostRuntime) {
-    assert!(rt; are_torn(rt.alloc(), &FIVE, &ROWS));
-    assert!(rt; are_torn(rt.alloc(), &FIVE, &LAID));
-    assert!(rt; are_torn(rt.alloc(), &FIVE, &GAPS));
-    assert!(rt; are_torn(rt.alloc(), &LONG, &LONG_ROWS));
-    assert!(rt; are_torn(rt.alloc(), &SHARED, &SHARED_ROWS));
-    assert!(rt; are_torn(rt.alloc(), &TAILED, &TAILED_ROWS));
+    assert!(rt; all_are_torn(rt.alloc()));
 }

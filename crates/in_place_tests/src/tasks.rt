@@ -1,0 +1,106 @@
+//! What is done with a descriptor over a device.
+
+ghost use Rattle.std.specs.Prelude.{◌≡◌, length};
+
+use crate::edits::{Edit, are_made};
+use crate::endings::{grows, is_written_twice};
+use crate::reads::fails_to_read;
+use crate::refusals::is_refused;
+use crate::rows::{Row, ends, expect};
+use crate::writes::{Repeated, is_torn, leaves_old_or_new};
+use elf_descriptor::Elf;
+use elf_outside::{Device, Source};
+use elf_types::ElfError;
+use test_descriptors::{Bad, NONE, Work};
+use test_images::Image;
+
+/// What is done.
+#[derive(Clone, Copy)]
+pub enum Task {
+    /// An update ends, after which a second one has nothing to do.
+    Ends(Row),
+    /// An update ends after edits, and another one after other edits.
+    Twice(&'static [Edit], &'static [Edit]),
+    /// An object that is not edited is updated, over a device whose first write would fail.
+    Left,
+    /// A section gets a second piece, and those behind it move.
+    Grows,
+    /// Updates fail to write, and one ends.
+    Repeated(Repeated),
+    /// The write with a number fails.
+    Torn(Row, u64),
+    /// The read with a number fails, and the update is done again or not.
+    Unread(Row, u64, bool),
+    /// An update is refused after edits, over a device of which no call would do.
+    Refused(&'static [Edit], ElfError),
+}
+
+/// These writes fail.
+fn with_bad_writes(writes: [u64; 3]) -> Bad {
+    Bad { writes, ..NONE }
+}
+
+/// Whether an update ends, and then one that has nothing to do.
+fn ends_twice<D: Device, F: Source>(
+    elf: &mut Elf<D>,
+    fresh: &mut Elf<F>,
+    image: &mut Image,
+    edits: &[Edit],
+) -> bool {
+    expect(fresh, edits, image) && are_made(elf, edits) && ends(elf, image) && ends(elf, image)
+}
+
+impl Work for Task {
+    fn bad(&self) -> Bad {
+        match *self {
+            Task::Left => with_bad_writes([1, 0, 0]),
+            Task::Repeated(repeated) => with_bad_writes(repeated.writes),
+            Task::Torn(_, bad) => with_bad_writes([bad, 0, 0]),
+            Task::Unread(_, bad, _) => Bad {
+                reads: [bad, 0, 0],
+                ..NONE
+            },
+            Task::Refused(..) => Bad {
+                reads: [4, 5, 6],
+                writes: [1, 2, 3],
+            },
+            _ => NONE,
+        }
+    }
+
+    fn asked(&self) -> Option<u64> {
+        match *self {
+            Task::Ends(row) => Some(row.loads.saturating_add(row.reads).saturating_mul(8)),
+            Task::Left | Task::Refused(..) => Some(0),
+            Task::Grows => Some(24),
+            _ => None,
+        }
+    }
+
+    fn is_done<D: Device, F: Source>(
+        &self,
+        elf: &mut Elf<D>,
+        fresh: &mut Elf<F>,
+        image: &mut Image,
+    ) -> bool
+        requires { length elf.old.room ≡ length elf.old.o.sections }
+    {
+        match *self {
+            Task::Ends(row) => ends_twice(elf, fresh, image, row.edits),
+            Task::Twice(first, second) => is_written_twice(elf, fresh, image, first, second),
+            Task::Left => ends(elf, image),
+            Task::Grows => grows(elf, image),
+            Task::Repeated(repeated) => repeated.is_done(elf, fresh, image),
+            Task::Torn(row, _) => is_torn(elf, fresh, image, row.edits),
+            Task::Unread(row, _, again) => fails_to_read(elf, fresh, image, row.edits, again),
+            Task::Refused(edits, by) => is_refused(elf, fresh, edits, by),
+        }
+    }
+
+    fn may_leave(&self, held: &[u8], old: &[u8], new: &[u8]) -> bool {
+        match *self {
+            Task::Torn(..) => leaves_old_or_new(held, old, new),
+            _ => held == new,
+        }
+    }
+}
