@@ -44,15 +44,15 @@ get_each P [] i each = tt
 get_each P (x ∷ l) zero each = each.0
 get_each P (x ∷ l) (suc i) each = get_each P l i each.1
 
-pub all_inside : (k : KeptRanges) → IsInside k.held k.elf.o.base k.ranges.header
-    → IsInside k.held k.elf.o.base k.ranges.segments → IsInside k.held k.elf.o.base k.ranges.table
-    → All (IsInside k.held k.elf.o.base) k.ranges.sections → AreInside k
+pub all_inside : (k : KeptRanges) → IsInside k.held k.source.base k.ranges.header
+    → IsInside k.held k.source.base k.ranges.segments → IsInside k.held k.source.base k.ranges.table
+    → All (IsInside k.held k.source.base) k.ranges.sections → AreInside k
 all_inside k header segments table sections part.Header = header
 all_inside k header segments table sections part.Segments = segments
 all_inside k header segments table sections part.Table = table
 all_inside k header segments table sections (part.Section s) =
-    get_each (IsInside k.held k.elf.o.base) k.ranges.sections s
-    (recursion_from_All (IsInside k.held k.elf.o.base) k.ranges.sections sections)
+    get_each (IsInside k.held k.source.base) k.ranges.sections s
+    (recursion_from_All (IsInside k.held k.source.base) k.ranges.sections sections)
 all_inside k header segments table sections part.Object = tt
 all_inside k header segments table sections (part.Piece s p) = tt
 
@@ -68,11 +68,11 @@ pub part_long : (k : KeptRanges) (p : PartAt) (o : Option ByteRange) (range : By
     → HasLength (ranged_pieces k) p
 part_long k p o range known is inside len =
     let at : range_at k.ranges p.part ≡ Some range = sym known ∙ is in
-    let lies : IsInside k.held k.elf.o.base range =
-    subst (λ (x : Option ByteRange). LiesInside k.held k.elf.o.base x) at (inside p.part) in
-    len ∙ sym (range_long k.held k.elf.o.base range lies)
-    ∙ sym (one_length (range_bytes k.held k.elf.o.base range))
-    ∙ sym (ap (λ (x : Option ByteRange). pieces_length (pieces_at k.held k.elf.o.base x)) at)
+    let lies : IsInside k.held k.source.base range =
+    subst (λ (x : Option ByteRange). LiesInside k.held k.source.base x) at (inside p.part) in
+    len ∙ sym (range_long k.held k.source.base range lies)
+    ∙ sym (one_length (range_bytes k.held k.source.base range))
+    ∙ sym (ap (λ (x : Option ByteRange). pieces_length (pieces_at k.held k.source.base x)) at)
 
 pub after_sum : (k : KeptRanges) (p : PartAt) (end : ℕ) (r : Option ℕ) (fits : Type 0)
     → HasLength (ranged_pieces k) p → end ≤ p.at → SomeIff r fits (p.at + p.len)
@@ -127,7 +127,7 @@ plan_ends k plan end i from all below within = record {
 -- ---- Both
 
 pub ready_of : (k : KeptRanges) (listed plan : List PartAt) (end len : ℕ) → listed ≡ plan
-    → AreInside k → len ≡ length k.elf.o.base → k.kept ≤ len → ArePlanned k listed end
+    → AreInside k → len ≡ length k.source.base → k.kept ≤ len → ArePlanned k listed end
     → IsReadyImage k plan end
 ready_of k listed plan end len same inside base most planned =
     subst (λ (l : List PartAt). IsReadyImage k l end) same (record {

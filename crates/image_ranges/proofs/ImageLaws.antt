@@ -94,7 +94,7 @@ module _ (o : Object) (k : KeptRanges) (plan : List PartAt) (end : ℕ)
       in_line (places_of o).end (ground_byte (placed o).base (kept_base o) o.fill) 0 bs) same_blocks
       ∙ planned_image o of_object is_planned
 
-  ready_is : AreInside k → k.kept ≤ length k.elf.o.base → IsReadyImage k plan end
+  ready_is : AreInside k → k.kept ≤ length k.source.base → IsReadyImage k plan end
   unfolding places_of
   ready_is inside kept = record {
     inside = inside;

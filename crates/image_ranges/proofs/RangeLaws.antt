@@ -1,22 +1,23 @@
 -- Ranges of bytes as the pieces of parts.
 use Rattle.std.proofs.Common.{◌≡◌, ℕ, zero, suc, ◌+◌, ◌<◌, ◌≤◌, Bool, true, false, List, [], ◌∷◌, length, take, drop, get_or, Option, Some, None, Result, Ok, Err, refl, sym, ap, ◌∙◌, subst, arith, length-take, length-drop}
-use Rattle.std.specs.Prelude.{if◌then◌else◌, ◌==◌, OnOk}
+use Rattle.std.specs.Prelude.{if◌then◌else◌, ◌==◌, is_some, IfSome, IsTrue, OnOk}
+use Rattle.std.proofs.lemmas.List.{length-replicate}
 use Rattle.elf_types.specs.declared.errors.ElfError.{ElfError}
 use Rattle.elf_types.specs.declared.records.Part.{Part}
+use Rattle.elf_outside.specs.Asks.{Asks, Leaves}
 use Rattle.elf_outside.specs.declared.sources.Source.{Ghosts}
 use Rattle.elf_outside.proofs.RangeLemmas.{take-drop-range}
 use Rattle.writing_laws.specs.Plan.{places_below}
-use Rattle.elf_descriptor.specs.State.{State}
+use Rattle.elf_descriptor.specs.Views.{source_bytes}
 use Rattle.elf_update.specs.declared.parts.Origin.{Origin}
 use Rattle.elf_update.specs.declared.parts.Origin.TheVariants.{Piece, Base}
 use Rattle.elf_update.specs.declared.parts.PieceExtent.{PieceExtent}
 use Rattle.elf_update.specs.Origins.{absent_piece, origin_bytes, origin_due, ReadyFor, IsExtent, CopiesBy}
-use Rattle.elf_update.specs.Descriptors.{kept_of_elf, faults_of, taken_of}
 use Rattle.elf_update.proofs.CopyLaws.{base_bytes}
 use Rattle.elf_update.proofs.DescriptorLaws.{one_within, one_copied, one_extent, none_within}
 use Rattle.image_ranges.specs.declared.ranges.ByteRange.{ByteRange}
 use Rattle.image_ranges.specs.declared.parts.RangedParts.{RangedParts}
-use Rattle.image_ranges.specs.Ranges.{bytes_under, range_bytes, IsInside, range_due, range_at, pieces_at, LiesInside, due_at, piece_due, KeptRanges, kept_of_parts, ranged_pieces, ranged_base, ranged_due, AreInside, parts_faults, parts_taken}
+use Rattle.image_ranges.specs.Ranges.{bytes_under, range_bytes, IsInside, range_due, range_at, pieces_at, LiesInside, due_at, piece_due, KeptSource, kept_of_source, source_faults, source_taken, KeptRanges, kept_of_parts, ranged_pieces, ranged_base, ranged_due, AreInside, parts_faults, parts_taken}
 
 -- ---- A range
 
@@ -149,8 +150,8 @@ pub part_count : (k : KeptRanges) (of : Part) (o : Option ByteRange) (n : ℕ)
     → ((held base : List ℕ) → n ≡ length (pieces_at held base o))
     → n ≡ length (ranged_pieces k of)
 part_count k of o n range count =
-    count k.held k.elf.o.base
-    ∙ ap (λ (x : Option ByteRange). length (pieces_at k.held k.elf.o.base x)) range
+    count k.held k.source.base
+    ∙ ap (λ (x : Option ByteRange). length (pieces_at k.held k.source.base x)) range
 
 pub part_extent : (k : KeptRanges) (of : Part) (o : Option ByteRange) (p : ℕ) (extent : PieceExtent)
     → o ≡ range_at k.ranges of → AreInside k → p < length (ranged_pieces k of)
@@ -159,26 +160,26 @@ pub part_extent : (k : KeptRanges) (of : Part) (o : Option ByteRange) (p : ℕ) 
     → IsExtent extent (get_or (ranged_pieces k of) p absent_piece)
 part_extent k of o p extent range inside there is =
     subst (λ (x : Option ByteRange).
-    IsExtent extent (get_or (pieces_at k.held k.elf.o.base x) p absent_piece)) range
-    (is k.held k.elf.o.base p
-    (subst (λ (x : Option ByteRange). LiesInside k.held k.elf.o.base x) (sym range) (inside of))
-    (subst (λ (x : Option ByteRange). p < length (pieces_at k.held k.elf.o.base x))
+    IsExtent extent (get_or (pieces_at k.held k.source.base x) p absent_piece)) range
+    (is k.held k.source.base p
+    (subst (λ (x : Option ByteRange). LiesInside k.held k.source.base x) (sym range) (inside of))
+    (subst (λ (x : Option ByteRange). p < length (pieces_at k.held k.source.base x))
     (sym range) there))
 
 -- ---- Where bytes come from
 
 module _ (k : KeptRanges) (of : Origin) (part : Part) (p : ℕ) (o : Option ByteRange)
     (is : of ≡ Piece part p) (range : o ≡ range_at k.ranges part) where
-  pub origin_inside : ReadyFor (AreInside k) of → LiesInside k.held k.elf.o.base o
+  pub origin_inside : ReadyFor (AreInside k) of → LiesInside k.held k.source.base o
   origin_inside ready =
       let all : AreInside k = subst (λ (x : Origin). ReadyFor (AreInside k) x) is ready in
-      subst (λ (x : Option ByteRange). LiesInside k.held k.elf.o.base x) (sym range) (all part)
+      subst (λ (x : Option ByteRange). LiesInside k.held k.source.base x) (sym range) (all part)
 
   pub origin_within : (n : ℕ) → n ≤ length (origin_bytes (ranged_pieces k) (ranged_base k) of)
-      → n ≤ length (get_or (pieces_at k.held k.elf.o.base o) p absent_piece).1
+      → n ≤ length (get_or (pieces_at k.held k.source.base o) p absent_piece).1
   origin_within n there =
       subst (λ (x : Option ByteRange). n ≤ length (get_or
-      (pieces_at k.held k.elf.o.base x) p absent_piece).1)
+      (pieces_at k.held k.source.base x) p absent_piece).1)
       (sym range)
       (subst (λ (x : Origin). n ≤ length (origin_bytes (ranged_pieces k)
       (ranged_base k) x)) is there)
@@ -186,13 +187,13 @@ module _ (k : KeptRanges) (of : Origin) (part : Part) (p : ℕ) (o : Option Byte
   pub origin_copied : {T : Type 0} (r : Result T ElfError) (from n : ℕ) (out : List ℕ)
       (told : Type 0)
       → (told → OnOk r (out ≡ take n (drop from (get_or
-      (pieces_at k.held k.elf.o.base o) p absent_piece).1)))
+      (pieces_at k.held k.source.base o) p absent_piece).1)))
       → told → OnOk r (out ≡ take n (drop from (origin_bytes (ranged_pieces k) (ranged_base k) of)))
   origin_copied r from n out told put known =
       subst (λ (x : Origin).
       OnOk r (out ≡ take n (drop from (origin_bytes (ranged_pieces k) (ranged_base k) x)))) (sym is)
       (subst (λ (x : Option ByteRange).
-      OnOk r (out ≡ take n (drop from (get_or (pieces_at k.held k.elf.o.base x) p absent_piece).1)))
+      OnOk r (out ≡ take n (drop from (get_or (pieces_at k.held k.source.base x) p absent_piece).1)))
       range (put known))
 
   pub origin_asked : (from to : ℕ) → piece_due o p from to
@@ -209,25 +210,25 @@ module _ (k : KeptRanges) (of : Origin) (is : of ≡ Base) where
       subst (λ (x : Origin). n ≤ length (origin_bytes (ranged_pieces k) (ranged_base k) x)) is there
 
   pub between_in_base : (n : ℕ) → n ≤ length (origin_bytes (ranged_pieces k) (ranged_base k) of)
-      → n ≤ length k.elf.o.base
+      → n ≤ length k.source.base
   between_in_base n there =
       let within = between_within n there in
-      let long = length-take k.kept k.elf.o.base in
+      let long = length-take k.kept k.source.base in
       omega (arith, within, long)
 
   pub between_copied : {T : Type 0} (r : Result T ElfError) (from n : ℕ) (out : List ℕ)
       (told : Type 0)
       → from + n ≤ length (origin_bytes (ranged_pieces k) (ranged_base k) of)
-      → (told → OnOk r (out ≡ take n (drop from k.elf.o.base)))
+      → (told → OnOk r (out ≡ take n (drop from k.source.base)))
       → told → OnOk r (out ≡ take n (drop from (origin_bytes (ranged_pieces k) (ranged_base k) of)))
   between_copied (Err e) from n out told there put known = tt
   between_copied (Ok y) from n out told there put known =
       let within = between_within (from + n) there in
-      let long = length-take k.kept k.elf.o.base in
+      let long = length-take k.kept k.source.base in
       let place : 0 + from ≡ from = omega arith in
-      let same : take n (drop from (ranged_base k)) ≡ take n (drop from k.elf.o.base) =
-      take-drop-range k.elf.o.base 0 k.kept from n (omega (arith, within, long))
-      ∙ ap (λ (m : ℕ). take n (drop m k.elf.o.base)) place in
+      let same : take n (drop from (ranged_base k)) ≡ take n (drop from k.source.base) =
+      take-drop-range k.source.base 0 k.kept from n (omega (arith, within, long))
+      ∙ ap (λ (m : ℕ). take n (drop m k.source.base)) place in
       subst (λ (x : Origin).
       out ≡ take n (drop from (origin_bytes (ranged_pieces k) (ranged_base k) x))) (sym is)
       (put known ∙ sym same)
@@ -243,33 +244,84 @@ module _ (k : KeptRanges) (of : Origin) (is : of ≡ Base) where
 
 -- ---- Copies
 
-pub copies_more : {S T : Type 0} (g : Ghosts S) (r : Result T ElfError) (old new : State S)
-    (n m : ℕ) → n ≤ m → CopiesBy (kept_of_elf g) (faults_of g) (taken_of g) r old new n
-    → CopiesBy (kept_of_elf g) (faults_of g) (taken_of g) r old new m
-copies_more g r old new n m more copies =
-    let no_more = copies.asks.no_more in
-    record {
-      leaves = copies.leaves;
-      later = copies.later;
-      read = copies.read;
-      asks = record { later = copies.asks.later; no_more = omega (arith, no_more, more) };
-    }
+-- a source has as many bytes as it says
+pub bytes_long : (holds : Option (List ℕ)) (size : ℕ) → IfSome holds (λ l. length l ≡ size)
+    → length (source_bytes holds size) ≡ size
+bytes_long None size sized = length-replicate size 0
+bytes_long (Some l) size sized = sized
 
--- a copy by the descriptor is one by the parts
+-- what was read is what it tells
+pub told_copied : {T : Type 0} (holds : Option (List ℕ)) (size : ℕ) (r : Result T ElfError)
+    (at n : ℕ) (out : List ℕ) → OnOk r (IfSome holds (λ image. out ≡ take n (drop at image)))
+    → IsTrue (is_some holds) → OnOk r (out ≡ take n (drop at (source_bytes holds size)))
+told_copied holds size (Err e) at n out put told = tt
+told_copied None size (Ok x) at n out put told = cc
+told_copied (Some image) size (Ok x) at n out put told = put
 
-pub copies_by_parts : {S T : Type 0} (g : Ghosts S) (r : Result T ElfError)
-    (old new : RangedParts S)
-    (n m : ℕ) → n ≡ m → new ≡ record old { elf = new.elf }
-    → CopiesBy (kept_of_elf g) (faults_of g) (taken_of g) r old.elf new.elf n
-    → CopiesBy (kept_of_parts g) (parts_faults g) (parts_taken g) r old new m
-copies_by_parts {S} g r old new n m same stays copies = record {
-  leaves = ap (λ (x : RangedParts S). kept_of_parts g x) stays
-      ∙ ap (λ x. record (kept_of_parts g old) { elf = x }) copies.leaves;
-  later = copies.later;
-  read = copies.read;
-  asks = record {
-    later = copies.asks.later;
-    no_more = subst (λ (k : ℕ). g.taken new.elf.source ≤ g.taken old.elf.source + k) same
-        copies.asks.no_more;
-  };
-}
+module _ {S : Type 0} (g : Ghosts S) where
+  abbrev Copies : {T : Type 0} → Result T ElfError → S → S → ℕ → Type 0
+  Copies r old new n =
+      CopiesBy (kept_of_source g) (source_faults g) (source_taken g) r old new n
+
+  -- nothing was read
+  pub still_copies : (s : S) (n : ℕ) → Copies {T = Unit {0}} (Ok tt) s s n
+  still_copies s n = record {
+    leaves = refl;
+    later = omega arith;
+    read = tt;
+    asks = record { later = omega arith; no_more = omega arith };
+  }
+
+  abbrev kept_as : ℕ → Option (List ℕ) → List (List ℕ) → KeptSource
+  kept_as size holds rest = record {
+    base = source_bytes holds size;
+    told = is_some holds;
+    size = size;
+    holds = holds;
+    rest = rest;
+  }
+
+  -- a source that is left is kept
+  pub kept_same : (old new : S) → Leaves g old new → kept_of_source g new ≡ kept_of_source g old
+  kept_same old new leaves =
+      ap (λ (m : ℕ). kept_as m (g.holds new) (g.rest new)) leaves.same_len
+      ∙ ap (λ (b : Option (List ℕ)). kept_as (g.size old) b (g.rest new)) leaves.same_bytes
+      ∙ ap (λ (l : List (List ℕ)). kept_as (g.size old) (g.holds old) l) leaves.same_rest
+
+  -- so many bytes were asked for
+  pub read_copies : {T : Type 0} (r : Result T ElfError) (old new : S) (n : ℕ)
+      → Asks g r old new n → Copies r old new n
+  read_copies r old new n asks = record {
+    leaves = kept_same old new asks.leaves;
+    later = asks.later;
+    read = asks.read;
+    asks = asks.taken;
+  }
+
+  pub copies_more : {T : Type 0} (r : Result T ElfError) (old new : S) (n m : ℕ) → n ≤ m
+      → Copies r old new n → Copies r old new m
+  copies_more r old new n m more copies =
+      let no_more = copies.asks.no_more in
+      record {
+        leaves = copies.leaves;
+        later = copies.later;
+        read = copies.read;
+        asks = record { later = copies.asks.later; no_more = omega (arith, no_more, more) };
+      }
+
+  -- a copy of the source is one by the parts
+  pub copies_by_parts : {T : Type 0} (r : Result T ElfError) (old new : RangedParts S) (n m : ℕ)
+      → n ≡ m → new ≡ record old { source = new.source }
+      → Copies r old.source new.source n
+      → CopiesBy (kept_of_parts g) (parts_faults g) (parts_taken g) r old new m
+  copies_by_parts r old new n m same stays copies = record {
+    leaves = ap (λ (x : RangedParts S). kept_of_parts g x) stays
+        ∙ ap (λ (x : KeptSource). record (kept_of_parts g old) { source = x }) copies.leaves;
+    later = copies.later;
+    read = copies.read;
+    asks = record {
+      later = copies.asks.later;
+      no_more = subst (λ (k : ℕ). g.taken new.source ≤ g.taken old.source + k) same
+          copies.asks.no_more;
+    };
+  }

@@ -83,20 +83,20 @@ nothing_read g e s due is =
     })
 
 leaves_kept : {S : Type 0} (g : Ghosts S) (old new : RangedParts S)
-    → kept_of_parts g new ≡ kept_of_parts g old → Leaves g old.elf.source new.elf.source
+    → kept_of_parts g new ≡ kept_of_parts g old → Leaves g old.source new.source
 leaves_kept g old new same = record {
-  same_len = ap (λ (x : KeptRanges). x.elf.size) same;
-  same_bytes = ap (λ (x : KeptRanges). x.elf.holds) same;
-  same_rest = ap (λ (x : KeptRanges). x.elf.rest) same;
+  same_len = ap (λ (x : KeptRanges). x.source.size) same;
+  same_bytes = ap (λ (x : KeptRanges). x.source.holds) same;
+  same_rest = ap (λ (x : KeptRanges). x.source.rest) same;
 }
 
 -- parts whose counts and whose source are these
 pub source_read : {S T : Type 0} (p : PartsGhosts (RangedParts S)) (g : Ghosts S)
     (r : Result T ElfError) (old new : RangedParts S) (due : ℕ)
     → ((a b : RangedParts S) → p.kept b ≡ p.kept a → kept_of_parts g b ≡ kept_of_parts g a)
-    → ((a : RangedParts S) → p.faults a ≡ g.faults a.elf.source)
-    → ((a : RangedParts S) → p.taken a ≡ g.taken a.elf.source)
-    → UsesParts p r old new due → UsesSource g r old.elf.source new.elf.source due
+    → ((a : RangedParts S) → p.faults a ≡ g.faults a.source)
+    → ((a : RangedParts S) → p.taken a ≡ g.taken a.source)
+    → UsesParts p r old new due → UsesSource g r old.source new.source due
 source_read {S} p g r old new due kept faults taken uses =
     let before = taken old in
     let after = taken new in
@@ -108,7 +108,7 @@ source_read {S} p g r old new due kept faults taken uses =
     record {
       leaves = leaves_kept g old new (kept old new uses.kept);
       later = omega (arith, later, first, last);
-      read = subst (λ (n : ℕ). DeviceReadRose r n (g.faults new.elf.source)) first
+      read = subst (λ (n : ℕ). DeviceReadRose r n (g.faults new.source)) first
           (subst (λ (n : ℕ). DeviceReadRose r (p.faults old) n) last uses.read);
       taken = record {
         later = omega (arith, least, before, after);
@@ -129,7 +129,7 @@ walk_stops (Err e) (inr is) = subst (λ (x : ElfError). IsSome (stop_of x)) (sym
 
 -- ---- What the walk rests on
 
-pub kept_within : (k : KeptRanges) (n : ℕ) → n ≡ k.kept → k.kept ≤ length k.elf.o.base
+pub kept_within : (k : KeptRanges) (n : ℕ) → n ≡ k.kept → k.kept ≤ length k.source.base
     → n ≤ length (ranged_base k)
 kept_within k n is inside =
-    let long = length-take k.kept k.elf.o.base in omega (arith, is, inside, long)
+    let long = length-take k.kept k.source.base in omega (arith, is, inside, long)

@@ -44,7 +44,7 @@ pub record StandsAfter (k : KeptRanges) (part : PartAt) (end after : ℕ) : Type
 -- range, stand one behind the other before the end
 pub record IsReadyImage (k : KeptRanges) (plan : List PartAt) (end : ℕ) : Type 0 where
   pub inside : AreInside k
-  pub kept : k.kept ≤ length k.elf.o.base
+  pub kept : k.kept ≤ length k.source.base
   pub long : All (HasLength (ranged_pieces k)) plan
   pub line : AreInLine end 0 (ranged_blocks k plan)
 
@@ -72,4 +72,4 @@ RangesMakeImage =
 abbrev pub RangesAreReady : Type 0
 RangesAreReady =
     (o : Object) (k : KeptRanges) (plan : List PartAt) (end : ℕ) → AreRangesOf o k plan end
-    → AreInside k → k.kept ≤ length k.elf.o.base → IsReadyImage k plan end
+    → AreInside k → k.kept ≤ length k.source.base → IsReadyImage k plan end

@@ -1,10 +1,11 @@
--- The parts of an image as ranges of bytes: of those that are held, or of the base of a descriptor.
-use Rattle.std.specs.Prelude.{ℕ, ◌+◌, ◌≤◌, ◌==◌, List, [], ◌∷◌, length, take, drop, slice_get, Option, Some, None, IfSome, if◌then◌else◌}
+-- The parts of an image as ranges of bytes: of those that are held, or of the bytes
+-- of a source, which are the base.
+use Rattle.std.specs.Prelude.{ℕ, ◌+◌, ◌≤◌, ◌==◌, Bool, List, [], ◌∷◌, length, take, drop, slice_get, Option, Some, None, is_some, IfSome, if◌then◌else◌}
 use Rattle.elf_types.specs.declared.records.Part.{Part}
 use Rattle.elf_types.specs.declared.records.Part.TheVariants as part
 use Rattle.elf_outside.specs.declared.sources.Source.{Ghosts}
 use Rattle.writing_laws.specs.Plan.{places_below}
-use Rattle.elf_update.specs.Descriptors.{KeptElf, kept_of_elf}
+use Rattle.elf_descriptor.specs.Views.{source_bytes}
 use Rattle.image_ranges.specs.declared.ranges.ByteRange.{ByteRange}
 use Rattle.image_ranges.specs.declared.ranges.PartRanges.{PartRanges}
 use Rattle.image_ranges.specs.declared.parts.RangedParts.{RangedParts}
@@ -52,37 +53,64 @@ piece_due range p from to = places_below (if p == 0 then due_at range else 0) fr
 
 -- ---- Those of all parts
 
+-- the bytes of a source; of one that does not tell them they count as zeros
+abbrev pub bytes_of_source : {S : Type 0} → Ghosts S → S → List ℕ
+bytes_of_source g s = source_bytes (g.holds s) (g.size s)
+
+-- what a read leaves of a source
+pub record KeptSource : Type 0 where
+  pub base : List ℕ
+  pub told : Bool
+  pub size : ℕ
+  pub holds : Option (List ℕ)
+  pub rest : List (List ℕ)
+
+abbrev pub kept_of_source : {S : Type 0} → Ghosts S → S → KeptSource
+kept_of_source g s = record {
+  base = bytes_of_source g s;
+  told = is_some (g.holds s);
+  size = g.size s;
+  holds = g.holds s;
+  rest = g.rest s;
+}
+
+abbrev pub source_faults : {S : Type 0} → Ghosts S → S → ℕ
+source_faults g s = g.faults s
+
+abbrev pub source_taken : {S : Type 0} → Ghosts S → S → ℕ
+source_taken g s = g.taken s
+
 -- all of the parts but what reading their source changes
 pub record KeptRanges : Type 0 where
-  pub elf : KeptElf
+  pub source : KeptSource
   pub held : List ℕ
   pub ranges : PartRanges
   pub kept : ℕ
 
 abbrev pub kept_of_parts : {S : Type 0} → Ghosts S → RangedParts S → KeptRanges
 kept_of_parts g parts = record {
-  elf = kept_of_elf g parts.elf;
+  source = kept_of_source g parts.source;
   held = parts.held;
   ranges = parts.ranges;
   kept = parts.kept;
 }
 
 abbrev pub ranged_pieces : KeptRanges → Part → List (ℕ × List ℕ)
-ranged_pieces k of = pieces_at k.held k.elf.o.base (range_at k.ranges of)
+ranged_pieces k of = pieces_at k.held k.source.base (range_at k.ranges of)
 
 -- what stands between the parts
 abbrev pub ranged_base : KeptRanges → List ℕ
-ranged_base k = take k.kept k.elf.o.base
+ranged_base k = take k.kept k.source.base
 
 abbrev pub ranged_due : KeptRanges → Part → ℕ
 ranged_due k of = due_at (range_at k.ranges of)
 
 -- each range lies in the bytes that it is one of
 abbrev pub AreInside : KeptRanges → Type 0
-AreInside k = (of : Part) → LiesInside k.held k.elf.o.base (range_at k.ranges of)
+AreInside k = (of : Part) → LiesInside k.held k.source.base (range_at k.ranges of)
 
 abbrev pub parts_faults : {S : Type 0} → Ghosts S → RangedParts S → ℕ
-parts_faults g parts = g.faults parts.elf.source
+parts_faults g parts = g.faults parts.source
 
 abbrev pub parts_taken : {S : Type 0} → Ghosts S → RangedParts S → ℕ
-parts_taken g parts = g.taken parts.elf.source
+parts_taken g parts = g.taken parts.source

@@ -2,10 +2,10 @@
 
 ghost use Rattle.std.specs.Prelude.{◌≡◌, ◌+◌, ◌≤◌, true, All, IfSome};
 ghost use Rattle.image_ranges.specs.Images.{IsReadyImage, StandsAfter, ArePlanned};
-ghost use Rattle.image_ranges.specs.Ranges.{IsInside, AreInside, kept_of_parts};
+ghost use Rattle.image_ranges.specs.Ranges.{IsInside, AreInside, bytes_of_source, kept_of_parts};
 
 use crate::images::RangedImage;
-use crate::parts::RangedParts;
+use crate::parts::{RangedParts, base_len};
 use crate::ranges::{ByteRange, range_at};
 use elf_layout::PartAt;
 use elf_outside::Source;
@@ -19,18 +19,20 @@ fn ends_within(range: ByteRange, len: u64) -> bool
 
 /// Whether a range lies in the bytes that it is one of.
 fn is_inside<S: Source>(parts: &RangedParts<S>, range: ByteRange) -> bool
-    ensures { result ≡ true → IsInside parts.now.held parts.now.elf.o.base range }
+    ensures { result ≡ true
+        → IsInside parts.now.held (bytes_of_source S.Source parts.now.source) range }
 {
     if range.held {
         return ends_within(range, parts.held.len());
     }
-    ends_within(range, parts.elf.base_len())
+    ends_within(range, base_len(&parts.source))
 }
 
 /// Whether those of the sections do.
 fn are_sections_inside<S: Source>(parts: &RangedParts<S>) -> bool
     ensures { result ≡ true
-        → All (IsInside parts.now.held parts.now.elf.o.base) parts.now.ranges.sections }
+        → All (IsInside parts.now.held (bytes_of_source S.Source parts.now.source))
+        parts.now.ranges.sections }
 {
     for range in parts.ranges.sections.as_slice() {
         if !is_inside(parts, *range) {
@@ -106,7 +108,7 @@ impl<S: Source> RangedImage<S> {
         if !are_inside(&self.parts) {
             return false;
         }
-        let len = self.parts.elf.base_len();
+        let len = base_len(&self.parts.source);
         if self.parts.kept > len {
             return false;
         }

@@ -1,6 +1,6 @@
 //! The image whose parts are ranges of bytes.
 
-ghost use Rattle.std.specs.Prelude.{Some, None, if◌then◌else◌};
+ghost use Rattle.std.specs.Prelude.{Some, None, is_some, if◌then◌else◌};
 ghost use Rattle.image_ranges.specs.Images.{IsReadyImage, ranged_text, ranged_asks};
 ghost use Rattle.image_ranges.specs.Ranges.{kept_of_parts};
 
@@ -10,6 +10,7 @@ use elf_outside::{Sink, Source};
 use elf_types::ElfError;
 use elf_update::{Ground, Page, put_image};
 use object_files::Image;
+use std::alloc::Global;
 
 /// An image whose parts are copied, and what is needed to write it in one go.
 #[derive(Drop)]
@@ -20,6 +21,8 @@ pub struct RangedImage<S: Source> {
     pub plan: Parts,
     /// Its length in bytes.
     pub end: u64,
+    /// Where the room for a page of it comes from.
+    pub alloc: Global,
 }
 
 /// The image is written page by page: of its source each byte of a range of the base is asked for
@@ -29,15 +32,15 @@ impl<S: Source> Image for RangedImage<S> {
 
     ghost ready = { λ i. IsReadyImage (kept_of_parts S.Source i.parts) i.plan i.end };
 
-    ghost bytes = { λ i. if i.parts.elf.told
+    ghost bytes = { λ i. if is_some (S.holds i.parts.source)
         then Some (ranged_text (kept_of_parts S.Source i.parts) i.plan i.end) else None };
 
-    ghost source = { λ i. i.parts.elf.source };
+    ghost source = { λ i. i.parts.source };
 
     ghost due = { λ i. ranged_asks (kept_of_parts S.Source i.parts) i.plan i.end };
 
     fn put_to<K: Sink>(&mut self, sink: &mut K) -> Result<(), ElfError> {
-        let mut page = match Page::new(self.parts.elf.alloc()) {
+        let mut page = match Page::new(self.alloc) {
             Ok(page) => page,
             Err(e) => return Err(e),
         };

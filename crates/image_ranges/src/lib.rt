@@ -1,6 +1,6 @@
-//! An image that is copied and not held: each of its parts is a range of the base of a descriptor,
-//! or of bytes that are held besides, and so is what stands between the parts. Whoever makes a
-//! large image of another one holds only what is new in it.
+//! An image that is copied and not held: each of its parts is a range of the bytes of a source, or
+//! of bytes that are held besides, and so is what stands between the parts. Whoever makes a large
+//! image of another one holds only what is new in it.
 #![tactic(auto)]
 
 mod checks;

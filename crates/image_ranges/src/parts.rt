@@ -1,22 +1,21 @@
 //! Ranges of bytes as the parts of an image.
 
-ghost use Rattle.std.specs.Prelude.{◌≡◌, ℕ, List, ◌<◌, ◌+◌, ◌^◌, ◌≤◌, IsTrue, length, take, drop, slice_index_or, if◌then◌else◌, IfErr, OnOk};
+ghost use Rattle.std.specs.Prelude.{◌≡◌, ℕ, List, ◌<◌, ◌+◌, ◌^◌, ◌≤◌, IsTrue, is_some, length, take, drop, slice_index_or, if◌then◌else◌, IfErr, OnOk};
 ghost use Rattle.elf_update.specs.Origins.{absent_piece, CopiesBy, IsExtent};
-ghost use Rattle.elf_update.specs.Descriptors.{kept_of_elf, faults_of, taken_of};
-ghost use Rattle.image_ranges.specs.Ranges.{IsInside, LiesInside, range_bytes, pieces_at, piece_due};
+ghost use Rattle.image_ranges.specs.Ranges.{IsInside, LiesInside, range_bytes, pieces_at, piece_due, bytes_of_source, kept_of_source, source_faults, source_taken};
 
 use crate::ranges::{ByteRange, PartRanges, copy_held, range_at};
-use elf_descriptor::Elf;
 use elf_outside::Source;
+use elf_outside::reads::read;
 use elf_types::{ElfError, Octets, Part};
 use elf_update::{ImageParts, Origin, PieceExtent};
 
-/// The parts of an image: each is one piece, a range of the bytes that are held or of the base of a
-/// descriptor. Between the parts stand the first bytes of that base.
+/// The parts of an image: each is one piece, a range of the bytes that are held or of those of a
+/// source, which are the base. Between the parts stand the first bytes of that base.
 #[derive(Drop)]
 pub struct RangedParts<S: Source> {
-    /// The descriptor from whose base it is copied.
-    pub elf: Elf<S>,
+    /// The source from which it is copied.
+    pub source: S,
     /// The bytes that are held.
     pub held: Octets,
     /// The ranges of the parts.
@@ -25,21 +24,42 @@ pub struct RangedParts<S: Source> {
     pub kept: u64,
 }
 
+/// The number of bytes of a source.
+pub(crate) fn base_len<S: Source>(src: &S) -> u64
+    ensures { result ≡ length (bytes_of_source S.Source src.now) }
+{
+    src.len()
+}
+
+/// Copies bytes of a source from the place `at` on into the whole of `buf`. It refuses `Read` alone
+/// and takes no memory.
+fn copy_source<S: Source>(src: &mut S, at: u64, buf: &mut [u8]) -> Result<(), ElfError>
+    requires { at + length buf.old ≤ length (bytes_of_source S.Source src.old) }
+    ensures bytes { IsTrue (is_some (S.holds src.old)) → OnOk result (buf.new
+        ≡ take (length buf.old) (drop at (bytes_of_source S.Source src.old))) }
+    ensures copies { CopiesBy (kept_of_source S.Source) (source_faults S.Source)
+        (source_taken S.Source) result src.old src.new (length buf.old) }
+    ensures err { IfErr result (λ e. e ≡ ElfError.Read) }
+{
+    read(src, at, buf)
+}
+
 /// Copies bytes of a range from a place in it on into the whole of `buf`. It refuses `Read` alone
 /// and takes no memory.
 fn copy_range<S: Source>(
-    elf: &mut Elf<S>,
+    src: &mut S,
     held: &Octets,
     range: ByteRange,
     from: u64,
     buf: &mut [u8],
 ) -> Result<(), ElfError>
-    requires inside { IsInside held.now elf.old.o.base range }
+    requires inside { IsInside held.now (bytes_of_source S.Source src.old) range }
     requires there { from + length buf.old ≤ range.len }
-    ensures bytes { IsTrue elf.old.told → OnOk result (buf.new ≡ take (length buf.old)
-        (drop from (range_bytes held.now elf.old.o.base range))) }
-    ensures copies { CopiesBy (kept_of_elf S.Source) (faults_of S.Source) (taken_of S.Source) result
-        elf.old elf.new (if range.held then 0 else length buf.old) }
+    ensures bytes { IsTrue (is_some (S.holds src.old)) → OnOk result (buf.new
+        ≡ take (length buf.old)
+        (drop from (range_bytes held.now (bytes_of_source S.Source src.old) range))) }
+    ensures copies { CopiesBy (kept_of_source S.Source) (source_faults S.Source)
+        (source_taken S.Source) result src.old src.new (if range.held then 0 else length buf.old) }
     ensures err { IfErr result (λ e. e ≡ ElfError.Read) }
 {
     if range.held {
@@ -48,59 +68,65 @@ fn copy_range<S: Source>(
         copy_held(held.as_slice(), place, buf);
         return Ok(());
     }
-    let _len = elf.base_len();
+    let _len = base_len(src);
     let at = range.at + from;
-    elf.copy_base(at, buf)
+    copy_source(src, at, buf)
 }
 
 /// Copies bytes of a piece of a part, of which this is the range, at least one, from a place in it
 /// on into the whole of `buf`. It refuses `Read` alone and takes no memory.
 fn copy_some<S: Source>(
-    elf: &mut Elf<S>,
+    src: &mut S,
     held: &Octets,
     range: Option<ByteRange>,
     p: u32,
     from: u64,
     buf: &mut [u8],
 ) -> Result<(), ElfError>
-    requires inside { LiesInside held.now elf.old.o.base range }
+    requires inside { LiesInside held.now (bytes_of_source S.Source src.old) range }
     requires there { from + length buf.old
-        ≤ length (slice_index_or (pieces_at held.now elf.old.o.base range) p absent_piece).1 }
+        ≤ length (slice_index_or (pieces_at held.now (bytes_of_source S.Source src.old) range) p
+        absent_piece).1 }
     requires some { 0 < length buf.old }
-    ensures bytes { IsTrue elf.old.told → OnOk result (buf.new ≡ take (length buf.old) (drop from
-        (slice_index_or (pieces_at held.now elf.old.o.base range) p absent_piece).1)) }
-    ensures copies { CopiesBy (kept_of_elf S.Source) (faults_of S.Source) (taken_of S.Source) result
-        elf.old elf.new (piece_due range p from (from + length buf.old)) }
+    ensures bytes { IsTrue (is_some (S.holds src.old)) → OnOk result (buf.new
+        ≡ take (length buf.old) (drop from (slice_index_or
+        (pieces_at held.now (bytes_of_source S.Source src.old) range) p absent_piece).1)) }
+    ensures copies { CopiesBy (kept_of_source S.Source) (source_faults S.Source)
+        (source_taken S.Source) result src.old src.new
+        (piece_due range p from (from + length buf.old)) }
     ensures err { IfErr result (λ e. e ≡ ElfError.Read) }
 {
     match range {
-        Some(range) => copy_range(elf, held, range, from, buf),
+        Some(range) => copy_range(src, held, range, from, buf),
         None => Ok(()),
     }
 }
 
 /// The same of any number of bytes.
 fn copy_piece<S: Source>(
-    elf: &mut Elf<S>,
+    src: &mut S,
     held: &Octets,
     range: Option<ByteRange>,
     p: u32,
     from: u64,
     buf: &mut [u8],
 ) -> Result<(), ElfError>
-    requires inside { LiesInside held.now elf.old.o.base range }
+    requires inside { LiesInside held.now (bytes_of_source S.Source src.old) range }
     requires there { from + length buf.old
-        ≤ length (slice_index_or (pieces_at held.now elf.old.o.base range) p absent_piece).1 }
-    ensures bytes { IsTrue elf.old.told → OnOk result (buf.new ≡ take (length buf.old) (drop from
-        (slice_index_or (pieces_at held.now elf.old.o.base range) p absent_piece).1)) }
-    ensures copies { CopiesBy (kept_of_elf S.Source) (faults_of S.Source) (taken_of S.Source) result
-        elf.old elf.new (piece_due range p from (from + length buf.old)) }
+        ≤ length (slice_index_or (pieces_at held.now (bytes_of_source S.Source src.old) range) p
+        absent_piece).1 }
+    ensures bytes { IsTrue (is_some (S.holds src.old)) → OnOk result (buf.new
+        ≡ take (length buf.old) (drop from (slice_index_or
+        (pieces_at held.now (bytes_of_source S.Source src.old) range) p absent_piece).1)) }
+    ensures copies { CopiesBy (kept_of_source S.Source) (source_faults S.Source)
+        (source_taken S.Source) result src.old src.new
+        (piece_due range p from (from + length buf.old)) }
     ensures err { IfErr result (λ e. e ≡ ElfError.Read) }
 {
     if buf.is_empty() {
         return Ok(());
     }
-    copy_some(elf, held, range, p, from, buf)
+    copy_some(src, held, range, p, from, buf)
 }
 
 /// The number of pieces of a part, of which this is the range.
@@ -138,7 +164,7 @@ impl<S: Source> ImageParts for RangedParts<S> {
 
     ghost ready = { AreInside };
 
-    ghost told = { λ k. k.elf.told };
+    ghost told = { λ k. k.source.told };
 
     ghost pieces = { ranged_pieces };
 
@@ -162,9 +188,9 @@ impl<S: Source> ImageParts for RangedParts<S> {
         match of {
             Origin::Piece(part, p) => {
                 let range = range_at(&self.ranges, part);
-                copy_piece(&mut self.elf, &self.held, range, p, from, buf)
+                copy_piece(&mut self.source, &self.held, range, p, from, buf)
             }
-            Origin::Base => self.elf.copy_base(from, buf),
+            Origin::Base => copy_source(&mut self.source, from, buf),
         }
     }
 }

@@ -5,7 +5,7 @@ ghost use Rattle.image_ranges.specs.Ranges.{range_at};
 
 use elf_types::{List, Part};
 
-/// A range of bytes: of those that are held, or of the base.
+/// A range of bytes: of those that are held, or of the base, which a source has.
 #[derive(Clone, Copy, Debug, PartialEq, Eq)]
 pub struct ByteRange {
     /// Whether it is a range of the bytes that are held, and not of the base.

@@ -1,6 +1,5 @@
 //! An image of four parts, two of which are ranges of the base.
 
-use elf_descriptor::Elf;
 use elf_layout::{PartAt, Parts};
 use elf_outside::{MemSink, MemSource};
 use elf_types::{Addrs, Class, ElfError, List, Octets, Order, Part};
@@ -119,35 +118,24 @@ fn ranges_of(alloc: Global, setting: &Setting) -> Result<PartRanges, ElfError> {
     })
 }
 
-/// The image of a setting, over a descriptor.
-fn image_over(
-    alloc: Global,
-    elf: Elf<MemSource>,
-    setting: &Setting,
-) -> Result<RangedImage<MemSource>, ElfError> {
+/// The image of a setting.
+fn image_of(alloc: Global, setting: &Setting) -> Result<RangedImage<MemSource>, ElfError> {
+    let bytes = image_in(alloc, FIVE.form, &FIVE)?.bytes;
+    let src = source(alloc, bytes, setting.bad_read)?;
     let ranges = ranges_of(alloc, setting)?;
     let plan = plan_of(alloc, setting)?;
     let held = Octets::from_slice(alloc, HELD)?;
     Ok(RangedImage {
         parts: RangedParts {
-            elf,
+            source: src,
             held,
             ranges,
             kept: setting.kept,
         },
         plan,
         end: 40,
+        alloc,
     })
-}
-
-/// The same over a source; None where it can not be opened.
-fn image_of(alloc: Global, setting: &Setting) -> Result<Option<RangedImage<MemSource>>, ElfError> {
-    let bytes = image_in(alloc, FIVE.form, &FIVE)?.bytes;
-    let src = source(alloc, bytes, setting.bad_read)?;
-    match Elf::begin(alloc, src) {
-        Ok(elf) => Ok(Some(image_over(alloc, elf, setting)?)),
-        Err(_) => Ok(None),
-    }
 }
 
 /// The bytes that the whole image has.
@@ -173,8 +161,6 @@ fn expected(alloc: Global) -> Result<Octets, ElfError> {
 /// What came of the writing of an image.
 #[derive(Clone, Copy, Debug, PartialEq, Eq)]
 enum Outcome {
-    /// It was not opened.
-    NotOpened,
     /// It can not be written.
     Unfit,
     /// It was written whole.
@@ -185,7 +171,7 @@ enum Outcome {
     Other,
 }
 
-/// How an image that is opened is written.
+/// How an image is written.
 fn outcome_by(
     alloc: Global,
     image: &mut RangedImage<MemSource>,
@@ -209,10 +195,8 @@ fn outcome_by(
 /// How the image of a setting is.
 fn outcome_of(alloc: Global, setting: &Setting) -> Result<Outcome, ElfError> {
     let bytes = expected(alloc)?;
-    match image_of(alloc, setting)? {
-        Some(mut image) => outcome_by(alloc, &mut image, bytes.as_slice()),
-        None => Ok(Outcome::NotOpened),
-    }
+    let mut image = image_of(alloc, setting)?;
+    outcome_by(alloc, &mut image, bytes.as_slice())
 }
 
 /// How many of the first twenty reads stop the writing where they fail; none where one of them
@@ -222,7 +206,6 @@ fn stops(alloc: Global) -> u32 {
     for bad_read in 1..21 {
         match outcome_of(alloc, &Setting { bad_read, ..WHOLE }) {
             Ok(Outcome::Stopped) => count = count.saturating_add(1),
-            Ok(Outcome::NotOpened) => {}
             Ok(Outcome::Written) => {}
             _ => return 0,
         }

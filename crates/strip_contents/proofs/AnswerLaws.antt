@@ -1,7 +1,9 @@
--- The plan of what was kept is that of the file that an update writes of the rebuilt object.
-use Rattle.std.proofs.Common.{◌≡◌, ◌⊎◌, inl, inr, ◌<◌, ◌≤◌, ◌==◌, ◌&&◌, ℕ, Bool, true, false, not, List, [], length, map, Option, Some, None, Result, Ok, Err, if◌then◌else◌, refl, sym, ap, ◌∙◌, subst}
+-- What was kept is arranged as the rebuilt object, and its plan is that of the file that an update
+-- writes of it.
+use Rattle.std.proofs.Common.{◌≡◌, ◌⊎◌, inl, inr, ◌<◌, ◌≤◌, ◌==◌, ◌&&◌, ℕ, Bool, true, false, not, List, [], length, map, Option, Some, None, Result, Ok, Err, refl, sym, ap, ◌∙◌, subst}
 use Rattle.std.specs.Prelude.{IsTrue, IfSome, nat_le}
 use Rattle.std.proofs.lemmas.Bool.{and_cases, eqb-true, leb-false, not-false}
+use Rattle.elf_types.specs.declared.records.Phdr.{Phdr}
 use Rattle.elf_types.specs.declared.errors.ElfError.{ElfError}
 use Rattle.elf_types.specs.declared.errors.ElfError.TheVariants.{Memory, Read, Write, TooLarge, NoSection}
 use Rattle.elf_types.specs.Answers.{first_refusal, answered, IsRefusal}
@@ -17,12 +19,11 @@ use Rattle.elf_object.specs.Words.{result_map}
 use Rattle.elf_object.proofs.PassedLaws.{not_refused}
 use Rattle.elf_object.proofs.RefusalLaws.{update_refuses}
 use Rattle.elf_descriptor.specs.State.{State}
-use Rattle.elf_update.specs.Descriptors.{KeptElf, kept_of_elf}
 use Rattle.update_plan.specs.Placing.{IsRefused}
-use Rattle.command_objects.specs.Arranged.{Rebuilt, over_base, placed_from, tail_refusal, arranged}
+use Rattle.command_objects.specs.Arranged.{Rebuilt, over_base, placed_from, arranged}
 use Rattle.command_objects.specs.Files.{file_of, file_made}
 use Rattle.command_objects.specs.Followed.{kept_from_1}
-use Rattle.command_objects.specs.Rebuilt.{assembled, rebuilt, rebuilt_tail, index_refusal}
+use Rattle.command_objects.specs.Rebuilt.{assembled, rebuilt, rebuilt_tail}
 use Rattle.command_objects.specs.Words.{is_among}
 use Rattle.strip_laws.specs.Made.{FitsClass}
 use Rattle.strip_laws.proofs.RebuiltLaws.{rebuilt_is_object}
@@ -30,6 +31,7 @@ use Rattle.strip_laws.proofs.WritableLaws.{rebuilt_is_writable}
 use Rattle.object_making.specs.Based.{IsMadeOver}
 use Rattle.object_making.specs.Placing.{made_of, arranged_refusal}
 use Rattle.object_making.specs.Refused.{UnreadBy}
+use Rattle.image_ranges.specs.Ranges.{KeptSource}
 use Rattle.image_ranges.proofs.ImageLaws.{ranges_make_image}
 use Rattle.strip_removed.specs.Steps.{IsRemovable}
 use Rattle.strip_rebuild.specs.declared.keepers.Keeper.{Keeper}
@@ -42,24 +44,32 @@ use Rattle.strip_rebuild.proofs.KeptLaws.{early_told}
 use Rattle.strip_rebuild.proofs.MakeLaws.{unread_stated}
 use Rattle.strip_rebuild.proofs.NumberLaws.{zero_stays}
 use Rattle.strip_rebuild.proofs.RebuildLaws.{answers_early, names_refused, placed_whole, tail_within}
+use Rattle.strip_contents.specs.declared.arranged.Arranged.{Arranged}
 use Rattle.strip_contents.specs.declared.contents.Contents.{Contents}
 use Rattle.strip_contents.specs.declared.plans.RangedPlan.{RangedPlan}
 use Rattle.strip_contents.specs.Checks.{index_beyond, ChecksLast}
 use Rattle.strip_contents.specs.Contents.{HasContents}
-use Rattle.strip_contents.specs.Plans.{arranged_object, kept_with, AreRangesBy, IsGathered, MayBeWritten, IsUnplanned, listed_of, PlansGathered, FileAnswers, PlansKept}
+use Rattle.strip_contents.specs.Plans.{arranged_object, kept_with, AreRangesBy, PlansCopied, MayBeWritten, IsRangedBy, IsArrangedAs, IsUnarranged, ArrangesContents, FileAnswers, ArrangedAnswers, ArrangesKept}
 use Rattle.strip_contents.proofs.CheckLaws.{index_is, index_states, last_unread}
 use Rattle.strip_contents.proofs.ListLaws.{contents_count, gathered}
 
 -- ---- What is refused
 
--- a refusal of the object is one of its file
-pub early_as_stated : (base : List ℕ) (e : ElfError) (o : Object) (removed : List ℕ)
-    → RebuildAnswers (Err e) (rebuilt o removed)
-    → FileAnswers base (Err e) (file_made (rebuilt o removed))
-early_as_stated base Memory o removed is = tt
-early_as_stated base Read o removed is = tt
-early_as_stated base Write o removed is = is
-early_as_stated base e o removed is = ap file_made is
+-- a refusal of the object, as one of what is arranged
+early_as_arranged : (o : Object) (e : ElfError) (stated : Result Rebuilt ElfError)
+    → RebuildAnswers (Err e) stated → ArrangedAnswers o (Err e) stated
+early_as_arranged o Memory stated is = tt
+early_as_arranged o Read stated is = tt
+early_as_arranged o Write stated is = is
+early_as_arranged o e stated is = is
+
+-- it is one of its file
+pub arranged_as_file : (o : Object) (e : ElfError) (stated : Result Rebuilt ElfError)
+    → ArrangedAnswers o (Err e) stated → FileAnswers o.base (Err e) (file_made stated)
+arranged_as_file o Memory stated is = tt
+arranged_as_file o Read stated is = tt
+arranged_as_file o Write stated is = is
+arranged_as_file o e stated is = ap file_made is
 
 -- and so is one of the update
 update_answers : (base : List ℕ) (e : ElfError) (q : Object) (stated : Result (List ℕ) ElfError)
@@ -157,9 +167,9 @@ module _ {S : Type 0} (g : Ghosts S) (s : State S) (k : Keeper) (is : IsObject s
   stays = zero_stays s.o k.removed.now removable
 
   pub early_answer : (e : ElfError) → UnreadBy (refusal_of k s.o) e
-      → FileAnswers s.o.base (Err e) (file_made stated)
+      → ArrangedAnswers s.o (Err e) stated
   early_answer e by =
-      early_as_stated s.o.base e s.o k.removed.now
+      early_as_arranged s.o e stated
       (answers_early s.o k.removed.now e (subst (λ (r : Option ElfError). UnreadBy r e)
       (early_told s.told s.o k keeps stays is clean) by))
 
@@ -177,7 +187,7 @@ module _ {S : Type 0} (g : Ghosts S) (s : State S) (k : Keeper) (is : IsObject s
 
     -- the string index is refused, or the names are
     index_answer : (e : ElfError) → index_beyond index count ≡ Some e
-        → FileAnswers s.o.base (Err e) (file_made stated)
+        → ArrangedAnswers s.o (Err e) stated
     index_answer e refused =
         early_answer e (unread_stated (refusal_of k s.o) e
         (subst (λ (r : Option ElfError). IfSome r IsRefusal) refused (index_states index count))
@@ -187,15 +197,15 @@ module _ {S : Type 0} (g : Ghosts S) (s : State S) (k : Keeper) (is : IsObject s
     asked = asks_nothing g (Ok tt) s (homes_asked s.o k.removed.now) tt
 
     names_answer : (e : ElfError) → index_beyond index count ≡ None → ChecksNames k.names (Err e)
-        → IsTrue s.told → FileAnswers s.o.base (Err e) (file_made stated)
+        → IsTrue s.told → ArrangedAnswers s.o (Err e) stated
     names_answer e passed checks t =
         let whole : Rebuilds {T = Unit {0}} g k.removed.now (Err e) (Err e)
         (homes_asked s.o k.removed.now) s s =
         names_refused g s s k is clean removable keeps (filled_is ∙ passed) asked e checks in
-        early_as_stated s.o.base e s.o k.removed.now (whole.answer t)
+        early_as_arranged s.o e stated (whole.answer t)
 
-    pub last_refused : (e : ElfError) → ChecksLast k.names index count (Err e) → IsTrue s.told
-        → FileAnswers s.o.base (Err e) (file_made stated)
+    last_refused : (e : ElfError) → ChecksLast k.names index count (Err e) → IsTrue s.told
+        → ArrangedAnswers s.o (Err e) stated
     last_refused e (inl refused) t = index_answer e refused
     last_refused e (inr checks) t = names_answer e checks.0 checks.1 t
 
@@ -252,67 +262,87 @@ module _ {S : Type 0} (g : Ghosts S) (s : State S) (k : Keeper) (is : IsObject s
               content = writable.content;
             }
 
-        file_is : (r : Option ElfError) → refusal q ≡ r → stated ≡ Ok (made_of q tail)
-            → file_made stated ≡ answered r (image q)
-        unfolding file_of
-        file_is r refused came =
-            ap file_made came ∙ ap (λ (x : Option ElfError). answered x (image q)) refused
-
-        planned_answer : (plan : RangedPlan) → stated ≡ Ok (made_of q tail)
-            → AreRangesBy q s.o.base plan → FileAnswers s.o.base (Ok plan) (file_made stated)
-        planned_answer plan came ranges = (
-          image q,
-          file_is None (ranges (kept_of_elf g s) refl).ready.passed came,
-          λ (e : KeptElf) same.
-              ranges_make_image q (kept_with e plan) plan.plan plan.end (ranges e same),
-        )
-
-        unplanned_answer : (e : ElfError) → IsUnplanned p tail e
-            → FileAnswers s.o.base (Err e) (file_made stated)
-        unplanned_answer e (inl want) =
-            subst (λ (d : ElfError). FileAnswers s.o.base (Err d) (file_made stated)) (sym want)
-            tt
-        unplanned_answer e (inr (inl large)) =
-            subst (λ (d : ElfError). FileAnswers s.o.base (Err d) (file_made stated))
-            (sym large.0) (ap file_made (not_rebuilt large.1))
-        unplanned_answer e (inr (inr placed)) =
-            let came = is_rebuilt placed.0 in by came (placed.1 (may came))
-          where
-            by : stated ≡ Ok (made_of q tail) → IsRefused q e
-                → FileAnswers s.o.base (Err e) (file_made stated)
-            by came (inl both) =
-                subst (λ (d : ElfError). FileAnswers s.o.base (Err d) (file_made stated))
-                (sym both.0) tt
-            by came (inr refused) =
-                update_answers s.o.base e q (file_made stated) refused
-                (file_is (Some e) refused came)
+        arranged_answer : (next : Arranged) → IsArrangedAs s.o.phdrs s.o.base p tail next
+            → ArrangedAnswers s.o (Ok next) stated
+        arranged_answer next laid =
+            let came = is_rebuilt laid.passed in (made_of q tail, came, laid.ranges (may came))
 
         within_base : IfSome tail (λ n. n ≤ length s.o.base)
         within_base = tail_within s.o k.removed.now tail tail_as
 
-        by_plan : (r : Result RangedPlan ElfError)
-            → PlansGathered s.o (index_by k s.o) x tail r
-            → FileAnswers s.o.base r (file_made stated)
-        by_plan (Ok plan) plans =
-            let planned = plans.ok p (gathered k s x tail t has within_base) in
-            let came = is_rebuilt planned.passed in
-            planned_answer plan came (planned.ranges (may came))
-        by_plan (Err e) plans =
-            unplanned_answer e (plans.err p (gathered k s x tail t has within_base))
+        unarranged_answer : (e : ElfError)
+            → (e ≡ Memory) ⊎ IsUnarranged s.o (index_by k s.o) x tail e
+            → ArrangedAnswers s.o (Err e) stated
+        unarranged_answer e (inl want) =
+            subst (λ (d : ElfError). ArrangedAnswers s.o (Err d) stated) (sym want) tt
+        unarranged_answer e (inr large) =
+            subst (λ (d : ElfError). ArrangedAnswers s.o (Err d) stated) (sym large.error)
+            (not_rebuilt (large.refused s.o.base p (gathered k s x has tail t within_base)))
 
-    pub kept_planned : (r : Result RangedPlan ElfError) (tail : Option ℕ)
+        answer_by : (r : Result Arranged ElfError)
+            → ArrangesContents s.o (index_by k s.o) x tail r → ArrangedAnswers s.o r stated
+        answer_by (Ok next) arranges =
+            arranged_answer next
+            (arranges.ok s.o.base p (gathered k s x has tail t within_base))
+        answer_by (Err e) arranges = unarranged_answer e arranges.err
+
+    pub kept_arranged : (r : Result Arranged ElfError) (tail : Option ℕ)
         → ChecksLast k.names index count (Ok tt) → tail ≡ rebuilt_tail s.o k.removed.now
-        → PlansGathered s.o index x tail r → PlansKept s k.removed.now r
-    kept_planned r tail checks tail_as plans = record {
+        → ArrangesContents s.o index x tail r → ArrangesKept s k.removed.now r
+    kept_arranged r tail checks tail_as arranges = record {
       answer = λ t.
-          by_plan checks.0 checks.1 tail tail_as t r
-          (subst (λ (i : ℕ). PlansGathered s.o i x tail r) index_as plans);
-      unread = plans.unread;
+          answer_by checks.0 checks.1 tail tail_as t r
+          (subst (λ (i : ℕ). ArrangesContents s.o i x tail r) index_as arranges);
+      small = arranges.small;
+      unread = arranges.unread;
     }
 
     pub kept_refused : (e : ElfError) → ChecksLast k.names index count (Err e)
-        → PlansKept s k.removed.now (Err e)
+        → ArrangesKept s k.removed.now (Err e)
     kept_refused e checks = record {
       answer = λ t. last_refused e checks t;
-      unread = last_unread k.names index count e checks;
+      small = tt;
+      unread = last_unread Arranged k.names index count e checks;
     }
+
+-- ---- The file of what was arranged
+
+-- an update writes it, or is refused
+module _ (base : List ℕ) (q : Object) where
+  abbrev some_source : KeptSource
+  some_source = record { base = base; told = true; size = 0; holds = None; rest = [] }
+
+  file_is : (r : Option ElfError) → refusal q ≡ r → file_of q ≡ answered r (image q)
+  unfolding file_of
+  file_is r refused = ap (λ (x : Option ElfError). answered x (image q)) refused
+
+  planned_answer : (plan : RangedPlan) → AreRangesBy q base plan
+      → FileAnswers base (Ok plan) (file_of q)
+  planned_answer plan ranges = (
+    image q,
+    file_is None (ranges some_source refl).ready.passed,
+    λ (e : KeptSource) same.
+        ranges_make_image q (kept_with e plan) plan.plan plan.end (ranges e same),
+  )
+
+  refused_answer : (e : ElfError) → IsRefused q e → FileAnswers base (Err e) (file_of q)
+  refused_answer e (inl both) =
+      subst (λ (d : ElfError). FileAnswers base (Err d) (file_of q)) (sym both.0) tt
+  refused_answer e (inr refused) =
+      update_answers base e q (file_of q) refused (file_is (Some e) refused)
+
+  pub copied_file : (phdrs : List Phdr) (x : Arranged) (r : Result RangedPlan ElfError)
+      → PlansCopied phdrs x.listed x.ranges x.held x.tail r → IsRangedBy phdrs base q x
+      → FileAnswers base r (file_of q)
+  copied_file phdrs x (Ok plan) plans is = planned_answer plan (plans.ok base q is)
+  copied_file phdrs x (Err e) plans is = refused_answer e (plans.err base q is)
+
+-- of a stated object
+pub arranged_planned : (o : Object) (x : Arranged) (stated : Result Rebuilt ElfError)
+    (r : Result RangedPlan ElfError) → ArrangedAnswers o (Ok x) stated
+    → PlansCopied o.phdrs x.listed x.ranges x.held x.tail r
+    → FileAnswers o.base r (file_made stated)
+arranged_planned o x stated r known plans =
+    subst (λ (f : Result (List ℕ) ElfError). FileAnswers o.base r f)
+    (sym (ap file_made known.1))
+    (copied_file o.base known.0.object o.phdrs x r plans known.2)

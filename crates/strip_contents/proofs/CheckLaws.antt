@@ -16,7 +16,6 @@ use Rattle.command_objects.specs.Rebuilt.{index_refusal}
 use Rattle.strip_rebuild.specs.declared.naming.Names.{Names}
 use Rattle.strip_rebuild.specs.declared.naming.Names.TheVariants as names
 use Rattle.strip_rebuild.specs.Answers.{ChecksNames}
-use Rattle.strip_contents.specs.declared.plans.RangedPlan.{RangedPlan}
 use Rattle.strip_contents.specs.Checks.{index_beyond, ChecksLast}
 
 pub last_checked : (names : Names) (s count : ℕ) (r : Result (Unit {0}) ElfError)
@@ -56,17 +55,17 @@ index_states s count = by (not (s == 0) && nat_le count s)
     by false = tt
 
 -- nothing is read for it
-names_unread : (names : Names) (e : ElfError) → ChecksNames names (Err e) → (a b : ℕ)
-    → ReadRose {T = RangedPlan} (Err e) a b
-names_unread names.Stay e checks a b = cc
-names_unread (names.Anew n) e checks a b = cc
-names_unread names.TooLarge e checks a b =
+names_unread : (T : Type 0) (names : Names) (e : ElfError) → ChecksNames names (Err e)
+    → (a b : ℕ) → ReadRose {T = T} (Err e) a b
+names_unread T names.Stay e checks a b = cc
+names_unread T (names.Anew n) e checks a b = cc
+names_unread T names.TooLarge e checks a b =
     let large : e ≡ TooLarge = cc in
-    subst (λ (d : ElfError). ReadRose {T = RangedPlan} (Err d) a b) (sym large) tt
+    subst (λ (d : ElfError). ReadRose {T = T} (Err d) a b) (sym large) tt
 
-pub last_unread : (names : Names) (s count : ℕ) (e : ElfError)
-    → ChecksLast names s count (Err e) → (a b : ℕ) → ReadRose {T = RangedPlan} (Err e) a b
-last_unread names s count e (inl refused) a b =
-    read_rose_refused RangedPlan e a b
+pub last_unread : (T : Type 0) (names : Names) (s count : ℕ) (e : ElfError)
+    → ChecksLast names s count (Err e) → (a b : ℕ) → ReadRose {T = T} (Err e) a b
+last_unread T names s count e (inl refused) a b =
+    read_rose_refused T e a b
     (subst (λ (r : Option ElfError). IfSome r IsRefusal) refused (index_states s count))
-last_unread names s count e (inr checks) a b = names_unread names e checks.1 a b
+last_unread T names s count e (inr checks) a b = names_unread T names e checks.1 a b

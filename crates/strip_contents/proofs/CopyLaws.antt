@@ -13,7 +13,6 @@ use Rattle.elf_types.specs.declared.errors.ElfError.{ElfError}
 use Rattle.elf_types.specs.declared.errors.ElfError.TheVariants.{Memory}
 use Rattle.elf_outside.specs.Asks.{ReadRose}
 use Rattle.elf_outside.proofs.AskLemmas.{read_rose_on}
-use Rattle.elf_layout.specs.declared.parts.Places.{Places}
 use Rattle.elf_object.specs.Object.{Object, Section, header_of, section_at, occupies_file, has_file_bytes}
 use Rattle.elf_object.specs.Derived.{derived_header}
 use Rattle.elf_object.specs.Joined.{aligned_pieces}
@@ -24,7 +23,7 @@ use Rattle.writing_laws.specs.Ready.{IsReady}
 use Rattle.update_plan.specs.Placing.{IsRefused}
 use Rattle.update_plan.proofs.PlacingLaws.{wants_as}
 use Rattle.update_plan.proofs.RowLaws.{ok_is}
-use Rattle.elf_update.specs.Descriptors.{KeptElf, stored_pieces}
+use Rattle.elf_update.specs.Descriptors.{stored_pieces}
 use Rattle.image_ranges.specs.declared.ranges.ByteRange.{ByteRange}
 use Rattle.image_ranges.specs.Ranges.{pieces_at}
 use Rattle.listed_layout.specs.declared.listed.Listed.{Listed}
@@ -105,82 +104,82 @@ module _ (q : Object) (s : ℕ) (ready : IsReady q) (first : 0 < s) (there : s <
 
 -- ---- The plan
 
-module _ (o q : Object) (x : Listed) (ranges : List ByteRange) (held next : List ℕ)
-    (tail : Option ℕ) (streamed : Streamed) (is : IsRangedAs o q x ranges held tail)
-    (made : IsStreamed q held next streamed) where
-  abbrev plan : RangedPlan
-  plan = plan_of next ranges (unwrap_or tail 0) streamed
+module _ (phdrs : List Phdr) (base : List ℕ) (q : Object) (x : Listed) (ranges : List ByteRange)
+    (held next : List ℕ) (tail : Option ℕ) (streamed : Streamed)
+    (is : IsRangedAs phdrs base q x ranges held tail) (made : IsStreamed q held next streamed)
+  where
+    abbrev plan : RangedPlan
+    plan = plan_of next ranges (unwrap_or tail 0) streamed
 
-  front_kept : (base : List ℕ) → IsFrontOf (placed q) next base (record {
-    header = streamed.front.header;
-    segments = streamed.front.segments;
-    table = streamed.front.table;
-  })
-  front_kept base =
-      let front = subst (λ (l : List ℕ). IsFrontOf (placed q) l base streamed.front)
-      (append-nil next) (made.front [] base) in
-      record { header = front.header; segments = front.segments; table = front.table }
+    front_kept : (under : List ℕ) → IsFrontOf (placed q) next under (record {
+      header = streamed.front.header;
+      segments = streamed.front.segments;
+      table = streamed.front.table;
+    })
+    front_kept under =
+        let front = subst (λ (l : List ℕ). IsFrontOf (placed q) l under streamed.front)
+        (append-nil next) (made.front [] under) in
+        record { header = front.header; segments = front.segments; table = front.table }
 
-  section_kept : (base : List ℕ) → base ≡ o.base → (s : ℕ) → 0 < s → s < length q.sections
-      → occupies_file (section_at q s).header ≡ true
-      → pieces_at next base (slice_get ranges s) ≡ stored_pieces (placed q) (part.Section s)
-  section_kept base same s first there filled =
-      ap (λ (l : List ℕ). pieces_at l base (slice_get ranges s)) made.all
-      ∙ ap (λ (l : List ℕ). pieces_at (held ++ made.bytes) l (slice_get ranges s)) same
-      ∙ is.ranges.each s first there filled made.bytes
-      ∙ sym (stored_is q s made.planned.ready first there filled)
+    section_kept : (under : List ℕ) → under ≡ base → (s : ℕ) → 0 < s → s < length q.sections
+        → occupies_file (section_at q s).header ≡ true
+        → pieces_at next under (slice_get ranges s) ≡ stored_pieces (placed q) (part.Section s)
+    section_kept under same s first there filled =
+        ap (λ (l : List ℕ). pieces_at l under (slice_get ranges s)) made.all
+        ∙ ap (λ (l : List ℕ). pieces_at (held ++ made.bytes) l (slice_get ranges s)) same
+        ∙ is.ranges.each s first there filled made.bytes
+        ∙ sym (stored_is q s made.planned.ready first there filled)
 
-  are_ranges : AreRangesBy q o.base plan
-  are_ranges e same =
-      streamed_parts_are_ranges q (kept_with e plan) streamed.planned (record {
-        planned = made.planned;
-        fill = is.fill;
-        kept = sym is.kept;
-        base = ap (take (unwrap_or tail 0)) same ∙ is.base;
-        front = front_kept e.o.base;
-        sections = section_kept e.o.base same;
-      })
+    are_ranges : AreRangesBy q base plan
+    are_ranges e same =
+        streamed_parts_are_ranges q (kept_with e plan) streamed.planned (record {
+          planned = made.planned;
+          fill = is.fill;
+          kept = sym is.kept;
+          base = ap (take (unwrap_or tail 0)) same ∙ is.below;
+          front = front_kept e.base;
+          sections = section_kept e.base same;
+        })
 
 -- ---- What the step answers
 
-module _ (o : Object) (x : Listed) (ranges : List ByteRange) (held : List ℕ) (tail : Option ℕ)
-  where
-    -- no program headers are listed
-    pub segments_wanted : (e : ElfError) → e ≡ Memory → PlansCopied o x ranges held tail (Err e)
-    segments_wanted e want = record {
-      ok = tt;
-      err = λ q is. wants_as q e is.laid.dirty is.laid.content want;
-      unread = wanted_unread RangedPlan e want;
+module _ (all : List Phdr) (x : Listed) (ranges : List ByteRange) (held : List ℕ)
+    (tail : Option ℕ) where
+  -- no program headers are listed
+  pub segments_wanted : (e : ElfError) → e ≡ Memory → PlansCopied all x ranges held tail (Err e)
+  segments_wanted e want = record {
+    ok = tt;
+    err = λ base q is. wants_as q e is.laid.dirty is.laid.content want;
+    unread = wanted_unread RangedPlan e want;
+  }
+
+  module _ (layout : Bool) (kept : ℕ) (phdrs slice : List Phdr) (laid : layout ≡ is_some tail)
+      (kept_is : kept ≡ unwrap_or tail 0) (listed : phdrs ≡ all) (at : slice ≡ phdrs) where
+    laid_as : (base : List ℕ) (q : Object) → IsRangedAs all base q x ranges held tail
+        → IsLaidOut q x layout kept
+    laid_as base q is =
+        subst (λ (b : Bool). IsLaidOut q x b kept) (sym laid)
+        (subst (λ (n : ℕ). IsLaidOut q x (is_some tail) n) (sym kept_is) is.laid)
+
+    pub copied_planned : (next : List ℕ) (streamed : Streamed)
+        → ((q : Object) → IsLaidOut q x layout kept → replicate 7 0 ≡ q.pad
+        → slice ≡ q.phdrs → IsStreamed q held next streamed)
+        → PlansCopied all x ranges held tail (Ok (plan_of next ranges kept streamed))
+    copied_planned next streamed made = record {
+      ok = λ base q is.
+          subst (λ (n : ℕ). AreRangesBy q base (plan_of next ranges n streamed)) (sym kept_is)
+          (are_ranges all base q x ranges held next tail streamed is
+          (made q (laid_as base q is) (sym is.pad) (at ∙ listed ∙ sym is.segments)));
+      err = tt;
+      unread = λ a b. tt;
     }
 
-    module _ (layout : Bool) (kept : ℕ) (phdrs slice : List Phdr) (laid : layout ≡ is_some tail)
-        (kept_is : kept ≡ unwrap_or tail 0) (listed : phdrs ≡ o.phdrs) (at : slice ≡ phdrs)
-      where
-        laid_as : (q : Object) → IsRangedAs o q x ranges held tail → IsLaidOut q x layout kept
-        laid_as q is =
-            subst (λ (b : Bool). IsLaidOut q x b kept) (sym laid)
-            (subst (λ (n : ℕ). IsLaidOut q x (is_some tail) n) (sym kept_is) is.laid)
-
-        pub copied_planned : (next : List ℕ) (streamed : Streamed)
-            → ((q : Object) → IsLaidOut q x layout kept → replicate 7 0 ≡ q.pad
-            → slice ≡ q.phdrs → IsStreamed q held next streamed)
-            → PlansCopied o x ranges held tail (Ok (plan_of next ranges kept streamed))
-        copied_planned next streamed made = record {
-          ok = λ q is.
-              subst (λ (n : ℕ). AreRangesBy q o.base (plan_of next ranges n streamed))
-              (sym kept_is)
-              (are_ranges o q x ranges held next tail streamed is
-              (made q (laid_as q is) (sym is.pad) (at ∙ listed ∙ sym is.phdrs)));
-          err = tt;
-          unread = λ a b. tt;
-        }
-
-        pub copied_refused : (e : ElfError)
-            → ((q : Object) → IsLaidOut q x layout kept → slice ≡ q.phdrs → IsRefused q e)
-            → ((a b : ℕ) → ReadRose {T = Streamed} (Err e) a b)
-            → PlansCopied o x ranges held tail (Err e)
-        copied_refused e refused unread = record {
-          ok = tt;
-          err = λ q is. refused q (laid_as q is) (at ∙ listed ∙ sym is.phdrs);
-          unread = λ a b. read_rose_on Streamed RangedPlan e a b (unread a b);
-        }
+    pub copied_refused : (e : ElfError)
+        → ((q : Object) → IsLaidOut q x layout kept → slice ≡ q.phdrs → IsRefused q e)
+        → ((a b : ℕ) → ReadRose {T = Streamed} (Err e) a b)
+        → PlansCopied all x ranges held tail (Err e)
+    copied_refused e refused unread = record {
+      ok = tt;
+      err = λ base q is. refused q (laid_as base q is) (at ∙ listed ∙ sym is.segments);
+      unread = λ a b. read_rose_on Streamed RangedPlan e a b (unread a b);
+    }

@@ -1,15 +1,14 @@
--- The plan of an object that is made anew, before its places are given and with them.
-use Rattle.std.proofs.Common.{◌≡◌, ◌⊎◌, inl, inr, ◌<◌, ◌≤◌, ◌==◌, ◌||◌, ℕ, Bool, true, false, not, List, [], ◌∷◌, length, map, Option, Some, None, Result, Ok, Err, if◌then◌else◌, refl, sym, ap, ◌∙◌, subst, arith}
-use Rattle.std.specs.Prelude.{IfOk, IfErr, is_some, unwrap_or}
+-- What was kept for an object that is made anew, before its places are given and with them.
+use Rattle.std.proofs.Common.{◌≡◌, ◌⊎◌, inl, inr, ◌<◌, ◌≤◌, ◌==◌, ◌||◌, ℕ, Bool, true, false, not, List, length, map, Option, Some, None, Ok, Err, if◌then◌else◌, refl, sym, ap, ◌∙◌, subst, arith}
+use Rattle.std.specs.Prelude.{is_some, unwrap_or}
 use Rattle.std.specs.List.{enumerate_from}
 use Rattle.std.proofs.lemmas.List.{length-map}
 use Rattle.std.proofs.lemmas.List.FromFn.{length-enumerate_from}
-use Rattle.std.proofs.lemmas.Result.{IfOk-weaker, IfErr-weaker}
 use Rattle.elf_types.specs.declared.constants.TheConstants.{SHT_NULL, SHT_NOBITS, MAX_SECTIONS}
 use Rattle.elf_types.specs.declared.records.Class.{Class}
 use Rattle.elf_types.specs.declared.records.Order.{Order}
 use Rattle.elf_types.specs.declared.records.Ehdr.{Ehdr}
-use Rattle.elf_types.specs.declared.records.Shdr.{Shdr}
+use Rattle.elf_types.specs.declared.records.Phdr.{Phdr}
 use Rattle.elf_types.specs.declared.errors.ElfError.{ElfError}
 use Rattle.elf_types.specs.declared.errors.ElfError.TheVariants.{Memory, TooLarge}
 use Rattle.elf_outside.specs.Asks.{ReadRose}
@@ -17,16 +16,14 @@ use Rattle.elf_object.specs.Object.{Object, Section, section_at, occupies_file}
 use Rattle.elf_object.specs.Image.{kept_base}
 use Rattle.elf_object.specs.Joined.{aligned_pieces}
 use Rattle.elf_object.specs.Steps.{with_ehdr, stored_ehdr}
-use Rattle.update_plan.specs.Placing.{IsRefused}
 use Rattle.command_objects.specs.Arranged.{place_from, section_from, table_place_from, placed_from}
 use Rattle.strip_laws.proofs.MadeSections.{section_placed}
-use Rattle.object_making.specs.Placing.{arranged_refusal}
 use Rattle.listed_layout.specs.declared.listed.Listed.{Listed}
 use Rattle.image_ranges.specs.declared.ranges.ByteRange.{ByteRange}
 use Rattle.strip_stream.proofs.UnreadLaws.{wanted_unread}
+use Rattle.strip_contents.specs.declared.arranged.Arranged.{Arranged}
 use Rattle.strip_contents.specs.declared.contents.Contents.{Contents}
-use Rattle.strip_contents.specs.declared.plans.RangedPlan.{RangedPlan}
-use Rattle.strip_contents.specs.Plans.{new_header, arranged_object, IsArrangedTo, IsRefusedTo, ArrangesTo, HasRanges, AreRangesBy, IsRangedAs, PlansCopied, IsGathered, MayBeWritten, IsPlannedTo, IsUnplanned, listed_of, PlansGathered}
+use Rattle.strip_contents.specs.Plans.{new_header, arranged_object, IsArrangedTo, IsRefusedTo, ArrangesTo, HasRanges, IsRangedAs, IsGathered, MayBeWritten, IsListable, listed_of, IsGatheredOf, ArrangesContents}
 
 -- ---- What stays where places are given
 
@@ -139,11 +136,11 @@ unfolding kept_base
 kept_is q None layout long = ap (λ (b : Bool). if b then length q.base else 0) layout
 kept_is q (Some n) layout long = ap (λ (b : Bool). if b then length q.base else 0) layout ∙ long
 
-module _ (o p : Object) (x next : Listed) (ranges : List ByteRange) (held : List ℕ)
-    (tail : Option ℕ) (is : IsGathered o p x ranges held tail)
-    (arranged : IsArrangedTo p tail next) where
+module _ (phdrs : List Phdr) (base : List ℕ) (p : Object) (x next : Listed)
+    (ranges : List ByteRange) (held : List ℕ) (tail : Option ℕ)
+    (is : IsGathered phdrs base p x ranges held tail) (arranged : IsArrangedTo p tail next) where
   copied : MayBeWritten (arranged_object p tail)
-      → IsRangedAs o (arranged_object p tail) next ranges held tail
+      → IsRangedAs phdrs base (arranged_object p tail) next ranges held tail
   copied may =
       let front = arranged_front p tail in
       let layout = front.layout ∙ is.layout in
@@ -158,72 +155,73 @@ module _ (o p : Object) (x next : Listed) (ranges : List ByteRange) (held : List
           base_is = long;
         };
         pad = front.pad ∙ is.pad;
-        phdrs = front.phdrs ∙ is.phdrs;
+        segments = front.phdrs ∙ is.segments;
         fill = front.fill ∙ is.fill;
-        base = is.base ∙ sym front.base;
+        below = is.below ∙ sym front.base;
         kept = kept_is (arranged_object p tail) tail layout long;
-        ranges = arranged_ranges p o.base held ranges is.ranges tail;
+        ranges = arranged_ranges p base held ranges is.ranges tail;
       }
 
 -- ---- What the step answers
 
 module _ (o : Object) (index : ℕ) (x : Contents) (listed : Listed) (tail : Option ℕ)
     (at : listed ≡ listed_of o index x) where
-  gathered_at : (p : Object) → IsGathered o p (listed_of o index x) x.ranges x.held tail
-      → IsGathered o p listed x.ranges x.held tail
-  gathered_at p is = subst (λ (l : Listed). IsGathered o p l x.ranges x.held tail) (sym at) is
+  gathered_at : (base : List ℕ) (p : Object) → IsGatheredOf o index x tail base p
+      → IsGathered o.phdrs base p listed x.ranges x.held tail
+  gathered_at base p is =
+      subst (λ (l : Listed). IsGathered o.phdrs base p l x.ranges x.held tail) (sym at) is
 
-  module _ (next : Listed)
-      (arranged : (p : Object)
-      → IsGathered o p (listed_of o index x) x.ranges x.held tail → IsArrangedTo p tail next) where
-    pub gathered_planned : (r : Result RangedPlan ElfError)
-        → PlansCopied o next x.ranges x.held tail r → PlansGathered o index x tail r
-    gathered_planned r plans = record {
-      ok = IfOk-weaker r
-          (λ plan. (q : Object) → IsRangedAs o q next x.ranges x.held tail
-          → AreRangesBy q o.base plan)
-          (λ plan. (p : Object) → IsGathered o p (listed_of o index x) x.ranges x.held tail
-          → IsPlannedTo o p tail plan)
-          (λ plan made p is. record {
-            passed = (arranged p is).passed;
-            ranges = λ may. made (arranged_object p tail)
-                (copied o p (listed_of o index x) next x.ranges x.held tail is (arranged p is) may);
-          }) plans.ok;
-      err = IfErr-weaker r
-          (λ e. (q : Object) → IsRangedAs o q next x.ranges x.held tail → IsRefused q e)
-          (λ e. (p : Object) → IsGathered o p (listed_of o index x) x.ranges x.held tail
-          → IsUnplanned p tail e)
-          (λ e refused p is. inr (inr (
-            (arranged p is).passed,
-            λ may. refused (arranged_object p tail)
-                (copied o p (listed_of o index x) next x.ranges x.held tail is (arranged p is) may),
-          ))) plans.err;
-      unread = plans.unread;
-    }
+  -- there are as many headers as before
+  listable : (next : Listed) → length x.headers ≤ MAX_SECTIONS → ArrangesTo listed tail (Ok next)
+      → IsListable (record { listed = next; ranges = x.ranges; held = x.held; tail = tail })
+  listable next few arranges = record {
+    few =
+        let count = arranges.count in
+        let same = ap (λ (l : Listed). length l.headers) at in
+        omega (arith, few, count, same);
+    same = arranges.sizes ∙ sym arranges.count;
+  }
 
-  pub arranged_as : (next : Listed) → ArrangesTo listed tail (Ok next) → (p : Object)
-      → IsGathered o p (listed_of o index x) x.ranges x.held tail → IsArrangedTo p tail next
-  arranged_as next arranges p is = arranges.ok p (gathered_at p is).listed
+  pub contents_arranged : (next : Listed) → length x.headers ≤ MAX_SECTIONS
+      → ArrangesTo listed tail (Ok next)
+      → ArrangesContents o index x tail
+      (Ok (record { listed = next; ranges = x.ranges; held = x.held; tail = tail }))
+  contents_arranged next few arranges = record {
+    ok = λ base p is.
+        let here = gathered_at base p is in
+        let arranged = arranges.ok p here.listed in
+        record {
+          passed = arranged.passed;
+          ranges = copied o.phdrs base p listed next x.ranges x.held tail here arranged;
+        };
+    small = listable next few arranges;
+    err = tt;
+    unread = λ a b. tt;
+  }
 
   large_unread : (e : ElfError) → e ≡ TooLarge → (a b : ℕ)
-      → ReadRose {T = RangedPlan} (Err e) a b
+      → ReadRose {T = Arranged} (Err e) a b
   large_unread e large a b =
-      subst (λ (d : ElfError). ReadRose {T = RangedPlan} (Err d) a b) (sym large) tt
+      subst (λ (d : ElfError). ReadRose {T = Arranged} (Err d) a b) (sym large) tt
 
-  pub not_arranged : (e : ElfError) → ArrangesTo listed tail (Err e)
-      → PlansGathered o index x tail (Err e)
-  not_arranged e arranges = by arranges.err
+  pub contents_unarranged : (e : ElfError) → ArrangesTo listed tail (Err e)
+      → ArrangesContents o index x tail (Err e)
+  contents_unarranged e arranges = by arranges.err
     where
-      by : (e ≡ Memory) ⊎ IsRefusedTo listed tail e → PlansGathered o index x tail (Err e)
+      by : (e ≡ Memory) ⊎ IsRefusedTo listed tail e → ArrangesContents o index x tail (Err e)
       by (inl want) = record {
         ok = tt;
-        err = λ p is. inl want;
-        unread = wanted_unread RangedPlan e want;
+        small = tt;
+        err = inl want;
+        unread = wanted_unread Arranged e want;
       }
       by (inr refused) = record {
         ok = tt;
-        err = λ p is.
-            inr (inl (refused.error, refused.refused p (gathered_at p is).listed));
+        small = tt;
+        err = inr (record {
+          error = refused.error;
+          refused = λ base p is. refused.refused p (gathered_at base p is).listed;
+        });
         unread = large_unread e refused.error;
       }
 
@@ -235,16 +233,3 @@ pub contents_listed : (o : Object) (index : ℕ) (x : Contents) (h : Ehdr) (coun
 contents_listed o index x h count header at =
     ap (λ (y : Ehdr). record { header = y; headers = x.headers; sizes = x.sizes })
     (header ∙ ap (new_header o index) at)
-
--- there are as many when they are arranged
-module _ (x : Contents) (listed : Listed) (tail : Option ℕ) (next : Listed)
-    (at : listed.headers ≡ x.headers) where
-  pub next_few : length x.headers ≤ MAX_SECTIONS → ArrangesTo listed tail (Ok next)
-      → length next.headers ≤ MAX_SECTIONS
-  next_few few arranges =
-      let count = arranges.count in
-      let same = ap (λ (l : List Shdr). length l) at in
-      omega (arith, few, count, same)
-
-  pub next_same : ArrangesTo listed tail (Ok next) → length next.sizes ≡ length next.headers
-  next_same arranges = arranges.sizes ∙ sym arranges.count

@@ -1,10 +1,9 @@
 -- What is kept of sections, one after another.
-use Rattle.std.proofs.Common.{◌≡◌, ◌+◌, ◌-◌, ◌<◌, ◌≤◌, ◌^◌, ◌==◌, ℕ, Bool, true, false, List, [], ◌∷◌, ◌++◌, length, map, take, get_or, take_all, append_assoc, length-append, None, Result, Ok, Err, refl, sym, ap, ◌∙◌, subst, arith, lit<}
-use Rattle.std.specs.Prelude.{All, IsTrue, IfErr, OnOk, sum_by}
+use Rattle.std.proofs.Common.{◌≡◌, ◌+◌, ◌-◌, ◌<◌, ◌≤◌, ◌^◌, ℕ, Bool, true, false, List, [], ◌∷◌, ◌++◌, length, map, take, get_or, take_all, append_assoc, length-append, None, Result, Ok, Err, refl, sym, ap, ◌∙◌, subst, arith, lit<}
+use Rattle.std.specs.Prelude.{All, IsTrue, IfErr, OnOk}
 use Rattle.std.proofs.lemmas.List.{length-map, map-append, take_more}
 use Rattle.std.proofs.lemmas.List.Elements.{All-append, All-cons, All-nil}
 use Rattle.std.proofs.lemmas.List.Sums.{sum_by_more, sum_by_more_le}
-use Rattle.elf_types.specs.declared.constants.TheConstants.{MAX_SECTIONS}
 use Rattle.elf_types.specs.declared.records.Shdr.{Shdr}
 use Rattle.elf_types.specs.declared.records.TheConstants.{NULL_SECTION}
 use Rattle.elf_types.specs.declared.errors.ElfError.{ElfError}
@@ -16,8 +15,7 @@ use Rattle.elf_object.specs.Object.{Object, is_dirty}
 use Rattle.elf_object.specs.Valid.{IsObject, IsTied}
 use Rattle.elf_descriptor.specs.State.{State}
 use Rattle.command_objects.specs.Followed.{kept_from_1}
-use Rattle.object_making.specs.Refused.{UnreadBy}
-use Rattle.object_making.proofs.RefusedLaws.{unread_memory, unread_as, unread_stop, passed_more, passed_all}
+use Rattle.object_making.proofs.RefusedLaws.{unread_as, unread_stop, passed_more, passed_all}
 use Rattle.image_ranges.specs.declared.ranges.ByteRange.{ByteRange}
 use Rattle.image_ranges.specs.Ranges.{range_bytes}
 use Rattle.strip_rebuild.specs.declared.keepers.Keeper.{Keeper}
@@ -28,7 +26,7 @@ use Rattle.strip_rebuild.proofs.FillLaws.{none_passed}
 use Rattle.strip_rebuild.proofs.NumberLaws.{kept_few}
 use Rattle.strip_contents.specs.declared.contents.Contents.{Contents}
 use Rattle.strip_contents.specs.Ranges.{bytes_by, making_due, FindsRange}
-use Rattle.strip_contents.specs.Contents.{kept_size, IsPushed, HasOneMore, KeepsSection, AreKept, AreKeptBy, sections_due, KeepsSections, HasContents, KeepsContents}
+use Rattle.strip_contents.specs.Contents.{kept_size, IsPushed, HasOneMore, IsPutBehind, KeepsSection, AreKept, HasFirst, AreKeptBy, sections_due, KeepsSections, HasKept, KeepsContents}
 
 -- ---- One section
 
@@ -129,12 +127,11 @@ module _ (told : Bool) (base : List ℕ) (header : ℕ → Shdr) (bytes : ℕ �
   }
 
 -- section 0 alone
-pub first_kept : {S : Type 0} (k : Keeper) (s : State S) (start now : Contents)
-    → start.headers ≡ [] → start.sizes ≡ [] → start.ranges ≡ []
-    → IsPushed NULL_SECTION 0 (record { held = true; at = 0; len = 0 }) start now
-    → AreKeptBy k s [] now
+pub first_kept : (start now : Contents) → start.headers ≡ [] → start.sizes ≡ []
+    → start.ranges ≡ []
+    → IsPushed NULL_SECTION 0 (record { held = true; at = 0; len = 0 }) start now → HasFirst now
 unfolding zero_shdr
-first_kept k s start now headers sizes ranges pushed =
+first_kept start now headers sizes ranges pushed told base header bytes =
     let one : now.sizes ≡ 0 ∷ [] =
     pushed.sizes ∙ ap (λ (l : List ℕ). l ++ 0 ∷ []) sizes in
     record {
@@ -144,11 +141,38 @@ first_kept k s start now headers sizes ranges pushed =
           (All-cons (λ n. n < 2 ^ 64) 0 [] (lit< tt) (All-nil (λ n. n < 2 ^ 64)));
       sizes = λ t. one;
       ranges = λ t later.
-          ap (map (range_bytes (now.held ++ later) s.o.base))
+          ap (map (range_bytes (now.held ++ later) base))
           (pushed.ranges
           ∙ ap (λ (l : List ByteRange). l ++ record { held = true; at = 0; len = 0 } ∷ [])
           ranges);
     }
+
+pub first_pushed : (start now : Contents) (q : Result (Unit {0}) ElfError) → start.headers ≡ []
+    → start.sizes ≡ [] → start.ranges ≡ []
+    → OnOk q (IsPushed NULL_SECTION 0 (record { held = true; at = 0; len = 0 }) start now)
+    → OnOk q (HasFirst now)
+first_pushed start now (Ok x) headers sizes ranges pushed =
+    first_kept start now headers sizes ranges pushed
+first_pushed start now (Err e) headers sizes ranges pushed = tt
+
+-- one more, whose bytes are in a range
+pub put_behind : (h : Shdr) (size : ℕ) (range : ByteRange) (old new : Contents)
+    (q : Result (Unit {0}) ElfError) → size ≡ kept_size h range.len
+    → OnOk q (IsPushed h size range old new) → OnOk q (IsPutBehind h range old new)
+put_behind h size range old new (Ok x) size_is pushed = λ told base bytes is. record {
+  size = size;
+  range = range;
+  added = is.added;
+  headers = pushed.headers;
+  sizes = pushed.sizes;
+  ranges = pushed.ranges;
+  held = pushed.held ∙ is.all;
+  small = pushed.small;
+  size_is = λ t. size_is ∙ ap (kept_size h) (is.long t);
+  is = λ t later.
+      ap (λ (l : List ℕ). range_bytes (l ++ later) base range) pushed.held ∙ is.is t later;
+}
+put_behind h size range old new (Err e) size_is pushed = tt
 
 -- ---- One after another
 
@@ -271,45 +295,59 @@ module _ {S : Type 0} (g : Ghosts S) (k : Keeper) (numbers : List ℕ) (first : 
 
 -- ---- All that is kept
 
+module _ (told : Bool) (base : List ℕ) (header : ℕ → Shdr) (bytes : ℕ → List ℕ)
+    (numbers : List ℕ) (count : ℕ) (x : Contents) where
+  pub none_has : count ≡ 0 → x.headers ≡ [] → x.sizes ≡ []
+      → HasKept told base header bytes numbers count x
+  none_has none headers sizes = record {
+    few = let long = ap (λ (l : List Shdr). length l) headers in omega (arith, long);
+    same = ap (λ (l : List ℕ). length l) sizes
+        ∙ sym (ap (λ (l : List Shdr). length l) headers);
+    none = λ n. (headers, sizes);
+    some = λ some. absurd (some none);
+  }
+
+  pub some_has : (count ≡ 0 → ⊥) → count ≤ 2 ^ 20 → length numbers ≤ count - 1
+      → AreKept told base header bytes numbers x → HasKept told base header bytes numbers count x
+  some_has some all few kept =
+      let long = ap (λ (l : List Shdr). length l) kept.headers in
+      let each = length-map numbers header in
+      let sized = kept.sized in
+      record {
+        few = omega (arith, long, each, few, all, some);
+        same = omega (arith, long, each, sized);
+        none = λ none. absurd (some none);
+        some = λ there. kept;
+      }
+
 module _ {S : Type 0} (g : Ghosts S) (k : Keeper) (numbers : List ℕ) (old new : State S)
     (at : numbers ≡ kept_from_1 old.o k.removed.now) where
+  few_numbers : length numbers ≤ length old.o.sections - 1
+  few_numbers =
+      subst (λ (l : List ℕ). length l ≤ length old.o.sections - 1) (sym at)
+      (kept_few old.o k.removed.now)
+
   pub none_kept : (x : Contents) → length old.o.sections ≡ 0 → x.headers ≡ [] → x.sizes ≡ []
       → KeepsContents g k numbers (Ok x) old old
   none_kept x none headers sizes = record {
-    ok = record {
-      few = let long = ap (λ (l : List Shdr). length l) headers in omega (arith, long);
-      same = ap (λ (l : List ℕ). length l) sizes
-          ∙ sym (ap (λ (l : List Shdr). length l) headers);
-      none = λ n. (headers, sizes);
-      some = λ some. absurd (some none);
-    };
-    passed = none_passed old.o (refusal_by k old.o) numbers none
-        (subst (λ (l : List ℕ). length l ≤ length old.o.sections - 1) (sym at)
-        (kept_few old.o k.removed.now));
+    ok = none_has old.told old.o.base (header_by k old.o) (bytes_by k old.o)
+        (kept_from_1 old.o k.removed.now) (length old.o.sections) x none headers sizes;
+    passed = none_passed old.o (refusal_by k old.o) numbers none few_numbers;
     err = tt;
     asks = asks_nothing g (Ok x) old (sections_due k old.o numbers) tt;
   }
 
   pub all_kept : (x : Contents) → IsObject old.o → (length old.o.sections ≡ 0 → ⊥)
       → KeepsSections g k numbers (Ok tt) old new x → KeepsContents g k numbers (Ok x) old new
-  all_kept x is some adds =
-      let long = ap (λ (l : List Shdr). length l) adds.ok.headers in
-      let count = length-map numbers (header_by k old.o) in
-      let few = kept_few old.o k.removed.now in
-      let same = ap (λ (l : List ℕ). length l) at in
-      let all = is.section_count in
-      let sized = adds.ok.sized in
-      record {
-        ok = record {
-          few = omega (arith, long, count, few, same, all, some);
-          same = omega (arith, long, count, sized);
-          none = λ none. absurd (some none);
-          some = λ there. subst (λ (l : List ℕ). AreKeptBy k old l x) at adds.ok;
-        };
-        passed = adds.passed;
-        err = tt;
-        asks = asks_as g (Ok (tt {0})) (Ok x) old new (sections_due k old.o numbers) tt adds.asks;
-      }
+  all_kept x is some adds = record {
+    ok = some_has old.told old.o.base (header_by k old.o) (bytes_by k old.o)
+        (kept_from_1 old.o k.removed.now) (length old.o.sections) x some is.section_count
+        (kept_few old.o k.removed.now)
+        (subst (λ (l : List ℕ). AreKeptBy k old l x) at adds.ok);
+    passed = adds.passed;
+    err = tt;
+    asks = asks_as g (Ok (tt {0})) (Ok x) old new (sections_due k old.o numbers) tt adds.asks;
+  }
 
   pub none_kept_refused : (e : ElfError) (x : Contents)
       → KeepsSections g k numbers (Err e) old new x → KeepsContents g k numbers (Err e) old new

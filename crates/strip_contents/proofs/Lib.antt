@@ -10,3 +10,5 @@ pub mod ListLaws
 pub mod AnswerLaws
 pub mod DueLaws
 pub mod WholeLaws
+pub mod RemovedLaws
+pub mod StopLaws

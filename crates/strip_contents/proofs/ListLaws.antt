@@ -1,6 +1,6 @@
 -- What was kept is listed of the object that is made of it, and its ranges are those of the
 -- object's sections.
-use Rattle.std.proofs.Common.{◌≡◌, ◌+◌, ◌-◌, ◌<◌, ◌≤◌, ◌^◌, ◌==◌, ◌&&◌, ℕ, zero, suc, Bool, true, false, List, [], ◌∷◌, ◌++◌, length, map, take, get_or, Option, Some, None, Result, if◌then◌else◌, refl, sym, ap, ◌∙◌, inl, inr, subst, arith}
+use Rattle.std.proofs.Common.{◌≡◌, ◌+◌, ◌<◌, ◌≤◌, ℕ, zero, suc, Bool, true, false, List, [], ◌∷◌, ◌++◌, length, take, get_or, Option, Some, None, if◌then◌else◌, refl, sym, ap, ◌∙◌, inl, inr, arith}
 use Rattle.std.specs.Prelude.{IsTrue, IfSome, is_some, unwrap_or, slice_get}
 use Rattle.std.proofs.Math.ListN.{replicate}
 use Rattle.std.proofs.lemmas.Bool.{cases_eq, eq-eqb, ne_eqb}
@@ -25,7 +25,6 @@ use Rattle.command_objects.specs.Followed.{kept_from_1}
 use Rattle.command_objects.specs.Rebuilt.{made_section, assembled}
 use Rattle.strip_laws.proofs.MadeSections.{header_made, made_bytes}
 use Rattle.object_making.specs.Making.{sections_by}
-use Rattle.listed_layout.specs.declared.listed.Listed.{Listed}
 use Rattle.listed_layout.specs.Listing.{IsListed}
 use Rattle.image_ranges.specs.declared.ranges.ByteRange.{ByteRange}
 use Rattle.image_ranges.specs.Ranges.{range_bytes, pieces_at}
@@ -35,8 +34,8 @@ use Rattle.strip_rebuild.specs.Answers.{filled_sections, sections_of}
 use Rattle.strip_stream.proofs.HomeLaws.{made_pieces}
 use Rattle.strip_contents.specs.declared.contents.Contents.{Contents}
 use Rattle.strip_contents.specs.Ranges.{bytes_by}
-use Rattle.strip_contents.specs.Contents.{kept_size, AreKept, HasContents}
-use Rattle.strip_contents.specs.Plans.{new_header, HasRanges, IsGathered, listed_of}
+use Rattle.strip_contents.specs.Contents.{kept_size, AreKept, HasKept, HasContents}
+use Rattle.strip_contents.specs.Plans.{new_header, HasRanges, listed_of, IsGatheredOf}
 
 -- ---- An object of section 0 and of sections that are made
 
@@ -217,40 +216,6 @@ module _ (p : Object) (none : p.sections ≡ []) where
         let count = count_none in absurd (omega (arith, there, count));
   }
 
--- ---- The sections that a keeper makes
-
-pub sections_none : (k : Keeper) (o : Object) → length o.sections ≡ 0 → sections_of k o ≡ []
-unfolding filled_sections
-sections_none k o none =
-    ap (λ (b : Bool). if b then [] else new_section
-    ∷ sections_by (header_by k o) (items_by k o) (kept_from_1 o k.removed.now))
-    (eq-eqb (length o.sections) 0 none)
-
-pub sections_some : (k : Keeper) (o : Object) → (length o.sections ≡ 0 → ⊥)
-    → sections_of k o
-    ≡ new_section ∷ sections_by (header_by k o) (items_by k o) (kept_from_1 o k.removed.now)
-unfolding filled_sections
-sections_some k o some =
-    ap (λ (b : Bool). if b then [] else new_section
-    ∷ sections_by (header_by k o) (items_by k o) (kept_from_1 o k.removed.now))
-    (ne_eqb (length o.sections) 0 some)
-
-pub contents_count : {S : Type 0} (k : Keeper) (s : State S) (x : Contents) → HasContents k s x
-    → length x.headers ≡ length (sections_of k s.o)
-unfolding sections_by
-contents_count k s x has = elim (cases_eq (length s.o.sections) 0) [
-  | inl none ↦
-      ap (λ (l : List Shdr). length l) (has.none none).0
-      ∙ sym (ap (λ (l : List Section). length l) (sections_none k s.o none))
-  | inr some ↦
-      let kept = kept_from_1 s.o k.removed.now in
-      let all = ap (λ (l : List Shdr). length l) (has.some some).headers in
-      let long = length-map kept (header_by k s.o) in
-      let stated = ap (λ (l : List Section). length l) (sections_some k s.o some) in
-      let made = length-map kept (λ n. made_section (header_by k s.o n) (items_by k s.o n)) in
-      omega (arith, all, long, stated, made)
-]
-
 -- ---- The object that is made
 
 record IsMadeFront (o p : Object) (tail : Option ℕ) (index : ℕ) (sections : List Section)
@@ -296,54 +261,117 @@ base_long : (o : Object) (tail : Option ℕ) → IfSome tail (λ n. n ≤ length
 base_long o None within = refl
 base_long o (Some n) within = length-take-le n o.base within
 
-module _ {S : Type 0} (k : Keeper) (s : State S) (x : Contents) (tail : Option ℕ)
-    (told : IsTrue s.told) (has : HasContents k s x)
-    (within : IfSome tail (λ n. n ≤ length s.o.base)) where
-  abbrev p : Object
-  p = assembled (over_base s.o tail) s.o (index_by k s.o) (sections_of k s.o)
+-- ---- What was kept is what an object has that is made of it
 
-  front : IsMadeFront s.o p tail (index_by k s.o) (sections_of k s.o)
-  front = made_front s.o tail (index_by k s.o) (sections_of k s.o)
-
-  new_header_is : new_header s.o (index_by k s.o) (length x.headers) ≡ header_of p
-  new_header_is =
-      ap (new_header s.o (index_by k s.o)) (contents_count k s x has) ∙ front.header
-
-  made_as : (n : ℕ) → bytes_by k s.o n ≡ encoded p.header.class p.header.order (items_by k s.o n)
-  unfolding bytes_by
-  made_as n =
-      sym (ap (λ (c : Class). encoded c p.header.order (items_by k s.o n)) front.class
-      ∙ ap (λ (d : Order). encoded s.o.header.class d (items_by k s.o n)) front.order)
-
-  gathered_by : (IsListed p (listed_of s.o (index_by k s.o) x))
-      → HasRanges p s.o.base x.held x.ranges
-      → IsGathered s.o p (listed_of s.o (index_by k s.o) x) x.ranges x.held tail
-  gathered_by listed ranges = record {
-    listed = listed;
-    layout = front.layout;
-    long = ap (λ (l : List ℕ). length l) (sym front.base) ∙ base_long s.o tail within;
-    pad = front.pad;
-    phdrs = front.phdrs;
-    fill = front.fill;
-    base = front.base;
-    ranges = ranges;
-  }
-
-  pub gathered : IsGathered s.o p (listed_of s.o (index_by k s.o) x) x.ranges x.held tail
-  gathered = elim (cases_eq (length s.o.sections) 0) [
+module _ (o : Object) (tail : Option ℕ) (index : ℕ) (header : ℕ → Shdr) (made : ℕ → Items)
+    (numbers : List ℕ) (count : ℕ) (sections : List Section) (empty : count ≡ 0 → sections ≡ [])
+    (filled : (count ≡ 0 → ⊥) → sections ≡ new_section ∷ sections_by header made numbers)
+    (told : Bool) (base : List ℕ) (bytes : ℕ → List ℕ) (x : Contents)
+    (has : HasKept told base header bytes numbers count x) where
+  pub kept_count : length x.headers ≡ length sections
+  unfolding sections_by
+  kept_count = elim (cases_eq count 0) [
     | inl none ↦
-        let empty : p.sections ≡ [] = front.sections_are ∙ sections_none k s.o none in
-        gathered_by
-        (none_listed p empty x (new_header s.o (index_by k s.o) (length x.headers))
-        (has.none none).0 (has.none none).1 new_header_is)
-        (none_ranges p empty s.o.base x.held x.ranges)
+        ap (λ (l : List Shdr). length l) (has.none none).0
+        ∙ sym (ap (λ (l : List Section). length l) (empty none))
     | inr some ↦
-        let kept = kept_from_1 s.o k.removed.now in
-        let are = front.sections_are ∙ sections_some k s.o some in
-        gathered_by
-        (kept_listed p (header_by k s.o) (items_by k s.o) kept are s.told told s.o.base
-        (bytes_by k s.o) x (has.some some) made_as
-        (new_header s.o (index_by k s.o) (length x.headers)) new_header_is)
-        (kept_ranges p (header_by k s.o) (items_by k s.o) kept are s.told told s.o.base
-        (bytes_by k s.o) x (has.some some) made_as)
+        let all = ap (λ (l : List Shdr). length l) (has.some some).headers in
+        let long = length-map numbers header in
+        let stated = ap (λ (l : List Section). length l) (filled some) in
+        let each = length-map numbers (λ n. made_section (header n) (made n)) in
+        omega (arith, all, long, stated, each)
   ]
+
+  abbrev p : Object
+  p = assembled (over_base o tail) o index sections
+
+  front : IsMadeFront o p tail index sections
+  front = made_front o tail index sections
+
+  new_header_is : new_header o index (length x.headers) ≡ header_of p
+  new_header_is = ap (new_header o index) kept_count ∙ front.header
+
+  module _ (t : IsTrue told)
+      (made_as : (n : ℕ) → bytes n ≡ encoded o.header.class o.header.order (made n))
+      (within : IfSome tail (λ n. n ≤ length o.base))
+      (below : take (unwrap_or tail 0) base ≡ take (unwrap_or tail 0) o.base) where
+    made_in : (n : ℕ) → bytes n ≡ encoded p.header.class p.header.order (made n)
+    made_in n =
+        made_as n
+        ∙ sym (ap (λ (c : Class). encoded c p.header.order (made n)) front.class
+        ∙ ap (λ (d : Order). encoded o.header.class d (made n)) front.order)
+
+    gathered_by : IsListed p (listed_of o index x) → HasRanges p base x.held x.ranges
+        → IsGatheredOf o index x tail base p
+    gathered_by listed ranges = record {
+      listed = listed;
+      layout = front.layout;
+      long = ap (λ (l : List ℕ). length l) (sym front.base) ∙ base_long o tail within;
+      pad = front.pad;
+      segments = front.phdrs;
+      fill = front.fill;
+      below = below ∙ front.base;
+      ranges = ranges;
+    }
+
+    pub gathered_over : IsGatheredOf o index x tail base p
+    gathered_over = elim (cases_eq count 0) [
+      | inl none ↦
+          let no_sections : p.sections ≡ [] = front.sections_are ∙ empty none in
+          gathered_by
+          (none_listed p no_sections x (new_header o index (length x.headers))
+          (has.none none).0 (has.none none).1 new_header_is)
+          (none_ranges p no_sections base x.held x.ranges)
+      | inr some ↦
+          let are = front.sections_are ∙ filled some in
+          gathered_by
+          (kept_listed p header made numbers are told t base bytes x (has.some some) made_in
+          (new_header o index (length x.headers)) new_header_is)
+          (kept_ranges p header made numbers are told t base bytes x (has.some some) made_in)
+    ]
+
+-- ---- The sections that are made with these headers and items
+
+module _ (o : Object) (header : ℕ → Shdr) (made : ℕ → Items) (numbers : List ℕ) where
+  pub filled_none : length o.sections ≡ 0 → filled_sections o header made numbers ≡ []
+  unfolding filled_sections
+  filled_none none =
+      ap (λ (b : Bool). if b then [] else new_section ∷ sections_by header made numbers)
+      (eq-eqb (length o.sections) 0 none)
+
+  pub filled_some : (length o.sections ≡ 0 → ⊥)
+      → filled_sections o header made numbers ≡ new_section ∷ sections_by header made numbers
+  unfolding filled_sections
+  filled_some some =
+      ap (λ (b : Bool). if b then [] else new_section ∷ sections_by header made numbers)
+      (ne_eqb (length o.sections) 0 some)
+
+-- by a keeper
+module _ {S : Type 0} (k : Keeper) (s : State S) (x : Contents) (has : HasContents k s x) where
+  abbrev numbers : List ℕ
+  numbers = kept_from_1 s.o k.removed.now
+
+  none : length s.o.sections ≡ 0 → sections_of k s.o ≡ []
+  none = filled_none s.o (header_by k s.o) (items_by k s.o) numbers
+
+  some : (length s.o.sections ≡ 0 → ⊥) → sections_of k s.o
+      ≡ new_section ∷ sections_by (header_by k s.o) (items_by k s.o) numbers
+  some = filled_some s.o (header_by k s.o) (items_by k s.o) numbers
+
+  pub contents_count : length x.headers ≡ length (sections_of k s.o)
+  contents_count =
+      kept_count s.o None 0 (header_by k s.o) (items_by k s.o) numbers (length s.o.sections)
+      (sections_of k s.o) none some s.told s.o.base (bytes_by k s.o) x has
+
+  made_by : (n : ℕ)
+      → bytes_by k s.o n ≡ encoded s.o.header.class s.o.header.order (items_by k s.o n)
+  unfolding bytes_by
+  made_by n = refl
+
+  pub gathered : (tail : Option ℕ) → IsTrue s.told → IfSome tail (λ n. n ≤ length s.o.base)
+      → IsGatheredOf s.o (index_by k s.o) x tail s.o.base
+      (assembled (over_base s.o tail) s.o (index_by k s.o) (sections_of k s.o))
+  gathered tail told within =
+      gathered_over s.o tail (index_by k s.o) (header_by k s.o) (items_by k s.o) numbers
+      (length s.o.sections) (sections_of k s.o) none some s.told s.o.base (bytes_by k s.o) x has
+      told made_by within refl

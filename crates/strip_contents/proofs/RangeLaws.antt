@@ -59,6 +59,21 @@ place_free at (suc n) base =
     ap (λ (b : Bool). take (suc n) (drop (if b then 0 else at) base))
     (ne_eqb (suc n) 0 (λ none. omega (arith, none)))
 
+-- its bytes stand in the base
+pub home_is : (o : Object) (s : ℕ) (told : Bool) (range : ByteRange) (held : List ℕ) → IsObject o
+    → is_dirty o ≡ false → (IsTrue told → IsTied o) → (section_at o s).home.out ≡ false
+    → range ≡ home_range o s → IsRangeOf told o.base (section_at o s).raw held held range
+home_is o s told range held is clean tied inside at = record {
+  added = [];
+  all = sym (append-nil held);
+  long = λ t.
+      ap (λ (r : ByteRange). r.len) at ∙ sym ((section_at_is o s is).home.inside inside);
+  is = λ t later.
+      ap (range_bytes (held ++ later) o.base) at
+      ∙ place_free (section_at o s).home.at (section_at o s).home.len o.base
+      ∙ sym (homes_stand o s (tied t) clean inside);
+}
+
 -- ---- What is taken as it is
 
 items_stay : (names : Names) (b : Bool) (kept : Items) → is_renewed names b ≡ false
@@ -119,20 +134,9 @@ module _ {S : Type 0} (g : Ghosts S) (k : Keeper) (s : ℕ) (state : State S) (h
   inside_found : (range : ByteRange) → (section_at state.o s).home.out ≡ false
       → range ≡ home_range state.o s → FindsRange g k s (Ok range) state state held held
   inside_found range inside at = record {
-    ok = record {
-      added = [];
-      all = sym (append-nil held);
-      long = λ t.
-          ap (λ (r : ByteRange). r.len) at
-          ∙ sym ((section_at_is state.o s is).home.inside inside)
-          ∙ ap (λ (l : List ℕ). length l) (sym (taken_bytes k state.o s taken is));
-      is = λ t later.
-          ap (range_bytes (held ++ later) state.o.base) at
-          ∙ place_free (section_at state.o s).home.at (section_at state.o s).home.len
-          state.o.base
-          ∙ sym (homes_stand state.o s (tied t) clean inside)
-          ∙ sym (taken_bytes k state.o s taken is);
-    };
+    ok = subst (λ (l : List ℕ). IsRangeOf state.told state.o.base l held held range)
+        (sym (taken_bytes k state.o s taken is))
+        (home_is state.o s state.told range held is clean tied inside at);
     passed = taken_refusal k state.o s taken
         ∙ raw_there state.o s there
         ∙ ap (λ (b : Bool). refused_if b (OutOfFile s)) inside;

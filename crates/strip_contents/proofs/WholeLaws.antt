@@ -1,5 +1,5 @@
 -- The whole step, one part after another.
-use Rattle.std.proofs.Common.{◌≡◌, ◌⊎◌, inl, inr, ◌+◌, ◌≤◌, ℕ, Bool, true, false, List, [], length, map, Option, Some, None, Result, Ok, Err, refl, sym, ap, ◌∙◌, subst, arith}
+use Rattle.std.proofs.Common.{◌≡◌, ◌⊎◌, inl, inr, ◌+◌, ℕ, Bool, true, false, List, [], length, map, None, Result, Ok, Err, refl, sym, ap, ◌∙◌, subst}
 use Rattle.std.specs.Prelude.{IsTrue, IfSome, nat_le}
 use Rattle.elf_types.specs.declared.constants.TheConstants.{PN_XNUM}
 use Rattle.elf_types.specs.declared.errors.ElfError.{ElfError}
@@ -12,7 +12,7 @@ use Rattle.elf_object.specs.Due.{homes_due}
 use Rattle.elf_object.specs.Valid.{IsObject, IsTied}
 use Rattle.elf_descriptor.specs.State.{State}
 use Rattle.command_objects.specs.Followed.{kept_from_1}
-use Rattle.command_objects.specs.Files.{file_made}
+use Rattle.command_objects.specs.Arranged.{Rebuilt}
 use Rattle.command_objects.specs.Rebuilt.{rebuilt}
 use Rattle.strip_laws.specs.Made.{FitsClass}
 use Rattle.object_making.specs.Refused.{RefusedBy, UnreadBy}
@@ -26,12 +26,13 @@ use Rattle.strip_rebuild.specs.Makes.{AsksFor}
 use Rattle.strip_rebuild.proofs.AskLaws.{asks_as, asks_stop, asks_more, asks_nothing, asks_twice}
 use Rattle.strip_rebuild.proofs.FillLaws.{segments_refused, sections_refused}
 use Rattle.strip_rebuild.proofs.MakeLaws.{refused_quiet, quiet_rose}
+use Rattle.strip_contents.specs.declared.arranged.Arranged.{Arranged}
 use Rattle.strip_contents.specs.declared.contents.Contents.{Contents}
 use Rattle.strip_contents.specs.declared.plans.RangedPlan.{RangedPlan}
 use Rattle.strip_contents.specs.Contents.{AreKept, HasContents, KeepsContents, sections_due}
 use Rattle.strip_contents.specs.Ranges.{bytes_by}
-use Rattle.strip_contents.specs.Plans.{FileAnswers, PlansKept, StreamsRebuilt, stream_due}
-use Rattle.strip_contents.proofs.AnswerLaws.{early_answer}
+use Rattle.strip_contents.specs.Plans.{PlansCopied, ArrangedAnswers, ArrangesKept, ArrangesRebuilt, StreamsRebuilt, stream_due}
+use Rattle.strip_contents.proofs.AnswerLaws.{arranged_as_file, arranged_planned, early_answer}
 use Rattle.strip_contents.proofs.DueLaws.{all_less, names_due_less}
 
 -- ---- What is known of an object that was read
@@ -76,7 +77,7 @@ module _ {S : Type 0} (old mid : State S) (object : mid.o ≡ old.o) (told : mid
 
 -- ---- By a keeper
 
-segments_state : (n : ℕ) → IfSome (newphdr_refusal n) IsRefusal
+pub segments_state : (n : ℕ) → IfSome (newphdr_refusal n) IsRefusal
 segments_state n = by (nat_le PN_XNUM n)
   where
     by : (b : Bool) → IfSome (refused_if b TooMany) IsRefusal
@@ -86,13 +87,13 @@ segments_state n = by (nat_le PN_XNUM n)
 module _ {S : Type 0} (g : Ghosts S) (k : Keeper) (old new : State S) (is : IsObject old.o)
     (clean : is_dirty old.o ≡ false) (removable : IsRemovable old.o k.removed.now)
     (keeps : KeepsFor old.told old.o k) (numbers : List ℕ) where
-  abbrev Streams : Result RangedPlan ElfError → State S → Type 0
-  Streams r next =
-      StreamsRebuilt g k.removed.now r (sections_due k old.o numbers) old next
+  abbrev Arranges : Result Arranged ElfError → State S → Type 0
+  Arranges r next =
+      ArrangesRebuilt g k.removed.now r (sections_due k old.o numbers) old next
 
   pub too_many : (e : ElfError) (n : ℕ) → n ≡ length old.o.phdrs
       → ◌≡◌ {A = Result (Unit {0}) ElfError} (Err e) (answered (newphdr_refusal n) tt)
-      → Streams (Err e) old
+      → Arranges (Err e) old
   too_many e n at came =
       let by : RefusedBy (newphdr_refusal n) e =
       answer_refused (newphdr_refusal n) (tt {0}) e (segments_state n) came in
@@ -102,14 +103,15 @@ module _ {S : Type 0} (g : Ghosts S) (k : Keeper) (old new : State S) (is : IsOb
             (segments_refused old.o (refusal_by k old.o) (kept_from_1 old.o k.removed.now)
             (sections_of k old.o) (index_by k old.o) e
             (subst (λ (m : ℕ). RefusedBy (newphdr_refusal m) e) at by));
+        small = tt;
         asks = asks_nothing g (Err e) old (sections_due k old.o numbers)
-            (quiet_rose RangedPlan e (g.faults old.source) (g.faults old.source)
+            (quiet_rose Arranged e (g.faults old.source) (g.faults old.source)
             (refused_quiet (newphdr_refusal n) e by));
       }
 
   pub sections_fail : (e : ElfError) → newphdr_refusal (length old.o.phdrs) ≡ None
       → numbers ≡ kept_from_1 old.o k.removed.now → KeepsContents g k numbers (Err e) old new
-      → Streams (Err e) new
+      → Arranges (Err e) new
   sections_fail e segments at keeping = record {
     answer = λ t.
         early_answer g old k is clean removable keeps e
@@ -117,64 +119,68 @@ module _ {S : Type 0} (g : Ghosts S) (k : Keeper) (old new : State S) (is : IsOb
         (sections_of k old.o) (index_by k old.o) segments e
         (subst (λ (l : List ℕ). UnreadBy (first_refusal (map (refusal_by k old.o) l)) e) at
         keeping.err));
-    asks = asks_stop g {T = Contents} {U = RangedPlan} e old new (sections_due k old.o numbers)
+    small = tt;
+    asks = asks_stop g {T = Contents} {U = Arranged} e old new (sections_due k old.o numbers)
         keeping.asks;
   }
 
-  pub sections_planned : (x : Contents) (r : Result RangedPlan ElfError)
-      → KeepsContents g k numbers (Ok x) old new → PlansKept new k.removed.now r → Streams r new
-  sections_planned x r keeping plans = record {
+  pub sections_arranged : (x : Contents) (r : Result Arranged ElfError)
+      → KeepsContents g k numbers (Ok x) old new → ArrangesKept new k.removed.now r
+      → Arranges r new
+  sections_arranged x r keeping arranges = record {
     answer = λ t.
-        subst (λ (o : Object). FileAnswers o.base r (file_made (rebuilt o k.removed.now)))
+        subst (λ (o : Object). ArrangedAnswers o r (rebuilt o k.removed.now))
         keeping.asks.object
-        (plans.answer (subst (λ (b : Bool). IsTrue b) (sym keeping.asks.told) t));
+        (arranges.answer (subst (λ (b : Bool). IsTrue b) (sym keeping.asks.told) t));
+    small = arranges.small;
     asks = asks_as g (Ok x) r old new (sections_due k old.o numbers)
-        (plans.unread (g.faults old.source) (g.faults new.source)) keeping.asks;
+        (arranges.unread (g.faults old.source) (g.faults new.source)) keeping.asks;
   }
 
 -- ---- The whole step
 
 module _ {S : Type 0} (g : Ghosts S) (removed : List ℕ) (old mid : State S) where
   stops_early : (e : ElfError) → (e ≡ Memory) ⊎ (e ≡ Read)
-      → AsksFor {T = RangedPlan} g (Err e) old mid (homes_due old.o [] (names_home old.o))
-      → StreamsRebuilt g removed (Err e) (stream_due old.o removed) old mid
+      → AsksFor {T = Arranged} g (Err e) old mid (homes_due old.o [] (names_home old.o))
+      → ArrangesRebuilt g removed (Err e) (stream_due old.o removed) old mid
   stops_early e only asks = record {
-    answer = λ t. free e only (file_made (rebuilt old.o removed));
+    answer = λ t. free e only (rebuilt old.o removed);
+    small = tt;
     asks = asks_more g (Err e) old mid (homes_due old.o [] (names_home old.o))
         (stream_due old.o removed) (names_due_less old.o removed) asks;
   }
     where
-      free : (d : ElfError) → (d ≡ Memory) ⊎ (d ≡ Read) → (stated : Result (List ℕ) ElfError)
-          → FileAnswers old.o.base (Err d) stated
+      free : (d : ElfError) → (d ≡ Memory) ⊎ (d ≡ Read) → (stated : Result Rebuilt ElfError)
+          → ArrangedAnswers old.o (Err d) stated
       free d (inl want) stated =
-          subst (λ (x : ElfError). FileAnswers old.o.base (Err x) stated) (sym want) tt
+          subst (λ (x : ElfError). ArrangedAnswers old.o (Err x) stated) (sym want) tt
       free d (inr read) stated =
-          subst (λ (x : ElfError). FileAnswers old.o.base (Err x) stated) (sym read) tt
+          subst (λ (x : ElfError). ArrangedAnswers old.o (Err x) stated) (sym read) tt
 
   pub keeper_stops : (e : ElfError) → (e ≡ Memory) ⊎ (e ≡ Read)
       → AsksFor {T = Keeper} g (Err e) old mid (homes_due old.o [] (names_home old.o))
-      → StreamsRebuilt g removed (Err e) (stream_due old.o removed) old mid
+      → ArrangesRebuilt g removed (Err e) (stream_due old.o removed) old mid
   keeper_stops e only asks =
-      stops_early e only (asks_stop g {T = Keeper} {U = RangedPlan} e old mid
+      stops_early e only (asks_stop g {T = Keeper} {U = Arranged} e old mid
       (homes_due old.o [] (names_home old.o)) asks)
 
   pub numbers_stop : (k : Keeper) (e : ElfError) → e ≡ Memory
       → AsksFor {T = Keeper} g (Ok k) old mid (homes_due old.o [] (names_home old.o))
-      → StreamsRebuilt g removed (Err e) (stream_due old.o removed) old mid
+      → ArrangesRebuilt g removed (Err e) (stream_due old.o removed) old mid
   numbers_stop k e want asks =
       subst (λ (d : ElfError).
-      StreamsRebuilt g removed (Err d) (stream_due old.o removed) old mid) (sym want)
+      ArrangesRebuilt g removed (Err d) (stream_due old.o removed) old mid) (sym want)
       (stops_early Memory (inl refl)
       (asks_as g (Ok k) (Err Memory) old mid (homes_due old.o [] (names_home old.o)) tt asks))
 
-  pub all_planned : (new : State S) (k : Keeper) (numbers : List ℕ)
-      (r : Result RangedPlan ElfError) → k.removed.now ≡ removed → IsObject old.o
+  pub all_arranged : (new : State S) (k : Keeper) (numbers : List ℕ)
+      (r : Result Arranged ElfError) → k.removed.now ≡ removed → IsObject old.o
       → is_dirty old.o ≡ false → KeepsFor old.told old.o k
       → numbers ≡ kept_from_1 mid.o k.removed.now
       → AsksFor {T = Keeper} g (Ok k) old mid (homes_due old.o [] (names_home old.o))
-      → StreamsRebuilt g k.removed.now r (sections_due k mid.o numbers) mid new
-      → StreamsRebuilt g removed r (stream_due old.o removed) old new
-  all_planned new k numbers r gone is clean keeps at first second =
+      → ArrangesRebuilt g k.removed.now r (sections_due k mid.o numbers) mid new
+      → ArrangesRebuilt g removed r (stream_due old.o removed) old new
+  all_arranged new k numbers r gone is clean keeps at first second =
       let object = first.object in
       let numbers_at : numbers ≡ kept_from_1 old.o k.removed.now =
       at ∙ ap (λ (o : Object). kept_from_1 o k.removed.now) object in
@@ -182,10 +188,11 @@ module _ {S : Type 0} (g : Ghosts S) (removed : List ℕ) (old mid : State S) wh
       ≡ sections_due k old.o (kept_from_1 old.o k.removed.now) =
       ap (λ (o : Object). sections_due k o numbers) object
       ∙ ap (sections_due k old.o) numbers_at in
-      subst (λ (l : List ℕ). StreamsRebuilt g l r (stream_due old.o l) old new) gone (record {
+      subst (λ (l : List ℕ). ArrangesRebuilt g l r (stream_due old.o l) old new) gone (record {
         answer = λ t.
-            subst (λ (o : Object). FileAnswers o.base r (file_made (rebuilt o k.removed.now)))
-            object (second.answer (subst (λ (b : Bool). IsTrue b) (sym first.told) t));
+            subst (λ (o : Object). ArrangedAnswers o r (rebuilt o k.removed.now)) object
+            (second.answer (subst (λ (b : Bool). IsTrue b) (sym first.told) t));
+        small = second.small;
         asks = asks_more g r old new
             (homes_due old.o [] (names_home old.o)
             + sections_due k old.o (kept_from_1 old.o k.removed.now))
@@ -194,3 +201,28 @@ module _ {S : Type 0} (g : Ghosts S) (removed : List ℕ) (old mid : State S) wh
             (sections_due k old.o (kept_from_1 old.o k.removed.now)) first
             (subst (λ (n : ℕ). AsksFor g r mid new n) due second.asks));
       })
+
+-- ---- The plan of what was arranged
+
+module _ {S : Type 0} (g : Ghosts S) (removed : List ℕ) (old new : State S) where
+  pub rebuilt_planned : (x : Arranged) (r : Result RangedPlan ElfError)
+      → ArrangesRebuilt g removed (Ok x) (stream_due old.o removed) old new
+      → PlansCopied new.o.phdrs x.listed x.ranges x.held x.tail r
+      → StreamsRebuilt g removed r (stream_due old.o removed) old new
+  rebuilt_planned x r first plans = record {
+    answer = λ t.
+        arranged_planned old.o x (rebuilt old.o removed) r (first.answer t)
+        (subst (λ (o : Object). PlansCopied o.phdrs x.listed x.ranges x.held x.tail r)
+        first.asks.object plans);
+    asks = asks_as g (Ok x) r old new (stream_due old.o removed)
+        (plans.unread (g.faults old.source) (g.faults new.source)) first.asks;
+  }
+
+  pub rebuilt_unplanned : (e : ElfError)
+      → ArrangesRebuilt g removed (Err e) (stream_due old.o removed) old new
+      → StreamsRebuilt g removed (Err e) (stream_due old.o removed) old new
+  rebuilt_unplanned e first = record {
+    answer = λ t. arranged_as_file old.o e (rebuilt old.o removed) (first.answer t);
+    asks = asks_stop g {T = Arranged} {U = RangedPlan} e old new (stream_due old.o removed)
+        first.asks;
+  }

@@ -17,7 +17,7 @@ use Rattle.strip_rebuild.specs.declared.keepers.Keeper.{Keeper}
 use Rattle.strip_rebuild.specs.Keepers.{header_by, refusal_by}
 use Rattle.strip_rebuild.specs.Makes.{AsksFor}
 use Rattle.strip_contents.specs.declared.contents.Contents.{Contents}
-use Rattle.strip_contents.specs.Ranges.{bytes_by, making_due}
+use Rattle.strip_contents.specs.Ranges.{bytes_by, IsRangeOf, making_due}
 
 -- how many of so many bytes a section with a header has in the file
 abbrev pub kept_size : Shdr → ℕ → ℕ
@@ -48,6 +48,12 @@ pub record HasOneMore (told : Bool) (base : List ℕ) (h : Shdr) (bytes : List �
   pub is : IsTrue told → (later : List ℕ)
       → range_bytes (new.held ++ later) base range ≡ bytes
 
+-- a section whose bytes are in a range was put behind the others
+abbrev pub IsPutBehind : Shdr → ByteRange → Contents → Contents → Type 0
+IsPutBehind h range old new =
+    (told : Bool) (base bytes : List ℕ) → IsRangeOf told base bytes old.held old.held range
+    → HasOneMore told base h bytes old new
+
 -- a step adds what a keeper makes of a section, and leaves the object
 pub record KeepsSection {S : Type 0} (g : Ghosts S) (k : Keeper) (s : ℕ)
     (result : Result (Unit {0}) ElfError) (old new : State S) (contents next : Contents)
@@ -72,6 +78,13 @@ pub record AreKept (told : Bool) (base : List ℕ) (header : ℕ → Shdr) (byte
   pub ranges : IsTrue told → (later : List ℕ)
       → map (range_bytes (x.held ++ later) base) x.ranges ≡ [] ∷ map bytes numbers
 
+-- section 0 alone was kept
+abbrev pub HasFirst : Contents → Type 0
+HasFirst x =
+    (told : Bool) (base : List ℕ) (header : ℕ → Shdr) (bytes : ℕ → List ℕ)
+    → AreKept told base header bytes [] x
+
+-- by a keeper
 abbrev pub AreKeptBy : {S : Type 0} → Keeper → State S → List ℕ → Contents → Type 0
 AreKeptBy k s numbers x =
     AreKept s.told s.o.base (header_by k s.o) (bytes_by k s.o) numbers x
@@ -88,13 +101,19 @@ pub record KeepsSections {S : Type 0} (g : Ghosts S) (k : Keeper) (numbers : Lis
   pub err : IfErr result (UnreadBy (first_refusal (map (refusal_by k old.o) numbers)))
   pub asks : AsksFor g result old new (sections_due k old.o numbers)
 
--- what was kept of an object: nothing where it has no sections
-pub record HasContents {S : Type 0} (k : Keeper) (s : State S) (x : Contents) : Type 0 where
+-- what was kept of so many sections, section 0 among them: nothing where there are none
+pub record HasKept (told : Bool) (base : List ℕ) (header : ℕ → Shdr) (bytes : ℕ → List ℕ)
+    (numbers : List ℕ) (count : ℕ) (x : Contents) : Type 0 where
   pub few : length x.headers ≤ MAX_SECTIONS
   pub same : length x.sizes ≡ length x.headers
-  pub none : length s.o.sections ≡ 0 → (x.headers ≡ []) × (x.sizes ≡ [])
-  pub some : (length s.o.sections ≡ 0 → ⊥)
-      → AreKeptBy k s (kept_from_1 s.o k.removed.now) x
+  pub none : count ≡ 0 → (x.headers ≡ []) × (x.sizes ≡ [])
+  pub some : (count ≡ 0 → ⊥) → AreKept told base header bytes numbers x
+
+-- by a keeper
+abbrev pub HasContents : {S : Type 0} → Keeper → State S → Contents → Type 0
+HasContents k s x =
+    HasKept s.told s.o.base (header_by k s.o) (bytes_by k s.o) (kept_from_1 s.o k.removed.now)
+    (length s.o.sections) x
 
 -- a step keeps what a keeper makes of all sections that are kept, and leaves the object
 pub record KeepsContents {S : Type 0} (g : Ghosts S) (k : Keeper) (numbers : List ℕ)

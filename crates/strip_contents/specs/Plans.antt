@@ -1,10 +1,11 @@
 -- The plan of an image that is made anew, by its listed headers and the ranges of its sections:
 -- when it is that of an object, and what it answers (gABI chapter 4, "ELF Header" and "Section
 -- Header").
-use Rattle.std.specs.Prelude.{◌≡◌, ◌⊎◌, ℕ, ◌==◌, ◌+◌, ◌<◌, ◌&&◌, ◌||◌, Bool, true, List, [], ◌++◌, length, take, slice_get, sum_by, unwrap_or, if◌then◌else◌, Option, Some, None, is_some, Result, Ok, Err, IsTrue, IfOk, IfErr}
+use Rattle.std.specs.Prelude.{◌≡◌, ◌⊎◌, ℕ, ◌==◌, ◌+◌, ◌<◌, ◌≤◌, ◌&&◌, ◌||◌, Bool, true, List, [], ◌++◌, length, take, slice_get, sum_by, unwrap_or, if◌then◌else◌, Option, Some, None, is_some, Result, Ok, Err, IsTrue, IfOk, IfErr}
 use Rattle.std.proofs.Math.ListN.{replicate}
-use Rattle.elf_types.specs.declared.constants.TheConstants.{EV_CURRENT}
+use Rattle.elf_types.specs.declared.constants.TheConstants.{EV_CURRENT, MAX_SECTIONS}
 use Rattle.elf_types.specs.declared.records.Ehdr.{Ehdr}
+use Rattle.elf_types.specs.declared.records.Phdr.{Phdr}
 use Rattle.elf_types.specs.declared.errors.ElfError.{ElfError}
 use Rattle.elf_types.specs.declared.errors.ElfError.TheVariants.{Memory, Read, Write, TooLarge}
 use Rattle.elf_outside.specs.Asks.{ReadRose}
@@ -17,8 +18,7 @@ use Rattle.elf_object.specs.Refusal.{content_refusal}
 use Rattle.elf_object.specs.Valid.{IsObject}
 use Rattle.elf_descriptor.specs.State.{State}
 use Rattle.update_plan.specs.Placing.{IsRefused}
-use Rattle.elf_update.specs.Descriptors.{KeptElf}
-use Rattle.command_objects.specs.Arranged.{placed_from}
+use Rattle.command_objects.specs.Arranged.{Rebuilt, placed_from}
 use Rattle.command_objects.specs.Files.{file_made}
 use Rattle.command_objects.specs.Followed.{kept_from_1}
 use Rattle.command_objects.specs.Rebuilt.{rebuilt, renews_names, items_follow}
@@ -26,13 +26,14 @@ use Rattle.object_making.specs.Placing.{arranged_refusal}
 use Rattle.listed_layout.specs.declared.listed.Listed.{Listed}
 use Rattle.listed_layout.specs.Listing.{IsListed}
 use Rattle.image_ranges.specs.declared.ranges.ByteRange.{ByteRange}
-use Rattle.image_ranges.specs.Ranges.{KeptRanges, pieces_at}
+use Rattle.image_ranges.specs.Ranges.{KeptSource, KeptRanges, pieces_at}
 use Rattle.image_ranges.specs.Images.{AreRangesOf, ranged_text}
 use Rattle.strip_removed.specs.Calls.{names_home}
 use Rattle.strip_rebuild.specs.Answers.{kept_reads}
 use Rattle.strip_rebuild.specs.Makes.{AsksFor}
 use Rattle.strip_stream.specs.declared.streaming.Streamed.{Streamed}
 use Rattle.strip_stream.specs.Planning.{IsLaidOut}
+use Rattle.strip_contents.specs.declared.arranged.Arranged.{Arranged}
 use Rattle.strip_contents.specs.declared.contents.Contents.{Contents}
 use Rattle.strip_contents.specs.declared.plans.RangedPlan.{RangedPlan}
 
@@ -83,14 +84,14 @@ pub record HasRanges (q : Object) (base held : List ℕ) (ranges : List ByteRang
       → pieces_at (held ++ later) base (slice_get ranges s)
       ≡ aligned_pieces q.header.class q.header.order (section_at q s)
 
--- all of the parts of an image but what is copied of the base of a descriptor
-abbrev pub kept_with : KeptElf → RangedPlan → KeptRanges
-kept_with e x = record { elf = e; held = x.held; ranges = x.ranges; kept = x.kept }
+-- all of the parts of an image that is copied out of a source
+abbrev pub kept_with : KeptSource → RangedPlan → KeptRanges
+kept_with e x = record { source = e; held = x.held; ranges = x.ranges; kept = x.kept }
 
 -- they are those of an object, over a base
 abbrev pub AreRangesBy : Object → List ℕ → RangedPlan → Type 0
 AreRangesBy q base x =
-    (e : KeptElf) → e.o.base ≡ base → AreRangesOf q (kept_with e x) x.plan x.end
+    (e : KeptSource) → e.base ≡ base → AreRangesOf q (kept_with e x) x.plan x.end
 
 -- ---- From listed headers to the plan
 
@@ -109,37 +110,38 @@ plan_of held ranges kept streamed = record {
   end = streamed.planned.places.end;
 }
 
--- an object is made of another one: of its headers these are listed, its sections have these
--- ranges, and the bytes before the tail are its base
-pub record IsRangedAs (o q : Object) (x : Listed) (found : List ByteRange) (held : List ℕ)
-    (tail : Option ℕ) : Type 0 where
+-- an object is made over a base, with these program headers: its headers are listed, its sections
+-- have these ranges, and the bytes before the tail are its base
+pub record IsRangedAs (phdrs : List Phdr) (base : List ℕ) (q : Object) (x : Listed)
+    (found : List ByteRange) (held : List ℕ) (tail : Option ℕ) : Type 0 where
   pub laid : IsLaidOut q x (is_some tail) (unwrap_or tail 0)
   pub pad : q.pad ≡ replicate 7 0
-  pub phdrs : q.phdrs ≡ o.phdrs
+  pub segments : q.phdrs ≡ phdrs
   pub fill : q.fill ≡ 0
-  pub base : take (unwrap_or tail 0) o.base ≡ q.base
+  pub below : take (unwrap_or tail 0) base ≡ q.base
   pub kept : kept_base q ≡ unwrap_or tail 0
-  pub ranges : HasRanges q o.base held found
+  pub ranges : HasRanges q base held found
 
--- what is planned of such an object, or refused; nothing is read
-pub record PlansCopied (o : Object) (x : Listed) (ranges : List ByteRange) (held : List ℕ)
+-- what is planned of such an object, or refused, whatever the base is; nothing is read
+pub record PlansCopied (phdrs : List Phdr) (x : Listed) (ranges : List ByteRange) (held : List ℕ)
     (tail : Option ℕ) (result : Result RangedPlan ElfError) : Type 0 where
-  pub ok : IfOk result (λ plan. (q : Object) → IsRangedAs o q x ranges held tail
-      → AreRangesBy q o.base plan)
-  pub err : IfErr result (λ e. (q : Object) → IsRangedAs o q x ranges held tail → IsRefused q e)
+  pub ok : IfOk result (λ plan. (base : List ℕ) (q : Object)
+      → IsRangedAs phdrs base q x ranges held tail → AreRangesBy q base plan)
+  pub err : IfErr result (λ e. (base : List ℕ) (q : Object)
+      → IsRangedAs phdrs base q x ranges held tail → IsRefused q e)
   pub unread : (a b : ℕ) → ReadRose result a b
 
 -- the same before its places are given
-pub record IsGathered (o p : Object) (x : Listed) (found : List ByteRange) (held : List ℕ)
-    (tail : Option ℕ) : Type 0 where
+pub record IsGathered (phdrs : List Phdr) (base : List ℕ) (p : Object) (x : Listed)
+    (found : List ByteRange) (held : List ℕ) (tail : Option ℕ) : Type 0 where
   pub listed : IsListed p x
   pub layout : p.layout ≡ is_some tail
   pub long : length p.base ≡ unwrap_or tail 0
   pub pad : p.pad ≡ replicate 7 0
-  pub phdrs : p.phdrs ≡ o.phdrs
+  pub segments : p.phdrs ≡ phdrs
   pub fill : p.fill ≡ 0
-  pub base : take (unwrap_or tail 0) o.base ≡ p.base
-  pub ranges : HasRanges p o.base held found
+  pub below : take (unwrap_or tail 0) base ≡ p.base
+  pub ranges : HasRanges p base held found
 
 -- an update writes it, where its places allow that
 pub record MayBeWritten (q : Object) : Type 0 where
@@ -147,19 +149,15 @@ pub record MayBeWritten (q : Object) : Type 0 where
   pub dirty : is_dirty q ≡ true
   pub content : content_refusal q ≡ None
 
--- it is arranged, and what an update writes of it is planned
-pub record IsPlannedTo (o p : Object) (tail : Option ℕ) (x : RangedPlan) : Type 0 where
-  pub passed : arranged_refusal p tail ≡ None
-  pub ranges : MayBeWritten (arranged_object p tail)
-      → AreRangesBy (arranged_object p tail) o.base x
+-- ---- What was kept, with its places
 
--- it is not planned: its places are refused, or the update is
-abbrev pub IsUnplanned : Object → Option ℕ → ElfError → Type 0
-IsUnplanned p tail e =
-    (e ≡ Memory)
-    ⊎ ((e ≡ TooLarge) × (arranged_refusal p tail ≡ Some TooLarge))
-    ⊎ ((arranged_refusal p tail ≡ None)
-    × (MayBeWritten (arranged_object p tail) → IsRefused (arranged_object p tail) e))
+abbrev pub IsRangedBy : List Phdr → List ℕ → Object → Arranged → Type 0
+IsRangedBy phdrs base q x = IsRangedAs phdrs base q x.listed x.ranges x.held x.tail
+
+-- there are no more headers than sections may be, and each has a size
+pub record IsListable (x : Arranged) : Type 0 where
+  pub few : length x.listed.headers ≤ MAX_SECTIONS
+  pub same : length x.listed.sizes ≡ length x.listed.headers
 
 -- the headers of what was kept, with the new header
 abbrev pub listed_of : Object → ℕ → Contents → Listed
@@ -169,13 +167,32 @@ listed_of o index x = record {
   sizes = x.sizes;
 }
 
--- what is planned of the object of which that was kept, or refused; nothing is read
-pub record PlansGathered (o : Object) (index : ℕ) (x : Contents) (tail : Option ℕ)
-    (result : Result RangedPlan ElfError) : Type 0 where
-  pub ok : IfOk result (λ plan. (p : Object)
-      → IsGathered o p (listed_of o index x) x.ranges x.held tail → IsPlannedTo o p tail plan)
-  pub err : IfErr result (λ e. (p : Object)
-      → IsGathered o p (listed_of o index x) x.ranges x.held tail → IsUnplanned p tail e)
+-- an object with the program headers and the header of another one has what was kept
+abbrev pub IsGatheredOf : Object → ℕ → Contents → Option ℕ → List ℕ → Object → Type 0
+IsGatheredOf o index x tail base p =
+    IsGathered o.phdrs base p (listed_of o index x) x.ranges x.held tail
+
+-- its places are given, and this is what it has then
+pub record IsArrangedAs (phdrs : List Phdr) (base : List ℕ) (p : Object) (tail : Option ℕ)
+    (next : Arranged) : Type 0 where
+  pub passed : arranged_refusal p tail ≡ None
+  pub ranges : MayBeWritten (arranged_object p tail)
+      → IsRangedBy phdrs base (arranged_object p tail) next
+
+-- they are refused
+pub record IsUnarranged (o : Object) (index : ℕ) (x : Contents) (tail : Option ℕ) (e : ElfError)
+    : Type 0 where
+  pub error : e ≡ TooLarge
+  pub refused : (base : List ℕ) (p : Object) → IsGatheredOf o index x tail base p
+      → arranged_refusal p tail ≡ Some TooLarge
+
+-- what is arranged of the object that has what was kept, whatever the base is; nothing is read
+pub record ArrangesContents (o : Object) (index : ℕ) (x : Contents) (tail : Option ℕ)
+    (result : Result Arranged ElfError) : Type 0 where
+  pub ok : IfOk result (λ next. (base : List ℕ) (p : Object)
+      → IsGatheredOf o index x tail base p → IsArrangedAs o.phdrs base p tail next)
+  pub small : IfOk result IsListable
+  pub err : IfErr result (λ e. (e ≡ Memory) ⊎ IsUnarranged o index x tail e)
   pub unread : (a b : ℕ) → ReadRose result a b
 
 -- ---- The whole step
@@ -183,7 +200,7 @@ pub record PlansGathered (o : Object) (index : ℕ) (x : Contents) (tail : Optio
 -- these bytes are written of it, over a base
 abbrev pub CopiesAs : List ℕ → RangedPlan → List ℕ → Type 0
 CopiesAs base x bytes =
-    (e : KeptElf) → e.o.base ≡ base → ranged_text (kept_with e x) x.plan x.end ≡ bytes
+    (e : KeptSource) → e.base ≡ base → ranged_text (kept_with e x) x.plan x.end ≡ bytes
 
 -- the plan of a stated file, or its refusal; or memory is wanted, or a read failed
 abbrev pub FileAnswers : List ℕ → Result RangedPlan ElfError → Result (List ℕ) ElfError → Type 0
@@ -194,11 +211,21 @@ FileAnswers base (Err Read) stated = Unit {0}
 FileAnswers base (Err Write) stated = ⊥
 FileAnswers base (Err e) stated = stated ≡ Err e
 
--- a step answers the plan of the file that an update writes of the object without the removed
--- sections, where the source tells its bytes; it reads nothing
-pub record PlansKept {S : Type 0} (s : State S) (removed : List ℕ)
-    (result : Result RangedPlan ElfError) : Type 0 where
-  pub answer : IsTrue s.told → FileAnswers s.o.base result (file_made (rebuilt s.o removed))
+-- what was arranged of a stated object that is made of another one, or its refusal, in the same way
+abbrev pub ArrangedAnswers : Object → Result Arranged ElfError → Result Rebuilt ElfError → Type 0
+ArrangedAnswers o (Ok x) stated =
+    (r : Rebuilt) × (stated ≡ Ok r) × IsRangedBy o.phdrs o.base r.object x
+ArrangedAnswers o (Err Memory) stated = Unit {0}
+ArrangedAnswers o (Err Read) stated = Unit {0}
+ArrangedAnswers o (Err Write) stated = ⊥
+ArrangedAnswers o (Err e) stated = stated ≡ Err e
+
+-- a step arranges what is kept without the removed sections, where the source tells its bytes; it
+-- reads nothing
+pub record ArrangesKept {S : Type 0} (s : State S) (removed : List ℕ)
+    (result : Result Arranged ElfError) : Type 0 where
+  pub answer : IsTrue s.told → ArrangedAnswers s.o result (rebuilt s.o removed)
+  pub small : IfOk result IsListable
   pub unread : (a b : ℕ) → ReadRose result a b
 
 -- the section of a kept number is made: its items follow, or it has the names that are made anew
@@ -216,7 +243,14 @@ unfoldable pub stream_due : Object → List ℕ → ℕ
 stream_due o removed =
     homes_due o [] (names_home o) + sum_by (kept_due o removed) (kept_from_1 o removed)
 
--- a step that reads besides answers so, and leaves the object
+-- a step that reads besides arranges it so, and leaves the object
+pub record ArrangesRebuilt {S : Type 0} (g : Ghosts S) (removed : List ℕ)
+    (result : Result Arranged ElfError) (due : ℕ) (old new : State S) : Type 0 where
+  pub answer : IsTrue old.told → ArrangedAnswers old.o result (rebuilt old.o removed)
+  pub small : IfOk result IsListable
+  pub asks : AsksFor g result old new due
+
+-- and plans the file that an update writes of it
 pub record StreamsRebuilt {S : Type 0} (g : Ghosts S) (removed : List ℕ)
     (result : Result RangedPlan ElfError) (due : ℕ) (old new : State S) : Type 0 where
   pub answer : IsTrue old.told

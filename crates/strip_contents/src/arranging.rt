@@ -14,7 +14,7 @@ use strip_stream::arrange_listed;
 /// 32), and `Memory`.
 ///
 /// Source: gABI chapter 4, "Section Header", sh_offset and sh_addralign.
-pub(crate) fn arrange_to(alloc: Global, x: Listed, tail: Option<u64>) -> Result<Listed, ElfError>
+pub fn arrange_to(alloc: Global, x: Listed, tail: Option<u64>) -> Result<Listed, ElfError>
     requires { length x.sizes ≡ length x.headers }
     ensures { ArrangesTo x tail result }
 {

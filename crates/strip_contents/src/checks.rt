@@ -13,7 +13,7 @@ use strip_rebuild::{Names, check_names};
 /// `TooMany`.
 ///
 /// Source: gelf_newphdr of gelf(3E).
-pub(crate) fn check_segments(n: u32) -> Result<(), ElfError>
+pub fn check_segments(n: u32) -> Result<(), ElfError>
     ensures answer { result ≡ answered (newphdr_refusal n) tt }
 {
     if n >= PN_XNUM {
@@ -22,8 +22,11 @@ pub(crate) fn check_segments(n: u32) -> Result<(), ElfError>
     Ok(())
 }
 
-/// Refuses a string index that is neither 0 nor below the number of sections: `NoSection`.
-fn check_index(s: u32, count: u32) -> Result<(), ElfError>
+/// Refuses a string index that is neither 0 nor below the number of sections, as `update_ehdr`
+/// does: `NoSection`.
+///
+/// Source: gelf_update_ehdr of gelf(3E).
+pub fn check_index(s: u32, count: u32) -> Result<(), ElfError>
     ensures answer { result ≡ answered (index_beyond s count) tt }
 {
     if s != 0 && s >= count {

@@ -1,11 +1,11 @@
 //! What is kept of the sections of an object.
 
-ghost use Rattle.std.specs.Prelude.{◌≡◌, [], OnOk, IfErr};
+ghost use Rattle.std.specs.Prelude.{◌≡◌, [], OnOk, IfOk, IfErr};
 ghost use Rattle.elf_types.specs.declared.errors.ElfError.TheVariants.{Memory};
-ghost use Rattle.strip_contents.specs.Contents.{IsPushed, kept_size};
+ghost use Rattle.strip_contents.specs.Contents.{IsPushed, IsPutBehind, HasFirst, kept_size};
 
 use elf_object::occupies_file;
-use elf_types::{Addrs, ElfError, List, Octets, Shdr, Shdrs};
+use elf_types::{Addrs, ElfError, List, NULL_SECTION, Octets, Shdr, Shdrs};
 use image_ranges::ByteRange;
 use std::alloc::Global;
 
@@ -25,7 +25,7 @@ pub struct Contents {
 
 impl Contents {
     /// Those of no section. It takes no memory.
-    pub(crate) fn new(alloc: Global) -> Contents
+    pub fn new(alloc: Global) -> Contents
         ensures headers { result.headers ≡ [] }
         ensures sizes { result.sizes ≡ [] }
         ensures ranges { result.ranges ≡ [] }
@@ -50,7 +50,49 @@ impl Contents {
         self.ranges.push(range)?;
         Ok(())
     }
+
+    /// Adds section 0 to those of no section: its header has zeros alone, and it has no bytes.
+    pub(crate) fn push_first(&mut self) -> Result<(), ElfError>
+        requires headers { self.old.headers ≡ [] }
+        requires sizes { self.old.sizes ≡ [] }
+        requires ranges { self.old.ranges ≡ [] }
+        ensures first { OnOk result (HasFirst self.new) }
+        ensures err { IfErr result (λ e. e ≡ Memory) }
+    {
+        self.push(NULL_SECTION, 0, NOTHING)
+    }
+
+    /// Those of section 0 alone, whose header has zeros alone, and which has no bytes. It refuses
+    /// `Memory` alone.
+    ///
+    /// Source: gABI chapter 4, "Section Header", the entry of index 0.
+    pub fn first(alloc: Global) -> Result<Contents, ElfError>
+        ensures first { IfOk result HasFirst }
+        ensures err { IfErr result (λ e. e ≡ Memory) }
+    {
+        let mut contents = Contents::new(alloc);
+        match contents.push_first() {
+            Ok(()) => Ok(contents),
+            Err(e) => Err(e),
+        }
+    }
+
+    /// Adds a section with a header whose bytes are a range. It refuses `Memory` alone; what a
+    /// refusal leaves is not stated.
+    pub fn add(&mut self, h: Shdr, range: ByteRange) -> Result<(), ElfError>
+        ensures added { OnOk result (IsPutBehind h range self.old self.new) }
+        ensures err { IfErr result (λ e. e ≡ Memory) }
+    {
+        self.push(h, kept_size(&h, range.len), range)
+    }
 }
+
+/// A range of no bytes.
+pub(crate) const NOTHING: ByteRange = ByteRange {
+    held: true,
+    at: 0,
+    len: 0,
+};
 
 /// How many of so many bytes a section with a header has in the file.
 pub(crate) fn kept_size(h: &Shdr, len: u64) -> u64

@@ -20,7 +20,7 @@ fn base_place(at: u64, len: u64) -> u64
 /// reads nothing and takes no memory.
 ///
 /// Source: gABI chapter 4, "Section Header", sh_offset and sh_size.
-pub(crate) fn home_range<S: Source>(elf: &Elf<S>, s: ScnId) -> Result<ByteRange, ElfError>
+pub fn home_range<S: Source>(elf: &Elf<S>, s: ScnId) -> Result<ByteRange, ElfError>
     requires { s.0 < length elf.now.o.sections }
     ensures { FindsHome elf.now.o s.0 result }
 {

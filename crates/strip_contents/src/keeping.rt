@@ -10,18 +10,10 @@ use crate::contents::{Contents, kept_size};
 use crate::ranges::find_range;
 use elf_descriptor::Elf;
 use elf_outside::Source;
-use elf_types::{ElfError, NULL_SECTION, ScnId};
-use image_ranges::ByteRange;
+use elf_types::{ElfError, ScnId};
 use object_making::SectionMaker;
 use std::alloc::Global;
 use strip_rebuild::Keeper;
-
-/// A range of no bytes.
-const NOTHING: ByteRange = ByteRange {
-    held: true,
-    at: 0,
-    len: 0,
-};
 
 /// Adds what is made of a section that is there.
 fn add_section<S: Source>(
@@ -83,7 +75,7 @@ fn fill_contents<S: Source>(
     requires ranges { contents.old.ranges ≡ [] }
     ensures { KeepsSections S.Source keeper.now numbers.now result elf.old elf.new contents.new }
 {
-    if let Err(e) = contents.push(NULL_SECTION, 0, NOTHING) {
+    if let Err(e) = contents.push_first() {
         return Err(e);
     }
     add_sections(keeper, elf, numbers, contents)

@@ -1,9 +1,11 @@
 //! The image made anew with the sections that are kept, range by range of an open file: a section
 //! that is taken as it is is a range of the file and is not read; the headers, the tables, and the
 //! items that follow are made and held. `plan_rebuilt` answers where each part stands and where its
-//! bytes are.
+//! bytes are; it does so in two steps, `arrange_rebuilt` and `plan_arranged`, between which other
+//! refusals may come. Other images whose sections are ranges are made by the same `Contents`.
 #![tactic(auto)]
 
+mod arranged;
 mod arranging;
 mod checks;
 mod contents;
@@ -15,7 +17,12 @@ mod ranges;
 mod rebuilding;
 mod segments;
 
+pub use arranged::Arranged;
+pub use arranging::arrange_to;
+pub use checks::{check_index, check_segments};
 pub use contents::Contents;
+pub use homes::home_range;
 pub use keeping::keep_contents;
+pub use planning::{arrange_contents, plan_arranged};
 pub use plans::RangedPlan;
-pub use rebuilding::plan_rebuilt;
+pub use rebuilding::{arrange_rebuilt, plan_rebuilt};

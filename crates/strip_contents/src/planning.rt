@@ -1,9 +1,10 @@
-//! The plan of the new image, of what was kept.
+//! The places of what was kept, and the plan of the new image.
 
 ghost use Rattle.std.specs.Prelude.{◌≡◌, ◌≤◌, length};
 ghost use Rattle.elf_types.specs.declared.constants.TheConstants.{MAX_SECTIONS};
-ghost use Rattle.strip_contents.specs.Plans.{new_header, plan_of, PlansCopied, PlansGathered};
+ghost use Rattle.strip_contents.specs.Plans.{new_header, plan_of, IsListable, ArrangesContents, PlansCopied};
 
+use crate::arranged::Arranged;
 use crate::arranging::arrange_to;
 use crate::contents::Contents;
 use crate::plans::RangedPlan;
@@ -66,7 +67,7 @@ fn plan_copied<S: Source>(
 ) -> Result<RangedPlan, ElfError>
     requires few { length x.headers ≤ MAX_SECTIONS }
     requires sizes { length x.sizes ≡ length x.headers }
-    ensures { PlansCopied elf.now.o x ranges held tail result }
+    ensures { PlansCopied elf.now.o.phdrs x ranges held tail result }
 {
     let mut held = held;
     let phdrs = match list_segments(alloc, elf) {
@@ -81,21 +82,21 @@ fn plan_copied<S: Source>(
     }
 }
 
-/// The plan of the image of what was kept, with a string index, over the base up to a tail. It
-/// refuses `TooLarge` of the places behind the tail, and then as an update: `Overlap`, `TooLarge`;
-/// and `Memory`. It reads nothing.
+/// What was kept, with a string index, over a base up to a tail: what stands behind that has its
+/// place, and the header that of an object and these sections. It refuses `TooLarge` exactly where
+/// one of these places is above the limit of the class, and `Memory`. It reads nothing.
 ///
-/// Source: gABI chapter 4, "ELF Header" and "Section Header"; elf_update of elf(3E).
-pub(crate) fn plan_contents<S: Source>(
+/// Source: gABI chapter 4, "ELF Header" and "Section Header".
+pub fn arrange_contents<S: Source>(
     alloc: Global,
     elf: &Elf<S>,
     contents: Contents,
     index: u32,
     tail: Option<u64>,
-) -> Result<RangedPlan, ElfError>
+) -> Result<Arranged, ElfError>
     requires few { length contents.headers ≤ MAX_SECTIONS }
     requires sizes { length contents.sizes ≡ length contents.headers }
-    ensures { PlansGathered elf.now.o index contents tail result }
+    ensures { ArrangesContents elf.now.o index contents tail result }
 {
     let count = contents.headers.len() as u32;
     let x = Listed {
@@ -104,7 +105,28 @@ pub(crate) fn plan_contents<S: Source>(
         sizes: contents.sizes,
     };
     match arrange_to(alloc, x, tail) {
-        Ok(next) => plan_copied(alloc, elf, next, contents.ranges, contents.held, tail),
+        Ok(listed) => Ok(Arranged {
+            listed,
+            ranges: contents.ranges,
+            held: contents.held,
+            tail,
+        }),
         Err(e) => Err(e),
     }
+}
+
+/// The plan of the image of what was arranged, with the program headers of an object: where each
+/// part stands, and where its bytes are. It refuses as an update of the object that is made does:
+/// `Overlap`, `TooLarge`; and `Memory`. It reads nothing.
+///
+/// Source: gABI chapter 4, "ELF Header" and "Section Header"; elf_update of elf(3E).
+pub fn plan_arranged<S: Source>(
+    alloc: Global,
+    elf: &Elf<S>,
+    x: Arranged,
+) -> Result<RangedPlan, ElfError>
+    requires { IsListable x }
+    ensures { PlansCopied elf.now.o.phdrs x.listed x.ranges x.held x.tail result }
+{
+    plan_copied(alloc, elf, x.listed, x.ranges, x.held, x.tail)
 }

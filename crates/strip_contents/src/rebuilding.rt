@@ -1,4 +1,4 @@
-//! The plan of the image without the removed sections.
+//! The image without the removed sections: what is kept of it, and its plan.
 
 ghost use Rattle.std.specs.Prelude.{◌≡◌, false, None, IsTrue, length, map};
 ghost use Rattle.elf_types.specs.Answers.{first_refusal};
@@ -10,12 +10,13 @@ ghost use Rattle.strip_laws.specs.Made.{FitsClass};
 ghost use Rattle.strip_removed.specs.Steps.{IsRemovable};
 ghost use Rattle.strip_rebuild.specs.Keepers.{KeepsFor, refusal_by};
 ghost use Rattle.strip_contents.specs.Contents.{HasContents, sections_due};
-ghost use Rattle.strip_contents.specs.Plans.{PlansKept, StreamsRebuilt, stream_due};
+ghost use Rattle.strip_contents.specs.Plans.{ArrangesKept, ArrangesRebuilt, StreamsRebuilt, stream_due};
 
+use crate::arranged::Arranged;
 use crate::checks::{check_last, check_segments};
 use crate::contents::Contents;
 use crate::keeping::keep_contents;
-use crate::planning::plan_contents;
+use crate::planning::{arrange_contents, plan_arranged};
 use crate::plans::RangedPlan;
 use elf_descriptor::Elf;
 use elf_outside::Source;
@@ -24,13 +25,13 @@ use std::alloc::Global;
 use strip_rebuild::{Keeper, keep_sections, kept_numbers, tail_of};
 use strip_removed::SectionSet;
 
-/// The plan of what was kept, where no section was refused.
-fn plan_kept<S: Source>(
+/// What was kept, arranged, where no section was refused.
+fn arrange_kept<S: Source>(
     alloc: Global,
     keeper: &Keeper<'_>,
     elf: &Elf<S>,
     contents: Contents,
-) -> Result<RangedPlan, ElfError>
+) -> Result<Arranged, ElfError>
     requires object { IsObject elf.now.o }
     requires clean { is_dirty elf.now.o ≡ false }
     requires fits { FitsClass elf.now.o }
@@ -40,26 +41,26 @@ fn plan_kept<S: Source>(
     requires segments { newphdr_refusal (length elf.now.o.phdrs) ≡ None }
     requires sections { first_refusal (map (refusal_by keeper.now elf.now.o)
         (kept_from_1 elf.now.o keeper.now.removed.now)) ≡ None }
-    ensures { PlansKept elf.now keeper.now.removed.now result }
+    ensures { ArrangesKept elf.now keeper.now.removed.now result }
 {
     let index = keeper.numbering.followed(elf.shstrndx());
     let count = contents.headers.len() as u32;
     match check_last(&keeper.names, index, count) {
         Ok(()) => {
             let tail = tail_of(elf, keeper.removed);
-            plan_contents(alloc, elf, contents, index, tail)
+            arrange_contents(alloc, elf, contents, index, tail)
         }
         Err(e) => Err(e),
     }
 }
 
-/// The plan by a keeper.
-fn plan_by<S: Source>(
+/// What a keeper keeps, arranged.
+fn arrange_by<S: Source>(
     alloc: Global,
     keeper: &Keeper<'_>,
     elf: &mut Elf<S>,
     numbers: &[u32],
-) -> Result<RangedPlan, ElfError>
+) -> Result<Arranged, ElfError>
     requires object { IsObject elf.old.o }
     requires clean { is_dirty elf.old.o ≡ false }
     requires tied { IsTrue elf.old.told → IsTied elf.old.o }
@@ -67,14 +68,45 @@ fn plan_by<S: Source>(
     requires removable { IsRemovable elf.old.o keeper.now.removed.now }
     requires keeps { KeepsFor elf.old.told elf.old.o keeper.now }
     requires numbers { numbers.now ≡ kept_from_1 elf.old.o keeper.now.removed.now }
-    ensures { StreamsRebuilt S.Source keeper.now.removed.now result
+    ensures { ArrangesRebuilt S.Source keeper.now.removed.now result
         (sections_due keeper.now elf.old.o numbers.now) elf.old elf.new }
 {
     if let Err(e) = check_segments(elf.phnum()) {
         return Err(e);
     }
     match keep_contents(alloc, keeper, elf, numbers) {
-        Ok(contents) => plan_kept(alloc, keeper, elf, contents),
+        Ok(contents) => arrange_kept(alloc, keeper, elf, contents),
+        Err(e) => Err(e),
+    }
+}
+
+/// What is kept of an object without the removed sections, with its places: a section that is taken
+/// as it is is a range of the base, and is not read; the items that follow are held in their file
+/// form. Nothing of the object is dirty, and only sections are removed that may be. It refuses as
+/// `rebuild` of strip_rebuild, and `Memory` and `Read`. It asks for at most the names, and the
+/// homes of the sections whose items follow, that of a symbol table once more for its extended
+/// indexes.
+///
+/// Source: strip(1) of the development tools; gABI chapters 4 and 5.
+pub fn arrange_rebuilt<S: Source>(
+    alloc: Global,
+    elf: &mut Elf<S>,
+    removed: &SectionSet,
+) -> Result<Arranged, ElfError>
+    requires clean { is_dirty elf.old.o ≡ false }
+    requires tied { IsTrue elf.old.told → IsTied elf.old.o }
+    requires fits { FitsClass elf.old.o }
+    requires removable { IsRemovable elf.old.o removed.now }
+    ensures { ArrangesRebuilt S.Source removed.now result (stream_due elf.old.o removed.now)
+        elf.old elf.new }
+{
+    let _sound = elf.dirty();
+    let keeper = match keep_sections(alloc, elf, removed) {
+        Ok(keeper) => keeper,
+        Err(e) => return Err(e),
+    };
+    match kept_numbers(alloc, elf, removed) {
+        Ok(numbers) => arrange_by(alloc, &keeper, elf, numbers.as_slice()),
         Err(e) => Err(e),
     }
 }
@@ -83,9 +115,8 @@ fn plan_by<S: Source>(
 /// object that is made anew: where each part stands, and where its bytes are. A section that is
 /// taken as it is is a range of the base, and is not read; the headers, the tables, and the items
 /// that follow are held in their file form. Nothing of the object is dirty, and only sections are
-/// removed that may be. It refuses as `rebuild` of strip_rebuild, and then as the update of that
-/// object; and `Memory` and `Read`. It asks for at most the names, and the homes of the sections
-/// whose items follow, that of a symbol table once more for its extended indexes.
+/// removed that may be. It refuses as `arrange_rebuilt`, and then as the update of that object; and
+/// `Memory` and `Read`. It asks for what `arrange_rebuilt` asks for.
 ///
 /// Source: strip(1) of the development tools; gABI chapters 4 and 5.
 pub fn plan_rebuilt<S: Source>(
@@ -100,13 +131,8 @@ pub fn plan_rebuilt<S: Source>(
     ensures { StreamsRebuilt S.Source removed.now result (stream_due elf.old.o removed.now)
         elf.old elf.new }
 {
-    let _sound = elf.dirty();
-    let keeper = match keep_sections(alloc, elf, removed) {
-        Ok(keeper) => keeper,
-        Err(e) => return Err(e),
-    };
-    match kept_numbers(alloc, elf, removed) {
-        Ok(numbers) => plan_by(alloc, &keeper, elf, numbers.as_slice()),
+    match arrange_rebuilt(alloc, elf, removed) {
+        Ok(x) => plan_arranged(alloc, elf, x),
         Err(e) => Err(e),
     }
 }

@@ -18,7 +18,7 @@ pub record AreStreamed (o : Object) (k : KeptRanges) (p : PlannedParts) : Type 0
   pub fill : o.fill ≡ 0
   pub kept : k.kept ≡ kept_base o
   pub base : ranged_base k ≡ o.base
-  pub front : IsFrontOf (placed o) k.held k.elf.o.base (record {
+  pub front : IsFrontOf (placed o) k.held k.source.base (record {
     header = k.ranges.header;
     segments = k.ranges.segments;
     table = k.ranges.table;

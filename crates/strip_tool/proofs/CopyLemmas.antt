@@ -1,60 +1,141 @@
 -- What a step that copies an image does.
-use Rattle.std.proofs.Common.{◌≡◌, ◌∷◌, ◌-◌, ◌^◌, ◌<◌, ◌≤◌, ℕ, Bool, List, [], Option, Some, None, Result, Ok, Err, IfSome, IsTrue, refl, arith}
-use Rattle.elf_outside.specs.Counts.{Rose}
+use Rattle.std.proofs.Common.{◌≡◌, ◌⊎◌, inl, inr, ◌-◌, ◌^◌, ◌<◌, ℕ, Bool, false, List, [], take, Option, Some, None, Result, Ok, Err, IfSome, OnErr, refl, sym, subst, arith}
+use Rattle.std.specs.Prelude.{OnOk}
 use Rattle.elf_outside.specs.declared.sources.Source.{Ghosts as SourceGhosts}
 use Rattle.elf_outside.specs.declared.sinks.Sink.{Ghosts as SinkGhosts}
 use Rattle.elf_outside.specs.declared.file_sets.Files.{Ghosts as FilesGhosts}
 use Rattle.tool_output.specs.declared.stops.Stop.{Stop}
-use Rattle.tool_output.specs.declared.stops.Stop.TheVariants.{Memory}
+use Rattle.tool_output.specs.declared.stops.Stop.TheVariants.{Read, Write, Memory}
 use Rattle.tool_output.specs.declared.outputs.Outputs.{Outputs}
 use Rattle.tool_output.specs.Files.{LeavesFilesBy}
-use Rattle.tool_output.specs.Made.{made_file, outcome_with}
-use Rattle.tool_output.specs.Outcomes.{Does}
-use Rattle.tool_output.specs.Reports.{no_report}
-use Rattle.tool_output.specs.Statuses.{refused_status}
+use Rattle.tool_output.specs.Made.{MakesFile}
+use Rattle.tool_output.specs.Steps.{Writes, LeavesOutputs}
 use Rattle.tool_output.proofs.FileLemmas.{totals_none}
-use Rattle.tool_output.proofs.OutcomeLemmas.{nothing_done}
-use Rattle.tool_output.proofs.StepLemmas.{keeps_none}
+use Rattle.elf_outside.specs.Counts.{Rose}
 use Rattle.object_files.specs.Making.{ReadsFrom}
-use Rattle.strip_tool.specs.Copies.{WritesImage}
+use Rattle.object_files.proofs.WriteLemmas.{image_unput, image_done, image_stopped}
+use Rattle.strip_tool.specs.Copies.{MakesPlan, WritesImage, unrefused}
 
-module _ {S F D O E : Type 0} (g : SourceGhosts S) (f : FilesGhosts F D) (o : SinkGhosts O)
-    (e : SinkGhosts E) (out : List ℕ) (text : Option (List ℕ)) where
+-- ---- A file
+
+module _ {S F D : Type 0} (g : SourceGhosts S) (f : FilesGhosts F D) (name : List ℕ)
+    (text : Option (List ℕ)) where
   -- a step that stops for want of memory before it does anything
-  pub not_begun : (src : S) (a : F) (s : Outputs O E)
-      → WritesImage g f o e out text (Err Memory) src src a a s s
-  not_begun src a s = record {
-    does = λ tells. by text;
-    source = record { same_len = refl; same_bytes = refl; same_rest = refl };
-    later = omega arith;
-    live = λ small. refl;
-    leaves = record {
-      totals = totals_none f o e a;
-      keeps = keeps_none o e s;
+  pub not_made : (src : S) (a : F) → MakesPlan g f name text (Err Memory) src src a a
+  not_made src a = record {
+    makes = record {
+      others = record { same_tells = refl; same = λ n differs. refl };
+      made = λ told. nothing text;
+      left = λ told. same text;
+      totals = record {
+        tells = refl;
+        read_faults = omega arith;
+        write_faults = omega arith;
+        taken = omega arith;
+        given = omega arith;
+        live = λ small. refl;
+      };
       read = tt;
       write = tt;
     };
+    source = record { same_len = refl; same_bytes = refl; same_rest = refl };
+    later = omega arith;
+    live = λ small. refl;
   }
     where
-      by : (held : Option (List ℕ)) → IfSome held (λ bytes. Does {T = Bool} f o e refused_status
-          (outcome_with no_report (made_file out bytes ∷ [])) (Err Memory) a a s s)
-      by None = tt
-      by (Some bytes) =
-          nothing_done f o e refused_status (outcome_with no_report (made_file out bytes ∷ []))
-          Memory a s
+      stopped : Result (Unit {0}) Stop
+      stopped = Err Memory
 
-  -- one that writes
-  pub copied : (n : ℕ) (r : Result Bool Stop) (src next : S) (a b : F) (s t : Outputs O E)
-      → (IsTrue (f.tells a) → IfSome text (λ bytes. Does f o e refused_status
-      (outcome_with no_report (made_file out bytes ∷ [])) r a b s t))
-      → LeavesFilesBy f o e (Rose (g.faults src) (g.faults next)) r a b s t
-      → ReadsFrom g src next n
-      → (f.live a < 2 ^ 64 - 2 → f.live b ≡ f.live a)
-      → WritesImage g f o e out text r src next a b s t
-  copied n r src next a b s t does leaves source live = record {
-    does = does;
-    source = source.leaves;
-    later = source.later;
+      nothing : (t : Option (List ℕ))
+          → IfSome t (λ bytes. OnOk stopped (f.named a name ≡ Some bytes))
+      nothing None = tt
+      nothing (Some bytes) = tt
+
+      same : (t : Option (List ℕ)) → IfSome t (λ bytes. OnErr stopped
+          ((f.named a name ≡ f.named a name)
+          ⊎ ((n : ℕ) × (f.named a name ≡ Some (take n bytes)))))
+      same None = tt
+      same (Some bytes) = inl refl
+
+  -- one that makes it
+  pub plan_made : (n : ℕ) (r : Result (Unit {0}) Stop) (src next : S) (a b : F)
+      → MakesFile f name text r (g.faults src) (g.faults next) a b → ReadsFrom g src next n
+      → (f.live a < 2 ^ 64 - 2 → f.live b ≡ f.live a) → MakesPlan g f name text r src next a b
+  plan_made n r src next a b makes reads live = record {
+    makes = makes;
+    source = reads.leaves;
+    later = reads.later;
     live = live;
-    leaves = leaves;
   }
+
+-- ---- What was said before is put, and then it is made
+
+module _ {S F D O E : Type 0} (g : SourceGhosts S) (f : FilesGhosts F D) (o : SinkGhosts O)
+    (e : SinkGhosts E) (out : List ℕ) (text : Option (List ℕ)) (src : S) (a : F)
+    (s t : Outputs O E) where
+  -- a step that stops by what was put
+  pub put_left : (P : Type 0) (stop : Stop) → LeavesOutputs {T = Unit {0}} o e ⊥ (Err stop) s t
+      → LeavesFilesBy {T = Bool} f o e P (Err stop) a a s t
+  put_left P Read l = absurd l.read
+  put_left P Write l =
+      record { totals = totals_none f o e a; keeps = l.keeps; read = tt; write = inr l.write }
+  put_left P Memory l =
+      record { totals = totals_none f o e a; keeps = l.keeps; read = tt; write = tt }
+
+  pub unput_image : (stop : Stop) → Writes {T = Unit {0}} o e (Err stop) s t []
+      → LeavesOutputs {T = Unit {0}} o e ⊥ (Err stop) s t
+      → WritesImage g f o e out text (Err stop) src src a a s t
+  unput_image stop put l = record {
+    does = λ told. image_unput f o e a s t told stop out text put;
+    source = record { same_len = refl; same_bytes = refl; same_rest = refl };
+    later = omega arith;
+    live = λ small. refl;
+    leaves = put_left (Rose (g.faults src) (g.faults src)) stop l;
+  }
+
+  module _ (put : Writes {T = Unit {0}} o e (Ok tt) s t [])
+      (l : LeavesOutputs {T = Unit {0}} o e ⊥ (Ok tt) s t) (next : S) (b : F) where
+    pub made_left : (r : Result (Unit {0}) Stop) → MakesPlan g f out text r src next a b
+        → LeavesFilesBy f o e (Rose (g.faults src) (g.faults next)) (unrefused r) a b s t
+    made_left (Ok x) made =
+        record { totals = made.makes.totals; keeps = l.keeps; read = tt; write = tt }
+    made_left (Err Read) made = record {
+      totals = made.makes.totals;
+      keeps = l.keeps;
+      read = made.makes.read;
+      write = tt;
+    }
+    made_left (Err Write) made = record {
+      totals = made.makes.totals;
+      keeps = l.keeps;
+      read = tt;
+      write = inl made.makes.write;
+    }
+    made_left (Err Memory) made =
+        record { totals = made.makes.totals; keeps = l.keeps; read = tt; write = tt }
+
+    image_by : (r : Result (Unit {0}) Stop) → MakesPlan g f out text r src next a b
+        → WritesImage g f o e out text (unrefused r) src next a b s t
+    image_by (Ok x) made = record {
+      does = λ told. image_done f o e a s t told (tt {0}) b out (g.faults src) (g.faults next) put
+          x text made.makes;
+      source = made.source;
+      later = made.later;
+      live = made.live;
+      leaves = made_left (Ok x) made;
+    }
+    image_by (Err stop) made = record {
+      does = λ told. image_stopped f o e a s t told (tt {0}) b out (g.faults src)
+          (g.faults next) put stop text made.makes;
+      source = made.source;
+      later = made.later;
+      live = made.live;
+      leaves = made_left (Err stop) made;
+    }
+
+    pub made_image : (r : Result (Unit {0}) Stop) (q : Result Bool Stop) → q ≡ unrefused r
+        → MakesPlan g f out text r src next a b
+        → WritesImage g f o e out text q src next a b s t
+    made_image r q is made =
+        subst (λ (x : Result Bool Stop). WritesImage g f o e out text x src next a b s t)
+        (sym is) (image_by r made)

@@ -10,7 +10,6 @@ use Rattle.elf_outside.specs.declared.sinks.Sink.{Ghosts as SinkGhosts}
 use Rattle.elf_outside.specs.declared.file_sets.Files.{Ghosts as FilesGhosts}
 use Rattle.elf_object.specs.Object.{Object}
 use Rattle.elf_descriptor.specs.State.{State}
-use Rattle.elf_update.specs.Descriptors.{kept_of_elf}
 use Rattle.command_objects.specs.Removed.{removed_sections}
 use Rattle.command_objects.specs.Rebuilt.{rebuilt}
 use Rattle.command_objects.specs.Files.{file_of, file_made}
@@ -29,11 +28,13 @@ use Rattle.object_writing.specs.Writes.{image_done, WritesFile}
 use Rattle.object_writing.proofs.WriteLemmas.{DoesHere, refused_writes, written_then}
 use Rattle.object_writing.proofs.NamedLemmas.{unwritten, unwritten_image}
 use Rattle.image_ranges.specs.Images.{ranged_text}
+use Rattle.image_ranges.specs.Ranges.{KeptSource, kept_of_source}
 use Rattle.strip_contents.specs.declared.plans.RangedPlan.{RangedPlan}
 use Rattle.strip_contents.specs.Plans.{FileAnswers, kept_with}
-use Rattle.strip_tool.specs.Copies.{WritesImage, plan_text}
+use Rattle.strip_tool.specs.Copies.{WritesImage, IsOverSource, text_with, plan_text}
 use Rattle.strip_tool.specs.Steps.{PlansStripped}
 use Rattle.strip_tool.specs.Writes.{stripped_done, object_done}
+use Rattle.strip_tool.proofs.StripLemmas.{over_stays}
 
 module _ (debug_only : Bool) (names : List (List ℕ)) (file out : List ℕ) where
   abbrev stated : Object → Result (List ℕ) ElfError
@@ -83,30 +84,38 @@ module _ {S F D O E : Type 0} (g : SourceGhosts S) (f : FilesGhosts F D) (o : Si
       Does f o e refused_status (outcome_with x (made_file out bytes ∷ [])) r a b s t)
       (sym shown_none) h
 
-  told_text : (told : Bool) (text bytes : List ℕ) (r : Result Bool Stop) (a b : F)
-      (s t : Outputs O E) → IsTrue told → text ≡ bytes
-      → IfSome (if told then Some text else None) (λ x. Does f o e refused_status
-      (outcome_with no_report (made_file out x ∷ [])) r a b s t)
+  told_text : (k : KeptSource) (x : RangedPlan) (bytes : List ℕ) (r : Result Bool Stop) (a b : F)
+      (s t : Outputs O E) → IsTrue k.told → ranged_text (kept_with k x) x.plan x.end ≡ bytes
+      → IfSome (text_with k x) (λ y. Does f o e refused_status
+      (outcome_with no_report (made_file out y ∷ [])) r a b s t)
       → Does f o e refused_status (outcome_with no_report (made_file out bytes ∷ [])) r a b s t
-  told_text true text bytes r a b s t is same h =
-      subst (λ (x : List ℕ). Does f o e refused_status
-      (outcome_with no_report (made_file out x ∷ [])) r a b s t) same h
-  told_text false text bytes r a b s t never same h = cc
+  told_text k x bytes r a b s t told same h = by k.told told h
+    where
+      by : (y : Bool) → IsTrue y
+          → IfSome (if y then Some (ranged_text (kept_with k x) x.plan x.end) else None) (λ z.
+          Does f o e refused_status (outcome_with no_report (made_file out z ∷ [])) r a b s t)
+          → Does f o e refused_status (outcome_with no_report (made_file out bytes ∷ [])) r a b s t
+      by true is here =
+          subst (λ (z : List ℕ). Does f o e refused_status
+          (outcome_with no_report (made_file out z ∷ [])) r a b s t) same here
+      by false is here = cc
 
   -- what was planned is written
-  plan_written : (old mid new : State S) (x : RangedPlan) (r : Result Bool Stop) (a b : F)
-      (s t : Outputs O E) → PlansStripped g debug_only names (Ok x) old mid
-      → WritesImage g f o e out (plan_text g mid x) r mid.source new.source a b s t
-      → Writes old.o r mid new a b s t
-  plan_written old mid new x r a b s t plans writes = record {
+  plan_written : (old mid : State S) (next : S) (x : RangedPlan) (r : Result Bool Stop) (a b : F)
+      (s t : Outputs O E) → IsOverSource g old → PlansStripped g debug_only names (Ok x) old mid
+      → WritesImage g f o e out (plan_text g mid.source x) r mid.source next a b s t
+      → Writes old.o r mid (record old { source = next }) a b s t
+  plan_written old mid next x r a b s t over plans writes = record {
     does = λ tells told.
         let known = plans.answer (subst (λ (b : Bool). IsTrue b) plans.told told) in
+        let here = over_stays g old mid over plans.object plans.told plans.leaves in
         subst (λ (q : Result Done Complaint). DoesHere f o e (codes "strip") q r a b s t)
         (sym (alone_is debug_only names file out old.o (Ok known.0) known.1))
         (file_done known.0 r a b s t
-        (told_text mid.told (ranged_text (kept_with (kept_of_elf g mid) x) x.plan x.end) known.0
-        r a b s t told
-        (known.2 (kept_of_elf g mid) (ap (λ (p : Object). p.base) plans.object))
+        (told_text (kept_of_source g mid.source) x known.0 r a b s t
+        (subst (λ (b : Bool). IsTrue b) here.told told)
+        (known.2 (kept_of_source g mid.source)
+        (sym here.base ∙ ap (λ (p : Object). p.base) plans.object))
         (writes.does tells)));
     source = writes.source;
     later = writes.later;
@@ -114,20 +123,23 @@ module _ {S F D O E : Type 0} (g : SourceGhosts S) (f : FilesGhosts F D) (o : Si
     leaves = writes.leaves;
   }
 
-  pub stripped_written : (old mid new : State S) (x : RangedPlan) (r : Result Bool Stop) (a b : F)
-      (s t : Outputs O E) → PlansStripped g debug_only names (Ok x) old mid
-      → WritesImage g f o e out (plan_text g mid x) r mid.source new.source a b s t
-      → Writes old.o r old new a b s t
-  stripped_written old mid new x r a b s t plans writes =
+  pub stripped_written : (old mid : State S) (next : S) (x : RangedPlan) (r : Result Bool Stop)
+      (a b : F) (s t : Outputs O E) → IsOverSource g old
+      → PlansStripped g debug_only names (Ok x) old mid
+      → WritesImage g f o e out (plan_text g mid.source x) r mid.source next a b s t
+      → Writes old.o r old (record old { source = next }) a b s t
+  stripped_written old mid next x r a b s t over plans writes =
       written_then g f o e (codes "strip") (object_done debug_only names file out old.o)
-      (object_done debug_only names file out old.o) old mid new r a b s t plans.told plans.leaves
-      plans.later (λ t. refl) (plan_written old mid new x r a b s t plans writes)
+      (object_done debug_only names file out old.o) old mid (record old { source = next }) r a b
+      s t plans.told plans.leaves plans.later (λ t. refl)
+      (plan_written old mid next x r a b s t over plans writes)
 
   pub stripped_refused : (old mid : State S) (d : ElfError) (r : Result Bool Stop) (a : F)
       (s t : Outputs O E) → PlansStripped g debug_only names (Err d) old mid
-      → Refuses o e (codes "strip") (file_name file) d r s t → Writes old.o r old mid a a s t
+      → Refuses o e (codes "strip") (file_name file) d r s t
+      → Writes old.o r old (record old { source = mid.source }) a a s t
   stripped_refused old mid d r a s t plans h =
       refused_writes g f o e (codes "strip") file (object_done debug_only names file out old.o)
-      old mid RangedPlan d r a s t
+      old (record old { source = mid.source }) RangedPlan d r a s t
       (λ tells told. fault_is debug_only names file out old.o.base old.o d (plans.answer told))
       plans.leaves plans.later plans.read h

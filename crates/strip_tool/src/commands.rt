@@ -51,8 +51,7 @@ impl FileEdit for StripCommand<'_> {
         match begin_image(alloc, src) {
             Ok(elf) => {
                 let _sound = elf.dirty();
-                let (after, written) = write_stripped(self, alloc, elf, name, files, outputs);
-                (after.end(), written)
+                write_stripped(self, alloc, elf, name, files, outputs)
             }
             Err((src, e)) => {
                 let refused = refuse_for("strip", name, e, outputs);

@@ -6,6 +6,7 @@ ghost use Rattle.elf_object.specs.Valid.{IsTied};
 ghost use Rattle.strip_laws.specs.Made.{FitsClass};
 ghost use Rattle.tool_output.specs.Made.{written_outcome};
 ghost use Rattle.object_writing.specs.Writes.{WritesFile};
+ghost use Rattle.strip_tool.specs.Copies.{IsOverSource};
 ghost use Rattle.strip_tool.specs.Writes.{object_done};
 
 use crate::commands::StripCommand;
@@ -17,9 +18,9 @@ use object_writing::refuse_for;
 use std::alloc::Global;
 use tool_output::{Outputs, Stop};
 
-/// Does the command with the object of the file `file`, of which nothing is dirty, and hands the
-/// descriptor back. What is refused has the message that says why: then no file is made. It stops
-/// by `Read` only where a read of the object's source failed.
+/// Does the command with the object of the file `file`, of which nothing is dirty and whose base
+/// is that file, and hands the source back. What is refused has the message that says why: then no
+/// file is made. It stops by `Read` only where a read of the source failed.
 pub(crate) fn write_stripped<S: Source, F: Files, O: Sink, E: Sink>(
     command: &StripCommand<'_>,
     alloc: Global,
@@ -27,21 +28,23 @@ pub(crate) fn write_stripped<S: Source, F: Files, O: Sink, E: Sink>(
     file: &[u8],
     files: &mut F,
     outputs: &mut Outputs<'_, O, E>,
-) -> (Elf<S>, Result<bool, Stop>)
+) -> (S, Result<bool, Stop>)
+    requires over { IsOverSource S.Source elf }
     requires clean { is_dirty elf.o ≡ false }
     requires tied { IsTrue elf.told → IsTied elf.o }
     requires fits { FitsClass elf.o }
     ensures { WritesFile S.Source F.Files O.Sink E.Sink
         (written_outcome (codes "strip") (object_done command.now.debug_only command.now.names.now
         file.now command.now.out.now elf.o))
-        result.1 elf result.0 files.old files.new outputs.old outputs.new }
+        result.1 elf (record elf { source = result.0 }) files.old files.new
+        outputs.old outputs.new }
 {
     let mut elf = elf;
     match plan_stripped(alloc, &mut elf, command.debug_only, command.names) {
-        Ok(plan) => write_plan(alloc, elf, plan, command.out, files, outputs),
+        Ok(plan) => write_plan(alloc, elf.end(), plan, command.out, files, outputs),
         Err(e) => {
             let refused = refuse_for("strip", file, e, outputs);
-            (elf, refused)
+            (elf.end(), refused)
         }
     }
 }

@@ -1,4 +1,6 @@
-use Rattle.strip_contents.proofs.KeepingLaws.{first_kept, not_begun}
+use Rattle.strip_rebuild.specs.Keepers.{header_by}
+use Rattle.strip_contents.specs.Ranges.{bytes_by}
+use Rattle.strip_contents.proofs.KeepingLaws.{not_begun}
 use Rattle.strip_contents.proofs.keeping.fill_contents.Goals as goal
 
 pub returns-in-Err : goal.returns-in-Err
@@ -8,5 +10,5 @@ returns-in-Err g c =
 
 pub add_sections-requires-clause-first : goal.add_sections-requires-clause-first
 add_sections-requires-clause-first g c =
-    first_kept c.args.keeper.now c.args.elf.now c.args.contents.now _ c.requires.headers
-    c.requires.sizes c.requires.ranges c.in_default.ensures.pushed
+    c.in_default.ensures.first c.args.elf.now.told c.args.elf.now.o.base
+    (header_by c.args.keeper.now c.args.elf.now.o) (bytes_by c.args.keeper.now c.args.elf.now.o)

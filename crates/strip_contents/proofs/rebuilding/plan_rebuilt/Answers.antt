@@ -1,67 +1,15 @@
-use Rattle.std.proofs.Common.{ℕ, List, sym, ap, ◌∙◌, subst}
-use Rattle.command_objects.specs.Followed.{kept_from_1}
-use Rattle.strip_removed.specs.Steps.{IsRemovable}
-use Rattle.strip_rebuild.proofs.NumberLaws.{zero_stays}
-use Rattle.strip_rebuild.proofs.WholeLaws.{object_stays, clean_stays, removable_stays, keeps_stays}
-use Rattle.strip_contents.proofs.WholeLaws.{tied_stays, fits_stays, keeper_stops, numbers_stop, all_planned}
+use Rattle.strip_contents.proofs.WholeLaws.{rebuilt_planned, rebuilt_unplanned}
 use Rattle.strip_contents.proofs.rebuilding.plan_rebuilt.Goals as goal
 
-pub keep_sections-requires : goal.keep_sections-requires
-keep_sections-requires g c =
-    zero_stays c.args.elf.now.o c.args.removed.now c.requires.removable
+pub plan_arranged-requires : goal.plan_arranged-requires
+plan_arranged-requires g c = c.in-Ok.ensures.small
 
-pub plan_by-requires-clause-object : goal.plan_by-requires-clause-object
-plan_by-requires-clause-object g c =
-    object_stays c.args.elf.now c.keep_sections.new.elf
-    c.in-Ok.ensures.asks.object c.in-Ok.ensures.asks.told c.dirty-sound.ensures.sound.object
-
-pub plan_by-requires-clause-clean : goal.plan_by-requires-clause-clean
-plan_by-requires-clause-clean g c =
-    clean_stays c.args.elf.now c.keep_sections.new.elf
-    c.in-Ok.ensures.asks.object c.in-Ok.ensures.asks.told c.requires.clean
-
-pub plan_by-requires-clause-tied : goal.plan_by-requires-clause-tied
-plan_by-requires-clause-tied g c =
-    tied_stays c.args.elf.now c.keep_sections.new.elf
-    c.in-Ok.ensures.asks.object c.in-Ok.ensures.asks.told c.requires.tied
-
-pub plan_by-requires-clause-fits : goal.plan_by-requires-clause-fits
-plan_by-requires-clause-fits g c =
-    fits_stays c.args.elf.now c.keep_sections.new.elf
-    c.in-Ok.ensures.asks.object c.in-Ok.ensures.asks.told c.requires.fits
-
-pub plan_by-requires-clause-removable : goal.plan_by-requires-clause-removable
-plan_by-requires-clause-removable g c =
-    subst (λ (l : List ℕ). IsRemovable c.keep_sections.new.elf.o l) (sym c.in-Ok.ensures.keeps.0)
-    (removable_stays c.args.elf.now c.keep_sections.new.elf
-    c.in-Ok.ensures.asks.object c.in-Ok.ensures.asks.told c.args.removed.now c.requires.removable)
-
-pub plan_by-requires-clause-keeps : goal.plan_by-requires-clause-keeps
-plan_by-requires-clause-keeps g c =
-    keeps_stays c.args.elf.now c.keep_sections.new.elf
-    c.in-Ok.ensures.asks.object c.in-Ok.ensures.asks.told c.in-Ok.keeper c.in-Ok.ensures.keeps.1
-
-pub plan_by-requires-clause-numbers : goal.plan_by-requires-clause-numbers
-plan_by-requires-clause-numbers g c =
-    c.as_slice.ensures ∙ c.in-Ok-kept_numbers.ensures.ok
-    ∙ ap (kept_from_1 c.keep_sections.new.elf.o) (sym c.in-Ok.ensures.keeps.0)
+pub returns-in-Ok : goal.returns-in-Ok
+returns-in-Ok g c =
+    rebuilt_planned g.S.Source c.args.removed.now c.args.elf.now c.arrange_rebuilt.new.elf
+    c.in-Ok.x c.plan_arranged.result c.in-Ok.ensures c.plan_arranged.ensures
 
 pub returns-in-Err : goal.returns-in-Err
 returns-in-Err g c =
-    keeper_stops g.S.Source c.args.removed.now c.args.elf.now c.keep_sections.new.elf c.in-Err.e
-    c.in-Err.ensures.err c.in-Err.ensures.asks
-
-pub returns-in-Ok-kept_numbers : goal.returns-in-Ok-kept_numbers
-returns-in-Ok-kept_numbers g c =
-    all_planned g.S.Source c.args.removed.now c.args.elf.now c.keep_sections.new.elf
-    c.plan_by.new.elf c.in-Ok.keeper c.as_slice.result.now c.plan_by.result
-    c.in-Ok.ensures.keeps.0 c.dirty-sound.ensures.sound.object c.requires.clean
-    c.in-Ok.ensures.keeps.1
-    (c.as_slice.ensures ∙ c.in-Ok-kept_numbers.ensures.ok
-    ∙ ap (kept_from_1 c.keep_sections.new.elf.o) (sym c.in-Ok.ensures.keeps.0))
-    c.in-Ok.ensures.asks c.plan_by.ensures
-
-pub returns : goal.returns
-returns g c =
-    numbers_stop g.S.Source c.args.removed.now c.args.elf.now c.keep_sections.new.elf
-    c.in-Ok.keeper c.in-Err-kept_numbers.e c.in-Err-kept_numbers.ensures.err c.in-Ok.ensures.asks
+    rebuilt_unplanned g.S.Source c.args.removed.now c.args.elf.now c.arrange_rebuilt.new.elf
+    c.in-Err.e c.in-Err.ensures

@@ -1,31 +1,29 @@
 use Rattle.elf_descriptor.specs.Reads.{wanted}
 use Rattle.strip_removed.specs.Calls as calls
-use Rattle.strip_tool.proofs.StripLemmas.{removed_clean, removed_tied, removed_fits, removed_there, planned_without, unplanned}
+use Rattle.strip_rebuild.proofs.WholeLaws.{clean_stays, removable_stays}
+use Rattle.strip_contents.proofs.WholeLaws.{tied_stays, fits_stays}
+use Rattle.strip_tool.proofs.StripLemmas.{planned_without, unplanned}
 use Rattle.strip_tool.proofs.planning.plan_stripped.Goals as goal
 
 pub plan_rebuilt-requires-clause-clean : goal.plan_rebuilt-requires-clause-clean
 plan_rebuilt-requires-clause-clean g c =
-    removed_clean g.S.Source c.args.debug_only c.args.names.now
-    (wanted (calls.removed c.args.debug_only c.args.names.now) c.args.elf.now) c.args.elf.now
-    c.removed.new.elf c.in-Ok.set c.in-Ok.ensures.queries c.requires.clean
+    clean_stays c.args.elf.now c.removed.new.elf c.in-Ok.ensures.queries.object
+    c.in-Ok.ensures.queries.reads.told c.requires.clean
 
 pub plan_rebuilt-requires-clause-tied : goal.plan_rebuilt-requires-clause-tied
 plan_rebuilt-requires-clause-tied g c =
-    removed_tied g.S.Source c.args.debug_only c.args.names.now
-    (wanted (calls.removed c.args.debug_only c.args.names.now) c.args.elf.now) c.args.elf.now
-    c.removed.new.elf c.in-Ok.set c.in-Ok.ensures.queries c.requires.tied
+    tied_stays c.args.elf.now c.removed.new.elf c.in-Ok.ensures.queries.object
+    c.in-Ok.ensures.queries.reads.told c.requires.tied
 
 pub plan_rebuilt-requires-clause-fits : goal.plan_rebuilt-requires-clause-fits
 plan_rebuilt-requires-clause-fits g c =
-    removed_fits g.S.Source c.args.debug_only c.args.names.now
-    (wanted (calls.removed c.args.debug_only c.args.names.now) c.args.elf.now) c.args.elf.now
-    c.removed.new.elf c.in-Ok.set c.in-Ok.ensures.queries c.requires.fits
+    fits_stays c.args.elf.now c.removed.new.elf c.in-Ok.ensures.queries.object
+    c.in-Ok.ensures.queries.reads.told c.requires.fits
 
 pub plan_rebuilt-requires-clause-removable : goal.plan_rebuilt-requires-clause-removable
 plan_rebuilt-requires-clause-removable g c =
-    removed_there g.S.Source c.args.debug_only c.args.names.now
-    (wanted (calls.removed c.args.debug_only c.args.names.now) c.args.elf.now) c.args.elf.now
-    c.removed.new.elf c.in-Ok.set c.in-Ok.ensures.queries c.in-Ok.ensures.removable
+    removable_stays c.args.elf.now c.removed.new.elf c.in-Ok.ensures.queries.object
+    c.in-Ok.ensures.queries.reads.told c.in-Ok.set c.in-Ok.ensures.removable
 
 pub returns-in-Ok : goal.returns-in-Ok
 returns-in-Ok g c =

@@ -15,11 +15,13 @@ returns-in-Ok g c =
     stripped_written g.S.Source g.F.Files g.O.Sink g.E.Sink c.args.command.now.debug_only
     c.args.command.now.names.now c.args.file.now c.args.command.now.out.now c.args.elf
     c.plan_stripped.new.elf c.write_plan.result.0 c.in-Ok.plan c.write_plan.result.1
-    c.args.files.now _ c.args.outputs.now _ c.in-Ok.ensures c.write_plan.ensures
+    c.args.files.now _ c.args.outputs.now _ c.requires.over c.in-Ok.ensures
+    (rw c.end.ensures at c.write_plan.ensures)
 
 pub returns-in-Err : goal.returns-in-Err
 returns-in-Err g c =
-    stripped_refused g.S.Source g.F.Files g.O.Sink g.E.Sink c.args.command.now.debug_only
-    c.args.command.now.names.now c.args.file.now c.args.command.now.out.now c.args.elf
-    c.plan_stripped.new.elf c.in-Err.e c.refuse_for-refused.result c.args.files.now
-    c.args.outputs.now _ c.in-Err.ensures c.refuse_for-refused.ensures
+    rw c.end-in-Err.ensures (stripped_refused g.S.Source g.F.Files g.O.Sink g.E.Sink
+    c.args.command.now.debug_only c.args.command.now.names.now c.args.file.now
+    c.args.command.now.out.now c.args.elf c.plan_stripped.new.elf c.in-Err.e
+    c.refuse_for-refused.result c.args.files.now c.args.outputs.now _ c.in-Err.ensures
+    c.refuse_for-refused.ensures)

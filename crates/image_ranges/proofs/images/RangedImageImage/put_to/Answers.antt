@@ -1,4 +1,5 @@
 use Rattle.std.proofs.Common.{refl}
+use Rattle.std.specs.Prelude.{is_some}
 use Rattle.image_ranges.specs.Ranges.{kept_of_parts}
 use Rattle.image_ranges.specs.Images.{ranged_text, ranged_asks}
 use Rattle.image_ranges.proofs.WalkLaws.{image_put, nothing_put, nothing_used, nothing_read, source_read, memory_stops, walk_stops, kept_within}
@@ -6,7 +7,7 @@ use Rattle.image_ranges.proofs.images.RangedImageImage.put_to.Goals as goal
 
 pub returns-in-Err-clause-puts : goal.returns-in-Err-clause-puts
 returns-in-Err-clause-puts g c =
-    nothing_put g.K.Sink c.in-Err.e c.args.sink.now c.args.self.now.parts.elf.told _
+    nothing_put g.K.Sink c.in-Err.e c.args.sink.now (is_some (g.S.Source.holds c.args.self.now.parts.source)) _
     c.in-Err.ensures.err
 
 pub returns-in-Err-clause-sink : goal.returns-in-Err-clause-sink
@@ -15,7 +16,7 @@ returns-in-Err-clause-sink g c = nothing_used g.K.Sink c.in-Err.e c.args.sink.no
 
 pub returns-in-Err-clause-source : goal.returns-in-Err-clause-source
 returns-in-Err-clause-source g c =
-    nothing_read g.S.Source c.in-Err.e c.args.self.now.parts.elf.source _ c.in-Err.ensures.err
+    nothing_read g.S.Source c.in-Err.e c.args.self.now.parts.source _ c.in-Err.ensures.err
 
 pub returns-in-Err-clause-stops : goal.returns-in-Err-clause-stops
 returns-in-Err-clause-stops g c = memory_stops c.in-Err.e c.in-Err.ensures.err
@@ -42,7 +43,7 @@ returns-clause-puts g c =
     c.args.self.now.end)
     (ranged_asks (kept_of_parts g.S.Source c.args.self.now.parts) c.args.self.now.plan
     c.args.self.now.end)
-    c.in-Ok.ensures.ok c.put_image.result c.args.self.now.parts.elf.told
+    c.in-Ok.ensures.ok c.put_image.result (is_some (g.S.Source.holds c.args.self.now.parts.source))
     (rw c.as_slice.ensures at c.put_image.ensures.emits) c.put_image.ensures.empty refl
 
 pub returns-clause-sink : goal.returns-clause-sink

@@ -1,7 +1,6 @@
 use Rattle.std.proofs.Common.{◌+◌, length, refl}
-use Rattle.elf_update.proofs.CopyLaws.{asks_copies}
 use Rattle.image_ranges.specs.Ranges.{kept_of_parts}
-use Rattle.image_ranges.proofs.RangeLaws.{origin_inside, origin_within, origin_copied, origin_asked, between_in_base, between_copied, between_asked, copies_by_parts}
+use Rattle.image_ranges.proofs.RangeLaws.{origin_inside, origin_within, origin_copied, origin_asked, between_in_base, between_copied, between_asked, copies_more, copies_by_parts}
 use Rattle.image_ranges.proofs.parts.RangedPartsImageParts.copy.Goals as goal
 
 pub copy_piece-requires-clause-inside : goal.copy_piece-requires-clause-inside
@@ -25,28 +24,28 @@ returns-in-Piece-clause-bytes g c =
 pub returns-in-Piece-clause-copies : goal.returns-in-Piece-clause-copies
 returns-in-Piece-clause-copies g c =
     copies_by_parts g.S.Source c.copy_piece.result c.args.self.now
-    (record c.args.self.now { elf = c.copy_piece.new.elf }) _ _
+    (record c.args.self.now { source = c.copy_piece.new.src }) _ _
     (origin_asked (kept_of_parts g.S.Source c.args.self.now) c.args.of c.in-Piece.part
     c.in-Piece.p c.range_at-range.result c.in-Piece.is c.range_at-range.ensures c.args.from
     (c.args.from + length c.args.buf.now))
     refl c.copy_piece.ensures.copies
 
-pub copy_base-requires : goal.copy_base-requires
-copy_base-requires g c =
+pub copy_source-requires : goal.copy_source-requires
+copy_source-requires g c =
     between_in_base (kept_of_parts g.S.Source c.args.self.now) c.args.of c.in-Base.is
     (c.args.from + length c.args.buf.now) c.requires.there
 
 pub returns-in-Base-clause-bytes : goal.returns-in-Base-clause-bytes
 returns-in-Base-clause-bytes g c =
     between_copied (kept_of_parts g.S.Source c.args.self.now) c.args.of c.in-Base.is
-    c.copy_base.result c.args.from (length c.args.buf.now) c.copy_base.new.buf _
-    c.requires.there c.copy_base.ensures.bytes
+    c.copy_source.result c.args.from (length c.args.buf.now) c.copy_source.new.buf _
+    c.requires.there c.copy_source.ensures.bytes
 
 pub returns-in-Base-clause-copies : goal.returns-in-Base-clause-copies
 returns-in-Base-clause-copies g c =
-    copies_by_parts g.S.Source c.copy_base.result c.args.self.now
-    (record c.args.self.now { elf = c.copy_base.new.self }) _ _ refl refl
-    (asks_copies g.S.Source c.copy_base.result c.args.self.now.elf c.copy_base.new.self
-    (length c.args.buf.now) _ c.copy_base.ensures.stays c.copy_base.ensures.asks
+    copies_by_parts g.S.Source c.copy_source.result c.args.self.now
+    (record c.args.self.now { source = c.copy_source.new.src }) _ _ refl refl
+    (copies_more g.S.Source c.copy_source.result c.args.self.now.source c.copy_source.new.src
+    (length c.args.buf.now) _
     (between_asked (kept_of_parts g.S.Source c.args.self.now) c.args.of c.in-Base.is
-    c.args.from (length c.args.buf.now) c.requires.there))
+    c.args.from (length c.args.buf.now) c.requires.there) c.copy_source.ensures.copies)
