@@ -81,7 +81,7 @@ module _ (o : Object) where
       ∙ ap (λ (l : List Section). new_section ∷ l) (sections_made 1 n (omega arith))
       ∙ ap (λ (c : Section). c ∷ map (debug_section o) (range_with_len 1 n)) (sym first_made)
 
-  sections_are : filled_sections o (half_header o) (half_items o) (section_numbers o)
+  pub sections_are : filled_sections o (half_header o) (half_items o) (section_numbers o)
       ≡ debug_sections o
   unfolding filled_sections
   sections_are = sections_counted (length o.sections)

@@ -1,2 +1,2 @@
 mod PartLaws
-mod HalfLaws
+pub mod HalfLaws

@@ -6,3 +6,4 @@ mod halving;
 mod making;
 
 pub use halving::debug_of;
+pub use making::{HalfMaker, is_loaded_from_file};

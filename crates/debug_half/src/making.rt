@@ -16,8 +16,10 @@ use strip_rebuild::bytes_at_home;
 use strip_removed::is_allocated;
 
 /// Whether a section is allocated and has bytes in the file.
+///
+/// Source: gABI chapter 4, "Section Header", SHF_ALLOC and SHT_NOBITS.
 #[tactic(auto, unfolding(command_objects::specs::Split::is_loaded_from_file))]
-fn is_loaded_from_file(h: &Shdr) -> bool
+pub fn is_loaded_from_file(h: &Shdr) -> bool
     ensures { result ≡ is_loaded_from_file h.now }
 {
     is_allocated(h) && occupies_file(h)
@@ -36,9 +38,12 @@ fn half_items<S: Source>(elf: &mut Elf<S>, s: ScnId) -> Result<Items, ElfError>
     bytes_at_home(elf, s)
 }
 
-/// What makes the sections of the debug half.
+/// What makes the sections of the debug half: those that are loaded of the file become `SHT_NOBITS`
+/// and have no bytes, and all others stay as they are.
+///
+/// Source: eu-strip(1) with -f; gABI chapter 4, "Sections", SHT_NOBITS.
 #[derive(Drop)]
-pub(crate) struct HalfMaker;
+pub struct HalfMaker;
 
 impl SectionMaker for HalfMaker {
     ghost header = { λ _. half_header };

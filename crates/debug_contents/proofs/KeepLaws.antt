@@ -1,0 +1,222 @@
+-- What the debug half has of sections, one after another.
+use Rattle.std.proofs.Common.{◌≡◌, ◌+◌, ◌-◌, ◌<◌, ◌≤◌, ℕ, List, [], ◌∷◌, length, map, take, get_or, take_all, Option, Some, None, Result, Ok, Err, refl, sym, ap, ◌∙◌, subst}
+use Rattle.std.specs.Prelude.{All, IsTrue, IfErr, OnOk}
+use Rattle.std.proofs.lemmas.List.{take_more}
+use Rattle.elf_types.specs.Answers.{first_refusal, answered}
+use Rattle.elf_types.specs.declared.records.Shdr.{Shdr}
+use Rattle.elf_types.specs.declared.errors.ElfError.{ElfError}
+use Rattle.elf_types.specs.declared.errors.ElfError.TheVariants.{Memory}
+use Rattle.elf_object.specs.Object.{Object}
+use Rattle.elf_object.specs.Calls.{newphdr_refusal}
+use Rattle.elf_object.specs.Layout.{section_numbers}
+use Rattle.elf_object.specs.Valid.{IsObject}
+use Rattle.elf_object.proofs.PassedLaws.{none_first}
+use Rattle.std.proofs.lemmas.List.FromFn.{length-map-range_with_len}
+use Rattle.elf_descriptor.specs.State.{State}
+use Rattle.update_plan.proofs.PlacingLaws.{passed_from, refused_from}
+use Rattle.command_objects.specs.Rebuilt.{index_refusal}
+use Rattle.command_objects.specs.Split.{debug_section, debug_sections, debug_raw_refusal, debug_refusal}
+use Rattle.object_making.specs.Refused.{RefusedBy}
+use Rattle.object_making.proofs.RefusedLaws.{alone, passes_first, refused_first, refused_later, refused_as, stated_refused, answer_refused, passed_more, passed_all}
+use Rattle.image_ranges.specs.declared.ranges.ByteRange.{ByteRange}
+use Rattle.strip_rebuild.proofs.FillLaws.{none_passed}
+use Rattle.strip_rebuild.proofs.NumberLaws.{kept_few, numbers_all}
+use Rattle.strip_contents.specs.declared.contents.Contents.{Contents}
+use Rattle.strip_contents.specs.Checks.{index_beyond}
+use Rattle.strip_contents.specs.Contents.{HasOneMore, IsPutBehind, AreKept, HasFirst}
+use Rattle.strip_contents.proofs.CheckLaws.{index_is, index_states}
+use Rattle.strip_contents.proofs.KeepingLaws.{kept_more, none_has, some_has}
+use Rattle.strip_contents.proofs.StopLaws.{refused_stop}
+use Rattle.strip_contents.proofs.WholeLaws.{segments_state}
+use Rattle.debug_half.specs.Half.{half_header}
+use Rattle.debug_contents.specs.Ranges.{half_bytes, FindsHalf}
+use Rattle.debug_contents.specs.Keeping.{AddsHalf, AddsHalves, ListsHalf, KeepsHalf}
+
+-- ---- One section
+
+module _ {S : Type 0} (s : State S) (n : ℕ) (contents next : Contents) where
+  pub half_added : (h : Shdr) (range : ByteRange) (q : Result (Unit {0}) ElfError)
+      → h ≡ half_header s.o n → FindsHalf s n (Ok range)
+      → OnOk q (IsPutBehind h range contents next) → IfErr q (λ e. e ≡ Memory)
+      → AddsHalf s n q contents next
+  half_added h range (Ok x) header found put only = record {
+    ok = subst (λ (y : Shdr).
+        HasOneMore s.told s.o.base y (half_bytes s.o n) contents next) header
+        (put s.told s.o.base (half_bytes s.o n) (found.ok contents.held));
+    passed = found.passed;
+    err = tt;
+  }
+  half_added h range (Err e) header found put only =
+      subst (λ (d : ElfError). AddsHalf s n (Err d) contents next) (sym only)
+      (record { ok = tt; passed = tt; err = tt })
+
+  pub half_refused : (e : ElfError) → FindsHalf s n (Err e) → AddsHalf s n (Err e) contents next
+  half_refused e found = record { ok = tt; passed = tt; err = found.err }
+
+-- ---- One after another
+
+-- so many are added
+pub record HalfKept {S : Type 0} (s : State S) (numbers : List ℕ) (x : Contents) (i : ℕ)
+    : Type 0 where
+  pub passed : first_refusal (map (debug_raw_refusal s.o) (take i numbers)) ≡ None
+  pub kept : AreKept s.told s.o.base (half_header s.o) (half_bytes s.o) (take i numbers) x
+
+module _ {S : Type 0} (s : State S) (numbers : List ℕ) where
+  pub halves_none : (x : Contents) → HasFirst x → HalfKept s numbers x 0
+  halves_none x first = record {
+    passed = refl;
+    kept = first s.told s.o.base (half_header s.o) (half_bytes s.o);
+  }
+
+  module _ (x : Contents) (i : ℕ) (so_far : HalfKept s numbers x i) (there : i < length numbers)
+    where
+      pub half_there : All (λ n. n < length s.o.sections) numbers
+          → get_or numbers i 0 < length s.o.sections
+      half_there all = all i 0 there
+
+      pub halves_more : (y : Contents) → AddsHalf s (get_or numbers i 0) (Ok tt) x y
+          → HalfKept s numbers y (i + 1)
+      halves_more y adds = record {
+        passed = passed_more (debug_raw_refusal s.o) numbers i there so_far.passed adds.passed;
+        kept = subst (λ (l : List ℕ).
+            AreKept s.told s.o.base (half_header s.o) (half_bytes s.o) l y)
+            (sym (take_more numbers i 0 there))
+            (kept_more s.told s.o.base (half_header s.o) (half_bytes s.o) (take i numbers)
+            (get_or numbers i 0) x y so_far.kept adds.ok);
+      }
+
+      pub halves_stop : (e : ElfError) (y z : Contents)
+          → AddsHalf s (get_or numbers i 0) (Err e) x y → AddsHalves s numbers (Err e) z
+      halves_stop e y z adds = record {
+        ok = tt;
+        passed = tt;
+        err = refused_stop (debug_raw_refusal s.o) numbers i e there so_far.passed adds.err;
+      }
+
+  pub halves_all : (x : Contents) (i : ℕ) → HalfKept s numbers x i → length numbers ≤ i
+      → AddsHalves s numbers (Ok tt) x
+  halves_all x i so_far all = record {
+    ok = subst (λ (l : List ℕ). AreKept s.told s.o.base (half_header s.o) (half_bytes s.o) l x)
+        (take_all i numbers all) so_far.kept;
+    passed = passed_all (debug_raw_refusal s.o) numbers i all so_far.passed;
+    err = tt;
+  }
+
+-- ---- All of them
+
+few_numbers : (o : Object) → length (section_numbers o) ≤ length o.sections - 1
+few_numbers o =
+    subst (λ (l : List ℕ). length l ≤ length o.sections - 1) (numbers_all o) (kept_few o [])
+
+module _ {S : Type 0} (s : State S) where
+  pub half_none : (x : Contents) → length s.o.sections ≡ 0 → x.headers ≡ [] → x.sizes ≡ []
+      → ListsHalf s (Ok x)
+  half_none x none headers sizes = record {
+    ok = none_has s.told s.o.base (half_header s.o) (half_bytes s.o) (section_numbers s.o)
+        (length s.o.sections) x none headers sizes;
+    passed = none_passed s.o (debug_raw_refusal s.o) (section_numbers s.o) none
+        (few_numbers s.o);
+    err = tt;
+  }
+
+  pub half_listed : (numbers : List ℕ) (x : Contents) → numbers ≡ section_numbers s.o
+      → IsObject s.o → (length s.o.sections ≡ 0 → ⊥) → AddsHalves s numbers (Ok tt) x
+      → ListsHalf s (Ok x)
+  half_listed numbers x at is some adds = record {
+    ok = some_has s.told s.o.base (half_header s.o) (half_bytes s.o) (section_numbers s.o)
+        (length s.o.sections) x some is.section_count (few_numbers s.o)
+        (subst (λ (l : List ℕ). AreKept s.told s.o.base (half_header s.o) (half_bytes s.o) l x)
+        at adds.ok);
+    passed = ap (λ (l : List ℕ). first_refusal (map (debug_raw_refusal s.o) l)) (sym at)
+        ∙ adds.passed;
+    err = tt;
+  }
+
+  pub half_not_listed : (numbers : List ℕ) (e : ElfError) (x : Contents)
+      → numbers ≡ section_numbers s.o → AddsHalves s numbers (Err e) x → ListsHalf s (Err e)
+  half_not_listed numbers e x at adds = record {
+    ok = tt;
+    passed = tt;
+    err = refused_as (first_refusal (map (debug_raw_refusal s.o) numbers))
+        (first_refusal (map (debug_raw_refusal s.o) (section_numbers s.o))) e
+        (ap (λ (l : List ℕ). first_refusal (map (debug_raw_refusal s.o) l)) at) adds.err;
+  }
+
+  pub half_wanted : (e : ElfError) → e ≡ Memory → ListsHalf s (Err e)
+  half_wanted e want =
+      subst (λ (d : ElfError). ListsHalf s (Err d)) (sym want)
+      (record { ok = tt; passed = tt; err = tt })
+
+  -- ---- What is refused of the debug half
+
+  abbrev segments : Option ElfError
+  segments = newphdr_refusal (length s.o.phdrs)
+
+  abbrev raw : Option ElfError
+  raw = first_refusal (map (debug_raw_refusal s.o) (section_numbers s.o))
+
+  abbrev index : Option ElfError
+  index = index_refusal s.o (debug_sections s.o) s.o.header.shstrndx
+
+  stated : first_refusal (segments ∷ raw ∷ index ∷ []) ≡ debug_refusal s.o
+  unfolding debug_refusal
+  stated = refl
+
+  pub too_many_segments : (e : ElfError) (n : ℕ) → n ≡ length s.o.phdrs
+      → ◌≡◌ {A = Result (Unit {0}) ElfError} (Err e) (answered (newphdr_refusal n) tt)
+      → KeepsHalf s (Err e)
+  too_many_segments e n at came =
+      let by : RefusedBy (newphdr_refusal n) e =
+      answer_refused (newphdr_refusal n) (tt {0}) e (segments_state n) came in
+      record {
+        ok = tt;
+        passed = tt;
+        err = refused_as (first_refusal (segments ∷ raw ∷ index ∷ [])) (debug_refusal s.o) e
+            stated (refused_first segments (raw ∷ index ∷ []) e
+            (subst (λ (m : ℕ). RefusedBy (newphdr_refusal m) e) at by));
+      }
+
+  module _ (few : segments ≡ None) where
+    pub half_unkept : (e : ElfError) → ListsHalf s (Err e) → KeepsHalf s (Err e)
+    half_unkept e lists = record {
+      ok = tt;
+      passed = tt;
+      err = refused_as (first_refusal (segments ∷ raw ∷ index ∷ [])) (debug_refusal s.o) e
+          stated (refused_later segments (raw ∷ index ∷ []) e few
+          (refused_first raw (index ∷ []) e lists.err));
+    }
+
+    module _ (x : Contents) (is : IsObject s.o) (lists : ListsHalf s (Ok x)) (i count : ℕ)
+        (index_as : i ≡ s.o.header.shstrndx) (count_as : count ≡ length s.o.sections) where
+      index_stated : index ≡ index_beyond i count
+      index_stated =
+          index_is s.o (debug_sections s.o) s.o.header.shstrndx is
+          ∙ ap (λ (j : ℕ). index_beyond j (length (debug_sections s.o))) (sym index_as)
+          ∙ ap (index_beyond i)
+          (length-map-range_with_len (debug_section s.o) 0 (length s.o.sections)
+          ∙ sym count_as)
+
+      refusal_is : debug_refusal s.o ≡ index_beyond i count
+      refusal_is =
+          sym stated
+          ∙ passes_first segments (raw ∷ index ∷ []) few
+          ∙ passes_first raw (index ∷ []) lists.passed
+          ∙ alone index
+          ∙ index_stated
+
+      pub half_kept : ◌≡◌ {A = Result (Unit {0}) ElfError} (Ok tt)
+          (answered (index_beyond i count) tt) → KeepsHalf s (Ok x)
+      half_kept came = record {
+        ok = lists.ok;
+        passed = refusal_is ∙ passed_from (index_beyond i count) came;
+        err = tt;
+      }
+
+      pub half_index : (e : ElfError) → ◌≡◌ {A = Result (Unit {0}) ElfError} (Err e)
+          (answered (index_beyond i count) tt) → KeepsHalf s (Err e)
+      half_index e came = record {
+        ok = tt;
+        passed = tt;
+        err = refused_as (index_beyond i count) (debug_refusal s.o) e (sym refusal_is)
+            (answer_refused (index_beyond i count) (tt {0}) e (index_states i count) came);
+      }

@@ -1,0 +1,3 @@
+pub mod RangeLaws
+pub mod KeepLaws
+pub mod PlanLaws

@@ -1,0 +1,127 @@
+//! What the debug half has of all sections.
+
+ghost use Rattle.std.specs.Prelude.{◌≡◌, ◌<◌, length, false, All, IsTrue};
+ghost use Rattle.elf_object.specs.Layout.{section_numbers};
+ghost use Rattle.elf_object.specs.Object.{is_dirty};
+ghost use Rattle.elf_object.specs.Valid.{IsObject, IsTied};
+ghost use Rattle.strip_contents.specs.Contents.{HasFirst};
+ghost use Rattle.debug_half.specs.Half.{half_header};
+ghost use Rattle.debug_contents.specs.Keeping.{AddsHalf, AddsHalves, ListsHalf, KeepsHalf};
+
+use crate::ranges::half_range;
+use debug_half::HalfMaker;
+use elf_descriptor::Elf;
+use elf_outside::Source;
+use elf_types::{ElfError, ScnId, Shdr};
+use object_making::SectionMaker;
+use std::alloc::Global;
+use strip_contents::{Contents, check_index, check_segments};
+use strip_rebuild::kept_numbers;
+use strip_removed::SectionSet;
+
+/// The header that a section that is there has in the debug half.
+fn header_of_half<S: Source>(elf: &Elf<S>, s: ScnId) -> Shdr
+    requires { s.0 < length elf.now.o.sections }
+    ensures { result ≡ half_header elf.now.o s.0 }
+{
+    HalfMaker.header(elf, s)
+}
+
+/// Adds what the debug half has of a section that is there.
+fn add_section<S: Source>(elf: &Elf<S>, s: ScnId, contents: &mut Contents) -> Result<(), ElfError>
+    requires there { s.0 < length elf.now.o.sections }
+    requires object { IsObject elf.now.o }
+    requires clean { is_dirty elf.now.o ≡ false }
+    requires tied { IsTrue elf.now.told → IsTied elf.now.o }
+    ensures { AddsHalf elf.now s.0 result contents.old contents.new }
+{
+    let header = header_of_half(elf, s);
+    match half_range(elf, s) {
+        Ok(range) => contents.add(header, range),
+        Err(e) => Err(e),
+    }
+}
+
+/// Adds what it has of sections that are there, behind section 0.
+fn add_sections<S: Source>(
+    elf: &Elf<S>,
+    numbers: &[u32],
+    contents: &mut Contents,
+) -> Result<(), ElfError>
+    requires there { All (λ s. s < length elf.now.o.sections) numbers.now }
+    requires object { IsObject elf.now.o }
+    requires clean { is_dirty elf.now.o ≡ false }
+    requires tied { IsTrue elf.now.told → IsTied elf.now.o }
+    requires first { HasFirst contents.old }
+    ensures { AddsHalves elf.now numbers.now result contents.new }
+{
+    for s in numbers {
+        match add_section(elf, ScnId(*s), contents) {
+            Ok(()) => {}
+            Err(e) => return Err(e),
+        }
+    }
+    Ok(())
+}
+
+/// What it has of all sections, of which these are the numbers from 1 on.
+fn fill_half<S: Source>(alloc: Global, elf: &Elf<S>, numbers: &[u32]) -> Result<Contents, ElfError>
+    requires numbers { numbers.now ≡ section_numbers elf.now.o }
+    requires object { IsObject elf.now.o }
+    requires clean { is_dirty elf.now.o ≡ false }
+    requires tied { IsTrue elf.now.told → IsTied elf.now.o }
+    ensures { ListsHalf elf.now result }
+{
+    if elf.shnum() == 0 {
+        return Ok(Contents::new(alloc));
+    }
+    let mut contents = match Contents::first(alloc) {
+        Ok(contents) => contents,
+        Err(e) => return Err(e),
+    };
+    match add_sections(elf, numbers, &mut contents) {
+        Ok(()) => Ok(contents),
+        Err(e) => Err(e),
+    }
+}
+
+/// The same with the numbers.
+fn list_half<S: Source>(alloc: Global, elf: &Elf<S>) -> Result<Contents, ElfError>
+    requires object { IsObject elf.now.o }
+    requires clean { is_dirty elf.now.o ≡ false }
+    requires tied { IsTrue elf.now.told → IsTied elf.now.o }
+    ensures { ListsHalf elf.now result }
+{
+    let numbers = match kept_numbers(alloc, elf, &SectionSet::none(alloc)) {
+        Ok(numbers) => numbers,
+        Err(e) => return Err(e),
+    };
+    fill_half(alloc, elf, numbers.as_slice())
+}
+
+/// What the debug half has of the sections of an object in which nothing is dirty, under their
+/// numbers: the headers, the sizes in the file, and where the bytes are. Sections that are
+/// allocated and have bytes in the file become `SHT_NOBITS`, keep their size and have no bytes; any
+/// other one is a range of the base. It refuses in this order, as `debug_of` of debug_half:
+/// `TooMany` of `newphdr`; `OutOfFile` of the first section from 1 on that keeps its bytes;
+/// `NoSection` of the string index; and `Memory`. It reads nothing.
+///
+/// Source: eu-strip(1) with -f; gABI chapter 4, "Sections", SHT_NOBITS.
+pub fn keep_half<S: Source>(alloc: Global, elf: &Elf<S>) -> Result<Contents, ElfError>
+    requires clean { is_dirty elf.now.o ≡ false }
+    requires tied { IsTrue elf.now.told → IsTied elf.now.o }
+    ensures { KeepsHalf elf.now result }
+{
+    let _sound = elf.dirty();
+    if let Err(e) = check_segments(elf.phnum()) {
+        return Err(e);
+    }
+    let contents = match list_half(alloc, elf) {
+        Ok(contents) => contents,
+        Err(e) => return Err(e),
+    };
+    match check_index(elf.shstrndx(), elf.shnum()) {
+        Ok(()) => Ok(contents),
+        Err(e) => Err(e),
+    }
+}
