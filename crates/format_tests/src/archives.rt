@@ -75,15 +75,37 @@ fn lists_both<S: Source>(archive: &mut Ar<S>) -> bool {
     next_is(archive, FIRST) && next_is(archive, SECOND) && is_at_end(archive)
 }
 
-/// Whether it is so of the archive in memory.
-fn library_lists_both(alloc: Global) -> Result<bool, ElfError> {
-    let mut archive = library(alloc, 0)?;
-    Ok(lists_both(&mut archive))
+/// What is asked of an archive.
+#[derive(Clone, Copy)]
+enum Asked {
+    /// Whether both members come, and no more.
+    Members,
+    /// Whether there is one symbol, of the first member.
+    Symbol,
+    /// Whether the next call is refused as `Read`, and the one after it gives the first member.
+    Waits,
+}
+
+/// Whether an archive answers so.
+fn answers<S: Source>(archive: &mut Ar<S>, asked: Asked) -> bool {
+    match asked {
+        Asked::Members => lists_both(archive),
+        Asked::Symbol => lists_symbol(archive),
+        Asked::Waits => waits(archive),
+    }
+}
+
+/// Whether the archive in memory does, of which the read of a number fails, or none where that is 0.
+fn library_answers(alloc: Global, bad_read: u64, asked: Asked) -> bool {
+    match library(alloc, bad_read) {
+        Ok(mut archive) => answers(&mut archive, asked),
+        Err(_) => false,
+    }
 }
 
 #[test]
 fn members_are_listed_with_their_names(rt: HostRuntime) {
-    assert!(rt; library_lists_both(rt.alloc()) == Ok(true));
+    assert!(rt; library_answers(rt.alloc(), 0, Asked::Members));
 }
 
 /// Whether a symbol is that of the first member.
@@ -99,28 +121,25 @@ fn lists_symbol<S: Source>(archive: &mut Ar<S>) -> bool {
     }
 }
 
-/// Whether it is so of the archive in memory.
-fn library_lists_symbol(alloc: Global) -> Result<bool, ElfError> {
-    let mut archive = library(alloc, 0)?;
-    Ok(lists_symbol(&mut archive))
-}
-
 #[test]
 fn symbols_are_listed_with_their_members(rt: HostRuntime) {
-    assert!(rt; library_lists_symbol(rt.alloc()) == Ok(true));
+    assert!(rt; library_answers(rt.alloc(), 0, Asked::Symbol));
 }
 
 /// Whether a window reads these bytes.
-fn reads<S: Source>(alloc: Global, window: &mut Window<S>, bytes: &[u8]) -> Result<bool, ElfError> {
+fn reads<S: Source>(alloc: Global, window: &mut Window<S>, bytes: &[u8]) -> bool {
     let len = window.len();
-    Ok(read_range(alloc, window, 0, len)?.as_slice() == bytes)
+    match read_range(alloc, window, 0, len) {
+        Ok(read) => read.as_slice() == bytes,
+        Err(_) => false,
+    }
 }
 
 /// The archive, and whether the body of the member at a place is read as these bytes.
 fn reads_body<S: Source>(alloc: Global, archive: Ar<S>, at: u64, bytes: &[u8]) -> (Ar<S>, bool) {
     match archive.member(at) {
         Ok(mut window) => {
-            let read = reads(alloc, &mut window, bytes) == Ok(true);
+            let read = reads(alloc, &mut window, bytes);
             (window.into_inner(), read)
         }
         Err((archive, _)) => (archive, false),
@@ -136,16 +155,21 @@ fn reads_between<S: Source>(alloc: Global, mut archive: Ar<S>) -> (S, bool) {
 }
 
 /// How many bytes the archive is asked for by that, if it is so.
-fn asked_between(alloc: Global) -> Result<Option<u64>, ElfError> {
-    let (source, read) = reads_between(alloc, library(alloc, 0)?);
-    Ok(if read { Some(source.asked()) } else { None })
+fn asked_between(alloc: Global) -> Option<u64> {
+    match library(alloc, 0) {
+        Ok(archive) => {
+            let (source, read) = reads_between(alloc, archive);
+            if read { Some(source.asked()) } else { None }
+        }
+        Err(_) => None,
+    }
 }
 
 #[test]
 fn a_body_is_a_source_and_the_walk_goes_on(rt: HostRuntime) {
     // The first line, four headers of the walk and its long names, and a header and a body besides.
     let due = 8 + 4 * 60 + 27 + 60 + 3;
-    assert!(rt; asked_between(rt.alloc()) == Ok(Some(due)));
+    assert!(rt; asked_between(rt.alloc()) == Some(due));
 }
 
 /// The place of the bad header at which a walk ends, 0 where it ends well, and 1 where it fails.
@@ -183,7 +207,7 @@ type Damage = (usize, u8, u64);
 /// Damages, and the place at which the walk ends. They are the end of a header, its size, its mode,
 /// its name, a long name without an end, a header and a body that are cut, and a last pad byte that
 /// is.
-const DAMAGES: [(Damage, u64); 8] = [
+static DAMAGES: [(Damage, u64); 8] = [
     ((66, 0, 290), 8),
     ((56, b'x', 290), 8),
     ((125, b'z', 290), 78),
@@ -206,50 +230,56 @@ fn ends_at<S: Source>(archive: &mut Ar<S>, at: u64) -> bool {
 }
 
 /// Whether the walk over a damaged archive ends so.
-fn is_ended(alloc: Global, damage: Damage, at: u64) -> Result<bool, ElfError> {
-    let mut archive = damaged(alloc, damage)?;
-    Ok(ends_at(&mut archive, at))
+fn is_ended(alloc: Global, damage: Damage, at: u64) -> bool {
+    match damaged(alloc, damage) {
+        Ok(mut archive) => ends_at(&mut archive, at),
+        Err(_) => false,
+    }
 }
 
 /// Whether each does.
-fn are_ended(alloc: Global) -> bool {
-    let mut stated = true;
-    for (damage, at) in DAMAGES {
-        stated &= is_ended(alloc, damage, at) == Ok(true);
+fn are_ended(alloc: Global, damages: &[(Damage, u64)]) -> bool {
+    for (damage, at) in damages {
+        if !is_ended(alloc, *damage, *at) {
+            return false;
+        }
     }
-    stated
+    true
 }
 
 #[test]
 fn a_bad_header_ends_the_walk(rt: HostRuntime) {
-    assert!(rt; are_ended(rt.alloc()));
+    assert!(rt; are_ended(rt.alloc(), &DAMAGES));
 }
 
 /// Texts, and their refusals as archives.
-const TEXTS: [(&[u8], Option<ElfError>); 3] = [
+static TEXTS: [(&[u8], Option<ElfError>); 3] = [
     (b"!<arch>", Some(ElfError::Short)),
     (b"!<thin>\n", Some(ElfError::Magic)),
     (b"!<arch>\n", None),
 ];
 
-/// The refusal of a text as an archive.
-fn refusal_of(alloc: Global, text: &[u8]) -> Result<Option<ElfError>, ElfError> {
-    let bytes = Octets::from_slice(alloc, text)?;
-    Ok(opened(alloc, bytes, 0).err())
+/// Whether a text is refused so as an archive.
+fn is_refused(alloc: Global, text: &[u8], refusal: Option<ElfError>) -> bool {
+    match Octets::from_slice(alloc, text) {
+        Ok(bytes) => opened(alloc, bytes, 0).err() == refusal,
+        Err(_) => false,
+    }
 }
 
 /// Whether the texts are refused so.
-fn texts_are_refused(alloc: Global) -> Result<bool, ElfError> {
-    let mut stated = true;
-    for (text, refusal) in TEXTS {
-        stated &= refusal_of(alloc, text)? == refusal;
+fn texts_are_refused(alloc: Global, texts: &[(&[u8], Option<ElfError>)]) -> bool {
+    for (text, refusal) in texts {
+        if !is_refused(alloc, text, *refusal) {
+            return false;
+        }
     }
-    Ok(stated)
+    true
 }
 
 #[test]
 fn what_is_no_archive_is_refused(rt: HostRuntime) {
-    assert!(rt; texts_are_refused(rt.alloc()) == Ok(true));
+    assert!(rt; texts_are_refused(rt.alloc(), &TEXTS));
 }
 
 /// Whether the next call is refused as `Read`, and the one after it gives the first member.
@@ -257,25 +287,20 @@ fn waits<S: Source>(archive: &mut Ar<S>) -> bool {
     archive.next().err() == Some(ElfError::Read) && next_is(archive, FIRST)
 }
 
-/// Whether a walk waits where the read of a number fails.
-fn waits_at(alloc: Global, bad_read: u64) -> Result<bool, ElfError> {
-    let mut archive = library(alloc, bad_read)?;
-    Ok(waits(&mut archive))
-}
-
 /// Whether a walk waits where any read of it fails.
-fn waits_at_each(alloc: Global) -> Result<bool, ElfError> {
-    let mut stated = true;
+fn waits_at_each(alloc: Global) -> bool {
     // The first line is read, and then two headers, the long names, and the first member's header.
     for bad_read in 2..6 {
-        stated &= waits_at(alloc, bad_read)?;
+        if !library_answers(alloc, bad_read, Asked::Waits) {
+            return false;
+        }
     }
-    Ok(stated)
+    true
 }
 
 #[test]
 fn a_failed_read_leaves_the_walk(rt: HostRuntime) {
-    assert!(rt; waits_at_each(rt.alloc()) == Ok(true));
+    assert!(rt; waits_at_each(rt.alloc()));
 }
 
 #[test]
@@ -292,12 +317,14 @@ fn is_handed_back<S: Source + Drop>(archive: Ar<S>) -> bool {
 }
 
 /// Whether it is so of the archive in memory.
-fn library_is_handed_back(alloc: Global) -> Result<bool, ElfError> {
-    let archive = library(alloc, 2)?;
-    Ok(is_handed_back(archive))
+fn library_is_handed_back(alloc: Global) -> bool {
+    match library(alloc, 2) {
+        Ok(archive) => is_handed_back(archive),
+        Err(_) => false,
+    }
 }
 
 #[test]
 fn a_failed_read_hands_the_archive_back(rt: HostRuntime) {
-    assert!(rt; library_is_handed_back(rt.alloc()) == Ok(true));
+    assert!(rt; library_is_handed_back(rt.alloc()));
 }

@@ -3,7 +3,7 @@
 mod refusals;
 
 use elf_ident::{FileKind, Front, kind_of_source, read_front};
-use elf_outside::{MemSource, Source};
+use elf_outside::MemSource;
 use elf_types::{Class, Ehdr, ElfError, Octets, Order};
 use elf_xlate::{ehdr_size, phdr_size, shdr_size};
 use std::alloc::Global;
@@ -15,7 +15,7 @@ use test_sources::source;
 /// First bytes of a file, its kind, and how many of them are asked for.
 type Start = (&'static [u8], FileKind, u64);
 
-const STARTS: [Start; 6] = [
+static STARTS: [Start; 6] = [
     (b"!<arch>\n\x7fELF", FileKind::Archive, 8),
     (b"!<arch>", FileKind::Other, 7),
     (b"!<thin>\n", FileKind::Other, 8),
@@ -24,83 +24,68 @@ const STARTS: [Start; 6] = [
     (b"", FileKind::Other, 0),
 ];
 
+/// Whether a source is of a kind, and is asked for so many bytes for that.
+fn is_of_kind(src: &mut MemSource, kind: FileKind, asked: u64) -> bool {
+    kind_of_source(src) == Ok(kind) && src.asked() == asked
+}
+
 /// Whether the kind is told as stated.
-fn is_told(alloc: Global, text: &[u8], kind: FileKind, asked: u64) -> Result<bool, ElfError> {
-    let mut src = source(alloc, Octets::from_slice(alloc, text)?, 0)?;
-    Ok(kind_of_source(&mut src) == Ok(kind) && src.asked() == asked)
-}
-
-/// Whether each kind is.
-fn kinds_are_told(alloc: Global) -> Result<bool, ElfError> {
-    let mut stated = true;
-    for (text, kind, asked) in STARTS {
-        stated &= is_told(alloc, text, kind, asked)?;
-    }
-    Ok(stated)
-}
-
-#[test]
-fn a_kind_is_told_by_eight_bytes(rt: HostRuntime) {
-    assert!(rt; kinds_are_told(rt.alloc()) == Ok(true));
-}
-
-/// A front, with what it should be.
-trait FrontQuestion {
-    /// Whether it is so.
-    fn is_answered(&self, front: &Front) -> bool;
-}
-
-/// Whether the front of a source answers a question.
-fn front_answers<Q: FrontQuestion, S: Source>(alloc: Global, q: &Q, src: &mut S) -> bool {
-    match read_front(alloc, src) {
-        Ok(front) => q.is_answered(&front),
+fn is_told(alloc: Global, start: &Start) -> bool {
+    match source_of(alloc, start.0) {
+        Ok(mut src) => is_of_kind(&mut src, start.1, start.2),
         Err(_) => false,
     }
 }
 
-/// How many bytes of an image were asked for once its front answered a question; none where it did
-/// not.
-fn asked<Q: FrontQuestion>(alloc: Global, q: &Q, bytes: Octets) -> Result<Option<u64>, ElfError> {
-    let mut src = source(alloc, bytes, 0)?;
-    let answered = front_answers(alloc, q, &mut src);
-    Ok(if answered { Some(src.asked()) } else { None })
-}
-
-/// The front is that header alone.
-#[derive(Drop)]
-struct Alone(Ehdr);
-
-impl FrontQuestion for Alone {
-    fn is_answered(&self, front: &Front) -> bool {
-        front.ehdr == self.0 && front.phdrs.is_empty() && front.shdrs.is_empty()
+/// A source of a text.
+fn source_of(alloc: Global, text: &[u8]) -> Result<MemSource, ElfError> {
+    match Octets::from_slice(alloc, text) {
+        Ok(bytes) => source(alloc, bytes, 0),
+        Err(e) => Err(e),
     }
 }
 
-/// Whether the front of a header alone is read, and nothing else.
-fn header_is_read(alloc: Global, class: Class, order: Order) -> Result<bool, ElfError> {
-    let image = header_alone(alloc, class, order)?;
-    let asked = asked(alloc, &Alone(image.header), image.bytes)?;
-    Ok(asked == Some(ehdr_size(class) as u64))
-}
-
-/// Whether it is in all forms.
-fn headers_are_read(alloc: Global) -> Result<bool, ElfError> {
-    let mut stated = true;
-    for (class, order) in FORMS {
-        stated &= header_is_read(alloc, class, order)?;
+/// Whether each kind is.
+fn kinds_are_told(alloc: Global, starts: &[Start]) -> bool {
+    for start in starts {
+        if !is_told(alloc, start) {
+            return false;
+        }
     }
-    Ok(stated)
+    true
 }
 
 #[test]
-fn a_header_alone_is_read(rt: HostRuntime) {
-    assert!(rt; headers_are_read(rt.alloc()) == Ok(true));
+fn a_kind_is_told_by_eight_bytes(rt: HostRuntime) {
+    assert!(rt; kinds_are_told(rt.alloc(), &STARTS));
 }
 
-/// The bytes of a header, two program headers and so many section headers.
-fn tables_size(class: Class, sections: u8) -> u64 {
+/// An image, and how its front is.
+#[derive(Clone, Copy)]
+enum Shape {
+    /// It is a header alone.
+    Alone,
+    /// It is a header with both tables, two program headers and three section headers.
+    WithTables,
+    /// The counts and the string index are those of section 0.
+    Extended,
+}
+
+/// The bytes of a header, so many program headers and so many section headers.
+fn tables_size(class: Class, segments: u64, sections: u64) -> u64 {
     let (header, segment, section) = (ehdr_size(class), phdr_size(class), shdr_size(class));
-    header as u64 + 2 * segment as u64 + u64::from(sections) * section as u64
+    (header as u64)
+        .saturating_add(segments.saturating_mul(segment as u64))
+        .saturating_add(sections.saturating_mul(section as u64))
+}
+
+/// How many bytes are read for the front.
+fn size_of_front(shape: Shape, class: Class) -> u64 {
+    match shape {
+        Shape::Alone => tables_size(class, 0, 0),
+        Shape::WithTables => tables_size(class, 2, 3),
+        Shape::Extended => tables_size(class, 2, 4),
+    }
 }
 
 /// Numbers, each byte of which is another.
@@ -115,6 +100,15 @@ fn with_numbers(alloc: Global, class: Class, order: Order) -> Result<Image, ElfE
     Ok(image)
 }
 
+/// The image.
+fn image_of(alloc: Global, shape: Shape, class: Class, order: Order) -> Result<Image, ElfError> {
+    match shape {
+        Shape::Alone => header_alone(alloc, class, order),
+        Shape::WithTables => with_numbers(alloc, class, order),
+        Shape::Extended => numbers_in_section_0(alloc, class, order),
+    }
+}
+
 /// Whether a front has those fields.
 fn has_numbers(front: &Front) -> bool {
     let (Some(segment), Some(section)) = (front.phdrs.get(0), front.shdrs.get(2)) else {
@@ -125,68 +119,85 @@ fn has_numbers(front: &Front) -> bool {
         && section.entsize == NUMBERS[2]
 }
 
-/// The front is that header, with both tables.
-#[derive(Drop)]
-struct WithTables(Ehdr);
+/// Whether a front is that header alone.
+fn is_alone(front: &Front, header: &Ehdr) -> bool {
+    front.ehdr == *header && front.phdrs.is_empty() && front.shdrs.is_empty()
+}
 
-impl FrontQuestion for WithTables {
-    fn is_answered(&self, front: &Front) -> bool {
-        let whole = front.phdrs.len() == 2 && front.shdrs.len() == 3 && has_numbers(front);
-        let stands = front.written == [2, 3, 1] && front.pad == *b"padding";
-        front.ehdr == self.0 && whole && stands
+/// Whether it is that header, with both tables.
+fn has_tables(front: &Front, header: &Ehdr) -> bool {
+    let whole = front.phdrs.len() == 2 && front.shdrs.len() == 3 && has_numbers(front);
+    let stands = front.written == [2, 3, 1] && front.pad == *b"padding";
+    front.ehdr == *header && whole && stands
+}
+
+/// Whether the counts and the string index are those of section 0.
+fn is_extended(front: &Front) -> bool {
+    let counts = front.ehdr.phnum == 2 && front.ehdr.shnum == 3;
+    counts && front.ehdr.shstrndx == 70_000 && front.written == [0xffff, 0, 0xffff]
+}
+
+/// Whether a front is as stated.
+fn is_front(front: &Front, shape: Shape, header: &Ehdr) -> bool {
+    match shape {
+        Shape::Alone => is_alone(front, header),
+        Shape::WithTables => has_tables(front, header),
+        Shape::Extended => is_extended(front),
     }
 }
 
-/// Whether both tables are read, and nothing else.
-fn tables_are_read(alloc: Global, class: Class, order: Order) -> Result<bool, ElfError> {
-    let image = with_numbers(alloc, class, order)?;
-    let asked = asked(alloc, &WithTables(image.header), image.bytes)?;
-    Ok(asked == Some(tables_size(class, 3)))
+/// Whether the front of a source is, and nothing else is read.
+fn is_read(alloc: Global, src: &mut MemSource, shape: Shape, header: &Ehdr) -> bool {
+    match read_front(alloc, src) {
+        Ok(front) => {
+            is_front(&front, shape, header) && src.asked() == size_of_front(shape, header.class)
+        }
+        Err(_) => false,
+    }
 }
 
-/// Whether they are in all forms.
-fn all_tables_are_read(alloc: Global) -> Result<bool, ElfError> {
-    let mut stated = true;
-    for (class, order) in FORMS {
-        stated &= tables_are_read(alloc, class, order)?;
+/// Whether that of an image is.
+fn is_read_of(alloc: Global, shape: Shape, header: &Ehdr, bytes: Octets) -> bool {
+    match source(alloc, bytes, 0) {
+        Ok(mut src) => is_read(alloc, &mut src, shape, header),
+        Err(_) => false,
     }
-    Ok(stated)
+}
+
+/// Whether that of the image in a form is.
+fn is_read_in(alloc: Global, shape: Shape, class: Class, order: Order) -> bool {
+    match image_of(alloc, shape, class, order) {
+        Ok(image) => {
+            let header = image.header;
+            is_read_of(alloc, shape, &header, image.bytes)
+        }
+        Err(_) => false,
+    }
+}
+
+/// Whether it is in all forms.
+fn are_read(alloc: Global, shape: Shape) -> bool {
+    for (class, order) in FORMS.iter() {
+        if !is_read_in(alloc, shape, *class, *order) {
+            return false;
+        }
+    }
+    true
+}
+
+#[test]
+fn a_header_alone_is_read(rt: HostRuntime) {
+    assert!(rt; are_read(rt.alloc(), Shape::Alone));
 }
 
 #[test]
 fn a_header_with_both_tables_is_read(rt: HostRuntime) {
-    assert!(rt; all_tables_are_read(rt.alloc()) == Ok(true));
-}
-
-/// The counts and the string index are those of section 0.
-struct Extended;
-
-impl FrontQuestion for Extended {
-    fn is_answered(&self, front: &Front) -> bool {
-        let counts = front.ehdr.phnum == 2 && front.ehdr.shnum == 3;
-        counts && front.ehdr.shstrndx == 70_000 && front.written == [0xffff, 0, 0xffff]
-    }
-}
-
-/// Whether the numbers in section 0 count.
-fn numbers_count(alloc: Global, class: Class, order: Order) -> Result<bool, ElfError> {
-    let image = numbers_in_section_0(alloc, class, order)?;
-    let asked = asked(alloc, &Extended, image.bytes)?;
-    Ok(asked == Some(tables_size(class, 4)))
-}
-
-/// Whether they do in all forms.
-fn all_numbers_count(alloc: Global) -> Result<bool, ElfError> {
-    let mut stated = true;
-    for (class, order) in FORMS {
-        stated &= numbers_count(alloc, class, order)?;
-    }
-    Ok(stated)
+    assert!(rt; are_read(rt.alloc(), Shape::WithTables));
 }
 
 #[test]
 fn numbers_in_section_0_count(rt: HostRuntime) {
-    assert!(rt; all_numbers_count(rt.alloc()) == Ok(true));
+    assert!(rt; are_read(rt.alloc(), Shape::Extended));
 }
 
 /// Whether a front is refused as `Read`, and then is read.
@@ -195,24 +206,34 @@ fn is_read_again(alloc: Global, src: &mut MemSource) -> bool {
     refusal == Some(ElfError::Read) && read_front(alloc, src).is_ok()
 }
 
-/// Whether it is where the read of a number fails.
-fn failed_read_is_named(alloc: Global, bad_read: u64) -> Result<bool, ElfError> {
-    let image = numbers_in_section_0(alloc, Class::C64, Order::Least)?;
-    let mut src = source(alloc, image.bytes, bad_read)?;
-    Ok(is_read_again(alloc, &mut src))
+/// Whether it is of these bytes, where the read of a number fails.
+fn is_named_of(alloc: Global, bytes: Octets, bad_read: u64) -> bool {
+    match source(alloc, bytes, bad_read) {
+        Ok(mut src) => is_read_again(alloc, &mut src),
+        Err(_) => false,
+    }
+}
+
+/// Whether it is of the image whose numbers stand in section 0.
+fn is_named(alloc: Global, bad_read: u64) -> bool {
+    match numbers_in_section_0(alloc, Class::C64, Order::Least) {
+        Ok(image) => is_named_of(alloc, image.bytes, bad_read),
+        Err(_) => false,
+    }
 }
 
 /// Whether it is where any read fails.
-fn failed_reads_are_named(alloc: Global) -> Result<bool, ElfError> {
-    let mut stated = true;
+fn failed_reads_are_named(alloc: Global) -> bool {
     // The identification, the rest of the header, section 0, and the two tables.
     for bad_read in 1..6 {
-        stated &= failed_read_is_named(alloc, bad_read)?;
+        if !is_named(alloc, bad_read) {
+            return false;
+        }
     }
-    Ok(stated)
+    true
 }
 
 #[test]
 fn a_failed_read_is_named(rt: HostRuntime) {
-    assert!(rt; failed_reads_are_named(rt.alloc()) == Ok(true));
+    assert!(rt; failed_reads_are_named(rt.alloc()));
 }

@@ -1,6 +1,7 @@
 //! The headers against bytes written by hand from the tables of the gABI.
 
-use elf_types::{Class, Ehdr, ElfError, Order, Phdr, Shdr};
+use crate::items::zeros;
+use elf_types::{Class, Ehdr, Order, Phdr, Shdr};
 use elf_xlate::{
     ehdr_fits, ehdr_size, get_ehdr, get_phdr, get_phdrs, get_shdr, get_shdrs, phdr_fits, phdr_size,
     put_ehdr, put_phdr, put_shdr, shdr_fits, shdr_size,
@@ -25,19 +26,25 @@ fn holds_phdr(form: Form, bytes: &[u8], want: &Phdr, out: &mut [u8]) -> bool {
 }
 
 /// Whether they are a table of that program header alone.
-fn lists_phdr(alloc: Global, form: Form, bytes: &[u8], want: &Phdr) -> Result<bool, ElfError> {
+fn lists_phdr(alloc: Global, form: Form, bytes: &[u8], want: &Phdr) -> bool {
     if bytes.len() != phdr_size(form.0) {
-        return Ok(false);
+        return false;
     }
-    let table = get_phdrs(alloc, form.0, form.1, bytes)?;
-    Ok(table.len() == 1 && table.get(0) == Some(*want))
+    match get_phdrs(alloc, form.0, form.1, bytes) {
+        Ok(table) => table.len() == 1 && table.get(0) == Some(*want),
+        Err(_) => false,
+    }
 }
 
 /// Whether these bytes hold the program header, alone and as a table, and are written for it again.
-fn is_phdr(alloc: Global, form: Form, bytes: &[u8], want: &Phdr) -> Result<bool, ElfError> {
-    let mut out = vec![in alloc; 0u8; bytes.len()]?;
-    let held = holds_phdr(form, bytes, want, out.as_mut_slice());
-    Ok(held && lists_phdr(alloc, form, bytes, want)?)
+fn is_phdr(alloc: Global, form: Form, bytes: &[u8], want: &Phdr) -> bool {
+    match zeros(alloc, bytes.len()) {
+        Ok(mut out) => {
+            holds_phdr(form, bytes, want, out.as_mut_slice())
+                && lists_phdr(alloc, form, bytes, want)
+        }
+        Err(_) => false,
+    }
 }
 
 /// Whether bytes hold the section header, and are written for it again into as many.
@@ -51,19 +58,25 @@ fn holds_shdr(form: Form, bytes: &[u8], want: &Shdr, out: &mut [u8]) -> bool {
 }
 
 /// Whether they are a table of that section header alone.
-fn lists_shdr(alloc: Global, form: Form, bytes: &[u8], want: &Shdr) -> Result<bool, ElfError> {
+fn lists_shdr(alloc: Global, form: Form, bytes: &[u8], want: &Shdr) -> bool {
     if bytes.len() != shdr_size(form.0) {
-        return Ok(false);
+        return false;
     }
-    let table = get_shdrs(alloc, form.0, form.1, bytes)?;
-    Ok(table.len() == 1 && table.get(0) == Some(*want))
+    match get_shdrs(alloc, form.0, form.1, bytes) {
+        Ok(table) => table.len() == 1 && table.get(0) == Some(*want),
+        Err(_) => false,
+    }
 }
 
 /// Whether these bytes hold the section header, alone and as a table, and are written for it again.
-fn is_shdr(alloc: Global, form: Form, bytes: &[u8], want: &Shdr) -> Result<bool, ElfError> {
-    let mut out = vec![in alloc; 0u8; bytes.len()]?;
-    let held = holds_shdr(form, bytes, want, out.as_mut_slice());
-    Ok(held && lists_shdr(alloc, form, bytes, want)?)
+fn is_shdr(alloc: Global, form: Form, bytes: &[u8], want: &Shdr) -> bool {
+    match zeros(alloc, bytes.len()) {
+        Ok(mut out) => {
+            holds_shdr(form, bytes, want, out.as_mut_slice())
+                && lists_shdr(alloc, form, bytes, want)
+        }
+        Err(_) => false,
+    }
 }
 
 /// The last bytes of an identification.
@@ -83,9 +96,11 @@ fn holds_ehdr(bytes: &[u8], want: &Ehdr, out: &mut [u8]) -> bool {
 }
 
 /// Whether these bytes hold the ELF header, and are written for it again.
-fn is_ehdr(alloc: Global, bytes: &[u8], want: &Ehdr) -> Result<bool, ElfError> {
-    let mut out = vec![in alloc; 0u8; bytes.len()]?;
-    Ok(holds_ehdr(bytes, want, out.as_mut_slice()))
+fn is_ehdr(alloc: Global, bytes: &[u8], want: &Ehdr) -> bool {
+    match zeros(alloc, bytes.len()) {
+        Ok(mut out) => holds_ehdr(bytes, want, out.as_mut_slice()),
+        Err(_) => false,
+    }
 }
 
 const NARROW_PHDR: Phdr = Phdr {
@@ -111,15 +126,15 @@ const BROAD_PHDR_BYTES: &[u8] = b"\x01\0\0\0\x02\0\0\0\x03\0\0\0\0\0\0\0\x04\0\0
 \x05\0\0\0\0\0\0\0\x06\0\0\0\0\0\0\0\x07\0\0\0\0\0\0\0\0\0\0\0\0\0\0\x80";
 
 /// Whether both are translated, and the broad one does not fit class 32.
-fn phdrs_are_translated(alloc: Global) -> Result<bool, ElfError> {
-    let narrow = is_phdr(alloc, NARROW, NARROW_PHDR_BYTES, &NARROW_PHDR)?;
-    let broad = is_phdr(alloc, BROAD, BROAD_PHDR_BYTES, &BROAD_PHDR)?;
-    Ok(narrow && broad && !phdr_fits(&BROAD_PHDR, Class::C32))
+fn phdrs_are_translated(alloc: Global) -> bool {
+    is_phdr(alloc, NARROW, NARROW_PHDR_BYTES, &NARROW_PHDR)
+        && is_phdr(alloc, BROAD, BROAD_PHDR_BYTES, &BROAD_PHDR)
+        && !phdr_fits(&BROAD_PHDR, Class::C32)
 }
 
 #[test]
 fn program_headers(rt: HostRuntime) {
-    assert!(rt; phdrs_are_translated(rt.alloc()) == Ok(true));
+    assert!(rt; phdrs_are_translated(rt.alloc()));
 }
 
 const NARROW_SHDR: Shdr = Shdr {
@@ -148,15 +163,15 @@ const BROAD_SHDR_BYTES: &[u8] = b"\x01\0\0\0\x02\0\0\0\x03\0\0\0\0\0\0\0\x04\0\0
 \x09\0\0\0\0\0\0\0\xff\xff\xff\xff\xff\xff\xff\xff";
 
 /// Whether both are translated, and the broad one does not fit class 32.
-fn shdrs_are_translated(alloc: Global) -> Result<bool, ElfError> {
-    let narrow = is_shdr(alloc, NARROW, NARROW_SHDR_BYTES, &NARROW_SHDR)?;
-    let broad = is_shdr(alloc, BROAD, BROAD_SHDR_BYTES, &BROAD_SHDR)?;
-    Ok(narrow && broad && !shdr_fits(&BROAD_SHDR, Class::C32))
+fn shdrs_are_translated(alloc: Global) -> bool {
+    is_shdr(alloc, NARROW, NARROW_SHDR_BYTES, &NARROW_SHDR)
+        && is_shdr(alloc, BROAD, BROAD_SHDR_BYTES, &BROAD_SHDR)
+        && !shdr_fits(&BROAD_SHDR, Class::C32)
 }
 
 #[test]
 fn section_headers(rt: HostRuntime) {
-    assert!(rt; shdrs_are_translated(rt.alloc()) == Ok(true));
+    assert!(rt; shdrs_are_translated(rt.alloc()));
 }
 
 const NARROW_EHDR: Ehdr = Ehdr {
@@ -201,13 +216,13 @@ const UNFIT_EHDR: Ehdr = Ehdr {
 };
 
 /// Whether both are translated, and the broad one does not fit class 32.
-fn ehdrs_are_translated(alloc: Global) -> Result<bool, ElfError> {
-    let narrow = is_ehdr(alloc, NARROW_EHDR_BYTES, &NARROW_EHDR)?;
-    let broad = is_ehdr(alloc, BROAD_EHDR_BYTES, &BROAD_EHDR)?;
-    Ok(narrow && broad && !ehdr_fits(&UNFIT_EHDR))
+fn ehdrs_are_translated(alloc: Global) -> bool {
+    is_ehdr(alloc, NARROW_EHDR_BYTES, &NARROW_EHDR)
+        && is_ehdr(alloc, BROAD_EHDR_BYTES, &BROAD_EHDR)
+        && !ehdr_fits(&UNFIT_EHDR)
 }
 
 #[test]
 fn elf_headers(rt: HostRuntime) {
-    assert!(rt; ehdrs_are_translated(rt.alloc()) == Ok(true));
+    assert!(rt; ehdrs_are_translated(rt.alloc()));
 }

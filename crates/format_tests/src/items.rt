@@ -27,20 +27,36 @@ fn is_range(items: &Items, form: Form, bytes: &[u8], out: &mut [u8]) -> bool {
     *out == *bytes
 }
 
+/// So many zeros.
+pub fn zeros(alloc: Global, len: usize) -> Result<Vec<u8>, ElfError> {
+    Ok(vec![in alloc; 0u8; len]?)
+}
+
+/// Whether they are into a list of as many.
+fn is_range_in(alloc: Global, items: &Items, form: Form, bytes: &[u8]) -> bool {
+    match zeros(alloc, bytes.len()) {
+        Ok(mut range) => is_range(items, form, bytes, range.as_mut_slice()),
+        Err(_) => false,
+    }
+}
+
 /// Whether items are written as these bytes behind a byte that stays.
 fn is_appended(items: &Items, form: Form, bytes: &[u8], out: &mut Octets) -> bool {
     let written = to_file(items, form.0, form.1, out).is_ok();
     written && out.as_slice().strip_prefix(&[7]) == Some(bytes)
 }
 
-/// Whether items are written as these bytes, behind others and as a range.
-fn is_written(alloc: Global, items: &Items, form: Form, bytes: &[u8]) -> Result<bool, ElfError> {
-    let mut range = vec![in alloc; 0u8; bytes.len()]?;
-    if !is_range(items, form, bytes, range.as_mut_slice()) {
-        return Ok(false);
+/// Whether they are behind a list of that byte.
+fn is_behind(alloc: Global, items: &Items, form: Form, bytes: &[u8]) -> bool {
+    match Octets::from_slice(alloc, &[7]) {
+        Ok(mut out) => is_appended(items, form, bytes, &mut out),
+        Err(_) => false,
     }
-    let mut out = Octets::from_slice(alloc, &[7])?;
-    Ok(is_appended(items, form, bytes, &mut out))
+}
+
+/// Whether items are written as these bytes, behind others and as a range.
+fn is_written(alloc: Global, items: &Items, form: Form, bytes: &[u8]) -> bool {
+    is_range_in(alloc, items, form, bytes) && is_behind(alloc, items, form, bytes)
 }
 
 /// A form, bytes, and the item that they hold in it.
@@ -49,18 +65,19 @@ type Row = (Form, &'static [u8], Value);
 /// Whether bytes hold an item in a form, in a list, and are written for it again.
 fn is_held(alloc: Global, form: Form, bytes: &[u8], value: Value) -> bool {
     match to_memory(alloc, kind(value), form.0, form.1, bytes) {
-        Ok(items) => is_first(&items, value) && is_written(alloc, &items, form, bytes) == Ok(true),
+        Ok(items) => is_first(&items, value) && is_written(alloc, &items, form, bytes),
         Err(_) => false,
     }
 }
 
 /// Whether it is so of each row, and the bytes hold the item alone.
 fn are_held(alloc: Global, rows: &[Row]) -> bool {
-    let mut stated = true;
     for (form, bytes, value) in rows {
-        stated &= is_single(*form, bytes, *value) && is_held(alloc, *form, bytes, *value);
+        if !is_single(*form, bytes, *value) || !is_held(alloc, *form, bytes, *value) {
+            return false;
+        }
     }
-    stated
+    true
 }
 
 /// Whether two items are refused in class 32 by the second, with nothing written, and fit class 64.
@@ -72,11 +89,12 @@ fn is_refused(items: &Items, out: &mut Octets) -> bool {
 
 /// Whether each of the items is refused behind one that fits.
 fn are_refused(alloc: Global, good: Value, others: &[Value]) -> bool {
-    let mut stated = true;
     for other in others {
-        stated &= is_refused(&of_two(alloc, good, *other), &mut Octets::new(alloc));
+        if !is_refused(&of_two(alloc, good, *other), &mut Octets::new(alloc)) {
+            return false;
+        }
     }
-    stated
+    true
 }
 
 /// Whether bytes hold their items in their forms, and the others are refused behind a good one.
@@ -102,7 +120,7 @@ const BROAD_SYM: Sym = Sym {
     size: 0xff00_0000_0000_0001,
 };
 
-const SYMBOLS: [Row; 4] = [
+static SYMBOLS: [Row; 4] = [
     (
         NARROW_LEAST,
         b"\x04\x03\x02\x01\xff\xff\xff\xff\x10\0\0\0\x12\x03\xf1\xff",
@@ -125,7 +143,7 @@ const SYMBOLS: [Row; 4] = [
     ),
 ];
 
-const UNFIT_SYMBOLS: [Value; 2] = [
+static UNFIT_SYMBOLS: [Value; 2] = [
     Value::Sym(Sym {
         value: 1 << 32,
         ..NARROW_SYM
@@ -153,7 +171,7 @@ const BROAD_REL: Rel = Rel {
     rtype: 0xffff_fffe,
 };
 
-const RELOCATIONS: [Row; 4] = [
+static RELOCATIONS: [Row; 4] = [
     (
         NARROW_LEAST,
         b"\xfe\xff\xff\xff\xff\xef\xcd\xab",
@@ -176,7 +194,7 @@ const RELOCATIONS: [Row; 4] = [
     ),
 ];
 
-const UNFIT_RELOCATIONS: [Value; 3] = [
+static UNFIT_RELOCATIONS: [Value; 3] = [
     Value::Rel(Rel {
         offset: 1 << 32,
         ..NARROW_REL
@@ -211,7 +229,7 @@ const RELA: Rela = Rela {
     addend: 0,
 };
 
-const WITH_ADDENDS: [Row; 4] = [
+static WITH_ADDENDS: [Row; 4] = [
     (
         NARROW_LEAST,
         b"\x01\0\0\0\x02\x03\0\0\0\0\0\x80",
@@ -243,7 +261,7 @@ const WITH_ADDENDS: [Row; 4] = [
     ),
 ];
 
-const UNFIT_ADDENDS: [Value; 2] = [
+static UNFIT_ADDENDS: [Value; 2] = [
     Value::Rela(Rela {
         addend: -0x8000_0001,
         ..RELA
@@ -264,7 +282,7 @@ const NARROW_DYN: Dyn = Dyn {
     val: 0xffff_ffff,
 };
 
-const DYNAMIC: [Row; 4] = [
+static DYNAMIC: [Row; 4] = [
     (
         NARROW_LEAST,
         b"\xff\xff\xff\x7f\xff\xff\xff\xff",
@@ -290,7 +308,7 @@ const DYNAMIC: [Row; 4] = [
     ),
 ];
 
-const UNFIT_DYNAMIC: [Value; 2] = [
+static UNFIT_DYNAMIC: [Value; 2] = [
     Value::Dyn(Dyn {
         tag: 1 << 31,
         val: 0,
@@ -306,7 +324,7 @@ fn dynamic_entries(rt: HostRuntime) {
     assert!(rt; are_translated(rt.alloc(), &DYNAMIC, Value::Dyn(NARROW_DYN), &UNFIT_DYNAMIC));
 }
 
-const NUMBERS: [Row; 8] = [
+static NUMBERS: [Row; 8] = [
     (NARROW_LEAST, b"\x01\x02", Value::Half(0x0201)),
     (NARROW_GREATEST, b"\x01\x02", Value::Half(0x0102)),
     (NARROW_LEAST, b"\xff\0\0\x80", Value::Word(0x8000_00ff)),
@@ -325,7 +343,7 @@ const NUMBERS: [Row; 8] = [
     ),
 ];
 
-const UNFIT_ADDRESSES: [Value; 2] = [Value::Addr(1 << 32), Value::Addr(u64::MAX)];
+static UNFIT_ADDRESSES: [Value; 2] = [Value::Addr(1 << 32), Value::Addr(u64::MAX)];
 
 #[test]
 fn numbers_alone(rt: HostRuntime) {
@@ -345,7 +363,7 @@ fn a_number_of_three_bytes(rt: HostRuntime) {
 }
 
 /// A kind, and the size of an item in class 32 and in class 64.
-const SIZES: [(Kind, u64, u64); 7] = [
+static SIZES: [(Kind, u64, u64); 7] = [
     (Kind::Half, 2, 2),
     (Kind::Word, 4, 4),
     (Kind::Addr, 4, 8),
@@ -371,22 +389,22 @@ fn has_sizes(alloc: Global, kind: Kind, narrow: u64, broad: u64) -> bool {
 }
 
 /// Whether the kinds have those sizes.
-fn sizes_are_told(alloc: Global) -> bool {
-    let mut stated = fsize(Kind::Half, Class::C64, 1 << 63).is_none();
-    stated &= count_in_three(alloc, Kind::Empty) == Ok(0);
-    for (kind, narrow, broad) in SIZES {
-        stated &= has_sizes(alloc, kind, narrow, broad);
+fn sizes_are_told(alloc: Global, sizes: &[(Kind, u64, u64)]) -> bool {
+    for (kind, narrow, broad) in sizes {
+        if !has_sizes(alloc, *kind, *narrow, *broad) {
+            return false;
+        }
     }
-    stated
+    fsize(Kind::Half, Class::C64, 1 << 63).is_none() && count_in_three(alloc, Kind::Empty) == Ok(0)
 }
 
 #[test]
 fn sizes(rt: HostRuntime) {
-    assert!(rt; sizes_are_told(rt.alloc()));
+    assert!(rt; sizes_are_told(rt.alloc(), &SIZES));
 }
 
 /// Errors and their texts.
-const TEXTS: [(XlateError, &str); 3] = [
+static TEXTS: [(XlateError, &str); 3] = [
     (XlateError::Memory, "out of memory"),
     (XlateError::Ragged, "ragged"),
     (XlateError::Unfit { index: 12 }, "unfit index 12"),
@@ -401,15 +419,16 @@ fn has_text(alloc: Global, error: &XlateError, text: &str) -> bool {
 }
 
 /// Whether the errors have those texts.
-fn texts_are_shown(alloc: Global) -> bool {
-    let mut stated = true;
-    for (error, text) in TEXTS {
-        stated &= has_text(alloc, &error, text);
+fn texts_are_shown(alloc: Global, texts: &[(XlateError, &str)]) -> bool {
+    for (error, text) in texts {
+        if !has_text(alloc, error, text) {
+            return false;
+        }
     }
-    stated
+    true
 }
 
 #[test]
 fn texts_of_errors(rt: HostRuntime) {
-    assert!(rt; texts_are_shown(rt.alloc()));
+    assert!(rt; texts_are_shown(rt.alloc(), &TEXTS));
 }

@@ -7,7 +7,7 @@ use std::alloc::Global;
 /// A number, an alignment, a limit, and the next multiple within the limit.
 type Rounding = (u64, u64, u64, Option<u64>);
 
-const ROUNDINGS: [Rounding; 9] = [
+static ROUNDINGS: [Rounding; 9] = [
     (67, 0, 100, Some(67)),
     (67, 1, 100, Some(67)),
     (67, 8, 72, Some(72)),
@@ -20,17 +20,18 @@ const ROUNDINGS: [Rounding; 9] = [
 ];
 
 /// Whether the numbers are rounded as stated.
-fn are_rounded() -> bool {
-    let mut stated = true;
-    for (n, align, limit, multiple) in ROUNDINGS {
-        stated &= rounded_within(n, align, limit) == multiple;
+fn are_rounded(roundings: &[Rounding]) -> bool {
+    for (n, align, limit, multiple) in roundings {
+        if rounded_within(*n, *align, *limit) != *multiple {
+            return false;
+        }
     }
-    stated
+    true
 }
 
 #[test]
 fn rounds_up_to_any_alignment(rt: HostRuntime) {
-    assert!(rt; are_rounded());
+    assert!(rt; are_rounded(&ROUNDINGS));
 }
 
 /// A part with bytes in the file: its position, its length and its alignment.
@@ -84,7 +85,7 @@ fn stand_at(placed: Result<Places, ElfError>, positions: &[u64], end: u64) -> bo
 }
 
 /// A string table and a symbol table in class 64, in an image of 312 bytes.
-const WIDE: [Row; 5] = [
+static WIDE: [Row; 5] = [
     (Part::Header, 0, 64, 1),
     (Part::Segments, 64, 0, 1),
     (Part::Section(1), 64, 3, 1),
@@ -93,10 +94,10 @@ const WIDE: [Row; 5] = [
 ];
 
 /// Their positions.
-const WIDE_AT: [u64; 5] = [0, 64, 64, 72, 120];
+static WIDE_AT: [u64; 5] = [0, 64, 64, 72, 120];
 
 /// The same in class 32, in an image of 208 bytes.
-const NARROW: [Row; 5] = [
+static NARROW: [Row; 5] = [
     (Part::Header, 0, 52, 1),
     (Part::Segments, 52, 0, 1),
     (Part::Section(1), 52, 3, 1),
@@ -105,7 +106,7 @@ const NARROW: [Row; 5] = [
 ];
 
 /// Their positions.
-const NARROW_AT: [u64; 5] = [0, 52, 52, 56, 88];
+static NARROW_AT: [u64; 5] = [0, 52, 52, 56, 88];
 
 /// Whether parts are placed at these positions, in order and where the caller puts them.
 fn stay_at(alloc: Global, parts: &Parts, positions: &[u64], length: u64, class: Class) -> bool {
@@ -115,27 +116,17 @@ fn stay_at(alloc: Global, parts: &Parts, positions: &[u64], length: u64, class: 
 }
 
 /// Whether each part is placed where it stands, and the image keeps its length.
-fn stays(
-    alloc: Global,
-    rows: &[Row],
-    positions: &[u64],
-    length: u64,
-    class: Class,
-) -> Result<bool, ElfError> {
-    let parts = parts_of(alloc, rows)?;
-    Ok(stay_at(alloc, &parts, positions, length, class))
-}
-
-/// Whether both images stay.
-fn both_stay(alloc: Global) -> Result<bool, ElfError> {
-    let wide = stays(alloc, &WIDE, &WIDE_AT, 312, Class::C64)?;
-    let narrow = stays(alloc, &NARROW, &NARROW_AT, 208, Class::C32)?;
-    Ok(wide && narrow)
+fn stays(alloc: Global, rows: &[Row], positions: &[u64], length: u64, class: Class) -> bool {
+    match parts_of(alloc, rows) {
+        Ok(parts) => stay_at(alloc, &parts, positions, length, class),
+        Err(_) => false,
+    }
 }
 
 #[test]
 fn an_image_stands_where_it_stood(rt: HostRuntime) {
-    assert!(rt; both_stay(rt.alloc()) == Ok(true));
+    assert!(rt; stays(rt.alloc(), &WIDE, &WIDE_AT, 312, Class::C64));
+    assert!(rt; stays(rt.alloc(), &NARROW, &NARROW_AT, 208, Class::C32));
 }
 
 /// The parts of an image of class 64, the position of each, and the image's length.
@@ -145,7 +136,7 @@ struct Image {
     end: u64,
 }
 
-const IMAGES: [Image; 4] = [
+static IMAGES: [Image; 4] = [
     // data, a symbol table and two string tables
     Image {
         parts: &[
@@ -200,58 +191,73 @@ const IMAGES: [Image; 4] = [
 ];
 
 /// Whether an image is laid out as stated.
-fn is_laid_out(alloc: Global, image: &Image) -> Result<bool, ElfError> {
-    let parts = parts_of(alloc, image.parts)?;
-    let placed = place(alloc, &parts, false, 0, Class::C64);
-    Ok(stand_at(placed, image.positions, image.end))
+fn is_laid_out(alloc: Global, image: &Image) -> bool {
+    match parts_of(alloc, image.parts) {
+        Ok(parts) => stand_at(
+            place(alloc, &parts, false, 0, Class::C64),
+            image.positions,
+            image.end,
+        ),
+        Err(_) => false,
+    }
 }
 
 /// Whether the images are.
-fn are_laid_out(alloc: Global) -> Result<bool, ElfError> {
-    let mut stated = true;
-    for image in IMAGES.iter() {
-        stated &= is_laid_out(alloc, image)?;
+fn are_laid_out(alloc: Global, images: &[Image]) -> bool {
+    for image in images {
+        if !is_laid_out(alloc, image) {
+            return false;
+        }
     }
-    Ok(stated)
+    true
 }
 
 #[test]
 fn sections_follow_the_program_headers(rt: HostRuntime) {
-    assert!(rt; are_laid_out(rt.alloc()) == Ok(true));
+    assert!(rt; are_laid_out(rt.alloc(), &IMAGES));
 }
 
 /// The position, the length and the alignment of sections 1 to 3.
-type Three = [(u64, u64, u64); 3];
+type Three = &'static [(u64, u64, u64)];
+
+/// Adds sections, the first as number 1.
+fn add_numbered(parts: &mut Parts, rows: &[(u64, u64, u64)]) -> Result<(), ElfError> {
+    let mut number = 0u32;
+    for (at, len, align) in rows {
+        number = number.saturating_add(1);
+        parts.push(filled((Part::Section(number), *at, *len, *align)))?;
+    }
+    Ok(())
+}
 
 /// Sections 1 to 3.
-fn three(alloc: Global, rows: &Three) -> Result<Parts, ElfError> {
-    let [a, b, c] = *rows;
-    parts_of(
-        alloc,
-        &[
-            (Part::Section(1), a.0, a.1, a.2),
-            (Part::Section(2), b.0, b.1, b.2),
-            (Part::Section(3), c.0, c.1, c.2),
-        ],
-    )
+fn three(alloc: Global, rows: &[(u64, u64, u64)]) -> Result<Parts, ElfError> {
+    let mut parts = Parts::new(alloc);
+    add_numbered(&mut parts, rows)?;
+    Ok(parts)
 }
 
 /// Three sections, their positions behind one another, and where they end.
-type Following = (Three, [u64; 3], u64);
+type Following = (Three, &'static [u64], u64);
 
-const FOLLOWING: [Following; 3] = [
+static FOLLOWING: [Following; 3] = [
     // alignments of 0 and 3
-    ([(9, 64, 0), (9, 3, 0), (9, 5, 3)], [0, 64, 69], 74),
+    (&[(9, 64, 0), (9, 3, 0), (9, 5, 3)], &[0, 64, 69], 74),
     // an empty section moves the end to its alignment, and is no part of the length
-    ([(9, 65, 1), (9, 0, 16), (9, 1, 1)], [0, 80, 80], 81),
-    ([(9, 65, 1), (9, 0, 16), (9, 0, 1)], [0, 80, 80], 65),
+    (&[(9, 65, 1), (9, 0, 16), (9, 1, 1)], &[0, 80, 80], 81),
+    (&[(9, 65, 1), (9, 0, 16), (9, 0, 1)], &[0, 80, 80], 65),
 ];
 
 /// Whether sections follow one another as stated.
-fn follow(alloc: Global, following: &Following) -> Result<bool, ElfError> {
-    let parts = three(alloc, &following.0)?;
-    let placed = place(alloc, &parts, false, 1000, Class::C32);
-    Ok(stand_at(placed, &following.1, following.2))
+fn follow(alloc: Global, following: &Following) -> bool {
+    match three(alloc, following.0) {
+        Ok(parts) => stand_at(
+            place(alloc, &parts, false, 1000, Class::C32),
+            following.1,
+            following.2,
+        ),
+        Err(_) => false,
+    }
 }
 
 /// Adds sections 1 to 3, of which the second has no bytes in the file.
@@ -265,50 +271,54 @@ fn add_around_bare(parts: &mut Parts) -> Result<(), ElfError> {
 const AROUND_BARE: [u64; 3] = [0, 80, 65];
 
 /// Whether a section without bytes has a position of its own and moves nothing.
-fn bare_moves_nothing(alloc: Global) -> Result<bool, ElfError> {
+fn bare_moves_nothing(alloc: Global) -> bool {
     let mut parts = Parts::new(alloc);
-    add_around_bare(&mut parts)?;
-    let placed = place(alloc, &parts, false, 1000, Class::C32);
-    Ok(stand_at(placed, &AROUND_BARE, 66))
+    add_around_bare(&mut parts).is_ok()
+        && stand_at(
+            place(alloc, &parts, false, 1000, Class::C32),
+            &AROUND_BARE,
+            66,
+        )
 }
 
 /// Whether all do.
-fn all_follow(alloc: Global) -> Result<bool, ElfError> {
-    let mut stated = true;
-    for following in FOLLOWING.iter() {
-        stated &= follow(alloc, following)?;
+fn all_follow(alloc: Global, rows: &[Following]) -> bool {
+    for following in rows {
+        if !follow(alloc, following) {
+            return false;
+        }
     }
-    Ok(stated)
+    true
 }
 
 #[test]
 fn parts_follow_one_another(rt: HostRuntime) {
-    assert!(rt; all_follow(rt.alloc()) == Ok(true));
+    assert!(rt; all_follow(rt.alloc(), &FOLLOWING));
 }
 
 #[test]
 fn a_part_without_bytes_moves_nothing(rt: HostRuntime) {
-    assert!(rt; bare_moves_nothing(rt.alloc()) == Ok(true));
+    assert!(rt; bare_moves_nothing(rt.alloc()));
 }
 
 /// Three sections, and the first of them that a later one meets, with that one.
 type Meeting = (Three, Option<(Part, Part)>);
 
-const MEETINGS: [Meeting; 8] = [
+static MEETINGS: [Meeting; 8] = [
     // they touch, and share one byte
-    ([(0, 64, 1), (64, 3, 1), (67, 1, 1)], None),
-    ([(0, 64, 1), (63, 1, 1), (64, 1, 1)], FIRST_TWO),
+    (&[(0, 64, 1), (64, 3, 1), (67, 1, 1)], None),
+    (&[(0, 64, 1), (63, 1, 1), (64, 1, 1)], FIRST_TWO),
     // an empty part lies anywhere
-    ([(0, 64, 1), (10, 0, 1), (64, 1, 1)], None),
+    (&[(0, 64, 1), (10, 0, 1), (64, 1, 1)], None),
     // at one position the rank decides
-    ([(8, 4, 1), (8, 4, 1), (0, 8, 1)], FIRST_TWO),
+    (&[(8, 4, 1), (8, 4, 1), (0, 8, 1)], FIRST_TWO),
     // the first that a later one meets, and the one next after it
-    ([(40, 2, 1), (0, 50, 1), (20, 5, 1)], LAST_TWO),
-    ([(0, 5, 1), (10, 9, 1), (12, 1, 1)], LAST_TWO),
+    (&[(40, 2, 1), (0, 50, 1), (20, 5, 1)], LAST_TWO),
+    (&[(0, 5, 1), (10, 9, 1), (12, 1, 1)], LAST_TWO),
     // ends past 2^64
-    ([(u64::MAX, 2, 1), (u64::MAX - 1, 1, 1), (0, 1, 1)], None),
+    (&[(u64::MAX, 2, 1), (u64::MAX - 1, 1, 1), (0, 1, 1)], None),
     (
-        [(u64::MAX - 1, u64::MAX, 1), (u64::MAX, 1, 1), (0, 1, 1)],
+        &[(u64::MAX - 1, u64::MAX, 1), (u64::MAX, 1, 1), (0, 1, 1)],
         FIRST_TWO,
     ),
 ];
@@ -330,60 +340,74 @@ fn refused_pair(placed: Result<Places, ElfError>) -> Result<Option<(Part, Part)>
 }
 
 /// Whether sections meet as stated, and are refused so where the caller places them.
-fn meet(alloc: Global, meeting: &Meeting) -> Result<bool, ElfError> {
-    let parts = three(alloc, &meeting.0)?;
-    let refused = refused_pair(place(alloc, &parts, true, 0, Class::C64));
-    Ok(refused == Ok(meeting.1) && overlap(alloc, parts.as_slice()) == Ok(meeting.1))
+fn meet(alloc: Global, parts: &Parts, pair: Option<(Part, Part)>) -> bool {
+    refused_pair(place(alloc, parts, true, 0, Class::C64)) == Ok(pair)
+        && overlap(alloc, parts.as_slice()) == Ok(pair)
+}
+
+/// Whether the three do.
+fn three_meet(alloc: Global, meeting: &Meeting) -> bool {
+    match three(alloc, meeting.0) {
+        Ok(parts) => meet(alloc, &parts, meeting.1),
+        Err(_) => false,
+    }
 }
 
 /// Whether all do.
-fn all_meet(alloc: Global) -> Result<bool, ElfError> {
-    let mut stated = true;
-    for meeting in MEETINGS.iter() {
-        stated &= meet(alloc, meeting)?;
+fn all_meet(alloc: Global, meetings: &[Meeting]) -> bool {
+    for meeting in meetings {
+        if !three_meet(alloc, meeting) {
+            return false;
+        }
     }
-    Ok(stated)
+    true
 }
 
 #[test]
 fn parts_share_no_byte(rt: HostRuntime) {
-    assert!(rt; all_meet(rt.alloc()) == Ok(true));
+    assert!(rt; all_meet(rt.alloc(), &MEETINGS));
 }
 
 /// Three sections, and the ranks of those that are not empty, by their positions.
 type Ranking = (Three, &'static [usize]);
 
-const RANKINGS: [Ranking; 3] = [
-    ([(40, 2, 1), (0, 50, 1), (20, 5, 1)], &[1, 2, 0]),
+static RANKINGS: [Ranking; 3] = [
+    (&[(40, 2, 1), (0, 50, 1), (20, 5, 1)], &[1, 2, 0]),
     // at one position the rank decides
-    ([(8, 4, 1), (8, 4, 1), (0, 8, 1)], &[2, 0, 1]),
+    (&[(8, 4, 1), (8, 4, 1), (0, 8, 1)], &[2, 0, 1]),
     // an empty part has none
-    ([(5, 1, 1), (0, 0, 1), (4, 9, 1)], &[2, 0]),
+    (&[(5, 1, 1), (0, 0, 1), (4, 9, 1)], &[2, 0]),
 ];
 
 /// Whether parts are ranked as stated.
-fn have_ranks(alloc: Global, parts: &[PartAt], ranks: &[usize]) -> Result<bool, ElfError> {
-    Ok(ranks_by_position(alloc, parts)?.as_slice() == ranks)
+fn have_ranks(alloc: Global, parts: &[PartAt], ranks: &[usize]) -> bool {
+    match ranks_by_position(alloc, parts) {
+        Ok(found) => found.as_slice() == ranks,
+        Err(_) => false,
+    }
 }
 
 /// Whether sections are.
-fn are_ranked(alloc: Global, ranking: &Ranking) -> Result<bool, ElfError> {
-    let parts = three(alloc, &ranking.0)?;
-    have_ranks(alloc, parts.as_slice(), ranking.1)
+fn are_ranked(alloc: Global, ranking: &Ranking) -> bool {
+    match three(alloc, ranking.0) {
+        Ok(parts) => have_ranks(alloc, parts.as_slice(), ranking.1),
+        Err(_) => false,
+    }
 }
 
 /// Whether all are.
-fn all_are_ranked(alloc: Global) -> Result<bool, ElfError> {
-    let mut stated = true;
-    for ranking in RANKINGS.iter() {
-        stated &= are_ranked(alloc, ranking)?;
+fn all_are_ranked(alloc: Global, rankings: &[Ranking]) -> bool {
+    for ranking in rankings {
+        if !are_ranked(alloc, ranking) {
+            return false;
+        }
     }
-    Ok(stated)
+    true
 }
 
 #[test]
 fn ranks_go_by_position(rt: HostRuntime) {
-    assert!(rt; all_are_ranked(rt.alloc()) == Ok(true));
+    assert!(rt; all_are_ranked(rt.alloc(), &RANKINGS));
 }
 
 /// How parts are refused, if they are.
@@ -426,7 +450,7 @@ fn is_past(alloc: Global, class: Class, layout: bool) -> bool {
 }
 
 /// A class, an end, and the refusal of an image that reaches it.
-const LIMITS: [(Class, u64, Option<ElfError>); 4] = [
+static LIMITS: [(Class, u64, Option<ElfError>); 4] = [
     (Class::C32, (1 << 32) - 1, None),
     (Class::C32, 1 << 32, Some(ElfError::TooLarge)),
     (Class::C64, 1 << 40, None),
@@ -434,18 +458,25 @@ const LIMITS: [(Class, u64, Option<ElfError>); 4] = [
 ];
 
 /// Whether images are limited so.
-fn are_limited(alloc: Global) -> bool {
-    let mut stated = true;
-    for (class, end, refusal) in LIMITS {
-        stated &= long_header_is(alloc, class, end, refusal);
-        stated &= long_base_is(alloc, class, end, refusal);
-        stated &= far_part_is(alloc, class, end, refusal);
-        stated &= is_past(alloc, class, false) && is_past(alloc, class, true);
+fn is_limited(alloc: Global, class: Class, end: u64, refusal: Option<ElfError>) -> bool {
+    long_header_is(alloc, class, end, refusal)
+        && long_base_is(alloc, class, end, refusal)
+        && far_part_is(alloc, class, end, refusal)
+        && is_past(alloc, class, false)
+        && is_past(alloc, class, true)
+}
+
+/// Whether all are.
+fn are_limited(alloc: Global, limits: &[(Class, u64, Option<ElfError>)]) -> bool {
+    for (class, end, refusal) in limits {
+        if !is_limited(alloc, *class, *end, *refusal) {
+            return false;
+        }
     }
-    stated
+    true
 }
 
 #[test]
 fn images_have_limits(rt: HostRuntime) {
-    assert!(rt; are_limited(rt.alloc()));
+    assert!(rt; are_limited(rt.alloc(), &LIMITS));
 }

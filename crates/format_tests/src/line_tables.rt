@@ -35,7 +35,7 @@ type Shown = (u64, u64, u32, u64, bool, bool);
 type Held = (u64, u16, &'static [&'static [u8]], &'static [Shown]);
 
 /// What the small unit holds.
-const SMALL: Held = (
+static SMALL: Held = (
     50,
     2,
     &[b"a.c"],
@@ -46,7 +46,7 @@ const SMALL: Held = (
 );
 
 /// What the unit of every opcode holds.
-const EVERY_OPCODE: Held = (
+static EVERY_OPCODE: Held = (
     119,
     4,
     &[b"a.c", b"h.h", b"b.c", b""],
@@ -60,7 +60,7 @@ const EVERY_OPCODE: Held = (
 );
 
 /// What the unit in class 32 holds.
-const GREATEST: Held = (
+static GREATEST: Held = (
     43,
     3,
     &[],
@@ -71,8 +71,8 @@ const GREATEST: Held = (
 );
 
 /// Whether a row is shown so.
-fn is_shown(row: &Row, shown: Shown) -> bool {
-    let (address, file, line, column, stmt, end) = shown;
+fn is_shown(row: &Row, shown: &Shown) -> bool {
+    let (address, file, line, column, stmt, end) = *shown;
     let wanted = Row {
         address,
         file,
@@ -86,26 +86,28 @@ fn is_shown(row: &Row, shown: Shown) -> bool {
 
 /// Whether these are the rows.
 fn have_rows(rows: &[Row], shown: &[Shown]) -> bool {
-    let mut stated = rows.len() == shown.len();
     for (row, wanted) in rows.iter().zip(shown) {
-        stated &= is_shown(row, *wanted);
+        if !is_shown(row, wanted) {
+            return false;
+        }
     }
-    stated
+    rows.len() == shown.len()
 }
 
 /// Whether these are the names.
 fn have_names(files: &FileNames, names: &[&[u8]]) -> bool {
     let files = files.as_slice();
-    let mut stated = files.len() == names.len();
     for (file, name) in files.iter().zip(names) {
-        stated &= file.as_slice() == *name;
+        if file.as_slice() != *name {
+            return false;
+        }
     }
-    stated
+    files.len() == names.len()
 }
 
 /// Whether a unit at the begin of a section holds that.
-fn is_held(unit: &Unit, held: Held) -> bool {
-    let (next, version, names, rows) = held;
+fn is_held(unit: &Unit, held: &Held) -> bool {
+    let (next, version, names, rows) = *held;
     let placed = unit.at == 0 && unit.next == next && unit.version == version;
     placed && have_names(&unit.files, names) && have_rows(unit.rows.as_slice(), rows)
 }
@@ -118,7 +120,7 @@ const WIDE: Form = (Class::C64, Order::Least);
 const NARROW: Form = (Class::C32, Order::Greatest);
 
 /// Whether there is a unit at the begin of a section, and it holds that.
-fn holds(alloc: Global, section: &[u8], form: Form, held: Held) -> bool {
+fn holds(alloc: Global, section: &[u8], form: Form, held: &Held) -> bool {
     match unit_at(alloc, section, 0, form.0, form.1) {
         Ok(Some(unit)) => is_held(&unit, held),
         _ => false,
@@ -127,17 +129,17 @@ fn holds(alloc: Global, section: &[u8], form: Form, held: Held) -> bool {
 
 #[test]
 fn gives_the_rows_of_a_unit(rt: HostRuntime) {
-    assert!(rt; holds(rt.alloc(), SMALL_UNIT, WIDE, SMALL));
+    assert!(rt; holds(rt.alloc(), SMALL_UNIT, WIDE, &SMALL));
 }
 
 #[test]
 fn executes_every_opcode(rt: HostRuntime) {
-    assert!(rt; holds(rt.alloc(), UNIT_OF_EVERY_OPCODE, WIDE, EVERY_OPCODE));
+    assert!(rt; holds(rt.alloc(), UNIT_OF_EVERY_OPCODE, WIDE, &EVERY_OPCODE));
 }
 
 #[test]
 fn reads_the_greatest_byte_first(rt: HostRuntime) {
-    assert!(rt; holds(rt.alloc(), GREATEST_UNIT, NARROW, GREATEST));
+    assert!(rt; holds(rt.alloc(), GREATEST_UNIT, NARROW, &GREATEST));
 }
 
 /// Where the unit at a place ends, and 0 where the section does.
@@ -174,7 +176,7 @@ enum Number {
 
 /// Numbers and their bytes: the examples of DWARF 4, figures 22 and 23, and some of more than ten
 /// bytes.
-const NUMBERS: [(Number, &[u8]); 9] = [
+static NUMBERS: [(Number, &[u8]); 9] = [
     (Number::Column(127), b"\x7f"),
     (Number::Column(12857), b"\xb9\x64"),
     (Number::Line(u32::MAX), b"\x7e"),
@@ -229,34 +231,42 @@ fn row_in(alloc: Global, section: &[u8]) -> Option<Row> {
 }
 
 /// The row of a program that reads a number.
-fn row_with(alloc: Global, opcode: u8, number: &[u8]) -> Result<Option<Row>, ElfError> {
+fn row_with(alloc: Global, opcode: u8, number: &[u8]) -> Option<Row> {
     let mut unit = Octets::new(alloc);
-    put_unit(&mut unit, opcode, number)?;
+    if put_unit(&mut unit, opcode, number).is_err() {
+        return None;
+    }
     set_length(&mut unit);
-    Ok(row_in(alloc, unit.as_slice()))
+    row_in(alloc, unit.as_slice())
+}
+
+/// Whether a row has a number.
+fn has_number(row: &Row, number: Number) -> bool {
+    match number {
+        Number::Column(column) => row.column == column,
+        Number::Line(line) => row.line == line,
+    }
 }
 
 /// Whether a number has these bytes.
-fn is_read(alloc: Global, number: Number, bytes: &[u8]) -> Result<bool, ElfError> {
-    let Some(row) = row_with(alloc, opcode(number), bytes)? else {
-        return Ok(false);
-    };
-    Ok(match number {
-        Number::Column(column) => row.column == column,
-        Number::Line(line) => row.line == line,
-    })
+fn is_read(alloc: Global, number: Number, bytes: &[u8]) -> bool {
+    match row_with(alloc, opcode(number), bytes) {
+        Some(row) => has_number(&row, number),
+        None => false,
+    }
 }
 
 /// Whether all have.
-fn numbers_are_read(alloc: Global) -> bool {
-    let mut stated = true;
-    for (number, bytes) in NUMBERS {
-        stated &= is_read(alloc, number, bytes) == Ok(true);
+fn numbers_are_read(alloc: Global, numbers: &[(Number, &[u8])]) -> bool {
+    for (number, bytes) in numbers {
+        if !is_read(alloc, *number, bytes) {
+            return false;
+        }
     }
-    stated
+    true
 }
 
 #[test]
 fn reads_leb128_of_any_length(rt: HostRuntime) {
-    assert!(rt; numbers_are_read(rt.alloc()));
+    assert!(rt; numbers_are_read(rt.alloc(), &NUMBERS));
 }

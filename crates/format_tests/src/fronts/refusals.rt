@@ -35,7 +35,7 @@ type Form = (Class, Order);
 type Change = (Field, u64, ElfError);
 
 /// Changes of an image whose numbers stand in its header.
-const CHANGES: [Change; 10] = [
+static CHANGES: [Change; 10] = [
     (VERSION, 2, ElfError::Version),
     (SHOFF, 0, ElfError::ShTable),
     (SHOFF, 0xffff_ffff, ElfError::ShTable),
@@ -49,7 +49,7 @@ const CHANGES: [Change; 10] = [
 ];
 
 /// Changes of an image whose numbers stand in section 0.
-const EXTENDED_CHANGES: [Change; 5] = [
+static EXTENDED_CHANGES: [Change; 5] = [
     (SHOFF, 0, ElfError::PhTable),
     (SHOFF, 0xffff_ffff, ElfError::ShTable),
     (SHENTSIZE, 0, ElfError::ShTable),
@@ -70,47 +70,56 @@ fn change_all(image: &mut Image, changes: &[Change]) {
 }
 
 /// Whether a change of an image is refused as stated.
-fn is_refused(alloc: Global, mut image: Image, change: Change) -> bool {
+fn is_refused(alloc: Global, mut image: Image, change: &Change) -> bool {
     let len = image.bytes.len();
     image.put_field(change.0, change.1);
     refusal_of(alloc, image, len) == Some(change.2)
 }
 
-/// Whether each change of an image whose numbers stand in its header is refused as stated.
-fn changes_are_refused(alloc: Global, form: Form) -> Result<bool, ElfError> {
-    let mut refused = true;
-    for change in CHANGES {
-        refused &= is_refused(alloc, two_tables(alloc, form.0, form.1)?, change);
+/// An image whose numbers stand in its header, or in section 0.
+fn image_of(alloc: Global, form: Form, extended: bool) -> Result<Image, ElfError> {
+    if extended {
+        return numbers_in_section_0(alloc, form.0, form.1);
     }
-    Ok(refused)
+    two_tables(alloc, form.0, form.1)
 }
 
-/// Whether each change of an image whose numbers stand in section 0 is.
-fn extended_changes_are_refused(alloc: Global, form: Form) -> Result<bool, ElfError> {
-    let mut refused = true;
-    for change in EXTENDED_CHANGES {
-        refused &= is_refused(alloc, numbers_in_section_0(alloc, form.0, form.1)?, change);
+/// Whether a change of that image is refused as stated.
+fn is_refused_of(alloc: Global, form: Form, extended: bool, change: &Change) -> bool {
+    match image_of(alloc, form, extended) {
+        Ok(image) => is_refused(alloc, image, change),
+        Err(_) => false,
     }
-    Ok(refused)
 }
 
-/// Whether all changes are in all forms.
-fn all_changes_are_refused(alloc: Global) -> Result<bool, ElfError> {
-    let mut refused = true;
-    for form in FORMS {
-        refused &= changes_are_refused(alloc, form)?;
-        refused &= extended_changes_are_refused(alloc, form)?;
+/// Whether each change of it is, in a form.
+fn are_refused_in(alloc: Global, form: Form, extended: bool, changes: &[Change]) -> bool {
+    for change in changes {
+        if !is_refused_of(alloc, form, extended, change) {
+            return false;
+        }
     }
-    Ok(refused)
+    true
+}
+
+/// Whether each is in all forms.
+fn are_refused(alloc: Global, extended: bool, changes: &[Change]) -> bool {
+    for form in FORMS.iter() {
+        if !are_refused_in(alloc, *form, extended, changes) {
+            return false;
+        }
+    }
+    true
 }
 
 #[test]
 fn a_damaged_field_is_refused(rt: HostRuntime) {
-    assert!(rt; all_changes_are_refused(rt.alloc()) == Ok(true));
+    assert!(rt; are_refused(rt.alloc(), false, &CHANGES));
+    assert!(rt; are_refused(rt.alloc(), true, &EXTENDED_CHANGES));
 }
 
 /// Faults in the order of their refusals, but for those of the length.
-const FAULTS: [Change; 8] = [
+static FAULTS: [Change; 8] = [
     (Field::Ident(0), 0x7e, ElfError::Magic),
     (Field::Ident(EI_CLASS), 3, ElfError::Class),
     (Field::Ident(EI_DATA), 0, ElfError::Order),
@@ -121,70 +130,84 @@ const FAULTS: [Change; 8] = [
     (FIRST_SIZE, MAX_SECTIONS + 1, ElfError::TooMany),
 ];
 
-/// What is refused of an image that has the faults from one on, of which a source has a length.
-fn refusal_from(
+/// What is refused of an image in which changes are put, of which a source has a length.
+fn refusal_with_all(
+    alloc: Global,
+    mut image: Image,
+    changes: &[Change],
+    len: u64,
+) -> Option<ElfError> {
+    change_all(&mut image, changes);
+    refusal_of(alloc, image, len)
+}
+
+/// Whether an image that has these faults, of which a source has a length, is refused so.
+fn is_refused_by(
     alloc: Global,
     form: Form,
-    first: usize,
+    faults: &[Change],
     len: u64,
-) -> Result<Option<ElfError>, ElfError> {
-    let mut image = numbers_in_section_0(alloc, form.0, form.1)?;
-    change_all(&mut image, FAULTS.get(first..).unwrap_or(&[]));
-    Ok(refusal_of(alloc, image, len))
+    refusal: Option<ElfError>,
+) -> bool {
+    match image_of(alloc, form, true) {
+        Ok(image) => refusal_with_all(alloc, image, faults, len) == refusal,
+        Err(_) => false,
+    }
+}
+
+/// The faults from one on.
+fn from(faults: &[Change], first: usize) -> &[Change] {
+    faults.get(first..).unwrap_or(&[])
 }
 
 /// Whether each fault is refused before those behind it, and an image without faults is read.
-fn faults_come_in_order(alloc: Global, form: Form) -> Result<bool, ElfError> {
-    let mut ordered = refusal_from(alloc, form, FAULTS.len(), MAX_IMAGE)?.is_none();
-    for (i, fault) in FAULTS.iter().enumerate() {
-        ordered &= refusal_from(alloc, form, i, MAX_IMAGE)? == Some(fault.2);
+fn faults_come_in_order(alloc: Global, form: Form, faults: &[Change]) -> bool {
+    for (i, fault) in faults.iter().enumerate() {
+        if !is_refused_by(alloc, form, from(faults, i), MAX_IMAGE, Some(fault.2)) {
+            return false;
+        }
     }
-    Ok(ordered)
+    is_refused_by(alloc, form, &[], MAX_IMAGE, None)
 }
 
 /// Whether the length is looked at before the identification, before `e_version`, and behind it.
-fn lengths_come_in_order(alloc: Global, form: Form) -> Result<bool, ElfError> {
+fn lengths_come_in_order(alloc: Global, form: Form, faults: &[Change]) -> bool {
     let cut = ehdr_size(form.0) as u64 - 1;
-    let mut ordered = true;
-    for (len, first, stated) in [
-        (15, 0, ElfError::Short),
-        (cut, 3, ElfError::Version),
-        (cut, 4, ElfError::Short),
-        (MAX_IMAGE + 1, 4, ElfError::Version),
-        (MAX_IMAGE + 1, 5, ElfError::TooLarge),
-    ] {
-        ordered &= refusal_from(alloc, form, first, len)? == Some(stated);
-    }
-    Ok(ordered)
+    let (version, after) = (from(faults, 4), from(faults, 5));
+    is_refused_by(alloc, form, faults, 15, Some(ElfError::Short))
+        && is_refused_by(alloc, form, from(faults, 3), cut, Some(ElfError::Version))
+        && is_refused_by(alloc, form, version, cut, Some(ElfError::Short))
+        && is_refused_by(alloc, form, version, MAX_IMAGE + 1, Some(ElfError::Version))
+        && is_refused_by(alloc, form, after, MAX_IMAGE + 1, Some(ElfError::TooLarge))
 }
 
 /// Whether all come in order in all forms.
-fn all_come_in_order(alloc: Global) -> Result<bool, ElfError> {
-    let mut ordered = true;
-    for form in FORMS {
-        ordered &= faults_come_in_order(alloc, form)?;
-        ordered &= lengths_come_in_order(alloc, form)?;
+fn all_come_in_order(alloc: Global, faults: &[Change]) -> bool {
+    for form in FORMS.iter() {
+        if !faults_come_in_order(alloc, *form, faults)
+            || !lengths_come_in_order(alloc, *form, faults)
+        {
+            return false;
+        }
     }
-    Ok(ordered)
+    true
 }
 
 #[test]
 fn the_first_refusal_is_the_answer(rt: HostRuntime) {
-    assert!(rt; all_come_in_order(rt.alloc()) == Ok(true));
+    assert!(rt; all_come_in_order(rt.alloc(), &FAULTS));
 }
 
-/// What is refused of an image with a number in a field of section 0, of which a source has a
-/// length.
-fn refusal_with(
-    alloc: Global,
-    form: Form,
-    field: Field,
-    value: u64,
-    len: u64,
-) -> Result<Option<ElfError>, ElfError> {
-    let mut image = numbers_in_section_0(alloc, form.0, form.1)?;
-    image.put_field(field, value);
-    Ok(refusal_of(alloc, image, len))
+/// Whether an image with too many entries in a field of section 0, of which a source has a length,
+/// is refused so.
+fn is_refused_with(alloc: Global, form: Form, count: Field, len: u64, refusal: ElfError) -> bool {
+    match image_of(alloc, form, true) {
+        Ok(image) => {
+            let many = [(count, MAX_SECTIONS + 1, refusal)];
+            refusal_with_all(alloc, image, &many, len) == Some(refusal)
+        }
+        Err(_) => false,
+    }
 }
 
 /// Whether a table of too many entries of a size, from a place on, is refused as such only where it
@@ -196,26 +219,27 @@ fn lies_first(
     at: u64,
     size: usize,
     past: ElfError,
-) -> Result<bool, ElfError> {
+) -> bool {
     let many = MAX_SECTIONS + 1;
     let end = at.saturating_add(many.saturating_mul(size as u64));
-    let cut = refusal_with(alloc, form, count, many, end.saturating_sub(1))?;
-    let whole = refusal_with(alloc, form, count, many, end)?;
-    Ok(cut == Some(past) && whole == Some(ElfError::TooMany))
+    is_refused_with(alloc, form, count, end.saturating_sub(1), past)
+        && is_refused_with(alloc, form, count, end, ElfError::TooMany)
 }
 
 /// Whether both tables are, in all forms.
-fn tables_lie_first(alloc: Global) -> Result<bool, ElfError> {
-    let mut stated = true;
-    for form in FORMS {
+fn tables_lie_first(alloc: Global) -> bool {
+    for form in FORMS.iter() {
         let (segment, section) = (phdr_size(form.0), shdr_size(form.0));
-        stated &= lies_first(alloc, form, FIRST_INFO, 64, segment, ElfError::PhTable)?;
-        stated &= lies_first(alloc, form, FIRST_SIZE, 192, section, ElfError::ShTable)?;
+        if !lies_first(alloc, *form, FIRST_INFO, 64, segment, ElfError::PhTable)
+            || !lies_first(alloc, *form, FIRST_SIZE, 192, section, ElfError::ShTable)
+        {
+            return false;
+        }
     }
-    Ok(stated)
+    true
 }
 
 #[test]
 fn a_table_of_too_many_entries_lies_in_the_image(rt: HostRuntime) {
-    assert!(rt; tables_lie_first(rt.alloc()) == Ok(true));
+    assert!(rt; tables_lie_first(rt.alloc()));
 }

@@ -12,7 +12,7 @@ type Changes = &'static [(usize, u8)];
 type Damage = (Changes, u64, LineWhy);
 
 /// Damages of each field.
-const DAMAGES: [Damage; 21] = [
+static DAMAGES: [Damage; 21] = [
     (
         &[(0, 0xf0), (1, 0xff), (2, 0xff), (3, 0xff)],
         0,
@@ -61,42 +61,34 @@ fn damaged(alloc: Global, unit: &[u8], changes: &[(usize, u8)]) -> Result<Octets
 }
 
 /// Whether a unit with some bytes changed is refused so.
-fn is_refused(
-    alloc: Global,
-    unit: &[u8],
-    changes: &[(usize, u8)],
-    at: u64,
-    why: LineWhy,
-) -> Result<bool, ElfError> {
-    let bytes = damaged(alloc, unit, changes)?;
-    Ok(next_of(alloc, bytes.as_slice(), 0) == Err(LineFault::Bad { at, why }))
+fn is_refused(alloc: Global, unit: &[u8], changes: &[(usize, u8)], at: u64, why: LineWhy) -> bool {
+    match damaged(alloc, unit, changes) {
+        Ok(bytes) => next_of(alloc, bytes.as_slice(), 0) == Err(LineFault::Bad { at, why }),
+        Err(_) => false,
+    }
 }
 
-/// Whether the damages are.
-fn damages_are_refused(alloc: Global) -> bool {
-    let mut stated = true;
-    for (changes, at, why) in DAMAGES {
-        stated &= is_refused(alloc, SMALL_UNIT, changes, at, why) == Ok(true);
+/// Whether the damages of a unit are.
+fn damages_are_refused(alloc: Global, unit: &[u8], damages: &[Damage]) -> bool {
+    for (changes, at, why) in damages {
+        if !is_refused(alloc, unit, changes, *at, *why) {
+            return false;
+        }
     }
-    stated
+    true
 }
 
 #[test]
 fn names_the_first_fault(rt: HostRuntime) {
-    assert!(rt; damages_are_refused(rt.alloc()));
+    assert!(rt; damages_are_refused(rt.alloc(), SMALL_UNIT, &DAMAGES));
 }
 
 /// Opcode 13 of the unit of every opcode, which stands at 84, is to have 255 operands.
-const OPERANDS: [(usize, u8); 1] = [(28, 255)];
-
-/// Whether that is refused.
-fn operands_are_refused(alloc: Global) -> Result<bool, ElfError> {
-    is_refused(alloc, UNIT_OF_EVERY_OPCODE, &OPERANDS, 84, LineWhy::Cut)
-}
+static OPERANDS: [Damage; 1] = [(&[(28, 255)], 84, LineWhy::Cut)];
 
 #[test]
 fn operands_that_pass_the_unit_are_a_fault(rt: HostRuntime) {
-    assert!(rt; operands_are_refused(rt.alloc()) == Ok(true));
+    assert!(rt; damages_are_refused(rt.alloc(), UNIT_OF_EVERY_OPCODE, &OPERANDS));
 }
 
 #[test]
@@ -117,14 +109,16 @@ fn rows_in(alloc: Global, section: &[u8]) -> Option<u64> {
 }
 
 /// How many rows the unit has that does not divide.
-fn undivided_rows(alloc: Global) -> Result<Option<u64>, ElfError> {
-    let unit = damaged(alloc, SMALL_UNIT, &UNDIVIDED)?;
-    Ok(rows_in(alloc, unit.as_slice()))
+fn undivided_rows(alloc: Global) -> Option<u64> {
+    match damaged(alloc, SMALL_UNIT, &UNDIVIDED) {
+        Ok(unit) => rows_in(alloc, unit.as_slice()),
+        Err(_) => None,
+    }
 }
 
 #[test]
 fn divides_by_the_range_of_lines_alone(rt: HostRuntime) {
-    assert!(rt; undivided_rows(rt.alloc()) == Ok(Some(2)));
+    assert!(rt; undivided_rows(rt.alloc()) == Some(2));
 }
 
 /// What is changed of three units: nothing, a range of lines of 0, and the version.
@@ -145,7 +139,7 @@ fn put_three(alloc: Global, section: &mut Octets) -> Result<(), ElfError> {
 }
 
 /// The units of the section at their places: where the first ends, and two faults.
-const PLACES: [(usize, Result<u64, LineFault>); 3] = [
+static PLACES: [(usize, Result<u64, LineFault>); 3] = [
     (0, Ok(50)),
     (
         50,
@@ -164,23 +158,24 @@ const PLACES: [(usize, Result<u64, LineFault>); 3] = [
 ];
 
 /// Whether the units are told so.
-fn are_placed(alloc: Global, section: &[u8]) -> bool {
-    let mut stated = true;
-    for (place, told) in PLACES {
-        stated &= next_of(alloc, section, place) == told;
+fn are_placed(alloc: Global, section: &[u8], places: &[(usize, Result<u64, LineFault>)]) -> bool {
+    for (place, told) in places {
+        if next_of(alloc, section, *place) != *told {
+            return false;
+        }
     }
-    stated
+    true
 }
 
 /// Whether the three units are told so.
-fn three_are_placed(alloc: Global) -> bool {
+fn three_are_placed(alloc: Global, places: &[(usize, Result<u64, LineFault>)]) -> bool {
     let mut section = Octets::new(alloc);
-    put_three(alloc, &mut section) == Ok(()) && are_placed(alloc, section.as_slice())
+    put_three(alloc, &mut section).is_ok() && are_placed(alloc, section.as_slice(), places)
 }
 
 #[test]
 fn places_are_those_in_the_section(rt: HostRuntime) {
-    assert!(rt; three_are_placed(rt.alloc()));
+    assert!(rt; three_are_placed(rt.alloc(), &PLACES));
 }
 
 /// The fault of a unit in a class.
