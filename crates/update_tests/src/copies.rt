@@ -1,13 +1,13 @@
 //! Images that are opened, and written again.
 
-use crate::created::many_sections;
-use crate::puts::{image_put, puts};
+use crate::created::{Made, image_of_made};
+use crate::puts::puts;
 use elf_descriptor::Elf;
 use elf_outside::{MemSource, Source};
 use elf_types::{Class, DIRTY, DataId, ElfError, LAYOUT, Octets, Order, Part, ScnId};
 use elf_xlate::Items;
 use std::alloc::Global;
-use test_images::{FORMS, Form, OBJECT, Recipe, Start, image_in};
+use test_images::{FORMS, Form, Image, OBJECT, Recipe, Start, image_in};
 use test_sources::{Sparse, source};
 
 /// Five sections one behind the other.
@@ -18,7 +18,7 @@ const FIVE: Recipe = Recipe {
 };
 
 /// What is edited before an update.
-#[derive(Clone, Copy, Debug, PartialEq, Eq)]
+#[derive(Clone, Copy)]
 enum Edit {
     /// Nothing.
     Nothing,
@@ -32,6 +32,14 @@ enum Edit {
     Load,
 }
 
+/// Section 3, and its piece.
+const THIRD: ScnId = ScnId(3);
+
+const THIRD_PIECE: DataId = DataId {
+    section: 3,
+    piece: 0,
+};
+
 /// Puts other bytes in place of a piece.
 fn replace<S: Source>(elf: &mut Elf<S>, d: DataId) -> Result<(), ElfError> {
     let bytes = Octets::from_slice(elf.alloc(), &[7; 8])?;
@@ -41,105 +49,129 @@ fn replace<S: Source>(elf: &mut Elf<S>, d: DataId) -> Result<(), ElfError> {
     }
 }
 
-/// Does an edit.
-fn make_edit<S: Source>(elf: &mut Elf<S>, how: Edit) -> Result<(), ElfError> {
-    let third = DataId {
-        section: 3,
-        piece: 0,
-    };
+/// Whether an edit is done.
+fn is_made<S: Source>(elf: &mut Elf<S>, how: Edit) -> bool {
     match how {
-        Edit::Nothing => {}
-        Edit::Mark => {
-            elf.flag(Part::Object, true, DIRTY)?;
-        }
-        Edit::Layout => {
-            elf.flag(Part::Object, true, DIRTY | LAYOUT)?;
-        }
-        Edit::Replace => {
-            replace(elf, third)?;
-        }
-        Edit::Load => {
-            elf.raw(ScnId(3))?;
-            elf.flag(Part::Piece(3, 0), true, DIRTY)?;
-        }
+        Edit::Nothing => true,
+        Edit::Mark => elf.flag(Part::Object, true, DIRTY).is_ok(),
+        Edit::Layout => elf.flag(Part::Object, true, DIRTY | LAYOUT).is_ok(),
+        Edit::Replace => replace(elf, THIRD_PIECE).is_ok(),
+        Edit::Load => elf.raw(THIRD).is_ok() && elf.flag(Part::Piece(3, 0), true, DIRTY).is_ok(),
     }
-    Ok(())
 }
 
 /// Whether an object that is edited is written twice as these bytes.
 fn is_written_by<S: Source + Drop>(alloc: Global, src: S, how: Edit, bytes: &[u8]) -> bool {
     match Elf::begin(alloc, src) {
-        Ok(mut elf) => {
-            make_edit(&mut elf, how) == Ok(()) && puts(&mut elf, bytes) && puts(&mut elf, bytes)
+        Ok(mut elf) => { is_made(&mut elf, how) && puts(&mut elf, bytes) && puts(&mut elf, bytes) }
+        Err(_) => false,
+    }
+}
+
+/// Whether an object of these bytes is, over a source that tells them and over one that does not.
+fn is_written_of(alloc: Global, bytes: Octets, how: Edit, expected: &[u8]) -> bool {
+    match Octets::from_slice(alloc, bytes.as_slice()) {
+        Ok(copy) => {
+            let len = copy.len();
+            is_written_told(alloc, bytes, how, expected)
+                && is_written_by(alloc, Sparse::new(copy, len), how, expected)
         }
         Err(_) => false,
     }
 }
 
-/// The image of a recipe, and with it the bytes that are expected of an update of it.
-fn expected(alloc: Global, form: Form, recipe: &Recipe, how: Edit) -> Result<Octets, ElfError> {
-    let mut image = image_in(alloc, form, recipe)?;
-    if how == Edit::Replace {
-        let start = match form.0 {
-            Class::C32 => 56,
-            Class::C64 => 64,
-        };
-        image.put_bytes(start + 16, &[7; 8])?;
+/// Whether it is over one that tells them.
+fn is_written_told(alloc: Global, bytes: Octets, how: Edit, expected: &[u8]) -> bool {
+    match source(alloc, bytes, 0) {
+        Ok(src) => is_written_by(alloc, src, how, expected),
+        Err(_) => false,
     }
-    Ok(image.bytes)
+}
+
+/// Puts what an edit is to leave into the bytes of an image.
+fn expect(image: &mut Image, how: Edit) -> Result<(), ElfError> {
+    let start = match image.header.class {
+        Class::C32 => 56,
+        Class::C64 => 64,
+    };
+    match how {
+        Edit::Replace => image.put_bytes(start + 16, &[7; 8]),
+        _ => Ok(()),
+    }
+}
+
+/// Whether an object of these bytes is written as the image that it is of, once that has what the
+/// edit leaves.
+fn is_written_as(alloc: Global, bytes: Octets, how: Edit, image: &mut Image) -> bool {
+    expect(image, how).is_ok() && is_written_of(alloc, bytes, how, image.bytes.as_slice())
 }
 
 /// Whether an image is written so in a form, over sources that tell their bytes and that do not.
-fn is_written_in(alloc: Global, form: Form, recipe: &Recipe, how: Edit) -> Result<bool, ElfError> {
-    let bytes = expected(alloc, form, recipe, how)?;
-    let told = source(alloc, image_in(alloc, form, recipe)?.bytes, 0)?;
-    let untold = image_in(alloc, form, recipe)?.bytes;
-    let len = untold.len();
-    let first = is_written_by(alloc, told, how, bytes.as_slice());
-    Ok(first && is_written_by(alloc, Sparse::new(untold, len), how, bytes.as_slice()))
+fn is_written_in(alloc: Global, form: Form, recipe: &Recipe, how: Edit) -> bool {
+    match image_in(alloc, form, recipe) {
+        Ok(mut image) => match Octets::from_slice(alloc, image.bytes.as_slice()) {
+            Ok(bytes) => is_written_as(alloc, bytes, how, &mut image),
+            Err(_) => false,
+        },
+        Err(_) => false,
+    }
 }
 
 /// Whether it is in all forms.
 fn is_written(alloc: Global, recipe: &Recipe, how: Edit) -> bool {
     for form in FORMS.iter() {
-        if is_written_in(alloc, *form, recipe, how) != Ok(true) {
+        if !is_written_in(alloc, *form, recipe, how) {
             return false;
         }
     }
     true
 }
 
+/// Whether images are written so.
+fn are_written(alloc: Global, rows: &[(Recipe, Edit)]) -> bool {
+    for (recipe, how) in rows {
+        if !is_written(alloc, recipe, *how) {
+            return false;
+        }
+    }
+    true
+}
+
+/// Objects that are not edited.
+static COPIED: [(Recipe, Edit); 2] = [(OBJECT, Edit::Nothing), (FIVE, Edit::Nothing)];
+
 #[test]
 fn an_object_that_is_not_edited_is_copied(rt: HostRuntime) {
-    assert!(rt; is_written(rt.alloc(), &OBJECT, Edit::Nothing));
-    assert!(rt; is_written(rt.alloc(), &FIVE, Edit::Nothing));
+    assert!(rt; are_written(rt.alloc(), &COPIED));
 }
+
+/// Objects that are marked.
+static MARKED: [(Recipe, Edit); 4] = [
+    (FIVE, Edit::Mark),
+    (OBJECT, Edit::Layout),
+    (FIVE, Edit::Layout),
+    (FIVE, Edit::Load),
+];
 
 #[test]
 fn a_marked_object_is_written_again(rt: HostRuntime) {
-    assert!(rt; is_written(rt.alloc(), &FIVE, Edit::Mark));
-    assert!(rt; is_written(rt.alloc(), &OBJECT, Edit::Layout));
-    assert!(rt; is_written(rt.alloc(), &FIVE, Edit::Layout));
-    assert!(rt; is_written(rt.alloc(), &FIVE, Edit::Load));
+    assert!(rt; are_written(rt.alloc(), &MARKED));
 }
+
+/// One that is edited.
+static EDITED: [(Recipe, Edit); 1] = [(FIVE, Edit::Replace)];
 
 #[test]
 fn an_edit_stands_in_the_image(rt: HostRuntime) {
-    assert!(rt; is_written(rt.alloc(), &FIVE, Edit::Replace));
-}
-
-/// The image of an object with more sections than its header counts.
-fn many_image(alloc: Global) -> Option<Octets> {
-    match many_sections(alloc) {
-        Ok(mut elf) => image_put(&mut elf),
-        Err(_) => None,
-    }
+    assert!(rt; are_written(rt.alloc(), &EDITED));
 }
 
 /// A source of the same bytes.
 fn source_of(alloc: Global, image: &Octets) -> Result<MemSource, ElfError> {
-    let bytes = Octets::from_slice(alloc, image.as_slice())?;
-    source(alloc, bytes, 0)
+    match Octets::from_slice(alloc, image.as_slice()) {
+        Ok(bytes) => source(alloc, bytes, 0),
+        Err(e) => Err(e),
+    }
 }
 
 /// Whether an image, opened and marked, is written as it was.
@@ -152,7 +184,7 @@ fn is_written_again(alloc: Global, image: &Octets) -> bool {
 
 /// Whether that of many sections is.
 fn are_written_again(alloc: Global) -> bool {
-    match many_image(alloc) {
+    match image_of_made(alloc, Made::ManySections) {
         Some(image) => is_written_again(alloc, &image),
         None => false,
     }

@@ -9,7 +9,7 @@ use test_images::{OBJECT, Recipe, Start, image_of};
 use test_sources::source;
 
 /// A header alone, of class 64 and the least byte first.
-const ALONE: Recipe = Recipe {
+static ALONE: Recipe = Recipe {
     start: Start::HeaderAlone,
     ..OBJECT
 };
@@ -26,38 +26,43 @@ pub fn add_sections<S: Source>(elf: &mut Elf<S>, count: u32) -> bool {
 
 /// A source of a header alone.
 fn source_alone(alloc: Global) -> Option<MemSource> {
-    let Ok(image) = image_of(alloc, &ALONE) else {
-        return None;
-    };
-    match source(alloc, image.bytes, 0) {
-        Ok(src) => Some(src),
+    match image_of(alloc, &ALONE) {
+        Ok(image) => source(alloc, image.bytes, 0).ok(),
         Err(_) => None,
     }
+}
+
+/// The image of an object with so many sections added.
+fn put_with<S: Source>(elf: &mut Elf<S>, count: u32) -> Option<Octets> {
+    if add_sections(elf, count) {
+        return image_put(elf);
+    }
+    None
 }
 
 /// The image of the header with so many sections added, besides section 0.
 fn image_with(alloc: Global, count: u32) -> Option<Octets> {
-    let Some(src) = source_alone(alloc) else {
-        return None;
-    };
+    match source_alone(alloc) {
+        Some(src) => match Elf::begin(alloc, src) {
+            Ok(mut elf) => put_with(&mut elf, count),
+            Err(_) => None,
+        },
+        None => None,
+    }
+}
+
+/// How many sections a source is opened with.
+fn count_in(alloc: Global, src: MemSource) -> Option<u32> {
     match Elf::begin(alloc, src) {
-        Ok(mut elf) => {
-            if add_sections(&mut elf, count) {
-                return image_put(&mut elf);
-            }
-            None
-        }
+        Ok(elf) => Some(elf.ehdr().shnum),
         Err(_) => None,
     }
 }
 
-/// How many sections an image is opened with.
+/// How many an image is.
 fn opened_count(alloc: Global, image: Octets) -> Option<u32> {
-    let Ok(src) = source(alloc, image, 0) else {
-        return None;
-    };
-    match Elf::begin(alloc, src) {
-        Ok(elf) => Some(elf.ehdr().shnum),
+    match source(alloc, image, 0) {
+        Ok(src) => count_in(alloc, src),
         Err(_) => None,
     }
 }

@@ -1,16 +1,34 @@
 //! Objects that are made.
 
-use crate::puts::{image_put, puts, stands};
+use crate::counts::add_sections;
+use crate::puts::{are_all, image_put, put_by, puts, stands, stops};
 use elf_descriptor::Elf;
-use elf_outside::NoSource;
+use elf_outside::{NoSource, Source};
 use elf_types::constants::SHT_PROGBITS;
-use elf_types::{Class, ElfError, NULL_SECTION, Octets, Order, ScnId, Shdr};
+use elf_types::{Class, Ehdr, ElfError, LAYOUT, NULL_SECTION, Octets, Order, Part, ScnId, Shdr};
 use elf_update::update_null;
 use elf_xlate::Items;
 use std::alloc::Global;
 
+/// An object that is made.
+#[derive(Clone, Copy)]
+pub enum Made {
+    /// Class 32 with two sections: one of three bytes at 64, and one of a byte at 68. The table of
+    /// their headers stands at 72. Gaps have the byte 170.
+    TwoSections,
+    /// Class 32 with so many sections that its header does not count them.
+    ManySections,
+    /// Class 64 with a section at 200,000 and the table of section headers before it, with a fill
+    /// byte between them.
+    FarSection(u8),
+    /// The same with a second section that shares a place with the first.
+    SharedPlace,
+    /// Class 32 with a section that ends at 2^32.
+    LongSection,
+}
+
 /// Adds a piece of bytes.
-pub fn add_bytes(elf: &mut Elf<NoSource>, s: ScnId, bytes: &[u8]) -> Result<(), ElfError> {
+fn add_bytes(elf: &mut Elf<NoSource>, s: ScnId, bytes: &[u8]) -> Result<(), ElfError> {
     let bytes = Octets::from_slice(elf.alloc(), bytes)?;
     match elf.newdata(s, Items::Bytes(bytes)) {
         Ok(_) => Ok(()),
@@ -19,11 +37,7 @@ pub fn add_bytes(elf: &mut Elf<NoSource>, s: ScnId, bytes: &[u8]) -> Result<(), 
 }
 
 /// Adds a section of bytes with an alignment.
-pub fn add_section(
-    elf: &mut Elf<NoSource>,
-    addralign: u64,
-    bytes: &[u8],
-) -> Result<ScnId, ElfError> {
+fn add_section(elf: &mut Elf<NoSource>, addralign: u64, bytes: &[u8]) -> Result<ScnId, ElfError> {
     let s = elf.newscn()?;
     let header = Shdr {
         stype: SHT_PROGBITS,
@@ -35,14 +49,82 @@ pub fn add_section(
     Ok(s)
 }
 
-/// Class 32 with two sections: one of three bytes at 64, and one of a byte at 68. The table of
-/// their headers stands at 72. Gaps have the byte 170.
-pub fn two_sections(alloc: Global) -> Result<Elf<NoSource>, ElfError> {
-    let mut elf = Elf::create(alloc, Class::C32, Order::Least);
+/// Adds two sections.
+fn add_two(elf: &mut Elf<NoSource>) -> Result<(), ElfError> {
     elf.set_fill(170);
-    add_section(&mut elf, 16, &[1, 2, 3])?;
-    add_section(&mut elf, 4, &[4])?;
-    Ok(elf)
+    add_section(elf, 16, &[1, 2, 3])?;
+    add_section(elf, 4, &[4])?;
+    Ok(())
+}
+
+/// Adds a section of bytes at a place.
+fn add_at(elf: &mut Elf<NoSource>, offset: u64, bytes: &[u8]) -> Result<(), ElfError> {
+    let s = add_section(elf, 1, bytes)?;
+    let header = elf.shdr(s)?;
+    elf.update_shdr(s, &Shdr { offset, ..header })
+}
+
+/// Puts the table of section headers to a place, under the caller's layout.
+fn put_table(elf: &mut Elf<NoSource>, shoff: u64) -> Result<(), ElfError> {
+    elf.flag(Part::Object, true, LAYOUT)?;
+    let header = elf.ehdr();
+    elf.update_ehdr(&Ehdr { shoff, ..header })
+}
+
+/// Adds the section at 200,000.
+fn add_far(elf: &mut Elf<NoSource>, fill: u8) -> Result<(), ElfError> {
+    elf.set_fill(fill);
+    add_at(elf, 200_000, &[1, 2, 3])?;
+    put_table(elf, 64)
+}
+
+/// Adds that section and one that shares its place.
+fn add_shared(elf: &mut Elf<NoSource>) -> Result<(), ElfError> {
+    add_far(elf, 0)?;
+    add_at(elf, 200_001, &[4])?;
+    put_table(elf, 300_000)
+}
+
+/// Adds the section that ends at 2^32.
+fn add_long(elf: &mut Elf<NoSource>) -> Result<(), ElfError> {
+    add_at(elf, 0xffff_fffc, &[1, 2, 3, 4])?;
+    put_table(elf, 64)
+}
+
+/// Whether what an object has is put into it.
+fn is_filled(elf: &mut Elf<NoSource>, made: Made) -> bool {
+    match made {
+        Made::TwoSections => add_two(elf).is_ok(),
+        Made::ManySections => add_sections(elf, 65_299),
+        Made::FarSection(fill) => add_far(elf, fill).is_ok(),
+        Made::SharedPlace => add_shared(elf).is_ok(),
+        Made::LongSection => add_long(elf).is_ok(),
+    }
+}
+
+/// The object without anything in it.
+fn empty(alloc: Global, made: Made) -> Elf<NoSource> {
+    match made {
+        Made::FarSection(_) | Made::SharedPlace => {
+            Elf::create(alloc, Class::C64, Order::Greatest)
+        }
+        _ => Elf::create(alloc, Class::C32, Order::Least),
+    }
+}
+
+/// What is asked of an object that is made.
+#[derive(Clone, Copy)]
+pub enum Asked {
+    /// Whether two sections are written, and in the same way again.
+    Two,
+    /// Whether an update that writes nothing stores the places of two sections, and keeps the marks.
+    Places,
+    /// Whether section 0 counts the sections in the image.
+    Counts,
+    /// Whether it is written with a gap, and where a put fails, the next time.
+    Gap(u8),
+    /// Whether an update is refused by an error, and puts nothing.
+    Refused(ElfError),
 }
 
 /// Whether an image has these two sections.
@@ -50,22 +132,6 @@ fn has_two_sections(image: &Octets) -> bool {
     image.len() == 192
         && stands(image, 52, &[170; 12])
         && stands(image, 64, &[1, 2, 3, 170, 4, 170, 170, 170, 0])
-}
-
-/// Whether they are written, and in the same way again.
-fn are_written(alloc: Global) -> bool {
-    match two_sections(alloc) {
-        Ok(mut elf) => match image_put(&mut elf) {
-            Some(image) => has_two_sections(&image) && puts(&mut elf, image.as_slice()),
-            None => false,
-        },
-        Err(_) => false,
-    }
-}
-
-#[test]
-fn sections_are_aligned(rt: HostRuntime) {
-    assert!(rt; are_written(rt.alloc()));
 }
 
 /// The place of a section, if it is there.
@@ -77,49 +143,122 @@ fn place_of(elf: &Elf<NoSource>, s: u32) -> Option<u64> {
 }
 
 /// Whether an update that writes nothing stores their places, and keeps the marks.
-fn are_placed(alloc: Global) -> bool {
-    match two_sections(alloc) {
-        Ok(mut elf) => {
-            let mut stated = update_null(&mut elf) == Ok(192);
-            stated &= place_of(&elf, 1) == Some(64);
-            stated &= place_of(&elf, 2) == Some(68);
-            stated &= elf.ehdr().shoff == 72;
-            stated && elf.dirty()
-        }
+fn are_placed(elf: &mut Elf<NoSource>) -> bool {
+    update_null(elf) == Ok(192)
+        && place_of(elf, 1) == Some(64)
+        && place_of(elf, 2) == Some(68)
+        && elf.ehdr().shoff == 72
+        && elf.dirty()
+}
+
+/// Whether section 0 counts 65,300 sections in an image.
+fn has_counts(image: &Octets) -> bool {
+    image.len() == 52 + 65_300 * 40
+        && stands(image, 48, &[0, 0])
+        && stands(image, 72, &[20, 255, 0, 0])
+}
+
+/// Whether an image has a gap of bytes between its table and its section.
+fn has_gap(image: &Octets, fill: u8) -> bool {
+    image.len() == 200_003
+        && are_all(image, 192, 200_000, fill)
+        && stands(image, 200_000, &[1, 2, 3])
+}
+
+/// Whether the first update puts an image, and those that follow, where puts fail and none does.
+fn is_put_again(elf: &mut Elf<NoSource>, image: &[u8]) -> bool {
+    puts(elf, image) && stops(elf, 1, image) && stops(elf, 2, image) && stops(elf, 3, image)
+}
+
+/// Whether an image that an object puts is as it should be.
+fn is_as_asked(elf: &mut Elf<NoSource>, image: &Octets, asked: Asked) -> bool {
+    match asked {
+        Asked::Two => has_two_sections(image) && puts(elf, image.as_slice()),
+        Asked::Counts => has_counts(image),
+        Asked::Gap(fill) => has_gap(image, fill) && is_put_again(elf, image.as_slice()),
+        _ => false,
+    }
+}
+
+/// Whether an object puts such an image.
+fn is_written(elf: &mut Elf<NoSource>, asked: Asked) -> bool {
+    match image_put(elf) {
+        Some(image) => is_as_asked(elf, &image, asked),
+        None => false,
+    }
+}
+
+/// Whether an update is refused by an error, and puts nothing.
+pub fn is_refused<S: Source>(elf: &mut Elf<S>, e: ElfError) -> bool {
+    match put_by(elf, 0) {
+        Ok((answer, bytes)) => answer == Err(e) && bytes.is_empty(),
         Err(_) => false,
     }
+}
+
+/// Whether an object answers so.
+fn answers(elf: &mut Elf<NoSource>, asked: Asked) -> bool {
+    match asked {
+        Asked::Places => are_placed(elf),
+        Asked::Refused(e) => is_refused(elf, e),
+        _ => is_written(elf, asked),
+    }
+}
+
+/// Whether one that is made does.
+pub fn is_so(alloc: Global, made: Made, asked: Asked) -> bool {
+    let mut elf = empty(alloc, made);
+    is_filled(&mut elf, made) && answers(&mut elf, asked)
+}
+
+/// The image of one that is made.
+pub fn image_of_made(alloc: Global, made: Made) -> Option<Octets> {
+    let mut elf = empty(alloc, made);
+    if is_filled(&mut elf, made) {
+        return image_put(&mut elf);
+    }
+    None
+}
+
+#[test]
+fn sections_are_aligned(rt: HostRuntime) {
+    assert!(rt; is_so(rt.alloc(), Made::TwoSections, Asked::Two));
 }
 
 #[test]
 fn places_are_stored(rt: HostRuntime) {
-    assert!(rt; are_placed(rt.alloc()));
-}
-
-/// An object with so many sections that its header does not count them.
-pub fn many_sections(alloc: Global) -> Result<Elf<NoSource>, ElfError> {
-    let mut elf = Elf::create(alloc, Class::C32, Order::Least);
-    for _ in 1..65_300u32 {
-        elf.newscn()?;
-    }
-    Ok(elf)
-}
-
-/// Whether section 0 counts them in the image.
-fn are_counted(alloc: Global) -> bool {
-    match many_sections(alloc) {
-        Ok(mut elf) => match image_put(&mut elf) {
-            Some(image) => {
-                image.len() == 52 + 65_300 * 40
-                    && stands(&image, 48, &[0, 0])
-                    && stands(&image, 72, &[20, 255, 0, 0])
-            }
-            None => false,
-        },
-        Err(_) => false,
-    }
+    assert!(rt; is_so(rt.alloc(), Made::TwoSections, Asked::Places));
 }
 
 #[test]
 fn more_sections_than_a_header_counts_are_written(rt: HostRuntime) {
-    assert!(rt; are_counted(rt.alloc()));
+    assert!(rt; is_so(rt.alloc(), Made::ManySections, Asked::Counts));
+}
+
+#[test]
+fn a_gap_of_pages_is_written(rt: HostRuntime) {
+    assert!(rt; is_so(rt.alloc(), Made::FarSection(0), Asked::Gap(0)));
+    assert!(rt; is_so(rt.alloc(), Made::FarSection(9), Asked::Gap(9)));
+}
+
+/// Two sections share a place.
+const PAIR: ElfError = ElfError::Overlap {
+    a: Part::Section(1),
+    b: Part::Section(2),
+};
+
+#[test]
+fn sections_that_share_a_place_are_refused(rt: HostRuntime) {
+    assert!(rt; is_so(rt.alloc(), Made::SharedPlace, Asked::Refused(PAIR)));
+}
+
+#[test]
+fn an_image_past_the_range_of_its_class_is_refused(rt: HostRuntime) {
+    assert!(rt;
+        is_so(
+            rt.alloc(),
+            Made::LongSection,
+            Asked::Refused(ElfError::TooLarge)
+        )
+    );
 }

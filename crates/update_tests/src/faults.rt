@@ -9,7 +9,7 @@ use test_images::{OBJECT, image_of};
 use test_sources::source;
 
 /// What came of an update over a source of which a read fails.
-#[derive(Clone, Copy, Debug, PartialEq, Eq)]
+#[derive(Clone, Copy)]
 enum Outcome {
     /// The object was not opened.
     NotOpened,
@@ -21,20 +21,29 @@ enum Outcome {
     Other,
 }
 
-/// What comes of an update of an object.
-fn outcome_of(elf: &mut Elf<MemSource>, bytes: &[u8]) -> Outcome {
-    let (answer, front) = match put_by(elf, 0) {
-        Ok(put) => put,
-        Err(_) => return Outcome::Other,
-    };
-    if answer.is_ok() && front.as_slice() == bytes {
+/// What comes of an update that answered so and put a front of the image.
+fn outcome_by(
+    elf: &mut Elf<MemSource>,
+    answer: Result<u64, ElfError>,
+    front: &[u8],
+    bytes: &[u8],
+) -> Outcome {
+    if answer.is_ok() && front == bytes {
         return Outcome::Ended;
     }
-    let stopped = answer == Err(ElfError::Read) && bytes.starts_with(front.as_slice());
+    let stopped = answer == Err(ElfError::Read) && bytes.starts_with(front);
     if stopped && puts(elf, bytes) {
         return Outcome::Failed;
     }
     Outcome::Other
+}
+
+/// What comes of an update of an object.
+fn outcome_of(elf: &mut Elf<MemSource>, bytes: &[u8]) -> Outcome {
+    match put_by(elf, 0) {
+        Ok((answer, front)) => outcome_by(elf, answer, front.as_slice(), bytes),
+        Err(_) => Outcome::Other,
+    }
 }
 
 /// Marks an object, and says what comes of its update.
@@ -45,13 +54,35 @@ fn marked_outcome(elf: &mut Elf<MemSource>, bytes: &[u8], mark: bool) -> Outcome
     outcome_of(elf, bytes)
 }
 
-/// The same of an image of which the read of a number fails.
-fn image_outcome(alloc: Global, bad_read: u64, mark: bool) -> Result<Outcome, ElfError> {
-    let bytes = image_of(alloc, &OBJECT)?.bytes;
-    let src = source(alloc, image_of(alloc, &OBJECT)?.bytes, bad_read)?;
+/// The same of an object over a source.
+fn source_outcome(alloc: Global, src: MemSource, bytes: &[u8], mark: bool) -> Outcome {
     match Elf::begin(alloc, src) {
-        Ok(mut elf) => Ok(marked_outcome(&mut elf, bytes.as_slice(), mark)),
-        Err(_) => Ok(Outcome::NotOpened),
+        Ok(mut elf) => marked_outcome(&mut elf, bytes, mark),
+        Err(_) => Outcome::NotOpened,
+    }
+}
+
+/// A source of these bytes, of which the read of a number fails.
+fn source_of(alloc: Global, bytes: &[u8], bad_read: u64) -> Option<MemSource> {
+    match Octets::from_slice(alloc, bytes) {
+        Ok(copy) => source(alloc, copy, bad_read).ok(),
+        Err(_) => None,
+    }
+}
+
+/// What comes of an update over one.
+fn bytes_outcome(alloc: Global, bytes: &[u8], bad_read: u64, mark: bool) -> Outcome {
+    match source_of(alloc, bytes, bad_read) {
+        Some(src) => source_outcome(alloc, src, bytes, mark),
+        None => Outcome::Other,
+    }
+}
+
+/// The same of the image.
+fn image_outcome(alloc: Global, bad_read: u64, mark: bool) -> Outcome {
+    match image_of(alloc, &OBJECT) {
+        Ok(image) => bytes_outcome(alloc, image.bytes.as_slice(), bad_read, mark),
+        Err(_) => Outcome::Other,
     }
 }
 
@@ -60,10 +91,9 @@ fn failures(alloc: Global, mark: bool) -> u32 {
     let mut failed = 0u32;
     for bad_read in 1..21 {
         match image_outcome(alloc, bad_read, mark) {
-            Ok(Outcome::Failed) => failed = failed.saturating_add(1),
-            Ok(Outcome::NotOpened) => {}
-            Ok(Outcome::Ended) => {}
-            _ => return 0,
+            Outcome::Failed => failed = failed.saturating_add(1),
+            Outcome::NotOpened | Outcome::Ended => {}
+            Outcome::Other => return 0,
         }
     }
     failed

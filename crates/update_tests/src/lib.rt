@@ -12,8 +12,6 @@ mod created;
 #[cfg(test)]
 mod faults;
 #[cfg(test)]
-mod gaps;
-#[cfg(test)]
 mod puts;
 #[cfg(test)]
 mod refusals;

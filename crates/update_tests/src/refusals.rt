@@ -1,91 +1,20 @@
 //! Updates that are refused put nothing.
 
-use crate::created::add_section;
-use crate::puts::put_by;
+use crate::counts::add_sections;
+use crate::created::is_refused;
 use elf_descriptor::Elf;
-use elf_outside::{NoSource, Source};
+use elf_outside::{MemSource, Source};
 use elf_types::constants::SHT_PROGBITS;
-use elf_types::{Class, DIRTY, DataId, Ehdr, ElfError, LAYOUT, Order, Part, Shdr};
+use elf_types::{DIRTY, DataId, ElfError, Part};
 use std::alloc::Global;
 use test_images::{Field, NARROW, OBJECT, Put, Recipe, SectionField, Start, image_of};
 use test_sources::source;
 
-/// Adds so many sections.
-fn add_sections<S: Source>(elf: &mut Elf<S>, count: u32) -> bool {
-    for _ in 0..count {
-        if elf.newscn().is_err() {
-            return false;
-        }
-    }
-    true
-}
-
-/// Whether an update is refused by an error, and puts nothing.
-fn is_refused<S: Source>(elf: &mut Elf<S>, e: ElfError) -> bool {
-    match put_by(elf, 0) {
-        Ok((answer, bytes)) => answer == Err(e) && bytes.is_empty(),
-        Err(_) => false,
-    }
-}
-
-/// An object of class 32 whose section ends so many bytes behind 2^32 - 4.
-fn long_object(alloc: Global, bytes: &[u8]) -> Result<Elf<NoSource>, ElfError> {
-    let mut elf = Elf::create(alloc, Class::C32, Order::Least);
-    let s = add_section(&mut elf, 1, bytes)?;
-    let header = elf.shdr(s)?;
-    elf.update_shdr(
-        s,
-        &Shdr {
-            offset: 0xffff_fffc,
-            ..header
-        },
-    )?;
-    elf.flag(Part::Object, true, LAYOUT)?;
-    let header = elf.ehdr();
-    elf.update_ehdr(&Ehdr {
-        shoff: 64,
-        ..header
-    })?;
-    Ok(elf)
-}
-
-/// Whether an image of 2^32 bytes is refused in class 32.
-fn is_too_large(alloc: Global) -> bool {
-    match long_object(alloc, &[1, 2, 3, 4]) {
-        Ok(mut elf) => is_refused(&mut elf, ElfError::TooLarge),
-        Err(_) => false,
-    }
-}
-
-#[test]
-fn an_image_past_the_range_of_its_class_is_refused(rt: HostRuntime) {
-    assert!(rt; is_too_large(rt.alloc()));
-}
-
-/// Marks an object, and says whether its update is refused since section 2 is out of the file.
-fn is_marked_out<S: Source>(elf: &mut Elf<S>) -> bool {
-    elf.flag(Part::Object, true, DIRTY).is_ok()
-        && is_refused(elf, ElfError::OutOfFile { section: 2 })
-}
-
-/// Whether it is so of an image whose section 2 passes the end of the file.
-fn is_out_of_file(alloc: Global) -> Result<bool, ElfError> {
-    let mut image = image_of(alloc, &OBJECT)?;
-    image.put_field(Field::Section(2, SectionField::Offset), u64::MAX);
-    match Elf::begin(alloc, source(alloc, image.bytes, 0)?) {
-        Ok(mut elf) => Ok(is_marked_out(&mut elf)),
-        Err((_, e)) => Err(e),
-    }
-}
-
-#[test]
-fn a_section_out_of_the_file_is_refused(rt: HostRuntime) {
-    assert!(rt; is_out_of_file(rt.alloc()) == Ok(true));
-}
-
 /// What is done to an object, so that its update is refused.
 #[derive(Clone, Copy)]
 enum Spoil {
+    /// The object is marked.
+    Mark,
     /// The values of its symbols do not fit class 32.
     Values,
     /// An address of its first program header does not.
@@ -124,6 +53,7 @@ fn raise_address<S: Source>(elf: &mut Elf<S>) -> bool {
 /// Does so to an object.
 fn is_spoilt<S: Source>(elf: &mut Elf<S>, spoil: Spoil) -> bool {
     match spoil {
+        Spoil::Mark => elf.flag(Part::Object, true, DIRTY).is_ok(),
         Spoil::Values => raise_values(elf),
         Spoil::Address => raise_address(elf),
         Spoil::Sections => add_sections(elf, 65_300),
@@ -137,8 +67,23 @@ struct Row {
     by: ElfError,
 }
 
+/// A section that passes the end of the file.
+static OUT: [Row; 1] = [Row {
+    recipe: Recipe {
+        puts: &[Put::Field(Field::Section(2, SectionField::Offset), u64::MAX)],
+        ..OBJECT
+    },
+    spoil: Spoil::Mark,
+    by: ElfError::OutOfFile { section: 2 },
+}];
+
+#[test]
+fn a_section_out_of_the_file_is_refused(rt: HostRuntime) {
+    assert!(rt; are_rows(rt.alloc(), &OUT));
+}
+
 /// What does not fit class 32, and a section 0 that would have bytes where it counts the sections.
-const ROWS: [Row; 3] = [
+static ROWS: [Row; 3] = [
     Row {
         recipe: Recipe {
             form: NARROW,
@@ -172,17 +117,27 @@ const ROWS: [Row; 3] = [
     },
 ];
 
-/// Whether the update of a row is refused.
-fn is_row(alloc: Global, row: &Row) -> bool {
-    let Ok(image) = image_of(alloc, &row.recipe) else {
-        return false;
-    };
-    let Ok(src) = source(alloc, image.bytes, 0) else {
-        return false;
-    };
+/// Whether the update of a row's object over a source is refused.
+fn is_row_over(alloc: Global, row: &Row, src: MemSource) -> bool {
     match Elf::begin(alloc, src) {
         Ok(mut elf) => is_spoilt(&mut elf, row.spoil) && is_refused(&mut elf, row.by),
         Err(_) => false,
+    }
+}
+
+/// A source of the image of a row.
+fn source_of(alloc: Global, row: &Row) -> Option<MemSource> {
+    match image_of(alloc, &row.recipe) {
+        Ok(image) => source(alloc, image.bytes, 0).ok(),
+        Err(_) => None,
+    }
+}
+
+/// Whether that of a row is.
+fn is_row(alloc: Global, row: &Row) -> bool {
+    match source_of(alloc, row) {
+        Some(src) => is_row_over(alloc, row, src),
+        None => false,
     }
 }
 
