@@ -42,7 +42,7 @@ fn rebuild<S: Source>(elf: &mut Elf<S>, nbucket: u32, shape: GnuShape) -> Result
 }
 
 /// The names, and the symbols that they find.
-const NAMES: [(&[u8], Option<u64>); 8] = [
+static NAMES: [(&[u8], Option<u64>); 8] = [
     (b"a", Some(6)),
     (b"printf", Some(7)),
     (b"exit", Some(8)),
@@ -64,7 +64,7 @@ fn are_found<S: Source>(elf: &mut Elf<S>) -> bool {
 }
 
 /// Numbers of buckets and shapes for which the symbols stand in order.
-const SHAPES: [(u32, GnuShape); 4] = [
+static SHAPES: [(u32, GnuShape); 4] = [
     (
         1,
         GnuShape {
@@ -115,8 +115,8 @@ impl Question for Found {
 
 #[test]
 fn each_name_is_found_through_what_is_built(rt: HostRuntime) {
-    assert!(rt; is_answered(rt.alloc(), &Found, WIDE, &SORTED) == Ok(true));
-    assert!(rt; is_answered(rt.alloc(), &Found, NARROW, &SORTED) == Ok(true));
+    assert!(rt; is_answered(rt.alloc(), &Found, WIDE, &SORTED));
+    assert!(rt; is_answered(rt.alloc(), &Found, NARROW, &SORTED));
 }
 
 /// Both are built twice, and the order is asked for.
@@ -138,5 +138,5 @@ const ONCE: u64 = 64 + 5 * 64 + 10 * 24 + 36;
 
 #[test]
 fn the_table_and_its_strings_are_read_once(rt: HostRuntime) {
-    assert!(rt; asked(rt.alloc(), &Twice, WIDE, &SORTED) == Ok(Some(ONCE)));
+    assert!(rt; asked(rt.alloc(), &Twice, WIDE, &SORTED) == Some(ONCE));
 }

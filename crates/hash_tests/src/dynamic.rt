@@ -106,7 +106,9 @@ const REL_ITEMS: &[Rel] = &[
 const TWO_BUCKETS: &[u8] = &[2, 0, 0, 0, 0, 0, 0, 0, 1, 0, 0, 0, 6, 0, 0, 0];
 
 /// The image. Its versions and extended indexes are one more than its symbols.
-pub const DYNAMIC: Recipe = Recipe {
+pub static DYNAMIC: Recipe = IMAGE;
+
+const IMAGE: Recipe = Recipe {
     form: WIDE,
     start: Start::Table(64, 10, 0),
     puts: &[
@@ -124,7 +126,7 @@ pub const DYNAMIC: Recipe = Recipe {
 };
 
 /// Fewer versions than symbols.
-pub const FEW_VERSIONS: Recipe = Recipe {
+pub static FEW_VERSIONS: Recipe = Recipe {
     puts: &[
         Put::Sections(SECTIONS),
         Put::Home(1, Content::Bytes(STRINGS)),
@@ -133,11 +135,11 @@ pub const FEW_VERSIONS: Recipe = Recipe {
         Put::Home(5, Content::Halves(&[0, 1, 2])),
         Put::Home(9, Content::Words(&[1])),
     ],
-    ..DYNAMIC
+    ..IMAGE
 };
 
 /// Fewer extended indexes than symbols.
-pub const FEW_INDEXES: Recipe = Recipe {
+pub static FEW_INDEXES: Recipe = Recipe {
     puts: &[
         Put::Sections(SECTIONS),
         Put::Home(1, Content::Bytes(STRINGS)),
@@ -146,11 +148,11 @@ pub const FEW_INDEXES: Recipe = Recipe {
         Put::Home(5, Content::Halves(&[0, 1, 2, 3, 4])),
         Put::Home(9, Content::Words(&[1])),
     ],
-    ..DYNAMIC
+    ..IMAGE
 };
 
 /// A table of symbols that is no whole number of them.
-pub const RAGGED: Recipe = Recipe {
+pub static RAGGED: Recipe = Recipe {
     puts: &[
         Put::Sections(SECTIONS),
         Put::Home(1, Content::Bytes(STRINGS)),
@@ -158,11 +160,11 @@ pub const RAGGED: Recipe = Recipe {
         Put::Home(4, Content::Bytes(TWO_BUCKETS)),
         Put::Field(Field::Section(2, SectionField::Size), 5 * 24 - 1),
     ],
-    ..DYNAMIC
+    ..IMAGE
 };
 
 /// GNU's hash section lies out of the file, and the table of symbols is ragged.
-pub const OUT: Recipe = Recipe {
+pub static OUT: Recipe = Recipe {
     puts: &[
         Put::Sections(SECTIONS),
         Put::Home(1, Content::Bytes(STRINGS)),
@@ -171,11 +173,11 @@ pub const OUT: Recipe = Recipe {
         Put::Field(Field::Section(2, SectionField::Size), 5 * 24 - 1),
         Put::Field(Field::Section(4, SectionField::Offset), 0x100_0000),
     ],
-    ..DYNAMIC
+    ..IMAGE
 };
 
 /// Relocations that are no whole number of them.
-pub const RAGGED_RELOCATIONS: Recipe = Recipe {
+pub static RAGGED_RELOCATIONS: Recipe = Recipe {
     puts: &[
         Put::Sections(SECTIONS),
         Put::Home(1, Content::Bytes(STRINGS)),
@@ -184,11 +186,11 @@ pub const RAGGED_RELOCATIONS: Recipe = Recipe {
         Put::Home(5, Content::Halves(&[0, 1, 2, 3, 4])),
         Put::Home(6, Content::Bytes(&[0; 25])),
     ],
-    ..DYNAMIC
+    ..IMAGE
 };
 
 /// Both hash sections link to the strings.
-pub const OTHER_LINKS: Recipe = Recipe {
+pub static OTHER_LINKS: Recipe = Recipe {
     puts: &[
         Put::Sections(SECTIONS),
         Put::Home(1, Content::Bytes(STRINGS)),
@@ -196,11 +198,11 @@ pub const OTHER_LINKS: Recipe = Recipe {
         Put::Field(Field::Section(3, SectionField::Link), 1),
         Put::Field(Field::Section(4, SectionField::Link), 1),
     ],
-    ..DYNAMIC
+    ..IMAGE
 };
 
 /// GNU's hash section links to the strings, and that of words to the symbols.
-pub const WORDS_ALONE: Recipe = Recipe {
+pub static WORDS_ALONE: Recipe = Recipe {
     puts: &[
         Put::Sections(SECTIONS),
         Put::Home(1, Content::Bytes(STRINGS)),
@@ -209,5 +211,5 @@ pub const WORDS_ALONE: Recipe = Recipe {
         Put::Home(5, Content::Halves(&[0, 1, 2])),
         Put::Field(Field::Section(4, SectionField::Link), 1),
     ],
-    ..DYNAMIC
+    ..IMAGE
 };

@@ -2,13 +2,13 @@
 //! descriptors over sources that tell their bytes and over those that do not.
 
 use elf_descriptor::Elf;
-use elf_outside::Source;
+use elf_outside::{MemSource, Source};
 use elf_types::constants::{
     SHN_ABS, SHT_GNU_HASH, SHT_HASH, SHT_STRTAB, SHT_SYMTAB, STB_GLOBAL, STB_LOCAL, STB_WEAK,
 };
 use elf_types::{DataId, ElfError, NULL_SECTION, Octets, ScnId, Shdr, Sym};
 use std::alloc::Global;
-use test_images::{Content, Form, Put, Recipe, Start, WIDE, image_in};
+use test_images::{Content, Form, Put, Recipe, Start, WIDE, image_in, image_of};
 use test_sources::{Sparse, source};
 
 /// The section of the symbols.
@@ -126,7 +126,7 @@ const SECTIONS: &[Shdr] = &[
 ];
 
 /// An image with symbols in the order of two buckets.
-pub const SORTED: Recipe = Recipe {
+pub static SORTED: Recipe = Recipe {
     form: WIDE,
     start: Start::Table(64, 5, 0),
     puts: &[
@@ -139,7 +139,7 @@ pub const SORTED: Recipe = Recipe {
 };
 
 /// One with symbols out of it.
-pub const UNSORTED: Recipe = Recipe {
+pub static UNSORTED: Recipe = Recipe {
     form: WIDE,
     start: Start::Table(64, 5, 0),
     puts: &[
@@ -168,57 +168,55 @@ fn is_answered_over<Q: Question, S: Source>(alloc: Global, q: &Q, src: S) -> (S,
     }
 }
 
-/// The bytes of an image in a form.
-fn bytes_in(alloc: Global, form: Form, recipe: &Recipe) -> Result<Octets, ElfError> {
-    Ok(image_in(alloc, form, recipe)?.bytes)
+/// Whether a question is answered over a source of a length that begins with these bytes and does
+/// not tell them.
+fn is_answered_untold<Q: Question>(alloc: Global, q: &Q, bytes: Octets, len: u64) -> bool {
+    is_answered_over(alloc, q, Sparse::new(bytes, len)).1
 }
 
-/// Whether a question is answered over a source of a length that begins with an image and does not
-/// tell its bytes.
-pub fn is_answered_within<Q: Question>(
-    alloc: Global,
-    q: &Q,
-    recipe: &Recipe,
-    len: u64,
-) -> Result<bool, ElfError> {
-    let bytes = bytes_in(alloc, recipe.form, recipe)?;
-    let (_src, answered) = is_answered_over(alloc, q, Sparse::new(bytes, len));
-    Ok(answered)
+/// Whether it is over one that begins with an image.
+pub fn is_answered_within<Q: Question>(alloc: Global, q: &Q, recipe: &Recipe, len: u64) -> bool {
+    match image_of(alloc, recipe) {
+        Ok(image) => is_answered_untold(alloc, q, image.bytes, len),
+        Err(_) => false,
+    }
 }
 
 /// How many bytes of a source in memory were asked for once a question was answered; none where it
 /// was not.
-pub fn asked<Q: Question>(
-    alloc: Global,
-    q: &Q,
-    form: Form,
-    recipe: &Recipe,
-) -> Result<Option<u64>, ElfError> {
-    let bytes = bytes_in(alloc, form, recipe)?;
-    let (src, answered) = is_answered_over(alloc, q, source(alloc, bytes, 0)?);
-    Ok(if answered { Some(src.asked()) } else { None })
+fn asked_of<Q: Question>(alloc: Global, q: &Q, src: MemSource) -> Option<u64> {
+    let (src, answered) = is_answered_over(alloc, q, src);
+    if answered { Some(src.asked()) } else { None }
 }
 
-/// Whether it is answered over a source that does not tell its bytes.
-fn is_answered_untold<Q: Question>(
-    alloc: Global,
-    q: &Q,
-    form: Form,
-    recipe: &Recipe,
-) -> Result<bool, ElfError> {
-    let bytes = bytes_in(alloc, form, recipe)?;
-    let len = bytes.len();
-    let (_src, answered) = is_answered_over(alloc, q, Sparse::new(bytes, len));
-    Ok(answered)
+/// The same of one of these bytes.
+fn asked_in<Q: Question>(alloc: Global, q: &Q, bytes: Octets) -> Option<u64> {
+    match source(alloc, bytes, 0) {
+        Ok(src) => asked_of(alloc, q, src),
+        Err(_) => None,
+    }
+}
+
+/// The same of an image in a form.
+pub fn asked<Q: Question>(alloc: Global, q: &Q, form: Form, recipe: &Recipe) -> Option<u64> {
+    match image_in(alloc, form, recipe) {
+        Ok(image) => asked_in(alloc, q, image.bytes),
+        Err(_) => None,
+    }
+}
+
+/// Whether it is answered over an image in a form, by a source that does not tell its bytes.
+fn is_answered_hidden<Q: Question>(alloc: Global, q: &Q, form: Form, recipe: &Recipe) -> bool {
+    match image_in(alloc, form, recipe) {
+        Ok(image) => {
+            let len = image.bytes.len();
+            is_answered_untold(alloc, q, image.bytes, len)
+        }
+        Err(_) => false,
+    }
 }
 
 /// Whether it is over either.
-pub fn is_answered<Q: Question>(
-    alloc: Global,
-    q: &Q,
-    form: Form,
-    recipe: &Recipe,
-) -> Result<bool, ElfError> {
-    let told = asked(alloc, q, form, recipe)?.is_some();
-    Ok(told && is_answered_untold(alloc, q, form, recipe)?)
+pub fn is_answered<Q: Question>(alloc: Global, q: &Q, form: Form, recipe: &Recipe) -> bool {
+    asked(alloc, q, form, recipe).is_some() && is_answered_hidden(alloc, q, form, recipe)
 }

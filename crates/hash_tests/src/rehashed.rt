@@ -134,7 +134,7 @@ impl Question for Moved {
 /// Two buckets: the symbols are the first one, `hidden`, `a`, `printf` and `b`. The hashes of the
 /// last three are 0x2b606, 0x156b2bb8 and 0x2b607, so that the bloom's word has the bits 6, 7, 24,
 /// 46 and 56.
-const IN_TWO: Moved = Moved {
+static IN_TWO: Moved = Moved {
     words: &[2, 5, 3, 2, 0, 0, 0, 4, 0],
     bytes: &[
         2, 0, 0, 0, 2, 0, 0, 0, 1, 0, 0, 0, 6, 0, 0, 0, 0xc0, 0, 0, 1, 0, 0x40, 0, 1, 2, 0, 0, 0,
@@ -149,7 +149,7 @@ const IN_TWO: Moved = Moved {
 /// In class 32 with the greatest byte first the section begins with 2^25 buckets, which are not
 /// kept: with one bucket the symbols are the first one, `hidden`, `b`, `a` and `printf`, and the
 /// bloom's word has the bits 6, 7, 16, 24 and 29.
-const IN_ONE: Moved = Moved {
+static IN_ONE: Moved = Moved {
     words: &[2, 5, 2, 3, 0, 0, 4, 0, 0],
     bytes: &[
         0, 0, 0, 1, 0, 0, 0, 2, 0, 0, 0, 1, 0, 0, 0, 5, 0x21, 1, 0, 0xc0, 0, 0, 0, 2, 0, 2, 0xb6,
@@ -163,8 +163,8 @@ const IN_ONE: Moved = Moved {
 
 #[test]
 fn what_goes_by_the_symbols_follows_their_order(rt: HostRuntime) {
-    assert!(rt; is_answered(rt.alloc(), &IN_TWO, WIDE, &DYNAMIC) == Ok(true));
-    assert!(rt; is_answered(rt.alloc(), &IN_ONE, NARROW, &DYNAMIC) == Ok(true));
+    assert!(rt; is_answered(rt.alloc(), &IN_TWO, WIDE, &DYNAMIC));
+    assert!(rt; is_answered(rt.alloc(), &IN_ONE, NARROW, &DYNAMIC));
 }
 
 /// Without GNU's section the symbols stay where they are, and nothing else is looked at: the
@@ -182,13 +182,13 @@ impl Question for WordsAlone {
 
 #[test]
 fn a_section_of_words_alone_is_built_without_a_new_order(rt: HostRuntime) {
-    assert!(rt; is_answered(rt.alloc(), &WordsAlone, WIDE, &WORDS_ALONE) == Ok(true));
-    assert!(rt; is_answered(rt.alloc(), &WordsAlone, NARROW, &WORDS_ALONE) == Ok(true));
+    assert!(rt; is_answered(rt.alloc(), &WordsAlone, WIDE, &WORDS_ALONE));
+    assert!(rt; is_answered(rt.alloc(), &WordsAlone, NARROW, &WORDS_ALONE));
 }
 
 /// Beginnings of GNU's hash section that are not kept: too short, no bucket, too many, no bloom
 /// word, 2^31 of them, and a shift of 32.
-const NOT_KEPT: [&[u8]; 7] = [
+static NOT_KEPT: [&[u8]; 7] = [
     &[],
     &[2, 0, 0, 0, 0, 0, 0, 0, 1, 0, 0, 0, 6, 0, 0],
     &[0, 0, 0, 0, 0, 0, 0, 0, 1, 0, 0, 0, 6, 0, 0, 0],
@@ -234,11 +234,11 @@ impl Question for Shaped {
 
 #[test]
 fn a_shape_that_is_too_large_or_none_becomes_the_smallest(rt: HostRuntime) {
-    assert!(rt; is_answered(rt.alloc(), &Shaped(rt.alloc()), WIDE, &DYNAMIC) == Ok(true));
+    assert!(rt; is_answered(rt.alloc(), &Shaped(rt.alloc()), WIDE, &DYNAMIC));
 }
 
 /// Numbers of buckets that are not kept.
-const NO_BUCKETS: [&[u32]; 3] = [&[], &[0, 5], &[0xffff_ffff]];
+static NO_BUCKETS: [&[u32]; 3] = [&[], &[0, 5], &[0xffff_ffff]];
 
 /// Gives the section of words others, and rehashes.
 fn rehash_with_words<S: Source>(
@@ -272,5 +272,5 @@ impl Question for Bucket {
 
 #[test]
 fn too_many_buckets_or_none_become_one(rt: HostRuntime) {
-    assert!(rt; is_answered(rt.alloc(), &Bucket(rt.alloc()), WIDE, &DYNAMIC) == Ok(true));
+    assert!(rt; is_answered(rt.alloc(), &Bucket(rt.alloc()), WIDE, &DYNAMIC));
 }

@@ -58,8 +58,8 @@ impl Question for Built {
 
 #[test]
 fn both_sections_are_built_for_one_symbol(rt: HostRuntime) {
-    assert!(rt; is_answered(rt.alloc(), &Built(WIDE_BYTES), WIDE, &OBJECT) == Ok(true));
-    assert!(rt; is_answered(rt.alloc(), &Built(NARROW_BYTES), NARROW, &OBJECT) == Ok(true));
+    assert!(rt; is_answered(rt.alloc(), &Built(WIDE_BYTES), WIDE, &OBJECT));
+    assert!(rt; is_answered(rt.alloc(), &Built(NARROW_BYTES), NARROW, &OBJECT));
 }
 
 /// Two buckets.
@@ -85,8 +85,8 @@ impl Question for Ordered {
 
 #[test]
 fn symbols_are_ordered_by_bucket(rt: HostRuntime) {
-    assert!(rt; is_answered(rt.alloc(), &Ordered, WIDE, &UNSORTED) == Ok(true));
-    assert!(rt; is_answered(rt.alloc(), &Ordered, NARROW, &UNSORTED) == Ok(true));
+    assert!(rt; is_answered(rt.alloc(), &Ordered, WIDE, &UNSORTED));
+    assert!(rt; is_answered(rt.alloc(), &Ordered, NARROW, &UNSORTED));
 }
 
 /// Chains go up in a section of type `SHT_HASH`, whatever the order of the symbols is: the elf
@@ -103,6 +103,6 @@ impl Question for Chained {
 
 #[test]
 fn chains_of_words_go_up(rt: HostRuntime) {
-    assert!(rt; is_answered(rt.alloc(), &Chained, WIDE, &UNSORTED) == Ok(true));
-    assert!(rt; is_answered(rt.alloc(), &Chained, NARROW, &UNSORTED) == Ok(true));
+    assert!(rt; is_answered(rt.alloc(), &Chained, WIDE, &UNSORTED));
+    assert!(rt; is_answered(rt.alloc(), &Chained, NARROW, &UNSORTED));
 }
