@@ -20,7 +20,7 @@ const PARTS: NoteAt = NoteAt {
 };
 
 /// Places, and the note there.
-const CASES: [(u64, Result<Option<NoteAt>, ElfError>); 5] = [
+static CASES: [(u64, Result<Option<NoteAt>, ElfError>); 5] = [
     (0, Ok(Some(PARTS))),
     (5, Err(ElfError::BadChain { at: 5 })),
     (6, Err(ElfError::BadChain { at: 6 })),
@@ -55,7 +55,7 @@ static NAME_ALONE: [u8; 24] = [
 
 /// The alignment of a section, how many of those bytes it has, and where the descriptor and the
 /// next note begin.
-const ALIGNED: [(u64, usize, u64); 4] = [(1, 24, 20), (8, 24, 24), (8, 20, 20), (4, 17, 17)];
+static ALIGNED: [(u64, usize, u64); 4] = [(1, 24, 20), (8, 24, 24), (8, 20, 20), (4, 17, 17)];
 
 /// Whether they begin there.
 fn begins_at(addralign: u64, bytes: &[u8], place: u64) -> bool {

@@ -31,7 +31,7 @@ const GREATEST: Verdef = Verdef {
 };
 
 /// Places, orders, and the definition there.
-const DEFINITIONS: [(u64, Order, Result<Verdef, ElfError>); 4] = [
+static DEFINITIONS: [(u64, Order, Result<Verdef, ElfError>); 4] = [
     (0, Order::Least, Ok(LEAST)),
     (4, Order::Greatest, Ok(GREATEST)),
     (5, Order::Least, Err(ElfError::BadChain { at: 5 })),

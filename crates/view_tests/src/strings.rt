@@ -7,7 +7,7 @@ use elf_types::{ElfError, ScnId};
 use gelf_view::{bytes, string_in, strptr};
 
 /// Bytes, and the string that they begin with, if they end it.
-const CASES: [(&[u8], Option<&[u8]>); 4] = [
+static CASES: [(&[u8], Option<&[u8]>); 4] = [
     (b"ab\0c\0", Some(b"ab")),
     (b"\0ab", Some(b"")),
     (b"ab", None),
@@ -38,7 +38,7 @@ fn strings_end_before_their_nul(rt: HostRuntime) {
 struct TwoPieces;
 
 /// A section, an offset in it, and the string there or its refusal.
-const PLACES: [(u32, u64, Result<&[u8], ElfError>); 5] = [
+static PLACES: [(u32, u64, Result<&[u8], ElfError>); 5] = [
     (1, 1, Ok(b"a")),
     (1, 4, Err(ElfError::NoString { offset: 4, size: 9 })),
     (1, 8, Err(ElfError::Unended { offset: 8 })),
