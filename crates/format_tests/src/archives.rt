@@ -95,7 +95,7 @@ fn answers<S: Source>(archive: &mut Ar<S>, asked: Asked) -> bool {
     }
 }
 
-/// Whether the archive in memory does, of which the read of a number fails, or none where that is 0.
+/// Whether the archive in memory does, of which the read of a number fails, or none for 0.
 fn library_answers(alloc: Global, bad_read: u64, asked: Asked) -> bool {
     match library(alloc, bad_read) {
         Ok(mut archive) => answers(&mut archive, asked),

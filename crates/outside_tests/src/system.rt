@@ -180,7 +180,7 @@ const DEV: Place = Place::At("/dev");
 /// A device that takes nothing.
 const FULL: Place = Place::At("/dev/full");
 
-/// The last call that failed is kept: one that hands out no file, and one on a file that was closed.
+/// The last call that failed is kept: one that hands out no file, and one on a closed file.
 static FAILURES: [Step; 7] = [
     (DEV, Act::Unsaid),
     (DEV, Act::Visit(Way::Open, Err(OpenFault::Failed))),

@@ -117,7 +117,7 @@ fn empty(alloc: Global, made: Made) -> Elf<NoSource> {
 pub enum Asked {
     /// Whether two sections are written, and in the same way again.
     Two,
-    /// Whether an update that writes nothing stores the places of two sections, and keeps the marks.
+    /// Whether an update that writes nothing stores the places of two sections and keeps marks.
     Places,
     /// Whether section 0 counts the sections in the image.
     Counts,
