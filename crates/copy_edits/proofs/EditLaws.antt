@@ -38,20 +38,20 @@ keeps_section o s c =
     let count = section_count-with_section o s c in
     record { index = refl; count = omega (arith, count) }
 
-keeps_own : (o : Object) (s p : ℕ) (items : Items) → KeepsIndex o (with_own o s p items)
+pub keeps_own : (o : Object) (s p : ℕ) (items : Items) → KeepsIndex o (with_own o s p items)
 unfolding with_own with_piece_at
 keeps_own o s p items = keeps_section o s _
 
-keeps_header : (o : Object) (s : ℕ) (h : Shdr) → KeepsIndex o (with_shdr o s h)
+pub keeps_header : (o : Object) (s : ℕ) (h : Shdr) → KeepsIndex o (with_shdr o s h)
 unfolding with_shdr
 keeps_header o s h = keeps_section o s _
 
-keeps_piece : (o : Object) (s : ℕ) (items : Items) (align : ℕ)
+pub keeps_piece : (o : Object) (s : ℕ) (items : Items) (align : ℕ)
     → KeepsIndex o (with_new_piece o s items align)
 unfolding with_new_piece
 keeps_piece o s items align = keeps_section o s _
 
-keeps_more : (o : Object) → KeepsIndex o (with_new_section o)
+pub keeps_more : (o : Object) → KeepsIndex o (with_new_section o)
 unfolding with_new_section
 keeps_more o =
     let count = length-append o.sections

@@ -4,12 +4,11 @@ use Rattle.std.specs.Prelude.{IfSome, IfOk}
 use Rattle.elf_types.specs.declared.errors.ElfError.{ElfError}
 use Rattle.elf_types.specs.declared.errors.ElfError.TheVariants.{Memory, Read, Write}
 use Rattle.elf_types.specs.Answers.{stated_refusal, answered, or_refused, FollowsBy, ◌>>=◌}
-use Rattle.elf_object.specs.Object.{Object}
 use Rattle.command_objects.specs.Copied.{CopyFault as StatedFault}
 use Rattle.copy_changes.specs.declared.faults.CopyFault.{CopyFault}
 use Rattle.copy_changes.specs.declared.faults.CopyFault.TheVariants as faults
 use Rattle.copy_changes.specs.Stated.{stated_fault, strip_fault, IsFault, IsUnread}
-use Rattle.copy_edits.specs.Steps.{IsThere, IsFaultIf, IsNumber}
+use Rattle.copy_edits.specs.Steps.{IsFaultIf, IsNumber}
 
 -- ---- A fault that is passed on
 
@@ -84,9 +83,10 @@ number_unread (Some s) name r is =
 number_unread None name (Ok s) is = tt
 number_unread None name (Err f) is = fault_unread ℕ (StatedFault.NoSection name) f is
 
-pub number_there : (o : Object) (number : Option ℕ) (name : List ℕ) (r : Result ℕ CopyFault)
-    → IsNumber number name r → IfSome number (IsThere o) → IfOk r (IsThere o)
-number_there o (Some s) name r is there =
-    subst (λ (q : Result ℕ CopyFault). IfOk q (IsThere o)) (sym is) there
-number_there o None name (Ok s) is there = absurd is
-number_there o None name (Err f) is there = tt
+-- what holds of it
+pub number_there : (P : ℕ → Type 0) (number : Option ℕ) (name : List ℕ) (r : Result ℕ CopyFault)
+    → IsNumber number name r → IfSome number P → IfOk r P
+number_there P (Some s) name r is there =
+    subst (λ (q : Result ℕ CopyFault). IfOk q P) (sym is) there
+number_there P None name (Ok s) is there = absurd is
+number_there P None name (Err f) is there = tt

@@ -49,12 +49,12 @@ module _ (o : Object) (s : ℕ) (name : List ℕ) (bits : ℕ) where
 
 -- ---- The strings of a section, whatever its flags are
 
-abbrev over_in : Class → Order → Section → ℕ → Option Block
+abbrev pub over_in : Class → Order → Section → ℕ → Option Block
 over_in class order c offset =
     slice_get (filter (λ b. block_covers b offset) (stacked 0 (aligned_pieces class order c))) 0
 
 -- of an object with so many sections
-abbrev string_in_section : ℕ → Class → Order → ℕ → ℕ → Section → Result (List ℕ) ElfError
+abbrev pub string_in_section : ℕ → Class → Order → ℕ → ℕ → Section → Result (List ℕ) ElfError
 string_in_section count class order k offset c =
     answered
     (first_refusal
@@ -75,7 +75,7 @@ string_in_section count class order k offset c =
       | Some b ↦ string_at b.bytes (offset - b.at)
     ])
 
-string_as : (o : Object) (k offset : ℕ)
+pub string_as : (o : Object) (k offset : ℕ)
     → string_answer o k offset
     ≡ string_in_section (length o.sections) o.header.class o.header.order k offset (section_at o k)
 unfolding string_answer string_refusal string_refusal_unread piece_over pieces_end piece_blocks

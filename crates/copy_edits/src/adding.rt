@@ -17,8 +17,10 @@ use elf_xlate::Items;
 use std::alloc::Global;
 
 /// The header of a section that is added: data of a program without flags, at any place.
+///
+/// Source: objcopy(1) of the development tools, `--add-section`.
 #[tactic(auto, unfolding(elf_ident::specs::Front::zero_shdr))]
-fn added_header() -> Shdr
+pub fn added_header() -> Shdr
     ensures { result ≡ added_header }
 {
     Shdr {

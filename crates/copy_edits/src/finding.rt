@@ -92,8 +92,9 @@ fn find_number<S: Source>(
     Ok(None)
 }
 
-/// The number of a section, and the fault that no section has a name where there is none.
-fn or_no_section(alloc: Global, number: Option<u32>, name: &Octets) -> Result<u32, CopyFault>
+/// The number of a section, and where there is none the fault that no section has a name, or want
+/// of memory for a copy of that.
+pub fn or_no_section(alloc: Global, number: Option<u32>, name: &Octets) -> Result<u32, CopyFault>
     ensures { IsNumber number name.now result }
 {
     match number {

@@ -33,7 +33,9 @@ fn with_bits(h: Shdr, bits: u64) -> Shdr
 }
 
 /// Whether other flags would change whether a header's section is allocated.
-fn changes_allocation(h: Shdr, bits: u64) -> bool
+///
+/// Source: gABI chapter 4, "Sections", SHF_ALLOC.
+pub fn changes_allocation(h: Shdr, bits: u64) -> bool
     ensures { result ≡ differ (is_allocated h) (is_allocated (with_bits bits h)) }
 {
     let now = is_allocated(&h);

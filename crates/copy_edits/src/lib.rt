@@ -10,8 +10,8 @@ mod flags;
 mod renaming;
 mod updating;
 
-pub use adding::add_sections;
-pub use finding::{mark_of, new_name};
-pub use flags::flag_sections;
-pub use renaming::rename_sections;
+pub use adding::{add_sections, added_header};
+pub use finding::{mark_of, new_name, or_no_section};
+pub use flags::{changes_allocation, flag_sections};
+pub use renaming::{no_marks, rename_sections, set_mark};
 pub use updating::update_sections;

@@ -17,7 +17,7 @@ use elf_types::{ElfError, List};
 use std::alloc::Global;
 
 /// As many marks as there are sections, each 0. It refuses `Memory` alone.
-fn no_marks(alloc: Global, count: u32) -> Result<List<u64>, ElfError>
+pub fn no_marks(alloc: Global, count: u32) -> Result<List<u64>, ElfError>
     ensures ok { IfOk result (λ marks. marks ≡ replicate count 0) }
     ensures err { IfErr result (λ e. e ≡ Memory) }
 {
@@ -26,7 +26,7 @@ fn no_marks(alloc: Global, count: u32) -> Result<List<u64>, ElfError>
 }
 
 /// Gives a section that is there a mark.
-fn set_mark(marks: &mut List<u64>, s: u32, mark: u64)
+pub fn set_mark(marks: &mut List<u64>, s: u32, mark: u64)
     requires { s < length marks.old }
     ensures { marks.new ≡ slice_set marks.old s mark }
 {

@@ -171,7 +171,7 @@ module _ (places : List ℕ) (o now : Object) (s : ℕ) (so_far : PutBelow place
 -- ---- The table
 
 -- in a section without data nothing is replaced
-unpieced : (o : Object) (s : ℕ) (own : Items) → length (section_at o s).pieces ≤ 0
+pub unpieced : (o : Object) (s : ℕ) (own : Items) → length (section_at o s).pieces ≤ 0
     → with_own o s 0 own ≡ o
 unfolding with_own with_piece_at with_section section_at
 unpieced o s own none =
@@ -302,7 +302,7 @@ own_kept o s own =
       pieces = slice_set (section_at o s).pieces 0 (own_piece own (piece_at o s 0).align);
     })
 
-keeps_table : (o : Object) (names : NewNames) → KeepsIndex o (with_table o names)
+pub keeps_table : (o : Object) (names : NewNames) → KeepsIndex o (with_table o names)
 unfolding with_table
 keeps_table o names =
     keeps_both o (with_places o names.places) (with_table o names) (places_kept o names.places)

@@ -50,7 +50,7 @@ fn place_sections<S: Source>(
 
 /// Adds the names of sections that are to come, and answers whether the table is not too large. It
 /// refuses `Memory` alone.
-fn place_added(adds: &[NameBytes], making: &mut Making) -> Result<bool, ElfError>
+pub fn place_added(adds: &[NameBytes], making: &mut Making) -> Result<bool, ElfError>
     requires { list_all (λ n. is_section_name n.name) adds.now ≡ true }
     ensures added { (texts : Seq (Seq ℕ)) (n : ℕ)
         → drop n texts ≡ map (λ a. a.name) adds.now
@@ -101,7 +101,7 @@ fn place_all<S: Source>(
 
 /// A table in the making without names, and the place of section 0, which has none. It refuses
 /// `Memory` alone.
-fn begin(alloc: Global) -> Result<Making, ElfError>
+pub fn begin_table(alloc: Global) -> Result<Making, ElfError>
     ensures begun { IfOk result (λ making. (making.strings ≡ []) × (making.places ≡ 0 ∷ [])) }
     ensures err { IfErr result (λ e. e ≡ Memory) }
 {
@@ -129,8 +129,9 @@ fn finish_table(making: Making) -> Result<Naming, ElfError>
     }
 }
 
-/// The same where the table is not too large.
-fn finish(making: Making, fits: bool) -> Result<Naming, ElfError>
+/// What becomes of names that were added: they stand in the table, or that is too large. It refuses
+/// `Memory` alone.
+pub fn finish_names(making: Making, fits: bool) -> Result<Naming, ElfError>
     ensures built { (texts : Seq (Seq ℕ))
         → AddsTo texts making.strings making.places (length texts) fits
         → IfOk result (IsBuilt texts) }
@@ -154,12 +155,12 @@ fn build_table<S: Source>(
     ensures built { IfOk result (IsBuilt (all_texts elf.old.o marks.now changes.now)) }
     ensures reads { ReadsNames S.Source result elf.old elf.new }
 {
-    let mut making = match begin(alloc) {
+    let mut making = match begin_table(alloc) {
         Ok(making) => making,
         Err(e) => return Err(e),
     };
     match place_all(elf, marks, changes, &mut making) {
-        Ok(fits) => finish(making, fits),
+        Ok(fits) => finish_names(making, fits),
         Err(e) => Err(e),
     }
 }
@@ -172,7 +173,7 @@ fn holds_none(list: &List<NameBytes>) -> bool
 }
 
 /// Whether names change: sections are renamed or added.
-fn changes_names(changes: &Changes) -> bool
+pub fn changes_names(changes: &Changes) -> bool
     ensures { result ≡ changes_names (stated_changes changes.now) }
 {
     !(holds_none(&changes.rename) && holds_none(&changes.add))

@@ -7,6 +7,7 @@ mod naming;
 mod placing;
 mod storing;
 
-pub use building::plan_names;
+pub use building::{begin_table, changes_names, finish_names, place_added, plan_names};
 pub use naming::Naming;
-pub use storing::store_names;
+pub use placing::{Making, place_found, place_text};
+pub use storing::{place_at, store_names};

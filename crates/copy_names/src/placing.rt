@@ -19,11 +19,11 @@ use strtab_build::Strings;
 
 /// A table of names in the making.
 #[derive(Drop)]
-pub(crate) struct Making {
+pub struct Making {
     /// The names.
-    pub(crate) strings: Strings,
-    /// The place of the name of each section so far.
-    pub(crate) places: Words,
+    pub strings: Strings,
+    /// The place of the name of each section so far, in bytes.
+    pub places: Words,
 }
 
 /// Appends a place. It refuses `Memory` alone.
@@ -51,7 +51,7 @@ fn false_if_large(e: ElfError) -> Result<bool, ElfError>
 
 /// Adds a name to a table, appends its place to the others, and answers whether the table is not
 /// too large. It refuses `Memory` alone.
-pub(crate) fn place_text(making: &mut Making, name: &[u8]) -> Result<bool, ElfError>
+pub fn place_text(making: &mut Making, name: &[u8]) -> Result<bool, ElfError>
     requires { All (λ b. b ≢ 0) name.now }
     ensures placed { IfOk result (λ fits. IsAddedAt making.old.strings making.new.strings
         making.old.places making.new.places name.now fits) }
@@ -64,7 +64,7 @@ pub(crate) fn place_text(making: &mut Making, name: &[u8]) -> Result<bool, ElfEr
 }
 
 /// The same of a name that was found, and of the empty one where there is none.
-fn place_found(making: &mut Making, name: Option<&[u8]>) -> Result<bool, ElfError>
+pub fn place_found(making: &mut Making, name: Option<&[u8]>) -> Result<bool, ElfError>
     requires { All (λ b. b ≢ 0) (strings.or_empty_name (option_copied name)) }
     ensures placed { IfOk result (λ fits. IsAddedAt making.old.strings making.new.strings
         making.old.places making.new.places

@@ -17,8 +17,8 @@ use elf_types::{DataId, ElfError, Octets, ScnId, Shdr, Words};
 use elf_xlate::Items;
 use strip_names::NewNames;
 
-/// The place of a section's name, and 0 where none is told.
-fn place_at(places: &Words, s: u32) -> u32
+/// The place of a section's name in a table, in bytes, and 0 where none is told.
+pub fn place_at(places: &Words, s: u32) -> u32
     ensures { result ≡ unwrap_or (slice_get places.now s) 0 }
 {
     places.get(u64::from(s)).unwrap_or(0)

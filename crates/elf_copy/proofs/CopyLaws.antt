@@ -31,7 +31,7 @@ use Rattle.elf_copy.proofs.FinishLaws.{rebuilt_usable}
 -- ---- What was asked for
 
 -- an answer in which nothing was read
-unread_rose : {T : Type 0} (r : Result T CopyFault) (a b : ℕ) → IsUnread r
+pub unread_rose : {T : Type 0} (r : Result T CopyFault) (a b : ℕ) → IsUnread r
     → ReadRose (outer_result r) a b
 unread_rose (Ok x) a b unread = tt
 unread_rose (Err (faults.Strip Read)) a b unread = absurd unread
@@ -124,13 +124,14 @@ module _ {S : Type 0} (g : Ghosts S) (c : Changes) (removed : List ℕ) (old mid
 
 -- ---- What is removed
 
-removable_by_name : (names : List (List ℕ)) (o : Object) → IsRemovable o (removed_by_name names o)
+pub removable_by_name : (names : List (List ℕ)) (o : Object)
+    → IsRemovable o (removed_by_name names o)
 unfolding removed_by_name
 removable_by_name names o =
     are_removable o false (with_found o (λ before s. is_named names o s) [])
     (Ok (with_followers o false (with_found o (λ before s. is_named names o s) []))) refl
 
-ok_same : {A : Type 0} (a b : A) → ◌≡◌ {A = Result A ElfError} (Ok a) (Ok b) → a ≡ b
+pub ok_same : {A : Type 0} (a b : A) → ◌≡◌ {A = Result A ElfError} (Ok a) (Ok b) → a ≡ b
 ok_same a b is = cc
 
 copied_is : (c : Changes) (o : Object)
@@ -178,7 +179,7 @@ module _ {S : Type 0} (g : Ghosts S) (c : Changes) (old mid new : State S) where
 
 -- the names could not be read
 module _ {S : Type 0} (g : Ghosts S) (c : Changes) (old mid : State S) where
-  outer_only : (e : ElfError) (told : Bool) (w : Wants) (x : List ℕ)
+  pub outer_only : (e : ElfError) (told : Bool) (w : Wants) (x : List ℕ)
       → Answers told w (Err e) (Ok x) → (e ≡ Memory) ⊎ (e ≡ Read)
   outer_only Memory told w x is = inl refl
   outer_only Read told w x is = inr refl

@@ -1,6 +1,7 @@
 use Rattle.std.proofs.Common.{arith}
 use Rattle.elf_object.specs.Object.{Object}
 use Rattle.copy_edits.specs.Names.{names_now}
+use Rattle.copy_edits.specs.Steps.{IsThere}
 use Rattle.copy_edits.proofs.FaultLaws.{number_there}
 use Rattle.copy_edits.proofs.FindLaws.{found_number, found_end}
 use Rattle.copy_edits.proofs.finding.find_section.Goals as goal
@@ -13,7 +14,7 @@ returns-in-Ok-clause-finds c =
 
 pub returns-in-Ok-clause-there : goal.returns-in-Ok-clause-there
 returns-in-Ok-clause-there c =
-    number_there c.args.elf.now.o c.in-Ok.number c.args.name.now c.or_no_section.result
+    number_there (IsThere c.args.elf.now.o) c.in-Ok.number c.args.name.now c.or_no_section.result
     c.or_no_section.ensures c.in-Ok.ensures.there
 
 pub returns-in-Err-clause-finds : goal.returns-in-Err-clause-finds

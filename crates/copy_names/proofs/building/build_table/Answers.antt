@@ -15,14 +15,14 @@ returns-in-Err-clause-reads g c =
 
 pub returns-in-Ok-place_all-clause-built : goal.returns-in-Ok-place_all-clause-built
 returns-in-Ok-place_all-clause-built g c =
-    c.finish.ensures.built
+    c.finish_names.ensures.built
     (all_texts c.args.elf.now.o c.args.marks.now c.args.changes.now)
     c.in-Ok-place_all.ensures.added
 
 pub returns-in-Ok-place_all-clause-reads : goal.returns-in-Ok-place_all-clause-reads
 returns-in-Ok-place_all-clause-reads g c =
-    names_push g.S.Source c.in-Ok-place_all.fits c.finish.result c.args.elf.now
-    c.place_all.new.elf c.finish.ensures.err c.in-Ok-place_all.ensures.reads
+    names_push g.S.Source c.in-Ok-place_all.fits c.finish_names.result c.args.elf.now
+    c.place_all.new.elf c.finish_names.ensures.err c.in-Ok-place_all.ensures.reads
 
 pub returns-in-Err-place_all-clause-reads : goal.returns-in-Err-place_all-clause-reads
 returns-in-Err-place_all-clause-reads g c =

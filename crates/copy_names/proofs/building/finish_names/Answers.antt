@@ -1,6 +1,6 @@
 use Rattle.std.proofs.Common.{Bool, length, subst}
 use Rattle.copy_names.specs.Texts.{AddsTo}
-use Rattle.copy_names.proofs.building.finish.Goals as goal
+use Rattle.copy_names.proofs.building.finish_names.Goals as goal
 
 pub returns-then-fits-clause-built : goal.returns-then-fits-clause-built
 returns-then-fits-clause-built c = λ texts adds.
