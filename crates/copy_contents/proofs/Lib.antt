@@ -1,0 +1,17 @@
+pub mod RowLaws
+pub mod PushLaws
+pub mod TurnLaws
+pub mod NameLaws
+pub mod FindLaws
+pub mod EditLaws
+pub mod UpdateLaws
+pub mod RenameLaws
+pub mod NamingLaws
+pub mod AddLaws
+pub mod StoreLaws
+pub mod ChangeLaws
+pub mod ArrangeLaws
+pub mod EndLaws
+pub mod BeginLaws
+pub mod HoldLaws
+pub mod PlanLaws

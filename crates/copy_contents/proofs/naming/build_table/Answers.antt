@@ -1,0 +1,13 @@
+use Rattle.copy_names.specs.Texts.{all_texts}
+use Rattle.copy_contents.proofs.naming.build_table.Goals as goal
+
+pub place_all-requires-clause-strings : goal.place_all-requires-clause-strings
+place_all-requires-clause-strings c = c.in-Ok.ensures.begun.0
+
+pub place_all-requires-clause-places : goal.place_all-requires-clause-places
+place_all-requires-clause-places c = c.in-Ok.ensures.begun.1
+
+pub returns-in-Ok-place_all-clause-built : goal.returns-in-Ok-place_all-clause-built
+returns-in-Ok-place_all-clause-built c = λ o p is.
+    c.finish_names.ensures.built (all_texts p c.args.marks.now c.args.changes.now)
+    (c.in-Ok-place_all.ensures.added o p is)

@@ -1,0 +1,31 @@
+use Rattle.std.proofs.Common.{◌≢◌, ℕ, List, All, sym, ap, ◌∙◌, subst}
+use Rattle.copy_edits.specs.Names.{new_name}
+use Rattle.copy_names.proofs.PlaceLaws.{plain_new}
+use Rattle.copy_contents.proofs.NamingLaws.{front_plain_as, new_placed, old_placed}
+use Rattle.copy_contents.proofs.naming.place_section.Goals as goal
+
+pub place_text-requires : goal.place_text-requires
+place_text-requires c =
+    subst (λ (l : List ℕ). All (λ b. b ≢ 0) l) (sym c.as_slice.ensures)
+    (plain_new c.args.changes.now.rename c.mark_of.result c.in-Some.name.now
+    c.requires.rename c.in-Some.ensures)
+
+pub returns-in-Some-clause-placed : goal.returns-in-Some-clause-placed
+returns-in-Some-clause-placed c = λ o p is has below.
+    new_placed c.args.x.now c.args.marks.now c.args.changes.now.rename c.args.s
+    c.args.making.now.strings c.place_text.new.making.strings c.args.making.now.places
+    c.place_text.new.making.places c.place_text.result c.in-Some.name.now _ c.as_slice.ensures
+    (c.in-Some.ensures ∙ ap (new_name c.args.changes.now.rename) c.mark_of.ensures)
+    c.place_text.ensures.placed p
+
+pub place_found-requires : goal.place_found-requires
+place_found-requires c = front_plain_as _ _ c.name_at.ensures
+
+pub returns-in-None-clause-placed : goal.returns-in-None-clause-placed
+returns-in-None-clause-placed c = λ o p is has below.
+    old_placed c.args.x.now c.args.marks.now c.args.changes.now.rename c.args.s
+    c.args.making.now.strings c.place_found.new.making.strings c.args.making.now.places
+    c.place_found.new.making.places c.place_found.result c.args.table.now _ _
+    (c.in-None.ensures ∙ ap (new_name c.args.changes.now.rename) c.mark_of.ensures)
+    (ap (λ h. h.name) c.header_of.ensures) c.name_at.ensures c.place_found.ensures.placed o p is
+    has below

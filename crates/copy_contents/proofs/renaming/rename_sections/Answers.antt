@@ -1,0 +1,29 @@
+use Rattle.std.proofs.Common.{ℕ, List}
+use Rattle.copy_edits.proofs.FaultLaws.{memory_unread, unread_on}
+use Rattle.copy_edits.proofs.RenameLaws.{marks_given, marks_end, marks_wanted}
+use Rattle.copy_contents.specs.Steps.{known}
+use Rattle.copy_contents.proofs.renaming.rename_sections.Goals as goal
+
+pub fill_marks-requires : goal.fill_marks-requires
+fill_marks-requires c = c.in-Ok.ensures.ok
+
+pub returns-in-Err-clause-renames : goal.returns-in-Err-clause-renames
+returns-in-Err-clause-renames c = λ o p is.
+    marks_wanted c.args.renames.now (known p) _ c.in-Err.e c.in-Err.ensures.err
+
+pub returns-in-Err-clause-unread : goal.returns-in-Err-clause-unread
+returns-in-Err-clause-unread c = memory_unread (List ℕ) c.in-Err.e c.in-Err.ensures.err
+
+pub returns-in-Ok-fill_marks-clause-renames : goal.returns-in-Ok-fill_marks-clause-renames
+returns-in-Ok-fill_marks-clause-renames c = λ o p is.
+    marks_given c.args.renames.now (known p) (known p) c.fill_marks.new.marks _
+    (c.in-Ok-fill_marks.ensures.renames o p is)
+
+pub returns-in-Err-fill_marks-clause-renames : goal.returns-in-Err-fill_marks-clause-renames
+returns-in-Err-fill_marks-clause-renames c = λ o p is.
+    marks_end c.args.renames.now (known p) (known p) c.fill_marks.new.marks _
+    c.in-Err-fill_marks.fault (c.in-Err-fill_marks.ensures.renames o p is)
+
+pub returns-in-Err-fill_marks-clause-unread : goal.returns-in-Err-fill_marks-clause-unread
+returns-in-Err-fill_marks-clause-unread c =
+    unread_on (Unit {0}) (List ℕ) c.in-Err-fill_marks.fault c.in-Err-fill_marks.ensures.unread

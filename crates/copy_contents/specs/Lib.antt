@@ -1,0 +1,5 @@
+pub mod Rows
+pub mod Edits
+pub mod Arranging
+pub mod Steps
+pub mod Plans

@@ -1,0 +1,111 @@
+//! The changes of an image that was gathered, from the last one back.
+
+ghost use Rattle.std.specs.Prelude.{◌≡◌, Err};
+ghost use Rattle.command_objects.specs.Copied.{with_changes};
+ghost use Rattle.copy_changes.specs.Stated.{HasPlainNames, stated_changes};
+ghost use Rattle.copy_edits.specs.Names.{names_now};
+ghost use Rattle.copy_names.specs.Stores.{HasTable};
+ghost use Rattle.elf_copy.specs.Copies.{added_named, flagged_named, after_names, after_updates, IsUsable};
+ghost use Rattle.copy_contents.specs.Steps.{AltersContents, IsUsableIf};
+
+use crate::adding::add_sections;
+use crate::flags::flag_sections;
+use crate::naming::plan_names;
+use crate::renaming::rename_sections;
+use crate::storing::store_names;
+use crate::updating::update_sections;
+use copy_changes::{Changes, CopyFault};
+use copy_names::Naming;
+use elf_types::List;
+use std::alloc::Global;
+use strip_contents::Arranged;
+
+/// A fault in place of names, which are dropped.
+fn refuse_names(_naming: Naming, fault: CopyFault) -> Result<(), CopyFault>
+    ensures { result ≡ Err fault }
+{
+    Err(fault)
+}
+
+/// Adds sections, and then stores what becomes of the names.
+fn add_and_name(x: &mut Arranged, changes: &Changes, naming: Naming) -> Result<(), CopyFault>
+    ensures { AltersContents (HasTable naming) (added_named (stated_changes changes.now) naming)
+        result x.old x.new }
+{
+    match add_sections(x, changes.add.as_slice()) {
+        Ok(()) => store_names(x, naming),
+        Err(fault) => refuse_names(naming, fault),
+    }
+}
+
+/// Gives sections other flags before that.
+fn flag_and_add(
+    alloc: Global,
+    x: &mut Arranged,
+    marks: &List<u64>,
+    changes: &Changes,
+    naming: Naming,
+) -> Result<(), CopyFault>
+    ensures { AltersContents (HasTable naming) (λ p. flagged_named (stated_changes changes.now)
+        (names_now p marks.now changes.now.rename) naming p) result x.old x.new }
+{
+    match flag_sections(alloc, x, marks, &changes.rename, changes.flags.as_slice()) {
+        Ok(()) => add_and_name(x, changes, naming),
+        Err(fault) => refuse_names(naming, fault),
+    }
+}
+
+/// Works out before that what becomes of the names, which are those by the marks.
+fn plan_and_flag(
+    alloc: Global,
+    x: &mut Arranged,
+    marks: &List<u64>,
+    changes: &Changes,
+    renewed: bool,
+) -> Result<(), CopyFault>
+    requires plain { HasPlainNames changes.now }
+    ensures { AltersContents (IsUsableIf renewed) (λ p. after_names (stated_changes changes.now)
+        renewed p (names_now p marks.now changes.now.rename)) result x.old x.new }
+{
+    match plan_names(alloc, x, marks, changes, renewed) {
+        Ok(naming) => flag_and_add(alloc, x, marks, changes, naming),
+        Err(e) => Err(CopyFault::Strip(e)),
+    }
+}
+
+/// Gives sections other names before that.
+fn rename_and_plan(
+    alloc: Global,
+    x: &mut Arranged,
+    changes: &Changes,
+    renewed: bool,
+) -> Result<(), CopyFault>
+    requires plain { HasPlainNames changes.now }
+    ensures { AltersContents (IsUsableIf renewed)
+        (after_updates (stated_changes changes.now) renewed) result x.old x.new }
+{
+    match rename_sections(alloc, x, &changes.rename) {
+        Ok(marks) => plan_and_flag(alloc, x, &marks, changes, renewed),
+        Err(fault) => Err(fault),
+    }
+}
+
+/// Makes all changes of an image that was gathered, whose string index is usable. `renewed` says
+/// whether it has a table of its own for the names of its sections. It refuses as
+/// `update_sections`, `rename_sections`, `flag_sections`, `add_sections` and `store_names`, in this
+/// order; and want of memory. What a refusal leaves is not stated.
+pub(crate) fn make_changes(
+    alloc: Global,
+    x: &mut Arranged,
+    changes: &Changes,
+    renewed: bool,
+) -> Result<(), CopyFault>
+    requires plain { HasPlainNames changes.now }
+    ensures { AltersContents (IsUsableIf renewed)
+        (with_changes (stated_changes changes.now) renewed) result x.old x.new }
+{
+    match update_sections(alloc, x, changes.update.as_slice()) {
+        Ok(()) => rename_and_plan(alloc, x, changes, renewed),
+        Err(fault) => Err(fault),
+    }
+}

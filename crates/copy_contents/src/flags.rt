@@ -1,0 +1,118 @@
+//! Sections get other flags.
+
+ghost use Rattle.std.specs.Prelude.{◌≡◌, ◌==◌, ◌&&◌, not, map};
+ghost use Rattle.elf_object.specs.Object.{Object};
+ghost use Rattle.elf_object.specs.Calls as calls;
+ghost use Rattle.command_objects.specs.Words.{is_allocated, header_at, edited, in_turn};
+ghost use Rattle.command_objects.specs.Copied.{or_strip, differ, with_bits, flags_fault, with_section_flags};
+ghost use Rattle.copy_changes.specs.Stated.{bits_pair};
+ghost use Rattle.copy_edits.specs.Names.{names_now};
+ghost use Rattle.copy_edits.specs.Edits.{flagged_at};
+ghost use Rattle.copy_edits.specs.Steps.{IsThere, IsFaultIf};
+ghost use Rattle.copy_contents.specs.Rows.{Origin, IsContents, header_in};
+ghost use Rattle.copy_contents.specs.Steps.{always, AltersContents, AltersAt, IsFaultUnread};
+
+use crate::edits::set_header;
+use crate::finding::find_section;
+use crate::rows::header_of;
+use copy_changes::{CopyFault, NameBits, NameBytes, fault_fixed};
+use copy_edits::changes_allocation;
+use elf_types::{ElfError, List, Part, Shdr};
+use elf_xlate::shdr_fits;
+use std::alloc::Global;
+use strip_contents::Arranged;
+
+/// Whether other flags would load a section of a program, or load it no more.
+fn changes_loading(x: &Arranged, s: u32, bits: u64) -> bool
+    ensures { result ≡ (not (x.now.listed.header.phnum == 0)
+        && differ (is_allocated (header_in x.now s))
+        (is_allocated (with_bits bits (header_in x.now s)))) }
+{
+    x.listed.header.phnum != 0 && changes_allocation(header_of(x, s), bits)
+}
+
+/// Why a section that is there does not get other flags, if it does not.
+fn flags_fault(alloc: Global, x: &Arranged, s: u32, change: &NameBits) -> Option<CopyFault>
+    ensures fault { (o : Origin) (p : Object) → IsContents o p x.now → IsThere p s
+        → IsFaultIf (flags_fault p s change.now.name change.now.bits) result }
+    ensures unread { IsFaultUnread result }
+{
+    if changes_loading(x, s, change.bits) {
+        return Some(fault_fixed(alloc, &change.name));
+    }
+    None
+}
+
+/// Stores other flags of a section that is there.
+fn put_flags(x: &mut Arranged, s: u32, bits: u64) -> Result<(), CopyFault>
+    ensures { AltersAt s always
+        (λ p. or_strip (edited (calls.update_shdr s (with_bits bits (header_at p s))) p))
+        result x.old x.new }
+{
+    let h = Shdr {
+        flags: bits,
+        ..header_of(x, s)
+    };
+    if !shdr_fits(&h, x.listed.header.class) {
+        return Err(CopyFault::Strip(ElfError::Unfit {
+            part: Part::Section(s),
+            index: 0,
+        }));
+    }
+    set_header(&mut x.listed.headers, s, h);
+    Ok(())
+}
+
+/// Gives a section that is there other flags.
+fn flag_at(alloc: Global, x: &mut Arranged, s: u32, change: &NameBits) -> Result<(), CopyFault>
+    ensures { AltersAt s always (λ p. flagged_at p s change.now.name change.now.bits)
+        result x.old x.new }
+{
+    match flags_fault(alloc, x, s, change) {
+        None => put_flags(x, s, change.bits),
+        Some(fault) => Err(fault),
+    }
+}
+
+/// Gives the first section of a name other flags.
+fn flag_section(
+    alloc: Global,
+    x: &mut Arranged,
+    marks: &List<u64>,
+    renames: &List<NameBytes>,
+    change: &NameBits,
+) -> Result<(), CopyFault>
+    ensures { AltersContents always
+        (λ p. with_section_flags (names_now p marks.now renames.now) p (bits_pair change.now))
+        result x.old x.new }
+{
+    match find_section(alloc, x, marks, renames, &change.name) {
+        Ok(s) => flag_at(alloc, x, s, change),
+        Err(fault) => Err(fault),
+    }
+}
+
+/// Gives the first section of each name, in turn, the flags that stand beside it; names are those
+/// by the marks of `rename_sections`. It refuses, for each, in this order: `NoSection`, `Fixed`,
+/// `Unfit`; and want of memory. What a refusal leaves is not stated.
+///
+/// Source: objcopy(1) of the development tools, `--set-section-flags`.
+pub(crate) fn flag_sections(
+    alloc: Global,
+    x: &mut Arranged,
+    marks: &List<u64>,
+    renames: &List<NameBytes>,
+    changes: &[NameBits],
+) -> Result<(), CopyFault>
+    ensures { AltersContents always
+        (λ p. in_turn (with_section_flags (names_now p marks.now renames.now)) p
+        (map bits_pair changes.now)) result x.old x.new }
+{
+    for change in changes {
+        match flag_section(alloc, x, marks, renames, change) {
+            Ok(()) => {}
+            Err(fault) => return Err(fault),
+        }
+    }
+    Ok(())
+}

@@ -1,0 +1,155 @@
+//! What becomes of the names.
+
+ghost use Rattle.std.specs.Prelude.{◌≡◌, ◌<◌, ◌-◌, ◌∷◌, [], length, IfOk, IfErr};
+ghost use Rattle.elf_types.specs.declared.errors.ElfError.TheVariants.{Memory};
+ghost use Rattle.elf_object.specs.Object.{Object};
+ghost use Rattle.elf_object.specs.Strings.{or_empty_name};
+ghost use Rattle.command_objects.specs.Copied.{changes_names};
+ghost use Rattle.strip_names.specs.Names.{IsAddedAt};
+ghost use Rattle.copy_changes.specs.Stated.{HasPlainNames, stated_changes};
+ghost use Rattle.copy_edits.specs.Names.{name_now};
+ghost use Rattle.copy_names.specs.Texts.{all_texts, AddsTo};
+ghost use Rattle.copy_names.specs.Stores.{IsBuilt, IsNaming};
+ghost use Rattle.copy_contents.specs.Rows.{Origin, IsContents, HasNamesIn};
+
+use crate::rows::header_of;
+use crate::tables::{name_at, table_of};
+use copy_changes::Changes;
+use copy_edits::{mark_of, new_name};
+use copy_names::{
+    Making, Naming, begin_table, changes_names, finish_names, place_added, place_found, place_text,
+};
+use elf_types::{ElfError, List};
+use std::alloc::Global;
+use strip_contents::Arranged;
+
+/// Adds the name that a section has by now to a table in the making, appends its place to the
+/// others, and answers whether the table is not too large. It refuses `Memory` alone.
+fn place_section(
+    x: &Arranged,
+    table: &[u8],
+    s: u32,
+    marks: &List<u64>,
+    changes: &Changes,
+    making: &mut Making,
+) -> Result<bool, ElfError>
+    requires { HasPlainNames changes.now }
+    ensures placed { (o : Origin) (p : Object) → IsContents o p x.now → HasNamesIn x.now table.now
+        → s < length p.sections
+        → IfOk result (λ fits. IsAddedAt making.old.strings making.new.strings
+        making.old.places making.new.places
+        (or_empty_name (name_now p marks.now changes.now.rename s)) fits) }
+    ensures err { IfErr result (λ e. e ≡ Memory) }
+{
+    match new_name(&changes.rename, mark_of(marks, s)) {
+        Some(name) => place_text(making, name.as_slice()),
+        None => place_found(making, name_at(table, header_of(x, s).name)),
+    }
+}
+
+/// Adds the names of the sections from 1 on.
+fn place_sections(
+    x: &Arranged,
+    marks: &List<u64>,
+    changes: &Changes,
+    making: &mut Making,
+) -> Result<bool, ElfError>
+    requires plain { HasPlainNames changes.now }
+    requires strings { making.old.strings ≡ [] }
+    requires places { making.old.places ≡ 0 ∷ [] }
+    ensures added { (o : Origin) (p : Object) → IsContents o p x.now
+        → IfOk result (AddsTo (all_texts p marks.now changes.now)
+        making.new.strings making.new.places (length p.sections - 1)) }
+    ensures err { IfErr result (λ e. e ≡ Memory) }
+{
+    let table = table_of(x);
+    for s in 1..x.listed.header.shnum {
+        match place_section(x, table, s, marks, changes, making) {
+            Ok(fits) => {
+                if !fits {
+                    return Ok(false);
+                }
+            }
+            Err(e) => return Err(e),
+        }
+    }
+    Ok(true)
+}
+
+/// Adds all names.
+fn place_all(
+    x: &Arranged,
+    marks: &List<u64>,
+    changes: &Changes,
+    making: &mut Making,
+) -> Result<bool, ElfError>
+    requires plain { HasPlainNames changes.now }
+    requires strings { making.old.strings ≡ [] }
+    requires places { making.old.places ≡ 0 ∷ [] }
+    ensures added { (o : Origin) (p : Object) → IsContents o p x.now
+        → IfOk result (AddsTo (all_texts p marks.now changes.now)
+        making.new.strings making.new.places
+        (length (all_texts p marks.now changes.now))) }
+    ensures err { IfErr result (λ e. e ≡ Memory) }
+{
+    match place_sections(x, marks, changes, making) {
+        Ok(fits) => {
+            if !fits {
+                return Ok(false);
+            }
+            place_added(changes.add.as_slice(), making)
+        }
+        Err(e) => Err(e),
+    }
+}
+
+/// The table of all names, as they are by the marks, and of those that are added. It refuses
+/// `Memory` alone.
+fn build_table(
+    alloc: Global,
+    x: &Arranged,
+    marks: &List<u64>,
+    changes: &Changes,
+) -> Result<Naming, ElfError>
+    requires plain { HasPlainNames changes.now }
+    ensures built { (o : Origin) (p : Object) → IsContents o p x.now
+        → IfOk result (IsBuilt (all_texts p marks.now changes.now)) }
+    ensures err { IfErr result (λ e. e ≡ Memory) }
+{
+    let mut making = match begin_table(alloc) {
+        Ok(making) => making,
+        Err(e) => return Err(e),
+    };
+    match place_all(x, marks, changes, &mut making) {
+        Ok(fits) => finish_names(making, fits),
+        Err(e) => Err(e),
+    }
+}
+
+/// What becomes of the names, where `renewed` says whether there is a table for them alone, and the
+/// marks are those of `rename_sections`: the table of the names of all sections by these marks, and
+/// behind them of those that are added. A name that cannot be read counts as the empty one. It
+/// stores nothing and refuses `Memory` alone.
+///
+/// Source: gABI chapter 4, "String Table", and "Section Header", sh_name.
+pub(crate) fn plan_names(
+    alloc: Global,
+    x: &Arranged,
+    marks: &List<u64>,
+    changes: &Changes,
+    renewed: bool,
+) -> Result<Naming, ElfError>
+    requires plain { HasPlainNames changes.now }
+    ensures naming { (o : Origin) (p : Object) → IsContents o p x.now
+        → IfOk result (IsNaming (changes_names (stated_changes changes.now)) renewed
+        (all_texts p marks.now changes.now)) }
+    ensures err { IfErr result (λ e. e ≡ Memory) }
+{
+    if !changes_names(changes) {
+        return Ok(Naming::Stay);
+    }
+    if !renewed {
+        return Ok(Naming::NoTable);
+    }
+    build_table(alloc, x, marks, changes)
+}

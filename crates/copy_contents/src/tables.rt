@@ -1,0 +1,68 @@
+//! The table of the names, where it is held.
+
+ghost use Rattle.std.specs.Prelude.{◌≡◌, drop, take};
+ghost use Rattle.std.specs.Option.{option_copied};
+ghost use Rattle.elf_object.specs.Strings.{is_name};
+ghost use Rattle.gelf_view.specs.Records.{string_front};
+ghost use Rattle.copy_contents.specs.Rows.{HasNamesIn, has_strings};
+
+use crate::rows::{header_of, range_of};
+use elf_types::constants::SHT_STRTAB;
+use gelf_view::string_in;
+use strip_contents::Arranged;
+
+/// The bytes from a place on, and none where there are fewer.
+pub(crate) fn bytes_past(bytes: &[u8], at: u64) -> &[u8]
+    ensures { result.now ≡ drop at bytes.now }
+{
+    if at > bytes.len() as u64 {
+        return &[];
+    }
+    &bytes[at as usize..]
+}
+
+/// The first bytes, or all where there are fewer.
+fn first_bytes(bytes: &[u8], len: u64) -> &[u8]
+    ensures { result.now ≡ take len bytes.now }
+{
+    if len > bytes.len() as u64 {
+        return bytes;
+    }
+    &bytes[..len as usize]
+}
+
+/// Whether the names of the sections stand in a string table, by its header.
+pub(crate) fn has_strings(x: &Arranged) -> bool
+    ensures { result ≡ has_strings x.now }
+{
+    let index = x.listed.header.shstrndx;
+    index != 0 && index < x.listed.header.shnum && header_of(x, index).stype == SHT_STRTAB
+}
+
+/// The bytes that are held of the table of the names, and none where there is no such table.
+pub(crate) fn table_of(x: &Arranged) -> &[u8]
+    ensures { HasNamesIn x.now result.now }
+{
+    if !has_strings(x) {
+        return &[];
+    }
+    let range = range_of(x, x.listed.header.shstrndx);
+    first_bytes(bytes_past(x.held.as_slice(), range.at), range.len)
+}
+
+/// The name at a place of a table, where a NUL ends it.
+pub(crate) fn name_at(table: &[u8], place: u32) -> Option<&[u8]>
+    ensures { option_copied result ≡ string_front (drop place table.now) }
+{
+    string_in(bytes_past(table, u64::from(place)))
+}
+
+/// Whether a name that was found is this one.
+pub(crate) fn is_called(found: Option<&[u8]>, name: &[u8]) -> bool
+    ensures { result ≡ is_name name.now (option_copied found.entry) }
+{
+    match found {
+        Some(found) => found == name,
+        None => false,
+    }
+}

@@ -1,0 +1,103 @@
+//! Sections get other bytes.
+
+ghost use Rattle.std.specs.Prelude.{◌≡◌, ◌==◌, ◌&&◌, not, length, map, true};
+ghost use Rattle.elf_xlate.specs.declared.content.Items.TheVariants as items;
+ghost use Rattle.elf_object.specs.Object.{Object, occupies_file};
+ghost use Rattle.elf_object.specs.Calls as calls;
+ghost use Rattle.command_objects.specs.Words.{is_allocated, header_at, edited, in_turn};
+ghost use Rattle.command_objects.specs.Copied.{or_strip, update_fault, with_bytes};
+ghost use Rattle.copy_changes.specs.Stated.{bytes_pair};
+ghost use Rattle.copy_edits.specs.Edits.{updated_at};
+ghost use Rattle.copy_edits.specs.Steps.{IsThere, IsFaultIf};
+ghost use Rattle.copy_contents.specs.Rows.{Origin, IsContents, header_in, size_in};
+ghost use Rattle.copy_contents.specs.Steps.{always, AltersContents, AltersAt, IsFaultUnread};
+
+use crate::edits::put_bytes;
+use crate::finding::find_unrenamed;
+use crate::rows::{header_of, size_of};
+use copy_changes::{CopyFault, NameBytes, fault_allocated, fault_no_bytes};
+use elf_object::occupies_file;
+use elf_types::Octets;
+use std::alloc::Global;
+use strip_contents::Arranged;
+use strip_removed::is_allocated;
+
+/// Whether other bytes would give a section that is loaded another length.
+fn changes_length(x: &Arranged, s: u32, bytes: &Octets) -> bool
+    ensures { result ≡ (not (x.now.listed.header.phnum == 0) && is_allocated (header_in x.now s)
+        && not (length bytes.now == size_in x.now s)) }
+{
+    x.listed.header.phnum != 0 && is_allocated(&header_of(x, s)) && bytes.len() != size_of(x, s)
+}
+
+/// Why a section that is there does not get other bytes, if it does not.
+fn update_fault(alloc: Global, x: &Arranged, s: u32, change: &NameBytes) -> Option<CopyFault>
+    ensures fault { (o : Origin) (p : Object) → IsContents o p x.now → IsThere p s
+        → IsFaultIf (update_fault p s change.now.name change.now.bytes) result }
+    ensures unread { IsFaultUnread result }
+{
+    if !occupies_file(&header_of(x, s)) {
+        return Some(fault_no_bytes(alloc, &change.name));
+    }
+    if changes_length(x, s, &change.bytes) {
+        return Some(fault_allocated(alloc, &change.name));
+    }
+    None
+}
+
+/// Gives a section that is there, and has bytes in the file, other bytes.
+fn put_update(x: &mut Arranged, s: u32, bytes: &Octets) -> Result<(), CopyFault>
+    ensures { AltersAt s (λ p. occupies_file (header_at p s) ≡ true)
+        (λ p. or_strip (edited (calls.replace s 0 (items.Bytes bytes.now)) p))
+        result x.old x.new }
+{
+    match put_bytes(x, s, bytes.as_slice()) {
+        Ok(()) => Ok(()),
+        Err(e) => Err(CopyFault::Strip(e)),
+    }
+}
+
+/// Gives a section that is there other bytes.
+fn update_at(alloc: Global, x: &mut Arranged, s: u32, change: &NameBytes) -> Result<(), CopyFault>
+    ensures { AltersAt s always (λ p. updated_at p s change.now.name change.now.bytes)
+        result x.old x.new }
+{
+    match update_fault(alloc, x, s, change) {
+        None => put_update(x, s, &change.bytes),
+        Some(fault) => Err(fault),
+    }
+}
+
+/// Gives the first section of a name other bytes.
+fn update_section(alloc: Global, x: &mut Arranged, change: &NameBytes) -> Result<(), CopyFault>
+    ensures { AltersContents always (λ p. with_bytes p (bytes_pair change.now))
+        result x.old x.new }
+{
+    match find_unrenamed(alloc, x, &change.name) {
+        Ok(s) => update_at(alloc, x, s, change),
+        Err(fault) => Err(fault),
+    }
+}
+
+/// Gives the first section of each name, in turn, the bytes that stand beside it; names are those
+/// by the table as it stands then. It refuses, for each, in this order: `NoSection`, `NoBytes`,
+/// `Allocated`; and want of memory. What a refusal leaves is not stated. It holds a copy of the
+/// bytes.
+///
+/// Source: objcopy(1) of the development tools, `--update-section`.
+pub(crate) fn update_sections(
+    alloc: Global,
+    x: &mut Arranged,
+    changes: &[NameBytes],
+) -> Result<(), CopyFault>
+    ensures { AltersContents always (λ p. in_turn with_bytes p (map bytes_pair changes.now))
+        result x.old x.new }
+{
+    for change in changes {
+        match update_section(alloc, x, change) {
+            Ok(()) => {}
+            Err(fault) => return Err(fault),
+        }
+    }
+    Ok(())
+}
