@@ -1,5 +1,7 @@
 -- A fault of copy, by what is stated of it.
-use Rattle.std.proofs.Common.{◌≡◌, ◌⊎◌, ◌++◌, ℕ, Bool, List, codes, Option, Some, None, Result, Err, IfSome, IfNone, refl, sym, ap, ◌∙◌, subst, append-nil}
+use Rattle.std.proofs.Common.{◌≡◌, ◌⊎◌, ◌++◌, ℕ, Bool, List, codes, Option, Some, None, Result, Ok, Err, IfSome, IfNone, refl, sym, ap, ◌∙◌, subst, append-nil}
+use Rattle.elf_types.specs.Answers.{◌>>=◌}
+use Rattle.elf_types.specs.declared.errors.ElfError.{ElfError}
 use Rattle.elf_types.specs.declared.errors.ElfError.TheVariants as error
 use Rattle.elf_outside.specs.Asks.{ReadRose}
 use Rattle.elf_outside.specs.Counts.{Rose}
@@ -9,8 +11,9 @@ use Rattle.elf_outside.specs.declared.file_sets.Files.{Ghosts as FilesGhosts}
 use Rattle.elf_object.specs.Object.{Object}
 use Rattle.elf_descriptor.specs.State.{State}
 use Rattle.command_objects.specs.Arranged.{Rebuilt}
-use Rattle.command_objects.specs.Copied.{Changes, CopyFault as StatedFault, copied}
+use Rattle.command_objects.specs.Copied.{Changes, CopyFault as StatedFault, or_strip, copied}
 use Rattle.command_objects.specs.Copied.CopyFault.{NoSection, NoBytes, Allocated, Fixed, NoTable, Strip}
+use Rattle.command_objects.specs.Files.{file_of}
 use Rattle.command_outcomes.specs.Copy.{copy_text}
 use Rattle.tool_output.specs.declared.stops.Stop.{Stop}
 use Rattle.tool_output.specs.declared.stops.Stop.TheVariants as stops
@@ -19,20 +22,20 @@ use Rattle.tool_output.specs.Names.{file_name}
 use Rattle.tool_output.specs.Statuses.{refused_status}
 use Rattle.tool_output.specs.Reports.{Reports, refusal_report}
 use Rattle.tool_output.specs.Steps.{OnRead, OnWrite, LeavesOutputs, SinkRose}
-use Rattle.tool_output.specs.Made.{Done, Complaint, complaint, written_outcome}
+use Rattle.tool_output.specs.Made.{Done, Complaint, made, complaint, of_file, written_outcome}
 use Rattle.tool_output.proofs.StepLemmas.{keeps_none}
 use Rattle.tool_output.proofs.FileLemmas.{totals_none}
 use Rattle.tool_output.proofs.OutcomeLemmas.{nothing_done}
 use Rattle.object_output.specs.Steps.{SourceRose}
 use Rattle.object_writing.specs.Writes.{WritesFile}
 use Rattle.object_writing.proofs.WriteLemmas.{DoesHere, outputs_leave, said_done}
-use Rattle.strip_rebuild.specs.declared.rebuilding.Rebuilt.{Rebuilt as Made}
 use Rattle.copy_changes.specs.declared.faults.CopyFault.{CopyFault}
 use Rattle.copy_changes.specs.declared.faults.CopyFault.TheVariants as faults
 use Rattle.copy_changes.specs.Stated.{stated_fault, outer_result}
-use Rattle.elf_copy.specs.Copies.{Copies}
+use Rattle.strip_contents.specs.declared.plans.RangedPlan.{RangedPlan}
+use Rattle.copy_contents.specs.Plans.{file_copied, StreamsCopied}
 use Rattle.copy_tool.specs.Faults.{named_text, copy_fault_text, fault_stop}
-use Rattle.copy_tool.specs.Writes.{made_done, copied_done}
+use Rattle.copy_tool.specs.Writes.{made_done, copied_done, file_done}
 
 -- ---- A refusal
 
@@ -51,20 +54,34 @@ refusal_stated (faults.Strip error.Read) none = cc
 refusal_stated (faults.Strip error.Write) none = cc
 refusal_stated (faults.Strip e) none = (Strip e, refl, refl)
 
+-- what is done is known by the file: a refusal of the update is said as one of a step
+pub done_as_file : (file out : List ℕ) (r : Result Rebuilt StatedFault)
+    → made_done file out r ≡ file_done file out (file_copied r)
+unfolding copy_text
+done_as_file file out (Err f) = refl
+done_as_file file out (Ok m) = by (file_of m.object)
+  where
+    by : (q : Result (List ℕ) ElfError)
+        → (of_file file q >>= λ bytes. Ok (made out bytes)) ≡ file_done file out (or_strip q)
+    by (Ok bytes) = refl
+    by (Err e) = refl
+
 fault_done : (c : Changes) (o : Object) (file out : List ℕ) (fault : CopyFault)
-    → fault_stop fault ≡ None → IfSome (stated_fault fault) (λ d. copied c o ≡ Err d)
+    → fault_stop fault ≡ None
+    → IfSome (stated_fault fault) (λ d. file_copied (copied c o) ≡ Err d)
     → copied_done c file out o ≡ Err (complaint file (copy_fault_text fault))
 fault_done c o file out fault none is =
     let d = refusal_stated fault none in
-    let refused : copied c o ≡ Err d.0 =
-    subst (λ (x : Option StatedFault). IfSome x (λ y. copied c o ≡ Err y)) d.1 is in
-    ap (λ (r : Result Rebuilt StatedFault). made_done file out r) refused
+    let refused : file_copied (copied c o) ≡ Err d.0 =
+    subst (λ (x : Option StatedFault). IfSome x (λ y. file_copied (copied c o) ≡ Err y)) d.1 is in
+    done_as_file file out (copied c o)
+    ∙ ap (λ (r : Result (List ℕ) StatedFault). file_done file out r) refused
     ∙ ap (λ (text : List ℕ). Err (complaint file text)) d.2
 
 -- ---- A stop
 
 stop_cause : (fault : CopyFault) (stop : Stop) (x y : ℕ) → fault_stop fault ≡ Some stop
-    → ReadRose (outer_result {T = Made} (Err fault)) x y
+    → ReadRose (outer_result {T = RangedPlan} (Err fault)) x y
     → OnRead {T = Bool} (Err stop) (Rose x y) × OnWrite {T = Bool} (Err stop) ⊥
 stop_cause (faults.NoSection name) stop x y is rose = cc
 stop_cause (faults.NoBytes name) stop x y is rose = cc
@@ -95,11 +112,11 @@ module _ {S F D O E : Type 0} (g : SourceGhosts S) (f : FilesGhosts F D) (o : Si
     (a : F) where
   abbrev Writes : Result Bool Stop → Outputs O E → Outputs O E → Type 0
   Writes r s t =
-      WritesFile g f o e (written_outcome (codes "copy") (copied_done c file out old.o)) r old mid
-      a a s t
+      WritesFile g f o e (written_outcome (codes "copy") (copied_done c file out old.o)) r old
+      (record old { source = mid.source }) a a s t
 
   -- the message was given
-  fault_said : (r : Result Bool Stop) (s t : Outputs O E) → Copies g c (Err fault) old mid
+  fault_said : (r : Result Bool Stop) (s t : Outputs O E) → StreamsCopied g c (Err fault) old mid
       → fault_stop fault ≡ None
       → Reports o e r s t (refusal_report (codes "copy") (file_name file) (copy_fault_text fault))
       → LeavesOutputs o e ⊥ r s t → Writes r s t
@@ -111,11 +128,12 @@ module _ {S F D O E : Type 0} (g : SourceGhosts S) (f : FilesGhosts F D) (o : Si
     source = copies.asks.source.leaves;
     later = copies.asks.source.later;
     live = λ small. refl;
-    leaves = outputs_leave f o e (codes "copy") (SourceRose g old mid) r a s t left;
+    leaves = outputs_leave f o e (codes "copy")
+        (SourceRose g old (record old { source = mid.source })) r a s t left;
   }
 
   -- or the step stopped before it wrote
-  fault_stopped : (stop : Stop) (s : Outputs O E) → Copies g c (Err fault) old mid
+  fault_stopped : (stop : Stop) (s : Outputs O E) → StreamsCopied g c (Err fault) old mid
       → fault_stop fault ≡ Some stop → Writes (Err stop) s s
   fault_stopped stop s copies is =
       let cause = stop_cause fault stop (g.faults old.source) (g.faults mid.source) is
@@ -137,7 +155,8 @@ module _ {S F D O E : Type 0} (g : SourceGhosts S) (f : FilesGhosts F D) (o : Si
         };
       }
 
-  pub fault_writes : (r : Result Bool Stop) (s t : Outputs O E) → Copies g c (Err fault) old mid
+  pub fault_writes : (r : Result Bool Stop) (s t : Outputs O E)
+      → StreamsCopied g c (Err fault) old mid
       → IfNone (fault_stop fault) (Reports o e r s t
       (refusal_report (codes "copy") (file_name file) (copy_fault_text fault)))
       → IfSome (fault_stop fault) (λ stop. (r ≡ Err stop) × (t ≡ s))

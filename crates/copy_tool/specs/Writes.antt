@@ -1,10 +1,10 @@
 -- What copy gives of the object of a file.
-use Rattle.std.specs.Prelude.{ℕ, List, Result}
+use Rattle.std.specs.Prelude.{ℕ, List, Result, Ok}
 use Rattle.elf_types.specs.Answers.{◌>>=◌}
 use Rattle.elf_object.specs.Object.{Object}
 use Rattle.command_objects.specs.Arranged.{Rebuilt}
 use Rattle.command_objects.specs.Copied.{Changes, CopyFault, copied}
-use Rattle.tool_output.specs.Made.{Done, Complaint, complaint}
+use Rattle.tool_output.specs.Made.{Done, Complaint, made, complaint}
 use Rattle.command_outcomes.specs.Strip.{or_complaint}
 use Rattle.command_outcomes.specs.Copy.{copy_text}
 use Rattle.object_writing.specs.Writes.{written_done}
@@ -25,3 +25,8 @@ made_done file out r =
 
 abbrev pub copied_done : Changes → List ℕ → List ℕ → Object → Result Done Complaint
 copied_done changes file out o = made_done file out (copied changes o)
+
+-- the same by the file
+abbrev pub file_done : List ℕ → List ℕ → Result (List ℕ) CopyFault → Result Done Complaint
+file_done file out r =
+    or_complaint (λ fault. complaint file (copy_text fault)) r >>= λ bytes. Ok (made out bytes)

@@ -8,16 +8,18 @@ ghost use Rattle.tool_output.specs.Made.{written_outcome};
 ghost use Rattle.tool_output.specs.Outcomes.{Does};
 ghost use Rattle.tool_output.specs.Statuses.{refused_status};
 ghost use Rattle.command_outcomes.specs.Copy.{copy_outcome};
-ghost use Rattle.object_writing.specs.Writes.{named_done};
+ghost use Rattle.object_output.specs.Images.{file_object};
+ghost use Rattle.object_writing.specs.Writes.{image_done, named_done};
 ghost use Rattle.copy_changes.specs.Stated.{stated_changes, HasPlainNames};
 ghost use Rattle.copy_tool.specs.Writes.{copying_of, copied_done};
 
 use crate::reading::read_changes;
 use crate::writing::write_copied;
 use copy_changes::Changes;
-use elf_descriptor::Elf;
 use elf_outside::{Files, Sink, Source};
-use object_writing::{ImageCommand, edit_named};
+use object_files::{FileEdit, edit_file};
+use object_output::begin_image;
+use object_writing::refuse_for;
 use std::alloc::Global;
 use std::marker::Model;
 use tool_output::{Outputs, Stop};
@@ -52,26 +54,37 @@ impl<'a> CopyCommand<'a> {
     }
 }
 
-/// The image is made anew with the changes, and written to the new file. The object that is made is
-/// held meanwhile. What is refused has the message that says why: then no file is made.
-impl ImageCommand for CopyCommand<'_> {
-    ghost named = { λ _. codes "copy" };
+/// The image with the changes is written to the new file, while the old one is open: what is not
+/// changed is copied range by range. What is refused has the message that says why: then no file is
+/// made.
+impl FileEdit for CopyCommand<'_> {
+    ghost command = { λ _. codes "copy" };
 
-    ghost done = { λ t file o. copied_done t.changes file t.out o };
+    ghost outcome = { λ t name bytes. written_outcome (codes "copy")
+        (image_done (λ file o. copied_done t.changes file t.out o) name (file_object bytes)) };
 
-    fn name(&self) -> &'static str {
+    fn command(&self) -> &'static str {
         "copy"
     }
 
-    fn write<S: Source, F: Files, O: Sink, E: Sink>(
+    fn edit<S: Source, F: Files, O: Sink, E: Sink>(
         &self,
         alloc: Global,
-        elf: &mut Elf<S>,
-        file: &[u8],
+        src: S,
+        name: &[u8],
         files: &mut F,
         outputs: &mut Outputs<'_, O, E>,
-    ) -> Result<bool, Stop> {
-        write_copied(alloc, elf, self.changes, file, self.out, files, outputs)
+    ) -> (S, Result<bool, Stop>) {
+        match begin_image(alloc, src) {
+            Ok(elf) => {
+                let _sound = elf.dirty();
+                write_copied(alloc, elf, self.changes, name, self.out, files, outputs)
+            }
+            Err((src, e)) => {
+                let refused = refuse_for("copy", name, e, outputs);
+                (src, refused)
+            }
+        }
     }
 }
 
@@ -95,7 +108,7 @@ fn copy_named<F: Files, O: Sink, E: Sink>(
         result files.old files.new outputs.old outputs.new }
 {
     let command = CopyCommand::new(changes, out);
-    edit_named(alloc, &command, file, files, outputs)
+    edit_file(alloc, &command, file, files, outputs)
 }
 
 /// Reads the files of the changes, and then writes the image of a file with the changes to a new
@@ -105,7 +118,7 @@ fn copy_named<F: Files, O: Sink, E: Sink>(
 ///
 /// It stops by `Read` where a read failed, by `Write` where a put or a write of the file failed,
 /// and by `Memory`. Then the name of the new file holds what it held or a front of the image. The
-/// bytes of the files and the object that is made are held meanwhile.
+/// bytes of the files of `-u` and `-a` are held meanwhile, and the tables that change.
 pub fn copy_file<F: Files, O: Sink, E: Sink>(
     alloc: Global,
     words: &CopyChanges,

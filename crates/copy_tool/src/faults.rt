@@ -67,7 +67,7 @@ fn stop_of_fault(fault: &CopyFault) -> Option<Stop>
     }
 }
 
-/// SaysRead a fault of a file by its message.
+/// Says a fault of a file by its message.
 fn say_fault<O: Sink, E: Sink>(
     file: &[u8],
     fault: &CopyFault,

@@ -1,7 +1,7 @@
 //! The command `copy`: the image of a file, with sections removed, given other bytes, renamed,
 //! given other flags and added, is written to a new file. `read_changes` reads the files of the
-//! words, `write_copied` makes the object with a descriptor and writes its image, and `copy_file`
-//! does both for the file that a command line names.
+//! words, `write_copied` writes the image, in which what is not changed is copied range by range of
+//! the open file, and `copy_file` does both for the file that a command line names.
 #![tactic(auto)]
 
 mod changes;

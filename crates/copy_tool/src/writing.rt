@@ -1,7 +1,10 @@
-//! The object that is made with changes, and the new file of its image.
+//! The new file of an open one, with changes.
 
-ghost use Rattle.std.specs.Prelude.{◌≡◌, codes, false};
+ghost use Rattle.std.specs.Prelude.{◌≡◌, codes, false, IsTrue};
 ghost use Rattle.elf_object.specs.Object.{is_dirty};
+ghost use Rattle.elf_object.specs.Valid.{IsTied};
+ghost use Rattle.strip_laws.specs.Made.{FitsClass};
+ghost use Rattle.strip_tool.specs.Copies.{IsOverSource};
 ghost use Rattle.tool_output.specs.Made.{written_outcome};
 ghost use Rattle.object_writing.specs.Writes.{WritesFile};
 ghost use Rattle.copy_changes.specs.Stated.{stated_changes, HasPlainNames};
@@ -9,38 +12,47 @@ ghost use Rattle.copy_tool.specs.Writes.{copied_done};
 
 use crate::faults::refuse_fault;
 use copy_changes::Changes;
-use elf_copy::copy_of;
+use copy_contents::plan_copied;
 use elf_descriptor::Elf;
 use elf_outside::{Files, Sink, Source};
-use object_writing::write_object;
 use std::alloc::Global;
+use strip_tool::write_plan;
 use tool_output::{Outputs, Stop};
 
-/// Makes an object with changes of one in which nothing is dirty, and writes its image to a new
-/// file. Where it is refused, the message says why, and no file is made. The answer tells whether
-/// it was refused.
+/// Writes the image with changes of an object in which nothing is dirty, and whose base is its
+/// source, to a new file, and hands the source back. What is not changed is copied range by range
+/// of the source. Where it is refused, the message says why, and no file is made. The answer tells
+/// whether it was refused.
 ///
 /// It stops by `Read` where a read of the source failed, by `Write` where a put or a write of the
 /// file failed, and by `Memory`. Then the name of the file holds what it held or a front of the
 /// image.
 pub fn write_copied<S: Source, F: Files, O: Sink, E: Sink>(
     alloc: Global,
-    elf: &mut Elf<S>,
+    elf: Elf<S>,
     changes: &Changes,
     file: &[u8],
     out: &str,
     files: &mut F,
     outputs: &mut Outputs<'_, O, E>,
-) -> Result<bool, Stop>
-    requires clean { is_dirty elf.old.o ≡ false }
+) -> (S, Result<bool, Stop>)
+    requires over { IsOverSource S.Source elf }
+    requires clean { is_dirty elf.o ≡ false }
+    requires tied { IsTrue elf.told → IsTied elf.o }
+    requires fits { FitsClass elf.o }
     requires names { HasPlainNames changes.now }
     ensures { WritesFile S.Source F.Files O.Sink E.Sink
         (written_outcome (codes "copy")
-        (copied_done (stated_changes changes.now) file.now out.now elf.old.o))
-        result elf.old elf.new files.old files.new outputs.old outputs.new }
+        (copied_done (stated_changes changes.now) file.now out.now elf.o))
+        result.1 elf (record elf { source = result.0 }) files.old files.new
+        outputs.old outputs.new }
 {
-    match copy_of(alloc, elf, changes) {
-        Ok(mut made) => write_object(alloc, &mut made.elf, "copy", file, out, files, outputs),
-        Err(fault) => refuse_fault(file, &fault, outputs),
+    let mut elf = elf;
+    match plan_copied(alloc, &mut elf, changes) {
+        Ok(plan) => write_plan(alloc, elf.end(), plan, out, files, outputs),
+        Err(fault) => {
+            let refused = refuse_fault(file, &fault, outputs);
+            (elf.end(), refused)
+        }
     }
 }
