@@ -21,7 +21,7 @@ use Rattle.object_output.specs.Steps.{SourceRose}
 use Rattle.object_output.proofs.SourceSteps.{leaves_then}
 use Rattle.object_writing.proofs.WriteLemmas.{DoesHere, refused_does, refused_leaves}
 use Rattle.unstrip_tool.specs.Joins.{held_object, IsRead, WritesBeside}
-use Rattle.unstrip_tool.proofs.HalfLemmas.{leaves_by}
+use Rattle.unstrip_tool.proofs.CauseLemmas.{leaves_by}
 
 -- ---- What is left of an open file
 

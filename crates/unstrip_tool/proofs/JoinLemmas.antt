@@ -29,7 +29,7 @@ use Rattle.unstrip_join.specs.declared.faults.UnstripFault.TheVariants as faults
 use Rattle.unstrip_tool.specs.declared.names.HalfNames.{HalfNames}
 use Rattle.unstrip_tool.specs.Refusing.{RefusesFault}
 use Rattle.unstrip_tool.specs.Joins.{joined_done, objects_done, WritesBeside}
-use Rattle.unstrip_tool.proofs.HalfLemmas.{leaves_by}
+use Rattle.unstrip_tool.proofs.CauseLemmas.{leaves_by}
 use Rattle.unstrip_tool.proofs.DoneLemmas.{elf_stated, debug_stated, mismatch_stated}
 
 module _ {S T F D O E : Type 0} (g : SourceGhosts S) (h : SourceGhosts T) (f : FilesGhosts F D)

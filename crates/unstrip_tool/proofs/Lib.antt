@@ -1,6 +1,7 @@
 pub mod AllocatedLemmas
+pub mod CauseLemmas
 pub mod SplitLemmas
-pub mod HalfLemmas
+pub mod CopyLemmas
 pub mod WriteLemmas
 pub mod DoneLemmas
 pub mod BesideLemmas

@@ -1,143 +1,171 @@
--- The two halves of an image, made one after the other; and what is removed of it.
-use Rattle.std.proofs.Common.{◌≡◌, ℕ, Bool, true, false, List, [], Result, Ok, Err, sym, ap, ◌∙◌, subst, arith}
-use Rattle.std.specs.Prelude.{IsTrue}
+-- The plans of the two halves of an image.
+use Rattle.std.proofs.Common.{◌≡◌, ℕ, List, Some, None, Option, Result, Ok, Err, sym, ap, ◌∙◌, subst}
+use Rattle.std.specs.Prelude.{Bool, IsTrue}
 use Rattle.elf_types.specs.declared.errors.ElfError.{ElfError}
 use Rattle.elf_types.specs.declared.errors.ElfError.TheVariants.{Memory, Read, Write}
-use Rattle.elf_types.specs.Answers.{◌>>=◌}
+use Rattle.elf_types.specs.Answers.{answered, ◌>>=◌}
 use Rattle.elf_outside.specs.declared.sources.Source.{Ghosts}
-use Rattle.elf_object.specs.Object.{Object, is_dirty}
-use Rattle.elf_object.specs.Words.{Wants, Answers}
+use Rattle.elf_outside.proofs.AskLemmas.{read_rose_on}
+use Rattle.elf_object.specs.Object.{Object}
 use Rattle.elf_descriptor.specs.State.{State}
-use Rattle.elf_descriptor.specs.Reads.{Queries}
 use Rattle.command_objects.specs.Arranged.{Rebuilt}
-use Rattle.command_objects.specs.Removed.{removed_sections}
+use Rattle.command_objects.specs.Files.{file_of}
 use Rattle.command_objects.specs.Rebuilt.{rebuilt}
-use Rattle.command_objects.specs.Split.{debug_of}
-use Rattle.strip_removed.specs.Calls as calls
-use Rattle.strip_removed.specs.Steps.{IsRemovable}
-use Rattle.strip_rebuild.specs.Answers.{RebuildAnswers, rebuild_due}
-use Rattle.strip_rebuild.specs.Makes.{AsksFor}
-use Rattle.strip_rebuild.specs.declared.rebuilding.Rebuilt.{Rebuilt as Made}
-use Rattle.strip_rebuild.proofs.AskLaws.{asks_as, asks_stop, asks_more, asks_twice}
-use Rattle.debug_half.specs.Half.{half_due}
-use Rattle.unstrip_tool.specs.declared.images.SplitImage.{SplitImage}
-use Rattle.unstrip_tool.specs.Splitting.{halves_of, AreMade, split_due, Splits}
+use Rattle.command_objects.specs.Split.{debug_half, debug_refusal, debug_of}
+use Rattle.object_making.specs.Refused.{RefusedBy}
+use Rattle.strip_rebuild.proofs.AskLaws.{asks_as, asks_stop}
+use Rattle.strip_rebuild.proofs.MakeLaws.{refused_quiet, quiet_rose}
+use Rattle.strip_contents.specs.declared.arranged.Arranged.{Arranged}
+use Rattle.strip_contents.specs.declared.contents.Contents.{Contents}
+use Rattle.strip_contents.specs.declared.plans.RangedPlan.{RangedPlan}
+use Rattle.strip_contents.specs.Plans.{IsRangedBy, PlansCopied, FileAnswers, ArrangedAnswers, ArrangesRebuilt, stream_due}
+use Rattle.strip_contents.proofs.AnswerLaws.{copied_file}
+use Rattle.debug_contents.specs.Keeping.{KeepsHalf}
+use Rattle.debug_contents.specs.Planning.{PlansHalf}
+use Rattle.unstrip_tool.specs.declared.plans.SplitPlans.{SplitPlans}
+use Rattle.unstrip_tool.specs.Splitting.{both_bytes, both_files, split_files, SplitAnswers, PlansBoth, PlansSplit}
 
--- ---- Both halves
+-- ---- Two files
 
--- the second one, once the first is there
-abbrev second_of : Object → Object → Result (Object × Object) ElfError
-second_of o stripped = debug_of o >>= λ half. Ok (stripped, half)
-
-module _ (o : Object) (removed : List ℕ) where
-  first_is : (r : Rebuilt) → rebuilt o removed ≡ Ok r → halves_of o removed ≡ second_of o r.object
-  first_is r is =
-      ap (λ (x : Result Rebuilt ElfError). x >>= λ r. second_of o r.object) is
-
-  both_are : (r : Rebuilt) (half : Object) → rebuilt o removed ≡ Ok r → debug_of o ≡ Ok half
-      → halves_of o removed ≡ Ok (r.object, half)
-  both_are r half is made =
-      first_is r is
-      ∙ ap (λ (x : Result Object ElfError). x >>= λ half. Ok (r.object, half)) made
-
+module _ (base : List ℕ) (x y : Result (List ℕ) ElfError) where
   -- the first is refused
-  first_refused : (e : ElfError) → RebuildAnswers (Err e) (rebuilt o removed)
-      → AreMade (Err e) (halves_of o removed)
-  first_refused Memory came = tt
-  first_refused Read came = tt
-  first_refused Write came = absurd came
-  first_refused e came =
-      ap (λ (x : Result Rebuilt ElfError). x >>= λ r. second_of o r.object) came
+  first_unplanned : (e : ElfError) → FileAnswers base (Err e) x
+      → SplitAnswers base (Err e) (both_bytes x y)
+  first_unplanned Memory is = tt
+  first_unplanned Read is = tt
+  first_unplanned Write is = is
+  first_unplanned e is = ap (λ (r : Result (List ℕ) ElfError). both_bytes r y) is
 
-  -- the second is
-  second_refused : (r : Rebuilt) (e : ElfError) → rebuilt o removed ≡ Ok r
-      → RebuildAnswers (Err e) (debug_of o) → AreMade (Err e) (halves_of o removed)
-  second_refused r Memory is came = tt
-  second_refused r Read is came = tt
-  second_refused r Write is came = absurd came
-  second_refused r e is came =
-      first_is r is
-      ∙ ap (λ (x : Result Object ElfError). x >>= λ half. Ok (r.object, half)) came
+  module _ (p : RangedPlan) (first : FileAnswers base (Ok p) x) where
+    then_second : both_bytes x y ≡ (y >>= λ others. Ok (first.0, others))
+    then_second = ap (λ (r : Result (List ℕ) ElfError). both_bytes r y) first.1
 
-module _ {S : Type 0} (g : Ghosts S) (removed : List ℕ) (old mid : State S) where
-  abbrev Asks : {T : Type 0} → Result T ElfError → Type 0
-  Asks r = AsksFor g r old mid (rebuild_due old.o removed)
+    -- the second is
+    second_unplanned : (e : ElfError) → FileAnswers base (Err e) y
+        → SplitAnswers base (Err e) (both_bytes x y)
+    second_unplanned Memory is = tt
+    second_unplanned Read is = tt
+    second_unplanned Write is = is
+    second_unplanned e is =
+        then_second
+        ∙ ap (λ (r : Result (List ℕ) ElfError). r >>= λ others. Ok (first.0, others)) is
 
-  -- nothing was marked for the first
-  pub still_clean : (x : Made) → Asks (Ok x) → is_dirty old.o ≡ false → is_dirty mid.o ≡ false
-  still_clean x asks clean = ap is_dirty asks.object ∙ clean
+    both_planned : (q : RangedPlan) → FileAnswers base (Ok q) y
+        → SplitAnswers base (Ok (record { stripped = p; debug = q })) (both_bytes x y)
+    both_planned q second = (
+      first.0,
+      second.0,
+      then_second
+          ∙ ap (λ (r : Result (List ℕ) ElfError). r >>= λ others. Ok (first.0, others))
+          second.1,
+      first.2,
+      second.2,
+    )
 
-  pub unsplit : (e : ElfError)
-      → (IsTrue old.told → RebuildAnswers (Err e) (rebuilt old.o removed))
-      → Asks {T = Made} (Err e) → Splits g removed (Err e) old mid
-  unsplit e came asks = record {
-    made = λ told. first_refused old.o removed e (came told);
-    told = tt;
-    asks = asks_stop g {T = Made} {U = SplitImage} e old mid (split_due old.o removed)
-        (asks_more g {T = Made} (Err e) old mid (rebuild_due old.o removed)
-        (split_due old.o removed) (omega arith) asks);
+-- ---- Of what was arranged, and of the debug half
+
+module _ {S : Type 0} (s : State S) (kept : Arranged) where
+  abbrev Copied : Result RangedPlan ElfError → Type 0
+  Copied r = PlansCopied s.o.phdrs kept.listed kept.ranges kept.held kept.tail r
+
+  pub first_refused : (e : ElfError) → Copied (Err e) → PlansBoth s kept (Err e)
+  first_refused e plans = record {
+    answer = λ t q ranged.
+        first_unplanned s.o.base (file_of q) (file_of (debug_half s.o)) e
+        (copied_file s.o.base q s.o.phdrs kept (Err e) plans ranged);
+    unread = λ a b. read_rose_on RangedPlan SplitPlans e a b (plans.unread a b);
   }
 
-  module _ (x : Made) (asks : Asks (Ok x))
-      (made : IsTrue old.told
-      → rebuilt old.o removed ≡ Ok (record { object = x.elf.o; tail = x.tail })) where
-    told_then : IsTrue old.told → IsTrue mid.told
-    told_then told = subst (λ (b : Bool). IsTrue b) (sym asks.told) told
-
-    -- what is asked for by both
-    asks_all : {U : Type 0} (new : State S) (r : Result U ElfError)
-        → AsksFor g r mid new (half_due mid.o) → AsksFor g r old new (split_due old.o removed)
-    asks_all new r second =
-        asks_twice g (Ok x) r old mid new (rebuild_due old.o removed) (half_due old.o) asks
-        (subst (λ (o : Object). AsksFor g r mid new (half_due o)) asks.object second)
-
-    pub both_split : {N : Type 0} (new : State S) (h : SplitImage) (half : State N)
-        → h.stripped ≡ x → h.debug.o ≡ half.o → h.debug.told ≡ half.told
-        → (IsTrue mid.told → debug_of mid.o ≡ Ok half.o) → x.elf.told ≡ true → half.told ≡ true
-        → AsksFor {T = State N} g (Ok half) mid new (half_due mid.o)
-        → Splits g removed (Ok h) old new
-    both_split {N} new h half first object told_is came told other second = record {
-      made = λ t.
-          both_are old.o removed (record { object = x.elf.o; tail = x.tail }) half.o (made t)
-          (subst (λ (o : Object). debug_of o ≡ Ok half.o) asks.object (came (told_then t)))
-          ∙ ap (λ (o : Object). Ok (o, half.o)) (sym (ap (λ (m : Made). m.elf.o) first))
-          ∙ ap (λ (o : Object). Ok (h.stripped.elf.o, o)) (sym object);
-      told = (ap (λ (m : Made). m.elf.told) first ∙ told, told_is ∙ other);
-      asks = asks_as g (Ok half) (Ok h) old new (split_due old.o removed) tt
-          (asks_all {U = State N} new (Ok half) second);
+  module _ (p : RangedPlan) (plans : Copied (Ok p)) where
+    pub second_refused : (e : ElfError) → PlansHalf s (Err e) → PlansBoth s kept (Err e)
+    second_refused e half = record {
+      answer = λ t q ranged.
+          second_unplanned s.o.base (file_of q) (file_of (debug_half s.o)) p
+          (copied_file s.o.base q s.o.phdrs kept (Ok p) plans ranged) e (half.answer t);
+      unread = λ a b. read_rose_on RangedPlan SplitPlans e a b (half.unread a b);
     }
 
-    pub half_unsplit : {N : Type 0} (new : State S) (e : ElfError)
-        → (IsTrue mid.told → RebuildAnswers {A = Object} (Err e) (debug_of mid.o))
-        → AsksFor {T = State N} g (Err e) mid new (half_due mid.o)
-        → Splits g removed (Err e) old new
-    half_unsplit {N} new e came second = record {
-      made = λ t.
-          second_refused old.o removed (record { object = x.elf.o; tail = x.tail }) e (made t)
-          (subst (λ (o : Object). RebuildAnswers (Err e) (debug_of o)) asks.object
-          (came (told_then t)));
-      told = tt;
-      asks = asks_stop g {T = State N} {U = SplitImage} e old new (split_due old.o removed)
-          (asks_all {U = State N} new (Err e) second);
+    pub both_plans : (d : RangedPlan) → PlansHalf s (Ok d)
+        → PlansBoth s kept (Ok (record { stripped = p; debug = d }))
+    both_plans d half = record {
+      answer = λ t q ranged.
+          both_planned s.o.base (file_of q) (file_of (debug_half s.o)) p
+          (copied_file s.o.base q s.o.phdrs kept (Ok p) plans ranged) d (half.answer t);
+      unread = λ a b. tt;
     }
 
--- ---- What is removed
+-- ---- All of it
 
-module _ {S : Type 0} (g : Ghosts S) (debug_only : Bool) (names : List (List ℕ)) (wants : Wants)
-    (old mid : State S) (set : List ℕ) where
-  abbrev Asked : Type 0
-  Asked = Queries g (calls.removed debug_only names) [] (Ok set) old mid
+not_arranged : (o : Object) (removed : List ℕ) (e : ElfError)
+    → ArrangedAnswers o (Err e) (rebuilt o removed)
+    → SplitAnswers o.base (Err e) (split_files o removed)
+not_arranged o removed Memory is = tt
+not_arranged o removed Read is = tt
+not_arranged o removed Write is = is
+not_arranged o removed e is =
+    ap (λ (r : Result Rebuilt ElfError).
+    r >>= λ r. debug_of o >>= λ half. both_files r.object half) is
 
-  pub removed_clean : Asked → is_dirty old.o ≡ false → is_dirty mid.o ≡ false
-  removed_clean queries clean = ap is_dirty queries.object ∙ clean
+module _ {S : Type 0} (g : Ghosts S) (removed : List ℕ) (old mid : State S) where
+  -- what is kept is refused
+  pub split_unarranged : (e : ElfError)
+      → ArrangesRebuilt g removed (Err e) (stream_due old.o removed) old mid
+      → PlansSplit g removed (Err e) old mid
+  split_unarranged e first = record {
+    answer = λ t. not_arranged old.o removed e (first.answer t);
+    asks = asks_stop g {T = Arranged} {U = SplitPlans} e old mid (stream_due old.o removed)
+        first.asks;
+  }
 
-  pub removed_there : Asked → IsRemovable old.o set → IsRemovable mid.o set
-  removed_there queries is =
-      subst (λ (o : Object). IsRemovable o set) (sym queries.object) is
+  module _ (kept : Arranged)
+      (first : ArrangesRebuilt g removed (Ok kept) (stream_due old.o removed) old mid) where
+    abbrev after : Object → Result Object ElfError → Result (List ℕ × List ℕ) ElfError
+    after q r = r >>= λ half. both_files q half
 
-  pub set_is : Answers old.told wants (Ok set) ((calls.removed debug_only names).answer old.o)
-      → IsTrue old.told → set ≡ removed_sections debug_only names old.o
-  set_is came told =
-      let same : ◌≡◌ {A = Result (List ℕ) ElfError} (Ok (removed_sections debug_only names old.o))
-      (Ok set) = came.1 told in
-      let is : removed_sections debug_only names old.o ≡ set = cc in sym is
+    first_is : (t : IsTrue old.told)
+        → split_files old.o removed ≡ after (first.answer t).0.object (debug_of old.o)
+    first_is t =
+        ap (λ (r : Result Rebuilt ElfError).
+        r >>= λ r. debug_of old.o >>= λ half. both_files r.object half) (first.answer t).1
+
+    half_is : (r : Option ElfError) → debug_refusal old.o ≡ r
+        → debug_of old.o ≡ answered r (debug_half old.o)
+    unfolding debug_of
+    half_is r is = ap (λ (x : Option ElfError). answered x (debug_half old.o)) is
+
+    -- the debug half is
+    not_halved : (e : ElfError) → RefusedBy (debug_refusal old.o) e → IsTrue old.told
+        → SplitAnswers old.o.base (Err e) (split_files old.o removed)
+    not_halved Memory by t = tt
+    not_halved Read by t = tt
+    not_halved Write by t = by
+    not_halved e by t =
+        first_is t ∙ ap (after (first.answer t).0.object) (half_is (Some e) by)
+
+    pub split_unhalved : (e : ElfError) → KeepsHalf mid (Err e)
+        → PlansSplit g removed (Err e) old mid
+    split_unhalved e half = record {
+      answer = not_halved e
+          (subst (λ (o : Object). RefusedBy (debug_refusal o) e) first.asks.object half.err);
+      asks = asks_as g (Ok kept) (Err e) old mid (stream_due old.o removed)
+          (quiet_rose SplitPlans e (g.faults old.source) (g.faults mid.source)
+          (refused_quiet (debug_refusal mid.o) e half.err)) first.asks;
+    }
+
+    pub both_split : (half : Contents) (r : Result SplitPlans ElfError)
+        → KeepsHalf mid (Ok half) → PlansBoth mid kept r → PlansSplit g removed r old mid
+    both_split half r keeps plans = record {
+      answer = λ t.
+          let known = first.answer t in
+          let passed = subst (λ (o : Object). debug_refusal o ≡ None) first.asks.object
+          keeps.passed in
+          subst (λ (y : Result (List ℕ × List ℕ) ElfError). SplitAnswers old.o.base r y)
+          (sym (first_is t ∙ ap (after known.0.object) (half_is None passed)))
+          (subst (λ (o : Object). SplitAnswers o.base r (both_files known.0.object (debug_half o)))
+          first.asks.object
+          (plans.answer (subst (λ (b : Bool). IsTrue b) (sym first.asks.told) t) known.0.object
+          (subst (λ (o : Object). IsRangedBy o.phdrs o.base known.0.object kept)
+          (sym first.asks.object) known.2)));
+      asks = asks_as g (Ok kept) r old mid (stream_due old.o removed)
+          (plans.unread (g.faults old.source) (g.faults mid.source)) first.asks;
+    }

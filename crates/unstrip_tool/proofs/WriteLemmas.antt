@@ -1,10 +1,12 @@
 -- What strip with -f writes of an image, and what it says where it writes nothing.
-use Rattle.std.proofs.Common.{◌≡◌, ℕ, Bool, List, [], codes, Option, Some, None, Result, Ok, Err, IfSome, refl, sym, ap, ◌∙◌, subst, arith}
+use Rattle.std.proofs.Common.{◌≡◌, ◌∷◌, ℕ, Bool, true, false, List, [], codes, Option, Some, None, Result, Ok, Err, IfSome, refl, sym, ap, ◌∙◌, subst, arith}
+use Rattle.std.specs.Prelude.{IsTrue, if◌then◌else◌}
 use Rattle.std.specs.Option.{option_map}
 use Rattle.elf_types.specs.declared.errors.ElfError.{ElfError}
 use Rattle.elf_types.specs.declared.errors.ElfError.TheVariants as error
 use Rattle.elf_types.specs.Answers.{answered, stated_refusal, ◌>>=◌}
 use Rattle.elf_types.specs.Text.{error_text}
+use Rattle.elf_outside.specs.Counts.{Rose}
 use Rattle.elf_outside.specs.declared.sources.Source.{Ghosts as SourceGhosts}
 use Rattle.elf_outside.specs.declared.sinks.Sink.{Ghosts as SinkGhosts}
 use Rattle.elf_outside.specs.declared.file_sets.Files.{Ghosts as FilesGhosts}
@@ -13,43 +15,66 @@ use Rattle.elf_object.specs.Words.{Wants, Answers}
 use Rattle.elf_descriptor.specs.State.{State}
 use Rattle.elf_descriptor.specs.Reads.{Queries}
 use Rattle.command_objects.specs.Arranged.{Rebuilt}
+use Rattle.command_objects.specs.Files.{file_of}
 use Rattle.command_objects.specs.Removed.{removed_sections}
 use Rattle.command_objects.specs.Rebuilt.{rebuilt}
 use Rattle.command_objects.specs.Split.{debug_of, removed_allocated}
 use Rattle.command_outcomes.specs.Strip.{strip_split, allocated_text}
 use Rattle.strip_removed.specs.Calls as calls
+use Rattle.image_ranges.specs.Images.{ranged_text}
+use Rattle.image_ranges.specs.Ranges.{KeptSource, kept_of_source}
+use Rattle.strip_contents.specs.declared.plans.RangedPlan.{RangedPlan}
+use Rattle.strip_contents.specs.Plans.{kept_with}
+use Rattle.strip_contents.proofs.RemovedLaws.{set_is, never_refused}
+use Rattle.strip_tool.specs.Copies.{IsOverSource, text_with}
+use Rattle.strip_tool.proofs.StripLemmas.{over_stays}
 use Rattle.tool_output.specs.declared.stops.Stop.{Stop}
 use Rattle.tool_output.specs.declared.outputs.Outputs.{Outputs}
 use Rattle.tool_output.specs.Steps.{LeavesOutputs}
 use Rattle.tool_output.specs.Names.{file_name}
-use Rattle.tool_output.specs.Reports.{Reports, refusal_report}
-use Rattle.tool_output.specs.Made.{Done, Complaint, complaint, of_file, written_outcome}
+use Rattle.tool_output.specs.Outcomes.{Does}
+use Rattle.tool_output.specs.Reports.{Report, Reports, no_report, refusal_report}
+use Rattle.tool_output.specs.Statuses.{refused_status}
+use Rattle.tool_output.specs.Made.{Done, Complaint, made_file, complaint, of_file, outcome_with, written_outcome}
+use Rattle.tool_output.proofs.UnderWayLemmas.{shown_none}
 use Rattle.object_output.specs.Refusals.{Refuses}
 use Rattle.object_output.specs.Steps.{SourceRose}
+use Rattle.object_output.proofs.SourceSteps.{leaves_then}
 use Rattle.object_writing.specs.Writes.{WritesFile}
 use Rattle.object_writing.proofs.WriteLemmas.{DoesHere, outputs_leave, said_done, refused_writes, written_then}
-use Rattle.unstrip_tool.specs.declared.images.SplitImage.{SplitImage}
+use Rattle.unstrip_tool.specs.declared.plans.SplitPlans.{SplitPlans}
 use Rattle.unstrip_tool.specs.declared.names.HalfNames.{HalfNames}
-use Rattle.unstrip_tool.specs.Splitting.{halves_of, Splits}
-use Rattle.unstrip_tool.specs.Writes.{halves_done, split_done, object_split, DoesUnread}
-use Rattle.unstrip_tool.proofs.HalfLemmas.{leaves_by}
-use Rattle.unstrip_tool.proofs.SplitLemmas.{set_is}
+use Rattle.unstrip_tool.specs.Copies.{WritesHalves}
+use Rattle.unstrip_tool.specs.Splitting.{both_bytes, both_files, split_files, SplitAnswers, PlansSplit}
+use Rattle.unstrip_tool.specs.Writes.{both_made, split_done, object_split}
+use Rattle.unstrip_tool.proofs.CauseLemmas.{leaves_by}
 
 -- ---- What is stated of the object
 
 module _ (o : Object) (removed file : List ℕ) (names : HalfNames) where
+  -- each refusal is one of the file
+  files_of : (x y : Result (List ℕ) ElfError)
+      → (of_file file x >>= λ bytes. of_file file y >>= λ others.
+      Ok (both_made names bytes others))
+      ≡ split_done file names (both_bytes x y)
+  files_of (Ok x) (Ok y) = refl
+  files_of (Ok x) (Err e) = refl
+  files_of (Err e) y = refl
+
   -- no section is lost
   in_either : (r : Result Rebuilt ElfError) (half : Result Object ElfError)
-      → (of_file file r >>= λ r. of_file file half >>= λ half. halves_done file names r.object half)
-      ≡ split_done file names (r >>= λ r. half >>= λ half. Ok (r.object, half))
-  in_either (Ok r) (Ok half) = refl
+      → (of_file file r >>= λ r. of_file file half >>= λ half.
+      of_file file (file_of r.object) >>= λ bytes. of_file file (file_of half) >>= λ others.
+      Ok (both_made names bytes others))
+      ≡ split_done file names (r >>= λ r. half >>= λ half. both_files r.object half)
+  in_either (Ok r) (Ok half) = files_of (file_of r.object) (file_of half)
   in_either (Ok r) (Err e) = refl
   in_either (Err e) half = refl
 
   -- by the first section that is
   abbrev stated_of : Option ℕ → Result Done Complaint
   stated_of (Some s) = Err (complaint file (allocated_text s))
-  stated_of None = split_done file names (halves_of o removed)
+  stated_of None = split_done file names (split_files o removed)
 
   stated_is : strip_split o removed names.stripped.now names.debug.now file
       ≡ stated_of (removed_allocated o removed)
@@ -58,15 +83,16 @@ module _ (o : Object) (removed file : List ℕ) (names : HalfNames) where
     where
       by : (lost : Option ℕ)
           → (answered (option_map (λ s. complaint file (allocated_text s)) lost) o >>= λ o.
-          of_file file (rebuilt o removed) >>= λ r.
-          of_file file (debug_of o) >>= λ half. halves_done file names r.object half)
+          of_file file (rebuilt o removed) >>= λ r. of_file file (debug_of o) >>= λ half.
+          of_file file (file_of r.object) >>= λ bytes. of_file file (file_of half) >>= λ others.
+          Ok (both_made names bytes others))
           ≡ stated_of lost
       by (Some s) = refl
       by None = in_either (rebuilt o removed) (debug_of o)
 
   pub split_stated : None ≡ removed_allocated o removed
       → strip_split o removed names.stripped.now names.debug.now file
-      ≡ split_done file names (halves_of o removed)
+      ≡ split_done file names (split_files o removed)
   split_stated none = stated_is ∙ ap stated_of (sym none)
 
   pub lost_stated : (s : ℕ) → Some s ≡ removed_allocated o removed
@@ -76,42 +102,93 @@ module _ (o : Object) (removed file : List ℕ) (names : HalfNames) where
 
 module _ {S F D O E : Type 0} (g : SourceGhosts S) (f : FilesGhosts F D) (o : SinkGhosts O)
     (e : SinkGhosts E) (file : List ℕ) (names : HalfNames) where
-  abbrev Writes : Result Done Complaint → Result Bool Stop → State S → State S → F → F
-      → Outputs O E → Outputs O E → Type 0
-  Writes q r old new a b s t =
-      WritesFile g f o e (written_outcome (codes "strip") q) r old new a b s t
+  abbrev Writes : Result Done Complaint → Result Bool Stop → State S → S → F → F → Outputs O E
+      → Outputs O E → Type 0
+  Writes q r old next a b s t =
+      WritesFile g f o e (written_outcome (codes "strip") q) r old (record old { source = next })
+      a b s t
 
   -- ---- Both halves
 
-  pub split_written : (removed : List ℕ) (old mid : State S) (h : SplitImage) (r : Result Bool Stop)
-      (a b : F) (s t : Outputs O E) → Splits g removed (Ok h) old mid
-      → DoesUnread f o e (halves_done file names h.stripped.elf.o h.debug.o) r a b s t
-      → Writes (split_done file names (halves_of old.o removed)) r old mid a b s t
-  split_written removed old mid h r a b s t first second = record {
+  abbrev Both : Result Bool Stop → F → F → Outputs O E → Outputs O E → List ℕ → List ℕ → Type 0
+  Both r a b s t bytes others =
+      Does f o e refused_status (outcome_with no_report
+      (made_file names.stripped.now bytes ∷ made_file names.debug.now others ∷ [])) r a b s t
+
+  -- the bytes of both are told
+  told_both : (k : KeptSource) (p q : RangedPlan) (P : List ℕ → List ℕ → Type 0) → IsTrue k.told
+      → IfSome (text_with k p) (λ bytes. IfSome (text_with k q) (λ others. P bytes others))
+      → P (ranged_text (kept_with k p) p.plan p.end) (ranged_text (kept_with k q) q.plan q.end)
+  told_both k p q P told h = by k.told told h
+    where
+      by : (y : Bool) → IsTrue y
+          → IfSome (if y then Some (ranged_text (kept_with k p) p.plan p.end) else None) (λ x.
+          IfSome (if y then Some (ranged_text (kept_with k q) q.plan q.end) else None) (λ z.
+          P x z))
+          → P (ranged_text (kept_with k p) p.plan p.end) (ranged_text (kept_with k q) q.plan q.end)
+      by true is here = here
+      by false is here = cc
+
+  both_here : (bytes others : List ℕ) (r : Result Bool Stop) (a b : F) (s t : Outputs O E)
+      → Both r a b s t bytes others
+      → DoesHere f o e (codes "strip") (Ok (both_made names bytes others)) r a b s t
+  unfolding written_outcome
+  both_here bytes others r a b s t h =
+      subst (λ (x : Report). Does f o e refused_status (outcome_with x
+      (made_file names.stripped.now bytes ∷ made_file names.debug.now others ∷ [])) r a b s t)
+      (sym shown_none) h
+
+  pub split_written : (removed : List ℕ) (old mid : State S) (next : S) (p : SplitPlans)
+      (r : Result Bool Stop) (a b : F) (s t : Outputs O E) → IsOverSource g old
+      → PlansSplit g removed (Ok p) old mid
+      → WritesHalves g f o e names p r mid.source next a b s t
+      → Writes (split_done file names (split_files old.o removed)) r old next a b s t
+  split_written removed old mid next p r a b s t over plans writes = record {
     does = λ tells told.
+        let known = plans.answer told in
+        let here = over_stays g old mid over plans.asks.object plans.asks.told
+        plans.asks.source.leaves in
+        let k = kept_of_source g mid.source in
+        let base : k.base ≡ old.o.base =
+        sym here.base ∙ ap (λ (q : Object). q.base) plans.asks.object in
+        let known_told : IsTrue k.told =
+        subst (λ (y : Bool). IsTrue y) here.told
+        (subst (λ (y : Bool). IsTrue y) (sym plans.asks.told) told) in
         subst (λ (q : Result Done Complaint). DoesHere f o e (codes "strip") q r a b s t)
-        (sym (ap (split_done file names) (first.made told))) (second.does tells);
-    source = first.asks.source.leaves;
-    later = first.asks.source.later;
-    live = second.live;
-    leaves = leaves_by f o e ⊥ (SourceRose g old mid) r a b s t (λ never. absurd never)
-        second.leaves;
+        (sym (ap (split_done file names) known.2))
+        (both_here known.0 known.1 r a b s t
+        (subst (λ (x : List ℕ). Both r a b s t x known.1) (known.3 k base)
+        (subst (λ (y : List ℕ). Both r a b s t
+        (ranged_text (kept_with k p.stripped) p.stripped.plan p.stripped.end) y)
+        (known.4 k base)
+        (told_both k p.stripped p.debug (Both r a b s t) known_told (writes.does tells)))));
+    source = leaves_then g old.source mid.source next plans.asks.source.leaves writes.source;
+    later = let one = plans.asks.source.later in let two = writes.later in
+        omega (arith, one, two);
+    live = writes.live;
+    leaves = leaves_by f o e (Rose (g.faults mid.source) (g.faults next))
+        (Rose (g.faults old.source) (g.faults next)) r a b s t
+        (λ rose. let one = plans.asks.source.later in omega (arith, one, rose)) writes.leaves;
   }
 
-  split_fault : (r : Result (Object × Object) ElfError) (c : Option ElfError)
-      → IfSome c (λ d. r ≡ Err d)
-      → IfSome c (λ d. split_done file names r ≡ Err (complaint file (error_text d)))
-  split_fault r None is = tt
-  split_fault r (Some d) is = ap (split_done file names) is
+  split_fault : (base : List ℕ) (r : Result (List ℕ × List ℕ) ElfError) (d : ElfError)
+      → SplitAnswers base (Err d) r
+      → IfSome (stated_refusal d)
+      (λ x. split_done file names r ≡ Err (complaint file (error_text x)))
+  split_fault base r error.Memory is = tt
+  split_fault base r error.Read is = tt
+  split_fault base r error.Write is = absurd is
+  split_fault base r d is = ap (split_done file names) is
 
   pub split_refused : (removed : List ℕ) (old mid : State S) (d : ElfError)
-      (r : Result Bool Stop) (a : F) (s t : Outputs O E) → Splits g removed (Err d) old mid
+      (r : Result Bool Stop) (a : F) (s t : Outputs O E) → PlansSplit g removed (Err d) old mid
       → Refuses o e (codes "strip") (file_name file) d r s t
-      → Writes (split_done file names (halves_of old.o removed)) r old mid a a s t
+      → Writes (split_done file names (split_files old.o removed)) r old mid.source a a s t
   split_refused removed old mid d r a s t first h =
       refused_writes g f o e (codes "strip") file
-      (split_done file names (halves_of old.o removed)) old mid SplitImage d r a s t
-      (λ tells told. split_fault (halves_of old.o removed) (stated_refusal d) (first.made told))
+      (split_done file names (split_files old.o removed)) old
+      (record old { source = mid.source }) SplitPlans d r a s t
+      (λ tells told. split_fault old.o.base (split_files old.o removed) d (first.answer told))
       first.asks.source.leaves first.asks.source.later first.asks.source.read h
 
   -- ---- A section that is lost
@@ -121,7 +198,7 @@ module _ {S F D O E : Type 0} (g : SourceGhosts S) (f : FilesGhosts F D) (o : Si
       → Reports o e r s t (refusal_report (codes "strip") (file_name file) (allocated_text n))
       → LeavesOutputs o e ⊥ r s t
       → Writes (strip_split state.o removed names.stripped.now names.debug.now file) r
-      state state a a s t
+      state state.source a a s t
   lost_said removed state n r a s t some h left = record {
     does = λ tells told.
         subst (λ (q : Result Done Complaint). DoesHere f o e (codes "strip") q r a a s t)
@@ -130,58 +207,67 @@ module _ {S F D O E : Type 0} (g : SourceGhosts S) (f : FilesGhosts F D) (o : Si
     source = record { same_len = refl; same_bytes = refl; same_rest = refl };
     later = omega arith;
     live = λ small. refl;
-    leaves = outputs_leave f o e (codes "strip") (SourceRose g state state) r a s t left;
+    leaves = outputs_leave f o e (codes "strip")
+        (Rose (g.faults state.source) (g.faults state.source)) r a s t left;
   }
 
-  pub none_lost : (removed : List ℕ) (old new : State S) (r : Result Bool Stop) (a b : F)
+  pub none_lost : (removed : List ℕ) (old : State S) (next : S) (r : Result Bool Stop) (a b : F)
       (s t : Outputs O E) → None ≡ removed_allocated old.o removed
-      → Writes (split_done file names (halves_of old.o removed)) r old new a b s t
+      → Writes (split_done file names (split_files old.o removed)) r old next a b s t
       → Writes (strip_split old.o removed names.stripped.now names.debug.now file) r
-      old new a b s t
-  none_lost removed old new r a b s t none h =
-      subst (λ (q : Result Done Complaint). Writes q r old new a b s t)
+      old next a b s t
+  none_lost removed old next r a b s t none h =
+      subst (λ (q : Result Done Complaint). Writes q r old next a b s t)
       (sym (split_stated old.o removed file names none)) h
 
   -- ---- What is removed
 
   module _ (debug_only : Bool) (wanted : List (List ℕ)) (wants : Wants) (old mid : State S) where
-    pub removed_written : (new : State S) (set : List ℕ) (r : Result Bool Stop) (a b : F)
+    -- of the state afterwards the source alone counts
+    as_new : (q : Result Done Complaint) (next : S) (r : Result Bool Stop) (a b : F)
+        (s t : Outputs O E) → Writes q r mid next a b s t
+        → WritesFile g f o e (written_outcome (codes "strip") q) r mid
+        (record old { source = next }) a b s t
+    as_new q next r a b s t h = record {
+      does = h.does;
+      source = h.source;
+      later = h.later;
+      live = h.live;
+      leaves = h.leaves;
+    }
+
+    pub removed_written : (next : S) (set : List ℕ) (r : Result Bool Stop) (a b : F)
         (s t : Outputs O E)
         → Answers old.told wants (Ok set) ((calls.removed debug_only wanted).answer old.o)
         → Queries g (calls.removed debug_only wanted) [] (Ok set) old mid
-        → Writes (strip_split mid.o set names.stripped.now names.debug.now file) r mid new
+        → Writes (strip_split mid.o set names.stripped.now names.debug.now file) r mid next
         a b s t
-        → Writes (object_split debug_only wanted names file old.o) r old new a b s t
-    removed_written new set r a b s t came queries second =
+        → Writes (object_split debug_only wanted names file old.o) r old next a b s t
+    removed_written next set r a b s t came queries second =
+        let stated : Result Done Complaint =
+        strip_split mid.o set names.stripped.now names.debug.now file in
         written_then g f o e (codes "strip") (object_split debug_only wanted names file old.o)
-        (strip_split mid.o set names.stripped.now names.debug.now file) old mid new r a b s t
+        stated old mid (record old { source = next }) r a b s t
         queries.reads.told queries.reads.source.leaves queries.reads.source.later
         (λ told. ap (λ (l : List ℕ).
         strip_split old.o l names.stripped.now names.debug.now file)
-        (sym (set_is g debug_only wanted wants old mid set came told))
+        (sym (set_is debug_only wanted wants old.told old.o set came told))
         ∙ ap (λ (p : Object). strip_split p set names.stripped.now names.debug.now file)
         (sym queries.object))
-        second
-
-    -- only memory and reads can fail
-    never_stated : (d : ElfError) (q : Result Done Complaint)
-        → Answers {A = List ℕ} old.told wants (Err d)
-        ((calls.removed debug_only wanted).answer old.o)
-        → IfSome (stated_refusal d) (λ x. q ≡ Err (complaint file (error_text x)))
-    never_stated error.Memory q came = tt
-    never_stated error.Read q came = tt
-    never_stated d q came =
-        let clash : ◌≡◌ {A = Result (List ℕ) ElfError}
-        (Ok (removed_sections debug_only wanted old.o)) (Err d) = came in cc
+        (as_new stated next r a b s t second)
 
     pub removed_refused : (d : ElfError) (r : Result Bool Stop) (a : F) (s t : Outputs O E)
         → Answers {A = List ℕ} old.told wants (Err d)
         ((calls.removed debug_only wanted).answer old.o)
         → Queries {T = List ℕ} g (calls.removed debug_only wanted) [] (Err d) old mid
         → Refuses o e (codes "strip") (file_name file) d r s t
-        → Writes (object_split debug_only wanted names file old.o) r old mid a a s t
+        → Writes (object_split debug_only wanted names file old.o) r old mid.source a a s t
     removed_refused d r a s t came queries h =
-        refused_writes g f o e (codes "strip") file
-        (object_split debug_only wanted names file old.o) old mid (List ℕ) d r a s t
-        (λ tells told. never_stated d (object_split debug_only wanted names file old.o) came)
+        let stated : Result Done Complaint =
+        object_split debug_only wanted names file old.o in
+        refused_writes g f o e (codes "strip") file stated old
+        (record old { source = mid.source }) (List ℕ) d r a s t
+        (λ tells told. never_refused debug_only wanted wants old.told old.o
+        (λ x. IfSome (stated_refusal x) (λ y. stated ≡ Err (complaint file (error_text y)))) d
+        came tt tt)
         queries.reads.source.leaves queries.reads.source.later queries.reads.source.read h

@@ -1,34 +1,57 @@
--- The two halves of an image, made as objects: what is kept of it, and its debug half.
-use Rattle.std.specs.Prelude.{◌≡◌, ◌+◌, ℕ, true, List, IsTrue, IfOk, IfSome, Result, Ok, Err}
+-- The two halves of an image as files: of what is kept of it, and of its debug half.
+use Rattle.std.specs.Prelude.{◌≡◌, ℕ, List, IsTrue, Result, Ok, Err}
 use Rattle.elf_types.specs.declared.errors.ElfError.{ElfError}
-use Rattle.elf_types.specs.Answers.{stated_refusal, ◌>>=◌}
+use Rattle.elf_types.specs.declared.errors.ElfError.TheVariants.{Memory, Read, Write}
+use Rattle.elf_types.specs.Answers.{◌>>=◌}
+use Rattle.elf_outside.specs.Asks.{ReadRose}
 use Rattle.elf_outside.specs.declared.sources.Source.{Ghosts}
 use Rattle.elf_object.specs.Object.{Object}
 use Rattle.elf_descriptor.specs.State.{State}
+use Rattle.command_objects.specs.Files.{file_of}
 use Rattle.command_objects.specs.Rebuilt.{rebuilt}
-use Rattle.command_objects.specs.Split.{debug_of}
-use Rattle.strip_rebuild.specs.Answers.{rebuild_due}
+use Rattle.command_objects.specs.Split.{debug_half, debug_of}
 use Rattle.strip_rebuild.specs.Makes.{AsksFor}
-use Rattle.debug_half.specs.Half.{half_due}
-use Rattle.unstrip_tool.specs.declared.images.SplitImage.{SplitImage}
+use Rattle.strip_contents.specs.declared.arranged.Arranged.{Arranged}
+use Rattle.strip_contents.specs.Plans.{CopiesAs, IsRangedBy, stream_due}
+use Rattle.unstrip_tool.specs.declared.plans.SplitPlans.{SplitPlans}
 
--- both, or the first refusal
-abbrev pub halves_of : Object → List ℕ → Result (Object × Object) ElfError
-halves_of o removed = rebuilt o removed >>= λ r. debug_of o >>= λ half. Ok (r.object, half)
+-- the bytes of two files, or the first refusal
+abbrev pub both_bytes : Result (List ℕ) ElfError → Result (List ℕ) ElfError
+    → Result (List ℕ × List ℕ) ElfError
+both_bytes first second = first >>= λ bytes. second >>= λ others. Ok (bytes, others)
 
--- they were made as is stated, or refused so
-abbrev pub AreMade : Result SplitImage ElfError → Result (Object × Object) ElfError → Type 0
-AreMade (Ok h) stated = stated ≡ Ok (h.stripped.elf.o, h.debug.o)
-AreMade (Err e) stated = IfSome (stated_refusal e) (λ d. stated ≡ Err d)
+-- what updates write of two objects
+abbrev pub both_files : Object → Object → Result (List ℕ × List ℕ) ElfError
+both_files stripped half = both_bytes (file_of stripped) (file_of half)
 
--- what is asked for: as for each half
-abbrev pub split_due : Object → List ℕ → ℕ
-split_due o removed = rebuild_due o removed + half_due o
+-- of both halves: each is made first, and then each is written
+abbrev pub split_files : Object → List ℕ → Result (List ℕ × List ℕ) ElfError
+split_files o removed =
+    rebuilt o removed >>= λ r. debug_of o >>= λ half. both_files r.object half
 
--- It makes both halves, where the source tells its bytes. Over every source it leaves the object,
--- asks for no more than is stated, and what it makes is known.
-pub record Splits {S : Type 0} (g : Ghosts S) (removed : List ℕ)
-    (result : Result SplitImage ElfError) (old new : State S) : Type 0 where
-  pub made : IsTrue old.told → AreMade result (halves_of old.o removed)
-  pub told : IfOk result (λ h. (h.stripped.elf.told ≡ true) × (h.debug.told ≡ true))
-  pub asks : AsksFor g result old new (split_due old.o removed)
+-- the plans of stated files, or their refusal; or memory is wanted, or a read failed
+abbrev pub SplitAnswers : List ℕ → Result SplitPlans ElfError
+    → Result (List ℕ × List ℕ) ElfError → Type 0
+SplitAnswers base (Ok p) stated =
+    (bytes : List ℕ) × (others : List ℕ) × (stated ≡ Ok (bytes, others))
+    × CopiesAs base p.stripped bytes × CopiesAs base p.debug others
+SplitAnswers base (Err Memory) stated = Unit {0}
+SplitAnswers base (Err Read) stated = Unit {0}
+SplitAnswers base (Err Write) stated = ⊥
+SplitAnswers base (Err e) stated = stated ≡ Err e
+
+-- A step plans the files of the object that has what was arranged, and of the debug half, or
+-- refuses one, where the source tells its bytes. It reads nothing.
+pub record PlansBoth {S : Type 0} (s : State S) (x : Arranged) (result : Result SplitPlans ElfError)
+    : Type 0 where
+  pub answer : IsTrue s.told → (q : Object) → IsRangedBy s.o.phdrs s.o.base q x
+      → SplitAnswers s.o.base result (both_files q (debug_half s.o))
+  pub unread : (a b : ℕ) → ReadRose result a b
+
+-- It plans both files, or refuses them, where the source tells its bytes. Over every source it
+-- leaves the object, and asks for no more than is stated: what is made anew of the first half.
+pub record PlansSplit {S : Type 0} (g : Ghosts S) (removed : List ℕ)
+    (result : Result SplitPlans ElfError) (old new : State S) : Type 0 where
+  pub answer : IsTrue old.told
+      → SplitAnswers old.o.base result (split_files old.o removed)
+  pub asks : AsksFor g result old new (stream_due old.o removed)

@@ -1,15 +1,18 @@
 //! strip with `-f`, as a command by the image of an open file.
 
 ghost use Rattle.std.specs.Prelude.{codes};
+ghost use Rattle.object_output.specs.Images.{file_object};
+ghost use Rattle.object_writing.specs.Writes.{image_done};
+ghost use Rattle.tool_output.specs.Made.{written_outcome};
 ghost use Rattle.unstrip_tool.specs.Writes.{object_split};
 
 use crate::names::HalfNames;
-use crate::writing::write_unless_lost;
-use elf_descriptor::Elf;
+use crate::writing::write_halves;
 use elf_outside::{Files, Sink, Source};
-use object_writing::{ImageCommand, refuse_for};
+use object_files::FileEdit;
+use object_output::begin_image;
+use object_writing::refuse_for;
 use std::alloc::Global;
-use strip_removed::removed;
 use tool_output::{Outputs, Stop};
 use tool_text::Args;
 
@@ -24,29 +27,38 @@ pub struct SplitCommand<'a> {
     pub halves: &'a HalfNames<'a>,
 }
 
-/// The image is made anew without the sections that are removed, and its debug half is made; then
-/// each is written to a new file, the debug half last. Both are held meanwhile. What is refused has
-/// the message that says why: then no file is made.
-impl ImageCommand for SplitCommand<'_> {
-    ghost named = { λ _. codes "strip" };
+/// The image without the sections that are removed, and its debug half, are written to new files
+/// while the old one is open, the debug half last: what stays as it is is copied range by range.
+/// What has no front of an image, an archive, and an image that cannot be split have the message
+/// that says why: then no file is made.
+impl FileEdit for SplitCommand<'_> {
+    ghost command = { λ _. codes "strip" };
 
-    ghost done = { λ t file o. object_split t.debug_only t.names.now t.halves.now file o };
+    ghost outcome = { λ t name bytes. written_outcome (codes "strip")
+        (image_done (λ file o. object_split t.debug_only t.names.now t.halves.now file o) name
+        (file_object bytes)) };
 
-    fn name(&self) -> &'static str {
+    fn command(&self) -> &'static str {
         "strip"
     }
 
-    fn write<S: Source, F: Files, O: Sink, E: Sink>(
+    fn edit<S: Source, F: Files, O: Sink, E: Sink>(
         &self,
         alloc: Global,
-        elf: &mut Elf<S>,
-        file: &[u8],
+        src: S,
+        name: &[u8],
         files: &mut F,
         outputs: &mut Outputs<'_, O, E>,
-    ) -> Result<bool, Stop> {
-        match removed(alloc, elf, self.debug_only, self.names) {
-            Ok(set) => write_unless_lost(alloc, elf, &set, self.halves, file, files, outputs),
-            Err(e) => refuse_for("strip", file, e, outputs),
+    ) -> (S, Result<bool, Stop>) {
+        match begin_image(alloc, src) {
+            Ok(elf) => {
+                let _sound = elf.dirty();
+                write_halves(self, alloc, elf, name, files, outputs)
+            }
+            Err((src, e)) => {
+                let refused = refuse_for("strip", name, e, outputs);
+                (src, refused)
+            }
         }
     }
 }

@@ -9,16 +9,15 @@ ghost use Rattle.command_outcomes.specs.Strip.{strip_outcome};
 
 use crate::commands::strip::strip;
 use elf_outside::{Files, Sink};
-use object_writing::edit_named;
 use std::alloc::Global;
 use tool_output::{Outputs, Stop};
 use tool_text::{StripOptions, Text};
-use unstrip_tool::{HalfNames, SplitCommand};
+use unstrip_tool::{HalfNames, SplitCommand, split_named};
 
 /// The command strip with `-f`: the image without what is removed, and its debug half, are written
-/// to new files while the old one is open, the debug half last. Where a section is removed that is
-/// allocated, and where a half or its update is refused, the message says so, and neither file is
-/// made. The answer tells whether it was refused.
+/// to new files while the old one is open, the debug half last, and what stays as it is is copied
+/// range by range. Where a section is removed that is allocated, and where a half or its update is
+/// refused, the message says so, and neither file is made. The answer tells whether it was refused.
 fn split<F: Files, O: Sink, E: Sink>(
     alloc: Global,
     options: &StripOptions,
@@ -44,7 +43,7 @@ fn split<F: Files, O: Sink, E: Sink>(
         names: &options.names,
         halves: &halves,
     };
-    edit_named(alloc, &command, file.as_str(), files, outputs)
+    split_named(alloc, &command, file.as_str(), files, outputs)
 }
 
 /// The command strip, without `-f` and with it.

@@ -1,46 +1,53 @@
-use Rattle.std.proofs.Common.{ℕ, List, Some, ◌∙◌, subst}
-use Rattle.elf_object.specs.Image.{image}
-use Rattle.object_files.specs.Making.{InOrder}
-use Rattle.object_files.proofs.WriteLemmas.{order_none}
-use Rattle.unstrip_tool.proofs.HalfLemmas.{planned_passes, same_image, planned_told, first_written, first_unwritten}
+use Rattle.elf_descriptor.specs.Reads.{wanted}
+use Rattle.strip_removed.specs.Calls as calls
+use Rattle.strip_rebuild.proofs.WholeLaws.{clean_stays, removable_stays}
+use Rattle.strip_contents.proofs.WholeLaws.{tied_stays, fits_stays}
+use Rattle.strip_tool.proofs.StripLemmas.{over_stays}
+use Rattle.unstrip_tool.proofs.WriteLemmas.{removed_written, removed_refused}
 use Rattle.unstrip_tool.proofs.writing.write_halves.Goals as goal
 
-pub write_second-requires-clause-planned : goal.write_second-requires-clause-planned
-write_second-requires-clause-planned g c =
-    planned_passes c.args.stripped.now c.update_null.new.elf _
-    c.dirty-sound.ensures.sound.object c.in-Ok.ensures
+pub write_unless_lost-requires-clause-over : goal.write_unless_lost-requires-clause-over
+write_unless_lost-requires-clause-over g c =
+    over_stays g.S.Source c.args.elf c.removed.new.elf c.requires.over
+    c.in-Ok.ensures.queries.object c.in-Ok.ensures.queries.reads.told
+    c.in-Ok.ensures.queries.reads.source.leaves
 
-pub write_second-requires-clause-told : goal.write_second-requires-clause-told
-write_second-requires-clause-told g c = (
-  planned_told c.args.stripped.now c.update_null.new.elf _
-      c.dirty-sound.ensures.sound.object c.in-Ok.ensures ∙ c.requires.told.0,
-  c.requires.told.1,
-)
+pub write_unless_lost-requires-clause-clean : goal.write_unless_lost-requires-clause-clean
+write_unless_lost-requires-clause-clean g c =
+    clean_stays c.args.elf c.removed.new.elf c.in-Ok.ensures.queries.object
+    c.in-Ok.ensures.queries.reads.told c.requires.clean
 
-pub returns-in-Ok-clause-does : goal.returns-in-Ok-clause-does
-returns-in-Ok-clause-does g c =
-    first_written g.F.Files g.O.Sink g.E.Sink c.args.file.now c.args.names.now
-    c.write_second.result c.args.files.now c.write_second.new.files c.args.outputs.now
-    c.write_second.new.outputs c.args.stripped.now c.update_null.new.elf _
-    c.args.debug.now.o c.dirty-sound.ensures.sound.object c.in-Ok.ensures
-    c.write_second.ensures.does
+pub write_unless_lost-requires-clause-tied : goal.write_unless_lost-requires-clause-tied
+write_unless_lost-requires-clause-tied g c =
+    tied_stays c.args.elf c.removed.new.elf c.in-Ok.ensures.queries.object
+    c.in-Ok.ensures.queries.reads.told c.requires.tied
 
-pub returns-in-Err-clause-does : goal.returns-in-Err-clause-does
-returns-in-Err-clause-does g c =
-    first_unwritten g.F.Files g.O.Sink g.E.Sink c.args.file.now c.args.names.now
-    c.refuse_for.result c.args.files.now c.args.outputs.now c.refuse_for.new.outputs
-    c.args.stripped.now c.update_null.new.elf c.in-Err.e c.in-Err.ensures
-    c.refuse_for.ensures c.args.debug.now.o
+pub write_unless_lost-requires-clause-fits : goal.write_unless_lost-requires-clause-fits
+write_unless_lost-requires-clause-fits g c =
+    fits_stays c.args.elf c.removed.new.elf c.in-Ok.ensures.queries.object
+    c.in-Ok.ensures.queries.reads.told c.requires.fits
 
-pub returns-in-Ok-clause-order : goal.returns-in-Ok-clause-order
-returns-in-Ok-clause-order g c =
-    let names = c.args.names.now in
-    subst (λ (bytes : List ℕ). InOrder g.F.Files names.stripped.now names.debug.now (Some bytes)
-    c.write_second.result c.args.files.now c.write_second.new.files)
-    (same_image c.args.stripped.now c.update_null.new.elf _
-    c.dirty-sound.ensures.sound.object c.in-Ok.ensures) c.write_second.ensures.order
+pub write_unless_lost-requires-clause-removable : goal.write_unless_lost-requires-clause-removable
+write_unless_lost-requires-clause-removable g c =
+    removable_stays c.args.elf c.removed.new.elf c.in-Ok.ensures.queries.object
+    c.in-Ok.ensures.queries.reads.told c.in-Ok.set c.in-Ok.ensures.removable
 
-pub returns-in-Err-clause-order : goal.returns-in-Err-clause-order
-returns-in-Err-clause-order g c =
-    order_none g.F.Files c.args.names.now.stripped.now c.args.names.now.debug.now
-    (Some (image c.args.stripped.now.o)) c.refuse_for.result c.args.files.now
+pub returns-in-Ok : goal.returns-in-Ok
+returns-in-Ok g c =
+    let command = c.args.command.now in
+    removed_written g.S.Source g.F.Files g.O.Sink g.E.Sink c.args.file.now command.halves.now
+    command.debug_only command.names.now
+    (wanted (calls.removed command.debug_only command.names.now) c.args.elf) c.args.elf
+    c.removed.new.elf c.write_unless_lost.result.0 c.in-Ok.set c.write_unless_lost.result.1
+    c.args.files.now _ c.args.outputs.now _ c.in-Ok.ensures.answer c.in-Ok.ensures.queries
+    c.write_unless_lost.ensures
+
+pub returns-in-Err : goal.returns-in-Err
+returns-in-Err g c =
+    let command = c.args.command.now in
+    rw c.end.ensures (removed_refused g.S.Source g.F.Files g.O.Sink g.E.Sink c.args.file.now
+    command.halves.now command.debug_only command.names.now
+    (wanted (calls.removed command.debug_only command.names.now) c.args.elf) c.args.elf
+    c.removed.new.elf c.in-Err.e c.refuse_for-refused.result c.args.files.now
+    c.args.outputs.now _ c.in-Err.ensures.answer c.in-Err.ensures.queries
+    c.refuse_for-refused.ensures)

@@ -8,8 +8,8 @@ invariant_of-halves g c =
     rw (c.as_str.ensures, c.as_str-2.ensures)
     (record { apart = c.requires.differ.third_differs })
 
-pub edit_named-requires : goal.edit_named-requires
-edit_named-requires g c = λ bytes.
+pub split_named-requires : goal.split_named-requires
+split_named-requires g c = λ bytes.
     rw (c.as_str.ensures, c.as_str-2.ensures, c.as_str-3.ensures)
     (halves_unwritten c.args.options.now.out c.args.debug.now c.args.file.now
     c.requires.differ.second_differs
@@ -21,4 +21,4 @@ returns-clause-does g c = λ told.
     rw (split_is c.args.options.now (g.F.Files.named c.args.files.now) c.args.file.now
     c.args.debug.now c.requires.debug)
     ((rw (c.as_str.ensures, c.as_str-2.ensures, c.as_str-3.ensures)
-    at c.edit_named.ensures.does) told)
+    at c.split_named.ensures.does) told)

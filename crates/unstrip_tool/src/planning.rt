@@ -1,0 +1,73 @@
+//! An image is split: the plans of its two halves.
+
+ghost use Rattle.std.specs.Prelude.{◌≡◌, false, None, IsTrue};
+ghost use Rattle.elf_object.specs.Object.{is_dirty};
+ghost use Rattle.elf_object.specs.Valid.{IsObject, IsTied};
+ghost use Rattle.command_objects.specs.Split.{debug_refusal};
+ghost use Rattle.strip_laws.specs.Made.{FitsClass};
+ghost use Rattle.strip_removed.specs.Steps.{IsRemovable};
+ghost use Rattle.strip_contents.specs.Plans.{IsListable};
+ghost use Rattle.debug_contents.specs.Keeping.{HasHalf};
+ghost use Rattle.unstrip_tool.specs.Splitting.{PlansBoth, PlansSplit};
+
+use crate::plans::SplitPlans;
+use debug_contents::{keep_half, plan_half};
+use elf_descriptor::Elf;
+use elf_outside::Source;
+use elf_types::ElfError;
+use std::alloc::Global;
+use strip_contents::{Arranged, Contents, arrange_rebuilt, plan_arranged};
+use strip_removed::SectionSet;
+
+/// The plans of what was arranged, and of what the debug half has. It refuses as the update of the
+/// first half, and then as that of the second.
+fn plan_both<S: Source>(
+    alloc: Global,
+    elf: &Elf<S>,
+    kept: Arranged,
+    half: Contents,
+) -> Result<SplitPlans, ElfError>
+    requires object { IsObject elf.now.o }
+    requires fits { FitsClass elf.now.o }
+    requires listable { IsListable kept }
+    requires half { HasHalf elf.now half }
+    requires passed { debug_refusal elf.now.o ≡ None }
+    ensures { PlansBoth elf.now kept result }
+{
+    let stripped = match plan_arranged(alloc, elf, kept) {
+        Ok(plan) => plan,
+        Err(e) => return Err(e),
+    };
+    match plan_half(alloc, elf, half) {
+        Ok(debug) => Ok(SplitPlans { stripped, debug }),
+        Err(e) => Err(e),
+    }
+}
+
+/// The plans of the halves of an object in which nothing is dirty: without the removed sections,
+/// and with all of them but without the bytes that are loaded. It refuses as `arrange_rebuilt`,
+/// then as `keep_half`, and then as the updates of the two; and `Memory` and `Read`. It asks for
+/// what `arrange_rebuilt` asks for.
+///
+/// Source: eu-strip(1) with -f.
+pub(crate) fn plan_split<S: Source>(
+    alloc: Global,
+    elf: &mut Elf<S>,
+    removed: &SectionSet,
+) -> Result<SplitPlans, ElfError>
+    requires clean { is_dirty elf.old.o ≡ false }
+    requires tied { IsTrue elf.old.told → IsTied elf.old.o }
+    requires fits { FitsClass elf.old.o }
+    requires removable { IsRemovable elf.old.o removed.now }
+    ensures { PlansSplit S.Source removed.now result elf.old elf.new }
+{
+    let kept = match arrange_rebuilt(alloc, elf, removed) {
+        Ok(kept) => kept,
+        Err(e) => return Err(e),
+    };
+    let _sound = elf.dirty();
+    match keep_half(alloc, elf) {
+        Ok(half) => plan_both(alloc, elf, kept, half),
+        Err(e) => Err(e),
+    }
+}
