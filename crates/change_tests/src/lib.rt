@@ -8,6 +8,6 @@ mod edits;
 #[cfg(test)]
 mod faults;
 #[cfg(test)]
-mod files;
+mod images;
 #[cfg(test)]
 mod refusals;

@@ -23,8 +23,6 @@ mod readelf;
 #[cfg(test)]
 mod records;
 #[cfg(test)]
-mod runs;
-#[cfg(test)]
 mod size;
 #[cfg(test)]
 mod strings;

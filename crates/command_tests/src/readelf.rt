@@ -1,14 +1,10 @@
 //! What readelf shows, and which fronts it refuses.
 
-use crate::runs::{NOTHING, refuses, run_line, shows};
 use elf_types::constants::{EI_CLASS, EI_DATA, EI_VERSION, SHN_XINDEX};
-use elf_types::{Class, ElfError, Order, Phdr};
-use std::alloc::Global;
-use std::test::Fail;
-use test_images::{
-    FORMS, Field, HeaderField, Image, SectionField, header_alone, symbol_object, with_segments,
-};
-use tool_output::Status;
+use elf_types::{Class, Order, Phdr};
+use test_cases::{Case, RUN, Stored, are_so, are_so_in_all_forms, is_so};
+use test_images::{Field, Form, HeaderField, NARROW, OBJECT, Put, Recipe, SectionField, Start};
+use test_runs::{DONE, Ending, REFUSED};
 
 /// The header of an executable that has nothing else.
 const HEADER: &[u8] = b"ELF header\n  class: 64\n  order: least\n  osabi: 0\n  abiversion: 0\n  \
@@ -17,12 +13,13 @@ const HEADER: &[u8] = b"ELF header\n  class: 64\n  order: least\n  osabi: 0\n  a
       shentsize: 0\n  shnum: 0\n  shstrndx: 0\n";
 
 /// The header of an object of class 32, the greatest byte first, and its program headers.
-const NARROW: &[u8] = b"ELF header\n  class: 32\n  order: greatest\n  osabi: 0\n  abiversion: 0\n  \
+const NARROW_LINES: &[u8] =
+    b"ELF header\n  class: 32\n  order: greatest\n  osabi: 0\n  abiversion: 0\n  \
       type: REL\n  machine: X86_64\n  version: 1\n  entry: 0x0\n  phoff: 0\n  \
       shoff: 88\n  flags: 0x0\n  ehsize: 52\n  phentsize: 0\n  phnum: 0\n  \
       shentsize: 40\n  shnum: 3\n  shstrndx: 1\nProgram headers: 0\n";
 
-/// One program header of class 64.
+/// The program header of a file of class 64.
 const SEGMENT: &[u8] = b"Program headers: 1\n  \
       0 LOAD offset 0x1 vaddr 0x401000 paddr 0x2 filesz 0x78 memsz 0x90 \
       flags R-X+0x8 align 0x1000\n";
@@ -39,120 +36,195 @@ const LOADED: Phdr = Phdr {
     align: 0x1000,
 };
 
-#[test]
-fn headers_and_program_headers_are_shown_in_both_classes(rt: HostRuntime) -> Result<(), Fail> {
-    let wide = header_alone(rt.alloc(), Class::C64, Order::Least)?;
-    assert!(rt; shows(rt.alloc(), "readelf -h F", wide, HEADER)?);
-    let narrow = symbol_object(rt.alloc(), Class::C32, Order::Greatest)?;
-    assert!(rt; shows(rt.alloc(), "readelf -hl F", narrow, NARROW)?);
-    let image = with_segments(rt.alloc(), Class::C64, Order::Greatest, &[LOADED])?;
-    assert!(rt; shows(rt.alloc(), "readelf -l F", image, SEGMENT)?);
-    Ok(())
-}
+/// Class 64, and the greatest byte first.
+const WIDE_GREATEST: Form = (Class::C64, Order::Greatest);
 
-/// A field of an image, and a number for it.
-type Set = (Field, u64);
-
-/// An object with two symbols, with these fields set.
-fn with_fields(
-    alloc: Global,
-    class: Class,
-    order: Order,
-    fields: &[Set],
-) -> Result<Image, ElfError> {
-    let mut image = symbol_object(alloc, class, order)?;
-    for (field, value) in fields {
-        image.put_field(*field, *value);
-    }
-    Ok(image)
-}
-
-/// The number of sections, and the section of their names, stand in section 0.
-const EXTENDED: [Set; 4] = [
-    (Field::Header(HeaderField::Shnum), 0),
-    (Field::Header(HeaderField::Shstrndx), SHN_XINDEX as u64),
-    (Field::Section(0, SectionField::Size), 3),
-    (Field::Section(0, SectionField::Link), 1),
+/// Headers and program headers of three files.
+const SHOWN: [Case; 3] = [
+    Case {
+        line: "readelf -h F",
+        file: Stored::Image(Recipe {
+            start: Start::HeaderAlone,
+            ..OBJECT
+        }),
+        ending: Ending {
+            out: HEADER,
+            ..DONE
+        },
+        ..RUN
+    },
+    Case {
+        line: "readelf -hl F",
+        file: Stored::Image(Recipe {
+            form: NARROW,
+            ..OBJECT
+        }),
+        ending: Ending {
+            out: NARROW_LINES,
+            ..DONE
+        },
+        ..RUN
+    },
+    Case {
+        line: "readelf -l F",
+        file: Stored::Image(Recipe {
+            form: WIDE_GREATEST,
+            start: Start::Segments(&[LOADED]),
+            puts: &[],
+        }),
+        ending: Ending {
+            out: SEGMENT,
+            ..DONE
+        },
+        ..RUN
+    },
 ];
 
-/// Whether the last two lines of the header show them.
-fn shows_both(alloc: Global) -> Result<bool, ElfError> {
-    let image = with_fields(alloc, Class::C64, Order::Least, &EXTENDED)?;
-    let ran = run_line(alloc, "readelf -h F", &image, NOTHING)?;
-    let shown = ran.out.as_slice().ends_with(b"  shnum: 3\n  shstrndx: 1\n");
-    Ok(shown && ran.status == Status::Done)
+#[test]
+fn headers_and_program_headers_are_shown_in_both_classes(rt: HostRuntime) {
+    assert!(rt; are_so(rt.alloc(), &[], &SHOWN));
 }
 
+/// An object whose number of sections, and whose section of their names, stand in section 0: both are
+/// shown as they are.
+const EXTENDED: Case = Case {
+    line: "readelf -h F",
+    file: Stored::Image(Recipe {
+        puts: &[
+            Put::Field(Field::Header(HeaderField::Shnum), 0),
+            Put::Field(Field::Header(HeaderField::Shstrndx), SHN_XINDEX as u64),
+            Put::Field(Field::Section(0, SectionField::Size), 3),
+            Put::Field(Field::Section(0, SectionField::Link), 1),
+        ],
+        ..OBJECT
+    }),
+    ending: Ending {
+        out: b"ELF header\n  class: 64\n  order: least\n  osabi: 0\n  abiversion: 0\n  \
+            type: REL\n  machine: X86_64\n  version: 1\n  entry: 0x0\n  phoff: 0\n  \
+            shoff: 120\n  flags: 0x0\n  ehsize: 64\n  phentsize: 0\n  phnum: 0\n  \
+            shentsize: 64\n  shnum: 3\n  shstrndx: 1\n",
+        ..DONE
+    },
+    ..RUN
+};
+
 #[test]
-fn numbers_that_do_not_fit_stand_in_section_0(rt: HostRuntime) -> Result<(), Fail> {
-    assert!(rt; shows_both(rt.alloc())?);
-    Ok(())
+fn numbers_that_do_not_fit_stand_in_section_0(rt: HostRuntime) {
+    assert!(rt; is_so(rt.alloc(), &[], &EXTENDED));
 }
 
 /// The message that refuses an image whose section headers do not lie in it.
-const NO_SECTIONS: &[u8] = b"readelf: F: bad section header table\n";
+const NO_SECTIONS: Ending = Ending {
+    err: b"readelf: F: bad section header table\n",
+    ..REFUSED
+};
+
+/// The header of an object.
+const FRONT: Case = Case {
+    line: "readelf -h F",
+    file: Stored::Image(OBJECT),
+    ending: NO_SECTIONS,
+    ..RUN
+};
 
 /// Damage of the header's fields, in the order of the checks, and the message.
-const DAMAGES: [(Field, u64, &[u8]); 8] = [
-    (Field::Ident(EI_CLASS), 3, b"readelf: F: bad class\n"),
-    (Field::Ident(EI_DATA), 0, b"readelf: F: bad byte order\n"),
-    (Field::Ident(EI_VERSION), 2, b"readelf: F: bad version\n"),
-    (
-        Field::Header(HeaderField::Version),
-        2,
-        b"readelf: F: bad version\n",
-    ),
-    (Field::Header(HeaderField::Shoff), 0xffff_ffff, NO_SECTIONS),
-    (Field::Header(HeaderField::Shentsize), 63, NO_SECTIONS),
-    (Field::Header(HeaderField::Shnum), 4, NO_SECTIONS),
-    (
-        Field::Header(HeaderField::Phnum),
-        1,
-        b"readelf: F: bad program header table\n",
-    ),
+const DAMAGES: [Case; 8] = [
+    Case {
+        file: Stored::Changed(OBJECT, Put::Field(Field::Ident(EI_CLASS), 3)),
+        ending: Ending {
+            err: b"readelf: F: bad class\n",
+            ..REFUSED
+        },
+        ..FRONT
+    },
+    Case {
+        file: Stored::Changed(OBJECT, Put::Field(Field::Ident(EI_DATA), 0)),
+        ending: Ending {
+            err: b"readelf: F: bad byte order\n",
+            ..REFUSED
+        },
+        ..FRONT
+    },
+    Case {
+        file: Stored::Changed(OBJECT, Put::Field(Field::Ident(EI_VERSION), 2)),
+        ending: Ending {
+            err: b"readelf: F: bad version\n",
+            ..REFUSED
+        },
+        ..FRONT
+    },
+    Case {
+        file: Stored::Changed(OBJECT, Put::Field(Field::Header(HeaderField::Version), 2)),
+        ending: Ending {
+            err: b"readelf: F: bad version\n",
+            ..REFUSED
+        },
+        ..FRONT
+    },
+    Case {
+        file: Stored::Changed(
+            OBJECT,
+            Put::Field(Field::Header(HeaderField::Shoff), 0xffff_ffff),
+        ),
+        ..FRONT
+    },
+    Case {
+        file: Stored::Changed(
+            OBJECT,
+            Put::Field(Field::Header(HeaderField::Shentsize), 63),
+        ),
+        ..FRONT
+    },
+    Case {
+        file: Stored::Changed(OBJECT, Put::Field(Field::Header(HeaderField::Shnum), 4)),
+        ..FRONT
+    },
+    Case {
+        file: Stored::Changed(OBJECT, Put::Field(Field::Header(HeaderField::Phnum), 1)),
+        ending: Ending {
+            err: b"readelf: F: bad program header table\n",
+            ..REFUSED
+        },
+        ..FRONT
+    },
 ];
 
-/// Whether an object with that damage is refused so, in a form.
-fn refuses_damage(
-    alloc: Global,
-    form: (Class, Order),
-    damage: &(Field, u64, &'static [u8]),
-) -> Result<bool, ElfError> {
-    let (field, value, message) = *damage;
-    let image = with_fields(alloc, form.0, form.1, &[(field, value)])?;
-    refuses(alloc, "readelf -h F", image, message)
-}
-
 #[test]
-fn damaged_fronts_are_refused_in_all_forms(rt: HostRuntime) -> Result<(), Fail> {
-    for form in FORMS {
-        for damage in DAMAGES.iter() {
-            assert!(rt; refuses_damage(rt.alloc(), form, damage)?);
-        }
-    }
-    Ok(())
-}
-
-/// The first bytes of an object, so many.
-fn cut(alloc: Global, len: u64) -> Result<Image, ElfError> {
-    let mut image = symbol_object(alloc, Class::C64, Order::Least)?;
-    image.bytes.truncate(len);
-    Ok(image)
+fn damaged_fronts_are_refused_in_all_forms(rt: HostRuntime) {
+    assert!(rt; are_so_in_all_forms(rt.alloc(), &[], &DAMAGES));
 }
 
 /// The message that refuses a file that ends before the header does.
-const SHORT: &[u8] = b"readelf: F: too short\n";
+const SHORT: Ending = Ending {
+    err: b"readelf: F: too short\n",
+    ..REFUSED
+};
 
-/// Whether such a file is refused so.
-fn refuses_cut(alloc: Global, len: u64, message: &'static [u8]) -> Result<bool, ElfError> {
-    refuses(alloc, "readelf -h F", cut(alloc, len)?, message)
-}
+/// The first bytes of an object, up to three places in its header, and to one in its last section
+/// header.
+const CUTS: [Case; 4] = [
+    Case {
+        file: Stored::Changed(OBJECT, Put::Length(0)),
+        ending: SHORT,
+        ..FRONT
+    },
+    Case {
+        file: Stored::Changed(OBJECT, Put::Length(15)),
+        ending: SHORT,
+        ..FRONT
+    },
+    Case {
+        file: Stored::Changed(OBJECT, Put::Length(63)),
+        ending: SHORT,
+        ..FRONT
+    },
+    Case {
+        file: Stored::Changed(OBJECT, Put::Length(311)),
+        ..FRONT
+    },
+];
 
 #[test]
-fn files_that_are_cut_are_refused(rt: HostRuntime) -> Result<(), Fail> {
-    for len in [0, 15, 63] {
-        assert!(rt; refuses_cut(rt.alloc(), len, SHORT)?);
-    }
-    assert!(rt; refuses_cut(rt.alloc(), 311, NO_SECTIONS)?);
-    Ok(())
+fn files_that_are_cut_are_refused(rt: HostRuntime) {
+    assert!(rt; are_so(rt.alloc(), &[], &CUTS));
 }

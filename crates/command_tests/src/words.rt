@@ -1,111 +1,145 @@
 //! Words that are refused or ask for help, and operands.
 
-use crate::runs::{Bytes, Ending, Failing, NOTHING, REFUSED, ends, run_line, run_words};
-use elf_types::{Class, ElfError, Order};
+use elf_types::ElfError;
 use std::alloc::Global;
-use std::test::Fail;
-use test_images::symbol_object;
+use test_cases::{Case, RUN, Stored, are_so, is_so};
+use test_images::OBJECT;
+use test_runs::{Bytes, Ending, Failing, NOTHING, REFUSED, run_words};
 use tool_output::Status;
 use tool_text::Args;
 
-/// The first file that is opened is not handed out.
-const UNOPENED: Failing = Failing { open: 1, ..NOTHING };
+/// A run over the empty file F of which the first file that is opened is not handed out.
+const UNOPENED: Case = Case {
+    file: Stored::Bytes(b""),
+    failing: Failing { open: 1, ..NOTHING },
+    ..RUN
+};
 
 /// Words, how they end, and what stands on both outputs.
-type Said = (&'static str, Status, &'static [u8], &'static [u8]);
-
-const SAID: [Said; 7] = [
-    (
-        "size",
-        Status::BadWords,
-        b"",
-        b"usage: elfkit size FILE..\n",
-    ),
-    (
-        "strip -o A A",
-        Status::BadWords,
-        b"",
-        b"usage: elfkit strip [-g] [-R NAME].. [-f DEBUG] -o OUT FILE\n",
-    ),
-    (
-        "readelf F",
-        Status::BadWords,
-        b"",
-        b"usage: elfkit readelf [-hlSsrdnV] FILE..\n",
-    ),
-    (
-        "help",
-        Status::BadWords,
-        b"",
-        b"usage: elfkit readelf|nm|size|strings|strip|elflint|calls|selftest|rehash|copy|\
+const SAID: [Case; 7] = [
+    Case {
+        line: "size",
+        ending: Ending {
+            status: Status::BadWords,
+            out: b"",
+            err: b"usage: elfkit size FILE..\n",
+        },
+        ..UNOPENED
+    },
+    Case {
+        line: "strip -o A A",
+        ending: Ending {
+            status: Status::BadWords,
+            out: b"",
+            err: b"usage: elfkit strip [-g] [-R NAME].. [-f DEBUG] -o OUT FILE\n",
+        },
+        ..UNOPENED
+    },
+    Case {
+        line: "readelf F",
+        ending: Ending {
+            status: Status::BadWords,
+            out: b"",
+            err: b"usage: elfkit readelf [-hlSsrdnV] FILE..\n",
+        },
+        ..UNOPENED
+    },
+    Case {
+        line: "help",
+        ending: Ending {
+            status: Status::BadWords,
+            out: b"",
+            err: b"usage: elfkit readelf|nm|size|strings|strip|elflint|calls|selftest|rehash|copy|\
             unstrip|lines\n",
-    ),
-    (
-        "size --help F",
-        Status::Done,
-        b"usage: elfkit size FILE..\n",
-        b"",
-    ),
-    ("rehash -o O --help", Status::Done, REHASH_HELP, b""),
-    ("--version F", Status::Done, b"elfkit 0.1.0\n", b""),
+        },
+        ..UNOPENED
+    },
+    Case {
+        line: "size --help F",
+        ending: Ending {
+            status: Status::Done,
+            out: b"usage: elfkit size FILE..\n",
+            err: b"",
+        },
+        ..UNOPENED
+    },
+    Case {
+        line: "rehash -o O --help",
+        ending: Ending {
+            status: Status::Done,
+            out: REHASH_HELP,
+            err: b"",
+        },
+        ..UNOPENED
+    },
+    Case {
+        line: "--version F",
+        ending: Ending {
+            status: Status::Done,
+            out: b"elfkit 0.1.0\n",
+            err: b"",
+        },
+        ..UNOPENED
+    },
 ];
 
 /// Help on rehash.
 const REHASH_HELP: &[u8] =
     b"usage: elfkit rehash -o OUT FILE\n  -o OUT        the file that is written\n";
 
-/// Whether the words end so, though no file can be opened.
-fn ends_unopened(alloc: Global, said: &Said) -> Result<bool, ElfError> {
-    let (line, status, out, err) = *said;
-    let ran = run_line(alloc, line, &Bytes(b""), UNOPENED)?;
-    Ok(ran.is(&Ending { status, out, err }))
-}
-
 #[test]
-fn words_that_are_refused_or_ask_for_help_open_no_file(rt: HostRuntime) -> Result<(), Fail> {
-    for said in SAID.iter() {
-        assert!(rt; ends_unopened(rt.alloc(), said)?);
-    }
-    Ok(())
+fn words_that_are_refused_or_ask_for_help_open_no_file(rt: HostRuntime) {
+    assert!(rt; are_so(rt.alloc(), &[], &SAID));
 }
 
 /// The first name is not there, and looks like an option.
-const PASSED: Ending = Ending {
-    out: b"File: F\nProgram headers: 0\n",
-    err: b"readelf: -x: not found\n",
-    ..REFUSED
+const PASSED: Case = Case {
+    line: "readelf -l -- -x F",
+    file: Stored::Image(OBJECT),
+    ending: Ending {
+        out: b"File: F\nProgram headers: 0\n",
+        err: b"readelf: -x: not found\n",
+        ..REFUSED
+    },
+    ..RUN
 };
 
 #[test]
-fn a_missing_file_is_passed_over(rt: HostRuntime) -> Result<(), Fail> {
-    let image = symbol_object(rt.alloc(), Class::C64, Order::Least)?;
-    assert!(rt; ends(rt.alloc(), "readelf -l -- -x F", image, &PASSED)?);
-    Ok(())
+fn a_missing_file_is_passed_over(rt: HostRuntime) {
+    assert!(rt; is_so(rt.alloc(), &[], &PASSED));
 }
 
-/// readelf over so many names that are not there.
-fn missing(alloc: Global, count: u64) -> Result<Args, ElfError> {
-    let mut words = Args::new(alloc);
+/// Puts the words of readelf over so many names that are not there.
+fn put_missing(words: &mut Args, count: u64) -> Result<(), ElfError> {
     words.add("readelf")?;
     words.add("-h")?;
     for _ in 0..count {
         words.add("missing")?;
     }
-    Ok(words)
+    Ok(())
 }
 
 /// The tenth put to standard error fails.
 const TENTH_LOST: Failing = Failing { err: 10, ..NOTHING };
 
-/// How a run over so many missing names ends, and how many bytes its messages have.
-fn messages_of(alloc: Global, count: u64) -> Result<(Status, u64), ElfError> {
-    let words = missing(alloc, count)?;
-    let ran = run_words(alloc, &words, &Bytes(b""), TENTH_LOST)?;
-    Ok((ran.status, ran.err.len()))
+/// How a run of these words ends, and how many bytes its messages have.
+fn messages_of(alloc: Global, words: &Args) -> Result<(Status, u64), ElfError> {
+    match run_words(alloc, words, &Bytes(b""), TENTH_LOST) {
+        Ok(ran) => Ok((ran.status, ran.err.len())),
+        Err(e) => Err(e),
+    }
+}
+
+/// The same of readelf over so many missing names.
+fn messages_of_missing(alloc: Global, count: u64) -> Result<(Status, u64), ElfError> {
+    let mut words = Args::new(alloc);
+    match put_missing(&mut words, count) {
+        Ok(()) => messages_of(alloc, &words),
+        Err(e) => Err(e),
+    }
 }
 
 #[test]
-fn ten_thousand_messages_are_few_writes(rt: HostRuntime) -> Result<(), Fail> {
-    assert!(rt; messages_of(rt.alloc(), 10_000)? == (Status::Refused, 280_000));
-    Ok(())
+fn ten_thousand_messages_are_few_writes(rt: HostRuntime) {
+    assert!(rt; messages_of_missing(rt.alloc(), 10_000) == Ok((Status::Refused, 280_000)));
 }

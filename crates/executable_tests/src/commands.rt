@@ -3,8 +3,6 @@
 use crate::image::executable;
 use elf_types::{ElfError, Octets};
 use std::alloc::Global;
-use std::test::Fail;
-use test_images::Image;
 use test_runs::{NOTHING, run_line, shows};
 use tool_output::Status;
 
@@ -169,53 +167,59 @@ const PARTS: [(&str, &[u8]); 8] = [
 ];
 
 /// Whether a run over the executable shows this, and refuses nothing.
-fn is_shown(alloc: Global, line: &str, out: &'static [u8]) -> Result<bool, ElfError> {
-    let image = executable(alloc)?;
-    shows(alloc, line, image, out)
+fn is_shown(alloc: Global, line: &str, out: &'static [u8]) -> bool {
+    match executable(alloc) {
+        Ok(image) => shows(alloc, line, image, out) == Ok(true),
+        Err(_) => false,
+    }
+}
+
+/// Whether each line shows this.
+fn are_shown(alloc: Global, rows: &[(&str, &'static [u8])]) -> bool {
+    for (line, out) in rows {
+        if !is_shown(alloc, line, out) {
+            return false;
+        }
+    }
+    true
 }
 
 #[test]
-fn readelf_shows_each_part_of_an_executable(rt: HostRuntime) -> Result<(), Fail> {
-    for (line, out) in PARTS.iter() {
-        assert!(rt; is_shown(rt.alloc(), line, out)?);
-    }
-    Ok(())
+fn readelf_shows_each_part_of_an_executable(rt: HostRuntime) {
+    assert!(rt; are_shown(rt.alloc(), &PARTS));
 }
 
 /// Appends all parts.
-fn put_parts(all: &mut Octets) -> Result<(), ElfError> {
-    for (_, out) in PARTS.iter() {
+fn put_parts(all: &mut Octets, parts: &[(&str, &[u8])]) -> Result<(), ElfError> {
+    for (_, out) in parts {
         all.extend(out)?;
     }
     Ok(())
 }
 
-/// All parts, one behind the other.
-fn all_parts(alloc: Global) -> Result<Octets, ElfError> {
-    let mut all = Octets::new(alloc);
-    match put_parts(&mut all) {
-        Ok(()) => Ok(all),
-        Err(e) => Err(e),
+/// Whether readelf with all letters shows this of the executable, and refuses nothing.
+fn shows_all(alloc: Global, all: &[u8]) -> bool {
+    let Ok(image) = executable(alloc) else {
+        return false;
+    };
+    match run_line(alloc, "readelf -hlSsrdnV F", &image, NOTHING) {
+        Ok(ran) => { ran.status == Status::Done && ran.out.as_slice() == all && ran.err.len() == 0 }
+        Err(_) => false,
     }
 }
 
-/// Whether readelf with all letters shows this of an image, and refuses nothing.
-fn shows_all(alloc: Global, image: &Image, all: &Octets) -> Result<bool, ElfError> {
-    let ran = run_line(alloc, "readelf -hlSsrdnV F", image, NOTHING)?;
-    Ok(ran.status == Status::Done && ran.out.as_slice() == all.as_slice() && ran.err.len() == 0)
-}
-
-/// Whether it shows the parts of the executable one behind the other.
-fn shows_parts_in_order(alloc: Global) -> Result<bool, ElfError> {
-    let image = executable(alloc)?;
-    let all = all_parts(alloc)?;
-    shows_all(alloc, &image, &all)
+/// Whether it shows the parts one behind the other.
+fn shows_in_order(alloc: Global, parts: &[(&str, &[u8])]) -> bool {
+    let mut all = Octets::new(alloc);
+    match put_parts(&mut all, parts) {
+        Ok(()) => shows_all(alloc, all.as_slice()),
+        Err(_) => false,
+    }
 }
 
 #[test]
-fn readelf_shows_all_parts_in_one_order(rt: HostRuntime) -> Result<(), Fail> {
-    assert!(rt; shows_parts_in_order(rt.alloc())?);
-    Ok(())
+fn readelf_shows_all_parts_in_one_order(rt: HostRuntime) {
+    assert!(rt; shows_in_order(rt.alloc(), &PARTS));
 }
 
 /// The line of each other command, and what it shows: the function; the bytes of loaded sections,
@@ -233,9 +237,6 @@ const TOOLS: [(&str, &[u8]); 4] = [
 ];
 
 #[test]
-fn each_other_command_reads_an_executable(rt: HostRuntime) -> Result<(), Fail> {
-    for (line, out) in TOOLS.iter() {
-        assert!(rt; is_shown(rt.alloc(), line, out)?);
-    }
-    Ok(())
+fn each_other_command_reads_an_executable(rt: HostRuntime) {
+    assert!(rt; are_shown(rt.alloc(), &TOOLS));
 }

@@ -1,40 +1,7 @@
 //! What the sections of the executable hold.
 
 use elf_types::constants::{SHN_ABS, STB_GLOBAL, STB_LOCAL, STT_FILE};
-use elf_types::{Addrs, Dyn, Dyns, ElfError, Halves, Octets, Rela, Relas, Sym, Syms};
-use elf_xlate::Items;
-use std::alloc::Global;
-
-/// The content of a section, the items of one kind.
-pub enum Content {
-    /// Nothing in the file, or what is put there by itself.
-    Empty,
-    /// Bytes.
-    Bytes(&'static [u8]),
-    /// Two-byte numbers.
-    Halves(&'static [u16]),
-    /// Addresses.
-    Addrs(&'static [u64]),
-    /// Symbols.
-    Syms(&'static [Sym]),
-    /// Relocations.
-    Relas(&'static [Rela]),
-    /// Dynamic entries.
-    Dyns(&'static [Dyn]),
-}
-
-/// The items of a content. It refuses `Memory`.
-pub fn items_of(alloc: Global, content: &Content) -> Result<Items, ElfError> {
-    match content {
-        Content::Empty => Ok(Items::Empty),
-        Content::Bytes(l) => Ok(Items::Bytes(Octets::from_slice(alloc, l)?)),
-        Content::Halves(l) => Ok(Items::Half(Halves::from_slice(alloc, l)?)),
-        Content::Addrs(l) => Ok(Items::Addr(Addrs::from_slice(alloc, l)?)),
-        Content::Syms(l) => Ok(Items::Sym(Syms::from_slice(alloc, l)?)),
-        Content::Relas(l) => Ok(Items::Rela(Relas::from_slice(alloc, l)?)),
-        Content::Dyns(l) => Ok(Items::Dyn(Dyns::from_slice(alloc, l)?)),
-    }
-}
+use elf_types::{Dyn, Rela, Sym};
 
 /// The note `NT_GNU_PROPERTY_TYPE_0` with one property of four bytes, padded to a multiple of 8.
 pub const PROPERTIES: &[u8] =

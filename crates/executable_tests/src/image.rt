@@ -1,6 +1,5 @@
 //! The executable: its header, and its parts put into one image.
 
-use crate::contents::items_of;
 use crate::sections::{SECTIONS, Section};
 use crate::segments::SEGMENTS;
 use elf_types::{Class, Ehdr, ElfError, Order};
@@ -37,15 +36,8 @@ fn put_segments(image: &mut Image) -> Result<(), ElfError> {
     Ok(())
 }
 
-/// Puts what a section holds.
-fn put_content(alloc: Global, image: &mut Image, section: &Section) -> Result<(), ElfError> {
-    let items = items_of(alloc, &section.content)?;
-    image.put_items(section.header.offset, &items)
-}
-
 /// Puts the section with a number: its name at a place of the names, its header and its content.
 fn put_section(
-    alloc: Global,
     image: &mut Image,
     number: u64,
     name: u64,
@@ -54,30 +46,30 @@ fn put_section(
     image.put_section(number, &section.header)?;
     image.put_field(Field::Section(number, SectionField::Name), name);
     image.put_bytes(NAMES_AT.saturating_add(name), section.name)?;
-    put_content(alloc, image, section)
+    image.put_content(section.header.offset, &section.content)
 }
 
 /// Puts the sections from 1 on, the name of each behind those before it.
-fn put_sections(alloc: Global, image: &mut Image) -> Result<(), ElfError> {
+fn put_sections(image: &mut Image) -> Result<(), ElfError> {
     let mut name = 1u64;
     for (i, section) in SECTIONS.iter().enumerate() {
-        put_section(alloc, image, (i as u64).saturating_add(1), name, section)?;
+        put_section(image, (i as u64).saturating_add(1), name, section)?;
         name = name.saturating_add(section.name.len() as u64);
     }
     Ok(())
 }
 
 /// Puts the parts behind the header.
-fn put_parts(alloc: Global, image: &mut Image) -> Result<(), ElfError> {
+fn put_parts(image: &mut Image) -> Result<(), ElfError> {
     put_segments(image)?;
     image.put_section(0, &NULL_SECTION)?;
-    put_sections(alloc, image)
+    put_sections(image)
 }
 
 /// The executable, of 3,696 bytes. It refuses `Memory`.
 pub fn executable(alloc: Global) -> Result<Image, ElfError> {
     let mut image = Image::new(alloc, header(), [0; 7])?;
-    match put_parts(alloc, &mut image) {
+    match put_parts(&mut image) {
         Ok(()) => Ok(image),
         Err(e) => Err(e),
     }

@@ -1,8 +1,8 @@
 //! The sections of the executable from 1 on, in their order.
 
 use crate::contents::{
-    ABI_TAG, BUILD_ID, CALL_RELOCATIONS, Content, DATA_RELOCATIONS, ENDS, ENTRIES, HASHES,
-    LINKED_SYMBOLS, NEEDS, PROPERTIES, STARTS, SYMBOLS, VERSIONS,
+    ABI_TAG, BUILD_ID, CALL_RELOCATIONS, DATA_RELOCATIONS, ENDS, ENTRIES, HASHES, LINKED_SYMBOLS,
+    NEEDS, PROPERTIES, STARTS, SYMBOLS, VERSIONS,
 };
 use elf_types::Shdr;
 use elf_types::constants::{
@@ -10,7 +10,7 @@ use elf_types::constants::{
     SHT_FINI_ARRAY, SHT_GNU_HASH, SHT_GNU_VERNEED, SHT_GNU_VERSYM, SHT_INIT_ARRAY, SHT_NOBITS,
     SHT_NOTE, SHT_PROGBITS, SHT_RELA, SHT_STRTAB, SHT_SYMTAB,
 };
-use test_images::NULL_SECTION;
+use test_images::{Content, NULL_SECTION};
 
 /// A section: its name, its header but for the place of the name, and what it holds.
 pub struct Section {

@@ -4,19 +4,12 @@
 use crate::image::executable;
 use crate::segments::SEGMENTS;
 use elf_types::constants::PT_LOAD;
-use elf_types::{ElfError, Octets, Phdr};
+use elf_types::{Octets, Phdr};
 use std::alloc::Global;
-use std::test::Fail;
-use test_images::Image;
-use test_runs::{DONE, Ending, Left, NOTHING, ends, run_leaving};
+use test_runs::{DONE, Ending, Given, NOTHING, ends, run_leaving};
 
 /// How many bytes the ELF header has, which tells the new place of the section header table.
 const HEADER_LEN: u64 = 64;
-
-/// What a run of strip on the executable leaves.
-fn strip(alloc: Global, image: &Image) -> Result<Left, ElfError> {
-    run_leaving(alloc, "strip -o O F", image, NOTHING, "O")
-}
 
 /// Whether the bytes of a segment that is loaded are the same in both, behind the ELF header.
 fn keeps(made: &[u8], image: &[u8], segment: &Phdr) -> bool {
@@ -39,28 +32,44 @@ fn keeps_all(made: &[u8], image: &[u8]) -> bool {
     true
 }
 
-/// What strip makes of the executable, where it makes something that is shorter.
-fn stripped(alloc: Global, image: &Image) -> Result<Option<Octets>, ElfError> {
-    let left = match strip(alloc, image) {
-        Ok(left) => left,
-        Err(e) => return Err(e),
-    };
-    if !left.ran.is(&DONE) {
-        return Ok(None);
+/// What strip makes of an image, where it says nothing.
+fn stripped<G: Given>(alloc: Global, image: &G) -> Option<Octets> {
+    match run_leaving(alloc, "strip -o O F", image, NOTHING, "O") {
+        Ok(left) => { if left.ran.is(&DONE) { left.held } else { None } }
+        Err(_) => None,
     }
-    Ok(left.held)
+}
+
+/// What it makes of the executable.
+fn stripped_executable(alloc: Global) -> Option<Octets> {
+    match executable(alloc) {
+        Ok(image) => stripped(alloc, &image),
+        Err(_) => None,
+    }
+}
+
+/// Whether these bytes are shorter than the executable, and keep what is loaded.
+fn are_kept(alloc: Global, made: &[u8]) -> bool {
+    match executable(alloc) {
+        Ok(image) => {
+            let whole = image.bytes.as_slice();
+            made.len() < whole.len() && keeps_all(made, whole)
+        }
+        Err(_) => false,
+    }
 }
 
 /// Whether what strip makes of the executable is shorter, and keeps what is loaded.
-fn is_kept(alloc: Global) -> Result<bool, ElfError> {
-    let image = executable(alloc)?;
-    match stripped(alloc, &image) {
-        Ok(Some(made)) => Ok(
-            made.len() < image.bytes.len() && keeps_all(made.as_slice(), image.bytes.as_slice()),
-        ),
-        Ok(None) => Ok(false),
-        Err(e) => Err(e),
+fn is_kept(alloc: Global) -> bool {
+    match stripped_executable(alloc) {
+        Some(made) => are_kept(alloc, made.as_slice()),
+        None => false,
     }
+}
+
+#[test]
+fn what_is_loaded_keeps_its_places_and_bytes(rt: HostRuntime) {
+    assert!(rt; is_kept(rt.alloc()));
 }
 
 /// What elflint says of an image in which it finds nothing.
@@ -70,48 +79,35 @@ const CLEAN: Ending = Ending {
 };
 
 /// Whether elflint finds nothing in it.
-fn is_clean(alloc: Global) -> Result<bool, ElfError> {
-    let image = executable(alloc)?;
-    match stripped(alloc, &image) {
-        Ok(Some(made)) => ends(alloc, "elflint F", made, &CLEAN),
-        Ok(None) => Ok(false),
-        Err(e) => Err(e),
+fn is_clean(alloc: Global) -> bool {
+    match stripped_executable(alloc) {
+        Some(made) => ends(alloc, "elflint F", made, &CLEAN) == Ok(true),
+        None => false,
+    }
+}
+
+#[test]
+fn elflint_finds_nothing_in_what_is_stripped(rt: HostRuntime) {
+    assert!(rt; is_clean(rt.alloc()));
+}
+
+/// Whether strip of these bytes makes the same.
+fn is_same(alloc: Global, made: &Octets) -> bool {
+    match stripped(alloc, made) {
+        Some(again) => again.as_slice() == made.as_slice(),
+        None => false,
     }
 }
 
 /// Whether strip of what is stripped already changes nothing.
-fn is_at_rest(alloc: Global) -> Result<bool, ElfError> {
-    let image = executable(alloc)?;
-    match stripped(alloc, &image) {
-        Ok(Some(made)) => is_same(alloc, &made),
-        Ok(None) => Ok(false),
-        Err(e) => Err(e),
-    }
-}
-
-/// Whether strip of these bytes makes the same.
-fn is_same(alloc: Global, made: &Octets) -> Result<bool, ElfError> {
-    let left = run_leaving(alloc, "strip -o O F", made, NOTHING, "O")?;
-    match &left.held {
-        Some(again) => Ok(left.ran.is(&DONE) && again.as_slice() == made.as_slice()),
-        None => Ok(false),
+fn is_at_rest(alloc: Global) -> bool {
+    match stripped_executable(alloc) {
+        Some(made) => is_same(alloc, &made),
+        None => false,
     }
 }
 
 #[test]
-fn what_is_loaded_keeps_its_places_and_bytes(rt: HostRuntime) -> Result<(), Fail> {
-    assert!(rt; is_kept(rt.alloc()) == Ok(true));
-    Ok(())
-}
-
-#[test]
-fn elflint_finds_nothing_in_what_is_stripped(rt: HostRuntime) -> Result<(), Fail> {
-    assert!(rt; is_clean(rt.alloc()) == Ok(true));
-    Ok(())
-}
-
-#[test]
-fn a_stripped_image_is_made_the_same_again(rt: HostRuntime) -> Result<(), Fail> {
-    assert!(rt; is_at_rest(rt.alloc()) == Ok(true));
-    Ok(())
+fn a_stripped_image_is_made_the_same_again(rt: HostRuntime) {
+    assert!(rt; is_at_rest(rt.alloc()));
 }

@@ -1,14 +1,15 @@
-//! A program whose parts stand where the joined ones are placed, and what is done to its image.
+//! A program whose parts stand where the joined ones are placed, sources of its image, and the bytes
+//! of what is made of them.
 
 use elf_descriptor::Elf;
-use elf_outside::{MemSink, MemSource, Source};
+use elf_outside::{MemSink, MemSource, NoSource, Source};
 use elf_types::constants::{SHF_ALLOC, SHT_NOBITS, SHT_PROGBITS, SHT_STRTAB};
 use elf_types::{Addrs, Class, Ehdr, ElfError, NULL_SECTION, Octets, Phdr, Shdr};
 use elf_update::update_to;
 use elf_xlate::{ehdr_size, phdr_size, shdr_size};
 use std::alloc::Global;
-use test_images::{ET_EXEC, Field, Form, Image, header_of};
-use test_sources::source;
+use test_images::{ET_EXEC, Field, Form, Image, WIDE, header_of};
+use test_sources::{Sparse, source};
 
 /// A field that has another value than in the program.
 pub type Twist = (Field, u64);
@@ -25,15 +26,54 @@ const SEGMENT: Phdr = Phdr {
     align: 16,
 };
 
-/// The bytes of sections 1, 2 and 4.
-const CODE: [u8; 8] = [1, 2, 3, 4, 5, 6, 7, 8];
+/// The bytes of its sections: eight of section 1, eight of section 2, four of section 4 and one of
+/// section 5.
+const BYTES: &[u8] = b"\x01\x02\x03\x04\x05\x06\x07\x08\x0b\x0c\x0d\x0e\x0f\x10\x11\x12dbg\n\0";
 
-const DATA: [u8; 8] = [11, 12, 13, 14, 15, 16, 17, 18];
-
-const NOTES: [u8; 4] = *b"dbg\n";
+/// Its sections from 1 on: two that are loaded, one without bytes in the file, one that is not
+/// loaded, and the names. Their places are told from the first one's.
+const SECTIONS: [Shdr; 5] = [
+    Shdr {
+        stype: SHT_PROGBITS,
+        flags: SHF_ALLOC,
+        size: 8,
+        addralign: 8,
+        ..NULL_SECTION
+    },
+    Shdr {
+        stype: SHT_PROGBITS,
+        flags: SHF_ALLOC + 1,
+        offset: 8,
+        size: 8,
+        addralign: 8,
+        ..NULL_SECTION
+    },
+    Shdr {
+        stype: SHT_NOBITS,
+        flags: SHF_ALLOC + 1,
+        offset: 16,
+        size: 32,
+        addralign: 16,
+        ..NULL_SECTION
+    },
+    Shdr {
+        stype: SHT_PROGBITS,
+        offset: 16,
+        size: 4,
+        addralign: 1,
+        ..NULL_SECTION
+    },
+    Shdr {
+        stype: SHT_STRTAB,
+        offset: 20,
+        size: 1,
+        addralign: 1,
+        ..NULL_SECTION
+    },
+];
 
 /// Where its first section begins, in bytes.
-pub fn start_of(class: Class) -> u64 {
+fn start_of(class: Class) -> u64 {
     match class {
         Class::C32 => 96,
         Class::C64 => 128,
@@ -57,91 +97,80 @@ fn header_in(form: Form) -> Ehdr {
     }
 }
 
-/// A section of the program: its type, its flags, its place, its size and its alignment.
-fn section(stype: u32, flags: u64, offset: u64, size: u64, addralign: u64) -> Shdr {
-    Shdr {
-        stype,
-        flags,
-        offset,
-        size,
-        addralign,
-        ..NULL_SECTION
-    }
-}
-
-/// Puts the sections that are loaded.
-fn put_loaded(image: &mut Image, start: u64) -> Result<(), ElfError> {
-    image.put_bytes(start, &CODE)?;
-    image.put_bytes(start.saturating_add(8), &DATA)?;
-    image.put_section(1, &section(SHT_PROGBITS, SHF_ALLOC, start, 8, 8))?;
-    image.put_section(
-        2,
-        &section(SHT_PROGBITS, SHF_ALLOC + 1, start.saturating_add(8), 8, 8),
-    )?;
-    image.put_section(
-        3,
-        &section(SHT_NOBITS, SHF_ALLOC + 1, start.saturating_add(16), 32, 16),
-    )
-}
-
-/// Puts the others, behind the loaded bytes.
-fn put_others(image: &mut Image, start: u64) -> Result<(), ElfError> {
-    image.put_bytes(start.saturating_add(16), &NOTES)?;
-    image.put_bytes(start.saturating_add(20), &[0])?;
+/// Puts its section headers.
+fn put_sections(image: &mut Image, start: u64) -> Result<(), ElfError> {
     image.put_section(0, &NULL_SECTION)?;
-    image.put_section(4, &section(SHT_PROGBITS, 0, start.saturating_add(16), 4, 1))?;
-    image.put_section(5, &section(SHT_STRTAB, 0, start.saturating_add(20), 1, 1))
+    for (s, section) in SECTIONS.iter().enumerate() {
+        let mut header = *section;
+        header.offset = start.saturating_add(section.offset);
+        image.put_section((s as u64).saturating_add(1), &header)?;
+    }
+    Ok(())
+}
+
+/// Puts its parts behind the header, and then other values of some fields.
+fn put_parts(image: &mut Image, start: u64, twists: &[Twist]) -> Result<(), ElfError> {
+    image.put_segment(0, &SEGMENT)?;
+    image.put_bytes(start, BYTES)?;
+    put_sections(image, start)?;
+    for (field, value) in twists.iter() {
+        image.put_field(*field, *value);
+    }
+    Ok(())
 }
 
 /// The program in a form: a segment, two sections that it loads, one without bytes in the file, one
 /// that is not loaded, and the names. Some fields have other values.
 pub fn program(alloc: Global, form: Form, twists: &[Twist]) -> Result<Octets, ElfError> {
     let mut image = Image::new(alloc, header_in(form), [0; 7])?;
-    let start = start_of(form.0);
-    image.put_segment(0, &SEGMENT)?;
-    put_loaded(&mut image, start)?;
-    put_others(&mut image, start)?;
-    for (field, value) in twists.iter() {
-        image.put_field(*field, *value);
+    match put_parts(&mut image, start_of(form.0), twists) {
+        Ok(()) => Ok(image.bytes),
+        Err(e) => Err(e),
     }
-    Ok(image.bytes)
+}
+
+/// Whether these bytes are the program of class 64, the least byte first.
+pub fn is_program(alloc: Global, bytes: &Octets) -> bool {
+    match program(alloc, WIDE, &[]) {
+        Ok(whole) => bytes.as_slice() == whole.as_slice(),
+        Err(_) => false,
+    }
 }
 
 /// A source of an image, of which the read of a number fails, or none where that is 0.
-pub fn source_of(alloc: Global, image: &Octets, bad_read: u64) -> Option<MemSource> {
+pub fn source_of(alloc: Global, image: &Octets, bad_read: u64) -> Result<MemSource, ElfError> {
     match Octets::from_slice(alloc, image.as_slice()) {
-        Ok(bytes) => match source(alloc, bytes, bad_read) {
-            Ok(src) => Some(src),
-            Err(_) => None,
-        },
-        Err(_) => None,
+        Ok(bytes) => source(alloc, bytes, bad_read),
+        Err(e) => Err(e),
     }
 }
 
-/// An image as a descriptor.
-pub fn opened(alloc: Global, image: &Octets) -> Option<Elf<MemSource>> {
-    match source_of(alloc, image, 0) {
-        Some(src) => match Elf::begin(alloc, src) {
-            Ok(elf) => Some(elf),
-            Err(_) => None,
-        },
-        None => None,
-    }
+/// A source of an image that does not tell its bytes.
+pub fn untold(image: Octets) -> Sparse {
+    let len = image.len();
+    Sparse::new(image, len)
 }
 
 /// A sink with room for each image of these tests.
 fn sink(alloc: Global) -> Result<MemSink, ElfError> {
-    let bad_puts = Addrs::from_slice(alloc, &[0])?;
-    MemSink::new(alloc, 10_000, bad_puts)
+    match Addrs::from_slice(alloc, &[0]) {
+        Ok(bad_puts) => MemSink::new(alloc, 10_000, bad_puts),
+        Err(e) => Err(e),
+    }
 }
 
-/// The bytes that an update puts.
-pub fn written<S: Source>(elf: &mut Elf<S>) -> Option<Octets> {
-    match sink(elf.alloc()) {
-        Ok(mut sink) => match update_to(elf, &mut sink) {
-            Ok(_) => Some(sink.into_bytes()),
-            Err(_) => None,
-        },
+/// What an update puts into a sink.
+fn put_into<S: Source>(elf: &mut Elf<S>, mut sink: MemSink) -> Option<Octets> {
+    match update_to(elf, &mut sink) {
+        Ok(_) => Some(sink.into_bytes()),
+        Err(_) => None,
+    }
+}
+
+/// The bytes that an update of an object puts.
+pub fn written(alloc: Global, mut elf: Elf<NoSource>) -> Option<Octets> {
+    match sink(alloc) {
+        Ok(sink) => put_into(&mut elf, sink),
         Err(_) => None,
     }
 }

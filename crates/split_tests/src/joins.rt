@@ -1,17 +1,16 @@
 //! Halves that are joined.
 
 use crate::halves::half_image;
-use crate::images::{opened, program, source_of, written};
+use crate::images::{is_program, program, source_of, untold, written};
 use elf_descriptor::Elf;
 use elf_outside::Source;
 use elf_types::{ElfError, Octets};
 use std::alloc::Global;
-use test_images::{FORMS, Field, Form, OBJECT, Put, Recipe, SectionField, Start, image_of};
-use test_sources::Sparse;
+use test_images::{FORMS, Field, Form, OBJECT, Put, Recipe, SectionField, Start, WIDE, image_of};
 use unstrip_join::{UnstripFault, unstrip};
 
 /// The image of two halves, or why there is none. Those that are dirty have none.
-pub fn joined<S: Source, T: Source>(
+fn joined<S: Source, T: Source>(
     alloc: Global,
     stripped: &mut Elf<S>,
     debug: &mut Elf<T>,
@@ -23,7 +22,7 @@ pub fn joined<S: Source, T: Source>(
         return Err(UnstripFault::Debug(ElfError::Reserved));
     }
     match unstrip(alloc, stripped, debug) {
-        Ok(mut made) => match written(&mut made.elf) {
+        Ok(made) => match written(alloc, made.elf) {
             Some(bytes) => Ok(bytes),
             None => Err(UnstripFault::Elf(ElfError::Write)),
         },
@@ -31,31 +30,83 @@ pub fn joined<S: Source, T: Source>(
     }
 }
 
-/// That of two images, the first stripped.
+/// That of a half and of a source of the debug half.
+fn joined_with<S: Source, T: Source + Drop>(
+    alloc: Global,
+    stripped: &mut Elf<S>,
+    debug: T,
+) -> Result<Octets, UnstripFault> {
+    match Elf::begin(alloc, debug) {
+        Ok(mut debug) => {
+            let made = joined(alloc, stripped, &mut debug);
+            let _src = debug.end();
+            made
+        }
+        Err(_) => Err(UnstripFault::Debug(ElfError::Short)),
+    }
+}
+
+/// Why a stripped half is not opened: a read failed, or it is no image.
+fn unopened(e: ElfError) -> UnstripFault {
+    if e == ElfError::Read {
+        UnstripFault::Elf(ElfError::Read)
+    } else {
+        UnstripFault::Elf(ElfError::Short)
+    }
+}
+
+/// That of sources of both halves, the first stripped.
+fn joined_over<S: Source + Drop, T: Source + Drop>(
+    alloc: Global,
+    stripped: S,
+    debug: T,
+) -> Result<Octets, UnstripFault> {
+    match Elf::begin(alloc, stripped) {
+        Ok(mut stripped) => {
+            let made = joined_with(alloc, &mut stripped, debug);
+            let _src = stripped.end();
+            made
+        }
+        Err((_, e)) => Err(unopened(e)),
+    }
+}
+
+/// That of two images, the first stripped, of which the read of a number fails, or none where that
+/// is 0.
 pub fn joined_images(
     alloc: Global,
     stripped: &Octets,
     debug: &Octets,
+    bad_read: u64,
 ) -> Result<Octets, UnstripFault> {
-    match opened(alloc, stripped) {
-        Some(mut one) => match opened(alloc, debug) {
-            Some(mut other) => joined(alloc, &mut one, &mut other),
-            None => Err(UnstripFault::Debug(ElfError::Short)),
-        },
-        None => Err(UnstripFault::Elf(ElfError::Short)),
+    let Ok(one) = source_of(alloc, stripped, bad_read) else {
+        return Err(UnstripFault::Elf(ElfError::Memory));
+    };
+    match source_of(alloc, debug, 0) {
+        Ok(other) => joined_over(alloc, one, other),
+        Err(_) => Err(UnstripFault::Debug(ElfError::Memory)),
     }
 }
 
-/// Whether two images are joined to a third one.
-pub fn are_joined(alloc: Global, stripped: &Octets, debug: &Octets, whole: &Octets) -> bool {
-    match joined_images(alloc, stripped, debug) {
+/// Whether these bytes were made.
+fn is_made(made: Result<Octets, UnstripFault>, whole: &Octets) -> bool {
+    match made {
         Ok(made) => made.as_slice() == whole.as_slice(),
+        Err(_) => false,
+    }
+}
+
+/// Whether an image and the debug half of a second one are joined to the second.
+fn is_joined_again(alloc: Global, stripped: &Octets, whole: &Octets) -> bool {
+    match half_image(alloc, whole) {
+        Ok(half) => is_made(joined_images(alloc, stripped, &half, 0), whole),
         Err(_) => false,
     }
 }
 
 /// The object with two symbols without its symbol table and without names: section 1 has a byte.
 const STRIPPED: Recipe = Recipe {
+    form: WIDE,
     start: Start::Table(72, 2, 1),
     puts: &[
         Put::Bytes(64, &[0, 0, 0, 0, 0, 0, 0, 0]),
@@ -65,33 +116,36 @@ const STRIPPED: Recipe = Recipe {
         Put::Field(Field::Section(1, SectionField::Size), 1),
         Put::Field(Field::Section(1, SectionField::Addralign), 1),
     ],
-    ..OBJECT
 };
 
 /// Whether the object with two symbols, split, is joined byte for byte.
-fn is_whole_again(alloc: Global) -> Result<bool, ElfError> {
-    let whole = image_of(alloc, &OBJECT)?.bytes;
-    let stripped = image_of(alloc, &STRIPPED)?.bytes;
-    let half = half_image(alloc, &whole)?;
-    Ok(are_joined(alloc, &stripped, &half, &whole))
+fn is_whole_again(alloc: Global) -> bool {
+    let Ok(whole) = image_of(alloc, &OBJECT) else {
+        return false;
+    };
+    match image_of(alloc, &STRIPPED) {
+        Ok(stripped) => is_joined_again(alloc, &stripped.bytes, &whole.bytes),
+        Err(_) => false,
+    }
 }
 
 #[test]
 fn an_object_is_split_and_joined(rt: HostRuntime) {
-    assert!(rt; is_whole_again(rt.alloc()) == Ok(true));
+    assert!(rt; is_whole_again(rt.alloc()));
 }
 
 /// The same of the program in a form.
-fn is_joined_in(alloc: Global, form: Form) -> Result<bool, ElfError> {
-    let whole = program(alloc, form, &[])?;
-    let half = half_image(alloc, &whole)?;
-    Ok(are_joined(alloc, &whole, &half, &whole))
+fn is_joined_in(alloc: Global, form: Form) -> bool {
+    match program(alloc, form, &[]) {
+        Ok(whole) => is_joined_again(alloc, &whole, &whole),
+        Err(_) => false,
+    }
 }
 
 /// Whether it is joined in all forms.
 fn is_joined(alloc: Global) -> bool {
     for form in FORMS.iter() {
-        if is_joined_in(alloc, *form) != Ok(true) {
+        if !is_joined_in(alloc, *form) {
             return false;
         }
     }
@@ -103,63 +157,52 @@ fn a_program_is_split_and_joined(rt: HostRuntime) {
     assert!(rt; is_joined(rt.alloc()));
 }
 
-/// Whether halves that do not tell their bytes are joined as others are.
-fn is_joined_untold(alloc: Global) -> Result<bool, ElfError> {
-    let whole = program(alloc, FORMS[2], &[])?;
-    let half = half_image(alloc, &whole)?;
-    let len = half.len();
-    let one = program(alloc, FORMS[2], &[])?;
-    let one_len = one.len();
-    match Elf::begin(alloc, Sparse::new(one, one_len)) {
-        Ok(mut stripped) => match Elf::begin(alloc, Sparse::new(half, len)) {
-            Ok(mut debug) => match joined(alloc, &mut stripped, &mut debug) {
-                Ok(made) => Ok(made.as_slice() == whole.as_slice()),
-                Err(_) => Ok(false),
-            },
-            Err(_) => Ok(false),
-        },
-        Err(_) => Ok(false),
+/// Whether two halves that do not tell their bytes are joined to the program.
+fn are_joined_untold(alloc: Global, stripped: Octets, debug: Octets) -> bool {
+    match joined_over(alloc, untold(stripped), untold(debug)) {
+        Ok(made) => is_program(alloc, &made),
+        Err(_) => false,
+    }
+}
+
+/// Whether the program and its debug half are joined so.
+fn is_joined_untold(alloc: Global) -> bool {
+    let Ok(whole) = program(alloc, WIDE, &[]) else {
+        return false;
+    };
+    match half_image(alloc, &whole) {
+        Ok(half) => are_joined_untold(alloc, whole, half),
+        Err(_) => false,
     }
 }
 
 #[test]
 fn halves_that_tell_nothing_are_joined(rt: HostRuntime) {
-    assert!(rt; is_joined_untold(rt.alloc()) == Ok(true));
-}
-
-/// What two images give, the first stripped, where the read of a number fails on it.
-fn joined_failing(alloc: Global, whole: &Octets, bad_read: u64) -> Result<Octets, UnstripFault> {
-    match source_of(alloc, whole, bad_read) {
-        Some(src) => match Elf::begin(alloc, src) {
-            Ok(mut stripped) => match opened(alloc, whole) {
-                Some(mut debug) => joined(alloc, &mut stripped, &mut debug),
-                None => Err(UnstripFault::Debug(ElfError::Short)),
-            },
-            Err((_src, e)) => Err(UnstripFault::Elf(e)),
-        },
-        None => Err(UnstripFault::Elf(ElfError::Memory)),
-    }
+    assert!(rt; is_joined_untold(rt.alloc()));
 }
 
 /// Whether a failed read ends it, or comes after the last one.
 fn ends_or_fails(alloc: Global, whole: &Octets, bad_read: u64) -> bool {
-    match joined_failing(alloc, whole, bad_read) {
+    match joined_images(alloc, whole, whole, bad_read) {
         Ok(made) => bad_read > 3 && made.as_slice() == whole.as_slice(),
         Err(fault) => fault == UnstripFault::Elf(ElfError::Read),
     }
 }
 
-/// Whether each failed read ends it.
-fn each_read_counts(alloc: Global) -> bool {
-    match program(alloc, FORMS[2], &[]) {
-        Ok(whole) => {
-            for bad_read in 1..12u64 {
-                if !ends_or_fails(alloc, &whole, bad_read) {
-                    return false;
-                }
-            }
-            true
+/// Whether each failed read of an image ends it.
+fn each_read_of(alloc: Global, whole: &Octets) -> bool {
+    for bad_read in 1..12u64 {
+        if !ends_or_fails(alloc, whole, bad_read) {
+            return false;
         }
+    }
+    true
+}
+
+/// Whether each failed read of the program does.
+fn each_read_counts(alloc: Global) -> bool {
+    match program(alloc, WIDE, &[]) {
+        Ok(whole) => each_read_of(alloc, &whole),
         Err(_) => false,
     }
 }

@@ -1,11 +1,13 @@
 //! Files that are no halves of one program.
 
+use crate::answers::{Answer, comes_of, is_answered};
 use crate::images::{Twist, program};
-use crate::joins::joined_images;
-use elf_types::Octets;
 use std::alloc::Global;
 use test_images::{FORMS, Field, HeaderField, SectionField, SegmentField};
 use unstrip_join::UnstripFault;
+
+/// Two files that do not match.
+const MISMATCH: Answer = Answer::Fault(UnstripFault::Mismatch);
 
 /// Fields that differ between two files that do not match.
 const TWISTS: [Twist; 23] = [
@@ -34,57 +36,33 @@ const TWISTS: [Twist; 23] = [
     (Field::Section(2, SectionField::Flags), 1),
 ];
 
-/// Fields that may differ, besides the bytes of loaded sections: a name, and what the others are.
-const FREE: [Twist; 4] = [
-    (Field::Section(1, SectionField::Name), 1),
-    (Field::Section(4, SectionField::Info), 7),
-    (Field::Section(4, SectionField::Addr), 9),
-    (Field::Section(4, SectionField::Flags), 1),
-];
-
-/// Whether a program and another file do not match.
-fn is_mismatch(alloc: Global, whole: &Octets, other: &Octets) -> bool {
-    match joined_images(alloc, whole, other) {
-        Ok(_) => false,
-        Err(fault) => fault == UnstripFault::Mismatch,
-    }
-}
-
-/// Whether it does not match itself with such a field, as the one half and as the other.
-fn differs(alloc: Global, whole: &Octets, twist: Twist) -> bool {
-    match program(alloc, FORMS[2], &[twist]) {
-        Ok(other) => is_mismatch(alloc, whole, &other) && is_mismatch(alloc, &other, whole),
-        Err(_) => false,
-    }
+/// Whether the program does not match itself with such a field, as the one half and as the other.
+fn differs(alloc: Global, twist: Twist) -> bool {
+    is_answered(alloc, &[twist], &[], MISMATCH) && is_answered(alloc, &[], &[twist], MISMATCH)
 }
 
 /// Whether each such field tells.
-fn each_field_tells(alloc: Global) -> bool {
-    match program(alloc, FORMS[2], &[]) {
-        Ok(whole) => {
-            for twist in TWISTS.iter() {
-                if !differs(alloc, &whole, *twist) {
-                    return false;
-                }
-            }
-            true
+fn each_field_tells(alloc: Global, twists: &[Twist]) -> bool {
+    for twist in twists {
+        if !differs(alloc, *twist) {
+            return false;
         }
-        Err(_) => false,
     }
+    true
 }
 
 #[test]
 fn each_field_of_a_half_tells(rt: HostRuntime) {
-    assert!(rt; each_field_tells(rt.alloc()));
+    assert!(rt; each_field_tells(rt.alloc(), &TWISTS));
 }
 
 /// Whether programs of two forms match exactly where that is one form.
 fn forms_tell(alloc: Global, one: usize, other: usize) -> bool {
-    match program(alloc, FORMS[one % 4], &[]) {
-        Ok(whole) => match program(alloc, FORMS[other % 4], &[]) {
-            Ok(next) => is_mismatch(alloc, &whole, &next) == (one != other),
-            Err(_) => false,
-        },
+    let Ok(whole) = program(alloc, FORMS[one % 4], &[]) else {
+        return false;
+    };
+    match program(alloc, FORMS[other % 4], &[]) {
+        Ok(next) => comes_of(alloc, &whole, &next, MISMATCH) == (one != other),
         Err(_) => false,
     }
 }
@@ -106,33 +84,25 @@ fn class_and_order_tell(rt: HostRuntime) {
     assert!(rt; each_form_tells(rt.alloc()));
 }
 
-/// Whether the debug half may differ in such a field, and then the joined file does.
-fn is_free(alloc: Global, whole: &Octets, twist: Twist) -> bool {
-    match program(alloc, FORMS[2], &[twist]) {
-        Ok(other) => match joined_images(alloc, whole, &other) {
-            Ok(made) => made.as_slice() == other.as_slice(),
-            Err(_) => false,
-        },
-        Err(_) => false,
-    }
-}
+/// Fields that may differ, besides the bytes of loaded sections: a name, and what the others are.
+const FREE: [Twist; 4] = [
+    (Field::Section(1, SectionField::Name), 1),
+    (Field::Section(4, SectionField::Info), 7),
+    (Field::Section(4, SectionField::Addr), 9),
+    (Field::Section(4, SectionField::Flags), 1),
+];
 
-/// Whether each such field is free.
-fn each_other_is_free(alloc: Global) -> bool {
-    match program(alloc, FORMS[2], &[]) {
-        Ok(whole) => {
-            for twist in FREE.iter() {
-                if !is_free(alloc, &whole, *twist) {
-                    return false;
-                }
-            }
-            true
+/// Whether the debug half may differ in each such field, and then the joined file does.
+fn each_other_is_free(alloc: Global, twists: &[Twist]) -> bool {
+    for twist in twists {
+        if !is_answered(alloc, &[], &[*twist], Answer::Debug) {
+            return false;
         }
-        Err(_) => false,
     }
+    true
 }
 
 #[test]
 fn other_fields_are_those_of_the_debug_half(rt: HostRuntime) {
-    assert!(rt; each_other_is_free(rt.alloc()));
+    assert!(rt; each_other_is_free(rt.alloc(), &FREE));
 }

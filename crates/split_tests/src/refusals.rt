@@ -1,11 +1,11 @@
 //! What is refused, in its order.
 
+use crate::answers::{Answer, comes_of, is_answered};
 use crate::halves::half_image;
 use crate::images::{Twist, program};
-use crate::joins::{are_joined, joined_images};
 use elf_types::{ElfError, NULL_SECTION, Octets, Shdr};
 use std::alloc::Global;
-use test_images::{FORMS, Field, HeaderField, OBJECT, Put, Recipe, SectionField, Start, image_of};
+use test_images::{Field, HeaderField, OBJECT, Put, Recipe, SectionField, Start, WIDE, image_of};
 use unstrip_join::UnstripFault;
 
 /// A place outside of the file.
@@ -25,11 +25,11 @@ const TOO_HIGH: Twist = (Field::Section(4, SectionField::Addralign), 1 << 40);
 /// Another machine.
 const OTHER: Twist = (Field::Header(HeaderField::Machine), 3);
 
-/// Two programs with such fields, the first stripped, and what they are refused by.
+/// Two programs with such fields, the first stripped, and what comes of them.
 struct Row {
     stripped: &'static [Twist],
     debug: &'static [Twist],
-    fault: UnstripFault,
+    answer: Answer,
 }
 
 /// The refusals, each with one that comes later.
@@ -37,58 +37,47 @@ const ROWS: [Row; 6] = [
     Row {
         stripped: &[CODE_OUT],
         debug: &[OTHER, NOTES_OUT],
-        fault: UnstripFault::Mismatch,
+        answer: Answer::Fault(UnstripFault::Mismatch),
     },
     Row {
         stripped: &[CODE_OUT],
         debug: &[NOTES_OUT],
-        fault: UnstripFault::Elf(ElfError::OutOfFile { section: 1 }),
+        answer: Answer::Fault(UnstripFault::Elf(ElfError::OutOfFile { section: 1 })),
     },
     Row {
         stripped: &[],
         debug: &[NOTES_OUT, NO_NAMES],
-        fault: UnstripFault::Debug(ElfError::OutOfFile { section: 4 }),
+        answer: Answer::Fault(UnstripFault::Debug(ElfError::OutOfFile { section: 4 })),
     },
     Row {
         stripped: &[NO_NAMES],
         debug: &[TOO_HIGH, NO_NAMES],
-        fault: UnstripFault::Debug(ElfError::NoSection { index: 9, count: 6 }),
+        answer: Answer::Fault(UnstripFault::Debug(ElfError::NoSection { index: 9, count: 6 })),
     },
     Row {
         stripped: &[NOTES_OUT],
         debug: &[TOO_HIGH],
-        fault: UnstripFault::Elf(ElfError::TooLarge),
+        answer: Answer::Fault(UnstripFault::Elf(ElfError::TooLarge)),
     },
     Row {
         stripped: &[],
         debug: &[OTHER],
-        fault: UnstripFault::Mismatch,
+        answer: Answer::Fault(UnstripFault::Mismatch),
     },
 ];
 
-/// Whether two images are refused so.
-fn are_refused(alloc: Global, stripped: &Octets, debug: &Octets, fault: UnstripFault) -> bool {
-    match joined_images(alloc, stripped, debug) {
-        Ok(_) => false,
-        Err(came) => came == fault,
-    }
-}
+/// The loaded sections of the debug half and the others of the stripped one are not looked at, nor
+/// is the string index of the stripped one.
+const UNREAD: [Row; 1] = [Row {
+    stripped: &[NOTES_OUT, NO_NAMES],
+    debug: &[CODE_OUT],
+    answer: Answer::Program,
+}];
 
-/// Whether a row is refused as it says.
-fn is_refused(alloc: Global, row: &Row) -> bool {
-    match program(alloc, FORMS[2], row.stripped) {
-        Ok(stripped) => match program(alloc, FORMS[2], row.debug) {
-            Ok(debug) => are_refused(alloc, &stripped, &debug, row.fault),
-            Err(_) => false,
-        },
-        Err(_) => false,
-    }
-}
-
-/// Whether each row is.
-fn each_is_refused(alloc: Global) -> bool {
-    for row in ROWS.iter() {
-        if !is_refused(alloc, row) {
+/// Whether that comes of each row.
+fn are_answered(alloc: Global, rows: &[Row]) -> bool {
+    for row in rows {
+        if !is_answered(alloc, row.stripped, row.debug, row.answer) {
             return false;
         }
     }
@@ -97,21 +86,12 @@ fn each_is_refused(alloc: Global) -> bool {
 
 #[test]
 fn halves_are_refused_in_order(rt: HostRuntime) {
-    assert!(rt; each_is_refused(rt.alloc()));
-}
-
-/// Whether the loaded sections of the debug half and the others of the stripped one are not looked
-/// at, nor the string index of the stripped one.
-fn others_are_not_read(alloc: Global) -> Result<bool, ElfError> {
-    let whole = program(alloc, FORMS[2], &[])?;
-    let stripped = program(alloc, FORMS[2], &[NOTES_OUT, NO_NAMES])?;
-    let debug = program(alloc, FORMS[2], &[CODE_OUT])?;
-    Ok(are_joined(alloc, &stripped, &debug, &whole))
+    assert!(rt; are_answered(rt.alloc(), &ROWS));
 }
 
 #[test]
 fn each_half_gives_its_own_part(rt: HostRuntime) {
-    assert!(rt; others_are_not_read(rt.alloc()) == Ok(true));
+    assert!(rt; are_answered(rt.alloc(), &UNREAD));
 }
 
 /// Whether an image has no debug half, for that reason.
@@ -124,18 +104,22 @@ fn is_half_refused(alloc: Global, image: &Octets, e: ElfError) -> bool {
 
 /// Whether the program with such fields has none.
 fn has_no_half(alloc: Global, twists: &[Twist], e: ElfError) -> bool {
-    match program(alloc, FORMS[2], twists) {
+    match program(alloc, WIDE, twists) {
         Ok(image) => is_half_refused(alloc, &image, e),
         Err(_) => false,
     }
 }
 
-#[test]
-fn a_debug_half_is_refused_in_order(rt: HostRuntime) {
+/// Whether sections out of the file are refused before a string index, and whether that is.
+fn halves_are_refused(alloc: Global) -> bool {
     let out = ElfError::OutOfFile { section: 4 };
     let names = ElfError::NoSection { index: 9, count: 6 };
-    assert!(rt; has_no_half(rt.alloc(), &[NO_NAMES, NOTES_OUT], out));
-    assert!(rt; has_no_half(rt.alloc(), &[NO_NAMES], names));
+    has_no_half(alloc, &[NO_NAMES, NOTES_OUT], out) && has_no_half(alloc, &[NO_NAMES], names)
+}
+
+#[test]
+fn a_debug_half_is_refused_in_order(rt: HostRuntime) {
+    assert!(rt; halves_are_refused(rt.alloc()));
 }
 
 /// Section 0 that counts the program headers.
@@ -158,10 +142,10 @@ const CROWDED: Recipe = Recipe {
 
 /// Whether too many program headers are refused, by both.
 fn are_too_many(alloc: Global) -> bool {
+    let many = Answer::Fault(UnstripFault::Elf(ElfError::TooMany));
     match image_of(alloc, &CROWDED) {
         Ok(image) => {
-            let many = UnstripFault::Elf(ElfError::TooMany);
-            are_refused(alloc, &image.bytes, &image.bytes, many)
+            comes_of(alloc, &image.bytes, &image.bytes, many)
                 && is_half_refused(alloc, &image.bytes, ElfError::TooMany)
         }
         Err(_) => false,

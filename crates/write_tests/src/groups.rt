@@ -1,14 +1,13 @@
 //! The groups that strip leaves, told byte by byte: members that are removed go, and those that
 //! stay have their new numbers.
 
-use crate::calls::holds;
-use crate::strip::{Row, leaves_old, run_row};
+use crate::calls::OLD;
+use crate::strip::KEPT;
+use elf_types::Shdr;
 use elf_types::constants::{SHT_GROUP, SHT_PROGBITS, SHT_STRTAB};
-use elf_types::{ElfError, Shdr};
-use std::alloc::Global;
-use std::test::Fail;
-use test_images::{Content, Field, NULL_SECTION, Put, Recipe, SectionField, Start, WIDE, image_of};
-use test_runs::{DONE, Ending, REFUSED};
+use test_cases::{Case, Held, Stored, are_so, is_so};
+use test_images::{Content, Field, NULL_SECTION, Put, Recipe, SectionField, Start, WIDE};
+use test_runs::{Ending, REFUSED};
 
 /// Bytes with a name.
 const BODY: Shdr = Shdr {
@@ -98,66 +97,49 @@ const NONE_LEFT: [Put; 3] = [
 
 /// Words, and the image that they make of that object: a group of one member, and one of its flags
 /// alone.
-const MADE: [(&str, Recipe); 2] = [
-    (
-        "strip -R .a -o O F",
-        Recipe {
+const MADE: [Case; 2] = [
+    Case {
+        line: "strip -R .a -o O F",
+        file: Stored::Image(GROUPED),
+        held: Held::Now(Stored::Image(Recipe {
             form: WIDE,
             start: Start::Table(80, 4, 3),
             puts: &ONE_LEFT,
-        },
-    ),
-    (
-        "strip -R .a -R .b -o O F",
-        Recipe {
+        })),
+        ..KEPT
+    },
+    Case {
+        line: "strip -R .a -R .b -o O F",
+        file: Stored::Image(GROUPED),
+        held: Held::Now(Stored::Image(Recipe {
             form: WIDE,
             start: Start::Table(72, 3, 2),
             puts: &NONE_LEFT,
-        },
-    ),
+        })),
+        ..KEPT
+    },
 ];
 
-/// Whether the words leave this image of the object.
-fn leaves(alloc: Global, words: &'static str, made: &Recipe) -> Result<bool, ElfError> {
-    let row = Row {
-        words,
-        file: GROUPED,
-        ending: DONE,
-    };
-    let left = run_row(alloc, &row)?;
-    let image = image_of(alloc, made)?;
-    Ok(left.ran.is(&row.ending) && holds(&left.held, &image.bytes))
-}
-
 #[test]
-fn a_group_keeps_the_members_that_stay(rt: HostRuntime) -> Result<(), Fail> {
-    for (words, made) in &MADE {
-        assert!(rt; leaves(rt.alloc(), words, made) == Ok(true));
-    }
-    Ok(())
+fn a_group_keeps_the_members_that_stay(rt: HostRuntime) {
+    assert!(rt; are_so(rt.alloc(), &OLD, &MADE));
 }
 
 /// A group that is no whole number of words.
-const RAGGED: Row = Row {
-    words: "strip -R .a -o O F",
-    file: Recipe {
-        puts: &[
-            Put::Sections(&SECTIONS),
-            Put::Home(1, Content::Bytes(b"aa")),
-            Put::Home(2, Content::Bytes(b"bb")),
-            Put::Home(3, Content::Words(&[1, 1, 2])),
-            Put::Home(4, Content::Bytes(b"\0.a\0.b\0")),
-            Put::Field(Field::Section(3, SectionField::Size), 11),
-        ],
-        ..GROUPED
-    },
+const RAGGED: Case = Case {
+    line: "strip -R .a -o O F",
+    file: Stored::Changed(
+        GROUPED,
+        Put::Field(Field::Section(3, SectionField::Size), 11),
+    ),
     ending: Ending {
         err: b"strip: F: section 3 ragged\n",
         ..REFUSED
     },
+    ..KEPT
 };
 
 #[test]
 fn a_ragged_group_makes_no_file(rt: HostRuntime) {
-    assert!(rt; leaves_old(rt.alloc(), &RAGGED) == Ok(true));
+    assert!(rt; is_so(rt.alloc(), &OLD, &RAGGED));
 }

@@ -1,22 +1,13 @@
 //! The images that the calls of a script leave, told byte by byte.
 
-use crate::calls::{holds, run_script};
+use crate::calls::{NARROW_OBJECT, OLD, SCRIPTED};
 use elf_types::constants::{SHT_PROGBITS, SHT_STRTAB, SHT_SYMTAB};
-use elf_types::{ElfError, Shdr, Sym};
-use std::alloc::Global;
+use elf_types::{Shdr, Sym};
+use test_cases::{Case, Held, Stored, are_so};
 use test_images::{
-    Content, Field, HeaderField, NARROW, NULL_SECTION, OBJECT, Put, Recipe, SectionField, Start,
-    image_of,
+    Content, Field, HeaderField, NULL_SECTION, OBJECT, Put, Recipe, SectionField, Start,
 };
-use test_runs::{DONE, Ending, Left, NOTHING, REFUSED};
-
-/// An image, a script for it, how the run ends, and the image that it makes.
-struct Row {
-    file: Recipe,
-    script: &'static [u8],
-    ending: Ending,
-    made: Recipe,
-}
+use test_runs::{DONE, Ending, REFUSED};
 
 /// A symbol of zeros.
 const ZERO: Sym = Sym {
@@ -65,103 +56,108 @@ const TAILED: Recipe = Recipe {
     ..OBJECT
 };
 
-/// The object in class 32, the greatest byte first.
-const NARROW_OBJECT: Recipe = Recipe {
-    form: NARROW,
-    ..OBJECT
-};
-
 /// Its symbols' values are raised by 16.
-const RAISED: Row = Row {
-    file: OBJECT,
-    script: b"addall 2 0 16\n",
+const RAISED: Case = Case {
+    script: Stored::Bytes(b"addall 2 0 16\n"),
     ending: Ending {
         out: b"changed 2\nsize 312\n",
         ..DONE
     },
-    made: Recipe {
+    held: Held::Now(Stored::Image(Recipe {
         puts: &[Put::Bytes(80, b"\x10"), Put::Bytes(104, b"\x10")],
         ..OBJECT
-    },
+    })),
+    ..SCRIPTED
 };
 
 /// Values that do not fit class 32 refuse the update, until they fit again.
-const UNFIT: Row = Row {
-    file: NARROW_OBJECT,
-    script: b"set sym 2 0 1 value 4294967296\naddall 2 0 4294967296\nnull\n\
+const UNFIT: Case = Case {
+    file: Stored::Image(NARROW_OBJECT),
+    script: Stored::Bytes(
+        b"set sym 2 0 1 value 4294967296\naddall 2 0 4294967296\nnull\n\
         addall 2 0 0xffffffff00000000\nnull\n",
+    ),
     ending: Ending {
         out: b"refused unfit piece 2 0 index 1\nchanged 2\nrefused unfit piece 2 0 index 0\n\
             changed 2\nsize 208\nsize 208\n",
         ..REFUSED
     },
-    made: NARROW_OBJECT,
+    held: Held::Now(Stored::Image(NARROW_OBJECT)),
+    ..SCRIPTED
 };
 
 /// Where nothing is dirty, what stands behind the parts is copied.
-const COPIED: Row = Row {
-    file: TAILED,
-    script: b"",
+const COPIED: Case = Case {
+    file: Stored::Image(TAILED),
+    script: Stored::Bytes(b""),
     ending: Ending {
         out: b"size 317\n",
         ..DONE
     },
-    made: TAILED,
+    held: Held::Now(Stored::Image(TAILED)),
+    ..SCRIPTED
 };
 
 /// Under the caller's layout it is kept.
-const KEPT: Row = Row {
-    file: TAILED,
-    script: b"flag object set 4\nflag object set 4\nflag object clear 4\nflag object clear 1\n\
+const KEPT: Case = Case {
+    file: Stored::Image(TAILED),
+    script: Stored::Bytes(
+        b"flag object set 4\nflag object set 4\nflag object clear 4\nflag object clear 1\n\
         flag object set 4\nflag header set 1\n",
+    ),
     ending: Ending {
         out: b"flags 0x4\nflags 0x4\nflags 0x0\nrefused flag kept\nflags 0x4\nflags 0x1\n\
             size 317\n",
         ..REFUSED
     },
-    made: TAILED,
+    held: Held::Now(Stored::Image(TAILED)),
+    ..SCRIPTED
 };
 
 /// Without it, it is left out.
-const LEFT_OUT: Row = Row {
-    file: TAILED,
-    script: b"flag object set 4\nflag object clear 4\nflag header set 1\n",
+const LEFT_OUT: Case = Case {
+    file: Stored::Image(TAILED),
+    script: Stored::Bytes(b"flag object set 4\nflag object clear 4\nflag header set 1\n"),
     ending: Ending {
         out: b"flags 0x4\nflags 0x0\nflags 0x1\nsize 312\n",
         ..DONE
     },
-    made: OBJECT,
+    held: Held::Now(Stored::Image(OBJECT)),
+    ..SCRIPTED
 };
 
 /// A section that shares a byte with another one is refused, and stands right behind it.
-const MOVED: Row = Row {
-    file: OBJECT,
-    script: b"flag object set 4\nset shdr 2 offset 66\nnull\nset shdr 2 offset 67\nnull\n",
+const MOVED: Case = Case {
+    script: Stored::Bytes(
+        b"flag object set 4\nset shdr 2 offset 66\nnull\nset shdr 2 offset 67\nnull\n",
+    ),
     ending: Ending {
         out: b"flags 0x4\nok\nrefused overlap section 1 section 2\nok\nsize 312\nsize 312\n",
         ..REFUSED
     },
-    made: Recipe {
+    held: Held::Now(Stored::Image(Recipe {
         puts: &[
             Put::Field(Field::Section(2, SectionField::Offset), 67),
             Put::Content(67, Content::Syms(&[ZERO, FUNCTION])),
         ],
         ..OBJECT
-    },
+    })),
+    ..SCRIPTED
 };
 
 /// A section and a program header are added.
-const ADDED: Row = Row {
-    file: OBJECT,
-    script: b"newscn\nset shdr 3 type 1\nset shdr 3 addralign 4\nnewdata 3 0102\nnewphdr 1\nnull\n\
+const ADDED: Case = Case {
+    script: Stored::Bytes(
+        b"newscn\nset shdr 3 type 1\nset shdr 3 addralign 4\nnewdata 3 0102\nnewphdr 1\nnull\n\
         shdr 3\n",
+    ),
     ending: Ending {
         out: b"section 3\nok\nok\npiece 3 0\nok\nsize 440\n\
             shdr name 0 type 0x1 flags 0x0 addr 0x0 offset 0xb0 size 0x2 link 0 info 0 \
             addralign 4 entsize 0\nsize 440\n",
         ..DONE
     },
-    made: Recipe {
+    held: Held::Now(Stored::Image(Recipe {
         start: Start::Table(184, 4, 1),
         puts: &[
             Put::Field(Field::Header(HeaderField::Phoff), 64),
@@ -190,19 +186,19 @@ const ADDED: Row = Row {
             Put::Bytes(176, b"\x01\x02"),
         ],
         ..OBJECT
-    },
+    })),
+    ..SCRIPTED
 };
 
 /// Pieces and sections have the fill byte between them.
-const FILLED: Row = Row {
-    file: OBJECT,
-    script: b"fill 0xaa\nnewdata 1 62 8\nstr 1 4\nstr 1 8\nnewdata 1 62 3\n",
+const FILLED: Case = Case {
+    script: Stored::Bytes(b"fill 0xaa\nnewdata 1 62 8\nstr 1 4\nstr 1 8\nnewdata 1 62 3\n"),
     ending: Ending {
         out: b"ok\npiece 1 1\nrefused no string at 4 of 9\nrefused string at 8 has no end\n\
             refused bad alignment 3\nsize 320\n",
         ..REFUSED
     },
-    made: Recipe {
+    held: Held::Now(Stored::Image(Recipe {
         start: Start::Table(128, 3, 1),
         puts: &[
             Put::Sections(&[
@@ -220,50 +216,22 @@ const FILLED: Row = Row {
             Put::Content(80, Content::Syms(&[ZERO, FUNCTION])),
         ],
         ..OBJECT
-    },
+    })),
+    ..SCRIPTED
 };
 
-/// What a run of a row left.
-fn left_of(alloc: Global, row: &Row) -> Result<Left, ElfError> {
-    match image_of(alloc, &row.file) {
-        Ok(image) => run_script(alloc, image, row.script, NOTHING),
-        Err(e) => Err(e),
-    }
-}
-
-/// Whether a row ends so, and makes its image.
-fn is_made(alloc: Global, row: &Row) -> bool {
-    let Ok(made) = image_of(alloc, &row.made) else {
-        return false;
-    };
-    match left_of(alloc, row) {
-        Ok(left) => left.ran.is(&row.ending) && holds(&left.held, &made.bytes),
-        Err(_) => false,
-    }
-}
-
-/// The script of the first row that does not, or None.
-fn first_other(alloc: Global, rows: &[Row]) -> Option<&'static [u8]> {
-    for row in rows {
-        if !is_made(alloc, row) {
-            return Some(row.script);
-        }
-    }
-    None
-}
-
 /// Images of which nothing is edited, or items alone.
-const KEEPING: [Row; 5] = [COPIED, KEPT, LEFT_OUT, RAISED, UNFIT];
+const KEEPING: [Case; 5] = [COPIED, KEPT, LEFT_OUT, RAISED, UNFIT];
 
 /// Images whose parts are placed anew.
-const PLACING: [Row; 3] = [MOVED, ADDED, FILLED];
+const PLACING: [Case; 3] = [MOVED, ADDED, FILLED];
 
 #[test]
 fn what_is_not_edited_stands_in_the_image(rt: HostRuntime) {
-    assert!(rt; first_other(rt.alloc(), &KEEPING).is_none());
+    assert!(rt; are_so(rt.alloc(), &OLD, &KEEPING));
 }
 
 #[test]
 fn parts_stand_in_the_image_where_they_are_placed(rt: HostRuntime) {
-    assert!(rt; first_other(rt.alloc(), &PLACING).is_none());
+    assert!(rt; are_so(rt.alloc(), &OLD, &PLACING));
 }

@@ -7,17 +7,21 @@ mod calls;
 #[cfg(test)]
 mod copy;
 #[cfg(test)]
-mod copy_files;
+mod copy_images;
 #[cfg(test)]
 mod groups;
 #[cfg(test)]
 mod images;
+#[cfg(test)]
+mod joins;
 #[cfg(test)]
 mod rehash;
 #[cfg(test)]
 mod rows;
 #[cfg(test)]
 mod selftest;
+#[cfg(test)]
+mod splits;
 #[cfg(test)]
 mod stops;
 #[cfg(test)]

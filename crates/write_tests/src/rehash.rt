@@ -1,81 +1,65 @@
 //! What rehash leaves: its message, and the file that is made of the image, or none.
 
-use crate::calls::{OLD, Updated, holds};
+use crate::calls::OLD;
 use elf_types::constants::{
     SHT_DYNSYM, SHT_GNU_HASH, SHT_GNU_VERSYM, SHT_HASH, SHT_RELA, SHT_STRTAB,
 };
-use elf_types::{ElfError, Rela, Shdr, Sym};
-use std::alloc::Global;
+use elf_types::{Rela, Shdr, Sym};
+use test_cases::{Case, Held, RUN, Stored, are_so, is_so};
 use test_images::{
     Content, Field, HeaderField, NULL_SECTION, OBJECT, Put, Recipe, SectionField, Start, WIDE,
-    image_of,
 };
-use test_runs::{DONE, Ending, Failing, Left, NOTHING, REFUSED, run_leaving};
+use test_runs::{Ending, REFUSED};
 
-/// A run of rehash over an image.
-fn run_rehash(
-    alloc: Global,
-    line: &str,
-    file: &Recipe,
-    failing: Failing,
-) -> Result<Left, ElfError> {
-    let image = match image_of(alloc, file) {
-        Ok(image) => image,
-        Err(e) => return Err(e),
-    };
-    let given = Updated {
-        image,
-        bad_read: 0,
-        script: b"",
-    };
-    run_leaving(alloc, line, &given, failing, "O")
-}
-
-/// Whether a run ends so, and leaves the name O as it was.
-fn is_left(alloc: Global, line: &str, file: &Recipe, ending: &Ending) -> bool {
-    match run_rehash(alloc, line, file, NOTHING) {
-        Ok(left) => match &left.held {
-            Some(held) => left.ran.is(ending) && held.as_slice() == OLD,
-            None => false,
-        },
-        Err(_) => false,
-    }
-}
-
-/// Whether a run over an image makes another one, and says nothing.
-fn is_made(alloc: Global, file: &Recipe, made: &Recipe) -> bool {
-    let Ok(made) = image_of(alloc, made) else {
-        return false;
-    };
-    match run_rehash(alloc, "rehash -o O F", file, NOTHING) {
-        Ok(left) => left.ran.is(&DONE) && holds(&left.held, &made.bytes),
-        Err(_) => false,
-    }
-}
+/// A run over the object with two symbols, beside the empty file S, which leaves the file O as it
+/// was.
+const KEPT: Case = Case {
+    line: "rehash -o O F",
+    file: Stored::Image(OBJECT),
+    script: Stored::Bytes(b""),
+    held: Held::Before,
+    ..RUN
+};
 
 // ---- Nothing to build
 
-#[test]
-fn an_image_without_dynamic_symbols_has_no_dynamic_hash(rt: HostRuntime) {
-    let ending = Ending {
+/// An image without dynamic symbols.
+const UNBUILT: Case = Case {
+    ending: Ending {
         err: b"rehash: F: no dynamic hash\n",
         ..REFUSED
-    };
-    assert!(rt; is_left(rt.alloc(), "rehash -o O F", &OBJECT, &ending));
+    },
+    ..KEPT
+};
+
+#[test]
+fn an_image_without_dynamic_symbols_has_no_dynamic_hash(rt: HostRuntime) {
+    assert!(rt; is_so(rt.alloc(), &OLD, &UNBUILT));
 }
+
+/// A file that is not there, and one that is no image.
+const NO_IMAGE: [Case; 2] = [
+    Case {
+        line: "rehash -o O X",
+        ending: Ending {
+            err: b"rehash: X: not found\n",
+            ..REFUSED
+        },
+        ..KEPT
+    },
+    Case {
+        line: "rehash -o O S",
+        ending: Ending {
+            err: b"rehash: S: too short\n",
+            ..REFUSED
+        },
+        ..KEPT
+    },
+];
 
 #[test]
 fn a_file_that_is_not_there_and_one_that_is_no_image_are_refused(rt: HostRuntime) {
-    let absent = Ending {
-        err: b"rehash: X: not found\n",
-        ..REFUSED
-    };
-    assert!(rt; is_left(rt.alloc(), "rehash -o O X", &OBJECT, &absent));
-    let no_image = Ending {
-        err: b"rehash: S: too short\n",
-        ..REFUSED
-    };
-    assert!(rt; is_left(rt.alloc(), "rehash -o O S", &OBJECT, &no_image));
+    assert!(rt; are_so(rt.alloc(), &OLD, &NO_IMAGE));
 }
 
 // ---- An object
@@ -215,10 +199,23 @@ const MADE: Recipe = Recipe {
     ],
 };
 
+/// What is built of both.
+const BUILT: [Case; 2] = [
+    Case {
+        file: Stored::Image(FILE),
+        held: Held::Now(Stored::Image(MADE)),
+        ..KEPT
+    },
+    Case {
+        file: Stored::Image(MADE),
+        held: Held::Now(Stored::Image(MADE)),
+        ..KEPT
+    },
+];
+
 #[test]
 fn hash_sections_and_relocations_of_an_object_are_built_anew(rt: HostRuntime) {
-    assert!(rt; is_made(rt.alloc(), &FILE, &MADE));
-    assert!(rt; is_made(rt.alloc(), &MADE, &MADE));
+    assert!(rt; are_so(rt.alloc(), &OLD, &BUILT));
 }
 
 // ---- Refusals of the steps
@@ -249,18 +246,29 @@ const OUT: Recipe = Recipe {
     ],
 };
 
+/// What is refused of both.
+const UNMADE: [Case; 2] = [
+    Case {
+        file: Stored::Image(FEW),
+        ending: Ending {
+            err: b"rehash: F: no entry 2 of 2\n",
+            ..REFUSED
+        },
+        ..KEPT
+    },
+    Case {
+        file: Stored::Image(OUT),
+        ending: Ending {
+            err: b"rehash: F: section 4 out of file\n",
+            ..REFUSED
+        },
+        ..KEPT
+    },
+];
+
 #[test]
 fn a_refused_step_is_told_and_makes_no_file(rt: HostRuntime) {
-    let few = Ending {
-        err: b"rehash: F: no entry 2 of 2\n",
-        ..REFUSED
-    };
-    assert!(rt; is_left(rt.alloc(), "rehash -o O F", &FEW, &few));
-    let out = Ending {
-        err: b"rehash: F: section 4 out of file\n",
-        ..REFUSED
-    };
-    assert!(rt; is_left(rt.alloc(), "rehash -o O F", &OUT, &out));
+    assert!(rt; are_so(rt.alloc(), &OLD, &UNMADE));
 }
 
 // ---- A program
@@ -316,16 +324,29 @@ const SHORT: Recipe = Recipe {
     ],
 };
 
+/// The program, and what is built of it.
+const IN_PLACE: Case = Case {
+    file: Stored::Image(PROGRAM),
+    held: Held::Now(Stored::Image(PROGRAM_MADE)),
+    ..KEPT
+};
+
 #[test]
 fn the_parts_of_a_program_stay_where_they_are(rt: HostRuntime) {
-    assert!(rt; is_made(rt.alloc(), &PROGRAM, &PROGRAM_MADE));
+    assert!(rt; is_so(rt.alloc(), &OLD, &IN_PLACE));
 }
+
+/// The shorter one, of which nothing is.
+const TOO_LONG: Case = Case {
+    file: Stored::Image(SHORT),
+    ending: Ending {
+        err: b"rehash: F: overlap section 3 section 4\n",
+        ..REFUSED
+    },
+    ..KEPT
+};
 
 #[test]
 fn a_section_of_a_program_that_grows_into_another_part_is_refused(rt: HostRuntime) {
-    let ending = Ending {
-        err: b"rehash: F: overlap section 3 section 4\n",
-        ..REFUSED
-    };
-    assert!(rt; is_left(rt.alloc(), "rehash -o O F", &SHORT, &ending));
+    assert!(rt; is_so(rt.alloc(), &OLD, &TOO_LONG));
 }

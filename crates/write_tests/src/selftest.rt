@@ -1,12 +1,13 @@
 //! What the self test shows and what it leaves: five lines, and the image that it makes.
 
+use crate::calls::OLD;
 use elf_outside::MemFiles;
 use elf_types::constants::{SHF_ALLOC, SHT_PROGBITS, SHT_STRTAB, SHT_SYMTAB};
 use elf_types::{Addrs, ElfError, NULL_SECTION, Octets, Shdr, Sym};
 use std::alloc::Global;
-use std::test::Fail;
-use test_images::{Content, Put, Recipe, Start, WIDE, image_of};
-use test_runs::{DONE, Ending, Failing, Given, Left, NOTHING, add_file, run_leaving};
+use test_cases::{Case, Held, RUN, Stored, are_so};
+use test_images::{Content, Put, Recipe, Start, WIDE};
+use test_runs::{DONE, Ending, Failing, Given, NOTHING, run_leaving};
 use tool_output::Status;
 
 /// The image of one section with data: that section, the symbols, each with 1 added to its value,
@@ -84,76 +85,19 @@ const ONE: Recipe = Recipe {
 /// What is shown of it.
 const ONE_LINES: &[u8] = b"sections 5\nsymbols 2\nbytes 480\nvalue sum 5\nfound 1\n";
 
-/// A file O of these bytes, where there are any.
-#[derive(Clone, Copy)]
-struct Before(Option<&'static [u8]>);
+/// A run of the self test with one section, which leaves its image.
+const MADE: Case = Case {
+    line: "selftest -o O 1",
+    ending: TOLD,
+    held: Held::Now(Stored::Image(ONE)),
+    ..RUN
+};
 
-impl Given for Before {
-    fn add_to(&self, alloc: Global, files: &mut MemFiles) -> Result<(), ElfError> {
-        match self.0 {
-            Some(bytes) => add_file(alloc, files, "O", bytes),
-            None => Ok(()),
-        }
-    }
-}
-
-/// What the name O holds after a run.
-#[derive(Clone, Copy)]
-enum Made {
-    /// It is not there.
-    Nothing,
-    /// Nothing yet: the file was made.
-    Empty,
-    /// What it held before.
-    Old,
-    /// The image of one section with data.
-    Image,
-}
-
-/// What the name O held before, where it was there.
-const OLD: &[u8] = b"old";
-
-/// Whether these bytes are the image.
-fn is_image(alloc: Global, bytes: &[u8]) -> bool {
-    match image_of(alloc, &ONE) {
-        Ok(image) => image.bytes.as_slice() == bytes,
-        Err(_) => false,
-    }
-}
-
-/// Whether a file of these bytes was left.
-fn is_made(alloc: Global, bytes: &[u8], made: Made) -> bool {
-    match made {
-        Made::Nothing => false,
-        Made::Empty => bytes.is_empty(),
-        Made::Old => bytes == OLD,
-        Made::Image => is_image(alloc, bytes),
-    }
-}
-
-/// Whether no file was left.
-fn is_nothing(made: Made) -> bool {
-    match made {
-        Made::Nothing => true,
-        _ => false,
-    }
-}
-
-/// Whether the name was left so.
-fn is_held(alloc: Global, held: &Option<Octets>, made: Made) -> bool {
-    match held {
-        Some(bytes) => is_made(alloc, bytes.as_slice(), made),
-        None => is_nothing(made),
-    }
-}
-
-/// What is there before, which calls fail, how the run ends, and what it leaves.
-struct Row {
-    before: Before,
-    failing: Failing,
-    ending: Ending,
-    made: Made,
-}
+/// The lines are shown.
+const TOLD: Ending = Ending {
+    out: ONE_LINES,
+    ..DONE
+};
 
 /// A write failed, and nothing is shown.
 const UNWRITTEN: Ending = Ending {
@@ -167,87 +111,52 @@ const UNREAD: Ending = Ending {
     ..DONE
 };
 
-/// The lines are shown.
-const TOLD: Ending = Ending {
-    out: ONE_LINES,
-    ..DONE
-};
+/// Runs where the name O is not there: no call fails, O is not made, O is not handed out again, and
+/// the put of the lines fails.
+const FIRST: [Case; 4] = [
+    MADE,
+    Case {
+        failing: Failing { open: 1, ..NOTHING },
+        ending: UNWRITTEN,
+        held: Held::Before,
+        ..MADE
+    },
+    Case {
+        failing: Failing { open: 2, ..NOTHING },
+        ending: UNREAD,
+        ..MADE
+    },
+    Case {
+        failing: Failing { out: 1, ..NOTHING },
+        ending: UNWRITTEN,
+        ..MADE
+    },
+];
 
-/// No call fails, and then each in turn: O is not made, O can not be written, O is not handed out
-/// again, and the put of the lines fails.
-const ROWS: [Row; 7] = [
-    Row {
-        before: Before(None),
-        failing: NOTHING,
-        ending: TOLD,
-        made: Made::Image,
-    },
-    Row {
-        before: Before(Some(OLD)),
-        failing: NOTHING,
-        ending: TOLD,
-        made: Made::Image,
-    },
-    Row {
-        before: Before(None),
+/// Runs where O is there: no call fails, O is not made, and O can not be written.
+const AGAIN: [Case; 3] = [
+    MADE,
+    Case {
         failing: Failing { open: 1, ..NOTHING },
         ending: UNWRITTEN,
-        made: Made::Nothing,
+        held: Held::Before,
+        ..MADE
     },
-    Row {
-        before: Before(Some(OLD)),
-        failing: Failing { open: 1, ..NOTHING },
-        ending: UNWRITTEN,
-        made: Made::Old,
-    },
-    Row {
-        before: Before(Some(OLD)),
+    Case {
         failing: Failing {
             write: 1,
             ..NOTHING
         },
         ending: UNWRITTEN,
-        made: Made::Empty,
-    },
-    Row {
-        before: Before(None),
-        failing: Failing { open: 2, ..NOTHING },
-        ending: UNREAD,
-        made: Made::Image,
-    },
-    Row {
-        before: Before(None),
-        failing: Failing { out: 1, ..NOTHING },
-        ending: UNWRITTEN,
-        made: Made::Image,
+        held: Held::Now(Stored::Bytes(b"")),
+        ..MADE
     },
 ];
 
-/// Whether a run left this.
-fn is_left(alloc: Global, left: Left, row: &Row) -> bool {
-    left.ran.is(&row.ending) && is_held(alloc, &left.held, row.made)
-}
-
-/// Whether a row ends so.
-fn is_row(alloc: Global, row: &Row) -> Result<bool, ElfError> {
-    let left = run_leaving(alloc, "selftest -o O 1", &row.before, row.failing, "O")?;
-    Ok(is_left(alloc, left, row))
-}
-
-/// The index of the first row that does not end so.
-fn first_other(alloc: Global) -> Result<Option<usize>, ElfError> {
-    for (i, row) in ROWS.iter().enumerate() {
-        if !is_row(alloc, row)? {
-            return Ok(Some(i));
-        }
-    }
-    Ok(None)
-}
-
 #[test]
-fn one_section_is_told_of_and_each_fault_has_its_status(rt: HostRuntime) -> Result<(), Fail> {
-    assert!(rt; first_other(rt.alloc()) == Ok(None));
-    Ok(())
+fn one_section_is_told_of_and_each_fault_has_its_status(rt: HostRuntime) {
+    assert!(rt; are_so(rt.alloc(), &[], &FIRST));
+    assert!(rt; are_so(rt.alloc(), &OLD, &AGAIN));
 }
 
 /// No file, in a set of files in which each has room for eight megabytes.
@@ -287,24 +196,25 @@ fn has_length(held: &Option<Octets>, length: u64) -> bool {
 }
 
 /// Whether a run of these words shows and leaves so much.
-fn is_size(alloc: Global, size: &Size) -> Result<bool, ElfError> {
+fn is_size(alloc: Global, size: &Size) -> bool {
     let (line, out, length) = *size;
-    let left = run_leaving(alloc, line, &Roomy, NOTHING, "O")?;
-    Ok(left.ran.is(&Ending { out, ..DONE }) && has_length(&left.held, length))
+    match run_leaving(alloc, line, &Roomy, NOTHING, "O") {
+        Ok(left) => left.ran.is(&Ending { out, ..DONE }) && has_length(&left.held, length),
+        Err(_) => false,
+    }
 }
 
-/// The words of the first row that shows or leaves something else.
-fn first_other_size(alloc: Global) -> Result<Option<&'static str>, ElfError> {
-    for size in SIZES.iter() {
-        if !is_size(alloc, size)? {
-            return Ok(Some(size.0));
+/// Whether each run does.
+fn are_sizes(alloc: Global, sizes: &[Size]) -> bool {
+    for size in sizes {
+        if !is_size(alloc, size) {
+            return false;
         }
     }
-    Ok(None)
+    true
 }
 
 #[test]
-fn up_to_60000_sections_are_told_of(rt: HostRuntime) -> Result<(), Fail> {
-    assert!(rt; first_other_size(rt.alloc()) == Ok(None));
-    Ok(())
+fn up_to_60000_sections_are_told_of(rt: HostRuntime) {
+    assert!(rt; are_sizes(rt.alloc(), &SIZES));
 }

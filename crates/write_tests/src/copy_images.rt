@@ -1,70 +1,11 @@
-//! What copy is run over, in tests: images, and the files beside them.
+//! Images that copy is run over and that it makes, in tests.
 
-use crate::calls::OLD;
-use elf_outside::MemFiles;
 use elf_types::constants::{SHF_ALLOC, SHT_NOBITS, SHT_PROGBITS, SHT_STRTAB, SHT_SYMTAB};
-use elf_types::{Addrs, ElfError, Octets, Shdr, Sym};
-use std::alloc::Global;
+use elf_types::{Shdr, Sym};
 use test_images::{
-    Content, Field, HeaderField, Image, NARROW, NULL_SECTION, OBJECT, Put, Recipe, SectionField,
-    Start, WIDE, image_of,
+    Content, Field, HeaderField, NARROW, NULL_SECTION, OBJECT, Put, Recipe, SectionField, Start,
+    WIDE,
 };
-use test_runs::{Failing, Given, Left, add_file, numbered, run_leaving};
-
-/// An image as the file F, of which the read with a number fails; two bytes as the file G, of which
-/// another one fails; four bytes as the file W; the empty file E; and a file O.
-#[derive(Drop)]
-pub struct Copied {
-    /// The image.
-    pub image: Image,
-    /// The number of the read of F.
-    pub bad_read: u64,
-    /// That of the read of G.
-    pub bad_bytes: u64,
-}
-
-impl Given for Copied {
-    fn add_to(&self, alloc: Global, files: &mut MemFiles) -> Result<(), ElfError> {
-        let image = Octets::from_slice(alloc, self.image.bytes.as_slice())?;
-        files.add(
-            "F",
-            image,
-            numbered(alloc, self.bad_read)?,
-            Addrs::new(alloc),
-        )?;
-        let bytes = Octets::from_slice(alloc, b"hi")?;
-        files.add(
-            "G",
-            bytes,
-            numbered(alloc, self.bad_bytes)?,
-            Addrs::new(alloc),
-        )?;
-        add_file(alloc, files, "W", b"wxyz")?;
-        add_file(alloc, files, "E", b"")?;
-        add_file(alloc, files, "O", OLD)
-    }
-}
-
-/// What a run over an image leaves under the name O.
-pub fn run_copy(
-    alloc: Global,
-    line: &str,
-    file: &Recipe,
-    failing: Failing,
-) -> Result<Left, ElfError> {
-    let image = match image_of(alloc, file) {
-        Ok(image) => image,
-        Err(e) => return Err(e),
-    };
-    let given = Copied {
-        image,
-        bad_read: 0,
-        bad_bytes: 0,
-    };
-    run_leaving(alloc, line, &given, failing, "O")
-}
-
-// ---- Images
 
 /// A symbol of zeros.
 const ZERO: Sym = Sym {

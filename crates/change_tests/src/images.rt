@@ -1,73 +1,8 @@
-//! Files that are changed in place.
+//! Images of files before and after they are changed in place.
 
-use elf_outside::MemFiles;
+use elf_types::Shdr;
 use elf_types::constants::SHT_PROGBITS;
-use elf_types::{ElfError, Shdr};
-use std::alloc::Global;
-use test_images::{NARROW, NULL_SECTION, OBJECT, Put, Recipe, Start, image_of};
-use test_runs::{Ending, Failing, Given, Left, add_file, numbered, run_leaving};
-
-/// What the name O holds.
-pub const OTHER: &[u8] = b"other";
-
-/// An image as the file F, of which the read and the write with these numbers fail, or none where
-/// they are 0; a script for it as the file S; and a file O.
-#[derive(Clone, Copy)]
-pub struct Changed<'a> {
-    /// The image.
-    pub image: &'a Recipe,
-    /// The read.
-    pub bad_read: u64,
-    /// The write.
-    pub bad_write: u64,
-    /// The script.
-    pub script: &'static [u8],
-}
-
-impl Given for Changed<'_> {
-    fn add_to(&self, alloc: Global, files: &mut MemFiles) -> Result<(), ElfError> {
-        let bad_reads = numbered(alloc, self.bad_read)?;
-        let bad_writes = numbered(alloc, self.bad_write)?;
-        let image = image_of(alloc, self.image)?;
-        files.add("F", image.bytes, bad_reads, bad_writes)?;
-        add_file(alloc, files, "O", OTHER)?;
-        add_file(alloc, files, "S", self.script)
-    }
-}
-
-/// A run of `calls -i F S`, and what it leaves under a name.
-pub fn run_changing(
-    alloc: Global,
-    given: &Changed<'_>,
-    failing: Failing,
-    name: &str,
-) -> Result<Left, ElfError> {
-    run_leaving(alloc, "calls -i F S", given, failing, name)
-}
-
-/// Whether a run ended so, and the name holds these bytes.
-pub fn is_left(left: &Left, ending: &Ending, bytes: &[u8]) -> bool {
-    match &left.held {
-        Some(held) => left.ran.is(ending) && held.as_slice() == bytes,
-        None => false,
-    }
-}
-
-/// Whether bytes are those of an image.
-pub fn are_bytes_of(alloc: Global, bytes: &[u8], recipe: &Recipe) -> bool {
-    match image_of(alloc, recipe) {
-        Ok(image) => image.bytes.as_slice() == bytes,
-        Err(_) => false,
-    }
-}
-
-/// Whether a run ended so, and the name holds an image.
-pub fn holds_image(alloc: Global, left: &Left, ending: &Ending, recipe: &Recipe) -> bool {
-    match &left.held {
-        Some(held) => left.ran.is(ending) && are_bytes_of(alloc, held.as_slice(), recipe),
-        None => false,
-    }
-}
+use test_images::{NARROW, NULL_SECTION, OBJECT, Put, Recipe, Start};
 
 /// A section of eight bytes at a multiple of 8.
 const EIGHT: Shdr = Shdr {

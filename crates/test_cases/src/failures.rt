@@ -1,0 +1,262 @@
+//! Runs of which one call after the other fails.
+
+use crate::cases::{Case, Held, is_as_before, is_held, is_so_over, setting_of};
+use crate::files::{Bad, Found, GOOD, Setting, Stored, bytes_of};
+use elf_types::Octets;
+use std::alloc::Global;
+use test_runs::run_leaving;
+use tool_output::Status;
+
+/// Which calls fail, one in each run.
+#[derive(Drop)]
+pub enum Call {
+    /// The reads of a file that the run finds.
+    Read(&'static str),
+    /// The writes of such a file.
+    Write(&'static str),
+    /// The writes of each file that the run makes.
+    Made,
+}
+
+/// What a name holds after a run of which a call failed.
+#[derive(Drop)]
+pub enum State {
+    /// It is not looked at.
+    Any,
+    /// What it held before the run.
+    Before,
+    /// What it holds where no call fails.
+    After,
+    /// The first bytes of that, fewer than it has.
+    Front,
+    /// As many bytes as the first file before the run, or as that has where no call fails; and each
+    /// is that before or that after, or 0 where there was none before.
+    Torn,
+}
+
+/// How a run may end of which a call failed, what the two names of its case hold then, and how many
+/// of the runs end so.
+#[derive(Drop)]
+pub struct Outcome {
+    /// The status.
+    pub status: Status,
+    /// What the name holds.
+    pub held: State,
+    /// What the other name holds.
+    pub also: State,
+    /// The least number.
+    pub least: u64,
+    /// The greatest one.
+    pub most: u64,
+}
+
+/// Whether these are the first bytes of what a name is to hold, fewer than that has.
+fn is_front(alloc: Global, bytes: &[u8], wanted: &Held) -> bool {
+    let Held::Now(stored) = wanted else {
+        return false;
+    };
+    match bytes_of(alloc, stored) {
+        Ok(whole) => { bytes.len() < whole.as_slice().len() && whole.as_slice().starts_with(bytes) }
+        Err(_) => false,
+    }
+}
+
+/// Whether bytes are as many as before or after, and each is that before or that after, or 0 where
+/// there was none before.
+fn are_torn(held: &[u8], before: &[u8], after: &[u8]) -> bool {
+    if held.len() != before.len() && held.len() != after.len() {
+        return false;
+    }
+    for (k, byte) in held.iter().enumerate() {
+        let old = before.get(k).copied().unwrap_or(0);
+        let new = after.get(k).copied().unwrap_or(old);
+        if *byte != old && *byte != new {
+            return false;
+        }
+    }
+    true
+}
+
+/// Whether they are so of what was there before and of what is to be there.
+fn are_between(alloc: Global, bytes: &[u8], before: &Stored, after: &Stored) -> bool {
+    let Ok(before) = bytes_of(alloc, before) else {
+        return false;
+    };
+    match bytes_of(alloc, after) {
+        Ok(after) => are_torn(bytes, before.as_slice(), after.as_slice()),
+        Err(_) => false,
+    }
+}
+
+/// Whether they are so of the first file before and of what a name is to hold.
+fn is_torn(alloc: Global, bytes: &[u8], setting: &Setting<'_>, wanted: &Held) -> bool {
+    match wanted {
+        Held::Now(after) => are_between(alloc, bytes, setting.file, after),
+        _ => false,
+    }
+}
+
+/// Whether bytes are in a state that tells of some of them.
+fn are_in(
+    alloc: Global,
+    setting: &Setting<'_>,
+    held: &Option<Octets>,
+    wanted: &Held,
+    state: &State,
+) -> bool {
+    match held {
+        Some(bytes) => match state {
+            State::Front => is_front(alloc, bytes.as_slice(), wanted),
+            State::Torn => is_torn(alloc, bytes.as_slice(), setting, wanted),
+            _ => false,
+        },
+        None => false,
+    }
+}
+
+/// Whether a name that is to hold something is in a state.
+fn is_in(
+    alloc: Global,
+    setting: &Setting<'_>,
+    name: &str,
+    held: &Option<Octets>,
+    wanted: &Held,
+    state: &State,
+) -> bool {
+    match state {
+        State::Any => true,
+        State::Before => is_as_before(alloc, setting, name, held),
+        State::After => is_held(alloc, setting, name, held, wanted),
+        State::Front | State::Torn => are_in(alloc, setting, held, wanted, state),
+    }
+}
+
+/// Whether a run of a line ends with a status and leaves a name that is to hold something in a state.
+fn leaves(
+    alloc: Global,
+    line: &str,
+    setting: &Setting<'_>,
+    status: Status,
+    name: &str,
+    wanted: &Held,
+    state: &State,
+) -> bool {
+    match run_leaving(alloc, line, setting, setting.failing, name) {
+        Ok(left) => {
+            left.ran.status == status && is_in(alloc, setting, name, &left.held, wanted, state)
+        }
+        Err(_) => false,
+    }
+}
+
+/// Whether a run of a case has an outcome.
+fn has(alloc: Global, case: &Case, setting: &Setting<'_>, outcome: &Outcome) -> bool {
+    let status = outcome.status;
+    leaves(
+        alloc,
+        case.line,
+        setting,
+        status,
+        case.name,
+        &case.held,
+        &outcome.held,
+    ) && leaves(
+        alloc,
+        case.line,
+        setting,
+        status,
+        case.second,
+        &case.also,
+        &outcome.also,
+    )
+}
+
+/// What a run of a case finds where the call with a number fails.
+fn failing_at<'a>(beside: &'a [Found], case: &'a Case, call: &Call, number: u64) -> Setting<'a> {
+    let mut setting = setting_of(case, beside, None);
+    match call {
+        Call::Read(name) => {
+            setting.bad = Bad {
+                name: *name,
+                read: number,
+                ..GOOD
+            };
+        }
+        Call::Write(name) => {
+            setting.bad = Bad {
+                name: *name,
+                write: number,
+                ..GOOD
+            };
+        }
+        Call::Made => setting.failing.write = number,
+    }
+    setting
+}
+
+/// Whether a run has one of the outcomes.
+fn has_one(alloc: Global, case: &Case, setting: &Setting<'_>, outcomes: &[Outcome]) -> bool {
+    for outcome in outcomes {
+        if has(alloc, case, setting, outcome) {
+            return true;
+        }
+    }
+    false
+}
+
+/// Whether each run of which one of the first calls fails, so many, ends as the case says or has one
+/// of the outcomes.
+fn are_told(
+    alloc: Global,
+    beside: &[Found],
+    case: &Case,
+    call: &Call,
+    calls: u64,
+    outcomes: &[Outcome],
+) -> bool {
+    for before in 0..calls {
+        let setting = failing_at(beside, case, call, before.saturating_add(1));
+        if !is_so_over(alloc, case, &setting) && !has_one(alloc, case, &setting, outcomes) {
+            return false;
+        }
+    }
+    true
+}
+
+/// How many of them have an outcome.
+fn count_of(
+    alloc: Global,
+    beside: &[Found],
+    case: &Case,
+    call: &Call,
+    calls: u64,
+    outcome: &Outcome,
+) -> u64 {
+    let mut count = 0u64;
+    for before in 0..calls {
+        let setting = failing_at(beside, case, call, before.saturating_add(1));
+        if has(alloc, case, &setting, outcome) {
+            count = count.saturating_add(1);
+        }
+    }
+    count
+}
+
+/// Whether each run beside these files of which one of the first calls fails, so many, ends as the
+/// case says or has one of the outcomes, and each outcome comes as often as it tells.
+pub fn fail_so(
+    alloc: Global,
+    beside: &[Found],
+    case: &Case,
+    call: &Call,
+    calls: u64,
+    outcomes: &[Outcome],
+) -> bool {
+    for outcome in outcomes {
+        let count = count_of(alloc, beside, case, call, calls, outcome);
+        if count < outcome.least || count > outcome.most {
+            return false;
+        }
+    }
+    are_told(alloc, beside, case, call, calls, outcomes)
+}

@@ -1,0 +1,391 @@
+//! What unstrip leaves: the file of what two halves are halves of, or a message or a fault and none.
+
+use crate::calls::NARROW_OBJECT;
+use elf_types::Shdr;
+use elf_types::constants::{SHT_PROGBITS, SHT_STRTAB};
+use test_cases::{Call, Case, Earlier, Found, Held, Outcome, RUN, State, Stored, are_so, fail_so};
+use test_images::{
+    Field, HeaderField, NULL_SECTION, OBJECT, Put, Recipe, SectionField, Start, WIDE,
+};
+use test_runs::{DONE, Ending, Failing, NOTHING, REFUSED};
+use tool_output::Status;
+
+/// A file X, which is there before each run.
+const OLD: [Found; 1] = [Found {
+    name: "X",
+    stored: Stored::Bytes(b"old"),
+}];
+
+/// A run over files O and D that are both the object with two symbols, which leaves the file X as it
+/// was.
+const KEPT: Case = Case {
+    line: "unstrip -o X O D",
+    names: ("O", "D"),
+    file: Stored::Image(OBJECT),
+    script: Stored::Image(OBJECT),
+    name: "X",
+    held: Held::Before,
+    ..RUN
+};
+
+// ---- Halves that are joined
+
+/// The stripped half of the object.
+const STRIPPED: Earlier = Earlier {
+    line: "strip -f D -o O F",
+    file: OBJECT,
+    script: b"",
+    name: "O",
+};
+
+/// Its debug half.
+const DEBUG: Earlier = Earlier {
+    name: "D",
+    ..STRIPPED
+};
+
+/// The halves of the object in class 32, the greatest byte first.
+const NARROW_STRIPPED: Earlier = Earlier {
+    file: NARROW_OBJECT,
+    ..STRIPPED
+};
+
+const NARROW_DEBUG: Earlier = Earlier {
+    name: "D",
+    ..NARROW_STRIPPED
+};
+
+/// An object with debug data, section 2, which strip removes by its name.
+const DEBUGGED: Recipe = Recipe {
+    form: WIDE,
+    start: Start::Table(96, 3, 1),
+    puts: &[
+        Put::Sections(&[
+            NULL_SECTION,
+            Shdr {
+                stype: SHT_STRTAB,
+                offset: 64,
+                size: 8,
+                addralign: 1,
+                ..NULL_SECTION
+            },
+            Shdr {
+                name: 1,
+                stype: SHT_PROGBITS,
+                offset: 72,
+                size: 4,
+                addralign: 1,
+                ..NULL_SECTION
+            },
+        ]),
+        Put::Bytes(64, b"\0.debug\0data"),
+    ],
+};
+
+/// Its halves.
+const DATA_STRIPPED: Earlier = Earlier {
+    file: DEBUGGED,
+    ..STRIPPED
+};
+
+const DATA_DEBUG: Earlier = Earlier {
+    name: "D",
+    ..DATA_STRIPPED
+};
+
+/// The halves of the object are joined to it.
+const JOINED: Case = Case {
+    file: Stored::Left(STRIPPED),
+    script: Stored::Left(DEBUG),
+    held: Held::Now(Stored::Image(OBJECT)),
+    ..KEPT
+};
+
+/// Those of objects in both classes are joined to these; and where nothing is loaded, they are joined
+/// to the debug half.
+const WHOLE: [Case; 3] = [
+    JOINED,
+    Case {
+        file: Stored::Left(NARROW_STRIPPED),
+        script: Stored::Left(NARROW_DEBUG),
+        held: Held::Now(Stored::Image(NARROW_OBJECT)),
+        ..KEPT
+    },
+    Case {
+        file: Stored::Left(DATA_STRIPPED),
+        script: Stored::Left(DATA_DEBUG),
+        held: Held::Now(Stored::Left(DATA_DEBUG)),
+        ..KEPT
+    },
+];
+
+#[test]
+fn what_was_split_is_joined(rt: HostRuntime) {
+    assert!(rt; are_so(rt.alloc(), &OLD, &WHOLE));
+}
+
+// ---- Messages
+
+/// The first file that is not there, or is no image, has the message.
+const UNOPENED: [Case; 5] = [
+    Case {
+        line: "unstrip -o X G E",
+        ending: Ending {
+            err: b"unstrip: G: not found\n",
+            ..REFUSED
+        },
+        ..KEPT
+    },
+    Case {
+        line: "unstrip -o X O G",
+        ending: Ending {
+            err: b"unstrip: G: not found\n",
+            ..REFUSED
+        },
+        ..KEPT
+    },
+    Case {
+        line: "unstrip -o X O G",
+        file: Stored::Changed(OBJECT, Put::Length(2)),
+        ending: Ending {
+            err: b"unstrip: O: too short\n",
+            ..REFUSED
+        },
+        ..KEPT
+    },
+    Case {
+        script: Stored::Changed(OBJECT, Put::Length(2)),
+        ending: Ending {
+            err: b"unstrip: D: too short\n",
+            ..REFUSED
+        },
+        ..KEPT
+    },
+    Case {
+        script: Stored::Changed(OBJECT, Put::Bytes(0, b"!<arch>\n")),
+        ending: Ending {
+            err: b"unstrip: D: not an ELF image\n",
+            ..REFUSED
+        },
+        ..KEPT
+    },
+];
+
+#[test]
+fn the_first_file_that_is_missing_or_no_image_has_the_message(rt: HostRuntime) {
+    assert!(rt; are_so(rt.alloc(), &OLD, &UNOPENED));
+}
+
+/// The object whose symbols are allocated.
+const LOADED: Recipe = Recipe {
+    puts: &[Put::Field(Field::Section(2, SectionField::Flags), 2)],
+    ..OBJECT
+};
+
+/// They are out of the file.
+const SYMBOLS_OUT: Put = Put::Field(Field::Section(2, SectionField::Offset), u64::MAX);
+
+/// Two files that do not match.
+const MISMATCH: Ending = Ending {
+    err: b"unstrip: O: files do not match\n",
+    ..REFUSED
+};
+
+/// Files that do not match, each other refusal under the file that it is of, and the update.
+const UNJOINED: [Case; 7] = [
+    Case {
+        file: Stored::Image(Recipe {
+            start: Start::HeaderAlone,
+            ..OBJECT
+        }),
+        ending: MISMATCH,
+        ..KEPT
+    },
+    Case {
+        script: Stored::Changed(OBJECT, Put::Field(Field::Header(HeaderField::Entry), 1)),
+        ending: MISMATCH,
+        ..KEPT
+    },
+    Case {
+        file: Stored::Image(LOADED),
+        ending: MISMATCH,
+        ..KEPT
+    },
+    Case {
+        file: Stored::Changed(LOADED, SYMBOLS_OUT),
+        script: Stored::Image(LOADED),
+        ending: Ending {
+            err: b"unstrip: O: section 2 out of file\n",
+            ..REFUSED
+        },
+        ..KEPT
+    },
+    Case {
+        script: Stored::Changed(OBJECT, SYMBOLS_OUT),
+        ending: Ending {
+            err: b"unstrip: D: section 2 out of file\n",
+            ..REFUSED
+        },
+        ..KEPT
+    },
+    Case {
+        script: Stored::Changed(OBJECT, Put::Field(Field::Header(HeaderField::Shstrndx), 9)),
+        ending: Ending {
+            err: b"unstrip: D: no section 9 of 3\n",
+            ..REFUSED
+        },
+        ..KEPT
+    },
+    Case {
+        script: Stored::Changed(
+            OBJECT,
+            Put::Field(Field::Section(2, SectionField::Addralign), 1 << 41),
+        ),
+        ending: Ending {
+            err: b"unstrip: O: too large\n",
+            ..REFUSED
+        },
+        ..KEPT
+    },
+];
+
+#[test]
+fn what_is_not_joined_makes_no_file(rt: HostRuntime) {
+    assert!(rt; are_so(rt.alloc(), &OLD, &UNJOINED));
+}
+
+/// The usage line of unstrip.
+const USAGE: Ending = Ending {
+    status: Status::BadWords,
+    err: b"usage: elfkit unstrip -o OUT STRIPPED DEBUG\n",
+    ..DONE
+};
+
+/// Two of the three names are the same word.
+const SAME_NAMES: [Case; 3] = [
+    Case {
+        line: "unstrip -o O O D",
+        ending: USAGE,
+        ..KEPT
+    },
+    Case {
+        line: "unstrip -o D O D",
+        ending: USAGE,
+        ..KEPT
+    },
+    Case {
+        line: "unstrip -o X O O",
+        ending: USAGE,
+        ..KEPT
+    },
+];
+
+#[test]
+fn no_two_names_are_the_same_word(rt: HostRuntime) {
+    assert!(rt; are_so(rt.alloc(), &OLD, &SAME_NAMES));
+}
+
+// ---- Calls that fail
+
+/// A run over the halves of the object that makes no file.
+const STOPPED: Case = Case {
+    held: Held::Before,
+    ..JOINED
+};
+
+/// A read failed.
+const UNREAD: Ending = Ending {
+    status: Status::ReadFailed,
+    ..DONE
+};
+
+/// The one or the other half is not handed out, or the new file; and files want more memory than
+/// there is.
+const FAULTS: [Case; 4] = [
+    Case {
+        failing: Failing { open: 1, ..NOTHING },
+        ending: UNREAD,
+        ..STOPPED
+    },
+    Case {
+        failing: Failing { open: 2, ..NOTHING },
+        ending: UNREAD,
+        ..STOPPED
+    },
+    Case {
+        failing: Failing { open: 3, ..NOTHING },
+        ending: Ending {
+            status: Status::WriteFailed,
+            ..DONE
+        },
+        ..STOPPED
+    },
+    Case {
+        failing: Failing {
+            memory: true,
+            ..NOTHING
+        },
+        ending: Ending {
+            status: Status::NoMemory,
+            ..DONE
+        },
+        ..STOPPED
+    },
+];
+
+/// The first write stops a run with a front in the new file.
+const FRONT: [Outcome; 1] = [Outcome {
+    status: Status::WriteFailed,
+    held: State::Front,
+    also: State::Any,
+    least: 1,
+    most: 1,
+}];
+
+#[test]
+fn a_call_that_fails_leaves_the_old_file_or_a_front(rt: HostRuntime) {
+    assert!(rt; are_so(rt.alloc(), &OLD, &FAULTS));
+    assert!(rt; fail_so(rt.alloc(), &OLD, &JOINED, &Call::Made, 1, &FRONT));
+}
+
+/// Some reads of the stripped half stop a run before it makes the file.
+const STRIPPED_UNREAD: [Outcome; 1] = [Outcome {
+    status: Status::ReadFailed,
+    held: State::Before,
+    also: State::Any,
+    least: 2,
+    most: 8,
+}];
+
+/// More of the debug half do.
+const DEBUG_UNREAD: [Outcome; 1] = [Outcome {
+    status: Status::ReadFailed,
+    held: State::Before,
+    also: State::Any,
+    least: 3,
+    most: 8,
+}];
+
+#[test]
+fn a_read_of_a_half_that_fails_leaves_the_old_file(rt: HostRuntime) {
+    assert!(rt;
+        fail_so(
+            rt.alloc(),
+            &OLD,
+            &JOINED,
+            &Call::Read("O"),
+            8,
+            &STRIPPED_UNREAD
+        )
+    );
+    assert!(rt;
+        fail_so(
+            rt.alloc(),
+            &OLD,
+            &JOINED,
+            &Call::Read("D"),
+            8,
+            &DEBUG_UNREAD
+        )
+    );
+}
