@@ -23,7 +23,7 @@ impl Given for Halves {
 }
 
 /// What a run that refuses nothing leaves under a name, and nothing where it does not.
-fn made_by<G: Given>(alloc: Global, line: &str, given: &G, name: &str) -> Option<Octets> {
+pub fn made_by<G: Given>(alloc: Global, line: &str, given: &G, name: &str) -> Option<Octets> {
     match run_leaving(alloc, line, given, NOTHING, name) {
         Ok(left) => { if left.ran.is(&DONE) { left.held } else { None } }
         Err(_) => None,

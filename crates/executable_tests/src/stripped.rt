@@ -1,12 +1,13 @@
 //! The executable after strip: what is loaded keeps its places and its bytes, and elflint finds
 //! nothing in what is left.
 
+use crate::halves::made_by;
 use crate::image::executable;
 use crate::segments::SEGMENTS;
 use elf_types::constants::PT_LOAD;
 use elf_types::{Octets, Phdr};
 use std::alloc::Global;
-use test_runs::{DONE, Ending, Given, NOTHING, ends, run_leaving};
+use test_runs::{DONE, Ending, Given, ends};
 
 /// How many bytes the ELF header has, which tells the new place of the section header table.
 const HEADER_LEN: u64 = 64;
@@ -32,12 +33,9 @@ fn keeps_all(made: &[u8], image: &[u8]) -> bool {
     true
 }
 
-/// What strip makes of an image, where it says nothing.
+/// What strip makes of an image.
 fn stripped<G: Given>(alloc: Global, image: &G) -> Option<Octets> {
-    match run_leaving(alloc, "strip -o O F", image, NOTHING, "O") {
-        Ok(left) => { if left.ran.is(&DONE) { left.held } else { None } }
-        Err(_) => None,
-    }
+    made_by(alloc, "strip -o O F", image, "O")
 }
 
 /// What it makes of the executable.
