@@ -9,7 +9,7 @@ use test_images::{OBJECT, Put};
 use test_runs::{DONE, Ending, REFUSED};
 
 /// A file O.
-pub const OTHER: [Found; 1] = [Found {
+pub static OTHER: [Found; 1] = [Found {
     name: "O",
     stored: Stored::Bytes(b"other"),
 }];
@@ -49,7 +49,7 @@ pub const APPENDED: Case = Case {
 /// A piece that is appended, also in class 32; bytes that go cut the file; numbers that
 /// are added stay in their places, and so do all others under the caller's layout; a refused call
 /// does not keep the file from being written.
-pub const WRITTEN: [Row; 7] = [
+pub static WRITTEN: [Row; 7] = [
     Row {
         case: APPENDED,
         writes: 7,
@@ -154,7 +154,7 @@ fn the_image_that_the_calls_leave_stands_in_the_file(rt: HostRuntime) {
 }
 
 /// The script and the file O stay.
-const BESIDE: Case = Case {
+static BESIDE: Case = Case {
     name: "O",
     held: Held::Before,
     second: "S",
@@ -178,7 +178,7 @@ pub const UNTOUCHED: Case = Case {
 };
 
 /// No calls, also on an image with bytes behind its section headers, and calls that mark nothing.
-const UNCHANGED: [Case; 3] = [
+static UNCHANGED: [Case; 3] = [
     Case {
         script: Stored::Bytes(b""),
         ending: Ending {

@@ -79,7 +79,7 @@ const UNOPENED: Ending = Ending {
 
 /// The script or the file is not handed out; or a put fails: that of what waits before the file is
 /// written, or that of the last line.
-const FAULTS: [Case; 4] = [
+static FAULTS: [Case; 4] = [
     Case {
         failing: Failing { open: 1, ..NOTHING },
         ending: UNOPENED,
@@ -119,7 +119,7 @@ const SAID: Ending = Ending {
 };
 
 /// A run that ends so.
-const FIRST_WRITE: Case = Case {
+static FIRST_WRITE: Case = Case {
     bad: Bad {
         name: "F",
         write: 1,

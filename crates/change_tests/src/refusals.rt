@@ -8,7 +8,7 @@ use test_runs::{Ending, Failing, NOTHING, REFUSED};
 
 /// Updates that are refused: two parts share a byte, an item does not fit class 32, the image gets
 /// too large, and a section that is not read passes the end of the file.
-const UNWRITTEN: [Case; 4] = [
+static UNWRITTEN: [Case; 4] = [
     Case {
         script: Stored::Bytes(b"flag object set 4\nset shdr 1 offset 8\n"),
         ending: Ending {
@@ -56,7 +56,7 @@ fn a_refused_update_writes_nothing(rt: HostRuntime) {
 
 /// The script is not there, or a line of it is no call; the file is not there, is no image, or is
 /// an archive.
-const COMPLAINTS: [Case; 6] = [
+static COMPLAINTS: [Case; 6] = [
     Case {
         line: "calls -i F G",
         file: Stored::Bytes(b""),
@@ -123,7 +123,7 @@ fn without_calls_or_an_image_the_file_stays(rt: HostRuntime) {
 }
 
 /// A script without calls has its message where the file would not be handed out: it is not opened.
-const UNOPENED: Case = Case {
+static UNOPENED: Case = Case {
     file: Stored::Bytes(b"abc"),
     script: Stored::Bytes(b"ehdr\nraw\n"),
     failing: Failing { open: 2, ..NOTHING },
@@ -140,7 +140,7 @@ fn a_script_without_calls_opens_no_file(rt: HostRuntime) {
 }
 
 /// A file that is not there stays away.
-const AWAY: Case = Case {
+static AWAY: Case = Case {
     line: "calls -i G S",
     file: Stored::Bytes(b""),
     script: Stored::Bytes(b"newscn\n"),

@@ -46,7 +46,7 @@ const SHOWN: &[u8] = b"File: F[a_member_with_long_name.o]\nELF header\n  class: 
       phnum: 0\n  shentsize: 64\n  shnum: 3\n  shstrndx: 1\n";
 
 /// Nothing is damaged; a body, the end of the first header, its size, a long name without a text.
-const DAMAGES: [Case; 5] = [
+static DAMAGES: [Case; 5] = [
     Case {
         file: LIBRARY,
         ending: Ending {
@@ -122,7 +122,7 @@ const NARROW_OBJECT: Recipe = Recipe {
 const TWIN: &[u8] = b"a.o/                                            208       `\n";
 
 /// An archive with an archive, and an object twice under one name; and one without members.
-const INNER: [Case; 2] = [
+static INNER: [Case; 2] = [
     Case {
         line: "readelf -l F",
         file: Stored::Portions(&[

@@ -23,7 +23,7 @@ const NARROW_SCRIPTED: Case = Case {
 };
 
 /// Scripts, and how they end with no message: on the one object, and on the other.
-const LINES: [Case; 9] = [
+static LINES: [Case; 9] = [
     Case {
         script: Stored::Bytes(b""),
         ending: DONE,
@@ -111,7 +111,7 @@ fn each_call_of_a_script_has_its_line(rt: HostRuntime) {
 }
 
 /// A section whose size is no multiple of its item, and one that passes the end of the file.
-const CHANGED: [Case; 2] = [
+static CHANGED: [Case; 2] = [
     Case {
         file: Stored::Changed(
             OBJECT,
@@ -156,7 +156,7 @@ const NUMBERED: Recipe = Recipe {
 };
 
 /// The line of its header; and there are not so many sections in the file.
-const NUMBERS: [Case; 2] = [
+static NUMBERS: [Case; 2] = [
     Case {
         file: Stored::Image(NUMBERED),
         script: Stored::Bytes(b"ehdr\n"),
@@ -195,7 +195,7 @@ const UNASKED: Case = Case {
 };
 
 /// Scripts that are refused, and their messages.
-const REFUSALS: [Case; 5] = [
+static REFUSALS: [Case; 5] = [
     Case {
         script: Stored::Bytes(b"ehdr\nfoo 1 2"),
         ending: Ending {
@@ -251,7 +251,7 @@ const ALONE: Case = Case {
 
 /// A script of a comment that is one byte too long, and the longest one: then the file is looked
 /// for.
-const LENGTHS: [Case; 2] = [
+static LENGTHS: [Case; 2] = [
     Case {
         script: Stored::Portions(&[Portion::Fill(b'#', 1_048_577)]),
         ending: Ending {
@@ -276,7 +276,7 @@ fn a_script_has_at_most_a_mebibyte(rt: HostRuntime) {
 }
 
 /// Bytes of the file F that are no image, the words, and the message.
-const FILES: [Case; 5] = [
+static FILES: [Case; 5] = [
     Case {
         line: "calls G S",
         file: Stored::Bytes(b""),
@@ -330,7 +330,7 @@ fn what_is_no_script_or_no_image_has_its_message(rt: HostRuntime) {
 }
 
 /// An archive is refused.
-const ARCHIVE: [Case; 1] = [Case {
+static ARCHIVE: [Case; 1] = [Case {
     file: Stored::Bytes(b"!<arch>\n"),
     script: Stored::Bytes(b""),
     ending: Ending {
@@ -361,7 +361,7 @@ const UNREAD: Case = Case {
 
 /// The header is there, and no section is; what was answered before a read failed stands; and a
 /// section that is loaded is not read again.
-const READS: [Case; 3] = [
+static READS: [Case; 3] = [
     Case {
         script: Stored::Bytes(b"ehdr\n"),
         ending: Ending {
@@ -411,7 +411,7 @@ const UNOPENED: Case = Case {
 };
 
 /// The script is not, or the file.
-const OPENS: [Case; 2] = [
+static OPENS: [Case; 2] = [
     Case {
         failing: Failing { open: 1, ..NOTHING },
         ..UNOPENED

@@ -27,7 +27,7 @@ const SOUND: Case = Case {
 };
 
 /// That object alone.
-const SOUND_OBJECT: [Case; 1] = [SOUND];
+static SOUND_OBJECT: [Case; 1] = [SOUND];
 
 #[test]
 fn nothing_is_found_in_a_sound_object(rt: HostRuntime) {
@@ -36,7 +36,7 @@ fn nothing_is_found_in_a_sound_object(rt: HostRuntime) {
 
 /// A field of such an object, the value that it gets, and what is found then: at each kind of place,
 /// the header, a section, an item of one, and the file.
-const DAMAGES: [Case; 9] = [
+static DAMAGES: [Case; 9] = [
     Case {
         file: Stored::Changed(OBJECT, Put::Field(Field::Header(HeaderField::Ehsize), 0)),
         ending: Ending {
@@ -138,7 +138,7 @@ const LOAD: Phdr = Phdr {
 };
 
 /// Both are found of it.
-const LOADED: [Case; 1] = [Case {
+static LOADED: [Case; 1] = [Case {
     file: Stored::Image(Recipe {
         start: Start::Segments(&[LOAD]),
         ..OBJECT
@@ -157,7 +157,7 @@ fn findings_of_segments_stand_by_rule(rt: HostRuntime) {
 }
 
 /// The object of an archive is sound, and the other members are no images.
-const MEMBERS: Case = Case {
+static MEMBERS: Case = Case {
     file: LIBRARY,
     ending: Ending {
         out: b"F[a_member_with_long_name.o]: no findings\n",
@@ -173,7 +173,7 @@ fn members_of_archives_are_looked_at(rt: HostRuntime) {
 }
 
 /// The second file is not there, and the third is the first again; and there is no file.
-const FILES: [Case; 2] = [
+static FILES: [Case; 2] = [
     Case {
         line: "elflint F G F",
         ending: Ending {
@@ -288,7 +288,7 @@ const GNU_NOT_WHOLE: Case = Case {
 /// section's, no symbol in the bucket, a chain without an end; and in GNU's section no bucket, a
 /// bucket below the first symbol, no bloom word, a bit missing in it, no symbol in the bucket, another
 /// hash, and no end mark.
-const BROKEN: [Case; 12] = [
+static BROKEN: [Case; 12] = [
     Case {
         file: Stored::Changed(HASHED, Put::Content(HASH, Content::Words(&[1]))),
         ..SOUND

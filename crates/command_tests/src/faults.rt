@@ -28,7 +28,7 @@ const TWICE: Case = Case {
 };
 
 /// A call that fails, and how that ends.
-const FAULTS: [Case; 5] = [
+static FAULTS: [Case; 5] = [
     Case {
         failing: Failing { open: 1, ..NOTHING },
         ending: UNREAD,
@@ -81,7 +81,7 @@ const FULL: Case = Case {
 };
 
 /// Lines of which each has a message.
-const LINES: [Case; 3] = [
+static LINES: [Case; 3] = [
     Case {
         line: "readelf",
         ..FULL

@@ -127,7 +127,7 @@ const WITH_NARROW: Recipe = Recipe {
 };
 
 /// How lines ends over these tables.
-const TABLES: [Case; 4] = [
+static TABLES: [Case; 4] = [
     Case {
         line: "lines F",
         file: Stored::Image(WITH_UNIT),
@@ -174,7 +174,7 @@ fn units_of_both_forms_are_shown_up_to_one_that_is_cut(rt: HostRuntime) {
 
 /// A field of section 1, what is put there, and how the run ends then, without output; and a file
 /// that is not there.
-const CHANGES: [Case; 4] = [
+static CHANGES: [Case; 4] = [
     Case {
         line: "lines F",
         file: Stored::Changed(

@@ -44,7 +44,7 @@ const SAME: Case = Case {
 };
 
 /// The row by its options, its letters by the symbol, and symbols that are not listed.
-const CHANGES: [Case; 30] = [
+static CHANGES: [Case; 30] = [
     Case {
         ending: Ending {
             out: b"0000000000001000 A a\n",
@@ -297,7 +297,7 @@ fn the_own_call_shows_rows_over_two_outputs(rt: HostRuntime) {
 
 /// The row of the object of class 32, greatest byte first; a missing file, whose message stands
 /// before the title of the next one; and the row of an operand that begins with a dash.
-const NAMES: [Case; 3] = [
+static NAMES: [Case; 3] = [
     Case {
         file: Stored::Image(Recipe {
             form: NARROW,
@@ -335,7 +335,7 @@ fn files_have_titles_and_names_dashes(rt: HostRuntime) {
 }
 
 /// What nm says of an archive whose third member is whole, and where it is cut.
-const MEMBERS: [Case; 2] = [
+static MEMBERS: [Case; 2] = [
     Case {
         line: "nm -A F",
         file: LIBRARY,
@@ -370,7 +370,7 @@ const NO_SYMBOLS: Ending = Ending {
 };
 
 /// A table of symbols that is ragged, out of the file, compressed; and an object without sections.
-const UNREAD: [Case; 4] = [
+static UNREAD: [Case; 4] = [
     Case {
         file: Stored::Changed(
             OBJECT,
@@ -467,7 +467,7 @@ const ROWS: Ending = Ending {
 };
 
 /// Both orders of them.
-const ORDERS: [Case; 2] = [
+static ORDERS: [Case; 2] = [
     Case {
         line: "nm F",
         file: Stored::Image(EXTENDED),

@@ -13,7 +13,7 @@ const FIVE: Recipe = Recipe {
 };
 
 /// The same, where the first two are string tables, which rules 13 and 14 read.
-const TWO_TABLES: Recipe = Recipe {
+static TWO_TABLES: Recipe = Recipe {
     puts: &[
         Put::Field(Field::Section(1, SectionField::Type), SHT_STRTAB as u64),
         Put::Field(Field::Section(2, SectionField::Type), SHT_STRTAB as u64),
@@ -22,7 +22,7 @@ const TWO_TABLES: Recipe = Recipe {
 };
 
 /// The same, where each of the two is the whole file.
-const TWO_OVER_ONE_HOME: Recipe = Recipe {
+static TWO_OVER_ONE_HOME: Recipe = Recipe {
     puts: &[
         Put::Field(Field::Section(1, SectionField::Type), SHT_STRTAB as u64),
         Put::Field(Field::Section(2, SectionField::Type), SHT_STRTAB as u64),

@@ -61,7 +61,7 @@ fn ends_with(alloc: Global, recipe: &Recipe, parts: &ReadelfParts, end: &[u8]) -
 }
 
 /// The object with two symbols, whose symbol table is named `a`.
-const NAMED: Recipe = Recipe {
+static NAMED: Recipe = Recipe {
     puts: &[Put::Field(Field::Section(2, SectionField::Name), 1)],
     ..OBJECT
 };
@@ -74,7 +74,7 @@ const HEADERS: &[u8] = b"Section headers: 3\n  \
 
 /// The object of class 32, the greatest byte first, where the names can not be read and the last
 /// section is of a type without a name.
-const NAMELESS: Recipe = Recipe {
+static NAMELESS: Recipe = Recipe {
     form: NARROW,
     puts: &[
         Put::Field(Field::Header(HeaderField::Shstrndx), 0),
@@ -99,7 +99,7 @@ const TWO_SYMBOLS: &[u8] = b"Symbols of section 2 []: 2\n  \
       1 value 0x1000 size 4 type FUNC bind GLOBAL vis DEFAULT shndx ABS [a]\n";
 
 /// The object in class 32, the greatest byte first.
-const NARROW_OBJECT: Recipe = Recipe {
+static NARROW_OBJECT: Recipe = Recipe {
     form: NARROW,
     ..OBJECT
 };
@@ -154,7 +154,7 @@ fn a_message_stands_in_place_of_symbols(rt: HostRuntime) {
 
 /// The object whose last symbol has an extended index, where section 1 is the table of extended
 /// indexes of section 2, which are the first two numbers of it.
-const INDEXED: Recipe = Recipe {
+static INDEXED: Recipe = Recipe {
     puts: &[
         Put::Field(Field::Section(1, SectionField::Type), 18),
         Put::Field(Field::Section(1, SectionField::Link), 2),
@@ -166,7 +166,7 @@ const INDEXED: Recipe = Recipe {
 };
 
 /// The same without such a table.
-const UNINDEXED: Recipe = Recipe {
+static UNINDEXED: Recipe = Recipe {
     puts: &[Put::Bytes(72 + 24 + 6, b"\xff\xff")],
     ..OBJECT
 };
@@ -183,7 +183,7 @@ const ENTRIES: &[u8] = b"Dynamic section 2 []: 3\n  \
 
 /// The object whose section 2 is a dynamic section, which links to the strings: a name, a tag without
 /// a name, and the end.
-const LINKED: Recipe = Recipe {
+static LINKED: Recipe = Recipe {
     puts: &[
         Put::Field(Field::Section(2, SectionField::Type), 6),
         Put::Content(

@@ -40,7 +40,7 @@ const LOADED: Phdr = Phdr {
 const WIDE_GREATEST: Form = (Class::C64, Order::Greatest);
 
 /// Headers and program headers of three files.
-const SHOWN: [Case; 3] = [
+static SHOWN: [Case; 3] = [
     Case {
         line: "readelf -h F",
         file: Stored::Image(Recipe {
@@ -87,7 +87,7 @@ fn headers_and_program_headers_are_shown_in_both_classes(rt: HostRuntime) {
 
 /// An object whose number of sections, and whose section of their names, stand in section 0: both are
 /// shown as they are.
-const EXTENDED: Case = Case {
+static EXTENDED: Case = Case {
     line: "readelf -h F",
     file: Stored::Image(Recipe {
         puts: &[
@@ -128,7 +128,7 @@ const FRONT: Case = Case {
 };
 
 /// Damage of the header's fields, in the order of the checks, and the message.
-const DAMAGES: [Case; 8] = [
+static DAMAGES: [Case; 8] = [
     Case {
         file: Stored::Changed(OBJECT, Put::Field(Field::Ident(EI_CLASS), 3)),
         ending: Ending {
@@ -202,7 +202,7 @@ const SHORT: Ending = Ending {
 
 /// The first bytes of an object, up to three places in its header, and to one in its last section
 /// header.
-const CUTS: [Case; 4] = [
+static CUTS: [Case; 4] = [
     Case {
         file: Stored::Changed(OBJECT, Put::Length(0)),
         ending: SHORT,

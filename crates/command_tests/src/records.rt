@@ -38,7 +38,7 @@ const DEFINED: &[u8] = b"Version definitions of section 2 []\n  \
 
 /// The bytes of the second section, which links to the strings of the object, its type, and what is
 /// said of it.
-const ROWS: [Case; 11] = [
+static ROWS: [Case; 11] = [
     Case {
         file: Stored::Image(Recipe {
             puts: &[
@@ -234,7 +234,7 @@ const BY_SYMBOL: Rela = Rela {
 };
 
 /// The section of a relocation by that symbol, the section to which it links, and its line.
-const LINKED: [Case; 5] = [
+static LINKED: [Case; 5] = [
     Case {
         file: Stored::Image(Recipe {
             puts: &[
@@ -324,7 +324,7 @@ fn a_relocation_is_named_by_its_symbol_in_the_linked_table(rt: HostRuntime) {
 }
 
 /// One without an addend.
-const WITHOUT_ADDEND: [Case; 1] = [Case {
+static WITHOUT_ADDEND: [Case; 1] = [Case {
     file: Stored::Image(Recipe {
         puts: &[
             Put::Field(Field::Header(HeaderField::Shnum), 4),

@@ -93,7 +93,7 @@ const GREATEST: Recipe = Recipe {
 };
 
 /// What size shows of them.
-const SIZES: [Case; 3] = [
+static SIZES: [Case; 3] = [
     Case {
         line: "size F",
         file: Stored::Image(THREE),
@@ -132,7 +132,7 @@ fn loaded_sections_are_added_up(rt: HostRuntime) {
 }
 
 /// The first line comes before any file is looked at; and there is no file.
-const FIRST_LINE: [Case; 2] = [
+static FIRST_LINE: [Case; 2] = [
     Case {
         line: "size F G",
         file: Stored::Bytes(b"abc"),

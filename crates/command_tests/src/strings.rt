@@ -10,7 +10,7 @@ use tool_output::Status;
 use tool_text::{Radix, StringsOptions};
 
 /// Words, the bytes of the file F, and what is shown.
-const SHOWN: [Case; 8] = [
+static SHOWN: [Case; 8] = [
     Case {
         line: "strings -t d F",
         file: Stored::Bytes(b"abc\0abcd\0a\tbc\0wxyz"),
@@ -108,7 +108,7 @@ fn shows_bytes(alloc: Global, bytes: &Octets, count: u64) -> bool {
 
 /// Numbers of bytes before a run and in it, with the pieces of 65,536 bytes in which a file is read
 /// ending in the run, before it and behind it; and how many bytes are shown then.
-const EDGES: [(u64, u64, u64); 6] = [
+static EDGES: [(u64, u64, u64); 6] = [
     (4094, 4, 5),
     (65535, 4, 5),
     (65533, 3, 0),
@@ -170,7 +170,7 @@ const SHARING: Recipe = Recipe {
 };
 
 /// A field of section 1, what is put there, and how strings ends then.
-const HOMES: [Case; 4] = [
+static HOMES: [Case; 4] = [
     Case {
         line: "strings -t d F",
         file: Stored::Changed(

@@ -16,7 +16,7 @@ const UNOPENED: Case = Case {
 };
 
 /// Words, how they end, and what stands on both outputs.
-const SAID: [Case; 7] = [
+static SAID: [Case; 7] = [
     Case {
         line: "size",
         ending: Ending {
@@ -93,7 +93,7 @@ fn words_that_are_refused_or_ask_for_help_open_no_file(rt: HostRuntime) {
 }
 
 /// The first name is not there, and looks like an option.
-const PASSED: Case = Case {
+static PASSED: Case = Case {
     line: "readelf -l -- -x F",
     file: Stored::Image(OBJECT),
     ending: Ending {

@@ -155,7 +155,7 @@ const VERSIONS: &[u8] = b"Version indexes of section 8 [.gnu.version]: 3\n  \
     version [V1] ndx 2 flags 0x0 hash 0x591\n";
 
 /// Each part of readelf, in the order in which all are shown.
-const PARTS: [(&str, &[u8]); 8] = [
+static PARTS: [(&str, &[u8]); 8] = [
     ("readelf -h F", HEADER),
     ("readelf -l F", SEGMENT_LINES),
     ("readelf -S F", SECTION_LINES),
@@ -225,7 +225,7 @@ fn readelf_shows_all_parts_in_one_order(rt: HostRuntime) {
 /// The line of each other command, and what it shows: the function; the bytes of loaded sections,
 /// of which 20 are in no file; the one run of four printable bytes in a loaded section; and that no
 /// rule finds anything.
-const TOOLS: [(&str, &[u8]); 4] = [
+static TOOLS: [(&str, &[u8]); 4] = [
     ("nm F", b"00000000000014a0 T f\n"),
     (
         "size F",

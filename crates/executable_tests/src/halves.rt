@@ -73,7 +73,7 @@ fn shows_same(alloc: Global, line: &str, image: &Image, made: &Octets) -> bool {
 }
 
 /// Commands that show no place in the file of what is not loaded.
-const LINES: [&str; 6] = [
+static LINES: [&str; 6] = [
     "readelf -lsrdnV F",
     "nm F",
     "nm -p F",

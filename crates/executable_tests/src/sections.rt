@@ -45,7 +45,7 @@ const WRITTEN: Shdr = Shdr {
 const MERGED_STRINGS: u64 = 0x10 + 0x20;
 
 /// The sections. All but the last four are loaded, and these stand behind the section header table.
-pub const SECTIONS: [Section; 30] = [
+pub static SECTIONS: [Section; 30] = [
     Section {
         name: b".interp\0",
         header: Shdr {

@@ -31,7 +31,7 @@ const PT_GNU_RELRO: u32 = 0x6474_e552;
 const PT_GNU_PROPERTY: u32 = 0x6474_e553;
 
 /// The program headers.
-pub const SEGMENTS: [Phdr; 14] = [
+pub static SEGMENTS: [Phdr; 14] = [
     Phdr {
         ptype: PT_PHDR,
         flags: PF_R,

@@ -68,7 +68,7 @@ fn an_object_without_loaded_sections_is_its_own_half(rt: HostRuntime) {
 }
 
 /// The types and the sizes of the sections of the program's debug half, by number.
-const SECTIONS: [(u32, u64); 6] = [
+static SECTIONS: [(u32, u64); 6] = [
     (SHT_NULL, 0),
     (SHT_NOBITS, 8),
     (SHT_NOBITS, 8),

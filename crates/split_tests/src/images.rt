@@ -32,7 +32,7 @@ const BYTES: &[u8] = b"\x01\x02\x03\x04\x05\x06\x07\x08\x0b\x0c\x0d\x0e\x0f\x10\
 
 /// Its sections from 1 on: two that are loaded, one without bytes in the file, one that is not
 /// loaded, and the names. Their places are told from the first one's.
-const SECTIONS: [Shdr; 5] = [
+static SECTIONS: [Shdr; 5] = [
     Shdr {
         stype: SHT_PROGBITS,
         flags: SHF_ALLOC,

@@ -105,7 +105,7 @@ fn is_joined_again(alloc: Global, stripped: &Octets, whole: &Octets) -> bool {
 }
 
 /// The object with two symbols without its symbol table and without names: section 1 has a byte.
-const STRIPPED: Recipe = Recipe {
+static STRIPPED: Recipe = Recipe {
     form: WIDE,
     start: Start::Table(72, 2, 1),
     puts: &[

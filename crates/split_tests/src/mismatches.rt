@@ -10,7 +10,7 @@ use unstrip_join::UnstripFault;
 const MISMATCH: Answer = Answer::Fault(UnstripFault::Mismatch);
 
 /// Fields that differ between two files that do not match.
-const TWISTS: [Twist; 23] = [
+static TWISTS: [Twist; 23] = [
     (Field::Ident(7), 3),
     (Field::Ident(8), 1),
     (Field::Header(HeaderField::Type), 3),
@@ -85,7 +85,7 @@ fn class_and_order_tell(rt: HostRuntime) {
 }
 
 /// Fields that may differ, besides the bytes of loaded sections: a name, and what the others are.
-const FREE: [Twist; 4] = [
+static FREE: [Twist; 4] = [
     (Field::Section(1, SectionField::Name), 1),
     (Field::Section(4, SectionField::Info), 7),
     (Field::Section(4, SectionField::Addr), 9),

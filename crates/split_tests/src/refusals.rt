@@ -33,7 +33,7 @@ struct Row {
 }
 
 /// The refusals, each with one that comes later.
-const ROWS: [Row; 6] = [
+static ROWS: [Row; 6] = [
     Row {
         stripped: &[CODE_OUT],
         debug: &[OTHER, NOTES_OUT],
@@ -68,7 +68,7 @@ const ROWS: [Row; 6] = [
 
 /// The loaded sections of the debug half and the others of the stripped one are not looked at, nor
 /// is the string index of the stripped one.
-const UNREAD: [Row; 1] = [Row {
+static UNREAD: [Row; 1] = [Row {
     stripped: &[NOTES_OUT, NO_NAMES],
     debug: &[CODE_OUT],
     answer: Answer::Program,
@@ -129,7 +129,7 @@ const COUNTING: Shdr = Shdr {
 };
 
 /// A file with one program header more than may be made.
-const CROWDED: Recipe = Recipe {
+static CROWDED: Recipe = Recipe {
     start: Start::Table(64 + 65_535 * 56, 1, 0),
     puts: &[
         Put::Field(Field::Header(HeaderField::Phoff), 64),

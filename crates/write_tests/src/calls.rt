@@ -7,7 +7,7 @@ use test_runs::{DONE, Ending, Failing, NOTHING, REFUSED};
 use tool_output::Status;
 
 /// A file O, which is there before each run.
-pub const OLD: [Found; 1] = [Found {
+pub static OLD: [Found; 1] = [Found {
     name: "O",
     stored: Stored::Bytes(b"old"),
 }];
@@ -41,7 +41,7 @@ const NARROW_CHANGED: Recipe = Recipe {
 
 /// Scripts whose update is not refused: an image with nothing changed is the same, and a refused
 /// call does not keep the file from being made.
-const WRITTEN: [Case; 5] = [
+static WRITTEN: [Case; 5] = [
     Case {
         script: Stored::Bytes(b""),
         ending: Ending {
@@ -98,7 +98,7 @@ fn the_image_that_the_calls_leave_is_written(rt: HostRuntime) {
 
 /// Scripts whose update is refused: two parts share a byte, the image gets too large, and a section
 /// passes the end of the file, in an object that is changed elsewhere.
-const UNWRITTEN: [Case; 3] = [
+static UNWRITTEN: [Case; 3] = [
     Case {
         script: Stored::Bytes(b"flag object set 4\nset shdr 1 offset 8\n"),
         ending: Ending {
@@ -136,7 +136,7 @@ fn a_refused_update_makes_no_file(rt: HostRuntime) {
 }
 
 /// Words, files that are no script or no image, and the message.
-const COMPLAINTS: [Case; 6] = [
+static COMPLAINTS: [Case; 6] = [
     Case {
         line: "calls -o O F G",
         file: Stored::Bytes(b""),
@@ -213,7 +213,7 @@ const SET: Case = Case {
 
 /// The script, the file or the new file is not handed out; the new file can not be written; or a
 /// put fails: that of what waits when the file is to be made, or that of the last line.
-const FAULTS: [Case; 6] = [
+static FAULTS: [Case; 6] = [
     Case {
         failing: Failing { open: 1, ..NOTHING },
         ending: Ending {
@@ -278,7 +278,7 @@ fn a_call_that_fails_leaves_the_old_file_or_a_front(rt: HostRuntime) {
 }
 
 /// A run that writes the other value.
-const MADE: Case = Case {
+static MADE: Case = Case {
     ending: Ending {
         out: b"ok\nsize 312\n",
         ..DONE
@@ -289,7 +289,7 @@ const MADE: Case = Case {
 
 /// Reads of the front and of the symbols stop a run before the new file is made; that of the
 /// strings, which only the update needs, while it is written.
-const UNREAD: [Outcome; 2] = [
+static UNREAD: [Outcome; 2] = [
     Outcome {
         status: Status::ReadFailed,
         held: State::Before,

@@ -11,7 +11,7 @@ use test_runs::{DONE, Ending, Failing, NOTHING, REFUSED};
 use tool_output::Status;
 
 /// Two bytes as the file G, four as the file W, the empty file E, and a file O.
-const BESIDE: [Found; 4] = [
+static BESIDE: [Found; 4] = [
     Found {
         name: "G",
         stored: Stored::Bytes(b"hi"),
@@ -41,7 +41,7 @@ const KEPT: Case = Case {
 // ---- Files that are made
 
 /// Words, an image, and the image that is made of it.
-const MADE: [Case; 6] = [
+static MADE: [Case; 6] = [
     Case {
         file: Stored::Image(UNLINKED),
         held: Held::Now(Stored::Image(ADDED)),
@@ -86,7 +86,7 @@ fn changes_make_the_stated_image(rt: HostRuntime) {
 // ---- Messages
 
 /// Words, an image, and the message that says why no file is made.
-const REFUSALS: [Case; 19] = [
+static REFUSALS: [Case; 19] = [
     Case {
         line: "copy -u .q=G -o O F",
         file: Stored::Image(OBJECT),
@@ -262,7 +262,7 @@ const USAGE: Ending = Ending {
 };
 
 /// The output is the file, or a file of a change.
-const SAME_WORDS: [Case; 3] = [
+static SAME_WORDS: [Case; 3] = [
     Case {
         line: "copy -o F F",
         ending: USAGE,
@@ -307,7 +307,7 @@ const UNWRITTEN: Ending = Ending {
 
 /// The file of the bytes, the file or the new file is not handed out; the new file is made and can
 /// not be written; and files want more memory than there is.
-const FAULTS: [Case; 5] = [
+static FAULTS: [Case; 5] = [
     Case {
         failing: Failing { open: 1, ..NOTHING },
         ending: UNREAD,
@@ -357,7 +357,7 @@ const WITH_SECTION: Case = Case {
 };
 
 /// The first read of the bytes fails, and the second, which there is not.
-const BYTES: [Case; 2] = [
+static BYTES: [Case; 2] = [
     Case {
         bad: Bad {
             name: "G",
@@ -378,7 +378,7 @@ const BYTES: [Case; 2] = [
 ];
 
 /// Some reads of the file stop a run before the new file is made.
-const BEFORE: [Outcome; 1] = [Outcome {
+static BEFORE: [Outcome; 1] = [Outcome {
     status: Status::ReadFailed,
     held: State::Before,
     also: State::Any,

@@ -97,7 +97,7 @@ const NONE_LEFT: [Put; 3] = [
 
 /// Words, and the image that they make of that object: a group of one member, and one of its flags
 /// alone.
-const MADE: [Case; 2] = [
+static MADE: [Case; 2] = [
     Case {
         line: "strip -R .a -o O F",
         file: Stored::Image(GROUPED),
@@ -126,7 +126,7 @@ fn a_group_keeps_the_members_that_stay(rt: HostRuntime) {
 }
 
 /// A group that is no whole number of words.
-const RAGGED: Case = Case {
+static RAGGED: Case = Case {
     line: "strip -R .a -o O F",
     file: Stored::Changed(
         GROUPED,

@@ -221,10 +221,10 @@ const FILLED: Case = Case {
 };
 
 /// Images of which nothing is edited, or items alone.
-const KEEPING: [Case; 5] = [COPIED, KEPT, LEFT_OUT, RAISED, UNFIT];
+static KEEPING: [Case; 5] = [COPIED, KEPT, LEFT_OUT, RAISED, UNFIT];
 
 /// Images whose parts are placed anew.
-const PLACING: [Case; 3] = [MOVED, ADDED, FILLED];
+static PLACING: [Case; 3] = [MOVED, ADDED, FILLED];
 
 #[test]
 fn what_is_not_edited_stands_in_the_image(rt: HostRuntime) {

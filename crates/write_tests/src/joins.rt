@@ -11,7 +11,7 @@ use test_runs::{DONE, Ending, Failing, NOTHING, REFUSED};
 use tool_output::Status;
 
 /// A file X, which is there before each run.
-const OLD: [Found; 1] = [Found {
+static OLD: [Found; 1] = [Found {
     name: "X",
     stored: Stored::Bytes(b"old"),
 }];
@@ -103,7 +103,7 @@ const JOINED: Case = Case {
 
 /// Those of objects in both classes are joined to these; and where nothing is loaded, they are joined
 /// to the debug half.
-const WHOLE: [Case; 3] = [
+static WHOLE: [Case; 3] = [
     JOINED,
     Case {
         file: Stored::Left(NARROW_STRIPPED),
@@ -127,7 +127,7 @@ fn what_was_split_is_joined(rt: HostRuntime) {
 // ---- Messages
 
 /// The first file that is not there, or is no image, has the message.
-const UNOPENED: [Case; 5] = [
+static UNOPENED: [Case; 5] = [
     Case {
         line: "unstrip -o X G E",
         ending: Ending {
@@ -192,7 +192,7 @@ const MISMATCH: Ending = Ending {
 };
 
 /// Files that do not match, each other refusal under the file that it is of, and the update.
-const UNJOINED: [Case; 7] = [
+static UNJOINED: [Case; 7] = [
     Case {
         file: Stored::Image(Recipe {
             start: Start::HeaderAlone,
@@ -262,7 +262,7 @@ const USAGE: Ending = Ending {
 };
 
 /// Two of the three names are the same word.
-const SAME_NAMES: [Case; 3] = [
+static SAME_NAMES: [Case; 3] = [
     Case {
         line: "unstrip -o O O D",
         ending: USAGE,
@@ -301,7 +301,7 @@ const UNREAD: Ending = Ending {
 
 /// The one or the other half is not handed out, or the new file; and files want more memory than
 /// there is.
-const FAULTS: [Case; 4] = [
+static FAULTS: [Case; 4] = [
     Case {
         failing: Failing { open: 1, ..NOTHING },
         ending: UNREAD,
@@ -334,7 +334,7 @@ const FAULTS: [Case; 4] = [
 ];
 
 /// The first write stops a run with a front in the new file.
-const FRONT: [Outcome; 1] = [Outcome {
+static FRONT: [Outcome; 1] = [Outcome {
     status: Status::WriteFailed,
     held: State::Front,
     also: State::Any,
@@ -349,7 +349,7 @@ fn a_call_that_fails_leaves_the_old_file_or_a_front(rt: HostRuntime) {
 }
 
 /// Some reads of the stripped half stop a run before it makes the file.
-const STRIPPED_UNREAD: [Outcome; 1] = [Outcome {
+static STRIPPED_UNREAD: [Outcome; 1] = [Outcome {
     status: Status::ReadFailed,
     held: State::Before,
     also: State::Any,
@@ -358,7 +358,7 @@ const STRIPPED_UNREAD: [Outcome; 1] = [Outcome {
 }];
 
 /// More of the debug half do.
-const DEBUG_UNREAD: [Outcome; 1] = [Outcome {
+static DEBUG_UNREAD: [Outcome; 1] = [Outcome {
     status: Status::ReadFailed,
     held: State::Before,
     also: State::Any,

@@ -24,7 +24,7 @@ const KEPT: Case = Case {
 // ---- Nothing to build
 
 /// An image without dynamic symbols.
-const UNBUILT: Case = Case {
+static UNBUILT: Case = Case {
     ending: Ending {
         err: b"rehash: F: no dynamic hash\n",
         ..REFUSED
@@ -38,7 +38,7 @@ fn an_image_without_dynamic_symbols_has_no_dynamic_hash(rt: HostRuntime) {
 }
 
 /// A file that is not there, and one that is no image.
-const NO_IMAGE: [Case; 2] = [
+static NO_IMAGE: [Case; 2] = [
     Case {
         line: "rehash -o O X",
         ending: Ending {
@@ -200,7 +200,7 @@ const MADE: Recipe = Recipe {
 };
 
 /// What is built of both.
-const BUILT: [Case; 2] = [
+static BUILT: [Case; 2] = [
     Case {
         file: Stored::Image(FILE),
         held: Held::Now(Stored::Image(MADE)),
@@ -247,7 +247,7 @@ const OUT: Recipe = Recipe {
 };
 
 /// What is refused of both.
-const UNMADE: [Case; 2] = [
+static UNMADE: [Case; 2] = [
     Case {
         file: Stored::Image(FEW),
         ending: Ending {
@@ -325,7 +325,7 @@ const SHORT: Recipe = Recipe {
 };
 
 /// The program, and what is built of it.
-const IN_PLACE: Case = Case {
+static IN_PLACE: Case = Case {
     file: Stored::Image(PROGRAM),
     held: Held::Now(Stored::Image(PROGRAM_MADE)),
     ..KEPT
@@ -337,7 +337,7 @@ fn the_parts_of_a_program_stay_where_they_are(rt: HostRuntime) {
 }
 
 /// The shorter one, of which nothing is.
-const TOO_LONG: Case = Case {
+static TOO_LONG: Case = Case {
     file: Stored::Image(SHORT),
     ending: Ending {
         err: b"rehash: F: overlap section 3 section 4\n",

@@ -113,7 +113,7 @@ const UNREAD: Ending = Ending {
 
 /// Runs where the name O is not there: no call fails, O is not made, O is not handed out again, and
 /// the put of the lines fails.
-const FIRST: [Case; 4] = [
+static FIRST: [Case; 4] = [
     MADE,
     Case {
         failing: Failing { open: 1, ..NOTHING },
@@ -134,7 +134,7 @@ const FIRST: [Case; 4] = [
 ];
 
 /// Runs where O is there: no call fails, O is not made, and O can not be written.
-const AGAIN: [Case; 3] = [
+static AGAIN: [Case; 3] = [
     MADE,
     Case {
         failing: Failing { open: 1, ..NOTHING },
@@ -174,7 +174,7 @@ impl Given for Roomy {
 type Size = (&'static str, &'static [u8], u64);
 
 /// Eight sections with data, and as many as there may be.
-const SIZES: [Size; 2] = [
+static SIZES: [Size; 2] = [
     (
         "selftest -o O 8",
         b"sections 12\nsymbols 9\nbytes 1168\nvalue sum 180\nfound 8\n",

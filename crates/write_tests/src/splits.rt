@@ -14,7 +14,7 @@ use test_runs::{DONE, Ending, Failing, NOTHING, REFUSED};
 use tool_output::Status;
 
 /// Files O and D, which are there before each run.
-const BOTH: [Found; 2] = [
+static BOTH: [Found; 2] = [
     Found {
         name: "O",
         stored: Stored::Bytes(b"old"),
@@ -38,7 +38,7 @@ const KEPT: Case = Case {
 
 /// The object with two symbols in both classes: how long it is without the symbols, and that its
 /// debug half is the object byte for byte, since nothing of it is loaded.
-const OBJECTS: [Case; 2] = [
+static OBJECTS: [Case; 2] = [
     Case {
         held: Held::Length(200),
         also: Held::Now(Stored::Image(OBJECT)),
@@ -134,7 +134,7 @@ const USAGE: Ending = Ending {
 };
 
 /// Two of the three names are the same word.
-const SAME_NAMES: [Case; 3] = [
+static SAME_NAMES: [Case; 3] = [
     Case {
         line: "strip -f O -o O F",
         ending: USAGE,
@@ -158,7 +158,7 @@ fn no_two_names_are_the_same_word(rt: HostRuntime) {
 }
 
 /// The file and its front.
-const NO_IMAGE: [Case; 3] = [
+static NO_IMAGE: [Case; 3] = [
     Case {
         line: "strip -f D -o O G",
         ending: Ending {
@@ -247,7 +247,7 @@ const TOO_HIGH: Recipe = Recipe {
 /// A section that is removed is allocated, which comes before a home that is out of the file; that
 /// home, of a section that is kept, before the index of the names of the debug half; and each of
 /// these.
-const UNMADE: [Case; 5] = [
+static UNMADE: [Case; 5] = [
     Case {
         line: "strip -R .debug -f D -o O F",
         file: Stored::Image(LOADED),
@@ -311,7 +311,7 @@ const FAR_STRIPPED: Stored = Stored::Left(Earlier {
 });
 
 /// A run that makes both halves of it.
-const SPLIT: Case = Case {
+static SPLIT: Case = Case {
     held: Held::Now(FAR_STRIPPED),
     ..MOVED
 };
@@ -330,7 +330,7 @@ const UNWRITTEN: Ending = Ending {
 
 /// The image is not handed out, which comes before both are made; the first is not; the second is
 /// not, once the first is whole; and files want more memory than there is.
-const FAULTS: [Case; 4] = [
+static FAULTS: [Case; 4] = [
     Case {
         failing: Failing { open: 1, ..NOTHING },
         ending: Ending {
@@ -365,7 +365,7 @@ const FAULTS: [Case; 4] = [
 
 /// A write of the first half stops a run in that, and one of the second in that, once the first is
 /// whole.
-const IN_EACH: [Outcome; 2] = [
+static IN_EACH: [Outcome; 2] = [
     Outcome {
         status: Status::WriteFailed,
         held: State::Front,
@@ -389,7 +389,7 @@ fn the_first_half_is_whole_before_the_second_is_made(rt: HostRuntime) {
 }
 
 /// Some reads of the image stop a run before it makes a file.
-const BEFORE: [Outcome; 1] = [Outcome {
+static BEFORE: [Outcome; 1] = [Outcome {
     status: Status::ReadFailed,
     held: State::Before,
     also: State::Before,

@@ -26,13 +26,13 @@ const LONG: Case = Case {
 };
 
 /// The same; the image has so many bytes.
-const LENGTH: Case = Case {
+static LENGTH: Case = Case {
     held: Held::Length(65_848),
     ..LONG
 };
 
 /// Some writes stop a run with a front of the image in the new file.
-const FRONTS: [Outcome; 1] = [Outcome {
+static FRONTS: [Outcome; 1] = [Outcome {
     status: Status::WriteFailed,
     held: State::Front,
     also: State::Any,
@@ -47,7 +47,7 @@ fn each_write_that_fails_leaves_a_front(rt: HostRuntime) {
 }
 
 /// Files want more memory than there is: nothing is said, and the file that was there is left.
-const WANTING: Case = Case {
+static WANTING: Case = Case {
     failing: Failing {
         memory: true,
         ..NOTHING

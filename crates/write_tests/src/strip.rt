@@ -15,7 +15,7 @@ pub const KEPT: Case = Case {
 
 /// Words and images that are refused, by name and in their order: the file that is there, its
 /// front, the homes of the sections that are kept, and the index of the names.
-const UNWRITTEN: [Case; 5] = [
+static UNWRITTEN: [Case; 5] = [
     Case {
         line: "strip -o O G",
         ending: Ending {
@@ -73,7 +73,7 @@ fn what_is_refused_makes_no_file(rt: HostRuntime) {
 
 /// The symbols go. The ELF header is left, the table of the names, which is the empty one, and the
 /// headers of that and of section 0.
-const SYMBOLS_GO: [Case; 2] = [
+static SYMBOLS_GO: [Case; 2] = [
     Case {
         held: Held::Length(200),
         ..KEPT
@@ -104,7 +104,7 @@ const NARROW_ALONE: Recipe = Recipe {
 };
 
 /// Executables without sections, in two forms, and the same again.
-const WITHOUT_SECTIONS: [Case; 2] = [
+static WITHOUT_SECTIONS: [Case; 2] = [
     Case {
         file: Stored::Image(ALONE),
         held: Held::Now(Stored::Image(ALONE)),
