@@ -2,24 +2,24 @@
 
 ghost use Rattle.copy_changes.specs.Stated.{HasPlainNames};
 
+use crate::asked::{Asked, is_answered};
 use crate::changes::of_each_kind;
 use crate::images::OBJECT;
 use elf_copy::{Changes, copy_of};
 use elf_descriptor::Elf;
 use elf_outside::{NoSource, Source};
 use elf_types::constants::SHF_ALLOC;
-use elf_types::{DataId, Octets, ScnId};
+use elf_types::{DataId, ScnId};
 use elf_xlate::Items;
 use gelf_view::section_name;
 use std::alloc::Global;
-use test_images::{Form, NARROW, WIDE, image_in};
-use test_sources::source;
+use test_images::{NARROW, WIDE};
 
 /// The number, the name, the flags and the bytes of a section that is made.
 type Row = (u32, &'static [u8], u64, &'static [u8]);
 
 /// All sections from 1 on; the table of the names is written anew.
-const ROWS: [Row; 4] = [
+static ROWS: [Row; 4] = [
     (1, b".code", SHF_ALLOC, b"code"),
     (2, b".data", 3, b"other"),
     (3, b".shstrtab", 0, b"\0.code\0.data\0.shstrtab\0.note\0"),
@@ -86,33 +86,21 @@ fn is_changed<S: Source>(alloc: Global, elf: &mut Elf<S>, changes: &Changes) -> 
     }
 }
 
-/// Whether they do of an image of these bytes.
-fn is_changed_of(alloc: Global, bytes: Octets, changes: &Changes) -> bool
-    requires { HasPlainNames changes.now }
-{
-    match source(alloc, bytes, 0) {
-        Ok(src) => match Elf::begin(alloc, src) {
-            Ok(mut elf) => {
-                let changed = is_changed(alloc, &mut elf, changes);
-                let _src = elf.end();
-                changed
-            }
-            Err(_) => false,
-        },
+/// Whether a change of each kind does.
+pub fn are_all_made<S: Source>(alloc: Global, elf: &mut Elf<S>) -> bool {
+    match of_each_kind(alloc) {
+        Ok(changes) => is_changed(alloc, elf, &changes),
         Err(_) => false,
     }
 }
 
-/// Whether a change of each kind does of the object in a form.
-fn is_changed_in(alloc: Global, form: Form) -> bool {
-    match (image_in(alloc, form, &OBJECT), of_each_kind(alloc)) {
-        (Ok(image), Ok(changes)) => is_changed_of(alloc, image.bytes, &changes),
-        _ => false,
-    }
+/// Whether it does of the object in two forms.
+fn is_changed_in_both(alloc: Global) -> bool {
+    is_answered(alloc, WIDE, &OBJECT, &Asked::Made)
+        && is_answered(alloc, NARROW, &OBJECT, &Asked::Made)
 }
 
 #[test]
 fn each_kind_of_change_is_made(rt: HostRuntime) {
-    assert!(rt; is_changed_in(rt.alloc(), WIDE));
-    assert!(rt; is_changed_in(rt.alloc(), NARROW));
+    assert!(rt; is_changed_in_both(rt.alloc()));
 }

@@ -1,6 +1,6 @@
 //! Changes, of which no name that a section gets holds a NUL byte.
 
-ghost use Rattle.std.specs.Prelude.{◌≡◌, ◌∷◌, [], IfOk};
+ghost use Rattle.std.specs.Prelude.{◌≡◌, ◌∷◌, [], OnOk, IfOk};
 ghost use Rattle.copy_changes.specs.Stated.{HasPlainNames};
 
 use elf_copy::{Changes, NameBits, NameBytes};
@@ -8,31 +8,63 @@ use elf_types::{ElfError, List, Octets};
 use std::alloc::Global;
 use tool_text::Args;
 
-/// A name and bytes. It refuses `Memory`.
-fn pair(alloc: Global, name: &[u8], bytes: &[u8]) -> Result<NameBytes, ElfError>
-    ensures { IfOk result (λ p. p ≡ record { name = name.now; bytes = bytes.now }) }
+/// No changes.
+fn no_changes(alloc: Global) -> Changes
+    ensures update { result.update ≡ [] }
+    ensures rename { result.rename ≡ [] }
+    ensures add { result.add ≡ [] }
+{
+    Changes {
+        remove: Args::new(alloc),
+        update: List::new(alloc),
+        rename: List::new(alloc),
+        flags: List::new(alloc),
+        add: List::new(alloc),
+    }
+}
+
+/// Puts a name and bytes alone into a list. It refuses `Memory`.
+fn put_alone(
+    list: &mut List<NameBytes>,
+    alloc: Global,
+    name: &[u8],
+    bytes: &[u8],
+) -> Result<(), ElfError>
+    requires { list.old ≡ [] }
+    ensures { OnOk result (list.new ≡ (record { name = name.now; bytes = bytes.now } ∷ [])) }
 {
     let name = Octets::from_slice(alloc, name)?;
     let bytes = Octets::from_slice(alloc, bytes)?;
-    Ok(NameBytes { name, bytes })
+    list.push(NameBytes { name, bytes })?;
+    Ok(())
 }
 
-/// A list of them alone. It refuses `Memory`.
-fn alone(alloc: Global, name: &[u8], bytes: &[u8]) -> Result<List<NameBytes>, ElfError>
-    ensures { IfOk result (λ l. l ≡ (record { name = name.now; bytes = bytes.now } ∷ [])) }
+/// Puts the flags of a section into a list. It refuses `Memory`.
+fn put_flags(
+    list: &mut List<NameBits>,
+    alloc: Global,
+    name: &[u8],
+    bits: u64,
+) -> Result<(), ElfError> {
+    match Octets::from_slice(alloc, name) {
+        Ok(name) => list.push(NameBits { name, bits }),
+        Err(e) => Err(e),
+    }
+}
+
+/// Puts other bytes for one section, and other flags for one.
+fn put_both(
+    changes: &mut Changes,
+    alloc: Global,
+    update: (&[u8], &[u8]),
+    flags: (&[u8], u64),
+) -> Result<(), ElfError>
+    requires { changes.old.update ≡ [] }
+    ensures rename { changes.new.rename ≡ changes.old.rename }
+    ensures add { changes.new.add ≡ changes.old.add }
 {
-    let mut list = List::new(alloc);
-    let pair = pair(alloc, name, bytes)?;
-    list.push(pair)?;
-    Ok(list)
-}
-
-/// The flags of a section alone in a list. It refuses `Memory`.
-fn flags_alone(alloc: Global, name: &[u8], bits: u64) -> Result<List<NameBits>, ElfError> {
-    let mut list = List::new(alloc);
-    let name = Octets::from_slice(alloc, name)?;
-    list.push(NameBits { name, bits })?;
-    Ok(list)
+    put_alone(&mut changes.update, alloc, update.0, update.1)?;
+    put_flags(&mut changes.flags, alloc, flags.0, flags.1)
 }
 
 /// Other bytes for one section, and other flags for one. It refuses `Memory`.
@@ -43,34 +75,37 @@ pub fn bytes_and_flags(
 ) -> Result<Changes, ElfError>
     ensures { IfOk result HasPlainNames }
 {
-    let update = alone(alloc, update.0, update.1)?;
-    let flags = flags_alone(alloc, flags.0, flags.1)?;
-    Ok(Changes {
-        remove: Args::new(alloc),
-        update,
-        rename: List::new(alloc),
-        flags,
-        add: List::new(alloc),
-    })
+    let mut changes = no_changes(alloc);
+    match put_both(&mut changes, alloc, update, flags) {
+        Ok(()) => Ok(changes),
+        Err(e) => Err(e),
+    }
+}
+
+/// Puts a change of each kind.
+#[tactic(auto, unfolding(tool_text::specs::Reading::is_section_name))]
+fn put_each_kind(changes: &mut Changes, alloc: Global) -> Result<(), ElfError>
+    requires update { changes.old.update ≡ [] }
+    requires rename { changes.old.rename ≡ [] }
+    requires add { changes.old.add ≡ [] }
+    ensures { OnOk result (HasPlainNames changes.new) }
+{
+    changes.remove.add(".bss")?;
+    put_alone(&mut changes.update, alloc, b".data", b"other")?;
+    put_alone(&mut changes.rename, alloc, b".text", b".code")?;
+    put_flags(&mut changes.flags, alloc, b".data", 3)?;
+    put_alone(&mut changes.add, alloc, b".note", b"added")?;
+    Ok(())
 }
 
 /// A change of each kind: `.bss` goes, `.data` gets other bytes and flags, `.text` becomes `.code`,
 /// and `.note` is added. It refuses `Memory`.
-#[tactic(auto, unfolding(tool_text::specs::Reading::is_section_name))]
 pub fn of_each_kind(alloc: Global) -> Result<Changes, ElfError>
     ensures { IfOk result HasPlainNames }
 {
-    let mut remove = Args::new(alloc);
-    remove.add(".bss")?;
-    let update = alone(alloc, b".data", b"other")?;
-    let rename = alone(alloc, b".text", b".code")?;
-    let flags = flags_alone(alloc, b".data", 3)?;
-    let add = alone(alloc, b".note", b"added")?;
-    Ok(Changes {
-        remove,
-        update,
-        rename,
-        flags,
-        add,
-    })
+    let mut changes = no_changes(alloc);
+    match put_each_kind(&mut changes, alloc) {
+        Ok(()) => Ok(changes),
+        Err(e) => Err(e),
+    }
 }

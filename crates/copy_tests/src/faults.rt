@@ -2,15 +2,14 @@
 
 ghost use Rattle.copy_changes.specs.Stated.{HasPlainNames};
 
+use crate::asked::{Asked, is_answered};
 use crate::changes::{bytes_and_flags, of_each_kind};
 use crate::images::{LINKED, PROGRAM};
 use elf_copy::{Changes, CopyFault, copy_of};
 use elf_descriptor::Elf;
 use elf_outside::Source;
-use elf_types::Octets;
 use std::alloc::Global;
-use test_images::{Recipe, image_of};
-use test_sources::source;
+use test_images::WIDE;
 
 /// A fault.
 #[derive(Clone, Copy, PartialEq)]
@@ -50,7 +49,7 @@ type Row = (
 );
 
 /// The bytes come before the flags.
-const ROWS: [Row; 5] = [
+static ROWS: [Row; 5] = [
     (b".none", b"x", b".text", 0, Fault::NoSection, b".none"),
     (b".bss", b"x", b".text", 0, Fault::NoBytes, b".bss"),
     (b".text", b"x", b".text", 0, Fault::Allocated, b".text"),
@@ -86,7 +85,7 @@ fn is_refused_by<S: Source>(alloc: Global, elf: &mut Elf<S>, row: &Row) -> bool 
 }
 
 /// Whether those of all rows do.
-fn are_refused<S: Source>(alloc: Global, elf: &mut Elf<S>) -> bool {
+pub fn are_refused<S: Source>(alloc: Global, elf: &mut Elf<S>) -> bool {
     for row in ROWS.iter() {
         if !is_refused_by(alloc, elf, row) {
             return false;
@@ -96,46 +95,19 @@ fn are_refused<S: Source>(alloc: Global, elf: &mut Elf<S>) -> bool {
 }
 
 /// Whether names have no table of their own.
-fn has_no_table<S: Source>(alloc: Global, elf: &mut Elf<S>) -> bool {
+pub fn has_no_table<S: Source>(alloc: Global, elf: &mut Elf<S>) -> bool {
     match of_each_kind(alloc) {
         Ok(changes) => is_refused(alloc, elf, &changes, Fault::NoTable, b""),
         Err(_) => false,
     }
 }
 
-/// Whether an image of these bytes is refused, as a program or for its table of names.
-fn is_refused_of(alloc: Global, bytes: Octets, is_program: bool) -> bool {
-    match source(alloc, bytes, 0) {
-        Ok(src) => match Elf::begin(alloc, src) {
-            Ok(mut elf) => {
-                let refused = if is_program {
-                    are_refused(alloc, &mut elf)
-                } else {
-                    has_no_table(alloc, &mut elf)
-                };
-                let _src = elf.end();
-                refused
-            }
-            Err(_) => false,
-        },
-        Err(_) => false,
-    }
-}
-
-/// Whether the image of a recipe is.
-fn is_refused_in(alloc: Global, recipe: &Recipe, is_program: bool) -> bool {
-    match image_of(alloc, recipe) {
-        Ok(image) => is_refused_of(alloc, image.bytes, is_program),
-        Err(_) => false,
-    }
-}
-
 #[test]
 fn faults_come_in_the_order_of_the_changes(rt: HostRuntime) {
-    assert!(rt; is_refused_in(rt.alloc(), &PROGRAM, true));
+    assert!(rt; is_answered(rt.alloc(), WIDE, &PROGRAM, &Asked::Refused));
 }
 
 #[test]
 fn names_need_a_table_of_their_own(rt: HostRuntime) {
-    assert!(rt; is_refused_in(rt.alloc(), &LINKED, false));
+    assert!(rt; is_answered(rt.alloc(), WIDE, &LINKED, &Asked::NoTable));
 }

@@ -36,7 +36,7 @@ const SECTIONS: &[Shdr] = &[
 ];
 
 /// An object with these sections.
-pub const OBJECT: Recipe = Recipe {
+pub static OBJECT: Recipe = Recipe {
     form: WIDE,
     start: Start::Table(128, 5, 4),
     puts: &[
@@ -48,7 +48,7 @@ pub const OBJECT: Recipe = Recipe {
 };
 
 /// A program with them.
-pub const PROGRAM: Recipe = Recipe {
+pub static PROGRAM: Recipe = Recipe {
     form: WIDE,
     start: Start::Table(128, 5, 4),
     puts: &[
@@ -63,7 +63,7 @@ pub const PROGRAM: Recipe = Recipe {
 };
 
 /// An object with them, where `.data` links to the names.
-pub const LINKED: Recipe = Recipe {
+pub static LINKED: Recipe = Recipe {
     form: WIDE,
     start: Start::Table(128, 5, 4),
     puts: &[

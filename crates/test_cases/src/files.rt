@@ -265,9 +265,13 @@ fn add_bad(
     bytes: Octets,
     bad: &Bad,
 ) -> Result<(), ElfError> {
-    match (bad_reads(alloc, bad), numbered(alloc, bad.write)) {
-        (Ok(reads), Ok(writes)) => files.add(name, bytes, reads, writes),
-        _ => Err(ElfError::Memory),
+    let reads = match bad_reads(alloc, bad) {
+        Ok(reads) => reads,
+        Err(e) => return Err(e),
+    };
+    match numbered(alloc, bad.write) {
+        Ok(writes) => files.add(name, bytes, reads, writes),
+        Err(e) => Err(e),
     }
 }
 
