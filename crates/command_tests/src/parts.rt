@@ -1,6 +1,6 @@
 //! The parts of readelf that its own call shows of a descriptor over a small object.
 
-use elf_types::{Dyn, ElfError};
+use elf_types::Dyn;
 use std::alloc::Global;
 use test_images::{
     Content, Field, HeaderField, NARROW, OBJECT, Put, Recipe, SectionField, changed_image, image_of,
