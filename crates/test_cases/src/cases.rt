@@ -179,12 +179,12 @@ pub(crate) fn setting_of<'a>(
 }
 
 /// Whether a run beside these files ends as its case says.
-pub fn is_so(alloc: Global, beside: &[Found], case: &Case) -> bool {
+pub fn is_so<'x>(alloc: Global, beside: &'x [Found], case: &'x Case) -> bool {
     is_so_over(alloc, case, &setting_of(case, beside, None))
 }
 
 /// Whether each run beside these files ends as its case says.
-pub fn are_so(alloc: Global, beside: &[Found], cases: &[Case]) -> bool {
+pub fn are_so<'x>(alloc: Global, beside: &'x [Found], cases: &'x [Case]) -> bool {
     for case in cases {
         if !is_so(alloc, beside, case) {
             return false;
@@ -194,7 +194,7 @@ pub fn are_so(alloc: Global, beside: &[Found], cases: &[Case]) -> bool {
 }
 
 /// Whether each does with its first file in a form.
-fn are_so_in(alloc: Global, beside: &[Found], cases: &[Case], form: Form) -> bool {
+fn are_so_in<'x>(alloc: Global, beside: &'x [Found], cases: &'x [Case], form: Form) -> bool {
     for case in cases {
         if !is_so_over(alloc, case, &setting_of(case, beside, Some(form))) {
             return false;
@@ -204,7 +204,7 @@ fn are_so_in(alloc: Global, beside: &[Found], cases: &[Case], form: Form) -> boo
 }
 
 /// Whether each does with its first file in each form.
-pub fn are_so_in_all_forms(alloc: Global, beside: &[Found], cases: &[Case]) -> bool {
+pub fn are_so_in_all_forms<'x>(alloc: Global, beside: &'x [Found], cases: &'x [Case]) -> bool {
     for form in FORMS.iter() {
         if !are_so_in(alloc, beside, cases, *form) {
             return false;

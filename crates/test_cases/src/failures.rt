@@ -206,10 +206,10 @@ fn has_one(alloc: Global, case: &Case, setting: &Setting<'_>, outcomes: &[Outcom
 
 /// Whether each run of which one of the first calls fails, so many, ends as the case says or has one
 /// of the outcomes.
-fn are_told(
+fn are_told<'x>(
     alloc: Global,
-    beside: &[Found],
-    case: &Case,
+    beside: &'x [Found],
+    case: &'x Case,
     call: &Call,
     calls: u64,
     outcomes: &[Outcome],
@@ -224,10 +224,10 @@ fn are_told(
 }
 
 /// How many of them have an outcome.
-fn count_of(
+fn count_of<'x>(
     alloc: Global,
-    beside: &[Found],
-    case: &Case,
+    beside: &'x [Found],
+    case: &'x Case,
     call: &Call,
     calls: u64,
     outcome: &Outcome,
@@ -244,10 +244,10 @@ fn count_of(
 
 /// Whether each run beside these files of which one of the first calls fails, so many, ends as the
 /// case says or has one of the outcomes, and each outcome comes as often as it tells.
-pub fn fail_so(
+pub fn fail_so<'x>(
     alloc: Global,
-    beside: &[Found],
-    case: &Case,
+    beside: &'x [Found],
+    case: &'x Case,
     call: &Call,
     calls: u64,
     outcomes: &[Outcome],

@@ -4,7 +4,7 @@ use elf_outside::MemFiles;
 use elf_types::{Addrs, ElfError, Octets};
 use std::alloc::Global;
 use test_images::{Form, Image, Put, Recipe, image_in, image_of};
-use test_runs::{Failing, Given, NOTHING, add_file, numbered, run_leaving};
+use test_runs::{Failing, Given, Left, NOTHING, add_file, numbered, run_leaving};
 
 /// A part of a file.
 #[derive(Drop)]
@@ -182,10 +182,13 @@ impl Given for Earlier {
 /// What a run leaves under its name; no bytes where that is not there.
 fn left_bytes(alloc: Global, earlier: &Earlier) -> Result<Octets, ElfError> {
     match run_leaving(alloc, earlier.line, earlier, NOTHING, earlier.name) {
-        Ok(left) => match left.held {
-            Some(bytes) => Ok(bytes),
-            None => Ok(Octets::new(alloc)),
-        },
+        Ok(left) => {
+            let Left { held, .. } = left;
+            match held {
+                Some(bytes) => Ok(bytes),
+                None => Ok(Octets::new(alloc)),
+            }
+        }
         Err(e) => Err(e),
     }
 }
