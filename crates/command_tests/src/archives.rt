@@ -170,9 +170,12 @@ const HEADER: ReadelfParts = ReadelfParts {
     versions: false,
 };
 
-/// How many bytes of the archive above are asked for when its members' headers are shown.
+/// The archive above, which is lent.
+static ARCHIVE: Stored = LIBRARY;
+
+/// How many bytes of it are asked for when its members' headers are shown.
 fn asked_of_library(alloc: Global) -> Result<u64, ElfError> {
-    match bytes_of(alloc, &LIBRARY) {
+    match bytes_of(alloc, &ARCHIVE) {
         Ok(archive) => asked(alloc, archive.as_slice(), &HEADER),
         Err(e) => Err(e),
     }

@@ -224,9 +224,12 @@ fn other_sections_are_refused_or_passed_over(rt: HostRuntime) {
     assert!(rt; are_so(rt.alloc(), &[], &CHANGES));
 }
 
+/// The object with the unit, which is lent.
+static OWN: Recipe = Recipe { ..WITH_UNIT };
+
 /// Whether the own call of lines shows the rows of a table.
 fn own_call_shows_the_rows(alloc: Global) -> Result<bool, ElfError> {
-    let object = image_of(alloc, &WITH_UNIT)?;
+    let object = image_of(alloc, &OWN)?;
     Ok(said_by(alloc, &Lines, object)?.is(false, LINES, b""))
 }
 

@@ -34,6 +34,9 @@ static TWO_OVER_ONE_HOME: Recipe = Recipe {
     ..FIVE
 };
 
+/// The five sections, which are lent.
+static FRONT: Recipe = Recipe { ..FIVE };
+
 /// How many bytes of an image elflint asks for.
 fn asked_of(alloc: Global, recipe: &Recipe) -> Result<u64, ElfError> {
     match image_of(alloc, recipe) {
@@ -44,7 +47,7 @@ fn asked_of(alloc: Global, recipe: &Recipe) -> Result<u64, ElfError> {
 
 /// How many more it asks for than of the five sections.
 fn more_of(alloc: Global, recipe: &Recipe) -> Result<u64, ElfError> {
-    let front = asked_of(alloc, &FIVE)?;
+    let front = asked_of(alloc, &FRONT)?;
     let all = asked_of(alloc, recipe)?;
     Ok(all.saturating_sub(front))
 }

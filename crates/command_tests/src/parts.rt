@@ -111,7 +111,7 @@ fn symbols_are_shown_alike_in_both_classes(rt: HostRuntime) {
 }
 
 /// A field of section 2, what is put there, and the line that refuses its symbols.
-const REFUSALS: [(SectionField, u64, &[u8]); 3] = [
+static REFUSALS: [(SectionField, u64, &[u8]); 3] = [
     (
         SectionField::Offset,
         1 << 63,

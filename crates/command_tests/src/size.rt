@@ -160,12 +160,15 @@ fn the_first_line_stands_where_all_is_refused(rt: HostRuntime) {
     assert!(rt; are_so(rt.alloc(), &[], &FIRST_LINE));
 }
 
+/// The object of code, data and memory, which is lent.
+static OWN: Recipe = Recipe { ..THREE };
+
 /// The row of the object.
 const ROW: &[u8] = b"     32\t     16\t    256\t    304\t    130\tF\n";
 
 /// Whether size's own call shows the row of an object, without the first line.
 fn own_call_shows_the_row(alloc: Global) -> Result<bool, ElfError> {
-    let object = image_of(alloc, &THREE)?;
+    let object = image_of(alloc, &OWN)?;
     Ok(said_by(alloc, &Size, object)?.is(false, ROW, b""))
 }
 

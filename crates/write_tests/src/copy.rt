@@ -351,7 +351,7 @@ fn a_call_that_fails_leaves_the_old_file_or_a_front(rt: HostRuntime) {
 }
 
 /// A run over that object, whose new file has the section.
-const WITH_SECTION: Case = Case {
+static WITH_SECTION: Case = Case {
     held: Held::Now(Stored::Image(ADDED)),
     ..UNMADE
 };
@@ -373,7 +373,8 @@ static BYTES: [Case; 2] = [
             read: 2,
             ..GOOD
         },
-        ..WITH_SECTION
+        held: Held::Now(Stored::Image(ADDED)),
+        ..UNMADE
     },
 ];
 

@@ -287,6 +287,9 @@ fn no_two_names_are_the_same_word(rt: HostRuntime) {
 
 // ---- Calls that fail
 
+/// A run that joins the halves of the object, of which calls fail.
+static JOINING: Case = Case { ..JOINED };
+
 /// A run over the halves of the object that makes no file.
 const STOPPED: Case = Case {
     held: Held::Before,
@@ -345,7 +348,7 @@ static FRONT: [Outcome; 1] = [Outcome {
 #[test]
 fn a_call_that_fails_leaves_the_old_file_or_a_front(rt: HostRuntime) {
     assert!(rt; are_so(rt.alloc(), &OLD, &FAULTS));
-    assert!(rt; fail_so(rt.alloc(), &OLD, &JOINED, &Call::Made, 1, &FRONT));
+    assert!(rt; fail_so(rt.alloc(), &OLD, &JOINING, &Call::Made, 1, &FRONT));
 }
 
 /// Some reads of the stripped half stop a run before it makes the file.
@@ -372,7 +375,7 @@ fn a_read_of_a_half_that_fails_leaves_the_old_file(rt: HostRuntime) {
         fail_so(
             rt.alloc(),
             &OLD,
-            &JOINED,
+            &JOINING,
             &Call::Read("O"),
             8,
             &STRIPPED_UNREAD
@@ -382,7 +385,7 @@ fn a_read_of_a_half_that_fails_leaves_the_old_file(rt: HostRuntime) {
         fail_so(
             rt.alloc(),
             &OLD,
-            &JOINED,
+            &JOINING,
             &Call::Read("D"),
             8,
             &DEBUG_UNREAD

@@ -112,7 +112,7 @@ const FAR_HALF: Recipe = Recipe {
 };
 
 /// The data is in the debug half alone.
-const MOVED: Case = Case {
+static MOVED: Case = Case {
     file: Stored::Image(FAR),
     held: Held::Length(200),
     also: Held::Now(Stored::Image(FAR_HALF)),
@@ -313,7 +313,8 @@ const FAR_STRIPPED: Stored = Stored::Left(Earlier {
 /// A run that makes both halves of it.
 static SPLIT: Case = Case {
     held: Held::Now(FAR_STRIPPED),
-    ..MOVED
+    also: Held::Now(Stored::Image(FAR_HALF)),
+    ..STOPPED
 };
 
 /// A run over it that makes neither.

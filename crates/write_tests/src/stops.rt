@@ -25,6 +25,9 @@ const LONG: Case = Case {
     ..SCRIPTED
 };
 
+/// The same, of which calls fail.
+static WHOLE: Case = Case { ..LONG };
+
 /// The same; the image has so many bytes.
 static LENGTH: Case = Case {
     held: Held::Length(65_848),
@@ -43,7 +46,7 @@ static FRONTS: [Outcome; 1] = [Outcome {
 #[test]
 fn each_write_that_fails_leaves_a_front(rt: HostRuntime) {
     assert!(rt; is_so(rt.alloc(), &OLD, &LENGTH));
-    assert!(rt; fail_so(rt.alloc(), &OLD, &LONG, &Call::Made, 8, &FRONTS));
+    assert!(rt; fail_so(rt.alloc(), &OLD, &WHOLE, &Call::Made, 8, &FRONTS));
 }
 
 /// Files want more memory than there is: nothing is said, and the file that was there is left.
