@@ -1,6 +1,6 @@
 //! Calls of the outside that fail, one after the other.
 
-use crate::edits::{APPENDED, OTHER, Row, WRITTEN};
+use crate::edits::{APPENDED, OTHER, Row, written_rows};
 use std::alloc::Global;
 use test_cases::{Bad, Call, Case, GOOD, Held, Outcome, State, are_so, fail_so, is_so};
 use test_runs::{DONE, Ending, Failing, NOTHING};
@@ -30,7 +30,7 @@ fn tear(alloc: Global, rows: &[Row]) -> bool {
 
 #[test]
 fn a_write_that_fails_leaves_each_byte_old_or_new(rt: HostRuntime) {
-    assert!(rt; tear(rt.alloc(), &WRITTEN));
+    assert!(rt; tear(rt.alloc(), written_rows()));
 }
 
 /// How many reads the front of an image takes: of the first eight bytes, of the ELF header, and of
@@ -62,7 +62,7 @@ fn leave_unread(alloc: Global, rows: &[Row]) -> bool {
 
 #[test]
 fn a_read_that_fails_leaves_the_file(rt: HostRuntime) {
-    assert!(rt; leave_unread(rt.alloc(), &WRITTEN));
+    assert!(rt; leave_unread(rt.alloc(), written_rows()));
 }
 
 /// A run of which a call fails, which leaves the file as it was.
