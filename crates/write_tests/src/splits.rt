@@ -389,16 +389,26 @@ fn the_first_half_is_whole_before_the_second_is_made(rt: HostRuntime) {
     assert!(rt; fail_so(rt.alloc(), &BOTH, &SPLIT, &Call::Made, 8, &IN_EACH));
 }
 
-/// Some reads of the image stop a run before it makes a file.
-static BEFORE: [Outcome; 1] = [Outcome {
-    status: Status::ReadFailed,
-    held: State::Before,
-    also: State::Before,
-    least: 3,
-    most: 8,
-}];
+/// A read of the image stops a run before it makes a file, or in the debug half, whose bytes are
+/// copied of the image, once the first half is whole.
+static IN_DEBUG: [Outcome; 2] = [
+    Outcome {
+        status: Status::ReadFailed,
+        held: State::Before,
+        also: State::Before,
+        least: 4,
+        most: 8,
+    },
+    Outcome {
+        status: Status::ReadFailed,
+        held: State::After,
+        also: State::Front,
+        least: 2,
+        most: 4,
+    },
+];
 
 #[test]
-fn a_read_that_fails_makes_neither_half(rt: HostRuntime) {
-    assert!(rt; fail_so(rt.alloc(), &BOTH, &SPLIT, &Call::Read("F"), 8, &BEFORE));
+fn a_read_that_fails_makes_neither_half_or_a_front_of_the_second(rt: HostRuntime) {
+    assert!(rt; fail_so(rt.alloc(), &BOTH, &SPLIT, &Call::Read("F"), 12, &IN_DEBUG));
 }
