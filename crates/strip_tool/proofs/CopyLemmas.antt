@@ -1,5 +1,5 @@
 -- What a step that copies an image does.
-use Rattle.std.proofs.Common.{◌≡◌, ◌⊎◌, inl, inr, ◌-◌, ◌^◌, ◌<◌, ℕ, Bool, false, List, [], take, Option, Some, None, Result, Ok, Err, IfSome, OnErr, refl, sym, subst, arith}
+use Rattle.std.proofs.Common.{◌≡◌, ◌⊎◌, inl, inr, ◌-◌, ◌^◌, ◌<◌, ℕ, Bool, List, [], take, Option, Some, None, Result, Ok, Err, IfSome, OnErr, refl, sym, subst, arith}
 use Rattle.std.specs.Prelude.{OnOk}
 use Rattle.elf_outside.specs.declared.sources.Source.{Ghosts as SourceGhosts}
 use Rattle.elf_outside.specs.declared.sinks.Sink.{Ghosts as SinkGhosts}
