@@ -6,7 +6,7 @@ use Rattle.elf_types.specs.declared.errors.ElfError.{ElfError}
 use Rattle.elf_types.specs.declared.errors.ElfError.TheVariants as errors
 use Rattle.elf_types.specs.Answers.{answered, ◌>>=◌}
 use Rattle.elf_xlate.specs.declared.content.Items.TheVariants as items
-use Rattle.strtab_build.specs.Table.{table, place_of}
+use Rattle.strtab_build.specs.Table.{place_of}
 use Rattle.elf_object.specs.Object.{Object, Section}
 use Rattle.elf_object.specs.Steps.{with_own}
 use Rattle.elf_object.specs.Strings.{or_empty_name}

@@ -1,4 +1,4 @@
-use Rattle.std.proofs.Common.{◌<◌, Bool, true, false, length, ℕ, Option, Some, None, Ok, Err, sym, ap, ◌∙◌, subst, arith}
+use Rattle.std.proofs.Common.{◌<◌, Bool, length, ℕ, Option, Some, None, Ok, Err, sym, ap, ◌∙◌, subst, arith}
 use Rattle.std.specs.Prelude.{IsTrue}
 use Rattle.elf_object.specs.Object.{Object}
 use Rattle.elf_object.specs.Strings.{is_name}

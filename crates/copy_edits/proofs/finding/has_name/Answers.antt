@@ -1,6 +1,6 @@
 use Rattle.std.proofs.Common.{ap, ◌∙◌}
 use Rattle.elf_object.specs.Strings.{section_name, is_name}
-use Rattle.copy_edits.specs.Names.{mark_of, new_name}
+use Rattle.copy_edits.specs.Names.{new_name}
 use Rattle.copy_edits.proofs.FindLaws.{found_new, found_old, named_reads}
 use Rattle.strip_removed.proofs.NameLaws.{names_nothing}
 use Rattle.gelf_view.specs.SectionNames as names

@@ -1,4 +1,4 @@
-use Rattle.std.proofs.Common.{◌==◌, ◌-◌, ℕ, length, sym, ap, ◌∙◌, arith}
+use Rattle.std.proofs.Common.{◌==◌, ℕ, length, sym, ap, ◌∙◌, arith}
 use Rattle.elf_object.specs.Answers.{no_section}
 use Rattle.elf_object.specs.Joined.{pieces_end}
 use Rattle.elf_object.proofs.AnswerLaws.{answered_value}
