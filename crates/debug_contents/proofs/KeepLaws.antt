@@ -1,6 +1,6 @@
 -- What the debug half has of sections, one after another.
-use Rattle.std.proofs.Common.{◌≡◌, ◌+◌, ◌-◌, ◌<◌, ◌≤◌, ℕ, List, [], ◌∷◌, length, map, take, get_or, take_all, Option, Some, None, Result, Ok, Err, refl, sym, ap, ◌∙◌, subst}
-use Rattle.std.specs.Prelude.{All, IsTrue, IfErr, OnOk}
+use Rattle.std.proofs.Common.{◌≡◌, ◌+◌, ◌-◌, ◌<◌, ◌≤◌, ℕ, List, [], ◌∷◌, length, map, take, get_or, take_all, Option, None, Result, Ok, Err, refl, sym, ap, ◌∙◌, subst}
+use Rattle.std.specs.Prelude.{All, IfErr, OnOk}
 use Rattle.std.proofs.lemmas.List.{take_more}
 use Rattle.elf_types.specs.Answers.{first_refusal, answered}
 use Rattle.elf_types.specs.declared.records.Shdr.{Shdr}
@@ -10,14 +10,13 @@ use Rattle.elf_object.specs.Object.{Object}
 use Rattle.elf_object.specs.Calls.{newphdr_refusal}
 use Rattle.elf_object.specs.Layout.{section_numbers}
 use Rattle.elf_object.specs.Valid.{IsObject}
-use Rattle.elf_object.proofs.PassedLaws.{none_first}
 use Rattle.std.proofs.lemmas.List.FromFn.{length-map-range_with_len}
 use Rattle.elf_descriptor.specs.State.{State}
-use Rattle.update_plan.proofs.PlacingLaws.{passed_from, refused_from}
+use Rattle.update_plan.proofs.PlacingLaws.{passed_from}
 use Rattle.command_objects.specs.Rebuilt.{index_refusal}
 use Rattle.command_objects.specs.Split.{debug_section, debug_sections, debug_raw_refusal, debug_refusal}
 use Rattle.object_making.specs.Refused.{RefusedBy}
-use Rattle.object_making.proofs.RefusedLaws.{alone, passes_first, refused_first, refused_later, refused_as, stated_refused, answer_refused, passed_more, passed_all}
+use Rattle.object_making.proofs.RefusedLaws.{alone, passes_first, refused_first, refused_later, refused_as, answer_refused, passed_more, passed_all}
 use Rattle.image_ranges.specs.declared.ranges.ByteRange.{ByteRange}
 use Rattle.strip_rebuild.proofs.FillLaws.{none_passed}
 use Rattle.strip_rebuild.proofs.NumberLaws.{kept_few, numbers_all}

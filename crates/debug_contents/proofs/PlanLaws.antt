@@ -1,15 +1,14 @@
 -- What is planned of the debug half is the file that an update writes of it.
-use Rattle.std.proofs.Common.{◌≡◌, inl, inr, ◌⊎◌, ◌∷◌, ◌<◌, ◌^◌, ℕ, Bool, true, false, List, [], length, Option, None, Some, Result, Ok, Err, if◌then◌else◌, refl, sym, ap, ◌∙◌, subst}
-use Rattle.std.specs.Prelude.{All, IsTrue}
+use Rattle.std.proofs.Common.{◌≡◌, inl, inr, ◌⊎◌, ◌∷◌, ◌<◌, ◌^◌, ℕ, Bool, true, false, [], length, Option, None, Some, Result, Ok, Err, if◌then◌else◌, refl, sym, ap, ◌∙◌, subst}
+use Rattle.std.specs.Prelude.{IsTrue}
 use Rattle.std.proofs.lemmas.List.Elements.{All-nil}
 use Rattle.elf_types.specs.declared.errors.ElfError.{ElfError}
 use Rattle.elf_types.specs.declared.errors.ElfError.TheVariants.{Memory, TooLarge}
 use Rattle.elf_types.specs.Answers.{answered}
-use Rattle.elf_outside.specs.Asks.{ReadRose}
 use Rattle.elf_outside.proofs.AskLemmas.{read_rose_on}
 use Rattle.elf_xlate.specs.declared.content.Items.TheVariants as items
 use Rattle.elf_xlate.specs.Translation.{encoded}
-use Rattle.elf_object.specs.Object.{Object, Section, section_at, new_section}
+use Rattle.elf_object.specs.Object.{Object, section_at, new_section}
 use Rattle.elf_object.specs.Layout.{section_numbers}
 use Rattle.elf_object.specs.Valid.{IsObject}
 use Rattle.object_laws.proofs.KeepLaws.{section_at_is}
@@ -26,7 +25,7 @@ use Rattle.strip_laws.proofs.MadeSections.{bytes_encoded}
 use Rattle.strip_contents.specs.declared.arranged.Arranged.{Arranged}
 use Rattle.strip_contents.specs.declared.contents.Contents.{Contents}
 use Rattle.strip_contents.specs.declared.plans.RangedPlan.{RangedPlan}
-use Rattle.strip_contents.specs.Plans.{IsRangedBy, PlansCopied, IsGatheredOf, MayBeWritten, IsUnarranged, ArrangesContents, FileAnswers}
+use Rattle.strip_contents.specs.Plans.{PlansCopied, IsGatheredOf, MayBeWritten, IsUnarranged, ArrangesContents, FileAnswers}
 use Rattle.strip_contents.proofs.AnswerLaws.{copied_file}
 use Rattle.strip_contents.proofs.ListLaws.{filled_none, filled_some, gathered_over}
 use Rattle.debug_half.specs.Half.{half_header, half_items}

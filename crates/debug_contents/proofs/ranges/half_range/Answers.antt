@@ -1,4 +1,3 @@
-use Rattle.std.proofs.Common.{sym, ◌∙◌}
 use Rattle.debug_contents.proofs.RangeLaws.{loaded_found, kept_found}
 use Rattle.debug_contents.proofs.ranges.half_range.Goals as goal
 
