@@ -38,7 +38,7 @@ use Rattle.strip_stream.proofs.HomeLaws.{homes_stand}
 use Rattle.strip_tables.specs.declared.rows.TableAt.{TableAt}
 use Rattle.strip_tables.specs.declared.rows.FollowedRows.{FollowedRows}
 use Rattle.strip_tables.specs.Rows.{LieInBase, syms_in_base, words_in_base, made_of_rows, rows_made}
-use Rattle.strip_tables.specs.Finding.{HoldsKind, IsTableAt, AreItemsAt, no_table, AreWordsAt, HaveFormOf, AreSymbolRows, AreIndexRows, AreRowsOf}
+use Rattle.strip_tables.specs.Finding.{HoldsKind, IsTableAt, AreItemsAt, empty_table, AreWordsAt, HaveFormOf, AreSymbolRows, AreIndexRows, AreRowsOf}
 use Rattle.strip_tables.proofs.PieceLaws.{items_in_front}
 use Rattle.strip_tables.proofs.ReadLaws.{ListsItems, as_words, as_syms, table_items, items_decoded, items_whole}
 
@@ -53,11 +53,11 @@ first_held o s kind is =
 pub whole_items : (len size : ℕ) → len % size ≡ 0 → len / size * size ≡ len
 whole_items len size whole = let all = div-add-mod' len size in omega (arith, all, whole)
 
-pub table_found : (o : Object) (s size at len : ℕ) (r : Option TableAt)
+pub extent_found : (o : Object) (s size at len : ℕ) (r : Option TableAt)
     → (section_at o s).home.out ≡ false → at ≡ (section_at o s).home.at
     → len ≡ (section_at o s).home.len → at + len ≤ length o.base
     → IfSome r (λ t. (t.at ≡ at) × (t.count * size ≡ len)) → IfSome r (IsTableAt o s size)
-table_found o s size at len r out at_is len_is within is =
+extent_found o s size at len r out at_is len_is within is =
     IfSome_then r is (λ t made. record {
       out = out;
       at = made.0 ∙ at_is;
@@ -177,7 +177,7 @@ module _ (o : Object) (x : FollowedRows) (is : IsObject o) (form : HaveFormOf o 
       items_formed as_syms o s x.syms is are x form tied clean
 
   -- the words of a section that may not be there
-  no_words_in : x.words ≡ no_table → words_in_base o.base x ≡ []
+  no_words_in : x.words ≡ empty_table → words_in_base o.base x ≡ []
   unfolding words_in_base
   no_words_in none =
       ap (λ (t : TableAt). items_of (word_of x.class x.order) (item_size kinds.Word x.class)

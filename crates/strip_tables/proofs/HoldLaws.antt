@@ -38,9 +38,9 @@ made_syms_fit class m words syms made fits is =
     ap (λ (l : List Sym). first_unfit class (items.Sym l)) is
     ∙ followed_fit class m words syms fits
 
-pub words_fit : (class : Class) (l : List ℕ) → first_unfit class (items.Word l) ≡ None
+pub made_words_fit : (class : Class) (l : List ℕ) → first_unfit class (items.Word l) ≡ None
 unfolding first_unfit
-words_fit class l = refl
+made_words_fit class l = refl
 
 -- the same items in the same form
 pub form_same : (class : Class) (order : Order) (old new : List ℕ) (made stated : Items)

@@ -17,8 +17,8 @@ pub sizes_add : (a b size : ℕ) → a * size + b * size ≡ (a + b) * size
 sizes_add a b size = sym (add-mul a b size)
 
 -- so many of them, behind so many others
-pub part_fits : (a n count size : ℕ) → a + n ≤ count → a * size + n * size ≤ count * size
-part_fits a n count size within =
+pub sizes_fit : (a n count size : ℕ) → a + n ≤ count → a * size + n * size ≤ count * size
+sizes_fit a n count size within =
     let all = sizes_add a n size in
     let less = mul-le (a + n) size count size within (omega arith) in
     omega (arith, all, less)
@@ -103,7 +103,7 @@ module _ {X : Type 0} (item : List ℕ → X) (size at count from to : ℕ) (bas
       → length (take (rows * size) (drop (at + first * size) base)) ≡ rows * size
   rows_long inside =
       let within : first + rows ≤ count = omega (arith, order) in
-      let fits = part_fits first rows count size within in
+      let fits = sizes_fit first rows count size within in
       let left = length-drop (at + first * size) base in
       length-take-le (rows * size) (drop (at + first * size) base)
       (omega (arith, inside, fits, left))

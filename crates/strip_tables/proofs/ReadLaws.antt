@@ -26,14 +26,14 @@ use Rattle.strip_rebuild.proofs.AskLaws.{asks_as}
 use Rattle.strip_tables.specs.declared.rows.TableAt.{TableAt}
 use Rattle.strip_tables.specs.declared.rows.FollowedRows.{FollowedRows}
 use Rattle.strip_tables.specs.Rows.{LieInBase, items_within, syms_in_base, words_in_base}
-use Rattle.strip_tables.proofs.PieceLaws.{part_fits, listed_all, rows_long, rows_are}
+use Rattle.strip_tables.proofs.PieceLaws.{sizes_fit, listed_all, rows_long, rows_are}
 
 -- ---- Numbers
 
 pub rows_inside : (at count size first rows : ℕ) → first + rows ≤ count
     → at + first * size + rows * size ≤ at + count * size
 rows_inside at count size first rows within =
-    let fits = part_fits first rows count size within in omega (arith, fits)
+    let fits = sizes_fit first rows count size within in omega (arith, fits)
 
 -- ---- Items of a kind
 

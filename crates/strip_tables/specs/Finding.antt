@@ -33,13 +33,13 @@ pub record AreItemsAt (o : Object) (s : ℕ) (kind : Kind) (t : TableAt) : Type 
   pub holds : HoldsKind o s kind
   pub extent : IsTableAt o s (item_size kind o.header.class) t
 
-abbrev pub no_table : TableAt
-no_table = record { at = 0; count = 0 }
+abbrev pub empty_table : TableAt
+empty_table = record { at = 0; count = 0 }
 
 -- the same of words, of which there are none where a number is not that of a section from 1 on
 abbrev pub AreWordsAt : Object → ℕ → TableAt → Type 0
 AreWordsAt o s t =
-    ((is_there o s ≡ false) × (t ≡ no_table))
+    ((is_there o s ≡ false) × (t ≡ empty_table))
     ⊎ ((is_there o s ≡ true) × AreItemsAt o s kinds.Word t)
 
 -- ---- The rows of a section

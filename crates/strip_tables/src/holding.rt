@@ -21,6 +21,9 @@ use strip_stream::hold_items;
 /// How many rows are read at a time.
 const ROWS: u64 = 2_048;
 
+/// The room that is made besides for what is held behind, which headers seldom pass.
+const SPARE: u64 = 65_536;
+
 /// Appends items that fit the class in their file form. It refuses `Memory` alone.
 fn append_items(held: &mut Octets, x: FollowedRows, items: &Items) -> Result<(), ElfError>
     requires { first_unfit x.class items.now ≡ None }
@@ -147,13 +150,15 @@ fn hold_all<S: Source>(
     Ok(())
 }
 
-/// Makes room for what is made. It refuses `Memory` alone.
+/// Makes room for what is made and for what is held behind it, so that what was made is seldom
+/// moved. It refuses `Memory` alone.
 fn reserve_rows(held: &mut Octets, x: FollowedRows) -> Result<(), ElfError>
     ensures same { held.new ≡ held.old }
     ensures err { IfErr result (λ e. e ≡ Memory) }
 {
     let kind = if x.indexes { Kind::Word } else { Kind::Sym };
-    held.reserve(row_count(x).saturating_mul(item_size(kind, x.class)))
+    let len = row_count(x).saturating_mul(item_size(kind, x.class));
+    held.reserve(len.saturating_add(SPARE))
 }
 
 /// Appends the file form of what rows become by the new numbers of the sections: the symbols, or
