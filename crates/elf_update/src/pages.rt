@@ -16,15 +16,26 @@ use std::alloc::Global;
 use std::marker::Model;
 
 /// How many bytes fill a page.
-pub const PAGE_SIZE: usize = 65536;
+pub const PAGE_SIZE: usize = 262144;
 
-/// As many bytes as fill a page. It refuses `Memory` alone.
+/// How many bytes of an image go over a device at a time where it is updated in place.
+const PIECE_SIZE: usize = 65536;
+
+/// So many zeros. It refuses `Memory` alone.
+fn zero_bytes(alloc: Global, count: usize) -> Result<Vec<u8>, ElfError>
+    ensures ok { IfOk result (λ bytes. length bytes.items ≡ count) }
+    ensures err { IfErr result (λ e. e ≡ Memory) }
+{
+    let bytes = vec![in alloc; 0u8; count]?;
+    Ok(bytes)
+}
+
+/// The bytes by which an update in place goes over the device. It refuses `Memory` alone.
 pub fn page_bytes(alloc: Global) -> Result<Vec<u8>, ElfError>
     ensures ok { IfOk result (λ bytes. length bytes.items ≡ 65536) }
     ensures err { IfErr result (λ e. e ≡ Memory) }
 {
-    let bytes = vec![in alloc; 0u8; PAGE_SIZE]?;
-    Ok(bytes)
+    zero_bytes(alloc, PIECE_SIZE)
 }
 
 /// A page. Contracts see it as the bytes that wait in it, which are at most [`PAGE_SIZE`].
@@ -41,7 +52,7 @@ impl Model for Page {
 
     ghost view = { λ p. take p.used p.bytes.items };
 
-    ghost invariant = { λ p. (p.used ≤ 65536) × (length p.bytes.items ≡ 65536) };
+    ghost invariant = { λ p. (p.used ≤ 262144) × (length p.bytes.items ≡ 262144) };
 }
 
 impl Page {
@@ -50,7 +61,7 @@ impl Page {
         ensures ok { IfOk result (λ page. page ≡ []) }
         ensures err { IfErr result (λ e. e ≡ Memory) }
     {
-        match page_bytes(alloc) {
+        match zero_bytes(alloc, PAGE_SIZE) {
             Ok(bytes) => Ok(Page { bytes, used: 0 }),
             Err(e) => Err(e),
         }
@@ -58,8 +69,8 @@ impl Page {
 
     /// How many bytes more fit.
     pub fn room(&self) -> usize
-        ensures room { result ≡ 65536 - length self.now }
-        ensures fits { length self.now ≤ 65536 }
+        ensures room { result ≡ 262144 - length self.now }
+        ensures fits { length self.now ≤ 262144 }
     {
         PAGE_SIZE - self.used
     }
@@ -83,7 +94,7 @@ impl Page {
     /// Puts the page where it is full. It refuses `Write` alone and takes no memory.
     pub fn turn<K: Sink>(&mut self, sink: &mut K) -> Result<(), ElfError>
         ensures flows { Flows K.Sink result sink.old sink.new self.old self.new [] }
-        ensures room { OnOk result (length self.new < 65536) }
+        ensures room { OnOk result (length self.new < 262144) }
         ensures err { IfErr result (λ e. e ≡ Write) }
     {
         if self.used < PAGE_SIZE {
@@ -94,7 +105,7 @@ impl Page {
 
     /// Has so many times a byte wait, which fit.
     pub fn push_same(&mut self, byte: u8, count: usize)
-        requires { length self.old + count ≤ 65536 }
+        requires { length self.old + count ≤ 262144 }
         ensures { self.new ≡ self.old ++ replicate count byte }
     {
         let used = self.used;
@@ -114,7 +125,7 @@ impl Page {
         requires ready { ReadyFor (P.ready (P.kept parts.old)) of }
         requires there { from + count ≤ length (origin_text P.ImageParts parts.old of) }
         requires small { from + count < 2 ^ 64 }
-        requires room { length self.old + count ≤ 65536 }
+        requires room { length self.old + count ≤ 262144 }
         ensures waits { OnOk result (WaitsMore (P.told (P.kept parts.old))
             (take count (drop from (origin_text P.ImageParts parts.old of))) self.old self.new) }
         ensures unchanged { OnErr result (self.new ≡ self.old) }

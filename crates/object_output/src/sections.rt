@@ -46,8 +46,8 @@ pub trait SectionTool {
 
 /// Gives a tool's report on each section, by number. The answer tells whether something was
 /// refused. Where the homes are longer together than the image, so that some overlap, each section
-/// is let go behind its report: what is held is that section, and of the others those alone that a
-/// later one names. Then the pass may ask for each home once more.
+/// is let go behind its report: what is held is that section, and those that one gone over links
+/// to, until the pass comes to them. Then the pass may ask for each home once more.
 pub fn each_section<T: SectionTool, S: Source, O: Sink, E: Sink>(
     tool: &T,
     elf: &mut Elf<S>,

@@ -6,14 +6,14 @@ use test_images::OBJECT;
 use test_runs::{DONE, Ending, Failing, NOTHING};
 use tool_output::Status;
 
-/// A script whose image has two pages: a piece stands at 65,536 in section 1, behind fill bytes.
-const SCRIPT: &[u8] = b"fill 0xaa\nnewdata 1 62 65536\n";
+/// A script whose image has two pages: a piece stands at 262,144 in section 1, behind fill bytes.
+const SCRIPT: &[u8] = b"fill 0xaa\nnewdata 1 62 262144\n";
 
 /// A run of that script, which leaves its image.
 const LONG: Case = Case {
     script: Stored::Bytes(SCRIPT),
     ending: Ending {
-        out: b"ok\npiece 1 1\nsize 65848\n",
+        out: b"ok\npiece 1 1\nsize 262456\n",
         ..DONE
     },
     held: Held::Now(Stored::Left(Earlier {
@@ -30,7 +30,7 @@ static WHOLE: Case = Case { ..LONG };
 
 /// The same; the image has so many bytes.
 static LENGTH: Case = Case {
-    held: Held::Length(65_848),
+    held: Held::Length(262_456),
     ..LONG
 };
 
