@@ -76,13 +76,13 @@ const DATA: Shdr = Shdr {
     ..NULL_SECTION
 };
 
-/// The same, which is to stand at a multiple of 131,072.
+/// The same, which is to stand at a multiple of 524,288.
 const FAR_DATA: Shdr = Shdr {
-    addralign: 131_072,
+    addralign: 524_288,
     ..DATA
 };
 
-/// An object with debug data, section 2, which strip removes by its name and which stands at 131,072
+/// An object with debug data, section 2, which strip removes by its name and which stands at 524,288
 /// in an image whose parts are placed anew.
 const FAR: Recipe = Recipe {
     form: WIDE,
@@ -96,18 +96,18 @@ const FAR: Recipe = Recipe {
 /// That image.
 const FAR_HALF: Recipe = Recipe {
     form: WIDE,
-    start: Start::Table(131_080, 3, 1),
+    start: Start::Table(524_296, 3, 1),
     puts: &[
         Put::Sections(&[
             NULL_SECTION,
             NAMES,
             Shdr {
-                offset: 131_072,
+                offset: 524_288,
                 ..FAR_DATA
             },
         ]),
         Put::Bytes(64, b"\0.debug\0"),
-        Put::Bytes(131_072, b"data"),
+        Put::Bytes(524_288, b"data"),
     ],
 };
 
