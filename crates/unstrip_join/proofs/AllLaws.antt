@@ -26,14 +26,14 @@ use Rattle.unstrip_join.proofs.MoreLaws.{more_none, more_both, more_as, more_cou
 
 module _ (refusal : ℕ → Option UnstripFault) (s : ℕ) (first : 1 ≤ s)
     (none : first_refusal (map refusal (range_with_len 1 (s - 1))) ≡ None) where
-  passed_more : refusal s ≡ None
+  pub passed_more : refusal s ≡ None
       → first_refusal (map refusal (range_with_len 1 (s + 1 - 1))) ≡ None
   passed_more here =
       ap (λ (l : List ℕ). first_refusal (map refusal l)) (numbers_next s first)
       ∙ ap first_refusal (map-append refusal (range_with_len 1 (s - 1)) (s ∷ []))
       ∙ passed_later (map refusal (range_with_len 1 (s - 1))) (refusal s) none here
 
-  met_here : (n : ℕ) → s < n → (f : UnstripFault) → refusal s ≡ Some f
+  pub met_here : (n : ℕ) → s < n → (f : UnstripFault) → refusal s ≡ Some f
       → first_refusal (map refusal (range_with_len 1 (n - 1))) ≡ Some f
   met_here n there f here =
       let after = map refusal (numbers_after n s first there) in

@@ -35,14 +35,14 @@ use Rattle.unstrip_join.proofs.FaultLaws.{elf_fault, debug_fault, fault_on, faul
 -- ---- The sections with section 0
 
 module _ (a b : Object) where
-  combined_none : length b.sections ≡ 0 → combined_sections a b ≡ []
+  pub combined_none : length b.sections ≡ 0 → combined_sections a b ≡ []
   combined_none none = ap (λ (n : ℕ). map (combined_section a b) (range_with_len 0 n)) none
 
   combined_first : combined_section a b 0 ≡ new_section
   unfolding combined_section
   combined_first = refl
 
-  combined_some : 0 < length b.sections
+  pub combined_some : 0 < length b.sections
       → new_section ∷ map (combined_section a b) (section_numbers b) ≡ combined_sections a b
   combined_some some = by_count (length b.sections) some
     where
@@ -129,13 +129,13 @@ alone_fault None = refl
 alone_fault (Some f) = refl
 
 module _ (a b : Object) where
-  abbrev segments_fault : Option ElfError
+  abbrev pub segments_fault : Option ElfError
   segments_fault = newphdr_refusal (length a.phdrs)
 
-  abbrev sections_fault : Option UnstripFault
+  abbrev pub sections_fault : Option UnstripFault
   sections_fault = first_refusal (map (combined_raw_refusal a b) (section_numbers b))
 
-  abbrev header_fault : Option ElfError
+  abbrev pub header_fault : Option ElfError
   header_fault = index_refusal a (combined_sections a b) b.header.shstrndx
 
   pub combine_mismatch : matches a b ≡ false → combine_fault a b ≡ Some stated.Mismatch
@@ -155,7 +155,7 @@ module _ (a b : Object) where
         ∷ option_map stated.Elf segments_fault ∷ sections_fault
         ∷ option_map stated.Debug header_fault ∷ [])) same
 
-    segments_refused : (e : ElfError) → RefusedBy segments_fault e
+    pub segments_refused : (e : ElfError) → RefusedBy segments_fault e
         → FaultBy (combine_fault a b) (stated.Elf e)
     segments_refused e by =
         fault_on (option_map stated.Elf segments_fault) (combine_fault a b) (stated.Elf e)
@@ -172,7 +172,7 @@ module _ (a b : Object) where
           ∙ ap (λ (r : Option ElfError). first_refusal (option_map stated.Elf r ∷ sections_fault
           ∷ option_map stated.Debug header_fault ∷ [])) passed
 
-      sections_refused : (f : UnstripFault) → FaultBy sections_fault f
+      pub sections_refused : (f : UnstripFault) → FaultBy sections_fault f
           → FaultBy (combine_fault a b) f
       sections_refused f by =
           fault_on sections_fault (combine_fault a b) f
@@ -180,7 +180,7 @@ module _ (a b : Object) where
           ∙ ap (λ (r : Option UnstripFault).
           first_refusal (r ∷ option_map stated.Debug header_fault ∷ [])) is) by
 
-      combine_third : sections_fault ≡ None
+      pub combine_third : sections_fault ≡ None
           → combine_fault a b ≡ option_map stated.Debug header_fault
       combine_third none =
           combine_second

@@ -99,13 +99,13 @@ module _ (a b : Object) where
 
   -- ---- Answers
 
-  unstripped_refused : (f : UnstripFault) → combine_fault a b ≡ Some f → unstripped a b ≡ Err f
+  pub unstripped_refused : (f : UnstripFault) → combine_fault a b ≡ Some f → unstripped a b ≡ Err f
   unfolding unstripped
   unstripped_refused f is =
       ap (λ (r : Option UnstripFault).
       answered r (made_of (combined_object a b) (combined_tail a)) >>= λ r. or_elf (arranged r)) is
 
-  unstripped_passed : combine_fault a b ≡ None
+  pub unstripped_passed : combine_fault a b ≡ None
       → unstripped a b ≡ or_elf (arranged (made_of (combined_object a b) (combined_tail a)))
   unfolding unstripped
   unstripped_passed is =

@@ -1,8 +1,8 @@
-mod FaultLaws
-mod LoadedLaws
-mod MatchLaws
+pub mod FaultLaws
+pub mod LoadedLaws
+pub mod MatchLaws
 mod MoreLaws
-mod NextLaws
-mod AllLaws
-mod FilledLaws
-mod JoinLaws
+pub mod NextLaws
+pub mod AllLaws
+pub mod FilledLaws
+pub mod JoinLaws

@@ -31,7 +31,7 @@ use Rattle.unstrip_join.proofs.MoreLaws.{more_as, more_told}
 -- ---- What is stated of one
 
 module _ (a b : Object) (s : ℕ) (first : 1 ≤ s) where
-  abbrev section_by : Option ℕ → Section
+  abbrev pub section_by : Option ℕ → Section
   section_by found = elim found [
     | None ↦ made_section (header_at b s) (items.Bytes (section_at b s).raw)
     | Some t ↦ made_section
@@ -39,7 +39,7 @@ module _ (a b : Object) (s : ℕ) (first : 1 ≤ s) where
         (items.Bytes (section_at a t).raw)
   ]
 
-  combined_by : (found : Option ℕ) → counterpart a b s ≡ found
+  pub combined_by : (found : Option ℕ) → counterpart a b s ≡ found
       → combined_section a b s ≡ section_by found
   unfolding combined_section
   combined_by found is =
@@ -47,13 +47,13 @@ module _ (a b : Object) (s : ℕ) (first : 1 ≤ s) where
       (ne_eqb s 0 (λ none. omega (arith, none, first)))
       ∙ ap section_by is
 
-  abbrev refusal_by : Option ℕ → Option UnstripFault
+  abbrev pub refusal_by : Option ℕ → Option UnstripFault
   refusal_by found = elim found [
     | None ↦ option_map stated.Debug (raw_refusal b s)
     | Some t ↦ option_map stated.Elf (raw_refusal a t)
   ]
 
-  refused_by : (found : Option ℕ) → counterpart a b s ≡ found
+  pub refused_by : (found : Option ℕ) → counterpart a b s ≡ found
       → combined_raw_refusal a b s ≡ refusal_by found
   unfolding combined_raw_refusal
   refused_by found is = ap refusal_by is

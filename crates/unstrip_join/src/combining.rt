@@ -23,7 +23,7 @@ use strip_removed::is_allocated;
 
 /// The header of an allocated section: that of the debug half, with the type and the place of the
 /// stripped half.
-fn loaded_header(debug: &Shdr, stripped: &Shdr) -> Shdr
+pub fn loaded_header(debug: &Shdr, stripped: &Shdr) -> Shdr
     ensures { result ≡ loaded_header debug.now stripped.now }
 {
     Shdr {

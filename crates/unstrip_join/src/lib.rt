@@ -10,5 +10,8 @@ mod joining;
 mod loaded;
 mod matching;
 
+pub use combining::loaded_header;
 pub use faults::UnstripFault;
 pub use joining::unstrip;
+pub use loaded::allocated;
+pub use matching::{are_halves, number_at};

@@ -44,7 +44,7 @@ fn push_all<S: Source>(elf: &Elf<S>, numbers: &mut Words) -> Result<(), ElfError
 }
 
 /// The numbers of the allocated sections from 1 on, ascending. It refuses `Memory` alone.
-pub(crate) fn allocated<S: Source>(alloc: Global, elf: &Elf<S>) -> Result<Words, ElfError>
+pub fn allocated<S: Source>(alloc: Global, elf: &Elf<S>) -> Result<Words, ElfError>
     ensures ok { IfOk result (λ numbers. numbers ≡ allocated elf.now.o) }
     ensures err { IfErr result (λ e. e ≡ Memory) }
 {

@@ -122,7 +122,7 @@ fn same_loaded(a: &Shdr, b: &Shdr) -> bool
 }
 
 /// The number at an index of a list.
-pub(crate) fn number_at(numbers: &[u32], i: usize) -> u32
+pub fn number_at(numbers: &[u32], i: usize) -> u32
     requires { i < length numbers.now }
     ensures { slice_get numbers.now i ≡ Some result }
 {
@@ -187,7 +187,7 @@ fn matches<S: Source, T: Source>(
 
 /// Whether two objects are halves of one program: their headers, their program headers and their
 /// allocated sections from 1 on tell. It refuses `Memory` alone.
-pub(crate) fn are_halves<S: Source, T: Source>(
+pub fn are_halves<S: Source, T: Source>(
     alloc: Global,
     stripped: &Elf<S>,
     loaded: &[u32],
