@@ -1,0 +1,57 @@
+use Rattle.std.proofs.Common.{sym, ap, ◌∙◌, arith}
+use Rattle.command_objects.specs.Words.{is_allocated}
+use Rattle.unstrip_join.proofs.LoadedLaws.{number_there}
+use Rattle.unstrip_join.proofs.NextLaws.{taken_there, taken_few}
+use Rattle.join_contents.proofs.AddLaws.{loaded_added, loaded_refused, own_added, own_refused}
+use Rattle.join_contents.proofs.adding.add_next.Goals as goal
+
+pub number_at-requires : goal.number_at-requires
+number_at-requires g c =
+    taken_there c.args.stripped.now.o c.args.debug.now.o c.args.s.0 c.args.taken
+    c.args.loaded.now c.requires.matches c.requires.first c.requires.there
+    (sym (ap is_allocated c.section_header-header.ensures) ∙ sym c.is_allocated.ensures
+    ∙ c.if-is_allocated.true) c.requires.taken c.requires.loaded
+
+pub add_loaded-requires-clause-there : goal.add_loaded-requires-clause-there
+add_loaded-requires-clause-there g c =
+    number_there c.args.stripped.now.o c.args.loaded.now c.args.taken c.number_at.result
+    c.requires.loaded c.number_at.ensures
+
+pub overflow_add-result : goal.overflow_add-result
+overflow_add-result g c =
+    let few = taken_few c.args.debug.now.o c.args.s.0 c.args.taken c.requires.first
+    c.requires.there c.requires.debug.object c.requires.taken in
+    omega (arith, few)
+
+pub returns-in-Ok : goal.returns-in-Ok
+returns-in-Ok g c =
+    loaded_added c.args.stripped.now c.args.debug.now c.args.s.0 c.args.taken c.requires.first
+    c.requires.there c.requires.taken c.section_header-header.result
+    c.section_header-header.ensures c.is_allocated.result c.is_allocated.ensures
+    c.args.contents.now c.add_loaded.new.contents c.if-is_allocated.true c.args.loaded.now
+    c.requires.loaded c.number_at.result c.number_at.ensures
+    (c.in-Ok.ensures c.args.debug.now.o.base)
+
+pub returns-in-Err : goal.returns-in-Err
+returns-in-Err g c =
+    loaded_refused c.args.stripped.now c.args.debug.now c.args.s.0 c.args.taken c.requires.first
+    c.requires.there c.requires.taken c.section_header-header.result
+    c.section_header-header.ensures c.is_allocated.result c.is_allocated.ensures
+    c.args.contents.now c.add_loaded.new.contents c.if-is_allocated.true c.args.loaded.now
+    c.requires.loaded c.number_at.result c.number_at.ensures c.in-Err.e
+    (c.in-Err.ensures c.args.debug.now.o.base)
+
+pub returns-in-Ok-add_own : goal.returns-in-Ok-add_own
+returns-in-Ok-add_own g c =
+    own_added c.args.stripped.now c.args.debug.now c.args.s.0 c.args.taken c.requires.first
+    c.requires.there c.requires.taken c.section_header-header.result
+    c.section_header-header.ensures c.is_allocated.result c.is_allocated.ensures
+    c.args.contents.now c.add_own.new.contents c.if-is_allocated.false c.in-Ok-add_own.ensures
+
+pub returns-in-Err-add_own : goal.returns-in-Err-add_own
+returns-in-Err-add_own g c =
+    own_refused c.args.stripped.now c.args.debug.now c.args.s.0 c.args.taken c.requires.first
+    c.requires.there c.requires.taken c.section_header-header.result
+    c.section_header-header.ensures c.is_allocated.result c.is_allocated.ensures
+    c.args.contents.now c.add_own.new.contents c.if-is_allocated.false c.in-Err-add_own.e
+    c.in-Err-add_own.ensures

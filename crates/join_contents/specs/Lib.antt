@@ -1,0 +1,3 @@
+pub mod Ranges
+pub mod Keeping
+pub mod Joining

@@ -1,0 +1,41 @@
+//! The plan of what was kept.
+
+ghost use Rattle.std.specs.Prelude.{◌≡◌, None};
+ghost use Rattle.command_objects.specs.Split.{combine_fault};
+ghost use Rattle.strip_laws.specs.Made.{FitsClass};
+ghost use Rattle.join_contents.specs.Ranges.{IsUnchanged};
+ghost use Rattle.join_contents.specs.Keeping.{HasJoined};
+ghost use Rattle.join_contents.specs.Joining.{PlansCombined};
+
+use elf_descriptor::Elf;
+use elf_outside::Source;
+use elf_types::ElfError;
+use std::alloc::Global;
+use strip_contents::{Contents, RangedPlan, arrange_contents, plan_arranged};
+use strip_rebuild::tail_of;
+use strip_removed::SectionSet;
+
+/// The plan of what was kept of two halves: over the base of the stripped one up to its tail, with
+/// its header and its program headers, and the string index of the debug half. It refuses
+/// `TooLarge` where a place behind the base passes the limit; then as the update of that object:
+/// `Overlap`, `TooLarge`; and `Memory`. It reads nothing.
+pub(crate) fn plan_combined<S: Source, T: Source>(
+    alloc: Global,
+    stripped: &Elf<S>,
+    debug: &Elf<T>,
+    contents: Contents,
+) -> Result<RangedPlan, ElfError>
+    requires stripped { IsUnchanged stripped.now }
+    requires debug { IsUnchanged debug.now }
+    requires fits { FitsClass stripped.now.o }
+    requires contents { HasJoined stripped.now debug.now contents }
+    requires passed { combine_fault stripped.now.o debug.now.o ≡ None }
+    ensures { PlansCombined stripped.now debug.now result }
+{
+    let tail = tail_of(stripped, &SectionSet::none(alloc));
+    let index = debug.shstrndx();
+    match arrange_contents(alloc, stripped, contents, index, tail) {
+        Ok(x) => plan_arranged(alloc, stripped, x),
+        Err(e) => Err(e),
+    }
+}
