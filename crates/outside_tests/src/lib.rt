@@ -1,11 +1,13 @@
-//! The tests of sources, devices, sinks and sets of files, over their contracts alone. They stand
-//! in a crate of their own, since a crate with tests is proved twice.
+//! The tests of sources, pairs of them, devices, sinks and sets of files, over their contracts
+//! alone. They stand in a crate of their own, since a crate with tests is proved twice.
 #![tactic(auto)]
 
 #[cfg(test)]
 mod devices;
 #[cfg(test)]
 mod files;
+#[cfg(test)]
+mod pairs;
 #[cfg(test)]
 mod read_ahead;
 #[cfg(test)]

@@ -1,0 +1,49 @@
+//! Two sources, one behind the other, as a source.
+
+use crate::sources::source;
+use crate::steps::{Read, reads_all};
+use elf_outside::Source;
+use source_pair::SourcePair;
+use std::alloc::Global;
+
+/// Reads of a pair of three bytes and five: of each alone, and across their border, where a read
+/// fails of the first and then one of the second; of all bytes, and at the end.
+static READS: [Read; 7] = [
+    (0, 3, Some(b"abc")),
+    (3, 5, Some(b"defgh")),
+    (1, 4, None),
+    (2, 3, None),
+    (0, 8, Some(b"abcdefgh")),
+    (8, 0, Some(b"")),
+    (3, 1, Some(b"d")),
+];
+
+/// Two sources, and whether their pair is read so.
+fn reads_pair<S: Source, T: Source>(first: S, second: T) -> ((S, T), bool) {
+    if first.len() != 3 || second.len() != 5 {
+        return ((first, second), false);
+    }
+    let mut pair = SourcePair::new(first, second);
+    let stated = pair.len() == 8 && reads_all(&mut pair, &READS);
+    (pair.into_parts(), stated)
+}
+
+/// Whether a pair reads both of its sources, across their border also where the first fails, and
+/// gives them back.
+fn pair_reads(alloc: Global) -> bool {
+    let Ok(first) = source(alloc, b"abc", &[2]) else {
+        return false;
+    };
+    match source(alloc, b"defgh", &[3]) {
+        Ok(second) => {
+            let ((first, second), stated) = reads_pair(first, second);
+            stated && first.asked() == 9 && second.asked() == 15
+        }
+        Err(_) => false,
+    }
+}
+
+#[test]
+fn a_pair_reads_both_of_its_sources(rt: HostRuntime) {
+    assert!(rt; pair_reads(rt.alloc()));
+}

@@ -1,0 +1,2 @@
+mod PairLaws
+pub mod LeaveLaws
