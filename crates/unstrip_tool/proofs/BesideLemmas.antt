@@ -1,11 +1,10 @@
 -- An image that is begun over an open file, and a step with its object.
-use Rattle.std.proofs.Common.{◌≡◌, ◌⊎◌, inl, inr, ℕ, Bool, List, codes, Option, Some, None, Result, Ok, Err, IfSome, IsSome, IsTrue, refl, ap, arith}
+use Rattle.std.proofs.Common.{◌≡◌, ◌<◌, ℕ, Bool, List, codes, Option, Some, None, Result, Ok, Err, IfSome, IsSome, IsTrue, refl, ap}
 use Rattle.std.specs.Prelude.{is_some}
 use Rattle.elf_types.specs.declared.errors.ElfError.{ElfError}
 use Rattle.elf_types.specs.Answers.{Follows, stated_refusal, ◌>>=◌}
 use Rattle.elf_types.specs.Text.{error_text}
-use Rattle.elf_outside.specs.Asks.{Asks}
-use Rattle.elf_outside.specs.Counts.{Rose}
+use Rattle.elf_outside.specs.Asks.{Asks, Leaves}
 use Rattle.elf_outside.specs.declared.sources.Source.{Ghosts as SourceGhosts}
 use Rattle.elf_outside.specs.declared.sinks.Sink.{Ghosts as SinkGhosts}
 use Rattle.elf_outside.specs.declared.file_sets.Files.{Ghosts as FilesGhosts}
@@ -17,54 +16,32 @@ use Rattle.tool_output.specs.Names.{file_name}
 use Rattle.tool_output.specs.Made.{Done, Complaint, complaint, of_file}
 use Rattle.object_output.specs.Images.{file_object}
 use Rattle.object_output.specs.Refusals.{Refuses}
-use Rattle.object_output.specs.Steps.{SourceRose}
-use Rattle.object_output.proofs.SourceSteps.{leaves_then}
 use Rattle.object_writing.proofs.WriteLemmas.{DoesHere, refused_does, refused_leaves}
-use Rattle.unstrip_tool.specs.Joins.{held_object, IsRead, WritesBeside}
-use Rattle.unstrip_tool.proofs.CauseLemmas.{leaves_by}
+use Rattle.unstrip_tool.specs.Joins.{held_object, WritesBeside}
+use Rattle.unstrip_tool.proofs.CauseLemmas.{rose_some}
 
--- ---- What is left of an open file
-
-pub read_none : {S : Type 0} (g : SourceGhosts S) (a : S) → IsRead g a a
-read_none g a = record {
-  leaves = record { same_len = refl; same_bytes = refl; same_rest = refl };
-  later = omega arith;
-}
-
-pub asks_read : {S T : Type 0} (g : SourceGhosts S) (r : Result T ElfError) (a b : S) (n : ℕ)
-    → Asks g r a b n → IsRead g a b
-asks_read g r a b n asks = record { leaves = asks.leaves; later = asks.later }
-
-pub read_then : {S : Type 0} (g : SourceGhosts S) (a b c : S) → IsRead g a b → IsRead g b c
-    → IsRead g a c
-read_then g a b c first second = record {
-  leaves = leaves_then g a b c first.leaves second.leaves;
-  later = let one = first.later in let two = second.later in omega (arith, one, two);
-}
-
--- ---- The image of an open file
+-- a source that nothing was done with
+pub same_source : {S : Type 0} (g : SourceGhosts S) (a : S) → Leaves g a a
+same_source g a = record { same_len = refl; same_bytes = refl; same_rest = refl }
 
 module _ {S F D O E : Type 0} (g : SourceGhosts S) (f : FilesGhosts F D) (o : SinkGhosts O)
     (e : SinkGhosts E) (file : List ℕ) (done : Object → Result Done Complaint) (opens : ℕ)
-    (P known : Type 0) (src : S) (there : known → IsSome (g.holds src)) where
+    (causes known : Type 0) (src : S) (there : known → IsSome (g.holds src)) where
   abbrev stated : Option (List ℕ) → Result Done Complaint
   stated held = held_object file held >>= done
 
   -- it is an object
-  pub begun_writes : (before : Type 0) (begun new : State S) (n : ℕ) (r : Result Bool Stop)
-      (a b : F) (s t : Outputs O E)
-      → Asks {T = Object} g (Ok begun.o) src begun.source n
+  pub begun_writes : (before : Type 0) (begun : State S) (r : Result Bool Stop) (a b : F)
+      (s t : Outputs O E)
       → IfSome (g.holds src) (λ bytes. Follows (Ok begun.o) (file_object bytes))
       → begun.told ≡ is_some (g.holds src) → (known → IsTrue begun.told → before)
-      → WritesBeside f o e opens (P ⊎ SourceRose g begun new) before (done begun.o) r a b s t
-      → WritesBeside f o e opens (P ⊎ Rose (g.faults src) (g.faults new.source)) known
-      (stated (g.holds src)) r a b s t
-  begun_writes before begun new n r a b s t asks answer told knows inner = record {
+      → WritesBeside f o e opens causes before (done begun.o) r a b s t
+      → WritesBeside f o e opens causes known (stated (g.holds src)) r a b s t
+  begun_writes before begun r a b s t answer told knows inner = record {
     does = λ tells k.
         by (g.holds src) answer told (there k) (λ is. inner.does tells (knows k is));
     live = inner.live;
-    leaves = leaves_by f o e (P ⊎ SourceRose g begun new)
-        (P ⊎ Rose (g.faults src) (g.faults new.source)) r a b s t cause inner.leaves;
+    leaves = inner.leaves;
   }
     where
       by : (held : Option (List ℕ))
@@ -75,25 +52,21 @@ module _ {S F D O E : Type 0} (g : SourceGhosts S) (f : FilesGhosts F D) (o : Si
       by None is told_is some next = cc
       by (Some bytes) is told_is some next = rw is (next told_is)
 
-      cause : P ⊎ SourceRose g begun new → P ⊎ Rose (g.faults src) (g.faults new.source)
-      cause (inl p) = inl p
-      cause (inr rose) = inr (let first = asks.later in omega (arith, first, rose))
-
   -- it is none, or an archive
   pub begun_refused : (after : S) (n : ℕ) (d : ElfError) (r : Result Bool Stop) (a : F)
       (s t : Outputs O E) → Asks {T = Object} g (Err d) src after n
       → IfSome (g.holds src) (λ bytes. Follows {T = Object} (Err d) (file_object bytes))
+      → (0 < g.faults after → causes)
       → Refuses o e (codes "unstrip") (file_name file) d r s t
-      → WritesBeside f o e opens (P ⊎ Rose (g.faults src) (g.faults after)) known
-      (stated (g.holds src)) r a a s t
-  begun_refused after n d r a s t asks answer h = record {
+      → WritesBeside f o e opens causes known (stated (g.holds src)) r a a s t
+  begun_refused after n d r a s t asks answer cause h = record {
     does = λ tells k.
         refused_does f o e (codes "unstrip") file d (stated (g.holds src)) r a s t tells
         (failed (g.holds src) answer (there k)) h;
     live = λ small. refl;
-    leaves = refused_leaves f o e (codes "unstrip")
-        (P ⊎ Rose (g.faults src) (g.faults after)) Object d file (g.faults src) (g.faults after)
-        r a s t asks.read (λ rose. inr rose) h;
+    leaves = refused_leaves f o e (codes "unstrip") causes Object d file (g.faults src)
+        (g.faults after) r a s t asks.read
+        (λ rose. cause (rose_some (g.faults src) (g.faults after) rose)) h;
   }
     where
       refused : (q : Result Object ElfError) (c : Option ElfError) → IfSome c (λ x. q ≡ Err x)

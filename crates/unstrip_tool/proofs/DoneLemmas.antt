@@ -8,45 +8,68 @@ use Rattle.elf_outside.specs.Names.{Map}
 use Rattle.elf_object.specs.Object.{Object}
 use Rattle.command_objects.specs.Arranged.{Rebuilt}
 use Rattle.command_objects.specs.Files.{file_of}
-use Rattle.command_objects.specs.Split.{unstripped, UnstripFault}
+use Rattle.command_objects.specs.Split.{unstripped, or_elf, UnstripFault}
 use Rattle.command_objects.specs.Split.{UnstripFault as stated}
 use Rattle.command_outcomes.specs.Files.{bytes_named, object_named}
-use Rattle.command_outcomes.specs.Strip.{unstrip_complaint, unstrip_done, unstrip_outcome}
+use Rattle.command_outcomes.specs.Strip.{unstrip_complaint, or_complaint, unstrip_done, unstrip_outcome}
 use Rattle.tool_output.specs.Outcomes.{write_of}
-use Rattle.tool_output.specs.Made.{Done, Complaint, complaint, of_file, written_outcome}
+use Rattle.tool_output.specs.Made.{Done, Complaint, made, complaint, of_file, written_outcome}
 use Rattle.object_writing.proofs.NamedLemmas.{unwritten}
+use Rattle.join_contents.specs.Joining.{file_joined}
 use Rattle.unstrip_join.specs.Answers.{UnstripAnswers}
 use Rattle.unstrip_tool.specs.declared.names.HalfNames.{HalfNames}
 use Rattle.unstrip_tool.specs.Joins.{joined_done, objects_done, held_object, debug_done, halves_joined}
 
+-- ---- By the bytes of the file
+
+-- the file of what two halves are joined to, or why there is none
+abbrev pub bytes_done : List ℕ → HalfNames → Result (List ℕ) UnstripFault → Result Done Complaint
+bytes_done out names r =
+    or_complaint (unstrip_complaint names.stripped.now names.debug.now) r
+    >>= λ bytes. Ok (made out bytes)
+
+module _ (out : List ℕ) (names : HalfNames) where
+  -- what the update refuses is refused of the stripped half
+  update_is : (q : Result (List ℕ) ElfError)
+      → (of_file names.stripped.now q >>= λ bytes. Ok (made out bytes))
+      ≡ bytes_done out names (or_elf q)
+  unfolding unstrip_complaint
+  update_is (Ok bytes) = refl
+  update_is (Err e) = refl
+
+  pub joined_is : (r : Result Rebuilt UnstripFault)
+      → joined_done out names r ≡ bytes_done out names (file_joined r)
+  joined_is (Ok m) = update_is (file_of m.object)
+  joined_is (Err fault) = refl
+
 -- ---- A fault
 
-module _ (out : List ℕ) (names : HalfNames) (came : Result Rebuilt UnstripFault) where
+module _ (out : List ℕ) (names : HalfNames) (came : Result (List ℕ) UnstripFault) where
   -- on the stripped half, or on what is made
-  pub elf_stated : (e : ElfError) → UnstripAnswers (Err (stated.Elf e)) came
+  pub elf_stated : (e : ElfError) → UnstripAnswers {A = List ℕ} (Err (stated.Elf e)) came
       → IfSome (stated_refusal e)
-      (λ d. joined_done out names came ≡ Err (complaint names.stripped.now (error_text d)))
+      (λ d. bytes_done out names came ≡ Err (complaint names.stripped.now (error_text d)))
   unfolding unstrip_complaint
   elf_stated error.Memory h = tt
   elf_stated error.Read h = tt
   elf_stated error.Write h = absurd h
-  elf_stated e h = ap (joined_done out names) h
+  elf_stated e h = ap (bytes_done out names) h
 
   -- on the debug half
-  pub debug_stated : (e : ElfError) → UnstripAnswers (Err (stated.Debug e)) came
+  pub debug_stated : (e : ElfError) → UnstripAnswers {A = List ℕ} (Err (stated.Debug e)) came
       → IfSome (stated_refusal e)
-      (λ d. joined_done out names came ≡ Err (complaint names.debug.now (error_text d)))
+      (λ d. bytes_done out names came ≡ Err (complaint names.debug.now (error_text d)))
   unfolding unstrip_complaint
   debug_stated error.Memory h = tt
   debug_stated error.Read h = tt
   debug_stated error.Write h = absurd h
-  debug_stated e h = ap (joined_done out names) h
+  debug_stated e h = ap (bytes_done out names) h
 
-  pub mismatch_stated : UnstripAnswers (Err stated.Mismatch) came
-      → joined_done out names came
+  pub mismatch_stated : UnstripAnswers {A = List ℕ} (Err stated.Mismatch) came
+      → bytes_done out names came
       ≡ Err (complaint names.stripped.now (codes "files do not match"))
   unfolding unstrip_complaint
-  mismatch_stated h = ap (joined_done out names) h
+  mismatch_stated h = ap (bytes_done out names) h
 
 -- ---- The file that is written
 

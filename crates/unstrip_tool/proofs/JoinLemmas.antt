@@ -1,6 +1,6 @@
 -- Two objects that are joined, and the file of what is made, or the message that says why there is
 -- none.
-use Rattle.std.proofs.Common.{◌≡◌, ◌⊎◌, inl, inr, ℕ, Bool, true, List, codes, Result, Ok, Err, IfSome, IsTrue, refl, sym, ap, ◌∙◌, subst, arith}
+use Rattle.std.proofs.Common.{◌≡◌, ◌⊎◌, ◌<◌, ◌∷◌, ◌++◌, ℕ, Bool, List, [], codes, Result, Ok, Err, IfSome, IsTrue, refl, sym, ap, ◌∙◌, subst, arith}
 use Rattle.elf_types.specs.declared.errors.ElfError.{ElfError}
 use Rattle.elf_types.specs.Answers.{stated_refusal}
 use Rattle.elf_types.specs.Text.{error_text}
@@ -9,108 +9,122 @@ use Rattle.elf_outside.specs.Counts.{Rose}
 use Rattle.elf_outside.specs.declared.sources.Source.{Ghosts as SourceGhosts}
 use Rattle.elf_outside.specs.declared.sinks.Sink.{Ghosts as SinkGhosts}
 use Rattle.elf_outside.specs.declared.file_sets.Files.{Ghosts as FilesGhosts}
-use Rattle.elf_object.specs.Object.{Object}
 use Rattle.elf_descriptor.specs.State.{State}
 use Rattle.command_objects.specs.Arranged.{Rebuilt}
 use Rattle.command_objects.specs.Split.{unstripped, UnstripFault as Stated}
 use Rattle.tool_output.specs.declared.stops.Stop.{Stop}
 use Rattle.tool_output.specs.declared.outputs.Outputs.{Outputs}
 use Rattle.tool_output.specs.Names.{file_name}
-use Rattle.tool_output.specs.Made.{Done, Complaint, complaint, written_outcome}
+use Rattle.tool_output.specs.Outcomes.{Does}
+use Rattle.tool_output.specs.Made.{Done, Complaint, complaint, made, made_file, outcome_with, written_outcome}
+use Rattle.tool_output.specs.Reports.{Report, no_report}
+use Rattle.tool_output.specs.Statuses.{refused_status}
+use Rattle.tool_output.proofs.UnderWayLemmas.{shown_none}
 use Rattle.object_output.specs.Refusals.{Refuses}
-use Rattle.object_output.specs.Steps.{SourceRose}
-use Rattle.object_writing.specs.Writes.{written_done, WritesFile}
 use Rattle.object_writing.proofs.WriteLemmas.{DoesHere, outputs_leave, said_done, refused_does, refused_leaves}
-use Rattle.strip_rebuild.specs.Makes.{AsksFor}
-use Rattle.strip_rebuild.specs.declared.rebuilding.Rebuilt.{Rebuilt as Made}
-use Rattle.unstrip_join.specs.Answers.{stated_fault, UnstripAnswers, elf_error, debug_error}
+use Rattle.image_ranges.specs.Ranges.{bytes_of_source}
+use Rattle.strip_contents.specs.declared.plans.RangedPlan.{RangedPlan}
+use Rattle.strip_contents.specs.Plans.{CopiesAs}
+use Rattle.strip_tool.specs.Copies.{IsOverSource}
 use Rattle.unstrip_join.specs.declared.faults.UnstripFault.{UnstripFault}
 use Rattle.unstrip_join.specs.declared.faults.UnstripFault.TheVariants as faults
+use Rattle.join_contents.specs.Joining.{file_joined, PlansJoined}
 use Rattle.unstrip_tool.specs.declared.names.HalfNames.{HalfNames}
+use Rattle.unstrip_tool.specs.Copies.{WritesPair}
 use Rattle.unstrip_tool.specs.Refusing.{RefusesFault}
 use Rattle.unstrip_tool.specs.Joins.{joined_done, objects_done, WritesBeside}
-use Rattle.unstrip_tool.proofs.CauseLemmas.{leaves_by}
-use Rattle.unstrip_tool.proofs.DoneLemmas.{elf_stated, debug_stated, mismatch_stated}
+use Rattle.unstrip_tool.proofs.DoneLemmas.{bytes_done, joined_is, elf_stated, debug_stated, mismatch_stated}
 
 module _ {S T F D O E : Type 0} (g : SourceGhosts S) (h : SourceGhosts T) (f : FilesGhosts F D)
     (o : SinkGhosts O) (e : SinkGhosts E) (out : List ℕ) (names : HalfNames)
-    (stripped_old stripped_new : State S) (debug_old debug_new : State T) where
-  abbrev made : Result Rebuilt Stated
-  made = unstripped stripped_old.o debug_old.o
+    (stripped : State S) (debug : State T) (first : S) (second : T) where
+  abbrev joined : Result Rebuilt Stated
+  joined = unstripped stripped.o debug.o
 
   -- a read of one of them failed
   abbrev Causes : Type 0
-  Causes = SourceRose g stripped_old stripped_new ⊎ SourceRose h debug_old debug_new
+  Causes = (0 < g.faults first) ⊎ (0 < h.faults second)
 
   abbrev Known : Type 0
-  Known = IsTrue stripped_old.told × IsTrue debug_old.told
+  Known = IsTrue stripped.told × IsTrue debug.told
 
   abbrev Joins : Result Bool Stop → F → F → Outputs O E → Outputs O E → Type 0
   Joins r a b s t =
-      WritesBeside f o e 1 Causes Known (objects_done out names stripped_old.o debug_old.o) r
-      a b s t
+      WritesBeside f o e 1 Causes Known (objects_done out names stripped.o debug.o) r a b s t
 
   abbrev Here : Result Done Complaint → Result Bool Stop → F → F → Outputs O E → Outputs O E
       → Type 0
   Here q r a b s t = DoesHere f o e (codes "unstrip") q r a b s t
 
-  -- they are, and what is made is written, over a source that is never read
-  pub joined_written : {N : Type 0} (k : SourceGhosts N) (x : Made) (elf after : State N)
-      (r : Result Bool Stop) (a b : F) (s t : Outputs O E)
-      → ((m n : N) → Rose (k.faults m) (k.faults n) → ⊥)
-      → elf.o ≡ x.elf.o → elf.told ≡ x.elf.told → x.elf.told ≡ true
-      → (IsTrue stripped_old.told → IsTrue debug_old.told
-      → made ≡ Ok (record { object = x.elf.o; tail = x.tail }))
-      → WritesFile k f o e (written_outcome (codes "unstrip")
-      (written_done names.stripped.now out elf.o)) r elf after a b s t
+  -- a file alone
+  file_here : (bytes : List ℕ) (r : Result Bool Stop) (a b : F) (s t : Outputs O E)
+      → Does f o e refused_status (outcome_with no_report (made_file out bytes ∷ [])) r a b s t
+      → Here (Ok (made out bytes)) r a b s t
+  unfolding written_outcome
+  file_here bytes r a b s t h =
+      subst (λ (x : Report).
+      Does f o e refused_status (outcome_with x (made_file out bytes ∷ [])) r a b s t)
+      (sym shown_none) h
+
+  -- they are, and the file is copied out of both
+  pub joined_written : (x : RangedPlan) (r : Result Bool Stop) (a b : F) (s t : Outputs O E)
+      → IsOverSource g stripped → IsOverSource h debug → PlansJoined stripped debug (Ok x)
+      → WritesPair g h f o e out x r stripped.source first debug.source second a b s t
       → Joins r a b s t
-  joined_written k x elf after r a b s t never same told_same told came second = record {
+  joined_written x r a b s t over over_too plans writes = record {
     does = λ tells known.
+        let planned = plans.answer known.0 known.1 in
+        let bases : stripped.o.base ++ debug.o.base
+        ≡ bytes_of_source g stripped.source ++ bytes_of_source h debug.source =
+        ap (λ (l : List ℕ). l ++ debug.o.base) over.base
+        ∙ ap (λ (l : List ℕ). bytes_of_source g stripped.source ++ l) over_too.base in
         subst (λ (q : Result Done Complaint). Here q r a b s t)
-        (sym (ap (joined_done out names) (came known.0 known.1)))
-        (subst (λ (p : Object). Here (written_done names.stripped.now out p) r a b s t) same
-        (second.does tells (told_same ∙ told)));
-    live = λ small. second.live (omega (arith, small));
-    leaves = leaves_by f o e (SourceRose k elf after) Causes r a b s t
-        (λ rose. absurd (never elf.source after.source rose)) second.leaves;
+        (sym (joined_is out names joined ∙ ap (bytes_done out names) planned.1))
+        (file_here planned.0 r a b s t
+        (writes.does tells (subst (λ (y : Bool). IsTrue y) over.told known.0)
+        (subst (λ (y : Bool). IsTrue y) over_too.told known.1) planned.0
+        (subst (λ (l : List ℕ). CopiesAs l x planned.0) bases planned.2)));
+    live = λ small. writes.live (omega (arith, small));
+    leaves = writes.leaves;
   }
 
   -- they are not
   module _ (r : Result Bool Stop) (a : F) (s t : Outputs O E) where
-    -- for an error of one file, of which the cause of a failed read is known
-    refused : (c : ElfError) (file : List ℕ) (before after : ℕ)
+    unread : Rose 0 0 → Causes
+    unread rose = absurd (omega (arith, rose))
+
+    -- for an error of one file
+    refused : (c : ElfError) (file : List ℕ)
         → (Known → IfSome (stated_refusal c) (λ d.
-        joined_done out names made ≡ Err (complaint file (error_text d))))
-        → ReadRose {T = Unit {0}} (Err c) before after → (Rose before after → Causes)
+        bytes_done out names (file_joined joined) ≡ Err (complaint file (error_text d))))
+        → ReadRose {T = Unit {0}} (Err c) 0 0
         → Refuses o e (codes "unstrip") (file_name file) c r s t → Joins r a a s t
-    refused c file before after is read causes told = record {
+    refused c file is read told = record {
       does = λ tells known.
-          refused_does f o e (codes "unstrip") file c (joined_done out names made) r a s t tells
-          (is known) told;
+          refused_does f o e (codes "unstrip") file c (joined_done out names joined) r a s t tells
+          (subst (λ (q : Result Done Complaint). IfSome (stated_refusal c) (λ d.
+          q ≡ Err (complaint file (error_text d)))) (sym (joined_is out names joined))
+          (is known)) told;
       live = λ small. refl;
-      leaves = refused_leaves f o e (codes "unstrip") Causes (Unit {0}) c file before after r a
-          s t read causes told;
+      leaves = refused_leaves f o e (codes "unstrip") Causes (Unit {0}) c file 0 0 r a s t read
+          unread told;
     }
 
-    pub not_joined : (fault : UnstripFault) (n m : ℕ)
-        → (IsTrue stripped_old.told → IsTrue debug_old.told
-        → UnstripAnswers (Err (stated_fault fault)) made)
-        → AsksFor g (elf_error fault) stripped_old stripped_new n
-        → AsksFor h (debug_error fault) debug_old debug_new m
+    pub not_joined : (fault : UnstripFault) → PlansJoined stripped debug (Err fault)
         → RefusesFault o e names fault r s t → Joins r a a s t
-    not_joined (faults.Elf c) n m came first second told =
-        refused c names.stripped.now (g.faults stripped_old.source)
-        (g.faults stripped_new.source)
-        (λ known. elf_stated out names made c (came known.0 known.1)) first.source.read
-        (λ rose. inl rose) told
-    not_joined (faults.Debug c) n m came first second told =
-        refused c names.debug.now (h.faults debug_old.source) (h.faults debug_new.source)
-        (λ known. debug_stated out names made c (came known.0 known.1)) second.source.read
-        (λ rose. inr rose) told
-    not_joined faults.Mismatch n m came first second told = record {
+    not_joined (faults.Elf c) plans told =
+        refused c names.stripped.now
+        (λ known. elf_stated out names (file_joined joined) c (plans.answer known.0 known.1))
+        (plans.unread_stripped 0 0) told
+    not_joined (faults.Debug c) plans told =
+        refused c names.debug.now
+        (λ known. debug_stated out names (file_joined joined) c (plans.answer known.0 known.1))
+        (plans.unread_debug 0 0) told
+    not_joined faults.Mismatch plans told = record {
       does = λ tells known.
           subst (λ (q : Result Done Complaint). Here q r a a s t)
-          (sym (mismatch_stated out names made (came known.0 known.1)))
+          (sym (joined_is out names joined
+          ∙ mismatch_stated out names (file_joined joined) (plans.answer known.0 known.1)))
           (said_done f o e (codes "unstrip") names.stripped.now (codes "files do not match") r
           a s t tells told.reports);
       live = λ small. refl;

@@ -2,6 +2,7 @@ pub mod AllocatedLemmas
 pub mod CauseLemmas
 pub mod SplitLemmas
 pub mod CopyLemmas
+pub mod PairLemmas
 pub mod WriteLemmas
 pub mod DoneLemmas
 pub mod BesideLemmas

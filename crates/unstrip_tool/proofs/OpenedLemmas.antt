@@ -2,6 +2,7 @@
 use Rattle.std.proofs.Common.{◌≡◌, ◌≢◌, ◌⊎◌, inl, inr, ◌↔◌, ◌+◌, ◌-◌, ◌^◌, ◌<◌, ℕ, Bool, List, [], codes, Option, Some, None, Result, Ok, Err, IsSome, IsTrue, refl, sym, ap, ◌∙◌, subst, arith}
 use Rattle.std.specs.Prelude.{IsErrOf}
 use Rattle.elf_types.specs.Answers.{◌>>=◌}
+use Rattle.elf_outside.specs.Asks.{Leaves}
 use Rattle.elf_outside.specs.Counts.{Rose, RaisedBy, RisesWith, next_count}
 use Rattle.elf_outside.specs.Names.{SameNames, Closes}
 use Rattle.elf_outside.specs.Opens.{meanings, HandsOver}
@@ -27,7 +28,7 @@ use Rattle.tool_output.proofs.FileLemmas.{closed_same}
 use Rattle.tool_output.proofs.MadeLemmas.{report_done, stopped_done}
 use Rattle.object_writing.proofs.WriteLemmas.{DoesHere}
 use Rattle.unstrip_tool.specs.Refusing.{RefusesWith, RefusesUnopened}
-use Rattle.unstrip_tool.specs.Joins.{held_object, IsRead, WritesBeside}
+use Rattle.unstrip_tool.specs.Joins.{held_object, WritesBeside}
 use Rattle.unstrip_tool.proofs.DoneLemmas.{IsUnwritten, bound_unwritten}
 
 -- no bound is stated on what is asked for, nor on what is handed to writes
@@ -59,9 +60,9 @@ module _ {F D O E : Type 0} (f : FilesGhosts F D) (o : SinkGhosts O) (e : SinkGh
       (hands : HandsOver
       (meanings f.tells f.named f.read_faults f.write_faults f.taken f.given f.live) w d a b
       (Ok held))
-      (inner : WritesBeside f o e opens (P ⊎ Rose (w.faults held) (w.faults left)) before
+      (inner : WritesBeside f o e opens (P ⊎ (0 < w.faults left)) before
       (stated (w.holds held)) r b c s t)
-      (kept : IsRead w held left)
+      (kept : Leaves w held left)
       (closed : Closes (f.tells c) (f.named c) (f.tells g) (f.named g) file (w.holds left)) where
     -- ---- What is done
 
@@ -135,7 +136,7 @@ module _ {F D O E : Type 0} (f : FilesGhosts F D) (o : SinkGhosts O) (e : SinkGh
         by (Some bytes) is holds =
             subst (λ (x : Option (List ℕ)).
             DoesHere f o e (codes "unstrip") (stated x) r a g s t) (sym is)
-            (done_by told bytes is (kept.leaves.same_bytes ∙ holds) (stated (Some bytes))
+            (done_by told bytes is (kept.same_bytes ∙ holds) (stated (Some bytes))
             (bound_unwritten file (held_object file (Some bytes)) done each) r
             (subst (λ (x : Option (List ℕ)).
             DoesHere f o e (codes "unstrip") (stated x) r b c s t) holds
@@ -177,11 +178,8 @@ module _ {F D O E : Type 0} (f : FilesGhosts F D) (o : SinkGhosts O) (e : SinkGh
       }
 
       -- a read of it that failed shows in the total, and so does one of another
-      pub closed_rose : Rose (w.faults held) (w.faults left)
-          → Rose (f.read_faults a) (f.read_faults g)
-      closed_rose rose =
-          let fresh : w.faults held ≡ 0 = hands.fresh.faults in
-          let own : 0 < w.faults left = omega (arith, rose, fresh) in
+      closed_rose : 0 < w.faults left → Rose (f.read_faults a) (f.read_faults g)
+      closed_rose own =
           let rises = reads.rose own in
           let one = hands.read_faults in
           let two = inner.leaves.totals.read_faults in omega (arith, rises, one, two)
@@ -197,12 +195,12 @@ module _ {F D O E : Type 0} (f : FilesGhosts F D) (o : SinkGhosts O) (e : SinkGh
 
       module _ (causes : Type 0) (beside : P → causes)
           (own : Rose (f.read_faults a) (f.read_faults g) → causes) where
-        cause : P ⊎ Rose (w.faults held) (w.faults left) → causes
+        cause : P ⊎ (0 < w.faults left) → causes
         cause (inl p) = beside p
-        cause (inr rose) = own (closed_rose rose)
+        cause (inr some) = own (closed_rose some)
 
         left_by : opens + 1 < 7 → (x : Result Bool Stop)
-            → OnRead x (P ⊎ Rose (w.faults held) (w.faults left))
+            → OnRead x (P ⊎ (0 < w.faults left))
             → OnWrite x (Rose (f.write_faults b) (f.write_faults c)
             ⊎ SinkRose o e s.out.now t.out.now s.err.now t.err.now)
             → LeavesFilesBy f o e causes x a g s t

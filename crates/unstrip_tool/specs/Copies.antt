@@ -1,5 +1,6 @@
--- The images of two plans, as a command writes them to two new files.
-use Rattle.std.specs.Prelude.{◌≡◌, ◌⊎◌, ◌≤◌, ◌<◌, ◌-◌, ◌^◌, ℕ, Bool, List, [], ◌∷◌, IfSome, IsTrue, OnOk, Result, Ok}
+-- The images of two plans, as a command writes them to two new files; and the image of one plan
+-- that is copied out of two sources.
+use Rattle.std.specs.Prelude.{◌≡◌, ◌⊎◌, ◌≤◌, ◌<◌, ◌-◌, ◌^◌, ℕ, Bool, List, [], ◌∷◌, ◌++◌, is_some, IfSome, IsTrue, OnOk, Result, Ok}
 use Rattle.elf_outside.specs.Asks.{Leaves}
 use Rattle.elf_outside.specs.Counts.{Rose}
 use Rattle.elf_outside.specs.declared.sources.Source.{Ghosts as SourceGhosts}
@@ -13,6 +14,9 @@ use Rattle.tool_output.specs.Outcomes.{Does}
 use Rattle.tool_output.specs.Reports.{no_report}
 use Rattle.tool_output.specs.Statuses.{refused_status}
 use Rattle.object_files.specs.Making.{InOrder}
+use Rattle.image_ranges.specs.Ranges.{bytes_of_source}
+use Rattle.strip_contents.specs.declared.plans.RangedPlan.{RangedPlan}
+use Rattle.strip_contents.specs.Plans.{CopiesAs}
 use Rattle.strip_tool.specs.Copies.{MakesPlan, plan_text}
 use Rattle.unstrip_tool.specs.declared.names.HalfNames.{HalfNames}
 use Rattle.unstrip_tool.specs.declared.plans.SplitPlans.{SplitPlans}
@@ -61,4 +65,25 @@ pub record WritesHalves {S F D O E : Type 0} (s : SourceGhosts S) (f : FilesGhos
   pub later : s.faults source_old ≤ s.faults source_new
   pub live : f.live files_old < 2 ^ 64 - 2 → f.live files_new ≡ f.live files_old
   pub leaves : LeavesFilesBy f o e (Rose (s.faults source_old) (s.faults source_new)) result
+      files_old files_new old new
+
+-- ---- Out of two sources
+
+-- The bytes of a plan over those of the first source and then those of the second are written to a
+-- new file, where both tell their bytes, or the step stops on the way. Both hold what they held,
+-- the file that is made is closed again, and the step stops by Read only where a read of one
+-- failed.
+pub record WritesPair {S T F D O E : Type 0} (s : SourceGhosts S) (t : SourceGhosts T)
+    (f : FilesGhosts F D) (o : SinkGhosts O) (e : SinkGhosts E) (out : List ℕ) (plan : RangedPlan)
+    (result : Result Bool Stop) (first_old first_new : S) (second_old second_new : T)
+    (files_old files_new : F) (old new : Outputs O E) : Type 0 where
+  pub does : IsTrue (f.tells files_old) → IsTrue (is_some (s.holds first_old))
+      → IsTrue (is_some (t.holds second_old)) → (bytes : List ℕ)
+      → CopiesAs (bytes_of_source s first_old ++ bytes_of_source t second_old) plan bytes
+      → Does f o e refused_status (outcome_with no_report (made_file out bytes ∷ []))
+      result files_old files_new old new
+  pub first : Leaves s first_old first_new
+  pub second : Leaves t second_old second_new
+  pub live : f.live files_old < 2 ^ 64 - 2 → f.live files_new ≡ f.live files_old
+  pub leaves : LeavesFilesBy f o e ((0 < s.faults first_new) ⊎ (0 < t.faults second_new)) result
       files_old files_new old new

@@ -1,8 +1,6 @@
 -- Two halves that are joined, and the file of what they are halves of.
-use Rattle.std.specs.Prelude.{◌≡◌, ◌≤◌, ◌<◌, ◌+◌, ◌-◌, ◌^◌, ℕ, Bool, List, codes, IsTrue, Option, Result}
+use Rattle.std.specs.Prelude.{◌≡◌, ◌<◌, ◌+◌, ◌-◌, ◌^◌, ℕ, Bool, List, codes, IsTrue, Option, Result}
 use Rattle.elf_types.specs.Answers.{or_refused, ◌>>=◌}
-use Rattle.elf_outside.specs.Asks.{Leaves}
-use Rattle.elf_outside.specs.declared.sources.Source.{Ghosts as SourceGhosts}
 use Rattle.elf_outside.specs.declared.sinks.Sink.{Ghosts as SinkGhosts}
 use Rattle.elf_outside.specs.declared.file_sets.Files.{Ghosts as FilesGhosts}
 use Rattle.elf_object.specs.Object.{Object}
@@ -50,11 +48,6 @@ halves_joined out names held debug =
     held_object names.stripped.now held >>= λ stripped. debug_done out names debug stripped
 
 -- ---- A step beside files that are open
-
--- an open file holds what it held, and its count of faults does not fall
-pub record IsRead {S : Type 0} (g : SourceGhosts S) (old new : S) : Type 0 where
-  pub leaves : Leaves g old new
-  pub later : g.faults old ≤ g.faults new
 
 -- It does what is stated, where the files and what it is stated of are known. It has at most
 -- `opens` further files open at a time, which it closes again. It stops by Read only for the cause

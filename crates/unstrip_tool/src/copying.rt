@@ -1,12 +1,15 @@
-//! The new files of the plans of two halves.
+//! The new files of the plans of two halves, and that of the plan of what two files are halves of.
 
-ghost use Rattle.unstrip_tool.specs.Copies.{MakesBoth, WritesHalves};
+ghost use Rattle.std.specs.Prelude.{◌+◌, ◌^◌, ◌<◌};
+ghost use Rattle.unstrip_tool.specs.Copies.{MakesBoth, WritesHalves, WritesPair};
 
 use crate::names::HalfNames;
 use crate::plans::SplitPlans;
 use elf_outside::{Files, Sink, Source};
+use source_pair::SourcePair;
 use std::alloc::Global;
-use strip_tool::{make_plan, not_refused};
+use strip_contents::RangedPlan;
+use strip_tool::{make_plan, not_refused, write_plan};
 use tool_output::{Outputs, Stop};
 
 /// Makes the two files, the debug half last, copied out of a source, and hands that back.
@@ -47,4 +50,25 @@ pub(crate) fn write_plans<S: Source, F: Files, O: Sink, E: Sink>(
     }
     let (src, made) = make_both(alloc, src, plans, names, files);
     (src, not_refused(made))
+}
+
+/// Writes the image of a plan to the new file `out`, copied out of the bytes of one source and
+/// behind them those of another, and hands both back. What waits for the outputs is put before. It
+/// refuses nothing, and stops as `write_plan` does.
+pub(crate) fn write_pair<S: Source, T: Source, F: Files, O: Sink, E: Sink>(
+    alloc: Global,
+    stripped: S,
+    debug: T,
+    plan: RangedPlan,
+    out: &str,
+    files: &mut F,
+    outputs: &mut Outputs<'_, O, E>,
+) -> ((S, T), Result<bool, Stop>)
+    requires { S.size stripped + T.size debug < 2 ^ 64 }
+    ensures { WritesPair S.Source T.Source F.Files O.Sink E.Sink out.now plan result.1
+        stripped result.0.0 debug result.0.1 files.old files.new outputs.old outputs.new }
+{
+    let pair = SourcePair::new(stripped, debug);
+    let (pair, written) = write_plan(alloc, pair, plan, out, files, outputs);
+    (pair.into_parts(), written)
 }

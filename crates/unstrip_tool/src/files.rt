@@ -1,14 +1,17 @@
 //! Two files that are opened, one after another, and what they are halves of.
 
-ghost use Rattle.std.specs.Prelude.{◌≡◌, ◌≢◌, ◌⊎◌, false, IsTrue, IsSome};
+ghost use Rattle.std.specs.Prelude.{◌≡◌, ◌≢◌, ◌⊎◌, ◌<◌, false, IsTrue, IsSome};
+ghost use Rattle.elf_outside.specs.Asks.{Leaves};
 ghost use Rattle.elf_outside.specs.Counts.{Rose};
 ghost use Rattle.elf_object.specs.Object.{is_dirty};
+ghost use Rattle.elf_object.specs.Valid.{IsTied};
+ghost use Rattle.strip_laws.specs.Made.{FitsClass};
+ghost use Rattle.strip_tool.specs.Copies.{IsOverSource};
 ghost use Rattle.tool_output.specs.Files.{LeavesFiles};
 ghost use Rattle.tool_output.specs.Outcomes.{Does};
 ghost use Rattle.tool_output.specs.Statuses.{refused_status};
-ghost use Rattle.object_output.specs.Steps.{SourceRose};
 ghost use Rattle.command_outcomes.specs.Strip.{unstrip_outcome};
-ghost use Rattle.unstrip_tool.specs.Joins.{debug_done, halves_joined, IsRead, WritesBeside};
+ghost use Rattle.unstrip_tool.specs.Joins.{debug_done, halves_joined, WritesBeside};
 
 use crate::joining::join_debug;
 use crate::names::HalfNames;
@@ -20,32 +23,39 @@ use std::alloc::Global;
 use tool_output::{Outputs, Stop};
 
 /// Opens the file of the debug half, joins it to the object of the other half, in which nothing is
-/// dirty, and closes it; only then is the answer looked at.
+/// dirty, and closes it; only then is the answer looked at. The other file is handed back.
 fn join_named<S: Source, F: Files, O: Sink, E: Sink>(
     alloc: Global,
-    stripped: &mut Elf<S>,
+    stripped: Elf<S>,
     out: &str,
     names: &HalfNames<'_>,
     files: &mut F,
     outputs: &mut Outputs<'_, O, E>,
-) -> Result<bool, Stop>
-    requires clean { is_dirty stripped.old.o ≡ false }
+) -> (S, Result<bool, Stop>)
     requires apart { out.now ≢ names.now.debug.now }
+    requires over { IsOverSource S.Source stripped }
+    requires clean { is_dirty stripped.o ≡ false }
+    requires tied { IsTrue stripped.told → IsTied stripped.o }
+    requires fits { FitsClass stripped.o }
     ensures writes { WritesBeside F.Files O.Sink E.Sink 2
-        (Rose (F.read_faults files.old) (F.read_faults files.new)
-        ⊎ SourceRose S.Source stripped.old stripped.new)
-        (IsTrue stripped.old.told)
-        (debug_done out.now names.now (F.named files.old names.now.debug.now) stripped.old.o)
-        result files.old files.new outputs.old outputs.new }
-    ensures reads_stripped { IsRead S.Source stripped.old.source stripped.new.source }
+        (Rose (F.read_faults files.old) (F.read_faults files.new) ⊎ (0 < S.faults result.0))
+        (IsTrue stripped.told)
+        (debug_done out.now names.now (F.named files.old names.now.debug.now) stripped.o)
+        result.1 files.old files.new outputs.old outputs.new }
+    ensures leaves_stripped { Leaves S.Source stripped.source result.0 }
 {
     match files.open(alloc, names.debug) {
         Ok(file) => {
-            let (file, joined) = join_debug(alloc, stripped, file, out, names, files, outputs);
+            let ((stripped, file), joined) = join_debug(
+                alloc, stripped, file, out, names, files, outputs,
+            );
             files.close(names.debug, file);
-            joined
+            (stripped, joined)
         }
-        Err(fault) => refuse_unopened(names.debug, fault, outputs),
+        Err(fault) => {
+            let refused = refuse_unopened(names.debug, fault, outputs);
+            (stripped.end(), refused)
+        }
     }
 }
 
@@ -62,17 +72,16 @@ fn join_stripped<S: Source, F: Files, O: Sink, E: Sink>(
 ) -> (S, Result<bool, Stop>)
     requires { out.now ≢ names.now.debug.now }
     ensures writes { WritesBeside F.Files O.Sink E.Sink 2
-        (Rose (F.read_faults files.old) (F.read_faults files.new)
-        ⊎ Rose (S.faults src) (S.faults result.0))
+        (Rose (F.read_faults files.old) (F.read_faults files.new) ⊎ (0 < S.faults result.0))
         (IsSome (S.holds src))
         (halves_joined out.now names.now (S.holds src) (F.named files.old names.now.debug.now))
         result.1 files.old files.new outputs.old outputs.new }
-    ensures reads_stripped { IsRead S.Source src result.0 }
+    ensures leaves_stripped { Leaves S.Source src result.0 }
 {
     match begin_image(alloc, src) {
-        Ok(mut stripped) => {
-            let joined = join_named(alloc, &mut stripped, out, names, files, outputs);
-            (stripped.end(), joined)
+        Ok(stripped) => {
+            let _sound = stripped.dirty();
+            join_named(alloc, stripped, out, names, files, outputs)
         }
         Err((src, e)) => {
             let refused = refuse_half(names.stripped, e, outputs);

@@ -1,81 +1,94 @@
 //! Two halves, of which both files are open, and the new file of what they are halves of.
 
-ghost use Rattle.std.specs.Prelude.{◌≡◌, ◌⊎◌, false, IsTrue, IsSome};
-ghost use Rattle.elf_outside.specs.Counts.{Rose};
+ghost use Rattle.std.specs.Prelude.{◌≡◌, ◌⊎◌, ◌<◌, false, IsTrue, IsSome};
+ghost use Rattle.elf_outside.specs.Asks.{Leaves};
 ghost use Rattle.elf_object.specs.Object.{is_dirty};
-ghost use Rattle.object_output.specs.Steps.{SourceRose};
-ghost use Rattle.unstrip_tool.specs.Joins.{objects_done, debug_done, IsRead, WritesBeside};
+ghost use Rattle.elf_object.specs.Valid.{IsTied};
+ghost use Rattle.strip_laws.specs.Made.{FitsClass};
+ghost use Rattle.strip_tool.specs.Copies.{IsOverSource};
+ghost use Rattle.unstrip_tool.specs.Joins.{objects_done, debug_done, WritesBeside};
 
+use crate::copying::write_pair;
 use crate::names::HalfNames;
 use crate::refusing::{refuse_fault, refuse_half};
 use elf_descriptor::Elf;
 use elf_outside::{Files, Sink, Source};
+use join_contents::plan_joined;
 use object_output::begin_image;
-use object_writing::write_object;
 use std::alloc::Global;
 use tool_output::{Outputs, Stop};
-use unstrip_join::unstrip;
 
-/// Joins two objects in which nothing is dirty, and writes the image of what they are halves of to
-/// the new file `out`. Where they are not joined, and where the update is refused, the message says
-/// why, and no file is made. What is made is held meanwhile. The answer tells whether it was
-/// refused.
+/// Writes the image of what two objects, in which nothing is dirty, are halves of to the new file
+/// `out`, range by range of their files, and hands the sources back. Where they are not joined, and
+/// where the update is refused, the message says why, and no file is made. The answer tells whether
+/// it was refused.
 fn write_joined<S: Source, T: Source, F: Files, O: Sink, E: Sink>(
     alloc: Global,
-    stripped: &mut Elf<S>,
-    debug: &mut Elf<T>,
+    stripped: Elf<S>,
+    debug: Elf<T>,
     out: &str,
     names: &HalfNames<'_>,
     files: &mut F,
     outputs: &mut Outputs<'_, O, E>,
-) -> Result<bool, Stop>
-    requires stripped { is_dirty stripped.old.o ≡ false }
-    requires debug { is_dirty debug.old.o ≡ false }
+) -> ((S, T), Result<bool, Stop>)
+    requires over { IsOverSource S.Source stripped × IsOverSource T.Source debug }
+    requires stripped { is_dirty stripped.o ≡ false }
+    requires debug { is_dirty debug.o ≡ false }
+    requires tied { (IsTrue stripped.told → IsTied stripped.o)
+        × (IsTrue debug.told → IsTied debug.o) }
+    requires fits { FitsClass stripped.o }
     ensures writes { WritesBeside F.Files O.Sink E.Sink 1
-        (SourceRose S.Source stripped.old stripped.new ⊎ SourceRose T.Source debug.old debug.new)
-        (IsTrue stripped.old.told × IsTrue debug.old.told)
-        (objects_done out.now names.now stripped.old.o debug.old.o)
-        result files.old files.new outputs.old outputs.new }
-    ensures reads_stripped { IsRead S.Source stripped.old.source stripped.new.source }
-    ensures reads_debug { IsRead T.Source debug.old.source debug.new.source }
+        ((0 < S.faults result.0.0) ⊎ (0 < T.faults result.0.1))
+        (IsTrue stripped.told × IsTrue debug.told)
+        (objects_done out.now names.now stripped.o debug.o)
+        result.1 files.old files.new outputs.old outputs.new }
+    ensures leaves_stripped { Leaves S.Source stripped.source result.0.0 }
+    ensures leaves_debug { Leaves T.Source debug.source result.0.1 }
 {
-    match unstrip(alloc, stripped, debug) {
-        Ok(mut made) => {
-            let file = names.stripped.as_bytes();
-            write_object(alloc, &mut made.elf, "unstrip", file, out, files, outputs)
+    match plan_joined(alloc, &stripped, &debug) {
+        Ok(plan) => {
+            let first = stripped.end();
+            let second = debug.end();
+            write_pair(alloc, first, second, plan, out, files, outputs)
         }
-        Err(fault) => refuse_fault(names, fault, outputs),
+        Err(fault) => {
+            let refused = refuse_fault(names, fault, outputs);
+            ((stripped.end(), debug.end()), refused)
+        }
     }
 }
 
-/// The same with the file of the debug half, which is open, and is handed back. What has no front
-/// of an image, and an archive, has the message that says why: then no file is made.
+/// The same with the file of the debug half, which is open. What has no front of an image, and an
+/// archive, has the message that says why: then no file is made.
 pub(crate) fn join_debug<S: Source, T: Source, F: Files, O: Sink, E: Sink>(
     alloc: Global,
-    stripped: &mut Elf<S>,
+    stripped: Elf<S>,
     src: T,
     out: &str,
     names: &HalfNames<'_>,
     files: &mut F,
     outputs: &mut Outputs<'_, O, E>,
-) -> (T, Result<bool, Stop>)
-    requires { is_dirty stripped.old.o ≡ false }
+) -> ((S, T), Result<bool, Stop>)
+    requires over { IsOverSource S.Source stripped }
+    requires clean { is_dirty stripped.o ≡ false }
+    requires tied { IsTrue stripped.told → IsTied stripped.o }
+    requires fits { FitsClass stripped.o }
     ensures writes { WritesBeside F.Files O.Sink E.Sink 1
-        (SourceRose S.Source stripped.old stripped.new ⊎ Rose (T.faults src) (T.faults result.0))
-        (IsTrue stripped.old.told × IsSome (T.holds src))
-        (debug_done out.now names.now (T.holds src) stripped.old.o)
+        ((0 < S.faults result.0.0) ⊎ (0 < T.faults result.0.1))
+        (IsTrue stripped.told × IsSome (T.holds src))
+        (debug_done out.now names.now (T.holds src) stripped.o)
         result.1 files.old files.new outputs.old outputs.new }
-    ensures reads_stripped { IsRead S.Source stripped.old.source stripped.new.source }
-    ensures reads_debug { IsRead T.Source src result.0 }
+    ensures leaves_stripped { Leaves S.Source stripped.source result.0.0 }
+    ensures leaves_debug { Leaves T.Source src result.0.1 }
 {
     match begin_image(alloc, src) {
-        Ok(mut debug) => {
-            let joined = write_joined(alloc, stripped, &mut debug, out, names, files, outputs);
-            (debug.end(), joined)
+        Ok(debug) => {
+            let _sound = debug.dirty();
+            write_joined(alloc, stripped, debug, out, names, files, outputs)
         }
         Err((src, e)) => {
             let refused = refuse_half(names.debug, e, outputs);
-            (src, refused)
+            ((stripped.end(), src), refused)
         }
     }
 }

@@ -2,7 +2,7 @@
 
 use crate::calls::NARROW_OBJECT;
 use elf_types::Shdr;
-use elf_types::constants::{SHT_PROGBITS, SHT_STRTAB};
+use elf_types::constants::{SHF_ALLOC, SHT_PROGBITS, SHT_STRTAB};
 use test_cases::{Call, Case, Earlier, Found, Held, Outcome, RUN, State, Stored, are_so, fail_so};
 use test_images::{
     Field, HeaderField, NULL_SECTION, OBJECT, Put, Recipe, SectionField, Start, WIDE,
@@ -93,6 +93,53 @@ const DATA_DEBUG: Earlier = Earlier {
     ..DATA_STRIPPED
 };
 
+/// An object whose data is loaded, section 2, behind its names.
+const LOADED_DATA: Recipe = Recipe {
+    form: WIDE,
+    start: Start::Table(80, 3, 1),
+    puts: &[
+        Put::Sections(&[
+            NULL_SECTION,
+            Shdr {
+                stype: SHT_STRTAB,
+                offset: 64,
+                size: 8,
+                addralign: 1,
+                ..NULL_SECTION
+            },
+            Shdr {
+                name: 1,
+                stype: SHT_PROGBITS,
+                flags: SHF_ALLOC,
+                offset: 72,
+                size: 4,
+                addralign: 1,
+                ..NULL_SECTION
+            },
+        ]),
+        Put::Bytes(64, b"\0.data\0\0data"),
+    ],
+};
+
+/// Its halves, of which the first has the data and the second the names.
+const LOADED_STRIPPED: Earlier = Earlier {
+    file: LOADED_DATA,
+    ..STRIPPED
+};
+
+const LOADED_DEBUG: Earlier = Earlier {
+    name: "D",
+    ..LOADED_STRIPPED
+};
+
+/// They are joined to it.
+const LOADED_JOINED: Case = Case {
+    file: Stored::Left(LOADED_STRIPPED),
+    script: Stored::Left(LOADED_DEBUG),
+    held: Held::Now(Stored::Image(LOADED_DATA)),
+    ..KEPT
+};
+
 /// The halves of the object are joined to it.
 const JOINED: Case = Case {
     file: Stored::Left(STRIPPED),
@@ -101,9 +148,10 @@ const JOINED: Case = Case {
     ..KEPT
 };
 
-/// Those of objects in both classes are joined to these; and where nothing is loaded, they are joined
-/// to the debug half.
-static WHOLE: [Case; 3] = [
+/// Those of objects in both classes are joined to these; where nothing is loaded, they are joined
+/// to the debug half; what is loaded is copied out of the stripped half and the rest out of the
+/// debug half; and an object is both halves of itself.
+static WHOLE: [Case; 6] = [
     JOINED,
     Case {
         file: Stored::Left(NARROW_STRIPPED),
@@ -115,6 +163,16 @@ static WHOLE: [Case; 3] = [
         file: Stored::Left(DATA_STRIPPED),
         script: Stored::Left(DATA_DEBUG),
         held: Held::Now(Stored::Left(DATA_DEBUG)),
+        ..KEPT
+    },
+    LOADED_JOINED,
+    Case {
+        file: Stored::Image(LOADED_DATA),
+        script: Stored::Image(LOADED_DATA),
+        ..LOADED_JOINED
+    },
+    Case {
+        held: Held::Now(Stored::Image(OBJECT)),
         ..KEPT
     },
 ];
@@ -351,44 +409,30 @@ fn a_call_that_fails_leaves_the_old_file_or_a_front(rt: HostRuntime) {
     assert!(rt; fail_so(rt.alloc(), &OLD, &JOINING, &Call::Made, 1, &FRONT));
 }
 
-/// Some reads of the stripped half stop a run before it makes the file.
-static STRIPPED_UNREAD: [Outcome; 1] = [Outcome {
-    status: Status::ReadFailed,
-    held: State::Before,
-    also: State::Any,
-    least: 2,
-    most: 8,
-}];
+/// A run that joins the halves of the object whose data is loaded, of which reads fail.
+static COPYING: Case = Case { ..LOADED_JOINED };
 
-/// More of the debug half do.
-static DEBUG_UNREAD: [Outcome; 1] = [Outcome {
-    status: Status::ReadFailed,
-    held: State::Before,
-    also: State::Any,
-    least: 3,
-    most: 8,
-}];
+/// A read of the one or the other half stops a run before it makes the file; or in that, where the
+/// bytes of the half are copied, with a front in it.
+static HALF_UNREAD: [Outcome; 2] = [
+    Outcome {
+        status: Status::ReadFailed,
+        held: State::Before,
+        also: State::Any,
+        least: 2,
+        most: 5,
+    },
+    Outcome {
+        status: Status::ReadFailed,
+        held: State::Front,
+        also: State::Any,
+        least: 1,
+        most: 1,
+    },
+];
 
 #[test]
-fn a_read_of_a_half_that_fails_leaves_the_old_file(rt: HostRuntime) {
-    assert!(rt;
-        fail_so(
-            rt.alloc(),
-            &OLD,
-            &JOINING,
-            &Call::Read("O"),
-            8,
-            &STRIPPED_UNREAD
-        )
-    );
-    assert!(rt;
-        fail_so(
-            rt.alloc(),
-            &OLD,
-            &JOINING,
-            &Call::Read("D"),
-            8,
-            &DEBUG_UNREAD
-        )
-    );
+fn a_read_of_a_half_that_fails_leaves_the_old_file_or_a_front(rt: HostRuntime) {
+    assert!(rt; fail_so(rt.alloc(), &OLD, &COPYING, &Call::Read("O"), 6, &HALF_UNREAD));
+    assert!(rt; fail_so(rt.alloc(), &OLD, &COPYING, &Call::Read("D"), 6, &HALF_UNREAD));
 }

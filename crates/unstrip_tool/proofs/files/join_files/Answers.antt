@@ -26,7 +26,7 @@ returns-in-Ok-clause-does g c = λ told.
     c.args.files.now between next c.close.new.self c.in-Ok.file
     c.join_stripped-file.result.0 c.args.outputs.now c.join_stripped-file.new.outputs
     c.in-Ok.ensures.names c.in-Ok.ensures.hands c.join_stripped-file.ensures.writes
-    c.join_stripped-file.ensures.reads_stripped c.close.ensures.names
+    c.join_stripped-file.ensures.leaves_stripped c.close.ensures.names
     c.close.ensures.read_faults c.close.ensures.write_faults c.close.ensures.taken
     c.close.ensures.given c.close.ensures.live
     (Rose (f.read_faults c.args.files.now) (f.read_faults c.close.new.self))
@@ -51,7 +51,7 @@ returns-in-Ok-clause-leaves g c =
     c.args.files.now between next c.close.new.self c.in-Ok.file
     c.join_stripped-file.result.0 c.args.outputs.now c.join_stripped-file.new.outputs
     c.in-Ok.ensures.names c.in-Ok.ensures.hands c.join_stripped-file.ensures.writes
-    c.join_stripped-file.ensures.reads_stripped c.close.ensures.names
+    c.join_stripped-file.ensures.leaves_stripped c.close.ensures.names
     c.close.ensures.read_faults c.close.ensures.write_faults c.close.ensures.taken
     c.close.ensures.given c.close.ensures.live
     (Rose (f.read_faults c.args.files.now) (f.read_faults c.close.new.self))
