@@ -433,6 +433,24 @@ static HALF_UNREAD: [Outcome; 2] = [
 
 #[test]
 fn a_read_of_a_half_that_fails_leaves_the_old_file_or_a_front(rt: HostRuntime) {
-    assert!(rt; fail_so(rt.alloc(), &OLD, &COPYING, &Call::Read("O"), 6, &HALF_UNREAD));
-    assert!(rt; fail_so(rt.alloc(), &OLD, &COPYING, &Call::Read("D"), 6, &HALF_UNREAD));
+    assert!(rt;
+        fail_so(
+            rt.alloc(),
+            &OLD,
+            &COPYING,
+            &Call::Read("O"),
+            6,
+            &HALF_UNREAD
+        )
+    );
+    assert!(rt;
+        fail_so(
+            rt.alloc(),
+            &OLD,
+            &COPYING,
+            &Call::Read("D"),
+            6,
+            &HALF_UNREAD
+        )
+    );
 }
