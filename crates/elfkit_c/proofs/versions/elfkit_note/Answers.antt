@@ -1,0 +1,21 @@
+use Rattle.std.proofs.Common.{subst, ◌∙◌}
+use Rattle.gelf_view.specs.Calls as calls
+use Rattle.elf_descriptor.specs.Reads.{wanted}
+use Rattle.object_handle.specs.declared.opened.OpenObject.{OpenObject}
+use Rattle.gelf_records.specs.Gives.{GivesRead}
+use Rattle.gelf_records.specs.Forms.{note_record}
+use Rattle.elfkit_c.proofs.HandleLaws.{holds}
+use Rattle.elfkit_c.proofs.versions.elfkit_note.Goals as goal
+
+pub returns-clause-gives : goal.returns-clause-gives
+returns-clause-gives c =
+    let call = calls.note c.args.section c.args.piece c.args.at in
+    subst (λ (x : OpenObject). GivesRead note_record (wanted call x.elf)
+    (call.answer x.elf.o) c.give_note-number.result c.args.out.now c.give_note-number.new.out)
+    (c.as_mut.ensures.value ∙ c.take-object.ensures.object) c.give_note-number.ensures.gives
+
+pub returns-clause-holds : goal.returns-clause-holds
+returns-clause-holds c =
+    holds c.args.h.now c.put.new.self c.as_mut.result.now c.give_note-number.new.object
+    (c.as_mut.ensures.value ∙ c.take-object.ensures.object) c.give_note-number.ensures.object
+    c.put.ensures

@@ -1,0 +1,36 @@
+-- What a call leaves of the handle that C hands in.
+use Rattle.std.specs.Prelude.{◌≡◌, ◌⊎◌, ℕ, true, false, Result, Ok, Err}
+use Rattle.elf_types.specs.declared.errors.ElfError.{ElfError}
+use Rattle.elf_types.specs.declared.errors.ElfError.TheVariants.{Memory}
+use Rattle.elf_object.specs.Object.{Object}
+use Rattle.lent_bytes.specs.declared.loan.Lent.{Lent}
+use Rattle.object_handle.specs.Objects.{SameObject, IsLentAs}
+use Rattle.object_handle.specs.declared.handle.Handle.{Handle}
+use Rattle.gelf_records.specs.Codes.{code}
+
+-- the object as it was
+abbrev pub Keeps : Handle → Handle → Type 0
+Keeps old new = (new.full ≡ true) × (new.held ≡ old.held)
+
+-- the object as it was, of which more may have been read
+abbrev pub Holds : Handle → Handle → Type 0
+Holds old new = (new.full ≡ true) × SameObject old.held.elf new.held.elf
+
+-- the number is that of the stated refusal, or of want of memory
+abbrev pub IsRefused : {A : Type 0} → Result A ElfError → ℕ → Type 0
+IsRefused (Ok x) number = number ≡ code Memory
+IsRefused (Err e) number = (number ≡ code Memory) ⊎ (number ≡ code e)
+
+-- the handle holds the object that is stated of the bytes that were lent; or the number is that of
+-- its refusal, or of want of memory, and the handle is empty
+abbrev pub Begins : Lent → Result Object ElfError → ℕ → Handle → Type 0
+Begins lent stated number h =
+    ((number ≡ 0) × (h.full ≡ true) × (stated ≡ Ok h.held.elf.o)
+    × IsLentAs lent h.held.elf.source.loan)
+    ⊎ ((h.full ≡ false) × IsRefused stated number)
+
+-- the bytes are lent on where the handle holds the object, and else they are C's again
+abbrev pub ComesBack : Lent → ℕ → Lent → Lent → Type 0
+ComesBack lent number old new =
+    ((number ≡ 0) × (new ≡ old))
+    ⊎ ((new.lent ≡ true) × (new.at ≡ lent.at) × (new.bytes ≡ lent.bytes))

@@ -1,0 +1,2 @@
+pub mod LentFields
+pub mod Lending

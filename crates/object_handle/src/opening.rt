@@ -1,0 +1,55 @@
+//! How an object is opened over lent bytes, and closed.
+
+ghost use Rattle.std.specs.Prelude.{◌≡◌, true, IfOk, IfErr};
+ghost use Rattle.elf_types.specs.declared.errors.ElfError.TheVariants.{Memory};
+ghost use Rattle.elf_object.specs.Open.{opened};
+ghost use Rattle.object_handle.specs.Objects.{Opens, IsLoanOf, IsLentAs};
+
+use crate::opened::OpenObject;
+use elf_descriptor::Elf;
+use elf_types::ElfError;
+use lent_bytes::{Image, Lent, Loan};
+use std::alloc::{AllocFailed, Global};
+
+/// The box of an object that has begun. It refuses `Memory` alone, and then hands the bytes back.
+fn box_object(alloc: Global, elf: Elf<Image>) -> Result<Box<OpenObject>, (Lent, ElfError)>
+    requires { elf.told ≡ true }
+    ensures object { IfOk result (λ object. object.value.elf ≡ elf) }
+    ensures back { IfErr result (λ back. IsLoanOf elf.source.loan back.0 × (back.1 ≡ Memory)) }
+{
+    match Box::new(alloc, OpenObject { elf }) {
+        Ok(object) => Ok(object),
+        Err(AllocFailed { value }) => {
+            let OpenObject { elf } = value;
+            Err((elf.end().into_loan().back(), ElfError::Memory))
+        }
+    }
+}
+
+/// Opens an object over lent bytes: it reads the front, and nothing of a section. It refuses what
+/// `Elf::begin` refuses, in its order: `Short`, `Magic`, `Class`, `Order`, `Version`, `TooLarge`,
+/// `ShTable`, `PhTable`, `TooMany`; and `Memory`. With a refusal it hands the bytes back.
+///
+/// Source: elf_begin and elf_memory of elf(3E).
+pub fn open_object(alloc: Global, image: Lent) -> Result<Box<OpenObject>, (Lent, ElfError)>
+    requires { image.lent ≡ true }
+    ensures opens { Opens (opened image.bytes) result }
+    ensures lent { IfOk result (λ object. IsLentAs image object.value.elf.source.loan) }
+    ensures back { IfErr result (λ back. (back.0.lent ≡ true) × (back.0.at ≡ image.at)
+        × (back.0.bytes ≡ image.bytes)) }
+{
+    match Elf::begin(alloc, Image::new(Loan::of(image))) {
+        Ok(elf) => box_object(alloc, elf),
+        Err((image, e)) => Err((image.into_loan().back(), e)),
+    }
+}
+
+/// Closes an object, and hands the bytes back. It refuses nothing and takes no memory.
+///
+/// Source: elf_end of elf(3E).
+pub fn close_object(object: Box<OpenObject>) -> Lent
+    ensures { IsLoanOf object.value.elf.source.loan result }
+{
+    let OpenObject { elf } = Box::into_inner(object);
+    elf.end().into_loan().back()
+}
