@@ -1,0 +1,360 @@
+/* begin.c: elf_begin, elf_memory, elf_end and what asks for the image as a whole. The layer maps
+   the file twice, privately: one mapping is lent to the core and nobody writes it, the other is
+   what programs see, since some write into the data of a section. Of ELF_C_READ_MMAP both are one
+   mapping, which nobody can write. The core reads the headers and refuses what is no image. */
+#include <stdlib.h>
+#include <string.h>
+#include <sys/mman.h>
+#include <sys/stat.h>
+#include <unistd.h>
+
+#include "object.h"
+
+/* What the first bytes say; an ELF image has its whole ELF header. */
+static Elf_Kind
+kind_of (const uint8_t *image, size_t size)
+{
+  if (size >= 8 && memcmp (image, "!<arch>\n", 8) == 0)
+    return ELF_K_AR;
+  if (size >= EI_NIDENT && memcmp (image, ELFMAG, SELFMAG) == 0
+      && (image[EI_CLASS] == ELFCLASS32 || image[EI_CLASS] == ELFCLASS64)
+      && (image[EI_DATA] == ELFDATA2LSB || image[EI_DATA] == ELFDATA2MSB)
+      && image[EI_VERSION] == EV_CURRENT
+      && size >= (image[EI_CLASS] == ELFCLASS32 ? sizeof (Elf32_Ehdr) : sizeof (Elf64_Ehdr)))
+    return ELF_K_ELF;
+  return ELF_K_NONE;
+}
+
+/* Lets go of the image. */
+static void
+let_go (Elf *elf)
+{
+  if (elf->memory == MAPPED)
+    munmap ((void *) elf->lent, elf->size);
+  if (elf->memory == MAPPED || elf->memory == MAPPED_ONCE)
+    munmap (elf->shown, elf->size);
+  if (elf->memory == COPIED)
+    {
+      free ((void *) elf->lent);
+      free (elf->shown);
+    }
+  if (elf->memory == BORROWED && (elf->marks & IS_HANDED_OVER))
+    free (elf->shown);
+  free (elf->front);
+}
+
+/* The native form of the ELF header, from the core's. What it says of the tables is what stands in
+   the image. */
+static bool
+make_ehdr (Elf *elf)
+{
+  struct elfkit_ehdr x;
+  elfkit_ehdr (&elf->handle, &x);
+  elf->class = x.class;
+  elf->order = x.order;
+  const struct tables t = elf->tables;
+  if (x.class == ELFCLASS32)
+    {
+      Elf32_Ehdr *e = elf->ehdr = malloc (sizeof *e);
+      if (e == NULL)
+        return false;
+      *e = (Elf32_Ehdr) { .e_type = x.etype, .e_machine = x.machine, .e_version = t.version,
+                          .e_entry = x.entry, .e_phoff = t.phoff, .e_shoff = t.shoff,
+                          .e_flags = x.flags, .e_ehsize = x.ehsize, .e_phentsize = t.phentsize,
+                          .e_phnum = t.phnum, .e_shentsize = t.shentsize, .e_shnum = t.shnum,
+                          .e_shstrndx = t.shstrndx };
+      memcpy (e->e_ident, elf->lent, EI_NIDENT);
+    }
+  else
+    {
+      Elf64_Ehdr *e = elf->ehdr = malloc (sizeof *e);
+      if (e == NULL)
+        return false;
+      *e = (Elf64_Ehdr) { .e_type = x.etype, .e_machine = x.machine, .e_version = t.version,
+                          .e_entry = x.entry, .e_phoff = t.phoff, .e_shoff = t.shoff,
+                          .e_flags = x.flags, .e_ehsize = x.ehsize, .e_phentsize = t.phentsize,
+                          .e_phnum = t.phnum, .e_shentsize = t.shentsize, .e_shnum = t.shnum,
+                          .e_shstrndx = t.shstrndx };
+      memcpy (e->e_ident, elf->lent, EI_NIDENT);
+    }
+  return true;
+}
+
+/* Begins over the image that the descriptor has; NULL and an error where it is refused. */
+static Elf *
+begun (Elf *elf)
+{
+  elf->kind = kind_of (elf->lent, elf->size);
+  elf->refs = 1;
+  if (elf->kind == ELF_K_ELF)
+    {
+      uint32_t number = begin_core (elf);
+      if (number != 0)
+        {
+          set_error (error_of (number));
+          let_go (elf);
+          free (elf);
+          return NULL;
+        }
+      /* a table at place 0 is none */
+      elf->phnum = elf->tables.phoff == 0 ? 0 : elfkit_phnum (&elf->handle);
+      elf->shnum = elfkit_shnum (&elf->handle);
+      if (!make_ehdr (elf))
+        {
+          set_error (E_NOMEM);
+          elf_end (elf);
+          return NULL;
+        }
+    }
+  return elf;
+}
+
+/* Maps the file, or reads it where it cannot be mapped. */
+static bool
+take_file (Elf *elf, int fd)
+{
+  struct stat st;
+  if (fstat (fd, &st) != 0)
+    {
+      set_error (E_INVALID_FILE);
+      return false;
+    }
+  if (S_ISREG (st.st_mode) && st.st_size > 0)
+    {
+      elf->size = st.st_size;
+      bool once = elf->cmd == ELF_C_READ_MMAP;
+      void *lent = mmap (NULL, elf->size, PROT_READ, MAP_PRIVATE, fd, 0);
+      void *shown = once ? lent
+                    : mmap (NULL, elf->size, PROT_READ | PROT_WRITE, MAP_PRIVATE, fd, 0);
+      if (lent != MAP_FAILED && shown != MAP_FAILED)
+        {
+          elf->lent = lent;
+          elf->shown = shown;
+          elf->memory = once ? MAPPED_ONCE : MAPPED;
+          return true;
+        }
+      if (lent != MAP_FAILED)
+        munmap (lent, elf->size);
+      if (shown != MAP_FAILED && shown != lent)
+        munmap (shown, elf->size);
+    }
+  size_t room = 4096, size = 0;
+  uint8_t *bytes = malloc (room);
+  ssize_t n = 0;
+  while (bytes != NULL && (n = read (fd, bytes + size, room - size)) > 0)
+    {
+      size += n;
+      if (size == room)
+        {
+          uint8_t *more = realloc (bytes, room *= 2);
+          if (more == NULL)
+            free (bytes);
+          bytes = more;
+        }
+    }
+  uint8_t *shown = bytes == NULL || n < 0 ? NULL : malloc (size + 1);
+  if (shown == NULL)
+    {
+      set_error (n < 0 ? E_READ_ERROR : E_NOMEM);
+      free (bytes);
+      return false;
+    }
+  memcpy (shown, bytes, size);
+  elf->lent = bytes;
+  elf->shown = shown;
+  elf->size = size;
+  elf->memory = COPIED;
+  return true;
+}
+
+/* Whether a descriptor was opened by a command that allows as much: to be opened privately once
+   more, or to be written. */
+static bool
+is_opened_so (const Elf *elf, Elf_Cmd cmd)
+{
+  if (cmd == ELF_C_READ_MMAP_PRIVATE)
+    return elf->cmd == cmd;
+  return elf->cmd == ELF_C_RDWR || elf->cmd == ELF_C_RDWR_MMAP;
+}
+
+/* elf_begin: a descriptor over a file, or once more over a descriptor. The image is read through
+   mappings; what is no image and no archive has the kind ELF_K_NONE. Left out: ELF_C_WRITE. */
+PUBLIC Elf *
+elf_begin (int fd, Elf_Cmd cmd, Elf *ref)
+{
+  if (!version_is_set)
+    {
+      set_error (E_NO_VERSION);
+      return NULL;
+    }
+  switch (cmd)
+    {
+    case ELF_C_NULL:
+      return NULL;
+    case ELF_C_READ:
+    case ELF_C_READ_MMAP:
+      break;
+    case ELF_C_READ_MMAP_PRIVATE:
+    case ELF_C_RDWR:
+    case ELF_C_RDWR_MMAP:
+      if (ref == NULL || is_opened_so (ref, cmd))
+        break;
+      set_error (E_INVALID_CMD);
+      return NULL;
+    case ELF_C_WRITE:
+    case ELF_C_WRITE_MMAP:
+      set_error (E_UNSUPPORTED);
+      return NULL;
+    default:
+      set_error (E_INVALID_CMD);
+      return NULL;
+    }
+  if (ref != NULL)
+    {
+      if (fd != -1 && ref->fd != -1 && fd != ref->fd)
+        {
+          set_error (E_FD_MISMATCH);
+          return NULL;
+        }
+      if (ref->kind == ELF_K_AR)
+        {
+          set_error (E_UNSUPPORTED);
+          return NULL;
+        }
+      ref->refs++;
+      return ref;
+    }
+  Elf *elf = calloc (1, sizeof *elf);
+  if (elf == NULL)
+    {
+      set_error (E_NOMEM);
+      return NULL;
+    }
+  elf->cmd = cmd;
+  elf->fd = fd;
+  if (!take_file (elf, fd))
+    {
+      free (elf);
+      return NULL;
+    }
+  return begun (elf);
+}
+
+/* elf_memory: a descriptor over an image in memory, which stays the program's. The core reads it
+   where it lies, so the program must not write it until elf_end. What gelf_update_sym and its like
+   store goes into a copy of the section's data, and the data of a relocatable image is a copy from
+   the first, since libdwfl relocates in it. */
+PUBLIC Elf *
+elf_memory (char *image, size_t size)
+{
+  if (image == NULL)
+    {
+      set_error (E_INVALID_OPERAND);
+      return NULL;
+    }
+  Elf *elf = calloc (1, sizeof *elf);
+  if (elf == NULL)
+    {
+      set_error (E_NOMEM);
+      return NULL;
+    }
+  elf->cmd = ELF_C_READ;
+  elf->fd = -1;
+  elf->lent = elf->shown = (uint8_t *) image;
+  elf->size = size;
+  elf->memory = BORROWED;
+  return begun (elf);
+}
+
+/* elf_clone: a copy without the file. Left out. */
+PUBLIC Elf *
+elf_clone (Elf *elf, Elf_Cmd cmd)
+{
+  (void) cmd;
+  if (elf != NULL)
+    set_error (E_UNSUPPORTED);
+  return NULL;
+}
+
+/* elf_end: lets one reference go, and with the last one everything. */
+PUBLIC int
+elf_end (Elf *elf)
+{
+  if (elf == NULL)
+    return 0;
+  if (--elf->refs > 0)
+    return elf->refs;
+  if (elf->handle.ptr != NULL)
+    {
+      struct elfkit_lent back = { NULL, 0 };
+      elfkit_end (&elf->handle, &back);
+    }
+  for (size_t i = 0; elf->sections != NULL && i < elf->shnum; i++)
+    {
+      free (elf->sections[i].shdr);
+      free (elf->sections[i].data.owned);
+      free (elf->sections[i].raw.owned);
+    }
+  free_chunks (elf);
+  free (elf->sections);
+  free (elf->phdr);
+  free (elf->ehdr);
+  let_go (elf);
+  free (elf);
+  return 0;
+}
+
+/* elf_cntl: the file descriptor is used by elf_begin alone, so both commands are done. */
+PUBLIC int
+elf_cntl (Elf *elf, Elf_Cmd cmd)
+{
+  if (elf == NULL)
+    return -1;
+  if (cmd != ELF_C_FDDONE && cmd != ELF_C_FDREAD)
+    {
+      set_error (E_INVALID_CMD);
+      return -1;
+    }
+  elf->fd = -1;
+  return 0;
+}
+
+/* elf_kind: what the descriptor is over. */
+PUBLIC Elf_Kind
+elf_kind (Elf *elf)
+{
+  return elf == NULL ? ELF_K_NONE : elf->kind;
+}
+
+/* elf_getbase: where it begins in the file. */
+PUBLIC int64_t
+elf_getbase (Elf *elf)
+{
+  return elf == NULL ? -1 : elf->start;
+}
+
+/* elf_getident: the identification. */
+PUBLIC char *
+elf_getident (Elf *elf, size_t *size)
+{
+  bool is_elf = elf != NULL && elf->kind == ELF_K_ELF;
+  if (size != NULL)
+    *size = is_elf ? EI_NIDENT : 0;
+  return is_elf ? (char *) ((Elf64_Ehdr *) elf->ehdr)->e_ident : NULL;
+}
+
+/* elf_rawfile: the image as programs see it. */
+PUBLIC char *
+elf_rawfile (Elf *elf, size_t *size)
+{
+  if (elf == NULL)
+    {
+      set_error (E_INVALID_HANDLE);
+      if (size != NULL)
+        *size = 0;
+      return NULL;
+    }
+  if (size != NULL)
+    *size = elf->size;
+  return (char *) elf->shown;
+}

@@ -1,0 +1,105 @@
+/* core.h: the proved core's calls and records, as C sees them. Each declaration stands for the
+   function of the same name in crates/elfkit_c/src, and each struct for the one of
+   crates/lent_bytes, crates/object_handle and crates/gelf_records that its comment names;
+   capi/check-core compares them. A parameter of the allocator's type has no bytes, and so none
+   here. */
+#ifndef ELFKIT_CORE_H
+#define ELFKIT_CORE_H 1
+
+#include <stddef.h>
+#include <stdint.h>
+
+/* Lent: bytes that are lent; all zeros where none are. */
+struct elfkit_lent
+{
+  const uint8_t *at;
+  size_t len;
+};
+
+/* Handle: an object; a null pointer where there is none. */
+struct elfkit_handle
+{
+  void *ptr;
+};
+
+/* EhdrRecord: an ELF header with its true counts. */
+struct elfkit_ehdr
+{
+  uint8_t class, order, osabi, abiversion;
+  uint16_t etype, machine;
+  uint32_t version;
+  uint64_t entry, phoff, shoff;
+  uint32_t flags;
+  uint16_t ehsize, phentsize;
+  uint32_t phnum;
+  uint16_t shentsize;
+  uint32_t shnum, shstrndx;
+};
+
+/* ExtentRecord: a range of bytes. */
+struct elfkit_extent
+{
+  uint64_t at, len;
+};
+
+/* NoteRecord: a note by its places, or that there is none. */
+struct elfkit_note
+{
+  uint32_t found, ntype;
+  uint64_t name_at, namesz, desc_at, descsz, next;
+};
+
+/* PhdrRecord, ShdrRecord, SymRecord, RelRecord, RelaRecord, DynRecord, VerdefRecord,
+   VerdauxRecord, VerneedRecord and VernauxRecord have the layout of Elf64_Phdr and its like. */
+#include <elf.h>
+
+/* Opening and closing. */
+uint32_t elfkit_begin (struct elfkit_lent image, struct elfkit_handle *h,
+                       struct elfkit_lent *back);
+void elfkit_end (struct elfkit_handle *h, struct elfkit_lent *back);
+
+/* Headers. */
+void elfkit_ehdr (struct elfkit_handle *h, struct elfkit_ehdr *out);
+uint32_t elfkit_phnum (struct elfkit_handle *h);
+uint32_t elfkit_shnum (struct elfkit_handle *h);
+uint32_t elfkit_shstrndx (struct elfkit_handle *h);
+uint32_t elfkit_phdr (struct elfkit_handle *h, uint32_t i, Elf64_Phdr *out);
+uint32_t elfkit_shdr (struct elfkit_handle *h, uint32_t section, Elf64_Shdr *out);
+uint32_t elfkit_home (struct elfkit_handle *h, uint32_t section, struct elfkit_extent *out);
+uint32_t elfkit_kind (struct elfkit_handle *h, uint32_t section, uint32_t piece, uint32_t *out);
+
+/* Items. */
+uint32_t elfkit_sym (struct elfkit_handle *h, uint32_t section, uint32_t piece, uint64_t i,
+                     Elf64_Sym *out);
+uint32_t elfkit_rel (struct elfkit_handle *h, uint32_t section, uint32_t piece, uint64_t i,
+                     Elf64_Rel *out);
+uint32_t elfkit_rela (struct elfkit_handle *h, uint32_t section, uint32_t piece, uint64_t i,
+                      Elf64_Rela *out);
+uint32_t elfkit_dyn (struct elfkit_handle *h, uint32_t section, uint32_t piece, uint64_t i,
+                     Elf64_Dyn *out);
+uint32_t elfkit_half (struct elfkit_handle *h, uint32_t section, uint32_t piece, uint64_t i,
+                      uint16_t *out);
+uint32_t elfkit_word (struct elfkit_handle *h, uint32_t section, uint32_t piece, uint64_t i,
+                      uint32_t *out);
+uint32_t elfkit_addr (struct elfkit_handle *h, uint32_t section, uint32_t piece, uint64_t i,
+                      uint64_t *out);
+
+/* Strings, version records, notes. */
+uint32_t elfkit_string (struct elfkit_handle *h, uint32_t section, uint64_t offset,
+                        uint64_t *out);
+uint32_t elfkit_verdef (struct elfkit_handle *h, uint32_t section, uint32_t piece, uint64_t at,
+                        Elf64_Verdef *out);
+uint32_t elfkit_verdaux (struct elfkit_handle *h, uint32_t section, uint32_t piece, uint64_t at,
+                         Elf64_Verdaux *out);
+uint32_t elfkit_verneed (struct elfkit_handle *h, uint32_t section, uint32_t piece, uint64_t at,
+                         Elf64_Verneed *out);
+uint32_t elfkit_vernaux (struct elfkit_handle *h, uint32_t section, uint32_t piece, uint64_t at,
+                         Elf64_Vernaux *out);
+uint32_t elfkit_note (struct elfkit_handle *h, uint32_t section, uint32_t piece, uint64_t at,
+                      struct elfkit_note *out);
+
+/* Hashes. */
+uint32_t elfkit_hash (const uint8_t *name, size_t length);
+uint32_t elfkit_gnu_hash (const uint8_t *name, size_t length);
+
+#endif /* core.h */

@@ -1,0 +1,305 @@
+/* data.c: the data of a section, raw and in memory form, and chunks of the file. Of an image in the
+   machine's own order the data is what programs see of the image, where it lies aligned; else the
+   layer makes a buffer. */
+#define _GNU_SOURCE
+#include <search.h>
+#include <stdlib.h>
+#include <string.h>
+
+#include "object.h"
+
+/* Whether programs may write where they see the image: not where the core reads it in the same
+   place. */
+bool
+may_write (const Elf *elf)
+{
+  return elf->memory == MAPPED || elf->memory == COPIED;
+}
+
+/* Whether programs write into the data: libdwfl does, of relocatable images. */
+static bool
+is_written (const Elf *elf)
+{
+  return ((const Elf64_Ehdr *) elf->ehdr)->e_type == ET_REL;
+}
+
+/* The bytes of a range in memory form; NULL and an error where there is no memory. What was made
+   goes into *owned. */
+static void *
+in_memory (Elf *elf, Elf_Type type, uint64_t at, size_t size, void **owned)
+{
+  uint8_t *shown = elf->shown + at;
+  bool native = elf->order == NATIVE_ORDER || type == ELF_T_BYTE;
+  *owned = NULL;
+  if (native && ((uintptr_t) shown & (item_align (type, elf->class) - 1)) == 0
+      && (elf->memory != BORROWED || !is_written (elf)))
+    return shown;
+  void *made = *owned = malloc (size == 0 ? 1 : size);
+  if (made == NULL)
+    {
+      set_error (E_NOMEM);
+      return NULL;
+    }
+  if (native)
+    memcpy (made, shown, size);
+  else
+    translate (type, elf->class, true, made, shown, size);
+  return made;
+}
+
+/* Whether a number of bytes is one of whole items. */
+static bool
+is_whole (Elf_Type type, unsigned int class, size_t size)
+{
+  switch (type)
+    {
+    case ELF_T_VDEF:
+    case ELF_T_VNEED:
+    case ELF_T_NHDR:
+    case ELF_T_NHDR8:
+    case ELF_T_GNUHASH:
+    case ELF_T_CHDR:
+      return true;
+    default:
+      return size % item_size (type, class) == 0;
+    }
+}
+
+/* The alignment of a section's data: that of its header, but where it stands before such a place no
+   more than the power of two from its own place on, as elfutils tells it. */
+static size_t
+section_align (const GElf_Shdr *shdr, unsigned int class)
+{
+  size_t align = shdr->sh_addralign == 0 ? 1 : shdr->sh_addralign;
+  if (shdr->sh_flags & SHF_COMPRESSED)
+    align = item_align (ELF_T_CHDR, class);
+  if (shdr->sh_type == SHT_NOBITS || align <= shdr->sh_offset)
+    return align;
+  if (shdr->sh_offset == 0)
+    return 0;
+  for (align = 1; align != 0 && align < shdr->sh_offset;)
+    align *= 2;                 /* 0 behind the last power of two */
+  return align;
+}
+
+/* Makes data that of an image. */
+static void
+tie (struct elfkit_data *d, Elf *elf)
+{
+  d->elf = elf;
+  d->is_64 = elf->class == ELFCLASS64;
+  d->is_native = elf->order == NATIVE_ORDER;
+}
+
+/* The raw bytes of a section. */
+static bool
+make_raw (Elf_Scn *scn)
+{
+  GElf_Shdr shdr;
+  if (!is_given (elfkit_shdr (&scn->elf->handle, scn->index, &shdr)) || !has_home (scn))
+    return false;
+  if (!lies_in (scn->home.at, scn->home.len, scn->elf->size) && scn->home.len > 0)
+    {
+      set_error (E_INVALID_SECTION_HEADER);
+      return false;
+    }
+  bool none = shdr.sh_type == SHT_NOBITS || scn->home.len == 0;
+  scn->raw.d = (Elf_Data) { .d_buf = none ? NULL : scn->elf->shown + scn->home.at,
+                            .d_type = section_type (&shdr), .d_version = EV_CURRENT,
+                            .d_size = shdr.sh_type == SHT_NOBITS ? shdr.sh_size : scn->home.len,
+                            .d_align = section_align (&shdr, scn->elf->class) };
+  scn->raw.scn = scn;
+  tie (&scn->raw, scn->elf);
+  return true;
+}
+
+/* elf_rawdata: the bytes of a section as they stand in the file; it has one piece. */
+PUBLIC Elf_Data *
+elf_rawdata (Elf_Scn *scn, Elf_Data *data)
+{
+  if (scn == NULL)
+    {
+      set_error (E_INVALID_HANDLE);
+      return NULL;
+    }
+  if (data != NULL)
+    {
+      if (data != &scn->raw.d)
+        set_error (E_INVALID_OPERAND);
+      return NULL;
+    }
+  if (scn->has_raw == 0)
+    {
+      scn->has_raw = make_raw (scn) ? 1 : 2;
+      scn->raw_error = scn->has_raw == 2 ? elf_errno () : E_NONE;
+    }
+  if (scn->has_raw == 2)
+    {
+      set_error (scn->raw_error);
+      return NULL;
+    }
+  return &scn->raw.d;
+}
+
+/* The number of the core's kind of items (crates/gelf_records, Forms.antt) that data of a type has;
+   types that the core has no items of are bytes to it. */
+static uint32_t
+kind_of_type (Elf_Type type)
+{
+  switch (type)
+    {
+    case ELF_T_HALF:
+      return 2;
+    case ELF_T_WORD:
+      return 3;
+    case ELF_T_ADDR:
+      return 4;
+    case ELF_T_SYM:
+      return 5;
+    case ELF_T_REL:
+      return 6;
+    case ELF_T_RELA:
+      return 7;
+    case ELF_T_DYN:
+      return 8;
+    default:
+      return 1;
+    }
+}
+
+/* Whether the core says that a section has such items; an error where it does not. */
+static bool
+has_items (Elf_Scn *scn, Elf_Type type)
+{
+  uint32_t kind;
+  if (!is_given (elfkit_kind (&scn->elf->handle, scn->index, 0, &kind)))
+    return false;
+  if (kind != kind_of_type (type))
+    set_error (E_INVALID_DATA);
+  return kind == kind_of_type (type);
+}
+
+/* The data of a section. */
+static bool
+make_data (Elf_Scn *scn)
+{
+  if (elf_rawdata (scn, NULL) == NULL)
+    return false;
+  scn->data.d = scn->raw.d;
+  scn->data.scn = scn;
+  tie (&scn->data, scn->elf);
+  scn->data.from_core = true;
+  if (scn->raw.d.d_buf == NULL)
+    return true;
+  if (!has_items (scn, scn->raw.d.d_type))
+    return false;
+  if (!is_whole (scn->raw.d.d_type, scn->elf->class, scn->raw.d.d_size))
+    {
+      set_error (E_INVALID_DATA);
+      return false;
+    }
+  scn->data.d.d_buf = in_memory (scn->elf, scn->raw.d.d_type, scn->home.at, scn->raw.d.d_size,
+                                 &scn->data.owned);
+  return scn->data.d.d_buf != NULL;
+}
+
+/* elf_getdata: the data of a section in memory form; it has one piece. */
+PUBLIC Elf_Data *
+elf_getdata (Elf_Scn *scn, Elf_Data *data)
+{
+  if (scn == NULL)
+    return NULL;
+  if (data != NULL)
+    {
+      if (data != &scn->data.d)
+        set_error (E_INVALID_OPERAND);
+      return NULL;
+    }
+  if (scn->has_data == 0)
+    {
+      scn->has_data = make_data (scn) ? 1 : 2;
+      scn->data_error = scn->has_data == 2 ? elf_errno () : E_NONE;
+    }
+  if (scn->has_data == 2)
+    {
+      set_error (scn->data_error);
+      return NULL;
+    }
+  return &scn->data.d;
+}
+
+/* The order of the chunks of a file, which stand in a tree. */
+static int
+compare_chunks (const void *left, const void *right)
+{
+  const Elf_Data *a = &((const struct elfkit_data *) left)->d;
+  const Elf_Data *b = &((const struct elfkit_data *) right)->d;
+  if (a->d_off != b->d_off)
+    return a->d_off < b->d_off ? -1 : 1;
+  if (a->d_size != b->d_size)
+    return a->d_size < b->d_size ? -1 : 1;
+  return (int) a->d_type - (int) b->d_type;
+}
+
+static void
+free_chunk (void *chunk)
+{
+  free (((struct elfkit_data *) chunk)->owned);
+  free (chunk);
+}
+
+void
+free_chunks (Elf *elf)
+{
+  tdestroy (elf->chunks, free_chunk);
+}
+
+/* elf_getdata_rawchunk: a range of the file as data of no section; the same data for the same range
+   and type. */
+PUBLIC Elf_Data *
+elf_getdata_rawchunk (Elf *elf, int64_t offset, size_t size, Elf_Type type)
+{
+  if (elf == NULL)
+    return NULL;
+  if (elf->kind != ELF_K_ELF)
+    {
+      set_error (E_INVALID_HANDLE);
+      return NULL;
+    }
+  if (offset < 0 || !lies_in (offset, size, elf->size))
+    {
+      set_error (E_INVALID_OP);
+      return NULL;
+    }
+  if ((unsigned int) type >= ELF_T_NUM)
+    {
+      set_error (E_UNKNOWN_TYPE);
+      return NULL;
+    }
+  struct elfkit_data key = { .d = { .d_off = offset, .d_size = size, .d_type = type } };
+  struct elfkit_data **found = tfind (&key, &elf->chunks, compare_chunks);
+  if (found != NULL)
+    return &(*found)->d;
+  struct elfkit_data *made = calloc (1, sizeof *made);
+  if (made == NULL)
+    {
+      set_error (E_NOMEM);
+      return NULL;
+    }
+  tie (made, elf);
+  made->d = (Elf_Data) { .d_type = type, .d_version = EV_CURRENT, .d_size = size,
+                         .d_off = offset, .d_align = item_align (type, elf->class),
+                         .d_buf = in_memory (elf, type, offset, size, &made->owned) };
+  if (made->d.d_buf == NULL)
+    {
+      free (made);
+      return NULL;
+    }
+  if (tsearch (made, &elf->chunks, compare_chunks) == NULL)
+    {
+      free_chunk (made);
+      set_error (E_NOMEM);
+      return NULL;
+    }
+  return &made->d;
+}

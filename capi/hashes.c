@@ -1,0 +1,16 @@
+/* hashes.c: elf_hash, elf_gnu_hash, both the core's. */
+#include <string.h>
+
+#include "object.h"
+
+PUBLIC unsigned long int
+elf_hash (const char *name)
+{
+  return elfkit_hash ((const uint8_t *) name, strlen (name));
+}
+
+PUBLIC unsigned long int
+elf_gnu_hash (const char *name)
+{
+  return elfkit_gnu_hash ((const uint8_t *) name, strlen (name));
+}

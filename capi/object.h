@@ -1,0 +1,222 @@
+/* object.h: what stands behind an Elf, an Elf_Scn and an Elf_Data in the C layer. */
+#ifndef ELFKIT_OBJECT_H
+#define ELFKIT_OBJECT_H 1
+
+#include <stdbool.h>
+#include <stddef.h>
+#include <stdint.h>
+
+#include "core.h"
+#include "gelf.h"
+
+/* The layer names what programs may call; all else stays inside. */
+#define PUBLIC __attribute__ ((visibility ("default")))
+
+/* An Elf_Data of the layer. A program sees its first member alone. */
+struct elfkit_data
+{
+  Elf_Data d;
+  Elf_Scn *scn;                 /* the section, or NULL for a chunk of the file */
+  Elf *elf;
+  void *owned;                  /* memory to be freed with it */
+  bool from_core;               /* the core's items are those of d_buf */
+  bool is_64, is_native;        /* the class and the order of its image */
+  unsigned int flags;
+};
+
+struct Elf_Scn
+{
+  Elf *elf;
+  uint32_t index;
+  uint32_t extended;            /* its table of extended indexes, 0 for none */
+  uint8_t has_home, has_data, has_raw;  /* 1: there; 2: refused */
+  bool has_end;                 /* where its strings end is known */
+  uint64_t strings_end;         /* the place behind its last string */
+  unsigned int flags, shdr_flags;
+  int home_error, data_error, raw_error;
+  struct elfkit_extent home;    /* where its bytes are */
+  void *shdr;                   /* its header in native form, once a program asked for it */
+  struct elfkit_data data, raw;
+};
+
+/* What the ELF header says of the tables, as it stands in the image. */
+struct tables
+{
+  uint64_t phoff, shoff;
+  uint32_t version;
+  uint16_t phentsize, phnum, shentsize, shnum, shstrndx;
+};
+
+/* A descriptor. The first part is laid out as elfutils 0.188 has it, whose libdw and libebl look at
+   some of these places without a call. */
+struct Elf
+{
+  uint8_t *shown;               /* the image as programs see it, and may change it */
+  Elf *parent;                  /* the archive that it is a member of; none is yet */
+  Elf *next;                    /* the next member of that archive */
+  Elf_Kind kind;
+  Elf_Cmd cmd;
+  unsigned int class;
+  int fd;
+  int64_t start;                /* where it begins in the file */
+  size_t size;                  /* the length of the image */
+  unsigned int marks;           /* IS_HANDED_OVER, which libdwfl sets */
+  int refs;                     /* how many calls of elf_end there will be */
+  uint64_t reserved;
+  void *ehdr;                   /* its ELF header in native form */
+
+  struct elfkit_handle handle;  /* the core's object, where the kind is ELF_K_ELF */
+  const uint8_t *lent;          /* the image as the core reads it */
+  enum { MAPPED, MAPPED_ONCE, COPIED, BORROWED } memory;
+  uint8_t *front;               /* a copy of the image, lent with another front */
+  struct tables tables;         /* where the kind is ELF_K_ELF */
+  bool is_cut;                  /* its section headers do not lie in it: it is read as without */
+  bool lacks_phdrs;             /* some of its program headers do not lie in it */
+  unsigned int order;
+  void *phdr;                   /* its program headers in native form */
+  size_t phnum;
+  Elf_Scn *sections;
+  size_t shnum;
+  bool has_links;               /* the sections know their tables of extended indexes */
+  void *chunks;                 /* the chunks of the file that were asked for, a tree */
+  unsigned int flags, ehdr_flags, phdr_flags;
+};
+
+/* The image was given to elf_memory by malloc, and elf_end frees it: libdwfl says so of what it has
+   decompressed. */
+enum { IS_HANDED_OVER = 0x80 };
+
+_Static_assert (offsetof (struct Elf, kind) == 0x18, "the place of the kind");
+_Static_assert (offsetof (struct Elf, start) == 0x28, "the place of the start");
+_Static_assert (offsetof (struct Elf, marks) == 0x38, "the place of the marks");
+_Static_assert (offsetof (struct Elf, ehdr) == 0x48, "the place of the native ELF header");
+
+/* The error numbers, in the order of their texts in errors.c. */
+enum
+{
+  E_NONE,
+  E_UNKNOWN,
+  E_UNKNOWN_VERSION,
+  E_UNKNOWN_TYPE,
+  E_INVALID_HANDLE,
+  E_SOURCE_SIZE,
+  E_DEST_SIZE,
+  E_INVALID_ENCODING,
+  E_NOMEM,
+  E_INVALID_FILE,
+  E_INVALID_ELF,
+  E_INVALID_OP,
+  E_NO_VERSION,
+  E_INVALID_CMD,
+  E_RANGE,
+  E_INVALID_ARCHIVE,
+  E_NO_ARCHIVE,
+  E_NO_INDEX,
+  E_READ_ERROR,
+  E_WRITE_ERROR,
+  E_INVALID_CLASS,
+  E_INVALID_INDEX,
+  E_INVALID_OPERAND,
+  E_INVALID_SECTION,
+  E_FD_MISMATCH,
+  E_OFFSET_RANGE,
+  E_NOT_NUL_SECTION,
+  E_INVALID_SECTION_HEADER,
+  E_INVALID_DATA,
+  E_UPDATE_RO,
+  E_NO_PHDR,
+  E_NOT_COMPRESSED,
+  E_INVALID_SECTION_TYPE,
+  E_INVALID_SECTION_FLAGS,
+  E_UNSUPPORTED,
+  E_COUNT
+};
+
+/* Sets the error number of this thread. */
+void set_error (int error);
+
+/* The error number that stands for a refusal of the core, 0 for none. */
+int error_of (uint32_t number);
+
+/* Whether elf_version was called. */
+extern bool version_is_set;
+
+/* The class and the byte order of the machine. */
+enum { NATIVE_ORDER = ELFDATA2LSB };
+
+/* The size of one item of a type in the file of a class; 0 for a type that is not known. */
+size_t item_size (Elf_Type type, unsigned int class);
+
+/* The same of the types that are known, for class 32 and class 64. */
+extern const uint8_t item_sizes[ELF_T_NUM][2];
+
+/* The alignment that C wants of an item in memory. */
+size_t item_align (Elf_Type type, unsigned int class);
+
+/* The type of the data of a section with that header. */
+Elf_Type section_type (const GElf_Shdr *shdr);
+
+/* Translates so many bytes of items between the orders; the two ranges are the same or apart. */
+void translate (Elf_Type type, unsigned int class, bool to_memory, void *to, const void *from,
+                size_t size);
+
+/* Lets go of the chunks of a file. */
+void free_chunks (Elf *elf);
+
+/* Begins over the image of a descriptor; the number of the core's refusal, or 0. */
+uint32_t begin_core (Elf *elf);
+
+/* Whether programs may write where they see the image. */
+bool may_write (const Elf *elf);
+
+/* The section, with its home's place; false and an error where the core refuses. */
+bool has_home (Elf_Scn *scn);
+
+/* Whether the place and the length lie in a size. */
+static inline bool
+lies_in (uint64_t at, uint64_t len, uint64_t size)
+{
+  return at <= size && len <= size - at;
+}
+
+/* The data with a record of a type and a size at a place; NULL and an error where there is none. */
+struct elfkit_data *record_of (Elf_Data *data, Elf_Type type, int offset, size_t size);
+
+/* NULL, and the error of an item that is not there. */
+struct elfkit_data *no_item (Elf_Data *data, Elf_Type type);
+
+/* What a call of the core gave: whether it is a value, and else the error. */
+bool is_given (uint32_t number);
+
+static inline bool
+is_64 (const struct elfkit_data *d)
+{
+  return d->is_64;
+}
+
+/* The layer's part of an Elf_Data. */
+static inline struct elfkit_data *
+data_of (Elf_Data *data)
+{
+  return (struct elfkit_data *) data;
+}
+
+/* The data with items of a type at an index; NULL and an error where there is none. */
+static inline struct elfkit_data *
+item_of (Elf_Data *data, Elf_Type type, int ndx)
+{
+  struct elfkit_data *d = data_of (data);
+  if (d == NULL || data->d_type != type || d->elf == NULL || ndx < 0 || data->d_buf == NULL
+      || ((size_t) ndx + 1) * item_sizes[type][is_64 (d)] > data->d_size)
+    return no_item (data, type);
+  return d;
+}
+
+/* The item in the buffer. */
+static inline void *
+at_index (const struct elfkit_data *d, int ndx)
+{
+  return (uint8_t *) d->d.d_buf + (size_t) ndx * item_sizes[d->d.d_type][is_64 (d)];
+}
+
+#endif /* object.h */

@@ -1,0 +1,203 @@
+/* sections.c: the sections by number and by place, and where their bytes are. A section is an entry
+   of one array, which is made when the first one is asked for. */
+#define _GNU_SOURCE
+#include <stdlib.h>
+#include <string.h>
+
+#include "object.h"
+
+static bool
+has_sections (Elf *elf)
+{
+  if (elf == NULL)
+    return false;
+  if (elf->kind != ELF_K_ELF)
+    {
+      set_error (E_INVALID_HANDLE);
+      return false;
+    }
+  if (elf->sections == NULL && elf->shnum > 0)
+    {
+      elf->sections = calloc (elf->shnum, sizeof *elf->sections);
+      if (elf->sections == NULL)
+        {
+          set_error (E_NOMEM);
+          return false;
+        }
+      for (size_t i = 0; i < elf->shnum; i++)
+        elf->sections[i] = (Elf_Scn) { .elf = elf, .index = i };
+    }
+  return true;
+}
+
+bool
+has_home (Elf_Scn *scn)
+{
+  if (scn->has_home == 0)
+    {
+      uint32_t number = elfkit_home (&scn->elf->handle, scn->index, &scn->home);
+      scn->has_home = number == 0 ? 1 : 2;
+      scn->home_error = error_of (number);
+    }
+  if (scn->has_home == 2)
+    set_error (scn->home_error);
+  return scn->has_home == 1;
+}
+
+/* elf_getscn: the section with a number. */
+PUBLIC Elf_Scn *
+elf_getscn (Elf *elf, size_t index)
+{
+  if (!has_sections (elf))
+    return NULL;
+  if (index >= elf->shnum)
+    {
+      set_error (E_INVALID_INDEX);
+      return NULL;
+    }
+  return &elf->sections[index];
+}
+
+/* elf_nextscn: the section after one, the one with number 1 for NULL. */
+PUBLIC Elf_Scn *
+elf_nextscn (Elf *elf, Elf_Scn *scn)
+{
+  if (scn != NULL)
+    elf = scn->elf;
+  if (!has_sections (elf))
+    return NULL;
+  size_t index = scn == NULL ? 1 : (size_t) scn->index + 1;
+  return index < elf->shnum ? &elf->sections[index] : NULL;
+}
+
+/* elf_ndxscn: a section's number. */
+PUBLIC size_t
+elf_ndxscn (Elf_Scn *scn)
+{
+  return scn == NULL ? SHN_UNDEF : scn->index;
+}
+
+/* gelf_offscn: the section that begins at a place: the first that has bytes, or the last. */
+PUBLIC Elf_Scn *
+gelf_offscn (Elf *elf, GElf_Off offset)
+{
+  if (!has_sections (elf))
+    return NULL;
+  Elf_Scn *found = NULL;
+  for (size_t i = 0; i < elf->shnum; i++)
+    {
+      GElf_Shdr shdr;
+      if (gelf_getshdr (&elf->sections[i], &shdr) == NULL || shdr.sh_offset != offset)
+        continue;
+      found = &elf->sections[i];
+      if (shdr.sh_size != 0 && shdr.sh_type != SHT_NOBITS)
+        return found;
+    }
+  if (found == NULL)
+    set_error (E_OFFSET_RANGE);
+  return found;
+}
+
+PUBLIC Elf_Scn *
+elf32_offscn (Elf *elf, Elf32_Off offset)
+{
+  return gelf_getclass (elf) == ELFCLASS32 ? gelf_offscn (elf, offset) : NULL;
+}
+
+PUBLIC Elf_Scn *
+elf64_offscn (Elf *elf, Elf64_Off offset)
+{
+  return gelf_getclass (elf) == ELFCLASS64 ? gelf_offscn (elf, offset) : NULL;
+}
+
+/* Notes of each section which one has its extended indexes: the first that links to it. One pass
+   serves all sections, until a header is stored. */
+static void
+link_sections (Elf *elf)
+{
+  for (size_t i = 0; i < elf->shnum; i++)
+    elf->sections[i].extended = 0;
+  for (size_t i = elf->shnum; i-- > 1;)
+    {
+      GElf_Shdr shdr;
+      if (gelf_getshdr (&elf->sections[i], &shdr) != NULL && shdr.sh_type == SHT_SYMTAB_SHNDX
+          && shdr.sh_link < elf->shnum)
+        elf->sections[shdr.sh_link].extended = i;
+    }
+  elf->has_links = true;
+}
+
+/* elf_scnshndx: the section with the extended indexes of a symbol table, 0 where there is none. */
+PUBLIC int
+elf_scnshndx (Elf_Scn *scn)
+{
+  if (scn == NULL)
+    return -1;
+  if (!scn->elf->has_links)
+    link_sections (scn->elf);
+  return (int) scn->extended;
+}
+
+/* What the core says of a piece of bytes, and the numbers of two of its refusals
+   (crates/gelf_records, Forms.antt and Codes.antt). */
+enum { BYTES = 1, NO_STRING = 23, UNENDED = 24 };
+
+/* Notes where the strings of a section end: behind its last NUL. The core says whether it is a
+   section of strings, and where it is; a string is then at each place before that NUL, and none
+   behind it, so that nobody need look for the end of each. */
+static void
+find_end (Elf_Scn *scn)
+{
+  GElf_Shdr shdr;
+  uint32_t kind;
+  struct elfkit_handle *h = &scn->elf->handle;
+  if (elfkit_shdr (h, scn->index, &shdr) != 0 || shdr.sh_type != SHT_STRTAB
+      || elfkit_kind (h, scn->index, 0, &kind) != 0 || kind != BYTES || !has_home (scn)
+      || !lies_in (scn->home.at, scn->home.len, scn->elf->size))
+    return;
+  const uint8_t *bytes = scn->elf->lent + scn->home.at;
+  const uint8_t *last = scn->home.len == 0 ? NULL : memrchr (bytes, 0, scn->home.len);
+  scn->has_end = true;
+  scn->strings_end = last == NULL ? 0 : last - bytes + 1;
+}
+
+/* The number of the refusal of a string at an offset of a section, 0 where there is one. What has
+   no end of strings the core refuses, and that without reading it. A library that is built with
+   ELFKIT_CHECK compares each answer with the core's. */
+static uint32_t
+refused_string (Elf_Scn *scn, size_t offset)
+{
+  uint64_t length;
+  if (!scn->has_end)
+    find_end (scn);
+  if (!scn->has_end)
+    return elfkit_string (&scn->elf->handle, scn->index, offset, &length);
+  uint32_t number = offset < scn->strings_end ? 0 : offset < scn->home.len ? UNENDED : NO_STRING;
+#ifdef ELFKIT_CHECK
+  if (elfkit_string (&scn->elf->handle, scn->index, offset, &length) != number)
+    abort ();
+#endif
+  return number;
+}
+
+/* elf_strptr: the string at an offset of a section, which lies where programs see the section. */
+PUBLIC char *
+elf_strptr (Elf *elf, size_t index, size_t offset)
+{
+#ifndef ELFKIT_CHECK
+  /* a place before the end that is known, which is 0 where none is */
+  if (elf != NULL && elf->sections != NULL && index < elf->shnum
+      && offset < elf->sections[index].strings_end)
+    return (char *) elf->shown + elf->sections[index].home.at + offset;
+#endif
+  if (!has_sections (elf))
+    return NULL;
+  if (index >= elf->shnum)
+    {
+      set_error (E_INVALID_INDEX);
+      return NULL;
+    }
+  Elf_Scn *scn = &elf->sections[index];
+  return is_given (refused_string (scn, offset)) && has_home (scn)
+         ? (char *) elf->shown + scn->home.at + offset : NULL;
+}

@@ -1,0 +1,104 @@
+/* versions.c: version records and notes, by their places. Those of a section are the core's; those
+   of a chunk of the file are read from its buffer, which is in memory form. */
+#include <string.h>
+
+#include "object.h"
+
+#define RECORD(call, type) \
+  struct elfkit_data *d = record_of (data, type, offset, sizeof *dst); \
+  if (d == NULL) \
+    return NULL; \
+  if (d->from_core) \
+    return is_given (call (&d->elf->handle, d->scn->index, 0, offset, dst)) ? dst : NULL; \
+  memcpy (dst, (const uint8_t *) data->d_buf + offset, sizeof *dst); \
+  return dst
+
+/* gelf_getverdef, gelf_getverdaux, gelf_getverneed, gelf_getvernaux: a version definition, one of
+   its names, the needs of a file, a needed version. */
+PUBLIC GElf_Verdef *
+gelf_getverdef (Elf_Data *data, int offset, GElf_Verdef *dst)
+{
+  RECORD (elfkit_verdef, ELF_T_VDEF);
+}
+
+PUBLIC GElf_Verdaux *
+gelf_getverdaux (Elf_Data *data, int offset, GElf_Verdaux *dst)
+{
+  RECORD (elfkit_verdaux, ELF_T_VDEF);
+}
+
+PUBLIC GElf_Verneed *
+gelf_getverneed (Elf_Data *data, int offset, GElf_Verneed *dst)
+{
+  RECORD (elfkit_verneed, ELF_T_VNEED);
+}
+
+PUBLIC GElf_Vernaux *
+gelf_getvernaux (Elf_Data *data, int offset, GElf_Vernaux *dst)
+{
+  RECORD (elfkit_vernaux, ELF_T_VNEED);
+}
+
+/* A note of a chunk of the file, as the core finds one: header, name and descriptor lie in it. */
+static bool
+note_in (const Elf_Data *data, size_t offset, struct elfkit_note *note)
+{
+  Elf64_Nhdr n;
+  size_t size = data->d_size, align = data->d_type == ELF_T_NHDR8 ? 8 : 4;
+  *note = (struct elfkit_note) { 0 };
+  if (offset == size)
+    return true;
+  if (!lies_in (offset, sizeof n, size))
+    return false;
+  memcpy (&n, (const uint8_t *) data->d_buf + offset, sizeof n);
+  size_t name = offset + sizeof n;
+  if (!lies_in (name, n.n_namesz, size))
+    return false;
+  size_t desc = (name + n.n_namesz + align - 1) & -align;
+  if (desc > size)
+    desc = size;
+  if (!lies_in (desc, n.n_descsz, size))
+    return false;
+  size_t next = (desc + n.n_descsz + align - 1) & -align;
+  *note = (struct elfkit_note) { .found = 1, .ntype = n.n_type, .name_at = name,
+                                 .namesz = n.n_namesz, .desc_at = desc, .descsz = n.n_descsz,
+                                 .next = next > size ? size : next };
+  return true;
+}
+
+/* gelf_getnote: a note, and the place of the next one; 0 at the end and where there is none. */
+PUBLIC size_t
+gelf_getnote (Elf_Data *data, size_t offset, GElf_Nhdr *nhdr, size_t *name_offset,
+              size_t *desc_offset)
+{
+  if (data == NULL)
+    return 0;
+  struct elfkit_data *d = data_of (data);
+  if ((data->d_type != ELF_T_NHDR && data->d_type != ELF_T_NHDR8) || d->elf == NULL)
+    {
+      set_error (E_INVALID_HANDLE);
+      return 0;
+    }
+  if (data->d_buf == NULL || offset > data->d_size)
+    {
+      set_error (E_OFFSET_RANGE);
+      return 0;
+    }
+  struct elfkit_note note;
+  if (d->from_core)
+    {
+      if (!is_given (elfkit_note (&d->elf->handle, d->scn->index, 0, offset, &note)))
+        return 0;
+    }
+  else if (!note_in (data, offset, &note))
+    {
+      set_error (E_OFFSET_RANGE);
+      return 0;
+    }
+  if (note.found == 0)
+    return 0;
+  *nhdr = (GElf_Nhdr) { .n_namesz = note.namesz, .n_descsz = note.descsz, .n_type = note.ntype };
+  *name_offset = note.name_at;
+  *desc_offset = note.desc_at;
+  return note.next;
+}
