@@ -1,0 +1,70 @@
+/* no_memory.c: each allocation fails in turn. What is asked for is then refused, with "out of
+   memory", and the descriptor can be ended. */
+#include "check.h"
+#include "image.h"
+
+extern void *__libc_malloc (size_t size);
+extern void *__libc_calloc (size_t count, size_t size);
+
+static long left = -1;
+
+static int
+fails (void)
+{
+  return left >= 0 && left-- == 0;
+}
+
+void *
+malloc (size_t size)
+{
+  return fails () ? NULL : __libc_malloc (size);
+}
+
+void *
+calloc (size_t count, size_t size)
+{
+  return fails () ? NULL : __libc_calloc (count, size);
+}
+
+/* Opens the image, reads a symbol and a string; whether all of it was there. */
+static int
+read_once (struct image *m)
+{
+  GElf_Sym sym;
+  Elf *elf = elf_memory ((char *) m->bytes, m->size);
+  Elf_Scn *scn = elf_getscn (elf, SYMBOLS);
+  Elf_Data *data = elf_getdata (scn, NULL);
+  int whole = gelf_getsym (data, 1, &sym) != NULL && elf_strptr (elf, STRINGS, 1) != NULL
+              && (m->is64 ? (void *) elf64_getshdr (scn) : (void *) elf32_getshdr (scn)) != NULL;
+  elf_end (elf);
+  return whole;
+}
+
+int
+main (void)
+{
+  struct image m;
+  elf_version (EV_CURRENT);
+  for (int kind = 0; kind < 4; kind++)
+    {
+      make_image (&m, kind & 1, kind >> 1);
+      long n = 0;
+      for (;; n++)
+        {
+          left = n;
+          int whole = read_once (&m);
+          int all_made = left >= 0;
+          left = -1;
+          if (all_made)
+            {
+              CHECK (whole);
+              break;
+            }
+          CHECK (!whole);
+          CHECK (strcmp (elf_errmsg (-1), "out of memory") == 0);
+          elf_errno ();
+        }
+      CHECK (n > 3);
+    }
+  return ended ("no_memory");
+}
