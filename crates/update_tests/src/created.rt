@@ -18,7 +18,7 @@ pub enum Made {
     TwoSections,
     /// Class 32 with so many sections that its header does not count them.
     ManySections,
-    /// Class 64 with a section at 200,000 and the table of section headers before it, with a fill
+    /// Class 64 with a section at 800,000 and the table of section headers before it, with a fill
     /// byte between them.
     FarSection(u8),
     /// The same with a second section that shares a place with the first.
@@ -71,17 +71,17 @@ fn put_table(elf: &mut Elf<NoSource>, shoff: u64) -> Result<(), ElfError> {
     elf.update_ehdr(&Ehdr { shoff, ..header })
 }
 
-/// Adds the section at 200,000.
+/// Adds the section at 800,000.
 fn add_far(elf: &mut Elf<NoSource>, fill: u8) -> Result<(), ElfError> {
     elf.set_fill(fill);
-    add_at(elf, 200_000, &[1, 2, 3])?;
+    add_at(elf, 800_000, &[1, 2, 3])?;
     put_table(elf, 64)
 }
 
 /// Adds that section and one that shares its place.
 fn add_shared(elf: &mut Elf<NoSource>) -> Result<(), ElfError> {
     add_far(elf, 0)?;
-    add_at(elf, 200_001, &[4])?;
+    add_at(elf, 800_001, &[4])?;
     put_table(elf, 300_000)
 }
 
@@ -160,9 +160,9 @@ fn has_counts(image: &Octets) -> bool {
 
 /// Whether an image has a gap of bytes between its table and its section.
 fn has_gap(image: &Octets, fill: u8) -> bool {
-    image.len() == 200_003
-        && are_all(image, 192, 200_000, fill)
-        && stands(image, 200_000, &[1, 2, 3])
+    image.len() == 800_003
+        && are_all(image, 192, 800_000, fill)
+        && stands(image, 800_000, &[1, 2, 3])
 }
 
 /// Whether the first update puts an image, and those that follow, where puts fail and none does.
