@@ -63,8 +63,32 @@ impl Cell {
                 let out = home.passes_end(base);
                 Ok(Cell::of(alloc, Kept::over(section, home, out, true)))
             }
-            None => Ok(Cell::of(alloc, Kept::over(section, Home::none(), false, false))),
+            None => Ok(Cell::fresh(alloc, section)),
         }
+    }
+
+    /// The cell of a new section, which has an empty home and no piece. It refuses nothing and
+    /// takes no memory.
+    pub fn fresh(alloc: Global, section: u32) -> Cell
+        ensures value { result ≡ new_cell section }
+        ensures cell { IsCell result }
+    {
+        Cell::of(alloc, Kept::over(section, Home::none(), false, false))
+    }
+
+    /// The cell of a section of an image of `size` bytes, by its number and its header: nothing of
+    /// it is read. It refuses nothing and takes no memory.
+    ///
+    /// Source: gABI chapter 4, "Section Header".
+    #[tactic(auto, using(crate::proofs::Loading::opened_lies))]
+    pub fn unread(alloc: Global, section: u32, class: Class, header: &Shdr, size: u64) -> Cell
+        ensures value { result ≡ opened_cell section (home_of size header.now) }
+        ensures lies { LiesIn result size }
+        ensures cell { IsCell result }
+    {
+        let home = Home::of(class, header);
+        let out = home.passes_end(size);
+        Cell::of(alloc, Kept::over(section, home, out, true))
     }
 
     /// The cell of what is kept.
