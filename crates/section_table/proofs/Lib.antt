@@ -1,0 +1,5 @@
+pub mod Views
+pub mod CellsMade
+pub mod Beginnings
+pub mod Growing
+pub mod AsOpened
