@@ -1,11 +1,9 @@
 -- What the front of an image begins.
-use Rattle.std.proofs.Common.{◌≡◌, ℕ, zero, suc, ◌+◌, ◌-◌, ◌^◌, ◌<◌, ◌≤◌, Bool, true, false, List, [], ◌∷◌, ◌++◌, length, map, take, drop, get_or, Option, Some, None, Ok, refl, sym, ap, ◌∙◌, subst, arith, lit<}
+use Rattle.std.proofs.Common.{◌≡◌, ℕ, zero, suc, ◌+◌, ◌-◌, ◌^◌, ◌<◌, ◌≤◌, Bool, true, false, List, [], ◌∷◌, length, map, take, drop, Option, Some, None, Ok, refl, sym, ap, ◌∙◌, subst, arith, lit<}
 use Rattle.std.specs.Prelude.{IfSome, IsSome, is_some, slice_get, if◌then◌else◌}
-use Rattle.std.specs.Global.{Vec}
 use Rattle.std.specs.List.{enumerate_from}
 use Rattle.std.proofs.Math.ListN.{replicate}
-use Rattle.std.proofs.Math.Seq.{take-suc}
-use Rattle.std.proofs.lemmas.List.{length-map, length-replicate, drop-replicate, take-replicate, length-take-le}
+use Rattle.std.proofs.lemmas.List.{length-map, length-replicate, drop-replicate, take-replicate}
 use Rattle.std.proofs.lemmas.List.FromFn.{length-enumerate_from}
 use Rattle.std.proofs.lemmas.List.Elements.{All-replicate}
 use Rattle.elf_types.specs.declared.constants.TheConstants.{MAX_IMAGE}
@@ -26,7 +24,7 @@ use Rattle.section_data.specs.Views.{CellView, opened_cell}
 use Rattle.section_data.specs.Held.{cell_is_loaded}
 use Rattle.section_data.specs.Leaves.{LiesIn}
 use Rattle.section_data.proofs.Loading.{opened_lies}
-use Rattle.elf_descriptor.specs.declared.scn.Scn.{Scn}
+use Rattle.section_table.specs.Sections.{SectionView as Scn, opened_scn, opened_scns}
 use Rattle.elf_descriptor.specs.declared.body.Body.{Body}
 use Rattle.elf_descriptor.specs.declared.body.Base.{Base}
 use Rattle.elf_descriptor.specs.declared.body.Base.TheVariants as bases
@@ -34,40 +32,13 @@ use Rattle.elf_descriptor.proofs.Objects.{whole_source}
 use Rattle.elf_descriptor.specs.State.{State}
 use Rattle.elf_descriptor.specs.Views.{object_of, section_of, raw_of, loaded_of, held_of, state_of, source_bytes, ready_of, room_of}
 use Rattle.elf_descriptor.specs.Sound.{CellIn, IsSound, IsElf, IsStanding, source_part}
-use Rattle.elf_descriptor.specs.Begun.{opened_scn, opened_scns, opened_body, none_held, begun_state, IsOpened, BegunIsSound}
+use Rattle.elf_descriptor.specs.Begun.{opened_body, none_held, begun_state, IsOpened, BegunIsSound}
 
 -- ---- The sections, one after another
 
 -- those with these numbers from one on
 abbrev scns_from : ℕ → ℕ → List Shdr → List Scn
 scns_from size n headers = map (opened_scn size) (enumerate_from n headers)
-
-from_one_more : (size n : ℕ) (headers : List Shdr) (h : Shdr) → scns_from size n (headers ++ h ∷ []) ≡ scns_from size n headers ++ opened_scn size (n + length headers, h) ∷ []
-from_one_more size n [] h = ap (λ (k : ℕ). opened_scn size (k, h) ∷ []) (omega arith)
-from_one_more size n (first ∷ headers) h =
-    ap (λ (l : List Scn). opened_scn size (n, first) ∷ l) (from_one_more size (n + 1) headers h)
-    ∙ ap (λ (k : ℕ). opened_scn size (n, first) ∷ scns_from size (n + 1) headers ++ opened_scn size (k, h) ∷ []) (omega arith)
-
-pub none_opened : (size : ℕ) (scns : List Scn) → scns ≡ [] → scns ≡ opened_scns size []
-unfolding opened_scns
-none_opened size scns none = none
-
-pub one_opened : (size i : ℕ) (headers : List Shdr) (d : Shdr) (old new : List Scn) (cell : CellView) → i < length headers → old ≡ opened_scns size (take i headers)
-    → cell ≡ opened_cell i (home_of size (get_or headers i d)) → new ≡ old ++ record { header = get_or headers i d; cell = cell; marked = false } ∷ []
-    → new ≡ opened_scns size (take (i + 1) headers)
-unfolding opened_scns
-one_opened size i headers d old new cell there is made more =
-    let next : suc i ≡ i + 1 = omega arith in
-    more
-    ∙ ap (λ (l : List Scn). l ++ record { header = get_or headers i d; cell = cell; marked = false } ∷ []) is
-    ∙ ap (λ (c : CellView). scns_from size 0 (take i headers) ++ record { header = get_or headers i d; cell = c; marked = false } ∷ []) made
-    ∙ ap (λ (k : ℕ). scns_from size 0 (take i headers) ++ opened_scn size (k, get_or headers i d) ∷ []) (counted_from i (take i headers) (length-take-le i headers (omega arith)))
-    ∙ sym (from_one_more size 0 (take i headers) (get_or headers i d))
-    ∙ ap (λ (l : List Shdr). scns_from size 0 l) (sym (take-suc headers i d there))
-    ∙ ap (λ (k : ℕ). scns_from size 0 (take k headers)) next
-  where
-    counted_from : (i : ℕ) (l : List Shdr) → length l ≡ i → i ≡ 0 + length l
-    counted_from i l is = omega (arith, is)
 
 -- ---- What they stand for
 
@@ -111,11 +82,11 @@ sections_begun image size n (h ∷ headers) long =
 abbrev object_with : Front → List ℕ → List Section → Object
 object_with f image sections = record (begun f image) { sections = sections }
 
-object_begun : (f : Front) (size : ℕ) (v : Vec Scn) → v.items ≡ opened_scns size f.shdrs
+object_begun : (f : Front) (size : ℕ) (v : List Scn) → v ≡ opened_scns size f.shdrs
     → (image : Option (List ℕ)) → IfSome image (λ bytes. length bytes ≡ size) → object_of image size (opened_body size f v) ≡ begun f (source_bytes image size)
 unfolding object_of opened_body opened_scns begun
 object_begun f size v items image long =
-    ap (λ (l : List ℕ). object_with f l (map (section_of image) v.items)) (whole_source image size long)
+    ap (λ (l : List ℕ). object_with f l (map (section_of image) v)) (whole_source image size long)
     ∙ ap (λ (l : List Scn). object_with f (source_bytes image size) (map (section_of image) l)) items
     ∙ ap (λ (l : List Section). object_with f (source_bytes image size) l) (sections_begun image size 0 f.shdrs long)
 
@@ -186,7 +157,7 @@ front_stands f narrow fitting = record {
   shdrs = record { counted = refl; range = fitting.shdrs; fitting = fitting.fitting_shdrs };
 }
 
-opened_is : (f : Front) (size : ℕ) (v : Vec Scn) → IsCounted f → HasNarrowCounts (standing_header f) → v.items ≡ opened_scns size f.shdrs → IsOpened f size (opened_body size f v)
+opened_is : (f : Front) (size : ℕ) (v : List Scn) → IsCounted f → HasNarrowCounts (standing_header f) → v ≡ opened_scns size f.shdrs → IsOpened f size (opened_body size f v)
 unfolding opened_body opened_scns loaded_of held_of room_of
 opened_is f size v counted narrow items = record {
   object = object_begun f size v items;
@@ -194,7 +165,7 @@ opened_is f size v counted narrow items = record {
     phnum = sym counted.phnum;
     shnum = sym counted.shnum ∙ sym (length_from size 0 f.shdrs) ∙ ap (λ (l : List Scn). length l) (sym items);
   };
-  cells = cells_opened f.ehdr.class f.ehdr.order size f.shdrs v.items items;
+  cells = cells_opened f.ehdr.class f.ehdr.order size f.shdrs v items;
   loaded = ap (λ (l : List Scn). map (λ s. cell_is_loaded s.cell) l) items ∙ none_loaded size 0 f.shdrs;
   held = ap (λ (l : List Scn). map (λ s. is_some s.cell.held) l) items ∙ none_translated size 0 f.shdrs;
   room = ap (λ (l : List Scn). map (λ s. s.cell.room) l) items ∙ none_aside size 0 f.shdrs;
@@ -204,7 +175,7 @@ opened_is f size v counted narrow items = record {
   header = refl;
 }
 
-pub is_opened : (f : Front) (size : ℕ) (v : Vec Scn) (b : Body) → IsCounted f → HasNarrowCounts (standing_header f) → v.items ≡ opened_scns size f.shdrs → b ≡ opened_body size f v → IsOpened f size b
+pub is_opened : (f : Front) (size : ℕ) (v : List Scn) (b : Body) → IsCounted f → HasNarrowCounts (standing_header f) → v ≡ opened_scns size f.shdrs → b ≡ opened_body size f v → IsOpened f size b
 is_opened f size v b counted narrow items is = subst (λ (c : Body). IsOpened f size c) (sym is) (opened_is f size v counted narrow items)
 
 -- ---- What makes it an object

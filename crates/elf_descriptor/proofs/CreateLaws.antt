@@ -4,7 +4,6 @@ use Rattle.std.specs.Prelude.{slice_get, is_some, IfSome}
 use Rattle.elf_types.specs.declared.records.Class.{Class}
 use Rattle.elf_types.specs.declared.records.Order.{Order}
 use Rattle.elf_types.specs.declared.records.Phdr.{Phdr}
-use Rattle.std.specs.Global.{Vec}
 use Rattle.elf_types.specs.declared.records.Ehdr.{Ehdr}
 use Rattle.elf_outside.specs.declared.sources.Source.{Ghosts}
 use Rattle.elf_object.specs.Object.{Object, Section}
@@ -13,7 +12,7 @@ use Rattle.elf_types.specs.Lists.{AreBytes}
 use Rattle.object_laws.specs.Laws.{BeginningsAre, BeginningsAreTied}
 use Rattle.writing_laws.specs.Based.{BeginningsAreBased}
 use Rattle.section_data.specs.Held.{cell_is_loaded}
-use Rattle.elf_descriptor.specs.declared.scn.Scn.{Scn}
+use Rattle.section_table.specs.Sections.{SectionView as Scn}
 use Rattle.elf_descriptor.specs.declared.body.Body.{Body}
 use Rattle.elf_descriptor.specs.declared.body.Written.{Written}
 use Rattle.elf_descriptor.specs.declared.body.Base.{Base}
@@ -23,7 +22,7 @@ use Rattle.elf_descriptor.specs.Sound.{IsElf, IsSound, IsStanding, source_part}
 use Rattle.elf_descriptor.specs.Created.{IsCreatedBody, IsCreated}
 use Rattle.elf_descriptor.proofs.EditLaws.{has_counts}
 
-abbrev body_with : Ehdr → List Phdr → Vec Scn → List ℕ → Body
+abbrev body_with : Ehdr → List Phdr → List Scn → List ℕ → Body
 body_with header phdrs sections base = record {
   header = header;
   pad = 0 ∷ 0 ∷ 0 ∷ 0 ∷ 0 ∷ 0 ∷ 0 ∷ [];
@@ -43,7 +42,7 @@ body_with header phdrs sections base = record {
 abbrev object_with : Ehdr → List Phdr → List Section → List ℕ → Object
 object_with header phdrs sections base = record (created_over header.class header.order base) { header = header; phdrs = phdrs; sections = sections }
 
-pub created_body : (class : Class) (order : Order) (base : List ℕ) (header : Ehdr) (phdrs : List Phdr) (sections : Vec Scn) → header ≡ new_ehdr class order → phdrs ≡ [] → sections.items ≡ []
+pub created_body : (class : Class) (order : Order) (base : List ℕ) (header : Ehdr) (phdrs : List Phdr) (sections : List Scn) → header ≡ new_ehdr class order → phdrs ≡ [] → sections ≡ []
     → IsCreatedBody class order base (body_with header phdrs sections base)
 unfolding object_of created_over
 created_body class order base header phdrs sections header_is no_phdrs none = record {

@@ -16,7 +16,7 @@ use Rattle.elf_object.specs.Calls.{Call, newdata_refusal, unfit_items, is_piece_
 use Rattle.section_data.specs.Views.{CellView}
 use Rattle.section_data.specs.Leaves.{appended}
 use Rattle.section_data.specs.Refused.{append_refused, unfit_piece}
-use Rattle.elf_descriptor.specs.declared.scn.Scn.{Scn}
+use Rattle.section_table.specs.Sections.{SectionView as Scn}
 use Rattle.elf_descriptor.specs.declared.body.Body.{Body}
 use Rattle.elf_descriptor.specs.Views.{object_of, section_of, state_of, scn_at, no_scn, ready_of}
 use Rattle.elf_descriptor.specs.Edits.{IsStepped, numbers_of, stepped}
@@ -53,17 +53,17 @@ with_same (back, e) items old new stepped stated is = edits_same e old new stepp
 -- ---- The step
 
 pub piece_appended : (old new : Body) (s align : ℕ) (items : Items) (x : Scn) (cell : CellView) → x ≡ scn_at old s → new ≡ record old { sections = new.sections }
-    → new.sections.items ≡ set old.sections.items s (record x { cell = cell }) → cell ≡ appended x.cell items align → IsStepped (λ o. with_new_piece o s items align) (ready_of old) old new
+    → new.sections ≡ set old.sections s (record x { cell = cell }) → cell ≡ appended x.cell items align → IsStepped (λ o. with_new_piece o s items align) (ready_of old) old new
 unfolding with_new_piece
 piece_appended old new s align items x cell read rest is there =
     pieces_stepped (λ o. with_new_piece o s items align) old.ready old new s x (λ l. l ++ own_piece items align ∷ []) read rest
-    (is ∙ ap (λ (c : CellView). set old.sections.items s (record x { cell = c })) there) (λ o. refl)
+    (is ∙ ap (λ (c : CellView). set old.sections s (record x { cell = c })) there) (λ o. refl)
 
 pub piece_refused : {A : Type 0} (old new : Body) (s : ℕ) (refused : Items × ElfError) (items : Items) (x : Scn) (cell stepped : CellView) (stated : Result A ElfError) → x ≡ scn_at old s
-    → new ≡ record old { sections = new.sections } → new.sections.items ≡ set old.sections.items s (record x { cell = cell }) → EditsWith (Err refused) items x.cell cell stated stepped
+    → new ≡ record old { sections = new.sections } → new.sections ≡ set old.sections s (record x { cell = cell }) → EditsWith (Err refused) items x.cell cell stated stepped
     → IsStepped (λ o. o) (ready_of old) old new
 piece_refused old new s refused items x cell stepped stated read rest is came =
-    section_same old new s x read rest (is ∙ ap (λ (c : CellView). set old.sections.items s (record x { cell = c })) (with_same refused items x.cell cell stepped stated came))
+    section_same old new s x read rest (is ∙ ap (λ (c : CellView). set old.sections s (record x { cell = c })) (with_same refused items x.cell cell stepped stated came))
 
 -- ---- Refusals
 

@@ -15,10 +15,10 @@ use Rattle.writing_laws.specs.Based.{KeepsBased}
 use Rattle.section_data.specs.Views.{CellView}
 use Rattle.section_data.specs.Held.{HeldIs, cell_is_loaded}
 use Rattle.section_data.specs.Leaves.{LiesIn}
-use Rattle.elf_descriptor.specs.declared.scn.Scn.{Scn}
+use Rattle.section_table.specs.Sections.{SectionView as Scn, absent_scn}
 use Rattle.elf_descriptor.specs.declared.body.Body.{Body}
 use Rattle.elf_descriptor.specs.State.{State}
-use Rattle.elf_descriptor.specs.Views.{object_of, loaded_of, held_of, state_of, scn_at, absent_scn, HasCounts, ready_of, is_of_source, room_of}
+use Rattle.elf_descriptor.specs.Views.{object_of, loaded_of, held_of, state_of, scn_at, HasCounts, ready_of, is_of_source, room_of}
 use Rattle.elf_descriptor.specs.Sound.{IsElf, IsSound, CellIn, source_part}
 use Rattle.elf_descriptor.specs.Edits.{IsStepped, IsNumbered, StepsTo, homes_of, without_pieces, stepped, flagged}
 use Rattle.elf_descriptor.proofs.Objects.{section_count_is}
@@ -30,13 +30,13 @@ use Rattle.elf_descriptor.specs.declared.body.Base.{Base}
 home_kept : (old new : Body) (i : ℕ) → homes_of new ≡ homes_of old → without_pieces (scn_at new i) ≡ without_pieces (scn_at old i)
 unfolding homes_of scn_at
 home_kept old new i same =
-    sym (get_or-map without_pieces new.sections.items i absent_scn)
+    sym (get_or-map without_pieces new.sections i absent_scn)
     ∙ ap (λ (l : List CellView). get_or l i (without_pieces absent_scn)) same
-    ∙ get_or-map without_pieces old.sections.items i absent_scn
+    ∙ get_or-map without_pieces old.sections i absent_scn
 
-pub count_kept : (old new : Body) → homes_of new ≡ homes_of old → length new.sections.items ≡ length old.sections.items
+pub count_kept : (old new : Body) → homes_of new ≡ homes_of old → length new.sections ≡ length old.sections
 unfolding homes_of
-count_kept old new same = sym (length-map new.sections.items without_pieces) ∙ ap length same ∙ length-map old.sections.items without_pieces
+count_kept old new same = sym (length-map new.sections without_pieces) ∙ ap length same ∙ length-map old.sections without_pieces
 
 loaded_without : (l : List Scn) → map (λ s. cell_is_loaded s.cell) l ≡ map cell_is_loaded (map without_pieces l)
 loaded_without [] = refl
@@ -52,15 +52,15 @@ room_without (s ∷ l) = ap (λ (t : List Bool). s.cell.room ∷ t) (room_withou
 
 pub loaded_kept : (old new : Body) → homes_of new ≡ homes_of old → loaded_of new ≡ loaded_of old
 unfolding homes_of loaded_of
-loaded_kept old new same = loaded_without new.sections.items ∙ ap (λ (l : List CellView). map cell_is_loaded l) same ∙ sym (loaded_without old.sections.items)
+loaded_kept old new same = loaded_without new.sections ∙ ap (λ (l : List CellView). map cell_is_loaded l) same ∙ sym (loaded_without old.sections)
 
 pub held_kept : (old new : Body) → homes_of new ≡ homes_of old → held_of new ≡ held_of old
 unfolding homes_of held_of
-held_kept old new same = held_without new.sections.items ∙ ap (λ (l : List CellView). map (λ c. is_some c.held) l) same ∙ sym (held_without old.sections.items)
+held_kept old new same = held_without new.sections ∙ ap (λ (l : List CellView). map (λ c. is_some c.held) l) same ∙ sym (held_without old.sections)
 
 pub room_kept : (old new : Body) → homes_of new ≡ homes_of old → room_of new ≡ room_of old
 unfolding homes_of room_of
-room_kept old new same = room_without new.sections.items ∙ ap (λ (l : List CellView). map (λ c. c.room) l) same ∙ sym (room_without old.sections.items)
+room_kept old new same = room_without new.sections ∙ ap (λ (l : List CellView). map (λ c. c.room) l) same ∙ sym (room_without old.sections)
 
 -- ---- What is true of each descriptor
 
@@ -75,12 +75,12 @@ cell_kept class order base i x y same is =
     record { number = known.0; lies = known.1; empty = known.2; items = known.3 }
 
 pub cells_kept : (image : Option (List ℕ)) (size : ℕ) (old new : Body) → homes_of new ≡ homes_of old → IsElf image size old
-    → (i : ℕ) (s : Scn) → slice_get new.sections.items i ≡ Some s → CellIn old.header.class old.header.order old.base i s
+    → (i : ℕ) (s : Scn) → slice_get new.sections i ≡ Some s → CellIn old.header.class old.header.order old.base i s
 unfolding scn_at
 cells_kept image size old new homes is i s found =
-    let there = slice_get_within new.sections.items i s found in
+    let there = slice_get_within new.sections i s found in
     let count = count_kept old new homes in
-    let at : get_or new.sections.items i absent_scn ≡ s = get_or_from_slice_get new.sections.items i s absent_scn found in
+    let at : get_or new.sections i absent_scn ≡ s = get_or_from_slice_get new.sections i s absent_scn found in
     cell_kept old.header.class old.header.order old.base i (scn_at old i) s (ap without_pieces (sym at) ∙ home_kept old new i homes)
     (cell_at image size old i is (omega (arith, there, count)))
 

@@ -1,7 +1,6 @@
 -- Edits of the pieces of a section: their refusals, and their steps.
 use Rattle.std.proofs.Common.{◌≡◌, ℕ, Bool, false, List, [], ◌∷◌, map, get_or, set, Option, Some, None, Result, Ok, Err, refl, sym, ap, ◌∙◌, subst, length}
 use Rattle.std.specs.Prelude.{OnOk, OnErr, IfOk, ◌&&◌}
-use Rattle.std.specs.Global.{Vec}
 use Rattle.std.proofs.lemmas.List.{set-get_or}
 use Rattle.elf_types.specs.declared.records.Class.{Class}
 use Rattle.elf_types.specs.declared.records.Part.TheVariants as part
@@ -19,9 +18,9 @@ use Rattle.section_data.specs.Views.{CellView}
 use Rattle.section_data.specs.Held.{piece_in}
 use Rattle.section_data.specs.Leaves.{replaced}
 use Rattle.section_data.specs.Refused.{replace_refused, no_piece, unfit_piece}
-use Rattle.elf_descriptor.specs.declared.scn.Scn.{Scn}
+use Rattle.section_table.specs.Sections.{SectionView as Scn, absent_scn}
 use Rattle.elf_descriptor.specs.declared.body.Body.{Body}
-use Rattle.elf_descriptor.specs.Views.{object_of, section_of, scn_at, absent_scn, no_scn, ready_of, is_of_source, has_lengths}
+use Rattle.elf_descriptor.specs.Views.{object_of, section_of, scn_at, no_scn, ready_of, is_of_source, has_lengths}
 use Rattle.elf_descriptor.specs.Edits.{IsStepped, homes_of, without_pieces}
 use Rattle.elf_descriptor.proofs.Objects.{no_section_is, no_data_is}
 use Rattle.elf_descriptor.proofs.EditSteps.{pieces_stepped}
@@ -79,7 +78,7 @@ answered_back {A} {B} items (Err e) r is = subst (λ (q : Result A (B × ElfErro
 -- ---- Steps
 
 -- the same sections are kept
-pub items_same : (old : Body) (sections : Vec Scn) → sections.items ≡ old.sections.items → IsStepped (λ o. o) (ready_of old) old (record old { sections = sections })
+pub items_same : (old : Body) (sections : List Scn) → sections ≡ old.sections → IsStepped (λ o. o) (ready_of old) old (record old { sections = sections })
 unfolding object_of homes_of
 items_same old sections items = record {
   object = λ image size. ap (λ (l : List Scn). record (object_of image size old) { sections = map (section_of image) l }) items;
@@ -93,10 +92,10 @@ items_same old sections items = record {
 
 -- the section is written as it was
 pub section_same : (old new : Body) (s : ℕ) (x : Scn) → x ≡ scn_at old s → new ≡ record old { sections = new.sections }
-    → new.sections.items ≡ set old.sections.items s x → IsStepped (λ o. o) (ready_of old) old new
+    → new.sections ≡ set old.sections s x → IsStepped (λ o. o) (ready_of old) old new
 unfolding object_of homes_of scn_at
 section_same old new s x read rest is =
-    let items : new.sections.items ≡ old.sections.items = is ∙ ap (λ (y : Scn). set old.sections.items s y) read ∙ set-get_or old.sections.items s absent_scn in
+    let items : new.sections ≡ old.sections = is ∙ ap (λ (y : Scn). set old.sections s y) read ∙ set-get_or old.sections s absent_scn in
     record {
       object = λ image size. ap (λ (b : Body). object_of image size b) rest ∙ ap (λ (l : List Scn). record (object_of image size old) { sections = map (section_of image) l }) items;
       homes = ap (λ (l : List Scn). map without_pieces l) items;
@@ -115,7 +114,7 @@ unfolding with_own with_piece_at piece_at
 piece_owned o s p items = refl
 
 pub piece_replaced : (old new : Body) (s p : ℕ) (items : Items) (x : Scn) → x ≡ scn_at old s → new ≡ record old { sections = new.sections }
-    → new.sections.items ≡ set old.sections.items s (record x { cell = replaced x.cell p items }) → IsStepped (λ o. with_own o s p items) (ready_of old) old new
+    → new.sections ≡ set old.sections s (record x { cell = replaced x.cell p items }) → IsStepped (λ o. with_own o s p items) (ready_of old) old new
 unfolding piece_in
 piece_replaced old new s p items x read rest is =
     pieces_stepped (λ o. with_own o s p items) old.ready old new s x (owned_in p items) read rest is (λ o. piece_owned o s p items)
@@ -130,11 +129,11 @@ then_unready after ready old new step = record { object = step.object; homes = s
 -- ---- By the answer of the cell
 
 module _ {A : Type 0} (old new : Body) (s p : ℕ) (items : Items) (x : Scn) (cell : CellView) (read : x ≡ scn_at old s) (rest : new ≡ record old { sections = new.sections })
-    (is : new.sections.items ≡ set old.sections.items s (record x { cell = cell })) where
+    (is : new.sections ≡ set old.sections s (record x { cell = cell })) where
   pub replace_steps : (r : Result A (Items × ElfError)) → OnOk r (cell ≡ replaced x.cell p items) → OnOk r (IsStepped (λ o. with_own o s p items) (ready_of old) old new)
-  replace_steps (Ok v) there = piece_replaced old new s p items x read rest (is ∙ ap (λ (c : CellView). set old.sections.items s (record x { cell = c })) there)
+  replace_steps (Ok v) there = piece_replaced old new s p items x read rest (is ∙ ap (λ (c : CellView). set old.sections s (record x { cell = c })) there)
   replace_steps (Err e) there = tt
 
   pub cell_stays : (r : Result A (Items × ElfError)) → OnErr r (cell ≡ x.cell) → OnErr r (IsStepped (λ o. o) (ready_of old) old new)
   cell_stays (Ok v) there = tt
-  cell_stays (Err e) there = section_same old new s x read rest (is ∙ ap (λ (c : CellView). set old.sections.items s (record x { cell = c })) there)
+  cell_stays (Err e) there = section_same old new s x read rest (is ∙ ap (λ (c : CellView). set old.sections s (record x { cell = c })) there)

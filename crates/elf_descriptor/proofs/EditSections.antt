@@ -2,7 +2,6 @@
 use Rattle.std.proofs.Common.{◌≡◌, ◌≢◌, ℕ, ◌+◌, ◌-◌, Bool, true, false, List, [], ◌∷◌, ◌++◌, length, get_or, map, Option, Some, None, Result, Ok, Err, refl, sym, ap, ◌∙◌, subst, arith}
 use Rattle.std.specs.Prelude.{slice_get, nat_lt, nat_le, ◌==◌, is_some, OnOk, OnErr, IfOk, IfErr, if◌then◌else◌}
 use Rattle.std.specs.List.{range_with_len}
-use Rattle.std.specs.Global.{Vec}
 use Rattle.std.proofs.Math.ListN.{replicate, get_or-eq_default}
 use Rattle.std.proofs.Math.Seq.{get_or-append_right}
 use Rattle.std.proofs.lemmas.Bool.{ltb-true, ltb-false, ne_eqb, eqb-true, eqb-false}
@@ -16,7 +15,6 @@ use Rattle.elf_types.specs.declared.errors.ElfError.{ElfError}
 use Rattle.elf_types.specs.declared.errors.ElfError.TheVariants.{Memory, TooMany}
 use Rattle.elf_types.specs.Answers.{answered, refused_if, IsRefusal}
 use Rattle.elf_outside.specs.declared.sources.Source.{Ghosts}
-use Rattle.elf_ident.specs.Front.{zero_shdr}
 use Rattle.elf_object.specs.Object.{Object, Section, new_section}
 use Rattle.elf_object.specs.Open.{home_bytes}
 use Rattle.elf_object.specs.Due.{is_loaded}
@@ -26,14 +24,13 @@ use Rattle.elf_object.specs.Calls as calls
 use Rattle.elf_object.specs.Words.{Edits, result_map}
 use Rattle.elf_object.specs.Valid.{KeepsObject, KeepsTied}
 use Rattle.writing_laws.specs.Based.{KeepsBased}
-use Rattle.section_data.specs.Views.{CellView, new_cell}
 use Rattle.section_data.specs.Held.{cell_is_loaded}
-use Rattle.elf_descriptor.specs.declared.scn.Scn.{Scn}
+use Rattle.section_table.specs.Sections.{SectionView as Scn, absent_scn, new_scn}
 use Rattle.elf_descriptor.specs.declared.body.Body.{Body}
 use Rattle.elf_descriptor.specs.State.{State}
-use Rattle.elf_descriptor.specs.Views.{object_of, section_of, raw_of, loaded_of, held_of, state_of, scn_at, absent_scn, HasCounts, ready_of, room_of}
+use Rattle.elf_descriptor.specs.Views.{object_of, section_of, raw_of, loaded_of, held_of, state_of, scn_at, HasCounts, ready_of, room_of}
 use Rattle.elf_descriptor.specs.Sound.{IsElf, IsSound, CellIn}
-use Rattle.elf_descriptor.specs.Edits.{IsStepped, IsGrown, new_scn, new_scns, with_added, with_none, grown, nulled}
+use Rattle.elf_descriptor.specs.Edits.{IsStepped, IsGrown, new_scns, with_added, with_none, grown, nulled}
 use Rattle.elf_descriptor.proofs.Objects.{section_count_is}
 use Rattle.elf_descriptor.proofs.Warming.{cell_at, part_within, cell_moved, standing_moved}
 use Rattle.elf_descriptor.proofs.EditLaws.{has_counts, step_sound, same_elf, state_stepped}
@@ -56,7 +53,7 @@ sections_are : (image : Option (List ℕ)) (first count : ℕ) → map (section_
 unfolding new_scns
 sections_are image first count = new_sections_are image (range_with_len first count) ∙ ap (λ (k : ℕ). replicate k new_section) (length-range_with_len first count)
 
-new_count : (first count : ℕ) → length (new_scns first count) ≡ count
+pub new_count : (first count : ℕ) → length (new_scns first count) ≡ count
 unfolding new_scns
 new_count first count = length-map-range_with_len new_scn first count
 
@@ -71,21 +68,21 @@ one_new i old new x before is more =
 
 -- ---- The object
 
-pub scns_added : (old new : Body) (count n : ℕ) → n ≡ length new.sections.items → new ≡ record old { header = record old.header { shnum = n }; sections = new.sections; ready = false }
-    → new.sections.items ≡ old.sections.items ++ new_scns (length old.sections.items) count → IsGrown (with_added count) old new
+pub scns_added : (old new : Body) (count n : ℕ) → n ≡ length new.sections → new ≡ record old { header = record old.header { shnum = n }; sections = new.sections; ready = false }
+    → new.sections ≡ old.sections ++ new_scns (length old.sections) count → IsGrown (with_added count) old new
 unfolding object_of
 scns_added old new count n count_is rest is = record {
   count = count;
   object = λ image size.
-      let before : List Section = map (section_of image) old.sections.items in
+      let before : List Section = map (section_of image) old.sections in
       let with_parts : ℕ → List Section → Object = λ k l. record (object_of image size old) { header = record old.header { shnum = k }; sections = l } in
-      let sections : map (section_of image) new.sections.items ≡ before ++ replicate count new_section =
+      let sections : map (section_of image) new.sections ≡ before ++ replicate count new_section =
       ap (λ (l : List Scn). map (section_of image) l) is
-      ∙ map-append (section_of image) old.sections.items (new_scns (length old.sections.items) count)
-      ∙ ap (λ (l : List Section). before ++ l) (sections_are image (length old.sections.items) count) in
+      ∙ map-append (section_of image) old.sections (new_scns (length old.sections) count)
+      ∙ ap (λ (l : List Section). before ++ l) (sections_are image (length old.sections) count) in
       ap (λ (b : Body). object_of image size b) rest
       ∙ ap (λ (l : List Section). with_parts n l) sections
-      ∙ ap (λ (k : ℕ). with_parts k (before ++ replicate count new_section)) (count_is ∙ sym (length-map new.sections.items (section_of image)) ∙ ap length sections);
+      ∙ ap (λ (k : ℕ). with_parts k (before ++ replicate count new_section)) (count_is ∙ sym (length-map new.sections (section_of image)) ∙ ap length sections);
   sections = is;
   class = ap (λ (b : Body). b.header.class) rest;
   order = ap (λ (b : Body). b.header.order) rest;
@@ -98,24 +95,20 @@ nothing_there : (l : List Scn) → length l ≡ 0 → l ≡ []
 nothing_there [] none = refl
 nothing_there (x ∷ l) none = cc
 
-pub sections_begun : (old : Body) (sections : Vec Scn) (count : ℕ) → length old.sections.items ≡ 0 → sections.items ≡ new_scns 0 count
+pub sections_begun : (old : Body) (sections : List Scn) (count : ℕ) → length old.sections ≡ 0 → sections ≡ new_scns 0 count
     → IsGrown (with_added count) old (record old { header = record old.header { shnum = count }; sections = sections; ready = false })
 sections_begun old sections count none made =
     scns_added old (record old { header = record old.header { shnum = count }; sections = sections; ready = false }) count count (sym (ap length made ∙ new_count 0 count)) refl
-    (made ∙ ap (λ (l : List Scn). l ++ new_scns (length l) count) (sym (nothing_there old.sections.items none)))
+    (made ∙ ap (λ (l : List Scn). l ++ new_scns (length l) count) (sym (nothing_there old.sections none)))
 
-pub section_pushed : (old : Body) (sections : Vec Scn) (scn : Scn) → HasCounts old → scn ≡ new_scn (length old.sections.items) → sections.items ≡ old.sections.items ++ scn ∷ []
+pub section_pushed : (old : Body) (sections : List Scn) (scn : Scn) → HasCounts old → scn ≡ new_scn (length old.sections) → sections ≡ old.sections ++ scn ∷ []
     → IsGrown (with_added 1) old (record old { header = record old.header { shnum = old.header.shnum + 1 }; sections = sections; ready = false })
 unfolding new_scns
 section_pushed old sections scn has made items =
-    let long = ap length items ∙ length-append old.sections.items (scn ∷ []) in
+    let long = ap length items ∙ length-append old.sections (scn ∷ []) in
     let count = has.shnum in
     scns_added old (record old { header = record old.header { shnum = old.header.shnum + 1 }; sections = sections; ready = false }) 1 (old.header.shnum + 1) (omega (arith, long, count)) refl
-    (items ∙ ap (λ (x : Scn). old.sections.items ++ x ∷ []) made)
-
-pub scn_is_new : (n : ℕ) (cell : CellView) → cell ≡ new_cell n → record { header = record { name = 0; stype = 0; flags = 0; addr = 0; offset = 0; size = 0; link = 0; info = 0; addralign = 0; entsize = 0 }; cell = cell; marked = true } ≡ new_scn n
-unfolding zero_shdr
-scn_is_new n cell is = ap (λ (c : CellView). record (new_scn n) { cell = c }) is
+    (items ∙ ap (λ (x : Scn). old.sections ++ x ∷ []) made)
 
 -- ---- The first sections, and one more
 
@@ -123,16 +116,16 @@ module _ (image : Option (List ℕ)) (size : ℕ) (b : Body) where
   abbrev is_empty : Bool
   is_empty = length (object_of image size b).sections == 0
 
-  counted : is_empty ≡ (length b.sections.items == 0)
+  counted : is_empty ≡ (length b.sections == 0)
   counted = ap (λ (n : ℕ). n == 0) (section_count_is image size b)
 
-  pub first_value : (n : ℕ) → length b.sections.items ≡ 0 → n ≡ 1 → n ≡ new_number (object_of image size b)
+  pub first_value : (n : ℕ) → length b.sections ≡ 0 → n ≡ 1 → n ≡ new_number (object_of image size b)
   first_value n none is = rw (section_count_is image size b, none) is
 
-  pub next_value : (n : ℕ) → length b.sections.items ≢ 0 → n ≡ length b.sections.items → n ≡ new_number (object_of image size b)
-  next_value n some is = rw (section_count_is image size b, ne_eqb (length b.sections.items) 0 some) is
+  pub next_value : (n : ℕ) → length b.sections ≢ 0 → n ≡ length b.sections → n ≡ new_number (object_of image size b)
+  next_value n some is = rw (section_count_is image size b, ne_eqb (length b.sections) 0 some) is
 
-pub first_grown : (old new : Body) → length old.sections.items ≡ 0 → IsGrown (with_added 2) old new → IsGrown with_new_section old new
+pub first_grown : (old new : Body) → length old.sections ≡ 0 → IsGrown (with_added 2) old new → IsGrown with_new_section old new
 unfolding with_new_section
 first_grown old new none step = record {
   count = step.count;
@@ -148,11 +141,11 @@ first_grown old new none step = record {
     grown_by : Option (List ℕ) → ℕ → Bool → Object
     grown_by image size t = let o = object_of image size old in with_sections o (o.sections ++ (if t then new_section ∷ new_section ∷ [] else new_section ∷ []))
 
-pub next_grown : (old new : Body) → length old.sections.items ≢ 0 → IsGrown (with_added 1) old new → IsGrown with_new_section old new
+pub next_grown : (old new : Body) → length old.sections ≢ 0 → IsGrown (with_added 1) old new → IsGrown with_new_section old new
 unfolding with_new_section
 next_grown old new some step = record {
   count = step.count;
-  object = λ image size. step.object image size ∙ ap (λ (t : Bool). grown_by image size t) (sym (counted image size old ∙ ne_eqb (length old.sections.items) 0 some));
+  object = λ image size. step.object image size ∙ ap (λ (t : Bool). grown_by image size t) (sym (counted image size old ∙ ne_eqb (length old.sections) 0 some));
   sections = step.sections;
   class = step.class;
   order = step.order;
@@ -167,16 +160,16 @@ next_grown old new some step = record {
 pub ruleset first_or_next = (first_value, first_grown, next_value, next_grown)
 
 module _ (image : Option (List ℕ)) (size : ℕ) (b : Body) where
-  refused_is : newscn_refusal (object_of image size b) ≡ refused_if (nat_le MAX_SECTIONS (length b.sections.items)) TooMany
+  refused_is : newscn_refusal (object_of image size b) ≡ refused_if (nat_le MAX_SECTIONS (length b.sections)) TooMany
   refused_is = ap (λ (n : ℕ). refused_if (nat_le MAX_SECTIONS n) TooMany) (section_count_is image size b)
 
-  pub newscn_refused : (e : ElfError) → IsRefusal e → Err e ≡ answered (refused_if (nat_le MAX_SECTIONS (length b.sections.items)) TooMany) (tt {0})
+  pub newscn_refused : (e : ElfError) → IsRefusal e → Err e ≡ answered (refused_if (nat_le MAX_SECTIONS (length b.sections)) TooMany) (tt {0})
       → Edits (Err e) (tt {0}) (tt {0}) (answered (newscn_refusal (object_of image size b)) (new_number (object_of image size b))) (tt {0})
   newscn_refused e is met =
       refused_alone {A = ℕ} (newscn_refusal (object_of image size b)) (tt {0}) (new_number (object_of image size b)) e is
       (met ∙ ap (λ (r : Option ElfError). answered r (tt {0})) (sym refused_is))
 
-  pub newscn_made : (r : Result ℕ ElfError) (x : Unit {0}) → Ok x ≡ answered (refused_if (nat_le MAX_SECTIONS (length b.sections.items)) TooMany) (tt {0})
+  pub newscn_made : (r : Result ℕ ElfError) (x : Unit {0}) → Ok x ≡ answered (refused_if (nat_le MAX_SECTIONS (length b.sections)) TooMany) (tt {0})
       → IfOk r (λ s. s ≡ new_number (object_of image size b)) → IfErr r (λ e. e ≡ Memory)
       → Edits r (tt {0}) (tt {0}) (answered (newscn_refusal (object_of image size b)) (new_number (object_of image size b))) (tt {0})
   newscn_made r x passed value memory =
@@ -189,30 +182,30 @@ new_cell_in : (class : Class) (order : Order) (base : Base) (i : ℕ) → CellIn
 new_cell_in class order base i = record { number = refl; lies = λ unread inside some. absurd (omega (arith, some)); empty = λ none. refl; items = tt }
 
 cells_grown : (after : Object → Object) (image : Option (List ℕ)) (size : ℕ) (old new : Body) → IsGrown after old new → IsElf image size old
-    → (i : ℕ) (s : Scn) → slice_get new.sections.items i ≡ Some s → CellIn old.header.class old.header.order old.base i s
+    → (i : ℕ) (s : Scn) → slice_get new.sections i ≡ Some s → CellIn old.header.class old.header.order old.base i s
 unfolding scn_at new_scns
-cells_grown after image size old new step is i s found = by_range (nat_lt i (length old.sections.items)) refl
+cells_grown after image size old new step is i s found = by_range (nat_lt i (length old.sections)) refl
   where
     first : ℕ
-    first = length old.sections.items
+    first = length old.sections
 
-    at : get_or (old.sections.items ++ new_scns first step.count) i absent_scn ≡ s
-    at = ap (λ (l : List Scn). get_or l i absent_scn) (sym step.sections) ∙ get_or_from_slice_get new.sections.items i s absent_scn found
+    at : get_or (old.sections ++ new_scns first step.count) i absent_scn ≡ s
+    at = ap (λ (l : List Scn). get_or l i absent_scn) (sym step.sections) ∙ get_or_from_slice_get new.sections i s absent_scn found
 
     by_range : (t : Bool) → nat_lt i first ≡ t → CellIn old.header.class old.header.order old.base i s
     by_range true e =
         let there = ltb-true i first e in
-        subst (λ (x : Scn). CellIn old.header.class old.header.order old.base i x) (sym (get_or_append_left old.sections.items (new_scns first step.count) absent_scn i there) ∙ at) (cell_at image size old i is there)
+        subst (λ (x : Scn). CellIn old.header.class old.header.order old.base i x) (sym (get_or_append_left old.sections (new_scns first step.count) absent_scn i there) ∙ at) (cell_at image size old i is there)
     by_range false e =
         let past = ltb-false i first e in
-        let within = slice_get_within new.sections.items i s found in
-        let total = ap length step.sections ∙ length-append old.sections.items (new_scns first step.count) in
+        let within = slice_get_within new.sections i s found in
+        let total = ap length step.sections ∙ length-append old.sections (new_scns first step.count) in
         let more = new_count first step.count in
         let split : first + (i - first) ≡ i = omega (arith, past) in
         let value : get_or (new_scns first step.count) (i - first) absent_scn ≡ new_scn i =
         get_or-map-range_with_len new_scn first step.count (i - first) i absent_scn (omega (arith, past, within, total, more)) split in
         subst (λ (x : Scn). CellIn old.header.class old.header.order old.base i x)
-        (sym value ∙ sym (get_or-append-add old.sections.items (new_scns first step.count) (i - first) absent_scn) ∙ ap (λ (k : ℕ). get_or (old.sections.items ++ new_scns first step.count) k absent_scn) split ∙ at)
+        (sym value ∙ sym (get_or-append-add old.sections (new_scns first step.count) (i - first) absent_scn) ∙ ap (λ (k : ℕ). get_or (old.sections ++ new_scns first step.count) k absent_scn) split ∙ at)
         (new_cell_in old.header.class old.header.order old.base i)
 
 grown_elf : {A : Type 0} (c : Call A) (image : Option (List ℕ)) (size : ℕ) (x : A) (old new : Body) → KeepsObject c → KeepsTied c → KeepsBased c
@@ -241,7 +234,7 @@ no_sections [] none = refl
 no_sections (x ∷ l) none = cc
 
 -- where there are no sections, one more is section 0
-null_grown : (old new : Body) → length old.sections.items ≡ 0 → IsGrown (with_added 1) old new → IsGrown calls.newnull.after old new
+null_grown : (old new : Body) → length old.sections ≡ 0 → IsGrown (with_added 1) old new → IsGrown calls.newnull.after old new
 unfolding with_null_section
 null_grown old new none step = record {
   count = step.count;
@@ -259,19 +252,19 @@ null_grown old new none step = record {
 
 -- what a step that adds section 0 where there is none leaves
 abbrev IsNulled : Result (Unit {0}) ElfError → Body → Body → Type 0
-IsNulled r old new = (length old.sections.items ≡ 0 → OnOk r (IsGrown (with_added 1) old new)) × (length old.sections.items ≢ 0 → new ≡ old) × OnErr r (new ≡ old)
+IsNulled r old new = (length old.sections ≡ 0 → OnOk r (IsGrown (with_added 1) old new)) × (length old.sections ≢ 0 → new ≡ old) × OnErr r (new ≡ old)
 
-null_elf_in : (image : Option (List ℕ)) (size : ℕ) (r : Result (Unit {0}) ElfError) (old new : Body) (t : Bool) → (length old.sections.items == 0) ≡ t → KeepsObject calls.newnull → KeepsTied calls.newnull → KeepsBased calls.newnull
+null_elf_in : (image : Option (List ℕ)) (size : ℕ) (r : Result (Unit {0}) ElfError) (old new : Body) (t : Bool) → (length old.sections == 0) ≡ t → KeepsObject calls.newnull → KeepsTied calls.newnull → KeepsBased calls.newnull
     → IsNulled r old new → IsElf image size old → IsElf image size new
 null_elf_in image size (Ok x) old new true none keeps ties bases step is =
-    let empty = eqb-true (length old.sections.items) 0 none in
+    let empty = eqb-true (length old.sections) 0 none in
     grown_elf calls.newnull image size (tt {0}) old new keeps ties bases refl (null_grown old new empty (step.0 empty)) is
-null_elf_in image size (Ok x) old new false some keeps ties bases step is = subst (λ (b : Body). IsElf image size b) (sym (step.1 (eqb-false (length old.sections.items) 0 some))) is
+null_elf_in image size (Ok x) old new false some keeps ties bases step is = subst (λ (b : Body). IsElf image size b) (sym (step.1 (eqb-false (length old.sections) 0 some))) is
 null_elf_in image size (Err e) old new t empty keeps ties bases step is = subst (λ (b : Body). IsElf image size b) (sym step.2) is
 
 pub null_elf : (image : Option (List ℕ)) (size : ℕ) (r : Result (Unit {0}) ElfError) (old new : Body) → KeepsObject calls.newnull → KeepsTied calls.newnull → KeepsBased calls.newnull
     → IsNulled r old new → IsElf image size old → IsElf image size new
-null_elf image size r old new keeps ties bases step is = null_elf_in image size r old new (length old.sections.items == 0) refl keeps ties bases step is
+null_elf image size r old new keeps ties bases step is = null_elf_in image size r old new (length old.sections == 0) refl keeps ties bases step is
 
 -- ---- The state
 
@@ -279,18 +272,18 @@ none_of : (f : Scn → Bool) → ((n : ℕ) → f (new_scn n) ≡ false) → (l 
 none_of f none [] = refl
 none_of f none (n ∷ l) = ap (λ (b : Bool). b ∷ map f (map new_scn l)) (none n) ∙ ap (λ (t : List Bool). false ∷ t) (none_of f none l)
 
-marks_grown : (f : Scn → Bool) → ((n : ℕ) → f (new_scn n) ≡ false) → (old new : Body) (count total : ℕ) → new.sections.items ≡ old.sections.items ++ new_scns (length old.sections.items) count
-    → total ≡ length new.sections.items → map f new.sections.items ≡ with_none total (map f old.sections.items)
+marks_grown : (f : Scn → Bool) → ((n : ℕ) → f (new_scn n) ≡ false) → (old new : Body) (count total : ℕ) → new.sections ≡ old.sections ++ new_scns (length old.sections) count
+    → total ≡ length new.sections → map f new.sections ≡ with_none total (map f old.sections)
 unfolding new_scns
 marks_grown f none old new count total is total_is =
-    let first : ℕ = length old.sections.items in
+    let first : ℕ = length old.sections in
     let more = length-map-range_with_len new_scn first count in
-    let long = ap length is ∙ length-append old.sections.items (map new_scn (range_with_len first count)) in
-    let kept = length-map old.sections.items f in
-    let counted : length (range_with_len first count) ≡ total - length (map f old.sections.items) = omega (arith, length-range_with_len first count, more, long, kept, total_is) in
+    let long = ap length is ∙ length-append old.sections (map new_scn (range_with_len first count)) in
+    let kept = length-map old.sections f in
+    let counted : length (range_with_len first count) ≡ total - length (map f old.sections) = omega (arith, length-range_with_len first count, more, long, kept, total_is) in
     ap (λ (l : List Scn). map f l) is
-    ∙ map-append f old.sections.items (map new_scn (range_with_len first count))
-    ∙ ap (λ (l : List Bool). map f old.sections.items ++ l) (none_of f none (range_with_len first count) ∙ ap (λ (k : ℕ). replicate k false) counted)
+    ∙ map-append f old.sections (map new_scn (range_with_len first count))
+    ∙ ap (λ (l : List Bool). map f old.sections ++ l) (none_of f none (range_with_len first count) ∙ ap (λ (k : ℕ). replicate k false) counted)
 
 module _ {S : Type 0} (g : Ghosts S) (source : S) where
   abbrev state_with : Object → List Bool → List Bool → List Bool → Bool → State S
@@ -301,7 +294,7 @@ module _ {S : Type 0} (g : Ghosts S) (source : S) where
   unfolding loaded_of held_of room_of
   state_grown c old new step =
       let o = c.after (object_of (g.holds source) (g.size source) old) in
-      let total : length o.sections ≡ length new.sections.items =
+      let total : length o.sections ≡ length new.sections =
       ap (λ (p : Object). length p.sections) (sym (step.object (g.holds source) (g.size source))) ∙ section_count_is (g.holds source) (g.size source) new in
       let loaded = marks_grown (λ s. cell_is_loaded s.cell) (λ n. refl) old new step.count (length o.sections) step.sections total in
       let held = marks_grown (λ s. is_some s.cell.held) (λ n. refl) old new step.count (length o.sections) step.sections total in
@@ -322,23 +315,23 @@ module _ {S : Type 0} (g : Ghosts S) (source : S) where
   abbrev null_of : Bool → Body → State S
   null_of t old = if t then grown calls.newnull (state_of g source old) else state_of g source old
 
-  null_is : (old : Body) → null_of (length old.sections.items == 0) old ≡ nulled (state_of g source old)
+  null_is : (old : Body) → null_of (length old.sections == 0) old ≡ nulled (state_of g source old)
   null_is old = ap (λ (t : Bool). if t then grown calls.newnull (state_of g source old) else state_of g source old) (sym (counted (g.holds source) (g.size source) old))
 
-  state_nulled : (old new : Body) (t : Bool) → (length old.sections.items == 0) ≡ t → IsNulled (Ok (tt {0})) old new → state_of g source new ≡ null_of t old
+  state_nulled : (old new : Body) (t : Bool) → (length old.sections == 0) ≡ t → IsNulled (Ok (tt {0})) old new → state_of g source new ≡ null_of t old
   state_nulled old new true none step =
-      let empty = eqb-true (length old.sections.items) 0 none in
+      let empty = eqb-true (length old.sections) 0 none in
       state_grown calls.newnull old new (null_grown old new empty (step.0 empty))
-  state_nulled old new false some step = ap (λ (b : Body). state_of g source b) (step.1 (eqb-false (length old.sections.items) 0 some))
+  state_nulled old new false some step = ap (λ (b : Body). state_of g source b) (step.1 (eqb-false (length old.sections) 0 some))
 
   pub nulls_to : (r : Result (Unit {0}) ElfError) (old new : Body) → IfErr r (λ e. e ≡ Memory) → IsNulled r old new
       → Edits r (state_of g source old) (state_of g source new) (calls.newnull.answer (state_of g source old).o) (nulled (state_of g source old))
-  nulls_to (Ok x) old new memory step = (refl, state_nulled old new (length old.sections.items == 0) refl step ∙ null_is old)
+  nulls_to (Ok x) old new memory step = (refl, state_nulled old new (length old.sections == 0) refl step ∙ null_is old)
   nulls_to (Err e) old new memory step =
       subst (λ (d : ElfError). Edits (Err d) (state_of g source old) (state_of g source new) (calls.newnull.answer (state_of g source old).o) (nulled (state_of g source old))) (sym memory)
       (refl, ap (λ (b : Body). state_of g source b) step.2)
 
-  pub nulls_where : (r : Result (Unit {0}) ElfError) (old : Body) → OnErr r (length old.sections.items ≡ 0) → OnErr r (length (state_of g source old).o.sections ≡ 0)
+  pub nulls_where : (r : Result (Unit {0}) ElfError) (old : Body) → OnErr r (length old.sections ≡ 0) → OnErr r (length (state_of g source old).o.sections ≡ 0)
   nulls_where (Ok x) old none = tt
   nulls_where (Err e) old none = section_count_is (g.holds source) (g.size source) old ∙ none
 

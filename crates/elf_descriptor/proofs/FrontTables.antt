@@ -23,9 +23,9 @@ use Rattle.object_laws.proofs.LengthLaws.{length-ehdr_bytes, length-phdr_bytes, 
 use Rattle.object_laws.proofs.ReopenLaws.{entry_bytes}
 use Rattle.elf_object.specs.Layout.{section_place}
 use Rattle.elf_layout.specs.declared.parts.Places.{Places}
-use Rattle.elf_descriptor.specs.declared.scn.Scn.{Scn}
+use Rattle.section_table.specs.Sections.{SectionView as Scn, absent_scn}
 use Rattle.elf_descriptor.specs.declared.body.Body.{Body}
-use Rattle.elf_descriptor.specs.Views.{scn_at, absent_scn}
+use Rattle.elf_descriptor.specs.Views.{scn_at}
 use Rattle.elf_descriptor.specs.Places.{stored_shdr}
 use Rattle.elf_descriptor.specs.Fronts.{DiffersAt, Compares, header_block, segments_block, table_block, stored_shdrs}
 use Rattle.elf_descriptor.proofs.Rows.{rows_at}
@@ -324,19 +324,19 @@ abbrev pub stored_row : Places → Ehdr → Body → ℕ → Shdr
 stored_row places h b s = stored_shdr h s (section_place places s) (scn_at b s)
 
 pub stored_count : (places : Places) (h : Ehdr) (b : Body)
-    → length (stored_shdrs places h b) ≡ length b.sections.items
+    → length (stored_shdrs places h b) ≡ length b.sections
 stored_count places h b =
-    length-map (enumerate_from 0 b.sections.items)
+    length-map (enumerate_from 0 b.sections)
     (λ (row : ℕ × Scn). stored_shdr h row.0 (section_place places row.0) row.1)
-    ∙ length-enumerate_from 0 b.sections.items
+    ∙ length-enumerate_from 0 b.sections
 
-pub stored_at : (places : Places) (h : Ehdr) (b : Body) (s : ℕ) → s < length b.sections.items
+pub stored_at : (places : Places) (h : Ehdr) (b : Body) (s : ℕ) → s < length b.sections
     → slice_get (stored_shdrs places h b) s ≡ Some (stored_row places h b s)
 unfolding scn_at
 stored_at places h b s there =
     let number : 0 + s ≡ s = omega arith in
-    let x = get_or b.sections.items s absent_scn in
-    rows_at (λ i y. stored_shdr h i (section_place places i) y) absent_scn 0 b.sections.items s
+    let x = get_or b.sections s absent_scn in
+    rows_at (λ i y. stored_shdr h i (section_place places i) y) absent_scn 0 b.sections s
     there
     ∙ ap (λ (n : ℕ). Some (stored_shdr h n (section_place places n) x)) number
 
@@ -364,14 +364,14 @@ decides_at r one other stored found test is at = (
 
 -- the next header is the one with its number in a table
 pub row_here : (d : Shdr) (places : Places) (h : Ehdr) (b : Body) (table : List Shdr) (s : ℕ)
-    → s < length b.sections.items → slice_get table s ≡ Some (stored_row places h b s)
+    → s < length b.sections → slice_get table s ≡ Some (stored_row places h b s)
     → get_or (stored_shdrs places h b) s d ≡ get_or table s d
 row_here d places h b table s there at =
     same_here d _ _ (stored_shdrs places h b) table s (stored_at places h b s there) at refl
 
 -- or it is not
 pub row_differs : (places : Places) (h : Ehdr) (b : Body) (table : List Shdr) (s : ℕ)
-    (other : Shdr) → s < length b.sections.items → slice_get table s ≡ Some other
+    (other : Shdr) → s < length b.sections → slice_get table s ≡ Some other
     → (slice_get table s ≡ Some (stored_row places h b s) → ⊥) → IsShdr (stored_row places h b s)
     → DiffersAt IsShdr (stored_shdrs places h b) table
 row_differs places h b table s other there found differs ranged = record {

@@ -49,12 +49,12 @@ hand_home class c p cell hand = by_own (piece_in c p).own hand
     by_own None hand = by_tests c.raw c.home.out (is_ragged class c) cell.outside hand
 
 -- of a piece of a kind that is there
-hand_passes : (b : Body) (kind : Kind) (s p : ℕ) → s < length b.sections.items → p < length (scn_at b s).cell.pieces → kind_in (scn_at b s).cell p ≡ kind
+hand_passes : (b : Body) (kind : Kind) (s p : ℕ) → s < length b.sections → p < length (scn_at b s).cell.pieces → kind_in (scn_at b s).cell p ≡ kind
     → no_home_items b.header.class (scn_at b s).cell p ≡ None → no_list_in b kind s p ≡ None
 unfolding no_list_in kind_refused no_scn
 hand_passes b kind s p there piece of_kind home =
     let c = (scn_at b s).cell in
-    let_pass (nat_le (length b.sections.items) s) (NoSection s (length b.sections.items)) (kind_refused b.header.class c kind p ∷ []) (lt-leb (length b.sections.items) s there)
+    let_pass (nat_le (length b.sections) s) (NoSection s (length b.sections)) (kind_refused b.header.class c kind p ∷ []) (lt-leb (length b.sections) s there)
     ∙ one_none (kind_refused b.header.class c kind p)
     (let_pass (nat_le (length c.pieces) p) (NoData p (length c.pieces)) _ (lt-leb (length c.pieces) p piece)
     ∙ let_pass _ (WrongKind (kind_in c p)) (no_home_items b.header.class c p ∷ []) (ap not (same_kind-same (kind_in c p) kind of_kind))
@@ -64,7 +64,7 @@ hand_passes b kind s p there piece of_kind home =
 
 pub told_entry : {X : Type 0} (image : Option (List ℕ)) (size : ℕ) (b : Body) (kind : Kind) (variant : List X → Items) (list_of : Items → List X) → ((l : List X) → list_of (variant l) ≡ l)
     → (item : List ℕ → X) (width s p i : ℕ) → ((bytes : List ℕ) → decoded kind b.header.class b.header.order bytes ≡ option_map variant (listed item width bytes))
-    → (wants : Wants) (r : Option X) → IsElf image size b → s < length b.sections.items
+    → (wants : Wants) (r : Option X) → IsElf image size b → s < length b.sections
     → IfSome r (TellsItem kind list_of b.header.class b.header.order (scn_at b s).cell p i)
     → IfSome r (λ x. Answers (is_some image) wants (Ok x)
     (entry_answer (lend_refusal (object_of image size b) kind s p) (list_of (items_at (object_of image size b) s p)) i))

@@ -18,7 +18,7 @@ use Rattle.section_data.specs.Held.{piece_in, kind_in, cell_is_loaded, is_ragged
 use Rattle.section_data.specs.Refused.{no_piece, wrong_piece_kind, no_home_items, kind_refused, items_refused, home_out, piece_due, loading}
 use Rattle.section_data.specs.Leaves.{Warms}
 use Rattle.elf_types.specs.declared.records.Ehdr.{Ehdr}
-use Rattle.elf_descriptor.specs.declared.scn.Scn.{Scn}
+use Rattle.section_table.specs.Sections.{SectionView as Scn}
 use Rattle.elf_descriptor.specs.declared.body.Body.{Body}
 use Rattle.elf_descriptor.specs.Views.{scn_at, no_scn}
 use Rattle.elf_descriptor.specs.Bodies.{no_items_in, no_list_in}
@@ -38,15 +38,15 @@ unfolding items_refused
 items_home class c p passed = none_first (no_home_items class c p) [] (none_rest (no_piece c p) (no_home_items class c p ∷ []) passed)
 
 -- there is such a section, and such a piece
-pub scn_passed : (b : Body) (s : ℕ) → no_scn b s ≡ None → s < length b.sections.items
+pub scn_passed : (b : Body) (s : ℕ) → no_scn b s ≡ None → s < length b.sections
 unfolding no_scn
-scn_passed b s passed = leb-false (length b.sections.items) s (not_refused (nat_le (length b.sections.items) s) (NoSection s (length b.sections.items)) passed)
+scn_passed b s passed = leb-false (length b.sections) s (not_refused (nat_le (length b.sections) s) (NoSection s (length b.sections)) passed)
 
 piece_passed : (c : CellView) (p : ℕ) → no_piece c p ≡ None → p < length c.pieces
 piece_passed c p passed = leb-false (length c.pieces) p (not_refused (nat_le (length c.pieces) p) (NoData p (length c.pieces)) passed)
 
 pub items_passed : (b : Body) (s p : ℕ) → no_items_in b s p ≡ None
-    → (s < length b.sections.items) × (p < length (scn_at b s).cell.pieces) × (no_home_items b.header.class (scn_at b s).cell p ≡ None)
+    → (s < length b.sections) × (p < length (scn_at b s).cell.pieces) × (no_home_items b.header.class (scn_at b s).cell p ≡ None)
 unfolding no_items_in items_refused
 items_passed b s p passed =
     let c = (scn_at b s).cell in
@@ -57,7 +57,7 @@ items_passed b s p passed =
     )
 
 pub list_passed : (b : Body) (kind : Kind) (s p : ℕ) → no_list_in b kind s p ≡ None
-    → (s < length b.sections.items) × (p < length (scn_at b s).cell.pieces) × (kind_in (scn_at b s).cell p ≡ kind) × (no_home_items b.header.class (scn_at b s).cell p ≡ None)
+    → (s < length b.sections) × (p < length (scn_at b s).cell.pieces) × (kind_in (scn_at b s).cell p ≡ kind) × (no_home_items b.header.class (scn_at b s).cell p ≡ None)
 unfolding no_list_in kind_refused
 list_passed b kind s p passed =
     let c = (scn_at b s).cell in
@@ -134,13 +134,13 @@ always (Ok x) h = h
 always (Err e) h = tt {0}
 
 -- the section that is written is at hand
-pub listed_by : (b new : Body) (s p : ℕ) (kind : Kind) (x : Scn) (r : Result (Unit {0}) ElfError) → s < length b.sections.items → new.sections.items ≡ set b.sections.items s x
+pub listed_by : (b new : Body) (s p : ℕ) (kind : Kind) (x : Scn) (r : Result (Unit {0}) ElfError) → s < length b.sections → new.sections ≡ set b.sections s x
     → new.header ≡ b.header → OnOk r (p < length x.cell.pieces) → OnOk r (kind_in x.cell p ≡ kind) → OnOk r (IsTrue (is_at_hand b.header.class x.cell p)) → OnOk r (IsListed new s p kind)
 listed_by b new s p kind x (Err e) there is header piece kind_right hand = tt {0}
 listed_by b new s p kind x (Ok y) there is header piece kind_right hand =
     let at = sym (scn_written b new s x there is) in
     record {
-      section = let count = ap length is ∙ length-set b.sections.items s x in omega (arith, there, count);
+      section = let count = ap length is ∙ length-set b.sections s x in omega (arith, there, count);
       piece = subst (λ (z : Scn). p < length z.cell.pieces) at piece;
       kind_is = subst (λ (z : Scn). kind_in z.cell p ≡ kind) at kind_right;
       hand = subst (λ (z : Scn). IsTrue (is_at_hand new.header.class z.cell p)) at (subst (λ (h : Ehdr). IsTrue (is_at_hand h.class x.cell p)) (sym header) hand);

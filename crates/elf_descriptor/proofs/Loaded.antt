@@ -13,9 +13,10 @@ use Rattle.section_data.specs.Views.{CellView, IsCell}
 use Rattle.section_data.specs.Held.{cell_is_loaded}
 use Rattle.elf_descriptor.specs.declared.held.Held.{Held}
 use Rattle.elf_descriptor.specs.declared.held.Held.TheVariants.{Edited, Raw, Unread}
-use Rattle.elf_descriptor.specs.declared.scn.Scn.{Scn}
+use Rattle.section_table.specs.Sections.{SectionView as Scn, absent_scn, IsAsOpened}
+use Rattle.section_table.proofs.AsOpened.{piece_opened}
 use Rattle.elf_descriptor.specs.declared.body.Body.{Body}
-use Rattle.elf_descriptor.specs.Views.{object_of, section_of, raw_of, bytes_or, scn_at, absent_scn, loaded_of, held_of, state_of, base_of, room_of}
+use Rattle.elf_descriptor.specs.Views.{object_of, section_of, raw_of, bytes_or, scn_at, loaded_of, held_of, state_of, base_of, room_of}
 use Rattle.elf_descriptor.specs.Held.{IsHeld, IsHeldIn}
 use Rattle.elf_descriptor.proofs.Objects.{section_is, piece_is}
 use Rattle.elf_descriptor.specs.Sound.{IsElf}
@@ -25,33 +26,33 @@ use Rattle.elf_descriptor.proofs.BaseCalls.{base_is, home_stands, part_fits}
 pub loaded_is : (b : Body) (s : ℕ) → is_loaded (loaded_of b) s ≡ cell_is_loaded (scn_at b s).cell
 unfolding is_loaded loaded_of scn_at
 loaded_is b s =
-    unwrap_or-slice_get (map (λ (x : Scn). cell_is_loaded x.cell) b.sections.items) s false
-    ∙ get_or-map (λ (x : Scn). cell_is_loaded x.cell) b.sections.items s absent_scn
+    unwrap_or-slice_get (map (λ (x : Scn). cell_is_loaded x.cell) b.sections) s false
+    ∙ get_or-map (λ (x : Scn). cell_is_loaded x.cell) b.sections s absent_scn
 
 pub home_held_is : (b : Body) (s : ℕ) → unwrap_or (slice_get (held_of b) s) false ≡ is_some (scn_at b s).cell.held
 unfolding held_of scn_at
 home_held_is b s =
-    unwrap_or-slice_get (map (λ (x : Scn). is_some x.cell.held) b.sections.items) s false
-    ∙ get_or-map (λ (x : Scn). is_some x.cell.held) b.sections.items s absent_scn
+    unwrap_or-slice_get (map (λ (x : Scn). is_some x.cell.held) b.sections) s false
+    ∙ get_or-map (λ (x : Scn). is_some x.cell.held) b.sections s absent_scn
 
 pub room_is : (b : Body) (s : ℕ) → is_loaded (room_of b) s ≡ (scn_at b s).cell.room
 unfolding is_loaded room_of scn_at
 room_is b s =
-    unwrap_or-slice_get (map (λ (x : Scn). x.cell.room) b.sections.items) s false
-    ∙ get_or-map (λ (x : Scn). x.cell.room) b.sections.items s absent_scn
+    unwrap_or-slice_get (map (λ (x : Scn). x.cell.room) b.sections) s false
+    ∙ get_or-map (λ (x : Scn). x.cell.room) b.sections s absent_scn
 
 -- a section that is not there
-pub absent_at : (b : Body) (s : ℕ) → length b.sections.items ≤ s → scn_at b s ≡ absent_scn
+pub absent_at : (b : Body) (s : ℕ) → length b.sections ≤ s → scn_at b s ≡ absent_scn
 unfolding scn_at
-absent_at b s past = get_or_past b.sections.items s absent_scn past
+absent_at b s past = get_or_past b.sections s absent_scn past
 
-pub loaded_there : (b : Body) (s : ℕ) → is_loaded (loaded_of b) s ≡ true → s < length b.sections.items
-loaded_there b s loaded = by_range (nat_lt s (length b.sections.items)) refl
+pub loaded_there : (b : Body) (s : ℕ) → is_loaded (loaded_of b) s ≡ true → s < length b.sections
+loaded_there b s loaded = by_range (nat_lt s (length b.sections)) refl
   where
-    by_range : (t : Bool) → nat_lt s (length b.sections.items) ≡ t → s < length b.sections.items
-    by_range true e = ltb-true s (length b.sections.items) e
+    by_range : (t : Bool) → nat_lt s (length b.sections) ≡ t → s < length b.sections
+    by_range true e = ltb-true s (length b.sections) e
     by_range false e =
-        let absent = ap (λ (x : Scn). cell_is_loaded x.cell) (absent_at b s (ltb-false s (length b.sections.items) e)) in
+        let absent = ap (λ (x : Scn). cell_is_loaded x.cell) (absent_at b s (ltb-false s (length b.sections) e)) in
         let none = sym loaded ∙ loaded_is b s ∙ absent in cc
 
 -- ---- Raw bytes
@@ -113,13 +114,27 @@ unread_is : (image : Option (List ℕ)) (size : ℕ) (b : Body) (s : ℕ) → Is
 unfolding section_of
 unread_is image size b s is unread told inside = unread_stands image size b s is unread inside told
 
-pub held_as : {S : Type 0} (g : Ghosts S) (source : S) (b : Body) (s p : ℕ) (held : Held) → IsElf (g.holds source) (g.size source) b → IsCell (scn_at b s).cell → IsHeldIn (scn_at b s).cell p held
+-- a cell as it was opened holds nothing
+pub opened_held : (c : CellView) (p : ℕ) → IsAsOpened c → IsHeldIn c p Unread
+opened_held c p is = (ap (λ (q : Piece). q.own) (piece_opened c p is), is.raw)
+
+-- where bytes are held
+pub cell_where_raw : (c : CellView) → IsCell c → IfSome c.raw (λ raw. IsCell c)
+cell_where_raw c cell = by_raw c.raw
+  where
+    by_raw : (raw : Option (List ℕ)) → IfSome raw (λ bytes. IsCell c)
+    by_raw None = tt
+    by_raw (Some bytes) = cell
+
+pub held_as : {S : Type 0} (g : Ghosts S) (source : S) (b : Body) (s p : ℕ) (held : Held) → IsElf (g.holds source) (g.size source) b
+    → IfSome (scn_at b s).cell.raw (λ raw. IsCell (scn_at b s).cell) → IsHeldIn (scn_at b s).cell p held
     → IsHeld (state_of g source b) s p held
 held_as g source b s p (Edited items) sound cell is = ap (λ (q : Piece). q.own) (piece_is (g.holds source) (g.size source) b s p) ∙ is
 held_as g source b s p (Raw bytes) sound cell is = record {
   clean = ap (λ (q : Piece). q.own) (piece_is (g.holds source) (g.size source) b s p) ∙ is.0;
   loaded = loaded_is b s ∙ ap (λ (o : Option (List ℕ)). is_some o) is.1;
-  alike = raw_alike (g.holds source) (scn_at b s).cell bytes.now cell is.1 ∙ sym (ap length (raw_is (g.holds source) (g.size source) b s));
+  alike = raw_alike (g.holds source) (scn_at b s).cell bytes.now
+      (subst (λ (o : Option (List ℕ)). IfSome o (λ raw. IsCell (scn_at b s).cell)) is.1 cell) is.1 ∙ sym (ap length (raw_is (g.holds source) (g.size source) b s));
   exact = λ told. raw_exact (g.holds source) (scn_at b s).cell bytes.now is.1 told ∙ sym (raw_is (g.holds source) (g.size source) b s);
 }
 held_as g source b s p Unread sound cell is = record {

@@ -15,17 +15,18 @@ use Rattle.elf_object.specs.Answers.{no_section, no_data, piece_count, kind_at, 
 use Rattle.elf_object.specs.Calls.{shdr_answer, pieces_answer, home_answer, piece_kind_answer, piece_align_answer}
 use Rattle.section_data.specs.Held.{piece_in, kind_in}
 use Rattle.section_data.specs.Refused.{no_piece}
+use Rattle.section_table.specs.Sections.{absent_scn}
 use Rattle.elf_descriptor.specs.declared.body.Body.{Body}
 use Rattle.elf_descriptor.specs.declared.body.Base.{Base}
 use Rattle.elf_descriptor.specs.declared.body.Base.TheVariants as bases
 use Rattle.elf_descriptor.specs.Sound.{source_part}
-use Rattle.elf_descriptor.specs.Views.{object_of, section_of, raw_of, scn_at, absent_scn, no_scn, base_of, source_bytes, HasCounts}
+use Rattle.elf_descriptor.specs.Views.{object_of, section_of, raw_of, scn_at, no_scn, base_of, source_bytes, HasCounts}
 use Rattle.elf_descriptor.specs.Bodies.{no_piece_in, is_scn_dirty}
 use Rattle.elf_descriptor.proofs.Marks.{list_any-map}
 
-pub section_count_is : (image : Option (List ℕ)) (size : ℕ) (b : Body) → length (object_of image size b).sections ≡ length b.sections.items
+pub section_count_is : (image : Option (List ℕ)) (size : ℕ) (b : Body) → length (object_of image size b).sections ≡ length b.sections
 unfolding object_of
-section_count_is image size b = length-map b.sections.items (section_of image)
+section_count_is image size b = length-map b.sections (section_of image)
 
 pub header_is : (image : Option (List ℕ)) (size : ℕ) (b : Body) → HasCounts b → header_of (object_of image size b) ≡ b.header
 unfolding header_of object_of
@@ -41,8 +42,8 @@ absent_is (Some image) = refl
 pub section_is : (image : Option (List ℕ)) (size : ℕ) (b : Body) (s : ℕ) → section_at (object_of image size b) s ≡ section_of image (scn_at b s)
 unfolding section_at object_of scn_at
 section_is image size b s =
-    ap (λ (d : Section). get_or (map (section_of image) b.sections.items) s d) (sym (absent_is image))
-    ∙ get_or-map (section_of image) b.sections.items s absent_scn
+    ap (λ (d : Section). get_or (map (section_of image) b.sections) s d) (sym (absent_is image))
+    ∙ get_or-map (section_of image) b.sections s absent_scn
 
 pub no_section_is : (image : Option (List ℕ)) (size : ℕ) (b : Body) (s : ℕ) → no_section (object_of image size b) s ≡ no_scn b s
 unfolding no_scn
@@ -106,10 +107,10 @@ pub section_marked_is : (image : Option (List ℕ)) (size : ℕ) (b : Body) (s :
 unfolding section_of
 section_marked_is image size b s = ap (λ (c : Section). c.marked) (section_is image size b s)
 
-pub dirty_is : (image : Option (List ℕ)) (size : ℕ) (b : Body) → is_dirty (object_of image size b) ≡ (b.marked || b.header_marked || b.segments_marked || list_any is_scn_dirty b.sections.items)
+pub dirty_is : (image : Option (List ℕ)) (size : ℕ) (b : Body) → is_dirty (object_of image size b) ≡ (b.marked || b.header_marked || b.segments_marked || list_any is_scn_dirty b.sections)
 unfolding is_dirty some_section_marked some_piece_marked object_of section_of is_scn_dirty
 dirty_is image size b =
-    ap (λ (t : Bool). b.marked || b.header_marked || b.segments_marked || t) (list_any-map (section_of image) (λ c. c.marked || some_piece_marked c) b.sections.items)
+    ap (λ (t : Bool). b.marked || b.header_marked || b.segments_marked || t) (list_any-map (section_of image) (λ c. c.marked || some_piece_marked c) b.sections)
 
 -- ---- The base
 

@@ -10,17 +10,17 @@ use Rattle.elf_outside.specs.declared.sources.Source.{Ghosts}
 use Rattle.elf_object.specs.Object.{Object, Section}
 use Rattle.section_data.specs.Views.{CellView}
 use Rattle.section_data.specs.Held.{cell_is_loaded}
-use Rattle.elf_descriptor.specs.declared.scn.Scn.{Scn}
+use Rattle.section_table.specs.Sections.{SectionView as Scn, absent_scn}
 use Rattle.elf_descriptor.specs.declared.body.Body.{Body}
 use Rattle.elf_descriptor.specs.State.{State}
-use Rattle.elf_descriptor.specs.Views.{object_of, section_of, scn_at, absent_scn, loaded_of, held_of, room_of, ready_of, is_of_source, has_lengths, state_of, HasCounts}
+use Rattle.elf_descriptor.specs.Views.{object_of, section_of, scn_at, loaded_of, held_of, room_of, ready_of, is_of_source, has_lengths, state_of, HasCounts}
 use Rattle.elf_descriptor.specs.Sound.{CellIn, IsElf, IsSound}
 use Rattle.elf_descriptor.proofs.Warming.{cell_at, cell_moved, standing_moved, part_within, scn_written, other_number}
 
 pub record HoldsOtherwise (image : Option (List ℕ)) (old new : Body) (s : ℕ) (cell : CellView) : Type 0 where
-  pub there : s < length old.sections.items
+  pub there : s < length old.sections
   pub rest : new ≡ record old { sections = new.sections }
-  pub sections : new.sections.items ≡ set old.sections.items s (record (scn_at old s) { cell = cell })
+  pub sections : new.sections ≡ set old.sections s (record (scn_at old s) { cell = cell })
   pub same : section_of image (record (scn_at old s) { cell = cell }) ≡ section_of image (scn_at old s)
   pub known : CellIn old.header.class old.header.order old.base s (record (scn_at old s) { cell = cell })
 
@@ -31,10 +31,10 @@ module _ (image : Option (List ℕ)) (size : ℕ) (old new : Body) (s : ℕ) (ce
   otherwise_other : (i : ℕ) → i ≢ s → scn_at new i ≡ scn_at old i
   unfolding scn_at
   otherwise_other i other =
-      ap (λ (l : List Scn). get_or l i absent_scn) h.sections ∙ get_or-set_other old.sections.items s i (record (scn_at old s) { cell = cell }) absent_scn other
+      ap (λ (l : List Scn). get_or l i absent_scn) h.sections ∙ get_or-set_other old.sections s i (record (scn_at old s) { cell = cell }) absent_scn other
 
-  otherwise_count : length new.sections.items ≡ length old.sections.items
-  otherwise_count = ap length h.sections ∙ length-set old.sections.items s (record (scn_at old s) { cell = cell })
+  otherwise_count : length new.sections ≡ length old.sections
+  otherwise_count = ap length h.sections ∙ length-set old.sections s (record (scn_at old s) { cell = cell })
 
   -- the object stays
   pub otherwise_object : object_of image size new ≡ object_of image size old
@@ -43,9 +43,9 @@ module _ (image : Option (List ℕ)) (size : ℕ) (old new : Body) (s : ℕ) (ce
       ap (λ (b : Body). object_of image size b) h.rest
       ∙ ap (λ (l : List Section). record (object_of image size old) { sections = l })
       (ap (λ (l : List Scn). map (section_of image) l) h.sections
-      ∙ map-set_same (section_of image) old.sections.items s (record (scn_at old s) { cell = cell }) absent_scn h.same)
+      ∙ map-set_same (section_of image) old.sections s (record (scn_at old s) { cell = cell }) absent_scn h.same)
 
-  otherwise_cells : IsElf image size old → (i : ℕ) → i < length old.sections.items → CellIn old.header.class old.header.order old.base i (scn_at new i)
+  otherwise_cells : IsElf image size old → (i : ℕ) → i < length old.sections → CellIn old.header.class old.header.order old.base i (scn_at new i)
   otherwise_cells is i there = by_number (i == s) refl
     where
       by_number : (b : Bool) → (i == s) ≡ b → CellIn old.header.class old.header.order old.base i (scn_at new i)
@@ -68,8 +68,8 @@ module _ (image : Option (List ℕ)) (size : ℕ) (old new : Body) (s : ℕ) (ce
         within = part_within old new size base is.within;
         counts = subst HasCounts (sym h.rest) (record { phnum = is.counts.phnum; shnum = is.counts.shnum ∙ sym otherwise_count });
         cells = λ i x found.
-            let there = slice_get_within new.sections.items i x found in
-            let at = get_or_from_slice_get new.sections.items i x absent_scn found in
+            let there = slice_get_within new.sections i x found in
+            let at = get_or_from_slice_get new.sections i x absent_scn found in
             cell_moved old new class order base i x
             (subst (λ (y : Scn). CellIn old.header.class old.header.order old.base i y) at (otherwise_cells is i (omega (arith, there, otherwise_count))));
         written = standing_moved old new class order (ap (λ (b : Body). b.written) h.rest) is.written;
@@ -81,17 +81,17 @@ module _ (image : Option (List ℕ)) (size : ℕ) (old new : Body) (s : ℕ) (ce
   pub otherwise_loaded : loaded_of new ≡ set (loaded_of old) s (cell_is_loaded cell)
   unfolding loaded_of
   otherwise_loaded =
-      ap (λ (l : List Scn). map (λ y. cell_is_loaded y.cell) l) h.sections ∙ map-set (λ (y : Scn). cell_is_loaded y.cell) old.sections.items s (record (scn_at old s) { cell = cell })
+      ap (λ (l : List Scn). map (λ y. cell_is_loaded y.cell) l) h.sections ∙ map-set (λ (y : Scn). cell_is_loaded y.cell) old.sections s (record (scn_at old s) { cell = cell })
 
   pub otherwise_held : held_of new ≡ set (held_of old) s (is_some cell.held)
   unfolding held_of
   otherwise_held =
-      ap (λ (l : List Scn). map (λ y. is_some y.cell.held) l) h.sections ∙ map-set (λ (y : Scn). is_some y.cell.held) old.sections.items s (record (scn_at old s) { cell = cell })
+      ap (λ (l : List Scn). map (λ y. is_some y.cell.held) l) h.sections ∙ map-set (λ (y : Scn). is_some y.cell.held) old.sections s (record (scn_at old s) { cell = cell })
 
   pub otherwise_room : room_of new ≡ set (room_of old) s cell.room
   unfolding room_of
   otherwise_room =
-      ap (λ (l : List Scn). map (λ y. y.cell.room) l) h.sections ∙ map-set (λ (y : Scn). y.cell.room) old.sections.items s (record (scn_at old s) { cell = cell })
+      ap (λ (l : List Scn). map (λ y. y.cell.room) l) h.sections ∙ map-set (λ (y : Scn). y.cell.room) old.sections s (record (scn_at old s) { cell = cell })
 
   pub otherwise_ready : ready_of new ≡ ready_of old
   otherwise_ready =
@@ -101,20 +101,20 @@ module _ (image : Option (List ℕ)) (size : ℕ) (old new : Body) (s : ℕ) (ce
 pub room_same : (b : Body) (s : ℕ) → set (room_of b) s (scn_at b s).cell.room ≡ room_of b
 unfolding room_of scn_at
 room_same b s =
-    sym (map-set (λ (y : Scn). y.cell.room) b.sections.items s (scn_at b s))
-    ∙ map-set_same (λ (y : Scn). y.cell.room) b.sections.items s (scn_at b s) absent_scn refl
+    sym (map-set (λ (y : Scn). y.cell.room) b.sections s (scn_at b s))
+    ∙ map-set_same (λ (y : Scn). y.cell.room) b.sections s (scn_at b s) absent_scn refl
 
 pub loaded_same : (b : Body) (s : ℕ) → set (loaded_of b) s (cell_is_loaded (scn_at b s).cell) ≡ loaded_of b
 unfolding loaded_of scn_at
 loaded_same b s =
-    sym (map-set (λ (y : Scn). cell_is_loaded y.cell) b.sections.items s (scn_at b s))
-    ∙ map-set_same (λ (y : Scn). cell_is_loaded y.cell) b.sections.items s (scn_at b s) absent_scn refl
+    sym (map-set (λ (y : Scn). cell_is_loaded y.cell) b.sections s (scn_at b s))
+    ∙ map-set_same (λ (y : Scn). cell_is_loaded y.cell) b.sections s (scn_at b s) absent_scn refl
 
 pub held_same : (b : Body) (s : ℕ) → set (held_of b) s (is_some (scn_at b s).cell.held) ≡ held_of b
 unfolding held_of scn_at
 held_same b s =
-    sym (map-set (λ (y : Scn). is_some y.cell.held) b.sections.items s (scn_at b s))
-    ∙ map-set_same (λ (y : Scn). is_some y.cell.held) b.sections.items s (scn_at b s) absent_scn refl
+    sym (map-set (λ (y : Scn). is_some y.cell.held) b.sections s (scn_at b s))
+    ∙ map-set_same (λ (y : Scn). is_some y.cell.held) b.sections s (scn_at b s) absent_scn refl
 
 -- the state afterwards
 abbrev pub otherwise : {S : Type 0} → State S → List Bool → List Bool → List Bool → State S

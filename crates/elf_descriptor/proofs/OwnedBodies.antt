@@ -10,15 +10,15 @@ use Rattle.elf_object.specs.Object.{Piece}
 use Rattle.section_data.specs.Views.{CellView, IsCell}
 use Rattle.section_data.specs.Held.{piece_in, HeldIs}
 use Rattle.section_data.specs.Leaves.{Owns, OwnsKind, Stays}
-use Rattle.elf_descriptor.specs.declared.scn.Scn.{Scn}
+use Rattle.section_table.specs.Sections.{SectionView as Scn}
 use Rattle.elf_descriptor.specs.declared.body.Body.{Body}
 use Rattle.elf_descriptor.specs.Views.{scn_at}
 use Rattle.elf_descriptor.specs.Warmed.{Warmed}
 use Rattle.elf_descriptor.specs.Owned.{IsOwned}
 use Rattle.elf_descriptor.proofs.Warming.{warmed_by, cell_written}
 
-module _ (image : Option (List ℕ)) (kind : Kind) (old new : Body) (s p : ℕ) (x : Scn) (cell : CellView) (there : s < length old.sections.items) (read : x ≡ scn_at old s)
-    (rest : new ≡ record old { sections = new.sections }) (is : new.sections.items ≡ set old.sections.items s (record x { cell = cell })) where
+module _ (image : Option (List ℕ)) (kind : Kind) (old new : Body) (s p : ℕ) (x : Scn) (cell : CellView) (there : s < length old.sections) (read : x ≡ scn_at old s)
+    (rest : new ≡ record old { sections = new.sections }) (is : new.sections ≡ set old.sections s (record x { cell = cell })) where
   -- a piece became own
   pub owned_by : (r : Result (Unit {0}) ElfError) → OnOk r (Owns image old.header.class old.header.order x.cell cell p) → IsCell cell → OnOk r (p < length cell.pieces) → OnOk r (OwnsKind kind (piece_in cell p))
       → HeldIs old.header.class old.header.order cell → OnOk r (IsOwned image kind old.ready old new s p)
@@ -26,7 +26,7 @@ module _ (image : Option (List ℕ)) (kind : Kind) (old new : Body) (s p : ℕ) 
   owned_by (Ok v) owns kept piece own items = record {
     cell = cell;
     rest = rest;
-    sections = is ∙ ap (λ (y : Scn). set old.sections.items s (record y { cell = cell })) read;
+    sections = is ∙ ap (λ (y : Scn). set old.sections s (record y { cell = cell })) read;
     owns = subst (λ (y : Scn). Owns image old.header.class old.header.order y.cell cell p) read owns;
     kept = kept;
     there = there;

@@ -24,7 +24,7 @@ use Rattle.section_data.specs.Views.{CellView, IsCell}
 use Rattle.section_data.specs.Held.{piece_in, cell_is_loaded, piece_holds_items, ready}
 use Rattle.section_data.specs.Leaves.{Warms, OwnsKind}
 use Rattle.section_data.specs.Refused.{kind_refused, no_home_items, lend_due, preparing}
-use Rattle.elf_descriptor.specs.declared.scn.Scn.{Scn}
+use Rattle.section_table.specs.Sections.{SectionView as Scn}
 use Rattle.elf_descriptor.specs.declared.body.Body.{Body}
 use Rattle.elf_descriptor.specs.Views.{object_of, section_of, scn_at, no_scn, loaded_of, held_of, state_of, ready_of}
 use Rattle.elf_descriptor.specs.Bodies.{no_list_in}
@@ -188,7 +188,7 @@ module _ (image : Option (List ℕ)) (size : ℕ) (kind : Kind) (old new : Body)
       let home = (list_passed old kind s p (sym (lend_refusal_is image size old kind s p is) ∙ passed)).3 in
       subst (λ (o : Object). (IsTrue (is_some image) → x.owns.claims.items ≡ items_at o s p) × AlikeItems x.owns.claims.items (items_at o s p)) (warmed_object image size old before s warmed)
       (ready_items image size before s p x.owns.claims.items (warmed_elf image size old before s warmed is)
-      (let there = x.there in let same = length-set old.sections.items s (record (scn_at old s) { cell = x.owns.warm }) in omega (arith, there, same))
+      (let there = x.there in let same = length-set old.sections s (record (scn_at old s) { cell = x.owns.warm }) in omega (arith, there, same))
       (subst (λ (y : Scn). IsCell y.cell) (sym before_here) (before_cell image size kind false old new s p x is))
       (subst (λ (y : Scn). no_home_items old.header.class y.cell p ≡ None) (sym before_here) (home_stays image old.header.class (scn_at old s).cell x.owns.warm p x.owns.warms ∙ home))
       (subst (λ (y : Scn). ready y.cell p ≡ Some x.owns.claims.items) (sym before_here) x.owns.claims.stood))
@@ -216,9 +216,9 @@ module _ (image : Option (List ℕ)) (size : ℕ) (kind : Kind) (old new : Body)
   unfolding loaded_of before before_own
   loaded_same =
       let f : Scn → Bool = λ y. cell_is_loaded y.cell in
-      ap (λ (l : List Scn). map f l) x.sections ∙ map-set f old.sections.items s (record (scn_at old s) { cell = x.cell })
-      ∙ ap (λ (c : CellView). set (map f old.sections.items) s (cell_is_loaded c)) x.owns.claims.cell
-      ∙ sym (map-set f old.sections.items s (record (scn_at old s) { cell = x.owns.warm }))
+      ap (λ (l : List Scn). map f l) x.sections ∙ map-set f old.sections s (record (scn_at old s) { cell = x.cell })
+      ∙ ap (λ (c : CellView). set (map f old.sections) s (cell_is_loaded c)) x.owns.claims.cell
+      ∙ sym (map-set f old.sections s (record (scn_at old s) { cell = x.owns.warm }))
 
   -- where the home is not read the section is as before
   unread_same : ¬ Contains (lend_reads (object_of image size old) kind s p) s → (scn_at new s).cell ≡ (scn_at old s).cell

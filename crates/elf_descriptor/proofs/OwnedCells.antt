@@ -1,7 +1,6 @@
 -- A piece of a section becomes own: what its data is then, and that the descriptor stays sound.
-use Rattle.std.proofs.Common.{◌≡◌, ◌≢◌, ℕ, zero, suc, ◌<◌, ◌≤◌, Bool, true, false, List, [], ◌∷◌, length, get_or, map, Option, Some, None, Ok, refl, sym, ap, ◌∙◌, subst, arith}
+use Rattle.std.proofs.Common.{◌≡◌, ◌≢◌, ℕ, zero, suc, ◌<◌, ◌≤◌, Bool, true, false, List, [], ◌∷◌, length, get_or, set, map, Option, Some, None, Ok, refl, sym, ap, ◌∙◌, subst, arith}
 use Rattle.std.specs.Prelude.{All, is_some, ◌==◌}
-use Rattle.std.specs.Vec.{with_item}
 use Rattle.std.proofs.lemmas.Bool.{eqb-true}
 use Rattle.std.proofs.lemmas.List.{length-set, get_or-set_same, get_or-set_other}
 use Rattle.std.proofs.lemmas.List.Elements.{All-get_or}
@@ -27,9 +26,9 @@ use Rattle.section_data.specs.Held.{piece_in, piece_holds_items, ready}
 use Rattle.section_data.specs.Leaves.{Owns, LiesIn}
 use Rattle.section_data.proofs.Holdings.{ready_own}
 use Rattle.section_data.proofs.Owning.{own_kind, claimed_piece}
-use Rattle.elf_descriptor.specs.declared.scn.Scn.{Scn}
+use Rattle.section_table.specs.Sections.{SectionView as Scn, absent_scn}
 use Rattle.elf_descriptor.specs.declared.body.Body.{Body}
-use Rattle.elf_descriptor.specs.Views.{object_of, section_of, raw_of, scn_at, absent_scn}
+use Rattle.elf_descriptor.specs.Views.{object_of, section_of, raw_of, scn_at}
 use Rattle.elf_descriptor.specs.Sound.{IsElf, IsSound, CellIn, source_part}
 use Rattle.elf_descriptor.specs.Warmed.{Warmed}
 use Rattle.elf_descriptor.specs.Owned.{IsOwned}
@@ -122,7 +121,7 @@ module _ (image : Option (List ℕ)) (size : ℕ) (kind : Kind) (unready : Bool)
   owned_object =
       ap (λ (b : Body). object_of image size b) x.rest
       ∙ ap (λ (l : List Section). record (object_of image size old) { sections = l })
-      (ap (λ (l : List Scn). map (section_of image) l) x.sections ∙ map-set (section_of image) old.sections.items s (record (scn_at old s) { cell = x.cell }))
+      (ap (λ (l : List Scn). map (section_of image) l) x.sections ∙ map-set (section_of image) old.sections s (record (scn_at old s) { cell = x.cell }))
       ∙ ap (λ (c : Section). with_section (object_of image size old) s c) (owned_section image old.header.class old.header.order (scn_at old s) x.cell p x.owns)
       ∙ ap (λ (c : Section). with_section (object_of image size old) s (record c { pieces = owned_in p x.owns.claims.items c.pieces })) (sym (section_is image size old s))
       ∙ piece_owned (object_of image size old) s p x.owns.claims.items
@@ -146,10 +145,10 @@ module _ (image : Option (List ℕ)) (size : ℕ) (kind : Kind) (unready : Bool)
   pub owned_other : (i : ℕ) → i ≢ s → scn_at new i ≡ scn_at old i
   unfolding scn_at
   owned_other i other =
-      ap (λ (l : List Scn). get_or l i absent_scn) x.sections ∙ get_or-set_other old.sections.items s i (record (scn_at old s) { cell = x.cell }) absent_scn other
+      ap (λ (l : List Scn). get_or l i absent_scn) x.sections ∙ get_or-set_other old.sections s i (record (scn_at old s) { cell = x.cell }) absent_scn other
 
-  pub owned_count : length new.sections.items ≡ length old.sections.items
-  owned_count = ap length x.sections ∙ length-set old.sections.items s (record (scn_at old s) { cell = x.cell })
+  pub owned_count : length new.sections ≡ length old.sections
+  owned_count = ap length x.sections ∙ length-set old.sections s (record (scn_at old s) { cell = x.cell })
 
   owned_lies : (n : ℕ) → LiesIn (scn_at old s).cell n → LiesIn x.cell n
   owned_lies n lies =
@@ -157,7 +156,7 @@ module _ (image : Option (List ℕ)) (size : ℕ) (kind : Kind) (unready : Bool)
       subst (λ (c : CellView). LiesIn c n) (sym (owns_cell image old.header.class old.header.order (scn_at old s).cell x.cell p o))
       (λ unread inside some. lies (unread_before image (scn_at old s).cell.home (scn_at old s).cell.raw o.warms.raw o.warms.bytes unread) inside some)
 
-  owned_cells : IsElf image size old → (i : ℕ) → i < length old.sections.items → CellIn old.header.class old.header.order old.base i (scn_at new i)
+  owned_cells : IsElf image size old → (i : ℕ) → i < length old.sections → CellIn old.header.class old.header.order old.base i (scn_at new i)
   owned_cells is i there = by_number (i == s) refl
     where
       by_number : (b : Bool) → (i == s) ≡ b → CellIn old.header.class old.header.order old.base i (scn_at new i)
@@ -188,8 +187,8 @@ module _ (image : Option (List ℕ)) (size : ℕ) (kind : Kind) (unready : Bool)
         within = part_within old new size owned_base is.within;
         counts = has_counts image size new sound.object;
         cells = λ i y found.
-            let there = slice_get_within new.sections.items i y found in
-            let at = get_or_from_slice_get new.sections.items i y absent_scn found in
+            let there = slice_get_within new.sections i y found in
+            let at = get_or_from_slice_get new.sections i y absent_scn found in
             cell_moved old new (ap (λ (h : Ehdr). h.class) owned_header) (ap (λ (h : Ehdr). h.order) owned_header) owned_base i y
             (subst (λ (z : Scn). CellIn old.header.class old.header.order old.base i z) at (owned_cells is i (omega (arith, there, owned_count))));
         written = standing_moved old new (ap (λ (h : Ehdr). h.class) owned_header) (ap (λ (h : Ehdr). h.order) owned_header) (ap (λ (b : Body). b.written) x.rest) is.written;
@@ -199,7 +198,7 @@ module _ (image : Option (List ℕ)) (size : ℕ) (kind : Kind) (unready : Bool)
   -- ---- The step before it became own: what was read and translated
 
   unfoldable pub before_own : Body
-  before_own = record old { sections = with_item old.sections s (record (scn_at old s) { cell = x.owns.warm }) }
+  before_own = record old { sections = set old.sections s (record (scn_at old s) { cell = x.owns.warm }) }
 
   pub before_warmed : Warmed image old before_own s
   unfolding before_own

@@ -23,9 +23,9 @@ use Rattle.elf_object.specs.Due.{is_loaded, holds_items, homes_due, unless_refus
 use Rattle.section_data.specs.Views.{CellView}
 use Rattle.section_data.specs.Held.{piece_in, kind_in, cell_is_loaded, piece_holds_items, ready, is_ragged}
 use Rattle.section_data.specs.Refused.{no_piece, wrong_piece_kind, no_home_items, items_refused, kind_refused, home_out, home_ragged, load_due, piece_due, due_unless}
-use Rattle.elf_descriptor.specs.declared.scn.Scn.{Scn}
+use Rattle.section_table.specs.Sections.{SectionView as Scn, absent_scn}
 use Rattle.elf_descriptor.specs.declared.body.Body.{Body}
-use Rattle.elf_descriptor.specs.Views.{object_of, section_of, raw_of, scn_at, absent_scn, no_scn, loaded_of, held_of, state_of}
+use Rattle.elf_descriptor.specs.Views.{object_of, section_of, raw_of, scn_at, no_scn, loaded_of, held_of, state_of}
 use Rattle.elf_descriptor.specs.Bodies.{no_items_in, no_list_in}
 use Rattle.elf_descriptor.specs.Warmed.{Warmed}
 use Rattle.elf_descriptor.specs.Sound.{IsElf}
@@ -39,7 +39,7 @@ use Rattle.elf_descriptor.proofs.RawCalls.{scn_missing, scn_there, home_due_is, 
 
 -- ---- The content of a home
 
-pub section_sound : (image : Option (List ℕ)) (size : ℕ) (b : Body) (s : ℕ) → IsElf image size b → s < length b.sections.items → IsSection b.header.class (section_of image (scn_at b s))
+pub section_sound : (image : Option (List ℕ)) (size : ℕ) (b : Body) (s : ℕ) → IsElf image size b → s < length b.sections → IsSection b.header.class (section_of image (scn_at b s))
 unfolding section_at object_of
 section_sound image size b s is there =
     let count = section_count_is image size b in
@@ -47,7 +47,7 @@ section_sound image size b s is there =
     (All-get_or (IsSection b.header.class) (object_of image size b).sections s absent_section (omega (arith, there, count)) is.sound.object.sections)
 
 -- a home in the file has as many bytes as it is long
-pub raw_length : (image : Option (List ℕ)) (size : ℕ) (b : Body) (s : ℕ) → IsElf image size b → s < length b.sections.items → (scn_at b s).cell.home.out ≡ false
+pub raw_length : (image : Option (List ℕ)) (size : ℕ) (b : Body) (s : ℕ) → IsElf image size b → s < length b.sections → (scn_at b s).cell.home.out ≡ false
     → length (raw_of image (scn_at b s).cell) ≡ (scn_at b s).cell.home.len
 unfolding section_of
 raw_length image size b s is there inside = (section_sound image size b s is there).home.inside inside
@@ -60,7 +60,7 @@ pub content_is : (image : Option (List ℕ)) (size : ℕ) (b : Body) (s : ℕ) �
 unfolding content object_of
 content_is image size b s = ap (λ (c : Section). content_with b.header.class b.header.order s c) (section_is image size b s)
 
-content_refused : (image : Option (List ℕ)) (size : ℕ) (b : Body) (s : ℕ) → IsElf image size b → s < length b.sections.items
+content_refused : (image : Option (List ℕ)) (size : ℕ) (b : Body) (s : ℕ) → IsElf image size b → s < length b.sections
     → err_of (content (object_of image size b) s) ≡ first_refusal (home_out (scn_at b s).cell ∷ home_ragged b.header.class (scn_at b s).cell ∷ [])
 unfolding section_of
 content_refused image size b s is there = ap (λ (r : Result Items ElfError). err_of r) (content_is image size b s) ∙ by_out (scn_at b s).cell.home.out refl
@@ -82,7 +82,7 @@ content_refused image size b s is there = ap (λ (r : Result Items ElfError). er
         (whole_is (scn_at b s).cell.home.kind b.header.class b.header.order (raw_of image (scn_at b s).cell)
         ∙ ap (λ (n : ℕ). is_whole (scn_at b s).cell.home.kind b.header.class n) (raw_length image size b s is there e))
 
-no_content_is : (image : Option (List ℕ)) (size : ℕ) (b : Body) (s p : ℕ) → IsElf image size b → s < length b.sections.items
+no_content_is : (image : Option (List ℕ)) (size : ℕ) (b : Body) (s p : ℕ) → IsElf image size b → s < length b.sections
     → no_content (object_of image size b) s p ≡ no_home_items b.header.class (scn_at b s).cell p
 unfolding no_content no_home_items
 no_content_is image size b s p is there =
@@ -104,16 +104,16 @@ first_nested (Some e) later = refl
 
 -- where there is no section, what comes later is not looked at
 by_section : (b : Body) (s : ℕ) (before : Option ElfError) (later now : List (Option ElfError)) → before ≡ no_scn b s
-    → (s < length b.sections.items → first_refusal later ≡ first_refusal now) → first_refusal (before ∷ later) ≡ first_refusal (no_scn b s ∷ now)
-by_section b s before later now is same = ap (λ (r : Option ElfError). first_refusal (r ∷ later)) is ∙ by_range (nat_lt s (length b.sections.items)) refl
+    → (s < length b.sections → first_refusal later ≡ first_refusal now) → first_refusal (before ∷ later) ≡ first_refusal (no_scn b s ∷ now)
+by_section b s before later now is same = ap (λ (r : Option ElfError). first_refusal (r ∷ later)) is ∙ by_range (nat_lt s (length b.sections)) refl
   where
-    by_range : (t : Bool) → nat_lt s (length b.sections.items) ≡ t → first_refusal (no_scn b s ∷ later) ≡ first_refusal (no_scn b s ∷ now)
+    by_range : (t : Bool) → nat_lt s (length b.sections) ≡ t → first_refusal (no_scn b s ∷ later) ≡ first_refusal (no_scn b s ∷ now)
     by_range true e =
-        let there = ltb-true s (length b.sections.items) e in
+        let there = ltb-true s (length b.sections) e in
         ap (λ (r : Option ElfError). first_refusal (r ∷ later)) (scn_there b s there) ∙ same there
         ∙ sym (ap (λ (r : Option ElfError). first_refusal (r ∷ now)) (scn_there b s there))
     by_range false e =
-        let missing = scn_missing b s (ltb-false s (length b.sections.items) e) in
+        let missing = scn_missing b s (ltb-false s (length b.sections) e) in
         ap (λ (r : Option ElfError). first_refusal (r ∷ later)) missing ∙ sym (ap (λ (r : Option ElfError). first_refusal (r ∷ now)) missing)
 
 pub data_refusal_is : (image : Option (List ℕ)) (size : ℕ) (b : Body) (s p : ℕ) → IsElf image size b → data_refusal (object_of image size b) s p ≡ no_items_in b s p
@@ -167,7 +167,7 @@ kind_unread class c kind p =
 pub section_unread : (b : Body) (s : ℕ) (r : Option ElfError) → IsUnread r → IsUnread (first_refusal (no_scn b s ∷ r ∷ []))
 unfolding no_scn
 section_unread b s r unread =
-    unread_first (no_scn b s) (r ∷ []) (unread_if (nat_le (length b.sections.items) s) (NoSection s (length b.sections.items)) refl) (unread_first r [] unread (inl refl))
+    unread_first (no_scn b s) (r ∷ []) (unread_if (nat_le (length b.sections) s) (NoSection s (length b.sections)) refl) (unread_first r [] unread (inl refl))
 
 -- ---- What is due
 
@@ -206,7 +206,7 @@ no_due (Some e) = refl
 
 pub reader_due : (image : Option (List ℕ)) (size : ℕ) (b : Body) (s p : ℕ) (r : Option ElfError) → IsUnread r
     → homes_due (object_of image size b) (loaded_of b) (unless_refused (first_refusal (no_scn b s ∷ r ∷ [])) (when_piece_clean (object_of image size b) s p)) ≡ due_unless r (piece_due (scn_at b s).cell p)
-reader_due image size b s p r unread = by_range (nat_lt s (length b.sections.items)) refl
+reader_due image size b s p r unread = by_range (nat_lt s (length b.sections)) refl
   where
     by_refusal : (q : Option ElfError) → IsUnread q
         → homes_due (object_of image size b) (loaded_of b) (unless_refused (first_refusal (q ∷ [])) (when_piece_clean (object_of image size b) s p)) ≡ due_unless q (piece_due (scn_at b s).cell p)
@@ -214,16 +214,16 @@ reader_due image size b s p r unread = by_range (nat_lt s (length b.sections.ite
     by_refusal (Some e) (inl none_named) = cc
     by_refusal (Some e) (inr h) = none_due (object_of image size b) (loaded_of b) (Some e) (when_piece_clean (object_of image size b) s p) h
 
-    by_range : (t : Bool) → nat_lt s (length b.sections.items) ≡ t
+    by_range : (t : Bool) → nat_lt s (length b.sections) ≡ t
         → homes_due (object_of image size b) (loaded_of b) (unless_refused (first_refusal (no_scn b s ∷ r ∷ [])) (when_piece_clean (object_of image size b) s p)) ≡ due_unless r (piece_due (scn_at b s).cell p)
     by_range true e =
         ap (λ (q : Option ElfError). homes_due (object_of image size b) (loaded_of b) (unless_refused (first_refusal (q ∷ r ∷ [])) (when_piece_clean (object_of image size b) s p)))
-        (scn_there b s (ltb-true s (length b.sections.items) e))
+        (scn_there b s (ltb-true s (length b.sections) e))
         ∙ by_refusal r unread
     by_range false e =
-        let past = ltb-false s (length b.sections.items) e in
+        let past = ltb-false s (length b.sections) e in
         ap (λ (q : Option ElfError). homes_due (object_of image size b) (loaded_of b) (unless_refused (first_refusal (q ∷ r ∷ [])) (when_piece_clean (object_of image size b) s p))) (scn_missing b s past)
-        ∙ none_due (object_of image size b) (loaded_of b) (Some (NoSection s (length b.sections.items))) (when_piece_clean (object_of image size b) s p) refl
+        ∙ none_due (object_of image size b) (loaded_of b) (Some (NoSection s (length b.sections))) (when_piece_clean (object_of image size b) s p) refl
         ∙ sym (ap (λ (x : Scn). due_unless r (piece_due x.cell p)) (absent_at b s past) ∙ ap (λ (n : ℕ). due_unless r n) (absent_piece_due p) ∙ no_due r)
 
 -- ---- What is held

@@ -16,9 +16,9 @@ use Rattle.elf_object.specs.Due.{is_loaded, home_due, homes_due, unless_refused}
 use Rattle.section_data.specs.Views.{CellView}
 use Rattle.section_data.specs.Held.{cell_is_loaded}
 use Rattle.section_data.specs.Refused.{home_out, load_due, loading}
-use Rattle.elf_descriptor.specs.declared.scn.Scn.{Scn}
+use Rattle.section_table.specs.Sections.{SectionView as Scn, absent_scn}
 use Rattle.elf_descriptor.specs.declared.body.Body.{Body}
-use Rattle.elf_descriptor.specs.Views.{object_of, section_of, scn_at, absent_scn, no_scn, loaded_of, held_of, state_of}
+use Rattle.elf_descriptor.specs.Views.{object_of, section_of, scn_at, no_scn, loaded_of, held_of, state_of}
 use Rattle.elf_descriptor.specs.Bodies.{no_raw_in}
 use Rattle.elf_descriptor.specs.Warmed.{Warmed}
 use Rattle.elf_descriptor.specs.Sound.{IsElf}
@@ -31,28 +31,28 @@ use Rattle.elf_descriptor.proofs.Reading.{object_over, left_object, reads_warmed
 
 -- ---- A section by its number
 
-pub scn_missing : (b : Body) (s : ℕ) → length b.sections.items ≤ s → no_scn b s ≡ Some (NoSection s (length b.sections.items))
+pub scn_missing : (b : Body) (s : ℕ) → length b.sections ≤ s → no_scn b s ≡ Some (NoSection s (length b.sections))
 unfolding no_scn
-scn_missing b s past = rw (no_scn, le-leb (length b.sections.items) s past) refl
+scn_missing b s past = rw (no_scn, le-leb (length b.sections) s past) refl
 
-pub scn_there : (b : Body) (s : ℕ) → s < length b.sections.items → no_scn b s ≡ None
+pub scn_there : (b : Body) (s : ℕ) → s < length b.sections → no_scn b s ≡ None
 unfolding no_scn
-scn_there b s there = by_test (nat_le (length b.sections.items) s) refl
+scn_there b s there = by_test (nat_le (length b.sections) s) refl
   where
-    by_test : (t : Bool) → nat_le (length b.sections.items) s ≡ t → refused_if t (NoSection s (length b.sections.items)) ≡ None
-    by_test true e = let past = leb-true (length b.sections.items) s e in absurd (omega (arith, past, there))
+    by_test : (t : Bool) → nat_le (length b.sections) s ≡ t → refused_if t (NoSection s (length b.sections)) ≡ None
+    by_test true e = let past = leb-true (length b.sections) s e in absurd (omega (arith, past, there))
     by_test false e = refl
 
 pub out_is : (image : Option (List ℕ)) (size : ℕ) (b : Body) (s : ℕ) → IsElf image size b → out_of_file (object_of image size b) s ≡ home_out (scn_at b s).cell
 unfolding section_of
-out_is image size b s is = ap (λ (c : Section). refused_if c.home.out (OutOfFile s)) (section_is image size b s) ∙ by_range (nat_lt s (length b.sections.items)) refl
+out_is image size b s is = ap (λ (c : Section). refused_if c.home.out (OutOfFile s)) (section_is image size b s) ∙ by_range (nat_lt s (length b.sections)) refl
   where
-    by_range : (t : Bool) → nat_lt s (length b.sections.items) ≡ t → refused_if (scn_at b s).cell.home.out (OutOfFile s) ≡ home_out (scn_at b s).cell
+    by_range : (t : Bool) → nat_lt s (length b.sections) ≡ t → refused_if (scn_at b s).cell.home.out (OutOfFile s) ≡ home_out (scn_at b s).cell
     by_range true e =
-        let number = (cell_at image size b s is (ltb-true s (length b.sections.items) e)).number in
+        let number = (cell_at image size b s is (ltb-true s (length b.sections) e)).number in
         ap (λ (n : ℕ). refused_if (scn_at b s).cell.home.out (OutOfFile n)) (sym number)
     by_range false e =
-        subst (λ (x : Scn). refused_if x.cell.home.out (OutOfFile s) ≡ home_out x.cell) (sym (absent_at b s (ltb-false s (length b.sections.items) e))) refl
+        subst (λ (x : Scn). refused_if x.cell.home.out (OutOfFile s) ≡ home_out x.cell) (sym (absent_at b s (ltb-false s (length b.sections) e))) refl
 
 pub home_due_is : (image : Option (List ℕ)) (size : ℕ) (b : Body) (s : ℕ) → home_due (object_of image size b) (loaded_of b) s ≡ load_due (scn_at b s).cell
 unfolding home_due load_due section_of
@@ -71,7 +71,7 @@ raw_refusal_is image size b s is =
 raw_unread : (b : Body) (s : ℕ) → IsUnread (no_raw_in b s)
 unfolding no_raw_in no_scn
 raw_unread b s =
-    unread_first (no_scn b s) (home_out (scn_at b s).cell ∷ []) (unread_if (nat_le (length b.sections.items) s) (NoSection s (length b.sections.items)) refl)
+    unread_first (no_scn b s) (home_out (scn_at b s).cell ∷ []) (unread_if (nat_le (length b.sections) s) (NoSection s (length b.sections)) refl)
     (unread_first (home_out (scn_at b s).cell) [] (unread_if (scn_at b s).cell.home.out (OutOfFile (scn_at b s).cell.section) refl) (inl refl))
 
 raw_reads : (image : Option (List ℕ)) (size : ℕ) (b : Body) (s : ℕ) → IsElf image size b
@@ -95,21 +95,21 @@ absent_due = refl
 
 raw_due : (image : Option (List ℕ)) (size : ℕ) (b : Body) (s : ℕ) → homes_due (object_of image size b) (loaded_of b) (unless_refused (no_raw_in b s) (s ∷ [])) ≡ load_due (scn_at b s).cell
 unfolding no_raw_in
-raw_due image size b s = by_range (nat_lt s (length b.sections.items)) refl
+raw_due image size b s = by_range (nat_lt s (length b.sections)) refl
   where
     o : Object
     o = object_of image size b
 
-    by_range : (t : Bool) → nat_lt s (length b.sections.items) ≡ t
+    by_range : (t : Bool) → nat_lt s (length b.sections) ≡ t
         → homes_due (object_of image size b) (loaded_of b) (unless_refused (no_raw_in b s) (s ∷ [])) ≡ load_due (scn_at b s).cell
     by_range false e =
-        let past = ltb-false s (length b.sections.items) e in
+        let past = ltb-false s (length b.sections) e in
         ap (λ (r : Option ElfError). homes_due (object_of image size b) (loaded_of b) (unless_refused (first_refusal (r ∷ home_out (scn_at b s).cell ∷ [])) (s ∷ []))) (scn_missing b s past)
-        ∙ none_due (object_of image size b) (loaded_of b) (Some (NoSection s (length b.sections.items))) (s ∷ []) refl
+        ∙ none_due (object_of image size b) (loaded_of b) (Some (NoSection s (length b.sections))) (s ∷ []) refl
         ∙ sym (ap (λ (x : Scn). load_due x.cell) (absent_at b s past) ∙ absent_due)
     by_range true e =
         ap (λ (r : Option ElfError). homes_due (object_of image size b) (loaded_of b) (unless_refused (first_refusal (r ∷ home_out (scn_at b s).cell ∷ [])) (s ∷ [])))
-        (scn_there b s (ltb-true s (length b.sections.items) e))
+        (scn_there b s (ltb-true s (length b.sections) e))
         ∙ by_out (scn_at b s).cell.home.out refl
       where
         by_out : (t : Bool) → (scn_at b s).cell.home.out ≡ t

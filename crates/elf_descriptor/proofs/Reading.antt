@@ -16,7 +16,7 @@ use Rattle.elf_object.proofs.AnswerLaws.{answers_refusal, answered_refusal}
 use Rattle.section_data.specs.Views.{CellView}
 use Rattle.section_data.specs.Held.{cell_is_loaded}
 use Rattle.section_data.specs.Leaves.{Warms, RawBecomes}
-use Rattle.elf_descriptor.specs.declared.scn.Scn.{Scn}
+use Rattle.section_table.specs.Sections.{SectionView as Scn}
 use Rattle.elf_descriptor.specs.declared.body.Body.{Body}
 use Rattle.elf_descriptor.specs.Views.{object_of, scn_at, loaded_of, held_of, state_of}
 use Rattle.elf_descriptor.specs.Warmed.{Warmed}

@@ -10,11 +10,11 @@ use Rattle.elf_object.specs.Valid.{IsObject}
 use Rattle.writing_laws.specs.Based.{IsBased, HomeStands, some_unmarked}
 use Rattle.section_data.specs.Views.{CellView}
 use Rattle.section_data.specs.Held.{cell_is_loaded}
-use Rattle.elf_descriptor.specs.declared.scn.Scn.{Scn}
+use Rattle.section_table.specs.Sections.{SectionView as Scn, absent_scn}
 use Rattle.elf_descriptor.specs.declared.body.Body.{Body}
 use Rattle.elf_descriptor.specs.declared.body.Base.{Base}
 use Rattle.elf_descriptor.specs.declared.body.Base.TheVariants as bases
-use Rattle.elf_descriptor.specs.Views.{object_of, section_of, raw_of, bytes_or, base_of, source_bytes, scn_at, absent_scn, is_of_source, HasCounts}
+use Rattle.elf_descriptor.specs.Views.{object_of, section_of, raw_of, bytes_or, base_of, source_bytes, scn_at, is_of_source, HasCounts}
 use Rattle.std.proofs.lemmas.Option.{get_or_from_slice_get, slice_get_within}
 use Rattle.elf_descriptor.specs.Sound.{IsElf, IsSound, IsStanding, CellIn, source_part}
 use Rattle.elf_descriptor.proofs.Objects.{section_is, section_count_is, base_length, base_count}
@@ -31,9 +31,9 @@ map_alike {X} {Y} f g d (x ∷ l) each =
     ∙ ap (λ (m : List Y). g x ∷ m) (map_alike f g d l (λ i h. each (suc i) (omega (arith, h))))
 
 -- what stands at a number that is found
-scn_found : (b : Body) (i : ℕ) (s : Scn) → slice_get b.sections.items i ≡ Some s → scn_at b i ≡ s
+scn_found : (b : Body) (i : ℕ) (s : Scn) → slice_get b.sections i ≡ Some s → scn_at b i ≡ s
 unfolding scn_at
-scn_found b i s found = get_or_from_slice_get b.sections.items i s absent_scn found
+scn_found b i s found = get_or_from_slice_get b.sections i s absent_scn found
 
 -- ---- An object with another base
 
@@ -98,7 +98,7 @@ module _ (touched : ℕ → ℕ → Bool) (image now : Option (List ℕ)) (size 
       by_test false e = e
 
   -- a home that is not loaded lies in the old part
-  lay : (i : ℕ) → i < length old.sections.items → cell_is_loaded (scn_at old i).cell ≡ false → (scn_at old i).cell.home.out ≡ false → 0 < (scn_at old i).cell.home.len
+  lay : (i : ℕ) → i < length old.sections → cell_is_loaded (scn_at old i).cell ≡ false → (scn_at old i).cell.home.out ≡ false → 0 < (scn_at old i).cell.home.len
       → (scn_at old i).cell.home.at + (scn_at old i).cell.home.len ≤ r.m
   lay i there unread inside some =
       subst (λ (b : Base). (scn_at old i).cell.home.at + (scn_at old i).cell.home.len ≤ source_part b) r.old_part ((cell_at image size old i is there).lies unread inside some)
@@ -107,7 +107,7 @@ module _ (touched : ℕ → ℕ → Bool) (image now : Option (List ℕ)) (size 
   unread_apart x unread both = let never : false ≡ true = sym unread ∙ both.0 in cc
 
   -- what it holds stays
-  raw_same : (i : ℕ) → i < length old.sections.items → raw_of now (scn_at old i).cell ≡ raw_of image (scn_at old i).cell
+  raw_same : (i : ℕ) → i < length old.sections → raw_of now (scn_at old i).cell ≡ raw_of image (scn_at old i).cell
   unfolding raw_of home_bytes
   raw_same i there = by_source image now refl refl r.told
     where
@@ -141,7 +141,7 @@ module _ (touched : ℕ → ℕ → Bool) (image now : Option (List ℕ)) (size 
       by_source (Some old_bytes) None told known same =
           let never : false ≡ true = sym (ap (λ (s : Option (List ℕ)). is_some s) known) ∙ same ∙ ap (λ (s : Option (List ℕ)). is_some s) told in cc
 
-  section_same : (i : ℕ) → i < length old.sections.items → section_of now (scn_at old i) ≡ section_of image (scn_at old i)
+  section_same : (i : ℕ) → i < length old.sections → section_of now (scn_at old i) ≡ section_of image (scn_at old i)
   unfolding section_of
   section_same i there = ap (λ (raw : List ℕ). record (section_of image (scn_at old i)) { raw = raw }) (raw_same i there)
 
@@ -151,7 +151,7 @@ module _ (touched : ℕ → ℕ → Bool) (image now : Option (List ℕ)) (size 
   rebased_object =
       ap (λ (b : Body). object_of now after b) r.rest
       ∙ ap (λ (l : List Section). record (object_of image size old) { base = base_of new.base now after; sections = l })
-      (map_alike (section_of now) (section_of image) absent_scn old.sections.items (λ i there. section_same i there))
+      (map_alike (section_of now) (section_of image) absent_scn old.sections (λ i there. section_same i there))
 
   base_now : List ℕ
   base_now = base_of new.base now after
@@ -169,7 +169,7 @@ module _ (touched : ℕ → ℕ → Bool) (image now : Option (List ℕ)) (size 
   old_length = ap length (base_is image size old) ∙ base_length old.base image size is.long is.within ∙ ap (λ (b : Base). base_count b) r.old_part
 
   -- where some piece is not marked, a home that stood in the base stands there
-  stands : IsSome image → (i : ℕ) → i < length old.sections.items → HomeStands (object_of image size old).base (section_of image (scn_at old i)) → HomeStands (base_of new.base now after) (section_of image (scn_at old i))
+  stands : IsSome image → (i : ℕ) → i < length old.sections → HomeStands (object_of image size old).base (section_of image (scn_at old i)) → HomeStands (base_of new.base now after) (section_of image (scn_at old i))
   unfolding section_of
   stands told i there before unmarked inside =
       by_len (scn_at old i).cell.home.len refl ∙ before unmarked inside
@@ -240,7 +240,7 @@ module _ (touched : ℕ → ℕ → Bool) (image now : Option (List ℕ)) (size 
         long = r.long;
         within = subst (λ (b : Base). source_part b ≤ after) (sym r.new_part) r.within;
         counts = subst HasCounts (sym r.rest) (record { phnum = is.counts.phnum; shnum = is.counts.shnum });
-        cells = λ i s found. cell_in i s (ap (λ (b : Body). slice_get b.sections.items i) (sym r.rest) ∙ found);
+        cells = λ i s found. cell_in i s (ap (λ (b : Body). slice_get b.sections i) (sym r.rest) ∙ found);
         written = subst (λ (b : Body). IfSome b.written (IsStanding b.header.class b.header.order)) (sym r.rest) is.written;
         sound = subst (λ (p : Object). IsSound now p) (sym rebased_object) (record {
           object = object;
@@ -249,10 +249,10 @@ module _ (touched : ℕ → ℕ → Bool) (image now : Option (List ℕ)) (size 
         });
       }
     where
-      cell_in : (i : ℕ) (s : Scn) → slice_get old.sections.items i ≡ Some s → CellIn new.header.class new.header.order new.base i s
+      cell_in : (i : ℕ) (s : Scn) → slice_get old.sections i ≡ Some s → CellIn new.header.class new.header.order new.base i s
       cell_in i s found =
           let before = is.cells i s found in
-          let there = slice_get_within old.sections.items i s found in
+          let there = slice_get_within old.sections i s found in
           let here : scn_at old i ≡ s = scn_found old i s found in
           subst (λ (b : Body). CellIn b.header.class b.header.order new.base i s) (sym r.rest) (record {
             number = before.number;

@@ -13,10 +13,10 @@ use Rattle.elf_object.specs.Joined.{file_bytes}
 use Rattle.elf_object.specs.Image.{front_blocks}
 use Rattle.elf_object.specs.Settled.{settled_section, settled_over, blank, untold_section, untold}
 use Rattle.section_data.proofs.Loading.{opened_lies}
-use Rattle.elf_descriptor.specs.declared.scn.Scn.{Scn}
+use Rattle.section_table.specs.Sections.{SectionView as Scn, absent_scn, reopened_scn}
 use Rattle.elf_descriptor.specs.declared.body.Body.{Body}
-use Rattle.elf_descriptor.specs.Views.{object_of, section_of, raw_of, source_bytes, scn_at, absent_scn}
-use Rattle.elf_descriptor.specs.Settling.{SettlesBody, reopened_scn}
+use Rattle.elf_descriptor.specs.Views.{object_of, section_of, raw_of, source_bytes, scn_at}
+use Rattle.elf_descriptor.specs.Settling.{SettlesBody}
 use Rattle.elf_descriptor.proofs.Objects.{section_is, section_count_is, whole_source}
 use Rattle.elf_descriptor.proofs.Rows.{rows_map}
 use Rattle.elf_descriptor.proofs.Settling.{reopened_plain, headers_in}
@@ -126,12 +126,12 @@ headers_same image [] = refl
 headers_same image (x ∷ scns) = ap (λ (l : List Shdr). x.header ∷ l) (headers_same image scns)
 
 front_same : (image : Option (List ℕ)) (size : ℕ) (b : Body)
-    → front_in_image (written_header b.header) b.pad b.phdrs (headers_in b.sections.items)
+    → front_in_image (written_header b.header) b.pad b.phdrs (headers_in b.sections)
     ≡ front_blocks (object_of image size b)
 unfolding front_blocks object_of
 front_same image size b =
     ap (λ (l : List Shdr). front_in_image (written_header b.header) b.pad b.phdrs l)
-    (sym (headers_same image b.sections.items))
+    (sym (headers_same image b.sections))
 
 -- ---- The object
 
@@ -153,27 +153,27 @@ module _ (image : Option (List ℕ)) (size : ℕ) (mid new : Body) (whole : List
     → home_bytes (home_of (length whole) (section_at (object_of image size mid) s).header) whole
     ≡ file_bytes (object_of image size mid) s)
     (settles : SettlesBody size mid new) where
-  raw_at : (i : ℕ) (x : Scn) → slice_get mid.sections.items i ≡ Some x
+  raw_at : (i : ℕ) (x : Scn) → slice_get mid.sections i ≡ Some x
       → home_bytes (home_of (length whole) x.header) whole ≡ file_bytes (object_of image size mid) i
   unfolding section_of scn_at
   raw_at i x at =
       let q = object_of image size mid in
-      let there = slice_get_within mid.sections.items i x at in
+      let there = slice_get_within mid.sections i x at in
       let count = section_count_is image size mid in
       let here : (section_at q i).header ≡ x.header =
       ap (λ (c : Section). c.header) (section_is image size mid i)
-      ∙ ap (λ (y : Scn). y.header) (get_or_from_slice_get mid.sections.items i x absent_scn at) in
+      ∙ ap (λ (y : Scn). y.header) (get_or_from_slice_get mid.sections i x absent_scn at) in
       subst (λ (h : Shdr). home_bytes (home_of (length whole) h) whole ≡ file_bytes q i) here
       (raws i (omega (arith, there, count)))
 
-  sections_now : map (section_of image) new.sections.items
+  sections_now : map (section_of image) new.sections
       ≡ left_sections (is_some image)
       (map (λ row. settled_section (length whole) (file_bytes (object_of image size mid) row.0)
-      row.1.header) (enumerate_from 0 (map (section_of image) mid.sections.items)))
+      row.1.header) (enumerate_from 0 (map (section_of image) mid.sections)))
   sections_now =
       ap (λ (l : List Scn). map (section_of image) l)
-      (settles.sections ∙ ap (λ (n : ℕ). map (reopened_scn n) mid.sections.items) long)
-      ∙ sections_reopened image mid.sections.items (object_of image size mid) whole held raw_at
+      (settles.sections ∙ ap (λ (n : ℕ). map (reopened_scn n) mid.sections) long)
+      ∙ sections_reopened image mid.sections (object_of image size mid) whole held raw_at
 
   pub reopened_object : object_of image size new
       ≡ left_object (is_some image) (settled_over whole (object_of image size mid))
@@ -181,7 +181,7 @@ module _ (image : Option (List ℕ)) (size : ℕ) (mid new : Body) (whole : List
   reopened_object =
       let q : Object = object_of image size mid in
       let base = take size (source_bytes image size) in
-      let headers = headers_in mid.sections.items in
+      let headers = headers_in mid.sections in
       let front = front_in_image (written_header mid.header) mid.pad mid.phdrs headers in
       let marks : Object = record q {
         marked = false;

@@ -29,16 +29,16 @@ use Rattle.object_laws.proofs.SettledLaws.{placed_readable, section_raw, settle-
 use Rattle.writing_laws.specs.Based.{EveryStepKeepsBased, IsBased, UpdatesKeepBased}
 use Rattle.section_data.proofs.Loading.{opened_lies}
 use Rattle.section_data.specs.Held.{cell_is_loaded}
-use Rattle.elf_descriptor.specs.declared.scn.Scn.{Scn}
+use Rattle.section_table.specs.Sections.{SectionView as Scn, absent_scn, reopened_scn}
 use Rattle.elf_descriptor.specs.declared.body.Written.{Written}
 use Rattle.elf_descriptor.specs.declared.body.Base.{Base}
 use Rattle.elf_descriptor.specs.declared.body.Base.TheVariants as bases
 use Rattle.elf_descriptor.specs.declared.body.Body.{Body}
 use Rattle.elf_descriptor.specs.State.{State}
-use Rattle.elf_descriptor.specs.Views.{object_of, scn_at, absent_scn, loaded_of, held_of, room_of, ready_of, state_of, HasCounts}
+use Rattle.elf_descriptor.specs.Views.{object_of, scn_at, loaded_of, held_of, room_of, ready_of, state_of, HasCounts}
 use Rattle.elf_descriptor.specs.Sound.{IsElf, IsSound, IsStanding, CellIn, source_part}
 use Rattle.elf_descriptor.specs.Places.{StoresPlaces}
-use Rattle.elf_descriptor.specs.Settling.{SettlesBody, SettlingIsSound, front_as_written, cleared, reopened_scn, settled_state}
+use Rattle.elf_descriptor.specs.Settling.{SettlesBody, SettlingIsSound, front_as_written, cleared, settled_state}
 use Rattle.elf_descriptor.proofs.Warming.{cell_at}
 use Rattle.elf_descriptor.proofs.EditLaws.{has_counts}
 use Rattle.elf_descriptor.proofs.Placing.{count_same, limited, placed_object, placed_elf, placed_state}
@@ -104,18 +104,18 @@ settling_is_sound keeps ties stands (Some bytes) o is ranged passed = record {
 
 -- a section that is opened again, with the number of the one that it was
 cell_reopened : (mid new : Body) (size i : ℕ) (s : Scn) → SettlesBody size mid new
-    → (scn_at mid i).cell.section ≡ i → slice_get new.sections.items i ≡ Some s
+    → (scn_at mid i).cell.section ≡ i → slice_get new.sections i ≡ Some s
     → CellIn new.header.class new.header.order (bases.Source size) i s
 unfolding scn_at
 cell_reopened mid new size i s settles number found =
-    let within = slice_get_within new.sections.items i s found in
-    let count = ap length settles.sections ∙ length-map mid.sections.items (reopened_scn size) in
-    let there : i < length mid.sections.items = omega (arith, within, count) in
-    let x : Scn = get_or mid.sections.items i absent_scn in
+    let within = slice_get_within new.sections i s found in
+    let count = ap length settles.sections ∙ length-map mid.sections (reopened_scn size) in
+    let there : i < length mid.sections = omega (arith, within, count) in
+    let x : Scn = get_or mid.sections i absent_scn in
     let is : reopened_scn size x ≡ s =
-    sym (get_or-map (reopened_scn size) mid.sections.items i absent_scn absent_scn there)
+    sym (get_or-map (reopened_scn size) mid.sections i absent_scn absent_scn there)
     ∙ ap (λ (l : List Scn). get_or l i absent_scn) (sym settles.sections)
-    ∙ get_or_from_slice_get new.sections.items i s absent_scn found in
+    ∙ get_or_from_slice_get new.sections i s absent_scn found in
     let h = new.header in
     subst (λ (t : Scn). CellIn h.class h.order (bases.Source size) i t) is (record {
       number = number;
@@ -192,7 +192,7 @@ module _ {S : Type 0} (g : Ghosts S) (source : S) (old mid new : Body)
       subst IsReadable (sym stored) (placed_readable o is.sound.object ranged dirty passed) in
       subst (λ (l : List Shdr). IsStanding mid.header.class mid.header.order
       (record { header = written_header mid.header; pad = mid.pad; phdrs = mid.phdrs; shdrs = l }))
-      (headers_same (g.holds source) mid.sections.items)
+      (headers_same (g.holds source) mid.sections)
       (standing_front q placed_is.sound.object reads)
 
   header_now : new.header ≡ mid.header
@@ -204,13 +204,13 @@ module _ {S : Type 0} (g : Ghosts S) (source : S) (old mid new : Body)
   written_now : new.written ≡ Some (front_as_written mid)
   written_now = ap (λ (b : Body). b.written) settles.rest
 
-  cells_now : (i : ℕ) (s : Scn) → slice_get new.sections.items i ≡ Some s
+  cells_now : (i : ℕ) (s : Scn) → slice_get new.sections i ≡ Some s
       → CellIn new.header.class new.header.order new.base i s
   cells_now i s found =
-      let within = slice_get_within new.sections.items i s found in
+      let within = slice_get_within new.sections i s found in
       let count = ap length settles.sections
-      ∙ length-map mid.sections.items (reopened_scn (g.size source)) in
-      let there : i < length mid.sections.items = omega (arith, within, count) in
+      ∙ length-map mid.sections (reopened_scn (g.size source)) in
+      let there : i < length mid.sections = omega (arith, within, count) in
       let before = cell_at (g.holds source) (g.size source) mid i placed_is there in
       subst (λ (b : Base). CellIn new.header.class new.header.order b i s) (sym base_now)
       (cell_reopened mid new (g.size source) i s settles before.number found)
@@ -236,13 +236,13 @@ module _ {S : Type 0} (g : Ghosts S) (source : S) (old mid new : Body)
 
   -- of as many sections, that nothing of any is held
   none_now : (now was : Scn → Bool) → ((x : Scn) → now (reopened_scn (g.size source) x) ≡ false)
-      → length mid.sections.items ≡ length old.sections.items
-      → map now new.sections.items ≡ cleared (map was old.sections.items)
+      → length mid.sections ≡ length old.sections
+      → map now new.sections ≡ cleared (map was old.sections)
   none_now now was none count =
       ap (λ (l : List Scn). map now l) settles.sections
-      ∙ each mid.sections.items
-      ∙ none_alike mid.sections.items old.sections.items count
-      ∙ sym (none_mapped was old.sections.items)
+      ∙ each mid.sections
+      ∙ none_alike mid.sections old.sections count
+      ∙ sym (none_mapped was old.sections)
     where
       each : (l : List Scn) → map now (map (reopened_scn (g.size source)) l) ≡ map (λ x. false) l
       each [] = refl
@@ -250,7 +250,7 @@ module _ {S : Type 0} (g : Ghosts S) (source : S) (old mid new : Body)
           ap (λ (t : Bool). t ∷ map now (map (reopened_scn (g.size source)) l)) (none x)
           ∙ ap (λ (t : List Bool). false ∷ t) (each l)
 
-  pub settled_state_is : length mid.sections.items ≡ length old.sections.items
+  pub settled_state_is : length mid.sections ≡ length old.sections
       → state_of g source new ≡ settled_state (state_of g source old)
   unfolding loaded_of held_of room_of
   settled_state_is count =

@@ -17,7 +17,7 @@ use Rattle.elf_descriptor.proofs.PieceCalls.{section_sound}
 use Rattle.elf_descriptor.proofs.RawCalls.{scn_missing}
 
 -- the clean home piece is as long as its home, where that is in the file
-home_length : (image : Option (List ℕ)) (size : ℕ) (b : Body) (s : ℕ) → IsElf image size b → s < length b.sections.items → length (raw_of image (scn_at b s).cell) ≡ home_size (scn_at b s).cell
+home_length : (image : Option (List ℕ)) (size : ℕ) (b : Body) (s : ℕ) → IsElf image size b → s < length b.sections → length (raw_of image (scn_at b s).cell) ≡ home_size (scn_at b s).cell
 unfolding section_of
 home_length image size b s is there = by_out (scn_at b s).cell.home.out refl
   where
@@ -25,7 +25,7 @@ home_length image size b s is there = by_out (scn_at b s).cell.home.out refl
     by_out true e = ap length ((section_sound image size b s is there).home.outside e)
     by_out false e = (section_sound image size b s is there).home.inside e
 
-pub size_is : (image : Option (List ℕ)) (size : ℕ) (b : Body) (s : ℕ) → IsElf image size b → s < length b.sections.items
+pub size_is : (image : Option (List ℕ)) (size : ℕ) (b : Body) (s : ℕ) → IsElf image size b → s < length b.sections
     → pieces_end (object_of image size b) s ≡ data_size b.header.class (scn_at b s).cell
 unfolding object_of section_of
 size_is image size b s is there =
@@ -37,13 +37,13 @@ size_is image size b s is there =
 pub size_answer : (image : Option (List ℕ)) (size : ℕ) (b : Body) (s : ℕ) → IsElf image size b
     → answered {E = ElfError} (no_scn b s) (min (data_size b.header.class (scn_at b s).cell) (2 ^ 64 - 1)) ≡ answered (no_section (object_of image size b) s) (min (pieces_end (object_of image size b) s) (2 ^ 64 - 1))
 size_answer image size b s is =
-    by_range (nat_lt s (length b.sections.items)) refl
+    by_range (nat_lt s (length b.sections)) refl
     ∙ ap (λ (r : Option ElfError). answered r (min (pieces_end (object_of image size b) s) (2 ^ 64 - 1))) (sym (no_section_is image size b s))
   where
-    by_range : (t : Bool) → nat_lt s (length b.sections.items) ≡ t
+    by_range : (t : Bool) → nat_lt s (length b.sections) ≡ t
         → answered (no_scn b s) (min (data_size b.header.class (scn_at b s).cell) (2 ^ 64 - 1)) ≡ answered (no_scn b s) (min (pieces_end (object_of image size b) s) (2 ^ 64 - 1))
-    by_range true e = ap (λ (n : ℕ). answered (no_scn b s) (min n (2 ^ 64 - 1))) (sym (size_is image size b s is (ltb-true s (length b.sections.items) e)))
+    by_range true e = ap (λ (n : ℕ). answered (no_scn b s) (min n (2 ^ 64 - 1))) (sym (size_is image size b s is (ltb-true s (length b.sections) e)))
     by_range false e =
-        let missing = scn_missing b s (ltb-false s (length b.sections.items) e) in
+        let missing = scn_missing b s (ltb-false s (length b.sections) e) in
         ap (λ (r : Option ElfError). answered r (min (data_size b.header.class (scn_at b s).cell) (2 ^ 64 - 1))) missing
         ∙ sym (ap (λ (r : Option ElfError). answered r (min (pieces_end (object_of image size b) s) (2 ^ 64 - 1))) missing)

@@ -30,16 +30,16 @@ same_length n = by_test (n == n) refl
 
 -- a spare front of the right lengths, over a source
 pub reserved_by : (old new : Body) (front : Written) → is_of_source old.base ≡ true → new ≡ record old { spare = Some front; ready = true } → length front.phdrs ≡ length old.phdrs
-    → length front.shdrs ≡ length old.sections.items → IsReserved old new
+    → length front.shdrs ≡ length old.sections → IsReserved old new
 reserved_by old new front over is phdrs shdrs = record {
   rest = is ∙ ap (λ (s : Option Written). record old { spare = s; ready = true }) (sym (ap (λ (b : Body). b.spare) is));
   ready =
       ap ready_of is
-      ∙ ap (λ (t : Bool). t && ((length front.phdrs == length old.phdrs) && (length front.shdrs == length old.sections.items))) over
-      ∙ ap (λ (n : ℕ). (n == length old.phdrs) && (length front.shdrs == length old.sections.items)) phdrs
-      ∙ ap (λ (n : ℕ). (length old.phdrs == length old.phdrs) && (n == length old.sections.items)) shdrs
-      ∙ ap (λ (t : Bool). t && (length old.sections.items == length old.sections.items)) (same_length (length old.phdrs))
-      ∙ same_length (length old.sections.items);
+      ∙ ap (λ (t : Bool). t && ((length front.phdrs == length old.phdrs) && (length front.shdrs == length old.sections))) over
+      ∙ ap (λ (n : ℕ). (n == length old.phdrs) && (length front.shdrs == length old.sections)) phdrs
+      ∙ ap (λ (n : ℕ). (length old.phdrs == length old.phdrs) && (n == length old.sections)) shdrs
+      ∙ ap (λ (t : Bool). t && (length old.sections == length old.sections)) (same_length (length old.phdrs))
+      ∙ same_length (length old.sections);
 }
 
 module _ {S : Type 0} (g : Ghosts S) (source : S) (old new : Body) (is : IsElf (g.holds source) (g.size source) old) where

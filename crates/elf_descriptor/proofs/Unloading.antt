@@ -11,14 +11,14 @@ use Rattle.writing_laws.specs.Based.{IsBased, HomeStands, some_unmarked}
 use Rattle.section_data.specs.Views.{CellView, passes_end}
 use Rattle.section_data.specs.Held.{is_untouched}
 use Rattle.section_data.specs.Leaves.{unloaded as unloaded_cell}
-use Rattle.elf_descriptor.specs.declared.scn.Scn.{Scn}
+use Rattle.section_table.specs.Sections.{SectionView as Scn}
 use Rattle.elf_descriptor.specs.declared.body.Body.{Body}
 use Rattle.elf_descriptor.specs.declared.body.Base.{Base}
 use Rattle.elf_descriptor.specs.declared.body.Base.TheVariants as bases
 use Rattle.elf_descriptor.specs.State.{State}
 use Rattle.elf_descriptor.specs.Views.{object_of, section_of, raw_of, base_of, scn_at, no_scn, loaded_of, held_of, state_of, is_of_source}
 use Rattle.elf_descriptor.specs.Sound.{IsElf, source_part}
-use Rattle.elf_descriptor.specs.Rooms.{is_kept_home, can_be_read_again, can_let_go, unloaded, let_go, HoldsSo}
+use Rattle.elf_descriptor.specs.Rooms.{is_kept_home, can_be_read_again, can_forget, can_let_go, unloaded, let_go, HoldsSo}
 use Rattle.elf_descriptor.proofs.Objects.{section_is, section_count_is, base_length, base_count}
 use Rattle.elf_descriptor.proofs.BaseCalls.{base_is, home_stands}
 use Rattle.elf_descriptor.proofs.Warming.{cell_at}
@@ -65,7 +65,7 @@ unfolding can_be_read_again can_let_go is_untouched section_of
 again_is image size b s =
     ap (λ (c : Section). is_kept_home c && not c.home.out && not (passes_end (length (object_of image size b).base) c.home.at c.home.len)) (section_is image size b s)
 
-module _ (image : Option (List ℕ)) (size : ℕ) (b : Body) (s : ℕ) (is : IsElf image size b) (there : s < length b.sections.items) (again : can_let_go b (length (object_of image size b).base) s ≡ true) where
+module _ (image : Option (List ℕ)) (size : ℕ) (b : Body) (s : ℕ) (is : IsElf image size b) (there : s < length b.sections) (again : can_let_go b (length (object_of image size b).base) s ≡ true) where
   c : CellView
   c = (scn_at b s).cell
 
@@ -134,15 +134,15 @@ module _ (image : Option (List ℕ)) (size : ℕ) (b : Body) (s : ℕ) (is : IsE
 
 -- ---- The call
 
-untouched_there : (b : Body) (base s : ℕ) → can_let_go b base s ≡ true → s < length b.sections.items
+untouched_there : (b : Body) (base s : ℕ) → can_let_go b base s ≡ true → s < length b.sections
 unfolding can_let_go is_untouched scn_at
-untouched_there b base s again = by_range (nat_lt s (length b.sections.items)) refl
+untouched_there b base s again = by_range (nat_lt s (length b.sections)) refl
   where
-    by_range : (t : Bool) → nat_lt s (length b.sections.items) ≡ t → s < length b.sections.items
-    by_range true e = ltb-true s (length b.sections.items) e
+    by_range : (t : Bool) → nat_lt s (length b.sections) ≡ t → s < length b.sections
+    by_range true e = ltb-true s (length b.sections) e
     by_range false e =
-        let absent = absent_at b s (ltb-false s (length b.sections.items) e) in
-        let none : can_let_go b base s ≡ false = rw absent refl in
+        let absent = absent_at b s (ltb-false s (length b.sections) e) in
+        let none : can_let_go b base s ≡ false = ap (λ (x : Scn). can_forget base x.cell) absent in
         cc
 
 module _ {S : Type 0} (g : Ghosts S) (source : S) (old new : Body) (s : ℕ) (is : IsElf (g.holds source) (g.size source) old) where
@@ -184,7 +184,7 @@ let_gone : (c : CellView) → is_untouched c ≡ true → unloaded_cell c ≡ le
 let_gone c again = cond-true (is_untouched c) (let_go c) c again
 
 pub gone_by : (old new : Body) (s base : ℕ) (x : Scn) (cell : CellView) → x ≡ scn_at old s → can_let_go old base s ≡ true → new ≡ record old { sections = new.sections }
-    → new.sections.items ≡ set old.sections.items s (record x { cell = cell }) → cell ≡ unloaded_cell x.cell → HoldsSo old new s (let_go (scn_at old s).cell)
+    → new.sections ≡ set old.sections s (record x { cell = cell }) → cell ≡ unloaded_cell x.cell → HoldsSo old new s (let_go (scn_at old s).cell)
 unfolding can_let_go
 gone_by old new s base x cell read again rest is gone =
     let untouched : is_untouched (scn_at old s).cell ≡ true =
@@ -194,9 +194,9 @@ gone_by old new s base x cell read again rest is gone =
       rest = rest;
       sections =
           is
-          ∙ ap (λ (c : CellView). set old.sections.items s (record x { cell = c })) gone
-          ∙ ap (λ (y : Scn). set old.sections.items s (record y { cell = unloaded_cell y.cell })) read
-          ∙ ap (λ (c : CellView). set old.sections.items s (record (scn_at old s) { cell = c })) (let_gone (scn_at old s).cell untouched);
+          ∙ ap (λ (c : CellView). set old.sections s (record x { cell = c })) gone
+          ∙ ap (λ (y : Scn). set old.sections s (record y { cell = unloaded_cell y.cell })) read
+          ∙ ap (λ (c : CellView). set old.sections s (record (scn_at old s) { cell = c })) (let_gone (scn_at old s).cell untouched);
     }
 
 -- a call that is refused lets nothing go

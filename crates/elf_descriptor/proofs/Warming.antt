@@ -3,7 +3,7 @@ use Rattle.std.proofs.Common.{◌≡◌, ◌≢◌, ℕ, ◌<◌, ◌≤◌, Boo
 use Rattle.std.specs.Prelude.{IfSome, is_some, nat_lt, ◌==◌, ◌&&◌}
 use Rattle.std.specs.Option.{option_and_then}
 use Rattle.std.proofs.lemmas.Bool.{ltb-true, ltb-false, eqb-true, eq-eqb}
-use Rattle.std.proofs.lemmas.List.{length-set, get_or-set_same, get_or-set_other, set-get_or, set_past, get_or_past, get_or_read}
+use Rattle.std.proofs.lemmas.List.{length-set, get_or-set_same, get_or-set_other, set-get_or, set_past, get_or_past}
 use Rattle.std.proofs.lemmas.Option.{get_or_from_slice_get, slice_get-get_or, slice_get_within}
 use Rattle.std.proofs.Math.Seq.{map-set_same}
 use Rattle.elf_types.specs.declared.records.Class.{Class}
@@ -18,9 +18,9 @@ use Rattle.section_data.specs.Views.{CellView}
 use Rattle.section_data.specs.Held.{HeldIs}
 use Rattle.section_data.specs.Leaves.{Warms, RawBecomes, LiesIn}
 use Rattle.section_data.proofs.Loading.{warms_same}
-use Rattle.elf_descriptor.specs.declared.scn.Scn.{Scn}
+use Rattle.section_table.specs.Sections.{SectionView as Scn, section_in, AreNumbered, absent_scn}
 use Rattle.elf_descriptor.specs.declared.body.Body.{Body}
-use Rattle.elf_descriptor.specs.Views.{object_of, section_of, raw_of, bytes_or, scn_at, absent_scn, HasCounts, ready_of, is_of_source, has_lengths}
+use Rattle.elf_descriptor.specs.Views.{object_of, section_of, raw_of, bytes_or, scn_at, HasCounts, ready_of, is_of_source, has_lengths}
 use Rattle.elf_descriptor.specs.Warmed.{Warmed}
 use Rattle.elf_descriptor.specs.Sound.{IsElf, IsSound, CellIn, source_part, IsStanding}
 use Rattle.elf_descriptor.specs.declared.body.Base.{Base}
@@ -110,44 +110,44 @@ warm_held image class order c cell warms same is =
 pub other_number : (a b : ℕ) → (a == b) ≡ false → a ≢ b
 other_number a b e = λ same. let is = eq-eqb a b same in cc
 
-pub warmed_here : (image : Option (List ℕ)) (old new : Body) (s : ℕ) (w : Warmed image old new s) → s < length old.sections.items
+pub warmed_here : (image : Option (List ℕ)) (old new : Body) (s : ℕ) (w : Warmed image old new s) → s < length old.sections
     → scn_at new s ≡ record (scn_at old s) { cell = w.cell }
 unfolding scn_at
 warmed_here image old new s w there =
     ap (λ (l : List Scn). get_or l s absent_scn) w.sections
-    ∙ get_or-set_same old.sections.items s (record (scn_at old s) { cell = w.cell }) absent_scn there
+    ∙ get_or-set_same old.sections s (record (scn_at old s) { cell = w.cell }) absent_scn there
 
-warmed_past : (image : Option (List ℕ)) (old new : Body) (s i : ℕ) (w : Warmed image old new s) → length old.sections.items ≤ s → scn_at new i ≡ scn_at old i
+warmed_past : (image : Option (List ℕ)) (old new : Body) (s i : ℕ) (w : Warmed image old new s) → length old.sections ≤ s → scn_at new i ≡ scn_at old i
 unfolding scn_at
 warmed_past image old new s i w past =
-    ap (λ (l : List Scn). get_or l i absent_scn) (w.sections ∙ set_past old.sections.items s (record (scn_at old s) { cell = w.cell }) past)
+    ap (λ (l : List Scn). get_or l i absent_scn) (w.sections ∙ set_past old.sections s (record (scn_at old s) { cell = w.cell }) past)
 
 pub warmed_other : (image : Option (List ℕ)) (old new : Body) (s i : ℕ) (w : Warmed image old new s) → i ≢ s → scn_at new i ≡ scn_at old i
 unfolding scn_at
 warmed_other image old new s i w other =
     ap (λ (l : List Scn). get_or l i absent_scn) w.sections
-    ∙ get_or-set_other old.sections.items s i (record (scn_at old s) { cell = w.cell }) absent_scn other
+    ∙ get_or-set_other old.sections s i (record (scn_at old s) { cell = w.cell }) absent_scn other
 
 -- the data of any section, read or not
 pub warmed_cell : (image : Option (List ℕ)) (old new : Body) (s i : ℕ) → Warmed image old new s → Warms image (scn_at old i).cell (scn_at new i).cell
 warmed_cell image old new s i w = by_number (i == s) refl
   where
-    by_range : (b : Bool) → nat_lt s (length old.sections.items) ≡ b → Warms image (scn_at old s).cell (scn_at new s).cell
-    by_range true e = subst (λ (x : Scn). Warms image (scn_at old s).cell x.cell) (sym (warmed_here image old new s w (ltb-true s (length old.sections.items) e))) w.warms
+    by_range : (b : Bool) → nat_lt s (length old.sections) ≡ b → Warms image (scn_at old s).cell (scn_at new s).cell
+    by_range true e = subst (λ (x : Scn). Warms image (scn_at old s).cell x.cell) (sym (warmed_here image old new s w (ltb-true s (length old.sections) e))) w.warms
     by_range false e =
-        subst (λ (x : Scn). Warms image (scn_at old s).cell x.cell) (sym (warmed_past image old new s s w (ltb-false s (length old.sections.items) e))) (warms_same image (scn_at old s).cell)
+        subst (λ (x : Scn). Warms image (scn_at old s).cell x.cell) (sym (warmed_past image old new s s w (ltb-false s (length old.sections) e))) (warms_same image (scn_at old s).cell)
 
     by_number : (b : Bool) → (i == s) ≡ b → Warms image (scn_at old i).cell (scn_at new i).cell
     by_number true e =
-        subst (λ (n : ℕ). Warms image (scn_at old n).cell (scn_at new n).cell) (sym (eqb-true i s e)) (by_range (nat_lt s (length old.sections.items)) refl)
+        subst (λ (n : ℕ). Warms image (scn_at old n).cell (scn_at new n).cell) (sym (eqb-true i s e)) (by_range (nat_lt s (length old.sections)) refl)
     by_number false e =
         subst (λ (x : Scn). Warms image (scn_at old i).cell x.cell) (sym (warmed_other image old new s i w (other_number i s e))) (warms_same image (scn_at old i).cell)
 
-sections_same : (image : Option (List ℕ)) (old new : Body) (s : ℕ) → Warmed image old new s → map (section_of image) new.sections.items ≡ map (section_of image) old.sections.items
+sections_same : (image : Option (List ℕ)) (old new : Body) (s : ℕ) → Warmed image old new s → map (section_of image) new.sections ≡ map (section_of image) old.sections
 unfolding scn_at
 sections_same image old new s w =
     ap (λ (l : List Scn). map (section_of image) l) w.sections
-    ∙ map-set_same (section_of image) old.sections.items s (record (scn_at old s) { cell = w.cell }) absent_scn (warms_section image (scn_at old s) w.cell w.warms)
+    ∙ map-set_same (section_of image) old.sections s (record (scn_at old s) { cell = w.cell }) absent_scn (warms_section image (scn_at old s) w.cell w.warms)
 
 -- the object stays
 pub warmed_object : (image : Option (List ℕ)) (size : ℕ) (old new : Body) (s : ℕ) → Warmed image old new s → object_of image size new ≡ object_of image size old
@@ -159,30 +159,35 @@ warmed_object image size old new s w =
 warmed_counts : (image : Option (List ℕ)) (old new : Body) (s : ℕ) → Warmed image old new s → HasCounts old → HasCounts new
 warmed_counts image old new s w has = subst HasCounts (sym w.rest) (record {
   phnum = has.phnum;
-  shnum = has.shnum ∙ sym (ap length w.sections ∙ length-set old.sections.items s (record (scn_at old s) { cell = w.cell }));
+  shnum = has.shnum ∙ sym (ap length w.sections ∙ length-set old.sections s (record (scn_at old s) { cell = w.cell }));
 })
 
 -- and so does whether an update wants memory
 pub warmed_ready : (image : Option (List ℕ)) (old new : Body) (s : ℕ) → Warmed image old new s → ready_of new ≡ ready_of old
 warmed_ready image old new s w =
     ap ready_of w.rest
-    ∙ ap (λ (n : ℕ). old.ready && (is_of_source old.base && has_lengths old.spare (length old.phdrs) n)) (ap length w.sections ∙ length-set old.sections.items s (record (scn_at old s) { cell = w.cell }))
+    ∙ ap (λ (n : ℕ). old.ready && (is_of_source old.base && has_lengths old.spare (length old.phdrs) n)) (ap length w.sections ∙ length-set old.sections s (record (scn_at old s) { cell = w.cell }))
 
 -- what is known of a section's data
-pub cell_at : (image : Option (List ℕ)) (size : ℕ) (b : Body) (s : ℕ) → IsElf image size b → s < length b.sections.items
+pub cell_at : (image : Option (List ℕ)) (size : ℕ) (b : Body) (s : ℕ) → IsElf image size b → s < length b.sections
     → CellIn b.header.class b.header.order b.base s (scn_at b s)
 unfolding scn_at
-cell_at image size b s is there = is.cells s (scn_at b s) (slice_get-get_or b.sections.items s absent_scn there)
+cell_at image size b s is there = is.cells s (scn_at b s) (slice_get-get_or b.sections s absent_scn there)
+
+-- the data of each section has its number
+pub are_numbered : (image : Option (List ℕ)) (size : ℕ) (b : Body) → IsElf image size b → AreNumbered b.sections
+unfolding scn_at
+are_numbered image size b is = λ s there. (cell_at image size b s is there).number
 
 -- its home lies in the part of the source that is the base's
 pub lies_in_part : (image : Option (List ℕ)) (size : ℕ) (b : Body) (s : ℕ) → IsElf image size b → LiesIn (scn_at b s).cell (source_part b.base)
 unfolding scn_at
-lies_in_part image size b s is = by_range (nat_lt s (length b.sections.items)) refl
+lies_in_part image size b s is = by_range (nat_lt s (length b.sections)) refl
   where
-    by_range : (t : Bool) → nat_lt s (length b.sections.items) ≡ t → LiesIn (scn_at b s).cell (source_part b.base)
-    by_range true e = (cell_at image size b s is (ltb-true s (length b.sections.items) e)).lies
+    by_range : (t : Bool) → nat_lt s (length b.sections) ≡ t → LiesIn (scn_at b s).cell (source_part b.base)
+    by_range true e = (cell_at image size b s is (ltb-true s (length b.sections) e)).lies
     by_range false e =
-        subst (λ (x : Scn). LiesIn x.cell (source_part b.base)) (sym (get_or_past b.sections.items s absent_scn (ltb-false s (length b.sections.items) e))) (λ unread inside some. absurd (omega (arith, some)))
+        subst (λ (x : Scn). LiesIn x.cell (source_part b.base)) (sym (get_or_past b.sections s absent_scn (ltb-false s (length b.sections) e))) (λ unread inside some. absurd (omega (arith, some)))
 
 -- so it can be read
 pub lies_at : (image : Option (List ℕ)) (size : ℕ) (b : Body) (s : ℕ) → IsElf image size b → LiesIn (scn_at b s).cell size
@@ -191,22 +196,22 @@ lies_at image size b s is = λ unread inside some. let part = lies_in_part image
 -- without such a part it is empty
 pub empty_at : (image : Option (List ℕ)) (size : ℕ) (b : Body) (s : ℕ) → IsElf image size b → is_of_source b.base ≡ false → (scn_at b s).cell.home.len ≡ 0
 unfolding scn_at
-empty_at image size b s is none = by_range (nat_lt s (length b.sections.items)) refl
+empty_at image size b s is none = by_range (nat_lt s (length b.sections)) refl
   where
-    by_range : (t : Bool) → nat_lt s (length b.sections.items) ≡ t → (scn_at b s).cell.home.len ≡ 0
-    by_range true e = (cell_at image size b s is (ltb-true s (length b.sections.items) e)).empty none
-    by_range false e = ap (λ (x : Scn). x.cell.home.len) (get_or_past b.sections.items s absent_scn (ltb-false s (length b.sections.items) e))
+    by_range : (t : Bool) → nat_lt s (length b.sections) ≡ t → (scn_at b s).cell.home.len ≡ 0
+    by_range true e = (cell_at image size b s is (ltb-true s (length b.sections) e)).empty none
+    by_range false e = ap (λ (x : Scn). x.cell.home.len) (get_or_past b.sections s absent_scn (ltb-false s (length b.sections) e))
 
 -- its items that are held are those of its bytes
 pub items_held_at : (image : Option (List ℕ)) (size : ℕ) (b : Body) (s : ℕ) → IsElf image size b → HeldIs b.header.class b.header.order (scn_at b s).cell
 unfolding scn_at
-items_held_at image size b s is = by_range (nat_lt s (length b.sections.items)) refl
+items_held_at image size b s is = by_range (nat_lt s (length b.sections)) refl
   where
-    by_range : (t : Bool) → nat_lt s (length b.sections.items) ≡ t → HeldIs b.header.class b.header.order (scn_at b s).cell
-    by_range true e = (cell_at image size b s is (ltb-true s (length b.sections.items) e)).items
-    by_range false e = subst (λ (x : Scn). HeldIs b.header.class b.header.order x.cell) (sym (get_or_past b.sections.items s absent_scn (ltb-false s (length b.sections.items) e))) tt
+    by_range : (t : Bool) → nat_lt s (length b.sections) ≡ t → HeldIs b.header.class b.header.order (scn_at b s).cell
+    by_range true e = (cell_at image size b s is (ltb-true s (length b.sections) e)).items
+    by_range false e = subst (λ (x : Scn). HeldIs b.header.class b.header.order x.cell) (sym (get_or_past b.sections s absent_scn (ltb-false s (length b.sections) e))) tt
 
-warmed_cells : (image : Option (List ℕ)) (size : ℕ) (old new : Body) (s : ℕ) → Warmed image old new s → IsElf image size old → (i : ℕ) → i < length old.sections.items
+warmed_cells : (image : Option (List ℕ)) (size : ℕ) (old new : Body) (s : ℕ) → Warmed image old new s → IsElf image size old → (i : ℕ) → i < length old.sections
     → CellIn old.header.class old.header.order old.base i (scn_at new i)
 warmed_cells image size old new s w is i there = by_number (i == s) refl
   where
@@ -227,9 +232,9 @@ warmed_elf image size old new s w is = record {
   within = part_within old new size (ap (λ (b : Body). b.base) w.rest) is.within;
   counts = warmed_counts image old new s w is.counts;
   cells = λ i x found.
-      let count = ap length w.sections ∙ length-set old.sections.items s (record (scn_at old s) { cell = w.cell }) in
-      let there = slice_get_within new.sections.items i x found in
-      let at = get_or_from_slice_get new.sections.items i x absent_scn found in
+      let count = ap length w.sections ∙ length-set old.sections s (record (scn_at old s) { cell = w.cell }) in
+      let there = slice_get_within new.sections i x found in
+      let at = get_or_from_slice_get new.sections i x absent_scn found in
       cell_moved old new (ap (λ (b : Body). b.header.class) w.rest) (ap (λ (b : Body). b.header.order) w.rest) (ap (λ (b : Body). b.base) w.rest) i x
       (subst (λ (y : Scn). CellIn old.header.class old.header.order old.base i y) at (warmed_cells image size old new s w is i (omega (arith, there, count))));
   written = standing_moved old new (ap (λ (b : Body). b.header.class) w.rest) (ap (λ (b : Body). b.header.order) w.rest) (ap (λ (b : Body). b.written) w.rest) is.written;
@@ -245,27 +250,31 @@ warmed_left g source left old new s leaves w is =
 
 -- ---- One section is written
 
--- what stands at an index is the section with that number
-pub scn_read : (b : Body) (s : ℕ) (x : Scn) → s < length b.sections.items → x ≡ get_or b.sections.items s x → x ≡ scn_at b s
-unfolding scn_at
-scn_read b s x there read = get_or_read b.sections.items s x there read absent_scn
+-- a section with its cell as it is lent
+abbrev pub lent_scn : Body → ℕ → CellView → Scn
+lent_scn b s cell = record (section_in b.sections s) { cell = cell }
 
-pub scn_written : (b new : Body) (s : ℕ) (x : Scn) → s < length b.sections.items → new.sections.items ≡ set b.sections.items s x → scn_at new s ≡ x
+pub lent_read : (b : Body) (s : ℕ) (cell : CellView) → cell ≡ (section_in b.sections s).cell
+    → lent_scn b s cell ≡ scn_at b s
 unfolding scn_at
-scn_written b new s x there is = ap (λ (l : List Scn). get_or l s absent_scn) is ∙ get_or-set_same b.sections.items s x absent_scn there
+lent_read b s cell lent = ap (λ (c : CellView). lent_scn b s c) lent
+
+pub scn_written : (b new : Body) (s : ℕ) (x : Scn) → s < length b.sections → new.sections ≡ set b.sections s x → scn_at new s ≡ x
+unfolding scn_at
+scn_written b new s x there is = ap (λ (l : List Scn). get_or l s absent_scn) is ∙ get_or-set_same b.sections s x absent_scn there
 
 pub warmed_by : (image : Option (List ℕ)) (old new : Body) (s : ℕ) (x : Scn) (cell : CellView) → x ≡ scn_at old s → new ≡ record old { sections = new.sections }
-    → new.sections.items ≡ set old.sections.items s (record x { cell = cell }) → Warms image x.cell cell
+    → new.sections ≡ set old.sections s (record x { cell = cell }) → Warms image x.cell cell
     → (HeldIs old.header.class old.header.order x.cell → HeldIs old.header.class old.header.order cell) → Warmed image old new s
 warmed_by image old new s x cell read rest is warms held = record {
   cell = cell;
   rest = rest;
-  sections = is ∙ ap (λ (y : Scn). set old.sections.items s (record y { cell = cell })) read;
+  sections = is ∙ ap (λ (y : Scn). set old.sections s (record y { cell = cell })) read;
   warms = subst (λ (y : Scn). Warms image y.cell cell) read warms;
   items = subst (λ (y : Scn). HeldIs old.header.class old.header.order y.cell → HeldIs old.header.class old.header.order cell) read held;
 }
 
-pub cell_written : (P : CellView → Type 0) (b new : Body) (s : ℕ) (x : Scn) (cell : CellView) → s < length b.sections.items → new.sections.items ≡ set b.sections.items s (record x { cell = cell })
+pub cell_written : (P : CellView → Type 0) (b new : Body) (s : ℕ) (x : Scn) (cell : CellView) → s < length b.sections → new.sections ≡ set b.sections s (record x { cell = cell })
     → P cell → P (scn_at new s).cell
 cell_written P b new s x cell there is h = subst (λ (y : Scn). P y.cell) (sym (scn_written b new s (record x { cell = cell }) there is)) h
 
@@ -275,7 +284,7 @@ unfolding scn_at
 warmed_same image b s = record {
   cell = (scn_at b s).cell;
   rest = refl;
-  sections = sym (set-get_or b.sections.items s absent_scn);
+  sections = sym (set-get_or b.sections s absent_scn);
   warms = warms_same image (scn_at b s).cell;
   items = λ held. held;
 }

@@ -1,7 +1,5 @@
 -- A descriptor that begins over a source (elf_begin, elf(3E); gABI chapter 4, "Object Files").
 use Rattle.std.specs.Prelude.{◌≡◌, ◌≤◌, ℕ, Bool, false, List, length, map, slice_get, Option, Some, None, is_some, IfSome, Result, Ok, Err}
-use Rattle.std.specs.List.{enumerate_from}
-use Rattle.std.specs.Global.{Vec}
 use Rattle.elf_types.specs.declared.constants.TheConstants.{MAX_IMAGE}
 use Rattle.elf_types.specs.declared.records.Shdr.{Shdr}
 use Rattle.elf_types.specs.declared.errors.ElfError.{ElfError}
@@ -9,10 +7,9 @@ use Rattle.elf_outside.specs.declared.sources.Source.{Ghosts}
 use Rattle.elf_ident.specs.declared.fronts.Front.{Front}
 use Rattle.elf_ident.specs.Reading.{IsFittingFront, IsCounted, HasTables}
 use Rattle.elf_object.specs.Object.{Object}
-use Rattle.elf_object.specs.Open.{begun, opened, home_of, standing_header}
+use Rattle.elf_object.specs.Open.{begun, opened, standing_header}
 use Rattle.elf_types.specs.Lists.{AreBytes}
-use Rattle.section_data.specs.Views.{opened_cell}
-use Rattle.elf_descriptor.specs.declared.scn.Scn.{Scn}
+use Rattle.section_table.specs.Sections.{SectionView as Scn}
 use Rattle.elf_descriptor.specs.declared.body.Body.{Body}
 use Rattle.elf_descriptor.specs.declared.body.Base.TheVariants as bases
 use Rattle.elf_descriptor.specs.State.{State}
@@ -21,21 +18,9 @@ use Rattle.elf_descriptor.specs.Sound.{CellIn, IsSound, IsStanding}
 
 -- ---- What the program keeps
 
--- a section of an image of `size` bytes, with its number and its header; nothing of it is read
-abbrev pub opened_scn : ℕ → ℕ × Shdr → Scn
-opened_scn size s = record {
-  header = s.1;
-  cell = opened_cell s.0 (home_of size s.1);
-  marked = false;
-}
-
--- the sections with these headers
-unfoldable pub opened_scns : ℕ → List Shdr → List Scn
-opened_scns size headers = map (opened_scn size) (enumerate_from 0 headers)
-
 -- all of the object that a front begins over a source of `size` bytes, with these sections; nothing
 -- is marked
-unfoldable pub opened_body : ℕ → Front → Vec Scn → Body
+unfoldable pub opened_body : ℕ → Front → List Scn → Body
 opened_body size f sections = record {
   header = f.ehdr;
   pad = f.pad;
@@ -63,7 +48,7 @@ pub record IsOpened (f : Front) (size : ℕ) (b : Body) : Type 0 where
   pub object : (image : Option (List ℕ)) → IfSome image (λ bytes. length bytes ≡ size)
       → object_of image size b ≡ begun f (source_bytes image size)
   pub counts : HasCounts b
-  pub cells : (i : ℕ) (s : Scn) → slice_get b.sections.items i ≡ Some s
+  pub cells : (i : ℕ) (s : Scn) → slice_get b.sections i ≡ Some s
       → CellIn b.header.class b.header.order b.base i s
   pub loaded : loaded_of b ≡ none_held f.shdrs
   pub held : held_of b ≡ none_held f.shdrs

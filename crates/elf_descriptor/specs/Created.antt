@@ -12,7 +12,7 @@ use Rattle.elf_descriptor.specs.Views.{object_of, ready_of}
 pub record IsCreatedBody (class : Class) (order : Order) (base : List ℕ) (b : Body) : Type 0 where
   pub object : (image : Option (List ℕ)) (size : ℕ)
       → object_of image size b ≡ created_over class order base
-  pub none : b.sections.items ≡ []
+  pub none : b.sections ≡ []
   pub base_is : b.base ≡ bases.Own base
   pub written : b.written ≡ None
   pub ready : ready_of b ≡ false

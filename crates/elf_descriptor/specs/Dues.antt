@@ -14,7 +14,7 @@ list_due class c kind p = due_unless (kind_refused class c kind p) (piece_due c 
 
 -- the piece holds items of the kind, and each of them is at hand
 pub record IsListed (b : Body) (s p : ℕ) (kind : Kind) : Type 0 where
-  pub section : s < length b.sections.items
+  pub section : s < length b.sections
   pub piece : p < length (scn_at b s).cell.pieces
   pub kind_is : kind_in (scn_at b s).cell p ≡ kind
   pub hand : IsTrue (is_at_hand b.header.class (scn_at b s).cell p)

@@ -1,5 +1,5 @@
 -- What an edit that reads nothing leaves of a descriptor (elf_update, ELF_F_DIRTY).
-use Rattle.std.specs.Prelude.{◌≡◌, ℕ, ◌<◌, Bool, true, false, List, [], ◌++◌, ◌-◌, ◌==◌, length, map, Option, Result, Ok, Err, if◌then◌else◌}
+use Rattle.std.specs.Prelude.{◌≡◌, ℕ, ◌<◌, Bool, false, List, [], ◌++◌, ◌-◌, ◌==◌, length, map, Option, Result, Ok, Err, if◌then◌else◌}
 use Rattle.std.specs.List.{range_with_len}
 use Rattle.std.proofs.Math.ListN.{replicate}
 use Rattle.elf_types.specs.declared.records.DataId.{DataId}
@@ -7,14 +7,13 @@ use Rattle.elf_types.specs.declared.records.ScnId.{ScnId}
 use Rattle.elf_types.specs.declared.records.Part.{Part}
 use Rattle.elf_types.specs.declared.records.Part.TheVariants as part
 use Rattle.elf_types.specs.declared.errors.ElfError.{ElfError}
-use Rattle.elf_ident.specs.Front.{zero_shdr}
 use Rattle.elf_object.specs.Object.{Object, new_section}
 use Rattle.elf_object.specs.Steps.{with_sections}
 use Rattle.elf_object.specs.Calls.{Call}
 use Rattle.elf_object.specs.Calls as calls
 use Rattle.elf_object.specs.Words.{Edits, EditsWith}
-use Rattle.section_data.specs.Views.{CellView, new_cell}
-use Rattle.elf_descriptor.specs.declared.scn.Scn.{Scn}
+use Rattle.section_data.specs.Views.{CellView}
+use Rattle.section_table.specs.Sections.{SectionView as Scn, new_scn}
 use Rattle.elf_descriptor.specs.declared.body.Body.{Body}
 use Rattle.elf_descriptor.specs.State.{State}
 use Rattle.elf_descriptor.specs.Views.{object_of, scn_at, ready_of}
@@ -42,7 +41,7 @@ without_pieces s = record s.cell { pieces = [] }
 
 -- what is held of each section's home
 unfoldable pub homes_of : Body → List CellView
-homes_of b = map without_pieces b.sections.items
+homes_of b = map without_pieces b.sections
 
 -- a step of the object, whatever its source tells; of the homes nothing changes
 pub record IsStepped (after : Object → Object) (stays_ready : Bool) (old new : Body) : Type 0 where
@@ -57,14 +56,14 @@ pub record IsStepped (after : Object → Object) (stays_ready : Bool) (old new :
 
 -- the part is there
 abbrev pub IsThere : Body → Part → Type 0
-IsThere b (part.Section s) = s < length b.sections.items
+IsThere b (part.Section s) = s < length b.sections
 IsThere b (part.Piece s p) =
-    (s < length b.sections.items) × (p < length (scn_at b s).cell.pieces)
+    (s < length b.sections) × (p < length (scn_at b s).cell.pieces)
 IsThere b _ = Unit {0}
 
 -- a section's data has its number
 abbrev pub IsNumbered : Body → ℕ → Type 0
-IsNumbered b s = s < length b.sections.items → (scn_at b s).cell.section ≡ s
+IsNumbered b s = s < length b.sections → (scn_at b s).cell.section ≡ s
 
 -- a section's number
 abbrev pub section_number : ScnId → ℕ
@@ -84,10 +83,6 @@ IsStatedWith result items stated = EditsWith result items (tt {0}) (tt {0}) stat
 
 -- ---- Sections that are added
 
--- a new section with a number
-abbrev pub new_scn : ℕ → Scn
-new_scn n = record { header = zero_shdr; cell = new_cell n; marked = true }
-
 -- so many new sections, with the numbers from one on
 unfoldable pub new_scns : ℕ → ℕ → List Scn
 new_scns first count = map new_scn (range_with_len first count)
@@ -101,8 +96,8 @@ pub record IsGrown (after : Object → Object) (old new : Body) : Type 0 where
   pub count : ℕ
   pub object : (image : Option (List ℕ)) (size : ℕ)
       → object_of image size new ≡ after (object_of image size old)
-  pub sections : new.sections.items
-      ≡ old.sections.items ++ new_scns (length old.sections.items) count
+  pub sections : new.sections
+      ≡ old.sections ++ new_scns (length old.sections) count
   pub class : new.header.class ≡ old.header.class
   pub order : new.header.order ≡ old.header.order
   pub base : new.base ≡ old.base

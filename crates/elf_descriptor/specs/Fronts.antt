@@ -66,7 +66,7 @@ abbrev pub stored_shdrs : Places → Ehdr → Body → List Shdr
 stored_shdrs places h b =
     map
     (λ row. stored_shdr h row.0 (section_place places row.0) row.1)
-    (enumerate_from 0 b.sections.items)
+    (enumerate_from 0 b.sections)
 
 -- their blocks
 abbrev pub header_block : Ehdr → List ℕ → Block

@@ -1,7 +1,6 @@
 -- A piece that becomes own, in what the program keeps (elf_flagdata of elf(3E)).
 use Rattle.std.specs.Prelude.{◌≡◌, ℕ, ◌<◌, Bool, length, slice_set, List, Option}
 use Rattle.std.specs.Borrow.{Fml, Lends}
-use Rattle.std.specs.Vec.{with_item}
 use denote.RattleType.{RattleType}
 use denote.Ref.{MutBor}
 use Rattle.elf_types.specs.contracts.lists.List.{the_row as list_row}
@@ -23,11 +22,11 @@ pub record IsOwned (image : Option (List ℕ)) (kind : Kind) (ready : Bool) (old
     (s p : ℕ) : Type 0 where
   pub cell : CellView
   pub rest : new ≡ record old { sections = new.sections; ready = ready }
-  pub sections : new.sections.items
-      ≡ slice_set old.sections.items s (record (scn_at old s) { cell = cell })
+  pub sections : new.sections
+      ≡ slice_set old.sections s (record (scn_at old s) { cell = cell })
   pub owns : Owns image old.header.class old.header.order (scn_at old s).cell cell p
   pub kept : IsCell cell
-  pub there : s < length old.sections.items
+  pub there : s < length old.sections
   pub piece : p < length cell.pieces
   pub own : OwnsKind kind (piece_in cell p)
   pub items : HeldIs old.header.class old.header.order cell
@@ -43,7 +42,7 @@ pub record IsOwnPiece (o : Object) (kind : Kind) (s p : ℕ) : Type 0 where
 -- all with that piece's items
 abbrev pub with_left : Body → ℕ → ℕ → Items → Body
 with_left b s p items = record b {
-  sections = with_item b.sections s (record (scn_at b s) {
+  sections = slice_set b.sections s (record (scn_at b s) {
     cell = with_items (scn_at b s).cell p items;
   });
 }

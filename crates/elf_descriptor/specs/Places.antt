@@ -9,8 +9,9 @@ use Rattle.elf_layout.specs.declared.parts.Places.{Places}
 use Rattle.elf_object.specs.Object.{is_null, occupies_file}
 use Rattle.elf_object.specs.Derived.{derived_header, numbered_shdr}
 use Rattle.elf_object.specs.Layout.{segments_place, section_place, table_place}
+use Rattle.section_data.specs.Views.{CellView}
 use Rattle.section_data.specs.Sizes.{data_size}
-use Rattle.elf_descriptor.specs.declared.scn.Scn.{Scn}
+use Rattle.section_table.specs.Sections.{SectionView as Scn}
 use Rattle.elf_descriptor.specs.declared.body.Body.{Body}
 
 -- there is a place for each part of an object with so many sections: the ELF header, the program
@@ -19,16 +20,22 @@ abbrev pub HasPlaces : Places → ℕ → Type 0
 HasPlaces places count = length places.at ≡ count - 1 + 3
 
 -- sh_size: where the last piece of a section with file bytes ends; the caller's where it has none
-unfoldable pub stored_size : Class → Scn → ℕ
-stored_size class x =
-    if occupies_file x.header then min (data_size class x.cell) (2 ^ 64 - 1) else x.header.size
+abbrev pub size_to_store : Class → Shdr → CellView → ℕ
+size_to_store class header cell =
+    if occupies_file header then min (data_size class cell) (2 ^ 64 - 1) else header.size
 
--- the header of a section with a number, which stands at a place
+unfoldable pub stored_size : Class → Scn → ℕ
+stored_size class x = size_to_store class x.header x.cell
+
+-- the header of a section with a number, which stands at a place and has so many bytes
+abbrev pub shdr_to_store : Ehdr → ℕ → ℕ → ℕ → Shdr → Shdr
+shdr_to_store h s at size header =
+    if s == 0 then numbered_shdr h header
+    else (if is_null header then header
+    else (record header { offset = at; size = size }))
+
 unfoldable pub stored_shdr : Ehdr → ℕ → ℕ → Scn → Shdr
-stored_shdr h s at x =
-    if s == 0 then numbered_shdr h x.header
-    else (if is_null x.header then x.header
-    else (record x.header { offset = at; size = stored_size h.class x }))
+stored_shdr h s at x = shdr_to_store h s at (stored_size h.class x) x.header
 
 abbrev pub stored_scn : Places → Ehdr → ℕ → Scn → Scn
 stored_scn places h s x = record x { header = stored_shdr h s (section_place places s) x }
@@ -36,18 +43,18 @@ stored_scn places h s x = record x { header = stored_shdr h s (section_place pla
 -- the ELF header with the places of the tables
 abbrev pub stored_header : Places → Body → Ehdr
 stored_header places b =
-    derived_header (segments_place places) (table_place places (length b.sections.items)) b.header
+    derived_header (segments_place places) (table_place places (length b.sections)) b.header
 
 -- all with places stored in the headers of the sections
 pub record StoresHeaders (places : Places) (h : Ehdr) (old new : Body) : Type 0 where
   pub rest : new ≡ record old { sections = new.sections }
-  pub sections : new.sections.items
-      ≡ map (λ row. stored_scn places h row.0 row.1) (enumerate_from 0 old.sections.items)
+  pub sections : new.sections
+      ≡ map (λ row. stored_scn places h row.0 row.1) (enumerate_from 0 old.sections)
 
 -- and in the ELF header
 pub record StoresPlaces (places : Places) (old new : Body) : Type 0 where
   pub rest : new
       ≡ record old { header = stored_header places old; sections = new.sections }
-  pub sections : new.sections.items
+  pub sections : new.sections
       ≡ map (λ row. stored_scn places (stored_header places old) row.0 row.1)
-      (enumerate_from 0 old.sections.items)
+      (enumerate_from 0 old.sections)

@@ -64,8 +64,8 @@ let_go c = record c { raw = None; held = None }
 -- the data of one section is held so, and all else is as before
 pub record HoldsSo (old new : Body) (s : ℕ) (cell : CellView) : Type 0 where
   pub rest : new ≡ record old { sections = new.sections }
-  pub sections : new.sections.items
-      ≡ slice_set old.sections.items s (record (scn_at old s) { cell = cell })
+  pub sections : new.sections
+      ≡ slice_set old.sections s (record (scn_at old s) { cell = cell })
 
 -- a section's home was read into the memory that was kept aside for it
 pub record Fills (image : Option (List ℕ)) (old new : Body) (s : ℕ) : Type 0 where
@@ -74,7 +74,9 @@ pub record Fills (image : Option (List ℕ)) (old new : Body) (s : ℕ) : Type 0
   pub fills : FillsRoom image (scn_at old s).cell cell
 
 -- whether a section's home can be read again, by what the program keeps
-unfoldable pub can_let_go : Body → ℕ → ℕ → Bool
-can_let_go b base s =
-    let c = (scn_at b s).cell in
+abbrev pub can_forget : ℕ → CellView → Bool
+can_forget base c =
     is_untouched c && not c.home.out && not (passes_end base c.home.at c.home.len)
+
+unfoldable pub can_let_go : Body → ℕ → ℕ → Bool
+can_let_go b base s = can_forget base (scn_at b s).cell

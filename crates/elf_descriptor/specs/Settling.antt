@@ -2,13 +2,11 @@
 -- ELF_C_WRITE, elf(3E)).
 use Rattle.std.specs.Prelude.{◌≡◌, ℕ, Bool, false, All, List, map, Option, Some, None, is_some}
 use Rattle.elf_xlate.specs.Headers.{IsPhdr}
-use Rattle.elf_object.specs.Open.{home_of}
 use Rattle.elf_object.specs.Derived.{written_header}
 use Rattle.elf_object.specs.Refusal.{refusal}
 use Rattle.elf_object.specs.Settled.{settled}
 use Rattle.elf_object.specs.Object.{Object}
-use Rattle.section_data.specs.Views.{opened_cell}
-use Rattle.elf_descriptor.specs.declared.scn.Scn.{Scn}
+use Rattle.section_table.specs.Sections.{reopened_scn}
 use Rattle.elf_descriptor.specs.declared.body.Written.{Written}
 use Rattle.elf_descriptor.specs.declared.body.Body.{Body}
 use Rattle.elf_descriptor.specs.declared.body.Base.TheVariants as bases
@@ -40,20 +38,13 @@ SettlingIsSound =
 
 -- ---- What the program keeps
 
--- a section of an image of `size` bytes, as its header gives it; nothing of it is read
-abbrev pub reopened_scn : ℕ → Scn → Scn
-reopened_scn size s = record s {
-  cell = opened_cell s.cell.section (home_of size s.header);
-  marked = false;
-}
-
 -- the front as it is written
 abbrev pub front_as_written : Body → Written
 front_as_written b = record {
   header = written_header b.header;
   pad = b.pad;
   phdrs = b.phdrs;
-  shdrs = map (λ s. s.header) b.sections.items;
+  shdrs = map (λ s. s.header) b.sections;
 }
 
 -- all of an object whose places are stored, over the image that was written
@@ -68,5 +59,5 @@ pub record SettlesBody (size : ℕ) (old new : Body) : Type 0 where
     segments_marked = false;
     ready = false;
   }
-  pub sections : new.sections.items ≡ map (reopened_scn size) old.sections.items
+  pub sections : new.sections ≡ map (reopened_scn size) old.sections
   pub ranged : All IsPhdr old.phdrs

@@ -8,7 +8,7 @@ use Rattle.elf_object.specs.Valid.{IsObject, IsTied}
 use Rattle.writing_laws.specs.Based.{IsBased}
 use Rattle.section_data.specs.Leaves.{LiesIn}
 use Rattle.section_data.specs.Held.{HeldIs}
-use Rattle.elf_descriptor.specs.declared.scn.Scn.{Scn}
+use Rattle.section_table.specs.Sections.{SectionView as Scn}
 use Rattle.elf_descriptor.specs.declared.body.Written.{Written}
 use Rattle.elf_descriptor.specs.declared.body.Body.{Body}
 use Rattle.elf_descriptor.specs.declared.body.Base.{Base}
@@ -46,7 +46,7 @@ pub record IsElf (image : Option (List ℕ)) (size : ℕ) (b : Body) : Type 0 wh
   pub long : IfSome image (λ bytes. length bytes ≡ size)
   pub within : source_part b.base ≤ size
   pub counts : HasCounts b
-  pub cells : (i : ℕ) (s : Scn) → slice_get b.sections.items i ≡ Some s
+  pub cells : (i : ℕ) (s : Scn) → slice_get b.sections i ≡ Some s
       → CellIn b.header.class b.header.order b.base i s
   pub written : IfSome b.written (IsStanding b.header.class b.header.order)
   pub sound : IsSound image (object_of image size b)

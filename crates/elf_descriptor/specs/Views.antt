@@ -5,12 +5,11 @@ use Rattle.elf_types.specs.declared.errors.ElfError.{ElfError}
 use Rattle.elf_types.specs.declared.errors.ElfError.TheVariants.{NoSection}
 use Rattle.elf_types.specs.Answers.{refused_if}
 use Rattle.elf_outside.specs.declared.sources.Source.{Ghosts}
-use Rattle.elf_ident.specs.Front.{zero_shdr}
 use Rattle.elf_object.specs.Object.{Object, Section, WrittenFront}
 use Rattle.elf_object.specs.Open.{home_bytes, front_in_image, no_front}
-use Rattle.section_data.specs.Views.{CellView, new_cell}
+use Rattle.section_data.specs.Views.{CellView}
 use Rattle.section_data.specs.Held.{cell_is_loaded}
-use Rattle.elf_descriptor.specs.declared.scn.Scn.{Scn}
+use Rattle.section_table.specs.Sections.{SectionView as Scn, absent_scn}
 use Rattle.elf_descriptor.specs.declared.body.Written.{Written}
 use Rattle.elf_descriptor.specs.declared.body.Base.{Base}
 use Rattle.elf_descriptor.specs.declared.body.Base.TheVariants as bases
@@ -65,7 +64,7 @@ object_of image size b = record {
   header = b.header;
   pad = b.pad;
   phdrs = b.phdrs;
-  sections = map (section_of image) b.sections.items;
+  sections = map (section_of image) b.sections;
   base = base_of b.base image size;
   written_front = written_of b.written;
   layout = b.layout;
@@ -78,13 +77,13 @@ object_of image size b = record {
 -- ---- What is held
 
 unfoldable pub loaded_of : Body → List Bool
-loaded_of b = map (λ s. cell_is_loaded s.cell) b.sections.items
+loaded_of b = map (λ s. cell_is_loaded s.cell) b.sections
 
 unfoldable pub held_of : Body → List Bool
-held_of b = map (λ s. is_some s.cell.held) b.sections.items
+held_of b = map (λ s. is_some s.cell.held) b.sections
 
 unfoldable pub room_of : Body → List Bool
-room_of b = map (λ s. s.cell.room) b.sections.items
+room_of b = map (λ s. s.cell.room) b.sections
 
 -- ---- Whether an update can settle the object without memory
 
@@ -102,7 +101,7 @@ has_lengths (Some front) phnum shnum =
 -- the base is the source's, and a spare front is there, into which the object's can be copied
 abbrev pub has_spare : Body → Bool
 has_spare b =
-    is_of_source b.base && has_lengths b.spare (length b.phdrs) (length b.sections.items)
+    is_of_source b.base && has_lengths b.spare (length b.phdrs) (length b.sections)
 
 abbrev pub ready_of : Body → Bool
 ready_of b = b.ready && has_spare b
@@ -122,17 +121,13 @@ state_of g source b = record {
 
 -- ---- Words on what the program keeps
 
--- what stands at a number that no section has
-abbrev pub absent_scn : Scn
-absent_scn = record { header = zero_shdr; cell = new_cell 0; marked = false }
-
 unfoldable pub scn_at : Body → ℕ → Scn
-scn_at b s = slice_index_or b.sections.items s absent_scn
+scn_at b s = slice_index_or b.sections s absent_scn
 
 unfoldable pub no_scn : Body → ℕ → Option ElfError
-no_scn b s = refused_if (nat_le (length b.sections.items) s) (NoSection s (length b.sections.items))
+no_scn b s = refused_if (nat_le (length b.sections) s) (NoSection s (length b.sections))
 
 -- the two counts in the header are the lengths of the lists
 pub record HasCounts (b : Body) : Type 0 where
   pub phnum : b.header.phnum ≡ length b.phdrs
-  pub shnum : b.header.shnum ≡ length b.sections.items
+  pub shnum : b.header.shnum ≡ length b.sections

@@ -10,8 +10,8 @@ use Rattle.elf_descriptor.specs.Views.{scn_at}
 pub record Warmed (image : Option (List ℕ)) (old new : Body) (s : ℕ) : Type 0 where
   pub cell : CellView
   pub rest : new ≡ record old { sections = new.sections }
-  pub sections : new.sections.items
-      ≡ slice_set old.sections.items s (record (scn_at old s) { cell = cell })
+  pub sections : new.sections
+      ≡ slice_set old.sections s (record (scn_at old s) { cell = cell })
   pub warms : Warms image (scn_at old s).cell cell
   pub items : HeldIs old.header.class old.header.order (scn_at old s).cell
       → HeldIs old.header.class old.header.order cell

@@ -1,7 +1,7 @@
 //! All of an object but its source.
 
-use crate::scn::Scn;
 use elf_types::{Ehdr, Octets, Phdrs, Shdrs};
+use section_table::Sections;
 
 mod bases;
 mod checks;
@@ -54,7 +54,7 @@ pub struct Body {
     /// The program headers.
     pub phdrs: Phdrs,
     /// The sections.
-    pub sections: Vec<Scn>,
+    pub sections: Sections,
     /// The base bytes.
     pub base: Base,
     /// The front as it stands in the image; a created object has none.

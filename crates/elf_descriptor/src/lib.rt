@@ -5,9 +5,9 @@
 #![tactic(auto)]
 
 mod body;
+mod cells;
 mod descriptor;
 mod held;
-mod scn;
 
 pub use descriptor::Elf;
 pub use held::Held;

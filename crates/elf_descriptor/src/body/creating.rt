@@ -6,6 +6,7 @@ ghost use Rattle.elf_descriptor.specs.Created.{IsCreatedBody};
 
 use crate::body::{Base, Body};
 use elf_types::{Class, Ehdr, Octets, Order, Phdrs};
+use section_table::Sections;
 use std::alloc::Global;
 
 /// The header of a new object: version 1, and 0 in every other field.
@@ -42,7 +43,7 @@ impl Body {
             header: new_ehdr(class, order),
             pad: [0; 7],
             phdrs: Phdrs::new(alloc),
-            sections: Vec::new(alloc),
+            sections: Sections::new(alloc, class),
             base: Base::Own(base),
             written: None,
             spare: None,

@@ -117,7 +117,7 @@ impl Body {
     /// Whether a section's header, with its place and its size stored, is the one with its number
     /// in a table.
     fn same_at(&self, places: &Places, h: &Ehdr, table: &[Shdr], s: u32) -> bool
-        requires there { s < length self.now.sections.items }
+        requires there { s < length self.now.sections }
         requires places { s + 1 < length places.now.at }
         requires table { s < length table.now }
         ensures same { IsTrue result ↔ (slice_get table.now s
@@ -126,17 +126,14 @@ impl Body {
             (stored_shdr h.now s (section_place places.now s) (scn_at self.now s)) }
     {
         let at = place_of(places, u64::from(s) + 1);
-        same_shdr(
-            self.scn(s).stored_shdr(h, s, at),
-            shdr_at(table, s as usize),
-        )
+        same_shdr(self.stored_shdr(h, s, at), shdr_at(table, s as usize))
     }
 
     /// Whether the section headers, with places and sizes stored in them, are those of a table.
     fn same_shdrs(&self, places: &Places, h: &Ehdr, table: &[Shdr]) -> bool
         requires counts { HasCounts self.now }
-        requires places { HasPlaces places.now (length self.now.sections.items) }
-        requires count { length self.now.sections.items ≡ length table.now }
+        requires places { HasPlaces places.now (length self.now.sections) }
+        requires count { length self.now.sections ≡ length table.now }
         ensures { Compares IsShdr result (stored_shdrs places.now h.now self.now) table.now }
     {
         let count = self.header.shnum;
@@ -152,7 +149,7 @@ impl Body {
     /// that stands in the image.
     fn same_table(&self, front: &Written, places: &Places, h: &Ehdr) -> bool
         requires counts { HasCounts self.now }
-        requires places { HasPlaces places.now (length self.now.sections.items) }
+        requires places { HasPlaces places.now (length self.now.sections) }
         ensures { TellsTable result h.now.shoff (stored_shdrs places.now h.now self.now)
             front.now }
     {
@@ -168,7 +165,7 @@ impl Body {
     /// image.
     fn same_front(&self, front: &Written, part: Part, places: &Places) -> bool
         requires counts { HasCounts self.now }
-        requires places { HasPlaces places.now (length self.now.sections.items) }
+        requires places { HasPlaces places.now (length self.now.sections) }
         requires part { IsOfFront part }
         ensures { (image : Option (List ℕ)) (size : ℕ) → IsElf image size self.now
             → self.now.written ≡ Some front.now
@@ -207,7 +204,7 @@ impl Body {
     /// than in the image as opened or last settled. It goes over the part's records once.
     pub fn front_differs(&self, part: Part, places: &Places) -> bool
         requires counts { HasCounts self.now }
-        requires places { HasPlaces places.now (length self.now.sections.items) }
+        requires places { HasPlaces places.now (length self.now.sections) }
         requires part { IsOfFront part }
         ensures { (image : Option (List ℕ)) (size : ℕ) → IsElf image size self.now
             → places.now ≡ places_of (object_of image size self.now)

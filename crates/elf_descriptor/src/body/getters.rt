@@ -1,14 +1,15 @@
 //! What an object tells without reading.
 
-ghost use Rattle.std.specs.Prelude.{◌≡◌, ◌≤◌, ℕ, List, Option, Ok, IfSome, length};
+ghost use Rattle.std.specs.Prelude.{◌≡◌, ◌<◌, ◌≤◌, ℕ, List, Option, Ok, IfSome, length};
 ghost use Rattle.std.specs.List.{list_any};
 ghost use Rattle.elf_object.specs.Object.{is_dirty};
 ghost use Rattle.elf_object.specs.Calls as calls;
-ghost use Rattle.elf_descriptor.specs.Views.{HasCounts, object_of, base_of};
+ghost use Rattle.elf_descriptor.specs.Views.{HasCounts, object_of, base_of, scn_at};
 ghost use Rattle.elf_descriptor.specs.Bodies.{is_scn_dirty};
 ghost use Rattle.elf_descriptor.specs.Sound.{source_part};
 
 use crate::body::{Base, Body};
+use crate::cells::some_piece_marked;
 use elf_types::{DataId, Ehdr, ElfError, Kind, Part, Phdr, Shdr};
 
 impl Body {
@@ -46,7 +47,7 @@ impl Body {
             → result ≡ (calls.shdr s).answer (object_of image size self.now) }
     {
         self.check_section(s)?;
-        Ok(self.scn(s).header)
+        Ok(*self.header_at(s))
     }
 
     /// The number of a section's pieces; else `NoSection`.
@@ -57,7 +58,8 @@ impl Body {
             → result ≡ (calls.pieces s).answer (object_of image size self.now) }
     {
         self.check_section(s)?;
-        Ok(self.scn(s).cell.piece_count())
+        let at = self.cell_at(s);
+        Ok(at.cell().piece_count())
     }
 
     /// The place and the length of a section's home; else `NoSection`.
@@ -68,7 +70,8 @@ impl Body {
             → result ≡ (calls.home s).answer (object_of image size self.now) }
     {
         self.check_section(s)?;
-        let home = self.scn(s).cell.home();
+        let at = self.cell_at(s);
+        let home = at.cell().home();
         Ok((home.at, home.len))
     }
 
@@ -80,7 +83,8 @@ impl Body {
             ≡ (calls.piece_kind d.section d.piece).answer (object_of image size self.now) }
     {
         self.check_piece(d)?;
-        Ok(self.scn(d.section).cell.piece_kind(d.piece))
+        let at = self.cell_at(d.section);
+        Ok(at.cell().piece_kind(d.piece))
     }
 
     /// The alignment of a piece in its section; else `NoSection`, then `NoData`.
@@ -91,7 +95,8 @@ impl Body {
             ≡ (calls.piece_align d.section d.piece).answer (object_of image size self.now) }
     {
         self.check_piece(d)?;
-        Ok(self.scn(d.section).cell.piece_align(d.piece))
+        let at = self.cell_at(d.section);
+        Ok(at.cell().piece_align(d.piece))
     }
 
     /// The flags of a part; else `NoSection`, then `NoData`.
@@ -105,13 +110,27 @@ impl Body {
         Ok(self.part_flags(part))
     }
 
+    /// Whether a section that is there or one of its pieces is marked dirty.
+    fn is_scn_dirty(&self, s: u32) -> bool
+        requires { s < length self.now.sections }
+        ensures { result ≡ is_scn_dirty (scn_at self.now s) }
+    {
+        if self.marked_at(s) {
+            return true;
+        }
+        match self.made_at(s) {
+            Some(cell) => some_piece_marked(cell),
+            None => false,
+        }
+    }
+
     /// Whether a section or one of its pieces is marked dirty.
     #[tactic(auto, using(crate::proofs::Rules::marks))]
     fn some_section_marked(&self) -> bool
-        ensures { result ≡ list_any is_scn_dirty self.now.sections.items }
+        ensures { result ≡ list_any is_scn_dirty self.now.sections }
     {
-        for scn in &self.sections {
-            if scn.is_dirty() {
+        for s in 0..self.sections.count() {
+            if self.is_scn_dirty(s) {
                 return true;
             }
         }

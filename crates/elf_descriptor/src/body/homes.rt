@@ -16,6 +16,7 @@ impl Body {
             → result ≡ out_answer (object_of image size self.now) s }
     {
         self.check_section(s)?;
-        Ok(self.scn(s).cell.out())
+        let at = self.cell_at(s);
+        Ok(at.cell().out())
     }
 }

@@ -24,7 +24,7 @@ impl Body {
 
     /// Makes a piece of a kind, in a section that is there, own and marked with its items.
     fn own_there<S: Source>(&mut self, src: &mut S, d: DataId, kind: Kind) -> Result<(), ElfError>
-        requires there { d.section < length self.old.sections.items }
+        requires there { d.section < length self.old.sections }
         requires lies { LiesIn (scn_at self.old d.section).cell (S.size src.old) }
         requires items { HeldIs self.old.header.class self.old.header.order
             (scn_at self.old d.section).cell }
@@ -43,8 +43,8 @@ impl Body {
             (lend_due self.old.header.class (scn_at self.old d.section).cell kind d.piece) }
     {
         let (class, order) = (self.header.class, self.header.order);
-        let scn = &mut self.sections[d.section as usize];
-        scn.cell.own(d.piece, kind, class, order, src)
+        let cell = self.sections.cell_mut(d.section);
+        cell.own(d.piece, kind, class, order, src)
     }
 
     /// Makes a piece of a kind own and marked with its items; the home is read and translated at
@@ -81,7 +81,7 @@ impl Body {
 
     /// The list in the items of an own piece of the list's kind, lent for writing.
     pub fn list_mut<T: Listed>(&mut self, d: DataId) -> &mut List<T>
-        requires section { d.section < length self.old.sections.items }
+        requires section { d.section < length self.old.sections }
         requires piece { d.piece < length (scn_at self.old d.section).cell.pieces }
         requires own { OwnsKind T.kind (piece_in (scn_at self.old d.section).cell d.piece) }
         ensures* lends { sem 𝓛 (LendsOwn T.row T.variant d.section d.piece self.entry result) }
@@ -90,8 +90,7 @@ impl Body {
         ensures counted { IfSome (piece_in (scn_at self.old d.section).cell d.piece).own (λ items.
             length result.now ≡ items_count items) }
     {
-        let scn = &mut self.sections[d.section as usize];
-        let cell = &mut scn.cell;
+        let cell = self.sections.cell_mut(d.section);
         cell.list_mut::<T>(d.piece)
     }
 }

@@ -14,6 +14,7 @@ ghost use Rattle.elf_descriptor.specs.Dues.{list_due, IsListed};
 ghost use Rattle.elf_descriptor.specs.Warmed.{Warmed};
 
 use crate::body::Body;
+use crate::cells::fetch_list;
 use elf_outside::Source;
 use elf_types::{DataId, ElfError, Kind};
 
@@ -21,7 +22,7 @@ impl Body {
     /// Reads the home of a section that is there, where its bytes are not held. It refuses in this
     /// order: `OutOfFile`, then `Memory` or `Read`.
     fn load_there<S: Source>(&mut self, src: &mut S, s: u32) -> Result<(), ElfError>
-        requires there { s < length self.old.sections.items }
+        requires there { s < length self.old.sections }
         requires lies { LiesIn (scn_at self.old s).cell (S.size src.old) }
         ensures answer { Answers true (loading (load_due (scn_at self.old s).cell)) result
             (answered (home_out (scn_at self.old s).cell) tt) }
@@ -31,8 +32,8 @@ impl Body {
         ensures warmed { Warmed (S.holds src.old) self.old self.new s }
         ensures asks { Asks S.Source result src.old src.new (load_due (scn_at self.old s).cell) }
     {
-        let scn = &mut self.sections[s as usize];
-        scn.cell.load(src)
+        let cell = self.sections.cell_mut(s);
+        cell.load(src)
     }
 
     /// Reads a section's home where its bytes are not held. It refuses in this order: `NoSection`,
@@ -57,7 +58,7 @@ impl Body {
 
     /// Makes a piece of a section that is there hold its items.
     fn prepare_there<S: Source>(&mut self, src: &mut S, d: DataId) -> Result<(), ElfError>
-        requires there { d.section < length self.old.sections.items }
+        requires there { d.section < length self.old.sections }
         requires lies { LiesIn (scn_at self.old d.section).cell (S.size src.old) }
         requires items { HeldIs self.old.header.class self.old.header.order
             (scn_at self.old d.section).cell }
@@ -77,8 +78,8 @@ impl Body {
             (items_due self.old.header.class (scn_at self.old d.section).cell d.piece) }
     {
         let (class, order) = (self.header.class, self.header.order);
-        let scn = &mut self.sections[d.section as usize];
-        scn.cell.prepare(src, d.piece, class, order)
+        let cell = self.sections.cell_mut(d.section);
+        cell.prepare(src, d.piece, class, order)
     }
 
     /// Makes a piece hold its items. It refuses in this order: `NoSection`, `NoData`, and for the
@@ -110,7 +111,7 @@ impl Body {
 
     /// Makes each item of a piece of a kind, in a section that is there, be at hand.
     fn fetch_there<S: Source>(&mut self, src: &mut S, d: DataId, kind: Kind) -> Result<(), ElfError>
-        requires there { d.section < length self.old.sections.items }
+        requires there { d.section < length self.old.sections }
         requires lies { LiesIn (scn_at self.old d.section).cell (S.size src.old) }
         ensures answer { Answers true (loading (list_due self.old.header.class
             (scn_at self.old d.section).cell kind d.piece)) result (answered (kind_refused
@@ -125,8 +126,8 @@ impl Body {
             (list_due self.old.header.class (scn_at self.old d.section).cell kind d.piece) }
     {
         let class = self.header.class;
-        let scn = &mut self.sections[d.section as usize];
-        scn.fetch(src, d.piece, kind, class)
+        let cell = self.sections.cell_mut(d.section);
+        fetch_list(cell, src, d.piece, kind, class)
     }
 
     /// Makes each item of a piece of a kind be at hand: it is own, or its home is loaded. It

@@ -1,43 +1,17 @@
 //! The object that the front of an image begins.
 
-ghost use Rattle.std.specs.Prelude.{◌≡◌, ◌≤◌, length, IfOk, IfErr};
-ghost use Rattle.elf_types.specs.declared.constants.TheConstants.{MAX_SECTIONS};
+ghost use Rattle.std.specs.Prelude.{◌≡◌, IfOk, IfErr};
 ghost use Rattle.elf_types.specs.declared.errors.ElfError.TheVariants.{Memory};
 ghost use Rattle.elf_xlate.specs.Headers.{HasNarrowCounts};
 ghost use Rattle.elf_ident.specs.Reading.{IsCounted};
 ghost use Rattle.elf_object.specs.Open.{standing_header};
-ghost use Rattle.elf_descriptor.specs.Begun.{IsOpened, opened_body, opened_scns};
+ghost use Rattle.elf_descriptor.specs.Begun.{IsOpened, opened_body};
 
 use crate::body::{Base, Body, Written};
-use crate::scn::Scn;
 use elf_ident::Front;
-use elf_types::{Class, Ehdr, ElfError, List, Phdrs, Shdr};
-use section_data::Cell;
+use elf_types::{Ehdr, ElfError, List, Phdrs};
+use section_table::Sections;
 use std::alloc::Global;
-
-/// The sections with these headers in an image of `size` bytes. Nothing of them is read. It refuses
-/// `Memory` alone.
-fn open_sections(
-    alloc: Global,
-    class: Class,
-    headers: &[Shdr],
-    size: u64,
-) -> Result<Vec<Scn>, ElfError>
-    requires { length headers.now ≤ MAX_SECTIONS }
-    ensures ok { IfOk result (λ l. l.items ≡ opened_scns size headers.now) }
-    ensures err { IfErr result (λ e. e ≡ Memory) }
-{
-    let mut sections = Vec::with_capacity(alloc, headers.len())?;
-    for (i, header) in headers.iter().enumerate() {
-        let cell = Cell::opened(alloc, i as u32, class, header, size)?;
-        sections.push(Scn {
-            header: *header,
-            cell,
-            marked: false,
-        })?;
-    }
-    Ok(sections)
-}
 
 /// The header with its counts and its string index as they stand in the image.
 #[tactic(auto, unfolding(elf_object::specs::Open::standing_header))]
@@ -56,7 +30,7 @@ fn as_written(front: &Front) -> Ehdr
 /// The object with these sections over a source of `size` bytes. The front's own lists become those
 /// that stand in the image, and `phdrs` is the copy of its program headers.
 #[tactic(auto, unfolding(crate::specs::Begun::opened_body))]
-fn with_parts(front: Front, phdrs: Phdrs, sections: Vec<Scn>, size: u64) -> Body
+fn with_parts(front: Front, phdrs: Phdrs, sections: Sections, size: u64) -> Body
     requires { phdrs ≡ front.phdrs }
     ensures value { result ≡ opened_body size front sections }
     ensures narrow { HasNarrowCounts (standing_header front) }
@@ -92,7 +66,7 @@ impl Body {
         ensures opened { IfOk result (IsOpened front size) }
         ensures err { IfErr result (λ e. e ≡ Memory) }
     {
-        let sections = open_sections(alloc, front.ehdr.class, front.shdrs.as_slice(), size)?;
+        let sections = Sections::opened(alloc, front.ehdr.class, front.shdrs.as_slice(), size)?;
         let phdrs = List::from_slice(alloc, front.phdrs.as_slice())?;
         Ok(with_parts(front, phdrs, sections, size))
     }

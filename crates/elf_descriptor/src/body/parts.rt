@@ -45,8 +45,11 @@ impl Body {
             Part::Table => flag_bits(self.marked, self.layout),
             Part::Header => flag_bits(self.header_marked, false),
             Part::Segments => flag_bits(self.segments_marked, false),
-            Part::Section(s) => flag_bits(self.scn(s).marked, false),
-            Part::Piece(s, p) => flag_bits(self.scn(s).cell.is_marked(p), false),
+            Part::Section(s) => flag_bits(self.marked_at(s), false),
+            Part::Piece(s, p) => {
+                let at = self.cell_at(s);
+                flag_bits(at.cell().is_marked(p), false)
+            }
         }
     }
 }

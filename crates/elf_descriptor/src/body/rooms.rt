@@ -14,6 +14,7 @@ ghost use Rattle.elf_descriptor.specs.Views.{HasCounts, scn_at, no_scn};
 ghost use Rattle.elf_descriptor.specs.Rooms.{can_let_go, let_go, HoldsSo, Fills};
 
 use crate::body::Body;
+use crate::cells::can_forget;
 use elf_outside::Source;
 use elf_types::ElfError;
 
@@ -21,14 +22,14 @@ impl Body {
     /// Keeps memory aside for the home of a section that is there. It refuses in this order:
     /// `OutOfFile`, `Memory`.
     fn reserve_there(&mut self, s: u32) -> Result<(), ElfError>
-        requires { s < length self.old.sections.items }
+        requires { s < length self.old.sections }
         ensures answer { IsStated result (answered (home_out (scn_at self.old s).cell) tt) }
         ensures ok { OnOk result
             (HoldsSo self.old self.new s (with_room (scn_at self.old s).cell)) }
         ensures same { OnErr result (HoldsSo self.old self.new s (scn_at self.old s).cell) }
     {
-        let scn = &mut self.sections[s as usize];
-        scn.cell.reserve()
+        let cell = self.sections.cell_mut(s);
+        cell.reserve()
     }
 
     /// Keeps memory aside for a section's home, where that is not loaded. It refuses in this order:
@@ -39,7 +40,7 @@ impl Body {
         ensures answer { IsStated result (answered (no_raw_in self.old s) tt) }
         ensures ok { OnOk result
             (HoldsSo self.old self.new s (with_room (scn_at self.old s).cell)) }
-        ensures there { OnOk result (s < length self.old.sections.items) }
+        ensures there { OnOk result (s < length self.old.sections) }
         ensures same { OnErr result (HoldsSo self.old self.new s (scn_at self.old s).cell) }
     {
         if let Err(e) = self.check_section(s) {
@@ -51,7 +52,7 @@ impl Body {
     /// Reads the home of a section that is there into the memory that is kept aside for it, where
     /// it is not loaded. It refuses `Read` alone.
     pub fn load_home<S: Source>(&mut self, src: &mut S, s: u32) -> Result<(), ElfError>
-        requires there { s < length self.old.sections.items }
+        requires there { s < length self.old.sections }
         requires lies { LiesIn (scn_at self.old s).cell (S.size src.old) }
         requires room { IsTrue (cell_is_loaded (scn_at self.old s).cell
             || (scn_at self.old s).cell.room) }
@@ -62,29 +63,28 @@ impl Body {
         ensures asks { Asks S.Source result src.old src.new (load_due (scn_at self.old s).cell) }
         ensures err { IfErr result (λ e. e ≡ Read) }
     {
-        let scn = &mut self.sections[s as usize];
-        scn.cell.load_reserved(src)
+        let cell = self.sections.cell_mut(s);
+        cell.load_reserved(src)
     }
 
     /// Whether a section's home can be read again, of a base of so many bytes: its home piece is
     /// clean and not marked, and the home lies in the base.
-    #[tactic(auto, unfolding(crate::specs::Rooms::can_let_go))]
     fn can_let_go(&self, s: u32, base: u64) -> bool
-        requires { s < length self.now.sections.items }
+        requires { s < length self.now.sections }
         ensures { result ≡ can_let_go self.now base s }
     {
-        let cell = &self.scn(s).cell;
-        cell.is_untouched() && !cell.out() && !cell.home().passes_end(base)
+        let at = self.cell_at(s);
+        can_forget(at.cell(), base)
     }
 
     /// Lets go of what is held of a home whose piece is untouched.
     fn let_go(&mut self, s: u32, base: u64)
-        requires there { s < length self.old.sections.items }
+        requires there { s < length self.old.sections }
         requires again { can_let_go self.old base s ≡ true }
         ensures { HoldsSo self.old self.new s (let_go (scn_at self.old s).cell) }
     {
-        let scn = &mut self.sections[s as usize];
-        scn.cell.unload();
+        let cell = self.sections.cell_mut(s);
+        cell.unload();
     }
 
     /// Lets go of what is held of a section's home where it can be read again of a base of so many

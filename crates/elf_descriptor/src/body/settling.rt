@@ -2,14 +2,14 @@
 
 ghost use Rattle.std.specs.Prelude.{◌≡◌, ◌<◌, All, IsTrue, Some, length, map, slice_set};
 ghost use Rattle.elf_xlate.specs.Headers.{IsPhdr};
-ghost use Rattle.elf_descriptor.specs.Settling.{SettlesBody, front_as_written, reopened_scn};
-ghost use Rattle.elf_descriptor.specs.Views.{HasCounts, ready_of, scn_at};
+ghost use Rattle.section_table.specs.Sections.{AreNumbered};
+ghost use Rattle.elf_descriptor.specs.Settling.{SettlesBody, front_as_written};
+ghost use Rattle.elf_descriptor.specs.Views.{ready_of};
 
 use crate::body::{Base, Body, Written};
-use crate::scn::Scn;
 use elf_object::written_header;
 use elf_types::{Phdr, Shdr};
-use section_data::Home;
+use section_table::Sections;
 use std::mem;
 
 /// A program header, whose fields are in the range of their types.
@@ -32,12 +32,12 @@ fn copy_phdrs(to: &mut [Phdr], from: &[Phdr])
 }
 
 /// Copies the headers of sections over as many others.
-fn copy_shdrs(to: &mut [Shdr], from: &[Scn])
+fn copy_shdrs(to: &mut [Shdr], from: &Sections)
     requires { length to.old ≡ length from.now }
     ensures { to.new ≡ map (λ s. s.header) from.now }
 {
-    for i in 0..from.len() {
-        to[i] = from[i].header;
+    for i in 0..from.count() {
+        to[i as usize] = *from.header(i);
     }
 }
 
@@ -45,14 +45,14 @@ impl Body {
     /// Copies the front, as it is written, over one whose tables are as long.
     fn copy_front(&self, front: &mut Written)
         requires phdrs { length front.old.phdrs ≡ length self.now.phdrs }
-        requires shdrs { length front.old.shdrs ≡ length self.now.sections.items }
+        requires shdrs { length front.old.shdrs ≡ length self.now.sections }
         ensures value { front.new ≡ front_as_written self.now }
         ensures ranged { All IsPhdr self.now.phdrs }
     {
         front.header = written_header(&self.header);
         front.pad = self.pad;
         copy_phdrs(front.phdrs.as_mut_slice(), self.phdrs.as_slice());
-        copy_shdrs(front.shdrs.as_mut_slice(), self.sections.as_slice());
+        copy_shdrs(front.shdrs.as_mut_slice(), &self.sections);
     }
 
     /// Makes the spare front the one that stands, as it is written; the other is spare then.
@@ -72,42 +72,15 @@ impl Body {
         self.spare = mem::replace(&mut self.written, Some(front));
     }
 
-    /// Makes a section that of an image of `size` bytes, as its header gives it.
-    fn reopen_at(&mut self, s: u32, size: u64)
-        requires { s < length self.old.sections.items }
-        ensures rest { self.new ≡ record self.old { sections = self.new.sections } }
-        ensures sections { self.new.sections.items
-            ≡ slice_set self.old.sections.items s (reopened_scn size (scn_at self.old s)) }
-    {
-        let class = self.header.class;
-        let scn = &mut self.sections[s as usize];
-        let home = Home::of(class, &scn.header);
-        scn.cell.reopen(home, size);
-        scn.marked = false;
-    }
-
-    /// Makes each section that of an image of `size` bytes.
-    fn reopen(&mut self, size: u64)
-        requires { HasCounts self.old }
-        ensures rest { self.new ≡ record self.old { sections = self.new.sections } }
-        ensures sections { self.new.sections.items
-            ≡ map (reopened_scn size) self.old.sections.items }
-    {
-        let count = self.header.shnum;
-        for s in 0..count {
-            self.reopen_at(s, size);
-        }
-    }
-
     /// Makes an object whose places are stored that of the image of `size` bytes that was written:
     /// nothing is held or marked.
     pub fn settle(&mut self, size: u64)
-        requires counts { HasCounts self.old }
+        requires numbered { AreNumbered self.old.sections }
         requires ready { IsTrue (ready_of self.old) }
         ensures { SettlesBody size self.old self.new }
     {
         self.write_front();
-        self.reopen(size);
+        self.sections.reopen(size);
         self.base = Base::Source(size);
         self.marked = false;
         self.header_marked = false;

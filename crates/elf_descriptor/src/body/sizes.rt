@@ -17,6 +17,7 @@ impl Body {
             (min (data_size self.now.header.class (scn_at self.now s).cell) (2 ^ 64 - 1)) }
     {
         self.check_section(s)?;
-        Ok(self.scn(s).cell.size(self.header.class))
+        let at = self.cell_at(s);
+        Ok(at.cell().size(self.header.class))
     }
 }

@@ -21,7 +21,7 @@ impl Body {
         ensures err { IfErr result IsRefusal }
     {
         self.check_section(d.section)?;
-        let cell = &self.scn(d.section).cell;
-        cell.check_store(d.piece, i, item, self.header.class)
+        let at = self.cell_at(d.section);
+        at.cell().check_store(d.piece, i, item, self.header.class)
     }
 }

@@ -40,10 +40,8 @@ impl<S: Source> Elf<S> {
         ensures err { IfErr result IsRefusal }
     {
         let (class, order) = (self.body.header.class, self.body.header.order);
-        self.body
-            .scn(d.section)
-            .cell
-            .item::<T>(d.piece, i, class, order)
+        let at = self.body.cell_at(d.section);
+        at.cell().item::<T>(d.piece, i, class, order)
     }
 
     /// Item `i` of a clean piece of the item's kind, where it can be told at once: its home is
@@ -57,8 +55,10 @@ impl<S: Source> Elf<S> {
             return None;
         }
         let (class, order) = (self.body.header.class, self.body.header.order);
-        let cell = &self.body.scn(d.section).cell;
-        cell.item_at_hand::<T>(d.piece, i, class, order)
+        match self.body.made_at(d.section) {
+            Some(cell) => cell.item_at_hand::<T>(d.piece, i, class, order),
+            None => None,
+        }
     }
 
     /// Item `i` of a piece, whose home is read where it is not loaded; it refuses as `item`.

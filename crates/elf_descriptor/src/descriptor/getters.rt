@@ -181,6 +181,6 @@ impl<S: Source> Elf<S> {
         if let Err(e) = self.body.check_piece(d) {
             return Err(e);
         }
-        Ok(self.body.scn(d.section).held(d.piece))
+        Ok(self.body.held_at(d.section, d.piece))
     }
 }

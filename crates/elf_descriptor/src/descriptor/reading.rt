@@ -35,7 +35,7 @@ impl<S: Source> Elf<S> {
         ensures exact { IsTrue self.now.told → result.now ≡ (section_at self.now.o s).raw }
         ensures alike { AlikeBytes result.now (section_at self.now.o s).raw }
     {
-        self.body.scn(s).cell.bytes()
+        self.body.held_cell(s).bytes()
     }
 
     /// A home's bytes in file form, whatever was edited; a new section has none. It refuses in this
@@ -79,7 +79,7 @@ impl<S: Source> Elf<S> {
             → result.now ≡ items_at self.now.o d.section d.piece }
         ensures alike { AlikeItems result.now (items_at self.now.o d.section d.piece) }
     {
-        self.body.scn(d.section).cell.items(d.piece)
+        self.body.held_cell(d.section).items(d.piece)
     }
 
     /// A piece's items. It refuses in this order: `NoSection`, `NoData`, and for the clean home

@@ -67,25 +67,24 @@ fn check_kept(set: bool, bits: u32) -> Result<(), ElfError>
 impl Body {
     /// Marks a section dirty.
     fn mark_section(&mut self, s: u32)
-        requires { s < length self.old.sections.items }
+        requires { s < length self.old.sections }
         ensures step { IsStepped (λ o. with_mark o (part.Section s)) (ready_of self.old)
             self.old self.new }
         ensures there { IsThere self.new (part.Section s) }
     {
-        let scn = &mut self.sections[s as usize];
-        scn.marked = true;
+        self.sections.mark(s);
     }
 
     /// Marks a piece dirty.
     fn mark_piece(&mut self, s: u32, p: u32)
-        requires section { s < length self.old.sections.items }
+        requires section { s < length self.old.sections }
         requires piece { p < length (scn_at self.old s).cell.pieces }
         ensures step { IsStepped (λ o. with_mark o (part.Piece s p)) (ready_of self.old)
             self.old self.new }
         ensures there { IsThere self.new (part.Piece s p) }
     {
-        let scn = &mut self.sections[s as usize];
-        scn.cell.mark(p);
+        let cell = self.sections.cell_mut(s);
+        cell.mark(p);
     }
 
     /// Marks a part dirty that is there; the section header table has the mark of the object.

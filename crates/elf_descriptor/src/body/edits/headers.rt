@@ -39,8 +39,8 @@ impl Body {
     fn check_string_index(&self, s: u32) -> Result<(), ElfError>
         requires { HasCounts self.now }
         ensures answer { result ≡ answered (refused_if
-            (not (s == 0) && nat_le (length self.now.sections.items) s)
-            (NoSection s (length self.now.sections.items))) tt }
+            (not (s == 0) && nat_le (length self.now.sections) s)
+            (NoSection s (length self.now.sections))) tt }
     {
         let count = self.header.shnum;
         if s != 0 && s >= count {
@@ -68,8 +68,8 @@ impl Body {
         requires { HasCounts self.now }
         ensures answer { result ≡ answered (first_refusal
             (refused_if (not (h.now.shstrndx == 0)
-            && nat_le (length self.now.sections.items) h.now.shstrndx)
-            (NoSection h.now.shstrndx (length self.now.sections.items))
+            && nat_le (length self.now.sections) h.now.shstrndx)
+            (NoSection h.now.shstrndx (length self.now.sections))
             ∷ refused_if (not (ehdr_fits (stored_ehdr self.now.header h.now)))
             (Unfit part.Header 0) ∷ [])) tt }
     {
@@ -187,7 +187,7 @@ impl Body {
         ensures answer { result ≡ answered (first_refusal (no_scn self.now s ∷ reserved s
             ∷ refused_if (not (shdr_fits self.now.header.class h.now)) (Unfit (part.Section s) 0)
             ∷ [])) tt }
-        ensures there { OnOk result (s < length self.now.sections.items) }
+        ensures there { OnOk result (s < length self.now.sections) }
     {
         self.check_section(s)?;
         check_reserved(s)?;
@@ -196,12 +196,11 @@ impl Body {
 
     /// Stores a section's header.
     fn set_shdr(&mut self, s: u32, h: Shdr)
-        requires { s < length self.old.sections.items }
+        requires { s < length self.old.sections }
         ensures { IsStepped (calls.update_shdr s h).after false self.old self.new }
     {
-        let scn = &mut self.sections[s as usize];
-        scn.header = h;
-        scn.marked = true;
+        self.sections.set_header(s, h);
+        self.sections.mark(s);
         self.ready = false;
     }
 

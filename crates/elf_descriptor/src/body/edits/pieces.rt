@@ -20,7 +20,7 @@ impl Body {
         requires { HasCounts self.now }
         ensures answer { result
             ≡ answered (first_refusal (no_scn self.now s ∷ reserved s ∷ [])) tt }
-        ensures there { OnOk result (s < length self.now.sections.items) }
+        ensures there { OnOk result (s < length self.now.sections) }
         ensures err { IfErr result IsRefusal }
     {
         self.check_section(s)?;
@@ -29,7 +29,7 @@ impl Body {
 
     /// Gives a piece of a section that is there other items; else `NoData`, then `Unfit`.
     fn replace_there(&mut self, d: DataId, items: Items) -> Result<(), (Items, ElfError)>
-        requires { d.section < length self.old.sections.items }
+        requires { d.section < length self.old.sections }
         ensures answer { result ≡ handing_back items (answered (replace_refused
             self.old.header.class (scn_at self.old d.section).cell d.piece items) tt) }
         ensures step { OnOk result (IsStepped (calls.replace d.section d.piece items).after
@@ -37,13 +37,13 @@ impl Body {
         ensures unchanged { OnErr result (IsStepped (λ o. o) (ready_of self.old) self.old self.new) }
     {
         let class = self.header.class;
-        let scn = &mut self.sections[d.section as usize];
-        scn.cell.replace(d.piece, class, items)
+        let cell = self.sections.cell_mut(d.section);
+        cell.replace(d.piece, class, items)
     }
 
     /// The same; an update may want memory then.
     fn replace_unready(&mut self, d: DataId, items: Items) -> Result<(), (Items, ElfError)>
-        requires { d.section < length self.old.sections.items }
+        requires { d.section < length self.old.sections }
         ensures answer { result ≡ handing_back items (answered (replace_refused
             self.old.header.class (scn_at self.old d.section).cell d.piece items) tt) }
         ensures step { OnOk result (IsStepped (calls.replace d.section d.piece items).after false
@@ -79,7 +79,7 @@ impl Body {
         items: Items,
         align: u64,
     ) -> Result<DataId, (Items, ElfError)>
-        requires { s < length self.old.sections.items }
+        requires { s < length self.old.sections }
         ensures answer { IsStatedWith (result_map numbers_of result) items (answered
             (append_refused self.old.header.class (scn_at self.old s).cell items align)
             (s, length (scn_at self.old s).cell.pieces)) }
@@ -88,8 +88,8 @@ impl Body {
         ensures unchanged { OnErr result (IsStepped (λ o. o) (ready_of self.old) self.old self.new) }
     {
         let class = self.header.class;
-        let scn = &mut self.sections[s as usize];
-        match scn.cell.append(class, items, align) {
+        let cell = self.sections.cell_mut(s);
+        match cell.append(class, items, align) {
             Ok(piece) => Ok(DataId { section: s, piece }),
             Err(refused) => Err(refused),
         }
@@ -102,7 +102,7 @@ impl Body {
         items: Items,
         align: u64,
     ) -> Result<DataId, (Items, ElfError)>
-        requires { s < length self.old.sections.items }
+        requires { s < length self.old.sections }
         ensures answer { IsStatedWith (result_map numbers_of result) items (answered
             (append_refused self.old.header.class (scn_at self.old s).cell items align)
             (s, length (scn_at self.old s).cell.pieces)) }

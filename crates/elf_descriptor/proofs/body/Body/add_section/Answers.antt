@@ -1,10 +1,10 @@
-use Rattle.std.proofs.Common.{ap, ◌∙◌}
-use Rattle.elf_descriptor.specs.Edits.{new_scn}
-use Rattle.elf_descriptor.proofs.EditPieces.{same_stepped}
+use Rattle.std.proofs.Common.{refl}
+use Rattle.elf_descriptor.proofs.EditPieces.{items_same}
+use Rattle.elf_descriptor.proofs.EditSections.{section_pushed}
 use Rattle.elf_descriptor.proofs.body.Body.add_section.Goals as goal
 
-pub push_scn-requires-clause-made : goal.push_scn-requires-clause-made
-push_scn-requires-clause-made c = c.in-Ok.ensures.ok ∙ ap new_scn c.requires.counts.shnum
-
 pub returns-in-Err-clause-unchanged : goal.returns-in-Err-clause-unchanged
-returns-in-Err-clause-unchanged c = same_stepped c.args.self.now
+returns-in-Err-clause-unchanged c = items_same c.args.self.now c.push_new.new.self c.in-Err.ensures.unchanged
+
+pub returns-clause-grown : goal.returns-clause-grown
+returns-clause-grown c = section_pushed c.args.self.now c.push_new.new.self _ c.requires.counts refl c.in_default.ensures.ok

@@ -3,5 +3,5 @@ use Rattle.std.specs.List.{list_any}
 use Rattle.elf_descriptor.specs.Bodies.{is_scn_dirty}
 use Rattle.elf_descriptor.proofs.body.Body.some_section_marked.Given as goal
 
-abbrev pub invariant-loop-scn : goal.invariant-loop-scn
-invariant-loop-scn l = list_any is_scn_dirty (take l.scn-index l.self.sections.items) ≡ false
+abbrev pub invariant-loop-s : goal.invariant-loop-s
+invariant-loop-s l = list_any is_scn_dirty (take l.s l.self.sections) ≡ false

@@ -1,10 +1,8 @@
 use Rattle.std.proofs.Common.{◌≡◌, Some, None, sym, ◌∙◌, subst}
 use Rattle.elf_object.proofs.AnswerLaws.{answered_refusal, answered_value}
 use Rattle.elf_object.specs.Answers.{piece_refusal}
-use Rattle.section_data.specs.Views.{IsCell}
-use Rattle.elf_descriptor.specs.declared.scn.Scn.{Scn}
 use Rattle.elf_descriptor.specs.State.{State}
-use Rattle.elf_descriptor.specs.Held.{IsHeld, IsHeldIn}
+use Rattle.elf_descriptor.specs.Held.{IsHeld}
 use Rattle.elf_descriptor.proofs.Objects.{piece_refusal_is}
 use Rattle.elf_descriptor.proofs.Loaded.{held_as}
 use Rattle.elf_descriptor.proofs.descriptor.Elf.held.Goals as goal
@@ -21,7 +19,6 @@ returns-clause-refusal g c =
 
 pub returns-clause-held : goal.returns-clause-held
 returns-clause-held g c =
-    subst (λ (st : State g.row.S.Denot). IsHeld st c.args.d.section c.args.d.piece c.held.result) c.self.view_is
-    (held_as g.S.Source c.self.inside.src c.self.inside.body c.args.d.section c.args.d.piece c.held.result c.self.invariant
-    (subst (λ (x : Scn). IsCell x.cell) c.scn.ensures c.held.ensures.cell)
-    (subst (λ (x : Scn). IsHeldIn x.cell c.args.d.piece c.held.result) c.scn.ensures c.held.ensures.held))
+    subst (λ (st : State g.row.S.Denot). IsHeld st c.args.d.section c.args.d.piece c.held_at.result) c.self.view_is
+    (held_as g.S.Source c.self.inside.src c.self.inside.body c.args.d.section c.args.d.piece c.held_at.result c.self.invariant
+    c.held_at.ensures.cell c.held_at.ensures.held)

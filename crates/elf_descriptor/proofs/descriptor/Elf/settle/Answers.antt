@@ -7,11 +7,13 @@ use Rattle.elf_object.specs.Refusal.{refusal}
 use Rattle.elf_descriptor.specs.State.{State}
 use Rattle.elf_descriptor.specs.Views.{state_of}
 use Rattle.elf_descriptor.specs.Settling.{settled_state}
+use Rattle.elf_descriptor.proofs.Warming.{are_numbered}
 use Rattle.elf_descriptor.proofs.SettleCalls.{settles_all}
 use Rattle.elf_descriptor.proofs.descriptor.Elf.settle.Goals as goal
 
-pub settle-requires-clause-counts : goal.settle-requires-clause-counts
-settle-requires-clause-counts g c = c.self.invariant.counts
+pub settle-requires-clause-numbered : goal.settle-requires-clause-numbered
+settle-requires-clause-numbered g c =
+    are_numbered (g.D.Source.holds c.self.inside.src) (g.D.Source.size c.self.inside.src) c.self.inside.body c.self.invariant
 
 pub settle-requires-clause-ready : goal.settle-requires-clause-ready
 settle-requires-clause-ready g c =

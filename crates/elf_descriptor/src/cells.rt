@@ -1,0 +1,87 @@
+//! The cell of one section.
+
+ghost use Rattle.std.specs.Prelude.{◌≡◌, ◌<◌, length, true, IsTrue, is_some, OnOk, OnErr};
+ghost use Rattle.std.specs.List.{list_any};
+ghost use Rattle.elf_types.specs.Answers.{answered};
+ghost use Rattle.elf_outside.specs.Asks.{Asks};
+ghost use Rattle.elf_object.specs.Words.{Answers};
+ghost use Rattle.section_data.specs.Leaves.{LiesIn, Warms};
+ghost use Rattle.section_data.specs.Held.{piece_in, kind_in, is_at_hand};
+ghost use Rattle.section_data.specs.Refused.{kind_refused, loading};
+ghost use Rattle.elf_descriptor.specs.Dues.{list_due};
+ghost use Rattle.section_data.specs.Views.{IsCell};
+ghost use Rattle.elf_descriptor.specs.Held.{IsHeldIn};
+ghost use Rattle.elf_descriptor.specs.Rooms.{can_forget};
+
+use crate::held::Held;
+use elf_outside::Source;
+use elf_types::{Class, ElfError, Kind};
+use section_data::Cell;
+
+/// Makes each item of a piece of a kind be at hand: it is own, or its home is loaded. It
+/// refuses in this order: `NoData`, `WrongKind` with the kind that the piece holds, and for the
+/// clean home piece `OutOfFile` and `Ragged`; then `Memory` or `Read`.
+pub fn fetch_list<S: Source>(
+    cell: &mut Cell,
+    src: &mut S,
+    p: u32,
+    kind: Kind,
+    class: Class,
+) -> Result<(), ElfError>
+    requires lies { LiesIn cell.old (S.size src.old) }
+    ensures answer { Answers true (loading (list_due class cell.old kind p)) result
+        (answered (kind_refused class cell.old kind p) tt) }
+    ensures there { OnOk result (p < length cell.new.pieces) }
+    ensures kind { OnOk result (kind_in cell.new p ≡ kind) }
+    ensures hand { OnOk result (IsTrue (is_at_hand class cell.new p)) }
+    ensures held { cell.new.held ≡ cell.old.held }
+    ensures warms { Warms (S.holds src.old) cell.old cell.new }
+    ensures unchanged { OnErr result (cell.new ≡ cell.old) }
+    ensures own { is_some (piece_in cell.old p).own ≡ true
+        → cell.new ≡ cell.old }
+    ensures asks { Asks S.Source result src.old src.new
+        (list_due class cell.old kind p) }
+{
+    if let Err(e) = cell.check_lend(p, kind, class) {
+        return Err(e);
+    }
+    cell.fetch(src, p)
+}
+
+/// What is held of a piece.
+#[tactic(auto, unfolding(section_data::specs::Held::ready))]
+pub fn held_in(cell: &Cell, p: u32) -> Held<'_>
+    requires { p < length cell.now.pieces }
+    ensures held { IsHeldIn cell.now p result }
+    ensures cell { IsCell cell.now }
+{
+    if cell.is_own(p) {
+        return Held::Edited(cell.items(p));
+    }
+    if cell.is_loaded() {
+        return Held::Raw(cell.bytes());
+    }
+    Held::Unread
+}
+
+/// Whether what is held of a home can be read again, of a base of so many bytes: its home piece is
+/// clean and not marked, and the home lies in the base.
+pub fn can_forget(cell: &Cell, base: u64) -> bool
+    ensures { result ≡ can_forget base cell.now }
+{
+    cell.is_untouched() && !cell.out() && !cell.home().passes_end(base)
+}
+
+/// Whether a piece is marked dirty.
+#[tactic(auto, unfolding(crate::proofs::Words::piece), using(crate::proofs::Rules::marks))]
+pub fn some_piece_marked(cell: &Cell) -> bool
+    ensures { result ≡ list_any (λ p. p.marked) cell.now.pieces }
+{
+    let count = cell.piece_count();
+    for p in 0..count {
+        if cell.is_marked(p) {
+            return true;
+        }
+    }
+    false
+}
