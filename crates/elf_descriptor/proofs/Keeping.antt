@@ -59,7 +59,7 @@ pub so_same : (b : Body) (s : ℕ) → HoldsSo b b s (scn_at b s).cell
 unfolding scn_at
 so_same b s = record { rest = refl; sections = sym (set-get_or b.sections s absent_scn) }
 
-same_steps : (old new : Body) (s : ℕ) → HoldsSo old new s (scn_at old s).cell → IsStepped (λ o. o) (ready_of old) old new
+pub same_steps : (old new : Body) (s : ℕ) → HoldsSo old new s (scn_at old s).cell → IsStepped (λ o. o) (ready_of old) old new
 same_steps old new s so = section_same old new s (scn_at old s) refl so.rest so.sections
 
 -- ---- Memory is kept aside

@@ -36,6 +36,7 @@ pub mod OneCell
 pub mod Unloading
 pub mod Rows
 pub mod Sizes
+pub mod FirstPieces
 pub mod Placing
 pub mod FrontTables
 pub mod FrontCalls

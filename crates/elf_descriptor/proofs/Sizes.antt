@@ -17,7 +17,7 @@ use Rattle.elf_descriptor.proofs.PieceCalls.{section_sound}
 use Rattle.elf_descriptor.proofs.RawCalls.{scn_missing}
 
 -- the clean home piece is as long as its home, where that is in the file
-home_length : (image : Option (List ℕ)) (size : ℕ) (b : Body) (s : ℕ) → IsElf image size b → s < length b.sections → length (raw_of image (scn_at b s).cell) ≡ home_size (scn_at b s).cell
+pub home_length : (image : Option (List ℕ)) (size : ℕ) (b : Body) (s : ℕ) → IsElf image size b → s < length b.sections → length (raw_of image (scn_at b s).cell) ≡ home_size (scn_at b s).cell
 unfolding section_of
 home_length image size b s is there = by_out (scn_at b s).cell.home.out refl
   where

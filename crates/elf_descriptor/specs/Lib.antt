@@ -11,6 +11,7 @@ pub mod Warmed
 pub mod Reads
 pub mod Rooms
 pub mod Places
+pub mod FirstPieces
 pub mod Cuts
 pub mod Fronts
 pub mod Settling

@@ -14,6 +14,7 @@ mod lending;
 mod loading;
 mod opening;
 mod parts;
+mod pieces;
 mod places;
 mod rooms;
 mod settling;

@@ -17,6 +17,7 @@ mod fronts;
 mod getters;
 mod homes;
 mod lends;
+mod pieces;
 mod places;
 mod reading;
 mod rooms;

@@ -1,8 +1,8 @@
 -- The pieces of a section one after the other: the first that covers an offset, and where the last one ends.
-use Rattle.std.proofs.Common.{◌≡◌, ℕ, ◌+◌, ◌-◌, ◌<◌, ◌≤◌, ◌&&◌, Bool, true, false, List, [], ◌∷◌, length, drop, map, Option, Some, None, refl, sym, ap, ◌∙◌, subst, arith}
+use Rattle.std.proofs.Common.{◌≡◌, ℕ, zero, suc, ◌+◌, ◌-◌, ◌<◌, ◌≤◌, ◌&&◌, Bool, true, false, List, [], ◌∷◌, length, take, drop, map, Option, Some, None, refl, sym, ap, ◌∙◌, subst, arith}
 use Rattle.std.specs.Prelude.{◌^◌, min, nat_le, nat_lt, slice_get, filter, is_none}
 use Rattle.std.proofs.Math.ListN.{drop_of_length-le}
-use Rattle.std.proofs.lemmas.Bool.{lt-leb, leb-true, ltb-true, and_left, cond-true, cond-false}
+use Rattle.std.proofs.lemmas.Bool.{lt-leb, le-ltb, leb-true, ltb-true, and_left, and_right, cond-true, cond-false}
 use Rattle.std.proofs.lemmas.List.{length-map}
 use Rattle.elf_types.specs.declared.errors.ElfError.TheVariants.{NoString}
 use Rattle.elf_types.specs.Answers.{refused_if}
@@ -13,8 +13,9 @@ use Rattle.elf_object.specs.Answers.{piece_count}
 use Rattle.elf_object.specs.Joined.{piece_bytes, aligned_pieces, piece_blocks, pieces_end}
 use Rattle.elf_object.specs.Strings.{piece_over, no_string}
 use Rattle.elf_object.proofs.RunningEnds.{end_later, pieces_from}
+use Rattle.elf_descriptor.specs.FirstPieces.{AreFirst}
 use Rattle.gelf_view.specs.declared.string_places.Stand.{Stand}
-use Rattle.gelf_view.specs.declared.string_places.Stand.TheVariants.{Covers, Ends, Past}
+use Rattle.gelf_view.specs.declared.string_places.Stand.TheVariants.{Covers, Ends, Before}
 use Rattle.gelf_view.specs.Strings.{bytes_in, is_in, IsOver, Stands}
 use Rattle.gelf_view.proofs.NoteLemmas.{rounded_up_le}
 
@@ -72,6 +73,26 @@ over_none end (p ∷ ps) offset before =
     over_others end p.0 p.1 ps offset (and_left (nat_le (rounded_up end p.0) offset) (nat_lt offset (rounded_up end p.0 + length p.1)) (lt-leb (rounded_up end p.0) offset (omega (arith, up, before))))
     ∙ over_none (rounded_up end p.0 + length p.1) ps offset (omega (arith, up, before))
 
+-- blocks that end before an offset do not cover it
+over_behind : (n end : ℕ) (ps : List (ℕ × List ℕ)) (offset : ℕ) → last_end end (stacked end (take n ps)) ≤ offset
+    → first_over (stacked end ps) offset ≡ first_over (stacked (last_end end (stacked end (take n ps))) (drop n ps)) offset
+unfolding stacked last_end block_end
+over_behind zero end ps offset below = refl
+over_behind (suc n) end [] offset below = refl
+over_behind (suc n) end (p ∷ ps) offset below =
+    let last : last_end (rounded_up end p.0 + length p.1) (stacked (rounded_up end p.0 + length p.1) (take n ps)) ≤ offset = below in
+    let later = end_later (rounded_up end p.0 + length p.1) (take n ps) in
+    over_others end p.0 p.1 ps offset (and_right (nat_le (rounded_up end p.0) offset) (nat_lt offset (rounded_up end p.0 + length p.1)) (le-ltb offset (rounded_up end p.0 + length p.1) (omega (arith, later, last))))
+    ∙ over_behind n (rounded_up end p.0 + length p.1) ps offset below
+
+-- where the last of all ends
+end_behind : (n end : ℕ) (ps : List (ℕ × List ℕ))
+    → last_end end (stacked end ps) ≡ last_end (last_end end (stacked end (take n ps))) (stacked (last_end end (stacked end (take n ps))) (drop n ps))
+unfolding stacked last_end block_end
+end_behind zero end ps = refl
+end_behind (suc n) end [] = refl
+end_behind (suc n) end (p ∷ ps) = end_behind n (rounded_up end p.0 + length p.1) ps
+
 -- ---- The pieces of a section
 
 module _ (o : Object) (s offset : ℕ) where
@@ -84,9 +105,16 @@ module _ (o : Object) (s offset : ℕ) where
     pub over : piece_over o s offset ≡ first_over (left_from end p) offset
     pub size : pieces_end o s ≡ last_end end (left_from end p)
 
-  pub left_first : IsLeft 0 0
+  -- behind the first pieces, which end before the offset
+  pub left_behind : (count end : ℕ) → AreFirst o s count end → end ≤ offset → IsLeft end count
   unfolding piece_over piece_blocks pieces_end
-  left_first = record { over = refl; size = refl }
+  left_behind count end first within =
+      let all = aligned_pieces o.header.class o.header.order (section_at o s) in
+      let below = subst (λ (n : ℕ). n ≤ offset) (sym first.ends) within in
+      record {
+        over = over_behind count 0 all offset below ∙ ap (λ (n : ℕ). first_over (stacked n (drop count all)) offset) first.ends;
+        size = end_behind count 0 all ∙ ap (λ (n : ℕ). last_end n (stacked n (drop count all))) first.ends;
+      }
 
   -- the piece that comes next
   abbrev next_piece : ℕ → ℕ × List ℕ
@@ -125,22 +153,25 @@ module _ (o : Object) (s offset : ℕ) where
       ap (λ (over : Option Block). refused_if (is_none over) (NoString offset (min (pieces_end o s) (2 ^ 64 - 1)))) none
       ∙ ap (λ (n : ℕ). Some (NoString offset n)) is
 
-  -- the next pieces begin too late
-  pub left_past : (end p : ℕ) → offset < 2 ^ 64 → 2 ^ 64 ≤ end → IsLeft end p → no_string o s offset ≡ Some (NoString offset (2 ^ 64 - 1))
-  left_past end p small past left =
-      let rest = drop p (aligned_pieces o.header.class o.header.order (section_at o s)) in
-      let later = end_later end rest in
-      let size = left.size in
-      no_string_is (2 ^ 64 - 1) (left.over ∙ over_none end rest offset (omega arith)) (omega arith)
+  -- the next piece begins behind the offset
+  pub left_before : (end p size : ℕ) → p < piece_count o s → offset < rounded_up end (piece_at o s p).align → IsLeft end p
+      → size ≡ min (pieces_end o s) (2 ^ 64 - 1) → no_string o s offset ≡ Some (NoString offset size)
+  left_before end p size there before left is =
+      let at = rounded_up end (piece_at o s p).align in
+      let rest = drop (p + 1) (aligned_pieces o.header.class o.header.order (section_at o s)) in
+      let past = and_left (nat_le at offset) (nat_lt offset (at + length (bytes_in o s p))) (lt-leb at offset before) in
+      let next = left_next end p there left past in
+      no_string_is size (next.over ∙ over_none (at + length (bytes_in o s p)) rest offset (omega (arith, before))) (sym is)
 
   -- none is left
-  pub left_none : (end : ℕ) → end < 2 ^ 64 → IsLeft end (piece_count o s) → no_string o s offset ≡ Some (NoString offset end)
+  pub left_none : (end p : ℕ) → end < 2 ^ 64 → piece_count o s ≤ p → IsLeft end p → no_string o s offset ≡ Some (NoString offset end)
   unfolding piece_count aligned_pieces stacked last_end
-  left_none end small left =
+  left_none end p small past left =
       let form : Piece → ℕ × List ℕ = λ q. (q.align, piece_bytes o.header.class o.header.order (section_at o s).raw q) in
       let pieces = (section_at o s).pieces in
-      let none : drop (length pieces) (map form pieces) ≡ [] =
-      drop_of_length-le (map form pieces) (omega (arith, length-map pieces form)) in
+      let many : length pieces ≤ p = past in
+      let none : drop p (map form pieces) ≡ [] =
+      drop_of_length-le (map form pieces) (omega (arith, many, length-map pieces form)) in
       let size : pieces_end o s ≡ end = left.size ∙ ap (λ (l : List (ℕ × List ℕ)). last_end end (stacked end l)) none in
       no_string_is end (left.over ∙ ap (λ (l : List (ℕ × List ℕ)). first_over (stacked end l) offset) none) (omega arith)
 
@@ -167,9 +198,10 @@ module _ (o : Object) (s offset : ℕ) where
     pub stands_next : (next : ℕ) → Stands end align len offset (Ends next) → IsLeft next (p + 1)
     stands_next next is =
         let stands = standing (Ends next) is in
-        subst (λ (n : ℕ). IsLeft n (p + 1)) (sym stands.1) (left_next end p there left stands.0)
+        let at = rounded_up end (piece_at o s p).align in
+        let past = and_right (nat_le at offset) (nat_lt offset (at + length (bytes_in o s p))) (le-ltb offset (at + length (bytes_in o s p)) (omega (arith, stands.0, stands.1))) in
+        subst (λ (n : ℕ). IsLeft n (p + 1)) (sym stands.0) (left_next end p there left past)
 
-    pub stands_past : offset < 2 ^ 64 → Stands end align len offset Past → no_string o s offset ≡ Some (NoString offset (2 ^ 64 - 1))
-    stands_past small is =
-        let stands = standing Past is in
-        left_past (rounded_up end (piece_at o s p).align + length (bytes_in o s p)) (p + 1) small stands.1 (left_next end p there left stands.0)
+    pub stands_before : (size : ℕ) → Stands end align len offset Before → size ≡ min (pieces_end o s) (2 ^ 64 - 1)
+        → no_string o s offset ≡ Some (NoString offset size)
+    stands_before size is told = left_before end p size there (standing Before is) left told

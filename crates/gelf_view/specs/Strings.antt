@@ -1,6 +1,6 @@
 -- Where a string begins in the pieces of a section (elf_strptr; gABI chapter 4, "String Table").
 -- The pieces stand one after the other, each at a multiple of its alignment.
-use Rattle.std.specs.Prelude.{◌≡◌, ℕ, ◌+◌, ◌-◌, ◌<◌, ◌≤◌, ◌^◌, ◌&&◌, nat_le, nat_lt, Bool, true, false, not, [], ◌∷◌, List, length, Option, Some, None, IsTrue}
+use Rattle.std.specs.Prelude.{◌≡◌, ℕ, ◌+◌, ◌-◌, ◌<◌, ◌≤◌, ◌&&◌, nat_le, nat_lt, Bool, true, not, [], ◌∷◌, List, length, Option, Some, None, IsTrue}
 use Rattle.elf_types.specs.declared.records.Kind.TheVariants as kinds
 use Rattle.elf_types.specs.declared.errors.ElfError.{ElfError}
 use Rattle.elf_types.specs.declared.errors.ElfError.TheVariants.{NotStrings, OutOfFile}
@@ -11,7 +11,7 @@ use Rattle.elf_object.specs.Answers.{no_section, piece_count, lend_refusal}
 use Rattle.elf_object.specs.Joined.{piece_bytes}
 use Rattle.elf_object.specs.Strings.{holds_strings, piece_over, string_refusal_unread}
 use Rattle.gelf_view.specs.declared.string_places.Stand.{Stand}
-use Rattle.gelf_view.specs.declared.string_places.Stand.TheVariants.{Covers, Ends, Past}
+use Rattle.gelf_view.specs.declared.string_places.Stand.TheVariants.{Covers, Ends, Before}
 
 -- the bytes of a piece in its file form
 unfoldable pub bytes_in : Object → ℕ → ℕ → List ℕ
@@ -24,16 +24,12 @@ abbrev pub is_in : ℕ → ℕ → ℕ → ℕ → Bool
 is_in end align len offset =
     nat_le (rounded_up end align) offset && nat_lt offset (rounded_up end align + len)
 
--- it is so far from the piece's first byte; or the piece ends there, or past 2^64 - 1
+-- it is so far from the piece's first byte; or behind the piece, which ends there; or before it
 abbrev pub Stands : ℕ → ℕ → ℕ → ℕ → Stand → Type 0
 Stands end align len offset (Covers start) =
     (is_in end align len offset ≡ true) × (start ≡ offset - rounded_up end align)
-Stands end align len offset (Ends next) =
-    (is_in end align len offset ≡ false)
-    × (next ≡ rounded_up end align + len)
-    × (next < 2 ^ 64)
-Stands end align len offset Past =
-    (is_in end align len offset ≡ false) × (2 ^ 64 ≤ rounded_up end align + len)
+Stands end align len offset (Ends next) = (next ≡ rounded_up end align + len) × (next ≤ offset)
+Stands end align len offset Before = offset < rounded_up end align
 
 -- ---- All pieces
 

@@ -47,7 +47,8 @@ fn are_of_bytes<S: Source>(elf: &Elf<S>, s: ScnId, count: u32) -> bool
         (λ p. same_kind (kind_of_piece (section_at elf.now.o s.0) p) kinds.Bytes)
         (section_at elf.now.o s.0).pieces }
 {
-    for piece in 0..count {
+    let first = elf.first_pieces(s, u64::MAX);
+    for piece in first.count..count {
         let d = DataId {
             section: s.0,
             piece,
@@ -189,6 +190,21 @@ fn fetch_start<S: Source>(elf: &mut Elf<S>, s: ScnId, offset: u64) -> Result<Sta
     }
 }
 
+/// The same, and before it is noted where the pieces end, so that later strings of the section are
+/// found in few steps.
+fn note_and_fetch<S: Source>(elf: &mut Elf<S>, s: ScnId, offset: u64) -> Result<Start, ElfError>
+    ensures begins { IfOk result (λ x. Begins elf.old.o s.0 offset x.piece x.start) }
+    ensures hand { IfOk result (λ x. IsTrue (is_some (piece_at elf.new.o s.0 x.piece).own
+        || is_loaded elf.new.loaded s.0)) }
+    ensures answer { IfErr result (λ e. AnswersRead elf.old.told
+        (wanted (strings.strptr s.0 offset) elf.old) (strptr_refusals elf.old.o s.0 offset)
+        (Err e) ((strings.strptr s.0 offset).answer elf.old.o)) }
+    ensures queries { Queries S.Source (strings.strptr s.0 offset) [] result elf.old elf.new }
+{
+    elf.note_pieces(s);
+    fetch_start(elf, s, offset)
+}
+
 /// The bytes from a place on.
 fn bytes_from(bytes: &[u8], place: u64) -> &[u8]
     requires { place ≤ length bytes.now }
@@ -241,7 +257,7 @@ pub fn strptr<S: Source>(elf: &mut Elf<S>, s: ScnId, offset: u64) -> Result<&[u8
     ensures* rests { sem 𝓛 (Rests S.row S.Source elf.entry (λ new.
         Queries S.Source (strings.strptr s.0 offset) [] result elf.old new)) }
 {
-    match fetch_start(elf, s, offset) {
+    match note_and_fetch(elf, s, offset) {
         Ok(start) => string_there(elf, s, start, offset),
         Err(e) => Err(e),
     }

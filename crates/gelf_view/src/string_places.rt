@@ -1,10 +1,11 @@
 //! Where a string begins in the pieces of a section.
 
-ghost use Rattle.std.specs.Prelude.{◌≡◌, ◌<◌, None, Some, length, IfOk, IfErr, IsTrue};
+ghost use Rattle.std.specs.Prelude.{◌≡◌, ◌<◌, ◌-◌, ◌^◌, min, None, Some, length, IfOk, IfErr, IsTrue};
 ghost use Rattle.std.specs.List.{list_all};
 ghost use Rattle.elf_types.specs.declared.records.Kind.TheVariants as kinds;
 ghost use Rattle.elf_object.specs.Object.{section_at, piece_at};
 ghost use Rattle.elf_object.specs.Answers.{kind_at, no_section, piece_count, piece_refusal, same_kind};
+ghost use Rattle.elf_object.specs.Joined.{pieces_end};
 ghost use Rattle.elf_object.specs.Strings.{kind_of_piece, no_string};
 ghost use Rattle.gelf_view.specs.Strings.{bytes_in, IsOver, Stands};
 
@@ -18,10 +19,10 @@ use elf_types::{DataId, ElfError, ScnId};
 pub enum Stand {
     /// In the piece, so many bytes from its first one.
     Covers(u64),
-    /// Not in the piece, which ends there.
+    /// Behind the piece, which ends there.
     Ends(u64),
-    /// Not in the piece, which ends past 2^64 - 1.
-    Past,
+    /// Before the piece.
+    Before,
 }
 
 /// Where a string begins.
@@ -37,16 +38,13 @@ pub struct Start {
 fn stand_of(end: u64, align: u64, len: u64, offset: u64) -> Stand
     ensures { Stands end align len offset result }
 {
-    let Some(at) = rounded_within(end, align, u64::MAX) else {
-        return Stand::Past;
+    let Some(at) = rounded_within(end, align, offset) else {
+        return Stand::Before;
     };
-    if at <= offset && offset - at < len {
+    if offset - at < len {
         return Stand::Covers(offset - at);
     }
-    match at.checked_add(len) {
-        Some(next) => Stand::Ends(next),
-        None => Stand::Past,
-    }
+    Stand::Ends(at + len)
 }
 
 /// The alignment of a piece that is there.
@@ -76,8 +74,19 @@ fn byte_count<S: Source>(elf: &Elf<S>, d: DataId, home_len: u64) -> u64
     }
 }
 
+/// The size of the data of a section that is there, at most 2^64 - 1.
+fn data_size<S: Source>(elf: &Elf<S>, s: ScnId) -> u64
+    requires { no_section elf.now.o s.0 ≡ None }
+    ensures { result ≡ min (pieces_end elf.now.o s.0) (2 ^ 64 - 1) }
+{
+    match elf.data_size(s) {
+        Ok(size) => size,
+        Err(_) => unreachable!(),
+    }
+}
+
 /// Where an offset begins in the pieces of a section of bytes, whose home has so many; else
-/// `NoString`.
+/// `NoString`. It passes over the first pieces where it is noted where they end.
 pub fn find_start<S: Source>(
     elf: &Elf<S>,
     s: ScnId,
@@ -94,8 +103,9 @@ pub fn find_start<S: Source>(
     ensures ok { IfOk result (λ x. IsOver elf.now.o s.0 offset x.piece x.start) }
     ensures err { IfErr result (λ e. no_string elf.now.o s.0 offset ≡ Some e) }
 {
-    let mut end = 0;
-    for piece in 0..count {
+    let first = elf.first_pieces(s, offset);
+    let mut end = first.end;
+    for piece in first.count..count {
         let d = DataId {
             section: s.0,
             piece,
@@ -103,11 +113,9 @@ pub fn find_start<S: Source>(
         match stand_of(end, alignment(elf, d), byte_count(elf, d, home_len), offset) {
             Stand::Covers(start) => return Ok(Start { piece, start }),
             Stand::Ends(next) => end = next,
-            Stand::Past => {
-                return Err(ElfError::NoString {
-                    offset,
-                    size: u64::MAX,
-                });
+            Stand::Before => {
+                let size = data_size(elf, s);
+                return Err(ElfError::NoString { offset, size });
             }
         }
     }

@@ -1,13 +1,13 @@
 -- What is kept of a cell.
-use Rattle.std.proofs.Common.{◌≡◌, ℕ, ◌+◌, ◌-◌, ◌<◌, ◌≤◌, zero, suc, Bool, true, false, List, [], ◌∷◌, ◌++◌, length, get_or, set, Option, Some, None, Result, Ok, Err, refl, sym, ap, ◌∙◌, subst, arith, length-append}
-use Rattle.std.specs.Prelude.{is_some, IsSome, IfSome, OnOk, OnErr, ◌||◌, not, ◌&&◌}
+use Rattle.std.proofs.Common.{◌≡◌, ℕ, ◌<◌, ◌≤◌, Bool, true, false, List, [], ◌∷◌, ◌++◌, length, Option, Some, None, Result, Ok, Err, refl, sym, ap, ◌∙◌, subst, arith, length-append}
+use Rattle.std.specs.Prelude.{is_some, IfSome, OnOk, OnErr, ◌||◌, ◌&&◌}
 use Rattle.std.specs.Option.{option_map}
 use Rattle.elf_types.specs.declared.records.Kind.TheVariants as kinds
 use Rattle.elf_types.specs.declared.constants.TheConstants.{MAX_PIECES}
 use Rattle.elf_xlate.specs.declared.content.Items.{Items}
 use Rattle.elf_xlate.specs.declared.content.Items.TheVariants.{Bytes}
 use Rattle.elf_xlate.specs.Translation.{items_kind}
-use Rattle.elf_object.specs.Object.{Home, Piece, home_piece}
+use Rattle.elf_object.specs.Object.{Home, Piece}
 use Rattle.elf_object.specs.Answers.{bytes_of}
 use Rattle.section_data.specs.Views.{CellView, pieces_view}
 use Rattle.section_data.specs.Leaves.{bytes_or_none, IsReadFrom, RawBecomes, FillsRoom}
@@ -124,7 +124,7 @@ module _ (section : ℕ) (home : Home) (empty_read has_first : Bool) (first : Pi
     good : IsUse len u
     good = opened_use len old opened u opens is kept.used
 
-    again : (w : Used) → v ≡ w → w.others.items ≡ u.others.items → IsUse len w → IsKept len has_first first (Some v)
+    again : (w : Used) → v ≡ w → w.others ≡ u.others → IsUse len w → IsKept len has_first first (Some v)
     again w now same good =
         subst (λ (w : Used). IsKept len has_first first (Some w)) (sym now)
         (kept_again len has_first first old (Some w) kept (same ∙ ap (λ (w : UsedView). w.others) same_view) good)
@@ -184,16 +184,16 @@ module _ (section : ℕ) (home : Home) (empty_read has_first : Bool) (first : Pi
 
     -- ---- One piece more
 
-    grown_seen : (q : Piece) → has_first ≡ true → u.others.items ++ q ∷ [] ≡ v.others.items
-        → pieces_view has_first first v.others.items ≡ c.pieces ++ q ∷ []
+    grown_seen : (q : Piece) → has_first ≡ true → u.others ++ q ∷ [] ≡ v.others
+        → pieces_view has_first first v.others ≡ c.pieces ++ q ∷ []
     grown_seen q there more =
         ap (λ (l : List Piece). pieces_view has_first first l) (sym more)
-        ∙ grown has_first first u.others.items q there
+        ∙ grown has_first first u.others q there
         ∙ ap (λ (w : UsedView). pieces_view has_first first w.others ++ q ∷ []) same_view
         ∙ ap (λ (c : CellView). c.pieces ++ q ∷ []) seen
 
     pub pushed_kept : {T E : Type 0} (r : Result T E) (q : Piece) → has_first ≡ true → length c.pieces < MAX_PIECES
-        → v ≡ record u { others = v.others } → OnOk r (v.others.items ≡ u.others.items ++ q ∷ []) → OnErr r (v.others.items ≡ u.others.items)
+        → v ≡ record u { others = v.others } → OnOk r (v.others ≡ u.others ++ q ∷ []) → OnErr r (v.others ≡ u.others)
         → IsKept len has_first first (Some v)
     pushed_kept (Ok x) q there few rest more same = record {
       used = subst (λ (w : Used). IsUse len w) (sym rest) (record { bytes = good.bytes; copy = good.copy; room = good.room });
@@ -204,21 +204,21 @@ module _ (section : ℕ) (home : Home) (empty_read has_first : Bool) (first : Pi
         kept_again len has_first first old (Some v) kept (same ∙ ap (λ (w : UsedView). w.others) same_view)
         (subst (λ (w : Used). IsUse len w) (sym rest) (record { bytes = good.bytes; copy = good.copy; room = good.room }))
 
-    rest_seen : v ≡ record u { others = v.others } → (pieces : List Piece) → pieces_view has_first first v.others.items ≡ pieces
+    rest_seen : v ≡ record u { others = v.others } → (pieces : List Piece) → pieces_view has_first first v.others ≡ pieces
         → view_of (Some v) ≡ record c { pieces = pieces }
     rest_seen rest pieces is =
-        ap (λ (w : Used). record (view_of (Some w)) { pieces = pieces_view has_first first v.others.items }) rest
+        ap (λ (w : Used). record (view_of (Some w)) { pieces = pieces_view has_first first v.others }) rest
         ∙ ap (λ (l : List Piece). record (view_of (Some u)) { pieces = l }) is
         ∙ ap (λ (w : UsedView). record (kept_view section home empty_read has_first first w) { pieces = pieces }) same_view
         ∙ ap (λ (c : CellView). record c { pieces = pieces }) seen
 
     pub pushed_seen : {T E : Type 0} (r : Result T E) (q : Piece) → has_first ≡ true → v ≡ record u { others = v.others }
-        → OnOk r (v.others.items ≡ u.others.items ++ q ∷ []) → OnOk r (view_of (Some v) ≡ record c { pieces = c.pieces ++ q ∷ [] })
+        → OnOk r (v.others ≡ u.others ++ q ∷ []) → OnOk r (view_of (Some v) ≡ record c { pieces = c.pieces ++ q ∷ [] })
     pushed_seen (Ok x) q there rest more = rest_seen rest (c.pieces ++ q ∷ []) (grown_seen q there (sym more))
     pushed_seen (Err e) q there rest more = tt
 
     pub unpushed_seen : {T E : Type 0} (r : Result T E) → v ≡ record u { others = v.others }
-        → OnErr r (v.others.items ≡ u.others.items) → OnErr r (view_of (Some v) ≡ c)
+        → OnErr r (v.others ≡ u.others) → OnErr r (view_of (Some v) ≡ c)
     unpushed_seen (Ok x) rest same = tt
     unpushed_seen (Err e) rest same =
         rest_seen rest c.pieces

@@ -6,5 +6,8 @@ pub mod Owning
 pub mod Edits
 pub mod Rules
 pub mod Sizes
+pub mod Rounding
+pub mod Runs
+pub mod LeadingPieces
 pub mod Keeping
 pub mod Reserving

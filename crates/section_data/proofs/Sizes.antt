@@ -1,6 +1,5 @@
 -- Where the pieces of a section end.
-use Rattle.std.proofs.Common.{◌≡◌, ℕ, ◌+◌, ◌-◌, ◌^◌, ◌<◌, ◌≤◌, List, [], ◌∷◌, length, drop, get_or, map, Option, Some, None, refl, sym, ap, ◌∙◌, add-one, arith}
-use Rattle.std.specs.Prelude.{min}
+use Rattle.std.proofs.Common.{◌≡◌, ℕ, ◌+◌, ◌<◌, ◌≤◌, List, [], ◌∷◌, length, drop, get_or, map, Option, Some, None, refl, ap, ◌∙◌, add-one, arith}
 use Rattle.std.proofs.Math.Seq.{drop-cons}
 use Rattle.elf_types.specs.declared.records.Class.{Class}
 use Rattle.elf_types.specs.declared.records.Order.{Order}
@@ -13,7 +12,7 @@ use Rattle.elf_object.specs.Joined.{piece_bytes, aligned_pieces, piece_blocks, p
 use Rattle.section_data.specs.Views.{CellView}
 use Rattle.section_data.specs.Sizes.{piece_size, piece_end, stacked_end, home_size, data_size}
 
-rounded_up_le : (n align : ℕ) → n ≤ rounded_up n align
+pub rounded_up_le : (n align : ℕ) → n ≤ rounded_up n align
 unfolding rounded_up
 rounded_up_le n align = omega arith
 
@@ -45,7 +44,7 @@ size_is class order raw p = by_own p.own
     by_own None = refl
     by_own (Some items) = length_encoded class order items
 
-end_is : (class : Class) (order : Order) (raw : List ℕ) (end : ℕ) (l : List Piece)
+pub end_is : (class : Class) (order : Order) (raw : List ℕ) (end : ℕ) (l : List Piece)
     → last_end end (stacked end (map (λ p. (p.align, piece_bytes class order raw p)) l)) ≡ stacked_end class (length raw) end l
 unfolding last_end stacked block_end stacked_end piece_end
 end_is class order raw end [] = refl

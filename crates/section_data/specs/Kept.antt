@@ -39,7 +39,7 @@ used_view (Some u) = record {
   bytes = option_map bytes_of u.raw;
   held = held_view u.raw u.held;
   room = is_some u.room;
-  others = u.others.items;
+  others = u.others;
 }
 
 -- the home's bytes, once they are read: of an empty home none are kept

@@ -15,6 +15,7 @@ use Rattle.section_data.specs.contracts.piece.Piece.{the_row as piece_row}
 use Rattle.section_data.specs.contracts.cell.Cell.{the_row as cell_row}
 use Rattle.section_data.specs.Views.{CellView}
 use Rattle.section_data.specs.contracts.kept.Kept.{the_row as kept_row}
+use Rattle.section_data.specs.contracts.others.Others.{the_row as others_row}
 use Rattle.section_data.specs.Held.{piece_in}
 
 -- a piece with those items of its own
@@ -81,3 +82,8 @@ abbrev pub LendsPieceOf : ℕ → MutBor CellView → MutBor Piece → Fml
 LendsPieceOf p kept r =
     Lends kept_row piece_row kept r
     (λ left. record kept.now { pieces = slice_set kept.now.pieces p left })
+
+-- ---- One of the pieces after the first
+
+abbrev pub LendsOther : ℕ → MutBor (List Piece) → MutBor Piece → Fml
+LendsOther i others r = Lends others_row piece_row others r (λ left. slice_set others.now i left)

@@ -5,3 +5,4 @@ pub mod Refused
 pub mod Lends
 pub mod Leaves
 pub mod Sizes
+pub mod Spans

@@ -1,6 +1,6 @@
 //! What is kept of a section's cell.
 
-ghost use Rattle.std.specs.Prelude.{◌≡◌, ◌+◌, ◌<◌, ◌≤◌, ◌∷◌, ◌++◌, [], length, true, false, Some, None, is_some, IsSome, OnOk, OnErr, IfErr};
+ghost use Rattle.std.specs.Prelude.{◌≡◌, ◌+◌, ◌<◌, ◌≤◌, ◌∷◌, ◌++◌, [], length, true, false, Some, None, is_some, IsSome, IfSome, OnOk, OnErr, IfErr};
 ghost use Rattle.std.specs.Option.{option_map};
 ghost use Rattle.std.specs.Borrow.{sem};
 ghost use Rattle.elf_types.specs.declared.errors.ElfError.TheVariants.{Memory, Read};
@@ -10,11 +10,15 @@ ghost use Rattle.elf_outside.specs.Asks.{Asks};
 ghost use Rattle.section_data.specs.Views.{home_view, made_cell, piece_of};
 ghost use Rattle.section_data.specs.Held.{cell_is_loaded, is_untouched};
 ghost use Rattle.section_data.specs.Leaves.{bytes_or_none, FillsRoom};
+ghost use Rattle.section_data.specs.Sizes.{home_size};
+ghost use Rattle.section_data.specs.Spans.{AreFirstIn};
 
+use crate::first::FirstPieces;
 use crate::held::HomeItems;
 use crate::home::Home;
 use crate::piece::Piece;
 use crate::room::Room;
+use crate::spans::own_len;
 use crate::used::{Used, forget, open, put, zeros};
 use elf_outside::Source;
 use elf_types::{ElfError, Kind, Octets};
@@ -180,7 +184,7 @@ impl Kept {
             return &self.first;
         }
         match &self.used {
-            Some(used) => &used.others[p as usize - 1],
+            Some(used) => used.others.get(p as usize - 1),
             None => unreachable!(),
         }
     }
@@ -195,7 +199,7 @@ impl Kept {
             return &mut self.first;
         }
         match &mut self.used {
-            Some(used) => &mut used.others[p as usize - 1],
+            Some(used) => used.others.get_mut(p as usize - 1),
             None => unreachable!(),
         }
     }
@@ -221,6 +225,73 @@ impl Kept {
             unreachable!()
         };
         used.push(piece)
+    }
+
+    /// How many bytes the home has in the file: none where it passes the end of the image.
+    pub(crate) fn home_size(&self) -> u64
+        ensures { result ≡ home_size self.now }
+    {
+        if self.out { 0 } else { self.len }
+    }
+
+    /// Where the first piece ends, where it is there and holds bytes.
+    fn first_end(&self) -> Option<u64>
+        ensures { IfSome result (λ end. AreFirstIn self.now 1 end) }
+    {
+        if !self.has_first {
+            return None;
+        }
+        if self.first.is_own() {
+            return own_len(&self.first);
+        }
+        if self.kind != Kind::Bytes {
+            return None;
+        }
+        Some(self.home_size())
+    }
+
+    /// The first pieces behind the first one, which ends there.
+    fn pieces_behind(&self, end: u64, limit: u64) -> FirstPieces
+        requires first { AreFirstIn self.now 1 end }
+        requires within { end ≤ limit }
+        ensures first { AreFirstIn self.now result.count result.end }
+        ensures within { result.end ≤ limit }
+    {
+        match &self.used {
+            Some(used) => {
+                let run = used.others.run(end, limit);
+                FirstPieces {
+                    count: (run.count + 1) as u32,
+                    end: run.end,
+                }
+            }
+            None => FirstPieces { count: 1, end },
+        }
+    }
+
+    /// The first pieces, each of which holds bytes, as far as it is noted where they end and the
+    /// last of them ends at a limit at the latest.
+    pub(crate) fn first_pieces(&self, limit: u64) -> FirstPieces
+        ensures first { AreFirstIn self.now result.count result.end }
+        ensures within { result.end ≤ limit }
+    {
+        let Some(end) = self.first_end() else {
+            return FirstPieces::none();
+        };
+        if limit < end {
+            return FirstPieces::none();
+        }
+        self.pieces_behind(end, limit)
+    }
+
+    /// Notes where the pieces that hold bytes end, as far as there is memory for it.
+    pub(crate) fn note_pieces(&mut self)
+        ensures { self.new ≡ self.old }
+    {
+        let Some(used) = &mut self.used else {
+            return;
+        };
+        used.note_pieces();
     }
 
     /// Keeps the home's bytes, which are not held. It refuses `Memory` alone, and takes none where

@@ -8,17 +8,21 @@
 #![tactic(auto)]
 
 mod cell;
+mod first;
 mod held;
 mod home;
 mod item;
 mod kept;
 mod listed;
+mod others;
 mod piece;
 mod room;
+mod spans;
 mod storable;
 mod used;
 
 pub use cell::Cell;
+pub use first::FirstPieces;
 pub use home::Home;
 pub use item::Item;
 pub use listed::Listed;

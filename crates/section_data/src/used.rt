@@ -13,6 +13,7 @@ ghost use Rattle.section_data.specs.Leaves.{bytes_or_none};
 ghost use Rattle.section_data.specs.Kept.{held_view, unboxed, IsRoomFor, IsUse, Opens, Forgets, Fills, KeepsRoom};
 
 use crate::held::HomeItems;
+use crate::others::Others;
 use crate::piece::Piece;
 use crate::room::Room;
 use elf_outside::Source;
@@ -33,7 +34,7 @@ pub(crate) struct Used {
     /// Memory for the home's bytes that is kept aside: as many zeros.
     pub(crate) room: Option<Octets>,
     /// The pieces after the first.
-    pub(crate) others: Vec<Piece>,
+    pub(crate) others: Others,
 }
 
 /// Puts a value in the place of another.
@@ -56,7 +57,7 @@ pub(crate) fn open(alloc: Global, slot: &mut Option<Box<Used>>) -> Result<(), El
         raw: None,
         held: HomeItems::Nothing,
         room: None,
-        others: Vec::new(alloc),
+        others: Others::new(alloc),
     };
     put(slot, Some(Box::new(alloc, used)?));
     Ok(())
@@ -114,7 +115,7 @@ impl Used {
     /// Whether something is kept besides the raw bytes and the items.
     fn keeps_more(&self) -> bool
         ensures room { result ≡ false → is_some self.now.room ≡ false }
-        ensures others { result ≡ false → self.now.others.items ≡ [] }
+        ensures others { result ≡ false → self.now.others ≡ [] }
     {
         self.room.is_some() || !self.others.is_empty()
     }
@@ -151,14 +152,18 @@ impl Used {
     /// Adds a piece. Where there is no memory it hands the piece back, and nothing changes.
     pub(crate) fn push(&mut self, piece: Piece) -> Result<(), Piece>
         ensures rest { self.new ≡ record self.old { others = self.new.others } }
-        ensures ok { OnOk result (self.new.others.items ≡ self.old.others.items ++ piece ∷ []) }
-        ensures unchanged { OnErr result (self.new.others.items ≡ self.old.others.items) }
+        ensures ok { OnOk result (self.new.others ≡ self.old.others ++ piece ∷ []) }
+        ensures unchanged { OnErr result (self.new.others ≡ self.old.others) }
         ensures back { IfErr result (λ back. back ≡ piece) }
     {
-        match self.others.push(piece) {
-            Ok(()) => Ok(()),
-            Err(refused) => Err(refused.value),
-        }
+        self.others.push(piece)
+    }
+
+    /// Notes where the pieces after the first end.
+    pub(crate) fn note_pieces(&mut self)
+        ensures { self.new ≡ self.old }
+    {
+        self.others.note();
     }
 
     /// The raw bytes.

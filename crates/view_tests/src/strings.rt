@@ -1,9 +1,10 @@
 //! Strings in bytes, and in the pieces of a section.
 
-use crate::questions::{Question, STRINGS, add_bytes, is_answered};
+use crate::questions::{Question, STRINGS, add_bytes, is_answered, set};
 use elf_descriptor::Elf;
 use elf_outside::Source;
-use elf_types::{ElfError, ScnId};
+use elf_types::{DataId, ElfError, Octets, ScnId};
+use elf_xlate::Items;
 use gelf_view::{bytes, string_in, strptr};
 
 /// Bytes, and the string that they begin with, if they end it.
@@ -56,9 +57,12 @@ fn is_string<S: Source>(
     strptr(elf, ScnId(section), offset) == want
 }
 
-/// Whether each of those is.
-fn are_strings<S: Source>(elf: &mut Elf<S>) -> bool {
-    for (section, offset, want) in PLACES.iter() {
+/// Whether each of these is.
+fn are_strings<S: Source>(
+    elf: &mut Elf<S>,
+    places: &[(u32, u64, Result<&[u8], ElfError>)],
+) -> bool {
+    for (section, offset, want) in places.iter() {
         if !is_string(elf, *section, *offset, *want) {
             return false;
         }
@@ -76,11 +80,95 @@ fn first_is<S: Source>(elf: &mut Elf<S>, want: &[u8]) -> bool {
 
 impl Question for TwoPieces {
     fn is_answered<S: Source>(&self, elf: &mut Elf<S>) -> bool {
-        add_bytes(elf, b"b").is_ok() && first_is(elf, b"\0a\0") && are_strings(elf)
+        add_bytes(elf, b"b").is_ok() && first_is(elf, b"\0a\0") && are_strings(elf, &PLACES)
     }
 }
 
 #[test]
 fn strings_stand_in_their_pieces(rt: HostRuntime) {
     assert!(rt; is_answered(rt.alloc(), &TwoPieces));
+}
+
+/// Section 1 has 600 pieces more of three bytes, each at a multiple of eight; then one in their
+/// midst gets eleven bytes, so that those behind it stand eight places later.
+struct ManyPieces;
+
+/// Offsets among 600 pieces, and the strings there.
+static EARLY: [(u32, u64, Result<&[u8], ElfError>); 6] = [
+    (1, 8, Ok(b"bc")),
+    (
+        1,
+        11,
+        Err(ElfError::NoString {
+            offset: 11,
+            size: 4803,
+        }),
+    ),
+    (1, 2401, Ok(b"c")),
+    (1, 2408, Ok(b"bc")),
+    (1, 4800, Ok(b"bc")),
+    (
+        1,
+        4808,
+        Err(ElfError::NoString {
+            offset: 4808,
+            size: 4803,
+        }),
+    ),
+];
+
+/// Offsets once piece 300 is longer.
+static LATE: [(u32, u64, Result<&[u8], ElfError>); 6] = [
+    (1, 8, Ok(b"bc")),
+    (1, 2401, Ok(b"123456789")),
+    (1, 2408, Ok(b"89")),
+    (
+        1,
+        2412,
+        Err(ElfError::NoString {
+            offset: 2412,
+            size: 4811,
+        }),
+    ),
+    (1, 4808, Ok(b"bc")),
+    (
+        1,
+        4811,
+        Err(ElfError::NoString {
+            offset: 4811,
+            size: 4811,
+        }),
+    ),
+];
+
+/// Adds so many pieces.
+fn add_many<S: Source>(elf: &mut Elf<S>, count: u32) -> Result<(), ElfError> {
+    for _number in 0..count {
+        add_bytes(elf, b"bc\0")?;
+    }
+    Ok(())
+}
+
+/// Gives piece 300 eleven bytes.
+fn lengthen<S: Source>(elf: &mut Elf<S>) -> Result<(), ElfError> {
+    let octets = Octets::from_slice(elf.alloc(), b"0123456789\0")?;
+    let d = DataId {
+        section: 1,
+        piece: 300,
+    };
+    set(elf, d, Items::Bytes(octets))
+}
+
+impl Question for ManyPieces {
+    fn is_answered<S: Source>(&self, elf: &mut Elf<S>) -> bool {
+        add_many(elf, 600).is_ok()
+            && are_strings(elf, &EARLY)
+            && lengthen(elf).is_ok()
+            && are_strings(elf, &LATE)
+    }
+}
+
+#[test]
+fn strings_stand_in_many_pieces_as_they_are_by_now(rt: HostRuntime) {
+    assert!(rt; is_answered(rt.alloc(), &ManyPieces));
 }

@@ -1,10 +1,13 @@
 //! The size of a section's data.
 
-ghost use Rattle.std.specs.Prelude.{◌≡◌, ◌-◌, ◌^◌, ◌<◌, min};
+ghost use Rattle.std.specs.Prelude.{◌≡◌, ◌-◌, ◌^◌, ◌<◌, ◌≤◌, min};
 ghost use Rattle.std.specs.Option.{SomeIff};
+ghost use Rattle.section_data.specs.Views.{IsCell};
 ghost use Rattle.section_data.specs.Sizes.{piece_size, piece_end, home_size, data_size};
+ghost use Rattle.section_data.specs.Spans.{AreFirstIn};
 
 use crate::cell::Cell;
+use crate::first::FirstPieces;
 use crate::piece::Piece;
 use elf_layout::rounded_within;
 use elf_types::Class;
@@ -44,7 +47,27 @@ impl Cell {
     fn home_size(&self) -> u64
         ensures { result ≡ home_size self.now }
     {
-        if self.out() { 0 } else { self.home().len }
+        self.kept.home_size()
+    }
+
+    /// Notes where the pieces that hold bytes end, so that a place among them is found in few
+    /// steps. It changes no answer. It refuses nothing, and where there is no memory it notes less.
+    pub fn note_pieces(&mut self)
+        ensures value { self.new ≡ self.old }
+        ensures cell { IsCell self.new }
+    {
+        self.kept.note_pieces();
+    }
+
+    /// The first pieces of the section, each of which holds bytes, as far as it is noted where they
+    /// end and the last of them ends at a limit at the latest. It takes no memory.
+    ///
+    /// Source: gABI chapter 4, "Sections", and elf_newdata of elf(3E).
+    pub fn first_pieces(&self, limit: u64) -> FirstPieces
+        ensures first { AreFirstIn self.now result.count result.end }
+        ensures within { result.end ≤ limit }
+    {
+        self.kept.first_pieces(limit)
     }
 
     /// The size of the section's data in the file of a class: where its last piece ends, and
@@ -55,8 +78,9 @@ impl Cell {
         ensures { result ≡ min (data_size class self.now) (2 ^ 64 - 1) }
     {
         let home_len = self.home_size();
-        let mut end = 0;
-        for p in 0..self.piece_count() {
+        let first = self.first_pieces(u64::MAX);
+        let mut end = first.end;
+        for p in first.count..self.piece_count() {
             match piece_end(self.piece(p), class, home_len, end) {
                 Some(next) => end = next,
                 None => return u64::MAX,

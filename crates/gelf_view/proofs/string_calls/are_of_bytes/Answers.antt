@@ -3,6 +3,9 @@ use Rattle.gelf_view.proofs.HomeLemmas.{below_count}
 use Rattle.gelf_view.proofs.StringLemmas.{strings_none, strings_more, strings_all}
 use Rattle.gelf_view.proofs.string_calls.are_of_bytes.Goals as goal
 
+pub loop-piece-init : goal.loop-piece-init
+loop-piece-init g c = c.first_pieces-first.ensures.first.bytes
+
 pub is_of_bytes-requires : goal.is_of_bytes-requires
 is_of_bytes-requires g c = below_count c.args.elf.now.o c.args.s.0 c.loop-piece.piece c.requires.section (omega arith)
 

@@ -16,10 +16,10 @@ returns-in-Ok g c =
       (
         refl,
         (λ w. tt),
-        queries_then g.S.Source (strptr c.args.s.0 c.args.offset) [] c.in-Ok.start c.string_there.result c.args.elf.now c.fetch_start.new.elf (unended_refusal c.string_there.result c.args.offset c.string_there.ensures.err) asked,
+        queries_then g.S.Source (strptr c.args.s.0 c.args.offset) [] c.in-Ok.start c.string_there.result c.args.elf.now c.note_and_fetch.new.elf (unended_refusal c.string_there.result c.args.offset c.string_there.ensures.err) asked,
       ),
       record {
-        answer = string_found g.S.Source c.args.elf.now c.fetch_start.new.elf c.args.s.0 c.args.offset c.in-Ok.start.piece c.in-Ok.start.start begins c.args.elf.now.told _
+        answer = string_found g.S.Source c.args.elf.now c.note_and_fetch.new.elf c.args.s.0 c.args.offset c.in-Ok.start.piece c.in-Ok.start.start begins c.args.elf.now.told _
             (unended_seen c.string_there.result c.args.offset c.string_there.ensures.err)
             (λ told. c.string_there.ensures.value (asked.reads.told ∙ told) ∙ ap (λ (o : Object). or_refused (string_front (drop c.in-Ok.start.start (bytes_in o c.args.s.0 c.in-Ok.start.piece))) (Unended c.args.offset)) asked.object);
         rests = tt;

@@ -1,12 +1,15 @@
-use Rattle.std.proofs.Common.{◌≡◌, ℕ, subst, arith}
-use Rattle.elf_object.specs.Answers.{piece_count}
+use Rattle.std.proofs.Common.{arith}
 use Rattle.gelf_view.proofs.HomeLemmas.{below_count}
 use Rattle.gelf_view.proofs.StringLemmas.{piece_of_bytes}
-use Rattle.gelf_view.proofs.StackLemmas.{IsLeft, left_first, left_none, stands_over, stands_next, stands_past}
+use Rattle.gelf_view.proofs.StackLemmas.{left_behind, left_none, stands_over, stands_next, stands_before}
 use Rattle.gelf_view.proofs.string_places.find_start.Goals as goal
 
 pub loop-piece-init : goal.loop-piece-init
-loop-piece-init g c = (omega arith, left_first c.args.elf.now.o c.args.s.0 c.args.offset)
+loop-piece-init g c = (
+  c.first_pieces-first.ensures.within,
+  left_behind c.args.elf.now.o c.args.s.0 c.args.offset c.first_pieces-first.result.count c.first_pieces-first.result.end
+      c.first_pieces-first.ensures.first c.first_pieces-first.ensures.within,
+)
 
 pub alignment-requires : goal.alignment-requires
 alignment-requires g c = below_count c.args.elf.now.o c.args.s.0 c.loop-piece.piece c.requires.section (omega arith)
@@ -22,19 +25,19 @@ returns-in-Covers-clause-ok g c =
     stands_over c.args.elf.now.o c.args.s.0 c.args.offset c.loop-piece.end c.loop-piece.piece c.alignment.result c.byte_count.result (omega arith)
     c.alignment.ensures c.byte_count.ensures c.loop-piece.invariant.1 c.in-Covers.start c.in-Covers.ensures
 
-pub returns-in-Past-clause-err : goal.returns-in-Past-clause-err
-returns-in-Past-clause-err g c =
-    stands_past c.args.elf.now.o c.args.s.0 c.args.offset c.loop-piece.end c.loop-piece.piece c.alignment.result c.byte_count.result (omega arith)
-    c.alignment.ensures c.byte_count.ensures c.loop-piece.invariant.1 (omega arith) c.in-Past.ensures
+pub returns-in-Before-clause-err : goal.returns-in-Before-clause-err
+returns-in-Before-clause-err g c =
+    stands_before c.args.elf.now.o c.args.s.0 c.args.offset c.loop-piece.end c.loop-piece.piece c.alignment.result c.byte_count.result (omega arith)
+    c.alignment.ensures c.byte_count.ensures c.loop-piece.invariant.1 c.data_size-size.result c.in-Before.ensures c.data_size-size.ensures
 
 pub loop-piece-preserved : goal.loop-piece-preserved
 loop-piece-preserved g c = (
-  c.in-Ends.ensures.2,
+  c.in-Ends.ensures.1,
   stands_next c.args.elf.now.o c.args.s.0 c.args.offset c.loop-piece.end c.loop-piece.piece c.alignment.result c.byte_count.result (omega arith)
       c.alignment.ensures c.byte_count.ensures c.loop-piece.invariant.1 c.in-Ends.next c.in-Ends.ensures,
 )
 
 pub returns-clause-err : goal.returns-clause-err
 returns-clause-err g c =
-    let all : c.loop-piece.piece ≡ piece_count c.args.elf.now.o c.args.s.0 = omega (arith, c.loop-piece-test.false, c.requires.count) in
-    left_none c.args.elf.now.o c.args.s.0 c.args.offset c.loop-piece.end c.loop-piece.invariant.0 (subst (λ (n : ℕ). IsLeft c.args.elf.now.o c.args.s.0 c.args.offset c.loop-piece.end n) all c.loop-piece.invariant.1)
+    left_none c.args.elf.now.o c.args.s.0 c.args.offset c.loop-piece.end c.loop-piece.piece (omega (arith, c.loop-piece.invariant.0))
+    (omega (arith, c.loop-piece-test.false, c.requires.count)) c.loop-piece.invariant.1

@@ -1,16 +1,18 @@
-use Rattle.std.proofs.Common.{◌≡◌, ◌+◌, ◌<◌, ◌≤◌, ◌^◌, ℕ, List, length, drop, sym, ap, ◌∙◌, arith}
+use Rattle.std.proofs.Common.{◌≡◌, ◌+◌, ◌<◌, ◌≤◌, ℕ, List, length, drop, sym, ap, ◌∙◌, arith}
 use Rattle.std.proofs.Math.ListN.{drop_of_length-le}
 use Rattle.elf_object.specs.Object.{Piece}
 use Rattle.section_data.specs.Held.{piece_in}
-use Rattle.section_data.specs.Sizes.{data_size, piece_end, stacked_end}
+use Rattle.section_data.specs.Sizes.{piece_end, stacked_end}
 use Rattle.section_data.proofs.Sizes.{stacked_end_next, stacked_end_le}
+use Rattle.section_data.proofs.LeadingPieces.{size_from}
 use Rattle.section_data.proofs.cell.Cell.size.Goals as goal
 
 pub loop-p-init : goal.loop-p-init
-unfolding data_size
 loop-p-init c = (
   omega arith,
-  ap (λ (n : ℕ). stacked_end c.args.class n 0 c.args.self.now.pieces) (sym c.home_size-home_len.ensures),
+  size_from c.args.class c.args.self.now c.first_pieces-first.result.count c.first_pieces-first.result.end c.first_pieces-first.ensures.first
+      ∙ ap (λ (n : ℕ). stacked_end c.args.class n c.first_pieces-first.result.end (drop c.first_pieces-first.result.count c.args.self.now.pieces))
+      (sym c.home_size-home_len.ensures),
 )
 
 pub returns-in-None : goal.returns-in-None

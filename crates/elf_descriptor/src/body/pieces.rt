@@ -1,0 +1,29 @@
+//! Where the pieces of a section end.
+
+ghost use Rattle.std.specs.Prelude.{◌<◌, length};
+ghost use Rattle.elf_descriptor.specs.Rooms.{HoldsSo};
+ghost use Rattle.elf_descriptor.specs.Views.{HasCounts, scn_at};
+
+use crate::body::Body;
+
+impl Body {
+    /// Notes where the pieces of a section that is there end.
+    fn note_there(&mut self, s: u32)
+        requires { s < length self.old.sections.items }
+        ensures { HoldsSo self.old self.new s (scn_at self.old s).cell }
+    {
+        let scn = &mut self.sections[s as usize];
+        scn.cell.note_pieces();
+    }
+
+    /// Notes where the pieces of a section end, where there is such a section.
+    pub fn note_pieces(&mut self, s: u32)
+        requires { HasCounts self.old }
+        ensures { HoldsSo self.old self.new s (scn_at self.old s).cell }
+    {
+        if let Err(_) = self.check_section(s) {
+            return;
+        }
+        self.note_there(s);
+    }
+}
