@@ -1,19 +1,15 @@
 -- What is left of a cell for which memory is kept aside, and of one that is let go.
-use Rattle.std.proofs.Common.{◌≡◌, ℕ, ◌+◌, ◌<◌, ◌≤◌, Bool, true, false, List, Option, Some, None, Result, Ok, Err, refl, sym, ap, ◌∙◌, subst, not}
+use Rattle.std.proofs.Common.{◌≡◌, ℕ, ◌+◌, ◌<◌, ◌≤◌, Bool, true, false, List, Option, Some, None, Result, Ok, Err, refl, sym, ap, ◌∙◌, subst}
 use Rattle.std.specs.Prelude.{is_some, IsTrue, IfSome, IfErr, ◌||◌, ◌&&◌, cond}
-use Rattle.std.specs.Option.{option_and_then}
 use Rattle.std.proofs.lemmas.Bool.{lt-ltb}
-use Rattle.elf_types.specs.declared.records.Class.{Class}
-use Rattle.elf_types.specs.declared.records.Order.{Order}
 use Rattle.elf_types.specs.declared.errors.ElfError.{ElfError}
 use Rattle.elf_types.specs.declared.errors.ElfError.TheVariants.{Read, OutOfFile}
 use Rattle.elf_types.specs.Answers.{answered, refused_if}
 use Rattle.elf_xlate.specs.declared.content.Items.{Items}
-use Rattle.elf_xlate.specs.Translation.{decoded}
 use Rattle.elf_object.specs.Words.{Answers}
 use Rattle.elf_object.specs.Object.{Home}
 use Rattle.section_data.specs.Views.{CellView, IsCell}
-use Rattle.section_data.specs.Held.{cell_is_loaded, is_untouched, HeldIs}
+use Rattle.section_data.specs.Held.{cell_is_loaded, is_untouched}
 use Rattle.section_data.specs.Refused.{load_due, home_out, reading}
 use Rattle.section_data.specs.Leaves.{RawBecomes, Warms, LiesIn, FillsRoom, with_room, unloaded}
 use Rattle.section_data.proofs.Loading.{due_unread}

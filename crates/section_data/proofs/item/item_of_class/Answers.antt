@@ -1,4 +1,4 @@
-use Rattle.std.proofs.Common.{◌≡◌, ℕ, ◌*◌, ◌/◌, ◌%◌, ◌<◌, length, take, drop, sym, ap, ◌∙◌, subst, Ok, arith}
+use Rattle.std.proofs.Common.{◌≡◌, ℕ, ◌*◌, ◌/◌, ◌%◌, ◌<◌, length, take, drop, sym, ap, ◌∙◌, subst, Ok}
 use Rattle.elf_xlate.specs.Items.{item_size}
 use Rattle.section_data.proofs.Items.{entry_there, whole_kind}
 use Rattle.section_data.proofs.item.item_of_class.Goals as goal

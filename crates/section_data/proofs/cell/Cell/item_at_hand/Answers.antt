@@ -1,4 +1,4 @@
-use Rattle.std.proofs.Common.{◌≡◌, ◌∙◌}
+use Rattle.std.proofs.Common.{◌∙◌}
 use Rattle.section_data.proofs.Holdings.{tells_clean}
 use Rattle.section_data.proofs.cell.Cell.item_at_hand.Goals as goal
 
