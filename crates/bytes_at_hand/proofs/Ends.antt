@@ -7,7 +7,8 @@ use Rattle.elf_object.specs.Object.{Object}
 use Rattle.elf_object.specs.Strings.{string_answer, readable}
 use Rattle.elf_descriptor.specs.State.{State}
 use Rattle.object_output.specs.Steps.{LeavesElf}
-use Rattle.bytes_at_hand.specs.Strings.{is_past, AreEnded, EndsAt, HoldsStrings}
+use Rattle.gelf_view.specs.Records.{AreEnded}
+use Rattle.bytes_at_hand.specs.Strings.{is_past, EndsAt, HoldsStrings}
 
 -- what is there has a weaker property too
 pub some_weaker : {T : Type 0} (P Q : T → Type 0) (r : Option T) → ((x : T) → P x → Q x)

@@ -1,3 +1,2 @@
 pub mod OneTable
-pub mod LastNul
 pub mod Ends

@@ -1,6 +1,6 @@
 -- The strings of a section that is one table of them, by its bytes (gABI chapter 4, "String
 -- Table").
-use Rattle.std.specs.Prelude.{◌≡◌, ◌≢◌, ℕ, ◌-◌, ◌<◌, ◌≤◌, nat_le, nat_lt, Bool, List, length, drop, slice_index, false, Option, Some, None, is_some, IsTrue}
+use Rattle.std.specs.Prelude.{◌≡◌, ℕ, nat_le, nat_lt, Bool, List, drop, false, Option, Some, None, is_some, IsTrue}
 use Rattle.elf_types.specs.declared.constants.TheConstants.{SHT_STRTAB}
 use Rattle.elf_types.specs.declared.records.Kind.TheVariants as kinds
 use Rattle.elf_object.specs.Object.{Object, section_at}
@@ -25,16 +25,6 @@ HoldsStrings state s bytes = IsTrue state.told → (offset : ℕ)
     → readable (string_answer state.o s offset) ≡ string_front (drop offset bytes)
 
 -- ---- Where strings end
-
--- so many bytes stand up to the last NUL, which is one of them; none where there is no NUL
-pub record IsLastEnd (bytes : List ℕ) (n : ℕ) : Type 0 where
-  pub within : n ≤ length bytes
-  pub nul : 0 < n → slice_index bytes (n - 1) ≡ 0
-  pub free : (k : ℕ) → n ≤ k → k < length bytes → slice_index bytes k ≢ 0
-
--- a string begins at each place of bytes
-abbrev pub AreEnded : List ℕ → Type 0
-AreEnded bytes = (at : ℕ) → is_some (string_front (drop at bytes)) ≡ nat_lt at (length bytes)
 
 -- a string of a section can be read exactly where it begins before an end
 pub record EndsAt (o : Object) (s end : ℕ) : Type 0 where

@@ -6,17 +6,16 @@ ghost use Rattle.elf_types.specs.declared.constants.TheConstants.{SHT_STRTAB};
 ghost use Rattle.elf_types.specs.declared.records.Kind.TheVariants as kinds;
 ghost use Rattle.elf_object.specs.Object.{section_at};
 ghost use Rattle.elf_object.specs.Answers.{no_section, piece_count, kind_at};
-ghost use Rattle.gelf_view.specs.Records.{string_front};
+ghost use Rattle.gelf_view.specs.Records.{string_front, AreEnded};
 ghost use Rattle.object_output.specs.Steps.{ReadsElf};
-ghost use Rattle.bytes_at_hand.specs.Strings.{is_past, AreEnded, EndsAt, HoldsStrings, IsLastEnd, IsOneTable};
+ghost use Rattle.bytes_at_hand.specs.Strings.{is_past, EndsAt, HoldsStrings, IsOneTable};
 
 use crate::held::{held_bytes, load};
 use elf_descriptor::Elf;
 use elf_outside::Source;
 use elf_types::constants::SHT_STRTAB;
 use elf_types::{DataId, Kind, ScnId};
-use gelf_view::string_in;
-use memchr::memrchr;
+use section_data::ended_len;
 use tool_output::Stop;
 
 /// Whether a section is of type `SHT_STRTAB`.
@@ -74,17 +73,6 @@ fn is_one_table<S: Source>(elf: &Elf<S>, s: ScnId) -> bool
         piece: 0,
     };
     is_strings(elf, s) && is_in_file(elf, s) && is_alone(elf, s) && is_of_bytes(elf, d)
-}
-
-/// How many bytes stand up to the last NUL, which is one of them; 0 where there is none.
-fn ended_len(bytes: &[u8]) -> usize
-    ensures { IsLastEnd bytes.now result }
-{
-    let _count = bytes.len();
-    match memrchr(0, bytes) {
-        Some(last) => last + 1,
-        None => 0,
-    }
 }
 
 /// The first `n` bytes.
@@ -169,9 +157,5 @@ pub fn is_past(end: Option<u64>, at: u64) -> bool
 pub fn string_from(strings: &[u8], place: u32) -> Option<&[u8]>
     ensures { option_copied result ≡ string_front (drop place strings.now) }
 {
-    let at = place as usize;
-    if strings.len() < at {
-        return None;
-    }
-    string_in(&strings[at..])
+    gelf_view::string_from(strings, u64::from(place))
 }

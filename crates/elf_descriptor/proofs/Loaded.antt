@@ -11,6 +11,7 @@ use Rattle.elf_object.specs.Open.{home_bytes}
 use Rattle.elf_object.specs.Due.{is_loaded}
 use Rattle.section_data.specs.Views.{CellView, IsCell}
 use Rattle.section_data.specs.Held.{cell_is_loaded}
+use Rattle.section_data.specs.Nuls.{IsEndedFront}
 use Rattle.elf_descriptor.specs.declared.held.Held.{Held}
 use Rattle.elf_descriptor.specs.declared.held.Held.TheVariants.{Edited, Raw, Unread}
 use Rattle.section_table.specs.Sections.{SectionView as Scn, absent_scn, IsAsOpened}
@@ -80,6 +81,15 @@ raw_alike (Some image) c bytes cell is = ap length (told_raw image c bytes is)
 pub raw_exact : (image : Option (List ℕ)) (c : CellView) (bytes : List ℕ) → c.raw ≡ Some bytes → IsTrue (is_some image) → bytes ≡ raw_of image c
 raw_exact None c bytes is told = cc
 raw_exact (Some image) c bytes is told = told_raw image c bytes is
+
+-- and so are those up to a last NUL
+pub raw_ended : (image : Option (List ℕ)) (c : CellView) (front : List ℕ) → IfSome c.raw (λ bytes. IsEndedFront bytes front) → cell_is_loaded c ≡ true
+    → IsTrue (is_some image) → IsEndedFront (raw_of image c) front
+raw_ended image c front ended loaded told = by_raw c.raw refl ended loaded
+  where
+    by_raw : (raw : Option (List ℕ)) → c.raw ≡ raw → IfSome raw (λ bytes. IsEndedFront bytes front) → is_some raw ≡ true → IsEndedFront (raw_of image c) front
+    by_raw None is ended loaded = cc
+    by_raw (Some bytes) is ended loaded = subst (λ (l : List ℕ). IsEndedFront l front) (raw_exact image c bytes is told) ended
 
 pub raw_is : (image : Option (List ℕ)) (size : ℕ) (b : Body) (s : ℕ) → (section_at (object_of image size b) s).raw ≡ raw_of image (scn_at b s).cell
 unfolding section_of

@@ -1,4 +1,5 @@
 mod NulLemmas
+pub mod EndedStrings
 mod NumberLemmas
 mod NoteLemmas
 mod Rules

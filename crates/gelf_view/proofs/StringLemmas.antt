@@ -25,7 +25,9 @@ use Rattle.elf_object.proofs.AnswerLaws.{answered_refusal}
 use Rattle.elf_object.proofs.StepLaws.{same_kind-true}
 use Rattle.gelf_view.specs.Records.{string_front}
 use Rattle.gelf_view.specs.Strings.{bytes_in, no_strings, home_missing, IsOver, Begins}
-use Rattle.gelf_view.proofs.PieceBytes.{clean_content, own_content}
+use Rattle.section_data.specs.Nuls.{IsEndedFront}
+use Rattle.gelf_view.proofs.EndedStrings.{front_strings}
+use Rattle.gelf_view.proofs.PieceBytes.{clean_content, own_content, clean_file}
 
 -- ---- Refused before a byte is read
 
@@ -222,3 +224,14 @@ module _ (o : Object) (s offset p start : ℕ) (begins : Begins o s offset p sta
       (elim x [ None ↦ [] | Some b ↦ string_at b.bytes (offset - b.at) ])) begins.over.over
       ∙ ap (λ (n : ℕ). answer_of (drop n (bytes_in o s p)) (has_nul (drop n (bytes_in o s p)))) begins.over.distance
       ∙ by_ended from_start (has_nul from_start)
+
+-- ---- In a home
+
+-- the string in a home, by its bytes up to their last NUL
+pub home_string_is : (o : Object) (s offset p start : ℕ) (front : List ℕ) → (piece_at o s p).own ≡ None
+    → IsEndedFront (section_at o s).raw front
+    → or_refused (string_front (drop start front)) (Unended offset) ≡ or_refused (string_front (drop start (bytes_in o s p))) (Unended offset)
+home_string_is o s offset p start front clean ended =
+    ap (λ (found : Option (List ℕ)). or_refused found (Unended offset))
+    (front_strings (section_at o s).raw front ended start
+    ∙ ap (λ (l : List ℕ). string_front (drop start l)) (sym (clean_file o s p clean)))

@@ -1,6 +1,6 @@
 -- Records and strings that are read from bytes. The records of notes and of versions are alike in
 -- both classes, and their numbers stand in the byte order of the image.
-use Rattle.std.specs.Prelude.{ℕ, ◌+◌, ◌<◌, ◌≤◌, ◌^◌, nat_lt, not, ◌==◌, List, length, take, drop, take_while, Option, Some, None, Result, if◌then◌else◌}
+use Rattle.std.specs.Prelude.{◌≡◌, ℕ, ◌+◌, ◌<◌, ◌≤◌, ◌^◌, nat_lt, not, ◌==◌, List, length, take, drop, take_while, Option, Some, None, is_some, Result, if◌then◌else◌}
 use Rattle.elf_types.specs.declared.errors.ElfError.{ElfError}
 use Rattle.elf_types.specs.declared.errors.ElfError.TheVariants.{BadChain}
 use Rattle.elf_types.specs.Answers.{refused_if, answered}
@@ -22,3 +22,7 @@ LiesAt at size count = (at + size ≤ count) × (count < 2 ^ 63)
 unfoldable pub string_front : List ℕ → Option (List ℕ)
 string_front bytes =
     if has_nul bytes then Some (take_while (λ b. not (b == 0)) bytes) else None
+
+-- a string begins at each place of bytes
+abbrev pub AreEnded : List ℕ → Type 0
+AreEnded bytes = (at : ℕ) → is_some (string_front (drop at bytes)) ≡ nat_lt at (length bytes)

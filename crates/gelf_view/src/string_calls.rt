@@ -6,7 +6,7 @@ ghost use Rattle.std.specs.List.{list_all};
 ghost use Rattle.elf_types.specs.Answers.{answered, or_refused, IsRefusal};
 ghost use Rattle.elf_types.specs.declared.errors.ElfError.TheVariants.{Unended};
 ghost use Rattle.elf_types.specs.declared.records.Kind.TheVariants as kinds;
-ghost use Rattle.elf_object.specs.Words.{AnswersRead, seen};
+ghost use Rattle.elf_object.specs.Words.{Answers, AnswersRead, seen};
 ghost use Rattle.elf_object.specs.Object.{section_at, piece_at};
 ghost use Rattle.elf_object.specs.Valid.{IsObject, OthersOwn};
 ghost use Rattle.elf_object.specs.Answers.{kind_at, lend_refusal, no_section, piece_count, piece_refusal, same_kind};
@@ -15,12 +15,13 @@ ghost use Rattle.elf_object.specs.Strings as strings;
 ghost use Rattle.elf_object.specs.Strings.{kind_of_piece, string_refusal_unread, strptr_refusals};
 ghost use Rattle.elf_descriptor.specs.Reads.{Queries, wanted};
 ghost use Rattle.elf_descriptor.specs.Rests.{Rests};
+ghost use Rattle.gelf_view.specs.Calls.{bytes};
 ghost use Rattle.gelf_view.specs.Records.{string_front};
 ghost use Rattle.gelf_view.specs.Strings.{bytes_in, home_missing, no_strings, Begins};
 
 use crate::fetching::{bytes_there, fetch_bytes, is_edited};
 use crate::string_places::{Start, find_start};
-use crate::strings::string_in;
+use crate::strings::{string_from, string_in};
 use elf_descriptor::Elf;
 use elf_outside::Source;
 use elf_types::constants::SHT_STRTAB;
@@ -146,6 +147,24 @@ fn start_of<S: Source>(elf: &Elf<S>, s: ScnId, offset: u64) -> Result<Start, Elf
     find_start(elf, s, count, home_len, offset)
 }
 
+/// Makes the bytes of a piece be at hand, as `fetch_bytes` does, and notes where the last NUL of
+/// its home stands.
+fn fetch_strings<S: Source>(elf: &mut Elf<S>, d: DataId) -> Result<(), ElfError>
+    ensures answer { Answers true (wanted (bytes d.section d.piece) elf.old) result
+        (answered (lend_refusal elf.old.o kinds.Bytes d.section d.piece) tt) }
+    ensures hand { OnOk result (IsTrue (is_some (piece_at elf.new.o d.section d.piece).own
+        || is_loaded elf.new.loaded d.section)) }
+    ensures queries { Queries S.Source (bytes d.section d.piece) [] result elf.old elf.new }
+{
+    match fetch_bytes(elf, d) {
+        Ok(()) => {
+            elf.note_end(ScnId(d.section));
+            Ok(())
+        }
+        Err(e) => Err(e),
+    }
+}
+
 /// Makes the bytes of the piece be at hand in which the string at an offset begins.
 fn fetch_piece<S: Source>(
     elf: &mut Elf<S>,
@@ -166,7 +185,7 @@ fn fetch_piece<S: Source>(
         section: s.0,
         piece: start.piece,
     };
-    match fetch_bytes(elf, d) {
+    match fetch_strings(elf, d) {
         Ok(()) => Ok(start),
         Err(e) => Err(e),
     }
@@ -213,9 +232,9 @@ fn bytes_from(bytes: &[u8], place: u64) -> &[u8]
     &bytes[place as usize..]
 }
 
-/// The string that begins at a place of a piece whose bytes are at hand, or `Unended` with the
-/// offset where no NUL follows in it.
-fn string_there<S: Source>(
+/// The string that begins at a place of an own piece, or `Unended` with the offset where no NUL
+/// follows in it.
+fn own_string<S: Source>(
     elf: &Elf<S>,
     s: ScnId,
     start: Start,
@@ -239,6 +258,52 @@ fn string_there<S: Source>(
         Some(string) => Ok(string),
         None => Err(ElfError::Unended { offset }),
     }
+}
+
+/// The string that begins at a place of a home that is loaded, or `Unended` with the offset where
+/// no NUL follows in it: that is known at once behind the last NUL.
+fn home_string<S: Source>(
+    elf: &Elf<S>,
+    s: ScnId,
+    start: Start,
+    offset: u64,
+) -> Result<&[u8], ElfError>
+    requires clean { (piece_at elf.now.o s.0 start.piece).own ≡ None }
+    requires loaded { IsTrue (is_loaded elf.now.loaded s.0) }
+    ensures value { IsTrue elf.now.told → seen result ≡ or_refused
+        (string_front (drop start.start (bytes_in elf.now.o s.0 start.piece))) (Unended offset) }
+    ensures err { IfErr result (λ e. e ≡ Unended offset) }
+{
+    match string_from(elf.ended_bytes(s), start.start) {
+        Some(string) => Ok(string),
+        None => Err(ElfError::Unended { offset }),
+    }
+}
+
+/// The string that begins at a place of a piece whose bytes are at hand, or `Unended` with the
+/// offset where no NUL follows in it.
+fn string_there<S: Source>(
+    elf: &Elf<S>,
+    s: ScnId,
+    start: Start,
+    offset: u64,
+) -> Result<&[u8], ElfError>
+    requires passed { lend_refusal elf.now.o kinds.Bytes s.0 start.piece ≡ None }
+    requires within { start.start < length (bytes_in elf.now.o s.0 start.piece) }
+    requires hand { IsTrue (is_some (piece_at elf.now.o s.0 start.piece).own
+        || is_loaded elf.now.loaded s.0) }
+    ensures value { IsTrue elf.now.told → seen result ≡ or_refused
+        (string_front (drop start.start (bytes_in elf.now.o s.0 start.piece))) (Unended offset) }
+    ensures err { IfErr result (λ e. e ≡ Unended offset) }
+{
+    let d = DataId {
+        section: s.0,
+        piece: start.piece,
+    };
+    if is_edited(elf, d) {
+        return own_string(elf, s, start, offset);
+    }
+    home_string(elf, s, start, offset)
 }
 
 /// The string at an offset of a section's pieces, without its NUL: the bytes from there up to the

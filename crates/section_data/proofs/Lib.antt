@@ -9,5 +9,6 @@ pub mod Sizes
 pub mod Rounding
 pub mod Runs
 pub mod LeadingPieces
+pub mod LastNuls
 pub mod Keeping
 pub mod Reserving

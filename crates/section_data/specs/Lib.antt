@@ -6,3 +6,4 @@ pub mod Lends
 pub mod Leaves
 pub mod Sizes
 pub mod Spans
+pub mod Nuls

@@ -10,6 +10,7 @@ ghost use Rattle.elf_outside.specs.Asks.{Asks};
 ghost use Rattle.section_data.specs.Views.{home_view, made_cell, piece_of};
 ghost use Rattle.section_data.specs.Held.{cell_is_loaded, is_untouched};
 ghost use Rattle.section_data.specs.Leaves.{bytes_or_none, FillsRoom};
+ghost use Rattle.section_data.specs.Nuls.{IsEndedFront};
 ghost use Rattle.section_data.specs.Sizes.{home_size};
 ghost use Rattle.section_data.specs.Spans.{AreFirstIn};
 
@@ -123,6 +124,26 @@ impl Kept {
             Some(used) => used.bytes(),
             None => &[],
         }
+    }
+
+    /// The home's bytes, where they are held, up to their last NUL where that was looked for.
+    pub(crate) fn ended_bytes(&self) -> &[u8]
+        ensures { IsEndedFront (bytes_or_none self.now.raw) result.now }
+    {
+        match &self.used {
+            Some(used) => used.ended(),
+            None => &[],
+        }
+    }
+
+    /// Looks for the last NUL of the home's bytes, where they are held and that was not done yet.
+    pub(crate) fn note_end(&mut self)
+        ensures { self.new ≡ self.old }
+    {
+        let Some(used) = &mut self.used else {
+            return;
+        };
+        used.note_end();
     }
 
     /// Whether the home's items are held.

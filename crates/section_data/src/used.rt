@@ -10,11 +10,13 @@ ghost use Rattle.elf_outside.specs.Asks.{Asks};
 ghost use Rattle.elf_object.specs.Answers.{bytes_of};
 ghost use Rattle.section_data.specs.declared.held.HomeItems.TheVariants.{Nothing};
 ghost use Rattle.section_data.specs.Leaves.{bytes_or_none};
+ghost use Rattle.section_data.specs.Nuls.{IsEndedFront};
 ghost use Rattle.section_data.specs.Kept.{held_view, unboxed, IsRoomFor, IsUse, Opens, Forgets, Fills, KeepsRoom};
 
 use crate::held::HomeItems;
 use crate::others::Others;
 use crate::piece::Piece;
+use crate::raw::RawBytes;
 use crate::room::Room;
 use elf_outside::Source;
 use elf_outside::reads::read;
@@ -28,7 +30,7 @@ use std::mem;
 #[derive(Drop)]
 pub(crate) struct Used {
     /// The home's bytes, once they are read, as items of kind `Bytes`.
-    pub(crate) raw: Option<Items>,
+    pub(crate) raw: Option<RawBytes>,
     /// The home's items where they are held in memory form.
     pub(crate) held: HomeItems,
     /// Memory for the home's bytes that is kept aside: as many zeros.
@@ -102,12 +104,22 @@ fn fill<S: Source>(src: &mut S, at: u64, bytes: &mut Octets) -> Result<(), ElfEr
 }
 
 /// The bytes that are kept.
-fn bytes_in(raw: &Option<Items>) -> &[u8]
+fn bytes_in(raw: &Option<RawBytes>) -> &[u8]
     ensures { result.now ≡ bytes_or_none (option_map bytes_of raw.now) }
 {
     match raw {
-        Some(Items::Bytes(bytes)) => bytes.as_slice(),
-        _ => &[],
+        Some(raw) => raw.bytes(),
+        None => &[],
+    }
+}
+
+/// The bytes that are kept, up to their last NUL where that was looked for.
+fn ended_in(raw: &Option<RawBytes>) -> &[u8]
+    ensures { IsEndedFront (bytes_or_none (option_map bytes_of raw.now)) result.now }
+{
+    match raw {
+        Some(raw) => raw.ended(),
+        None => &[],
     }
 }
 
@@ -124,7 +136,7 @@ impl Used {
     pub(crate) fn set_raw(&mut self, bytes: Octets)
         ensures { self.new ≡ record self.old { raw = Some (items.Bytes bytes) } }
     {
-        put(&mut self.raw, Some(Items::Bytes(bytes)));
+        put(&mut self.raw, Some(RawBytes::of(bytes)));
     }
 
     /// Keeps the home's items, as far as they are held.
@@ -171,6 +183,23 @@ impl Used {
         ensures { result.now ≡ bytes_or_none (option_map bytes_of self.now.raw) }
     {
         bytes_in(&self.raw)
+    }
+
+    /// The raw bytes up to their last NUL, where that was looked for.
+    pub(crate) fn ended(&self) -> &[u8]
+        ensures { IsEndedFront (bytes_or_none (option_map bytes_of self.now.raw)) result.now }
+    {
+        ended_in(&self.raw)
+    }
+
+    /// Looks for the last NUL of the raw bytes, where that was not done yet.
+    pub(crate) fn note_end(&mut self)
+        ensures { self.new ≡ self.old }
+    {
+        let Some(raw) = &mut self.raw else {
+            return;
+        };
+        raw.note_end();
     }
 
     /// The home's items, which are held.
@@ -231,13 +260,13 @@ impl Used {
     }
 }
 
-/// Items that are there.
-fn there(slot: &Option<Items>) -> &Items
+/// Raw bytes that are there, as items.
+fn there(slot: &Option<RawBytes>) -> &Items
     requires { IsSome slot.now }
     ensures { slot.now ≡ Some result.now }
 {
     match slot {
-        Some(items) => items,
+        Some(raw) => raw.items(),
         None => unreachable!(),
     }
 }

@@ -1,4 +1,4 @@
-//! Where the pieces of a section end.
+//! Where the pieces of a section end, and the last NUL of its home.
 
 ghost use Rattle.std.specs.Prelude.{◌<◌, length};
 ghost use Rattle.elf_descriptor.specs.Rooms.{HoldsSo};
@@ -25,5 +25,25 @@ impl Body {
             return;
         }
         self.note_there(s);
+    }
+
+    /// Looks for the last NUL of what is held of a section that is there.
+    fn note_end_there(&mut self, s: u32)
+        requires { s < length self.old.sections.items }
+        ensures { HoldsSo self.old self.new s (scn_at self.old s).cell }
+    {
+        let scn = &mut self.sections[s as usize];
+        scn.cell.note_end();
+    }
+
+    /// Looks for the last NUL of what is held of a section, where there is such a section.
+    pub fn note_end(&mut self, s: u32)
+        requires { HasCounts self.old }
+        ensures { HoldsSo self.old self.new s (scn_at self.old s).cell }
+    {
+        if let Err(_) = self.check_section(s) {
+            return;
+        }
+        self.note_end_there(s);
     }
 }

@@ -1,7 +1,10 @@
-//! Where the pieces of a section end.
+//! Where the pieces of a section end, and the last NUL of its home.
 
-ghost use Rattle.std.specs.Prelude.{◌≡◌, ◌≤◌, None};
+ghost use Rattle.std.specs.Prelude.{◌≡◌, ◌≤◌, IsTrue, None};
+ghost use Rattle.elf_object.specs.Object.{section_at};
 ghost use Rattle.elf_object.specs.Answers.{no_section};
+ghost use Rattle.elf_object.specs.Due.{is_loaded};
+ghost use Rattle.section_data.specs.Nuls.{IsEndedFront};
 ghost use Rattle.elf_descriptor.specs.FirstPieces.{AreFirst};
 
 use crate::descriptor::Elf;
@@ -29,5 +32,25 @@ impl<S: Source> Elf<S> {
         ensures within { result.end ≤ limit }
     {
         self.body.scn(s.0).cell.first_pieces(limit)
+    }
+
+    /// Looks for the last NUL of a home that is loaded, where that was not done yet, so that
+    /// `ended_bytes` tells of it. It changes no answer but that one. It refuses nothing, and takes
+    /// no memory: where there is no such section, or it is not loaded, nothing is done.
+    pub fn note_end(&mut self, s: ScnId)
+        ensures { self.new ≡ self.old }
+    {
+        self.body.note_end(s.0);
+    }
+
+    /// The bytes of a home that is loaded, up to their last NUL where that was looked for, else all
+    /// of them: the same strings begin in them. It takes no memory.
+    ///
+    /// Source: gABI chapter 4, "String Table".
+    pub fn ended_bytes(&self, s: ScnId) -> &[u8]
+        requires { IsTrue (is_loaded self.now.loaded s.0) }
+        ensures { IsTrue self.now.told → IsEndedFront (section_at self.now.o s.0).raw result.now }
+    {
+        self.body.scn(s.0).cell.ended_bytes()
     }
 }

@@ -13,6 +13,7 @@ ghost use Rattle.section_data.specs.Views.{IsCell};
 ghost use Rattle.section_data.specs.Held.{piece_in, cell_is_loaded, piece_holds_items, HeldIs};
 ghost use Rattle.section_data.specs.Refused.{no_piece, no_home_items, items_refused, home_out, load_due, piece_due, items_due, loading, preparing};
 ghost use Rattle.section_data.specs.Leaves.{LiesIn, Warms, IsReadFrom, bytes_or_none};
+ghost use Rattle.section_data.specs.Nuls.{IsEndedFront};
 
 use crate::cell::Cell;
 use crate::home::Home;
@@ -119,6 +120,24 @@ impl Cell {
         ensures cell { IsCell self.now }
     {
         self.kept.bytes()
+    }
+
+    /// The home's bytes, which are held, up to their last NUL where that was looked for. It takes no
+    /// memory.
+    pub fn ended_bytes(&self) -> &[u8]
+        requires { IsSome self.now.raw }
+        ensures { IfSome self.now.raw (λ bytes. IsEndedFront bytes result.now) }
+    {
+        self.kept.ended_bytes()
+    }
+
+    /// Looks for the last NUL of the home's bytes, where they are held and that was not done yet. It
+    /// changes no answer but that of `ended_bytes`, and takes no memory.
+    pub fn note_end(&mut self)
+        ensures value { self.new ≡ self.old }
+        ensures cell { IsCell self.new }
+    {
+        self.kept.note_end();
     }
 
     /// Whether there is a piece with that number; else `NoData`. It takes no memory.

@@ -1,23 +1,18 @@
-use Rattle.std.proofs.Common.{ℕ, List, Option, drop, ap, ◌∙◌, arith}
-use Rattle.elf_types.specs.declared.errors.ElfError.TheVariants.{Unended}
-use Rattle.elf_types.specs.Answers.{or_refused}
-use Rattle.gelf_view.specs.Records.{string_front}
-use Rattle.gelf_view.proofs.PieceBytes.{file_count, file_same}
+use Rattle.std.proofs.Common.{◌≡◌, ◌∙◌, Bool, true, false, Option, None, Some, sym, subst}
+use Rattle.std.specs.Prelude.{IsTrue, ◌||◌, is_some}
+use Rattle.elf_object.specs.Object.{piece_at}
+use Rattle.elf_object.specs.Due.{is_loaded}
+use Rattle.gelf_view.proofs.PieceBytes.{piece_there}
+use Rattle.section_data.proofs.Holdings.{none_of}
 use Rattle.gelf_view.proofs.string_calls.string_there.Goals as goal
 
-pub bytes_from-requires : goal.bytes_from-requires
-bytes_from-requires g c =
-    let count = file_count c.args.elf.now.o c.args.s.0 c.args.start.piece c.requires.passed in
-    omega (arith, count, c.requires.within, c.bytes_there-bytes.ensures.count)
+pub is_edited-requires : goal.is_edited-requires
+is_edited-requires g c = piece_there c.args.elf.now.o c.args.s.0 c.args.start.piece c.requires.passed
 
-pub returns-in-Some-clause-value : goal.returns-in-Some-clause-value
-returns-in-Some-clause-value g c = λ told.
-    let same = file_same c.args.elf.now.o c.args.s.0 c.args.start.piece c.bytes_there-bytes.result.now c.requires.passed (c.bytes_there-bytes.ensures.exact told) c.bytes_are_ranged.ensures.bytes in
-    ap (λ (found : Option (List ℕ)). or_refused found (Unended c.args.offset))
-    (c.in-Some.ensures ∙ ap string_front (c.bytes_from.ensures ∙ ap (drop c.args.start.start) same))
+pub home_string-requires-clause-clean : goal.home_string-requires-clause-clean
+home_string-requires-clause-clean g c =
+    none_of (piece_at c.args.elf.now.o c.args.s.0 c.args.start.piece).own (sym c.is_edited.ensures ∙ c.if-is_edited.false)
 
-pub returns-in-None-clause-value : goal.returns-in-None-clause-value
-returns-in-None-clause-value g c = λ told.
-    let same = file_same c.args.elf.now.o c.args.s.0 c.args.start.piece c.bytes_there-bytes.result.now c.requires.passed (c.bytes_there-bytes.ensures.exact told) c.bytes_are_ranged.ensures.bytes in
-    ap (λ (found : Option (List ℕ)). or_refused found (Unended c.args.offset))
-    (c.in-None.ensures ∙ ap string_front (c.bytes_from.ensures ∙ ap (drop c.args.start.start) same))
+pub home_string-requires-clause-loaded : goal.home_string-requires-clause-loaded
+home_string-requires-clause-loaded g c =
+    subst (λ (own : Bool). IsTrue (own || is_loaded c.args.elf.now.loaded c.args.s.0)) (sym c.is_edited.ensures ∙ c.if-is_edited.false) c.requires.hand

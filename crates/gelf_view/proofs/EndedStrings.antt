@@ -1,36 +1,15 @@
--- Bytes up to their last NUL, and the strings that begin in them.
+-- Strings at the front of bytes, and those that begin in bytes up to their last NUL.
 use Rattle.std.proofs.Common.{◌≡◌, ◌⊎◌, inl, inr, ℕ, ◌+◌, ◌-◌, ◌<◌, ◌≤◌, ◌==◌, ◌||◌, not, Bool, true, false, cond, List, [], ◌∷◌, ◌++◌, length, take, drop, get_or, Option, Some, None, refl, sym, ap, ◌∙◌, arith}
-use Rattle.std.specs.Prelude.{nat_lt, slice_index, take_while, is_some, if◌then◌else◌}
+use Rattle.std.specs.Prelude.{nat_lt, take_while, is_some, if◌then◌else◌}
 use Rattle.std.specs.Option.{option_map}
-use Rattle.std.proofs.lemmas.Bool.{cond-true, cond-false, eq-eqb, ne_eqb, eqb-true, cases_lt, lt-ltb, le-ltb}
+use Rattle.std.proofs.lemmas.Bool.{cond-true, cond-false, ne_eqb, cases_lt, lt-ltb, le-ltb}
 use Rattle.std.proofs.lemmas.List.{length-take-le, length-drop, get_or-drop, get_or-take, take-append-drop, drop-append-le, drop_all}
 use Rattle.std.proofs.lemmas.List.Elements.{All-from_get_or}
 use Rattle.std.proofs.lemmas.List.Folds.{list_any_at, list_any_none}
 use Rattle.std.proofs.lemmas.List.Sums.{take_while-cons}
-use Rattle.memchr.specs.Find.{IsLastByte, is_byte}
 use Rattle.elf_object.specs.Strings.{has_nul}
-use Rattle.gelf_view.specs.Records.{string_front}
-use Rattle.bytes_at_hand.specs.Strings.{AreEnded, IsLastEnd}
-
--- ---- The last NUL, as a search for it answers
-
-pub found_last : (bytes : List ℕ) (last : ℕ) → IsLastByte (is_byte 0) bytes (Some last)
-    → IsLastEnd bytes (last + 1)
-found_last bytes last found = record {
-  within = omega (arith, found.0.high);
-  nul = λ some.
-      let same : last + 1 - 1 ≡ last = omega arith in
-      ap (λ (k : ℕ). slice_index bytes k) same ∙ eqb-true (get_or bytes last 0) 0 found.1;
-  free = λ k from below is.
-      found.0.after k (omega (arith, from)) below (eq-eqb (get_or bytes k 0) 0 is);
-}
-
-pub found_none : (bytes : List ℕ) → IsLastByte (is_byte 0) bytes None → IsLastEnd bytes 0
-found_none bytes nowhere = record {
-  within = omega arith;
-  nul = λ some. absurd (omega (arith, some));
-  free = λ k from below is. nowhere k (omega arith) below (eq-eqb (get_or bytes k 0) 0 is);
-}
+use Rattle.section_data.specs.Nuls.{IsLastEnd, IsEndedFront}
+use Rattle.gelf_view.specs.Records.{string_front, AreEnded}
 
 -- ---- The string at the front
 
@@ -157,3 +136,11 @@ module _ (bytes : List ℕ) (n : ℕ) (is : IsLastEnd bytes n) where
       by_place (inr from) =
           ap (λ (r : Option (List ℕ)). is_some r) (none_left at from)
           ∙ sym (le-ltb at (length cut) (omega (arith, cut_len, from)))
+
+-- the same strings begin in bytes and in those up to their last NUL
+pub front_strings : (bytes front : List ℕ) → IsEndedFront bytes front → (at : ℕ)
+    → string_front (drop at front) ≡ string_front (drop at bytes)
+front_strings bytes front (inl whole) at = ap (λ (l : List ℕ). string_front (drop at l)) whole
+front_strings bytes front (inr ended) at =
+    ap (λ (l : List ℕ). string_front (drop at l)) ended.is
+    ∙ same_strings bytes ended.count ended.last at
