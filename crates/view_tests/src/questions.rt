@@ -1,12 +1,12 @@
-//! Questions on the object with two symbols, put to descriptors over sources that tell their bytes
-//! or do not.
+//! Questions on an image, mostly the object with two symbols, put to descriptors over sources that
+//! tell their bytes or do not.
 
 use elf_descriptor::Elf;
 use elf_outside::Source;
 use elf_types::{DataId, ElfError, Octets, ScnId};
 use elf_xlate::Items;
 use std::alloc::Global;
-use test_images::{Form, WIDE, symbol_object};
+use test_images::{NARROW, OBJECT, Recipe, image_of};
 use test_sources::{Sparse, source};
 
 /// The first piece of section 1, the strings.
@@ -53,33 +53,44 @@ fn is_answered_untold<Q: Question>(alloc: Global, q: &Q, bytes: Octets) -> bool 
     is_answered_over(alloc, q, Sparse::new(bytes, len))
 }
 
-/// The bytes of the object in a form.
-fn bytes_in(alloc: Global, form: Form) -> Result<Octets, ElfError> {
-    match symbol_object(alloc, form.0, form.1) {
+/// The object of class 64, the least byte first.
+static WIDE_OBJECT: Recipe = OBJECT;
+
+/// The object of class 32, the greatest byte first.
+pub static NARROW_OBJECT: Recipe = Recipe {
+    form: NARROW,
+    ..OBJECT
+};
+
+/// The bytes of an image.
+fn bytes_of(alloc: Global, recipe: &Recipe) -> Result<Octets, ElfError> {
+    match image_of(alloc, recipe) {
         Ok(image) => Ok(image.bytes),
         Err(e) => Err(e),
     }
 }
 
-/// Whether it is over the first source, of the object in a form.
-fn is_answered_told_in<Q: Question>(alloc: Global, q: &Q, form: Form) -> bool {
-    match bytes_in(alloc, form) {
+/// Whether it is over the first source, of an image.
+fn is_answered_told_of<Q: Question>(alloc: Global, q: &Q, recipe: &Recipe) -> bool {
+    match bytes_of(alloc, recipe) {
         Ok(bytes) => is_answered_told(alloc, q, bytes),
         Err(_) => false,
     }
 }
 
-/// Whether it is over either.
-pub fn is_answered_in<Q: Question>(alloc: Global, q: &Q, form: Form) -> bool {
-    match bytes_in(alloc, form) {
-        Ok(bytes) => { is_answered_untold(alloc, q, bytes) && is_answered_told_in(alloc, q, form) }
+/// Whether it is over either, of an image.
+pub fn is_answered_of<Q: Question>(alloc: Global, q: &Q, recipe: &Recipe) -> bool {
+    match bytes_of(alloc, recipe) {
+        Ok(bytes) => {
+            is_answered_untold(alloc, q, bytes) && is_answered_told_of(alloc, q, recipe)
+        }
         Err(_) => false,
     }
 }
 
-/// The same of class 64, the least byte first.
+/// The same of the object of class 64, the least byte first.
 pub fn is_answered<Q: Question>(alloc: Global, q: &Q) -> bool {
-    is_answered_in(alloc, q, WIDE)
+    is_answered_of(alloc, q, &WIDE_OBJECT)
 }
 
 /// Adds a piece to section 1, at a multiple of 8.

@@ -1,11 +1,12 @@
 //! Strings in bytes, and in the pieces of a section.
 
-use crate::questions::{Question, STRINGS, add_bytes, is_answered, set};
+use crate::questions::{Question, STRINGS, add_bytes, is_answered, is_answered_of, set};
 use elf_descriptor::Elf;
 use elf_outside::Source;
 use elf_types::{DataId, ElfError, Octets, ScnId};
 use elf_xlate::Items;
-use gelf_view::{bytes, string_in, strptr};
+use gelf_view::{bytes, string_from, string_in, strptr};
+use test_images::{Content, OBJECT, Put, Recipe};
 
 /// Bytes, and the string that they begin with, if they end it.
 static CASES: [(&[u8], Option<&[u8]>); 4] = [
@@ -17,7 +18,7 @@ static CASES: [(&[u8], Option<&[u8]>); 4] = [
 
 /// Whether they begin with it.
 fn begin_with(bytes: &[u8], string: Option<&[u8]>) -> bool {
-    string_in(bytes) == string
+    string_in(bytes) == string && string_from(bytes, 0) == string
 }
 
 /// Whether each do.
@@ -171,4 +172,48 @@ impl Question for ManyPieces {
 #[test]
 fn strings_stand_in_many_pieces_as_they_are_by_now(rt: HostRuntime) {
     assert!(rt; is_answered(rt.alloc(), &ManyPieces));
+}
+
+/// The object whose strings end with two bytes behind their last NUL.
+static OPEN_END: Recipe = Recipe {
+    puts: &[Put::Home(1, Content::Bytes(b"\0a\0bc"))],
+    ..OBJECT
+};
+
+/// The section of strings of that object, which is then given other bytes, of which the last NUL
+/// stands elsewhere.
+struct OpenEnd;
+
+/// Offsets in what the image holds, and the strings there.
+static IN_HOME: [(u32, u64, Result<&[u8], ElfError>); 6] = [
+    (1, 1, Ok(b"a")),
+    (1, 3, Err(ElfError::Unended { offset: 3 })),
+    (1, 4, Err(ElfError::Unended { offset: 4 })),
+    (1, 5, Err(ElfError::NoString { offset: 5, size: 5 })),
+    (1, 2, Ok(b"")),
+    (1, 0, Ok(b"")),
+];
+
+/// Offsets in the bytes that it is given, and the strings there.
+static IN_OWN: [(u32, u64, Result<&[u8], ElfError>); 3] = [
+    (1, 3, Ok(b"yz")),
+    (1, 1, Ok(b"xxyz")),
+    (1, 6, Err(ElfError::Unended { offset: 6 })),
+];
+
+/// Gives the first piece other bytes.
+fn replace_strings<S: Source>(elf: &mut Elf<S>) -> Result<(), ElfError> {
+    let octets = Octets::from_slice(elf.alloc(), b"\0xxyz\0w")?;
+    set(elf, STRINGS, Items::Bytes(octets))
+}
+
+impl Question for OpenEnd {
+    fn is_answered<S: Source>(&self, elf: &mut Elf<S>) -> bool {
+        are_strings(elf, &IN_HOME) && replace_strings(elf).is_ok() && are_strings(elf, &IN_OWN)
+    }
+}
+
+#[test]
+fn strings_behind_the_last_nul_are_unended(rt: HostRuntime) {
+    assert!(rt; is_answered_of(rt.alloc(), &OpenEnd, &OPEN_END));
 }

@@ -1,13 +1,14 @@
 //! Symbols: their sections, and how they are stored and counted.
 
-use crate::questions::{Question, STRINGS, SYMBOLS, is_answered, is_answered_in, set};
+use crate::questions::{
+    NARROW_OBJECT, Question, STRINGS, SYMBOLS, is_answered, is_answered_of, set,
+};
 use elf_descriptor::Elf;
 use elf_outside::Source;
 use elf_types::constants::{SHN_XINDEX, SHT_SYMTAB_SHNDX};
 use elf_types::{DataId, ElfError, Kind, Part, ScnId, Shdr, Sym, Syms, Words};
 use elf_xlate::Items;
 use gelf_view::{SymPlace, item_count, sym, symshndx, update_sym};
-use test_images::NARROW;
 
 /// A symbol.
 fn symbol<S: Source>(elf: &mut Elf<S>, i: u64) -> Result<Sym, ElfError> {
@@ -122,5 +123,5 @@ impl Question for Stored {
 
 #[test]
 fn a_symbol_is_stored(rt: HostRuntime) {
-    assert!(rt; is_answered_in(rt.alloc(), &Stored, NARROW));
+    assert!(rt; is_answered_of(rt.alloc(), &Stored, &NARROW_OBJECT));
 }
