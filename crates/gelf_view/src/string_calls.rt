@@ -1,6 +1,6 @@
 //! The string at an offset of a section.
 
-ghost use Rattle.std.specs.Prelude.{◌≡◌, ◌<◌, ◌≤◌, ◌||◌, IsTrue, IfErr, IfOk, OnOk, [], None, is_some, length, drop};
+ghost use Rattle.std.specs.Prelude.{◌≡◌, ◌<◌, ◌≤◌, ◌||◌, IsTrue, IfErr, IfOk, OnOk, [], None, true, is_some, length, drop};
 ghost use Rattle.std.specs.Borrow.{sem};
 ghost use Rattle.std.specs.List.{list_all};
 ghost use Rattle.elf_types.specs.Answers.{answered, or_refused, IsRefusal};
