@@ -23,17 +23,17 @@ use Rattle.elf_descriptor.proofs.Sizes.{home_length}
 
 -- a section that no refusal misses is there
 pub section_there : (image : Option (List ℕ)) (size : ℕ) (b : Body) (s : ℕ)
-    → no_section (object_of image size b) s ≡ None → s < length b.sections.items
-section_there image size b s known = by_range (nat_lt s (length b.sections.items)) refl
+    → no_section (object_of image size b) s ≡ None → s < length b.sections
+section_there image size b s known = by_range (nat_lt s (length b.sections)) refl
   where
-    by_range : (t : Bool) → nat_lt s (length b.sections.items) ≡ t → s < length b.sections.items
-    by_range true e = ltb-true s (length b.sections.items) e
+    by_range : (t : Bool) → nat_lt s (length b.sections) ≡ t → s < length b.sections
+    by_range true e = ltb-true s (length b.sections) e
     by_range false e =
-        let missing = sym (no_section_is image size b s ∙ scn_missing b s (ltb-false s (length b.sections.items) e)) ∙ known in
+        let missing = sym (no_section_is image size b s ∙ scn_missing b s (ltb-false s (length b.sections) e)) ∙ known in
         cc
 
 module _ (image : Option (List ℕ)) (size : ℕ) (b : Body) (s count end : ℕ) (is : IsElf image size b)
-    (there : s < length b.sections.items) (first : AreFirstIn (scn_at b s).cell count end) where
+    (there : s < length b.sections) (first : AreFirstIn (scn_at b s).cell count end) where
   abbrev form : Piece → ℕ × List ℕ
   form p = (p.align, piece_bytes b.header.class b.header.order (raw_of image (scn_at b s).cell) p)
 

@@ -9,11 +9,11 @@ use crate::body::Body;
 impl Body {
     /// Notes where the pieces of a section that is there end.
     fn note_there(&mut self, s: u32)
-        requires { s < length self.old.sections.items }
+        requires { s < length self.old.sections }
         ensures { HoldsSo self.old self.new s (scn_at self.old s).cell }
     {
-        let scn = &mut self.sections[s as usize];
-        scn.cell.note_pieces();
+        let cell = self.sections.cell_mut(s);
+        cell.note_pieces();
     }
 
     /// Notes where the pieces of a section end, where there is such a section.
@@ -29,11 +29,11 @@ impl Body {
 
     /// Looks for the last NUL of what is held of a section that is there.
     fn note_end_there(&mut self, s: u32)
-        requires { s < length self.old.sections.items }
+        requires { s < length self.old.sections }
         ensures { HoldsSo self.old self.new s (scn_at self.old s).cell }
     {
-        let scn = &mut self.sections[s as usize];
-        scn.cell.note_end();
+        let cell = self.sections.cell_mut(s);
+        cell.note_end();
     }
 
     /// Looks for the last NUL of what is held of a section, where there is such a section.

@@ -31,7 +31,8 @@ impl<S: Source> Elf<S> {
         ensures first { AreFirst self.now.o s.0 result.count result.end }
         ensures within { result.end ≤ limit }
     {
-        self.body.scn(s.0).cell.first_pieces(limit)
+        let at = self.body.cell_at(s.0);
+        at.cell().first_pieces(limit)
     }
 
     /// Looks for the last NUL of a home that is loaded, where that was not done yet, so that
@@ -51,6 +52,6 @@ impl<S: Source> Elf<S> {
         requires { IsTrue (is_loaded self.now.loaded s.0) }
         ensures { IsTrue self.now.told → IsEndedFront (section_at self.now.o s.0).raw result.now }
     {
-        self.body.scn(s.0).cell.ended_bytes()
+        self.body.held_cell(s.0).ended_bytes()
     }
 }

@@ -1,14 +1,14 @@
-use Rattle.std.proofs.Common.{◌≡◌, None, sym, subst}
+use Rattle.std.proofs.Common.{◌≡◌, ◌∙◌, None, sym, subst}
 use Rattle.elf_object.specs.Answers.{no_section}
+use Rattle.section_data.specs.Views.{CellView}
 use Rattle.section_data.specs.Spans.{AreFirstIn}
-use Rattle.elf_descriptor.specs.declared.scn.Scn.{Scn}
 use Rattle.elf_descriptor.specs.State.{State}
 use Rattle.elf_descriptor.specs.FirstPieces.{AreFirst}
 use Rattle.elf_descriptor.proofs.FirstPieces.{section_there, first_is}
 use Rattle.elf_descriptor.proofs.descriptor.Elf.first_pieces.Goals as goal
 
-pub scn-requires : goal.scn-requires
-scn-requires g c =
+pub cell_at-at-requires : goal.cell_at-at-requires
+cell_at-at-requires g c =
     section_there (g.S.Source.holds c.self.inside.src) (g.S.Source.size c.self.inside.src) c.self.inside.body c.args.s.0
     (subst (λ (st : State g.row.S.Denot). no_section st.o c.args.s.0 ≡ None) (sym c.self.view_is) c.requires)
 
@@ -20,4 +20,4 @@ returns-clause-first g c =
     subst (λ (st : State g.row.S.Denot). AreFirst st.o c.args.s.0 c.first_pieces.result.count c.first_pieces.result.end) c.self.view_is
     (first_is (g.S.Source.holds c.self.inside.src) (g.S.Source.size c.self.inside.src) c.self.inside.body c.args.s.0
     c.first_pieces.result.count c.first_pieces.result.end c.self.invariant there
-    (subst (λ (x : Scn). AreFirstIn x.cell c.first_pieces.result.count c.first_pieces.result.end) c.scn.ensures c.first_pieces.ensures.first))
+    (subst (λ (x : CellView). AreFirstIn x c.first_pieces.result.count c.first_pieces.result.end) (c.cell.ensures ∙ c.cell_at-at.ensures) c.first_pieces.ensures.first))
