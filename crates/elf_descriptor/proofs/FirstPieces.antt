@@ -1,16 +1,16 @@
 -- The first pieces of a section, as the plain object says them.
-use Rattle.std.proofs.Common.{◌≡◌, ◌∙◌, ℕ, ◌<◌, ◌≤◌, Bool, true, false, List, length, take, map, Option, None, refl, sym, ap, subst}
+use Rattle.std.proofs.Common.{◌≡◌, ◌∙◌, ℕ, ◌<◌, ◌≤◌, Bool, true, false, List, length, take, Option, None, refl, sym, ap, subst}
 use Rattle.std.specs.Prelude.{nat_lt}
 use Rattle.std.specs.List.{list_all}
 use Rattle.std.proofs.lemmas.Bool.{ltb-true, ltb-false}
 use Rattle.std.proofs.lemmas.List.{take-map}
 use Rattle.elf_types.specs.declared.records.Kind.TheVariants as kinds
 use Rattle.elf_object.specs.Blocks.{stacked, last_end}
-use Rattle.elf_object.specs.Object.{Section, Piece, section_at}
+use Rattle.elf_object.specs.Object.{Section, Piece}
 use Rattle.elf_object.specs.Answers.{no_section, piece_count, same_kind}
 use Rattle.elf_object.specs.Joined.{piece_bytes, aligned_pieces}
 use Rattle.elf_object.specs.Strings.{kind_of_piece}
-use Rattle.section_data.specs.Sizes.{stacked_end, home_size}
+use Rattle.section_data.specs.Sizes.{stacked_end}
 use Rattle.section_data.specs.Spans.{AreFirstIn}
 use Rattle.section_data.proofs.Sizes.{end_is}
 use Rattle.elf_descriptor.specs.declared.body.Body.{Body}

@@ -8,7 +8,6 @@ use Rattle.elf_types.specs.declared.records.Ehdr.{Ehdr}
 use Rattle.elf_types.specs.declared.records.Phdr.{Phdr}
 use Rattle.elf_types.specs.declared.records.Shdr.{Shdr}
 use Rattle.elf_xlate.specs.Headers.{IsPhdr, IsShdr, phdr_fits, shdr_fits}
-use Rattle.elf_layout.specs.declared.parts.Places.{Places}
 use Rattle.elf_outside.specs.declared.sources.Source.{Ghosts}
 use Rattle.elf_object.specs.Object.{Object, section_at, is_dirty}
 use Rattle.elf_object.specs.Open.{home_of, home_bytes}
@@ -20,13 +19,13 @@ use Rattle.elf_object.specs.Refusal.{refusal}
 use Rattle.elf_object.specs.Settled.{settled_over, settled}
 use Rattle.elf_object.specs.Valid.{IsObject, IsTied}
 use Rattle.elf_object.proofs.SettledSections.{settled-told}
-use Rattle.object_laws.specs.Laws.{EveryStepKeeps, EveryStepKeepsTied, SizesAreLengths, UpdatesKeep, UpdatesTie}
+use Rattle.object_laws.specs.Laws.{UpdatesKeep, UpdatesTie}
 use Rattle.object_laws.proofs.ImageLaws.{placed-dirty}
 use Rattle.object_laws.proofs.StandLaws.{section_count-placed}
 use Rattle.object_laws.proofs.CountLaws.{headers_of}
 use Rattle.object_laws.proofs.FrontLaws.{ArePhdrs, AreShdrs, IsReadable}
 use Rattle.object_laws.proofs.SettledLaws.{placed_readable, section_raw, settle-dirty}
-use Rattle.writing_laws.specs.Based.{EveryStepKeepsBased, IsBased, UpdatesKeepBased}
+use Rattle.writing_laws.specs.Based.{IsBased, UpdatesKeepBased}
 use Rattle.section_data.proofs.Loading.{opened_lies}
 use Rattle.section_data.specs.Held.{cell_is_loaded}
 use Rattle.section_table.specs.Sections.{SectionView as Scn, absent_scn, reopened_scn}
@@ -35,13 +34,11 @@ use Rattle.elf_descriptor.specs.declared.body.Base.{Base}
 use Rattle.elf_descriptor.specs.declared.body.Base.TheVariants as bases
 use Rattle.elf_descriptor.specs.declared.body.Body.{Body}
 use Rattle.elf_descriptor.specs.State.{State}
-use Rattle.elf_descriptor.specs.Views.{object_of, scn_at, loaded_of, held_of, room_of, ready_of, state_of, HasCounts}
+use Rattle.elf_descriptor.specs.Views.{object_of, scn_at, loaded_of, held_of, room_of, ready_of, state_of}
 use Rattle.elf_descriptor.specs.Sound.{IsElf, IsSound, IsStanding, CellIn, source_part}
-use Rattle.elf_descriptor.specs.Places.{StoresPlaces}
 use Rattle.elf_descriptor.specs.Settling.{SettlesBody, SettlingIsSound, front_as_written, cleared, settled_state}
 use Rattle.elf_descriptor.proofs.Warming.{cell_at}
 use Rattle.elf_descriptor.proofs.EditLaws.{has_counts}
-use Rattle.elf_descriptor.proofs.Placing.{count_same, limited, placed_object, placed_elf, placed_state}
 use Rattle.elf_descriptor.proofs.ReopenedObjects.{headers_same, left_object, reopened_object}
 
 -- ---- What is true of each descriptor

@@ -1,6 +1,6 @@
 -- The spare front.
 use Rattle.std.proofs.Common.{◌≡◌, ◌∙◌, ◌+◌, ℕ, Bool, true, false, List, [], ◌∷◌, ◌++◌, length, Option, Some, None, Result, Ok, Err, refl, sym, ap, subst, arith}
-use Rattle.std.specs.Prelude.{◌==◌, ◌&&◌, IfSome, is_some, OnOk, OnErr, take}
+use Rattle.std.specs.Prelude.{◌==◌, ◌&&◌, IfSome, OnOk, OnErr, take}
 use Rattle.std.proofs.lemmas.List.{length-append}
 use Rattle.std.proofs.lemmas.Bool.{eqb-false}
 use Rattle.elf_types.specs.declared.errors.ElfError.{ElfError}

@@ -7,7 +7,9 @@ use Rattle.elf_descriptor.proofs.body.Body.note_there.Goals as goal
 
 pub returns : goal.returns
 returns c =
-    let read = lent_read c.args.self.now c.args.s _ c.cell_mut-cell.ensures.value in
-    so_is c.args.self.now _ c.args.s c.note_pieces.new.self (scn_at c.args.self.now c.args.s).cell
+    let old = c.args.self.now in
+    let read = lent_read old c.args.s _ c.cell_mut-cell.ensures.value in
+    so_is old _ c.args.s c.note_pieces.new.self (scn_at old c.args.s).cell
     (c.note_pieces.ensures.value ∙ ap (λ (y : Scn). y.cell) read)
-    (so_by c.args.self.now _ c.args.s (lent_scn c.args.self.now c.args.s c.cell_mut-cell.result.now) c.note_pieces.new.self read refl refl)
+    (so_by old _ c.args.s (lent_scn old c.args.s c.cell_mut-cell.result.now)
+    c.note_pieces.new.self read refl refl)

@@ -7,12 +7,16 @@ use Rattle.elf_descriptor.proofs.descriptor.Elf.note_pieces.Goals as goal
 
 pub invariant_of-self : goal.invariant_of-self
 invariant_of-self g c =
-    same_elf (g.S.Source.holds c.self.inside.src) (g.S.Source.size c.self.inside.src) (ready_of c.self.inside.body)
-    c.self.inside.body c.note_pieces.new.self
-    (same_steps c.self.inside.body c.note_pieces.new.self c.args.s.0 c.note_pieces.ensures) c.self.invariant
+    let old = c.self.inside.body in
+    let new = c.note_pieces.new.self in
+    same_elf (g.S.Source.holds c.self.inside.src) (g.S.Source.size c.self.inside.src)
+    (ready_of old) old new (same_steps old new c.args.s.0 c.note_pieces.ensures) c.self.invariant
 
 pub returns : goal.returns
 returns g c =
-    subst (λ (st : State g.row.S.Denot). state_of g.S.Source c.self.inside.src c.note_pieces.new.self ≡ st) c.self.view_is
-    (state_stepped g.S.Source c.self.inside.src (λ o. o) (ready_of c.self.inside.body) c.self.inside.body c.note_pieces.new.self
-    (same_steps c.self.inside.body c.note_pieces.new.self c.args.s.0 c.note_pieces.ensures))
+    let old = c.self.inside.body in
+    let new = c.note_pieces.new.self in
+    subst (λ (st : State g.row.S.Denot). state_of g.S.Source c.self.inside.src new ≡ st)
+    c.self.view_is
+    (state_stepped g.S.Source c.self.inside.src (λ o. o) (ready_of old) old new
+    (same_steps old new c.args.s.0 c.note_pieces.ensures))
