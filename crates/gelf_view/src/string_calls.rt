@@ -41,6 +41,7 @@ fn is_of_bytes<S: Source>(elf: &Elf<S>, d: DataId) -> bool
 }
 
 /// Whether each piece of a section that is there holds bytes.
+#[inline(always)]
 fn are_of_bytes<S: Source>(elf: &Elf<S>, s: ScnId, count: u32) -> bool
     requires section { no_section elf.now.o s.0 ≡ None }
     requires count { count ≡ piece_count elf.now.o s.0 }

@@ -87,6 +87,7 @@ fn data_size<S: Source>(elf: &Elf<S>, s: ScnId) -> u64
 
 /// Where an offset begins in the pieces of a section of bytes, whose home has so many; else
 /// `NoString`. It passes over the first pieces where it is noted where they end.
+#[inline(always)]
 pub fn find_start<S: Source>(
     elf: &Elf<S>,
     s: ScnId,

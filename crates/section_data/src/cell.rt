@@ -81,6 +81,7 @@ impl Cell {
     ///
     /// Source: gABI chapter 4, "Section Header".
     #[tactic(auto, using(crate::proofs::Loading::opened_lies))]
+    #[inline(always)]
     pub fn unread(alloc: Global, section: u32, class: Class, header: &Shdr, size: u64) -> Cell
         ensures value { result ≡ opened_cell section (home_of size header.now) }
         ensures lies { LiesIn result size }

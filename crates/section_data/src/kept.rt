@@ -137,6 +137,7 @@ impl Kept {
     }
 
     /// Looks for the last NUL of the home's bytes, where they are held and that was not done yet.
+    #[inline(always)]
     pub(crate) fn note_end(&mut self)
         ensures { self.new ≡ self.old }
     {
@@ -256,6 +257,7 @@ impl Kept {
     }
 
     /// Where the first piece ends, where it is there and holds bytes.
+    #[inline(always)]
     fn first_end(&self) -> Option<u64>
         ensures { IfSome result (λ end. AreFirstIn self.now 1 end) }
     {
@@ -292,6 +294,7 @@ impl Kept {
 
     /// The first pieces, each of which holds bytes, as far as it is noted where they end and the
     /// last of them ends at a limit at the latest.
+    #[inline(always)]
     pub(crate) fn first_pieces(&self, limit: u64) -> FirstPieces
         ensures first { AreFirstIn self.now result.count result.end }
         ensures within { result.end ≤ limit }
@@ -306,6 +309,7 @@ impl Kept {
     }
 
     /// Notes where the pieces that hold bytes end, as far as there is memory for it.
+    #[inline(always)]
     pub(crate) fn note_pieces(&mut self)
         ensures { self.new ≡ self.old }
     {

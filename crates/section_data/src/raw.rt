@@ -80,6 +80,7 @@ impl RawBytes {
     }
 
     /// Looks for the last NUL, where that was not done yet.
+    #[inline(always)]
     pub(crate) fn note_end(&mut self)
         ensures { self.new ≡ self.old }
     {

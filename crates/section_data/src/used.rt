@@ -172,6 +172,7 @@ impl Used {
     }
 
     /// Notes where the pieces after the first end.
+    #[inline(always)]
     pub(crate) fn note_pieces(&mut self)
         ensures { self.new ≡ self.old }
     {
@@ -193,6 +194,7 @@ impl Used {
     }
 
     /// Looks for the last NUL of the raw bytes, where that was not done yet.
+    #[inline(always)]
     pub(crate) fn note_end(&mut self)
         ensures { self.new ≡ self.old }
     {

@@ -17,6 +17,7 @@ pub enum CellAt<'a> {
 
 impl CellAt<'_> {
     /// The cell. It takes no memory.
+    #[inline(always)]
     pub fn cell(&self) -> &Cell
         ensures { result.now ≡ cell_of self.now }
     {

@@ -112,6 +112,7 @@ impl Sections {
 
     /// The cell of a section that is there, where it was made; else nothing of it is held, and it
     /// has the clean home piece alone. It takes no memory.
+    #[inline(always)]
     pub fn made(&self, s: u32) -> Option<&Cell>
         requires { s < length self.now }
         ensures some { IfSome result (λ cell. cell.now ≡ (section_in self.now s).cell) }
@@ -125,6 +126,7 @@ impl Sections {
     }
 
     /// The cell of a section that is there, to be looked at. It takes no memory.
+    #[inline(always)]
     pub fn at(&self, s: u32) -> CellAt<'_>
         requires { s < length self.now }
         ensures { cell_of result ≡ (section_in self.now s).cell }

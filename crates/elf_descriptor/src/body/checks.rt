@@ -43,6 +43,7 @@ impl Body {
 
     /// The cell of the section with that number, to be looked at.
     #[tactic(auto, unfolding(crate::specs::Views::scn_at))]
+    #[inline(always)]
     pub fn cell_at(&self, s: u32) -> CellAt<'_>
         requires { s < length self.now.sections }
         ensures { cell_of result ≡ (scn_at self.now s).cell }
@@ -52,6 +53,7 @@ impl Body {
 
     /// The cell of the section with that number, where it was made.
     #[tactic(auto, unfolding(crate::specs::Views::scn_at))]
+    #[inline(always)]
     pub fn made_at(&self, s: u32) -> Option<&Cell>
         requires { s < length self.now.sections }
         ensures some { IfSome result (λ cell. cell.now ≡ (scn_at self.now s).cell) }
@@ -97,6 +99,7 @@ impl Body {
 
     /// Whether there is such a piece; else `NoSection`, then `NoData`.
     #[tactic(auto, unfolding(crate::specs::Bodies::no_piece_in))]
+    #[inline(always)]
     pub fn check_piece(&self, d: DataId) -> Result<(), ElfError>
         requires { HasCounts self.now }
         ensures answer { result ≡ answered (no_piece_in self.now d.section d.piece) tt }

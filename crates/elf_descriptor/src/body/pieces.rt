@@ -8,6 +8,7 @@ use crate::body::Body;
 
 impl Body {
     /// Notes where the pieces of a section that is there end.
+    #[inline(always)]
     fn note_there(&mut self, s: u32)
         requires { s < length self.old.sections }
         ensures { HoldsSo self.old self.new s (scn_at self.old s).cell }
@@ -17,6 +18,7 @@ impl Body {
     }
 
     /// Notes where the pieces of a section end, where there is such a section.
+    #[inline(always)]
     pub fn note_pieces(&mut self, s: u32)
         requires { HasCounts self.old }
         ensures { HoldsSo self.old self.new s (scn_at self.old s).cell }
@@ -28,6 +30,7 @@ impl Body {
     }
 
     /// Looks for the last NUL of what is held of a section that is there.
+    #[inline(always)]
     fn note_end_there(&mut self, s: u32)
         requires { s < length self.old.sections }
         ensures { HoldsSo self.old self.new s (scn_at self.old s).cell }
@@ -37,6 +40,7 @@ impl Body {
     }
 
     /// Looks for the last NUL of what is held of a section, where there is such a section.
+    #[inline(always)]
     pub fn note_end(&mut self, s: u32)
         requires { HasCounts self.old }
         ensures { HoldsSo self.old self.new s (scn_at self.old s).cell }

@@ -16,6 +16,7 @@ impl<S: Source> Elf<S> {
     /// Notes where the pieces of a section that hold bytes end, so that `first_pieces` tells of
     /// them. It changes no answer but that one. It refuses nothing: where there is no such section
     /// it notes nothing, and where there is no memory it notes less.
+    #[inline(always)]
     pub fn note_pieces(&mut self, s: ScnId)
         ensures { self.new ≡ self.old }
     {
@@ -26,6 +27,7 @@ impl<S: Source> Elf<S> {
     /// noted where they end and the last of them ends at a limit at the latest. It takes no memory.
     ///
     /// Source: gABI chapter 4, "Sections", and elf_newdata of elf(3E).
+    #[inline(always)]
     pub fn first_pieces(&self, s: ScnId, limit: u64) -> FirstPieces
         requires { no_section self.now.o s.0 ≡ None }
         ensures first { AreFirst self.now.o s.0 result.count result.end }
@@ -38,6 +40,7 @@ impl<S: Source> Elf<S> {
     /// Looks for the last NUL of a home that is loaded, where that was not done yet, so that
     /// `ended_bytes` tells of it. It changes no answer but that one. It refuses nothing, and takes
     /// no memory: where there is no such section, or it is not loaded, nothing is done.
+    #[inline(always)]
     pub fn note_end(&mut self, s: ScnId)
         ensures { self.new ≡ self.old }
     {

@@ -133,6 +133,7 @@ impl Cell {
 
     /// Looks for the last NUL of the home's bytes, where they are held and that was not done yet. It
     /// changes no answer but that of `ended_bytes`, and takes no memory.
+    #[inline(always)]
     pub fn note_end(&mut self)
         ensures value { self.new ≡ self.old }
         ensures cell { IsCell self.new }
@@ -141,6 +142,7 @@ impl Cell {
     }
 
     /// Whether there is a piece with that number; else `NoData`. It takes no memory.
+    #[inline(always)]
     pub fn check_piece(&self, p: u32) -> Result<(), ElfError>
         ensures answer { result ≡ answered (no_piece self.now p) tt }
         ensures there { OnOk result (p < length self.now.pieces) }

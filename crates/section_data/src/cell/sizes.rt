@@ -52,6 +52,7 @@ impl Cell {
 
     /// Notes where the pieces that hold bytes end, so that a place among them is found in few
     /// steps. It changes no answer. It refuses nothing, and where there is no memory it notes less.
+    #[inline(always)]
     pub fn note_pieces(&mut self)
         ensures value { self.new ≡ self.old }
         ensures cell { IsCell self.new }
@@ -63,6 +64,7 @@ impl Cell {
     /// end and the last of them ends at a limit at the latest. It takes no memory.
     ///
     /// Source: gABI chapter 4, "Sections", and elf_newdata of elf(3E).
+    #[inline(always)]
     pub fn first_pieces(&self, limit: u64) -> FirstPieces
         ensures first { AreFirstIn self.now result.count result.end }
         ensures within { result.end ≤ limit }
