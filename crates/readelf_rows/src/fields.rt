@@ -1,5 +1,6 @@
 //! Lines of one field, the columns of rows, and numbers with names. Each call refuses `Memory`
-//! alone; what the page held then still stands, some bytes behind it.
+//! alone; what the page held then still stands, some bytes behind it. What rows are made of is
+//! compiled into each row, where the titles are constants.
 
 ghost use Rattle.std.specs.Prelude.{◌≡◌, ◌++◌, OnOk, IfErr};
 ghost use Rattle.std.specs.Option.{option_copied};
@@ -10,6 +11,7 @@ use elf_types::{ElfError, Octets, put_decimal, put_hex, put_text};
 
 /// Appends a name, or in hexadecimal a number that has none.
 #[tactic(auto, using(elf_types::proofs::Writers::kept), unfolding(crate::specs::Fields::name_or_hex))]
+#[inline(always)]
 pub fn put_name_or_hex(
     page: &mut Octets,
     name: Option<&'static str>,
@@ -91,6 +93,7 @@ pub fn put_name_field(
 
 /// Appends ` NAME 0xN`.
 #[tactic(auto, using(elf_types::proofs::Writers::kept), unfolding(crate::specs::Fields::hex_column))]
+#[inline(always)]
 pub fn put_hex_column(page: &mut Octets, name: &str, n: u64) -> Result<(), ElfError>
     ensures ok { OnOk result (page.new ≡ page.old ++ hex_column name.now n) }
     ensures err { IfErr result (WantsMemory page.old page.new) }
@@ -103,6 +106,7 @@ pub fn put_hex_column(page: &mut Octets, name: &str, n: u64) -> Result<(), ElfEr
 
 /// Appends ` NAME N`.
 #[tactic(auto, using(elf_types::proofs::Writers::kept), unfolding(crate::specs::Fields::decimal_column))]
+#[inline(always)]
 pub fn put_decimal_column(page: &mut Octets, name: &str, n: u64) -> Result<(), ElfError>
     ensures ok { OnOk result (page.new ≡ page.old ++ decimal_column name.now n) }
     ensures err { IfErr result (WantsMemory page.old page.new) }
@@ -115,6 +119,7 @@ pub fn put_decimal_column(page: &mut Octets, name: &str, n: u64) -> Result<(), E
 
 /// Appends ` TITLE NAME`, the name of a number or the number in hexadecimal.
 #[tactic(auto, using(elf_types::proofs::Writers::kept), unfolding(crate::specs::Fields::name_column))]
+#[inline(always)]
 pub fn put_name_column(
     page: &mut Octets,
     title: &str,
@@ -133,6 +138,7 @@ pub fn put_name_column(
 
 /// Appends `  I`, with which a row begins.
 #[tactic(auto, using(elf_types::proofs::Writers::kept), unfolding(crate::specs::Fields::row_start))]
+#[inline(always)]
 pub fn put_row_start(page: &mut Octets, i: u64) -> Result<(), ElfError>
     ensures ok { OnOk result (page.new ≡ page.old ++ row_start i) }
     ensures err { IfErr result (WantsMemory page.old page.new) }
