@@ -1,3 +1,4 @@
 pub mod FindingLemmas
 pub mod HeaderLemmas
 pub mod LentLemmas
+pub mod WholeLemmas

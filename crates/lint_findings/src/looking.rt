@@ -2,11 +2,12 @@
 
 ghost use Rattle.std.specs.Prelude.{◌≡◌, ◌<◌, ◌==◌, ◌&&◌, length};
 ghost use Rattle.elf_types.specs.declared.records.Kind.TheVariants as kinds;
+ghost use Rattle.elf_types.specs.Kinds.{section_kind};
 ghost use Rattle.elf_xlate.specs.Translation.{is_whole as stated_whole};
 ghost use Rattle.elf_object.specs.Object.{section_at};
 ghost use Rattle.elf_object.specs.Open.{home_len as stated_len};
 ghost use Rattle.elf_object.specs.Answers.{same_kind};
-ghost use Rattle.command_objects.specs.Words.{is_allocated, is_of, is_relocations, info_is_section};
+ghost use Rattle.command_objects.specs.Words.{header_at, is_allocated, is_of, is_relocations, info_is_section};
 ghost use Rattle.lint_findings.specs.Looking as looking;
 
 use elf_descriptor::Elf;
@@ -27,12 +28,15 @@ pub fn class<S: Source>(elf: &Elf<S>) -> Class
     elf.ehdr().class
 }
 
-/// Whether so many bytes are whole items of a kind.
+/// Whether so many bytes are whole items of a kind: any number of single bytes is, and no division
+/// tells it.
+#[tactic(auto, using(crate::proofs::WholeLemmas::whole_bytes))]
 fn is_whole(kind: Kind, class: Class, len: u64) -> bool
     ensures { result ≡ stated_whole kind class len }
 {
     match kind {
         Kind::Empty => true,
+        Kind::Bytes => true,
         _ => len % item_size(kind, class) == 0,
     }
 }
@@ -49,28 +53,37 @@ fn home_len(h: &Shdr) -> u64
     }
 }
 
-/// Whether a section that is there is ragged: it is in the file, and its size is no multiple of its
-/// item's.
-///
-/// Source: gABI chapter 4, "Section Header", sh_size.
-#[tactic(auto, unfolding(crate::specs::Looking::is_ragged))]
-pub fn is_ragged<S: Source>(elf: &Elf<S>, s: ScnId) -> bool
+/// Whether the size of a section that is there is a multiple of its item's.
+fn has_whole_items<S: Source>(elf: &Elf<S>, s: ScnId) -> bool
     requires { s.0 < length elf.now.o.sections }
-    ensures { result ≡ looking.is_ragged elf.now.o s.0 }
+    ensures { result ≡ stated_whole (section_kind (header_at elf.now.o s.0)) elf.now.o.header.class
+        (stated_len (header_at elf.now.o s.0)) }
 {
     let h = section_header(elf, s);
     let class = class(elf);
     let kind = kind_of(class, &h);
-    !is_out(elf, s) && !is_whole(kind, class, home_len(&h))
+    is_whole(kind, class, home_len(&h))
+}
+
+/// Whether a section that is there is ragged: it is in the file, and its size is no multiple of its
+/// item's.
+///
+/// Source: gABI chapter 4, "Section Header", sh_size.
+#[tactic(auto, using(crate::proofs::WholeLemmas::ragged_first), unfolding(crate::specs::Looking::is_ragged))]
+pub fn is_ragged<S: Source>(elf: &Elf<S>, s: ScnId) -> bool
+    requires { s.0 < length elf.now.o.sections }
+    ensures { result ≡ looking.is_ragged elf.now.o s.0 }
+{
+    !has_whole_items(elf, s) && !is_out(elf, s)
 }
 
 /// Whether a section that is there is neither out of the file nor ragged.
-#[tactic(auto, unfolding(crate::specs::Looking::is_intact))]
+#[tactic(auto, using(crate::proofs::WholeLemmas::intact_is), unfolding(crate::specs::Looking::is_ragged, crate::specs::Looking::is_intact))]
 pub fn is_intact<S: Source>(elf: &Elf<S>, s: ScnId) -> bool
     requires { s.0 < length elf.now.o.sections }
     ensures { result ≡ looking.is_intact elf.now.o s.0 }
 {
-    !is_out(elf, s) && !is_ragged(elf, s)
+    !is_out(elf, s) && has_whole_items(elf, s)
 }
 
 /// Whether the rules that go by a section's type look at a section that is there.
