@@ -3,9 +3,11 @@
 use crate::growth::{lists, sections};
 use crate::work::{What, Work};
 use elf_descriptor::Elf;
+use elf_outside::reads::read_range;
 use elf_outside::{Files, Source};
 use elf_types::constants::SHT_SYMTAB;
-use elf_types::{DataId, ElfError, ScnId, Sym};
+use elf_types::{Class, DataId, ElfError, Order, ScnId, Sym};
+use elf_xlate::get_shdrs;
 use std::alloc::Global;
 
 /// The sum of the sizes of all sections, modulo 2^64.
@@ -74,6 +76,7 @@ fn round<S: Source>(alloc: Global, src: S, what: What) -> (S, Option<u64>) {
     match Elf::begin(alloc, src) {
         Ok(mut elf) => {
             let sum = match what {
+                What::Open => Some(u64::from(elf.shnum())),
                 What::Headers => headers(&elf),
                 What::Symbols => symbols(&mut elf),
                 What::Once => edited(&mut elf, 1),
@@ -86,7 +89,28 @@ fn round<S: Source>(alloc: Global, src: S, what: What) -> (S, Option<u64>) {
     }
 }
 
-/// The sum of one round over a file, or None where it is not there or was refused.
+/// The number of the section headers of class 64, least byte first, of which a source consists. They
+/// are read and decoded.
+fn decoded<S: Source>(alloc: Global, src: &mut S) -> Option<u64> {
+    let size = src.len();
+    let table = read_range(alloc, src, 0, size).ok()?;
+    let bytes = table.as_slice();
+    if bytes.len() % 64 != 0 {
+        return None;
+    }
+    let headers = get_shdrs(alloc, Class::C64, Order::Least, bytes).ok()?;
+    Some(headers.len())
+}
+
+/// The sum of one round over a file of section headers, or None where it is not there.
+fn table_round<F: Files>(alloc: Global, files: &mut F, work: &Work) -> Option<u64> {
+    let mut file = files.open(alloc, work.name.as_str()).ok()?;
+    let part = decoded(alloc, &mut file);
+    files.close(work.name.as_str(), file);
+    part
+}
+
+/// The sum of one round over an image, or None where it is not there or was refused.
 fn file_round<F: Files>(alloc: Global, files: &mut F, work: &Work) -> Option<u64> {
     let file = files.open(alloc, work.name.as_str()).ok()?;
     let (file, part) = round(alloc, file, work.what);
@@ -99,6 +123,7 @@ fn part<F: Files>(alloc: Global, files: &mut F, work: &Work) -> Option<u64> {
     match work.what {
         What::Sections => sections(alloc, work.count()?),
         What::Lists => lists(alloc, work.count()?),
+        What::Decode => table_round(alloc, files, work),
         _ => file_round(alloc, files, work),
     }
 }

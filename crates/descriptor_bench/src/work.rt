@@ -3,12 +3,16 @@
 use std::env::Args;
 
 /// The words that the program takes.
-pub const USAGE: &str = "usage: descriptor_bench headers|symbols|once|twice ROUNDS FILE
+pub const USAGE: &str = "usage: descriptor_bench open|decode|headers|symbols|once|twice ROUNDS FILE
        descriptor_bench sections|lists ROUNDS COUNT";
 
 /// What a round reads or makes.
 #[derive(Clone, Copy, Debug, PartialEq, Eq)]
 pub enum What {
+    /// Nothing: an image is opened and let go.
+    Open,
+    /// A file of section headers alone, which are decoded.
+    Decode,
     /// Each section header.
     Headers,
     /// Each symbol of the first symbol table.
@@ -57,6 +61,8 @@ pub fn read_work(mut words: Args) -> Option<Work> {
 /// What a word names.
 fn read_what(word: &str) -> Option<What> {
     match word {
+        "open" => Some(What::Open),
+        "decode" => Some(What::Decode),
         "headers" => Some(What::Headers),
         "symbols" => Some(What::Symbols),
         "once" => Some(What::Once),
