@@ -4,7 +4,7 @@ use Rattle.elf_types.specs.declared.errors.ElfError.{ElfError}
 use Rattle.elf_types.specs.declared.errors.ElfError.TheVariants.{Memory}
 use Rattle.elf_object.specs.Object.{Object}
 use Rattle.lent_bytes.specs.declared.loan.Lent.{Lent}
-use Rattle.object_handle.specs.Objects.{SameObject, IsLentAs}
+use Rattle.object_handle.specs.Objects.{SameObject, IsLentAs, IsBack}
 use Rattle.object_handle.specs.declared.handle.Handle.{Handle}
 use Rattle.gelf_records.specs.Codes.{code}
 
@@ -33,4 +33,4 @@ Begins lent stated number h =
 abbrev pub ComesBack : Lent → ℕ → Lent → Lent → Type 0
 ComesBack lent number old new =
     ((number ≡ 0) × (new ≡ old))
-    ⊎ ((new.lent ≡ true) × (new.at ≡ lent.at) × (new.bytes ≡ lent.bytes))
+    ⊎ IsBack lent new

@@ -1,21 +1,28 @@
--- What a loan of bytes owns. A right can be split: C keeps the right half of the right to the bytes
--- that it lends and gives up the left one, so that both sides may read them, and none may write.
-use Rattle.std.specs.Prelude.{ℕ, Bool, true, false, List, [], ◌∷◌}
+-- What a loan of bytes owns. A right can be split: C gives up a part of the right to the bytes that
+-- it lends and keeps the rest, so that both sides may read them, and none may write. What it keeps
+-- can be split again, so the same bytes can be lent several times at once, each time by a smaller
+-- part.
+use Rattle.std.specs.Prelude.{ℕ, zero, suc, Bool, true, false, List, [], ◌∷◌}
 use base.Fraction.{full_share, left}
-use base.Fml.{Lft, Fml, ftrue}
+use base.Fml.{Share, Lft, Fml, ftrue}
 use denote.Array.{Array}
 use denote.Builtin.{u8}
 use denote.RawPtr.{Ptr, block_ptr, null_ptr, lies_at}
 use denote.Struct.Lending.{lent_at}
 
+-- a part of the right: a half, a quarter, an eighth and so on
+abbrev pub part_of : ℕ → Share
+part_of zero = left full_share
+part_of (suc n) = left (part_of n)
+
 -- so many bytes lie at the place, which is not null
-abbrev pub loan_owns : Ptr → ℕ → List ℕ → Fml
-loan_owns place count bytes = lies_at (Array u8 count) (left full_share) place bytes
+abbrev pub loan_owns : ℕ → Ptr → ℕ → List ℕ → Fml
+loan_owns part place count bytes = lies_at (Array u8 count) (part_of part) place bytes
 
 -- the same where they are lent, and nothing where they are not
-abbrev pub lent_owns : Bool → Ptr → ℕ → List ℕ → Fml
-lent_owns false place count bytes = ftrue
-lent_owns true place count bytes = loan_owns place count bytes
+abbrev pub lent_owns : Bool → ℕ → Ptr → ℕ → List ℕ → Fml
+lent_owns false part place count bytes = ftrue
+lent_owns true part place count bytes = loan_owns part place count bytes
 
 -- what a reference to a loan shows for as long as it lasts
 abbrev pub loan_shares : Ptr → ℕ → List ℕ → Lft → Fml

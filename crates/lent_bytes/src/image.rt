@@ -6,8 +6,8 @@ ghost use Rattle.lent_bytes.specs.Loans.{place_of};
 use crate::loan::Loan;
 use elf_outside::{Failed, Source};
 
-/// Lent bytes, to be read. It tells them, and no read of them fails. What it keeps besides is where
-/// they lie, so that what comes back is what was lent.
+/// Lent bytes, to be read. It tells them, and no read of them fails. What it keeps besides is which
+/// part of the right to them is had and where they lie, so that what comes back is what was lent.
 #[derive(Drop)]
 pub struct Image {
     loan: Loan,
@@ -45,7 +45,7 @@ impl Source for Image {
 
     ghost holds = { λ i. Some i.loan.bytes };
 
-    ghost rest = { λ i. place_of i.loan.at ∷ [] };
+    ghost rest = { λ i. (i.loan.part ∷ place_of i.loan.at) ∷ [] };
 
     ghost faults = { λ _. 0 };
 

@@ -9,9 +9,9 @@ use Rattle.lent_bytes.specs.declared.image.Image.{Image}
 use Rattle.elf_descriptor.specs.State.{State}
 use Rattle.object_handle.specs.declared.opened.OpenObject.{OpenObject}
 
-abbrev no_image : Image
+abbrev pub no_image : Image
 no_image = record {
-  loan = record { at = null_ptr; len = 0; bytes = []; small = (refl, lit< tt) };
+  loan = record { at = null_ptr; len = 0; part = 0; bytes = []; small = (refl, lit< tt) };
   taken = 0;
 }
 

@@ -13,7 +13,7 @@ use Rattle.elf_descriptor.specs.Reads.{Queries}
 use Rattle.lent_bytes.specs.Loans.{place_of}
 use Rattle.lent_bytes.specs.declared.image.Image.{Image}
 use Rattle.lent_bytes.specs.contracts.image.ImageSource.TheImpl.{ghosts}
-use Rattle.object_handle.specs.Objects.{SameObject}
+use Rattle.object_handle.specs.Objects.{SameLoan, SameObject}
 
 -- numbers tell a place
 place_told : (p q : Ptr) → place_of p ≡ place_of q → p ≡ q
@@ -23,22 +23,31 @@ place_told null_ptr null_ptr same = refl
 place_told (block_ptr b o) null_ptr same = cc
 place_told null_ptr (block_ptr c u) same = cc
 
--- a call that leaves an image leaves where it lies, and its bytes
+-- a call that leaves an image leaves which part of the right is had, where it lies, and its bytes
+pub same_part : (old new : Image) → Leaves ghosts old new → new.loan.part ≡ old.loan.part
+same_part old new leaves =
+    let rest : (new.loan.part ∷ place_of new.loan.at) ∷ []
+    ≡ (old.loan.part ∷ place_of old.loan.at) ∷ [] = leaves.same_rest in cc
+
 pub same_place : (old new : Image) → Leaves ghosts old new → new.loan.at ≡ old.loan.at
 same_place old new leaves =
-    let rest : place_of new.loan.at ∷ [] ≡ place_of old.loan.at ∷ [] = leaves.same_rest in
+    let rest : (new.loan.part ∷ place_of new.loan.at) ∷ []
+    ≡ (old.loan.part ∷ place_of old.loan.at) ∷ [] = leaves.same_rest in
     place_told new.loan.at old.loan.at cc
 
 pub same_bytes : (old new : Image) → Leaves ghosts old new → new.loan.bytes ≡ old.loan.bytes
 same_bytes old new leaves =
     let held : Some new.loan.bytes ≡ Some old.loan.bytes = leaves.same_bytes in cc
 
+pub same_loan : (old new : Image) → Leaves ghosts old new → SameLoan old.loan new.loan
+same_loan old new leaves =
+    (same_part old new leaves, same_place old new leaves, same_bytes old new leaves)
+
 pub same_object : {A T : Type 0} (c : Call A) (holding : List ℕ) (r : Result T ElfError)
     (old new : State Image) → Queries ghosts c holding r old new → SameObject old new
 same_object c holding r old new queries = record {
   object = queries.object;
-  place = same_place old.source new.source queries.reads.source.leaves;
-  bytes = same_bytes old.source new.source queries.reads.source.leaves;
+  loan = same_loan old.source new.source queries.reads.source.leaves;
 }
 
 -- a descriptor over an image tells its bytes
@@ -46,13 +55,14 @@ pub begun_told : (source : Image) (e : State Image) → IsBegun ghosts source e 
 unfolding begun_state
 begun_told source e begun = ap (λ (s : State Image). s.told) begun.state
 
-never_rose : Rose 0 0 → ⊥
+-- a count that stays 0 has not risen
+pub never_rose : Rose 0 0 → ⊥
 never_rose rose = omega (arith, rose)
 
 -- a refusal of what begins over an image is the stated one, or want of memory
-pub begun_refused : {A : Type 0} (stated : Result A ElfError) (e : ElfError)
-    → ReadRose {T = A} (Err e) 0 0 → IfSome (stated_refusal e) (λ d. stated ≡ Err d)
+pub begun_refused : {A : Type 0} (T : Type 0) (stated : Result A ElfError) (e : ElfError)
+    → ReadRose {T = T} (Err e) 0 0 → IfSome (stated_refusal e) (λ d. stated ≡ Err d)
     → (e ≡ Memory) ⊎ (stated ≡ Err e)
-begun_refused stated Memory rose follows = inl refl
-begun_refused stated Read rose follows = absurd (never_rose rose)
-begun_refused stated e rose follows = inr follows
+begun_refused T stated Memory rose follows = inl refl
+begun_refused T stated Read rose follows = absurd (never_rose rose)
+begun_refused T stated e rose follows = inr follows

@@ -1,5 +1,5 @@
 -- What becomes of an object that has begun and is put into a box.
-use Rattle.std.proofs.Common.{◌≡◌, ◌⊎◌, inl, true, List, ℕ, Box, Result, Ok, Err, IfOk, IfErr, IfSome, sym, ap, ◌∙◌, subst}
+use Rattle.std.proofs.Common.{◌≡◌, ◌⊎◌, inl, List, ℕ, Box, Result, Ok, Err, IfOk, IfErr, IfSome, sym, ap, ◌∙◌, subst}
 use Rattle.elf_types.specs.declared.errors.ElfError.{ElfError}
 use Rattle.elf_types.specs.declared.errors.ElfError.TheVariants.{Memory}
 use Rattle.elf_types.specs.Answers.{stated_refusal}
@@ -12,22 +12,22 @@ use Rattle.lent_bytes.specs.declared.loan.Loan.{Loan}
 use Rattle.lent_bytes.specs.declared.image.Image.{Image}
 use Rattle.lent_bytes.specs.contracts.image.ImageSource.TheImpl.{ghosts}
 use Rattle.object_handle.specs.declared.opened.OpenObject.{OpenObject}
-use Rattle.object_handle.specs.Objects.{Opens, IsLoanOf, IsLentAs}
-use Rattle.object_handle.proofs.ImageLaws.{same_place, same_bytes, begun_refused}
+use Rattle.object_handle.specs.Objects.{Opens, IsLoanOf, IsLentAs, IsBack}
+use Rattle.object_handle.proofs.ImageLaws.{same_part, same_place, same_bytes, begun_refused}
 
 -- the loan of an image that a call left is the one that it had
-pub still_lent : (lent : Lent) (loan : Loan) (old new : Image) → loan.at ≡ lent.at
-    → loan.bytes ≡ lent.bytes → old.loan ≡ loan → Leaves ghosts old new → IsLentAs lent new.loan
-still_lent lent loan old new place bytes is leaves = (
-  same_place old new leaves ∙ ap (λ (l : Loan). l.at) is ∙ place,
-  same_bytes old new leaves ∙ ap (λ (l : Loan). l.bytes) is ∙ bytes,
+pub still_lent : (lent : Lent) (loan : Loan) (old new : Image) → IsLentAs lent loan
+    → old.loan ≡ loan → Leaves ghosts old new → IsLentAs lent new.loan
+still_lent lent loan old new lends is leaves = (
+  same_part old new leaves ∙ ap (λ (l : Loan). l.part) is ∙ lends.0,
+  same_place old new leaves ∙ ap (λ (l : Loan). l.at) is ∙ lends.1,
+  same_bytes old new leaves ∙ ap (λ (l : Loan). l.bytes) is ∙ lends.2,
 )
 
 -- what goes back of a loan is what was lent
 pub comes_back : (lent : Lent) (loan : Loan) (back : Lent) → IsLentAs lent loan
-    → IsLoanOf loan back
-    → (back.lent ≡ true) × (back.at ≡ lent.at) × (back.bytes ≡ lent.bytes)
-comes_back lent loan back is of = (of.0, of.1 ∙ is.0, of.2 ∙ is.1)
+    → IsLoanOf loan back → IsBack lent back
+comes_back lent loan back is of = (of.0, of.1 ∙ is.0, of.2 ∙ is.1, of.3 ∙ is.2)
 
 -- a refusal at the beginning
 pub refused_opens : (bytes : List ℕ) (image : Image) (e : ElfError)
@@ -35,7 +35,7 @@ pub refused_opens : (bytes : List ℕ) (image : Image) (e : ElfError)
     → IfSome (stated_refusal e) (λ d. opened image.loan.bytes ≡ Err d)
     → (e ≡ Memory) ⊎ (opened bytes ≡ Err e)
 refused_opens bytes image e same rose follows =
-    begun_refused (opened bytes) e rose
+    begun_refused Object (opened bytes) e rose
     (subst (λ (x : List ℕ). IfSome (stated_refusal e) (λ d. opened x ≡ Err d)) same follows)
 
 module _ {A : Type 0} (elf : State Image) where
@@ -58,7 +58,6 @@ module _ {A : Type 0} (elf : State Image) where
   pub boxed_back : (r : Result (Box OpenObject A) (Lent × ElfError)) (lent : Lent)
       → IsLentAs lent elf.source.loan
       → IfErr r (λ back. IsLoanOf elf.source.loan back.0 × (back.1 ≡ Memory))
-      → IfErr r (λ back. (back.0.lent ≡ true) × (back.0.at ≡ lent.at)
-      × (back.0.bytes ≡ lent.bytes))
+      → IfErr r (λ back. IsBack lent back.0)
   boxed_back (Ok object) lent is back = tt
   boxed_back (Err refused) lent is back = comes_back lent elf.source.loan refused.0 is back.0

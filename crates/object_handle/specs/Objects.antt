@@ -9,13 +9,26 @@ use Rattle.lent_bytes.specs.declared.loan.Loan.{Loan}
 use Rattle.lent_bytes.specs.declared.image.Image.{Image}
 use Rattle.object_handle.specs.declared.opened.OpenObject.{OpenObject}
 
--- the same bytes at the same place, which are lent: what goes back of a loan
+-- the same part of the right to the same bytes at the same place, which are lent: what goes back of
+-- a loan
 abbrev pub IsLoanOf : Loan → Lent → Type 0
-IsLoanOf loan lent = (lent.lent ≡ true) × (lent.at ≡ loan.at) × (lent.bytes ≡ loan.bytes)
+IsLoanOf loan lent =
+    (lent.lent ≡ true) × (lent.part ≡ loan.part) × (lent.at ≡ loan.at) × (lent.bytes ≡ loan.bytes)
 
 -- what came of bytes that were lent
 abbrev pub IsLentAs : Lent → Loan → Type 0
-IsLentAs lent loan = (loan.at ≡ lent.at) × (loan.bytes ≡ lent.bytes)
+IsLentAs lent loan =
+    (loan.part ≡ lent.part) × (loan.at ≡ lent.at) × (loan.bytes ≡ lent.bytes)
+
+-- what was lent, as it comes back
+abbrev pub IsBack : Lent → Lent → Type 0
+IsBack lent back =
+    (back.lent ≡ true) × (back.part ≡ lent.part) × (back.at ≡ lent.at) × (back.bytes ≡ lent.bytes)
+
+-- a loan as it was
+abbrev pub SameLoan : Loan → Loan → Type 0
+SameLoan old new =
+    (new.part ≡ old.part) × (new.at ≡ old.at) × (new.bytes ≡ old.bytes)
 
 -- the object is the stated one, and a refusal too, but for want of memory
 abbrev pub Opens : {A B : Type 0} → Result Object ElfError
@@ -23,8 +36,7 @@ abbrev pub Opens : {A B : Type 0} → Result Object ElfError
 Opens stated (Ok object) = stated ≡ Ok object.value.elf.o
 Opens stated (Err back) = (back.1 ≡ Memory) ⊎ (stated ≡ Err back.1)
 
--- the object and the bytes that it is over stay, and where they lie
+-- the object stays, and the loan that it is over
 pub record SameObject (old new : State Image) : Type 0 where
   pub object : new.o ≡ old.o
-  pub place : new.source.loan.at ≡ old.source.loan.at
-  pub bytes : new.source.loan.bytes ≡ old.source.loan.bytes
+  pub loan : SameLoan old.source.loan new.source.loan

@@ -8,5 +8,6 @@ mod opened;
 mod opening;
 
 pub use handle::Handle;
+pub use loose::Loose;
 pub use opened::OpenObject;
 pub use opening::{close_object, open_object};

@@ -3,7 +3,7 @@
 ghost use Rattle.std.specs.Prelude.{◌≡◌, true, IfOk, IfErr};
 ghost use Rattle.elf_types.specs.declared.errors.ElfError.TheVariants.{Memory};
 ghost use Rattle.elf_object.specs.Open.{opened};
-ghost use Rattle.object_handle.specs.Objects.{Opens, IsLoanOf, IsLentAs};
+ghost use Rattle.object_handle.specs.Objects.{Opens, IsLoanOf, IsLentAs, IsBack};
 
 use crate::opened::OpenObject;
 use elf_descriptor::Elf;
@@ -35,8 +35,7 @@ pub fn open_object(alloc: Global, image: Lent) -> Result<Box<OpenObject>, (Lent,
     requires { image.lent ≡ true }
     ensures opens { Opens (opened image.bytes) result }
     ensures lent { IfOk result (λ object. IsLentAs image object.value.elf.source.loan) }
-    ensures back { IfErr result (λ back. (back.0.lent ≡ true) × (back.0.at ≡ image.at)
-        × (back.0.bytes ≡ image.bytes)) }
+    ensures back { IfErr result (λ back. IsBack image back.0) }
 {
     match Elf::begin(alloc, Image::new(Loan::of(image))) {
         Ok(elf) => box_object(alloc, elf),

@@ -1,12 +1,12 @@
 -- A reference to a loan is made where one to its bytes is.
-use base.Fraction.{full_share, left}
 use denote.Array.{Array}
 use denote.Builtin.{u8}
 use denote.Param.Shared.{copy_shared}
 use denote.Struct.Field.{RawPtr-field, usize-field}
 use denote.Struct.Laws.{RawPtr-copy, usize-copy}
 use denote.Struct.Lending.{lent_at_shr_laws, of_Lends}
-use Rattle.lent_bytes.proofs.Lending.{bytes_laws, bytes_copied, lends_half}
+use Rattle.lent_bytes.proofs.Lending.{bytes_laws, bytes_copied, lends_part}
+use Rattle.lent_bytes.specs.Loans.{part_of}
 use Rattle.lent_bytes.specs.contracts.loan.Loan as loan
 use Rattle.lent_bytes.proofs.loan.Loan.TheLaw.Statement.{statement}
 
@@ -15,5 +15,5 @@ shares =
     of_Lends loan.struct loan.the_codes loan.the_heap loan.the_lent
     (λ d p. lent_at_shr_laws (Array u8 d.len) (bytes_laws d.len) d.at d.bytes)
     (copy_shared RawPtr-field RawPtr-copy, (copy_shared usize-field usize-copy, tt))
-    (λ M 𝓤 𝓛 d p. lends_half 𝓛 (Array u8 d.len) loan.the_row.lives d.at d.bytes
-    ((bytes_copied 𝓛 d.len).shares (left full_share) loan.the_row.lives d.bytes))
+    (λ M 𝓤 𝓛 d p. lends_part 𝓛 (part_of d.part) (Array u8 d.len) loan.the_row.lives d.at d.bytes
+    ((bytes_copied 𝓛 d.len).shares (part_of d.part) loan.the_row.lives d.bytes))

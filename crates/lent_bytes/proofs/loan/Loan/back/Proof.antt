@@ -48,7 +48,14 @@ back_spec 𝓤 𝓛 𝓜 𝓡 wired =
     let d = a.0 in let v = word d.at d.len in
     let fits = wide d.len d.small.1 in let good = word_good d.at d.len fits in
     let made : To.Denot =
-    record { at = d.at; len = d.len; lent = true; bytes = d.bytes; small = d.small } in
+    record {
+      at = d.at;
+      len = d.len;
+      lent = true;
+      part = d.part;
+      bytes = d.bytes;
+      small = d.small;
+    } in
     let y : W.Ghost = ((κs, qs, bounds, a, (vals d, tt)), g) in
     qed 𝓛 ((‵ ftrue ⊛ ‵ (fsep (From.own_val d (vals d)) ftrue)) ∷ raw (emp 𝓤) ∷ []) ∵
     move ! (1 ∷ []) $ drop ! $ split ! $ drop ! $ fsplit ! $ move ! (1 ∷ []) $ drop ! $
@@ -61,5 +68,5 @@ back_spec 𝓤 𝓛 𝓜 𝓡 wired =
     sets ! (agg ! (and_then ! (get ! refl) (and_then ! (get ! refl) (no_more !)))) refl good $
     returns ! (look_at ! 0 refl) $ free_all ! refl $
     suffices ! _ (ends_at 𝓛 f.ended stayed c y v made (tt, tt) (tt, tt)) $
-    says ! (refl, refl, refl) $
+    says ! (refl, refl, refl, refl) $
     nothing ! $ nothing ! $ fjoin ! $ join ! $ nothing ! $ join ! $ done !))

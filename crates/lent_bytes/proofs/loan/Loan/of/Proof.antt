@@ -49,14 +49,16 @@ of_spec 𝓤 𝓛 𝓜 𝓡 wired =
     (λ κs. (vals, tt)) (λ κs. (tells, tt)) (λ κs qs bounds a g are.
     let d = a.0 in let v = word d.at d.len in
     let fits = wide d.len d.small.1 in let good = word_good d.at d.len fits in
-    let made : To.Denot = record { at = d.at; len = d.len; bytes = d.bytes; small = d.small } in
+    let made : To.Denot =
+    record { at = d.at; len = d.len; part = d.part; bytes = d.bytes; small = d.small } in
     let y : W.Ghost = ((κs, qs, bounds, a, (vals d, tt)), g) in
     qed 𝓛 ((‵ ftrue ⊛ ‵ (fsep (From.own_val d (vals d)) ftrue)) ∷ raw (fact 𝓤 (d.lent ≡ true))
     ∷ []) ∵
     move ! (1 ∷ []) $ heard ! (d.lent ≡ true) (λ is.
     split ! $ drop ! $ fsplit ! $ move ! (1 ∷ []) $ drop ! $ fsplit ! $
     -- [the fields; the right to the bytes]
-    move ! (1 ∷ []) $ rewrite ! 0 (λ (t : Bool). ‵ (lent_owns t d.at d.len d.bytes)) is refl $
+    move ! (1 ∷ []) $
+    rewrite ! 0 (λ (t : Bool). ‵ (lent_owns t d.part d.at d.len d.bytes)) is refl $
     move ! (1 ∷ []) $ fjoin ! $ use1 𝓛 (‵ (To.own_val made (v ∷ []))) (id⊢ 𝓤 _) $
     enter ! 𝓣.C 𝓣.Λ code.function (v ∷ []) _ $ alloc_all ! (λ l. pass_all ! refl (good, tt) $
     sets ! (of_opd ! (get_in ! (fld ! refl (stop !)) (sub ! 0 refl (whole !)))) refl
@@ -65,5 +67,6 @@ of_spec 𝓤 𝓛 𝓜 𝓡 wired =
     (tt, record { fits = fits }) $
     sets ! (agg ! (and_then ! (get ! refl) (and_then ! (get ! refl) (no_more !)))) refl good $
     returns ! (look_at ! 0 refl) $ free_all ! refl $
-    suffices ! _ (ends_at 𝓛 f.ended stayed c y v made (tt, tt) (tt, tt)) $ says ! (refl, refl) $
+    suffices ! _ (ends_at 𝓛 f.ended stayed c y v made (tt, tt) (tt, tt)) $
+    says ! (refl, refl, refl) $
     nothing ! $ nothing ! $ fjoin ! $ join ! $ nothing ! $ join ! $ done !)))
