@@ -1,2 +1,4 @@
+pub mod ArchiveLaws
 pub mod HandleLaws
 pub mod Refusals
+pub mod TranslationLaws

@@ -1,0 +1,13 @@
+-- An archive that is open over no bytes: what the handle of nothing is said to hold, and which no
+-- clause speaks of.
+use Rattle.std.proofs.Common.{[]}
+use Rattle.ar_members.specs.Archives.{first_walk}
+use Rattle.object_handle.proofs.AnyObject.{no_image}
+use Rattle.archive_handle.specs.declared.opened.OpenArchive.{OpenArchive}
+
+abbrev pub any_archive : OpenArchive
+any_archive = record {
+  ar = record { source = no_image; walk = first_walk };
+  name = [];
+  symbols = [];
+}

@@ -1,0 +1,3 @@
+pub mod AnyArchive
+pub mod Boxes
+pub mod Openings

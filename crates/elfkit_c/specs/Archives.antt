@@ -1,0 +1,34 @@
+-- What a call leaves of the handle of an archive that C hands in.
+use Rattle.std.specs.Prelude.{◌≡◌, ◌⊎◌, ℕ, true, false, Result, Ok}
+use Rattle.elf_types.specs.declared.errors.ElfError.{ElfError}
+use Rattle.ar_members.specs.Archives.{Walk}
+use Rattle.lent_bytes.specs.declared.loan.Lent.{Lent}
+use Rattle.object_handle.specs.Objects.{IsLentAs, SameLoan}
+use Rattle.archive_handle.specs.declared.handle.ArchiveHandle.{ArchiveHandle}
+use Rattle.elfkit_c.specs.Handles.{IsRefused}
+
+-- the handle holds an archive whose walk is the one that is stated of the bytes that were lent; or
+-- the number is that of its refusal, or of want of memory, and the handle is empty
+abbrev pub BeginsArchive : Lent → Result Walk ElfError → ℕ → ArchiveHandle → Type 0
+BeginsArchive lent stated number h =
+    ((number ≡ 0) × (h.full ≡ true) × (stated ≡ Ok h.held.ar.walk)
+    × IsLentAs lent h.held.ar.source.loan)
+    ⊎ ((h.full ≡ false) × IsRefused stated number)
+
+-- the archive as it was
+abbrev pub KeepsArchive : ArchiveHandle → ArchiveHandle → Type 0
+KeepsArchive old new = (new.full ≡ true) × (new.held ≡ old.held)
+
+-- the archive, of which the walk may have gone on, and the name may be another
+abbrev pub WalksOn : ArchiveHandle → ArchiveHandle → Type 0
+WalksOn old new =
+    (new.full ≡ true)
+    × SameLoan old.held.ar.source.loan new.held.ar.source.loan
+    × (new.held.symbols ≡ old.held.symbols)
+
+-- the archive with its walk, of which the symbols may have been read
+abbrev pub Lists : ArchiveHandle → ArchiveHandle → Type 0
+Lists old new =
+    (new.full ≡ true)
+    × SameLoan old.held.ar.source.loan new.held.ar.source.loan
+    × (new.held.ar.walk ≡ old.held.ar.walk) × (new.held.name ≡ old.held.name)
