@@ -35,31 +35,6 @@ ABSENT (int, gelf_update_auxv, (Elf_Data *data, int ndx, GElf_auxv_t *src), 0)
 ABSENT (int, elf_compress, (Elf_Scn *scn, int type, unsigned int flags), -1)
 ABSENT (int, elf_compress_gnu, (Elf_Scn *scn, int compress, unsigned int flags), -1)
 
-/* Archives. */
-ABSENT (Elf_Cmd, elf_next, (Elf *elf), ELF_C_NULL)
-ABSENT (size_t, elf_rand, (Elf *elf, size_t offset), 0)
-ABSENT (int64_t, elf_getaroff, (Elf *elf), -1)
-
-/* elf_getarhdr: a file that is no member has none, which is no error of this library. */
-PUBLIC Elf_Arhdr *
-elf_getarhdr (Elf *elf)
-{
-  if (elf != NULL)
-    set_error (E_INVALID_OP);
-  return NULL;
-}
-
-/* elf_getarsym: as libelf answers for what is no archive. */
-PUBLIC Elf_Arsym *
-elf_getarsym (Elf *elf, size_t *count)
-{
-  if (count != NULL)
-    *count = 0;
-  if (elf != NULL)
-    set_error (elf->kind == ELF_K_AR ? E_UNSUPPORTED : E_NO_ARCHIVE);
-  return NULL;
-}
-
 /* Others. */
 ABSENT (long int, elf32_checksum, (Elf *elf), -1)
 ABSENT (long int, elf64_checksum, (Elf *elf), -1)

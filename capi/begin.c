@@ -80,31 +80,68 @@ make_ehdr (Elf *elf)
   return true;
 }
 
+/* Makes the object of the image; false and an error where it is refused. */
+static bool
+begin_object (Elf *elf)
+{
+  if (!is_given (begin_core (elf)))
+    return false;
+  /* a table at place 0 is none */
+  elf->phnum = elf->tables.phoff == 0 ? 0 : elfkit_phnum (&elf->handle);
+  elf->shnum = elfkit_shnum (&elf->handle);
+  if (make_ehdr (elf))
+    return true;
+  set_error (E_NOMEM);
+  return false;
+}
+
 /* Begins over the image that the descriptor has; NULL and an error where it is refused. */
 static Elf *
 begun (Elf *elf)
 {
   elf->kind = kind_of (elf->lent, elf->size);
   elf->refs = 1;
-  if (elf->kind == ELF_K_ELF)
+  if ((elf->kind == ELF_K_ELF && !begin_object (elf))
+      || (elf->kind == ELF_K_AR && !begin_archive (elf)))
     {
-      uint32_t number = begin_core (elf);
-      if (number != 0)
+      elf_end (elf);
+      return NULL;
+    }
+  return elf;
+}
+
+/* A descriptor over the member that an archive stands at; NULL and an error where there is none.
+   The member's image lies in the archive's, and is lent once more. One whose image is refused is
+   shown as what is no image, so that a walk over the archive goes on. */
+static Elf *
+begun_member (Elf *archive, Elf_Cmd cmd)
+{
+  struct elfkit_member *m = current_member (archive);
+  if (m == NULL)
+    return NULL;
+  Elf *elf = calloc (1, sizeof *elf);
+  if (elf == NULL)
+    {
+      set_error (E_NOMEM);
+      return NULL;
+    }
+  *elf = (Elf) { .map = archive->map, .parent = archive, .next = archive->archive->open,
+                 .kind = kind_of (archive->lent + m->body, m->header.ar_size), .cmd = cmd,
+                 .fd = archive->fd, .start = archive->start + (int64_t) m->body,
+                 .size = m->header.ar_size, .refs = 1, .shown = archive->shown + m->body,
+                 .lent = archive->lent + m->body, .member = m,
+                 .memory = archive->memory == BORROWED ? BORROWED : INSIDE };
+  archive->archive->open = elf;
+  if ((elf->kind == ELF_K_ELF && !begin_object (elf))
+      || (elf->kind == ELF_K_AR && !begin_archive (elf)))
+    {
+      if (elf_errno () == E_NOMEM)
         {
-          set_error (error_of (number));
-          let_go (elf);
-          free (elf);
-          return NULL;
-        }
-      /* a table at place 0 is none */
-      elf->phnum = elf->tables.phoff == 0 ? 0 : elfkit_phnum (&elf->handle);
-      elf->shnum = elfkit_shnum (&elf->handle);
-      if (!make_ehdr (elf))
-        {
-          set_error (E_NOMEM);
           elf_end (elf);
+          set_error (E_NOMEM);
           return NULL;
         }
+      elf->kind = ELF_K_NONE;
     }
   return elf;
 }
@@ -129,7 +166,7 @@ take_file (Elf *elf, int fd)
       if (lent != MAP_FAILED && shown != MAP_FAILED)
         {
           elf->lent = lent;
-          elf->shown = shown;
+          elf->map = elf->shown = shown;
           elf->memory = once ? MAPPED_ONCE : MAPPED;
           return true;
         }
@@ -161,7 +198,7 @@ take_file (Elf *elf, int fd)
     }
   memcpy (shown, bytes, size);
   elf->lent = bytes;
-  elf->shown = shown;
+  elf->map = elf->shown = shown;
   elf->size = size;
   elf->memory = COPIED;
   return true;
@@ -177,8 +214,9 @@ is_opened_so (const Elf *elf, Elf_Cmd cmd)
   return elf->cmd == ELF_C_RDWR || elf->cmd == ELF_C_RDWR_MMAP;
 }
 
-/* elf_begin: a descriptor over a file, or once more over a descriptor. The image is read through
-   mappings; what is no image and no archive has the kind ELF_K_NONE. Left out: ELF_C_WRITE. */
+/* elf_begin: a descriptor over a file, once more over a descriptor, or over the member that an
+   archive stands at. The image is read through mappings; what is no image and no archive has the
+   kind ELF_K_NONE. Left out: ELF_C_WRITE. */
 PUBLIC Elf *
 elf_begin (int fd, Elf_Cmd cmd, Elf *ref)
 {
@@ -217,10 +255,7 @@ elf_begin (int fd, Elf_Cmd cmd, Elf *ref)
           return NULL;
         }
       if (ref->kind == ELF_K_AR)
-        {
-          set_error (E_UNSUPPORTED);
-          return NULL;
-        }
+        return begun_member (ref, cmd);
       ref->refs++;
       return ref;
     }
@@ -260,7 +295,7 @@ elf_memory (char *image, size_t size)
     }
   elf->cmd = ELF_C_READ;
   elf->fd = -1;
-  elf->lent = elf->shown = (uint8_t *) image;
+  elf->lent = elf->map = elf->shown = (uint8_t *) image;
   elf->size = size;
   elf->memory = BORROWED;
   return begun (elf);
@@ -276,14 +311,33 @@ elf_clone (Elf *elf, Elf_Cmd cmd)
   return NULL;
 }
 
-/* elf_end: lets one reference go, and with the last one everything. */
+/* Takes a member out of the open ones of its archive. */
+static void
+leave_archive (Elf *elf)
+{
+  Elf **place = &elf->parent->archive->open;
+  while (*place != NULL && *place != elf)
+    place = &(*place)->next;
+  if (*place == elf)
+    *place = elf->next;
+}
+
+/* elf_end: lets one reference go, and with the last one everything. An archive stays until its
+   members are ended too. */
 PUBLIC int
 elf_end (Elf *elf)
 {
   if (elf == NULL)
     return 0;
-  if (--elf->refs > 0)
+  if (elf->refs > 0 && --elf->refs > 0)
     return elf->refs;
+  if (elf->archive != NULL && elf->archive->open != NULL)
+    return 0;
+  Elf *parent = elf->parent;
+  if (parent != NULL)
+    leave_archive (elf);
+  if (elf->archive != NULL)
+    end_archive (elf->archive);
   if (elf->handle.ptr != NULL)
     {
       struct elfkit_lent back = { NULL, 0 };
@@ -301,7 +355,7 @@ elf_end (Elf *elf)
   free (elf->ehdr);
   let_go (elf);
   free (elf);
-  return 0;
+  return parent != NULL && parent->refs == 0 ? elf_end (parent) : 0;
 }
 
 /* elf_cntl: the file descriptor is used by elf_begin alone, so both commands are done. */

@@ -1,6 +1,7 @@
 /* core.h: the proved core's calls and records, as C sees them. Each declaration stands for the
    function of the same name in crates/elfkit_c/src, and each struct for the one of
-   crates/lent_bytes, crates/object_handle and crates/gelf_records that its comment names;
+   crates/lent_bytes, crates/object_handle, crates/gelf_records, crates/archive_handle and
+   crates/c_archives that its comment names;
    capi/check-core compares them. A parameter of the allocator's type has no bytes, and so none
    here. */
 #ifndef ELFKIT_CORE_H
@@ -20,6 +21,25 @@ struct elfkit_lent
 struct elfkit_handle
 {
   void *ptr;
+};
+
+/* ArchiveHandle: an archive; a null pointer where there is none. */
+struct elfkit_ar_handle
+{
+  void *ptr;
+};
+
+/* MemberRecord: the header of a member of an archive, or that there is none. */
+struct elfkit_ar_member
+{
+  uint32_t found, mode, uid, gid;
+  uint64_t at, body, size, date, namesz;
+};
+
+/* ArSymRecord: a symbol of an archive's table. */
+struct elfkit_ar_symbol
+{
+  uint64_t at, namesz;
 };
 
 /* EhdrRecord: an ELF header with its true counts. */
@@ -97,6 +117,20 @@ uint32_t elfkit_vernaux (struct elfkit_handle *h, uint32_t section, uint32_t pie
                          Elf64_Vernaux *out);
 uint32_t elfkit_note (struct elfkit_handle *h, uint32_t section, uint32_t piece, uint64_t at,
                       struct elfkit_note *out);
+
+/* Archives. */
+uint32_t elfkit_ar_begin (struct elfkit_lent image, struct elfkit_ar_handle *h,
+                          struct elfkit_lent *back);
+void elfkit_ar_end (struct elfkit_ar_handle *h, struct elfkit_lent *back);
+uint32_t elfkit_ar_next (struct elfkit_ar_handle *h, struct elfkit_ar_member *out);
+void elfkit_ar_name (struct elfkit_ar_handle *h, uint8_t *out, size_t length);
+uint32_t elfkit_ar_symbols (struct elfkit_ar_handle *h, uint64_t *count);
+uint32_t elfkit_ar_symbol (struct elfkit_ar_handle *h, uint64_t i, struct elfkit_ar_symbol *out);
+void elfkit_ar_symbol_name (struct elfkit_ar_handle *h, uint64_t i, uint8_t *out, size_t length);
+
+/* Translation. */
+uint32_t elfkit_translate (uint32_t kind, uint32_t class, uint32_t from, uint32_t to,
+                           uint8_t *bytes, size_t length);
 
 /* Hashes. */
 uint32_t elfkit_hash (const uint8_t *name, size_t length);

@@ -9,10 +9,12 @@
 #include "object.h"
 
 /* Whether programs may write where they see the image: not where the core reads it in the same
-   place. */
+   place. A member is seen in its archive's image. */
 bool
 may_write (const Elf *elf)
 {
+  if (elf->memory == INSIDE)
+    return may_write (elf->parent);
   return elf->memory == MAPPED || elf->memory == COPIED;
 }
 
@@ -42,8 +44,11 @@ in_memory (Elf *elf, Elf_Type type, uint64_t at, size_t size, void **owned)
     }
   if (native)
     memcpy (made, shown, size);
-  else
-    translate (type, elf->class, true, made, shown, size);
+  else if (!translate (type, elf->class, true, made, shown, size))
+    {
+      free (made);
+      return *owned = NULL;
+    }
   return made;
 }
 

@@ -121,5 +121,6 @@ elf_errmsg (int error)
     return NULL;
   if (error == 0 || error == -1)
     error = last_error;
-  return texts[error > 0 && error < E_COUNT ? error : error == 0 ? E_NONE : E_UNKNOWN];
+  bool is_known = error >= 0 && error < E_COUNT && texts[error] != NULL;
+  return texts[is_known ? error : E_UNKNOWN];
 }

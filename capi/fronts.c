@@ -131,7 +131,7 @@ open_front (Elf *elf)
   if (elf->memory == MAPPED
       && mprotect ((void *) elf->lent, EI_NIDENT, PROT_READ | PROT_WRITE) != 0)
     return NULL;
-  if (!may_write (elf) && elf->front == NULL)
+  if (elf->memory != MAPPED && elf->memory != COPIED && elf->front == NULL)
     {
       elf->front = malloc (elf->size);
       if (elf->front == NULL)

@@ -51,9 +51,9 @@ struct tables
    some of these places without a call. */
 struct Elf
 {
-  uint8_t *shown;               /* the image as programs see it, and may change it */
-  Elf *parent;                  /* the archive that it is a member of; none is yet */
-  Elf *next;                    /* the next member of that archive */
+  uint8_t *map;                 /* the file as programs see it; the image is at start in it */
+  Elf *parent;                  /* the archive that it is a member of */
+  Elf *next;                    /* the next of that archive's open members */
   Elf_Kind kind;
   Elf_Cmd cmd;
   unsigned int class;
@@ -64,10 +64,13 @@ struct Elf
   int refs;                     /* how many calls of elf_end there will be */
   uint64_t reserved;
   void *ehdr;                   /* its ELF header in native form */
+  uint64_t theirs[11];          /* libdwfl writes here to find an image in a kernel's file */
 
+  uint8_t *shown;               /* the image as programs see it, and may change it */
   struct elfkit_handle handle;  /* the core's object, where the kind is ELF_K_ELF */
   const uint8_t *lent;          /* the image as the core reads it */
-  enum { MAPPED, MAPPED_ONCE, COPIED, BORROWED } memory;
+  /* MAPPED_ONCE: programs see the lent bytes themselves; INSIDE: it lies in its archive's image */
+  enum { MAPPED, MAPPED_ONCE, COPIED, BORROWED, INSIDE } memory;
   uint8_t *front;               /* a copy of the image, lent with another front */
   struct tables tables;         /* where the kind is ELF_K_ELF */
   bool is_cut;                  /* its section headers do not lie in it: it is read as without */
@@ -80,7 +83,37 @@ struct Elf
   bool has_links;               /* the sections know their tables of extended indexes */
   void *chunks;                 /* the chunks of the file that were asked for, a tree */
   unsigned int flags, ehdr_flags, phdr_flags;
+  struct elfkit_member *member;         /* its header, where it is a member of an archive */
+  struct elfkit_archive *archive;       /* its members, where the kind is ELF_K_AR */
 };
+
+/* A member of an archive that the walk came to. */
+struct elfkit_member
+{
+  Elf_Arhdr header;
+  uint64_t at, body;            /* the places of the header and of the body in the archive */
+  char raw_name[17];
+  char name[];
+};
+
+/* What an archive has besides: the core's walk, and the members that it came to. */
+struct elfkit_archive
+{
+  struct elfkit_ar_handle handle;
+  struct elfkit_member **members;
+  size_t count, room;
+  struct elfkit_ar_member came; /* the one that the core gave and that is not among them yet */
+  uint64_t place;               /* where the header after them stands */
+  int end;                      /* why there are no more, E_NONE where there may be */
+  size_t current;               /* the member that elf_begin opens, or NOWHERE */
+  Elf *open;                    /* the members that are open, by next */
+  Elf_Arsym *symbols;           /* the table of symbols, once a program asked for it */
+  size_t symbol_count;
+};
+
+/* No member, and the place of the first header. */
+#define NOWHERE SIZE_MAX
+enum { FIRST_HEADER = 8 };
 
 /* The image was given to elf_memory by malloc, and elf_end frees it: libdwfl says so of what it has
    decompressed. */
@@ -91,7 +124,8 @@ _Static_assert (offsetof (struct Elf, start) == 0x28, "the place of the start");
 _Static_assert (offsetof (struct Elf, marks) == 0x38, "the place of the marks");
 _Static_assert (offsetof (struct Elf, ehdr) == 0x48, "the place of the native ELF header");
 
-/* The error numbers, in the order of their texts in errors.c. */
+/* The error numbers, as elfutils 0.188 has them, since eu-readelf compares one. Their texts are in
+   errors.c. */
 enum
 {
   E_NONE,
@@ -109,7 +143,7 @@ enum
   E_NO_VERSION,
   E_INVALID_CMD,
   E_RANGE,
-  E_INVALID_ARCHIVE,
+  E_INVALID_ARCHIVE = 16,
   E_NO_ARCHIVE,
   E_NO_INDEX,
   E_READ_ERROR,
@@ -118,17 +152,17 @@ enum
   E_INVALID_INDEX,
   E_INVALID_OPERAND,
   E_INVALID_SECTION,
-  E_FD_MISMATCH,
+  E_FD_MISMATCH = 28,
   E_OFFSET_RANGE,
   E_NOT_NUL_SECTION,
-  E_INVALID_SECTION_HEADER,
+  E_INVALID_SECTION_HEADER = 32,
   E_INVALID_DATA,
-  E_UPDATE_RO,
-  E_NO_PHDR,
-  E_NOT_COMPRESSED,
-  E_INVALID_SECTION_TYPE,
+  E_UPDATE_RO = 38,
+  E_NO_PHDR = 42,
+  E_INVALID_SECTION_TYPE = 44,
   E_INVALID_SECTION_FLAGS,
-  E_UNSUPPORTED,
+  E_NOT_COMPRESSED,
+  E_UNSUPPORTED = 51,           /* of this library alone */
   E_COUNT
 };
 
@@ -156,8 +190,9 @@ size_t item_align (Elf_Type type, unsigned int class);
 /* The type of the data of a section with that header. */
 Elf_Type section_type (const GElf_Shdr *shdr);
 
-/* Translates so many bytes of items between the orders; the two ranges are the same or apart. */
-void translate (Elf_Type type, unsigned int class, bool to_memory, void *to, const void *from,
+/* Translates so many bytes of items between the orders; the two ranges are the same or apart. False
+   and an error where there is no memory. */
+bool translate (Elf_Type type, unsigned int class, bool to_memory, void *to, const void *from,
                 size_t size);
 
 /* Lets go of the chunks of a file. */
@@ -165,6 +200,15 @@ void free_chunks (Elf *elf);
 
 /* Begins over the image of a descriptor; the number of the core's refusal, or 0. */
 uint32_t begin_core (Elf *elf);
+
+/* Makes the archive of the image; false and an error where it is refused. */
+bool begin_archive (Elf *elf);
+
+/* Lets go of what an archive has besides. */
+void end_archive (struct elfkit_archive *archive);
+
+/* The member that an archive stands at; NULL and an error where there is none. */
+struct elfkit_member *current_member (Elf *elf);
 
 /* Whether programs may write where they see the image. */
 bool may_write (const Elf *elf);

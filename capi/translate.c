@@ -1,48 +1,88 @@
-/* translate.c: translation between the orders, of whole buffers. The fields of each record stand in
-   a table by their widths; four types are lists of records of several sizes, which are walked. */
+/* translate.c: translation between the orders, of whole buffers. The core translates items; the
+   layer knows which items a type consists of. A record of several kinds of numbers is a run of
+   numbers of one width after another, and some types are lists of records of several sizes, which
+   are walked. */
 #include <string.h>
 
 #include "object.h"
 
-/* The widths of a record's fields, for class 32 and class 64. */
-static const char *const fields[ELF_T_NUM][2] = {
-  [ELF_T_ADDR] = { "4", "8" },
-  [ELF_T_DYN] = { "44", "88" },
-  [ELF_T_EHDR] = { "11111111111111112244444222222", "11111111111111112248884222222" },
-  [ELF_T_HALF] = { "2", "2" },
-  [ELF_T_OFF] = { "4", "8" },
-  [ELF_T_PHDR] = { "44444444", "44888888" },
-  [ELF_T_RELA] = { "444", "888" },
-  [ELF_T_REL] = { "44", "88" },
-  [ELF_T_SHDR] = { "4444444444", "4488884488" },
-  [ELF_T_SWORD] = { "4", "4" },
-  [ELF_T_SYM] = { "444112", "411288" },
-  [ELF_T_WORD] = { "4", "4" },
-  [ELF_T_XWORD] = { "8", "8" },
-  [ELF_T_SXWORD] = { "8", "8" },
-  [ELF_T_VDAUX] = { "44", "44" },
-  [ELF_T_VNAUX] = { "42244", "42244" },
-  [ELF_T_SYMINFO] = { "22", "22" },
-  [ELF_T_MOVE] = { "844221111", "888221111" },
-  [ELF_T_LIB] = { "44444", "44444" },
-  [ELF_T_AUXV] = { "44", "88" },
+/* The kinds of the core's items (crates/gelf_records, Forms.antt, kind_number). */
+enum { BYTES = 1, HALVES, WORDS, ADDRESSES, SYMBOLS, RELS, RELAS, DYNS };
+
+/* The kind of a type's items in the core, for class 32 and class 64; 0 where it has none. */
+static const uint8_t kinds[ELF_T_NUM][2] = {
+  [ELF_T_BYTE] = { BYTES, BYTES },
+  [ELF_T_ADDR] = { ADDRESSES, ADDRESSES },
+  [ELF_T_DYN] = { DYNS, DYNS },
+  [ELF_T_HALF] = { HALVES, HALVES },
+  [ELF_T_OFF] = { ADDRESSES, ADDRESSES },
+  [ELF_T_PHDR] = { WORDS, 0 },
+  [ELF_T_RELA] = { RELAS, RELAS },
+  [ELF_T_REL] = { RELS, RELS },
+  [ELF_T_SHDR] = { WORDS, 0 },
+  [ELF_T_SWORD] = { WORDS, WORDS },
+  [ELF_T_SYM] = { SYMBOLS, SYMBOLS },
+  [ELF_T_WORD] = { WORDS, WORDS },
+  [ELF_T_VDAUX] = { WORDS, WORDS },
+  [ELF_T_SYMINFO] = { HALVES, HALVES },
+  [ELF_T_LIB] = { WORDS, WORDS },
+  [ELF_T_AUXV] = { ADDRESSES, ADDRESSES },
 };
 
-/* Reverses the fields of one record; the two are the same or apart. Gives its size. */
-static size_t
-reverse (uint8_t *to, const uint8_t *from, const char *widths)
+/* The widths of the fields of other records, for class 32 and class 64. */
+static const char *const fields[ELF_T_NUM][2] = {
+  [ELF_T_EHDR] = { "11111111111111112244444222222", "11111111111111112248884222222" },
+  [ELF_T_PHDR] = { NULL, "44888888" },
+  [ELF_T_SHDR] = { NULL, "4488884488" },
+  [ELF_T_XWORD] = { "8", "8" },
+  [ELF_T_SXWORD] = { "8", "8" },
+  [ELF_T_VNAUX] = { "42244", "42244" },
+  [ELF_T_MOVE] = { "844221111", "888221111" },
+};
+
+/* Translates whole items of a kind where they are, a page at a time, so that the core takes memory
+   for no more. */
+static bool
+translate_items (unsigned int kind, unsigned int class, bool to_memory, uint8_t *bytes,
+                 size_t size)
 {
-  size_t at = 0;
-  for (; *widths != '\0'; widths++)
+  const unsigned int foreign = NATIVE_ORDER == ELFDATA2LSB ? ELFDATA2MSB : ELFDATA2LSB;
+  const size_t page = 3 * 16384;        /* which the size of each item divides */
+  for (size_t n; size > 0; bytes += n, size -= n)
     {
-      unsigned int n = *widths - '0';
-      uint8_t field[8];
-      memcpy (field, from + at, n);
-      for (unsigned int i = 0; i < n; i++)
-        to[at + i] = field[n - 1 - i];
-      at += n;
+      n = size < page ? size : page;
+      if (!is_given (elfkit_translate (kind, class, to_memory ? foreign : NATIVE_ORDER,
+                                       to_memory ? NATIVE_ORDER : foreign, bytes, n)))
+        return false;
     }
-  return at;
+  return true;
+}
+
+/* Translates so many numbers of a width. */
+static bool
+translate_numbers (unsigned int width, bool to_memory, uint8_t *bytes, size_t count)
+{
+  static const uint8_t by_width[9] = { [2] = HALVES, [4] = WORDS, [8] = ADDRESSES };
+  return width == 1
+         || translate_items (by_width[width], ELFCLASS64, to_memory, bytes, width * count);
+}
+
+/* Translates the fields of one record where they are. */
+static bool
+translate_fields (bool to_memory, uint8_t *at, const char *widths)
+{
+  while (*widths != '\0')
+    {
+      size_t count = 1;
+      while (widths[count] == widths[0])
+        count++;
+      unsigned int width = widths[0] - '0';
+      if (!translate_numbers (width, to_memory, at, count))
+        return false;
+      at += width * count;
+      widths += count;
+    }
+  return true;
 }
 
 static uint32_t
@@ -61,63 +101,82 @@ half (const uint8_t *at)
   return x;
 }
 
-/* A list of records, each with a list of others behind it: where the second field of each is the
-   way to its list, and the last one the way to the next. A record that does not lie in the bytes
-   ends the list; what is reached by no way is left as it is. */
-static void
-translate_chains (bool to_memory, uint8_t *to, const uint8_t *from, size_t size,
-                  const char *widths, size_t count_at, size_t aux_at, size_t next_at,
-                  const char *aux_widths, size_t aux_next_at)
+/* Translates a record, and gives its native form, by which the walk goes on. */
+static bool
+translate_record (bool to_memory, uint8_t *at, const char *widths, uint8_t *native, size_t size)
 {
-  size_t record = next_at + 4, aux_record = aux_next_at + 4;
-  if (to != from)
-    memmove (to, from, size);
-  /* each record is reversed once, so its ways are read in native form */
-  for (size_t at = 0, steps = 0; lies_in (at, record, size) && steps < size; steps++)
+  if (!to_memory)
+    memcpy (native, at, size);
+  if (!translate_fields (to_memory, at, widths))
+    return false;
+  if (to_memory)
+    memcpy (native, at, size);
+  return true;
+}
+
+/* How records lead to others: each to a list behind it, and to the next one. */
+struct chain
+{
+  const char *widths;
+  size_t count_at, aux_at, next_at;
+  const char *aux_widths;
+  size_t aux_next_at;
+};
+
+static const struct chain definitions = { "2222444", 6, 12, 16, "44", 4 };
+static const struct chain needs = { "22444", 2, 8, 12, "42244", 12 };
+
+/* The list behind a record. All lists together have no more records than have room in the bytes. */
+static bool
+translate_list (const struct chain *c, bool to_memory, uint8_t *bytes, size_t size, size_t at,
+                unsigned int count, size_t *left)
+{
+  size_t record = c->aux_next_at + 4;
+  uint8_t native[16];
+  while (count-- > 0 && lies_in (at, record, size) && *left > 0)
     {
-      uint8_t native[20];
-      if (to_memory)
-        reverse (native, to + at, widths);
-      else
-        memcpy (native, to + at, record);
-      reverse (to + at, to + at, widths);
-      size_t aux = at + word (native + aux_at);
-      for (unsigned int i = 0; i < half (native + count_at) && lies_in (aux, aux_record, size)
-           && word (native + aux_at) != 0; i++)
-        {
-          uint8_t aux_native[16];
-          if (to_memory)
-            reverse (aux_native, to + aux, aux_widths);
-          else
-            memcpy (aux_native, to + aux, aux_record);
-          reverse (to + aux, to + aux, aux_widths);
-          uint32_t next = word (aux_native + aux_next_at);
-          if (next == 0)
-            break;
-          aux += next;
-        }
-      uint32_t next = word (native + next_at);
-      if (next == 0)
+      --*left;
+      if (!translate_record (to_memory, bytes + at, c->aux_widths, native, record))
+        return false;
+      if (word (native + c->aux_next_at) == 0)
         break;
-      at += next;
+      at += word (native + c->aux_next_at);
     }
+  return true;
+}
+
+/* A list of records, each with a list of others behind it. A record that does not lie in the bytes
+   ends its list; what is reached by no way is left as it is. */
+static bool
+translate_chains (const struct chain *c, bool to_memory, uint8_t *bytes, size_t size)
+{
+  size_t record = c->next_at + 4, left = size / (c->aux_next_at + 4), more = size / record;
+  uint8_t native[20];
+  for (size_t at = 0; more > 0 && lies_in (at, record, size); more--)
+    {
+      if (!translate_record (to_memory, bytes + at, c->widths, native, record))
+        return false;
+      if (word (native + c->aux_at) != 0
+          && !translate_list (c, to_memory, bytes, size, at + word (native + c->aux_at),
+                              half (native + c->count_at), &left))
+        return false;
+      if (word (native + c->next_at) == 0)
+        break;
+      at += word (native + c->next_at);
+    }
+  return true;
 }
 
 /* Notes: three words each, then a name and a descriptor, aligned to 4 or 8 bytes. */
-static void
-translate_notes (bool to_memory, uint8_t *to, const uint8_t *from, size_t size, size_t align)
+static bool
+translate_notes (bool to_memory, uint8_t *bytes, size_t size, size_t align)
 {
-  if (to != from)
-    memmove (to, from, size);
-  for (size_t at = 0; lies_in (at, 12, size);)
+  uint8_t native[12];
+  for (size_t at = 0; lies_in (at, sizeof native, size);)
     {
-      uint8_t native[12];
-      if (to_memory)
-        reverse (native, to + at, "444");
-      else
-        memcpy (native, to + at, 12);
-      reverse (to + at, to + at, "444");
-      size_t name = at + 12;
+      if (!translate_record (to_memory, bytes + at, "444", native, sizeof native))
+        return false;
+      size_t name = at + sizeof native;
       if (!lies_in (name, word (native), size))
         break;
       size_t desc = (name + word (native) + align - 1) & -align;
@@ -125,72 +184,68 @@ translate_notes (bool to_memory, uint8_t *to, const uint8_t *from, size_t size, 
         break;
       at = (desc + word (native + 4) + align - 1) & -align;
     }
+  return true;
 }
 
 /* GNU's hash section: four words, as many bloom words as the third says, and words. */
-static void
-translate_gnu_hash (unsigned int class, bool to_memory, uint8_t *to, const uint8_t *from,
-                    size_t size)
+static bool
+translate_gnu_hash (unsigned int class, bool to_memory, uint8_t *bytes, size_t size)
 {
-  if (to != from)
-    memmove (to, from, size);
-  uint8_t native[16] = { 0 };
-  if (size >= 16 && to_memory)
-    reverse (native, to, "4444");
-  else if (size >= 16)
-    memcpy (native, to, 16);
-  size_t at = 0, bloom = class == ELFCLASS64 ? word (native + 8) : 0;
-  for (; at + 4 <= size && at < 16; at += 4)
-    reverse (to + at, to + at, "4");
-  for (; at + 8 <= size && bloom > 0; at += 8, bloom--)
-    reverse (to + at, to + at, "8");
-  for (; at + 4 <= size; at += 4)
-    reverse (to + at, to + at, "4");
+  uint8_t native[16];
+  if (size < sizeof native)
+    return translate_numbers (4, to_memory, bytes, size / 4);
+  if (!translate_record (to_memory, bytes, "4444", native, sizeof native))
+    return false;
+  size_t at = sizeof native, bloom = class == ELFCLASS64 ? word (native + 8) : 0;
+  if (bloom > (size - at) / 8)
+    bloom = (size - at) / 8;
+  return translate_numbers (8, to_memory, bytes + at, bloom)
+         && translate_numbers (4, to_memory, bytes + at + 8 * bloom, (size - at - 8 * bloom) / 4);
 }
 
-void
+/* Records of one size. */
+static bool
+translate_records (Elf_Type type, unsigned int class, bool to_memory, uint8_t *bytes, size_t size)
+{
+  unsigned int kind = kinds[type][class == ELFCLASS64];
+  const char *widths = fields[type][class == ELFCLASS64];
+  size_t record = item_size (type, class);
+  if (kind == BYTES || (kind == 0 && widths == NULL))
+    return true;
+  if (kind != 0)
+    return translate_items (kind, class, to_memory, bytes, size - size % record);
+  if (widths[1] == '\0')
+    return translate_numbers (widths[0] - '0', to_memory, bytes, size / record);
+  for (size_t at = 0; at + record <= size; at += record)
+    if (!translate_fields (to_memory, bytes + at, widths))
+      return false;
+  return true;
+}
+
+bool
 translate (Elf_Type type, unsigned int class, bool to_memory, void *to, const void *from,
            size_t size)
 {
+  if (to != from && size > 0)
+    memmove (to, from, size);
   switch (type)
     {
     case ELF_T_VDEF:
-      translate_chains (to_memory, to, from, size, "2222444", 6, 12, 16, "44", 4);
-      return;
+      return translate_chains (&definitions, to_memory, to, size);
     case ELF_T_VNEED:
-      translate_chains (to_memory, to, from, size, "22444", 2, 8, 12, "42244", 12);
-      return;
+      return translate_chains (&needs, to_memory, to, size);
     case ELF_T_NHDR:
-      translate_notes (to_memory, to, from, size, 4);
-      return;
+      return translate_notes (to_memory, to, size, 4);
     case ELF_T_NHDR8:
-      translate_notes (to_memory, to, from, size, 8);
-      return;
+      return translate_notes (to_memory, to, size, 8);
     case ELF_T_GNUHASH:
-      translate_gnu_hash (class, to_memory, to, from, size);
-      return;
+      return translate_gnu_hash (class, to_memory, to, size);
     case ELF_T_CHDR:
-      if (to != from)
-        memmove (to, from, size);
-      if (size >= item_size (type, class))
-        reverse (to, to, class == ELFCLASS64 ? "4488" : "444");
-      return;
+      return size < item_size (type, class)
+             || translate_fields (to_memory, to, class == ELFCLASS64 ? "4488" : "444");
     default:
-      break;
+      return translate_records (type, class, to_memory, to, size);
     }
-  const char *widths = fields[type][class == ELFCLASS64];
-  size_t record = item_size (type, class);
-  if (widths == NULL)
-    {
-      if (to != from)
-        memmove (to, from, size);
-      return;
-    }
-  size_t at = 0;
-  for (; at + record <= size; at += record)
-    reverse ((uint8_t *) to + at, (const uint8_t *) from + at, widths);
-  if (to != from)
-    memcpy ((uint8_t *) to + at, (const uint8_t *) from + at, size - at);
 }
 
 /* elf32_xlatetom and its like: what the source holds goes into the destination, in the other form.
@@ -214,10 +269,11 @@ xlate (Elf_Data *dest, const Elf_Data *src, unsigned int encode, unsigned int cl
     set_error (E_INVALID_ENCODING);
   else
     {
-      if (encode != NATIVE_ORDER)
-        translate (src->d_type, class, to_memory, dest->d_buf, src->d_buf, src->d_size);
-      else if (dest->d_buf != src->d_buf)
+      if (encode == NATIVE_ORDER && dest->d_buf != src->d_buf)
         memmove (dest->d_buf, src->d_buf, src->d_size);
+      else if (encode != NATIVE_ORDER
+               && !translate (src->d_type, class, to_memory, dest->d_buf, src->d_buf, src->d_size))
+        return NULL;
       dest->d_type = src->d_type;
       dest->d_size = src->d_size;
       return dest;

@@ -1,7 +1,7 @@
-/* hostile.c: images with a few bytes changed, and cut short, are read by every call. What is asked
-   for is refused or given; nothing else is looked for but what the sanitizers say. */
+/* hostile.c: images and archives with a few bytes changed, and cut short, are read by every call.
+   What is asked for is refused or given; nothing else is looked for but what the sanitizers say. */
+#include "archive.h"
 #include "check.h"
-#include "image.h"
 
 static uint32_t state = 1;
 
@@ -49,9 +49,8 @@ read_data (Elf_Data *data)
 }
 
 static void
-read_all (char *bytes, size_t size)
+read_object (Elf *elf, size_t size)
 {
-  Elf *elf = elf_memory (bytes, size);
   GElf_Ehdr ehdr;
   GElf_Shdr shdr;
   GElf_Phdr phdr;
@@ -85,26 +84,82 @@ read_all (char *bytes, size_t size)
   for (int type = -1; type <= ELF_T_NUM; type++)
     read_data (elf_getdata_rawchunk (elf, random_below (300), random_below (300), type));
   gelf_offscn (elf, 64);
+}
+
+static void read_open (Elf *elf, size_t size);
+
+/* Reads the members, and goes back to some of them. */
+static void
+read_archive (Elf *ar)
+{
+  size_t size, count;
+  Elf *elf;
+  Elf_Cmd cmd = ELF_C_READ;
+  while ((elf = elf_begin (-1, cmd, ar)) != NULL)
+    {
+      Elf_Arhdr *header = elf_getarhdr (elf);
+      if (strlen (header->ar_name) + strlen (header->ar_rawname) > sizeof (struct archive))
+        abort ();
+      const char *bytes = elf_rawfile (elf, &size);
+      if (size > 0 && bytes[size - 1] == 1 && elf_getaroff (elf) < 0)
+        abort ();
+      read_open (elf, size);
+      cmd = elf_next (elf);
+      elf_end (elf);
+    }
+  Elf_Arsym *table = elf_getarsym (ar, &count);
+  for (size_t i = 0; i < count && table[i].as_name != NULL; i++)
+    if (elf_rand (ar, table[i].as_off) != 0 && strlen (table[i].as_name) < sizeof (struct archive))
+      elf_end (elf_begin (-1, ELF_C_READ, ar));
+  elf_rand (ar, random_below (3000));
+}
+
+static void
+read_open (Elf *elf, size_t size)
+{
+  if (elf_kind (elf) == ELF_K_AR)
+    read_archive (elf);
+  else
+    read_object (elf, size);
+}
+
+/* Reads a copy that ends where it ends, so that a read past it is seen. */
+static void
+read_copy (const void *bytes, size_t size)
+{
+  char *copy = malloc (size == 0 ? 1 : size);
+  memcpy (copy, bytes, size);
+  Elf *elf = elf_memory (copy, size);
+  read_open (elf, size);
   elf_end (elf);
+  free (copy);
+}
+
+/* Changes a few bytes, and gives where to cut. */
+static size_t
+change (uint8_t *bytes, size_t size)
+{
+  for (uint32_t n = random_below (4); n > 0; n--)
+    bytes[random_below (size)] = random_below (3) == 0 ? 0xff : random_below (256);
+  return random_below (3) == 0 ? random_below (size + 1) : size;
 }
 
 int
 main (int argc, char **argv)
 {
   struct image m;
+  struct archive a;
   long images = argc > 1 ? atol (argv[1]) : 2000;
   elf_version (EV_CURRENT);
   for (long i = 0; i < images; i++)
     {
       make_image (&m, i & 1, (i >> 1) & 1);
-      for (uint32_t n = random_below (4); n > 0; n--)
-        m.bytes[random_below (m.size)] = random_below (3) == 0 ? 0xff : random_below (256);
-      size_t size = random_below (3) == 0 ? random_below (m.size + 1) : m.size;
-      /* a block of just that size, so that a read past it is seen */
-      char *copy = malloc (size == 0 ? 1 : size);
-      memcpy (copy, m.bytes, size);
-      read_all (copy, size);
-      free (copy);
+      read_copy (m.bytes, change (m.bytes, m.size));
+      make_archive (&a);
+      for (uint32_t n = random_below (3); n > 0; n--)   /* what tells members apart, more often */
+        a.bytes[a.at[random_below (MEMBERS)] + random_below (sizeof (struct ar_hdr))]
+            = random_below (2) == 0 ? '0' + random_below (10) : random_below (256);
+      read_copy (a.bytes, change ((uint8_t *) a.bytes, a.size));
     }
   return ended ("hostile");
 }

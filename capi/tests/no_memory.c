@@ -1,7 +1,7 @@
 /* no_memory.c: each allocation fails in turn. What is asked for is then refused, with "out of
    memory", and the descriptor can be ended. */
+#include "archive.h"
 #include "check.h"
-#include "image.h"
 
 extern void *__libc_malloc (size_t size);
 extern void *__libc_calloc (size_t count, size_t size);
@@ -40,31 +40,61 @@ read_once (struct image *m)
   return whole;
 }
 
+/* Opens the archive, reads its table and goes over its members; whether all of it was there. */
+static int
+walk_once (struct archive *a)
+{
+  size_t count = 0;
+  int members = 0;
+  Elf *ar = elf_memory (a->bytes, a->size), *elf;
+  int whole = elf_getarsym (ar, &count) != NULL && count == 3;
+  Elf_Cmd cmd = ELF_C_READ;
+  while (whole && (elf = elf_begin (-1, cmd, ar)) != NULL)
+    {
+      members += elf_getarhdr (elf)->ar_name[0] != '/';
+      cmd = elf_next (elf);
+      whole = cmd == ELF_C_READ || members == MEMBERS;
+      elf_end (elf);
+    }
+  elf_end (ar);
+  return whole && members == MEMBERS;
+}
+
+/* What reads the image or the archive, each allocation failing in turn. */
+static void
+fail_each (struct image *m, struct archive *a)
+{
+  long n = 0;
+  for (;; n++)
+    {
+      left = n;
+      int whole = a != NULL ? walk_once (a) : read_once (m);
+      int all_made = left >= 0;
+      left = -1;
+      if (all_made)
+        {
+          CHECK (whole);
+          break;
+        }
+      CHECK (!whole);
+      CHECK (strcmp (elf_errmsg (-1), "out of memory") == 0);
+      elf_errno ();
+    }
+  CHECK (n > 3);
+}
+
 int
 main (void)
 {
   struct image m;
+  struct archive a;
   elf_version (EV_CURRENT);
   for (int kind = 0; kind < 4; kind++)
     {
       make_image (&m, kind & 1, kind >> 1);
-      long n = 0;
-      for (;; n++)
-        {
-          left = n;
-          int whole = read_once (&m);
-          int all_made = left >= 0;
-          left = -1;
-          if (all_made)
-            {
-              CHECK (whole);
-              break;
-            }
-          CHECK (!whole);
-          CHECK (strcmp (elf_errmsg (-1), "out of memory") == 0);
-          elf_errno ();
-        }
-      CHECK (n > 3);
+      fail_each (&m, NULL);
     }
+  make_archive (&a);
+  fail_each (NULL, &a);
   return ended ("no_memory");
 }

@@ -1,0 +1,295 @@
+/* archives.c: the members of an archive and its table of symbols. The core walks over the members,
+   one after another; the layer keeps each that the walk came to, so that a program may come back
+   to it. The tables of symbols and of names, which the core passes over, are shown as members too,
+   since eu-ranlib looks for them. A member's image lies in the archive's and is lent to the core
+   once more. */
+#include <ar.h>
+#include <stdlib.h>
+#include <string.h>
+
+#include "object.h"
+
+bool
+begin_archive (Elf *elf)
+{
+  struct elfkit_lent image = { elf->lent, elf->size }, back = { NULL, 0 };
+  elf->archive = calloc (1, sizeof *elf->archive);
+  if (elf->archive == NULL)
+    {
+      set_error (E_NOMEM);
+      return false;
+    }
+  elf->archive->place = FIRST_HEADER;
+  return is_given (elfkit_ar_begin (image, &elf->archive->handle, &back));
+}
+
+void
+end_archive (struct elfkit_archive *archive)
+{
+  struct elfkit_lent back = { NULL, 0 };
+  if (archive->handle.ptr != NULL)
+    elfkit_ar_end (&archive->handle, &back);
+  for (size_t i = 0; i < archive->count; i++)
+    free (archive->members[i]);
+  free (archive->members);
+  free (archive->symbols);
+  free (archive);
+}
+
+/* The number of a header's field that the core has read: digits, and then spaces. */
+static uint64_t
+number_of (const char *field, size_t width, unsigned int base)
+{
+  uint64_t number = 0;
+  for (size_t i = 0; i < width && field[i] != ' '; i++)
+    number = number * base + (unsigned int) (field[i] - '0');
+  return number;
+}
+
+/* The header of the table at a place, which the core's walk passed over. */
+static struct elfkit_ar_member
+table_at (const Elf *elf, uint64_t place)
+{
+  struct ar_hdr h;
+  memcpy (&h, elf->lent + place, sizeof h);
+  size_t length = sizeof h.ar_name;
+  while (length > 0 && h.ar_name[length - 1] == ' ')
+    length--;
+  return (struct elfkit_ar_member) {
+    .found = 1, .at = place, .body = place + sizeof h, .namesz = length,
+    .mode = number_of (h.ar_mode, sizeof h.ar_mode, 8),
+    .uid = number_of (h.ar_uid, sizeof h.ar_uid, 10),
+    .gid = number_of (h.ar_gid, sizeof h.ar_gid, 10),
+    .size = number_of (h.ar_size, sizeof h.ar_size, 10),
+    .date = number_of (h.ar_date, sizeof h.ar_date, 10)
+  };
+}
+
+/* The header of a member as programs see it, and its name as the archive has it. */
+static void
+make_header (const Elf *elf, struct elfkit_member *m, const struct elfkit_ar_member *x)
+{
+  m->at = x->at;
+  m->body = x->body;
+  m->header = (Elf_Arhdr) { .ar_name = m->name, .ar_date = x->date, .ar_uid = x->uid,
+                            .ar_gid = x->gid, .ar_mode = x->mode, .ar_size = x->size,
+                            .ar_rawname = m->raw_name };
+  memcpy (m->raw_name, elf->lent + x->at, sizeof m->raw_name - 1);
+}
+
+/* Whether there is room for one more member. */
+static bool
+has_room (struct elfkit_archive *archive)
+{
+  if (archive->count < archive->room)
+    return true;
+  size_t room = archive->room == 0 ? 16 : 2 * archive->room;
+  struct elfkit_member **more = realloc (archive->members, room * sizeof *more);
+  if (more == NULL)
+    return false;
+  archive->members = more;
+  archive->room = room;
+  return true;
+}
+
+/* Asks the core for the member after those that were come to, unless it gave one that was not shown
+   yet. Gives why there is none, or E_NONE. */
+static int
+come_to_one (struct elfkit_archive *archive)
+{
+  if (archive->came.found || archive->end != E_NONE)
+    return archive->end;
+  int error = error_of (elfkit_ar_next (&archive->handle, &archive->came));
+  if (error == E_NONE && !archive->came.found)
+    error = E_RANGE;
+  if (error == E_RANGE || error == E_INVALID_ARCHIVE)
+    archive->end = error;
+  return error;
+}
+
+/* One step of the walk: the table that stands before the core's next member, or that member; false
+   and an error where there is neither. */
+static bool
+step (Elf *elf)
+{
+  struct elfkit_archive *archive = elf->archive;
+  int error = come_to_one (archive);
+  uint64_t before = error == E_NONE ? archive->came.at : error == E_RANGE ? elf->size : 0;
+  bool is_table = archive->place < before;
+  if (error != E_NONE && !is_table)
+    {
+      set_error (error);
+      return false;
+    }
+  struct elfkit_ar_member x = is_table ? table_at (elf, archive->place) : archive->came;
+  struct elfkit_member *m = has_room (archive) ? calloc (1, sizeof *m + x.namesz + 1) : NULL;
+  if (m == NULL)
+    {
+      set_error (E_NOMEM);
+      return false;
+    }
+  make_header (elf, m, &x);
+  if (is_table)
+    memcpy (m->name, m->raw_name, x.namesz);
+  else
+    {
+      elfkit_ar_name (&archive->handle, (uint8_t *) m->name, x.namesz);
+      archive->came.found = 0;
+    }
+  archive->place = x.body + x.size + (x.body + x.size) % 2;
+  archive->members[archive->count++] = m;
+  return true;
+}
+
+struct elfkit_member *
+current_member (Elf *elf)
+{
+  struct elfkit_archive *archive = elf->archive;
+  if (archive == NULL || archive->current == NOWHERE)
+    {
+      set_error (E_INVALID_ARCHIVE);
+      return NULL;
+    }
+  while (archive->count <= archive->current)
+    if (!step (elf))
+      return NULL;
+  return archive->members[archive->current];
+}
+
+/* elf_next: goes on to the next member of the archive that this one is of. Gives the command of
+   this one, or ELF_C_NULL where there is none. */
+PUBLIC Elf_Cmd
+elf_next (Elf *elf)
+{
+  if (elf == NULL || elf->parent == NULL || current_member (elf->parent) == NULL)
+    return ELF_C_NULL;
+  elf->parent->archive->current++;
+  return current_member (elf->parent) == NULL ? ELF_C_NULL : elf->cmd;
+}
+
+/* The index of the member whose header is at a place, NOWHERE and an error where there is none. */
+static size_t
+member_at (Elf *elf, size_t place)
+{
+  struct elfkit_archive *archive = elf->archive;
+  while (archive->count == 0 || archive->members[archive->count - 1]->at < place)
+    if (!step (elf))
+      return NOWHERE;
+  size_t low = 0, high = archive->count - 1;
+  while (low < high)
+    {
+      size_t middle = low + (high - low) / 2;
+      if (archive->members[middle]->at < place)
+        low = middle + 1;
+      else
+        high = middle;
+    }
+  if (archive->members[low]->at == place)
+    return low;
+  set_error (E_RANGE);
+  return NOWHERE;
+}
+
+/* elf_rand: goes to the member whose header is at a place. Gives the place, or 0 where there is no
+   member. */
+PUBLIC size_t
+elf_rand (Elf *elf, size_t offset)
+{
+  if (elf == NULL || elf->kind != ELF_K_AR || elf->archive == NULL)
+    return 0;
+  elf->archive->current = member_at (elf, offset);
+  return elf->archive->current == NOWHERE ? 0 : offset;
+}
+
+/* elf_getarhdr: the header of a member. */
+PUBLIC Elf_Arhdr *
+elf_getarhdr (Elf *elf)
+{
+  if (elf == NULL)
+    return NULL;
+  if (elf->member == NULL)
+    {
+      set_error (E_INVALID_OP);
+      return NULL;
+    }
+  return &elf->member->header;
+}
+
+/* elf_getaroff: the place of a member's header in its archive. */
+PUBLIC int64_t
+elf_getaroff (Elf *elf)
+{
+  return elf == NULL || elf->member == NULL ? 0 : (int64_t) elf->member->at;
+}
+
+/* Whether the first member is a table of symbols, as an archive with an empty table has it. */
+static bool
+has_table (const Elf *elf)
+{
+  static const char name[16] = "/               ";
+  return lies_in (FIRST_HEADER, sizeof name, elf->size)
+         && memcmp (elf->lent + FIRST_HEADER, name, sizeof name) == 0;
+}
+
+/* The symbols of the core as programs see them, the last one without a name, and the names behind
+   them. */
+static bool
+make_symbols (Elf *elf, size_t count)
+{
+  struct elfkit_archive *archive = elf->archive;
+  struct elfkit_ar_symbol x = { 0 };
+  size_t names = 0;
+  for (size_t i = 0; i < count; i++)
+    if (elfkit_ar_symbol (&archive->handle, i, &x) == 0)
+      names += x.namesz + 1;
+  Elf_Arsym *all = calloc (1, (count + 1) * sizeof *all + names);
+  if (all == NULL)
+    {
+      set_error (E_NOMEM);
+      return false;
+    }
+  char *name = (char *) (all + count + 1);
+  for (size_t i = 0; i < count; i++)
+    if (elfkit_ar_symbol (&archive->handle, i, &x) == 0)
+      {
+        elfkit_ar_symbol_name (&archive->handle, i, (uint8_t *) name, x.namesz);
+        all[i] = (Elf_Arsym) { .as_name = name, .as_off = x.at,
+                               .as_hash = elfkit_hash ((uint8_t *) name, x.namesz) };
+        name += x.namesz + 1;
+      }
+  all[count].as_hash = ~0ul;
+  archive->symbols = all;
+  archive->symbol_count = count + 1;
+  return true;
+}
+
+/* elf_getarsym: the table of symbols, whose last entry has no name and is counted. */
+PUBLIC Elf_Arsym *
+elf_getarsym (Elf *elf, size_t *count)
+{
+  uint64_t symbols = 0;
+  if (count != NULL)
+    *count = 0;
+  if (elf == NULL)
+    return NULL;
+  if (elf->kind != ELF_K_AR || elf->archive == NULL)
+    {
+      set_error (E_NO_ARCHIVE);
+      return NULL;
+    }
+  if (elf->archive->symbols == NULL)
+    {
+      if (!is_given (elfkit_ar_symbols (&elf->archive->handle, &symbols)))
+        return NULL;
+      if (symbols == 0 && !has_table (elf))
+        {
+          set_error (E_NO_INDEX);
+          return NULL;
+        }
+      if (!make_symbols (elf, symbols))
+        return NULL;
+    }
+  if (count != NULL)
+    *count = elf->archive->symbol_count;
+  return elf->archive->symbols;
+}
