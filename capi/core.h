@@ -7,6 +7,7 @@
 #ifndef ELFKIT_CORE_H
 #define ELFKIT_CORE_H 1
 
+#include <stdbool.h>
 #include <stddef.h>
 #include <stdint.h>
 
@@ -117,6 +118,23 @@ uint32_t elfkit_vernaux (struct elfkit_handle *h, uint32_t section, uint32_t pie
                          Elf64_Vernaux *out);
 uint32_t elfkit_note (struct elfkit_handle *h, uint32_t section, uint32_t piece, uint64_t at,
                       struct elfkit_note *out);
+
+/* Editing. */
+uint32_t elfkit_update_ehdr (struct elfkit_handle *h, const struct elfkit_ehdr *x);
+uint32_t elfkit_newphdr (struct elfkit_handle *h, uint32_t count);
+uint32_t elfkit_update_phdr (struct elfkit_handle *h, uint32_t i, const Elf64_Phdr *x);
+uint32_t elfkit_newscn (struct elfkit_handle *h, uint32_t *out);
+uint32_t elfkit_update_shdr (struct elfkit_handle *h, uint32_t section, const Elf64_Shdr *x);
+uint32_t elfkit_replace (struct elfkit_handle *h, uint32_t section, uint32_t piece,
+                         const uint8_t *bytes, size_t length);
+uint32_t elfkit_newdata (struct elfkit_handle *h, uint32_t section, const uint8_t *bytes,
+                         size_t length, uint64_t align, uint32_t *out);
+uint32_t elfkit_flag (struct elfkit_handle *h, bool set, uint32_t bits, uint32_t *out);
+void elfkit_fill (struct elfkit_handle *h, uint8_t byte);
+
+/* Updating. */
+uint32_t elfkit_size (struct elfkit_handle *h, uint64_t *out);
+uint32_t elfkit_update (struct elfkit_handle *h, uint8_t *out, size_t length);
 
 /* Archives. */
 uint32_t elfkit_ar_begin (struct elfkit_lent image, struct elfkit_ar_handle *h,

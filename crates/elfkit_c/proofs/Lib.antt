@@ -1,4 +1,5 @@
 pub mod ArchiveLaws
+pub mod EditLaws
 pub mod HandleLaws
 pub mod Refusals
 pub mod TranslationLaws

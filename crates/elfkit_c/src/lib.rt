@@ -9,10 +9,12 @@
 #![tactic(auto)]
 
 mod archives;
+mod editing;
 mod hashes;
 mod headers;
 mod items;
 mod opening;
 mod strings;
 mod translation;
+mod updating;
 mod versions;

@@ -1,0 +1,16 @@
+//! The calls that edit an object which is open for C: each is the call of the plain object, of what
+//! C hands over, with a number for its refusal. The object stays open, and is as it was where the
+//! call is refused.
+#![tactic(auto)]
+
+mod flags;
+mod headers;
+mod pieces;
+mod records;
+mod sections;
+
+pub use flags::{set_fill, set_flags};
+pub use headers::{new_phdrs, store_ehdr, store_phdr, store_shdr};
+pub use pieces::{add_bytes, put_bytes};
+pub use records::{ehdr_from, phdr_from, shdr_from};
+pub use sections::add_section;
