@@ -67,6 +67,7 @@ test-c: build/libelfkit.a
 
 test-programs: build/libelf.so.1
 	@capi/compare-programs build
+	@capi/compare-writers build
 
 install-lib: build/libelf.so.1
 	install -d $(DESTDIR)$(LIBDIR)/pkgconfig $(DESTDIR)$(PREFIX)/include/elfkit

@@ -2,6 +2,7 @@
    the file twice, privately: one mapping is lent to the core and nobody writes it, the other is
    what programs see, since some write into the data of a section. Of ELF_C_READ_MMAP both are one
    mapping, which nobody can write. The core reads the headers and refuses what is no image. */
+#include <fcntl.h>
 #include <stdlib.h>
 #include <string.h>
 #include <sys/mman.h>
@@ -33,14 +34,24 @@ let_go (Elf *elf)
     munmap ((void *) elf->lent, elf->size);
   if (elf->memory == MAPPED || elf->memory == MAPPED_ONCE)
     munmap (elf->shown, elf->size);
+  if (elf->memory == COPIED || elf->memory == WRITTEN)
+    free ((void *) elf->lent);
   if (elf->memory == COPIED)
-    {
-      free ((void *) elf->lent);
-      free (elf->shown);
-    }
+    free (elf->shown);
+  if (elf->memory == WRITTEN)
+    munmap (elf->shown, elf->size);
   if (elf->memory == BORROWED && (elf->marks & IS_HANDED_OVER))
     free (elf->shown);
   free (elf->front);
+  for (struct kept *next, *k = elf->kept; k != NULL; k = next)
+    {
+      next = k->next;
+      if (k->is_mapped)
+        munmap (k->at, k->size);
+      else
+        free (k->at);
+      free (k);
+    }
 }
 
 /* The native form of the ELF header, from the core's. What it says of the tables is what stands in
@@ -88,7 +99,7 @@ begin_object (Elf *elf)
     return false;
   /* a table at place 0 is none */
   elf->phnum = elf->tables.phoff == 0 ? 0 : elfkit_phnum (&elf->handle);
-  elf->shnum = elfkit_shnum (&elf->handle);
+  elf->shnum = elf->opened = elfkit_shnum (&elf->handle);
   if (make_ehdr (elf))
     return true;
   set_error (E_NOMEM);
@@ -146,6 +157,57 @@ begun_member (Elf *archive, Elf_Cmd cmd)
   return elf;
 }
 
+uint8_t *
+map_shown (int fd, size_t size)
+{
+  void *shown = mmap (NULL, size, PROT_READ | PROT_WRITE, MAP_PRIVATE, fd, 0);
+  return shown == MAP_FAILED ? NULL : shown;
+}
+
+void
+make_private (Elf *elf)
+{
+  if (elf->memory != MAPPED && elf->memory != WRITTEN)
+    return;
+  const size_t page = sysconf (_SC_PAGESIZE);
+  for (size_t at = 0; at < elf->size; at += page)
+    {
+      volatile uint8_t *byte = elf->shown + at;
+      *byte = *byte;
+    }
+}
+
+bool
+own_image (Elf *elf)
+{
+  if (elf->memory != MAPPED)
+    return true;
+  uint8_t *copy = malloc (elf->size);
+  if (copy == NULL)
+    {
+      set_error (E_NOMEM);
+      return false;
+    }
+  memcpy (copy, elf->lent, elf->size);
+  struct elfkit_lent image = { copy, elf->size }, back = { NULL, 0 };
+  struct elfkit_handle handle = { NULL };
+  if (elf->handle.ptr != NULL)
+    {
+      if (!is_given (elfkit_begin (image, &handle, &back)))
+        {
+          free (copy);
+          return false;
+        }
+      elfkit_end (&elf->handle, &back);
+      elf->handle = handle;
+    }
+  munmap ((void *) elf->lent, elf->size);
+  elf->lent = copy;
+  elf->memory = WRITTEN;
+  make_private (elf);
+  return true;
+}
+
 /* Maps the file, or reads it where it cannot be mapped. */
 static bool
 take_file (Elf *elf, int fd)
@@ -161,9 +223,8 @@ take_file (Elf *elf, int fd)
       elf->size = st.st_size;
       bool once = elf->cmd == ELF_C_READ_MMAP;
       void *lent = mmap (NULL, elf->size, PROT_READ, MAP_PRIVATE, fd, 0);
-      void *shown = once ? lent
-                    : mmap (NULL, elf->size, PROT_READ | PROT_WRITE, MAP_PRIVATE, fd, 0);
-      if (lent != MAP_FAILED && shown != MAP_FAILED)
+      void *shown = once ? lent : map_shown (fd, elf->size);
+      if (lent != MAP_FAILED && shown != NULL)
         {
           elf->lent = lent;
           elf->map = elf->shown = shown;
@@ -172,7 +233,7 @@ take_file (Elf *elf, int fd)
         }
       if (lent != MAP_FAILED)
         munmap (lent, elf->size);
-      if (shown != MAP_FAILED && shown != lent)
+      if (shown != NULL && shown != lent)
         munmap (shown, elf->size);
     }
   size_t room = 4096, size = 0;
@@ -211,12 +272,26 @@ is_opened_so (const Elf *elf, Elf_Cmd cmd)
 {
   if (cmd == ELF_C_READ_MMAP_PRIVATE)
     return elf->cmd == cmd;
-  return elf->cmd == ELF_C_RDWR || elf->cmd == ELF_C_RDWR_MMAP;
+  return elf->cmd == ELF_C_RDWR || elf->cmd == ELF_C_RDWR_MMAP || elf->cmd == ELF_C_WRITE
+         || elf->cmd == ELF_C_WRITE_MMAP;
 }
 
-/* elf_begin: a descriptor over a file, once more over a descriptor, or over the member that an
-   archive stands at. The image is read through mappings; what is no image and no archive has the
-   kind ELF_K_NONE. Left out: ELF_C_WRITE. */
+/* A descriptor that makes an image anew, over nothing. */
+static Elf *
+begun_bare (int fd, Elf_Cmd cmd)
+{
+  Elf *elf = calloc (1, sizeof *elf);
+  if (elf == NULL)
+    set_error (E_NOMEM);
+  else
+    *elf = (Elf) { .kind = ELF_K_ELF, .cmd = cmd, .fd = fd, .refs = 1, .memory = NOTHING,
+                   .order = NATIVE_ORDER, .flags = ELF_F_DIRTY, .is_bare = true };
+  return elf;
+}
+
+/* elf_begin: a descriptor over a file, once more over a descriptor, over the member that an archive
+   stands at, or over nothing, for an image that is made anew. The image is read through mappings;
+   what is no image and no archive has the kind ELF_K_NONE. */
 PUBLIC Elf *
 elf_begin (int fd, Elf_Cmd cmd, Elf *ref)
 {
@@ -241,7 +316,9 @@ elf_begin (int fd, Elf_Cmd cmd, Elf *ref)
       return NULL;
     case ELF_C_WRITE:
     case ELF_C_WRITE_MMAP:
-      set_error (E_UNSUPPORTED);
+      if (fcntl (fd, F_GETFD) != -1)
+        return begun_bare (fd, cmd);
+      set_error (E_INVALID_FILE);
       return NULL;
     default:
       set_error (E_INVALID_CMD);
@@ -301,14 +378,19 @@ elf_memory (char *image, size_t size)
   return begun (elf);
 }
 
-/* elf_clone: a copy without the file. Left out. */
+/* elf_clone: a descriptor that makes an image anew, for the file of another one and of its class. A
+   write of that file leaves what the other one has of it. */
 PUBLIC Elf *
 elf_clone (Elf *elf, Elf_Cmd cmd)
 {
-  (void) cmd;
-  if (elf != NULL)
-    set_error (E_UNSUPPORTED);
-  return NULL;
+  if (elf == NULL || cmd != ELF_C_EMPTY)
+    return NULL;
+  if ((elf->cmd == ELF_C_RDWR || elf->cmd == ELF_C_RDWR_MMAP) && !own_image (elf))
+    return NULL;
+  Elf *clone = begun_bare (elf->fd, elf->cmd);
+  if (clone != NULL)
+    clone->class = elf->class;
+  return clone;
 }
 
 /* Takes a member out of the open ones of its archive. */
@@ -343,12 +425,14 @@ elf_end (Elf *elf)
       struct elfkit_lent back = { NULL, 0 };
       elfkit_end (&elf->handle, &back);
     }
-  for (size_t i = 0; elf->sections != NULL && i < elf->shnum; i++)
+  for (size_t i = 0; elf->sections != NULL && i < elf->opened; i++)
+    free_pieces (&elf->sections[i]);
+  for (size_t i = elf->opened; i < elf->shnum; i++)
     {
-      free (elf->sections[i].shdr);
-      free (elf->sections[i].data.owned);
-      free (elf->sections[i].raw.owned);
+      free_pieces (section_at (elf, i));
+      free (section_at (elf, i));
     }
+  free (elf->added);
   free_chunks (elf);
   free (elf->sections);
   free (elf->phdr);
@@ -391,10 +475,10 @@ elf_getbase (Elf *elf)
 PUBLIC char *
 elf_getident (Elf *elf, size_t *size)
 {
-  bool is_elf = elf != NULL && elf->kind == ELF_K_ELF;
+  bool has_ident = elf != NULL && elf->kind == ELF_K_ELF && elf->ehdr != NULL;
   if (size != NULL)
-    *size = is_elf ? EI_NIDENT : 0;
-  return is_elf ? (char *) ((Elf64_Ehdr *) elf->ehdr)->e_ident : NULL;
+    *size = has_ident ? EI_NIDENT : 0;
+  return has_ident ? (char *) ((Elf64_Ehdr *) elf->ehdr)->e_ident : NULL;
 }
 
 /* elf_rawfile: the image as programs see it. */

@@ -15,7 +15,7 @@ may_write (const Elf *elf)
 {
   if (elf->memory == INSIDE)
     return may_write (elf->parent);
-  return elf->memory == MAPPED || elf->memory == COPIED;
+  return elf->memory == MAPPED || elf->memory == COPIED || elf->memory == WRITTEN;
 }
 
 /* Whether programs write into the data: libdwfl does, of relocatable images. */
@@ -88,7 +88,7 @@ section_align (const GElf_Shdr *shdr, unsigned int class)
 }
 
 /* Makes data that of an image. */
-static void
+void
 tie (struct elfkit_data *d, Elf *elf)
 {
   d->elf = elf;
@@ -133,6 +133,8 @@ elf_rawdata (Elf_Scn *scn, Elf_Data *data)
         set_error (E_INVALID_OPERAND);
       return NULL;
     }
+  if (scn->is_made)
+    return &scn->raw.d;
   if (scn->has_raw == 0)
     {
       scn->has_raw = make_raw (scn) ? 1 : 2;
@@ -208,18 +210,28 @@ make_data (Elf_Scn *scn)
   return scn->data.d.d_buf != NULL;
 }
 
-/* elf_getdata: the data of a section in memory form; it has one piece. */
+/* The piece after one of a section. */
+static Elf_Data *
+next_piece (Elf_Scn *scn, const Elf_Data *data)
+{
+  for (struct elfkit_data *d = &scn->data; d != NULL; d = d->next)
+    if (&d->d == data)
+      return d->next == NULL ? NULL : &d->next->d;
+  set_error (E_DATA_MISMATCH);
+  return NULL;
+}
+
+/* elf_getdata: the data of a section in memory form; it has one piece, and those that a program
+   added. */
 PUBLIC Elf_Data *
 elf_getdata (Elf_Scn *scn, Elf_Data *data)
 {
   if (scn == NULL)
     return NULL;
   if (data != NULL)
-    {
-      if (data != &scn->data.d)
-        set_error (E_INVALID_OPERAND);
-      return NULL;
-    }
+    return next_piece (scn, data);
+  if (scn->is_made)
+    return &scn->data.d;
   if (scn->has_data == 0)
     {
       scn->has_data = make_data (scn) ? 1 : 2;
@@ -251,6 +263,19 @@ free_chunk (void *chunk)
 {
   free (((struct elfkit_data *) chunk)->owned);
   free (chunk);
+}
+
+void
+free_pieces (Elf_Scn *scn)
+{
+  free (scn->shdr);
+  free (scn->data.owned);
+  free (scn->raw.owned);
+  for (struct elfkit_data *next, *d = scn->data.next; d != NULL; d = next)
+    {
+      next = d->next;
+      free (d);
+    }
 }
 
 void

@@ -1,6 +1,5 @@
-/* flags.c: the flags of the parts of an object. They are kept for programs that ask for them;
-   there is no update yet that looks at them. Data that a program says it wrote is read from its
-   buffer. */
+/* flags.c: the flags of the parts of an object, which elf_update looks at. Data that a program says
+   it wrote is read from its buffer. */
 #include "object.h"
 
 /* Sets or clears, and gives the flags as they then are. */

@@ -50,7 +50,7 @@ put_number (uint8_t *image, size_t at, size_t width, uint64_t number)
     image[at + (msb ? width - 1 - i : i)] = number >> (8 * i);
 }
 
-static struct tables
+struct tables
 tables_of (const uint8_t *image)
 {
   const struct places *p = places_of (image);

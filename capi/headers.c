@@ -5,14 +5,15 @@
 
 #include "object.h"
 
-/* Whether the descriptor is over an ELF image, of that class unless it is 0. */
-static bool
+bool
 is_elf (Elf *elf, unsigned int class)
 {
   if (elf == NULL)
     return false;
   if (elf->kind != ELF_K_ELF)
     set_error (E_INVALID_HANDLE);
+  else if (elf->ehdr == NULL)
+    set_error (E_WRONG_ORDER_EHDR);
   else if (class != 0 && elf->class != class)
     set_error (E_INVALID_CLASS);
   else
@@ -92,7 +93,18 @@ elf_getshdrstrndx (Elf *elf, size_t *index)
 {
   if (!is_elf (elf, 0))
     return -1;
-  *index = elf->is_cut ? elf->tables.shstrndx : elfkit_shstrndx (&elf->handle);
+  GElf_Ehdr ehdr;
+  GElf_Shdr first;
+  gelf_getehdr (elf, &ehdr);
+  if (elf->is_cut)
+    *index = elf->tables.shstrndx;
+  else if (!elf->is_bare && ehdr.e_shstrndx == elf->tables.shstrndx)
+    *index = elfkit_shstrndx (&elf->handle);
+  else if (ehdr.e_shstrndx == SHN_XINDEX && elf->shnum > 0
+           && gelf_getshdr (elf_getscn (elf, 0), &first) != NULL)
+    *index = first.sh_link;
+  else
+    *index = ehdr.e_shstrndx;
   return 0;
 }
 
@@ -120,11 +132,27 @@ gelf_getphdr (Elf *elf, int ndx, GElf_Phdr *dst)
       set_error (E_NO_PHDR);
       return NULL;
     }
-  return is_given (elfkit_phdr (&elf->handle, (uint32_t) ndx, dst)) ? dst : NULL;
+  if (elf->phdr == NULL)
+    return is_given (elfkit_phdr (&elf->handle, (uint32_t) ndx, dst)) ? dst : NULL;
+  if (ndx < 0 || (size_t) ndx >= elf->phnum)
+    {
+      set_error (E_INVALID_INDEX);
+      return NULL;
+    }
+  if (elf->class == ELFCLASS64)
+    *dst = ((Elf64_Phdr *) elf->phdr)[ndx];
+  else
+    {
+      const Elf32_Phdr *p = (Elf32_Phdr *) elf->phdr + ndx;
+      *dst = (GElf_Phdr) { .p_type = p->p_type, .p_offset = p->p_offset, .p_vaddr = p->p_vaddr,
+                           .p_paddr = p->p_paddr, .p_filesz = p->p_filesz,
+                           .p_memsz = p->p_memsz, .p_flags = p->p_flags, .p_align = p->p_align };
+    }
+  return dst;
 }
 
 /* All program headers in native form, for elf32_getphdr and elf64_getphdr. */
-static void *
+void *
 native_phdrs (Elf *elf)
 {
   if (elf->phdr != NULL)
@@ -196,7 +224,7 @@ gelf_getshdr (Elf_Scn *scn, GElf_Shdr *dst)
 }
 
 /* The section header in native form, for elf32_getshdr and elf64_getshdr. */
-static void *
+void *
 native_shdr (Elf_Scn *scn, unsigned int class)
 {
   if (scn == NULL || !is_elf (scn->elf, class))
@@ -240,12 +268,11 @@ elf64_getshdr (Elf_Scn *scn)
   return native_shdr (scn, ELFCLASS64);
 }
 
-/* gelf_update_shdr: stores a header in memory, where gelf_getshdr and its like then find it. */
-PUBLIC int
-gelf_update_shdr (Elf_Scn *scn, GElf_Shdr *src)
+bool
+put_shdr (Elf_Scn *scn, const GElf_Shdr *src)
 {
-  if (scn == NULL || src == NULL || native_shdr (scn, scn->elf->class) == NULL)
-    return 0;
+  if (native_shdr (scn, scn->elf->class) == NULL)
+    return false;
   if (scn->elf->class == ELFCLASS64)
     *(Elf64_Shdr *) scn->shdr = *src;
   else if (src->sh_flags > UINT32_MAX || src->sh_addr > UINT32_MAX || src->sh_offset > UINT32_MAX
@@ -253,7 +280,7 @@ gelf_update_shdr (Elf_Scn *scn, GElf_Shdr *src)
            || src->sh_entsize > UINT32_MAX)
     {
       set_error (E_INVALID_DATA);
-      return 0;
+      return false;
     }
   else
     *(Elf32_Shdr *) scn->shdr = (Elf32_Shdr) {
@@ -262,8 +289,17 @@ gelf_update_shdr (Elf_Scn *scn, GElf_Shdr *src)
       .sh_link = src->sh_link, .sh_info = src->sh_info, .sh_addralign = src->sh_addralign,
       .sh_entsize = src->sh_entsize
     };
-  scn->shdr_flags |= ELF_F_DIRTY;
   scn->elf->has_links = false;
+  return true;
+}
+
+/* gelf_update_shdr: stores a header in memory, where gelf_getshdr and its like then find it. */
+PUBLIC int
+gelf_update_shdr (Elf_Scn *scn, GElf_Shdr *src)
+{
+  if (scn == NULL || src == NULL || !put_shdr (scn, src))
+    return 0;
+  scn->shdr_flags |= ELF_F_DIRTY;
   return 1;
 }
 

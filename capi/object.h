@@ -19,6 +19,7 @@ struct elfkit_data
   Elf_Scn *scn;                 /* the section, or NULL for a chunk of the file */
   Elf *elf;
   void *owned;                  /* memory to be freed with it */
+  struct elfkit_data *next;     /* the next piece of the section */
   bool from_core;               /* the core's items are those of d_buf */
   bool is_64, is_native;        /* the class and the order of its image */
   unsigned int flags;
@@ -30,6 +31,8 @@ struct Elf_Scn
   uint32_t index;
   uint32_t extended;            /* its table of extended indexes, 0 for none */
   uint8_t has_home, has_data, has_raw;  /* 1: there; 2: refused */
+  bool is_made;                 /* a program made it, and its data */
+  bool is_new;                  /* the image that is open has no such section */
   bool has_end;                 /* where its strings end is known */
   uint64_t strings_end;         /* the place behind its last string */
   unsigned int flags, shdr_flags;
@@ -37,6 +40,16 @@ struct Elf_Scn
   struct elfkit_extent home;    /* where its bytes are */
   void *shdr;                   /* its header in native form, once a program asked for it */
   struct elfkit_data data, raw;
+  struct elfkit_data *last;     /* its last piece, once a program added one */
+};
+
+/* What programs saw of an image before it was written: they may look at it still. */
+struct kept
+{
+  struct kept *next;
+  uint8_t *at;
+  size_t size;
+  bool is_mapped;
 };
 
 /* What the ELF header says of the tables, as it stands in the image. */
@@ -70,7 +83,7 @@ struct Elf
   struct elfkit_handle handle;  /* the core's object, where the kind is ELF_K_ELF */
   const uint8_t *lent;          /* the image as the core reads it */
   /* MAPPED_ONCE: programs see the lent bytes themselves; INSIDE: it lies in its archive's image */
-  enum { MAPPED, MAPPED_ONCE, COPIED, BORROWED, INSIDE } memory;
+  enum { MAPPED, MAPPED_ONCE, COPIED, BORROWED, INSIDE, WRITTEN, NOTHING } memory;
   uint8_t *front;               /* a copy of the image, lent with another front */
   struct tables tables;         /* where the kind is ELF_K_ELF */
   bool is_cut;                  /* its section headers do not lie in it: it is read as without */
@@ -78,11 +91,16 @@ struct Elf
   unsigned int order;
   void *phdr;                   /* its program headers in native form */
   size_t phnum;
-  Elf_Scn *sections;
-  size_t shnum;
+  Elf_Scn *sections;            /* those of the image that was opened */
+  size_t opened;
+  Elf_Scn **added;              /* those that a program made, behind them */
+  size_t room;                  /* for how many there is memory */
+  size_t shnum;                 /* how many there are of both */
   bool has_links;               /* the sections know their tables of extended indexes */
   void *chunks;                 /* the chunks of the file that were asked for, a tree */
   unsigned int flags, ehdr_flags, phdr_flags;
+  bool is_bare;                 /* an image that is made anew: there is no object of it */
+  struct kept *kept;
   struct elfkit_member *member;         /* its header, where it is a member of an archive */
   struct elfkit_archive *archive;       /* its members, where the kind is ELF_K_AR */
 };
@@ -152,12 +170,20 @@ enum
   E_INVALID_INDEX,
   E_INVALID_OPERAND,
   E_INVALID_SECTION,
-  E_FD_MISMATCH = 28,
+  E_WRONG_ORDER_EHDR = 26,
+  E_FD_DISABLED,
+  E_FD_MISMATCH,
   E_OFFSET_RANGE,
   E_NOT_NUL_SECTION,
-  E_INVALID_SECTION_HEADER = 32,
+  E_DATA_MISMATCH,
+  E_INVALID_SECTION_HEADER,
   E_INVALID_DATA,
-  E_UPDATE_RO = 38,
+  E_DATA_ENCODING,
+  E_SECTION_TOO_SMALL,
+  E_INVALID_ALIGN,
+  E_INVALID_SHENTSIZE,
+  E_UPDATE_RO,
+  E_GROUP_NOT_REL = 40,
   E_NO_PHDR = 42,
   E_INVALID_SECTION_TYPE = 44,
   E_INVALID_SECTION_FLAGS,
@@ -195,8 +221,45 @@ Elf_Type section_type (const GElf_Shdr *shdr);
 bool translate (Elf_Type type, unsigned int class, bool to_memory, void *to, const void *from,
                 size_t size);
 
-/* Lets go of the chunks of a file. */
+/* Makes data that of an image. */
+void tie (struct elfkit_data *d, Elf *elf);
+
+/* Lets go of the chunks of a file, and of the pieces of a section. */
 void free_chunks (Elf *elf);
+void free_pieces (Elf_Scn *scn);
+
+/* Whether the sections are there; false and an error where it is no ELF image, or where there is no
+   memory. */
+bool has_sections (Elf *elf);
+
+/* Whether it is an ELF image, of that class unless it is 0, with an ELF header. */
+bool is_elf (Elf *elf, unsigned int class);
+
+/* The native form of a section header and of the program headers; NULL and an error where there is
+   none. */
+void *native_shdr (Elf_Scn *scn, unsigned int class);
+void *native_phdrs (Elf *elf);
+
+/* Puts a header into its native form; false and an error where it does not fit the class. */
+bool put_ehdr (Elf *elf, const GElf_Ehdr *src);
+bool put_shdr (Elf_Scn *scn, const GElf_Shdr *src);
+
+/* Maps the file as programs see it, privately; NULL where it cannot be mapped. */
+uint8_t *map_shown (int fd, size_t size);
+
+/* Makes what programs see of a file theirs alone, so that a write of the file does not change
+   it. */
+void make_private (Elf *elf);
+
+/* Has a copy of the image lent, so that a write of the file does not change what is lent; false and
+   an error where there is no memory. */
+bool own_image (Elf *elf);
+
+/* What the ELF header of an image says of the tables. */
+struct tables tables_of (const uint8_t *image);
+
+/* The byte of gaps. */
+extern uint8_t fill_byte;
 
 /* Begins over the image of a descriptor; the number of the core's refusal, or 0. */
 uint32_t begin_core (Elf *elf);
@@ -215,6 +278,13 @@ bool may_write (const Elf *elf);
 
 /* The section, with its home's place; false and an error where the core refuses. */
 bool has_home (Elf_Scn *scn);
+
+/* The section with a number below the count. */
+static inline Elf_Scn *
+section_at (Elf *elf, size_t index)
+{
+  return index < elf->opened ? &elf->sections[index] : elf->added[index - elf->opened];
+}
 
 /* Whether the place and the length lie in a size. */
 static inline bool

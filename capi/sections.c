@@ -6,7 +6,7 @@
 
 #include "object.h"
 
-static bool
+bool
 has_sections (Elf *elf)
 {
   if (elf == NULL)
@@ -16,15 +16,15 @@ has_sections (Elf *elf)
       set_error (E_INVALID_HANDLE);
       return false;
     }
-  if (elf->sections == NULL && elf->shnum > 0)
+  if (elf->sections == NULL && elf->opened > 0)
     {
-      elf->sections = calloc (elf->shnum, sizeof *elf->sections);
+      elf->sections = calloc (elf->opened, sizeof *elf->sections);
       if (elf->sections == NULL)
         {
           set_error (E_NOMEM);
           return false;
         }
-      for (size_t i = 0; i < elf->shnum; i++)
+      for (size_t i = 0; i < elf->opened; i++)
         elf->sections[i] = (Elf_Scn) { .elf = elf, .index = i };
     }
   return true;
@@ -55,7 +55,7 @@ elf_getscn (Elf *elf, size_t index)
       set_error (E_INVALID_INDEX);
       return NULL;
     }
-  return &elf->sections[index];
+  return section_at (elf, index);
 }
 
 /* elf_nextscn: the section after one, the one with number 1 for NULL. */
@@ -67,7 +67,7 @@ elf_nextscn (Elf *elf, Elf_Scn *scn)
   if (!has_sections (elf))
     return NULL;
   size_t index = scn == NULL ? 1 : (size_t) scn->index + 1;
-  return index < elf->shnum ? &elf->sections[index] : NULL;
+  return index < elf->shnum ? section_at (elf, index) : NULL;
 }
 
 /* elf_ndxscn: a section's number. */
@@ -87,9 +87,9 @@ gelf_offscn (Elf *elf, GElf_Off offset)
   for (size_t i = 0; i < elf->shnum; i++)
     {
       GElf_Shdr shdr;
-      if (gelf_getshdr (&elf->sections[i], &shdr) == NULL || shdr.sh_offset != offset)
+      if (gelf_getshdr (section_at (elf, i), &shdr) == NULL || shdr.sh_offset != offset)
         continue;
-      found = &elf->sections[i];
+      found = section_at (elf, i);
       if (shdr.sh_size != 0 && shdr.sh_type != SHT_NOBITS)
         return found;
     }
@@ -116,13 +116,13 @@ static void
 link_sections (Elf *elf)
 {
   for (size_t i = 0; i < elf->shnum; i++)
-    elf->sections[i].extended = 0;
+    section_at (elf, i)->extended = 0;
   for (size_t i = elf->shnum; i-- > 1;)
     {
       GElf_Shdr shdr;
-      if (gelf_getshdr (&elf->sections[i], &shdr) != NULL && shdr.sh_type == SHT_SYMTAB_SHNDX
+      if (gelf_getshdr (section_at (elf, i), &shdr) != NULL && shdr.sh_type == SHT_SYMTAB_SHNDX
           && shdr.sh_link < elf->shnum)
-        elf->sections[shdr.sh_link].extended = i;
+        section_at (elf, shdr.sh_link)->extended = i;
     }
   elf->has_links = true;
 }
@@ -180,6 +180,35 @@ refused_string (Elf_Scn *scn, size_t offset)
   return number;
 }
 
+/* The string at an offset of a section whose data a program made or changed: in the buffer of the
+   piece that covers it. */
+static char *
+own_string (Elf_Scn *scn, size_t offset)
+{
+  GElf_Shdr shdr;
+  if (gelf_getshdr (scn, &shdr) == NULL)
+    return NULL;
+  if (shdr.sh_type != SHT_STRTAB)
+    set_error (E_INVALID_SECTION);
+  else if (offset >= shdr.sh_size)
+    set_error (E_OFFSET_RANGE);
+  else
+    {
+      for (const struct elfkit_data *d = &scn->data; d != NULL; d = d->next)
+        {
+          if (offset < (uint64_t) d->d.d_off || offset - d->d.d_off >= d->d.d_size
+              || d->d.d_buf == NULL)
+            continue;
+          char *string = (char *) d->d.d_buf + (offset - d->d.d_off);
+          if (memchr (string, 0, d->d.d_size - (offset - d->d.d_off)) != NULL)
+            return string;
+          break;
+        }
+      set_error (E_INVALID_INDEX);
+    }
+  return NULL;
+}
+
 /* elf_strptr: the string at an offset of a section, which lies where programs see the section. */
 PUBLIC char *
 elf_strptr (Elf *elf, size_t index, size_t offset)
@@ -197,7 +226,9 @@ elf_strptr (Elf *elf, size_t index, size_t offset)
       set_error (E_INVALID_INDEX);
       return NULL;
     }
-  Elf_Scn *scn = &elf->sections[index];
+  Elf_Scn *scn = section_at (elf, index);
+  if (scn->is_made || scn->last != NULL || (scn->has_data == 1 && !scn->data.from_core))
+    return own_string (scn, offset);
   return is_given (refused_string (scn, offset)) && has_home (scn)
          ? (char *) elf->shown + scn->home.at + offset : NULL;
 }

@@ -1,5 +1,9 @@
 /* no_memory.c: each allocation fails in turn. What is asked for is then refused, with "out of
    memory", and the descriptor can be ended. */
+#define _GNU_SOURCE
+#include <sys/mman.h>
+#include <unistd.h>
+
 #include "archive.h"
 #include "check.h"
 
@@ -60,15 +64,42 @@ walk_once (struct archive *a)
   return whole && members == MEMBERS;
 }
 
-/* What reads the image or the archive, each allocation failing in turn. */
+/* Changes the image of a file and adds a section, with a new layout; whether all of it was done. */
+static int
+write_once (struct image *m)
+{
+  GElf_Sym sym;
+  GElf_Shdr shdr;
+  int fd = memfd_create ("image", 0);
+  if (fd < 0 || write (fd, m->bytes, m->size) != (ssize_t) m->size)
+    exit (2);
+  Elf *elf = elf_begin (fd, ELF_C_RDWR, NULL);
+  Elf_Data *data = elf_getdata (elf_getscn (elf, SYMBOLS), NULL), *added = NULL;
+  Elf_Scn *scn = NULL;
+  int whole = gelf_getsym (data, 1, &sym) != NULL && gelf_update_sym (data, 1, &sym) == 1
+              && (scn = elf_newscn (elf)) != NULL && gelf_getshdr (scn, &shdr) != NULL;
+  shdr.sh_type = SHT_PROGBITS;
+  if (whole && gelf_update_shdr (scn, &shdr) == 1 && (added = elf_newdata (scn)) != NULL)
+    {
+      added->d_buf = "more";
+      added->d_size = 4;
+    }
+  whole = added != NULL && elf_update (elf, ELF_C_WRITE) > 0;
+  elf_end (elf);
+  close (fd);
+  return whole;
+}
+
+/* What reads the image or the archive or writes the image, each allocation failing in turn. A write
+   may do without some of them. */
 static void
-fail_each (struct image *m, struct archive *a)
+fail_each (struct image *m, struct archive *a, int writes)
 {
   long n = 0;
   for (;; n++)
     {
       left = n;
-      int whole = a != NULL ? walk_once (a) : read_once (m);
+      int whole = a != NULL ? walk_once (a) : writes ? write_once (m) : read_once (m);
       int all_made = left >= 0;
       left = -1;
       if (all_made)
@@ -76,8 +107,8 @@ fail_each (struct image *m, struct archive *a)
           CHECK (whole);
           break;
         }
-      CHECK (!whole);
-      CHECK (strcmp (elf_errmsg (-1), "out of memory") == 0);
+      CHECK (!whole || writes);
+      CHECK (whole || strcmp (elf_errmsg (-1), "out of memory") == 0);
       elf_errno ();
     }
   CHECK (n > 3);
@@ -92,9 +123,10 @@ main (void)
   for (int kind = 0; kind < 4; kind++)
     {
       make_image (&m, kind & 1, kind >> 1);
-      fail_each (&m, NULL);
+      fail_each (&m, NULL, 0);
+      fail_each (&m, NULL, 1);
     }
   make_archive (&a);
-  fail_each (NULL, &a);
+  fail_each (NULL, &a, 0);
   return ended ("no_memory");
 }

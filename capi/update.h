@@ -1,0 +1,38 @@
+/* update.h: an update on its way, which update.c, handing.c and written.c share. */
+#ifndef ELFKIT_UPDATE_H
+#define ELFKIT_UPDATE_H 1
+
+#include "object.h"
+
+struct update
+{
+  Elf *elf;
+  bool has_layout;              /* the places are the program's */
+  bool is_anew;                 /* it begins with an ELF header alone */
+  uint64_t end;                 /* where the next part may begin, where the places are not */
+  GElf_Ehdr ehdr;
+  struct elfkit_handle handle;  /* the object that is updated */
+  uint8_t bare[sizeof (Elf64_Ehdr)];
+};
+
+/* handing.c: hands a section over, its header and its data. */
+bool hand_section (struct update *u, Elf_Scn *scn);
+
+/* written.c: makes the image, and writes the first so many bytes of it, with zeros behind it where
+   it has fewer. */
+bool write_image (struct update *u, size_t length, size_t size);
+
+/* Whether a section has data that a program asked for or made. */
+static inline bool
+has_pieces (const Elf_Scn *scn)
+{
+  return scn->is_made ? scn->last != NULL : scn->has_data == 1;
+}
+
+static inline uint64_t
+round_up (uint64_t n, uint64_t align)
+{
+  return align <= 1 ? n : (n + align - 1) & -align;
+}
+
+#endif /* update.h */
