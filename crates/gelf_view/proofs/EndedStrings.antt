@@ -22,7 +22,8 @@ front_by has name = if has then Some name else None
 abbrev behind : ℕ → Option (List ℕ) → Option (List ℕ)
 behind x name = option_map (λ (l : List ℕ). x ∷ l) name
 
-front_behind : (x : ℕ) (name : List ℕ) (has : Bool) → front_by has (x ∷ name) ≡ behind x (front_by has name)
+front_behind : (x : ℕ) (name : List ℕ) (has : Bool)
+    → front_by has (x ∷ name) ≡ behind x (front_by has name)
 front_behind x name true = refl
 front_behind x name false = refl
 

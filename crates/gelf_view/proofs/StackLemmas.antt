@@ -74,20 +74,29 @@ over_none end (p ∷ ps) offset before =
     ∙ over_none (rounded_up end p.0 + length p.1) ps offset (omega (arith, up, before))
 
 -- blocks that end before an offset do not cover it
-over_behind : (n end : ℕ) (ps : List (ℕ × List ℕ)) (offset : ℕ) → last_end end (stacked end (take n ps)) ≤ offset
-    → first_over (stacked end ps) offset ≡ first_over (stacked (last_end end (stacked end (take n ps))) (drop n ps)) offset
+over_behind : (n end : ℕ) (ps : List (ℕ × List ℕ)) (offset : ℕ)
+    → last_end end (stacked end (take n ps)) ≤ offset
+    → first_over (stacked end ps) offset
+    ≡ first_over (stacked (last_end end (stacked end (take n ps))) (drop n ps)) offset
 unfolding stacked last_end block_end
 over_behind zero end ps offset below = refl
 over_behind (suc n) end [] offset below = refl
 over_behind (suc n) end (p ∷ ps) offset below =
-    let last : last_end (rounded_up end p.0 + length p.1) (stacked (rounded_up end p.0 + length p.1) (take n ps)) ≤ offset = below in
+    let last : last_end (rounded_up end p.0 + length p.1)
+    (stacked (rounded_up end p.0 + length p.1) (take n ps)) ≤ offset = below in
     let later = end_later (rounded_up end p.0 + length p.1) (take n ps) in
-    over_others end p.0 p.1 ps offset (and_right (nat_le (rounded_up end p.0) offset) (nat_lt offset (rounded_up end p.0 + length p.1)) (le-ltb offset (rounded_up end p.0 + length p.1) (omega (arith, later, last))))
+    let past =
+    and_right (nat_le (rounded_up end p.0) offset)
+    (nat_lt offset (rounded_up end p.0 + length p.1))
+    (le-ltb offset (rounded_up end p.0 + length p.1) (omega (arith, later, last))) in
+    over_others end p.0 p.1 ps offset past
     ∙ over_behind n (rounded_up end p.0 + length p.1) ps offset below
 
 -- where the last of all ends
 end_behind : (n end : ℕ) (ps : List (ℕ × List ℕ))
-    → last_end end (stacked end ps) ≡ last_end (last_end end (stacked end (take n ps))) (stacked (last_end end (stacked end (take n ps))) (drop n ps))
+    → last_end end (stacked end ps)
+    ≡ last_end (last_end end (stacked end (take n ps)))
+    (stacked (last_end end (stacked end (take n ps))) (drop n ps))
 unfolding stacked last_end block_end
 end_behind zero end ps = refl
 end_behind (suc n) end [] = refl
@@ -112,8 +121,10 @@ module _ (o : Object) (s offset : ℕ) where
       let all = aligned_pieces o.header.class o.header.order (section_at o s) in
       let below = subst (λ (n : ℕ). n ≤ offset) (sym first.ends) within in
       record {
-        over = over_behind count 0 all offset below ∙ ap (λ (n : ℕ). first_over (stacked n (drop count all)) offset) first.ends;
-        size = end_behind count 0 all ∙ ap (λ (n : ℕ). last_end n (stacked n (drop count all))) first.ends;
+        over = over_behind count 0 all offset below
+            ∙ ap (λ (n : ℕ). first_over (stacked n (drop count all)) offset) first.ends;
+        size = end_behind count 0 all
+            ∙ ap (λ (n : ℕ). last_end n (stacked n (drop count all))) first.ends;
       }
 
   -- the piece that comes next
@@ -154,17 +165,24 @@ module _ (o : Object) (s offset : ℕ) where
       ∙ ap (λ (n : ℕ). Some (NoString offset n)) is
 
   -- the next piece begins behind the offset
-  pub left_before : (end p size : ℕ) → p < piece_count o s → offset < rounded_up end (piece_at o s p).align → IsLeft end p
-      → size ≡ min (pieces_end o s) (2 ^ 64 - 1) → no_string o s offset ≡ Some (NoString offset size)
+  pub left_before : (end p size : ℕ) → p < piece_count o s
+      → offset < rounded_up end (piece_at o s p).align → IsLeft end p
+      → size ≡ min (pieces_end o s) (2 ^ 64 - 1)
+      → no_string o s offset ≡ Some (NoString offset size)
   left_before end p size there before left is =
       let at = rounded_up end (piece_at o s p).align in
       let rest = drop (p + 1) (aligned_pieces o.header.class o.header.order (section_at o s)) in
-      let past = and_left (nat_le at offset) (nat_lt offset (at + length (bytes_in o s p))) (lt-leb at offset before) in
+      let past =
+      and_left (nat_le at offset) (nat_lt offset (at + length (bytes_in o s p)))
+      (lt-leb at offset before) in
       let next = left_next end p there left past in
-      no_string_is size (next.over ∙ over_none (at + length (bytes_in o s p)) rest offset (omega (arith, before))) (sym is)
+      no_string_is size
+      (next.over ∙ over_none (at + length (bytes_in o s p)) rest offset (omega (arith, before)))
+      (sym is)
 
   -- none is left
-  pub left_none : (end p : ℕ) → end < 2 ^ 64 → piece_count o s ≤ p → IsLeft end p → no_string o s offset ≡ Some (NoString offset end)
+  pub left_none : (end p : ℕ) → end < 2 ^ 64 → piece_count o s ≤ p → IsLeft end p
+      → no_string o s offset ≡ Some (NoString offset end)
   unfolding piece_count aligned_pieces stacked last_end
   left_none end p small past left =
       let form : Piece → ℕ × List ℕ = λ q. (q.align, piece_bytes o.header.class o.header.order (section_at o s).raw q) in
@@ -199,9 +217,12 @@ module _ (o : Object) (s offset : ℕ) where
     stands_next next is =
         let stands = standing (Ends next) is in
         let at = rounded_up end (piece_at o s p).align in
-        let past = and_right (nat_le at offset) (nat_lt offset (at + length (bytes_in o s p))) (le-ltb offset (at + length (bytes_in o s p)) (omega (arith, stands.0, stands.1))) in
+        let past =
+        and_right (nat_le at offset) (nat_lt offset (at + length (bytes_in o s p)))
+        (le-ltb offset (at + length (bytes_in o s p)) (omega (arith, stands.0, stands.1))) in
         subst (λ (n : ℕ). IsLeft n (p + 1)) (sym stands.0) (left_next end p there left past)
 
-    pub stands_before : (size : ℕ) → Stands end align len offset Before → size ≡ min (pieces_end o s) (2 ^ 64 - 1)
+    pub stands_before : (size : ℕ) → Stands end align len offset Before
+        → size ≡ min (pieces_end o s) (2 ^ 64 - 1)
         → no_string o s offset ≡ Some (NoString offset size)
     stands_before size is told = left_before end p size there (standing Before is) left told

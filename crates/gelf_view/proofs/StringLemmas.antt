@@ -228,9 +228,10 @@ module _ (o : Object) (s offset p start : ℕ) (begins : Begins o s offset p sta
 -- ---- In a home
 
 -- the string in a home, by its bytes up to their last NUL
-pub home_string_is : (o : Object) (s offset p start : ℕ) (front : List ℕ) → (piece_at o s p).own ≡ None
-    → IsEndedFront (section_at o s).raw front
-    → or_refused (string_front (drop start front)) (Unended offset) ≡ or_refused (string_front (drop start (bytes_in o s p))) (Unended offset)
+pub home_string_is : (o : Object) (s offset p start : ℕ) (front : List ℕ)
+    → (piece_at o s p).own ≡ None → IsEndedFront (section_at o s).raw front
+    → or_refused (string_front (drop start front)) (Unended offset)
+    ≡ or_refused (string_front (drop start (bytes_in o s p))) (Unended offset)
 home_string_is o s offset p start front clean ended =
     ap (λ (found : Option (List ℕ)). or_refused found (Unended offset))
     (front_strings (section_at o s).raw front ended start

@@ -6,10 +6,16 @@ use Rattle.gelf_view.proofs.string_calls.home_string.Goals as goal
 
 pub returns-in-Some-clause-value : goal.returns-in-Some-clause-value
 returns-in-Some-clause-value g c = λ told.
+    let o = c.args.elf.now.o in
+    let start = c.args.start in
     ap (λ (found : Option (List ℕ)). or_refused found (Unended c.args.offset)) c.in-Some.ensures
-    ∙ home_string_is c.args.elf.now.o c.args.s.0 c.args.offset c.args.start.piece c.args.start.start _ c.requires.clean (c.ended_bytes.ensures told)
+    ∙ home_string_is o c.args.s.0 c.args.offset start.piece start.start _ c.requires.clean
+    (c.ended_bytes.ensures told)
 
 pub returns-in-None-clause-value : goal.returns-in-None-clause-value
 returns-in-None-clause-value g c = λ told.
+    let o = c.args.elf.now.o in
+    let start = c.args.start in
     ap (λ (found : Option (List ℕ)). or_refused found (Unended c.args.offset)) c.in-None.ensures
-    ∙ home_string_is c.args.elf.now.o c.args.s.0 c.args.offset c.args.start.piece c.args.start.start _ c.requires.clean (c.ended_bytes.ensures told)
+    ∙ home_string_is o c.args.s.0 c.args.offset start.piece start.start _ c.requires.clean
+    (c.ended_bytes.ensures told)

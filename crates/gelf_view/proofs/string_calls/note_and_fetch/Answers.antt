@@ -13,7 +13,8 @@ pub returns-clause-answer : goal.returns-clause-answer
 returns-clause-answer g c =
     subst (λ (st : State g.row.S.Denot). IfErr c.fetch_start.result
     (λ e. AnswersRead st.told (wanted (strptr c.args.s.0 c.args.offset) st)
-    (strptr_refusals st.o c.args.s.0 c.args.offset) (Err e) ((strptr c.args.s.0 c.args.offset).answer st.o)))
+    (strptr_refusals st.o c.args.s.0 c.args.offset) (Err e)
+    ((strptr c.args.s.0 c.args.offset).answer st.o)))
     c.note_pieces.ensures c.fetch_start.ensures.answer
 
 pub returns-clause-queries : goal.returns-clause-queries

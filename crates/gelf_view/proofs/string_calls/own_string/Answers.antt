@@ -12,12 +12,20 @@ bytes_from-requires g c =
 
 pub returns-in-Some-clause-value : goal.returns-in-Some-clause-value
 returns-in-Some-clause-value g c = λ told.
-    let same = file_same c.args.elf.now.o c.args.s.0 c.args.start.piece c.bytes_there-bytes.result.now c.requires.passed (c.bytes_there-bytes.ensures.exact told) c.bytes_are_ranged.ensures.bytes in
+    let there = c.bytes_there-bytes.result.now in
+    let exact = c.bytes_there-bytes.ensures.exact told in
+    let same =
+    file_same c.args.elf.now.o c.args.s.0 c.args.start.piece there c.requires.passed exact
+    c.bytes_are_ranged.ensures.bytes in
     ap (λ (found : Option (List ℕ)). or_refused found (Unended c.args.offset))
     (c.in-Some.ensures ∙ ap string_front (c.bytes_from.ensures ∙ ap (drop c.args.start.start) same))
 
 pub returns-in-None-clause-value : goal.returns-in-None-clause-value
 returns-in-None-clause-value g c = λ told.
-    let same = file_same c.args.elf.now.o c.args.s.0 c.args.start.piece c.bytes_there-bytes.result.now c.requires.passed (c.bytes_there-bytes.ensures.exact told) c.bytes_are_ranged.ensures.bytes in
+    let there = c.bytes_there-bytes.result.now in
+    let exact = c.bytes_there-bytes.ensures.exact told in
+    let same =
+    file_same c.args.elf.now.o c.args.s.0 c.args.start.piece there c.requires.passed exact
+    c.bytes_are_ranged.ensures.bytes in
     ap (λ (found : Option (List ℕ)). or_refused found (Unended c.args.offset))
     (c.in-None.ensures ∙ ap string_front (c.bytes_from.ensures ∙ ap (drop c.args.start.start) same))

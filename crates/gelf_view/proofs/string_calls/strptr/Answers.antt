@@ -12,16 +12,27 @@ use Rattle.gelf_view.proofs.string_calls.strptr.Goals as goal
 pub returns-in-Ok : goal.returns-in-Ok
 returns-in-Ok g c =
     let begins = c.in-Ok.ensures.begins in
-    let asked = c.in-Ok.ensures.queries in (
+    let asked = c.in-Ok.ensures.queries in
+    let st = c.args.elf.now in
+    let after = c.note_and_fetch.new.elf in
+    let s = c.args.s.0 in
+    let offset = c.args.offset in
+    let start = c.in-Ok.start in
+    let found = c.string_there.result in (
       (
         refl,
         (λ w. tt),
-        queries_then g.S.Source (strptr c.args.s.0 c.args.offset) [] c.in-Ok.start c.string_there.result c.args.elf.now c.note_and_fetch.new.elf (unended_refusal c.string_there.result c.args.offset c.string_there.ensures.err) asked,
+        queries_then g.S.Source (strptr s offset) [] start found st after
+            (unended_refusal found offset c.string_there.ensures.err) asked,
       ),
       record {
-        answer = string_found g.S.Source c.args.elf.now c.note_and_fetch.new.elf c.args.s.0 c.args.offset c.in-Ok.start.piece c.in-Ok.start.start begins c.args.elf.now.told _
-            (unended_seen c.string_there.result c.args.offset c.string_there.ensures.err)
-            (λ told. c.string_there.ensures.value (asked.reads.told ∙ told) ∙ ap (λ (o : Object). or_refused (string_front (drop c.in-Ok.start.start (bytes_in o c.args.s.0 c.in-Ok.start.piece))) (Unended c.args.offset)) asked.object);
+        answer = string_found g.S.Source st after s offset start.piece start.start begins st.told _
+            (unended_seen found offset c.string_there.ensures.err)
+            (λ told.
+            c.string_there.ensures.value (asked.reads.told ∙ told)
+            ∙ ap (λ (o : Object).
+            or_refused (string_front (drop start.start (bytes_in o s start.piece)))
+            (Unended offset)) asked.object);
         rests = tt;
       },
     )

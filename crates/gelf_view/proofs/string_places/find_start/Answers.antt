@@ -7,8 +7,9 @@ use Rattle.gelf_view.proofs.string_places.find_start.Goals as goal
 pub loop-piece-init : goal.loop-piece-init
 loop-piece-init g c = (
   c.first_pieces-first.ensures.within,
-  left_behind c.args.elf.now.o c.args.s.0 c.args.offset c.first_pieces-first.result.count c.first_pieces-first.result.end
-      c.first_pieces-first.ensures.first c.first_pieces-first.ensures.within,
+  left_behind c.args.elf.now.o c.args.s.0 c.args.offset c.first_pieces-first.result.count
+      c.first_pieces-first.result.end c.first_pieces-first.ensures.first
+      c.first_pieces-first.ensures.within,
 )
 
 pub alignment-requires : goal.alignment-requires
@@ -27,8 +28,10 @@ returns-in-Covers-clause-ok g c =
 
 pub returns-in-Before-clause-err : goal.returns-in-Before-clause-err
 returns-in-Before-clause-err g c =
-    stands_before c.args.elf.now.o c.args.s.0 c.args.offset c.loop-piece.end c.loop-piece.piece c.alignment.result c.byte_count.result (omega arith)
-    c.alignment.ensures c.byte_count.ensures c.loop-piece.invariant.1 c.data_size-size.result c.in-Before.ensures c.data_size-size.ensures
+    let so_far = c.loop-piece in
+    stands_before c.args.elf.now.o c.args.s.0 c.args.offset so_far.end so_far.piece
+    c.alignment.result c.byte_count.result (omega arith) c.alignment.ensures c.byte_count.ensures
+    so_far.invariant.1 c.data_size-size.result c.in-Before.ensures c.data_size-size.ensures
 
 pub loop-piece-preserved : goal.loop-piece-preserved
 loop-piece-preserved g c = (
@@ -39,5 +42,7 @@ loop-piece-preserved g c = (
 
 pub returns-clause-err : goal.returns-clause-err
 returns-clause-err g c =
-    left_none c.args.elf.now.o c.args.s.0 c.args.offset c.loop-piece.end c.loop-piece.piece (omega (arith, c.loop-piece.invariant.0))
-    (omega (arith, c.loop-piece-test.false, c.requires.count)) c.loop-piece.invariant.1
+    let so_far = c.loop-piece in
+    left_none c.args.elf.now.o c.args.s.0 c.args.offset so_far.end so_far.piece
+    (omega (arith, so_far.invariant.0))
+    (omega (arith, c.loop-piece-test.false, c.requires.count)) so_far.invariant.1
