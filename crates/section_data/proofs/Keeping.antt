@@ -124,7 +124,8 @@ module _ (section : ℕ) (home : Home) (empty_read has_first : Bool) (first : Pi
     good : IsUse len u
     good = opened_use len old opened u opens is kept.used
 
-    again : (w : Used) → v ≡ w → w.others ≡ u.others → IsUse len w → IsKept len has_first first (Some v)
+    again : (w : Used) → v ≡ w → w.others ≡ u.others → IsUse len w
+        → IsKept len has_first first (Some v)
     again w now same good =
         subst (λ (w : Used). IsKept len has_first first (Some w)) (sym now)
         (kept_again len has_first first old (Some w) kept (same ∙ ap (λ (w : UsedView). w.others) same_view) good)
@@ -193,7 +194,8 @@ module _ (section : ℕ) (home : Home) (empty_read has_first : Bool) (first : Pi
         ∙ ap (λ (c : CellView). c.pieces ++ q ∷ []) seen
 
     pub pushed_kept : {T E : Type 0} (r : Result T E) (q : Piece) → has_first ≡ true → length c.pieces < MAX_PIECES
-        → v ≡ record u { others = v.others } → OnOk r (v.others ≡ u.others ++ q ∷ []) → OnErr r (v.others ≡ u.others)
+        → v ≡ record u { others = v.others } → OnOk r (v.others ≡ u.others ++ q ∷ [])
+        → OnErr r (v.others ≡ u.others)
         → IsKept len has_first first (Some v)
     pushed_kept (Ok x) q there few rest more same = record {
       used = subst (λ (w : Used). IsUse len w) (sym rest) (record { bytes = good.bytes; copy = good.copy; room = good.room });
@@ -204,16 +206,19 @@ module _ (section : ℕ) (home : Home) (empty_read has_first : Bool) (first : Pi
         kept_again len has_first first old (Some v) kept (same ∙ ap (λ (w : UsedView). w.others) same_view)
         (subst (λ (w : Used). IsUse len w) (sym rest) (record { bytes = good.bytes; copy = good.copy; room = good.room }))
 
-    rest_seen : v ≡ record u { others = v.others } → (pieces : List Piece) → pieces_view has_first first v.others ≡ pieces
+    rest_seen : v ≡ record u { others = v.others } → (pieces : List Piece)
+        → pieces_view has_first first v.others ≡ pieces
         → view_of (Some v) ≡ record c { pieces = pieces }
     rest_seen rest pieces is =
-        ap (λ (w : Used). record (view_of (Some w)) { pieces = pieces_view has_first first v.others }) rest
+        ap (λ (w : Used).
+        record (view_of (Some w)) { pieces = pieces_view has_first first v.others }) rest
         ∙ ap (λ (l : List Piece). record (view_of (Some u)) { pieces = l }) is
         ∙ ap (λ (w : UsedView). record (kept_view section home empty_read has_first first w) { pieces = pieces }) same_view
         ∙ ap (λ (c : CellView). record c { pieces = pieces }) seen
 
     pub pushed_seen : {T E : Type 0} (r : Result T E) (q : Piece) → has_first ≡ true → v ≡ record u { others = v.others }
-        → OnOk r (v.others ≡ u.others ++ q ∷ []) → OnOk r (view_of (Some v) ≡ record c { pieces = c.pieces ++ q ∷ [] })
+        → OnOk r (v.others ≡ u.others ++ q ∷ [])
+        → OnOk r (view_of (Some v) ≡ record c { pieces = c.pieces ++ q ∷ [] })
     pushed_seen (Ok x) q there rest more = rest_seen rest (c.pieces ++ q ∷ []) (grown_seen q there (sym more))
     pushed_seen (Err e) q there rest more = tt
 

@@ -22,7 +22,8 @@ use Rattle.section_data.specs.Spans.{owns_bytes, OwnsBytes, IsRun, IsSpan, IsNot
 take_both : {X : Type 0} (n m : ℕ) (l : List X) → take (n + m) l ≡ take n l ++ take m (drop n l)
 take_both {X} n m l =
     sym (take-append-drop n (take (n + m) l))
-    ∙ ap (λ (front : List X). front ++ drop n (take (n + m) l)) (take-take n (n + m) l (omega arith))
+    ∙ ap (λ (front : List X). front ++ drop n (take (n + m) l))
+    (take-take n (n + m) l (omega arith))
     ∙ ap (λ (rest : List X). take n l ++ rest) (drop-take n m l)
 
 -- ---- Where pieces end
@@ -96,16 +97,18 @@ one_more s next pieces i n p align so_far there is aligned owns some ends = reco
   ends = λ class home_len end.
       ap (stacked_end class home_len end) (take_more pieces i home_piece there)
       ∙ stacked_end_append class home_len end (take i pieces) (get_or pieces i home_piece ∷ [])
-      ∙ ap (λ (q : Piece). stacked_end class home_len (stacked_end class home_len end (take i pieces)) (q ∷ [])) (sym is)
+      ∙ ap (λ (q : Piece).
+      stacked_end class home_len (stacked_end class home_len end (take i pieces)) (q ∷ [])) (sym is)
       ∙ stacked_end_one class home_len (stacked_end class home_len end (take i pieces)) p
-      ∙ ap (λ (m : ℕ). rounded_up m p.align + piece_size class home_len p) (so_far.ends class home_len end)
+      ∙ ap (λ (m : ℕ). rounded_up m p.align + piece_size class home_len p)
+      (so_far.ends class home_len end)
       ∙ ap (λ (m : ℕ). rounded_up (span_end s end) p.align + m) (own_size class home_len p n owns)
       ∙ ap (λ (a : ℕ). rounded_up (span_end s end) a + n) (sym aligned)
       ∙ sym (ends end);
 }
 
-pub all_so_far : (s : Span) (pieces : List Piece) (i : ℕ) → IsSoFar s pieces i → take i pieces ≡ pieces
-    → IsSpan s pieces
+pub all_so_far : (s : Span) (pieces : List Piece) (i : ℕ) → IsSoFar s pieces i
+    → take i pieces ≡ pieces → IsSpan s pieces
 all_so_far s pieces i so_far all = record {
   bytes = ap (list_all owns_bytes) (sym all) ∙ so_far.bytes;
   ends = λ class home_len end.
@@ -128,7 +131,8 @@ block_is pieces block from to s cut first last there is span = record {
       ∙ ap (λ (n : ℕ). take 256 (drop n pieces)) first) span;
 }
 
-pub none_noted : (spans : List (Option Span)) (pieces : List Piece) → spans ≡ [] → AreNoted spans pieces
+pub none_noted : (spans : List (Option Span)) (pieces : List Piece) → spans ≡ []
+    → AreNoted spans pieces
 none_noted spans pieces none i s found =
     let same = sym (ap (λ (l : List (Option Span)). get_or l i None) none) ∙ found in
     cc
@@ -150,8 +154,9 @@ noted_pushed spans pieces p noted i s found =
     }
 
 -- the same where there may be no memory for it
-pub noted_pushed_if : {T E : Type 0} (r : Result T E) (spans : List (Option Span)) (pieces after : List Piece) (p : Piece)
-    → AreNoted spans pieces → after ≡ (if is_ok r then pieces ++ p ∷ [] else pieces) → AreNoted spans after
+pub noted_pushed_if : {T E : Type 0} (r : Result T E) (spans : List (Option Span))
+    (pieces after : List Piece) (p : Piece) → AreNoted spans pieces
+    → after ≡ (if is_ok r then pieces ++ p ∷ [] else pieces) → AreNoted spans after
 noted_pushed_if (Ok x) spans pieces after p noted is =
     subst (λ (l : List Piece). AreNoted spans l) (sym is) (noted_pushed spans pieces p noted)
 noted_pushed_if (Err e) spans pieces after p noted is =
@@ -180,7 +185,8 @@ other_block pieces p i left other = by_place (cases_lt p (256 * i))
 
 pub noted_lent : (spans after : List (Option Span)) (pieces : List Piece) (p : ℕ) (left : Piece)
     → AreNoted spans pieces
-    → ((i : ℕ) (s : Span) → get_or after i None ≡ Some s → (get_or spans i None ≡ Some s) × (i ≢ p / 256))
+    → ((i : ℕ) (s : Span) → get_or after i None ≡ Some s
+    → (get_or spans i None ≡ Some s) × (i ≢ p / 256))
     → AreNoted after (set pieces p left)
 noted_lent spans after pieces p left noted forgets i s found =
     let known = forgets i s found in
@@ -189,7 +195,9 @@ noted_lent spans after pieces p left noted forgets i s found =
     let same = length-set pieces p left in
     record {
       there = omega (arith, there, same);
-      span = subst (λ (l : List Piece). IsSpan s l) (sym (other_block pieces p i left known.1)) was.span;
+      span =
+          subst (λ (l : List Piece). IsSpan s l) (sym (other_block pieces p i left known.1))
+          was.span;
     }
 
 -- ---- What is noted, in its list
@@ -246,12 +254,15 @@ noted_push spans block i span s last found = by_place (cases_lt i (length spans)
         inr (same, cc)
     by_end (inr past) =
         let long = length_push spans (Some span) in
-        let none = sym (get_or_past (spans ++ Some span ∷ []) i None (omega (arith, past, last, long))) ∙ found in
+        let none =
+        sym (get_or_past (spans ++ Some span ∷ []) i None (omega (arith, past, last, long)))
+        ∙ found in
         cc
 
     by_place : (i < length spans) ⊎ (length spans ≤ i)
         → (get_or spans i None ≡ Some s) ⊎ ((i ≡ block) × (s ≡ span))
-    by_place (inl before) = inl (sym (get_or_append_left spans (Some span ∷ []) None i before) ∙ found)
+    by_place (inl before) =
+        inl (sym (get_or_append_left spans (Some span ∷ []) None i before) ∙ found)
     by_place (inr from) = by_end (at_end (nat_lt block i) refl)
       where
         at_end : (b : Bool) → nat_lt block i ≡ b → (i ≡ block) ⊎ (block < i)
@@ -259,11 +270,14 @@ noted_push spans block i span s last found = by_place (cases_lt i (length spans)
         at_end false e = let low = ltb-false block i e in inl (omega (arith, low, from, last))
 
 -- the same where there may be no memory for it
-pub noted_tried : {T E : Type 0} (r : Result T E) (spans after : List (Option Span)) (block i : ℕ) (span s : Span)
-    → block ≡ length spans → after ≡ (if is_ok r then spans ++ Some span ∷ [] else spans) → get_or after i None ≡ Some s
+pub noted_tried : {T E : Type 0} (r : Result T E) (spans after : List (Option Span)) (block i : ℕ)
+    (span s : Span) → block ≡ length spans
+    → after ≡ (if is_ok r then spans ++ Some span ∷ [] else spans)
+    → get_or after i None ≡ Some s
     → (get_or spans i None ≡ Some s) ⊎ ((i ≡ block) × (s ≡ span))
 noted_tried (Ok x) spans after block i span s last is found =
-    noted_push spans block i span s last (ap (λ (l : List (Option Span)). get_or l i None) (sym is) ∙ found)
+    noted_push spans block i span s last
+    (ap (λ (l : List (Option Span)). get_or l i None) (sym is) ∙ found)
 noted_tried (Err e) spans after block i span s last is found =
     inl (ap (λ (l : List (Option Span)). get_or l i None) (sym is) ∙ found)
 
@@ -304,13 +318,16 @@ run_more before pieces block end next s run noted is =
       few = omega (arith, there);
       bytes =
           ap (list_all owns_bytes) cut
-          ∙ list_all-append owns_bytes (take (block * 256) pieces) (take 256 (drop (block * 256) pieces))
+          ∙ list_all-append owns_bytes (take (block * 256) pieces)
+          (take 256 (drop (block * 256) pieces))
           ∙ and_from (list_all owns_bytes (take (block * 256) pieces))
           (list_all owns_bytes (take 256 (drop (block * 256) pieces))) run.bytes span.bytes;
       ends = λ class home_len.
           ap (stacked_end class home_len before) cut
-          ∙ stacked_end_append class home_len before (take (block * 256) pieces) (take 256 (drop (block * 256) pieces))
-          ∙ ap (λ (n : ℕ). stacked_end class home_len n (take 256 (drop (block * 256) pieces))) (run.ends class home_len)
+          ∙ stacked_end_append class home_len before (take (block * 256) pieces)
+          (take 256 (drop (block * 256) pieces))
+          ∙ ap (λ (n : ℕ). stacked_end class home_len n (take 256 (drop (block * 256) pieces)))
+          (run.ends class home_len)
           ∙ span.ends class home_len end
           ∙ sym is;
     })

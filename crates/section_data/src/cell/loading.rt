@@ -122,8 +122,8 @@ impl Cell {
         self.kept.bytes()
     }
 
-    /// The home's bytes, which are held, up to their last NUL where that was looked for. It takes no
-    /// memory.
+    /// The home's bytes, which are held, up to their last NUL where that was looked for. It takes
+    /// no memory.
     pub fn ended_bytes(&self) -> &[u8]
         requires { IsSome self.now.raw }
         ensures { IfSome self.now.raw (λ bytes. IsEndedFront bytes result.now) }
@@ -131,8 +131,8 @@ impl Cell {
         self.kept.ended_bytes()
     }
 
-    /// Looks for the last NUL of the home's bytes, where they are held and that was not done yet. It
-    /// changes no answer but that of `ended_bytes`, and takes no memory.
+    /// Looks for the last NUL of the home's bytes, where they are held and that was not done yet.
+    /// It changes no answer but that of `ended_bytes`, and takes no memory.
     #[inline(always)]
     pub fn note_end(&mut self)
         ensures value { self.new ≡ self.old }

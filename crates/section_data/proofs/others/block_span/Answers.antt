@@ -6,5 +6,7 @@ use Rattle.section_data.proofs.others.block_span.Goals as goal
 pub returns : goal.returns
 returns c =
     IfSome_then c.span_of.result c.span_of.ensures
-    (λ s is. block_is c.args.pieces.now c.args.block (c.args.block * 256) (c.args.block * 256 + 256) s _ (omega arith) (omega arith)
+    (λ s is.
+    block_is c.args.pieces.now c.args.block (c.args.block * 256) (c.args.block * 256 + 256) s _
+    (omega arith) (omega arith)
     (omega (arith, c.requires)) refl is)

@@ -4,8 +4,10 @@ use Rattle.section_data.proofs.others.forget.Goals as goal
 
 pub returns-then-len-block : goal.returns-then-len-block
 returns-then-len-block c = λ i s found.
-    untouched c.args.spans.now.items c.args.block i s (omega (arith, c.if-len-block.true, c.len.ensures, c.args.spans.now.ok.0)) found
+    untouched c.args.spans.now.items c.args.block i s
+    (omega (arith, c.if-len-block.true, c.len.ensures, c.args.spans.now.ok.0)) found
 
 pub returns : goal.returns
 returns c = λ i s found.
-    forgotten c.args.spans.now.items c.args.block i s (omega (arith, c.if-len-block.false, c.len.ensures, c.args.spans.now.ok.0)) found
+    forgotten c.args.spans.now.items c.args.block i s
+    (omega (arith, c.if-len-block.false, c.len.ensures, c.args.spans.now.ok.0)) found

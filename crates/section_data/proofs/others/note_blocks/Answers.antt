@@ -8,7 +8,7 @@ loop-block-init c = c.requires
 pub loop-block-preserved : goal.loop-block-preserved
 loop-block-preserved c = elim c.if-is_none.branch [
   | then-is_none+in-Some w ↦ rw w.spans-is
-      (noted_more c.loop-block.spans.items w.note.new.spans.items c.args.pieces.now c.loop-block.block w.in-Some.span
-      c.loop-block.invariant w.in-Some.ensures w.note.ensures)
+      (noted_more c.loop-block.spans.items w.note.new.spans.items c.args.pieces.now
+      c.loop-block.block w.in-Some.span c.loop-block.invariant w.in-Some.ensures w.note.ensures)
   | else-is_none w ↦ rw w.spans-is c.loop-block.invariant
 ]

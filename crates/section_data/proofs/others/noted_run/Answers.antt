@@ -8,10 +8,13 @@ loop-block-init c = (c.requires.within, run_none c.args.before c.args.pieces.now
 
 pub loop-block-preserved : goal.loop-block-preserved
 loop-block-preserved c = (
-  subst (λ (n : ℕ). n ≤ c.args.limit) (sym c.in-Some-end_within.ensures.1) c.in-Some-end_within.ensures.0,
-  run_more c.args.before c.args.pieces.now c.loop-block.block c.loop-block.end c.in-Some-end_within.next c.in-Some.span
-      c.loop-block.invariant.1
+  subst (λ (n : ℕ). n ≤ c.args.limit) (sym c.in-Some-end_within.ensures.1)
+      c.in-Some-end_within.ensures.0,
+  run_more c.args.before c.args.pieces.now c.loop-block.block c.loop-block.end
+      c.in-Some-end_within.next c.in-Some.span c.loop-block.invariant.1
       (c.requires.noted c.loop-block.block c.in-Some.span
-      (get_or_default c.args.spans.now c.loop-block.block None _ (omega (arith, c.loop-block-test.true)) ∙ c.in-Some.is))
+      (get_or_default c.args.spans.now c.loop-block.block None _
+      (omega (arith, c.loop-block-test.true))
+      ∙ c.in-Some.is))
       c.in-Some-end_within.ensures.1,
 )

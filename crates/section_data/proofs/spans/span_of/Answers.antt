@@ -12,11 +12,16 @@ followed-requires c = c.loop-i.invariant.some
 
 pub loop-i-preserved : goal.loop-i-preserved
 loop-i-preserved c =
-    let there : c.loop-i.i < length c.args.pieces.now = omega (arith, c.loop-i-test.true) in
-    let first = get_or_read c.args.pieces.now c.loop-i.i c.index-pieces-i.result there c.index-pieces-i.is home_piece in
-    let again = get_or_read c.args.pieces.now c.loop-i.i c.index-pieces-i-in-loop-i.result there c.index-pieces-i-in-loop-i.is home_piece in
-    one_more c.loop-i.span c.in-Some-followed.more c.args.pieces.now c.loop-i.i c.in-Some.len c.index-pieces-i.result c.align.result
-    c.loop-i.invariant there first (c.align.ensures ∙ ap (λ (q : Piece). q.align) (again ∙ sym first)) c.in-Some.ensures
+    let pieces = c.args.pieces.now in
+    let i = c.loop-i.i in
+    let read = c.index-pieces-i in
+    let later = c.index-pieces-i-in-loop-i in
+    let there : i < length pieces = omega (arith, c.loop-i-test.true) in
+    let first = get_or_read pieces i read.result there read.is home_piece in
+    let again = get_or_read pieces i later.result there later.is home_piece in
+    one_more c.loop-i.span c.in-Some-followed.more pieces i c.in-Some.len read.result c.align.result
+    c.loop-i.invariant there first
+    (c.align.ensures ∙ ap (λ (q : Piece). q.align) (again ∙ sym first)) c.in-Some.ensures
     c.in-Some-followed.ensures.some c.in-Some-followed.ensures.end
 
 pub returns : goal.returns

@@ -8,7 +8,9 @@ use Rattle.section_data.proofs.used.ended_in.Goals as goal
 
 pub returns-in-Some : goal.returns-in-Some
 returns-in-Some c =
-    subst (λ (r : Option Items). IsEndedFront (bytes_or_none (option_map bytes_of r)) c.ended.result.now) (sym c.in-Some.is) c.ended.ensures
+    let front = c.ended.result.now in
+    subst (λ (r : Option Items). IsEndedFront (bytes_or_none (option_map bytes_of r)) front)
+    (sym c.in-Some.is) c.ended.ensures
 
 pub returns-in-None : goal.returns-in-None
 returns-in-None c =

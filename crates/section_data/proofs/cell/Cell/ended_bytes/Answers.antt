@@ -7,5 +7,6 @@ use Rattle.section_data.proofs.cell.Cell.ended_bytes.Goals as goal
 
 pub returns : goal.returns
 returns c =
-    subst (λ (v : CellView). IfSome v.raw (λ bytes. IsEndedFront bytes c.ended_bytes.result.now)) c.self.view_is
-    (front_held c.self.inside.kept.raw c.ended_bytes.result.now c.ended_bytes.ensures)
+    let front = c.ended_bytes.result.now in
+    subst (λ (v : CellView). IfSome v.raw (λ bytes. IsEndedFront bytes front)) c.self.view_is
+    (front_held c.self.inside.kept.raw front c.ended_bytes.ensures)

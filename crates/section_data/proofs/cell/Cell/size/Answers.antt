@@ -10,8 +10,11 @@ use Rattle.section_data.proofs.cell.Cell.size.Goals as goal
 pub loop-p-init : goal.loop-p-init
 loop-p-init c = (
   omega arith,
-  size_from c.args.class c.args.self.now c.first_pieces-first.result.count c.first_pieces-first.result.end c.first_pieces-first.ensures.first
-      ∙ ap (λ (n : ℕ). stacked_end c.args.class n c.first_pieces-first.result.end (drop c.first_pieces-first.result.count c.args.self.now.pieces))
+  size_from c.args.class c.args.self.now c.first_pieces-first.result.count
+      c.first_pieces-first.result.end c.first_pieces-first.ensures.first
+      ∙ ap (λ (n : ℕ).
+      stacked_end c.args.class n c.first_pieces-first.result.end
+      (drop c.first_pieces-first.result.count c.args.self.now.pieces))
       (sym c.home_size-home_len.ensures),
 )
 

@@ -10,15 +10,19 @@ use Rattle.section_data.proofs.kept.Kept.first_end.Goals as goal
 
 pub returns-then-is_own : goal.returns-then-is_own
 returns-then-is_own c =
-    kept_own c.args.self.now c.self.inside.section (home_view c.self.inside.at c.self.inside.len c.self.inside.kind c.self.inside.out)
-    c.self.inside.empty_read c.self.inside.has_first c.self.inside.first (used_view (unboxed c.self.inside.used))
+    let inside = c.self.inside in
+    kept_own c.args.self.now inside.section
+    (home_view inside.at inside.len inside.kind inside.out) inside.empty_read inside.has_first
+    inside.first (used_view (unboxed inside.used))
     c.if-not-self.false c.self.view_is c.own_len.result c.own_len.ensures
 
 pub returns : goal.returns
 returns c =
-    kept_clean c.args.self.now c.self.inside.section (home_view c.self.inside.at c.self.inside.len c.self.inside.kind c.self.inside.out)
-    c.self.inside.empty_read c.self.inside.has_first c.self.inside.first (used_view (unboxed c.self.inside.used))
+    let inside = c.self.inside in
+    kept_clean c.args.self.now inside.section
+    (home_view inside.at inside.len inside.kind inside.out) inside.empty_read inside.has_first
+    inside.first (used_view (unboxed inside.used))
     c.if-not-self.false c.self.view_is c.home_size.result
-    (none_of c.self.inside.first.own (sym c.is_own.ensures.value ∙ c.if-is_own.false))
+    (none_of inside.first.own (sym c.is_own.ensures.value ∙ c.if-is_own.false))
     (same_true the_type (search rules) _ _ (not-false _ (sym c.ne.ensures ∙ c.if-ne.false)))
     c.home_size.ensures

@@ -6,14 +6,17 @@ use Rattle.section_data.proofs.kept.Kept.note_pieces.Goals as goal
 
 pub invariant_of-self-2 : goal.invariant_of-self-2
 invariant_of-self-2 c =
+    let inside = c.self.inside in
     let is = ap unboxed c.in-Some.is ∙ ap Some (sym c.deref_mut.ensures.value) in
-    subst (λ (o : Option Used). IsKept c.self.inside.len c.self.inside.has_first c.self.inside.first o)
+    subst (λ (o : Option Used). IsKept inside.len inside.has_first inside.first o)
     (is ∙ ap Some (sym c.note_pieces.ensures)) c.self.invariant
 
 pub returns : goal.returns
 returns c =
-    let home = home_view c.self.inside.at c.self.inside.len c.self.inside.kind c.self.inside.out in
+    let inside = c.self.inside in
+    let home = home_view inside.at inside.len inside.kind inside.out in
     let is = ap unboxed c.in-Some.is ∙ ap Some (sym c.deref_mut.ensures.value) in
-    ap (λ (o : Option Used). kept_view c.self.inside.section home c.self.inside.empty_read c.self.inside.has_first c.self.inside.first (used_view o))
+    ap (λ (o : Option Used).
+    kept_view inside.section home inside.empty_read inside.has_first inside.first (used_view o))
     (ap Some c.note_pieces.ensures ∙ sym is)
     ∙ c.self.view_is

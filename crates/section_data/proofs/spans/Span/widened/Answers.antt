@@ -5,7 +5,8 @@ use Rattle.section_data.proofs.spans.Span.widened.Goals as goal
 
 pub returns-clause-end : goal.returns-clause-end
 returns-clause-end c = λ end.
+    let span = c.args.self.now in
     ap (λ (n : ℕ). rounded_up (end + n) c.args.align + c.args.len)
-    (c.in-Some-checked_add.ensures.1 ∙ ap (λ (m : ℕ). c.args.self.now.before + m) c.in-Some.ensures.1)
-    ∙ widened_end end c.args.self.now.before c.args.self.now.align c.args.self.now.len c.args.align c.args.len
+    (c.in-Some-checked_add.ensures.1 ∙ ap (λ (m : ℕ). span.before + m) c.in-Some.ensures.1)
+    ∙ widened_end end span.before span.align span.len c.args.align c.args.len
     c.requires.run c.requires.some c.requires.divides
