@@ -90,7 +90,7 @@ index_within s count passed =
 
 -- ---- Places
 
-arranged_ok : (p : Object) (tail : Option ℕ) → arranged_refusal p tail ≡ None
+pub arranged_ok : (p : Object) (tail : Option ℕ) → arranged_refusal p tail ≡ None
     → ◌≡◌ {A = Result Rebuilt ElfError} (Ok (made_of (arranged_object p tail) tail))
     (arranged (made_of p tail))
 unfolding arranged
@@ -98,7 +98,8 @@ arranged_ok p None passed = refl
 arranged_ok p (Some n) passed =
     sym (ap (λ (r : Option ElfError). answered r (made_of (placed_from p n) (Some n))) passed)
 
-arranged_err : (p : Object) (tail : Option ℕ) (e : ElfError) → arranged_refusal p tail ≡ Some e
+pub arranged_err : (p : Object) (tail : Option ℕ) (e : ElfError)
+    → arranged_refusal p tail ≡ Some e
     → ◌≡◌ {A = Result Rebuilt ElfError} (Err e) (arranged (made_of p tail))
 unfolding arranged
 arranged_err p None e refused = cc

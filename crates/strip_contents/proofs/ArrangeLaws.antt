@@ -26,7 +26,8 @@ module _ (p : Object) (tail : ℕ) (none : length p.sections ≡ 0) where
   none_refused : tail_refusal p tail ≡ None
   unfolding tail_refusal some_above
   none_refused =
-      ap (λ (l : List PartAt). refused_if (some_above (limit_of p.header.class) l) TooLarge) no_parts
+      ap (λ (l : List PartAt). refused_if (some_above (limit_of p.header.class) l) TooLarge)
+      no_parts
 
   none_placed : placed_from p tail ≡ p
   unfolding placed_from

@@ -28,17 +28,17 @@ use Rattle.strip_contents.specs.Plans.{new_header, arranged_object, IsArrangedTo
 -- ---- What stays where places are given
 
 -- two objects have the same front, but for places, and the same base
-record HasSameFront (q p : Object) : Type 0 where
-  class : q.header.class ≡ p.header.class
-  order : q.header.order ≡ p.header.order
-  layout : q.layout ≡ p.layout
-  base : q.base ≡ p.base
-  pad : q.pad ≡ p.pad
-  phdrs : q.phdrs ≡ p.phdrs
-  fill : q.fill ≡ p.fill
-  count : length q.sections ≡ length p.sections
+pub record HasFrontAndBase (q p : Object) : Type 0 where
+  pub class : q.header.class ≡ p.header.class
+  pub order : q.header.order ≡ p.header.order
+  pub layout : q.layout ≡ p.layout
+  pub base : q.base ≡ p.base
+  pub pad : q.pad ≡ p.pad
+  pub phdrs : q.phdrs ≡ p.phdrs
+  pub fill : q.fill ≡ p.fill
+  pub count : length q.sections ≡ length p.sections
 
-same_front : (p : Object) → HasSameFront p p
+same_front : (p : Object) → HasFrontAndBase p p
 same_front p = record {
   class = refl;
   order = refl;
@@ -50,11 +50,11 @@ same_front p = record {
   count = refl;
 }
 
-placed_front : (p : Object) (tail : ℕ) → HasSameFront (placed_from p tail) p
+pub placing_keeps : (p : Object) (tail : ℕ) → HasFrontAndBase (placed_from p tail) p
 unfolding placed_from with_ehdr stored_ehdr
-placed_front p tail = by_test (length p.sections == 0)
+placing_keeps p tail = by_test (length p.sections == 0)
   where
-    by_test : (b : Bool) → HasSameFront (if b then p else with_ehdr
+    by_test : (b : Bool) → HasFrontAndBase (if b then p else with_ehdr
         (record p {
           sections = map (λ row. section_from p tail row.0 row.1) (enumerate_from 0 p.sections);
         })
@@ -72,9 +72,9 @@ placed_front p tail = by_test (length p.sections == 0)
           ∙ length-enumerate_from 0 p.sections;
     }
 
-arranged_front : (p : Object) (tail : Option ℕ) → HasSameFront (arranged_object p tail) p
+arranged_front : (p : Object) (tail : Option ℕ) → HasFrontAndBase (arranged_object p tail) p
 arranged_front p None = same_front p
-arranged_front p (Some n) = placed_front p n
+arranged_front p (Some n) = placing_keeps p n
 
 type_stays : (p : Object) (tail s : ℕ) (c : Section)
     → (section_from p tail s c).header.stype ≡ c.header.stype
@@ -105,7 +105,7 @@ module _ (p : Object) (base held : List ℕ) (ranges : List ByteRange)
   placed_ranges : (tail : ℕ) → HasRanges (placed_from p tail) base held ranges
   placed_ranges tail = record {
     each = λ s first there filled later.
-        let front = placed_front p tail in
+        let front = placing_keeps p tail in
         let count = front.count in
         let below : s < length p.sections = omega (arith, there, count) in
         let at = section_placed p tail s below in
@@ -139,9 +139,9 @@ kept_is q (Some n) layout long = ap (λ (b : Bool). if b then length q.base else
 module _ (phdrs : List Phdr) (base : List ℕ) (p : Object) (x next : Listed)
     (ranges : List ByteRange) (held : List ℕ) (tail : Option ℕ)
     (is : IsGathered phdrs base p x ranges held tail) (arranged : IsArrangedTo p tail next) where
-  copied : MayBeWritten (arranged_object p tail)
+  pub gathered_ranged : MayBeWritten (arranged_object p tail)
       → IsRangedAs phdrs base (arranged_object p tail) next ranges held tail
-  copied may =
+  gathered_ranged may =
       let front = arranged_front p tail in
       let layout = front.layout ∙ is.layout in
       let long = ap (λ (l : List ℕ). length l) front.base ∙ is.long in
@@ -192,7 +192,7 @@ module _ (o : Object) (index : ℕ) (x : Contents) (listed : Listed) (tail : Opt
         let arranged = arranges.ok p here.listed in
         record {
           passed = arranged.passed;
-          ranges = copied o.phdrs base p listed next x.ranges x.held tail here arranged;
+          ranges = gathered_ranged o.phdrs base p listed next x.ranges x.held tail here arranged;
         };
     small = listable next few arranges;
     err = tt;
