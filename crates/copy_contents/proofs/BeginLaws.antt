@@ -1,9 +1,8 @@
 -- What was gathered of an object that is made anew, section by section.
-use Rattle.std.proofs.Common.{◌≡◌, ◌≢◌, ◌==◌, ◌&&◌, ◌||◌, ◌+◌, ◌<◌, ◌≤◌, ◌^◌, ℕ, zero, suc, Bool, true, false, not, List, [], ◌∷◌, ◌++◌, length, map, take, get_or, Option, Some, None, Result, Ok, Err, if◌then◌else◌, refl, sym, ap, ◌∙◌, subst, inl, inr, arith}
-use Rattle.std.specs.Prelude.{All, nat_le, filter, slice_get, unwrap_or}
+use Rattle.std.proofs.Common.{◌≡◌, ◌==◌, ◌&&◌, ◌||◌, ◌+◌, ◌<◌, ◌≤◌, ℕ, zero, suc, Bool, true, false, not, List, [], ◌∷◌, ◌++◌, length, map, get_or, Option, Some, None, Ok, if◌then◌else◌, refl, sym, ap, ◌∙◌, subst, arith}
+use Rattle.std.specs.Prelude.{All, nat_le, filter}
 use Rattle.std.specs.List.{range_with_len}
-use Rattle.std.specs.Option.{option_map}
-use Rattle.std.proofs.lemmas.Bool.{and_parts, eqb-true, eqb-false, eq-eqb, ne_eqb}
+use Rattle.std.proofs.lemmas.Bool.{and_parts, eqb-true, eqb-false, ne_eqb}
 use Rattle.std.proofs.lemmas.List.Elements.{All-get_or, All-map, All-filter, All-weaker}
 use Rattle.std.proofs.lemmas.Option.{unwrap_or-slice_get, slice_get-get_or}
 use Rattle.elf_types.specs.declared.constants.TheConstants.{PN_XNUM, SHT_NULL, SHT_NOBITS, SHT_STRTAB, SHT_SYMTAB, SHT_GROUP, SHT_SYMTAB_SHNDX}
@@ -12,7 +11,6 @@ use Rattle.elf_types.specs.declared.records.Kind.{Kind}
 use Rattle.elf_types.specs.declared.records.Kind.TheVariants as kinds
 use Rattle.elf_types.specs.declared.records.Phdr.{Phdr}
 use Rattle.elf_types.specs.declared.records.Shdr.{Shdr}
-use Rattle.elf_types.specs.declared.errors.ElfError.{ElfError}
 use Rattle.elf_types.specs.declared.errors.ElfError.TheVariants.{TooMany}
 use Rattle.elf_types.specs.Kinds.{section_kind}
 use Rattle.elf_xlate.specs.declared.content.Items.{Items}
@@ -45,12 +43,14 @@ use Rattle.image_ranges.specs.Ranges.{range_bytes, pieces_at}
 use Rattle.strip_rebuild.proofs.KeptLaws.{table_parts}
 use Rattle.strip_rebuild.proofs.NumberLaws.{kept_with_0}
 use Rattle.strip_contents.specs.declared.arranged.Arranged.{Arranged}
+use Rattle.strip_contents.proofs.GatherLaws.{placing_keeps}
 use Rattle.copy_contents.specs.Arranging.{IsGatheredBy}
-use Rattle.copy_contents.specs.Rows.{no_range, header_in, size_in, range_in, IsRow, RowOf, origin, IsCountedAs, IsListedAs}
-use Rattle.copy_contents.proofs.ArrangeLaws.{placed_front}
+use Rattle.copy_contents.specs.Rows.{no_range, range_in, RowOf, origin, IsCountedAs, IsListedAs}
 use Rattle.copy_contents.proofs.EndLaws.{file_size}
 use Rattle.copy_contents.proofs.NameLaws.{one_aligned}
 use Rattle.copy_contents.proofs.RowLaws.{segments_same}
+use Rattle.copy_contents.proofs.PushLaws.{zero_empty}
+use Rattle.copy_contents.proofs.EditLaws.{fit_bytes}
 
 -- ---- A string table has no items that follow
 
@@ -131,19 +131,11 @@ unfolding made_section
 made_alone class h own fits strings =
     record { inside = refl; own = own; fits = fits; pieces = refl; strings = strings }
 
-zero_empty : occupies_file zero_shdr ≡ false
-unfolding zero_shdr
-zero_empty = refl
-
-bytes_fit : (class : Class) → first_unfit class (items.Bytes []) ≡ None
-unfolding first_unfit
-bytes_fit class = refl
-
 new_alone : (class : Class) → IsAlone class new_section
 new_alone class = record {
   inside = refl;
   own = items.Bytes [];
-  fits = bytes_fit class;
+  fits = fit_bytes class [];
   pieces = sym (ap (λ (b : Bool). if b then own_piece (items.Bytes []) 1 ∷ [] else [])
       zero_empty);
   strings = λ typed. refl;
@@ -222,7 +214,7 @@ from_alone class q tail s c is = by_place (place_from q tail s)
 placed_alone : (q : Object) (tail : ℕ) → AreAlone q → AreAlone (placed_from q tail)
 unfolding AreAlone
 placed_alone q tail are s below =
-    let front = placed_front q tail in
+    let front = placing_keeps q tail in
     let count = front.count in
     let inside : s < length q.sections = omega (arith, below, count) in
     subst (λ (class : Class). IsAlone class (section_at (placed_from q tail) s))
@@ -287,7 +279,7 @@ module _ (o : Object) (removed : List ℕ) (x : Arranged) (q : Object) (is : IsO
           (rebuilt_known o removed (made_of q x.tail) came).is
           (first_made o removed stays)
           (λ tail stated passed.
-          let long = (placed_front (rebuilt_object o removed) tail).count in
+          let long = (placing_keeps (rebuilt_object o removed) tail).count in
           absent_empty (placed_from (rebuilt_object o removed) tail) (omega (arith, at, long)))
       by_count (suc n) at same =
           ap (λ (t : ℕ). not (t == SHT_NULL || t == SHT_NOBITS))

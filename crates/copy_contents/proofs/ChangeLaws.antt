@@ -1,6 +1,5 @@
 -- All changes of what was gathered, one kind after the other.
-use Rattle.std.proofs.Common.{◌≡◌, ℕ, Bool, List, map, Option, Result, Ok, Err, refl}
-use Rattle.elf_types.specs.Answers.{◌>>=◌}
+use Rattle.std.proofs.Common.{ℕ, Bool, List, Result, Ok, Err, refl}
 use Rattle.elf_object.specs.Object.{Object}
 use Rattle.command_objects.specs.Words.{in_turn}
 use Rattle.command_objects.specs.Copied.{CopyFault as StatedFault, names_in, with_name, with_bytes, with_section_flags, with_added, changes_names, with_changes}
@@ -18,7 +17,7 @@ use Rattle.elf_copy.specs.Copies.{added_named, flagged_named, after_names, after
 use Rattle.elf_copy.proofs.NamingLaws.{planned, usable_stays, table_there, table_stays}
 use Rattle.elf_copy.proofs.ChangeLaws.{renamed_then, renamed_end, changed_then, changed_end}
 use Rattle.copy_contents.specs.Rows.{Origin, IsContents}
-use Rattle.copy_contents.specs.Steps.{known, Turns, AltersContents, always, IsUsableIf}
+use Rattle.copy_contents.specs.Steps.{known, AltersContents, always, IsUsableIf}
 use Rattle.copy_contents.proofs.TurnLaws.{alters_then, alters_end}
 
 module _ (ch : Changes) (naming : Naming) (x y z : Arranged) where

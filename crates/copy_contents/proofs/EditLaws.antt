@@ -1,16 +1,15 @@
 -- Sections that get other bytes, and other headers.
-use Rattle.std.proofs.Common.{◌≡◌, ◌==◌, ◌||◌, ◌<◌, ◌^◌, ℕ, Bool, true, false, not, List, [], ◌∷◌, ◌++◌, length, Option, Some, None, Result, Ok, Err, if◌then◌else◌, refl, sym, ap, ◌∙◌, subst, inl, inr, arith}
-use Rattle.std.specs.Prelude.{IfSome, nat_le, slice_get, slice_set, slice_index_or, unwrap_or}
+use Rattle.std.proofs.Common.{◌≡◌, ◌==◌, ◌||◌, ℕ, Bool, true, false, not, List, [], ◌∷◌, length, Option, Some, None, Ok, Err, if◌then◌else◌, refl, sym, ap, ◌∙◌, subst, arith}
+use Rattle.std.specs.Prelude.{nat_le, slice_set, slice_index_or}
 use Rattle.std.proofs.lemmas.Bool.{ne_eqb, lt-leb}
 use Rattle.std.proofs.lemmas.List.{append-nil}
 use Rattle.elf_types.specs.declared.constants.TheConstants.{SHT_NULL, SHT_NOBITS}
 use Rattle.elf_types.specs.declared.records.Class.{Class}
-use Rattle.elf_types.specs.declared.records.Order.{Order}
 use Rattle.elf_types.specs.declared.records.Part.TheVariants as part
 use Rattle.elf_types.specs.declared.records.Shdr.{Shdr}
 use Rattle.elf_types.specs.declared.errors.ElfError.{ElfError}
 use Rattle.elf_types.specs.declared.errors.ElfError.TheVariants.{NoSection, Reserved, NoData, Unfit}
-use Rattle.elf_types.specs.Answers.{refused_if, first_refusal, answered, ◌>>=◌}
+use Rattle.elf_types.specs.Answers.{refused_if, answered, ◌>>=◌}
 use Rattle.elf_xlate.specs.declared.content.Items.{Items}
 use Rattle.elf_xlate.specs.declared.content.Items.TheVariants as items
 use Rattle.elf_xlate.specs.Headers.{shdr_fits, IsShdr}
@@ -23,11 +22,10 @@ use Rattle.elf_object.specs.Steps.{with_section, with_piece_at, with_own, with_s
 use Rattle.elf_object.specs.Valid.{IsObject}
 use Rattle.object_laws.proofs.KeepLaws.{replace_keeps, update_shdr_keeps}
 use Rattle.command_objects.specs.Words.{header_at, edited}
-use Rattle.command_objects.specs.Copied.{CopyFault as StatedFault, or_strip}
+use Rattle.command_objects.specs.Copied.{or_strip}
 use Rattle.strip_laws.proofs.CopyLaws.{edited_keeps}
 use Rattle.strip_laws.proofs.MadeSections.{bytes_encoded}
 use Rattle.object_making.proofs.RefusedLaws.{alone, passes_first}
-use Rattle.image_ranges.specs.declared.ranges.ByteRange.{ByteRange}
 use Rattle.strip_contents.specs.declared.arranged.Arranged.{Arranged}
 use Rattle.strip_stream.proofs.FrontLaws.{held_bytes_stay}
 use Rattle.copy_changes.specs.declared.faults.CopyFault.TheVariants as faults
@@ -36,7 +34,7 @@ use Rattle.copy_edits.proofs.EditLaws.{edit_done, keeps_own, keeps_header}
 use Rattle.copy_contents.specs.Rows.{no_range, header_in, size_in, range_in, IsRow, Origin, IsContents}
 use Rattle.copy_contents.specs.Edits.{HasBytes, HasHeader}
 use Rattle.copy_contents.specs.Steps.{known, Turns}
-use Rattle.copy_contents.proofs.RowLaws.{set_same, row_as, contents_put}
+use Rattle.copy_contents.proofs.RowLaws.{set_same, contents_put}
 use Rattle.copy_contents.proofs.TurnLaws.{turns_not}
 
 -- ---- A section that is there
@@ -54,11 +52,12 @@ module _ (p : Object) (s : ℕ) (there : IsThere p s) where
 
 -- ---- Other bytes
 
-bytes_fit : (p : Object) (s : ℕ) (bytes : List ℕ) → unfit_items p s 0 (items.Bytes bytes) ≡ None
+pub bytes_fit : (p : Object) (s k : ℕ) (bytes : List ℕ)
+    → unfit_items p s k (items.Bytes bytes) ≡ None
 unfolding first_unfit
-bytes_fit p s bytes = refl
+bytes_fit p s k bytes = refl
 
-fit_bytes : (class : Class) (bytes : List ℕ) → first_unfit class (items.Bytes bytes) ≡ None
+pub fit_bytes : (class : Class) (bytes : List ℕ) → first_unfit class (items.Bytes bytes) ≡ None
 unfolding first_unfit
 fit_bytes class bytes = refl
 
@@ -78,7 +77,7 @@ module _ (p : Object) (s : ℕ) (there : IsThere p s) (was : Items)
       ∙ passes_first (reserved s) (no_data p s 0 ∷ unfit ∷ []) (free_none p s there)
       ∙ passes_first (no_data p s 0) (unfit ∷ []) some_data
       ∙ alone unfit
-      ∙ bytes_fit p s bytes
+      ∙ bytes_fit p s 0 bytes
 
   abbrev with_bytes_at : Section
   with_bytes_at = record (section_at p s) { pieces = own_piece (items.Bytes bytes) 1 ∷ [] }

@@ -1,20 +1,15 @@
 -- What was gathered of an object, as strip_contents sees it: its headers are listed, its sections
 -- are ranges, and an update writes it where its places allow that.
-use Rattle.std.proofs.Common.{◌≡◌, ◌==◌, ◌<◌, ◌^◌, ℕ, zero, suc, Bool, true, false, not, List, [], ◌∷◌, ◌++◌, length, map, take, get_or, Option, Some, None, Result, Ok, Err, if◌then◌else◌, refl, sym, ap, ◌∙◌, subst, inl, inr, arith}
-use Rattle.std.specs.Prelude.{All, slice_get, unwrap_or, is_some}
+use Rattle.std.proofs.Common.{◌≡◌, ◌<◌, ℕ, zero, suc, Bool, true, false, List, [], ◌∷◌, ◌++◌, length, take, Option, Some, None, if◌then◌else◌, refl, sym, ap, ◌∙◌, subst, arith}
+use Rattle.std.specs.Prelude.{All, unwrap_or, is_some}
 use Rattle.std.proofs.lemmas.List.Elements.{All-nil, All-cons, All-from_get_or}
 use Rattle.std.proofs.lemmas.Option.{unwrap_or-slice_get, slice_get-get_or}
-use Rattle.elf_types.specs.declared.records.Class.{Class}
-use Rattle.elf_types.specs.declared.records.Ehdr.{Ehdr}
-use Rattle.elf_types.specs.declared.records.Shdr.{Shdr}
 use Rattle.elf_xlate.specs.declared.content.Items.{Items}
 use Rattle.elf_xlate.specs.Translation.{encoded, first_unfit}
 use Rattle.elf_ident.specs.Front.{zero_shdr}
-use Rattle.elf_object.specs.Object.{Object, Section, Piece, header_of, section_at, absent_section, occupies_file, has_file_bytes, is_dirty}
-use Rattle.elf_object.specs.Joined.{aligned_pieces, file_bytes}
-use Rattle.elf_object.specs.Refusal.{content_refusal}
+use Rattle.elf_object.specs.Object.{Object, Section, Piece, section_at, absent_section, occupies_file, has_file_bytes}
+use Rattle.elf_object.specs.Joined.{file_bytes}
 use Rattle.elf_object.specs.Steps.{own_piece}
-use Rattle.elf_object.specs.Valid.{IsObject}
 use Rattle.object_laws.proofs.ImageLaws.{joined-none}
 use Rattle.object_laws.proofs.StandLaws.{file_bytes_when}
 use Rattle.command_objects.specs.Words.{header_at}
@@ -30,7 +25,7 @@ use Rattle.strip_contents.specs.Contents.{kept_size}
 use Rattle.strip_contents.specs.Plans.{arranged_object, HasRanges, MayBeWritten}
 use Rattle.listed_layout.specs.Listing.{IsListed}
 use Rattle.copy_contents.specs.Arranging.{IsGatheredBy}
-use Rattle.copy_contents.specs.Rows.{no_range, header_in, size_in, range_in, IsRow, Origin, IsListedAs}
+use Rattle.copy_contents.specs.Rows.{no_range, size_in, Origin, IsListedAs}
 use Rattle.copy_contents.proofs.NameLaws.{one_aligned}
 
 -- ---- How many bytes a section has in the file

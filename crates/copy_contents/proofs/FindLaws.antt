@@ -1,22 +1,20 @@
 -- Sections that are found by their names, and what is done to them.
-use Rattle.std.proofs.Common.{◌≡◌, ◌<◌, ◌+◌, ℕ, Bool, true, false, List, [], length, position, Option, Some, None, Result, Ok, Err, refl, sym, ap, ◌∙◌, subst, arith}
-use Rattle.std.specs.Prelude.{IfOk, OnOk}
+use Rattle.std.proofs.Common.{◌≡◌, ℕ, List, [], position, Option, Some, None, Result, Ok, Err, refl, sym, subst, arith}
 use Rattle.elf_types.specs.declared.errors.ElfError.{ElfError}
 use Rattle.elf_types.specs.declared.errors.ElfError.TheVariants.{Memory}
 use Rattle.elf_types.specs.Answers.{answered, ◌>>=◌}
 use Rattle.elf_object.specs.Object.{Object}
-use Rattle.elf_object.specs.Strings.{section_name, is_name}
+use Rattle.elf_object.specs.Strings.{is_name}
 use Rattle.command_objects.specs.Copied.{CopyFault as StatedFault, names_in, section_named}
-use Rattle.gelf_view.specs.Records.{string_front}
 use Rattle.strip_contents.specs.declared.arranged.Arranged.{Arranged}
 use Rattle.copy_changes.specs.declared.changes.NameBytes.{NameBytes}
 use Rattle.copy_changes.specs.declared.faults.CopyFault.{CopyFault}
 use Rattle.copy_changes.specs.declared.faults.CopyFault.TheVariants as faults
-use Rattle.copy_changes.specs.Stated.{stated_fault, IsUnread}
-use Rattle.copy_edits.specs.Names.{name_now, names_now}
+use Rattle.copy_changes.specs.Stated.{IsUnread}
+use Rattle.copy_edits.specs.Names.{names_now}
 use Rattle.copy_edits.specs.Steps.{IsThere, IsNumber, IsFaultIf, Finds}
 use Rattle.copy_edits.proofs.FaultLaws.{unread_on, memory_unread, memory_given, number_given, number_unread, fault_none, fault_given, passed_on}
-use Rattle.copy_edits.proofs.FindLaws.{NoneNamed, none_more, number_found, none_found, names_at_first}
+use Rattle.copy_edits.proofs.FindLaws.{NoneNamed, names_at_first}
 use Rattle.copy_contents.specs.Rows.{Origin, IsContents, IsNumbered}
 use Rattle.copy_contents.specs.Steps.{known, Turns, AltersContents, AltersAt, always, IsFaultUnread}
 use Rattle.copy_contents.proofs.NameLaws.{count_is}

@@ -1,5 +1,5 @@
 -- The table of the names, held.
-use Rattle.std.proofs.Common.{◌≡◌, ◌≢◌, ◌⊎◌, ◌==◌, ◌&&◌, ◌<◌, ◌≤◌, ◌+◌, ℕ, Bool, true, false, not, List, [], ◌++◌, length, take, drop, Option, Some, None, Result, Ok, Err, if◌then◌else◌, refl, sym, ap, ◌∙◌, subst, inl, inr, arith}
+use Rattle.std.proofs.Common.{◌≡◌, ◌≢◌, ◌==◌, ◌&&◌, ◌<◌, ◌≤◌, ℕ, Bool, true, false, not, List, [], ◌++◌, length, take, drop, Result, Ok, Err, if◌then◌else◌, refl, sym, ap, ◌∙◌, arith}
 use Rattle.std.specs.Prelude.{IsTrue, slice_get, slice_set, unwrap_or, nat_le, nat_lt}
 use Rattle.std.proofs.lemmas.Bool.{and_parts, ltb-true, ltb-false, leb-true, eq-eqb, ne_eqb}
 use Rattle.std.proofs.lemmas.List.{get_or_past}
@@ -9,30 +9,28 @@ use Rattle.elf_types.specs.declared.constants.TheConstants.{SHT_STRTAB}
 use Rattle.elf_types.specs.declared.records.Ehdr.{Ehdr}
 use Rattle.elf_types.specs.declared.records.Shdr.{Shdr}
 use Rattle.elf_types.specs.declared.errors.ElfError.{ElfError}
-use Rattle.elf_types.specs.declared.errors.ElfError.TheVariants.{Memory, Read, NoSection}
+use Rattle.elf_types.specs.declared.errors.ElfError.TheVariants.{NoSection}
 use Rattle.elf_outside.specs.Asks.{Asks}
 use Rattle.elf_outside.specs.declared.sources.Source.{Ghosts}
 use Rattle.elf_ident.specs.Front.{zero_shdr}
-use Rattle.elf_object.specs.Object.{Object, Section, header_of, section_at, occupies_file}
-use Rattle.elf_object.specs.Answers.{no_section}
+use Rattle.elf_object.specs.Object.{Object, Section, section_at, occupies_file}
 use Rattle.elf_object.specs.Calls.{home_answer}
 use Rattle.elf_object.proofs.AnswerLaws.{home_value}
 use Rattle.elf_descriptor.specs.State.{State}
 use Rattle.object_laws.proofs.StandLaws.{section_at-past}
 use Rattle.command_objects.specs.Words.{header_at}
 use Rattle.copy_laws.proofs.RenewedNames.{strings_fill}
-use Rattle.copy_edits.specs.Steps.{IsThere}
 use Rattle.image_ranges.specs.declared.ranges.ByteRange.{ByteRange}
 use Rattle.image_ranges.specs.Ranges.{range_bytes}
 use Rattle.strip_rebuild.specs.Makes.{AsksFor}
-use Rattle.strip_rebuild.proofs.AskLaws.{asks_nothing, asks_more, asks_as, asks_stop}
+use Rattle.strip_rebuild.proofs.AskLaws.{asks_nothing, asks_more, asks_as}
 use Rattle.strip_contents.specs.declared.arranged.Arranged.{Arranged}
 use Rattle.strip_stream.specs.Fronts.{HoldsMore}
 use Rattle.strip_stream.proofs.FrontLaws.{held_bytes_stay}
 use Rattle.copy_contents.specs.Rows.{no_range, header_in, size_in, range_in, IsRow, Origin, origin, IsListedAs, IsContents, has_strings}
 use Rattle.copy_contents.specs.Plans.{table_due, HoldsTable}
 use Rattle.copy_contents.proofs.PushLaws.{zero_type}
-use Rattle.copy_contents.proofs.RowLaws.{set_same, at_here, row_set, same_frame}
+use Rattle.copy_contents.proofs.RowLaws.{set_same, at_here, shnum_is, row_set, same_frame}
 
 -- ---- How long the home of the names is
 
@@ -66,26 +64,9 @@ names_absent o index e same came =
         ((section_at o index).home.at, (section_at o index).home.len)) here in
         cc
 
-counted_as : (o : Origin) (p : Object) (x : Arranged) → IsListedAs o p x
-    → x.listed.header.shnum ≡ length p.sections
-unfolding header_of
-counted_as o p x is = ap (λ (h : Ehdr). h.shnum) is.header
-
 -- ---- Nothing to hold
 
 module _ {S : Type 0} (g : Ghosts S) (x : Arranged) (s : State S) where
-  none_held : ((header_in x x.listed.header.shstrndx).stype ≡ SHT_STRTAB
-      → (range_in x x.listed.header.shstrndx).held ≡ true) → HoldsTable g x x (Ok tt) s s
-  none_held table = record {
-    ok = λ t p tail is. record { listed = is; table = table };
-    err = tt;
-    asks = asks_nothing g (Ok tt) s (table_due s.o) tt;
-  }
-
-  -- it is held
-  pub held_before : (range_in x x.listed.header.shstrndx).held ≡ true → HoldsTable g x x (Ok tt) s s
-  held_before held = none_held (λ typed. held)
-
   -- there is no table: of an object that has one, the tests hold
   module _ (fails : has_strings x ≡ false) where
     tests_hold : (o : Origin) (p : Object) → IsListedAs o p x
@@ -104,9 +85,6 @@ module _ {S : Type 0} (g : Ghosts S) (x : Arranged) (s : State S) where
             ∙ ap (λ (k : ℕ). occupies_file (header_at p k)) none ∙ is.first in
             cc
 
-        shnum_is : x.listed.header.shnum ≡ length p.sections
-        shnum_is = counted_as o p x is
-
         typed_test : ((header_in x x.listed.header.shstrndx).stype == SHT_STRTAB) ≡ true
         typed_test = eq-eqb (header_in x x.listed.header.shstrndx).stype SHT_STRTAB typed
 
@@ -114,7 +92,7 @@ module _ {S : Type 0} (g : Ghosts S) (x : Arranged) (s : State S) where
             → nat_lt x.listed.header.shstrndx x.listed.header.shnum ≡ b → ⊥
         by_zero a at true below =
             let inside = ltb-true x.listed.header.shstrndx x.listed.header.shnum below in
-            let count = shnum_is in
+            let count = shnum_is o p x is in
             let some = index_here (omega (arith, inside, count)) in
             let clash : true ≡ false =
             sym (ap (λ (b : Bool). not b && nat_lt x.listed.header.shstrndx x.listed.header.shnum
@@ -127,7 +105,7 @@ module _ {S : Type 0} (g : Ghosts S) (x : Arranged) (s : State S) where
             cc
         by_zero a at false past =
             let beyond = ltb-false x.listed.header.shstrndx x.listed.header.shnum past in
-            let count = shnum_is in
+            let count = shnum_is o p x is in
             let long = is.count in
             let none : (header_in x x.listed.header.shstrndx).stype ≡ 0 =
             ap (λ (h : Shdr). h.stype)
@@ -156,14 +134,6 @@ module _ {S : Type 0} (g : Ghosts S) (x : Arranged) (old new : State S)
   abbrev k : ℕ
   k = x.listed.header.shstrndx
 
-  -- one that is none of the names
-  pub not_names : HoldsTable g x x (Err Memory) old old
-  not_names = record {
-    ok = λ t. tt;
-    err = inl refl;
-    asks = asks_nothing g (Err Memory) old (table_due old.o) tt;
-  }
-
   module _ (stays : new ≡ record old { source = new.source }) (due : range.len ≤ table_due old.o)
     where
       object_same : new.o ≡ old.o
@@ -178,29 +148,9 @@ module _ {S : Type 0} (g : Ghosts S) (x : Arranged) (old new : State S)
           asks_more g r old new range.len (table_due old.o) due
           (record { object = object_same; told = told_same; source = asks })
 
-      pub names_unread : (e : ElfError) (y : Arranged) → (e ≡ Memory) ⊎ (e ≡ Read)
-          → Asks {T = List ℕ} g (Err e) old.source new.source range.len
-          → HoldsTable g x y (Err e) old new
-      names_unread e y only asks = record {
-        ok = λ t. tt;
-        err = only;
-        asks = asks_stop g {T = List ℕ} {U = Unit {0}} e old new (table_due old.o)
-            (asks_as_due (Err e) asks);
-      }
-
       module _ (bytes : List ℕ)
           (copied : IsTrue old.told → bytes ≡ take range.len (drop range.at old.o.base))
           (asks : Asks {T = List ℕ} g (Ok bytes) old.source new.source range.len) where
-        pub not_held : (e : ElfError) (y : Arranged) → e ≡ Memory
-            → HoldsTable g x y (Err e) old new
-        not_held e y want =
-            subst (λ (d : ElfError). HoldsTable g x y (Err d) old new) (sym want) (record {
-              ok = λ t. tt;
-              err = inl refl;
-              asks = asks_as g (Ok bytes) (Err Memory) old new (table_due old.o) tt
-                  (asks_as_due (Ok bytes) asks);
-            })
-
         module _ (found : ByteRange) (y : Arranged)
             (holds : HoldsMore bytes x.held y.held found)
             (set : y ≡ record x {
@@ -235,7 +185,7 @@ module _ {S : Type 0} (g : Ghosts S) (x : Arranged) (old new : State S)
           held_listed : IsTrue old.told → (o : Origin) (p : Object) → IsListedAs o p x
               → o.object.base ≡ old.o.base → IsContents o p y
           held_listed t o p is same =
-              let count = counted_as o p x is in
+              let count = shnum_is o p x is in
               let two = and_parts (not (k == 0) && nat_lt k x.listed.header.shnum)
               ((header_in x k).stype == SHT_STRTAB) strings in
               let one = and_parts (not (k == 0)) (nat_lt k x.listed.header.shnum) two.0 in

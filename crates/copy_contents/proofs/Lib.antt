@@ -7,6 +7,8 @@ pub mod EditLaws
 pub mod UpdateLaws
 pub mod RenameLaws
 pub mod NamingLaws
+pub mod GrownLaws
+pub mod NullLaws
 pub mod AddLaws
 pub mod StoreLaws
 pub mod ChangeLaws

@@ -1,8 +1,8 @@
 -- The names of sections, by the bytes of their table.
-use Rattle.std.proofs.Common.{◌≡◌, ◌==◌, ◌&&◌, ◌-◌, ◌+◌, ◌^◌, ◌<◌, ◌≤◌, ℕ, Bool, true, false, not, List, [], ◌∷◌, ◌++◌, length, map, take, drop, Option, Some, None, is_none, Result, Ok, Err, if◌then◌else◌, refl, sym, ap, ◌∙◌, subst, inl, inr, arith, ⊎_elim}
+use Rattle.std.proofs.Common.{◌≡◌, ◌==◌, ◌&&◌, ◌-◌, ◌+◌, ◌^◌, ◌<◌, ◌≤◌, ℕ, Bool, true, false, not, List, [], ◌∷◌, ◌++◌, length, map, take, drop, Option, Some, None, is_none, Result, if◌then◌else◌, refl, sym, ap, ◌∙◌, arith, ⊎_elim}
 use Rattle.std.specs.Prelude.{filter, min, nat_le, nat_lt, slice_get, take_while}
 use Rattle.std.specs.List.{list_all}
-use Rattle.std.proofs.lemmas.Bool.{and_cases, and_parts, and_right, cases_lt, eq-eqb, eqb-true, eqb-false, le-leb, le-ltb, leb-false, leb-true, lt-leb, lt-ltb, ltb-true, ltb-false, not-false, not-true}
+use Rattle.std.proofs.lemmas.Bool.{and_parts, and_right, cases_lt, eq-eqb, eqb-true, le-leb, le-ltb, lt-leb, lt-ltb, ltb-true, ltb-false, not-true}
 use Rattle.std.proofs.lemmas.List.{append-nil, drop_all}
 use Rattle.elf_types.specs.Answers.{refused_if, first_refusal, answered}
 use Rattle.elf_types.specs.declared.constants.TheConstants.{SHT_STRTAB}
@@ -18,21 +18,20 @@ use Rattle.elf_xlate.specs.Translation.{encoded, items_kind}
 use Rattle.elf_layout.specs.Layout.{rounded_up}
 use Rattle.strtab_build.specs.Table.{string_at}
 use Rattle.elf_object.specs.Blocks.{Block, block_covers, block_end, stacked}
-use Rattle.elf_object.specs.Object.{Object, Section, Piece, header_of, section_at, home_is_clean, occupies_file}
+use Rattle.elf_object.specs.Object.{Object, Section, Piece, header_of, section_at, home_is_clean}
 use Rattle.elf_object.specs.Answers.{same_kind}
 use Rattle.elf_object.specs.Joined.{piece_bytes, aligned_pieces, section_end}
 use Rattle.elf_object.specs.Steps.{own_piece}
-use Rattle.elf_object.specs.Strings.{holds_strings, kind_of_piece, has_nul, bytes_from, readable, string_answer, section_name, is_name}
+use Rattle.elf_object.specs.Strings.{holds_strings, kind_of_piece, has_nul, bytes_from, readable, section_name, is_name}
 use Rattle.elf_object.proofs.StepLaws.{same_kind-same}
-use Rattle.command_objects.specs.Words.{header_at}
 use Rattle.gelf_view.specs.Records.{string_front}
 use Rattle.copy_laws.proofs.RenewedNames.{strings_fill}
-use Rattle.image_ranges.specs.declared.ranges.ByteRange.{ByteRange}
 use Rattle.strip_contents.specs.declared.arranged.Arranged.{Arranged}
 use Rattle.copy_changes.specs.declared.changes.NameBytes.{NameBytes}
 use Rattle.copy_edits.specs.Names.{mark_of, new_name, name_over, name_now}
 use Rattle.copy_edits.proofs.FlagLaws.{over_in, string_in_section, string_as}
-use Rattle.copy_contents.specs.Rows.{header_in, size_in, range_in, IsRow, Origin, IsContents, has_strings, HasNamesIn}
+use Rattle.copy_contents.specs.Rows.{header_in, range_in, Origin, IsContents, has_strings, HasNamesIn}
+use Rattle.copy_contents.proofs.RowLaws.{shnum_is}
 
 -- ---- A string, by what is seen of its section
 
@@ -274,8 +273,7 @@ module _ (o : Origin) (p : Object) (x : Arranged) (is : IsContents o p x) where
   index_is = ap (λ (h : Ehdr). h.shstrndx) is.listed.header
 
   pub count_is : x.listed.header.shnum ≡ length p.sections
-  unfolding header_of
-  count_is = ap (λ (h : Ehdr). h.shnum) is.listed.header
+  count_is = shnum_is o p x is.listed
 
   place_is : (s : ℕ) → s < length p.sections
       → (header_in x s).name ≡ (section_at p s).header.name

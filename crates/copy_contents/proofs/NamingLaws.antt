@@ -3,10 +3,10 @@ use Rattle.std.proofs.Common.{◌≡◌, ◌≢◌, ◌==◌, ◌<◌, ◌≤◌
 use Rattle.std.specs.Prelude.{All, IfOk, Result, take_while}
 use Rattle.std.proofs.lemmas.List.Elements.{All-nil, All-cons}
 use Rattle.std.proofs.lemmas.List.Sums.{take_while-cons}
-use Rattle.std.proofs.lemmas.Bool.{eqb-false, not-true}
+use Rattle.std.proofs.lemmas.Bool.{eqb-false}
 use Rattle.elf_types.specs.declared.errors.ElfError.{ElfError}
 use Rattle.elf_object.specs.Object.{Object}
-use Rattle.elf_object.specs.Strings.{or_empty_name, section_name, has_nul}
+use Rattle.elf_object.specs.Strings.{or_empty_name, has_nul}
 use Rattle.gelf_view.specs.Records.{string_front}
 use Rattle.strip_names.specs.Names.{IsAddedAt}
 use Rattle.strip_contents.specs.declared.arranged.Arranged.{Arranged}

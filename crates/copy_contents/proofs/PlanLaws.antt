@@ -1,17 +1,14 @@
 -- The plan of an image with changes is that of the file of what copy makes.
-use Rattle.std.proofs.Common.{◌≡◌, ◌⊎◌, ◌+◌, ◌≤◌, ℕ, Bool, true, false, List, [], Option, Some, None, Result, Ok, Err, refl, sym, ap, ◌∙◌, subst, inl, inr, arith}
+use Rattle.std.proofs.Common.{◌≡◌, ◌⊎◌, ◌+◌, ℕ, Bool, List, [], Option, Result, Ok, Err, refl, sym, ap, ◌∙◌, subst, inl, inr, arith}
 use Rattle.std.specs.Prelude.{IsTrue, IfSome}
-use Rattle.elf_types.specs.Answers.{IsRefusal, stated_refusal, ◌>>=◌}
+use Rattle.elf_types.specs.Answers.{◌>>=◌}
 use Rattle.elf_types.specs.declared.errors.ElfError.{ElfError}
 use Rattle.elf_types.specs.declared.errors.ElfError.TheVariants.{Memory, Read, Write, TooLarge}
 use Rattle.elf_outside.specs.Asks.{ReadRose}
 use Rattle.elf_outside.specs.declared.sources.Source.{Ghosts}
-use Rattle.elf_outside.proofs.AskLemmas.{read_rose_on}
-use Rattle.elf_object.specs.Object.{Object, is_dirty}
+use Rattle.elf_object.specs.Object.{Object}
 use Rattle.elf_object.specs.Due.{homes_due}
-use Rattle.elf_object.specs.Image.{image}
-use Rattle.elf_object.specs.Refusal.{refusal}
-use Rattle.elf_object.specs.Valid.{IsObject, IsTied}
+use Rattle.elf_object.specs.Valid.{IsObject}
 use Rattle.elf_object.specs.Words.{Wants, Answers}
 use Rattle.elf_descriptor.specs.State.{State}
 use Rattle.elf_descriptor.specs.Reads.{Queries}
@@ -21,17 +18,16 @@ use Rattle.command_objects.specs.Rebuilt.{rebuilt, renews_names}
 use Rattle.command_objects.specs.Removed.{removed_by_name}
 use Rattle.command_objects.specs.Copied.{Changes, CopyFault as StatedFault, or_strip, with_changes, copied}
 use Rattle.strip_laws.specs.Made.{FitsClass}
-use Rattle.object_making.specs.Placing.{made_of, arranged_refusal}
+use Rattle.object_making.specs.Placing.{made_of}
 use Rattle.strip_removed.specs.Calls as calls
 use Rattle.strip_removed.specs.Steps.{IsRemovable}
-use Rattle.strip_rebuild.specs.Answers.{RebuildAnswers}
 use Rattle.strip_rebuild.specs.Makes.{AsksFor}
 use Rattle.strip_rebuild.proofs.AskLaws.{asks_reads, asks_as, asks_stop, asks_more, asks_nothing, asks_twice}
 use Rattle.strip_rebuild.proofs.NumberLaws.{zero_stays}
 use Rattle.strip_contents.specs.declared.arranged.Arranged.{Arranged}
 use Rattle.strip_contents.specs.declared.plans.RangedPlan.{RangedPlan}
-use Rattle.strip_contents.specs.Plans.{arranged_object, IsArrangedAs, PlansCopied, ArrangedAnswers, ArrangesRebuilt, CopiesAs, FileAnswers, stream_due}
-use Rattle.strip_contents.proofs.AnswerLaws.{copied_file}
+use Rattle.strip_contents.specs.Plans.{arranged_object, IsArrangedAs, PlansCopied, ArrangedAnswers, ArrangesRebuilt, FileAnswers, stream_due}
+use Rattle.strip_contents.proofs.AnswerLaws.{arranged_ok, arranged_err, copied_file}
 use Rattle.copy_changes.specs.declared.faults.CopyFault.{CopyFault}
 use Rattle.copy_changes.specs.declared.faults.CopyFault.TheVariants as faults
 use Rattle.copy_changes.specs.Stated.{stated_fault, IsUnread, outer_result}
@@ -44,7 +40,7 @@ use Rattle.copy_contents.specs.Arranging.{IsTooFar, PlacesAgain}
 use Rattle.copy_contents.specs.Rows.{origin, IsCountedAs, IsListedAs, IsContents}
 use Rattle.copy_contents.specs.Steps.{AltersContents, IsUsableIf}
 use Rattle.copy_contents.specs.Plans.{file_copied, file_placed, changed_file, CopyFileAnswers, PlansLast, PlansChanged, table_due, HoldsTable, PlansHeld, StreamsWithout, copy_stream_due, StreamsCopied}
-use Rattle.copy_contents.proofs.ArrangeLaws.{as_arranged, as_refused, begun}
+use Rattle.copy_contents.proofs.ArrangeLaws.{begun}
 use Rattle.copy_contents.proofs.EndLaws.{gathered_is, may_be_written}
 use Rattle.copy_contents.proofs.BeginLaws.{begun_listed}
 
@@ -59,7 +55,7 @@ module _ (o : Object) (x : Arranged) where
     file_same : file_placed tail q ≡ file_of (arranged_object q x.tail)
     file_same =
         ap (λ (t : Option ℕ). file_placed t q) (sym is.tail_is)
-        ∙ ap file_made (sym (as_arranged q x.tail given.passed))
+        ∙ ap file_made (sym (arranged_ok q x.tail given.passed))
 
     last_answers : (r : Result RangedPlan ElfError)
         → PlansCopied o.phdrs y.listed y.ranges y.held y.tail r
@@ -97,7 +93,7 @@ module _ (o : Object) (x : Arranged) where
           subst (λ (d : ElfError). FileAnswers o.base (Err d) (file_placed tail q))
           (sym far.error)
           (ap (λ (t : Option ℕ). file_placed t q) (sym is.tail_is)
-          ∙ ap file_made (sym (as_refused q x.tail TooLarge
+          ∙ ap file_made (sym (arranged_err q x.tail TooLarge
           (far.refused o q (gathered_is (origin o tail) q x is)))))
 
 -- ---- The changes before it
@@ -206,11 +202,6 @@ module _ {S : Type 0} (g : Ghosts S) (c : Changes) (renewed : Bool) (x : Arrange
 
 module _ {S : Type 0} (g : Ghosts S) (c : Changes) (removed : List ℕ) (old mid : State S)
     (is : IsObject old.o) (fit : FitsClass old.o) (removable : IsRemovable old.o removed) where
-  abbrev answered_file : Result (List ℕ) StatedFault
-  answered_file =
-      or_strip (rebuilt old.o removed)
-      >>= λ r. changed_file c (renews_names old.o removed) r.tail r.object
-
   pub without_stop : (e : ElfError)
       → ArrangesRebuilt g removed (Err e) (stream_due old.o removed) old mid
       → StreamsWithout g c removed (Err (faults.Strip e)) old mid

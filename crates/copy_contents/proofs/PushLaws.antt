@@ -1,19 +1,18 @@
 -- What was gathered, with one row behind the others.
-use Rattle.std.proofs.Common.{◌≡◌, ◌≢◌, ◌<◌, ◌+◌, ◌≤◌, ℕ, Bool, true, false, List, [], ◌∷◌, ◌++◌, length, length-append, Option, refl, sym, ap, ◌∙◌, subst, inl, inr, arith}
+use Rattle.std.proofs.Common.{◌≡◌, ◌<◌, ◌+◌, ◌≤◌, ℕ, true, false, List, [], ◌∷◌, ◌++◌, length, length-append, refl, sym, ap, ◌∙◌, subst, inl, inr, arith}
 use Rattle.std.specs.Prelude.{slice_get, unwrap_or}
 use Rattle.std.proofs.lemmas.Bool.{cases_eq, cases_lt}
 use Rattle.std.proofs.lemmas.List.{append-nil, get_or_append_left, get_or_push, get_or_past}
 use Rattle.std.proofs.lemmas.Option.{unwrap_or-slice_get}
 use Rattle.elf_types.specs.declared.constants.TheConstants.{SHT_STRTAB}
-use Rattle.elf_types.specs.declared.records.Ehdr.{Ehdr}
 use Rattle.elf_types.specs.declared.records.Shdr.{Shdr}
 use Rattle.elf_ident.specs.Front.{zero_shdr}
-use Rattle.elf_object.specs.Object.{Object, Section, header_of, section_at, occupies_file}
+use Rattle.elf_object.specs.Object.{Object, header_of, section_at, occupies_file}
 use Rattle.elf_object.specs.Valid.{IsObject}
 use Rattle.command_objects.specs.Words.{header_at}
 use Rattle.image_ranges.specs.declared.ranges.ByteRange.{ByteRange}
 use Rattle.strip_contents.specs.declared.arranged.Arranged.{Arranged}
-use Rattle.copy_contents.specs.Rows.{no_range, header_in, size_in, range_in, IsRow, RowOf, Origin, IsListedAs, IsContents}
+use Rattle.copy_contents.specs.Rows.{no_range, header_in, size_in, range_in, IsRow, Origin, IsListedAs, IsContents}
 use Rattle.copy_contents.proofs.RowLaws.{row_as, class_as, HasSameFrame, frame_as}
 
 -- ---- Lists
@@ -33,9 +32,15 @@ at_past : {X : Type 0} (l : List X) (d : X) (t : ℕ) → length l ≤ t
     → unwrap_or (slice_get l t) d ≡ d
 at_past l d t past = unwrap_or-slice_get l t d ∙ get_or_past l t d past
 
+-- ---- A header of zeros
+
 pub zero_type : zero_shdr.stype ≡ 0
 unfolding zero_shdr
 zero_type = refl
+
+pub zero_empty : occupies_file zero_shdr ≡ false
+unfolding zero_shdr
+zero_empty = refl
 
 -- ---- One row more
 

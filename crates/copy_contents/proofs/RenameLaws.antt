@@ -1,19 +1,16 @@
 -- Sections that get other names, by their marks.
-use Rattle.std.proofs.Common.{◌≡◌, ◌<◌, ◌+◌, ◌≤◌, ℕ, zero, suc, List, length, map, get_or, Option, Some, None, Result, Ok, Err, refl, sym, ap, ◌∙◌, subst}
+use Rattle.std.proofs.Common.{◌≡◌, ℕ, List, length, Some, Ok, ap, ◌∙◌}
 use Rattle.std.specs.Prelude.{slice_set}
 use Rattle.std.proofs.Math.ListN.{replicate}
-use Rattle.elf_types.specs.declared.errors.ElfError.{ElfError}
-use Rattle.elf_types.specs.declared.errors.ElfError.TheVariants.{Memory}
+use Rattle.std.proofs.lemmas.List.{length-replicate}
 use Rattle.elf_object.specs.Object.{Object}
-use Rattle.command_objects.specs.Words.{in_turn}
-use Rattle.command_objects.specs.Copied.{names_in, section_named, with_name}
+use Rattle.command_objects.specs.Copied.{section_named, with_name}
 use Rattle.strip_contents.specs.declared.arranged.Arranged.{Arranged}
 use Rattle.copy_changes.specs.declared.changes.NameBytes.{NameBytes}
-use Rattle.copy_changes.specs.declared.faults.CopyFault.{CopyFault}
 use Rattle.copy_changes.specs.Stated.{bytes_pair}
 use Rattle.copy_edits.specs.Names.{new_name, names_now}
 use Rattle.copy_edits.specs.Steps.{Finds}
-use Rattle.copy_edits.proofs.RenameLaws.{Renamed, renamed_at, renamed_none, renamed_more, renamed_stop, renamed_all}
+use Rattle.copy_edits.proofs.RenameLaws.{Renamed, renamed_at, renamed_none}
 use Rattle.copy_contents.specs.Rows.{Origin, IsContents, IsNumbered}
 use Rattle.copy_contents.specs.Steps.{known}
 use Rattle.copy_contents.proofs.FindLaws.{numbered_in}
@@ -45,9 +42,5 @@ pub record MarkedTo (x : Arranged) (renames : List NameBytes) (i : ℕ) (marks :
     pub marked : (o : Origin) (p : Object) → IsContents o p x
         → Renamed renames i (known p) (known p) marks
 
-replicated : (n : ℕ) → length {A = ℕ} (replicate n 0) ≡ n
-replicated zero = refl
-replicated (suc n) = ap suc (replicated n)
-
 pub marks_counted : (marks : List ℕ) (n : ℕ) → marks ≡ replicate n 0 → length marks ≡ n
-marks_counted marks n is = ap length is ∙ replicated n
+marks_counted marks n is = ap length is ∙ length-replicate n 0

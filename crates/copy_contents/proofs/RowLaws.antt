@@ -1,5 +1,5 @@
 -- What was gathered, with one row that is set.
-use Rattle.std.proofs.Common.{◌≡◌, ◌≢◌, ◌<◌, ◌^◌, ℕ, Bool, true, false, List, [], ◌∷◌, ◌++◌, length, Option, Some, None, if◌then◌else◌, refl, sym, ap, ◌∙◌, subst, inl, inr, arith, append_assoc}
+use Rattle.std.proofs.Common.{◌≡◌, ◌≢◌, ◌<◌, ℕ, true, false, List, [], ◌++◌, length, refl, sym, ap, ◌∙◌, subst, inl, inr, arith, append_assoc}
 use Rattle.std.specs.Prelude.{not, nat_le, slice_get, slice_set, unwrap_or}
 use Rattle.std.specs.List.{position}
 use Rattle.std.specs.Option.{option_map}
@@ -27,7 +27,7 @@ use Rattle.copy_edits.specs.Steps.{IsThere}
 use Rattle.image_ranges.specs.declared.ranges.ByteRange.{ByteRange}
 use Rattle.image_ranges.specs.Ranges.{range_bytes}
 use Rattle.strip_contents.specs.declared.arranged.Arranged.{Arranged}
-use Rattle.copy_contents.specs.Rows.{no_range, header_in, size_in, range_in, IsRow, RowOf, Origin, HasFrameOf, IsListedAs, IsContents, IsNumbered}
+use Rattle.copy_contents.specs.Rows.{no_range, header_in, size_in, range_in, IsRow, Origin, HasFrameOf, IsListedAs, IsContents}
 
 -- ---- Lists
 
@@ -127,6 +127,13 @@ frame_as o p q same is = record {
   segments = segments_same p q same.class same.phdrs ∙ is.segments;
 }
 
+-- ---- The number of sections
+
+pub shnum_is : (o : Origin) (p : Object) (x : Arranged) → IsListedAs o p x
+    → x.listed.header.shnum ≡ length p.sections
+unfolding header_of
+shnum_is o p x is = ap (λ (h : Ehdr). h.shnum) is.header
+
 -- ---- One row that is set
 
 module _ (o : Origin) (p : Object) (x : Arranged) (is : IsListedAs o p x) (n : ℕ)
@@ -212,15 +219,6 @@ module _ (o : Origin) (p : Object) (x : Arranged) (is : IsListedAs o p x) (n : �
         }
 
 -- ---- One section that changes
-
--- the number of one that is there, by what was gathered
-pub numbered_there : (o : Origin) (p : Object) (x : Arranged) (s : ℕ) → IsListedAs o p x
-    → IsNumbered x s → IsThere p s
-unfolding header_of
-numbered_there o p x s is numbered =
-    let count = ap (λ (h : Ehdr). h.shnum) is.header in
-    let below = numbered.1 in
-    (numbered.0, omega (arith, below, count))
 
 section_frame : (p : Object) (n : ℕ) (c : Section) → HasSameFrame p (with_section p n c)
 unfolding with_section

@@ -1,13 +1,12 @@
 -- A new table of names and the places of the names in it, stored in what was gathered.
-use Rattle.std.proofs.Common.{◌≡◌, ◌==◌, ◌+◌, ◌<◌, ◌≤◌, ◌^◌, ℕ, Bool, true, false, not, List, [], ◌∷◌, length, Option, Some, None, Result, Ok, Err, if◌then◌else◌, refl, sym, ap, ◌∙◌, subst, inl, inr, arith}
-use Rattle.std.specs.Prelude.{IfSome, slice_get, slice_set, unwrap_or}
+use Rattle.std.proofs.Common.{◌≡◌, ◌+◌, ◌<◌, ◌≤◌, ◌^◌, ℕ, Bool, true, false, List, [], ◌∷◌, length, Result, Ok, Err, if◌then◌else◌, refl, sym, ap, ◌∙◌, subst, arith}
+use Rattle.std.specs.Prelude.{IfSome, slice_get, unwrap_or}
 use Rattle.elf_types.specs.declared.records.Ehdr.{Ehdr}
 use Rattle.elf_types.specs.declared.records.Shdr.{Shdr}
 use Rattle.elf_xlate.specs.declared.content.Items.TheVariants as items
 use Rattle.elf_xlate.specs.Headers.{IsShdr}
-use Rattle.elf_object.specs.Object.{Object, Section, Piece, header_of, section_at, occupies_file}
+use Rattle.elf_object.specs.Object.{Object, Piece, header_of, section_at, occupies_file}
 use Rattle.elf_object.specs.Steps.{with_own, with_shdr, own_piece}
-use Rattle.elf_object.specs.Valid.{IsObject}
 use Rattle.object_laws.proofs.KeepLaws.{section_at_is}
 use Rattle.command_objects.specs.Words.{header_at}
 use Rattle.command_objects.specs.Copied.{CopyFault as StatedFault}
@@ -20,8 +19,9 @@ use Rattle.copy_edits.proofs.StepLaws.{alter_none}
 use Rattle.copy_names.specs.Stores.{with_places, with_table}
 use Rattle.copy_names.proofs.StoreLaws.{PutBelow, put_none, put_more, put_there, put_all, name_passes, unpieced, table_there, keeps_table}
 use Rattle.copy_contents.specs.Rows.{header_in, Origin, IsContents}
-use Rattle.copy_contents.specs.Edits.{HasBytes, HasBytesIf, HasHeader, IsNamedAs}
+use Rattle.copy_contents.specs.Edits.{HasBytesIf, HasHeader, IsNamedAs}
 use Rattle.copy_contents.specs.Steps.{known, Turns, AltersContents, BecomesContents}
+use Rattle.copy_contents.proofs.RowLaws.{shnum_is}
 use Rattle.copy_contents.proofs.EditLaws.{bytes_left, header_left}
 use Rattle.copy_contents.proofs.TurnLaws.{turns_not}
 
@@ -73,15 +73,14 @@ named_none places o p x is = record { now = p; put = put_none places p; contents
 
 module _ (places : List ℕ) (o : Origin) (p : Object) (s : ℕ) (y : Arranged)
     (so_far : NamedBelow places o p s y) where
-  shnum_is : y.listed.header.shnum ≡ length p.sections
-  unfolding header_of
-  shnum_is = ap (λ (h : Ehdr). h.shnum) so_far.contents.listed.header ∙ so_far.put.long
+  shnum_now : y.listed.header.shnum ≡ length p.sections
+  shnum_now = shnum_is o so_far.now y so_far.contents.listed ∙ so_far.put.long
 
   pub named_more : (place : ℕ) (z : Arranged) → 1 ≤ s → s < y.listed.header.shnum → place < 2 ^ 32
       → place ≡ unwrap_or (slice_get places s) 0 → IsNamedAs s place y z
       → NamedBelow places o p (s + 1) z
   named_more place z from below small at named =
-      let count = shnum_is in
+      let count = shnum_now in
       let first : 0 < s = omega (arith, from) in
       let inside : s < length p.sections = omega (arith, below, count) in
       let there = put_there places p so_far.now s so_far.put first inside in
@@ -95,27 +94,23 @@ module _ (places : List ℕ) (o : Origin) (p : Object) (s : ℕ) (y : Arranged)
 
   pub named_all : y.listed.header.shnum ≤ s → IsContents o (with_places p places) y
   named_all all =
-      let count = shnum_is in
+      let count = shnum_now in
       subst (λ (q : Object). IsContents o q y)
       (put_all places p so_far.now s so_far.put (omega (arith, all, count))) so_far.contents
 
 -- there are as many sections as before
 module _ (places : List ℕ) (o : Origin) (p : Object) (x : Arranged) (s : ℕ) (y : Arranged)
     (is : IsContents o p x) (so_far : NamedBelow places o p s y) where
-  count_before : x.listed.header.shnum ≡ length p.sections
-  unfolding header_of
-  count_before = ap (λ (h : Ehdr). h.shnum) is.listed.header
-
   pub below_now : s < x.listed.header.shnum → s < y.listed.header.shnum
   below_now below =
-      let before = count_before in
-      let now = shnum_is places o p s y so_far in
+      let before = shnum_is o p x is.listed in
+      let now = shnum_now places o p s y so_far in
       omega (arith, below, before, now)
 
   pub past_now : x.listed.header.shnum ≤ s → y.listed.header.shnum ≤ s
   past_now past =
-      let before = count_before in
-      let now = shnum_is places o p s y so_far in
+      let before = shnum_is o p x is.listed in
+      let now = shnum_now places o p s y so_far in
       omega (arith, past, before, now)
 
 -- ---- The table

@@ -1,5 +1,5 @@
 -- Steps of copy on what was gathered, one after another.
-use Rattle.std.proofs.Common.{◌≡◌, ℕ, ◌+◌, ◌<◌, ◌≤◌, Bool, List, length, map, get_or, Option, Result, Ok, Err, refl, subst}
+use Rattle.std.proofs.Common.{◌≡◌, ℕ, ◌+◌, ◌<◌, ◌≤◌, List, length, map, get_or, Result, Ok, Err, subst}
 use Rattle.std.specs.Prelude.{IfSome}
 use Rattle.elf_types.specs.Answers.{◌>>=◌}
 use Rattle.elf_object.specs.Object.{Object}

@@ -1,5 +1,5 @@
 -- Sections that get other bytes, and other flags.
-use Rattle.std.proofs.Common.{◌≡◌, ◌==◌, ◌&&◌, ◌<◌, ◌^◌, ◌+◌, ℕ, Bool, true, false, not, List, [], ◌∷◌, length, Option, Some, None, Result, Ok, Err, if◌then◌else◌, refl, sym, ap, ◌∙◌, subst, arith}
+use Rattle.std.proofs.Common.{◌≡◌, ◌==◌, ◌&&◌, ◌<◌, ◌^◌, ℕ, Bool, true, false, not, List, [], ◌∷◌, length, Some, None, Result, Ok, Err, if◌then◌else◌, refl, sym, ap, ◌∙◌, subst, arith}
 use Rattle.elf_types.specs.Answers.{refused_if, first_refusal}
 use Rattle.elf_types.specs.declared.records.Ehdr.{Ehdr}
 use Rattle.elf_types.specs.declared.records.Shdr.{Shdr}
@@ -21,7 +21,6 @@ use Rattle.command_objects.specs.Words.{is_program, is_allocated, header_at, edi
 use Rattle.command_objects.specs.Copied.{CopyFault as StatedFault, or_strip, update_fault, flags_fault, differ, with_bits}
 use Rattle.command_objects.specs.Copied.CopyFault.{NoBytes, Allocated, Fixed}
 use Rattle.strip_contents.specs.declared.arranged.Arranged.{Arranged}
-use Rattle.strip_contents.specs.Contents.{kept_size}
 use Rattle.copy_changes.specs.declared.faults.CopyFault.{CopyFault}
 use Rattle.copy_changes.specs.declared.faults.CopyFault.TheVariants as faults
 use Rattle.copy_changes.specs.Stated.{IsFault}
@@ -30,7 +29,7 @@ use Rattle.copy_edits.proofs.UpdateLaws.{none_in_file, other_length, may_update}
 use Rattle.copy_edits.proofs.FlagLaws.{is_fixed, may_flag}
 use Rattle.copy_contents.specs.Rows.{header_in, size_in, Origin, IsContents}
 use Rattle.copy_contents.specs.Edits.{HasBytes, HasHeader}
-use Rattle.copy_contents.specs.Steps.{known, Turns, AltersContents, AltersAt, always}
+use Rattle.copy_contents.specs.Steps.{AltersAt, always}
 use Rattle.copy_contents.proofs.EditLaws.{pieces_one, bytes_turned, header_refusal, header_turned, header_not}
 use Rattle.copy_contents.proofs.NameLaws.{one_aligned}
 

@@ -1,6 +1,6 @@
 -- The places of an image that was changed, given again (gABI chapter 4, "Section Header",
 -- sh_offset and sh_addralign).
-use Rattle.std.specs.Prelude.{◌≡◌, ◌⊎◌, Option, Some, Result, IfOk, IfErr}
+use Rattle.std.specs.Prelude.{◌≡◌, ◌⊎◌, Some, Result, IfOk, IfErr}
 use Rattle.elf_types.specs.declared.errors.ElfError.{ElfError}
 use Rattle.elf_types.specs.declared.errors.ElfError.TheVariants.{Memory, TooLarge}
 use Rattle.elf_object.specs.Object.{Object}

@@ -1,5 +1,5 @@
 -- The plan of an image with changes (objcopy(1) has the like of them).
-use Rattle.std.specs.Prelude.{◌≡◌, ◌⊎◌, ℕ, ◌+◌, Bool, List, [], Option, Some, Result, Ok, Err, IsTrue, IfSome, IfErr, OnOk}
+use Rattle.std.specs.Prelude.{◌≡◌, ◌⊎◌, ℕ, ◌+◌, Bool, List, [], Option, Result, Ok, Err, IsTrue, IfSome, IfErr, OnOk}
 use Rattle.elf_types.specs.Answers.{◌>>=◌}
 use Rattle.elf_types.specs.declared.errors.ElfError.{ElfError}
 use Rattle.elf_types.specs.declared.errors.ElfError.TheVariants.{Memory, Read}

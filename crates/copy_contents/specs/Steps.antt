@@ -1,5 +1,5 @@
 -- Steps of copy on what was gathered of an object.
-use Rattle.std.specs.Prelude.{◌≡◌, ℕ, Bool, true, false, [], Option, Some, None, Result, Ok, Err, OnOk, IfSome}
+use Rattle.std.specs.Prelude.{ℕ, Bool, true, false, [], Option, Some, None, Result, Err, OnOk}
 use Rattle.elf_object.specs.Object.{Object}
 use Rattle.elf_descriptor.specs.State.{State}
 use Rattle.command_objects.specs.Copied.{CopyFault as StatedFault}

@@ -1,4 +1,4 @@
-use Rattle.std.proofs.Common.{◌≡◌, ◌<◌, length, sym, ◌∙◌, arith}
+use Rattle.std.proofs.Common.{◌<◌, length, sym, ◌∙◌, arith}
 use Rattle.copy_edits.proofs.FindLaws.{none_more, number_found, none_found}
 use Rattle.copy_contents.proofs.NameLaws.{count_is}
 use Rattle.copy_contents.proofs.finding.find_number.Goals as goal

@@ -1,4 +1,4 @@
-use Rattle.std.proofs.Common.{◌<◌, ℕ, Bool, length, subst, arith}
+use Rattle.std.proofs.Common.{◌<◌, Bool, length, subst, arith}
 use Rattle.elf_object.specs.Strings.{or_empty_name}
 use Rattle.strip_names.specs.Names.{IsAddedAt}
 use Rattle.copy_edits.specs.Names.{name_now}

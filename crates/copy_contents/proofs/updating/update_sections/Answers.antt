@@ -1,4 +1,3 @@
-use Rattle.std.proofs.Common.{refl}
 use Rattle.command_objects.specs.Copied.{with_bytes}
 use Rattle.copy_changes.specs.Stated.{bytes_pair}
 use Rattle.copy_contents.proofs.TurnLaws.{turn_none, turn_more, turn_stops, turn_all}
@@ -19,8 +18,8 @@ returns-in-Err c = record {
   unread = c.in-Err.ensures.unread;
   turns = λ o p is holds.
       turn_stops bytes_pair with_bytes c.args.changes.now o p c.loop-change.change-index
-      c.loop-change.x (c.loop-change.invariant o p is) c.change-item.result c.in-Err.fault c.update_section.new.x
-      c.loop-change-test.true c.change-item.is c.in-Err.ensures;
+      c.loop-change.x (c.loop-change.invariant o p is) c.change-item.result c.in-Err.fault
+      c.update_section.new.x c.loop-change-test.true c.change-item.is c.in-Err.ensures;
 }
 
 pub returns : goal.returns
