@@ -21,9 +21,11 @@ piece_opened c p is = ap (λ (l : List Piece). piece_of l p) is.pieces ∙ one_p
 -- which holds no items
 pub opened_unready : (c : CellView) (p : ℕ) → IsAsOpened c → piece_holds_items c p ≡ false
 opened_unready c p is =
-    let clean : is_some (piece_in c p).own ≡ false = ap (λ (q : Piece). is_some q.own) (piece_opened c p is) in
+    let clean : is_some (piece_in c p).own ≡ false =
+    ap (λ (q : Piece). is_some q.own) (piece_opened c p is) in
     ap (λ (held : Option Items). is_some held) (ready_clean c p clean ∙ is.held)
 
 -- and is not marked
-pub opened_unmarked : (c : CellView) → IsAsOpened c → list_any (λ (q : Piece). q.marked) c.pieces ≡ false
+pub opened_unmarked : (c : CellView) → IsAsOpened c
+    → list_any (λ (q : Piece). q.marked) c.pieces ≡ false
 opened_unmarked c is = ap (λ (l : List Piece). list_any (λ (q : Piece). q.marked) l) is.pieces

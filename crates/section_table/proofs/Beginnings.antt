@@ -32,7 +32,9 @@ abbrev no_slots : ℕ → List ℕ
 no_slots n = replicate n 0
 
 unmade_all : (n : ℕ) → unmade (no_slots n) ≡ n
-unmade_all n = sum_by-replicate (λ (slot : ℕ). if slot == 0 then 1 else 0) n 0 ∙ (let one : n * 1 ≡ n = omega arith in one)
+unmade_all n =
+    let one : n * 1 ≡ n = omega arith in
+    sum_by-replicate (λ (slot : ℕ). if slot == 0 then 1 else 0) n 0 ∙ one
 
 slot_none : (n s : ℕ) → get_or (no_slots n) s 0 ≡ 0
 slot_none n s = by_place (nat_lt s n) refl
@@ -44,12 +46,14 @@ slot_none n s = by_place (nat_lt s n) refl
         let past = ltb-false s n e in
         get_or_past (no_slots n) s 0 (omega (arith, long, past))
 
-pub none_made : (headers : List Shdr) (marks : List Bool) (slots : List ℕ) (cells : List CellView) (room : ℕ)
-    → length headers ≤ MAX_SECTIONS → marks ≡ replicate (length headers) false → slots ≡ replicate (length headers) 0
-    → cells ≡ [] → length headers ≤ room → IsSections headers marks slots cells room
+pub none_made : (headers : List Shdr) (marks : List Bool) (slots : List ℕ) (cells : List CellView)
+    (room : ℕ) → length headers ≤ MAX_SECTIONS → marks ≡ replicate (length headers) false
+    → slots ≡ replicate (length headers) 0 → cells ≡ [] → length headers ≤ room
+    → IsSections headers marks slots cells room
 none_made headers marks slots cells room few marks_are slots_are none fits =
     subst (λ (l : List ℕ). IsSections headers marks l cells room) (sym slots_are)
-    (subst (λ (l : List CellView). IsSections headers marks (replicate (length headers) 0) l room) (sym none)
+    (subst (λ (l : List CellView). IsSections headers marks (no_slots (length headers)) l room)
+    (sym none)
     (record {
       few = few;
       each_mark = ap length marks_are ∙ length-replicate (length headers) false;
@@ -70,9 +74,13 @@ mark_none n s = by_place (nat_lt s n) refl
         let past = ltb-false s n e in
         get_or_past (replicate n false) s false (omega (arith, long, past))
 
+-- the section of that number where there is no cell and no mark
+abbrev unmade_at : ℕ → List Shdr → List CellView → ℕ → SectionView
+unmade_at size headers cells s =
+    section_by size headers (replicate (length headers) false) (no_slots (length headers)) cells s
+
 section_unmade : (size : ℕ) (headers : List Shdr) (cells : List CellView) (s : ℕ)
-    → section_by size headers (replicate (length headers) false) (replicate (length headers) 0) cells s
-    ≡ opened_scn size (s, get_or headers s zero_shdr)
+    → unmade_at size headers cells s ≡ opened_scn size (s, get_or headers s zero_shdr)
 section_unmade size headers cells s =
     ap (λ (n : ℕ). record {
       header = get_or headers s zero_shdr;
@@ -85,14 +93,27 @@ section_unmade size headers cells s =
       marked = m;
     }) (mark_none (length headers) s)
 
-pub view_opened : (size : ℕ) (headers : List Shdr) (marks : List Bool) (slots : List ℕ) (cells : List CellView)
-    → marks ≡ replicate (length headers) false → slots ≡ replicate (length headers) 0
+-- the sections are these
+view_unmade : (size : ℕ) (headers : List Shdr) (marks : List Bool) (slots : List ℕ)
+    (cells : List CellView) → marks ≡ replicate (length headers) false
+    → slots ≡ replicate (length headers) 0
+    → sections_view size headers marks slots cells
+    ≡ map (unmade_at size headers cells) (range_with_len 0 (length headers))
+unfolding sections_view
+view_unmade size headers marks slots cells marks_are slots_are =
+    let numbers = range_with_len 0 (length headers) in
+    let clear = replicate (length headers) false in
+    ap (λ (l : List Bool). map (section_by size headers l slots cells) numbers) marks_are
+    ∙ ap (λ (l : List ℕ). map (section_by size headers clear l cells) numbers) slots_are
+
+pub view_opened : (size : ℕ) (headers : List Shdr) (marks : List Bool) (slots : List ℕ)
+    (cells : List CellView) → marks ≡ replicate (length headers) false
+    → slots ≡ replicate (length headers) 0
     → sections_view size headers marks slots cells ≡ opened_scns size headers
-unfolding sections_view opened_scns
+unfolding opened_scns
 view_opened size headers marks slots cells marks_are slots_are =
-    ap (λ (l : List Bool). map (section_by size headers l slots cells) (range_with_len 0 (length headers))) marks_are
-    ∙ ap (λ (l : List ℕ). map (section_by size headers (replicate (length headers) false) l cells) (range_with_len 0 (length headers))) slots_are
-    ∙ sym (fill_by_all (section_by size headers (replicate (length headers) false) (replicate (length headers) 0) cells)
+    view_unmade size headers marks slots cells marks_are slots_are
+    ∙ sym (fill_by_all (unmade_at size headers cells)
     (map (opened_scn size) (enumerate_from 0 headers)) (length headers) absent_scn
     (length-map (enumerate_from 0 headers) (opened_scn size) ∙ length-enumerate_from 0 headers)
     (λ k below.
@@ -103,32 +124,40 @@ view_opened size headers marks slots cells marks_are slots_are =
     ∙ sym (section_unmade size headers cells k)))
 
 -- after what was written is what was read
-pub view_reopened : (size : ℕ) (headers : List Shdr) (marks : List Bool) (slots : List ℕ) (cells : List CellView)
-    (old : List SectionView) → marks ≡ replicate (length headers) false → slots ≡ replicate (length headers) 0
-    → length old ≡ length headers → AreNumbered old
+pub view_reopened : (size : ℕ) (headers : List Shdr) (marks : List Bool) (slots : List ℕ)
+    (cells : List CellView) (old : List SectionView) → marks ≡ replicate (length headers) false
+    → slots ≡ replicate (length headers) 0 → length old ≡ length headers → AreNumbered old
     → ((s : ℕ) → s < length headers → (section_in old s).header ≡ get_or headers s zero_shdr)
     → sections_view size headers marks slots cells ≡ map (reopened_scn size) old
-unfolding sections_view
 view_reopened size headers marks slots cells old marks_are slots_are long numbered same =
-    ap (λ (l : List Bool). map (section_by size headers l slots cells) (range_with_len 0 (length headers))) marks_are
-    ∙ ap (λ (l : List ℕ). map (section_by size headers (replicate (length headers) false) l cells) (range_with_len 0 (length headers))) slots_are
-    ∙ sym (fill_by_all (section_by size headers (replicate (length headers) false) (replicate (length headers) 0) cells)
+    view_unmade size headers marks slots cells marks_are slots_are
+    ∙ sym (fill_by_all (unmade_at size headers cells)
     (map (reopened_scn size) old) (length headers) absent_scn
     (length-map old (reopened_scn size) ∙ long)
     (λ k below.
     let within : k < length old = omega (arith, long, below) in
     get_or-map (reopened_scn size) old k absent_scn absent_scn within
-    ∙ ap (λ (n : ℕ). record (get_or old k absent_scn) { cell = opened_cell n (home_of size (get_or old k absent_scn).header); marked = false }) (numbered k within)
-    ∙ ap (λ (h : Shdr). record { header = h; cell = opened_cell k (home_of size h); marked = false }) (same k below)
+    ∙ ap (λ (n : ℕ). record (get_or old k absent_scn) {
+      cell = opened_cell n (home_of size (get_or old k absent_scn).header);
+      marked = false;
+    }) (numbered k within)
+    ∙ ap (λ (h : Shdr). record {
+      header = h;
+      cell = opened_cell k (home_of size h);
+      marked = false;
+    }) (same k below)
     ∙ sym (section_unmade size headers cells k)))
 
 -- ---- The same lists
 
 -- with more room too
-pub same_sections_in : (headers headers_new : List Shdr) (marks marks_new : List Bool) (slots slots_new : List ℕ) (cells cells_new : List CellView) (room room_new : ℕ)
-    → headers_new ≡ headers → marks_new ≡ marks → slots_new ≡ slots → cells_new ≡ cells → room ≤ room_new
-    → IsSections headers marks slots cells room → IsSections headers_new marks_new slots_new cells_new room_new
-same_sections_in headers headers_new marks marks_new slots slots_new cells cells_new room room_new of_headers of_marks of_slots of_cells larger is =
+pub same_sections_in : (headers headers_new : List Shdr) (marks marks_new : List Bool)
+    (slots slots_new : List ℕ) (cells cells_new : List CellView) (room room_new : ℕ)
+    → headers_new ≡ headers → marks_new ≡ marks → slots_new ≡ slots → cells_new ≡ cells
+    → room ≤ room_new → IsSections headers marks slots cells room
+    → IsSections headers_new marks_new slots_new cells_new room_new
+same_sections_in headers headers_new marks marks_new slots slots_new cells cells_new room room_new
+    of_headers of_marks of_slots of_cells larger is =
     subst (λ (l : List Shdr). IsSections l marks_new slots_new cells_new room_new) (sym of_headers)
     (subst (λ (l : List Bool). IsSections headers l slots_new cells_new room_new) (sym of_marks)
     (subst (λ (l : List ℕ). IsSections headers marks l cells_new room_new) (sym of_slots)
@@ -144,10 +173,13 @@ same_sections_in headers headers_new marks marks_new slots slots_new cells cells
     }))))
 
 -- and what contracts see is the same
-pub same_view : (size : ℕ) (headers headers_new : List Shdr) (marks marks_new : List Bool) (slots slots_new : List ℕ) (cells cells_new : List CellView)
+pub same_view : (size : ℕ) (headers headers_new : List Shdr) (marks marks_new : List Bool)
+    (slots slots_new : List ℕ) (cells cells_new : List CellView)
     → headers_new ≡ headers → marks_new ≡ marks → slots_new ≡ slots → cells_new ≡ cells
-    → sections_view size headers_new marks_new slots_new cells_new ≡ sections_view size headers marks slots cells
-same_view size headers headers_new marks marks_new slots slots_new cells cells_new of_headers of_marks of_slots of_cells =
+    → sections_view size headers_new marks_new slots_new cells_new
+    ≡ sections_view size headers marks slots cells
+same_view size headers headers_new marks marks_new slots slots_new cells cells_new
+    of_headers of_marks of_slots of_cells =
     ap (λ (l : List Shdr). sections_view size l marks_new slots_new cells_new) of_headers
     ∙ ap (λ (l : List Bool). sections_view size headers l slots_new cells_new) of_marks
     ∙ ap (λ (l : List ℕ). sections_view size headers marks l cells_new) of_slots
@@ -159,16 +191,20 @@ pub none_seen : (size : ℕ) → sections_view size [] [] [] [] ≡ []
 unfolding sections_view
 none_seen size = refl
 
-module _ (size room : ℕ) (headers given : List Shdr) (marks : List Bool) (slots : List ℕ) (cells : List CellView) (same : headers ≡ given)
-    (marks_are : marks ≡ replicate (length given) false) (slots_are : slots ≡ no_slots (length given)) where
+module _ (size room : ℕ) (headers given : List Shdr) (marks : List Bool) (slots : List ℕ)
+    (cells : List CellView) (same : headers ≡ given)
+    (marks_are : marks ≡ replicate (length given) false)
+    (slots_are : slots ≡ no_slots (length given)) where
   as_long : length given ≡ length headers
   as_long = ap (λ (l : List Shdr). length l) (sym same)
 
-  pub begun_sections : length given ≤ MAX_SECTIONS → cells ≡ [] → length given ≤ room → IsSections headers marks slots cells room
+  pub begun_sections : length given ≤ MAX_SECTIONS → cells ≡ [] → length given ≤ room
+      → IsSections headers marks slots cells room
   begun_sections few none fits =
       let long = as_long in
       none_made headers marks slots cells room (omega (arith, few, long))
-      (marks_are ∙ ap (λ (n : ℕ). replicate n false) as_long) (slots_are ∙ ap no_slots as_long) none (omega (arith, fits, long))
+      (marks_are ∙ ap (λ (n : ℕ). replicate n false) as_long) (slots_are ∙ ap no_slots as_long)
+      none (omega (arith, fits, long))
 
   pub begun_view : sections_view size headers marks slots cells ≡ opened_scns size given
   begun_view =

@@ -31,7 +31,8 @@ listed_set f g n s x there here others =
     each : (k : ℕ) → k < n → get_or (set (map f (range_with_len 0 n)) s x) k absent_scn ≡ g k
     each k below = by_place (k == s) refl
       where
-        by_place : (b : Bool) → (k == s) ≡ b → get_or (set (map f (range_with_len 0 n)) s x) k absent_scn ≡ g k
+        by_place : (b : Bool) → (k == s) ≡ b
+            → get_or (set (map f (range_with_len 0 n)) s x) k absent_scn ≡ g k
         by_place true e =
             let same = eqb-true k s e in
             ap (λ (i : ℕ). get_or (set (map f (range_with_len 0 n)) s x) i absent_scn) same
@@ -47,23 +48,29 @@ pub listed_same : (f g : ℕ → SectionView) (n : ℕ) → ((i : ℕ) → i < n
     → map g (range_with_len 0 n) ≡ map f (range_with_len 0 n)
 listed_same f g n each =
     sym (fill_by_all g (map f (range_with_len 0 n)) n absent_scn (length-map-range_with_len f 0 n)
-    (λ k below. get_or-map-range_with_len f 0 n k k absent_scn below (zero-add k) ∙ sym (each k below)))
+    (λ k below.
+    get_or-map-range_with_len f 0 n k k absent_scn below (zero-add k) ∙ sym (each k below)))
 
 -- ---- The view
 
-module _ (size : ℕ) (headers : List Shdr) (marks : List Bool) (slots : List ℕ) (cells : List CellView) where
+module _ (size : ℕ) (headers : List Shdr) (marks : List Bool) (slots : List ℕ)
+    (cells : List CellView) where
   pub view_length : length (sections_view size headers marks slots cells) ≡ length headers
   unfolding sections_view
-  view_length = length-map-range_with_len (section_by size headers marks slots cells) 0 (length headers)
+  view_length =
+      length-map-range_with_len (section_by size headers marks slots cells) 0 (length headers)
 
   pub view_at : (s : ℕ) → s < length headers
-      → section_in (sections_view size headers marks slots cells) s ≡ section_by size headers marks slots cells s
+      → section_in (sections_view size headers marks slots cells) s
+      ≡ section_by size headers marks slots cells s
   unfolding sections_view
   view_at s there =
-      get_or-map-range_with_len (section_by size headers marks slots cells) 0 (length headers) s s absent_scn there (zero-add s)
+      get_or-map-range_with_len (section_by size headers marks slots cells) 0 (length headers) s s
+      absent_scn there (zero-add s)
 
   -- what contracts see
-  module _ (l : List SectionView) (seen : sections_view size headers marks slots cells ≡ l) (s : ℕ) (there : s < length l) where
+  module _ (l : List SectionView) (seen : sections_view size headers marks slots cells ≡ l) (s : ℕ)
+      (there : s < length l) where
     pub seen_below : s < length headers
     seen_below =
         let long = ap (λ (m : List SectionView). length m) seen in
@@ -104,8 +111,10 @@ module _ (size : ℕ) (headers : List Shdr) (marks : List Bool) (slots : List �
       (record (section_in (sections_view size headers marks slots cells) s) { marked = true })
   unfolding sections_view
   view_marked s there long =
-      listed_set (section_by size headers marks slots cells) (section_by size headers (set marks s true) slots cells)
-      (length headers) s (record (section_in (sections_view size headers marks slots cells) s) { marked = true }) there
+      let old = section_in (sections_view size headers marks slots cells) s in
+      listed_set (section_by size headers marks slots cells)
+      (section_by size headers (set marks s true) slots cells) (length headers) s
+      (record old { marked = true }) there
       (ap (λ (m : Bool). record (section_by size headers marks slots cells s) { marked = m })
       (get_or-set_same marks s true false (omega (arith, long, there)))
       ∙ ap (λ (x : SectionView). record x { marked = true }) (sym (view_at s there)))
@@ -120,9 +129,11 @@ module _ (size : ℕ) (headers : List Shdr) (marks : List Bool) (slots : List �
       (record (section_in (sections_view size headers marks slots cells) s) { header = h })
   unfolding sections_view
   view_header s place h there made =
-      ap (λ (n : ℕ). map (section_by size (set headers s h) marks slots cells) (range_with_len 0 n)) (length-set headers s h)
-      ∙ listed_set (section_by size headers marks slots cells) (section_by size (set headers s h) marks slots cells)
-      (length headers) s (record (section_in (sections_view size headers marks slots cells) s) { header = h }) there
+      let old = section_in (sections_view size headers marks slots cells) s in
+      let new_at = section_by size (set headers s h) marks slots cells in
+      ap (λ (n : ℕ). map new_at (range_with_len 0 n)) (length-set headers s h)
+      ∙ listed_set (section_by size headers marks slots cells) new_at (length headers) s
+      (record old { header = h }) there
       (here
       ∙ ap (λ (x : SectionView). record x { header = h }) (sym (view_at s there)))
       (λ i below other.
@@ -162,8 +173,10 @@ module _ (size : ℕ) (headers : List Shdr) (marks : List Bool) (slots : List �
       (record (section_in (sections_view size headers marks slots cells) s) { cell = left })
   unfolding sections_view
   view_lent s place room left is there made within =
-      listed_set (section_by size headers marks slots cells) (section_by size headers marks slots (set cells place left))
-      (length headers) s (record (section_in (sections_view size headers marks slots cells) s) { cell = left }) there
+      let old = section_in (sections_view size headers marks slots cells) s in
+      listed_set (section_by size headers marks slots cells)
+      (section_by size headers marks slots (set cells place left)) (length headers) s
+      (record old { cell = left }) there
       (ap (λ (c : CellView). record (section_by size headers marks slots cells s) { cell = c }) here
       ∙ ap (λ (x : SectionView). record x { cell = left }) (sym (view_at s there)))
       (λ i below other.
@@ -173,7 +186,8 @@ module _ (size : ℕ) (headers : List Shdr) (marks : List Bool) (slots : List �
       next : get_or slots s 0 ≡ suc place
       next = omega (arith, made)
 
-      here : cell_by size s (get_or headers s zero_shdr) (set cells place left) (get_or slots s 0) ≡ left
+      here : cell_by size s (get_or headers s zero_shdr) (set cells place left) (get_or slots s 0)
+          ≡ left
       here =
           ap (λ (n : ℕ). cell_by size s (get_or headers s zero_shdr) (set cells place left) n) next
           ∙ get_or-set_same cells place left (new_cell 0) within
@@ -192,11 +206,12 @@ module _ (size : ℕ) (headers : List Shdr) (marks : List Bool) (slots : List �
 -- ---- What is read of the lists
 
 -- the slot of a section that has no cell, and of one that has
-pub slot_clear : (slots : List ℕ) (s slot : ℕ) → s < length slots → slot ≡ get_or slots s slot → slot ≡ 0 → get_or slots s 0 ≡ 0
+pub slot_clear : (slots : List ℕ) (s slot : ℕ) → s < length slots → slot ≡ get_or slots s slot
+    → slot ≡ 0 → get_or slots s 0 ≡ 0
 slot_clear slots s slot there read none = sym (get_or_read slots s slot there read 0) ∙ none
 
-pub slot_taken : (slots : List ℕ) (s slot : ℕ) → s < length slots → slot ≡ get_or slots s slot → (slot ≡ 0 → ⊥)
-    → get_or slots s 0 ≡ slot - 1 + 1
+pub slot_taken : (slots : List ℕ) (s slot : ℕ) → s < length slots → slot ≡ get_or slots s slot
+    → (slot ≡ 0 → ⊥) → get_or slots s 0 ≡ slot - 1 + 1
 slot_taken slots s slot there read some =
     let next : slot ≡ slot - 1 + 1 = omega (arith, some) in
     sym (get_or_read slots s slot there read 0) ∙ next

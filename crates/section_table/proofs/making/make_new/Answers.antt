@@ -26,5 +26,6 @@ returns-clause-makes c = inr (record {
   cell = c.put_last.ensures.items
       ∙ ap (λ (x : CellView). c.args.cells.now.items ++ x ∷ []) (c.unread-cell.ensures.value
       ∙ ap (λ (h : Shdr). opened_cell c.args.s (home_of c.args.form.size h))
-      (get_or_read c.args.headers.now.items c.args.s c.index-header.result.now c.requires.header c.index-header.ensures zero_shdr));
+      (get_or_read c.args.headers.now.items c.args.s c.index-header.result.now c.requires.header
+      c.index-header.ensures zero_shdr));
 })

@@ -9,48 +9,75 @@ use Rattle.section_table.proofs.sections.Sections.at.Goals as goal
 
 pub index-slot-requires : goal.index-slot-requires
 index-slot-requires c =
-    let below = seen_below c.self.inside.form.size c.self.inside.headers.items c.self.inside.marks.items c.self.inside.slots.items c.self.inside.cells.items
-    c.args.self.now c.self.view_is c.args.s c.requires in
+    let inside = c.self.inside in
+    let below =
+    seen_below inside.form.size inside.headers.items inside.marks.items inside.slots.items
+    inside.cells.items c.args.self.now c.self.view_is c.args.s c.requires in
     let count = c.self.invariant.each_slot in
-    let long = c.self.inside.slots.ok.0 in
+    let long = inside.slots.ok.0 in
     omega (arith, below, count, long)
 
 pub index-header-requires : goal.index-header-requires
 index-header-requires c =
-    let below = seen_below c.self.inside.form.size c.self.inside.headers.items c.self.inside.marks.items c.self.inside.slots.items c.self.inside.cells.items
-    c.args.self.now c.self.view_is c.args.s c.requires in
-    let long = c.self.inside.headers.ok.0 in
+    let inside = c.self.inside in
+    let below =
+    seen_below inside.form.size inside.headers.items inside.marks.items inside.slots.items
+    inside.cells.items c.args.self.now c.self.view_is c.args.s c.requires in
+    let long = inside.headers.ok.0 in
     omega (arith, below, long)
 
 pub returns-then-slot-eq0 : goal.returns-then-slot-eq0
 returns-then-slot-eq0 c =
-    let below = seen_below c.self.inside.form.size c.self.inside.headers.items c.self.inside.marks.items c.self.inside.slots.items c.self.inside.cells.items
-    c.args.self.now c.self.view_is c.args.s c.requires in
+    let size = c.self.inside.form.size in
+    let headers = c.self.inside.headers.items in
+    let marks = c.self.inside.marks.items in
+    let slots = c.self.inside.slots.items in
+    let cells = c.self.inside.cells.items in
+    let seen = c.self.view_is in
+    let below =
+    seen_below size headers marks slots cells c.args.self.now seen c.args.s c.requires in
     let count = c.self.invariant.each_slot in
+    let none =
+    slot_clear slots c.args.s c.index-slot.result.now (omega (arith, below, count))
+    c.index-slot.ensures c.if-slot-eq0.true in
     c.unread.ensures.value
-    ∙ ap (λ (h : Shdr). opened_cell c.args.s (home_of c.self.inside.form.size h))
-    (get_or_read c.self.inside.headers.items c.args.s c.index-header.result.now below c.index-header.ensures zero_shdr)
-    ∙ sym (seen_unmade c.self.inside.form.size c.self.inside.headers.items c.self.inside.marks.items c.self.inside.slots.items c.self.inside.cells.items
-    c.args.self.now c.self.view_is c.args.s c.requires
-    (slot_clear c.self.inside.slots.items c.args.s c.index-slot.result.now (omega (arith, below, count)) c.index-slot.ensures c.if-slot-eq0.true))
+    ∙ ap (λ (h : Shdr). opened_cell c.args.s (home_of size h))
+    (get_or_read headers c.args.s c.index-header.result.now below c.index-header.ensures zero_shdr)
+    ∙ sym (seen_unmade size headers marks slots cells c.args.self.now seen c.args.s c.requires none)
 
 pub index-requires : goal.index-requires
 index-requires c =
-    let below = seen_below c.self.inside.form.size c.self.inside.headers.items c.self.inside.marks.items c.self.inside.slots.items c.self.inside.cells.items
-    c.args.self.now c.self.view_is c.args.s c.requires in
+    let inside = c.self.inside in
+    let below =
+    seen_below inside.form.size inside.headers.items inside.marks.items inside.slots.items
+    inside.cells.items c.args.self.now c.self.view_is c.args.s c.requires in
+    let slots = inside.slots.items in
+    let slot = c.index-slot.result.now in
     let count = c.self.invariant.each_slot in
-    let taken = slot_taken c.self.inside.slots.items c.args.s c.index-slot.result.now (omega (arith, below, count)) c.index-slot.ensures c.if-slot-eq0.false in
+    let taken =
+    slot_taken slots c.args.s slot (omega (arith, below, count)) c.index-slot.ensures
+    c.if-slot-eq0.false in
     let within = c.self.invariant.within c.args.s in
-    let long = c.self.inside.cells.ok.0 in
+    let long = inside.cells.ok.0 in
     omega (arith, within, taken, long)
 
 pub returns : goal.returns
 returns c =
-    let below = seen_below c.self.inside.form.size c.self.inside.headers.items c.self.inside.marks.items c.self.inside.slots.items c.self.inside.cells.items
-    c.args.self.now c.self.view_is c.args.s c.requires in
+    let size = c.self.inside.form.size in
+    let headers = c.self.inside.headers.items in
+    let marks = c.self.inside.marks.items in
+    let slots = c.self.inside.slots.items in
+    let cells = c.self.inside.cells.items in
+    let seen = c.self.view_is in
+    let below =
+    seen_below size headers marks slots cells c.args.self.now seen c.args.s c.requires in
+    let slot = c.index-slot.result.now in
     let count = c.self.invariant.each_slot in
-    let taken = slot_taken c.self.inside.slots.items c.args.s c.index-slot.result.now (omega (arith, below, count)) c.index-slot.ensures c.if-slot-eq0.false in
+    let taken =
+    slot_taken slots c.args.s slot (omega (arith, below, count)) c.index-slot.ensures
+    c.if-slot-eq0.false in
     let within = c.self.invariant.within c.args.s in
-    get_or_read c.self.inside.cells.items (c.index-slot.result.now - 1) c.index.result.now (omega (arith, within, taken)) c.index.ensures (new_cell 0)
-    ∙ seen_made c.self.inside.form.size c.self.inside.headers.items c.self.inside.marks.items c.self.inside.slots.items c.self.inside.cells.items
-    c.args.self.now c.self.view_is c.args.s c.requires (c.index-slot.result.now - 1) taken
+    get_or_read cells (slot - 1) c.index.result.now (omega (arith, within, taken)) c.index.ensures
+    (new_cell 0)
+    ∙ seen_made size headers marks slots cells c.args.self.now seen c.args.s c.requires (slot - 1)
+    taken

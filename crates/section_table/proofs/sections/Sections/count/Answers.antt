@@ -5,7 +5,9 @@ use Rattle.section_table.proofs.sections.Sections.count.Goals as goal
 
 pub returns : goal.returns
 returns c =
+    let inside = c.self.inside in
     c.len.ensures
-    ∙ c.self.inside.headers.ok.0
-    ∙ sym (view_length c.self.inside.form.size c.self.inside.headers.items c.self.inside.marks.items c.self.inside.slots.items c.self.inside.cells.items)
+    ∙ inside.headers.ok.0
+    ∙ sym (view_length inside.form.size inside.headers.items inside.marks.items inside.slots.items
+    inside.cells.items)
     ∙ ap (λ (l : List SectionView). length l) c.self.view_is

@@ -6,15 +6,22 @@ use Rattle.section_table.proofs.sections.Sections.header.Goals as goal
 
 pub index-requires : goal.index-requires
 index-requires c =
-    let below = seen_below c.self.inside.form.size c.self.inside.headers.items c.self.inside.marks.items c.self.inside.slots.items c.self.inside.cells.items
-    c.args.self.now c.self.view_is c.args.s c.requires in
-    let long = c.self.inside.headers.ok.0 in
+    let inside = c.self.inside in
+    let below =
+    seen_below inside.form.size inside.headers.items inside.marks.items inside.slots.items
+    inside.cells.items c.args.self.now c.self.view_is c.args.s c.requires in
+    let long = inside.headers.ok.0 in
     omega (arith, below, long)
 
 pub returns : goal.returns
 returns c =
-    get_or_read c.self.inside.headers.items c.args.s c.index.result.now
-    (seen_below c.self.inside.form.size c.self.inside.headers.items c.self.inside.marks.items c.self.inside.slots.items c.self.inside.cells.items
-    c.args.self.now c.self.view_is c.args.s c.requires) c.index.ensures zero_shdr
-    ∙ seen_header c.self.inside.form.size c.self.inside.headers.items c.self.inside.marks.items c.self.inside.slots.items c.self.inside.cells.items
-    c.args.self.now c.self.view_is c.args.s c.requires
+    let size = c.self.inside.form.size in
+    let headers = c.self.inside.headers.items in
+    let marks = c.self.inside.marks.items in
+    let slots = c.self.inside.slots.items in
+    let cells = c.self.inside.cells.items in
+    let seen = c.self.view_is in
+    let below =
+    seen_below size headers marks slots cells c.args.self.now seen c.args.s c.requires in
+    get_or_read headers c.args.s c.index.result.now below c.index.ensures zero_shdr
+    ∙ seen_header size headers marks slots cells c.args.self.now seen c.args.s c.requires

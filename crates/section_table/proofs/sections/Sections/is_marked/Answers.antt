@@ -5,17 +5,25 @@ use Rattle.section_table.proofs.sections.Sections.is_marked.Goals as goal
 
 pub index-requires : goal.index-requires
 index-requires c =
-    let below = seen_below c.self.inside.form.size c.self.inside.headers.items c.self.inside.marks.items c.self.inside.slots.items c.self.inside.cells.items
-    c.args.self.now c.self.view_is c.args.s c.requires in
+    let inside = c.self.inside in
+    let below =
+    seen_below inside.form.size inside.headers.items inside.marks.items inside.slots.items
+    inside.cells.items c.args.self.now c.self.view_is c.args.s c.requires in
     let count = c.self.invariant.each_mark in
-    let long = c.self.inside.marks.ok.0 in
+    let long = inside.marks.ok.0 in
     omega (arith, below, count, long)
 
 pub returns : goal.returns
 returns c =
-    let below = seen_below c.self.inside.form.size c.self.inside.headers.items c.self.inside.marks.items c.self.inside.slots.items c.self.inside.cells.items
-    c.args.self.now c.self.view_is c.args.s c.requires in
+    let size = c.self.inside.form.size in
+    let headers = c.self.inside.headers.items in
+    let marks = c.self.inside.marks.items in
+    let slots = c.self.inside.slots.items in
+    let cells = c.self.inside.cells.items in
+    let seen = c.self.view_is in
+    let below =
+    seen_below size headers marks slots cells c.args.self.now seen c.args.s c.requires in
     let count = c.self.invariant.each_mark in
-    get_or_read c.self.inside.marks.items c.args.s c.index.result.now (omega (arith, below, count)) c.index.ensures false
-    ∙ seen_marked c.self.inside.form.size c.self.inside.headers.items c.self.inside.marks.items c.self.inside.slots.items c.self.inside.cells.items
-    c.args.self.now c.self.view_is c.args.s c.requires
+    get_or_read marks c.args.s c.index.result.now (omega (arith, below, count)) c.index.ensures
+    false
+    ∙ seen_marked size headers marks slots cells c.args.self.now seen c.args.s c.requires

@@ -6,10 +6,12 @@ use Rattle.section_table.proofs.sections.Sections.mark.Goals as goal
 
 pub index_mut-requires : goal.index_mut-requires
 index_mut-requires c =
-    let below = seen_below c.self.inside.form.size c.self.inside.headers.items c.self.inside.marks.items c.self.inside.slots.items c.self.inside.cells.items
-    c.args.self.now c.self.view_is c.args.s c.requires in
+    let inside = c.self.inside in
+    let below =
+    seen_below inside.form.size inside.headers.items inside.marks.items inside.slots.items
+    inside.cells.items c.args.self.now c.self.view_is c.args.s c.requires in
     let count = c.self.invariant.each_mark in
-    let long = c.self.inside.marks.ok.0 in
+    let long = inside.marks.ok.0 in
     omega (arith, below, count, long)
 
 pub invariant_of-self : goal.invariant_of-self
@@ -25,8 +27,14 @@ invariant_of-self c = record {
 
 pub returns : goal.returns
 returns c =
-    view_marked c.self.inside.form.size c.self.inside.headers.items c.self.inside.marks.items c.self.inside.slots.items c.self.inside.cells.items c.args.s
-    (seen_below c.self.inside.form.size c.self.inside.headers.items c.self.inside.marks.items c.self.inside.slots.items c.self.inside.cells.items
-    c.args.self.now c.self.view_is c.args.s c.requires)
-    c.self.invariant.each_mark
-    ∙ ap (λ (l : List SectionView). set l c.args.s (record (section_in l c.args.s) { marked = true })) c.self.view_is
+    let size = c.self.inside.form.size in
+    let headers = c.self.inside.headers.items in
+    let marks = c.self.inside.marks.items in
+    let slots = c.self.inside.slots.items in
+    let cells = c.self.inside.cells.items in
+    let seen = c.self.view_is in
+    let below =
+    seen_below size headers marks slots cells c.args.self.now seen c.args.s c.requires in
+    view_marked size headers marks slots cells c.args.s below c.self.invariant.each_mark
+    ∙ ap (λ (l : List SectionView).
+    set l c.args.s (record (section_in l c.args.s) { marked = true })) seen

@@ -11,9 +11,12 @@ use Rattle.section_table.proofs.sections.Sections.push_new.Goals as goal
 
 pub reserve_one-requires-clause-few : goal.reserve_one-requires-clause-few
 reserve_one-requires-clause-few c =
-    let long = view_length c.self.inside.form.size c.self.inside.headers.items c.self.inside.marks.items c.self.inside.slots.items c.self.inside.cells.items in
+    let inside = c.self.inside in
+    let long =
+    view_length inside.form.size inside.headers.items inside.marks.items inside.slots.items
+    inside.cells.items in
     let seen = ap (λ (l : List SectionView). length l) c.self.view_is in
-    let count = c.self.inside.headers.ok.0 in
+    let count = inside.headers.ok.0 in
     omega (arith, long, seen, count, c.requires)
 
 pub reserve_one-requires-clause-made : goal.reserve_one-requires-clause-made
@@ -22,56 +25,85 @@ reserve_one-requires-clause-made c =
 
 pub invariant_of-self : goal.invariant_of-self
 invariant_of-self c =
-    same_sections_in c.self.inside.headers.items c.reserve_one.new.headers.items c.self.inside.marks.items c.reserve_one.new.marks.items
-    c.self.inside.slots.items c.reserve_one.new.slots.items c.self.inside.cells.items c.reserve_one.new.cells.items
-    (vec_capacity c.self.inside.cells) (vec_capacity c.reserve_one.new.cells)
-    c.in-Err.ensures.headers c.in-Err.ensures.marks c.in-Err.ensures.slots c.in-Err.ensures.cells c.in-Err.ensures.room c.self.invariant
+    let inside = c.self.inside in
+    let new = c.reserve_one.new in
+    let same = c.in-Err.ensures in
+    same_sections_in inside.headers.items new.headers.items inside.marks.items new.marks.items
+    inside.slots.items new.slots.items inside.cells.items new.cells.items
+    (vec_capacity inside.cells) (vec_capacity new.cells)
+    same.headers same.marks same.slots same.cells same.room c.self.invariant
 
 pub returns-in-Err-clause-unchanged : goal.returns-in-Err-clause-unchanged
 returns-in-Err-clause-unchanged c =
-    same_view c.self.inside.form.size c.self.inside.headers.items c.reserve_one.new.headers.items c.self.inside.marks.items c.reserve_one.new.marks.items
-    c.self.inside.slots.items c.reserve_one.new.slots.items c.self.inside.cells.items c.reserve_one.new.cells.items
-    c.in-Err.ensures.headers c.in-Err.ensures.marks c.in-Err.ensures.slots c.in-Err.ensures.cells
+    let inside = c.self.inside in
+    let new = c.reserve_one.new in
+    let same = c.in-Err.ensures in
+    same_view inside.form.size inside.headers.items new.headers.items inside.marks.items
+    new.marks.items inside.slots.items new.slots.items inside.cells.items new.cells.items
+    same.headers same.marks same.slots same.cells
     ∙ c.self.view_is
 
 pub invariant_of-self-2 : goal.invariant_of-self-2
 unfolding zero_shdr
 invariant_of-self-2 c =
-    let long = view_length c.self.inside.form.size c.self.inside.headers.items c.self.inside.marks.items c.self.inside.slots.items c.self.inside.cells.items in
+    let size = c.self.inside.form.size in
+    let headers = c.self.inside.headers.items in
+    let marks = c.self.inside.marks.items in
+    let slots = c.self.inside.slots.items in
+    let cells = c.self.inside.cells.items in
+    let place = c.len-place.result in
+    let cell = c.fresh-cell.result in
+    let kept = c.in_default.ensures in
+    let long = view_length size headers marks slots cells in
     let seen = ap (λ (l : List SectionView). length l) c.self.view_is in
     let count = c.self.inside.headers.ok.0 in
-    let room = c.in_default.ensures.ok in
+    let room = kept.ok in
     let more = c.put_last.ensures.room in
-    grown_sections c.self.inside.form.size (vec_capacity c.self.inside.cells) (vec_capacity c.put_last.new.list) c.len-place.result
-    c.self.inside.headers.items c.put_last-4.new.list.items c.self.inside.marks.items c.put_last-3.new.list.items
-    c.self.inside.slots.items c.put_last-2.new.list.items c.self.inside.cells.items c.put_last.new.list.items
-    zero_shdr true c.fresh-cell.result
-    (c.put_last-4.ensures.items ∙ ap (λ (l : List Shdr). l ++ zero_shdr ∷ []) c.in_default.ensures.headers)
-    (c.put_last-3.ensures.items ∙ ap (λ (l : List Bool). l ++ true ∷ []) c.in_default.ensures.marks)
-    (c.put_last-2.ensures.items ∙ ap (λ (l : List ℕ). l ++ (c.len-place.result + 1) ∷ []) c.in_default.ensures.slots)
-    (c.put_last.ensures.items ∙ ap (λ (l : List CellView). l ++ c.fresh-cell.result ∷ []) c.in_default.ensures.cells)
-    (c.len-place.ensures ∙ c.reserve_one.new.cells.ok.0 ∙ ap (λ (l : List CellView). length l) c.in_default.ensures.cells)
+    grown_sections size (vec_capacity c.self.inside.cells) (vec_capacity c.put_last.new.list) place
+    headers c.put_last-4.new.list.items marks c.put_last-3.new.list.items
+    slots c.put_last-2.new.list.items cells c.put_last.new.list.items
+    zero_shdr true cell
+    (c.put_last-4.ensures.items ∙ ap (λ (l : List Shdr). l ++ zero_shdr ∷ []) kept.headers)
+    (c.put_last-3.ensures.items ∙ ap (λ (l : List Bool). l ++ true ∷ []) kept.marks)
+    (c.put_last-2.ensures.items ∙ ap (λ (l : List ℕ). l ++ (place + 1) ∷ []) kept.slots)
+    (c.put_last.ensures.items ∙ ap (λ (l : List CellView). l ++ cell ∷ []) kept.cells)
+    (c.len-place.ensures
+    ∙ c.reserve_one.new.cells.ok.0
+    ∙ ap (λ (l : List CellView). length l) kept.cells)
     c.self.invariant
     (omega (arith, long, seen, c.requires)) (omega (arith, count, room.4, more))
 
 pub returns-clause-ok : goal.returns-clause-ok
 unfolding zero_shdr
 returns-clause-ok c =
-    let long = view_length c.self.inside.form.size c.self.inside.headers.items c.self.inside.marks.items c.self.inside.slots.items c.self.inside.cells.items in
+    let size = c.self.inside.form.size in
+    let headers = c.self.inside.headers.items in
+    let marks = c.self.inside.marks.items in
+    let slots = c.self.inside.slots.items in
+    let cells = c.self.inside.cells.items in
+    let place = c.len-place.result in
+    let cell = c.fresh-cell.result in
+    let kept = c.in_default.ensures in
+    let long = view_length size headers marks slots cells in
     let seen = ap (λ (l : List SectionView). length l) c.self.view_is in
     let count = c.reserve_one.new.headers.ok.0 in
-    let same = ap (λ (l : List Shdr). length l) c.in_default.ensures.headers in
-    let number : c.len.result ≡ length c.args.self.now = omega (arith, c.len.ensures, count, same, long, seen) in
-    grown_view c.self.inside.form.size (vec_capacity c.self.inside.cells) (vec_capacity c.put_last.new.list) c.len-place.result
-    c.self.inside.headers.items c.put_last-4.new.list.items c.self.inside.marks.items c.put_last-3.new.list.items
-    c.self.inside.slots.items c.put_last-2.new.list.items c.self.inside.cells.items c.put_last.new.list.items
-    zero_shdr true c.fresh-cell.result
-    (c.put_last-4.ensures.items ∙ ap (λ (l : List Shdr). l ++ zero_shdr ∷ []) c.in_default.ensures.headers)
-    (c.put_last-3.ensures.items ∙ ap (λ (l : List Bool). l ++ true ∷ []) c.in_default.ensures.marks)
-    (c.put_last-2.ensures.items ∙ ap (λ (l : List ℕ). l ++ (c.len-place.result + 1) ∷ []) c.in_default.ensures.slots)
-    (c.put_last.ensures.items ∙ ap (λ (l : List CellView). l ++ c.fresh-cell.result ∷ []) c.in_default.ensures.cells)
-    (c.len-place.ensures ∙ c.reserve_one.new.cells.ok.0 ∙ ap (λ (l : List CellView). length l) c.in_default.ensures.cells)
+    let same = ap (λ (l : List Shdr). length l) kept.headers in
+    let number : c.len.result ≡ length c.args.self.now =
+    omega (arith, c.len.ensures, count, same, long, seen) in
+    grown_view size (vec_capacity c.self.inside.cells) (vec_capacity c.put_last.new.list) place
+    headers c.put_last-4.new.list.items marks c.put_last-3.new.list.items
+    slots c.put_last-2.new.list.items cells c.put_last.new.list.items
+    zero_shdr true cell
+    (c.put_last-4.ensures.items ∙ ap (λ (l : List Shdr). l ++ zero_shdr ∷ []) kept.headers)
+    (c.put_last-3.ensures.items ∙ ap (λ (l : List Bool). l ++ true ∷ []) kept.marks)
+    (c.put_last-2.ensures.items ∙ ap (λ (l : List ℕ). l ++ (place + 1) ∷ []) kept.slots)
+    (c.put_last.ensures.items ∙ ap (λ (l : List CellView). l ++ cell ∷ []) kept.cells)
+    (c.len-place.ensures
+    ∙ c.reserve_one.new.cells.ok.0
+    ∙ ap (λ (l : List CellView). length l) kept.cells)
     c.self.invariant
-    ∙ ap (λ (l : List SectionView). l ++ record { header = zero_shdr; cell = c.fresh-cell.result; marked = true } ∷ []) c.self.view_is
-    ∙ ap (λ (d : CellView). c.args.self.now ++ record { header = zero_shdr; cell = d; marked = true } ∷ [])
+    ∙ ap (λ (l : List SectionView).
+    l ++ record { header = zero_shdr; cell = cell; marked = true } ∷ []) c.self.view_is
+    ∙ ap (λ (d : CellView).
+    c.args.self.now ++ record { header = zero_shdr; cell = d; marked = true } ∷ [])
     (c.fresh-cell.ensures.value ∙ ap new_cell number)

@@ -9,8 +9,8 @@ pub invariant_of-self : goal.invariant_of-self
 invariant_of-self c =
     let fits = c.self.invariant.fits in
     let room = c.clear.ensures.capacity in
-    none_made c.self.inside.headers.items c.fill.new.self.items c.fill-2.new.self.items c.clear.new.self.items (vec_capacity c.clear.new.self)
-    c.self.invariant.few
+    none_made c.self.inside.headers.items c.fill.new.self.items c.fill-2.new.self.items
+    c.clear.new.self.items (vec_capacity c.clear.new.self) c.self.invariant.few
     (c.fill.ensures.items (λ y same. same)
     ∙ ap (λ (n : ℕ). replicate n false) (c.self.inside.marks.ok.0 ∙ c.self.invariant.each_mark))
     (c.fill-2.ensures.items (λ y same. same)
@@ -19,12 +19,22 @@ invariant_of-self c =
 
 pub returns : goal.returns
 returns c =
-    let long = sym (ap (λ (l : List SectionView). length l) c.self.view_is)
-    ∙ view_length c.self.inside.form.size c.self.inside.headers.items c.self.inside.marks.items c.self.inside.slots.items c.self.inside.cells.items in
-    view_reopened c.args.size c.self.inside.headers.items c.fill.new.self.items c.fill-2.new.self.items c.clear.new.self.items c.args.self.now
+    let size = c.self.inside.form.size in
+    let headers = c.self.inside.headers.items in
+    let marks = c.self.inside.marks.items in
+    let slots = c.self.inside.slots.items in
+    let cells = c.self.inside.cells.items in
+    let seen = c.self.view_is in
+    let long =
+    sym (ap (λ (l : List SectionView). length l) seen)
+    ∙ view_length size headers marks slots cells in
+    view_reopened c.args.size headers c.fill.new.self.items c.fill-2.new.self.items
+    c.clear.new.self.items c.args.self.now
     (c.fill.ensures.items (λ y same. same)
     ∙ ap (λ (n : ℕ). replicate n false) (c.self.inside.marks.ok.0 ∙ c.self.invariant.each_mark))
     (c.fill-2.ensures.items (λ y same. same)
     ∙ ap (λ (n : ℕ). replicate {A = ℕ} n 0) (c.self.inside.slots.ok.0 ∙ c.self.invariant.each_slot))
     long c.requires
-    (λ s there. sym (seen_header c.self.inside.form.size c.self.inside.headers.items c.self.inside.marks.items c.self.inside.slots.items c.self.inside.cells.items c.args.self.now c.self.view_is s (omega (arith, there, long))))
+    (λ s there.
+    sym (seen_header size headers marks slots cells c.args.self.now seen s
+    (omega (arith, there, long))))

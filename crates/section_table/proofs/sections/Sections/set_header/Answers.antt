@@ -6,56 +6,93 @@ use Rattle.section_table.proofs.CellsMade.{made_sections, made_view, made_slot, 
 use Rattle.section_table.proofs.sections.Sections.set_header.Goals as goal
 
 pub make-requires-clause-header : goal.make-requires-clause-header
-make-requires-clause-header c = seen_below c.self.inside.form.size c.self.inside.headers.items c.self.inside.marks.items c.self.inside.slots.items c.self.inside.cells.items
-    c.args.self.now c.self.view_is c.args.s c.requires
+make-requires-clause-header c =
+    let inside = c.self.inside in
+    seen_below inside.form.size inside.headers.items inside.marks.items inside.slots.items
+    inside.cells.items c.args.self.now c.self.view_is c.args.s c.requires
 
 pub make-requires-clause-there : goal.make-requires-clause-there
 make-requires-clause-there c =
-    let below = seen_below c.self.inside.form.size c.self.inside.headers.items c.self.inside.marks.items c.self.inside.slots.items c.self.inside.cells.items
-    c.args.self.now c.self.view_is c.args.s c.requires in
+    let inside = c.self.inside in
+    let below =
+    seen_below inside.form.size inside.headers.items inside.marks.items inside.slots.items
+    inside.cells.items c.args.self.now c.self.view_is c.args.s c.requires in
     let count = c.self.invariant.each_slot in
     omega (arith, below, count)
 
 pub make-requires-clause-room : goal.make-requires-clause-room
 make-requires-clause-room c = λ none.
-    (room_left c.self.inside.headers.items c.self.inside.marks.items c.self.inside.slots.items c.self.inside.cells.items (vec_capacity c.self.inside.cells) c.args.s c.self.invariant
-    (seen_below c.self.inside.form.size c.self.inside.headers.items c.self.inside.marks.items c.self.inside.slots.items c.self.inside.cells.items
-    c.args.self.now c.self.view_is c.args.s c.requires) none).0
+    let inside = c.self.inside in
+    let below =
+    seen_below inside.form.size inside.headers.items inside.marks.items inside.slots.items
+    inside.cells.items c.args.self.now c.self.view_is c.args.s c.requires in
+    (room_left inside.headers.items inside.marks.items inside.slots.items inside.cells.items
+    (vec_capacity inside.cells) c.args.s c.self.invariant below none).0
 
 pub make-requires-clause-few : goal.make-requires-clause-few
 make-requires-clause-few c = λ none.
-    (room_left c.self.inside.headers.items c.self.inside.marks.items c.self.inside.slots.items c.self.inside.cells.items (vec_capacity c.self.inside.cells) c.args.s c.self.invariant
-    (seen_below c.self.inside.form.size c.self.inside.headers.items c.self.inside.marks.items c.self.inside.slots.items c.self.inside.cells.items
-    c.args.self.now c.self.view_is c.args.s c.requires) none).1
+    let inside = c.self.inside in
+    let below =
+    seen_below inside.form.size inside.headers.items inside.marks.items inside.slots.items
+    inside.cells.items c.args.self.now c.self.view_is c.args.s c.requires in
+    (room_left inside.headers.items inside.marks.items inside.slots.items inside.cells.items
+    (vec_capacity inside.cells) c.args.s c.self.invariant below none).1
 
 pub index_mut-requires : goal.index_mut-requires
 index_mut-requires c =
-    let below = seen_below c.self.inside.form.size c.self.inside.headers.items c.self.inside.marks.items c.self.inside.slots.items c.self.inside.cells.items
-    c.args.self.now c.self.view_is c.args.s c.requires in
-    let long = c.self.inside.headers.ok.0 in
+    let inside = c.self.inside in
+    let below =
+    seen_below inside.form.size inside.headers.items inside.marks.items inside.slots.items
+    inside.cells.items c.args.self.now c.self.view_is c.args.s c.requires in
+    let long = inside.headers.ok.0 in
     omega (arith, below, long)
 
 pub invariant_of-self : goal.invariant_of-self
 invariant_of-self c =
-    header_sections c.self.inside.headers.items c.self.inside.marks.items c.make.new.slots.items c.make.new.cells.items
-    (vec_capacity c.make.new.cells) c.args.s c.args.header
-    (made_sections c.self.inside.form.size c.args.s c.self.inside.headers.items c.self.inside.marks.items c.self.inside.slots.items c.make.new.slots.items
-    c.self.inside.cells.items c.make.new.cells.items c.make.result (vec_capacity c.self.inside.cells) (vec_capacity c.make.new.cells)
-    (seen_below c.self.inside.form.size c.self.inside.headers.items c.self.inside.marks.items c.self.inside.slots.items c.self.inside.cells.items
-    c.args.self.now c.self.view_is c.args.s c.requires) c.self.invariant c.make.ensures.room c.make.ensures.makes)
+    let size = c.self.inside.form.size in
+    let headers = c.self.inside.headers.items in
+    let marks = c.self.inside.marks.items in
+    let slots = c.self.inside.slots.items in
+    let cells = c.self.inside.cells.items in
+    let seen = c.self.view_is in
+    let below =
+    seen_below size headers marks slots cells c.args.self.now seen c.args.s c.requires in
+    let slots_new = c.make.new.slots.items in
+    let cells_new = c.make.new.cells.items in
+    let place = c.make.result in
+    let room = vec_capacity c.self.inside.cells in
+    let room_new = vec_capacity c.make.new.cells in
+    let is = c.self.invariant in
+    let larger = c.make.ensures.room in
+    let makes = c.make.ensures.makes in
+    header_sections headers marks slots_new cells_new room_new c.args.s c.args.header
+    (made_sections size c.args.s headers marks slots slots_new cells cells_new place room room_new
+    below is larger makes)
 
 pub returns : goal.returns
 returns c =
-    view_header c.self.inside.form.size c.self.inside.headers.items c.self.inside.marks.items c.make.new.slots.items c.make.new.cells.items
-    c.args.s c.make.result c.args.header
-    (seen_below c.self.inside.form.size c.self.inside.headers.items c.self.inside.marks.items c.self.inside.slots.items c.self.inside.cells.items
-    c.args.self.now c.self.view_is c.args.s c.requires)
-    (made_slot c.self.inside.form.size c.args.s c.self.inside.headers.items c.self.inside.marks.items c.self.inside.slots.items c.make.new.slots.items
-    c.self.inside.cells.items c.make.new.cells.items c.make.result (vec_capacity c.self.inside.cells) (vec_capacity c.make.new.cells)
-    (seen_below c.self.inside.form.size c.self.inside.headers.items c.self.inside.marks.items c.self.inside.slots.items c.self.inside.cells.items
-    c.args.self.now c.self.view_is c.args.s c.requires) c.self.invariant c.make.ensures.room c.make.ensures.makes)
-    ∙ ap (λ (l : List SectionView). set l c.args.s (record (section_in l c.args.s) { header = c.args.header }))
-    (made_view c.self.inside.form.size c.args.s c.self.inside.headers.items c.self.inside.marks.items c.self.inside.slots.items c.make.new.slots.items
-    c.self.inside.cells.items c.make.new.cells.items c.make.result (vec_capacity c.self.inside.cells) (vec_capacity c.make.new.cells)
-    (seen_below c.self.inside.form.size c.self.inside.headers.items c.self.inside.marks.items c.self.inside.slots.items c.self.inside.cells.items
-    c.args.self.now c.self.view_is c.args.s c.requires) c.self.invariant c.make.ensures.room c.make.ensures.makes ∙ c.self.view_is)
+    let size = c.self.inside.form.size in
+    let headers = c.self.inside.headers.items in
+    let marks = c.self.inside.marks.items in
+    let slots = c.self.inside.slots.items in
+    let cells = c.self.inside.cells.items in
+    let seen = c.self.view_is in
+    let below =
+    seen_below size headers marks slots cells c.args.self.now seen c.args.s c.requires in
+    let slots_new = c.make.new.slots.items in
+    let cells_new = c.make.new.cells.items in
+    let place = c.make.result in
+    let room = vec_capacity c.self.inside.cells in
+    let room_new = vec_capacity c.make.new.cells in
+    let is = c.self.invariant in
+    let larger = c.make.ensures.room in
+    let makes = c.make.ensures.makes in
+    let slot =
+    made_slot size c.args.s headers marks slots slots_new cells cells_new place room room_new
+    below is larger makes in
+    let same =
+    made_view size c.args.s headers marks slots slots_new cells cells_new place room room_new
+    below is larger makes in
+    view_header size headers marks slots_new cells_new c.args.s place c.args.header below slot
+    ∙ ap (λ (l : List SectionView).
+    set l c.args.s (record (section_in l c.args.s) { header = c.args.header })) (same ∙ seen)
