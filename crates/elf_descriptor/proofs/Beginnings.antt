@@ -157,7 +157,9 @@ front_stands f narrow fitting = record {
   shdrs = record { counted = refl; range = fitting.shdrs; fitting = fitting.fitting_shdrs };
 }
 
-opened_is : (f : Front) (size : ℕ) (v : List Scn) → IsCounted f → HasNarrowCounts (standing_header f) → v ≡ opened_scns size f.shdrs → IsOpened f size (opened_body size f v)
+opened_is : (f : Front) (size : ℕ) (v : List Scn) → IsCounted f
+    → HasNarrowCounts (standing_header f) → v ≡ opened_scns size f.shdrs
+    → IsOpened f size (opened_body size f v)
 unfolding opened_body opened_scns loaded_of held_of room_of
 opened_is f size v counted narrow items = record {
   object = object_begun f size v items;
@@ -175,7 +177,9 @@ opened_is f size v counted narrow items = record {
   header = refl;
 }
 
-pub is_opened : (f : Front) (size : ℕ) (v : List Scn) (b : Body) → IsCounted f → HasNarrowCounts (standing_header f) → v ≡ opened_scns size f.shdrs → b ≡ opened_body size f v → IsOpened f size b
+pub is_opened : (f : Front) (size : ℕ) (v : List Scn) (b : Body) → IsCounted f
+    → HasNarrowCounts (standing_header f) → v ≡ opened_scns size f.shdrs → b ≡ opened_body size f v
+    → IsOpened f size b
 is_opened f size v b counted narrow items is = subst (λ (c : Body). IsOpened f size c) (sym is) (opened_is f size v counted narrow items)
 
 -- ---- What makes it an object

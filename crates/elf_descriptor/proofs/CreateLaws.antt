@@ -42,7 +42,9 @@ body_with header phdrs sections base = record {
 abbrev object_with : Ehdr → List Phdr → List Section → List ℕ → Object
 object_with header phdrs sections base = record (created_over header.class header.order base) { header = header; phdrs = phdrs; sections = sections }
 
-pub created_body : (class : Class) (order : Order) (base : List ℕ) (header : Ehdr) (phdrs : List Phdr) (sections : List Scn) → header ≡ new_ehdr class order → phdrs ≡ [] → sections ≡ []
+pub created_body : (class : Class) (order : Order) (base : List ℕ) (header : Ehdr)
+    (phdrs : List Phdr) (sections : List Scn) → header ≡ new_ehdr class order → phdrs ≡ []
+    → sections ≡ []
     → IsCreatedBody class order base (body_with header phdrs sections base)
 unfolding object_of created_over
 created_body class order base header phdrs sections header_is no_phdrs none = record {

@@ -38,7 +38,8 @@ pub part_of_ready : (b : Body) → IsTrue (ready_of b) → (m : ℕ) × (b.base 
 part_of_ready b ready =
     by_base b.base refl
     (left_true (is_of_source b.base) (has_lengths b.spare (length b.phdrs) (length b.sections))
-    (right_true b.ready (is_of_source b.base && has_lengths b.spare (length b.phdrs) (length b.sections)) ready))
+    (right_true b.ready
+    (is_of_source b.base && has_lengths b.spare (length b.phdrs) (length b.sections)) ready))
   where
     by_base : (base : Base) → b.base ≡ base → is_of_source base ≡ true → (m : ℕ) × (b.base ≡ bases.Source m)
     by_base (bases.Own bytes) e of_source = cc
@@ -110,7 +111,9 @@ module _ {D : Type 0} (g : Ghosts D) (source left : D) (touched : ℕ → ℕ �
   ready_same : ready_of new ≡ ready_of old
   ready_same =
       ap ready_of r.rest
-      ∙ ap (λ (s : Bool). old.ready && (s && has_lengths old.spare (length old.phdrs) (length old.sections))) (ap is_of_source r.new_part ∙ sym (ap is_of_source r.old_part))
+      ∙ ap (λ (s : Bool).
+      old.ready && (s && has_lengths old.spare (length old.phdrs) (length old.sections)))
+      (ap is_of_source r.new_part ∙ sym (ap is_of_source r.old_part))
 
   state_same : state_of g left new ≡ record (state_of g source old) { o = record (object_of (g.holds source) (g.size source) old) { base = (object_of (g.holds left) (g.size left) new).base }; source = left }
   unfolding loaded_of held_of room_of

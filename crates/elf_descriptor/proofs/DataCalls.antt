@@ -79,7 +79,7 @@ pub data_loaded : (image : Option (List ℕ)) (size : ℕ) (b : Body) (s p : ℕ
     (result : Result (Unit {0}) ElfError) → IsElf image size b
     → OnOk result (IsTrue (piece_holds_items (scn_at b s).cell p))
     → OnOk result ((piece_at (object_of image size b) s p).own ≡ None
-      → IsTrue (is_loaded (loaded_of b) s))
+    → IsTrue (is_loaded (loaded_of b) s))
 data_loaded image size b s p (Err e) is holds = holds
 data_loaded image size b s p (Ok x) is holds = λ clean.
     loaded_is b s
@@ -139,7 +139,8 @@ pub record AreItems (image : Option (List ℕ)) (items stated : Items) : Type 0 
   pub exact : IsTrue (is_some image) → items ≡ stated
   pub alike : AlikeItems items stated
 
-pub clean_items : (image : Option (List ℕ)) (size : ℕ) (b : Body) (s p : ℕ) (items : Items) (raw : Option (List ℕ)) → IsElf image size b → s < length b.sections → IsCell (scn_at b s).cell
+pub clean_items : (image : Option (List ℕ)) (size : ℕ) (b : Body) (s p : ℕ) (items : Items)
+    (raw : Option (List ℕ)) → IsElf image size b → s < length b.sections → IsCell (scn_at b s).cell
     → (scn_at b s).cell.home.out ≡ false → (scn_at b s).cell.raw ≡ raw → option_and_then (decoded (scn_at b s).cell.home.kind b.header.class b.header.order) raw ≡ Some items
     → AreItems image items (object.or_empty (content (object_of image size b) s))
 clean_items image size b s p items None is there cell inside same made = cc
@@ -162,7 +163,8 @@ clean_items image size b s p items (Some bytes) is there cell inside same made =
     one_some : (x y : Items) → Some x ≡ Some y → x ≡ y
     one_some x y e = cc
 
-pub ready_items : (image : Option (List ℕ)) (size : ℕ) (b : Body) (s p : ℕ) (items : Items) → IsElf image size b → s < length b.sections → IsCell (scn_at b s).cell
+pub ready_items : (image : Option (List ℕ)) (size : ℕ) (b : Body) (s p : ℕ) (items : Items)
+    → IsElf image size b → s < length b.sections → IsCell (scn_at b s).cell
     → no_home_items b.header.class (scn_at b s).cell p ≡ None → ready (scn_at b s).cell p ≡ Some items
     → (IsTrue (is_some image) → items ≡ items_at (object_of image size b) s p) × AlikeItems items (items_at (object_of image size b) s p)
 unfolding items_at ready

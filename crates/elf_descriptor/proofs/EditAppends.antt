@@ -53,17 +53,24 @@ with_same (back, e) items old new stepped stated is = edits_same e old new stepp
 -- ---- The step
 
 pub piece_appended : (old new : Body) (s align : ℕ) (items : Items) (x : Scn) (cell : CellView) → x ≡ scn_at old s → new ≡ record old { sections = new.sections }
-    → new.sections ≡ set old.sections s (record x { cell = cell }) → cell ≡ appended x.cell items align → IsStepped (λ o. with_new_piece o s items align) (ready_of old) old new
+    → new.sections ≡ set old.sections s (record x { cell = cell })
+    → cell ≡ appended x.cell items align
+    → IsStepped (λ o. with_new_piece o s items align) (ready_of old) old new
 unfolding with_new_piece
 piece_appended old new s align items x cell read rest is there =
     pieces_stepped (λ o. with_new_piece o s items align) old.ready old new s x (λ l. l ++ own_piece items align ∷ []) read rest
     (is ∙ ap (λ (c : CellView). set old.sections s (record x { cell = c })) there) (λ o. refl)
 
 pub piece_refused : {A : Type 0} (old new : Body) (s : ℕ) (refused : Items × ElfError) (items : Items) (x : Scn) (cell stepped : CellView) (stated : Result A ElfError) → x ≡ scn_at old s
-    → new ≡ record old { sections = new.sections } → new.sections ≡ set old.sections s (record x { cell = cell }) → EditsWith (Err refused) items x.cell cell stated stepped
+    → new ≡ record old { sections = new.sections }
+    → new.sections ≡ set old.sections s (record x { cell = cell })
+    → EditsWith (Err refused) items x.cell cell stated stepped
     → IsStepped (λ o. o) (ready_of old) old new
 piece_refused old new s refused items x cell stepped stated read rest is came =
-    section_same old new s x read rest (is ∙ ap (λ (c : CellView). set old.sections s (record x { cell = c })) (with_same refused items x.cell cell stepped stated came))
+    section_same old new s x read rest
+    (is
+    ∙ ap (λ (c : CellView). set old.sections s (record x { cell = c }))
+    (with_same refused items x.cell cell stepped stated came))
 
 -- ---- Refusals
 

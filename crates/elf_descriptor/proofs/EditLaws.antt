@@ -34,9 +34,11 @@ home_kept old new i same =
     ∙ ap (λ (l : List CellView). get_or l i (without_pieces absent_scn)) same
     ∙ get_or-map without_pieces old.sections i absent_scn
 
-pub count_kept : (old new : Body) → homes_of new ≡ homes_of old → length new.sections ≡ length old.sections
+pub count_kept : (old new : Body) → homes_of new ≡ homes_of old
+    → length new.sections ≡ length old.sections
 unfolding homes_of
-count_kept old new same = sym (length-map new.sections without_pieces) ∙ ap length same ∙ length-map old.sections without_pieces
+count_kept old new same = sym (length-map new.sections without_pieces) ∙ ap length same
+    ∙ length-map old.sections without_pieces
 
 loaded_without : (l : List Scn) → map (λ s. cell_is_loaded s.cell) l ≡ map cell_is_loaded (map without_pieces l)
 loaded_without [] = refl
@@ -52,15 +54,18 @@ room_without (s ∷ l) = ap (λ (t : List Bool). s.cell.room ∷ t) (room_withou
 
 pub loaded_kept : (old new : Body) → homes_of new ≡ homes_of old → loaded_of new ≡ loaded_of old
 unfolding homes_of loaded_of
-loaded_kept old new same = loaded_without new.sections ∙ ap (λ (l : List CellView). map cell_is_loaded l) same ∙ sym (loaded_without old.sections)
+loaded_kept old new same = loaded_without new.sections
+    ∙ ap (λ (l : List CellView). map cell_is_loaded l) same ∙ sym (loaded_without old.sections)
 
 pub held_kept : (old new : Body) → homes_of new ≡ homes_of old → held_of new ≡ held_of old
 unfolding homes_of held_of
-held_kept old new same = held_without new.sections ∙ ap (λ (l : List CellView). map (λ c. is_some c.held) l) same ∙ sym (held_without old.sections)
+held_kept old new same = held_without new.sections
+    ∙ ap (λ (l : List CellView). map (λ c. is_some c.held) l) same ∙ sym (held_without old.sections)
 
 pub room_kept : (old new : Body) → homes_of new ≡ homes_of old → room_of new ≡ room_of old
 unfolding homes_of room_of
-room_kept old new same = room_without new.sections ∙ ap (λ (l : List CellView). map (λ c. c.room) l) same ∙ sym (room_without old.sections)
+room_kept old new same = room_without new.sections
+    ∙ ap (λ (l : List CellView). map (λ c. c.room) l) same ∙ sym (room_without old.sections)
 
 -- ---- What is true of each descriptor
 
@@ -75,12 +80,14 @@ cell_kept class order base i x y same is =
     record { number = known.0; lies = known.1; empty = known.2; items = known.3 }
 
 pub cells_kept : (image : Option (List ℕ)) (size : ℕ) (old new : Body) → homes_of new ≡ homes_of old → IsElf image size old
-    → (i : ℕ) (s : Scn) → slice_get new.sections i ≡ Some s → CellIn old.header.class old.header.order old.base i s
+    → (i : ℕ) (s : Scn) → slice_get new.sections i ≡ Some s
+    → CellIn old.header.class old.header.order old.base i s
 unfolding scn_at
 cells_kept image size old new homes is i s found =
     let there = slice_get_within new.sections i s found in
     let count = count_kept old new homes in
-    let at : get_or new.sections i absent_scn ≡ s = get_or_from_slice_get new.sections i s absent_scn found in
+    let at : get_or new.sections i absent_scn ≡ s =
+    get_or_from_slice_get new.sections i s absent_scn found in
     cell_kept old.header.class old.header.order old.base i (scn_at old i) s (ap without_pieces (sym at) ∙ home_kept old new i homes)
     (cell_at image size old i is (omega (arith, there, count)))
 

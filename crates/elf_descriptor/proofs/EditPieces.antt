@@ -78,7 +78,8 @@ answered_back {A} {B} items (Err e) r is = subst (λ (q : Result A (B × ElfErro
 -- ---- Steps
 
 -- the same sections are kept
-pub items_same : (old : Body) (sections : List Scn) → sections ≡ old.sections → IsStepped (λ o. o) (ready_of old) old (record old { sections = sections })
+pub items_same : (old : Body) (sections : List Scn) → sections ≡ old.sections
+    → IsStepped (λ o. o) (ready_of old) old (record old { sections = sections })
 unfolding object_of homes_of
 items_same old sections items = record {
   object = λ image size. ap (λ (l : List Scn). record (object_of image size old) { sections = map (section_of image) l }) items;
@@ -95,7 +96,8 @@ pub section_same : (old new : Body) (s : ℕ) (x : Scn) → x ≡ scn_at old s �
     → new.sections ≡ set old.sections s x → IsStepped (λ o. o) (ready_of old) old new
 unfolding object_of homes_of scn_at
 section_same old new s x read rest is =
-    let items : new.sections ≡ old.sections = is ∙ ap (λ (y : Scn). set old.sections s y) read ∙ set-get_or old.sections s absent_scn in
+    let items : new.sections ≡ old.sections = is ∙ ap (λ (y : Scn). set old.sections s y) read
+    ∙ set-get_or old.sections s absent_scn in
     record {
       object = λ image size. ap (λ (b : Body). object_of image size b) rest ∙ ap (λ (l : List Scn). record (object_of image size old) { sections = map (section_of image) l }) items;
       homes = ap (λ (l : List Scn). map without_pieces l) items;
@@ -114,7 +116,8 @@ unfolding with_own with_piece_at piece_at
 piece_owned o s p items = refl
 
 pub piece_replaced : (old new : Body) (s p : ℕ) (items : Items) (x : Scn) → x ≡ scn_at old s → new ≡ record old { sections = new.sections }
-    → new.sections ≡ set old.sections s (record x { cell = replaced x.cell p items }) → IsStepped (λ o. with_own o s p items) (ready_of old) old new
+    → new.sections ≡ set old.sections s (record x { cell = replaced x.cell p items })
+    → IsStepped (λ o. with_own o s p items) (ready_of old) old new
 unfolding piece_in
 piece_replaced old new s p items x read rest is =
     pieces_stepped (λ o. with_own o s p items) old.ready old new s x (owned_in p items) read rest is (λ o. piece_owned o s p items)
@@ -131,9 +134,13 @@ then_unready after ready old new step = record { object = step.object; homes = s
 module _ {A : Type 0} (old new : Body) (s p : ℕ) (items : Items) (x : Scn) (cell : CellView) (read : x ≡ scn_at old s) (rest : new ≡ record old { sections = new.sections })
     (is : new.sections ≡ set old.sections s (record x { cell = cell })) where
   pub replace_steps : (r : Result A (Items × ElfError)) → OnOk r (cell ≡ replaced x.cell p items) → OnOk r (IsStepped (λ o. with_own o s p items) (ready_of old) old new)
-  replace_steps (Ok v) there = piece_replaced old new s p items x read rest (is ∙ ap (λ (c : CellView). set old.sections s (record x { cell = c })) there)
+  replace_steps (Ok v) there =
+      piece_replaced old new s p items x read rest
+      (is ∙ ap (λ (c : CellView). set old.sections s (record x { cell = c })) there)
   replace_steps (Err e) there = tt
 
   pub cell_stays : (r : Result A (Items × ElfError)) → OnErr r (cell ≡ x.cell) → OnErr r (IsStepped (λ o. o) (ready_of old) old new)
   cell_stays (Ok v) there = tt
-  cell_stays (Err e) there = section_same old new s x read rest (is ∙ ap (λ (c : CellView). set old.sections s (record x { cell = c })) there)
+  cell_stays (Err e) there =
+      section_same old new s x read rest
+      (is ∙ ap (λ (c : CellView). set old.sections s (record x { cell = c })) there)

@@ -68,8 +68,12 @@ one_new i old new x before is more =
 
 -- ---- The object
 
-pub scns_added : (old new : Body) (count n : ℕ) → n ≡ length new.sections → new ≡ record old { header = record old.header { shnum = n }; sections = new.sections; ready = false }
-    → new.sections ≡ old.sections ++ new_scns (length old.sections) count → IsGrown (with_added count) old new
+pub scns_added : (old new : Body) (count n : ℕ) → n ≡ length new.sections
+    → new
+    ≡ record old
+    { header = record old.header { shnum = n }; sections = new.sections; ready = false }
+    → new.sections ≡ old.sections ++ new_scns (length old.sections) count
+    → IsGrown (with_added count) old new
 unfolding object_of
 scns_added old new count n count_is rest is = record {
   count = count;
@@ -82,7 +86,8 @@ scns_added old new count n count_is rest is = record {
       ∙ ap (λ (l : List Section). before ++ l) (sections_are image (length old.sections) count) in
       ap (λ (b : Body). object_of image size b) rest
       ∙ ap (λ (l : List Section). with_parts n l) sections
-      ∙ ap (λ (k : ℕ). with_parts k (before ++ replicate count new_section)) (count_is ∙ sym (length-map new.sections (section_of image)) ∙ ap length sections);
+      ∙ ap (λ (k : ℕ). with_parts k (before ++ replicate count new_section))
+      (count_is ∙ sym (length-map new.sections (section_of image)) ∙ ap length sections);
   sections = is;
   class = ap (λ (b : Body). b.header.class) rest;
   order = ap (λ (b : Body). b.header.order) rest;
@@ -95,13 +100,16 @@ nothing_there : (l : List Scn) → length l ≡ 0 → l ≡ []
 nothing_there [] none = refl
 nothing_there (x ∷ l) none = cc
 
-pub sections_begun : (old : Body) (sections : List Scn) (count : ℕ) → length old.sections ≡ 0 → sections ≡ new_scns 0 count
+pub sections_begun : (old : Body) (sections : List Scn) (count : ℕ) → length old.sections ≡ 0
+    → sections ≡ new_scns 0 count
     → IsGrown (with_added count) old (record old { header = record old.header { shnum = count }; sections = sections; ready = false })
 sections_begun old sections count none made =
     scns_added old (record old { header = record old.header { shnum = count }; sections = sections; ready = false }) count count (sym (ap length made ∙ new_count 0 count)) refl
-    (made ∙ ap (λ (l : List Scn). l ++ new_scns (length l) count) (sym (nothing_there old.sections none)))
+    (made
+    ∙ ap (λ (l : List Scn). l ++ new_scns (length l) count) (sym (nothing_there old.sections none)))
 
-pub section_pushed : (old : Body) (sections : List Scn) (scn : Scn) → HasCounts old → scn ≡ new_scn (length old.sections) → sections ≡ old.sections ++ scn ∷ []
+pub section_pushed : (old : Body) (sections : List Scn) (scn : Scn) → HasCounts old
+    → scn ≡ new_scn (length old.sections) → sections ≡ old.sections ++ scn ∷ []
     → IsGrown (with_added 1) old (record old { header = record old.header { shnum = old.header.shnum + 1 }; sections = sections; ready = false })
 unfolding new_scns
 section_pushed old sections scn has made items =
@@ -119,13 +127,16 @@ module _ (image : Option (List ℕ)) (size : ℕ) (b : Body) where
   counted : is_empty ≡ (length b.sections == 0)
   counted = ap (λ (n : ℕ). n == 0) (section_count_is image size b)
 
-  pub first_value : (n : ℕ) → length b.sections ≡ 0 → n ≡ 1 → n ≡ new_number (object_of image size b)
+  pub first_value : (n : ℕ) → length b.sections ≡ 0 → n ≡ 1
+      → n ≡ new_number (object_of image size b)
   first_value n none is = rw (section_count_is image size b, none) is
 
-  pub next_value : (n : ℕ) → length b.sections ≢ 0 → n ≡ length b.sections → n ≡ new_number (object_of image size b)
+  pub next_value : (n : ℕ) → length b.sections ≢ 0 → n ≡ length b.sections
+      → n ≡ new_number (object_of image size b)
   next_value n some is = rw (section_count_is image size b, ne_eqb (length b.sections) 0 some) is
 
-pub first_grown : (old new : Body) → length old.sections ≡ 0 → IsGrown (with_added 2) old new → IsGrown with_new_section old new
+pub first_grown : (old new : Body) → length old.sections ≡ 0 → IsGrown (with_added 2) old new
+    → IsGrown with_new_section old new
 unfolding with_new_section
 first_grown old new none step = record {
   count = step.count;
@@ -141,11 +152,14 @@ first_grown old new none step = record {
     grown_by : Option (List ℕ) → ℕ → Bool → Object
     grown_by image size t = let o = object_of image size old in with_sections o (o.sections ++ (if t then new_section ∷ new_section ∷ [] else new_section ∷ []))
 
-pub next_grown : (old new : Body) → length old.sections ≢ 0 → IsGrown (with_added 1) old new → IsGrown with_new_section old new
+pub next_grown : (old new : Body) → length old.sections ≢ 0 → IsGrown (with_added 1) old new
+    → IsGrown with_new_section old new
 unfolding with_new_section
 next_grown old new some step = record {
   count = step.count;
-  object = λ image size. step.object image size ∙ ap (λ (t : Bool). grown_by image size t) (sym (counted image size old ∙ ne_eqb (length old.sections) 0 some));
+  object = λ image size. step.object image size
+      ∙ ap (λ (t : Bool). grown_by image size t)
+      (sym (counted image size old ∙ ne_eqb (length old.sections) 0 some));
   sections = step.sections;
   class = step.class;
   order = step.order;
@@ -160,16 +174,19 @@ next_grown old new some step = record {
 pub ruleset first_or_next = (first_value, first_grown, next_value, next_grown)
 
 module _ (image : Option (List ℕ)) (size : ℕ) (b : Body) where
-  refused_is : newscn_refusal (object_of image size b) ≡ refused_if (nat_le MAX_SECTIONS (length b.sections)) TooMany
+  refused_is : newscn_refusal (object_of image size b)
+      ≡ refused_if (nat_le MAX_SECTIONS (length b.sections)) TooMany
   refused_is = ap (λ (n : ℕ). refused_if (nat_le MAX_SECTIONS n) TooMany) (section_count_is image size b)
 
-  pub newscn_refused : (e : ElfError) → IsRefusal e → Err e ≡ answered (refused_if (nat_le MAX_SECTIONS (length b.sections)) TooMany) (tt {0})
+  pub newscn_refused : (e : ElfError) → IsRefusal e
+      → Err e ≡ answered (refused_if (nat_le MAX_SECTIONS (length b.sections)) TooMany) (tt {0})
       → Edits (Err e) (tt {0}) (tt {0}) (answered (newscn_refusal (object_of image size b)) (new_number (object_of image size b))) (tt {0})
   newscn_refused e is met =
       refused_alone {A = ℕ} (newscn_refusal (object_of image size b)) (tt {0}) (new_number (object_of image size b)) e is
       (met ∙ ap (λ (r : Option ElfError). answered r (tt {0})) (sym refused_is))
 
-  pub newscn_made : (r : Result ℕ ElfError) (x : Unit {0}) → Ok x ≡ answered (refused_if (nat_le MAX_SECTIONS (length b.sections)) TooMany) (tt {0})
+  pub newscn_made : (r : Result ℕ ElfError) (x : Unit {0})
+      → Ok x ≡ answered (refused_if (nat_le MAX_SECTIONS (length b.sections)) TooMany) (tt {0})
       → IfOk r (λ s. s ≡ new_number (object_of image size b)) → IfErr r (λ e. e ≡ Memory)
       → Edits r (tt {0}) (tt {0}) (answered (newscn_refusal (object_of image size b)) (new_number (object_of image size b))) (tt {0})
   newscn_made r x passed value memory =
@@ -182,30 +199,39 @@ new_cell_in : (class : Class) (order : Order) (base : Base) (i : ℕ) → CellIn
 new_cell_in class order base i = record { number = refl; lies = λ unread inside some. absurd (omega (arith, some)); empty = λ none. refl; items = tt }
 
 cells_grown : (after : Object → Object) (image : Option (List ℕ)) (size : ℕ) (old new : Body) → IsGrown after old new → IsElf image size old
-    → (i : ℕ) (s : Scn) → slice_get new.sections i ≡ Some s → CellIn old.header.class old.header.order old.base i s
+    → (i : ℕ) (s : Scn) → slice_get new.sections i ≡ Some s
+    → CellIn old.header.class old.header.order old.base i s
 unfolding scn_at new_scns
-cells_grown after image size old new step is i s found = by_range (nat_lt i (length old.sections)) refl
+cells_grown after image size old new step is i s found =
+    by_range (nat_lt i (length old.sections)) refl
   where
     first : ℕ
     first = length old.sections
 
     at : get_or (old.sections ++ new_scns first step.count) i absent_scn ≡ s
-    at = ap (λ (l : List Scn). get_or l i absent_scn) (sym step.sections) ∙ get_or_from_slice_get new.sections i s absent_scn found
+    at = ap (λ (l : List Scn). get_or l i absent_scn) (sym step.sections)
+        ∙ get_or_from_slice_get new.sections i s absent_scn found
 
     by_range : (t : Bool) → nat_lt i first ≡ t → CellIn old.header.class old.header.order old.base i s
     by_range true e =
         let there = ltb-true i first e in
-        subst (λ (x : Scn). CellIn old.header.class old.header.order old.base i x) (sym (get_or_append_left old.sections (new_scns first step.count) absent_scn i there) ∙ at) (cell_at image size old i is there)
+        subst (λ (x : Scn). CellIn old.header.class old.header.order old.base i x)
+        (sym (get_or_append_left old.sections (new_scns first step.count) absent_scn i there) ∙ at)
+        (cell_at image size old i is there)
     by_range false e =
         let past = ltb-false i first e in
         let within = slice_get_within new.sections i s found in
-        let total = ap length step.sections ∙ length-append old.sections (new_scns first step.count) in
+        let total = ap length step.sections
+        ∙ length-append old.sections (new_scns first step.count) in
         let more = new_count first step.count in
         let split : first + (i - first) ≡ i = omega (arith, past) in
         let value : get_or (new_scns first step.count) (i - first) absent_scn ≡ new_scn i =
         get_or-map-range_with_len new_scn first step.count (i - first) i absent_scn (omega (arith, past, within, total, more)) split in
         subst (λ (x : Scn). CellIn old.header.class old.header.order old.base i x)
-        (sym value ∙ sym (get_or-append-add old.sections (new_scns first step.count) (i - first) absent_scn) ∙ ap (λ (k : ℕ). get_or (old.sections ++ new_scns first step.count) k absent_scn) split ∙ at)
+        (sym value
+        ∙ sym (get_or-append-add old.sections (new_scns first step.count) (i - first) absent_scn)
+        ∙ ap (λ (k : ℕ). get_or (old.sections ++ new_scns first step.count) k absent_scn) split
+        ∙ at)
         (new_cell_in old.header.class old.header.order old.base i)
 
 grown_elf : {A : Type 0} (c : Call A) (image : Option (List ℕ)) (size : ℕ) (x : A) (old new : Body) → KeepsObject c → KeepsTied c → KeepsBased c
@@ -234,7 +260,8 @@ no_sections [] none = refl
 no_sections (x ∷ l) none = cc
 
 -- where there are no sections, one more is section 0
-null_grown : (old new : Body) → length old.sections ≡ 0 → IsGrown (with_added 1) old new → IsGrown calls.newnull.after old new
+null_grown : (old new : Body) → length old.sections ≡ 0 → IsGrown (with_added 1) old new
+    → IsGrown calls.newnull.after old new
 unfolding with_null_section
 null_grown old new none step = record {
   count = step.count;
@@ -252,19 +279,25 @@ null_grown old new none step = record {
 
 -- what a step that adds section 0 where there is none leaves
 abbrev IsNulled : Result (Unit {0}) ElfError → Body → Body → Type 0
-IsNulled r old new = (length old.sections ≡ 0 → OnOk r (IsGrown (with_added 1) old new)) × (length old.sections ≢ 0 → new ≡ old) × OnErr r (new ≡ old)
+IsNulled r old new = (length old.sections ≡ 0 → OnOk r (IsGrown (with_added 1) old new))
+    × (length old.sections ≢ 0 → new ≡ old) × OnErr r (new ≡ old)
 
-null_elf_in : (image : Option (List ℕ)) (size : ℕ) (r : Result (Unit {0}) ElfError) (old new : Body) (t : Bool) → (length old.sections == 0) ≡ t → KeepsObject calls.newnull → KeepsTied calls.newnull → KeepsBased calls.newnull
+null_elf_in : (image : Option (List ℕ)) (size : ℕ) (r : Result (Unit {0}) ElfError) (old new : Body)
+    (t : Bool) → (length old.sections == 0) ≡ t → KeepsObject calls.newnull
+    → KeepsTied calls.newnull → KeepsBased calls.newnull
     → IsNulled r old new → IsElf image size old → IsElf image size new
 null_elf_in image size (Ok x) old new true none keeps ties bases step is =
     let empty = eqb-true (length old.sections) 0 none in
     grown_elf calls.newnull image size (tt {0}) old new keeps ties bases refl (null_grown old new empty (step.0 empty)) is
-null_elf_in image size (Ok x) old new false some keeps ties bases step is = subst (λ (b : Body). IsElf image size b) (sym (step.1 (eqb-false (length old.sections) 0 some))) is
+null_elf_in image size (Ok x) old new false some keeps ties bases step is =
+    subst (λ (b : Body). IsElf image size b) (sym (step.1 (eqb-false (length old.sections) 0 some)))
+    is
 null_elf_in image size (Err e) old new t empty keeps ties bases step is = subst (λ (b : Body). IsElf image size b) (sym step.2) is
 
 pub null_elf : (image : Option (List ℕ)) (size : ℕ) (r : Result (Unit {0}) ElfError) (old new : Body) → KeepsObject calls.newnull → KeepsTied calls.newnull → KeepsBased calls.newnull
     → IsNulled r old new → IsElf image size old → IsElf image size new
-null_elf image size r old new keeps ties bases step is = null_elf_in image size r old new (length old.sections == 0) refl keeps ties bases step is
+null_elf image size r old new keeps ties bases step is =
+    null_elf_in image size r old new (length old.sections == 0) refl keeps ties bases step is
 
 -- ---- The state
 
@@ -272,18 +305,23 @@ none_of : (f : Scn → Bool) → ((n : ℕ) → f (new_scn n) ≡ false) → (l 
 none_of f none [] = refl
 none_of f none (n ∷ l) = ap (λ (b : Bool). b ∷ map f (map new_scn l)) (none n) ∙ ap (λ (t : List Bool). false ∷ t) (none_of f none l)
 
-marks_grown : (f : Scn → Bool) → ((n : ℕ) → f (new_scn n) ≡ false) → (old new : Body) (count total : ℕ) → new.sections ≡ old.sections ++ new_scns (length old.sections) count
+marks_grown : (f : Scn → Bool) → ((n : ℕ) → f (new_scn n) ≡ false)
+    → (old new : Body) (count total : ℕ)
+    → new.sections ≡ old.sections ++ new_scns (length old.sections) count
     → total ≡ length new.sections → map f new.sections ≡ with_none total (map f old.sections)
 unfolding new_scns
 marks_grown f none old new count total is total_is =
     let first : ℕ = length old.sections in
     let more = length-map-range_with_len new_scn first count in
-    let long = ap length is ∙ length-append old.sections (map new_scn (range_with_len first count)) in
+    let long = ap length is
+    ∙ length-append old.sections (map new_scn (range_with_len first count)) in
     let kept = length-map old.sections f in
-    let counted : length (range_with_len first count) ≡ total - length (map f old.sections) = omega (arith, length-range_with_len first count, more, long, kept, total_is) in
+    let counted : length (range_with_len first count) ≡ total - length (map f old.sections) =
+    omega (arith, length-range_with_len first count, more, long, kept, total_is) in
     ap (λ (l : List Scn). map f l) is
     ∙ map-append f old.sections (map new_scn (range_with_len first count))
-    ∙ ap (λ (l : List Bool). map f old.sections ++ l) (none_of f none (range_with_len first count) ∙ ap (λ (k : ℕ). replicate k false) counted)
+    ∙ ap (λ (l : List Bool). map f old.sections ++ l)
+    (none_of f none (range_with_len first count) ∙ ap (λ (k : ℕ). replicate k false) counted)
 
 module _ {S : Type 0} (g : Ghosts S) (source : S) where
   abbrev state_with : Object → List Bool → List Bool → List Bool → Bool → State S
@@ -318,20 +356,24 @@ module _ {S : Type 0} (g : Ghosts S) (source : S) where
   null_is : (old : Body) → null_of (length old.sections == 0) old ≡ nulled (state_of g source old)
   null_is old = ap (λ (t : Bool). if t then grown calls.newnull (state_of g source old) else state_of g source old) (sym (counted (g.holds source) (g.size source) old))
 
-  state_nulled : (old new : Body) (t : Bool) → (length old.sections == 0) ≡ t → IsNulled (Ok (tt {0})) old new → state_of g source new ≡ null_of t old
+  state_nulled : (old new : Body) (t : Bool) → (length old.sections == 0) ≡ t
+      → IsNulled (Ok (tt {0})) old new → state_of g source new ≡ null_of t old
   state_nulled old new true none step =
       let empty = eqb-true (length old.sections) 0 none in
       state_grown calls.newnull old new (null_grown old new empty (step.0 empty))
-  state_nulled old new false some step = ap (λ (b : Body). state_of g source b) (step.1 (eqb-false (length old.sections) 0 some))
+  state_nulled old new false some step =
+      ap (λ (b : Body). state_of g source b) (step.1 (eqb-false (length old.sections) 0 some))
 
   pub nulls_to : (r : Result (Unit {0}) ElfError) (old new : Body) → IfErr r (λ e. e ≡ Memory) → IsNulled r old new
       → Edits r (state_of g source old) (state_of g source new) (calls.newnull.answer (state_of g source old).o) (nulled (state_of g source old))
-  nulls_to (Ok x) old new memory step = (refl, state_nulled old new (length old.sections == 0) refl step ∙ null_is old)
+  nulls_to (Ok x) old new memory step =
+      (refl, state_nulled old new (length old.sections == 0) refl step ∙ null_is old)
   nulls_to (Err e) old new memory step =
       subst (λ (d : ElfError). Edits (Err d) (state_of g source old) (state_of g source new) (calls.newnull.answer (state_of g source old).o) (nulled (state_of g source old))) (sym memory)
       (refl, ap (λ (b : Body). state_of g source b) step.2)
 
-  pub nulls_where : (r : Result (Unit {0}) ElfError) (old : Body) → OnErr r (length old.sections ≡ 0) → OnErr r (length (state_of g source old).o.sections ≡ 0)
+  pub nulls_where : (r : Result (Unit {0}) ElfError) (old : Body)
+      → OnErr r (length old.sections ≡ 0) → OnErr r (length (state_of g source old).o.sections ≡ 0)
   nulls_where (Ok x) old none = tt
   nulls_where (Err e) old none = section_count_is (g.holds source) (g.size source) old ∙ none
 

@@ -45,7 +45,10 @@ passed_with None v x w y passed is = ap Ok is
 passed_with (Some d) v x w y passed is = cc
 
 pub update_ehdr_refused : (image : Option (List ℕ)) (size : ℕ) (b : Body) (h : Ehdr) → update_ehdr_refusal (object_of image size b) h
-    ≡ first_refusal (refused_if (not (h.shstrndx == 0) && nat_le (length b.sections) h.shstrndx) (NoSection h.shstrndx (length b.sections)) ∷ refused_if (not (ehdr_fits (stored_ehdr b.header h))) (Unfit part.Header 0) ∷ [])
+    ≡ first_refusal
+    (refused_if (not (h.shstrndx == 0) && nat_le (length b.sections) h.shstrndx)
+    (NoSection h.shstrndx (length b.sections))
+    ∷ refused_if (not (ehdr_fits (stored_ehdr b.header h))) (Unfit part.Header 0) ∷ [])
 unfolding update_ehdr_refusal object_of
 update_ehdr_refused image size b h =
     ap (λ (n : ℕ). first_refusal (refused_if (not (h.shstrndx == 0) && nat_le n h.shstrndx) (NoSection h.shstrndx n) ∷ refused_if (not (ehdr_fits (stored_ehdr b.header h))) (Unfit part.Header 0) ∷ []))
@@ -167,18 +170,25 @@ unfolding object_of with_section homes_of scn_at
 section_stepped after ready old new s y rest is home stepped = record {
   object = λ image size.
       ap (λ (b : Body). object_of image size b) rest
-      ∙ ap (λ (l : List Section). record (object_of image size old) { sections = l }) (ap (λ (l : List Scn). map (section_of image) l) is ∙ map-set (section_of image) old.sections s y)
+      ∙ ap (λ (l : List Section). record (object_of image size old) { sections = l })
+      (ap (λ (l : List Scn). map (section_of image) l) is
+      ∙ map-set (section_of image) old.sections s y)
       ∙ stepped image size;
-  homes = ap (λ (l : List Scn). map without_pieces l) is ∙ map-set_same without_pieces old.sections s y absent_scn home;
+  homes = ap (λ (l : List Scn). map without_pieces l) is
+      ∙ map-set_same without_pieces old.sections s y absent_scn home;
   class = ap (λ (b : Body). b.header.class) rest;
   order = ap (λ (b : Body). b.header.order) rest;
   base = ap (λ (b : Body). b.base) rest;
   written = ap (λ (b : Body). b.written) rest;
-  ready = ap ready_of rest ∙ ap (λ (n : ℕ). ready && (is_of_source old.base && has_lengths old.spare (length old.phdrs) n)) (ap length is ∙ length-set old.sections s y);
+  ready = ap ready_of rest
+      ∙ ap (λ (n : ℕ).
+      ready && (is_of_source old.base && has_lengths old.spare (length old.phdrs) n))
+      (ap length is ∙ length-set old.sections s y);
 }
 
 pub shdr_stepped : (old new : Body) (s : ℕ) (h : Shdr) (x : Scn) → x ≡ scn_at old s → new ≡ record old { sections = new.sections; ready = false }
-    → new.sections ≡ set old.sections s (record x { header = h; marked = true }) → IsStepped (λ o. with_shdr o s h) false old new
+    → new.sections ≡ set old.sections s (record x { header = h; marked = true })
+    → IsStepped (λ o. with_shdr o s h) false old new
 unfolding with_shdr section_of
 shdr_stepped old new s h x read rest is =
     section_stepped (λ o. with_shdr o s h) false old new s (record x { header = h; marked = true }) rest is (ap without_pieces read)
@@ -192,12 +202,15 @@ pub header_and_mark : (l mid new : List Scn) (s : ℕ) (h : Shdr) → s < length
 header_and_mark l mid new s h there stored marked =
     marked
     ∙ ap (λ (m : List Scn). set m s (record (section_in m s) { marked = true })) stored
-    ∙ ap (λ (y : Scn). set (set l s (record (section_in l s) { header = h })) s (record y { marked = true }))
+    ∙ ap (λ (y : Scn).
+    set (set l s (record (section_in l s) { header = h })) s (record y { marked = true }))
     (get_or-set_same l s (record (section_in l s) { header = h }) absent_scn there)
-    ∙ set-set l s (record (section_in l s) { header = h }) (record (section_in l s) { header = h; marked = true })
+    ∙ set-set l s (record (section_in l s) { header = h })
+    (record (section_in l s) { header = h; marked = true })
 
 pub section_marked : (old new : Body) (s : ℕ) (x : Scn) → x ≡ scn_at old s → new ≡ record old { sections = new.sections }
-    → new.sections ≡ set old.sections s (record x { marked = true }) → IsStepped (λ o. with_mark o (part.Section s)) (ready_of old) old new
+    → new.sections ≡ set old.sections s (record x { marked = true })
+    → IsStepped (λ o. with_mark o (part.Section s)) (ready_of old) old new
 unfolding with_mark section_of
 section_marked old new s x read rest is =
     section_stepped (λ o. with_mark o (part.Section s)) old.ready old new s (record x { marked = true }) rest is (ap without_pieces read)
@@ -217,7 +230,9 @@ pieces_stay image x pieces = ap (λ (raw : List ℕ). record (section_of image x
 
 -- its pieces become others
 pub pieces_stepped : (after : Object → Object) (ready : Bool) (old new : Body) (s : ℕ) (x : Scn) (change : List Piece → List Piece) → x ≡ scn_at old s
-    → new ≡ record old { sections = new.sections; ready = ready } → new.sections ≡ set old.sections s (record x { cell = record x.cell { pieces = change x.cell.pieces } })
+    → new ≡ record old { sections = new.sections; ready = ready }
+    → new.sections
+    ≡ set old.sections s (record x { cell = record x.cell { pieces = change x.cell.pieces } })
     → ((o : Object) → with_section o s (record (section_at o s) { pieces = change (section_at o s).pieces }) ≡ after o) → IsStepped after (ready && has_spare old) old new
 unfolding section_of
 pieces_stepped after ready old new s x change read rest is stepped =
@@ -235,13 +250,16 @@ unfolding with_mark with_piece_at piece_at
 piece_marks o s p = refl
 
 pub piece_marked : (old new : Body) (s p : ℕ) (x : Scn) → x ≡ scn_at old s → new ≡ record old { sections = new.sections }
-    → new.sections ≡ set old.sections s (record x { cell = marked_piece x.cell p }) → IsStepped (λ o. with_mark o (part.Piece s p)) (ready_of old) old new
+    → new.sections ≡ set old.sections s (record x { cell = marked_piece x.cell p })
+    → IsStepped (λ o. with_mark o (part.Piece s p)) (ready_of old) old new
 unfolding piece_in
 piece_marked old new s p x read rest is =
     pieces_stepped (λ o. with_mark o (part.Piece s p)) old.ready old new s x (marked_in p) read rest is (λ o. piece_marks o s p)
 
-pub marked_there : (old new : Body) (s p : ℕ) (x : Scn) (cell : CellView) → s < length old.sections → p < length (scn_at old s).cell.pieces → x ≡ scn_at old s
-    → new.sections ≡ set old.sections s (record x { cell = cell }) → cell ≡ marked_piece x.cell p → IsThere new (part.Piece s p)
+pub marked_there : (old new : Body) (s p : ℕ) (x : Scn) (cell : CellView) → s < length old.sections
+    → p < length (scn_at old s).cell.pieces → x ≡ scn_at old s
+    → new.sections ≡ set old.sections s (record x { cell = cell }) → cell ≡ marked_piece x.cell p
+    → IsThere new (part.Piece s p)
 marked_there old new s p x cell there below read is marked =
     let count = ap length is ∙ length-set old.sections s (record x { cell = cell }) in
     let written = scn_written old new s (record x { cell = cell }) there is in

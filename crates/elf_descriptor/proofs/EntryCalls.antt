@@ -199,7 +199,8 @@ list_made {X} variant list_of back item size bytes items given = by_test (nat_eq
 -- the items that are at hand are those of the object where the source tells it, and as many in any case
 pub lists_alike : {X : Type 0} (image : Option (List ℕ)) (size : ℕ) (b : Body) (kind : Kind) (variant : List X → Items) (list_of : Items → List X) → ((l : List X) → list_of (variant l) ≡ l)
     → (item : List ℕ → X) (width s p : ℕ) → ((bytes : List ℕ) → decoded kind b.header.class b.header.order bytes ≡ option_map variant (listed item width bytes))
-    → IsElf image size b → s < length b.sections → IsCell (scn_at b s).cell → kind_in (scn_at b s).cell p ≡ kind → no_home_items b.header.class (scn_at b s).cell p ≡ None
+    → IsElf image size b → s < length b.sections → IsCell (scn_at b s).cell
+    → kind_in (scn_at b s).cell p ≡ kind → no_home_items b.header.class (scn_at b s).cell p ≡ None
     → IsTrue (is_at_hand b.header.class (scn_at b s).cell p)
     → (IsTrue (is_some image) → list_of (items_in b.header.class b.header.order (scn_at b s).cell p) ≡ list_of (items_at (object_of image size b) s p))
     × (length (list_of (items_in b.header.class b.header.order (scn_at b s).cell p)) ≡ length (list_of (items_at (object_of image size b) s p)))

@@ -29,7 +29,9 @@ section_there image size b s known = by_range (nat_lt s (length b.sections)) ref
     by_range : (t : Bool) → nat_lt s (length b.sections) ≡ t → s < length b.sections
     by_range true e = ltb-true s (length b.sections) e
     by_range false e =
-        let missing = sym (no_section_is image size b s ∙ scn_missing b s (ltb-false s (length b.sections) e)) ∙ known in
+        let missing =
+        sym (no_section_is image size b s ∙ scn_missing b s (ltb-false s (length b.sections) e))
+        ∙ known in
         cc
 
 module _ (image : Option (List ℕ)) (size : ℕ) (b : Body) (s count end : ℕ) (is : IsElf image size b)
@@ -40,22 +42,32 @@ module _ (image : Option (List ℕ)) (size : ℕ) (b : Body) (s count end : ℕ)
   abbrev pieces : List Piece
   pieces = (scn_at b s).cell.pieces
 
-  ends_at : last_end 0 (stacked 0 (take count (aligned_pieces b.header.class b.header.order (section_of image (scn_at b s))))) ≡ end
+  ends_at : last_end 0
+      (stacked 0
+      (take count (aligned_pieces b.header.class b.header.order (section_of image (scn_at b s)))))
+      ≡ end
   unfolding aligned_pieces section_of
   ends_at =
       ap (λ (l : List (ℕ × List ℕ)). last_end 0 (stacked 0 l)) (take-map form count pieces)
       ∙ end_is b.header.class b.header.order (raw_of image (scn_at b s).cell) 0 (take count pieces)
-      ∙ ap (λ (n : ℕ). stacked_end b.header.class n 0 (take count pieces)) (home_length image size b s is there)
+      ∙ ap (λ (n : ℕ). stacked_end b.header.class n 0 (take count pieces))
+      (home_length image size b s is there)
       ∙ first.ends b.header.class
 
   pub first_is : AreFirst (object_of image size b) s count end
   unfolding object_of section_of piece_count
   first_is = record {
-    few = subst (λ (c : Section). count ≤ length c.pieces) (sym (section_is image size b s)) first.few;
+    few =
+        subst (λ (c : Section). count ≤ length c.pieces) (sym (section_is image size b s))
+        first.few;
     bytes =
-        ap (λ (c : Section). list_all (λ p. same_kind (kind_of_piece c p) kinds.Bytes) (take count c.pieces)) (section_is image size b s)
+        ap (λ (c : Section).
+        list_all (λ p. same_kind (kind_of_piece c p) kinds.Bytes) (take count c.pieces))
+        (section_is image size b s)
         ∙ first.bytes;
     ends =
-        ap (λ (c : Section). last_end 0 (stacked 0 (take count (aligned_pieces b.header.class b.header.order c)))) (section_is image size b s)
+        ap (λ (c : Section).
+        last_end 0 (stacked 0 (take count (aligned_pieces b.header.class b.header.order c))))
+        (section_is image size b s)
         ∙ ends_at;
   }

@@ -49,12 +49,14 @@ hand_home class c p cell hand = by_own (piece_in c p).own hand
     by_own None hand = by_tests c.raw c.home.out (is_ragged class c) cell.outside hand
 
 -- of a piece of a kind that is there
-hand_passes : (b : Body) (kind : Kind) (s p : ℕ) → s < length b.sections → p < length (scn_at b s).cell.pieces → kind_in (scn_at b s).cell p ≡ kind
+hand_passes : (b : Body) (kind : Kind) (s p : ℕ) → s < length b.sections
+    → p < length (scn_at b s).cell.pieces → kind_in (scn_at b s).cell p ≡ kind
     → no_home_items b.header.class (scn_at b s).cell p ≡ None → no_list_in b kind s p ≡ None
 unfolding no_list_in kind_refused no_scn
 hand_passes b kind s p there piece of_kind home =
     let c = (scn_at b s).cell in
-    let_pass (nat_le (length b.sections) s) (NoSection s (length b.sections)) (kind_refused b.header.class c kind p ∷ []) (lt-leb (length b.sections) s there)
+    let_pass (nat_le (length b.sections) s) (NoSection s (length b.sections))
+    (kind_refused b.header.class c kind p ∷ []) (lt-leb (length b.sections) s there)
     ∙ one_none (kind_refused b.header.class c kind p)
     (let_pass (nat_le (length c.pieces) p) (NoData p (length c.pieces)) _ (lt-leb (length c.pieces) p piece)
     ∙ let_pass _ (WrongKind (kind_in c p)) (no_home_items b.header.class c p ∷ []) (ap not (same_kind-same (kind_in c p) kind of_kind))

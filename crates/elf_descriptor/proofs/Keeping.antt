@@ -59,7 +59,8 @@ pub so_same : (b : Body) (s : ℕ) → HoldsSo b b s (scn_at b s).cell
 unfolding scn_at
 so_same b s = record { rest = refl; sections = sym (set-get_or b.sections s absent_scn) }
 
-pub same_steps : (old new : Body) (s : ℕ) → HoldsSo old new s (scn_at old s).cell → IsStepped (λ o. o) (ready_of old) old new
+pub same_steps : (old new : Body) (s : ℕ) → HoldsSo old new s (scn_at old s).cell
+    → IsStepped (λ o. o) (ready_of old) old new
 same_steps old new s so = section_same old new s (scn_at old s) refl so.rest so.sections
 
 -- ---- Memory is kept aside
@@ -73,7 +74,8 @@ kept_section image x = by_loaded (cell_is_loaded x.cell) image
     by_loaded false None = refl
     by_loaded false (Some bytes) = refl
 
-module _ (image : Option (List ℕ)) (size : ℕ) (old new : Body) (s : ℕ) (is : IsElf image size old) (there : s < length old.sections) (so : HoldsSo old new s (with_room (scn_at old s).cell)) where
+module _ (image : Option (List ℕ)) (size : ℕ) (old new : Body) (s : ℕ) (is : IsElf image size old)
+    (there : s < length old.sections) (so : HoldsSo old new s (with_room (scn_at old s).cell)) where
   pub kept_otherwise : HoldsOtherwise image old new s (with_room (scn_at old s).cell)
   kept_otherwise =
       let before = cell_at image size old s is there in
@@ -93,7 +95,8 @@ module _ (image : Option (List ℕ)) (size : ℕ) (old new : Body) (s : ℕ) (is
 
 module _ {S : Type 0} (g : Ghosts S) (source : S) (old new : Body) (s : ℕ) (is : IsElf (g.holds source) (g.size source) old) where
   -- the state with memory kept aside
-  kept_state : s < length old.sections → HoldsSo old new s (with_room (scn_at old s).cell) → state_of g source new ≡ with_room_for s (state_of g source old)
+  kept_state : s < length old.sections → HoldsSo old new s (with_room (scn_at old s).cell)
+      → state_of g source new ≡ with_room_for s (state_of g source old)
   kept_state there so =
       otherwise_state g source old new s (with_room c) (kept_otherwise (g.holds source) (g.size source) old new s is there so)
       ∙ by_loaded (cell_is_loaded c) refl
@@ -123,13 +126,16 @@ module _ {S : Type 0} (g : Ghosts S) (source : S) (old new : Body) (s : ℕ) (is
           ∙ ap (λ (l : List Bool). record (state_of g source old) { room = l }) (room_same old s)
       by_loaded false e = ap (λ (t : Bool). held_so (if t then c else (record c { room = true }))) e ∙ lists (set (room_of old) s true)
 
-  pub reserve_elf : (r : Result (Unit {0}) ElfError) → OnOk r (HoldsSo old new s (with_room (scn_at old s).cell)) → OnOk r (s < length old.sections)
+  pub reserve_elf : (r : Result (Unit {0}) ElfError)
+      → OnOk r (HoldsSo old new s (with_room (scn_at old s).cell))
+      → OnOk r (s < length old.sections)
       → OnErr r (HoldsSo old new s (scn_at old s).cell) → IsElf (g.holds source) (g.size source) new
   reserve_elf (Ok x) ok there same = otherwise_elf (g.holds source) (g.size source) old new s (with_room (scn_at old s).cell) (kept_otherwise (g.holds source) (g.size source) old new s is there ok) is
   reserve_elf (Err e) ok there same = same_elf (g.holds source) (g.size source) (ready_of old) old new (same_steps old new s same) is
 
   pub reserve_edits : (r : Result (Unit {0}) ElfError) → Edits r (tt {0}) (tt {0}) (answered (no_raw_in old s) (tt {0})) (tt {0})
-      → OnOk r (HoldsSo old new s (with_room (scn_at old s).cell)) → OnOk r (s < length old.sections) → OnErr r (HoldsSo old new s (scn_at old s).cell)
+      → OnOk r (HoldsSo old new s (with_room (scn_at old s).cell))
+      → OnOk r (s < length old.sections) → OnErr r (HoldsSo old new s (scn_at old s).cell)
       → Edits r (state_of g source old) (state_of g source new) (answered (raw_refusal (object_of (g.holds source) (g.size source) old) s) (tt {0})) (with_room_for s (state_of g source old))
   reserve_edits (Ok x) came ok there same =
       (ap (λ (q : Option ElfError). answered q (tt {0})) (raw_refusal_is (g.holds source) (g.size source) old s is) ∙ came.0, kept_state there ok)
@@ -165,7 +171,8 @@ module _ {S : Type 0} (g : Ghosts S) (source : S) (old new : Body) (s : ℕ) (is
 -- ---- The home is read into it
 
 -- there is such a section
-pub room_there : (b : Body) (s : ℕ) → IsTrue (is_loaded (loaded_of b) s || is_loaded (room_of b) s) → (s < length b.sections) × IsTrue (cell_is_loaded (scn_at b s).cell || (scn_at b s).cell.room)
+pub room_there : (b : Body) (s : ℕ) → IsTrue (is_loaded (loaded_of b) s || is_loaded (room_of b) s)
+    → (s < length b.sections) × IsTrue (cell_is_loaded (scn_at b s).cell || (scn_at b s).cell.room)
 room_there b s room = (by_range (nat_lt s (length b.sections)) refl, kept)
   where
     kept : IsTrue (cell_is_loaded (scn_at b s).cell || (scn_at b s).cell.room)
@@ -176,13 +183,22 @@ room_there b s room = (by_range (nat_lt s (length b.sections)) refl, kept)
     by_range : (t : Bool) → nat_lt s (length b.sections) ≡ t → s < length b.sections
     by_range true e = ltb-true s (length b.sections) e
     by_range false e =
-        let none = ap (λ (x : Scn). cell_is_loaded x.cell || x.cell.room) (absent_at b s (ltb-false s (length b.sections) e)) in
+        let none =
+        ap (λ (x : Scn). cell_is_loaded x.cell || x.cell.room)
+        (absent_at b s (ltb-false s (length b.sections) e)) in
         let never = sym kept ∙ none in cc
 
 module _ (image : Option (List ℕ)) (old new : Body) (s : ℕ) (f : Fills image old new s) where
   -- the same with the memory as it was
   unfoldable pub filled : Body
-  filled = record old { sections = set old.sections s (record (scn_at old s) { cell = record (scn_at old s).cell { raw = Some f.fills.raw } }) }
+  filled =
+      record old {
+        sections =
+            set old.sections s
+            (record (scn_at old s) {
+              cell = record (scn_at old s).cell { raw = Some f.fills.raw };
+            });
+      }
 
   pub filled_warmed : Warmed image old filled s
   unfolding filled
@@ -208,19 +224,30 @@ module _ (image : Option (List ℕ)) (old new : Body) (s : ℕ) (f : Fills image
     unfolding filled
     filled_here = scn_written old filled s (record (scn_at old s) { cell = record (scn_at old s).cell { raw = Some f.fills.raw } }) there refl
 
-    filled_sections : new.sections ≡ set filled.sections s (record (scn_at filled s) { cell = filled_cell })
+    filled_sections : new.sections
+        ≡ set filled.sections s (record (scn_at filled s) { cell = filled_cell })
     unfolding filled_cell filled
     filled_sections =
         f.so.sections
-        ∙ ap (λ (c : CellView). set old.sections s (record (scn_at old s) { cell = c })) f.fills.cell
-        ∙ sym (ap (λ (x : Scn). set filled.sections s (record x { cell = filled_cell })) filled_here ∙ twice)
+        ∙ ap (λ (c : CellView). set old.sections s (record (scn_at old s) { cell = c }))
+        f.fills.cell
+        ∙ sym (ap (λ (x : Scn). set filled.sections s (record x { cell = filled_cell })) filled_here
+        ∙ twice)
       where
-        twice : set filled.sections s (record (scn_at old s) { cell = filled_cell }) ≡ set old.sections s (record (scn_at old s) { cell = filled_cell })
-        twice = set-set old.sections s (record (scn_at old s) { cell = record (scn_at old s).cell { raw = Some f.fills.raw } }) (record (scn_at old s) { cell = filled_cell })
+        twice : set filled.sections s (record (scn_at old s) { cell = filled_cell })
+            ≡ set old.sections s (record (scn_at old s) { cell = filled_cell })
+        twice =
+            set-set old.sections s
+            (record (scn_at old s) { cell = record (scn_at old s).cell { raw = Some f.fills.raw } })
+            (record (scn_at old s) { cell = filled_cell })
 
     filled_count : s < length filled.sections
     unfolding filled
-    filled_count = let same = length-set old.sections s (record (scn_at old s) { cell = record (scn_at old s).cell { raw = Some f.fills.raw } }) in omega (arith, there, same)
+    filled_count =
+        let same =
+        length-set old.sections s
+        (record (scn_at old s) { cell = record (scn_at old s).cell { raw = Some f.fills.raw } }) in
+        omega (arith, there, same)
 
     filled_rest : new ≡ record filled { sections = new.sections }
     unfolding filled
@@ -258,7 +285,9 @@ same_warmed image old new s so = record {
 
 same_cell : (old new : Body) (s : ℕ) → HoldsSo old new s (scn_at old s).cell → (scn_at new s).cell ≡ (scn_at old s).cell
 unfolding scn_at
-same_cell old new s so = ap (λ (l : List Scn). (get_or l s absent_scn).cell) (so.sections ∙ set-get_or old.sections s absent_scn)
+same_cell old new s so =
+    ap (λ (l : List Scn). (get_or l s absent_scn).cell)
+    (so.sections ∙ set-get_or old.sections s absent_scn)
 
 -- want of memory is never answered
 pub never_memory : {S : Type 0} (s : ℕ) (state : State S) (r stated : Result (Unit {0}) ElfError) → IfErr r (λ e. e ≡ Read) → Answers true (wanted (calls.raw s) state) r stated → Answers true (reads_home s state) r stated
@@ -270,7 +299,8 @@ never_memory s state (Err e) stated err came =
     read_alone : Answers true (wanted (calls.raw s) state) (Err Read) stated → Answers true (reads_home s state) (Err Read) stated
     read_alone came = came
 
-module _ {S : Type 0} (g : Ghosts S) (source left : S) (old new : Body) (s : ℕ) (is : IsElf (g.holds source) (g.size source) old) (there : s < length old.sections) where
+module _ {S : Type 0} (g : Ghosts S) (source left : S) (old new : Body) (s : ℕ)
+    (is : IsElf (g.holds source) (g.size source) old) (there : s < length old.sections) where
   -- as the call that gives the bytes is answered
   load_came : (r : Result (Unit {0}) ElfError) → Answers true (reading (load_due (scn_at old s).cell)) r (answered (home_out (scn_at old s).cell) (tt {0})) → Answers true (loading (load_due (scn_at old s).cell)) r (answered (no_raw_in old s) (tt {0}))
   unfolding no_raw_in
@@ -309,7 +339,8 @@ module _ {S : Type 0} (g : Ghosts S) (source left : S) (old new : Body) (s : ℕ
 
   scn_other : Fills (g.holds source) old new s → (i : ℕ) → i ≢ s → scn_at new i ≡ scn_at old i
   unfolding scn_at
-  scn_other f i other = ap (λ (l : List Scn). get_or l i absent_scn) f.so.sections ∙ get_or-set_other old.sections s i (record (scn_at old s) { cell = f.cell }) absent_scn other
+  scn_other f i other = ap (λ (l : List Scn). get_or l i absent_scn) f.so.sections
+      ∙ get_or-set_other old.sections s i (record (scn_at old s) { cell = f.cell }) absent_scn other
 
   pub load_home_queries : (r : Result (Unit {0}) ElfError) → Answers true (reading (load_due (scn_at old s).cell)) r (answered (home_out (scn_at old s).cell) (tt {0}))
       → OnOk r (Fills (g.holds source) old new s) → OnErr r (HoldsSo old new s (scn_at old s).cell) → Asks g r source left (load_due (scn_at old s).cell)
@@ -376,13 +407,15 @@ module _ (r : Result (Unit {0}) ElfError) (old new : Body) (s : ℕ) (x : Scn) (
       by_answer (Err e) came = tt
 
 pub reserved_same : (r : Result (Unit {0}) ElfError) (old new : Body) (s : ℕ) (x : Scn) (cell stepped : CellView) (stated : Result (Unit {0}) ElfError) → x ≡ scn_at old s → new ≡ record old { sections = new.sections }
-    → new.sections ≡ set old.sections s (record x { cell = cell }) → Edits r x.cell cell stated stepped → OnErr r (HoldsSo old new s (scn_at old s).cell)
+    → new.sections ≡ set old.sections s (record x { cell = cell })
+    → Edits r x.cell cell stated stepped → OnErr r (HoldsSo old new s (scn_at old s).cell)
 reserved_same (Ok v) old new s x cell stepped stated read rest is came = tt
 reserved_same (Err e) old new s x cell stepped stated read rest is came =
     so_is old new s cell (scn_at old s).cell (edits_same e x.cell cell stepped stated came ∙ ap (λ (y : Scn). y.cell) read) (so_by old new s x cell read rest is)
 
 pub filled_by : (r : Result (Unit {0}) ElfError) (image : Option (List ℕ)) (old new : Body) (s : ℕ) (x : Scn) (cell : CellView) → x ≡ scn_at old s → new ≡ record old { sections = new.sections }
-    → new.sections ≡ set old.sections s (record x { cell = cell }) → OnOk r (FillsRoom image x.cell cell) → OnOk r (Fills image old new s)
+    → new.sections ≡ set old.sections s (record x { cell = cell })
+    → OnOk r (FillsRoom image x.cell cell) → OnOk r (Fills image old new s)
 filled_by (Ok v) image old new s x cell read rest is fills = record {
   cell = cell;
   so = so_by old new s x cell read rest is;
@@ -391,7 +424,8 @@ filled_by (Ok v) image old new s x cell read rest is fills = record {
 filled_by (Err e) image old new s x cell read rest is fills = tt
 
 pub unfilled_by : (r : Result (Unit {0}) ElfError) (old new : Body) (s : ℕ) (x : Scn) (cell : CellView) → x ≡ scn_at old s → new ≡ record old { sections = new.sections }
-    → new.sections ≡ set old.sections s (record x { cell = cell }) → OnErr r (cell ≡ x.cell) → OnErr r (HoldsSo old new s (scn_at old s).cell)
+    → new.sections ≡ set old.sections s (record x { cell = cell }) → OnErr r (cell ≡ x.cell)
+    → OnErr r (HoldsSo old new s (scn_at old s).cell)
 unfilled_by (Ok v) old new s x cell read rest is same = tt
 unfilled_by (Err e) old new s x cell read rest is same = so_is old new s cell (scn_at old s).cell (same ∙ ap (λ (y : Scn). y.cell) read) (so_by old new s x cell read rest is)
 

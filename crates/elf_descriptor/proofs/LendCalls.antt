@@ -131,7 +131,8 @@ own_passed o kind s p x =
 pub piece_own : (image : Option (List ℕ)) (size : ℕ) (b : Body) (kind : Kind) (s p : ℕ) → IsOwnPiece (object_of image size b) kind s p → OwnsKind kind (piece_in (scn_at b s).cell p)
 piece_own image size b kind s p x = subst (λ (q : Piece). OwnsKind kind q) (piece_is image size b s p) x.own
 
-pub own_section : (image : Option (List ℕ)) (size : ℕ) (b : Body) (kind : Kind) (s p : ℕ) → IsOwnPiece (object_of image size b) kind s p → s < length b.sections
+pub own_section : (image : Option (List ℕ)) (size : ℕ) (b : Body) (kind : Kind) (s p : ℕ)
+    → IsOwnPiece (object_of image size b) kind s p → s < length b.sections
 own_section image size b kind s p x = subst (λ (n : ℕ). s < n) (section_count_is image size b) x.section
 
 pub own_piece_count : (image : Option (List ℕ)) (size : ℕ) (b : Body) (kind : Kind) (s p : ℕ) → IsOwnPiece (object_of image size b) kind s p → p < length (scn_at b s).cell.pieces
@@ -158,7 +159,8 @@ module _ (image : Option (List ℕ)) (size : ℕ) (b : Body) (kind : Kind) (s p 
   pub left_stepped : IsStepped (λ o. with_own o s p left) (ready_of b) b (with_left b s p left)
   left_stepped =
       piece_replaced b (with_left b s p left) s p left (scn_at b s) refl refl
-      (ap (λ (c : CellView). set b.sections s (record (scn_at b s) { cell = c })) (left_cell (scn_at b s).cell p left (own_marked image size b kind s p is x)))
+      (ap (λ (c : CellView). set b.sections s (record (scn_at b s) { cell = c }))
+      (left_cell (scn_at b s).cell p left (own_marked image size b kind s p is x)))
 
   pub left_elf : ((l : Items) → KeepsObject (calls.lend s p l)) → ((l : Items) → KeepsTied (calls.lend s p l)) → ((l : Items) → KeepsBased (calls.lend s p l)) → items_kind left ≡ kind → IsElf image size (with_left b s p left)
   left_elf keeps ties bases same =

@@ -40,13 +40,16 @@ items_home class c p passed = none_first (no_home_items class c p) [] (none_rest
 -- there is such a section, and such a piece
 pub scn_passed : (b : Body) (s : ℕ) → no_scn b s ≡ None → s < length b.sections
 unfolding no_scn
-scn_passed b s passed = leb-false (length b.sections) s (not_refused (nat_le (length b.sections) s) (NoSection s (length b.sections)) passed)
+scn_passed b s passed =
+    leb-false (length b.sections) s
+    (not_refused (nat_le (length b.sections) s) (NoSection s (length b.sections)) passed)
 
 piece_passed : (c : CellView) (p : ℕ) → no_piece c p ≡ None → p < length c.pieces
 piece_passed c p passed = leb-false (length c.pieces) p (not_refused (nat_le (length c.pieces) p) (NoData p (length c.pieces)) passed)
 
 pub items_passed : (b : Body) (s p : ℕ) → no_items_in b s p ≡ None
-    → (s < length b.sections) × (p < length (scn_at b s).cell.pieces) × (no_home_items b.header.class (scn_at b s).cell p ≡ None)
+    → (s < length b.sections) × (p < length (scn_at b s).cell.pieces)
+    × (no_home_items b.header.class (scn_at b s).cell p ≡ None)
 unfolding no_items_in items_refused
 items_passed b s p passed =
     let c = (scn_at b s).cell in
@@ -57,7 +60,9 @@ items_passed b s p passed =
     )
 
 pub list_passed : (b : Body) (kind : Kind) (s p : ℕ) → no_list_in b kind s p ≡ None
-    → (s < length b.sections) × (p < length (scn_at b s).cell.pieces) × (kind_in (scn_at b s).cell p ≡ kind) × (no_home_items b.header.class (scn_at b s).cell p ≡ None)
+    → (s < length b.sections) × (p < length (scn_at b s).cell.pieces)
+    × (kind_in (scn_at b s).cell p ≡ kind)
+    × (no_home_items b.header.class (scn_at b s).cell p ≡ None)
 unfolding no_list_in kind_refused
 list_passed b kind s p passed =
     let c = (scn_at b s).cell in
@@ -134,7 +139,8 @@ always (Ok x) h = h
 always (Err e) h = tt {0}
 
 -- the section that is written is at hand
-pub listed_by : (b new : Body) (s p : ℕ) (kind : Kind) (x : Scn) (r : Result (Unit {0}) ElfError) → s < length b.sections → new.sections ≡ set b.sections s x
+pub listed_by : (b new : Body) (s p : ℕ) (kind : Kind) (x : Scn) (r : Result (Unit {0}) ElfError)
+    → s < length b.sections → new.sections ≡ set b.sections s x
     → new.header ≡ b.header → OnOk r (p < length x.cell.pieces) → OnOk r (kind_in x.cell p ≡ kind) → OnOk r (IsTrue (is_at_hand b.header.class x.cell p)) → OnOk r (IsListed new s p kind)
 listed_by b new s p kind x (Err e) there is header piece kind_right hand = tt {0}
 listed_by b new s p kind x (Ok y) there is header piece kind_right hand =

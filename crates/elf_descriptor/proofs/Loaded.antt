@@ -53,7 +53,9 @@ loaded_there b s loaded = by_range (nat_lt s (length b.sections)) refl
     by_range : (t : Bool) → nat_lt s (length b.sections) ≡ t → s < length b.sections
     by_range true e = ltb-true s (length b.sections) e
     by_range false e =
-        let absent = ap (λ (x : Scn). cell_is_loaded x.cell) (absent_at b s (ltb-false s (length b.sections) e)) in
+        let absent =
+        ap (λ (x : Scn). cell_is_loaded x.cell)
+        (absent_at b s (ltb-false s (length b.sections) e)) in
         let none = sym loaded ∙ loaded_is b s ∙ absent in cc
 
 -- ---- Raw bytes
@@ -83,13 +85,16 @@ raw_exact None c bytes is told = cc
 raw_exact (Some image) c bytes is told = told_raw image c bytes is
 
 -- and so are those up to a last NUL
-pub raw_ended : (image : Option (List ℕ)) (c : CellView) (front : List ℕ) → IfSome c.raw (λ bytes. IsEndedFront bytes front) → cell_is_loaded c ≡ true
+pub raw_ended : (image : Option (List ℕ)) (c : CellView) (front : List ℕ)
+    → IfSome c.raw (λ bytes. IsEndedFront bytes front) → cell_is_loaded c ≡ true
     → IsTrue (is_some image) → IsEndedFront (raw_of image c) front
 raw_ended image c front ended loaded told = by_raw c.raw refl ended loaded
   where
-    by_raw : (raw : Option (List ℕ)) → c.raw ≡ raw → IfSome raw (λ bytes. IsEndedFront bytes front) → is_some raw ≡ true → IsEndedFront (raw_of image c) front
+    by_raw : (raw : Option (List ℕ)) → c.raw ≡ raw → IfSome raw (λ bytes. IsEndedFront bytes front)
+        → is_some raw ≡ true → IsEndedFront (raw_of image c) front
     by_raw None is ended loaded = cc
-    by_raw (Some bytes) is ended loaded = subst (λ (l : List ℕ). IsEndedFront l front) (raw_exact image c bytes is told) ended
+    by_raw (Some bytes) is ended loaded =
+        subst (λ (l : List ℕ). IsEndedFront l front) (raw_exact image c bytes is told) ended
 
 pub raw_is : (image : Option (List ℕ)) (size : ℕ) (b : Body) (s : ℕ) → (section_at (object_of image size b) s).raw ≡ raw_of image (scn_at b s).cell
 unfolding section_of
@@ -136,15 +141,18 @@ cell_where_raw c cell = by_raw c.raw
     by_raw None = tt
     by_raw (Some bytes) = cell
 
-pub held_as : {S : Type 0} (g : Ghosts S) (source : S) (b : Body) (s p : ℕ) (held : Held) → IsElf (g.holds source) (g.size source) b
-    → IfSome (scn_at b s).cell.raw (λ raw. IsCell (scn_at b s).cell) → IsHeldIn (scn_at b s).cell p held
+pub held_as : {S : Type 0} (g : Ghosts S) (source : S) (b : Body) (s p : ℕ) (held : Held)
+    → IsElf (g.holds source) (g.size source) b
+    → IfSome (scn_at b s).cell.raw (λ raw. IsCell (scn_at b s).cell)
+    → IsHeldIn (scn_at b s).cell p held
     → IsHeld (state_of g source b) s p held
 held_as g source b s p (Edited items) sound cell is = ap (λ (q : Piece). q.own) (piece_is (g.holds source) (g.size source) b s p) ∙ is
 held_as g source b s p (Raw bytes) sound cell is = record {
   clean = ap (λ (q : Piece). q.own) (piece_is (g.holds source) (g.size source) b s p) ∙ is.0;
   loaded = loaded_is b s ∙ ap (λ (o : Option (List ℕ)). is_some o) is.1;
   alike = raw_alike (g.holds source) (scn_at b s).cell bytes.now
-      (subst (λ (o : Option (List ℕ)). IfSome o (λ raw. IsCell (scn_at b s).cell)) is.1 cell) is.1 ∙ sym (ap length (raw_is (g.holds source) (g.size source) b s));
+      (subst (λ (o : Option (List ℕ)). IfSome o (λ raw. IsCell (scn_at b s).cell)) is.1 cell) is.1
+      ∙ sym (ap length (raw_is (g.holds source) (g.size source) b s));
   exact = λ told. raw_exact (g.holds source) (scn_at b s).cell bytes.now is.1 told ∙ sym (raw_is (g.holds source) (g.size source) b s);
 }
 held_as g source b s p Unread sound cell is = record {

@@ -24,7 +24,9 @@ pub header_dirty : (x : Scn) → x.marked ≡ true → true ≡ is_scn_dirty x
 unfolding is_scn_dirty
 header_dirty x e = ap (λ (b : Bool). b || list_any (λ (p : Piece). p.marked) x.cell.pieces) (sym e)
 
-pub pieces_dirty : (x : Scn) (found : Bool) → x.marked ≡ false → found ≡ list_any (λ (p : Piece). p.marked) x.cell.pieces
+pub pieces_dirty : (x : Scn) (found : Bool) → x.marked ≡ false
+    → found ≡ list_any (λ (p : Piece). p.marked) x.cell.pieces
     → found ≡ is_scn_dirty x
 unfolding is_scn_dirty
-pieces_dirty x found e is = is ∙ ap (λ (b : Bool). b || list_any (λ (p : Piece). p.marked) x.cell.pieces) (sym e)
+pieces_dirty x found e is = is
+    ∙ ap (λ (b : Bool). b || list_any (λ (p : Piece). p.marked) x.cell.pieces) (sym e)

@@ -24,7 +24,8 @@ use Rattle.elf_descriptor.specs.Views.{object_of, section_of, raw_of, scn_at, no
 use Rattle.elf_descriptor.specs.Bodies.{no_piece_in, is_scn_dirty}
 use Rattle.elf_descriptor.proofs.Marks.{list_any-map}
 
-pub section_count_is : (image : Option (List ℕ)) (size : ℕ) (b : Body) → length (object_of image size b).sections ≡ length b.sections
+pub section_count_is : (image : Option (List ℕ)) (size : ℕ) (b : Body)
+    → length (object_of image size b).sections ≡ length b.sections
 unfolding object_of
 section_count_is image size b = length-map b.sections (section_of image)
 
@@ -107,10 +108,13 @@ pub section_marked_is : (image : Option (List ℕ)) (size : ℕ) (b : Body) (s :
 unfolding section_of
 section_marked_is image size b s = ap (λ (c : Section). c.marked) (section_is image size b s)
 
-pub dirty_is : (image : Option (List ℕ)) (size : ℕ) (b : Body) → is_dirty (object_of image size b) ≡ (b.marked || b.header_marked || b.segments_marked || list_any is_scn_dirty b.sections)
+pub dirty_is : (image : Option (List ℕ)) (size : ℕ) (b : Body)
+    → is_dirty (object_of image size b)
+    ≡ (b.marked || b.header_marked || b.segments_marked || list_any is_scn_dirty b.sections)
 unfolding is_dirty some_section_marked some_piece_marked object_of section_of is_scn_dirty
 dirty_is image size b =
-    ap (λ (t : Bool). b.marked || b.header_marked || b.segments_marked || t) (list_any-map (section_of image) (λ c. c.marked || some_piece_marked c) b.sections)
+    ap (λ (t : Bool). b.marked || b.header_marked || b.segments_marked || t)
+    (list_any-map (section_of image) (λ c. c.marked || some_piece_marked c) b.sections)
 
 -- ---- The base
 

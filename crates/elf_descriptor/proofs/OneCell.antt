@@ -31,10 +31,12 @@ module _ (image : Option (List ℕ)) (size : ℕ) (old new : Body) (s : ℕ) (ce
   otherwise_other : (i : ℕ) → i ≢ s → scn_at new i ≡ scn_at old i
   unfolding scn_at
   otherwise_other i other =
-      ap (λ (l : List Scn). get_or l i absent_scn) h.sections ∙ get_or-set_other old.sections s i (record (scn_at old s) { cell = cell }) absent_scn other
+      ap (λ (l : List Scn). get_or l i absent_scn) h.sections
+      ∙ get_or-set_other old.sections s i (record (scn_at old s) { cell = cell }) absent_scn other
 
   otherwise_count : length new.sections ≡ length old.sections
-  otherwise_count = ap length h.sections ∙ length-set old.sections s (record (scn_at old s) { cell = cell })
+  otherwise_count = ap length h.sections
+      ∙ length-set old.sections s (record (scn_at old s) { cell = cell })
 
   -- the object stays
   pub otherwise_object : object_of image size new ≡ object_of image size old
@@ -43,9 +45,11 @@ module _ (image : Option (List ℕ)) (size : ℕ) (old new : Body) (s : ℕ) (ce
       ap (λ (b : Body). object_of image size b) h.rest
       ∙ ap (λ (l : List Section). record (object_of image size old) { sections = l })
       (ap (λ (l : List Scn). map (section_of image) l) h.sections
-      ∙ map-set_same (section_of image) old.sections s (record (scn_at old s) { cell = cell }) absent_scn h.same)
+      ∙ map-set_same (section_of image) old.sections s (record (scn_at old s) { cell = cell })
+      absent_scn h.same)
 
-  otherwise_cells : IsElf image size old → (i : ℕ) → i < length old.sections → CellIn old.header.class old.header.order old.base i (scn_at new i)
+  otherwise_cells : IsElf image size old → (i : ℕ) → i < length old.sections
+      → CellIn old.header.class old.header.order old.base i (scn_at new i)
   otherwise_cells is i there = by_number (i == s) refl
     where
       by_number : (b : Bool) → (i == s) ≡ b → CellIn old.header.class old.header.order old.base i (scn_at new i)
@@ -81,17 +85,22 @@ module _ (image : Option (List ℕ)) (size : ℕ) (old new : Body) (s : ℕ) (ce
   pub otherwise_loaded : loaded_of new ≡ set (loaded_of old) s (cell_is_loaded cell)
   unfolding loaded_of
   otherwise_loaded =
-      ap (λ (l : List Scn). map (λ y. cell_is_loaded y.cell) l) h.sections ∙ map-set (λ (y : Scn). cell_is_loaded y.cell) old.sections s (record (scn_at old s) { cell = cell })
+      ap (λ (l : List Scn). map (λ y. cell_is_loaded y.cell) l) h.sections
+      ∙ map-set (λ (y : Scn). cell_is_loaded y.cell) old.sections s
+      (record (scn_at old s) { cell = cell })
 
   pub otherwise_held : held_of new ≡ set (held_of old) s (is_some cell.held)
   unfolding held_of
   otherwise_held =
-      ap (λ (l : List Scn). map (λ y. is_some y.cell.held) l) h.sections ∙ map-set (λ (y : Scn). is_some y.cell.held) old.sections s (record (scn_at old s) { cell = cell })
+      ap (λ (l : List Scn). map (λ y. is_some y.cell.held) l) h.sections
+      ∙ map-set (λ (y : Scn). is_some y.cell.held) old.sections s
+      (record (scn_at old s) { cell = cell })
 
   pub otherwise_room : room_of new ≡ set (room_of old) s cell.room
   unfolding room_of
   otherwise_room =
-      ap (λ (l : List Scn). map (λ y. y.cell.room) l) h.sections ∙ map-set (λ (y : Scn). y.cell.room) old.sections s (record (scn_at old s) { cell = cell })
+      ap (λ (l : List Scn). map (λ y. y.cell.room) l) h.sections
+      ∙ map-set (λ (y : Scn). y.cell.room) old.sections s (record (scn_at old s) { cell = cell })
 
   pub otherwise_ready : ready_of new ≡ ready_of old
   otherwise_ready =

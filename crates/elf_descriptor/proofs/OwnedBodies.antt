@@ -17,8 +17,10 @@ use Rattle.elf_descriptor.specs.Warmed.{Warmed}
 use Rattle.elf_descriptor.specs.Owned.{IsOwned}
 use Rattle.elf_descriptor.proofs.Warming.{warmed_by, cell_written}
 
-module _ (image : Option (List ℕ)) (kind : Kind) (old new : Body) (s p : ℕ) (x : Scn) (cell : CellView) (there : s < length old.sections) (read : x ≡ scn_at old s)
-    (rest : new ≡ record old { sections = new.sections }) (is : new.sections ≡ set old.sections s (record x { cell = cell })) where
+module _ (image : Option (List ℕ)) (kind : Kind) (old new : Body) (s p : ℕ) (x : Scn)
+    (cell : CellView) (there : s < length old.sections) (read : x ≡ scn_at old s)
+    (rest : new ≡ record old { sections = new.sections })
+    (is : new.sections ≡ set old.sections s (record x { cell = cell })) where
   -- a piece became own
   pub owned_by : (r : Result (Unit {0}) ElfError) → OnOk r (Owns image old.header.class old.header.order x.cell cell p) → IsCell cell → OnOk r (p < length cell.pieces) → OnOk r (OwnsKind kind (piece_in cell p))
       → HeldIs old.header.class old.header.order cell → OnOk r (IsOwned image kind old.ready old new s p)

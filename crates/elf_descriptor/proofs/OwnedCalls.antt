@@ -188,7 +188,9 @@ module _ (image : Option (List ℕ)) (size : ℕ) (kind : Kind) (old new : Body)
       let home = (list_passed old kind s p (sym (lend_refusal_is image size old kind s p is) ∙ passed)).3 in
       subst (λ (o : Object). (IsTrue (is_some image) → x.owns.claims.items ≡ items_at o s p) × AlikeItems x.owns.claims.items (items_at o s p)) (warmed_object image size old before s warmed)
       (ready_items image size before s p x.owns.claims.items (warmed_elf image size old before s warmed is)
-      (let there = x.there in let same = length-set old.sections s (record (scn_at old s) { cell = x.owns.warm }) in omega (arith, there, same))
+      (let there = x.there in
+      let same = length-set old.sections s (record (scn_at old s) { cell = x.owns.warm }) in
+      omega (arith, there, same))
       (subst (λ (y : Scn). IsCell y.cell) (sym before_here) (before_cell image size kind false old new s p x is))
       (subst (λ (y : Scn). no_home_items old.header.class y.cell p ≡ None) (sym before_here) (home_stays image old.header.class (scn_at old s).cell x.owns.warm p x.owns.warms ∙ home))
       (subst (λ (y : Scn). ready y.cell p ≡ Some x.owns.claims.items) (sym before_here) x.owns.claims.stood))
@@ -216,7 +218,8 @@ module _ (image : Option (List ℕ)) (size : ℕ) (kind : Kind) (old new : Body)
   unfolding loaded_of before before_own
   loaded_same =
       let f : Scn → Bool = λ y. cell_is_loaded y.cell in
-      ap (λ (l : List Scn). map f l) x.sections ∙ map-set f old.sections s (record (scn_at old s) { cell = x.cell })
+      ap (λ (l : List Scn). map f l) x.sections
+      ∙ map-set f old.sections s (record (scn_at old s) { cell = x.cell })
       ∙ ap (λ (c : CellView). set (map f old.sections) s (cell_is_loaded c)) x.owns.claims.cell
       ∙ sym (map-set f old.sections s (record (scn_at old s) { cell = x.owns.warm }))
 

@@ -121,7 +121,8 @@ module _ (image : Option (List ℕ)) (size : ℕ) (kind : Kind) (unready : Bool)
   owned_object =
       ap (λ (b : Body). object_of image size b) x.rest
       ∙ ap (λ (l : List Section). record (object_of image size old) { sections = l })
-      (ap (λ (l : List Scn). map (section_of image) l) x.sections ∙ map-set (section_of image) old.sections s (record (scn_at old s) { cell = x.cell }))
+      (ap (λ (l : List Scn). map (section_of image) l) x.sections
+      ∙ map-set (section_of image) old.sections s (record (scn_at old s) { cell = x.cell }))
       ∙ ap (λ (c : Section). with_section (object_of image size old) s c) (owned_section image old.header.class old.header.order (scn_at old s) x.cell p x.owns)
       ∙ ap (λ (c : Section). with_section (object_of image size old) s (record c { pieces = owned_in p x.owns.claims.items c.pieces })) (sym (section_is image size old s))
       ∙ piece_owned (object_of image size old) s p x.owns.claims.items
@@ -145,10 +146,12 @@ module _ (image : Option (List ℕ)) (size : ℕ) (kind : Kind) (unready : Bool)
   pub owned_other : (i : ℕ) → i ≢ s → scn_at new i ≡ scn_at old i
   unfolding scn_at
   owned_other i other =
-      ap (λ (l : List Scn). get_or l i absent_scn) x.sections ∙ get_or-set_other old.sections s i (record (scn_at old s) { cell = x.cell }) absent_scn other
+      ap (λ (l : List Scn). get_or l i absent_scn) x.sections
+      ∙ get_or-set_other old.sections s i (record (scn_at old s) { cell = x.cell }) absent_scn other
 
   pub owned_count : length new.sections ≡ length old.sections
-  owned_count = ap length x.sections ∙ length-set old.sections s (record (scn_at old s) { cell = x.cell })
+  owned_count = ap length x.sections
+      ∙ length-set old.sections s (record (scn_at old s) { cell = x.cell })
 
   owned_lies : (n : ℕ) → LiesIn (scn_at old s).cell n → LiesIn x.cell n
   owned_lies n lies =
@@ -156,7 +159,8 @@ module _ (image : Option (List ℕ)) (size : ℕ) (kind : Kind) (unready : Bool)
       subst (λ (c : CellView). LiesIn c n) (sym (owns_cell image old.header.class old.header.order (scn_at old s).cell x.cell p o))
       (λ unread inside some. lies (unread_before image (scn_at old s).cell.home (scn_at old s).cell.raw o.warms.raw o.warms.bytes unread) inside some)
 
-  owned_cells : IsElf image size old → (i : ℕ) → i < length old.sections → CellIn old.header.class old.header.order old.base i (scn_at new i)
+  owned_cells : IsElf image size old → (i : ℕ) → i < length old.sections
+      → CellIn old.header.class old.header.order old.base i (scn_at new i)
   owned_cells is i there = by_number (i == s) refl
     where
       by_number : (b : Bool) → (i == s) ≡ b → CellIn old.header.class old.header.order old.base i (scn_at new i)
@@ -198,7 +202,8 @@ module _ (image : Option (List ℕ)) (size : ℕ) (kind : Kind) (unready : Bool)
   -- ---- The step before it became own: what was read and translated
 
   unfoldable pub before_own : Body
-  before_own = record old { sections = set old.sections s (record (scn_at old s) { cell = x.owns.warm }) }
+  before_own =
+      record old { sections = set old.sections s (record (scn_at old s) { cell = x.owns.warm }) }
 
   pub before_warmed : Warmed image old before_own s
   unfolding before_own

@@ -39,7 +39,8 @@ use Rattle.elf_descriptor.proofs.RawCalls.{scn_missing, scn_there, home_due_is, 
 
 -- ---- The content of a home
 
-pub section_sound : (image : Option (List ℕ)) (size : ℕ) (b : Body) (s : ℕ) → IsElf image size b → s < length b.sections → IsSection b.header.class (section_of image (scn_at b s))
+pub section_sound : (image : Option (List ℕ)) (size : ℕ) (b : Body) (s : ℕ) → IsElf image size b
+    → s < length b.sections → IsSection b.header.class (section_of image (scn_at b s))
 unfolding section_at object_of
 section_sound image size b s is there =
     let count = section_count_is image size b in
@@ -47,7 +48,8 @@ section_sound image size b s is there =
     (All-get_or (IsSection b.header.class) (object_of image size b).sections s absent_section (omega (arith, there, count)) is.sound.object.sections)
 
 -- a home in the file has as many bytes as it is long
-pub raw_length : (image : Option (List ℕ)) (size : ℕ) (b : Body) (s : ℕ) → IsElf image size b → s < length b.sections → (scn_at b s).cell.home.out ≡ false
+pub raw_length : (image : Option (List ℕ)) (size : ℕ) (b : Body) (s : ℕ) → IsElf image size b
+    → s < length b.sections → (scn_at b s).cell.home.out ≡ false
     → length (raw_of image (scn_at b s).cell) ≡ (scn_at b s).cell.home.len
 unfolding section_of
 raw_length image size b s is there inside = (section_sound image size b s is there).home.inside inside
@@ -60,7 +62,8 @@ pub content_is : (image : Option (List ℕ)) (size : ℕ) (b : Body) (s : ℕ) �
 unfolding content object_of
 content_is image size b s = ap (λ (c : Section). content_with b.header.class b.header.order s c) (section_is image size b s)
 
-content_refused : (image : Option (List ℕ)) (size : ℕ) (b : Body) (s : ℕ) → IsElf image size b → s < length b.sections
+content_refused : (image : Option (List ℕ)) (size : ℕ) (b : Body) (s : ℕ) → IsElf image size b
+    → s < length b.sections
     → err_of (content (object_of image size b) s) ≡ first_refusal (home_out (scn_at b s).cell ∷ home_ragged b.header.class (scn_at b s).cell ∷ [])
 unfolding section_of
 content_refused image size b s is there = ap (λ (r : Result Items ElfError). err_of r) (content_is image size b s) ∙ by_out (scn_at b s).cell.home.out refl
@@ -82,7 +85,8 @@ content_refused image size b s is there = ap (λ (r : Result Items ElfError). er
         (whole_is (scn_at b s).cell.home.kind b.header.class b.header.order (raw_of image (scn_at b s).cell)
         ∙ ap (λ (n : ℕ). is_whole (scn_at b s).cell.home.kind b.header.class n) (raw_length image size b s is there e))
 
-no_content_is : (image : Option (List ℕ)) (size : ℕ) (b : Body) (s p : ℕ) → IsElf image size b → s < length b.sections
+no_content_is : (image : Option (List ℕ)) (size : ℕ) (b : Body) (s p : ℕ) → IsElf image size b
+    → s < length b.sections
     → no_content (object_of image size b) s p ≡ no_home_items b.header.class (scn_at b s).cell p
 unfolding no_content no_home_items
 no_content_is image size b s p is there =
@@ -104,10 +108,13 @@ first_nested (Some e) later = refl
 
 -- where there is no section, what comes later is not looked at
 by_section : (b : Body) (s : ℕ) (before : Option ElfError) (later now : List (Option ElfError)) → before ≡ no_scn b s
-    → (s < length b.sections → first_refusal later ≡ first_refusal now) → first_refusal (before ∷ later) ≡ first_refusal (no_scn b s ∷ now)
-by_section b s before later now is same = ap (λ (r : Option ElfError). first_refusal (r ∷ later)) is ∙ by_range (nat_lt s (length b.sections)) refl
+    → (s < length b.sections → first_refusal later ≡ first_refusal now)
+    → first_refusal (before ∷ later) ≡ first_refusal (no_scn b s ∷ now)
+by_section b s before later now is same = ap (λ (r : Option ElfError). first_refusal (r ∷ later)) is
+    ∙ by_range (nat_lt s (length b.sections)) refl
   where
-    by_range : (t : Bool) → nat_lt s (length b.sections) ≡ t → first_refusal (no_scn b s ∷ later) ≡ first_refusal (no_scn b s ∷ now)
+    by_range : (t : Bool) → nat_lt s (length b.sections) ≡ t
+        → first_refusal (no_scn b s ∷ later) ≡ first_refusal (no_scn b s ∷ now)
     by_range true e =
         let there = ltb-true s (length b.sections) e in
         ap (λ (r : Option ElfError). first_refusal (r ∷ later)) (scn_there b s there) ∙ same there
@@ -167,7 +174,9 @@ kind_unread class c kind p =
 pub section_unread : (b : Body) (s : ℕ) (r : Option ElfError) → IsUnread r → IsUnread (first_refusal (no_scn b s ∷ r ∷ []))
 unfolding no_scn
 section_unread b s r unread =
-    unread_first (no_scn b s) (r ∷ []) (unread_if (nat_le (length b.sections) s) (NoSection s (length b.sections)) refl) (unread_first r [] unread (inl refl))
+    unread_first (no_scn b s) (r ∷ [])
+    (unread_if (nat_le (length b.sections) s) (NoSection s (length b.sections)) refl)
+    (unread_first r [] unread (inl refl))
 
 -- ---- What is due
 
@@ -223,7 +232,8 @@ reader_due image size b s p r unread = by_range (nat_lt s (length b.sections)) r
     by_range false e =
         let past = ltb-false s (length b.sections) e in
         ap (λ (q : Option ElfError). homes_due (object_of image size b) (loaded_of b) (unless_refused (first_refusal (q ∷ r ∷ [])) (when_piece_clean (object_of image size b) s p))) (scn_missing b s past)
-        ∙ none_due (object_of image size b) (loaded_of b) (Some (NoSection s (length b.sections))) (when_piece_clean (object_of image size b) s p) refl
+        ∙ none_due (object_of image size b) (loaded_of b) (Some (NoSection s (length b.sections)))
+        (when_piece_clean (object_of image size b) s p) refl
         ∙ sym (ap (λ (x : Scn). due_unless r (piece_due x.cell p)) (absent_at b s past) ∙ ap (λ (n : ℕ). due_unless r n) (absent_piece_due p) ∙ no_due r)
 
 -- ---- What is held

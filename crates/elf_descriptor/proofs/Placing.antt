@@ -60,27 +60,36 @@ module _ (places : Places) (h : Ehdr) where
   abbrev pub stored_rows : ℕ → Scn → Scn
   stored_rows s x = stored_scn places h s x
 
-  pub none_stored : (old new : Body) → new ≡ old → new.sections ≡ changed_from stored_rows absent_scn 0 0 old.sections
+  pub none_stored : (old new : Body) → new ≡ old
+      → new.sections ≡ changed_from stored_rows absent_scn 0 0 old.sections
   unfolding changed_from
   none_stored old new same = ap (λ (b : Body). b.sections) same
 
-  pub one_stored : (old mid new : Body) (s : ℕ) → s < length old.sections → mid.sections ≡ changed_from stored_rows absent_scn 0 s old.sections
-      → new.sections ≡ set mid.sections s (stored_scn places h s (scn_at mid s)) → new.sections ≡ changed_from stored_rows absent_scn 0 (s + 1) old.sections
+  pub one_stored : (old mid new : Body) (s : ℕ) → s < length old.sections
+      → mid.sections ≡ changed_from stored_rows absent_scn 0 s old.sections
+      → new.sections ≡ set mid.sections s (stored_scn places h s (scn_at mid s))
+      → new.sections ≡ changed_from stored_rows absent_scn 0 (s + 1) old.sections
   unfolding scn_at
   one_stored old mid new s there before is =
       is
       ∙ ap (λ (l : List Scn). set l s (stored_scn places h s (get_or l s absent_scn))) before
-      ∙ ap (λ (x : Scn). set (changed_from stored_rows absent_scn 0 s old.sections) s (stored_scn places h s x)) (row_same stored_rows absent_scn s old.sections there)
+      ∙ ap (λ (x : Scn).
+      set (changed_from stored_rows absent_scn 0 s old.sections) s (stored_scn places h s x))
+      (row_same stored_rows absent_scn s old.sections there)
       ∙ row_changed stored_rows absent_scn s old.sections there
 
-  pub all_stored : (old new : Body) (count : ℕ) → length old.sections ≤ count → new ≡ record old { sections = new.sections }
-      → new.sections ≡ changed_from stored_rows absent_scn 0 count old.sections → StoresHeaders places h old new
+  pub all_stored : (old new : Body) (count : ℕ) → length old.sections ≤ count
+      → new ≡ record old { sections = new.sections }
+      → new.sections ≡ changed_from stored_rows absent_scn 0 count old.sections
+      → StoresHeaders places h old new
   all_stored old new count counted rest is = record {
     rest = rest;
     sections = is ∙ rows_changed stored_rows absent_scn count old.sections (omega (arith, counted));
   }
 
-  pub count_stored : (old mid : Body) (s : ℕ) → mid.sections ≡ changed_from stored_rows absent_scn 0 s old.sections → length mid.sections ≡ length old.sections
+  pub count_stored : (old mid : Body) (s : ℕ)
+      → mid.sections ≡ changed_from stored_rows absent_scn 0 s old.sections
+      → length mid.sections ≡ length old.sections
   count_stored old mid s is = ap length is ∙ rows_count stored_rows absent_scn s old.sections
 
 -- ---- The object
@@ -109,7 +118,8 @@ module _ (image : Option (List ℕ)) (size : ℕ) (b : Body) (is : IsElf image s
         ∙ ap (λ (h : Ehdr). derived_header (segments_place places) (table_place places (length (object_of image size b).sections)) h) (sym (header_is image size b is.counts))
 
     -- a section's size in the file
-    size_same : (i : ℕ) (x : Scn) → i < length b.sections → scn_at b i ≡ x → (i == 0) ≡ false → occupies_file x.header ≡ true
+    size_same : (i : ℕ) (x : Scn) → i < length b.sections → scn_at b i ≡ x → (i == 0) ≡ false
+        → occupies_file x.header ≡ true
         → min (data_size b.header.class x.cell) (2 ^ 64 - 1) ≡ length (file_bytes (object_of image size b) i)
     unfolding has_file_bytes section_of
     size_same i x there at first filled =
@@ -163,7 +173,8 @@ module _ (image : Option (List ℕ)) (size : ℕ) (b : Body) (is : IsElf image s
     unfolding section_of placed_section scn_at
     section_stored places i x at =
         ap (λ (h : Shdr). record (section_of image x) { header = h })
-        (shdr_same places i x (slice_get_within b.sections i x at) (get_or_from_slice_get b.sections i x absent_scn at))
+        (shdr_same places i x (slice_get_within b.sections i x at)
+        (get_or_from_slice_get b.sections i x absent_scn at))
 
     -- the section headers
     pub headers_same : (places : Places)
@@ -189,9 +200,11 @@ module _ (image : Option (List ℕ)) (size : ℕ) (b : Body) (is : IsElf image s
     unfolding object_of placed placed_by
     placed_object new places dirty same stores =
         let p = object_of image size b in
-        let rows : map (section_of image) new.sections ≡ map (λ row. placed_section places p row.0 row.1) (enumerate_from 0 p.sections) =
+        let rows : map (section_of image) new.sections
+        ≡ map (λ row. placed_section places p row.0 row.1) (enumerate_from 0 p.sections) =
         ap (λ (l : List Scn). map (section_of image) l) stores.sections
-        ∙ rows_map (section_of image) (λ s x. stored_scn places (stored_header places b) s x) (λ s c. placed_section places p s c) 0 b.sections
+        ∙ rows_map (section_of image) (λ s x. stored_scn places (stored_header places b) s x)
+        (λ s c. placed_section places p s c) 0 b.sections
         (λ i x at. let number : 0 + i ≡ i = omega arith in
         ap (λ (n : ℕ). section_of image (stored_scn places (stored_header places b) n x)) number ∙ section_stored places i x at ∙ ap (λ (n : ℕ). placed_section places p n (section_of image x)) (sym number)) in
         ap (λ (c : Body). object_of image size c) stores.rest
@@ -206,7 +219,8 @@ homes_stored : (places : Places) (old new : Body) → StoresPlaces places old ne
 unfolding homes_of
 homes_stored places old new stores =
     ap (λ (l : List Scn). map without_pieces l) stores.sections
-    ∙ rows_keep without_pieces (λ s x. stored_scn places (stored_header places old) s x) 0 old.sections (λ i x. refl)
+    ∙ rows_keep without_pieces (λ s x. stored_scn places (stored_header places old) s x) 0
+    old.sections (λ i x. refl)
 
 module _ {S : Type 0} (g : Ghosts S) (source : S) (old new : Body) (places : Places) (is : IsElf (g.holds source) (g.size source) old) (lengths : SizesAreLengths)
     (dirty : is_dirty (object_of (g.holds source) (g.size source) old) ≡ true) (passed : refusal (object_of (g.holds source) (g.size source) old) ≡ None)
@@ -228,7 +242,8 @@ module _ {S : Type 0} (g : Ghosts S) (source : S) (old new : Body) (places : Pla
   pub count_same : length new.sections ≡ length old.sections
   count_same =
       ap length stores.sections
-      ∙ length-map (enumerate_from 0 old.sections) (λ (row : ℕ × Scn). stored_scn places (stored_header places old) row.0 row.1)
+      ∙ length-map (enumerate_from 0 old.sections)
+      (λ (row : ℕ × Scn). stored_scn places (stored_header places old) row.0 row.1)
       ∙ length-enumerate_from 0 old.sections
 
   pub placed_elf : KeepsObject update_null → KeepsTied update_null → KeepsBased update_null → IsElf (g.holds source) (g.size source) new
@@ -265,16 +280,19 @@ module _ {S : Type 0} (g : Ghosts S) (source : S) (old new : Body) (places : Pla
 -- ---- One section's header
 
 pub place_stored : (places : Places) (h : Ehdr) (old : Body) (items : List Scn) (s at : ℕ) (x : Scn) (header : Shdr) → x ≡ scn_at old s → at ≡ section_place places s → header ≡ stored_shdr h s at x
-    → items ≡ set old.sections s (record x { header = header }) → items ≡ set old.sections s (stored_scn places h s (scn_at old s))
+    → items ≡ set old.sections s (record x { header = header })
+    → items ≡ set old.sections s (stored_scn places h s (scn_at old s))
 place_stored places h old items s at x header read place is written =
     written
-    ∙ ap (λ (k : Shdr). set old.sections s (record x { header = k })) (is ∙ ap (λ (n : ℕ). stored_shdr h s n x) place)
+    ∙ ap (λ (k : Shdr). set old.sections s (record x { header = k }))
+    (is ∙ ap (λ (n : ℕ). stored_shdr h s n x) place)
     ∙ ap (λ (y : Scn). set old.sections s (stored_scn places h s y)) read
 
 -- sections are written, and then others
 pub rest_then : (old mid new : Body) → mid ≡ record old { sections = mid.sections } → new ≡ record mid { sections = new.sections } → new ≡ record old { sections = new.sections }
 rest_then old mid new first second = second ∙ ap (λ (b : Body). record b { sections = new.sections }) first
 
-pub places_for : (image : Option (List ℕ)) (size : ℕ) (b : Body) (places : Places) → places ≡ places_of (object_of image size b) → HasPlaces places (length b.sections)
+pub places_for : (image : Option (List ℕ)) (size : ℕ) (b : Body) (places : Places)
+    → places ≡ places_of (object_of image size b) → HasPlaces places (length b.sections)
 places_for image size b places is =
     ap (λ (p : Places). length p.at) is ∙ places_there (object_of image size b) ∙ ap (λ (n : ℕ). n - 1 + 3) (section_count_is image size b)

@@ -31,7 +31,8 @@ use Rattle.elf_descriptor.proofs.Reading.{object_over, left_object, reads_warmed
 
 -- ---- A section by its number
 
-pub scn_missing : (b : Body) (s : ℕ) → length b.sections ≤ s → no_scn b s ≡ Some (NoSection s (length b.sections))
+pub scn_missing : (b : Body) (s : ℕ) → length b.sections ≤ s
+    → no_scn b s ≡ Some (NoSection s (length b.sections))
 unfolding no_scn
 scn_missing b s past = rw (no_scn, le-leb (length b.sections) s past) refl
 
@@ -39,20 +40,26 @@ pub scn_there : (b : Body) (s : ℕ) → s < length b.sections → no_scn b s �
 unfolding no_scn
 scn_there b s there = by_test (nat_le (length b.sections) s) refl
   where
-    by_test : (t : Bool) → nat_le (length b.sections) s ≡ t → refused_if t (NoSection s (length b.sections)) ≡ None
-    by_test true e = let past = leb-true (length b.sections) s e in absurd (omega (arith, past, there))
+    by_test : (t : Bool) → nat_le (length b.sections) s ≡ t
+        → refused_if t (NoSection s (length b.sections)) ≡ None
+    by_test true e = let past = leb-true (length b.sections) s e in
+        absurd (omega (arith, past, there))
     by_test false e = refl
 
 pub out_is : (image : Option (List ℕ)) (size : ℕ) (b : Body) (s : ℕ) → IsElf image size b → out_of_file (object_of image size b) s ≡ home_out (scn_at b s).cell
 unfolding section_of
-out_is image size b s is = ap (λ (c : Section). refused_if c.home.out (OutOfFile s)) (section_is image size b s) ∙ by_range (nat_lt s (length b.sections)) refl
+out_is image size b s is =
+    ap (λ (c : Section). refused_if c.home.out (OutOfFile s)) (section_is image size b s)
+    ∙ by_range (nat_lt s (length b.sections)) refl
   where
-    by_range : (t : Bool) → nat_lt s (length b.sections) ≡ t → refused_if (scn_at b s).cell.home.out (OutOfFile s) ≡ home_out (scn_at b s).cell
+    by_range : (t : Bool) → nat_lt s (length b.sections) ≡ t
+        → refused_if (scn_at b s).cell.home.out (OutOfFile s) ≡ home_out (scn_at b s).cell
     by_range true e =
         let number = (cell_at image size b s is (ltb-true s (length b.sections) e)).number in
         ap (λ (n : ℕ). refused_if (scn_at b s).cell.home.out (OutOfFile n)) (sym number)
     by_range false e =
-        subst (λ (x : Scn). refused_if x.cell.home.out (OutOfFile s) ≡ home_out x.cell) (sym (absent_at b s (ltb-false s (length b.sections) e))) refl
+        subst (λ (x : Scn). refused_if x.cell.home.out (OutOfFile s) ≡ home_out x.cell)
+        (sym (absent_at b s (ltb-false s (length b.sections) e))) refl
 
 pub home_due_is : (image : Option (List ℕ)) (size : ℕ) (b : Body) (s : ℕ) → home_due (object_of image size b) (loaded_of b) s ≡ load_due (scn_at b s).cell
 unfolding home_due load_due section_of
@@ -71,7 +78,8 @@ raw_refusal_is image size b s is =
 raw_unread : (b : Body) (s : ℕ) → IsUnread (no_raw_in b s)
 unfolding no_raw_in no_scn
 raw_unread b s =
-    unread_first (no_scn b s) (home_out (scn_at b s).cell ∷ []) (unread_if (nat_le (length b.sections) s) (NoSection s (length b.sections)) refl)
+    unread_first (no_scn b s) (home_out (scn_at b s).cell ∷ [])
+    (unread_if (nat_le (length b.sections) s) (NoSection s (length b.sections)) refl)
     (unread_first (home_out (scn_at b s).cell) [] (unread_if (scn_at b s).cell.home.out (OutOfFile (scn_at b s).cell.section) refl) (inl refl))
 
 raw_reads : (image : Option (List ℕ)) (size : ℕ) (b : Body) (s : ℕ) → IsElf image size b
@@ -105,7 +113,8 @@ raw_due image size b s = by_range (nat_lt s (length b.sections)) refl
     by_range false e =
         let past = ltb-false s (length b.sections) e in
         ap (λ (r : Option ElfError). homes_due (object_of image size b) (loaded_of b) (unless_refused (first_refusal (r ∷ home_out (scn_at b s).cell ∷ [])) (s ∷ []))) (scn_missing b s past)
-        ∙ none_due (object_of image size b) (loaded_of b) (Some (NoSection s (length b.sections))) (s ∷ []) refl
+        ∙ none_due (object_of image size b) (loaded_of b) (Some (NoSection s (length b.sections)))
+        (s ∷ []) refl
         ∙ sym (ap (λ (x : Scn). load_due x.cell) (absent_at b s past) ∙ absent_due)
     by_range true e =
         ap (λ (r : Option ElfError). homes_due (object_of image size b) (loaded_of b) (unless_refused (first_refusal (r ∷ home_out (scn_at b s).cell ∷ [])) (s ∷ [])))

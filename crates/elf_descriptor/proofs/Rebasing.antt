@@ -98,7 +98,8 @@ module _ (touched : ℕ → ℕ → Bool) (image now : Option (List ℕ)) (size 
       by_test false e = e
 
   -- a home that is not loaded lies in the old part
-  lay : (i : ℕ) → i < length old.sections → cell_is_loaded (scn_at old i).cell ≡ false → (scn_at old i).cell.home.out ≡ false → 0 < (scn_at old i).cell.home.len
+  lay : (i : ℕ) → i < length old.sections → cell_is_loaded (scn_at old i).cell ≡ false
+      → (scn_at old i).cell.home.out ≡ false → 0 < (scn_at old i).cell.home.len
       → (scn_at old i).cell.home.at + (scn_at old i).cell.home.len ≤ r.m
   lay i there unread inside some =
       subst (λ (b : Base). (scn_at old i).cell.home.at + (scn_at old i).cell.home.len ≤ source_part b) r.old_part ((cell_at image size old i is there).lies unread inside some)
@@ -107,7 +108,8 @@ module _ (touched : ℕ → ℕ → Bool) (image now : Option (List ℕ)) (size 
   unread_apart x unread both = let never : false ≡ true = sym unread ∙ both.0 in cc
 
   -- what it holds stays
-  raw_same : (i : ℕ) → i < length old.sections → raw_of now (scn_at old i).cell ≡ raw_of image (scn_at old i).cell
+  raw_same : (i : ℕ) → i < length old.sections
+      → raw_of now (scn_at old i).cell ≡ raw_of image (scn_at old i).cell
   unfolding raw_of home_bytes
   raw_same i there = by_source image now refl refl r.told
     where
@@ -141,7 +143,8 @@ module _ (touched : ℕ → ℕ → Bool) (image now : Option (List ℕ)) (size 
       by_source (Some old_bytes) None told known same =
           let never : false ≡ true = sym (ap (λ (s : Option (List ℕ)). is_some s) known) ∙ same ∙ ap (λ (s : Option (List ℕ)). is_some s) told in cc
 
-  section_same : (i : ℕ) → i < length old.sections → section_of now (scn_at old i) ≡ section_of image (scn_at old i)
+  section_same : (i : ℕ) → i < length old.sections
+      → section_of now (scn_at old i) ≡ section_of image (scn_at old i)
   unfolding section_of
   section_same i there = ap (λ (raw : List ℕ). record (section_of image (scn_at old i)) { raw = raw }) (raw_same i there)
 
@@ -151,7 +154,8 @@ module _ (touched : ℕ → ℕ → Bool) (image now : Option (List ℕ)) (size 
   rebased_object =
       ap (λ (b : Body). object_of now after b) r.rest
       ∙ ap (λ (l : List Section). record (object_of image size old) { base = base_of new.base now after; sections = l })
-      (map_alike (section_of now) (section_of image) absent_scn old.sections (λ i there. section_same i there))
+      (map_alike (section_of now) (section_of image) absent_scn old.sections
+      (λ i there. section_same i there))
 
   base_now : List ℕ
   base_now = base_of new.base now after
@@ -169,7 +173,9 @@ module _ (touched : ℕ → ℕ → Bool) (image now : Option (List ℕ)) (size 
   old_length = ap length (base_is image size old) ∙ base_length old.base image size is.long is.within ∙ ap (λ (b : Base). base_count b) r.old_part
 
   -- where some piece is not marked, a home that stood in the base stands there
-  stands : IsSome image → (i : ℕ) → i < length old.sections → HomeStands (object_of image size old).base (section_of image (scn_at old i)) → HomeStands (base_of new.base now after) (section_of image (scn_at old i))
+  stands : IsSome image → (i : ℕ) → i < length old.sections
+      → HomeStands (object_of image size old).base (section_of image (scn_at old i))
+      → HomeStands (base_of new.base now after) (section_of image (scn_at old i))
   unfolding section_of
   stands told i there before unmarked inside =
       by_len (scn_at old i).cell.home.len refl ∙ before unmarked inside
@@ -240,7 +246,8 @@ module _ (touched : ℕ → ℕ → Bool) (image now : Option (List ℕ)) (size 
         long = r.long;
         within = subst (λ (b : Base). source_part b ≤ after) (sym r.new_part) r.within;
         counts = subst HasCounts (sym r.rest) (record { phnum = is.counts.phnum; shnum = is.counts.shnum });
-        cells = λ i s found. cell_in i s (ap (λ (b : Body). slice_get b.sections i) (sym r.rest) ∙ found);
+        cells = λ i s found.
+            cell_in i s (ap (λ (b : Body). slice_get b.sections i) (sym r.rest) ∙ found);
         written = subst (λ (b : Body). IfSome b.written (IsStanding b.header.class b.header.order)) (sym r.rest) is.written;
         sound = subst (λ (p : Object). IsSound now p) (sym rebased_object) (record {
           object = object;
@@ -249,7 +256,8 @@ module _ (touched : ℕ → ℕ → Bool) (image now : Option (List ℕ)) (size 
         });
       }
     where
-      cell_in : (i : ℕ) (s : Scn) → slice_get old.sections i ≡ Some s → CellIn new.header.class new.header.order new.base i s
+      cell_in : (i : ℕ) (s : Scn) → slice_get old.sections i ≡ Some s
+          → CellIn new.header.class new.header.order new.base i s
       cell_in i s found =
           let before = is.cells i s found in
           let there = slice_get_within old.sections i s found in

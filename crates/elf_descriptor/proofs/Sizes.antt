@@ -17,7 +17,8 @@ use Rattle.elf_descriptor.proofs.PieceCalls.{section_sound}
 use Rattle.elf_descriptor.proofs.RawCalls.{scn_missing}
 
 -- the clean home piece is as long as its home, where that is in the file
-pub home_length : (image : Option (List ℕ)) (size : ℕ) (b : Body) (s : ℕ) → IsElf image size b → s < length b.sections → length (raw_of image (scn_at b s).cell) ≡ home_size (scn_at b s).cell
+pub home_length : (image : Option (List ℕ)) (size : ℕ) (b : Body) (s : ℕ) → IsElf image size b
+    → s < length b.sections → length (raw_of image (scn_at b s).cell) ≡ home_size (scn_at b s).cell
 unfolding section_of
 home_length image size b s is there = by_out (scn_at b s).cell.home.out refl
   where
@@ -25,7 +26,8 @@ home_length image size b s is there = by_out (scn_at b s).cell.home.out refl
     by_out true e = ap length ((section_sound image size b s is there).home.outside e)
     by_out false e = (section_sound image size b s is there).home.inside e
 
-pub size_is : (image : Option (List ℕ)) (size : ℕ) (b : Body) (s : ℕ) → IsElf image size b → s < length b.sections
+pub size_is : (image : Option (List ℕ)) (size : ℕ) (b : Body) (s : ℕ) → IsElf image size b
+    → s < length b.sections
     → pieces_end (object_of image size b) s ≡ data_size b.header.class (scn_at b s).cell
 unfolding object_of section_of
 size_is image size b s is there =
@@ -42,7 +44,9 @@ size_answer image size b s is =
   where
     by_range : (t : Bool) → nat_lt s (length b.sections) ≡ t
         → answered (no_scn b s) (min (data_size b.header.class (scn_at b s).cell) (2 ^ 64 - 1)) ≡ answered (no_scn b s) (min (pieces_end (object_of image size b) s) (2 ^ 64 - 1))
-    by_range true e = ap (λ (n : ℕ). answered (no_scn b s) (min n (2 ^ 64 - 1))) (sym (size_is image size b s is (ltb-true s (length b.sections) e)))
+    by_range true e =
+        ap (λ (n : ℕ). answered (no_scn b s) (min n (2 ^ 64 - 1)))
+        (sym (size_is image size b s is (ltb-true s (length b.sections) e)))
     by_range false e =
         let missing = scn_missing b s (ltb-false s (length b.sections) e) in
         ap (λ (r : Option ElfError). answered r (min (data_size b.header.class (scn_at b s).cell) (2 ^ 64 - 1))) missing

@@ -35,10 +35,14 @@ reserved_by old new front over is phdrs shdrs = record {
   rest = is ∙ ap (λ (s : Option Written). record old { spare = s; ready = true }) (sym (ap (λ (b : Body). b.spare) is));
   ready =
       ap ready_of is
-      ∙ ap (λ (t : Bool). t && ((length front.phdrs == length old.phdrs) && (length front.shdrs == length old.sections))) over
+      ∙ ap (λ (t : Bool).
+      t
+      && ((length front.phdrs == length old.phdrs) && (length front.shdrs == length old.sections)))
+      over
       ∙ ap (λ (n : ℕ). (n == length old.phdrs) && (length front.shdrs == length old.sections)) phdrs
       ∙ ap (λ (n : ℕ). (length old.phdrs == length old.phdrs) && (n == length old.sections)) shdrs
-      ∙ ap (λ (t : Bool). t && (length old.sections == length old.sections)) (same_length (length old.phdrs))
+      ∙ ap (λ (t : Bool). t && (length old.sections == length old.sections))
+      (same_length (length old.phdrs))
       ∙ same_length (length old.sections);
 }
 

@@ -48,7 +48,9 @@ use Rattle.elf_descriptor.proofs.LendCalls.{to_own_then}
 
 -- ---- The number of items
 
-module _ (image : Option (List ℕ)) (size : ℕ) (b : Body) (s p : ℕ) (is : IsElf image size b) (there : s < length b.sections) (passed : no_home_items b.header.class (scn_at b s).cell p ≡ None) where
+module _ (image : Option (List ℕ)) (size : ℕ) (b : Body) (s p : ℕ) (is : IsElf image size b)
+    (there : s < length b.sections)
+    (passed : no_home_items b.header.class (scn_at b s).cell p ≡ None) where
   stated : (o : Option Items) → (piece_in (scn_at b s).cell p).own ≡ o → items_at (object_of image size b) s p ≡ elim o [ None ↦ object.or_empty (content (object_of image size b) s) | Some i ↦ i ]
   unfolding items_at
   stated o e = ap (λ (q : Option Items). elim q [ None ↦ object.or_empty (content (object_of image size b) s) | Some i ↦ i ]) (ap (λ (q : Piece). q.own) (piece_is image size b s p) ∙ e)

@@ -65,7 +65,9 @@ unfolding can_be_read_again can_let_go is_untouched section_of
 again_is image size b s =
     ap (λ (c : Section). is_kept_home c && not c.home.out && not (passes_end (length (object_of image size b).base) c.home.at c.home.len)) (section_is image size b s)
 
-module _ (image : Option (List ℕ)) (size : ℕ) (b : Body) (s : ℕ) (is : IsElf image size b) (there : s < length b.sections) (again : can_let_go b (length (object_of image size b).base) s ≡ true) where
+module _ (image : Option (List ℕ)) (size : ℕ) (b : Body) (s : ℕ) (is : IsElf image size b)
+    (there : s < length b.sections)
+    (again : can_let_go b (length (object_of image size b).base) s ≡ true) where
   c : CellView
   c = (scn_at b s).cell
 
@@ -184,7 +186,8 @@ let_gone : (c : CellView) → is_untouched c ≡ true → unloaded_cell c ≡ le
 let_gone c again = cond-true (is_untouched c) (let_go c) c again
 
 pub gone_by : (old new : Body) (s base : ℕ) (x : Scn) (cell : CellView) → x ≡ scn_at old s → can_let_go old base s ≡ true → new ≡ record old { sections = new.sections }
-    → new.sections ≡ set old.sections s (record x { cell = cell }) → cell ≡ unloaded_cell x.cell → HoldsSo old new s (let_go (scn_at old s).cell)
+    → new.sections ≡ set old.sections s (record x { cell = cell }) → cell ≡ unloaded_cell x.cell
+    → HoldsSo old new s (let_go (scn_at old s).cell)
 unfolding can_let_go
 gone_by old new s base x cell read again rest is gone =
     let untouched : is_untouched (scn_at old s).cell ≡ true =
@@ -196,7 +199,8 @@ gone_by old new s base x cell read again rest is gone =
           is
           ∙ ap (λ (c : CellView). set old.sections s (record x { cell = c })) gone
           ∙ ap (λ (y : Scn). set old.sections s (record y { cell = unloaded_cell y.cell })) read
-          ∙ ap (λ (c : CellView). set old.sections s (record (scn_at old s) { cell = c })) (let_gone (scn_at old s).cell untouched);
+          ∙ ap (λ (c : CellView). set old.sections s (record (scn_at old s) { cell = c }))
+          (let_gone (scn_at old s).cell untouched);
     }
 
 -- a call that is refused lets nothing go

@@ -110,17 +110,20 @@ warm_held image class order c cell warms same is =
 pub other_number : (a b : ℕ) → (a == b) ≡ false → a ≢ b
 other_number a b e = λ same. let is = eq-eqb a b same in cc
 
-pub warmed_here : (image : Option (List ℕ)) (old new : Body) (s : ℕ) (w : Warmed image old new s) → s < length old.sections
+pub warmed_here : (image : Option (List ℕ)) (old new : Body) (s : ℕ) (w : Warmed image old new s)
+    → s < length old.sections
     → scn_at new s ≡ record (scn_at old s) { cell = w.cell }
 unfolding scn_at
 warmed_here image old new s w there =
     ap (λ (l : List Scn). get_or l s absent_scn) w.sections
     ∙ get_or-set_same old.sections s (record (scn_at old s) { cell = w.cell }) absent_scn there
 
-warmed_past : (image : Option (List ℕ)) (old new : Body) (s i : ℕ) (w : Warmed image old new s) → length old.sections ≤ s → scn_at new i ≡ scn_at old i
+warmed_past : (image : Option (List ℕ)) (old new : Body) (s i : ℕ) (w : Warmed image old new s)
+    → length old.sections ≤ s → scn_at new i ≡ scn_at old i
 unfolding scn_at
 warmed_past image old new s i w past =
-    ap (λ (l : List Scn). get_or l i absent_scn) (w.sections ∙ set_past old.sections s (record (scn_at old s) { cell = w.cell }) past)
+    ap (λ (l : List Scn). get_or l i absent_scn)
+    (w.sections ∙ set_past old.sections s (record (scn_at old s) { cell = w.cell }) past)
 
 pub warmed_other : (image : Option (List ℕ)) (old new : Body) (s i : ℕ) (w : Warmed image old new s) → i ≢ s → scn_at new i ≡ scn_at old i
 unfolding scn_at
@@ -132,22 +135,30 @@ warmed_other image old new s i w other =
 pub warmed_cell : (image : Option (List ℕ)) (old new : Body) (s i : ℕ) → Warmed image old new s → Warms image (scn_at old i).cell (scn_at new i).cell
 warmed_cell image old new s i w = by_number (i == s) refl
   where
-    by_range : (b : Bool) → nat_lt s (length old.sections) ≡ b → Warms image (scn_at old s).cell (scn_at new s).cell
-    by_range true e = subst (λ (x : Scn). Warms image (scn_at old s).cell x.cell) (sym (warmed_here image old new s w (ltb-true s (length old.sections) e))) w.warms
+    by_range : (b : Bool) → nat_lt s (length old.sections) ≡ b
+        → Warms image (scn_at old s).cell (scn_at new s).cell
+    by_range true e =
+        subst (λ (x : Scn). Warms image (scn_at old s).cell x.cell)
+        (sym (warmed_here image old new s w (ltb-true s (length old.sections) e))) w.warms
     by_range false e =
-        subst (λ (x : Scn). Warms image (scn_at old s).cell x.cell) (sym (warmed_past image old new s s w (ltb-false s (length old.sections) e))) (warms_same image (scn_at old s).cell)
+        subst (λ (x : Scn). Warms image (scn_at old s).cell x.cell)
+        (sym (warmed_past image old new s s w (ltb-false s (length old.sections) e)))
+        (warms_same image (scn_at old s).cell)
 
     by_number : (b : Bool) → (i == s) ≡ b → Warms image (scn_at old i).cell (scn_at new i).cell
     by_number true e =
-        subst (λ (n : ℕ). Warms image (scn_at old n).cell (scn_at new n).cell) (sym (eqb-true i s e)) (by_range (nat_lt s (length old.sections)) refl)
+        subst (λ (n : ℕ). Warms image (scn_at old n).cell (scn_at new n).cell)
+        (sym (eqb-true i s e)) (by_range (nat_lt s (length old.sections)) refl)
     by_number false e =
         subst (λ (x : Scn). Warms image (scn_at old i).cell x.cell) (sym (warmed_other image old new s i w (other_number i s e))) (warms_same image (scn_at old i).cell)
 
-sections_same : (image : Option (List ℕ)) (old new : Body) (s : ℕ) → Warmed image old new s → map (section_of image) new.sections ≡ map (section_of image) old.sections
+sections_same : (image : Option (List ℕ)) (old new : Body) (s : ℕ) → Warmed image old new s
+    → map (section_of image) new.sections ≡ map (section_of image) old.sections
 unfolding scn_at
 sections_same image old new s w =
     ap (λ (l : List Scn). map (section_of image) l) w.sections
-    ∙ map-set_same (section_of image) old.sections s (record (scn_at old s) { cell = w.cell }) absent_scn (warms_section image (scn_at old s) w.cell w.warms)
+    ∙ map-set_same (section_of image) old.sections s (record (scn_at old s) { cell = w.cell })
+    absent_scn (warms_section image (scn_at old s) w.cell w.warms)
 
 -- the object stays
 pub warmed_object : (image : Option (List ℕ)) (size : ℕ) (old new : Body) (s : ℕ) → Warmed image old new s → object_of image size new ≡ object_of image size old
@@ -159,23 +170,30 @@ warmed_object image size old new s w =
 warmed_counts : (image : Option (List ℕ)) (old new : Body) (s : ℕ) → Warmed image old new s → HasCounts old → HasCounts new
 warmed_counts image old new s w has = subst HasCounts (sym w.rest) (record {
   phnum = has.phnum;
-  shnum = has.shnum ∙ sym (ap length w.sections ∙ length-set old.sections s (record (scn_at old s) { cell = w.cell }));
+  shnum = has.shnum
+      ∙ sym (ap length w.sections
+      ∙ length-set old.sections s (record (scn_at old s) { cell = w.cell }));
 })
 
 -- and so does whether an update wants memory
 pub warmed_ready : (image : Option (List ℕ)) (old new : Body) (s : ℕ) → Warmed image old new s → ready_of new ≡ ready_of old
 warmed_ready image old new s w =
     ap ready_of w.rest
-    ∙ ap (λ (n : ℕ). old.ready && (is_of_source old.base && has_lengths old.spare (length old.phdrs) n)) (ap length w.sections ∙ length-set old.sections s (record (scn_at old s) { cell = w.cell }))
+    ∙ ap (λ (n : ℕ).
+    old.ready && (is_of_source old.base && has_lengths old.spare (length old.phdrs) n))
+    (ap length w.sections ∙ length-set old.sections s (record (scn_at old s) { cell = w.cell }))
 
 -- what is known of a section's data
-pub cell_at : (image : Option (List ℕ)) (size : ℕ) (b : Body) (s : ℕ) → IsElf image size b → s < length b.sections
+pub cell_at : (image : Option (List ℕ)) (size : ℕ) (b : Body) (s : ℕ) → IsElf image size b
+    → s < length b.sections
     → CellIn b.header.class b.header.order b.base s (scn_at b s)
 unfolding scn_at
-cell_at image size b s is there = is.cells s (scn_at b s) (slice_get-get_or b.sections s absent_scn there)
+cell_at image size b s is there =
+    is.cells s (scn_at b s) (slice_get-get_or b.sections s absent_scn there)
 
 -- the data of each section has its number
-pub are_numbered : (image : Option (List ℕ)) (size : ℕ) (b : Body) → IsElf image size b → AreNumbered b.sections
+pub are_numbered : (image : Option (List ℕ)) (size : ℕ) (b : Body) → IsElf image size b
+    → AreNumbered b.sections
 unfolding scn_at
 are_numbered image size b is = λ s there. (cell_at image size b s is there).number
 
@@ -184,10 +202,13 @@ pub lies_in_part : (image : Option (List ℕ)) (size : ℕ) (b : Body) (s : ℕ)
 unfolding scn_at
 lies_in_part image size b s is = by_range (nat_lt s (length b.sections)) refl
   where
-    by_range : (t : Bool) → nat_lt s (length b.sections) ≡ t → LiesIn (scn_at b s).cell (source_part b.base)
+    by_range : (t : Bool) → nat_lt s (length b.sections) ≡ t
+        → LiesIn (scn_at b s).cell (source_part b.base)
     by_range true e = (cell_at image size b s is (ltb-true s (length b.sections) e)).lies
     by_range false e =
-        subst (λ (x : Scn). LiesIn x.cell (source_part b.base)) (sym (get_or_past b.sections s absent_scn (ltb-false s (length b.sections) e))) (λ unread inside some. absurd (omega (arith, some)))
+        subst (λ (x : Scn). LiesIn x.cell (source_part b.base))
+        (sym (get_or_past b.sections s absent_scn (ltb-false s (length b.sections) e)))
+        (λ unread inside some. absurd (omega (arith, some)))
 
 -- so it can be read
 pub lies_at : (image : Option (List ℕ)) (size : ℕ) (b : Body) (s : ℕ) → IsElf image size b → LiesIn (scn_at b s).cell size
@@ -200,18 +221,24 @@ empty_at image size b s is none = by_range (nat_lt s (length b.sections)) refl
   where
     by_range : (t : Bool) → nat_lt s (length b.sections) ≡ t → (scn_at b s).cell.home.len ≡ 0
     by_range true e = (cell_at image size b s is (ltb-true s (length b.sections) e)).empty none
-    by_range false e = ap (λ (x : Scn). x.cell.home.len) (get_or_past b.sections s absent_scn (ltb-false s (length b.sections) e))
+    by_range false e =
+        ap (λ (x : Scn). x.cell.home.len)
+        (get_or_past b.sections s absent_scn (ltb-false s (length b.sections) e))
 
 -- its items that are held are those of its bytes
 pub items_held_at : (image : Option (List ℕ)) (size : ℕ) (b : Body) (s : ℕ) → IsElf image size b → HeldIs b.header.class b.header.order (scn_at b s).cell
 unfolding scn_at
 items_held_at image size b s is = by_range (nat_lt s (length b.sections)) refl
   where
-    by_range : (t : Bool) → nat_lt s (length b.sections) ≡ t → HeldIs b.header.class b.header.order (scn_at b s).cell
+    by_range : (t : Bool) → nat_lt s (length b.sections) ≡ t
+        → HeldIs b.header.class b.header.order (scn_at b s).cell
     by_range true e = (cell_at image size b s is (ltb-true s (length b.sections) e)).items
-    by_range false e = subst (λ (x : Scn). HeldIs b.header.class b.header.order x.cell) (sym (get_or_past b.sections s absent_scn (ltb-false s (length b.sections) e))) tt
+    by_range false e =
+        subst (λ (x : Scn). HeldIs b.header.class b.header.order x.cell)
+        (sym (get_or_past b.sections s absent_scn (ltb-false s (length b.sections) e))) tt
 
-warmed_cells : (image : Option (List ℕ)) (size : ℕ) (old new : Body) (s : ℕ) → Warmed image old new s → IsElf image size old → (i : ℕ) → i < length old.sections
+warmed_cells : (image : Option (List ℕ)) (size : ℕ) (old new : Body) (s : ℕ)
+    → Warmed image old new s → IsElf image size old → (i : ℕ) → i < length old.sections
     → CellIn old.header.class old.header.order old.base i (scn_at new i)
 warmed_cells image size old new s w is i there = by_number (i == s) refl
   where
@@ -232,7 +259,8 @@ warmed_elf image size old new s w is = record {
   within = part_within old new size (ap (λ (b : Body). b.base) w.rest) is.within;
   counts = warmed_counts image old new s w is.counts;
   cells = λ i x found.
-      let count = ap length w.sections ∙ length-set old.sections s (record (scn_at old s) { cell = w.cell }) in
+      let count = ap length w.sections
+      ∙ length-set old.sections s (record (scn_at old s) { cell = w.cell }) in
       let there = slice_get_within new.sections i x found in
       let at = get_or_from_slice_get new.sections i x absent_scn found in
       cell_moved old new (ap (λ (b : Body). b.header.class) w.rest) (ap (λ (b : Body). b.header.order) w.rest) (ap (λ (b : Body). b.base) w.rest) i x
@@ -259,9 +287,11 @@ pub lent_read : (b : Body) (s : ℕ) (cell : CellView) → cell ≡ (section_in 
 unfolding scn_at
 lent_read b s cell lent = ap (λ (c : CellView). lent_scn b s c) lent
 
-pub scn_written : (b new : Body) (s : ℕ) (x : Scn) → s < length b.sections → new.sections ≡ set b.sections s x → scn_at new s ≡ x
+pub scn_written : (b new : Body) (s : ℕ) (x : Scn) → s < length b.sections
+    → new.sections ≡ set b.sections s x → scn_at new s ≡ x
 unfolding scn_at
-scn_written b new s x there is = ap (λ (l : List Scn). get_or l s absent_scn) is ∙ get_or-set_same b.sections s x absent_scn there
+scn_written b new s x there is = ap (λ (l : List Scn). get_or l s absent_scn) is
+    ∙ get_or-set_same b.sections s x absent_scn there
 
 pub warmed_by : (image : Option (List ℕ)) (old new : Body) (s : ℕ) (x : Scn) (cell : CellView) → x ≡ scn_at old s → new ≡ record old { sections = new.sections }
     → new.sections ≡ set old.sections s (record x { cell = cell }) → Warms image x.cell cell
@@ -274,7 +304,8 @@ warmed_by image old new s x cell read rest is warms held = record {
   items = subst (λ (y : Scn). HeldIs old.header.class old.header.order y.cell → HeldIs old.header.class old.header.order cell) read held;
 }
 
-pub cell_written : (P : CellView → Type 0) (b new : Body) (s : ℕ) (x : Scn) (cell : CellView) → s < length b.sections → new.sections ≡ set b.sections s (record x { cell = cell })
+pub cell_written : (P : CellView → Type 0) (b new : Body) (s : ℕ) (x : Scn) (cell : CellView)
+    → s < length b.sections → new.sections ≡ set b.sections s (record x { cell = cell })
     → P cell → P (scn_at new s).cell
 cell_written P b new s x cell there is h = subst (λ (y : Scn). P y.cell) (sym (scn_written b new s (record x { cell = cell }) there is)) h
 

@@ -18,7 +18,9 @@ returns-in-Ok-clause-answer c =
 pub returns-in-Ok-clause-step : goal.returns-in-Ok-clause-step
 returns-in-Ok-clause-step c =
     let read = lent_read c.args.self.now c.args.s _ c.cell_mut-cell.ensures.value in
-    piece_appended c.args.self.now _ c.args.s c.args.align c.args.items (lent_scn c.args.self.now c.args.s c.cell_mut-cell.result.now) c.append.new.self read refl refl c.in-Ok.ensures.edits.1
+    piece_appended c.args.self.now _ c.args.s c.args.align c.args.items
+    (lent_scn c.args.self.now c.args.s c.cell_mut-cell.result.now) c.append.new.self read refl refl
+    c.in-Ok.ensures.edits.1
 
 pub returns-in-Err-clause-answer : goal.returns-in-Err-clause-answer
 returns-in-Err-clause-answer c =
@@ -29,4 +31,6 @@ returns-in-Err-clause-answer c =
 pub returns-in-Err-clause-unchanged : goal.returns-in-Err-clause-unchanged
 returns-in-Err-clause-unchanged c =
     let read = lent_read c.args.self.now c.args.s _ c.cell_mut-cell.ensures.value in
-    piece_refused c.args.self.now _ c.args.s c.in-Err.refused c.args.items (lent_scn c.args.self.now c.args.s c.cell_mut-cell.result.now) c.append.new.self _ _ read refl refl c.in-Err.ensures.edits
+    piece_refused c.args.self.now _ c.args.s c.in-Err.refused c.args.items
+    (lent_scn c.args.self.now c.args.s c.cell_mut-cell.result.now) c.append.new.self _ _ read refl
+    refl c.in-Err.ensures.edits

@@ -20,24 +20,34 @@ returns-clause-answer g c =
 
 pub returns-clause-hand : goal.returns-clause-hand
 returns-clause-hand g c =
-    listed_by c.args.self.now _ c.args.d.section c.args.d.piece c.args.kind (lent_scn c.args.self.now c.args.d.section c.fetch_list.new.cell) c.fetch_list.result c.requires.there refl refl c.fetch_list.ensures.there c.fetch_list.ensures.kind c.fetch_list.ensures.hand
+    listed_by c.args.self.now _ c.args.d.section c.args.d.piece c.args.kind
+    (lent_scn c.args.self.now c.args.d.section c.fetch_list.new.cell) c.fetch_list.result
+    c.requires.there refl refl c.fetch_list.ensures.there c.fetch_list.ensures.kind
+    c.fetch_list.ensures.hand
 
 pub returns-clause-unchanged : goal.returns-clause-unchanged
 returns-clause-unchanged g c =
     let read = lent_read c.args.self.now c.args.d.section _ c.cell_mut-cell.ensures.value in
-    cell_written (λ n. OnErr c.fetch_list.result (n ≡ (scn_at c.args.self.now c.args.d.section).cell)) c.args.self.now _ c.args.d.section (lent_scn c.args.self.now c.args.d.section c.cell_mut-cell.result.now) c.fetch_list.new.cell c.requires.there refl
+    cell_written
+    (λ n. OnErr c.fetch_list.result (n ≡ (scn_at c.args.self.now c.args.d.section).cell))
+    c.args.self.now _ c.args.d.section
+    (lent_scn c.args.self.now c.args.d.section c.cell_mut-cell.result.now) c.fetch_list.new.cell
+    c.requires.there refl
     (rw (← read) c.fetch_list.ensures.unchanged)
 
 pub returns-clause-own : goal.returns-clause-own
 returns-clause-own g c =
     let read = lent_read c.args.self.now c.args.d.section _ c.cell_mut-cell.ensures.value in
     cell_written (λ n. is_some (piece_in (scn_at c.args.self.now c.args.d.section).cell c.args.d.piece).own ≡ true → n ≡ (scn_at c.args.self.now c.args.d.section).cell) c.args.self.now _ c.args.d.section
-    (lent_scn c.args.self.now c.args.d.section c.cell_mut-cell.result.now) c.fetch_list.new.cell c.requires.there refl (rw (← read) c.fetch_list.ensures.own)
+    (lent_scn c.args.self.now c.args.d.section c.cell_mut-cell.result.now) c.fetch_list.new.cell
+    c.requires.there refl (rw (← read) c.fetch_list.ensures.own)
 
 pub returns-clause-warmed : goal.returns-clause-warmed
 returns-clause-warmed g c =
     let read = lent_read c.args.self.now c.args.d.section _ c.cell_mut-cell.ensures.value in
-    warmed_by _ c.args.self.now _ c.args.d.section (lent_scn c.args.self.now c.args.d.section c.cell_mut-cell.result.now) c.fetch_list.new.cell read refl refl c.fetch_list.ensures.warms
+    warmed_by _ c.args.self.now _ c.args.d.section
+    (lent_scn c.args.self.now c.args.d.section c.cell_mut-cell.result.now) c.fetch_list.new.cell
+    read refl refl c.fetch_list.ensures.warms
     (warm_held _ _ _ _ c.fetch_list.new.cell c.fetch_list.ensures.warms c.fetch_list.ensures.held)
 
 pub returns-clause-asks : goal.returns-clause-asks

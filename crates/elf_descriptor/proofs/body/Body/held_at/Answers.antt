@@ -8,11 +8,13 @@ use Rattle.elf_descriptor.proofs.body.Body.held_at.Goals as goal
 
 pub held_in-requires : goal.held_in-requires
 held_in-requires c =
-    subst (λ (x : CellView). c.args.p < length x.pieces) (sym c.in-Some.ensures.some) c.requires.piece
+    subst (λ (x : CellView). c.args.p < length x.pieces) (sym c.in-Some.ensures.some)
+    c.requires.piece
 
 pub returns-in-Some-clause-held : goal.returns-in-Some-clause-held
 returns-in-Some-clause-held c =
-    subst (λ (x : CellView). IsHeldIn x c.args.p c.held_in.result) c.in-Some.ensures.some c.held_in.ensures.held
+    subst (λ (x : CellView). IsHeldIn x c.args.p c.held_in.result) c.in-Some.ensures.some
+    c.held_in.ensures.held
 
 pub returns-in-Some-clause-cell : goal.returns-in-Some-clause-cell
 returns-in-Some-clause-cell c =
@@ -26,4 +28,5 @@ returns-in-None-clause-held c =
 pub returns-in-None-clause-cell : goal.returns-in-None-clause-cell
 returns-in-None-clause-cell c =
     let opened = c.in-None.ensures.none refl in
-    subst (λ (o : Option (List ℕ)). IfSome o (λ raw. IsCell (scn_at c.args.self.now c.args.s).cell)) (sym opened.raw) tt
+    subst (λ (o : Option (List ℕ)). IfSome o (λ raw. IsCell (scn_at c.args.self.now c.args.s).cell))
+    (sym opened.raw) tt

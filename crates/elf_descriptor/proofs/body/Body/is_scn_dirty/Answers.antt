@@ -13,10 +13,13 @@ returns-then-marked_at c =
 
 pub returns-in-Some : goal.returns-in-Some
 returns-in-Some c =
-    pieces_dirty (scn_at c.args.self.now c.args.s) c.some_piece_marked.result (sym c.marked_at.ensures ∙ c.if-marked_at.false)
-    (c.some_piece_marked.ensures ∙ ap (λ (x : CellView). list_any (λ (p : Piece). p.marked) x.pieces) c.in-Some.ensures.some)
+    pieces_dirty (scn_at c.args.self.now c.args.s) c.some_piece_marked.result
+    (sym c.marked_at.ensures ∙ c.if-marked_at.false)
+    (c.some_piece_marked.ensures
+    ∙ ap (λ (x : CellView). list_any (λ (p : Piece). p.marked) x.pieces) c.in-Some.ensures.some)
 
 pub returns-in-None : goal.returns-in-None
 returns-in-None c =
-    pieces_dirty (scn_at c.args.self.now c.args.s) _ (sym c.marked_at.ensures ∙ c.if-marked_at.false)
+    pieces_dirty (scn_at c.args.self.now c.args.s) _
+    (sym c.marked_at.ensures ∙ c.if-marked_at.false)
     (sym (opened_unmarked (scn_at c.args.self.now c.args.s).cell (c.in-None.ensures.none refl)))

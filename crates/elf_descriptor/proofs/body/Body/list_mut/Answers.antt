@@ -30,7 +30,9 @@ returns g c =
       (
         refl,
         λ w. ap (λ (x : Scn). record c.args.self.now {
-          sections = set c.args.self.now.sections c.args.d.section (record x { cell = with_items x.cell c.args.d.piece (g.T.Listed.variant w) });
+          sections =
+              set c.args.self.now.sections c.args.d.section
+              (record x { cell = with_items x.cell c.args.d.piece (g.T.Listed.variant w) });
         }) read,
       ),
       record {

@@ -25,12 +25,16 @@ returns-clause-answer g c =
 pub returns-clause-fills : goal.returns-clause-fills
 returns-clause-fills g c =
     let read = lent_read c.args.self.now c.args.s _ c.cell_mut-cell.ensures.value in
-    filled_by c.load_reserved.result _ c.args.self.now _ c.args.s (lent_scn c.args.self.now c.args.s c.cell_mut-cell.result.now) c.load_reserved.new.self read refl refl c.load_reserved.ensures.fills
+    filled_by c.load_reserved.result _ c.args.self.now _ c.args.s
+    (lent_scn c.args.self.now c.args.s c.cell_mut-cell.result.now) c.load_reserved.new.self read
+    refl refl c.load_reserved.ensures.fills
 
 pub returns-clause-same : goal.returns-clause-same
 returns-clause-same g c =
     let read = lent_read c.args.self.now c.args.s _ c.cell_mut-cell.ensures.value in
-    unfilled_by c.load_reserved.result c.args.self.now _ c.args.s (lent_scn c.args.self.now c.args.s c.cell_mut-cell.result.now) c.load_reserved.new.self read refl refl c.load_reserved.ensures.unchanged
+    unfilled_by c.load_reserved.result c.args.self.now _ c.args.s
+    (lent_scn c.args.self.now c.args.s c.cell_mut-cell.result.now) c.load_reserved.new.self read
+    refl refl c.load_reserved.ensures.unchanged
 
 pub returns-clause-asks : goal.returns-clause-asks
 returns-clause-asks g c =

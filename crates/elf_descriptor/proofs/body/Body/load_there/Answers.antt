@@ -19,19 +19,25 @@ returns-clause-answer g c =
 
 pub returns-clause-loaded : goal.returns-clause-loaded
 returns-clause-loaded g c =
-    cell_written (λ n. OnOk c.load.result (IsTrue (cell_is_loaded n))) c.args.self.now _ c.args.s (lent_scn c.args.self.now c.args.s c.cell_mut-cell.result.now) c.load.new.self c.requires.there refl
+    cell_written (λ n. OnOk c.load.result (IsTrue (cell_is_loaded n))) c.args.self.now _ c.args.s
+    (lent_scn c.args.self.now c.args.s c.cell_mut-cell.result.now) c.load.new.self c.requires.there
+    refl
     c.load.ensures.loaded
 
 pub returns-clause-held : goal.returns-clause-held
 returns-clause-held g c =
     let read = lent_read c.args.self.now c.args.s _ c.cell_mut-cell.ensures.value in
-    cell_written (λ n. n.held ≡ (scn_at c.args.self.now c.args.s).cell.held) c.args.self.now _ c.args.s (lent_scn c.args.self.now c.args.s c.cell_mut-cell.result.now) c.load.new.self c.requires.there refl
+    cell_written (λ n. n.held ≡ (scn_at c.args.self.now c.args.s).cell.held) c.args.self.now _
+    c.args.s (lent_scn c.args.self.now c.args.s c.cell_mut-cell.result.now) c.load.new.self
+    c.requires.there refl
     (rw (← read) c.load.ensures.held)
 
 pub returns-clause-unchanged : goal.returns-clause-unchanged
 returns-clause-unchanged g c =
     let read = lent_read c.args.self.now c.args.s _ c.cell_mut-cell.ensures.value in
-    cell_written (λ n. OnErr c.load.result (n ≡ (scn_at c.args.self.now c.args.s).cell)) c.args.self.now _ c.args.s (lent_scn c.args.self.now c.args.s c.cell_mut-cell.result.now) c.load.new.self c.requires.there refl
+    cell_written (λ n. OnErr c.load.result (n ≡ (scn_at c.args.self.now c.args.s).cell))
+    c.args.self.now _ c.args.s (lent_scn c.args.self.now c.args.s c.cell_mut-cell.result.now)
+    c.load.new.self c.requires.there refl
     (rw (← read) c.load.ensures.unchanged)
 
 pub returns-clause-warmed : goal.returns-clause-warmed

@@ -24,24 +24,32 @@ returns-clause-answer g c =
 pub returns-clause-owned : goal.returns-clause-owned
 returns-clause-owned g c =
     let read = lent_read c.args.self.now c.args.d.section _ c.cell_mut-cell.ensures.value in
-    owned_by _ c.args.kind c.args.self.now _ c.args.d.section c.args.d.piece (lent_scn c.args.self.now c.args.d.section c.cell_mut-cell.result.now) c.own.new.self c.requires.there read refl refl c.own.result
+    owned_by _ c.args.kind c.args.self.now _ c.args.d.section c.args.d.piece
+    (lent_scn c.args.self.now c.args.d.section c.cell_mut-cell.result.now) c.own.new.self
+    c.requires.there read refl refl c.own.result
     c.own.ensures.owns c.own.ensures.cell c.own.ensures.there c.own.ensures.own c.own.ensures.items
 
 pub returns-clause-warmed : goal.returns-clause-warmed
 returns-clause-warmed g c =
     let read = lent_read c.args.self.now c.args.d.section _ c.cell_mut-cell.ensures.value in
-    stays_warmed _ c.args.kind c.args.self.now _ c.args.d.section c.args.d.piece (lent_scn c.args.self.now c.args.d.section c.cell_mut-cell.result.now) c.own.new.self c.requires.there read refl refl c.own.result
+    stays_warmed _ c.args.kind c.args.self.now _ c.args.d.section c.args.d.piece
+    (lent_scn c.args.self.now c.args.d.section c.cell_mut-cell.result.now) c.own.new.self
+    c.requires.there read refl refl c.own.result
     c.own.ensures.stays c.own.ensures.items
 
 pub returns-clause-held : goal.returns-clause-held
 returns-clause-held g c =
     let read = lent_read c.args.self.now c.args.d.section _ c.cell_mut-cell.ensures.value in
-    stays_held _ c.args.kind c.args.self.now _ c.args.d.section c.args.d.piece (lent_scn c.args.self.now c.args.d.section c.cell_mut-cell.result.now) c.own.new.self c.requires.there read refl refl c.own.result c.own.ensures.stays
+    stays_held _ c.args.kind c.args.self.now _ c.args.d.section c.args.d.piece
+    (lent_scn c.args.self.now c.args.d.section c.cell_mut-cell.result.now) c.own.new.self
+    c.requires.there read refl refl c.own.result c.own.ensures.stays
 
 pub returns-clause-unchanged : goal.returns-clause-unchanged
 returns-clause-unchanged g c =
     let read = lent_read c.args.self.now c.args.d.section _ c.cell_mut-cell.ensures.value in
-    stays_unchanged _ c.args.kind c.args.self.now _ c.args.d.section c.args.d.piece (lent_scn c.args.self.now c.args.d.section c.cell_mut-cell.result.now) c.own.new.self c.requires.there read refl refl c.own.result c.own.ensures.stays
+    stays_unchanged _ c.args.kind c.args.self.now _ c.args.d.section c.args.d.piece
+    (lent_scn c.args.self.now c.args.d.section c.cell_mut-cell.result.now) c.own.new.self
+    c.requires.there read refl refl c.own.result c.own.ensures.stays
 
 pub returns-clause-asks : goal.returns-clause-asks
 returns-clause-asks g c =

@@ -30,25 +30,35 @@ returns-clause-piece g c =
 
 pub returns-clause-holds : goal.returns-clause-holds
 returns-clause-holds g c =
-    cell_written (λ n. OnOk c.prepare.result (IsTrue (piece_holds_items n c.args.d.piece))) c.args.self.now _ c.args.d.section (lent_scn c.args.self.now c.args.d.section c.cell_mut-cell.result.now) c.prepare.new.self c.requires.there refl
+    cell_written (λ n. OnOk c.prepare.result (IsTrue (piece_holds_items n c.args.d.piece)))
+    c.args.self.now _ c.args.d.section
+    (lent_scn c.args.self.now c.args.d.section c.cell_mut-cell.result.now) c.prepare.new.self
+    c.requires.there refl
     c.prepare.ensures.holds
 
 pub returns-clause-unchanged : goal.returns-clause-unchanged
 returns-clause-unchanged g c =
     let read = lent_read c.args.self.now c.args.d.section _ c.cell_mut-cell.ensures.value in
-    cell_written (λ n. IfErr c.prepare.result (λ e. e ≢ Memory → n ≡ (scn_at c.args.self.now c.args.d.section).cell)) c.args.self.now _ c.args.d.section (lent_scn c.args.self.now c.args.d.section c.cell_mut-cell.result.now) c.prepare.new.self
+    cell_written
+    (λ n.
+    IfErr c.prepare.result (λ e. e ≢ Memory → n ≡ (scn_at c.args.self.now c.args.d.section).cell))
+    c.args.self.now _ c.args.d.section
+    (lent_scn c.args.self.now c.args.d.section c.cell_mut-cell.result.now) c.prepare.new.self
     c.requires.there refl (rw (← read) c.prepare.ensures.unchanged)
 
 pub returns-clause-own : goal.returns-clause-own
 returns-clause-own g c =
     let read = lent_read c.args.self.now c.args.d.section _ c.cell_mut-cell.ensures.value in
     cell_written (λ n. is_some (piece_in (scn_at c.args.self.now c.args.d.section).cell c.args.d.piece).own ≡ true → n ≡ (scn_at c.args.self.now c.args.d.section).cell) c.args.self.now _ c.args.d.section
-    (lent_scn c.args.self.now c.args.d.section c.cell_mut-cell.result.now) c.prepare.new.self c.requires.there refl (rw (← read) c.prepare.ensures.own)
+    (lent_scn c.args.self.now c.args.d.section c.cell_mut-cell.result.now) c.prepare.new.self
+    c.requires.there refl (rw (← read) c.prepare.ensures.own)
 
 pub returns-clause-warmed : goal.returns-clause-warmed
 returns-clause-warmed g c =
     let read = lent_read c.args.self.now c.args.d.section _ c.cell_mut-cell.ensures.value in
-    warmed_by _ c.args.self.now _ c.args.d.section (lent_scn c.args.self.now c.args.d.section c.cell_mut-cell.result.now) c.prepare.new.self read refl refl c.prepare.ensures.warms (λ held. c.prepare.ensures.items)
+    warmed_by _ c.args.self.now _ c.args.d.section
+    (lent_scn c.args.self.now c.args.d.section c.cell_mut-cell.result.now) c.prepare.new.self read
+    refl refl c.prepare.ensures.warms (λ held. c.prepare.ensures.items)
 
 pub returns-clause-asks : goal.returns-clause-asks
 returns-clause-asks g c =

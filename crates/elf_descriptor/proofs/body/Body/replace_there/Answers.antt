@@ -16,9 +16,13 @@ returns-clause-answer c =
 pub returns-clause-step : goal.returns-clause-step
 returns-clause-step c =
     let read = lent_read c.args.self.now c.args.d.section _ c.cell_mut-cell.ensures.value in
-    replace_steps c.args.self.now _ c.args.d.section c.args.d.piece c.args.items (lent_scn c.args.self.now c.args.d.section c.cell_mut-cell.result.now) c.replace.new.self read refl refl c.replace.result c.replace.ensures.ok
+    replace_steps c.args.self.now _ c.args.d.section c.args.d.piece c.args.items
+    (lent_scn c.args.self.now c.args.d.section c.cell_mut-cell.result.now) c.replace.new.self read
+    refl refl c.replace.result c.replace.ensures.ok
 
 pub returns-clause-unchanged : goal.returns-clause-unchanged
 returns-clause-unchanged c =
     let read = lent_read c.args.self.now c.args.d.section _ c.cell_mut-cell.ensures.value in
-    cell_stays c.args.self.now _ c.args.d.section c.args.d.piece c.args.items (lent_scn c.args.self.now c.args.d.section c.cell_mut-cell.result.now) c.replace.new.self read refl refl c.replace.result c.replace.ensures.unchanged
+    cell_stays c.args.self.now _ c.args.d.section c.args.d.piece c.args.items
+    (lent_scn c.args.self.now c.args.d.section c.cell_mut-cell.result.now) c.replace.new.self read
+    refl refl c.replace.result c.replace.ensures.unchanged

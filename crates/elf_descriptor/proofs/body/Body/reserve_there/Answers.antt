@@ -16,9 +16,13 @@ returns-clause-answer c =
 pub returns-clause-ok : goal.returns-clause-ok
 returns-clause-ok c =
     let read = lent_read c.args.self.now c.args.s _ c.cell_mut-cell.ensures.value in
-    reserved_ok c.reserve.result c.args.self.now _ c.args.s (lent_scn c.args.self.now c.args.s c.cell_mut-cell.result.now) c.reserve.new.self _ read refl refl c.reserve.ensures.edits
+    reserved_ok c.reserve.result c.args.self.now _ c.args.s
+    (lent_scn c.args.self.now c.args.s c.cell_mut-cell.result.now) c.reserve.new.self _ read refl
+    refl c.reserve.ensures.edits
 
 pub returns-clause-same : goal.returns-clause-same
 returns-clause-same c =
     let read = lent_read c.args.self.now c.args.s _ c.cell_mut-cell.ensures.value in
-    reserved_same c.reserve.result c.args.self.now _ c.args.s (lent_scn c.args.self.now c.args.s c.cell_mut-cell.result.now) c.reserve.new.self _ _ read refl refl c.reserve.ensures.edits
+    reserved_same c.reserve.result c.args.self.now _ c.args.s
+    (lent_scn c.args.self.now c.args.s c.cell_mut-cell.result.now) c.reserve.new.self _ _ read refl
+    refl c.reserve.ensures.edits

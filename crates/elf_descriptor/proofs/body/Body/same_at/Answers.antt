@@ -12,7 +12,8 @@ returns-clause-same c =
     let number : c.from.result ≡ c.args.s = omega (arith, c.from.ensures) in
     let place = c.place_of-at.ensures ∙ ap (λ (n : ℕ). slice_index places.at (n + 1)) number in
     let is =
-    shdr_read places c.args.h.now c.args.self.now c.args.s c.place_of-at.result (scn_at c.args.self.now c.args.s)
+    shdr_read places c.args.h.now c.args.self.now c.args.s c.place_of-at.result
+    (scn_at c.args.self.now c.args.s)
     c.stored_shdr.result c.stored_shdr.ensures place refl in
     decides_at c.same_shdr.result c.stored_shdr.result c.shdr_at.result _ _
     c.same_shdr.ensures.same is c.shdr_at.ensures
@@ -23,6 +24,7 @@ returns-clause-ranged c =
     let number : c.from.result ≡ c.args.s = omega (arith, c.from.ensures) in
     let place = c.place_of-at.ensures ∙ ap (λ (n : ℕ). slice_index places.at (n + 1)) number in
     let is =
-    shdr_read places c.args.h.now c.args.self.now c.args.s c.place_of-at.result (scn_at c.args.self.now c.args.s)
+    shdr_read places c.args.h.now c.args.self.now c.args.s c.place_of-at.result
+    (scn_at c.args.self.now c.args.s)
     c.stored_shdr.result c.stored_shdr.ensures place refl in
     subst (λ (h : Shdr). IsShdr h) is c.same_shdr.ensures.ranged

@@ -7,5 +7,6 @@ pub returns : goal.returns
 unfolding scn_at
 returns c =
     shdr_stepped c.args.self.now _ c.args.s c.args.h (scn_at c.args.self.now c.args.s) refl refl
-    (header_and_mark c.args.self.now.sections c.set_header.new.self c.mark.new.self c.args.s c.args.h c.requires
+    (header_and_mark c.args.self.now.sections c.set_header.new.self c.mark.new.self c.args.s
+    c.args.h c.requires
     c.set_header.ensures c.mark.ensures)

@@ -6,7 +6,8 @@ use Rattle.elf_descriptor.proofs.body.Body.settle.Goals as goal
 
 pub reopen-requires : goal.reopen-requires
 reopen-requires c =
-    subst (λ (b : Body). AreNumbered b.sections) (sym c.write_front.ensures.rest) c.requires.numbered
+    subst (λ (b : Body). AreNumbered b.sections) (sym c.write_front.ensures.rest)
+    c.requires.numbered
 
 pub returns : goal.returns
 returns c = record {

@@ -8,4 +8,5 @@ use Rattle.elf_descriptor.proofs.body.Body.store_headers.Given as goal
 abbrev pub invariant-loop-s : goal.invariant-loop-s
 invariant-loop-s l =
     (l.self ≡ record l.initial.self { sections = l.self.sections })
-    × (l.self.sections ≡ changed_from (stored_rows l.places l.h) absent_scn 0 l.s l.initial.self.sections)
+    × (l.self.sections
+    ≡ changed_from (stored_rows l.places l.h) absent_scn 0 l.s l.initial.self.sections)

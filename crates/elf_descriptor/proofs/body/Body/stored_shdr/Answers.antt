@@ -8,6 +8,8 @@ pub returns : goal.returns
 unfolding stored_shdr
 returns c =
     c.shdr_to_store.ensures
-    ∙ ap (λ (h : Shdr). shdr_to_store c.args.h.now c.args.s c.args.at c.stored_size-size.result h) c.header_at.ensures
-    ∙ ap (λ (n : ℕ). shdr_to_store c.args.h.now c.args.s c.args.at n (scn_at c.args.self.now c.args.s).header)
+    ∙ ap (λ (h : Shdr). shdr_to_store c.args.h.now c.args.s c.args.at c.stored_size-size.result h)
+    c.header_at.ensures
+    ∙ ap (λ (n : ℕ).
+    shdr_to_store c.args.h.now c.args.s c.args.at n (scn_at c.args.self.now c.args.s).header)
     c.stored_size-size.ensures

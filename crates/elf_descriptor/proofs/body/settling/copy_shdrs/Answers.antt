@@ -11,13 +11,18 @@ pub loop-i-preserved : goal.loop-i-preserved
 loop-i-preserved c =
     let count = headers_count c.args.from.now in
     item_copied c.loop-i.i (headers_in c.args.from.now) c.loop-i.to _ c.header.result.now
-    absent_scn.header (omega (arith, count, c.loop-i-test.true, c.count-i-end.ensures)) c.loop-i.invariant
-    (c.header.ensures ∙ header_copied c.args.from.now c.loop-i.i (section_in c.args.from.now c.loop-i.i) absent_scn refl) refl
+    absent_scn.header (omega (arith, count, c.loop-i-test.true, c.count-i-end.ensures))
+    c.loop-i.invariant
+    (c.header.ensures
+    ∙ header_copied c.args.from.now c.loop-i.i (section_in c.args.from.now c.loop-i.i) absent_scn
+    refl) refl
 
 pub returns : goal.returns
 returns c =
     let long = c.loop-i.invariant.long in
     let count = headers_count c.args.from.now in
-    sym (take_all c.loop-i.i c.loop-i.to (omega (arith, long, count, c.loop-i-test.false, c.count-i-end.ensures)))
+    sym (take_all c.loop-i.i c.loop-i.to
+    (omega (arith, long, count, c.loop-i-test.false, c.count-i-end.ensures)))
     ∙ c.loop-i.invariant.copied
-    ∙ take_all c.loop-i.i (headers_in c.args.from.now) (omega (arith, count, c.loop-i-test.false, c.count-i-end.ensures))
+    ∙ take_all c.loop-i.i (headers_in c.args.from.now)
+    (omega (arith, count, c.loop-i-test.false, c.count-i-end.ensures))

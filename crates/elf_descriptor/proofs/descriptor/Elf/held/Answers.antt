@@ -19,6 +19,8 @@ returns-clause-refusal g c =
 
 pub returns-clause-held : goal.returns-clause-held
 returns-clause-held g c =
-    subst (λ (st : State g.row.S.Denot). IsHeld st c.args.d.section c.args.d.piece c.held_at.result) c.self.view_is
-    (held_as g.S.Source c.self.inside.src c.self.inside.body c.args.d.section c.args.d.piece c.held_at.result c.self.invariant
+    subst (λ (st : State g.row.S.Denot). IsHeld st c.args.d.section c.args.d.piece c.held_at.result)
+    c.self.view_is
+    (held_as g.S.Source c.self.inside.src c.self.inside.body c.args.d.section c.args.d.piece
+    c.held_at.result c.self.invariant
     c.held_at.ensures.cell c.held_at.ensures.held)

@@ -19,8 +19,13 @@ held_cell-requires-clause-there g c =
 
 pub held_cell-requires-clause-held : goal.held_cell-requires-clause-held
 held_cell-requires-clause-held g c = λ opened.
-    let holds = subst (λ (st : State g.row.S.Denot). IsTrue (holds_items st.o st.held c.args.d.section c.args.d.piece)) (sym c.self.view_is) c.requires.holds in
-    true≢false (sym holds ∙ holds_is _ _ c.self.inside.body c.args.d.section c.args.d.piece ∙ opened_unready _ c.args.d.piece opened)
+    let holds =
+    subst (λ (st : State g.row.S.Denot).
+    IsTrue (holds_items st.o st.held c.args.d.section c.args.d.piece)) (sym c.self.view_is)
+    c.requires.holds in
+    true≢false
+    (sym holds ∙ holds_is _ _ c.self.inside.body c.args.d.section c.args.d.piece
+    ∙ opened_unready _ c.args.d.piece opened)
 
 pub items-requires-clause-piece : goal.items-requires-clause-piece
 items-requires-clause-piece g c =
@@ -31,20 +36,27 @@ items-requires-clause-piece g c =
 pub items-requires-clause-holds : goal.items-requires-clause-holds
 items-requires-clause-holds g c =
     let holds = subst (λ (st : State g.row.S.Denot). IsTrue (holds_items st.o st.held c.args.d.section c.args.d.piece)) (sym c.self.view_is) c.requires.holds in
-    subst (λ (x : CellView). IsTrue (piece_holds_items x c.args.d.piece)) (sym c.held_cell.ensures) (sym (holds_is _ _ c.self.inside.body c.args.d.section c.args.d.piece) ∙ holds)
+    subst (λ (x : CellView). IsTrue (piece_holds_items x c.args.d.piece)) (sym c.held_cell.ensures)
+    (sym (holds_is _ _ c.self.inside.body c.args.d.section c.args.d.piece) ∙ holds)
 
 pub returns-clause-exact : goal.returns-clause-exact
 returns-clause-exact g c =
     let passed = subst (λ (st : State g.row.S.Denot). data_refusal st.o c.args.d.section c.args.d.piece ≡ None) (sym c.self.view_is) c.requires.passed in
     let past = items_passed c.self.inside.body c.args.d.section c.args.d.piece (sym (data_refusal_is _ _ c.self.inside.body c.args.d.section c.args.d.piece c.self.invariant) ∙ passed) in
     subst (λ (st : State g.row.S.Denot). IsTrue st.told → c.items.result.now ≡ items_at st.o c.args.d.section c.args.d.piece) c.self.view_is
-    (ready_items _ _ c.self.inside.body c.args.d.section c.args.d.piece c.items.result.now c.self.invariant past.0 (subst (λ (x : CellView). IsCell x) c.held_cell.ensures c.items.ensures.cell) past.2
-    (subst (λ (x : CellView). ready x c.args.d.piece ≡ Some c.items.result.now) c.held_cell.ensures c.items.ensures.value)).0
+    (ready_items _ _ c.self.inside.body c.args.d.section c.args.d.piece c.items.result.now
+    c.self.invariant past.0
+    (subst (λ (x : CellView). IsCell x) c.held_cell.ensures c.items.ensures.cell) past.2
+    (subst (λ (x : CellView). ready x c.args.d.piece ≡ Some c.items.result.now) c.held_cell.ensures
+    c.items.ensures.value)).0
 
 pub returns-clause-alike : goal.returns-clause-alike
 returns-clause-alike g c =
     let passed = subst (λ (st : State g.row.S.Denot). data_refusal st.o c.args.d.section c.args.d.piece ≡ None) (sym c.self.view_is) c.requires.passed in
     let past = items_passed c.self.inside.body c.args.d.section c.args.d.piece (sym (data_refusal_is _ _ c.self.inside.body c.args.d.section c.args.d.piece c.self.invariant) ∙ passed) in
     subst (λ (st : State g.row.S.Denot). AlikeItems c.items.result.now (items_at st.o c.args.d.section c.args.d.piece)) c.self.view_is
-    (ready_items _ _ c.self.inside.body c.args.d.section c.args.d.piece c.items.result.now c.self.invariant past.0 (subst (λ (x : CellView). IsCell x) c.held_cell.ensures c.items.ensures.cell) past.2
-    (subst (λ (x : CellView). ready x c.args.d.piece ≡ Some c.items.result.now) c.held_cell.ensures c.items.ensures.value)).1
+    (ready_items _ _ c.self.inside.body c.args.d.section c.args.d.piece c.items.result.now
+    c.self.invariant past.0
+    (subst (λ (x : CellView). IsCell x) c.held_cell.ensures c.items.ensures.cell) past.2
+    (subst (λ (x : CellView). ready x c.args.d.piece ≡ Some c.items.result.now) c.held_cell.ensures
+    c.items.ensures.value)).1

@@ -33,8 +33,8 @@ pub returns-clause-loaded : goal.returns-clause-loaded
 returns-clause-loaded g c =
     data_loaded _ _ c.prepare.new.self c.args.d.section c.args.d.piece c.prepare.result
     (warmed_left g.S.Source c.self.inside.src c.prepare.new.src c.self.inside.body
-      c.prepare.new.self c.args.d.section c.prepare.ensures.asks.leaves c.prepare.ensures.warmed
-      c.self.invariant)
+    c.prepare.new.self c.args.d.section c.prepare.ensures.asks.leaves c.prepare.ensures.warmed
+    c.self.invariant)
     c.prepare.ensures.holds
 
 pub returns-clause-looks : goal.returns-clause-looks

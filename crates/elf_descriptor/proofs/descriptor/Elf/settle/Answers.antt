@@ -13,7 +13,8 @@ use Rattle.elf_descriptor.proofs.descriptor.Elf.settle.Goals as goal
 
 pub settle-requires-clause-numbered : goal.settle-requires-clause-numbered
 settle-requires-clause-numbered g c =
-    are_numbered (g.D.Source.holds c.self.inside.src) (g.D.Source.size c.self.inside.src) c.self.inside.body c.self.invariant
+    are_numbered (g.D.Source.holds c.self.inside.src) (g.D.Source.size c.self.inside.src)
+    c.self.inside.body c.self.invariant
 
 pub settle-requires-clause-ready : goal.settle-requires-clause-ready
 settle-requires-clause-ready g c =
