@@ -37,6 +37,7 @@ pub mod Unloading
 pub mod Rows
 pub mod Sizes
 pub mod FirstPieces
+pub mod Tables
 pub mod Placing
 pub mod FrontTables
 pub mod FrontCalls

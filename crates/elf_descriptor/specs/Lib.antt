@@ -12,6 +12,7 @@ pub mod Reads
 pub mod Rooms
 pub mod Places
 pub mod FirstPieces
+pub mod Tables
 pub mod Cuts
 pub mod Fronts
 pub mod Settling

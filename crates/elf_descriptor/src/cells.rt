@@ -1,17 +1,19 @@
 //! The cell of one section.
 
-ghost use Rattle.std.specs.Prelude.{◌≡◌, ◌<◌, length, true, IsTrue, is_some, OnOk, OnErr};
+ghost use Rattle.std.specs.Prelude.{◌≡◌, ◌<◌, ◌-◌, length, slice_index, true, false, IsTrue, is_some, OnOk, OnErr};
 ghost use Rattle.std.specs.List.{list_any};
+ghost use Rattle.elf_types.specs.declared.records.Kind.TheVariants as kinds;
 ghost use Rattle.elf_types.specs.Answers.{answered};
 ghost use Rattle.elf_outside.specs.Asks.{Asks};
 ghost use Rattle.elf_object.specs.Words.{Answers};
 ghost use Rattle.section_data.specs.Leaves.{LiesIn, Warms};
-ghost use Rattle.section_data.specs.Held.{piece_in, kind_in, is_at_hand};
+ghost use Rattle.section_data.specs.Held.{piece_in, kind_in, is_at_hand, cell_is_loaded};
 ghost use Rattle.section_data.specs.Refused.{kind_refused, loading};
 ghost use Rattle.elf_descriptor.specs.Dues.{list_due};
 ghost use Rattle.section_data.specs.Views.{IsCell};
 ghost use Rattle.elf_descriptor.specs.Held.{IsHeldIn};
 ghost use Rattle.elf_descriptor.specs.Rooms.{can_forget};
+ghost use Rattle.elf_descriptor.specs.Tables.{HoldsAlone};
 
 use crate::held::Held;
 use elf_outside::Source;
@@ -62,6 +64,56 @@ pub fn held_in(cell: &Cell, p: u32) -> Held<'_>
         return Held::Raw(cell.bytes());
     }
     Held::Unread
+}
+
+/// Whether a home holds bytes and is longer than an offset.
+#[inline(always)]
+fn is_of_bytes(cell: &Cell, offset: u64) -> bool
+    ensures kind { result ≡ true → cell.now.home.kind ≡ kinds.Bytes }
+    ensures within { result ≡ true → offset < cell.now.home.len }
+{
+    let home = cell.home();
+    home.kind == Kind::Bytes && offset < home.len
+}
+
+/// Whether there is one piece, which is clean.
+#[inline(always)]
+fn has_one_clean(cell: &Cell) -> bool
+    ensures alone { result ≡ true → length cell.now.pieces ≡ 1 }
+    ensures clean { result ≡ true → is_some (piece_in cell.now 0).own ≡ false }
+{
+    cell.piece_count() == 1 && !cell.is_own(0)
+}
+
+/// Whether a home in the file is loaded.
+#[inline(always)]
+fn is_held(cell: &Cell) -> bool
+    ensures loaded { result ≡ true → cell_is_loaded cell.now ≡ true }
+    ensures inside { result ≡ true → cell.now.home.out ≡ false }
+{
+    cell.is_loaded() && !cell.out()
+}
+
+/// Whether the last of bytes is a NUL.
+#[inline(always)]
+fn end_in_nul(bytes: &[u8]) -> bool
+    ensures { result ≡ true → slice_index bytes.now (length bytes.now - 1) ≡ 0 }
+{
+    let n = bytes.len();
+    n != 0 && bytes[n - 1] == 0
+}
+
+/// Whether the one piece is the clean home piece, which holds bytes, and its home is in the file,
+/// loaded, and longer than an offset. It is told only where a NUL is the last of `ended_bytes`: in
+/// them each string ends, so that none is looked for up to the end of the home more than once.
+#[inline(always)]
+pub fn holds_alone(cell: &Cell, offset: u64) -> bool
+    ensures { result ≡ true → HoldsAlone cell.now offset }
+{
+    if !is_of_bytes(cell, offset) || !has_one_clean(cell) || !is_held(cell) {
+        return false;
+    }
+    end_in_nul(cell.ended_bytes())
 }
 
 /// Whether what is held of a home can be read again, of a base of so many bytes: its home piece is

@@ -1,10 +1,15 @@
-//! Where the pieces of a section end, and the last NUL of its home.
+//! Where the pieces of a section end, the last NUL of its home, and whether it is a table that is
+//! held.
 
-ghost use Rattle.std.specs.Prelude.{◌<◌, length};
+ghost use Rattle.std.specs.Prelude.{◌≡◌, ◌<◌, length, true};
+ghost use Rattle.elf_types.specs.declared.constants.TheConstants.{SHT_STRTAB};
 ghost use Rattle.elf_descriptor.specs.Rooms.{HoldsSo};
+ghost use Rattle.elf_descriptor.specs.Tables.{IsTableIn};
 ghost use Rattle.elf_descriptor.specs.Views.{HasCounts, scn_at};
 
 use crate::body::Body;
+use crate::cells::holds_alone;
+use elf_types::constants::SHT_STRTAB;
 
 impl Body {
     /// Notes where the pieces of a section that is there end.
@@ -49,5 +54,32 @@ impl Body {
             return;
         }
         self.note_end_there(s);
+    }
+
+    /// Whether a section that is there is of type `SHT_STRTAB`.
+    #[inline(always)]
+    fn is_of_strings(&self, s: u32) -> bool
+        requires { s < length self.now.sections }
+        ensures { result ≡ true → (scn_at self.now s).header.stype ≡ SHT_STRTAB }
+    {
+        self.header_at(s).stype == SHT_STRTAB
+    }
+
+    /// Whether a section is one table of strings that is held, and an offset lies in it.
+    #[inline(always)]
+    pub fn holds_table(&self, s: u32, offset: u64) -> bool
+        requires { HasCounts self.now }
+        ensures { result ≡ true → IsTableIn self.now s offset }
+    {
+        if s >= self.header.shnum {
+            return false;
+        }
+        if !self.is_of_strings(s) {
+            return false;
+        }
+        match self.made_at(s) {
+            Some(cell) => holds_alone(cell, offset),
+            None => false,
+        }
     }
 }

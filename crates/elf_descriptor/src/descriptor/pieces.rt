@@ -1,11 +1,13 @@
-//! Where the pieces of a section end, and the last NUL of its home.
+//! Where the pieces of a section end, the last NUL of its home, and whether it is a table that is
+//! held.
 
-ghost use Rattle.std.specs.Prelude.{◌≡◌, ◌≤◌, IsTrue, None};
+ghost use Rattle.std.specs.Prelude.{◌≡◌, ◌≤◌, true, IsTrue, None};
 ghost use Rattle.elf_object.specs.Object.{section_at};
 ghost use Rattle.elf_object.specs.Answers.{no_section};
 ghost use Rattle.elf_object.specs.Due.{is_loaded};
 ghost use Rattle.section_data.specs.Nuls.{IsEndedFront};
 ghost use Rattle.elf_descriptor.specs.FirstPieces.{AreFirst};
+ghost use Rattle.elf_descriptor.specs.Tables.{IsHeldTable};
 
 use crate::descriptor::Elf;
 use elf_outside::Source;
@@ -56,5 +58,19 @@ impl<S: Source> Elf<S> {
         ensures { IsTrue self.now.told → IsEndedFront (section_at self.now.o s.0).raw result.now }
     {
         self.body.held_cell(s.0).ended_bytes()
+    }
+
+    /// Whether a section is one table of strings whose bytes are held, and an offset lies in them:
+    /// it is of type `SHT_STRTAB` and in the file, its one piece is the clean home piece, which
+    /// holds bytes, and its home is loaded and longer than the offset. It is told only where a NUL
+    /// is the last of `ended_bytes`, as it is once `note_end` found one. It refuses nothing, reads
+    /// nothing and takes no memory.
+    ///
+    /// Source: gABI chapter 4, "String Table".
+    #[inline(always)]
+    pub fn holds_table(&self, s: ScnId, offset: u64) -> bool
+        ensures { result ≡ true → IsHeldTable self.now s.0 offset }
+    {
+        self.body.holds_table(s.0, offset)
     }
 }
