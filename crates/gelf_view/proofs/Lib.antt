@@ -12,6 +12,7 @@ mod StackLemmas
 mod HomeLemmas
 mod StringLemmas
 mod StringCalls
+mod TableStrings
 mod NameCalls
 mod IndexTables
 mod SymbolLemmas

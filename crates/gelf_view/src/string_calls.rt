@@ -212,6 +212,7 @@ fn fetch_start<S: Source>(elf: &mut Elf<S>, s: ScnId, offset: u64) -> Result<Sta
 
 /// The same, and before it is noted where the pieces end, so that later strings of the section are
 /// found in few steps.
+#[inline(never)]
 fn note_and_fetch<S: Source>(elf: &mut Elf<S>, s: ScnId, offset: u64) -> Result<Start, ElfError>
     ensures begins { IfOk result (λ x. Begins elf.old.o s.0 offset x.piece x.start) }
     ensures hand { IfOk result (λ x. IsTrue (is_some (piece_at elf.new.o s.0 x.piece).own
@@ -323,6 +324,13 @@ pub fn strptr<S: Source>(elf: &mut Elf<S>, s: ScnId, offset: u64) -> Result<&[u8
     ensures* rests { sem 𝓛 (Rests S.row S.Source elf.entry (λ new.
         Queries S.Source (strings.strptr s.0 offset) [] result elf.old new)) }
 {
+    if elf.holds_table(s, offset) {
+        let start = Start {
+            piece: 0,
+            start: offset,
+        };
+        return home_string(elf, s, start, offset);
+    }
     match note_and_fetch(elf, s, offset) {
         Ok(start) => string_there(elf, s, start, offset),
         Err(e) => Err(e),
