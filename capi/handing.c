@@ -186,7 +186,7 @@ hand_fill (struct place *p, uint64_t size)
 {
   if (size == 0)
     return true;
-  uint8_t *bytes = malloc (size);
+  uint8_t *bytes = size > MOST_FILL ? NULL : malloc (size);
   if (bytes == NULL)
     {
       set_error (E_NOMEM);

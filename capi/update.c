@@ -212,6 +212,23 @@ end_of_parts (struct update *u)
   return end;
 }
 
+/* Whether an image of a length has no more than so many bytes between its parts. */
+static bool
+is_dense (struct update *u, uint64_t length)
+{
+  Elf *elf = u->elf;
+  uint64_t left = length;
+  for (size_t i = 1; i < elf->shnum && left > MOST_FILL; i++)
+    {
+      GElf_Shdr shdr;
+      if (gelf_getshdr (section_at (elf, i), &shdr) != NULL && shdr.sh_type != SHT_NOBITS)
+        left -= shdr.sh_size < left ? shdr.sh_size : left;
+    }
+  if (left > MOST_FILL)
+    set_error (E_NOMEM);
+  return left <= MOST_FILL;
+}
+
 /* Whether the file of a descriptor may be written. */
 static bool
 may_update (const Elf *elf)
@@ -236,7 +253,7 @@ update (struct update *u, bool writes)
   if (!hand_over (u) || !is_given (elfkit_size (&u->handle, &length)) || !take_places (u))
     return -1;
   uint64_t size = u->has_layout ? end_of_parts (u) : u->end;
-  if (writes && (!may_update (u->elf) || !write_image (u, length, size)))
+  if (writes && (!may_update (u->elf) || !is_dense (u, length) || !write_image (u, length, size)))
     return -1;
   return size;
 }

@@ -15,12 +15,16 @@ struct update
   uint8_t bare[sizeof (Elf64_Ehdr)];
 };
 
+/* An image is made in memory, and a file may tell any place and size: so many bytes that no part has
+   are refused. */
+enum { MOST_FILL = 1 << 30 };
+
 /* handing.c: hands a section over, its header and its data. */
 bool hand_section (struct update *u, Elf_Scn *scn);
 
-/* written.c: makes the image, and writes the first so many bytes of it, with zeros behind it where
-   it has fewer. */
-bool write_image (struct update *u, size_t length, size_t size);
+/* written.c: makes the image, which is so long, and writes it to a file of a length: cut, or with
+   zeros behind it. */
+bool write_image (struct update *u, size_t length, uint64_t size);
 
 /* Whether a section has data that a program asked for or made. */
 static inline bool

@@ -103,7 +103,7 @@ fill_gaps (const struct update *u, uint8_t *image, size_t length)
 
 /* ---- Writing */
 
-/* Puts bytes into the file where it differs: it holds the old ones. */
+/* Puts bytes into a file where it differs: it holds the old ones. */
 static bool
 write_changes (int fd, const uint8_t *image, size_t size, const uint8_t *old, size_t old_size)
 {
@@ -121,15 +121,25 @@ write_changes (int fd, const uint8_t *image, size_t size, const uint8_t *old, si
           done += put;
         }
     }
-  return ftruncate (fd, size) == 0;
+  return true;
 }
 
-/* Writes an image to the file of a descriptor, with its mode, which a write may change. */
+/* An image, and the length of the file that it is written to, which may be greater. */
+struct written
+{
+  uint8_t *image;
+  size_t size;
+  uint64_t length;
+};
+
+/* Writes an image to the file of a descriptor, which holds the old one, and leaves the mode as it
+   was. */
 static bool
-write_file (int fd, const uint8_t *image, size_t size, const uint8_t *old, size_t old_size)
+write_file (int fd, const struct written *w, const uint8_t *old, size_t old_size)
 {
   struct stat st;
-  if (fstat (fd, &st) == 0 && write_changes (fd, image, size, old, old_size)
+  if (fstat (fd, &st) == 0 && write_changes (fd, w->image, w->size, old, old_size)
+      && ftruncate (fd, w->length) == 0
       && ((st.st_mode & (S_ISUID | S_ISGID)) == 0 || fchmod (fd, st.st_mode) == 0))
     return true;
   set_error (E_WRITE_ERROR);
@@ -174,9 +184,9 @@ forget_homes (Elf *elf)
    programs saw of the old one stays. The object of the new one is begun first, so that nothing can
    fail but the write. */
 static bool
-write_over (Elf *elf, uint8_t *image, size_t size)
+write_over (Elf *elf, const struct written *w)
 {
-  struct elfkit_lent lent = { image, size }, back = { NULL, 0 };
+  struct elfkit_lent lent = { w->image, w->size }, back = { NULL, 0 };
   struct elfkit_handle handle = { NULL };
   struct kept *kept = malloc (sizeof *kept);
   if (kept == NULL)
@@ -184,7 +194,7 @@ write_over (Elf *elf, uint8_t *image, size_t size)
   if (kept == NULL || !is_given (elfkit_begin (lent, &handle, &back)))
     {
       free (kept);
-      free (image);
+      free (w->image);
       return false;
     }
   make_private (elf);
@@ -193,16 +203,16 @@ write_over (Elf *elf, uint8_t *image, size_t size)
   elf->kept = kept;
   elfkit_end (&elf->handle, &back);
   elf->handle = handle;
-  bool done = write_file (elf->fd, image, size, elf->lent, elf->size);
+  bool done = write_file (elf->fd, w, elf->lent, elf->size);
   if (elf->memory == MAPPED)
     munmap ((void *) elf->lent, elf->size);
   else if (elf->lent != elf->shown)
     free ((void *) elf->lent);
   elf->front = NULL;
-  elf->lent = image;
-  elf->size = size;
-  elf->tables = tables_of (image);
-  show_written (elf, image);
+  elf->lent = w->image;
+  elf->size = w->size;
+  elf->tables = tables_of (w->image);
+  show_written (elf, w->image);
   forget_homes (elf);
   return done;
 }
@@ -225,34 +235,28 @@ clear_flags (Elf *elf)
 }
 
 bool
-write_image (struct update *u, size_t length, size_t size)
+write_image (struct update *u, size_t length, uint64_t size)
 {
   Elf *elf = u->elf;
   struct elfkit_lent back = { NULL, 0 };
-  uint8_t *image = malloc (length < size ? size : length);
-  if (image == NULL)
+  struct written w = { malloc (length), length < size ? length : size, size };
+  if (w.image == NULL)
     set_error (E_NOMEM);
-  if (image == NULL || !is_given (elfkit_update (&u->handle, image, length)))
+  if (w.image == NULL || !is_given (elfkit_update (&u->handle, w.image, length))
+      || (u->has_layout && !elf->is_bare && !fill_gaps (u, w.image, w.size)))
     {
-      free (image);
-      return false;
-    }
-  if (length < size)
-    memset (image + length, 0, size - length);
-  if (u->has_layout && !elf->is_bare && !fill_gaps (u, image, size))
-    {
-      free (image);
+      free (w.image);
       return false;
     }
   elfkit_end (&u->handle, &back);
   bool done;
   if (elf->is_bare)
     {
-      done = write_file (elf->fd, image, size, NULL, 0);
-      free (image);
+      done = write_file (elf->fd, &w, NULL, 0);
+      free (w.image);
     }
   else
-    done = write_over (elf, image, size);
+    done = write_over (elf, &w);
   if (done)
     clear_flags (elf);
   return done;
