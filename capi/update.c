@@ -212,21 +212,24 @@ end_of_parts (struct update *u)
   return end;
 }
 
-/* Whether an image of a length has no more than so many bytes between its parts. */
+/* Whether an image of a length has no more than so many bytes between its parts, and the file that
+   it is written to no more behind them. */
 static bool
-is_dense (struct update *u, uint64_t length)
+is_dense (struct update *u, uint64_t length, uint64_t size)
 {
   Elf *elf = u->elf;
   uint64_t left = length;
   for (size_t i = 1; i < elf->shnum && left > MOST_FILL; i++)
     {
       GElf_Shdr shdr;
-      if (gelf_getshdr (section_at (elf, i), &shdr) != NULL && shdr.sh_type != SHT_NOBITS)
+      if (gelf_getshdr (section_at (elf, i), &shdr) != NULL && shdr.sh_type != SHT_NULL
+          && shdr.sh_type != SHT_NOBITS)
         left -= shdr.sh_size < left ? shdr.sh_size : left;
     }
-  if (left > MOST_FILL)
-    set_error (E_NOMEM);
-  return left <= MOST_FILL;
+  if (left <= MOST_FILL && (size <= length || size - length <= MOST_FILL))
+    return true;
+  set_error (E_NOMEM);
+  return false;
 }
 
 /* Whether the file of a descriptor may be written. */
@@ -253,7 +256,8 @@ update (struct update *u, bool writes)
   if (!hand_over (u) || !is_given (elfkit_size (&u->handle, &length)) || !take_places (u))
     return -1;
   uint64_t size = u->has_layout ? end_of_parts (u) : u->end;
-  if (writes && (!may_update (u->elf) || !is_dense (u, length) || !write_image (u, length, size)))
+  if (writes
+      && (!may_update (u->elf) || !is_dense (u, length, size) || !write_image (u, length, size)))
     return -1;
   return size;
 }

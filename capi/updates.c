@@ -5,12 +5,19 @@
 
 #include "object.h"
 
+/* Whether data is a program's own, that of elf_newdata. */
+static bool
+is_own (const struct elfkit_data *d)
+{
+  return d->scn != NULL && d != &d->scn->raw && (d->scn->is_made || d != &d->scn->data);
+}
+
 /* The data, with a buffer that may be written: a copy, where it lies in an image that the core
    reads. NULL where there is no memory, or no data. */
 static struct elfkit_data *
 writable (struct elfkit_data *d)
 {
-  if (d == NULL || may_write (d->elf) || d->owned != NULL)
+  if (d == NULL || may_write (d->elf) || d->owned != NULL || is_own (d))
     return d;
   void *copy = malloc (d->d.d_size);
   if (copy == NULL)
@@ -162,6 +169,65 @@ gelf_update_versym (Elf_Data *data, int ndx, GElf_Versym *src)
   if (d == NULL)
     return 0;
   memcpy (at_index (d, ndx), src, sizeof *src);
+  return stored (d);
+}
+
+/* gelf_update_syminfo, gelf_update_lib: items of one form in both classes. */
+static int
+store_item (Elf_Data *data, Elf_Type type, int ndx, const void *src, size_t size)
+{
+  struct elfkit_data *d = writable (item_of (data, type, ndx));
+  if (d == NULL)
+    return 0;
+  memcpy (at_index (d, ndx), src, size);
+  return stored (d);
+}
+
+PUBLIC int
+gelf_update_syminfo (Elf_Data *data, int ndx, GElf_Syminfo *src)
+{
+  return store_item (data, ELF_T_SYMINFO, ndx, src, sizeof *src);
+}
+
+PUBLIC int
+gelf_update_lib (Elf_Data *data, int ndx, GElf_Lib *src)
+{
+  return store_item (data, ELF_T_LIB, ndx, src, sizeof *src);
+}
+
+/* gelf_update_move: a move record. */
+PUBLIC int
+gelf_update_move (Elf_Data *data, int ndx, GElf_Move *src)
+{
+  struct elfkit_data *d = writable (item_of (data, ELF_T_MOVE, ndx));
+  if (d == NULL || !fit (d, src->m_info, src->m_poffset))
+    return 0;
+  if (is_64 (d))
+    memcpy (at_index (d, ndx), src, sizeof *src);
+  else
+    {
+      Elf32_Move x = { .m_value = src->m_value, .m_info = src->m_info,
+                       .m_poffset = src->m_poffset, .m_repeat = src->m_repeat,
+                       .m_stride = src->m_stride };
+      memcpy (at_index (d, ndx), &x, sizeof x);
+    }
+  return stored (d);
+}
+
+/* gelf_update_auxv: an entry of the auxiliary vector. */
+PUBLIC int
+gelf_update_auxv (Elf_Data *data, int ndx, GElf_auxv_t *src)
+{
+  struct elfkit_data *d = writable (item_of (data, ELF_T_AUXV, ndx));
+  if (d == NULL || !fit (d, src->a_type, src->a_un.a_val))
+    return 0;
+  if (is_64 (d))
+    memcpy (at_index (d, ndx), src, sizeof *src);
+  else
+    {
+      Elf32_auxv_t x = { .a_type = src->a_type, .a_un.a_val = src->a_un.a_val };
+      memcpy (at_index (d, ndx), &x, sizeof x);
+    }
   return stored (d);
 }
 
