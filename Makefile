@@ -59,7 +59,7 @@ build/libelfkit.a: crates.txt $(sources)
 
 build/libelf.so.1: build/libelfkit.a $(capi_sources) $(capi_headers) capi/libelf.map
 	$(CC) $(CFLAGS) $(capi_flags) $(capi_link) -o $@ $(capi_sources) build/libelfkit.a \
-	    $(kit)c/liblibc_c.a
+	    $(kit)c/liblibc_c.a -lz
 	ln -sf libelf.so.1 build/libelf.so
 
 test-c: build/libelfkit.a

@@ -14,16 +14,6 @@
 #pragma GCC diagnostic ignored "-Wunused-parameter"
 #pragma GCC diagnostic ignored "-Wredundant-decls"
 
-/* Updates of some items. */
-ABSENT (int, gelf_update_syminfo, (Elf_Data *data, int ndx, GElf_Syminfo *src), 0)
-ABSENT (int, gelf_update_move, (Elf_Data *data, int ndx, GElf_Move *src), 0)
-ABSENT (int, gelf_update_lib, (Elf_Data *data, int ndx, GElf_Lib *src), 0)
-ABSENT (int, gelf_update_auxv, (Elf_Data *data, int ndx, GElf_auxv_t *src), 0)
-
-/* Compression. */
-ABSENT (int, elf_compress, (Elf_Scn *scn, int type, unsigned int flags), -1)
-ABSENT (int, elf_compress_gnu, (Elf_Scn *scn, int compress, unsigned int flags), -1)
-
 /* Others. */
 ABSENT (long int, elf32_checksum, (Elf *elf), -1)
 ABSENT (long int, elf64_checksum, (Elf *elf), -1)

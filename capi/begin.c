@@ -425,12 +425,13 @@ elf_end (Elf *elf)
       struct elfkit_lent back = { NULL, 0 };
       elfkit_end (&elf->handle, &back);
     }
-  for (size_t i = 0; elf->sections != NULL && i < elf->opened; i++)
-    free_pieces (&elf->sections[i]);
-  for (size_t i = elf->opened; i < elf->shnum; i++)
+  for (size_t i = elf->sections == NULL ? elf->opened : 0; i < elf->shnum; i++)
     {
-      free_pieces (section_at (elf, i));
-      free (section_at (elf, i));
+      Elf_Scn *scn = section_at (elf, i);
+      free_pieces (scn);
+      free (scn->shdr);
+      if (i >= elf->opened)
+        free (scn);
     }
   free (elf->added);
   free_chunks (elf);

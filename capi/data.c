@@ -268,7 +268,6 @@ free_chunk (void *chunk)
 void
 free_pieces (Elf_Scn *scn)
 {
-  free (scn->shdr);
   free (scn->data.owned);
   free (scn->raw.owned);
   for (struct elfkit_data *next, *d = scn->data.next; d != NULL; d = next)

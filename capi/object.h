@@ -188,7 +188,11 @@ enum
   E_INVALID_SECTION_TYPE = 44,
   E_INVALID_SECTION_FLAGS,
   E_NOT_COMPRESSED,
-  E_UNSUPPORTED = 51,           /* of this library alone */
+  E_ALREADY_COMPRESSED,
+  E_UNKNOWN_COMPRESSION_TYPE,
+  E_COMPRESS_ERROR,
+  E_DECOMPRESS_ERROR,
+  E_UNSUPPORTED,                /* of this library alone */
   E_COUNT
 };
 
@@ -224,7 +228,7 @@ bool translate (Elf_Type type, unsigned int class, bool to_memory, void *to, con
 /* Makes data that of an image. */
 void tie (struct elfkit_data *d, Elf *elf);
 
-/* Lets go of the chunks of a file, and of the pieces of a section. */
+/* Lets go of the chunks of a file, and of the data of a section. */
 void free_chunks (Elf *elf);
 void free_pieces (Elf_Scn *scn);
 

@@ -1,0 +1,353 @@
+/* compress.c: elf_compress and elf_compress_gnu. The data of a section is replaced by what zlib makes
+   of it, behind a header that says how long it is: a compression header of the gABI, or that of
+   GNU, "ZLIB" and the size in eight bytes, the greatest first. */
+#include <stdlib.h>
+#include <string.h>
+#include <zlib.h>
+
+#include "object.h"
+
+/* The size of GNU's header. */
+enum { GNU_HEADER = 12 };
+
+static int
+refused (int error)
+{
+  set_error (error);
+  return -1;
+}
+
+/* Whether the flags and the section are such that its data may be replaced. */
+static bool
+is_open_to (Elf_Scn *scn, unsigned int flags, GElf_Xword other_flags, GElf_Shdr *shdr)
+{
+  if (flags & ~ELF_CHF_FORCE)
+    set_error (E_INVALID_OPERAND);
+  else if (!is_elf (scn->elf, 0) || gelf_getshdr (scn, shdr) == NULL)
+    return false;
+  else if (shdr->sh_flags & (SHF_ALLOC | other_flags))
+    set_error (E_INVALID_SECTION_FLAGS);
+  else if (shdr->sh_type == SHT_NULL || shdr->sh_type == SHT_NOBITS)
+    set_error (E_INVALID_SECTION_TYPE);
+  else
+    return true;
+  return false;
+}
+
+/* Gives a section these bytes, as they stand in the file, in place of its data; they become its
+   own. False and an error where there is no memory. */
+static bool
+replace_data (Elf_Scn *scn, uint8_t *bytes, size_t size, size_t align, Elf_Type type)
+{
+  Elf *elf = scn->elf;
+  uint8_t *native = bytes;
+  if (elf->order != NATIVE_ORDER && type != ELF_T_BYTE)
+    {
+      native = malloc (size == 0 ? 1 : size);
+      if (native == NULL)
+        set_error (E_NOMEM);
+      if (native == NULL || !translate (type, elf->class, true, native, bytes, size))
+        {
+          free (native);
+          free (bytes);
+          return false;
+        }
+    }
+  free_pieces (scn);
+  const Elf_Data d = { .d_buf = bytes, .d_type = type, .d_version = EV_CURRENT, .d_size = size,
+                       .d_align = align };
+  scn->raw = (struct elfkit_data) { .d = d, .scn = scn, .owned = bytes };
+  scn->data = (struct elfkit_data) { .d = d, .scn = scn };
+  if (native != bytes)
+    scn->data.d.d_buf = scn->data.owned = native;
+  tie (&scn->raw, elf);
+  tie (&scn->data, elf);
+  scn->last = &scn->data;
+  scn->is_made = true;
+  scn->has_end = false;
+  scn->has_raw = scn->has_data = 1;
+  return true;
+}
+
+/* Stores a header, and the bytes that it tells of; 1, or -1 and an error. */
+static int
+replace_section (Elf_Scn *scn, const GElf_Shdr *shdr, uint8_t *bytes, size_t align, Elf_Type type)
+{
+  if (!put_shdr (scn, shdr))
+    {
+      free (bytes);
+      return -1;
+    }
+  return replace_data (scn, bytes, shdr->sh_size, align, type) ? 1 : -1;
+}
+
+/* ---- Compressing */
+
+/* The pieces of a section together: their size, the greatest of their alignments, and how many
+   there are. */
+struct whole
+{
+  size_t size, align, pieces;
+};
+
+static bool
+measure (Elf_Scn *scn, struct whole *w)
+{
+  *w = (struct whole) { 0, 0, 0 };
+  for (Elf_Data *d = elf_getdata (scn, NULL); d != NULL; d = elf_getdata (scn, d))
+    {
+      w->size += d->d_size;
+      w->pieces++;
+      if (d->d_align > w->align)
+        w->align = d->d_align;
+    }
+  return w->pieces > 0;
+}
+
+/* Puts a piece into a stream, in the form that it has in the file. */
+static bool
+put_piece (z_stream *z, const Elf *elf, Elf_Data *d, int flush)
+{
+  uint8_t *bytes = NULL;
+  z->next_in = d->d_buf;
+  z->avail_in = d->d_size;
+  if (elf->order != NATIVE_ORDER && d->d_type != ELF_T_BYTE && d->d_size > 0)
+    {
+      bytes = malloc (d->d_size);
+      if (bytes == NULL)
+        set_error (E_NOMEM);
+      if (bytes == NULL || !translate (d->d_type, elf->class, false, bytes, d->d_buf, d->d_size))
+        {
+          free (bytes);
+          return false;
+        }
+      z->next_in = bytes;
+    }
+  int answer = deflate (z, flush);
+  free (bytes);
+  if (z->avail_in == 0 && answer == (flush == Z_FINISH ? Z_STREAM_END : Z_OK))
+    return true;
+  set_error (E_COMPRESS_ERROR);
+  return false;
+}
+
+/* What zlib makes of the data of a section, behind room for a header; NULL and an error where there
+   is none. */
+static uint8_t *
+deflated (Elf_Scn *scn, size_t header, const struct whole *w, size_t *size)
+{
+  z_stream z = { .next_in = Z_NULL };
+  if (w->size > UINT32_MAX / 2 || deflateInit (&z, Z_BEST_COMPRESSION) != Z_OK)
+    {
+      set_error (E_COMPRESS_ERROR);
+      return NULL;
+    }
+  size_t room = deflateBound (&z, w->size) + 6 * w->pieces;
+  uint8_t *bytes = malloc (header + room);
+  if (bytes == NULL)
+    set_error (E_NOMEM);
+  z.next_out = bytes + header;
+  z.avail_out = room;
+  bool done = bytes != NULL;
+  for (Elf_Data *next, *d = elf_getdata (scn, NULL); done && d != NULL; d = next)
+    {
+      next = elf_getdata (scn, d);
+      done = put_piece (&z, scn->elf, d, next == NULL ? Z_FINISH : Z_NO_FLUSH);
+    }
+  *size = header + room - z.avail_out;
+  deflateEnd (&z);
+  if (done)
+    return bytes;
+  free (bytes);
+  return NULL;
+}
+
+/* What zlib makes of a section where it is to be had: NULL with 0 where that is not shorter, and with
+   -1 and an error where there is none. */
+static uint8_t *
+shortened (Elf_Scn *scn, size_t header, unsigned int flags, struct whole *w, size_t *size,
+           int *answer)
+{
+  const size_t least = 11;      /* what a stream of zlib takes besides */
+  bool is_forced = flags & ELF_CHF_FORCE;
+  *answer = -1;
+  if (!measure (scn, w))
+    return NULL;
+  *answer = 0;
+  if (!is_forced && w->pieces == 1 && w->size <= header + least)
+    return NULL;
+  uint8_t *bytes = deflated (scn, header, w, size);
+  if (bytes == NULL)
+    *answer = -1;
+  else if (!is_forced && *size >= w->size)
+    {
+      free (bytes);
+      return NULL;
+    }
+  return bytes;
+}
+
+/* Compresses a section behind a compression header. */
+static int
+compress_section (Elf_Scn *scn, GElf_Shdr *shdr, unsigned int flags)
+{
+  unsigned int class = scn->elf->class;
+  size_t header = item_size (ELF_T_CHDR, class), size;
+  struct whole w;
+  int answer;
+  if (shdr->sh_flags & SHF_COMPRESSED)
+    return refused (E_ALREADY_COMPRESSED);
+  uint8_t *bytes = shortened (scn, header, flags, &w, &size, &answer);
+  if (bytes == NULL)
+    return answer;
+  if (class == ELFCLASS64)
+    memcpy (bytes, &(Elf64_Chdr) { .ch_type = ELFCOMPRESS_ZLIB, .ch_size = w.size,
+                                   .ch_addralign = shdr->sh_addralign }, header);
+  else
+    memcpy (bytes, &(Elf32_Chdr) { .ch_type = ELFCOMPRESS_ZLIB, .ch_size = w.size,
+                                   .ch_addralign = w.align }, header);
+  if (scn->elf->order != NATIVE_ORDER
+      && !translate (ELF_T_CHDR, class, false, bytes, bytes, size))
+    {
+      free (bytes);
+      return -1;
+    }
+  shdr->sh_size = size;
+  shdr->sh_addralign = item_align (ELF_T_CHDR, class);
+  shdr->sh_flags |= SHF_COMPRESSED;
+  return replace_section (scn, shdr, bytes, 1, ELF_T_CHDR);
+}
+
+/* Compresses a section behind GNU's header. */
+static int
+compress_gnu (Elf_Scn *scn, GElf_Shdr *shdr, unsigned int flags)
+{
+  size_t size;
+  struct whole w;
+  int answer;
+  uint8_t *bytes = shortened (scn, GNU_HEADER, flags, &w, &size, &answer);
+  if (bytes == NULL)
+    return answer;
+  memcpy (bytes, "ZLIB", 4);
+  for (int i = 0; i < 8; i++)
+    bytes[4 + i] = (uint64_t) w.size >> (56 - 8 * i);
+  shdr->sh_size = size;
+  return replace_section (scn, shdr, bytes, 1, ELF_T_BYTE);
+}
+
+/* ---- Taking out */
+
+/* So many bytes that streams of zlib hold, one behind the other; NULL and an error where they hold
+   others. */
+static uint8_t *
+inflated (const uint8_t *from, size_t from_size, uint64_t size)
+{
+  const uint64_t most = 1032;   /* zlib makes nothing smaller by more */
+  if (size / most > from_size || size > UINT32_MAX || from_size > UINT32_MAX)
+    {
+      set_error (E_INVALID_DATA);
+      return NULL;
+    }
+  uint8_t *bytes = malloc (size == 0 ? 1 : size);
+  if (bytes == NULL)
+    {
+      set_error (E_NOMEM);
+      return NULL;
+    }
+  z_stream z = { .next_in = (uint8_t *) from, .avail_in = from_size, .next_out = bytes,
+                 .avail_out = size };
+  int answer = inflateInit (&z);
+  while (z.avail_in > 0 && answer == Z_OK)
+    answer = inflate (&z, Z_FINISH) == Z_STREAM_END ? inflateReset (&z) : Z_DATA_ERROR;
+  bool whole = answer == Z_OK && z.avail_out == 0;
+  inflateEnd (&z);
+  if (whole)
+    return bytes;
+  free (bytes);
+  set_error (E_DECOMPRESS_ERROR);
+  return NULL;
+}
+
+/* Takes the data of a section out that stands behind a compression header. */
+static int
+take_out (Elf_Scn *scn, GElf_Shdr *shdr)
+{
+  GElf_Chdr chdr;
+  if ((shdr->sh_flags & SHF_COMPRESSED) == 0)
+    return refused (E_NOT_COMPRESSED);
+  if (gelf_getchdr (scn, &chdr) == NULL)
+    return -1;
+  if (chdr.ch_type != ELFCOMPRESS_ZLIB)
+    return refused (E_UNKNOWN_COMPRESSION_TYPE);
+  if (chdr.ch_addralign & (chdr.ch_addralign - 1))
+    return refused (E_INVALID_ALIGN);
+  const Elf_Data *d = elf_getdata (scn, NULL);
+  size_t header = item_size (ELF_T_CHDR, scn->elf->class);
+  uint8_t *bytes = inflated ((uint8_t *) d->d_buf + header, d->d_size - header, chdr.ch_size);
+  if (bytes == NULL)
+    return -1;
+  shdr->sh_size = chdr.ch_size;
+  shdr->sh_addralign = chdr.ch_addralign;
+  shdr->sh_flags &= ~(GElf_Xword) SHF_COMPRESSED;
+  return replace_section (scn, shdr, bytes, chdr.ch_addralign, section_type (shdr));
+}
+
+/* The same behind GNU's header. */
+static int
+take_gnu_out (Elf_Scn *scn, GElf_Shdr *shdr)
+{
+  const size_t least = 11;
+  const Elf_Data *d = elf_getdata (scn, NULL);
+  if (d == NULL)
+    return -1;
+  if (d->d_size < GNU_HEADER || memcmp (d->d_buf, "ZLIB", 4) != 0)
+    return refused (E_NOT_COMPRESSED);
+  uint64_t size = 0;
+  for (int i = 0; i < 8; i++)
+    size = size << 8 | ((uint8_t *) d->d_buf)[4 + i];
+  if (size < d->d_size && d->d_size - size > GNU_HEADER + least)
+    return refused (E_NOT_COMPRESSED);
+  uint8_t *bytes = inflated ((uint8_t *) d->d_buf + GNU_HEADER, d->d_size - GNU_HEADER, size);
+  if (bytes == NULL)
+    return -1;
+  shdr->sh_size = size;
+  return replace_section (scn, shdr, bytes, shdr->sh_addralign, section_type (shdr));
+}
+
+/* elf_compress: with ELFCOMPRESS_ZLIB the data of a section is compressed, with 0 taken out. 1 where
+   it is done, 0 where it would not get shorter, unless ELF_CHF_FORCE says that it may. */
+PUBLIC int
+elf_compress (Elf_Scn *scn, int type, unsigned int flags)
+{
+  GElf_Shdr shdr;
+  if (scn == NULL || !is_open_to (scn, flags, 0, &shdr))
+    return -1;
+  switch (type)
+    {
+    case ELFCOMPRESS_ZLIB:
+      return compress_section (scn, &shdr, flags);
+    case 0:
+      return take_out (scn, &shdr);
+    default:
+      return refused (E_UNKNOWN_COMPRESSION_TYPE);
+    }
+}
+
+/* elf_compress_gnu: the same in GNU's form, which the section header does not tell: 1 compresses, 0
+   takes out. */
+PUBLIC int
+elf_compress_gnu (Elf_Scn *scn, int compress, unsigned int flags)
+{
+  GElf_Shdr shdr;
+  if (scn == NULL || !is_open_to (scn, flags, SHF_COMPRESSED, &shdr))
+    return -1;
+  switch (compress)
+    {
+    case 1:
+      return compress_gnu (scn, &shdr, flags);
+    case 0:
+      return take_gnu_out (scn, &shdr);
+    default:
+      return refused (E_UNKNOWN_COMPRESSION_TYPE);
+    }
+}
