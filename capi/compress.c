@@ -1,6 +1,6 @@
-/* compress.c: elf_compress and elf_compress_gnu. The data of a section is replaced by what zlib makes
-   of it, behind a header that says how long it is: a compression header of the gABI, or that of
-   GNU, "ZLIB" and the size in eight bytes, the greatest first. */
+/* compress.c: elf_compress and elf_compress_gnu. The data of a section is replaced by what zlib
+   makes of it, behind a header that says how long it is: a compression header of the gABI, or that
+   of GNU, "ZLIB" and the size in eight bytes, the greatest first. */
 #include <stdlib.h>
 #include <string.h>
 #include <zlib.h>
@@ -162,8 +162,8 @@ deflated (Elf_Scn *scn, size_t header, const struct whole *w, size_t *size)
   return NULL;
 }
 
-/* What zlib makes of a section where it is to be had: NULL with 0 where that is not shorter, and with
-   -1 and an error where there is none. */
+/* What zlib makes of a section where it is to be had: NULL with 0 where that is not shorter, and
+   with -1 and an error where there is none. */
 static uint8_t *
 shortened (Elf_Scn *scn, size_t header, unsigned int flags, struct whole *w, size_t *size,
            int *answer)
@@ -314,8 +314,8 @@ take_gnu_out (Elf_Scn *scn, GElf_Shdr *shdr)
   return replace_section (scn, shdr, bytes, shdr->sh_addralign, section_type (shdr));
 }
 
-/* elf_compress: with ELFCOMPRESS_ZLIB the data of a section is compressed, with 0 taken out. 1 where
-   it is done, 0 where it would not get shorter, unless ELF_CHF_FORCE says that it may. */
+/* elf_compress: with ELFCOMPRESS_ZLIB the data of a section is compressed, with 0 taken out. 1
+   where it is done, 0 where it would not get shorter, unless ELF_CHF_FORCE says that it may. */
 PUBLIC int
 elf_compress (Elf_Scn *scn, int type, unsigned int flags)
 {

@@ -1,6 +1,6 @@
 /* rewriting.c: images with a few bytes changed, and cut short, are changed by a program, laid out
-   and written over their files. What is asked for is refused or done; what was written is opened again
-   with as many sections, and nothing else is looked for but what the sanitizers say.
+   and written over their files. What is asked for is refused or done; what was written is opened
+   again with as many sections, and nothing else is looked for but what the sanitizers say.
 
    usage: rewriting [IMAGES] */
 #define _GNU_SOURCE
