@@ -1,5 +1,7 @@
 /* writing.c: images that are made anew, and images that are changed in place, in both classes and
    both orders: they are laid out, written, and read again. */
+#define _GNU_SOURCE
+#include <sys/mman.h>
 #include <fcntl.h>
 #include <unistd.h>
 
@@ -14,9 +16,8 @@ static const char strings[] = "\0.text\0.shstrtab\0.symtab";
 static int
 file_of (const void *bytes, size_t size)
 {
-  char name[] = "/tmp/elfkit-writing-XXXXXX";
-  int fd = mkstemp (name);
-  if (fd < 0 || unlink (name) != 0 || write (fd, bytes, size) != (ssize_t) size)
+  int fd = memfd_create ("image", 0);
+  if (fd < 0 || write (fd, bytes, size) != (ssize_t) size)
     exit (2);
   return fd;
 }
