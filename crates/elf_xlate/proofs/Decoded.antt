@@ -110,7 +110,7 @@ is_true_some : {X : Type 0} (o : Option X) (x : X) → o ≡ Some x → is_some 
 is_true_some o x e = ap is_some e
 
 -- no bytes are left over
-none_left : (kind : Kind) (class : Class) (len : ℕ) → kind ≢ kinds.Empty → is_whole kind class len ≡ true → len % item_size kind class ≡ 0
+pub none_left : (kind : Kind) (class : Class) (len : ℕ) → kind ≢ kinds.Empty → is_whole kind class len ≡ true → len % item_size kind class ≡ 0
 none_left kinds.Empty class len some whole = absurd (some refl)
 none_left kinds.Bytes class len some whole = eqb-true _ 0 whole
 none_left kinds.Half class len some whole = eqb-true _ 0 whole

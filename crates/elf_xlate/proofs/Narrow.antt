@@ -17,7 +17,7 @@ use Rattle.elf_types.specs.declared.records.Kind.TheVariants as kinds
 use Rattle.elf_xlate.specs.declared.content.Items.{Items}
 use Rattle.elf_xlate.specs.declared.content.Items.TheVariants.{Empty, Bytes, Half, Word, Addr, Sym, Rel, Rela, Dyn}
 use Rattle.elf_xlate.specs.Numbers.{number_at, signed_of}
-use Rattle.elf_xlate.specs.Fields.{field, number_in, fits, fits_signed, IsSigned}
+use Rattle.elf_xlate.specs.Fields.{field, number_in, fits, IsSigned}
 use Rattle.elf_xlate.specs.Items.{item_size, half_of, word_of, addr_of, sym_of, sym_fits, IsSym, type_range, info_fits, signed_width, rel_of, rel_fits, IsRel, rela_of, rela_fits, IsRela, dyn_of, dyn_fits, IsDyn}
 use Rattle.elf_xlate.specs.Translation.{items_of, listed, decoded, first_unfit, AreItems}
 use Rattle.elf_xlate.proofs.Broad.{none_unfit}
@@ -26,6 +26,7 @@ use Rattle.elf_xlate.proofs.Digits.{AreBytes, are_bytes, part_bytes}
 use Rattle.elf_xlate.proofs.EachItem.{below, read_native}
 use Rattle.elf_xlate.proofs.Laid.{lies_in}
 use Rattle.elf_xlate.proofs.Pieces.{all_and_one, all_pass, items_of_more, items_of_none}
+use Rattle.elf_xlate.proofs.Signed.{signed_narrow}
 
 -- ---- Lists of items
 
@@ -80,17 +81,6 @@ info_narrow : (n : ℕ) → n < 2 ^ 32 → info_fits C32 (n / 2 ^ 8) (n % 2 ^ 8)
 info_narrow n h =
     and_from _ _ (lt-ltb (n / 2 ^ 8) (2 ^ 24) (omega arith))
     (lt-ltb (n % 2 ^ 8) (2 ^ 8) (omega arith))
-
--- an addend, and a tag
-signed_narrow : (n : ℕ) → n < 2 ^ 32 → fits_signed C32 (signed_of 4 n) ≡ true
-unfolding signed_of
-signed_narrow n h =
-    elim (cases_lt n (2 ^ 31)) [
-      | inl low ↦ rw (lt-ltb n (2 ^ 31) low) (lt-ltb n (2 ^ 31) low)
-      | inr high ↦
-          let less : pos n -ℤ pos (2 ^ 32) ≡ negsuc (2 ^ 32 - suc n) = omega (arith, ints) in
-          rw (le-ltb n (2 ^ 31) high, less) (lt-ltb (2 ^ 32 - suc n) (2 ^ 31) (omega arith))
-    ]
 
 addr_narrow : (order : Order) → IsOfEach (λ n. fits C32 n ≡ true) (addr_of C32 order) 4
 unfolding addr_of

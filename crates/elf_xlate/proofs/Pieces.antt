@@ -1,6 +1,7 @@
 -- Lists of items of one size.
-use Rattle.std.proofs.Common.{◌≡◌, ℕ, ◌+◌, ◌*◌, ◌<◌, length, get_or, List, [], ◌∷◌, ◌++◌, take, drop, refl, sym, ap, subst, ◌∙◌, inl, inr, ◌≤◌, arith}
-use Rattle.std.proofs.lemmas.List.{take_all, get_or_default}
+use Rattle.std.proofs.Common.{◌≡◌, ℕ, ◌+◌, ◌-◌, ◌*◌, ◌/◌, ◌<◌, length, get_or, List, [], ◌∷◌, ◌++◌, take, drop, refl, sym, ap, subst, ◌∙◌, inl, inr, ◌≤◌, arith}
+use Rattle.std.proofs.Math.Nat.{mul-le-mul_right, div-mul-le_self}
+use Rattle.std.proofs.lemmas.List.{take_all, get_or_default, length-take, length-drop}
 use Rattle.std.proofs.lemmas.List.FromFn.{map-range_with_len_more, length-map-range_with_len}
 use Rattle.std.specs.Prelude.{Some, None, Bool, true, false, not, cond, nat_lt, IsTrue}
 use Rattle.std.specs.List.{All, position_or_len}
@@ -24,6 +25,12 @@ items_of_none item size bytes = refl
 pub length_items_of : {X : Type 0} (item : List ℕ → X) (size count : ℕ) (bytes : List ℕ) → length (items_of item size count bytes) ≡ count
 unfolding items_of
 length_items_of item size count bytes = length-map-range_with_len (λ i. item (take size (drop (i * size) bytes))) 0 count
+
+-- each of them lies in the bytes
+pub within : (len size i : ℕ) → i < len / size → i * size + size ≤ len
+within len size i below =
+    let next : i + 1 ≤ len / size = omega arith in
+    omega (arith, mul-le-mul_right size next, div-mul-le_self len size)
 
 -- one item more of which something holds
 pub all_and_one : {X : Type 0} (P : X → Type 0) (l : List X) (x : X) → All P l → P x → All P (l ++ x ∷ [])
@@ -56,6 +63,28 @@ one_read {X} item InRange fitting size i w bytes l new x so_far is width value r
       fits = all_and_one (λ y. IsTrue (fitting y)) l x so_far.fits fits;
     })
 
+-- an item's bytes are as many as it has
+pub piece_long : (bytes : List ℕ) (size s i : ℕ) → i < length bytes / size → size ≡ s
+    → length (take (i * size + size - i * size) (drop (i * size) bytes)) ≡ s
+piece_long bytes size s i below same =
+    omega (
+      arith,
+      within (length bytes) size i below,
+      same,
+      length-drop (i * size) bytes,
+      length-take (i * size + size - i * size) (drop (i * size) bytes),
+    )
+
+-- all are read
+pub all_read : {X : Type 0} (item : List ℕ → X) (InRange : X → Type 0) (fitting : X → Bool)
+    (size s i : ℕ) (bytes : List ℕ) (l : List X) → AreRead item InRange fitting size i bytes l
+    → size ≡ s → length bytes / size ≤ i → i ≤ length bytes / size
+    → l ≡ items_of item s (length bytes / s) bytes
+all_read item InRange fitting size s i bytes l so_far same high low =
+    let all : i ≡ length bytes / size = omega arith in
+    so_far.value ∙ ap (λ (n : ℕ). items_of item size n bytes) all
+    ∙ ap (λ (n : ℕ). items_of item n (length bytes / n) bytes) same
+
 -- where all pass, none is the first that does not
 pub all_pass : {X : Type 0} (passes : X → Bool) (l : List X) → All (λ x. passes x ≡ true) l → first_not passes l ≡ None
 all_pass passes [] h = refl
@@ -66,9 +95,9 @@ all_pass {X} passes (x ∷ xs) h =
     (λ k low. ap not (All-get_or (λ y. passes y ≡ true) (x ∷ xs) k x low h)) (λ low. absurd (omega (arith, low))) in
     ap (λ (n : ℕ). cond (nat_lt n (length (x ∷ xs))) (Some n) None) none ∙ ap (λ (b : Bool). cond b (Some (length (x ∷ xs))) None) (le-ltb _ _ (omega arith))
 
--- the same of the whole of a list
-pub all_passed : {X : Type 0} (passes : X → Bool) (l : List X) (i : ℕ) → length l ≤ i → All (λ x. passes x ≡ true) (take i l) → first_not passes l ≡ None
-all_passed {X} passes l i whole h = all_pass passes l (subst (λ (m : List X). All (λ x. passes x ≡ true) m) (take_all i l whole) h)
+-- what holds of each of the front of a list that is the whole holds of each
+pub all_of_whole : {X : Type 0} (P : X → Type 0) (l : List X) (i : ℕ) → length l ≤ i → All P (take i l) → All P l
+all_of_whole {X} P l i whole h = subst (λ (m : List X). All P m) (take_all i l whole) h
 
 some_is_not_none : (n : ℕ) → Some n ≡ None → ⊥
 some_is_not_none n e = cc

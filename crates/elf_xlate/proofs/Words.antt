@@ -1,15 +1,11 @@
 -- Words and lemmas that a proof takes together. The value of a word says nothing: what counts is that
 -- a proof that unfolds it unfolds the others.
 use Rattle.std.specs.Prelude.{Bool, true}
-use Rattle.elf_xlate.specs.Numbers.{number_at, signed_of}
-use Rattle.elf_xlate.specs.Fields.{number_in}
 use Rattle.elf_xlate.specs.Headers.{ehdr_of, ehdr_fields, ehdr_fits, phdr_of, phdr_fields, phdr_fits, shdr_of, shdr_fields, shdr_fits}
 use Rattle.elf_xlate.specs.Items.{half_fields, word_fields, addr_fields, sym_of, sym_fields, sym_fits, rel_of, rel_fields, rel_fits, rela_of, rela_fields, rela_fits, dyn_of, dyn_fields, dyn_fits}
-use Rattle.elf_xlate.specs.Translation.{decoded, encoded, first_unfit}
+use Rattle.elf_xlate.specs.Translation.{encoded, first_unfit}
 use Rattle.elf_xlate.proofs.Signed.{passed_on}
 use Rattle.elf_xlate.proofs.Tables.{rela_laid, dyn_laid}
-use Rattle.elf_xlate.proofs.Pieces.{all_pass}
-use Rattle.elf_xlate.proofs.Decoded.{listed_whole}
 
 -- the ELF header
 unfoldable pub ehdr : Bool
@@ -61,20 +57,12 @@ unfoldable pub addr : Bool
 unfolding addr_fields
 addr = true
 
--- the number of a field
-unfoldable pub number : Bool
-unfolding number_in number_at signed_of
-number = true
-
--- the items of a section
+-- the items of a section, written
 unfoldable pub items : Bool
-unfolding decoded encoded first_unfit
+unfolding encoded first_unfit
 items = true
 
 -- a record with a signed field is written
 pub ruleset put_rela = (rela_laid, passed_on)
 
 pub ruleset put_dyn = (dyn_laid, passed_on)
-
--- whole items are read
-pub ruleset items_read = (listed_whole, all_pass)

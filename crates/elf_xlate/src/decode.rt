@@ -60,7 +60,6 @@ fn is_whole(kind: Kind, class: Class, len: usize) -> bool
 }
 
 /// The items of whole bytes in a byte order and a class that are types.
-#[tactic(auto, using(crate::proofs::Words::items_read), unfolding(crate::proofs::Words::items))]
 fn decode_items<T: Endian, const WIDE: bool>(
     alloc: Global,
     kind: Kind,
@@ -86,7 +85,6 @@ fn decode_items<T: Endian, const WIDE: bool>(
 }
 
 /// The items of a list of whole items. It refuses `Memory` alone.
-#[tactic(auto, using(crate::proofs::Pieces::length_items_of))]
 pub fn decode_list<C: Codec<R>, R: Drop>(alloc: Global, bytes: &[u8]) -> Result<List<R>, ElfError>
     requires { length bytes.now % C.size ≡ 0 }
     ensures ok { IfOk result (λ l.

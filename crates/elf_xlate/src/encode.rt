@@ -1,6 +1,6 @@
 //! From the memory form to the file form.
 
-ghost use Rattle.std.specs.Prelude.{◌≡◌, ◌≤◌, ◌-◌, ◌*◌, ◌%◌, ◌++◌, length, map, take, IsTrue, OnOk, OnErr, IfErr, None};
+ghost use Rattle.std.specs.Prelude.{◌≡◌, ◌≤◌, ◌-◌, ◌*◌, ◌%◌, ◌^◌, ◌++◌, length, map, take, IsTrue, OnOk, OnErr, IfErr, None};
 ghost use Rattle.std.specs.List.{All, flat_map};
 ghost use Rattle.elf_types.specs.Answers.{answered, FollowsBy};
 ghost use Rattle.elf_xlate.specs.declared.failure.XlateError.TheVariants.{Memory};
@@ -13,7 +13,7 @@ use crate::failure::XlateError;
 use crate::fitting::unfit;
 use crate::records::{Codec, Form};
 use byteorder::{BigEndian, LittleEndian};
-use elf_types::{Class, Dyn, ElfError, Octets, Order, Rel, Rela, Sym};
+use elf_types::{Class, Dyn, Octets, Order, Rel, Rela, Sym};
 
 /// Appends the file form of items. It refuses in this order: `Unfit` with the index of the first
 /// item that does not fit the class, exactly where there is one, then `Memory`. After a refusal
@@ -43,8 +43,11 @@ pub fn to_file(
     }
 }
 
-/// Appends the bytes of items, each of which is tested as it is written, in one pass. Where it
-/// answers false, one does not fit or there is no memory, and there may be bytes of some.
+/// The most bytes of items that are written at a time.
+const AT_ONCE: usize = 1024;
+
+/// Appends the bytes of items, which are tested and written some at a time. Where it answers false,
+/// one does not fit or there is no memory, and there may be bytes of some.
 #[tactic(auto, unfolding(crate::proofs::Words::items))]
 fn encode_items<T: Endian, const WIDE: bool>(items: &Items, out: &mut Octets) -> bool
     ensures fits { IsTrue result → first_unfit (class_of WIDE) items.now ≡ None }
@@ -54,13 +57,13 @@ fn encode_items<T: Endian, const WIDE: bool>(items: &Items, out: &mut Octets) ->
     match items {
         Items::Empty => true,
         Items::Bytes(l) => append_bytes(l.as_slice(), out),
-        Items::Half(l) => encode_list::<Form<T, WIDE>, u16>(l.as_slice(), out),
-        Items::Word(l) => encode_list::<Form<T, WIDE>, u32>(l.as_slice(), out),
-        Items::Addr(l) => encode_list::<Form<T, WIDE>, u64>(l.as_slice(), out),
-        Items::Sym(l) => encode_list::<Form<T, WIDE>, Sym>(l.as_slice(), out),
-        Items::Rel(l) => encode_list::<Form<T, WIDE>, Rel>(l.as_slice(), out),
-        Items::Rela(l) => encode_list::<Form<T, WIDE>, Rela>(l.as_slice(), out),
-        Items::Dyn(l) => encode_list::<Form<T, WIDE>, Dyn>(l.as_slice(), out),
+        Items::Half(l) => encode_list::<Form<T, WIDE>, u16, AT_ONCE>(l.as_slice(), out),
+        Items::Word(l) => encode_list::<Form<T, WIDE>, u32, AT_ONCE>(l.as_slice(), out),
+        Items::Addr(l) => encode_list::<Form<T, WIDE>, u64, AT_ONCE>(l.as_slice(), out),
+        Items::Sym(l) => encode_list::<Form<T, WIDE>, Sym, AT_ONCE>(l.as_slice(), out),
+        Items::Rel(l) => encode_list::<Form<T, WIDE>, Rel, AT_ONCE>(l.as_slice(), out),
+        Items::Rela(l) => encode_list::<Form<T, WIDE>, Rela, AT_ONCE>(l.as_slice(), out),
+        Items::Dyn(l) => encode_list::<Form<T, WIDE>, Dyn, AT_ONCE>(l.as_slice(), out),
     }
 }
 
@@ -73,8 +76,10 @@ fn append_bytes(bytes: &[u8], out: &mut Octets) -> bool
     out.extend(bytes).is_ok()
 }
 
-/// Appends the bytes of a list.
-fn encode_list<C: Codec<R>, R: Copy>(items: &[R], out: &mut Octets) -> bool
+/// Appends the bytes of a list, of at most `N` bytes at a time.
+fn encode_list<C: Codec<R>, R: Copy, const N: usize>(items: &[R], out: &mut Octets) -> bool
+    requires least { 64 ≤ N }
+    requires most { N ≤ 2 ^ 16 }
     ensures fits { IsTrue result → first_not C.fitting items.now ≡ None }
     ensures bytes { IsTrue result → out.new ≡ out.old ++ flat_map C.bytes_of items.now }
     ensures front { take (length out.old) out.new ≡ out.old }
@@ -83,46 +88,67 @@ fn encode_list<C: Codec<R>, R: Copy>(items: &[R], out: &mut Octets) -> bool
     if let Err(_) = out.reserve((items.len() as u64).saturating_mul(size as u64)) {
         return false;
     }
-    let zeros = [0; 64];
-    encode_each::<C, R>(items, &zeros[..size], out)
+    let zeros = [0; N];
+    encode_each::<C, R>(items, &zeros, out)
 }
 
-/// Appends the bytes of each item of a list. An item is read whole before anything is written, so
-/// that the compiler, which can't tell that the two do not overlap, needn't keep the order of reads
-/// and writes.
+/// Appends the bytes of each item of a list, as many items at a time as have the bytes of `zeros`.
 fn encode_each<C: Codec<R>, R: Copy>(items: &[R], zeros: &[u8], out: &mut Octets) -> bool
-    requires { length zeros.now ≡ C.size }
+    requires { 64 ≤ length zeros.now }
     ensures fits { IsTrue result → first_not C.fitting items.now ≡ None }
     ensures bytes { IsTrue result → out.new ≡ out.old ++ flat_map C.bytes_of items.now }
     ensures front { take (length out.old) out.new ≡ out.old }
 {
-    for item in items {
-        let item = *item;
-        if !C::fits(&item) {
+    let size = C::file_size();
+    let most = zeros.len() / size;
+    let mut rest = items;
+    while !rest.is_empty() {
+        let count = rest.len().min(most);
+        let (some, others) = rest.split_at(count);
+        let len = size * count;
+        let blank = &zeros[..len];
+        if !append_items::<C, R>(some, blank, out) {
             return false;
         }
-        if let Err(_) = append_item::<C, R>(&item, zeros, out) {
-            return false;
-        }
+        rest = others;
     }
     true
 }
 
-/// Appends the bytes of an item. They are written where they stay, over as many zeros: what is
+/// Appends the bytes of items. They are written where they stay, over as many zeros: what is
 /// written to a buffer in narrow pieces and copied from it in broad ones makes the processor wait.
-/// The place is found from the end, where the compiler sees that it is that of the zeros, and
-/// writes none.
-fn append_item<C: Codec<R>, R>(item: &R, zeros: &[u8], out: &mut Octets) -> Result<(), ElfError>
-    requires size { length zeros.now ≡ C.size }
-    requires fits { IsTrue (C.fitting item.now) }
-    ensures ok { OnOk result (out.new ≡ out.old ++ C.bytes_of item.now) }
-    ensures unchanged { OnErr result (out.new ≡ out.old) }
+fn append_items<C: Codec<R>, R: Copy>(items: &[R], zeros: &[u8], out: &mut Octets) -> bool
+    requires { length zeros.now ≡ C.size * length items.now }
+    ensures fits { IsTrue result → All (λ x. IsTrue (C.fitting x)) items.now }
+    ensures bytes { IsTrue result → out.new ≡ out.old ++ flat_map C.bytes_of items.now }
+    ensures front { take (length out.old) out.new ≡ out.old }
 {
-    out.extend(zeros)?;
+    if let Err(_) = out.extend(zeros) {
+        return false;
+    }
     let place = out.len() as usize - zeros.len();
     let (_, room) = out.as_mut_slice().split_at_mut(place);
-    C::encode(item, room);
-    Ok(())
+    put_fitting::<C, R>(items, room)
+}
+
+/// Writes the bytes of the items of a list, if each fits its fields. An item is read whole before
+/// anything is written, so that the compiler, which can't tell that the two do not overlap, needn't
+/// keep the order of reads and writes.
+fn put_fitting<C: Codec<R>, R: Copy>(items: &[R], out: &mut [u8]) -> bool
+    requires { length out.old ≡ C.size * length items.now }
+    ensures fits { IsTrue result → All (λ x. IsTrue (C.fitting x)) items.now }
+    ensures bytes { IsTrue result → out.new ≡ flat_map C.bytes_of items.now }
+{
+    let size = C::file_size();
+    for (i, item) in items.iter().enumerate() {
+        let item = *item;
+        if !C::fits(&item) {
+            return false;
+        }
+        let place = i * size;
+        C::encode(&item, &mut out[place..place + size]);
+    }
+    true
 }
 
 /// Writes the file form of the items from the index `from` on and before the index `to`. They are

@@ -63,17 +63,28 @@ pub fn get_native<T: Endian, const WIDE: bool>(bytes: &[u8], narrow: usize, broa
 
 /// The signed number at a place of the class: of four bytes in class 32, of eight in class 64.
 #[inline(always)]
-#[tactic(auto, unfolding(crate::proofs::Words::number))]
 pub fn get_signed<T: Endian, const WIDE: bool>(bytes: &[u8], narrow: usize, broad: usize) -> i64
     requires { (if WIDE then broad + 8 else narrow + 4) ≤ length bytes.now }
     ensures fits { IsTrue (fits_signed (class_of WIDE) result) }
     ensures value { result ≡ signed_of (signed_width (class_of WIDE))
         (number_in (class_of WIDE) T.order bytes.now (field (narrow, 4) (broad, 8))) }
 {
+    signed::<WIDE>(get_native::<T, WIDE>(bytes, narrow, broad))
+}
+
+/// The signed number for which a number of the class stands: one of four bytes in class 32, of
+/// eight in class 64.
+#[inline(always)]
+fn signed<const WIDE: bool>(n: u64) -> i64
+    requires { IsTrue (fits (class_of WIDE) n) }
+    ensures fits { IsTrue (fits_signed (class_of WIDE) result) }
+    ensures value { result ≡ signed_of (signed_width (class_of WIDE)) n }
+{
     if WIDE {
-        T::read_i64(&bytes[broad..])
+        n.cast_signed()
     } else {
-        i64::from(T::read_i32(&bytes[narrow..]))
+        let narrow = (n as u32).cast_signed();
+        i64::from(narrow)
     }
 }
 
