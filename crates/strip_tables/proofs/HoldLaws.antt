@@ -1,20 +1,17 @@
 -- What is held of rows, some of them after others, and what is asked for.
 use Rattle.std.proofs.Common.{◌≡◌, ◌+◌, ◌-◌, ◌*◌, ◌/◌, ◌<◌, ◌≤◌, ◌^◌, ℕ, Bool, List, [], ◌++◌, None, Result, Ok, Err, refl, sym, ap, ◌∙◌, subst, append_assoc, arith}
-use Rattle.std.specs.Prelude.{IsTrue, OnOk, IfErr, min}
+use Rattle.std.specs.Prelude.{IsTrue, min}
 use Rattle.std.proofs.lemmas.Nat.{mul-le}
 use Rattle.std.proofs.lemmas.List.{append-nil}
-use Rattle.std.proofs.lemmas.Result.{on_ok_weaker}
 use Rattle.elf_types.specs.declared.records.Class.{Class}
-use Rattle.elf_types.specs.declared.records.Order.{Order}
 use Rattle.elf_types.specs.declared.records.Kind.TheVariants as kinds
 use Rattle.elf_types.specs.declared.records.Sym.{Sym}
 use Rattle.elf_types.specs.declared.errors.ElfError.{ElfError}
 use Rattle.elf_types.specs.declared.errors.ElfError.TheVariants.{Memory}
 use Rattle.elf_outside.specs.declared.sources.Source.{Ghosts}
-use Rattle.elf_xlate.specs.declared.content.Items.{Items}
 use Rattle.elf_xlate.specs.declared.content.Items.TheVariants as items
 use Rattle.elf_xlate.specs.Items.{item_size}
-use Rattle.elf_xlate.specs.Translation.{encoded, first_unfit, between}
+use Rattle.elf_xlate.specs.Translation.{encoded, first_unfit}
 use Rattle.elf_object.specs.Object.{Object}
 use Rattle.elf_descriptor.specs.State.{State}
 use Rattle.command_objects.specs.Followed.{Renumbering, followed_syms}
@@ -23,9 +20,8 @@ use Rattle.strip_rebuild.proofs.AskLaws.{asks_stop, asks_more, asks_nothing, ask
 use Rattle.strip_rebuild.proofs.FitLaws.{followed_fit}
 use Rattle.strip_tables.specs.declared.rows.TableAt.{TableAt}
 use Rattle.strip_tables.specs.declared.rows.FollowedRows.{FollowedRows}
-use Rattle.strip_tables.specs.Rows.{AreInBase, syms_in_base, words_in_base, made_of_rows, rows_made, rows_made_between, row_count, items_within, rows_due, tables_due, HoldsMade}
+use Rattle.strip_tables.specs.Rows.{AreInBase, rows_made, rows_made_between, row_count, items_within, rows_due, tables_due, HoldsMade}
 use Rattle.strip_tables.proofs.PieceLaws.{sizes_add}
-use Rattle.strip_tables.proofs.ReadLaws.{asked_then}
 use Rattle.strip_tables.proofs.FollowLaws.{form_to, form_none, form_more, form_all}
 
 -- ---- What fits
@@ -41,13 +37,6 @@ made_syms_fit class m words syms made fits is =
 pub made_words_fit : (class : Class) (l : List ℕ) → first_unfit class (items.Word l) ≡ None
 unfolding first_unfit
 made_words_fit class l = refl
-
--- the same items in the same form
-pub form_same : (class : Class) (order : Order) (old new : List ℕ) (made stated : Items)
-    → made ≡ stated → new ≡ old ++ encoded class order made
-    → new ≡ old ++ encoded class order stated
-form_same class order old new made stated same put =
-    put ∙ ap (λ (x : Items). old ++ encoded class order x) same
 
 -- ---- Numbers
 
@@ -140,34 +129,6 @@ module _ {S : Type 0} (g : Ghosts S) (m : Renumbering) (x : FollowedRows) (from 
     syms_refused {T} {U} e asks =
         asks_stop g {T = T} {U = U} e old new (rows_due x from to)
         (asks_twice g {U = T} (Ok words) (Err e) old mid new words_due syms_due first asks)
-
-    module _ (syms : List Sym) (second : AsksFor {T = List Sym} g (Ok syms) mid new syms_due)
-        (q : Result (Unit {0}) ElfError) where
-      pub both_asked : IfErr q (λ e. e ≡ Memory) → AsksFor g q old new (rows_due x from to)
-      both_asked only =
-          asked_then g syms q old new (rows_due x from to) only
-          (asks_twice g (Ok words) (Ok syms) old mid new words_due syms_due first second)
-
-      pub some_held : (held next ws : List ℕ) (ss : List Sym)
-          → (IsTrue old.told → words ≡ between from to (words_in_base old.o.base x))
-          → (IsTrue mid.told → syms ≡ between from to (syms_in_base mid.o.base x))
-          → ws ≡ words → ss ≡ syms
-          → OnOk q (next ≡ held ++ encoded x.class x.order (made_of_rows m x.indexes ws ss))
-          → OnOk q (HoldsMade old.told
-          (encoded x.class x.order (rows_made_between m old.o.base x from to)) held next)
-      some_held held next ws ss words_are syms_are words_at syms_at put =
-          on_ok_weaker q (λ all. record {
-            added = encoded x.class x.order (made_of_rows m x.indexes ws ss);
-            all = all;
-            is = λ t.
-                ap (λ (l : List ℕ). encoded x.class x.order (made_of_rows m x.indexes l ss))
-                (words_at ∙ words_are t)
-                ∙ ap (λ (l : List Sym). encoded x.class x.order
-                (made_of_rows m x.indexes (between from to (words_in_base old.o.base x)) l))
-                (syms_at
-                ∙ syms_are (subst (λ (b : Bool). IsTrue b) (sym first.told) t)
-                ∙ ap (λ (o : Object). between from to (syms_in_base o.base x)) first.object);
-          }) put
 
 -- ---- One step after another
 

@@ -1,28 +1,21 @@
--- What is read of rows: the bytes, the items that they hold, and what is asked for.
-use Rattle.std.proofs.Common.{◌≡◌, ◌⊎◌, ◌+◌, ◌*◌, ◌<◌, ◌≤◌, ℕ, List, length, take, drop, Option, Some, None, Result, Ok, Err, inl, refl, sym, ap, ◌∙◌, subst, arith}
-use Rattle.std.specs.Prelude.{IfErr, is_none, min}
+-- What is read of rows: the bytes, and the items that they hold.
+use Rattle.std.proofs.Common.{◌≡◌, ◌+◌, ◌*◌, ◌<◌, ◌≤◌, ℕ, List, length, take, drop, Option, Some, None, refl, ap, ◌∙◌, arith}
+use Rattle.std.specs.Prelude.{is_none, min}
 use Rattle.std.specs.Option.{option_map}
-use Rattle.std.proofs.lemmas.Result.{IfErr-weaker}
 use Rattle.elf_types.specs.declared.records.Class.{Class}
 use Rattle.elf_types.specs.declared.records.Order.{Order}
 use Rattle.elf_types.specs.declared.records.Kind.{Kind}
 use Rattle.elf_types.specs.declared.records.Kind.TheVariants as kinds
 use Rattle.elf_types.specs.declared.records.Sym.{Sym}
-use Rattle.elf_types.specs.declared.errors.ElfError.{ElfError}
-use Rattle.elf_types.specs.declared.errors.ElfError.TheVariants.{Memory, Read, Ragged}
+use Rattle.elf_types.specs.declared.errors.ElfError.TheVariants.{Ragged}
 use Rattle.elf_types.specs.Answers.{refused_if}
-use Rattle.elf_outside.specs.declared.sources.Source.{Ghosts}
-use Rattle.elf_outside.specs.Asks.{Asks, ReadRose}
 use Rattle.elf_xlate.specs.declared.content.Items.{Items}
 use Rattle.elf_xlate.specs.declared.content.Items.TheVariants as items
 use Rattle.elf_xlate.specs.Items.{item_size, word_of, sym_of}
 use Rattle.elf_xlate.specs.Translation.{decoded, listed, items_of, between}
 use Rattle.elf_xlate.proofs.ListedItems.{word_decoded, sym_decoded, word_sized, sym_sized}
 use Rattle.elf_object.specs.Answers.{words_of, syms_of}
-use Rattle.elf_descriptor.specs.State.{State}
 use Rattle.strip_rebuild.specs.Homes.{or_empty_items, decoded_items, decoded_refusal}
-use Rattle.strip_rebuild.specs.Makes.{AsksFor}
-use Rattle.strip_rebuild.proofs.AskLaws.{asks_as}
 use Rattle.strip_tables.specs.declared.rows.TableAt.{TableAt}
 use Rattle.strip_tables.specs.declared.rows.FollowedRows.{FollowedRows}
 use Rattle.strip_tables.specs.Rows.{LieInBase, items_within, syms_in_base, words_in_base}
@@ -141,35 +134,3 @@ module _ (x : FollowedRows) (from to : ℕ) (base slice bytes : List ℕ) where
   syms_read l in_order inside at read is =
       items_read as_syms x.class x.order x.syms from to base slice bytes l in_order inside at
       read is
-
--- ---- What is asked for
-
-module _ {S : Type 0} (g : Ghosts S) where
-  -- what is asked of the source alone
-  pub base_asked : {T : Type 0} (r : Result T ElfError) (old new : State S) (n : ℕ)
-      → Asks g r old.source new.source n → new ≡ record old { source = new.source }
-      → AsksFor g r old new n
-  base_asked r old new n asks stays = record {
-    object = ap (λ (s : State S). s.o) stays;
-    told = ap (λ (s : State S). s.told) stays;
-    source = asks;
-  }
-
-  memory_rose : {U : Type 0} (q : Result U ElfError) (a b : ℕ) → IfErr q (λ e. e ≡ Memory)
-      → ReadRose q a b
-  memory_rose (Ok y) a b only = tt
-  memory_rose {U} (Err e) a b only =
-      subst (λ (d : ElfError). ReadRose {T = U} (Err d) a b) (sym only) tt
-
-  -- a step behind it that wants memory at most
-  pub asked_then : {T U : Type 0} (x : T) (q : Result U ElfError) (old new : State S) (n : ℕ)
-      → IfErr q (λ e. e ≡ Memory) → AsksFor {T = T} g (Ok x) old new n → AsksFor g q old new n
-  asked_then x q old new n only is =
-      asks_as g (Ok x) q old new n
-      (memory_rose q (g.faults old.source) (g.faults new.source) only) is
-
--- want of memory is one of two refusals
-pub memory_or_read : {U : Type 0} (q : Result U ElfError) → IfErr q (λ e. e ≡ Memory)
-    → IfErr q (λ e. (e ≡ Memory) ⊎ (e ≡ Read))
-memory_or_read q only =
-    IfErr-weaker q (λ e. e ≡ Memory) (λ e. (e ≡ Memory) ⊎ (e ≡ Read)) (λ e is. inl is) only

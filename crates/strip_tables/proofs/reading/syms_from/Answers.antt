@@ -16,5 +16,6 @@ returns-in-Ok-clause-ok c =
 
 pub returns-in-Ok-clause-fits : goal.returns-in-Ok-clause-fits
 returns-in-Ok-clause-fits c =
-    subst (λ (l : List Sym). first_unfit c.args.class (items.Sym l) ≡ None) (sym c.syms_among.ensures)
+    subst (λ (l : List Sym). first_unfit c.args.class (items.Sym l) ≡ None)
+    (sym c.syms_among.ensures)
     (among_fit c.args.class c.in-Ok.items c.in-Ok.ensures.fits)

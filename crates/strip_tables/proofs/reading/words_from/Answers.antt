@@ -7,5 +7,5 @@ use Rattle.strip_tables.proofs.reading.words_from.Goals as goal
 pub returns-in-Ok-clause-ok : goal.returns-in-Ok-clause-ok
 returns-in-Ok-clause-ok c =
     c.words_among.ensures
-    ∙ ap words_of (decodes_value 0 kinds.Word c.args.class c.args.order c.args.bytes.now c.in-Ok.items
-    c.in-Ok.ensures.answer c.in-Ok.ensures.fits).items_are
+    ∙ ap words_of (decodes_value 0 kinds.Word c.args.class c.args.order c.args.bytes.now
+    c.in-Ok.items c.in-Ok.ensures.answer c.in-Ok.ensures.fits).items_are
