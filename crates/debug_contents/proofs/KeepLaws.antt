@@ -1,7 +1,8 @@
 -- What the debug half has of sections, one after another.
-use Rattle.std.proofs.Common.{◌≡◌, ◌+◌, ◌-◌, ◌<◌, ◌≤◌, ℕ, List, [], ◌∷◌, length, map, take, get_or, take_all, Option, None, Result, Ok, Err, refl, sym, ap, ◌∙◌, subst}
-use Rattle.std.specs.Prelude.{All, IfErr, OnOk}
+use Rattle.std.proofs.Common.{◌≡◌, ◌+◌, ◌-◌, ◌<◌, ◌≤◌, ℕ, List, [], ◌∷◌, length, map, take, get_or, take_all, Option, None, Result, Ok, Err, refl, sym, ap, ◌∙◌, subst, arith}
+use Rattle.std.specs.Prelude.{IfErr, OnOk}
 use Rattle.std.proofs.lemmas.List.{take_more}
+use Rattle.std.proofs.lemmas.List.FromFn.{length-range_with_len, get_or-range_with_len, length-map-range_with_len}
 use Rattle.elf_types.specs.Answers.{first_refusal, answered}
 use Rattle.elf_types.specs.declared.records.Shdr.{Shdr}
 use Rattle.elf_types.specs.declared.errors.ElfError.{ElfError}
@@ -10,23 +11,21 @@ use Rattle.elf_object.specs.Object.{Object}
 use Rattle.elf_object.specs.Calls.{newphdr_refusal}
 use Rattle.elf_object.specs.Layout.{section_numbers}
 use Rattle.elf_object.specs.Valid.{IsObject}
-use Rattle.std.proofs.lemmas.List.FromFn.{length-map-range_with_len}
 use Rattle.elf_descriptor.specs.State.{State}
 use Rattle.update_plan.proofs.PlacingLaws.{passed_from}
 use Rattle.command_objects.specs.Rebuilt.{index_refusal}
 use Rattle.command_objects.specs.Split.{debug_section, debug_sections, debug_raw_refusal, debug_refusal}
 use Rattle.object_making.specs.Refused.{RefusedBy}
+use Rattle.object_making.proofs.AddLaws.{newphdr_states}
 use Rattle.object_making.proofs.RefusedLaws.{alone, passes_first, refused_first, refused_later, refused_as, answer_refused, passed_more, passed_all}
 use Rattle.image_ranges.specs.declared.ranges.ByteRange.{ByteRange}
 use Rattle.strip_rebuild.proofs.FillLaws.{none_passed}
-use Rattle.strip_rebuild.proofs.NumberLaws.{kept_few, numbers_all}
 use Rattle.strip_contents.specs.declared.contents.Contents.{Contents}
 use Rattle.strip_contents.specs.Checks.{index_beyond}
 use Rattle.strip_contents.specs.Contents.{HasOneMore, IsPutBehind, AreKept, HasFirst}
 use Rattle.strip_contents.proofs.CheckLaws.{index_is, index_states}
 use Rattle.strip_contents.proofs.KeepingLaws.{kept_more, none_has, some_has}
 use Rattle.strip_contents.proofs.StopLaws.{refused_stop}
-use Rattle.strip_contents.proofs.WholeLaws.{segments_state}
 use Rattle.debug_half.specs.Half.{half_header}
 use Rattle.debug_contents.specs.Ranges.{half_bytes, FindsHalf}
 use Rattle.debug_contents.specs.Keeping.{AddsHalf, AddsHalves, ListsHalf, KeepsHalf}
@@ -54,58 +53,84 @@ module _ {S : Type 0} (s : State S) (n : ℕ) (contents next : Contents) where
 
 -- ---- One after another
 
--- so many are added
-pub record HalfKept {S : Type 0} (s : State S) (numbers : List ℕ) (x : Contents) (i : ℕ)
-    : Type 0 where
-  pub passed : first_refusal (map (debug_raw_refusal s.o) (take i numbers)) ≡ None
-  pub kept : AreKept s.told s.o.base (half_header s.o) (half_bytes s.o) (take i numbers) x
+numbers_long : (o : Object) → length (section_numbers o) ≡ length o.sections - 1
+numbers_long o = length-range_with_len 1 (length o.sections - 1)
 
-module _ {S : Type 0} (s : State S) (numbers : List ℕ) where
-  pub halves_none : (x : Contents) → HasFirst x → HalfKept s numbers x 0
+-- the sections from 1 on and below a number are added
+pub record HalfKept {S : Type 0} (s : State S) (x : Contents) (n : ℕ) : Type 0 where
+  pub passed : first_refusal (map (debug_raw_refusal s.o) (take (n - 1) (section_numbers s.o)))
+      ≡ None
+  pub kept : AreKept s.told s.o.base (half_header s.o) (half_bytes s.o)
+      (take (n - 1) (section_numbers s.o)) x
+
+module _ {S : Type 0} (s : State S) where
+  abbrev numbers : List ℕ
+  numbers = section_numbers s.o
+
+  pub halves_none : (x : Contents) → HasFirst x → HalfKept s x 1
   halves_none x first = record {
     passed = refl;
     kept = first s.told s.o.base (half_header s.o) (half_bytes s.o);
   }
 
-  module _ (x : Contents) (i : ℕ) (so_far : HalfKept s numbers x i) (there : i < length numbers)
-    where
-      pub half_there : All (λ n. n < length s.o.sections) numbers
-          → get_or numbers i 0 < length s.o.sections
-      half_there all = all i 0 there
+  module _ (x : Contents) (n : ℕ) (so_far : HalfKept s x n) (from : 1 ≤ n)
+      (below : n < length s.o.sections) where
+    there : n - 1 < length numbers
+    there = let long = numbers_long s.o in omega (arith, long, from, below)
 
-      pub halves_more : (y : Contents) → AddsHalf s (get_or numbers i 0) (Ok tt) x y
-          → HalfKept s numbers y (i + 1)
-      halves_more y adds = record {
-        passed = passed_more (debug_raw_refusal s.o) numbers i there so_far.passed adds.passed;
-        kept = subst (λ (l : List ℕ).
-            AreKept s.told s.o.base (half_header s.o) (half_bytes s.o) l y)
-            (sym (take_more numbers i 0 there))
-            (kept_more s.told s.o.base (half_header s.o) (half_bytes s.o) (take i numbers)
-            (get_or numbers i 0) x y so_far.kept adds.ok);
+    number_is : get_or numbers (n - 1) 0 ≡ n
+    number_is =
+        let inside : n - 1 < length s.o.sections - 1 = omega (arith, from, below) in
+        let sum : 1 + (n - 1) ≡ n = omega (arith, from) in
+        get_or-range_with_len 1 (length s.o.sections - 1) (n - 1) 0 inside ∙ sum
+
+    next_is : n - 1 + 1 ≡ n + 1 - 1
+    next_is = omega (arith, from)
+
+    pub halves_more : (y : Contents) → AddsHalf s n (Ok tt) x y → HalfKept s y (n + 1)
+    halves_more y adds = record {
+      passed = subst (λ (i : ℕ).
+          first_refusal (map (debug_raw_refusal s.o) (take i numbers)) ≡ None) next_is
+          (passed_more (debug_raw_refusal s.o) numbers (n - 1) there so_far.passed
+          (ap (debug_raw_refusal s.o) number_is ∙ adds.passed));
+      kept = subst (λ (i : ℕ).
+          AreKept s.told s.o.base (half_header s.o) (half_bytes s.o) (take i numbers) y) next_is
+          (subst (λ (l : List ℕ).
+          AreKept s.told s.o.base (half_header s.o) (half_bytes s.o) l y)
+          (sym (take_more numbers (n - 1) 0 there))
+          (kept_more s.told s.o.base (half_header s.o) (half_bytes s.o) (take (n - 1) numbers)
+          (get_or numbers (n - 1) 0) x y so_far.kept
+          (subst (λ (k : ℕ).
+          HasOneMore s.told s.o.base (half_header s.o k) (half_bytes s.o k) x y)
+          (sym number_is) adds.ok)));
+    }
+
+    pub halves_stop : (e : ElfError) (y z : Contents) → AddsHalf s n (Err e) x y
+        → AddsHalves s (Err e) z
+    halves_stop e y z adds = record {
+      ok = tt;
+      passed = tt;
+      err = refused_stop (debug_raw_refusal s.o) numbers (n - 1) e there so_far.passed
+          (subst (λ (k : ℕ). RefusedBy (debug_raw_refusal s.o k) e) (sym number_is) adds.err);
+    }
+
+  pub halves_all : (x : Contents) (n : ℕ) → HalfKept s x n → length s.o.sections ≤ n
+      → AddsHalves s (Ok tt) x
+  halves_all x n so_far all =
+      let long = numbers_long s.o in
+      let past : length numbers ≤ n - 1 = omega (arith, long, all) in
+      record {
+        ok = subst (λ (l : List ℕ).
+            AreKept s.told s.o.base (half_header s.o) (half_bytes s.o) l x)
+            (take_all (n - 1) numbers past) so_far.kept;
+        passed = passed_all (debug_raw_refusal s.o) numbers (n - 1) past so_far.passed;
+        err = tt;
       }
-
-      pub halves_stop : (e : ElfError) (y z : Contents)
-          → AddsHalf s (get_or numbers i 0) (Err e) x y → AddsHalves s numbers (Err e) z
-      halves_stop e y z adds = record {
-        ok = tt;
-        passed = tt;
-        err = refused_stop (debug_raw_refusal s.o) numbers i e there so_far.passed adds.err;
-      }
-
-  pub halves_all : (x : Contents) (i : ℕ) → HalfKept s numbers x i → length numbers ≤ i
-      → AddsHalves s numbers (Ok tt) x
-  halves_all x i so_far all = record {
-    ok = subst (λ (l : List ℕ). AreKept s.told s.o.base (half_header s.o) (half_bytes s.o) l x)
-        (take_all i numbers all) so_far.kept;
-    passed = passed_all (debug_raw_refusal s.o) numbers i all so_far.passed;
-    err = tt;
-  }
 
 -- ---- All of them
 
 few_numbers : (o : Object) → length (section_numbers o) ≤ length o.sections - 1
-few_numbers o =
-    subst (λ (l : List ℕ). length l ≤ length o.sections - 1) (numbers_all o) (kept_few o [])
+few_numbers o = let long = numbers_long o in omega (arith, long)
 
 module _ {S : Type 0} (s : State S) where
   pub half_none : (x : Contents) → length s.o.sections ≡ 0 → x.headers ≡ [] → x.sizes ≡ []
@@ -118,28 +143,18 @@ module _ {S : Type 0} (s : State S) where
     err = tt;
   }
 
-  pub half_listed : (numbers : List ℕ) (x : Contents) → numbers ≡ section_numbers s.o
-      → IsObject s.o → (length s.o.sections ≡ 0 → ⊥) → AddsHalves s numbers (Ok tt) x
-      → ListsHalf s (Ok x)
-  half_listed numbers x at is some adds = record {
+  pub half_listed : (x : Contents) → IsObject s.o → (length s.o.sections ≡ 0 → ⊥)
+      → AddsHalves s (Ok tt) x → ListsHalf s (Ok x)
+  half_listed x is some adds = record {
     ok = some_has s.told s.o.base (half_header s.o) (half_bytes s.o) (section_numbers s.o)
-        (length s.o.sections) x some is.section_count (few_numbers s.o)
-        (subst (λ (l : List ℕ). AreKept s.told s.o.base (half_header s.o) (half_bytes s.o) l x)
-        at adds.ok);
-    passed = ap (λ (l : List ℕ). first_refusal (map (debug_raw_refusal s.o) l)) (sym at)
-        ∙ adds.passed;
+        (length s.o.sections) x some is.section_count (few_numbers s.o) adds.ok;
+    passed = adds.passed;
     err = tt;
   }
 
-  pub half_not_listed : (numbers : List ℕ) (e : ElfError) (x : Contents)
-      → numbers ≡ section_numbers s.o → AddsHalves s numbers (Err e) x → ListsHalf s (Err e)
-  half_not_listed numbers e x at adds = record {
-    ok = tt;
-    passed = tt;
-    err = refused_as (first_refusal (map (debug_raw_refusal s.o) numbers))
-        (first_refusal (map (debug_raw_refusal s.o) (section_numbers s.o))) e
-        (ap (λ (l : List ℕ). first_refusal (map (debug_raw_refusal s.o) l)) at) adds.err;
-  }
+  pub half_not_listed : (e : ElfError) (x : Contents) → AddsHalves s (Err e) x
+      → ListsHalf s (Err e)
+  half_not_listed e x adds = record { ok = tt; passed = tt; err = adds.err }
 
   pub half_wanted : (e : ElfError) → e ≡ Memory → ListsHalf s (Err e)
   half_wanted e want =
@@ -166,7 +181,7 @@ module _ {S : Type 0} (s : State S) where
       → KeepsHalf s (Err e)
   too_many_segments e n at came =
       let by : RefusedBy (newphdr_refusal n) e =
-      answer_refused (newphdr_refusal n) (tt {0}) e (segments_state n) came in
+      answer_refused (newphdr_refusal n) (tt {0}) e (newphdr_states n) came in
       record {
         ok = tt;
         passed = tt;

@@ -1,6 +1,6 @@
 -- What the debug half has of the sections of an object: their headers, how many bytes they have in
 -- the file, and where these are (eu-strip(1) with -f; gABI chapter 4, "Sections").
-use Rattle.std.specs.Prelude.{◌≡◌, ℕ, List, length, map, None, Result, IfOk, IfErr, OnOk}
+use Rattle.std.specs.Prelude.{◌≡◌, ℕ, length, map, None, Result, IfOk, IfErr, OnOk}
 use Rattle.elf_types.specs.Answers.{first_refusal}
 use Rattle.elf_types.specs.declared.errors.ElfError.{ElfError}
 use Rattle.elf_object.specs.Layout.{section_numbers}
@@ -20,13 +20,15 @@ pub record AddsHalf {S : Type 0} (s : State S) (n : ℕ) (result : Result (Unit 
   pub passed : OnOk result (debug_raw_refusal s.o n ≡ None)
   pub err : IfErr result (RefusedBy (debug_raw_refusal s.o n))
 
--- of some sections, behind section 0
-pub record AddsHalves {S : Type 0} (s : State S) (numbers : List ℕ)
-    (result : Result (Unit {0}) ElfError) (next : Contents) : Type 0 where
+-- of all sections from 1 on, behind section 0
+pub record AddsHalves {S : Type 0} (s : State S) (result : Result (Unit {0}) ElfError)
+    (next : Contents) : Type 0 where
   pub ok : OnOk result
-      (AreKept s.told s.o.base (half_header s.o) (half_bytes s.o) numbers next)
-  pub passed : OnOk result (first_refusal (map (debug_raw_refusal s.o) numbers) ≡ None)
-  pub err : IfErr result (RefusedBy (first_refusal (map (debug_raw_refusal s.o) numbers)))
+      (AreKept s.told s.o.base (half_header s.o) (half_bytes s.o) (section_numbers s.o) next)
+  pub passed : OnOk result
+      (first_refusal (map (debug_raw_refusal s.o) (section_numbers s.o)) ≡ None)
+  pub err : IfErr result
+      (RefusedBy (first_refusal (map (debug_raw_refusal s.o) (section_numbers s.o))))
 
 -- what it has of all of them
 abbrev pub HasHalf : {S : Type 0} → State S → Contents → Type 0

@@ -1,7 +1,6 @@
 //! What the debug half has of all sections.
 
-ghost use Rattle.std.specs.Prelude.{◌≡◌, ◌<◌, length, false, All, IsTrue};
-ghost use Rattle.elf_object.specs.Layout.{section_numbers};
+ghost use Rattle.std.specs.Prelude.{◌≡◌, ◌<◌, length, false, IsTrue};
 ghost use Rattle.elf_object.specs.Object.{is_dirty};
 ghost use Rattle.elf_object.specs.Valid.{IsObject, IsTied};
 ghost use Rattle.strip_contents.specs.Contents.{HasFirst};
@@ -16,8 +15,6 @@ use elf_types::{ElfError, ScnId, Shdr};
 use object_making::SectionMaker;
 use std::alloc::Global;
 use strip_contents::{Contents, check_index, check_segments};
-use strip_rebuild::kept_numbers;
-use strip_removed::SectionSet;
 
 /// The header that a section that is there has in the debug half.
 fn header_of_half<S: Source>(elf: &Elf<S>, s: ScnId) -> Shdr
@@ -42,21 +39,16 @@ fn add_section<S: Source>(elf: &Elf<S>, s: ScnId, contents: &mut Contents) -> Re
     }
 }
 
-/// Adds what it has of sections that are there, behind section 0.
-fn add_sections<S: Source>(
-    elf: &Elf<S>,
-    numbers: &[u32],
-    contents: &mut Contents,
-) -> Result<(), ElfError>
-    requires there { All (λ s. s < length elf.now.o.sections) numbers.now }
+/// Adds what it has of the sections from 1 on, behind section 0.
+fn add_sections<S: Source>(elf: &Elf<S>, contents: &mut Contents) -> Result<(), ElfError>
     requires object { IsObject elf.now.o }
     requires clean { is_dirty elf.now.o ≡ false }
     requires tied { IsTrue elf.now.told → IsTied elf.now.o }
     requires first { HasFirst contents.old }
-    ensures { AddsHalves elf.now numbers.now result contents.new }
+    ensures { AddsHalves elf.now result contents.new }
 {
-    for s in numbers {
-        match add_section(elf, ScnId(*s), contents) {
+    for s in 1..elf.shnum() {
+        match add_section(elf, ScnId(s), contents) {
             Ok(()) => {}
             Err(e) => return Err(e),
         }
@@ -64,9 +56,8 @@ fn add_sections<S: Source>(
     Ok(())
 }
 
-/// What it has of all sections, of which these are the numbers from 1 on.
-fn fill_half<S: Source>(alloc: Global, elf: &Elf<S>, numbers: &[u32]) -> Result<Contents, ElfError>
-    requires numbers { numbers.now ≡ section_numbers elf.now.o }
+/// What it has of all sections.
+fn list_half<S: Source>(alloc: Global, elf: &Elf<S>) -> Result<Contents, ElfError>
     requires object { IsObject elf.now.o }
     requires clean { is_dirty elf.now.o ≡ false }
     requires tied { IsTrue elf.now.told → IsTied elf.now.o }
@@ -79,24 +70,10 @@ fn fill_half<S: Source>(alloc: Global, elf: &Elf<S>, numbers: &[u32]) -> Result<
         Ok(contents) => contents,
         Err(e) => return Err(e),
     };
-    match add_sections(elf, numbers, &mut contents) {
+    match add_sections(elf, &mut contents) {
         Ok(()) => Ok(contents),
         Err(e) => Err(e),
     }
-}
-
-/// The same with the numbers.
-fn list_half<S: Source>(alloc: Global, elf: &Elf<S>) -> Result<Contents, ElfError>
-    requires object { IsObject elf.now.o }
-    requires clean { is_dirty elf.now.o ≡ false }
-    requires tied { IsTrue elf.now.told → IsTied elf.now.o }
-    ensures { ListsHalf elf.now result }
-{
-    let numbers = match kept_numbers(alloc, elf, &SectionSet::none(alloc)) {
-        Ok(numbers) => numbers,
-        Err(e) => return Err(e),
-    };
-    fill_half(alloc, elf, numbers.as_slice())
 }
 
 /// What the debug half has of the sections of an object in which nothing is dirty, under their

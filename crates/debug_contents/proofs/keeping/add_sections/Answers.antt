@@ -1,27 +1,34 @@
-use Rattle.debug_contents.proofs.KeepLaws.{halves_none, half_there, halves_more, halves_stop, halves_all}
+use Rattle.std.proofs.Common.{arith}
+use Rattle.update_plan.proofs.RowLaws.{ok_is}
+use Rattle.debug_contents.proofs.KeepLaws.{halves_none, halves_more, halves_stop, halves_all}
 use Rattle.debug_contents.proofs.keeping.add_sections.Goals as goal
 
 pub loop-s-init : goal.loop-s-init
-loop-s-init g c =
-    halves_none c.args.elf.now c.args.numbers.now c.args.contents.now c.requires.first
+loop-s-init g c = halves_none c.args.elf.now c.args.contents.now c.requires.first
 
 pub add_section-requires-clause-there : goal.add_section-requires-clause-there
 add_section-requires-clause-there g c =
-    half_there c.args.elf.now c.args.numbers.now c.loop-s.contents c.loop-s.s-index
-    c.loop-s.invariant c.loop-s-test.true c.requires.there
+    let count = ok_is _ _ c.shnum-s-end.ensures in
+    omega (arith, count, c.loop-s-test.true)
 
 pub loop-s-preserved : goal.loop-s-preserved
 loop-s-preserved g c =
-    halves_more c.args.elf.now c.args.numbers.now c.loop-s.contents c.loop-s.s-index
-    c.loop-s.invariant c.loop-s-test.true c.add_section.new.contents c.in-Ok.ensures
+    let first = c.loop-s.auto.s in
+    let count = ok_is _ _ c.shnum-s-end.ensures in
+    halves_more c.args.elf.now c.loop-s.contents c.loop-s.s c.loop-s.invariant
+    (omega (arith, first)) (omega (arith, count, c.loop-s-test.true))
+    c.add_section.new.contents c.in-Ok.ensures
 
 pub returns-in-Err : goal.returns-in-Err
 returns-in-Err g c =
-    halves_stop c.args.elf.now c.args.numbers.now c.loop-s.contents c.loop-s.s-index
-    c.loop-s.invariant c.loop-s-test.true c.in-Err.e c.add_section.new.contents _
-    c.in-Err.ensures
+    let first = c.loop-s.auto.s in
+    let count = ok_is _ _ c.shnum-s-end.ensures in
+    halves_stop c.args.elf.now c.loop-s.contents c.loop-s.s c.loop-s.invariant
+    (omega (arith, first)) (omega (arith, count, c.loop-s-test.true)) c.in-Err.e
+    c.add_section.new.contents _ c.in-Err.ensures
 
 pub returns : goal.returns
 returns g c =
-    halves_all c.args.elf.now c.args.numbers.now c.loop-s.contents c.loop-s.s-index
-    c.loop-s.invariant c.loop-s-test.false
+    let count = ok_is _ _ c.shnum-s-end.ensures in
+    halves_all c.args.elf.now c.loop-s.contents c.loop-s.s c.loop-s.invariant
+    (omega (arith, count, c.loop-s-test.false))

@@ -2,4 +2,4 @@ use Rattle.debug_contents.proofs.KeepLaws.{HalfKept}
 use Rattle.debug_contents.proofs.keeping.add_sections.Given as goal
 
 abbrev pub invariant-loop-s : goal.invariant-loop-s
-invariant-loop-s g l = HalfKept l.elf l.numbers l.contents l.s-index
+invariant-loop-s g l = HalfKept l.elf l.contents l.s
