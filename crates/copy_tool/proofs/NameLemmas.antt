@@ -126,16 +126,16 @@ tested_alike {X} {Y} {Z} test g h xs ys same all =
     sym (list_all-map test g xs) ∙ ap (λ (l : List Z). list_all test l) same
     ∙ list_all-map test h ys ∙ all
 
-pub plain_added : (words : CopyChanges) (add : List NameBytes) → HasNames words
+pub added_are_plain : (words : CopyChanges) (add : List NameBytes) → HasNames words
     → byte_names add ≡ file_names words.add
     → list_all (λ n. is_section_name n.name) add ≡ true
-plain_added words add names same =
+added_are_plain words add names same =
     tested_alike is_section_name (λ (n : NameBytes). n.name) (λ (n : NamedFile). n.name) add
     words.add same names.add
 
-pub plain_renamed : (words : CopyChanges) (rename : List NameBytes) → HasNames words
+pub renamed_are_plain : (words : CopyChanges) (rename : List NameBytes) → HasNames words
     → pairs rename ≡ map (λ r. (r.old, r.new)) words.rename
     → list_all (λ n. is_section_name n.bytes) rename ≡ true
-plain_renamed words rename names same =
+renamed_are_plain words rename names same =
     tested_alike (λ (p : List ℕ × List ℕ). is_section_name p.1)
     bytes_pair (λ (r : Renaming). (r.old, r.new)) rename words.rename same names.rename_new

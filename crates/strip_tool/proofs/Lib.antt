@@ -1,3 +1,4 @@
 pub mod StripLemmas
 pub mod CopyLemmas
+pub mod PlanLemmas
 pub mod WriteLemmas

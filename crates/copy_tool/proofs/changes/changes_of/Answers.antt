@@ -1,4 +1,4 @@
-use Rattle.copy_tool.proofs.NameLemmas.{changes_are, plain_renamed, plain_added}
+use Rattle.copy_tool.proofs.NameLemmas.{changes_are, renamed_are_plain, added_are_plain}
 use Rattle.copy_tool.proofs.changes.changes_of.Goals as goal
 
 pub returns-clause-ok : goal.returns-clause-ok
@@ -12,7 +12,7 @@ returns-clause-ok c =
 pub returns-clause-plain : goal.returns-clause-plain
 returns-clause-plain c = record {
   rename =
-      plain_renamed c.args.words.now c.in_ok-rename.rename c.requires.names
+      renamed_are_plain c.args.words.now c.in_ok-rename.rename c.requires.names
       (rw c.as_slice-2.ensures at c.in_ok-rename.ensures.ok);
-  add = plain_added c.args.words.now c.args.add c.requires.names c.requires.added;
+  add = added_are_plain c.args.words.now c.args.add c.requires.names c.requires.added;
 }
