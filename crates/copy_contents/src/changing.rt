@@ -5,7 +5,7 @@ ghost use Rattle.command_objects.specs.Copied.{with_changes};
 ghost use Rattle.copy_changes.specs.Stated.{HasPlainNames, stated_changes};
 ghost use Rattle.copy_edits.specs.Names.{names_now};
 ghost use Rattle.copy_names.specs.Stores.{HasTable};
-ghost use Rattle.elf_copy.specs.Copies.{added_named, flagged_named, after_names, after_updates, IsUsable};
+ghost use Rattle.elf_copy.specs.Copies.{added_named, flagged_named, after_names, after_updates};
 ghost use Rattle.copy_contents.specs.Steps.{AltersContents, IsUsableIf};
 
 use crate::adding::add_sections;

@@ -1,11 +1,9 @@
 //! A new table of names, stored.
 
-ghost use Rattle.std.specs.Prelude.{◌≡◌, true, Ok, OnOk, IfErr};
+ghost use Rattle.std.specs.Prelude.{◌≡◌, Ok, OnOk, IfErr};
 ghost use Rattle.elf_types.specs.declared.errors.ElfError.TheVariants.{Memory};
-ghost use Rattle.elf_object.specs.Object.{Object};
 ghost use Rattle.copy_names.specs.Stores.{with_places, with_table, named_by, HasTable};
 ghost use Rattle.copy_edits.specs.Steps.{IsThere};
-ghost use Rattle.copy_contents.specs.Rows.{IsContents, header_in};
 ghost use Rattle.copy_contents.specs.Edits.{HasBytesIf, IsNamedAs};
 ghost use Rattle.copy_contents.specs.Steps.{AltersContents, BecomesContents};
 

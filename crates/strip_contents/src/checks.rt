@@ -1,6 +1,6 @@
 //! What is refused by counts, and of the names.
 
-ghost use Rattle.std.specs.Prelude.{◌≡◌, ◌==◌, ◌&&◌, not, nat_le};
+ghost use Rattle.std.specs.Prelude.{◌≡◌};
 ghost use Rattle.elf_types.specs.Answers.{answered};
 ghost use Rattle.elf_object.specs.Calls.{newphdr_refusal};
 ghost use Rattle.strip_contents.specs.Checks.{index_beyond, ChecksLast};
