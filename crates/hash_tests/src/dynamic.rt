@@ -1,5 +1,5 @@
-//! Images with dynamic symbols that stand out of order, both hash sections, and sections whose items
-//! go by the symbols.
+//! Images with dynamic symbols that stand out of order, both hash sections, and sections whose
+//! items go by the symbols.
 
 use crate::images::{OUT_OF_ORDER, STRINGS};
 use elf_types::constants::{

@@ -1,5 +1,5 @@
-//! A program whose parts stand where the joined ones are placed, sources of its image, and the bytes
-//! of what is made of them.
+//! A program whose parts stand where the joined ones are placed, sources of its image, and the
+//! bytes of what is made of them.
 
 use elf_descriptor::Elf;
 use elf_outside::{MemSink, MemSource, NoSource, Source};
