@@ -75,15 +75,20 @@ impl<S: Source> ReadAhead<S> {
             && n <= self.held.len() - (at - self.start) as usize
     }
 
-    /// The size of a window from a place on: small at first, and twice that of the last window
-    /// where it begins near that one's end, as in a walk over the source.
+    /// The size of a window from a place on: small at first, twice that of the last window where it
+    /// begins near that one's end, as in a walk over the source, and the same where it begins so
+    /// near before it, as where such a walk looks back.
     fn next_size(&self, at: u64) -> u64 {
-        let doubled = (self.held.len() as u64).saturating_mul(2);
-        if at >= self.start && at - self.start <= doubled {
-            doubled.max(FIRST).min(WINDOW)
+        let last = self.held.len() as u64;
+        let doubled = last.saturating_mul(2);
+        let size = if at < self.start && self.start - at <= last {
+            last
+        } else if at >= self.start && at - self.start <= doubled {
+            doubled
         } else {
             FIRST
-        }
+        };
+        size.max(FIRST).min(WINDOW)
     }
 
     /// Moves the window to a place, and says whether it holds the range from there on.
