@@ -63,7 +63,7 @@ fn read_head<S: Source>(src: &mut S) -> Result<Head, ElfError>
     })
 }
 
-/// Reads the two tables, each by one read. It refuses `Memory` and `Read` alone.
+/// Reads the two tables. It refuses `Memory` and `Read` alone.
 fn read_tables<S: Source>(
     alloc: Global,
     src: &mut S,
@@ -127,7 +127,8 @@ fn front_of(head: Head, phdrs: Phdrs, shdrs: Shdrs) -> Front
 /// does not tell its bytes.
 ///
 /// It asks for at most one header and one section header, and for the two tables where nothing is
-/// refused; each table takes one read.
+/// refused. The table of program headers takes one read, and that of section headers one for each
+/// 1,024 of them.
 ///
 /// Source: gABI chapter 4, "ELF Header" and "Sections", chapter 5, "Program Header".
 pub fn read_front<S: Source>(alloc: Global, src: &mut S) -> Result<Front, ElfError>

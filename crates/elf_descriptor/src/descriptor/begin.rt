@@ -58,7 +58,8 @@ impl<S: Source> Elf<S> {
     /// `Memory` where none of these comes. With a refusal it hands the source back.
     ///
     /// It asks for at most one header and one section header, and for the two tables where nothing
-    /// is refused, in at most five reads.
+    /// is refused, in at most five reads, and one more for each 1,024 section headers after the first
+    /// 1,024.
     ///
     /// Source: elf_begin of elf(3E).
     pub fn begin(alloc: Global, mut src: S) -> Result<Elf<S>, (S, ElfError)>

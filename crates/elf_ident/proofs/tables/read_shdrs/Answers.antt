@@ -1,9 +1,10 @@
-use Rattle.std.proofs.Common.{◌∙◌, ◌*◌, ap, ℕ}
-use Rattle.elf_ident.proofs.TableLemmas.{shdrs_read}
+use Rattle.std.proofs.Common.{arith}
 use Rattle.elf_ident.proofs.tables.read_shdrs.Goals as goal
 
-pub returns-clause-value : goal.returns-clause-value
-returns-clause-value g c =
-    shdrs_read (g.S.Source.holds c.args.src.now) c.args.h.now c.args.count c.table_size-len.result c.in_ok-bytes.bytes c.as_slice.result.now _
-    c.as_slice.ensures c.in_ok-bytes.ensures.len (c.table_size-len.ensures ∙ ap (λ (s : ℕ). c.args.count * s) c.shdr_size.ensures)
-    c.get_shdrs.ensures.value c.in_ok-bytes.ensures.bytes
+pub read_many-requires-clause-within : goal.read_many-requires-clause-within
+read_many-requires-clause-within g c = c.requires.within (omega arith)
+
+pub read_many-requires-clause-small : goal.read_many-requires-clause-small
+read_many-requires-clause-small g c =
+    let inside = c.requires.within (omega arith) in
+    omega (arith, inside, c.len-end.ensures.size)
