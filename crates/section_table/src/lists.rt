@@ -42,13 +42,12 @@ pub(crate) fn put_last<T: Drop>(list: &mut Vec<T>, item: T)
     ensures items { list.new.items ≡ list.old.items ++ item ∷ [] }
     ensures room { vec_capacity list.old ≤ vec_capacity list.new }
 {
-    let Ok(()) = list.push(item) else {
-        unreachable!()
-    };
+    list.push_reserved(item);
 }
 
 /// Takes memory for one section more, and for the cell of each section and of that one. It refuses
 /// `Memory` alone. What the lists hold stays.
+#[inline(always)]
 pub(crate) fn reserve_one(
     headers: &mut Vec<Shdr>,
     marks: &mut Vec<bool>,
