@@ -73,10 +73,8 @@ fn answers(
 fn is_so_over(alloc: Global, form: Form, row: &Row, source: &mut MemSource, len: u64) -> bool
     requires { len ≡ length source.old.bytes }
 {
-    match Cell::opened(alloc, 5, form.0, &row.header, len) {
-        Ok(mut cell) => answers(alloc, &row.asked, &mut cell, source, form),
-        Err(_) => false,
-    }
+    let mut cell = Cell::unread(alloc, 5, form.0, &row.header, len);
+    answers(alloc, &row.asked, &mut cell, source, form)
 }
 
 /// Whether it does over these bytes.

@@ -1,18 +1,15 @@
 //! A section's cell.
 
-ghost use Rattle.std.specs.Prelude.{◌≡◌, ◌<◌, true, Some, None, length, IfOk, IfErr, IfSome, is_some};
-ghost use Rattle.elf_types.specs.declared.errors.ElfError.TheVariants.{Memory};
-ghost use Rattle.elf_types.specs.declared.records.Kind.TheVariants as kinds;
+ghost use Rattle.std.specs.Prelude.{◌≡◌, ◌<◌, true, length, is_some};
 ghost use Rattle.elf_object.specs.Open.{home_of};
-ghost use Rattle.section_data.specs.Views.{IsCell, home_view, passes_end, new_cell, opened_cell};
+ghost use Rattle.section_data.specs.Views.{IsCell, new_cell, opened_cell};
 ghost use Rattle.section_data.specs.Leaves.{LiesIn};
 ghost use Rattle.section_data.specs.Held.{piece_in, kind_in, cell_is_loaded};
 
 use crate::home::Home;
 use crate::kept::Kept;
 use crate::piece::Piece;
-use crate::used::put;
-use elf_types::{Class, ElfError, Kind, Shdr};
+use elf_types::{Class, Kind, Shdr};
 use std::alloc::Global;
 use std::marker::Model;
 
@@ -46,27 +43,6 @@ impl Model for Cell {
 }
 
 impl Cell {
-    /// The cell of the section with that number over an image of `base` bytes: nothing is read, and
-    /// its one piece is the clean home piece. Without a home it is a new section, which has an
-    /// empty home and no piece. It refuses `Memory` alone.
-    pub fn new(alloc: Global, section: u32, home: Option<Home>, base: u64) -> Result<Cell, ElfError>
-        requires { IfSome home (λ h. h.kind ≡ kinds.Empty → h.len ≡ 0) }
-        ensures ok { IfOk result (λ c. c ≡ elim home [
-          | None ↦ new_cell section
-          | Some h ↦ opened_cell section (home_view h.at h.len h.kind (passes_end base h.at h.len))
-        ]) }
-        ensures cell { IfOk result IsCell }
-        ensures err { IfErr result (λ e. e ≡ Memory) }
-    {
-        match home {
-            Some(home) => {
-                let out = home.passes_end(base);
-                Ok(Cell::of(alloc, Kept::over(section, home, out, true)))
-            }
-            None => Ok(Cell::fresh(alloc, section)),
-        }
-    }
-
     /// The cell of a new section, which has an empty home and no piece. It refuses nothing and
     /// takes no memory.
     pub fn fresh(alloc: Global, section: u32) -> Cell
@@ -99,42 +75,6 @@ impl Cell {
         ensures cell { IsCell result }
     {
         Cell { alloc, kept }
-    }
-
-    /// The cell of a section of an image of `size` bytes, by its number and its header. It refuses
-    /// `Memory` alone.
-    ///
-    /// Source: gABI chapter 4, "Section Header".
-    #[tactic(auto, using(crate::proofs::Loading::opened_lies))]
-    pub fn opened(
-        alloc: Global,
-        section: u32,
-        class: Class,
-        header: &Shdr,
-        size: u64,
-    ) -> Result<Cell, ElfError>
-        ensures ok { IfOk result (λ c. c ≡ opened_cell section (home_of size header.now)) }
-        ensures lies { IfOk result (λ c. LiesIn c size) }
-        ensures cell { IfOk result IsCell }
-        ensures err { IfErr result (λ e. e ≡ Memory) }
-    {
-        Cell::new(alloc, section, Some(Home::of(class, header)), size)
-    }
-
-    /// Makes the cell that of its section over another image, of `base` bytes, in which it has that
-    /// home: nothing is read, its one piece is the clean home piece, and what was held is let go.
-    /// It refuses nothing and takes no memory.
-    ///
-    /// Source: elf_update of elf(3E), which leaves what it wrote as what was read.
-    pub fn reopen(&mut self, home: Home, base: u64)
-        requires { home.kind ≡ kinds.Empty → home.len ≡ 0 }
-        ensures value { self.new ≡ opened_cell self.old.section
-            (home_view home.at home.len home.kind (passes_end base home.at home.len)) }
-        ensures cell { IsCell self.new }
-    {
-        let out = home.passes_end(base);
-        let kept = Kept::over(self.kept.section(), home, out, true);
-        put(&mut self.kept, kept);
     }
 
     /// The section's number. It takes no memory.
