@@ -1,9 +1,9 @@
 -- What is said of findings, one after another.
 use Rattle.std.proofs.Common.{◌≡◌, ◌++◌, ◌+◌, ◌<◌, ◌≤◌, true, false, ℕ, List, [], ◌∷◌, length, drop, get_or, refl, sym, ap, ◌∙◌, arith}
-use Rattle.std.specs.List.{flat_map, enumerate_from}
+use Rattle.std.specs.List.{flat_map, enumerate_from, range_with_len}
 use Rattle.std.proofs.lemmas.List.{at_drop_more, at_drop_all}
 use Rattle.std.proofs.lemmas.List.Concat.{flat_map-cons}
-use Rattle.std.proofs.lemmas.List.FromFn.{length-enumerate_from, get_or-enumerate_from}
+use Rattle.std.proofs.lemmas.List.FromFn.{length-enumerate_from, get_or-enumerate_from, length-range_with_len, get_or-range_with_len}
 use Rattle.tool_output.specs.Names.{Name}
 use Rattle.tool_output.specs.Reports.{Report, no_report, found, joined, all_joined, reports_of}
 use Rattle.tool_output.proofs.ReportLemmas.{joined_assoc, none_joined, joined_none}
@@ -76,6 +76,22 @@ module _ (name : Name) where
 
     pub no_findings_left : (xs : List X) (i : ℕ) → length xs ≤ i → findings_shown name (flat_map f (drop i xs)) ≡ no_report
     no_findings_left xs i le = at_drop_all (λ (l : List X). findings_shown name (flat_map f l)) xs i le ∙ no_findings
+
+  -- ---- Of numbers from 0 on
+
+  module _ (f : ℕ → List Finding) (n i : ℕ) where
+    pub numbers_left : i < n
+        → findings_shown name (flat_map f (drop i (range_with_len 0 n)))
+        ≡ joined (findings_shown name (f i))
+        (findings_shown name (flat_map f (drop (i + 1) (range_with_len 0 n))))
+    numbers_left lt =
+        findings_left f (range_with_len 0 n) i i (omega (arith, length-range_with_len 0 n))
+        (omega (arith, get_or-range_with_len 0 n i i lt))
+
+    pub no_numbers_left : n ≤ i
+        → findings_shown name (flat_map f (drop i (range_with_len 0 n))) ≡ no_report
+    no_numbers_left le =
+        no_findings_left f (range_with_len 0 n) i (omega (arith, length-range_with_len 0 n))
 
   -- ---- Of a list whose items are numbered
 

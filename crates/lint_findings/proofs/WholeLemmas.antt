@@ -24,3 +24,10 @@ intact_is true true = refl
 intact_is true false = refl
 intact_is false true = refl
 intact_is false false = refl
+
+-- nor does the order of any two
+pub either_first : (a b : Bool) → (a && b) ≡ (b && a)
+either_first true true = refl
+either_first true false = refl
+either_first false true = refl
+either_first false false = refl

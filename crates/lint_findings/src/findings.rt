@@ -92,6 +92,7 @@ pub fn find<T: Line + Drop, O: Sink, E: Sink>(
 }
 
 /// Says a finding, where the test holds. The answer tells whether it does.
+#[inline(always)]
 pub fn find_if<O: Sink, E: Sink>(
     holds: bool,
     name: &FileName<'_>,

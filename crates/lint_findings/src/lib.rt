@@ -2,6 +2,7 @@
 //! look at, and the forms of a rule that looks at each section or each segment.
 #![tactic(auto)]
 
+pub mod by_header;
 pub mod by_section;
 pub mod by_segment;
 pub mod data;
@@ -9,6 +10,7 @@ pub mod findings;
 pub mod looking;
 pub mod places;
 
+pub use by_header::{HeaderRule, each_header_by};
 pub use by_section::{SectionRule, each_section_by};
 pub use by_segment::{SegmentRule, each_segment};
 pub use data::item_at;

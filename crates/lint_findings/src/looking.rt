@@ -104,13 +104,15 @@ pub fn is_plain<S: Source>(elf: &Elf<S>, s: ScnId) -> bool
     is_looked_at(elf, s) && !is_compressed(section_header(elf, s).flags)
 }
 
-/// Whether a section that is there is plain and of a type.
+/// Whether a section that is there is plain and of a type. The type, which most are not of, is
+/// looked at first.
+#[tactic(auto, using(crate::proofs::WholeLemmas::either_first))]
 pub fn is_plain_of<S: Source>(elf: &Elf<S>, s: ScnId, stype: u32) -> bool
     requires { s.0 < length elf.now.o.sections }
     ensures { result ≡ (looking.is_plain elf.now.o s.0
         && ((section_at elf.now.o s.0).header.stype == stype)) }
 {
-    is_plain(elf, s) && section_header(elf, s).stype == stype
+    section_header(elf, s).stype == stype && is_plain(elf, s)
 }
 
 /// Whether items are symbols.

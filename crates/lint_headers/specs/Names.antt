@@ -1,6 +1,6 @@
 -- The rules 3 and 5: the names of sections (gABI chapter 4, "ELF Header", e_shstrndx; "Section
 -- Header", sh_name).
-use Rattle.std.specs.Prelude.{ℕ, ◌==◌, ◌&&◌, ◌||◌, not, Bool, length, is_none, codes}
+use Rattle.std.specs.Prelude.{◌≡◌, ◌<◌, ℕ, ◌==◌, ◌&&◌, ◌||◌, not, nat_le, Bool, false, length, is_none, codes}
 use Rattle.elf_types.specs.declared.constants.TheConstants.{SHN_UNDEF}
 use Rattle.elf_object.specs.Object.{Object}
 use Rattle.elf_object.specs.Due.{all_sections}
@@ -31,3 +31,14 @@ has_unreadable_name o s =
 unfoldable pub unreadable_section_names : Rule
 unreadable_section_names o =
     at_sections 5 (codes "name cannot be read") (has_unreadable_name o) (all_sections o)
+
+-- ---- What the code looks for once an object
+
+-- there is a section that may have a name, and a name table
+pub record HasNames (o : Object) : Type 0 where
+  pub some : 1 < length o.sections
+  pub table : lacks_name_table o ≡ false
+
+-- the name of a section from 1 on begins at a place or behind it
+abbrev pub has_name_past : ℕ → Object → ℕ → Bool
+has_name_past end o s = not (s == 0) && nat_le end (header_at o s).name

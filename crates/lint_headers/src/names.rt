@@ -1,15 +1,22 @@
-//! The rules 3 and 5: the names of sections.
+//! The rules 3 and 5: the names of sections. Where the names end is looked for once, and then a
+//! name can be read exactly where it begins before that.
 
-ghost use Rattle.std.specs.Prelude.{◌≡◌};
+ghost use Rattle.std.specs.Prelude.{◌≡◌, ◌<◌, length, false, IfOk, IfSome, IsTrue};
+ghost use Rattle.object_output.specs.Steps.{ReadsElf};
+ghost use Rattle.bytes_at_hand.specs.Strings.{EndsAt};
 ghost use Rattle.lint_headers.specs.Names as rule;
+ghost use Rattle.lint_headers.specs.Names.{HasNames};
 ghost use Rattle.lint_findings.specs.Steps.{FindsElf, FindsOver};
 
+use bytes_at_hand::strings_end;
 use elf_descriptor::Elf;
 use elf_outside::{Sink, Source};
 use elf_types::ScnId;
 use elf_types::constants::SHN_UNDEF;
-use lint_findings::{Place, SectionRule, each_section_by, find_if, is_string_table};
-use object_output::section_name;
+use lint_findings::{
+    HeaderRule, Place, SectionRule, each_header_by, each_section_by, find_if, is_string_table,
+};
+use object_output::{section_header, section_name};
 use tool_output::{FileName, Outputs, Stop};
 
 /// Whether there are sections, and the section of their names is none, is not there, or is no
@@ -66,11 +73,63 @@ impl SectionRule for SectionNames {
     }
 }
 
-/// Rule 5, at each section from 1 on, where there is a name table: its name cannot be read.
-///
-/// Source: gABI chapter 4, "Section Header", sh_name.
+/// Whether there is a section whose name is looked for: one behind section 0, and a name table.
+fn has_names<S: Source>(elf: &Elf<S>) -> bool
+    ensures { IsTrue result → HasNames elf.now.o }
+{
+    if elf.shnum() < 2 || lacks_name_table(elf) {
+        return false;
+    }
+    true
+}
+
+/// Where the names of sections end, where there are any and that can be told.
+fn end_of_names<S: Source>(elf: &mut Elf<S>) -> Result<Option<u64>, Stop>
+    ensures has { IfOk result (λ end. IfSome end (λ _. HasNames elf.old.o)) }
+    ensures end { IsTrue elf.old.told → IfOk result
+        (λ end. IfSome end (EndsAt elf.old.o elf.old.o.header.shstrndx)) }
+    ensures reads { ReadsElf S.Source result elf.old elf.new }
+{
+    if !has_names(elf) {
+        return Ok(None);
+    }
+    let names = ScnId(elf.shstrndx());
+    strings_end(elf, names)
+}
+
+/// Names of sections that begin where the names end, or behind it.
+#[derive(Clone, Copy)]
+struct NamesPast {
+    /// Where they end.
+    end: u64,
+}
+
+impl HeaderRule for NamesPast {
+    ghost finds = { λ n. rule.has_name_past n.end };
+
+    fn finds<S: Source>(&self, elf: &Elf<S>, s: ScnId) -> bool {
+        s.0 != 0 && u64::from(section_header(elf, s).name) >= self.end
+    }
+}
+
+/// Says what the rule finds where the names of sections end there.
+fn names_past<S: Source, O: Sink, E: Sink>(
+    end: u64,
+    name: &FileName<'_>,
+    elf: &mut Elf<S>,
+    outputs: &mut Outputs<'_, O, E>,
+) -> Result<bool, Stop>
+    requires has { HasNames elf.old.o }
+    requires end { IsTrue elf.old.told → EndsAt elf.old.o elf.old.o.header.shstrndx end }
+    ensures { FindsOver S.Source O.Sink E.Sink 1 rule.unreadable_section_names name.now
+        result elf.old elf.new outputs.old outputs.new }
+{
+    each_header_by(&NamesPast { end }, 5, "name cannot be read", name, elf, outputs)
+}
+
+/// Says what the rule finds where the end of the names is not known.
 #[tactic(auto, unfolding(crate::specs::Names::unreadable_section_names))]
-pub fn unreadable_section_names<S: Source, O: Sink, E: Sink>(
+fn names_one_by_one<S: Source, O: Sink, E: Sink>(
     name: &FileName<'_>,
     elf: &mut Elf<S>,
     outputs: &mut Outputs<'_, O, E>,
@@ -79,4 +138,22 @@ pub fn unreadable_section_names<S: Source, O: Sink, E: Sink>(
         result elf.old elf.new outputs.old outputs.new }
 {
     each_section_by(&SectionNames, 5, "name cannot be read", name, elf, outputs)
+}
+
+/// Rule 5, at each section from 1 on, where there is a name table: its name cannot be read.
+///
+/// Source: gABI chapter 4, "Section Header", sh_name.
+pub fn unreadable_section_names<S: Source, O: Sink, E: Sink>(
+    name: &FileName<'_>,
+    elf: &mut Elf<S>,
+    outputs: &mut Outputs<'_, O, E>,
+) -> Result<bool, Stop>
+    ensures { FindsOver S.Source O.Sink E.Sink 1 rule.unreadable_section_names name.now
+        result elf.old elf.new outputs.old outputs.new }
+{
+    match end_of_names(elf) {
+        Ok(Some(end)) => names_past(end, name, elf, outputs),
+        Ok(None) => names_one_by_one(name, elf, outputs),
+        Err(stop) => Err(stop),
+    }
 }

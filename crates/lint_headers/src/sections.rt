@@ -12,7 +12,7 @@ use elf_types::constants::SHF_TLS;
 use elf_types::{Kind, ScnId, Shdr, kind_of};
 use elf_xlate::item_size;
 use lint_findings::{
-    SectionRule, class, each_section_by, info_is_section, is_allocated, is_intact, is_looked_at,
+    HeaderRule, class, each_header_by, info_is_section, is_allocated, is_intact, is_looked_at,
     is_ragged,
 };
 use object_output::{is_out, section_header};
@@ -37,13 +37,13 @@ fn has_entries(kind: Kind) -> bool
 #[derive(Clone, Copy)]
 struct Section0;
 
-impl SectionRule for Section0 {
-    ghost finds = { rule.is_used_section_0 };
+impl HeaderRule for Section0 {
+    ghost finds = { λ _. rule.is_used_section_0 };
 
     #[tactic(auto, unfolding(crate::specs::Sections::is_used_section_0))]
-    fn finds<S: Source>(&self, elf: &mut Elf<S>, s: ScnId) -> Result<bool, Stop> {
+    fn finds<S: Source>(&self, elf: &Elf<S>, s: ScnId) -> bool {
         let h = section_header(elf, s);
-        Ok(s.0 == 0 && has_reserved_field(&h))
+        s.0 == 0 && has_reserved_field(&h)
     }
 }
 
@@ -59,18 +59,18 @@ pub fn section_0_in_use<S: Source, O: Sink, E: Sink>(
     ensures { FindsOver S.Source O.Sink E.Sink 1 rule.section_0_in_use name.now
         result elf.old elf.new outputs.old outputs.new }
 {
-    each_section_by(&Section0, 4, "section 0 is in use", name, elf, outputs)
+    each_header_by(&Section0, 4, "section 0 is in use", name, elf, outputs)
 }
 
 /// Bytes past the end of the file.
 #[derive(Clone, Copy)]
 struct OutsideTheFile;
 
-impl SectionRule for OutsideTheFile {
-    ghost finds = { looking.is_out };
+impl HeaderRule for OutsideTheFile {
+    ghost finds = { λ _. looking.is_out };
 
-    fn finds<S: Source>(&self, elf: &mut Elf<S>, s: ScnId) -> Result<bool, Stop> {
-        Ok(is_out(elf, s))
+    fn finds<S: Source>(&self, elf: &Elf<S>, s: ScnId) -> bool {
+        is_out(elf, s)
     }
 }
 
@@ -86,18 +86,18 @@ pub fn sections_outside_the_file<S: Source, O: Sink, E: Sink>(
     ensures { FindsOver S.Source O.Sink E.Sink 1 rule.sections_outside_the_file name.now
         result elf.old elf.new outputs.old outputs.new }
 {
-    each_section_by(&OutsideTheFile, 6, "outside the file", name, elf, outputs)
+    each_header_by(&OutsideTheFile, 6, "outside the file", name, elf, outputs)
 }
 
 /// Sizes that are no whole items.
 #[derive(Clone, Copy)]
 struct RaggedSections;
 
-impl SectionRule for RaggedSections {
-    ghost finds = { looking.is_ragged };
+impl HeaderRule for RaggedSections {
+    ghost finds = { λ _. looking.is_ragged };
 
-    fn finds<S: Source>(&self, elf: &mut Elf<S>, s: ScnId) -> Result<bool, Stop> {
-        Ok(is_ragged(elf, s))
+    fn finds<S: Source>(&self, elf: &Elf<S>, s: ScnId) -> bool {
+        is_ragged(elf, s)
     }
 }
 
@@ -113,7 +113,7 @@ pub fn ragged_sections<S: Source, O: Sink, E: Sink>(
     ensures { FindsOver S.Source O.Sink E.Sink 1 rule.ragged_sections name.now
         result elf.old elf.new outputs.old outputs.new }
 {
-    each_section_by(
+    each_header_by(
         &RaggedSections,
         7,
         "size is no multiple of the item",
@@ -127,13 +127,13 @@ pub fn ragged_sections<S: Source, O: Sink, E: Sink>(
 #[derive(Clone, Copy)]
 struct OddAlignments;
 
-impl SectionRule for OddAlignments {
-    ghost finds = { rule.has_odd_alignment };
+impl HeaderRule for OddAlignments {
+    ghost finds = { λ _. rule.has_odd_alignment };
 
     #[tactic(auto, unfolding(crate::specs::Sections::has_odd_alignment))]
-    fn finds<S: Source>(&self, elf: &mut Elf<S>, s: ScnId) -> Result<bool, Stop> {
+    fn finds<S: Source>(&self, elf: &Elf<S>, s: ScnId) -> bool {
         let align = section_header(elf, s).addralign;
-        Ok(align != 0 && !align.is_power_of_two())
+        align != 0 && !align.is_power_of_two()
     }
 }
 
@@ -149,7 +149,7 @@ pub fn odd_alignments<S: Source, O: Sink, E: Sink>(
     ensures { FindsOver S.Source O.Sink E.Sink 1 rule.odd_alignments name.now
         result elf.old elf.new outputs.old outputs.new }
 {
-    each_section_by(
+    each_header_by(
         &OddAlignments,
         8,
         "alignment is no power of two",
@@ -163,13 +163,13 @@ pub fn odd_alignments<S: Source, O: Sink, E: Sink>(
 #[derive(Clone, Copy)]
 struct UnalignedAddresses;
 
-impl SectionRule for UnalignedAddresses {
-    ghost finds = { rule.has_unaligned_address };
+impl HeaderRule for UnalignedAddresses {
+    ghost finds = { λ _. rule.has_unaligned_address };
 
     #[tactic(auto, unfolding(crate::specs::Sections::has_unaligned_address))]
-    fn finds<S: Source>(&self, elf: &mut Elf<S>, s: ScnId) -> Result<bool, Stop> {
+    fn finds<S: Source>(&self, elf: &Elf<S>, s: ScnId) -> bool {
         let h = section_header(elf, s);
-        Ok(h.addralign > 1 && h.addr % h.addralign != 0)
+        h.addralign > 1 && h.addr % h.addralign != 0
     }
 }
 
@@ -185,7 +185,7 @@ pub fn unaligned_addresses<S: Source, O: Sink, E: Sink>(
     ensures { FindsOver S.Source O.Sink E.Sink 1 rule.unaligned_addresses name.now
         result elf.old elf.new outputs.old outputs.new }
 {
-    each_section_by(
+    each_header_by(
         &UnalignedAddresses,
         9,
         "address is not aligned",
@@ -199,12 +199,12 @@ pub fn unaligned_addresses<S: Source, O: Sink, E: Sink>(
 #[derive(Clone, Copy)]
 struct LinksToNoSection;
 
-impl SectionRule for LinksToNoSection {
-    ghost finds = { rule.links_nowhere };
+impl HeaderRule for LinksToNoSection {
+    ghost finds = { λ _. rule.links_nowhere };
 
     #[tactic(auto, unfolding(crate::specs::Sections::links_nowhere))]
-    fn finds<S: Source>(&self, elf: &mut Elf<S>, s: ScnId) -> Result<bool, Stop> {
-        Ok(section_header(elf, s).link >= elf.shnum())
+    fn finds<S: Source>(&self, elf: &Elf<S>, s: ScnId) -> bool {
+        section_header(elf, s).link >= elf.shnum()
     }
 }
 
@@ -220,7 +220,7 @@ pub fn links_to_no_section<S: Source, O: Sink, E: Sink>(
     ensures { FindsOver S.Source O.Sink E.Sink 1 rule.links_to_no_section name.now
         result elf.old elf.new outputs.old outputs.new }
 {
-    each_section_by(
+    each_header_by(
         &LinksToNoSection,
         10,
         "link to no section",
@@ -234,13 +234,13 @@ pub fn links_to_no_section<S: Source, O: Sink, E: Sink>(
 #[derive(Clone, Copy)]
 struct InfosOfNoSection;
 
-impl SectionRule for InfosOfNoSection {
-    ghost finds = { rule.informs_of_nothing };
+impl HeaderRule for InfosOfNoSection {
+    ghost finds = { λ _. rule.informs_of_nothing };
 
     #[tactic(auto, unfolding(crate::specs::Sections::informs_of_nothing))]
-    fn finds<S: Source>(&self, elf: &mut Elf<S>, s: ScnId) -> Result<bool, Stop> {
+    fn finds<S: Source>(&self, elf: &Elf<S>, s: ScnId) -> bool {
         let h = section_header(elf, s);
-        Ok(info_is_section(&h) && h.info >= elf.shnum())
+        info_is_section(&h) && h.info >= elf.shnum()
     }
 }
 
@@ -256,7 +256,7 @@ pub fn infos_of_no_section<S: Source, O: Sink, E: Sink>(
     ensures { FindsOver S.Source O.Sink E.Sink 1 rule.infos_of_no_section name.now
         result elf.old elf.new outputs.old outputs.new }
 {
-    each_section_by(
+    each_header_by(
         &InfosOfNoSection,
         11,
         "info names no section",
@@ -270,16 +270,16 @@ pub fn infos_of_no_section<S: Source, O: Sink, E: Sink>(
 #[derive(Clone, Copy)]
 struct WrongEntrySizes;
 
-impl SectionRule for WrongEntrySizes {
-    ghost finds = { rule.has_wrong_entry_size };
+impl HeaderRule for WrongEntrySizes {
+    ghost finds = { λ _. rule.has_wrong_entry_size };
 
     #[tactic(auto, unfolding(crate::specs::Sections::has_wrong_entry_size))]
-    fn finds<S: Source>(&self, elf: &mut Elf<S>, s: ScnId) -> Result<bool, Stop> {
+    fn finds<S: Source>(&self, elf: &Elf<S>, s: ScnId) -> bool {
         let h = section_header(elf, s);
         let class = class(elf);
         let kind = kind_of(class, &h);
         let wrong = has_entries(kind) && h.entsize != item_size(kind, class);
-        Ok(is_looked_at(elf, s) && wrong)
+        is_looked_at(elf, s) && wrong
     }
 }
 
@@ -296,21 +296,21 @@ pub fn wrong_entry_sizes<S: Source, O: Sink, E: Sink>(
     ensures { FindsOver S.Source O.Sink E.Sink 1 rule.wrong_entry_sizes name.now
         result elf.old elf.new outputs.old outputs.new }
 {
-    each_section_by(&WrongEntrySizes, 12, "wrong entry size", name, elf, outputs)
+    each_header_by(&WrongEntrySizes, 12, "wrong entry size", name, elf, outputs)
 }
 
 /// Thread-local storage that is not allocated.
 #[derive(Clone, Copy)]
 struct UnallocatedStorage;
 
-impl SectionRule for UnallocatedStorage {
-    ghost finds = { rule.is_unallocated_storage };
+impl HeaderRule for UnallocatedStorage {
+    ghost finds = { λ _. rule.is_unallocated_storage };
 
     #[tactic(auto, unfolding(crate::specs::Sections::is_unallocated_storage))]
-    fn finds<S: Source>(&self, elf: &mut Elf<S>, s: ScnId) -> Result<bool, Stop> {
+    fn finds<S: Source>(&self, elf: &Elf<S>, s: ScnId) -> bool {
         let h = section_header(elf, s);
         let is_local = h.flags / SHF_TLS % 2 == 1;
-        Ok(is_intact(elf, s) && is_local && !is_allocated(&h))
+        is_intact(elf, s) && is_local && !is_allocated(&h)
     }
 }
 
@@ -326,7 +326,7 @@ pub fn unallocated_thread_storage<S: Source, O: Sink, E: Sink>(
     ensures { FindsOver S.Source O.Sink E.Sink 1 rule.unallocated_thread_storage name.now
         result elf.old elf.new outputs.old outputs.new }
 {
-    each_section_by(
+    each_header_by(
         &UnallocatedStorage,
         19,
         "thread-local but not allocated",

@@ -9,7 +9,7 @@ use elf_outside::{Sink, Source};
 use elf_types::constants::{SHN_UNDEF, SHT_DYNAMIC, SHT_GNU_HASH, SHT_GNU_VERSYM, SHT_HASH};
 use elf_types::{ScnId, Shdr};
 use lint_findings::{
-    SectionRule, class, each_section_by, is_looked_at, is_relocations, is_string_table,
+    HeaderRule, class, each_header_by, is_looked_at, is_relocations, is_string_table,
     is_symbol_table, linked_header,
 };
 use object_output::section_header;
@@ -26,15 +26,15 @@ fn goes_by_symbols(h: &Shdr) -> bool
 #[derive(Clone, Copy)]
 struct SymbolLinks;
 
-impl SectionRule for SymbolLinks {
-    ghost finds = { rule.symbols_lack_strings };
+impl HeaderRule for SymbolLinks {
+    ghost finds = { λ _. rule.symbols_lack_strings };
 
     #[tactic(auto, unfolding(crate::specs::Links::symbols_lack_strings))]
-    fn finds<S: Source>(&self, elf: &mut Elf<S>, s: ScnId) -> Result<bool, Stop> {
+    fn finds<S: Source>(&self, elf: &Elf<S>, s: ScnId) -> bool {
         let h = section_header(elf, s);
         let linked = linked_header(elf, s);
         let lacks = is_symbol_table(class(elf), &h) && !is_string_table(&linked);
-        Ok(is_looked_at(elf, s) && lacks)
+        is_looked_at(elf, s) && lacks
     }
 }
 
@@ -50,7 +50,7 @@ pub fn symbols_without_strings<S: Source, O: Sink, E: Sink>(
     ensures { FindsOver S.Source O.Sink E.Sink 1 rule.symbols_without_strings name.now
         result elf.old elf.new outputs.old outputs.new }
 {
-    each_section_by(
+    each_header_by(
         &SymbolLinks,
         15,
         "link is no string table",
@@ -64,15 +64,15 @@ pub fn symbols_without_strings<S: Source, O: Sink, E: Sink>(
 #[derive(Clone, Copy)]
 struct RelocationLinks;
 
-impl SectionRule for RelocationLinks {
-    ghost finds = { rule.relocations_lack_symbols };
+impl HeaderRule for RelocationLinks {
+    ghost finds = { λ _. rule.relocations_lack_symbols };
 
     #[tactic(auto, unfolding(crate::specs::Links::relocations_lack_symbols))]
-    fn finds<S: Source>(&self, elf: &mut Elf<S>, s: ScnId) -> Result<bool, Stop> {
+    fn finds<S: Source>(&self, elf: &Elf<S>, s: ScnId) -> bool {
         let h = section_header(elf, s);
         let linked = linked_header(elf, s);
         let lacks = h.link != SHN_UNDEF && !is_symbol_table(class(elf), &linked);
-        Ok(is_looked_at(elf, s) && is_relocations(&h) && lacks)
+        is_looked_at(elf, s) && is_relocations(&h) && lacks
     }
 }
 
@@ -88,7 +88,7 @@ pub fn relocations_without_symbols<S: Source, O: Sink, E: Sink>(
     ensures { FindsOver S.Source O.Sink E.Sink 1 rule.relocations_without_symbols name.now
         result elf.old elf.new outputs.old outputs.new }
 {
-    each_section_by(
+    each_header_by(
         &RelocationLinks,
         16,
         "link is no symbol table",
@@ -102,15 +102,15 @@ pub fn relocations_without_symbols<S: Source, O: Sink, E: Sink>(
 #[derive(Clone, Copy)]
 struct HashLinks;
 
-impl SectionRule for HashLinks {
-    ghost finds = { rule.hashes_lack_symbols };
+impl HeaderRule for HashLinks {
+    ghost finds = { λ _. rule.hashes_lack_symbols };
 
     #[tactic(auto, unfolding(crate::specs::Links::hashes_lack_symbols))]
-    fn finds<S: Source>(&self, elf: &mut Elf<S>, s: ScnId) -> Result<bool, Stop> {
+    fn finds<S: Source>(&self, elf: &Elf<S>, s: ScnId) -> bool {
         let h = section_header(elf, s);
         let linked = linked_header(elf, s);
         let lacks = goes_by_symbols(&h) && !is_symbol_table(class(elf), &linked);
-        Ok(is_looked_at(elf, s) && lacks)
+        is_looked_at(elf, s) && lacks
     }
 }
 
@@ -126,7 +126,7 @@ pub fn hashes_without_symbols<S: Source, O: Sink, E: Sink>(
     ensures { FindsOver S.Source O.Sink E.Sink 1 rule.hashes_without_symbols name.now
         result elf.old elf.new outputs.old outputs.new }
 {
-    each_section_by(
+    each_header_by(
         &HashLinks,
         17,
         "link is no symbol table",
@@ -140,15 +140,15 @@ pub fn hashes_without_symbols<S: Source, O: Sink, E: Sink>(
 #[derive(Clone, Copy)]
 struct DynamicLinks;
 
-impl SectionRule for DynamicLinks {
-    ghost finds = { rule.dynamic_lacks_strings };
+impl HeaderRule for DynamicLinks {
+    ghost finds = { λ _. rule.dynamic_lacks_strings };
 
     #[tactic(auto, unfolding(crate::specs::Links::dynamic_lacks_strings))]
-    fn finds<S: Source>(&self, elf: &mut Elf<S>, s: ScnId) -> Result<bool, Stop> {
+    fn finds<S: Source>(&self, elf: &Elf<S>, s: ScnId) -> bool {
         let h = section_header(elf, s);
         let linked = linked_header(elf, s);
         let lacks = h.stype == SHT_DYNAMIC && !is_string_table(&linked);
-        Ok(is_looked_at(elf, s) && lacks)
+        is_looked_at(elf, s) && lacks
     }
 }
 
@@ -164,7 +164,7 @@ pub fn dynamic_without_strings<S: Source, O: Sink, E: Sink>(
     ensures { FindsOver S.Source O.Sink E.Sink 1 rule.dynamic_without_strings name.now
         result elf.old elf.new outputs.old outputs.new }
 {
-    each_section_by(
+    each_header_by(
         &DynamicLinks,
         18,
         "link is no string table",

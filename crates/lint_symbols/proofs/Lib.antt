@@ -1,3 +1,4 @@
 mod ItemLemmas
+mod ScanLemmas
 mod TableLemmas
 mod RelocationLemmas

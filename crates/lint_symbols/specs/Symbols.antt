@@ -96,3 +96,4 @@ pub record IsTable (o : Object) (t : Table) : Type 0 where
   pub strings : t.strings.0 ≡ (header_at o t.section.0).link
   pub named : t.named ≡ is_string_table (linked_header o t.section.0)
   pub first_other : t.first_other ≡ (header_at o t.section.0).info
+  pub sections : t.sections ≡ length o.sections

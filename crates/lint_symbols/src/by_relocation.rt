@@ -1,15 +1,22 @@
-//! The relocations of a section, one by one, by the numbers of their symbols.
+//! The relocations of a section, by the numbers of their symbols. They are read once, as the bytes
+//! of the section, and looked through there; where the bytes are not at hand they are told one by
+//! one.
 
 ghost use Rattle.std.specs.Prelude.{◌≡◌, ◌<◌, ℕ, length, map, IfSome, IfNone, [], None};
 ghost use Rattle.elf_xlate.specs.declared.content.Items.{Items as TheItems};
 ghost use Rattle.elf_xlate.specs.Translation.{items_kind, items_count};
 ghost use Rattle.elf_object.specs.Answers.{items_at, lend_refusal};
+ghost use Rattle.tool_output.specs.Reports.{Reports};
+ghost use Rattle.tool_output.specs.Steps.{LeavesOutputs};
 ghost use Rattle.object_output.proofs.ListCounts.{rels_counted, relas_counted};
-ghost use Rattle.lint_findings.specs.Findings.{at_items};
+ghost use Rattle.bytes_at_hand.specs.Items.{held_items, AreWhole};
+ghost use Rattle.lint_findings.specs.Findings.{at_items, findings_shown};
 ghost use Rattle.lint_findings.specs.Looking.{if_lent};
 ghost use Rattle.lint_findings.specs.Steps.{FindsElf};
 ghost use Rattle.lint_symbols.specs.Relocations.{has_relocations, symbol_bound, symbol_numbers_of, passes_bound, AreRelocations};
 
+use crate::scans::{AtItems, load_items, show_found};
+use bytes_at_hand::{ItemBytes, ItemTest, items_at_hand};
 use elf_descriptor::Elf;
 use elf_outside::{Sink, Source};
 use elf_types::constants::SHN_UNDEF;
@@ -103,12 +110,12 @@ fn symbol_bound<S: Source>(elf: &Elf<S>, s: ScnId) -> Option<u64>
 }
 
 /// Whether a rule looks at the relocations of a section that is there.
-#[tactic(auto, unfolding(crate::specs::Relocations::has_relocations))]
+#[tactic(auto, using(lint_findings::proofs::WholeLemmas::either_first), unfolding(crate::specs::Relocations::has_relocations))]
 fn has_relocations<S: Source>(elf: &Elf<S>, s: ScnId) -> bool
     requires { s.0 < length elf.now.o.sections }
     ensures { result ≡ has_relocations elf.now.o s.0 }
 {
-    is_plain(elf, s) && is_relocations(&section_header(elf, s))
+    is_relocations(&section_header(elf, s)) && is_plain(elf, s)
 }
 
 /// The relocations of a section that is there, or None where a rule looks at none of it.
@@ -136,7 +143,8 @@ fn passes_bound(bound: Option<u64>, y: u32) -> bool
     }
 }
 
-/// Says what the rule finds at each of so many relocations of a section, by index.
+/// Says what the rule finds at each of so many relocations of a section, by index. They are told
+/// one by one.
 fn each_of<T: Relocation, S: Source, O: Sink, E: Sink>(
     by: &ByNoSymbol<'_>,
     elf: &mut Elf<S>,
@@ -166,6 +174,88 @@ fn each_of<T: Relocation, S: Source, O: Sink, E: Sink>(
     Ok(found)
 }
 
+/// The test of the rule: a relocation's symbol is not there.
+#[derive(Clone, Copy)]
+struct PastBound {
+    /// How many symbols there are.
+    bound: Option<u64>,
+}
+
+impl<T: Relocation> ItemTest<T> for PastBound {
+    ghost holds = { λ t i x. passes_bound t.bound (T.symbol x) };
+
+    #[inline(always)]
+    fn holds(&self, _i: u64, item: &T) -> bool {
+        passes_bound(self.bound, item.symbol())
+    }
+}
+
+/// Says what the rule finds at each relocation of a section whose bytes are at hand, by index.
+fn each_at_hand<T: Relocation, O: Sink, E: Sink>(
+    by: &ByNoSymbol<'_>,
+    r: Relocations,
+    items: &ItemBytes<'_>,
+    outputs: &mut Outputs<'_, O, E>,
+) -> Result<bool, Stop>
+    requires { AreWhole T.kind items.now }
+    ensures reports { Reports O.Sink E.Sink result outputs.old outputs.new
+        (findings_shown by.now.name.now (at_items by.now.number by.now.text.now r.section.0
+        (λ i x. passes_bound r.bound (T.symbol x)) (held_items T.kind T.list_of items.now))) }
+    ensures leaves { LeavesOutputs O.Sink E.Sink ⊥ result outputs.old outputs.new }
+{
+    let at = AtItems {
+        number: by.number,
+        text: by.text,
+        name: by.name,
+        section: r.section,
+    };
+    let test = PastBound { bound: r.bound };
+    show_found::<T, PastBound, O, E>(&at, &test, items, outputs)
+}
+
+/// Says what the rule finds at each of so many relocations of a section that was read, by index.
+fn each_loaded<T: Relocation, S: Source, O: Sink, E: Sink>(
+    by: &ByNoSymbol<'_>,
+    elf: &mut Elf<S>,
+    r: Relocations,
+    count: u64,
+    outputs: &mut Outputs<'_, O, E>,
+) -> Result<bool, Stop>
+    requires passed { lend_refusal elf.old.o T.kind r.section.0 0 ≡ None }
+    requires count { count ≡ length (T.list_of (items_at elf.old.o r.section.0 0)) }
+    ensures { FindsElf S.Source O.Sink E.Sink
+        (λ o. at_items by.now.number by.now.text.now r.section.0
+        (λ i x. passes_bound r.bound (T.symbol x)) (T.list_of (items_at o r.section.0 0)))
+        by.now.name.now result elf.old elf.new outputs.old outputs.new }
+{
+    match items_at_hand::<S, T>(elf, r.section) {
+        Some(items) => each_at_hand::<T, O, E>(by, r, &items, outputs),
+        None => each_of::<T, S, O, E>(by, elf, r, count, outputs),
+    }
+}
+
+/// Says what the rule finds at each of so many relocations of a section, by index. The section is
+/// read first.
+fn each_of_section<T: Relocation, S: Source, O: Sink, E: Sink>(
+    by: &ByNoSymbol<'_>,
+    elf: &mut Elf<S>,
+    r: Relocations,
+    count: u64,
+    outputs: &mut Outputs<'_, O, E>,
+) -> Result<bool, Stop>
+    requires passed { lend_refusal elf.old.o T.kind r.section.0 0 ≡ None }
+    requires count { count ≡ length (T.list_of (items_at elf.old.o r.section.0 0)) }
+    ensures { FindsElf S.Source O.Sink E.Sink
+        (λ o. at_items by.now.number by.now.text.now r.section.0
+        (λ i x. passes_bound r.bound (T.symbol x)) (T.list_of (items_at o r.section.0 0)))
+        by.now.name.now result elf.old elf.new outputs.old outputs.new }
+{
+    match load_items::<S, T>(elf, r.section, count) {
+        Ok(()) => each_loaded::<T, S, O, E>(by, elf, r, count, outputs),
+        Err(stop) => Err(stop),
+    }
+}
+
 /// Says what the rule finds at each relocation of a section, by index. A section whose relocations
 /// can not be told has none.
 pub fn each_relocation<T: Relocation, S: Source, O: Sink, E: Sink>(
@@ -186,7 +276,7 @@ pub fn each_relocation<T: Relocation, S: Source, O: Sink, E: Sink>(
         piece: 0,
     };
     match item_count::<S, T>(elf, d) {
-        Ok(count) => each_of::<T, S, O, E>(by, elf, r, count, outputs),
+        Ok(count) => each_of_section::<T, S, O, E>(by, elf, r, count, outputs),
         Err(_) => Ok(false),
     }
 }

@@ -1,21 +1,27 @@
-//! Rules that look at each symbol of each symbol table. Its symbols are told one by one, so a table
-//! is held once, as the bytes of its section, whatever the number of rules. For a rule that looks
-//! at their names the end of the strings is looked for once a table.
+//! Rules that look at each symbol of each symbol table. A table is read once, as the bytes of its
+//! section, whatever the number of rules, and each rule looks through these bytes. For a rule that
+//! looks at the names of symbols the end of the strings is looked for once a table. Where the bytes
+//! are not at hand, or the end is not known, the symbols are told one by one.
 
 ghost use Rattle.std.specs.Prelude.{◌≡◌, ◌<◌, ℕ, Bool as TheBool, length, IfOk, IfSome, IfNone, IsTrue, None, [], true};
 ghost use Rattle.elf_types.specs.declared.records.Sym.{Sym as TheSym};
 ghost use Rattle.elf_types.specs.declared.records.Kind.TheVariants as kinds;
 ghost use Rattle.elf_object.specs.Object.{Object};
-ghost use Rattle.elf_object.specs.Answers.{lend_refusal};
+ghost use Rattle.elf_object.specs.Answers.{lend_refusal, syms_of};
+ghost use Rattle.tool_output.specs.Reports.{Reports};
+ghost use Rattle.tool_output.specs.Steps.{LeavesOutputs};
 ghost use Rattle.object_output.specs.Steps.{Learns, ReadsElf};
+ghost use Rattle.bytes_at_hand.specs.Items.{held_items, AreItems, AreWhole};
 ghost use Rattle.bytes_at_hand.specs.Strings.{EndsAt};
 ghost use Rattle.lint_findings.specs.declared.places.Place.TheVariants.{Item};
 ghost use Rattle.lint_findings.specs.Findings.{at_items, finding, findings_shown, found_if};
 ghost use Rattle.lint_findings.specs.Looking.{symbols as stated_symbols};
 ghost use Rattle.lint_findings.specs.Steps.{FindsElf, FindsOver};
 ghost use Rattle.lint_symbols.specs.Symbols.{at_symbols, at_symbols_of, has_symbols, symbols_of, IsTable};
+ghost use Rattle.lint_symbols.specs.Tests.{Agrees, Telling, TestOfTable};
 
-use bytes_at_hand::strings_end;
+use crate::scans::{AtItems, load_items, show_found};
+use bytes_at_hand::{ItemBytes, ItemTest, items_at_hand, strings_end};
 use elf_descriptor::Elf;
 use elf_outside::{Sink, Source};
 use elf_types::{DataId, ScnId, Sym};
@@ -39,14 +45,30 @@ pub struct Table {
     pub named: bool,
     /// `sh_info`, the index of the first symbol that is not local.
     pub first_other: u32,
+    /// How many sections there are.
+    pub sections: u32,
 }
 
 /// A rule that has at most one finding a symbol.
 ///
 /// - `finds` tells whether it has one, by the object, the section's number, and the symbol with its
 ///   index.
+/// - `tells` tells whether a table and the end of its strings are all that its test needs.
+/// - `holds` is its test by these.
 pub trait SymbolRule {
     ghost finds: { Object → ℕ → ℕ → TheSym → TheBool };
+
+    ghost tells: { Telling };
+
+    ghost holds: { TestOfTable };
+
+    /// Whether a table, and the end of its strings where that is known, are all that its test needs.
+    fn tells(&self, t: &Table, end: Option<u64>) -> bool
+        ensures { result ≡ tells t.now end };
+
+    /// Whether it has a finding at symbol `i` of a table, by these alone.
+    fn holds(&self, t: &Table, end: Option<u64>, i: u64, x: &Sym) -> bool
+        ensures { result ≡ holds t.now end i x.now };
 
     /// Whether it has a finding at symbol `i` of a table, whose strings end there where that is
     /// known. It stops by `Read` where a read of the source failed, and by `Memory`.
@@ -61,6 +83,9 @@ pub trait SymbolRule {
         requires table { IsTable elf.old.o t }
         requires end { IsTrue elf.old.told → IfSome end (EndsAt elf.old.o t.strings.0) }
         ensures { Learns S.Source (λ o. finds o t.section.0 i x) result elf.old elf.new };
+
+    // The test by an object is that by a table of it.
+    ghost agrees: { Agrees finds tells holds };
 }
 
 /// The table of a section that is there, with so many symbols.
@@ -79,16 +104,17 @@ fn table_with<S: Source>(elf: &Elf<S>, s: ScnId, count: u64) -> Table
         strings: ScnId(header.link),
         named: is_string_table(&linked_header(elf, s)),
         first_other: header.info,
+        sections: elf.shnum(),
     }
 }
 
 /// Whether rules look at the symbols of a section that is there.
-#[tactic(auto, unfolding(crate::specs::Symbols::has_symbols))]
+#[tactic(auto, using(lint_findings::proofs::WholeLemmas::either_first), unfolding(crate::specs::Symbols::has_symbols))]
 fn has_symbols<S: Source>(elf: &Elf<S>, s: ScnId) -> bool
     requires { s.0 < length elf.now.o.sections }
     ensures { result ≡ has_symbols elf.now.o s.0 }
 {
-    is_plain(elf, s) && is_symbol_table(class(elf), &section_header(elf, s))
+    is_symbol_table(class(elf), &section_header(elf, s)) && is_plain(elf, s)
 }
 
 /// The symbol table of a section that is there, or None where rules look at no symbols of it.
@@ -154,7 +180,7 @@ fn show_symbol<R: SymbolRule, S: Source, O: Sink, E: Sink>(
     }
 }
 
-/// Says what a rule finds at each symbol of a table, by index.
+/// Says what a rule finds at each symbol of a table, by index. The symbols are told one by one.
 fn each_symbol<R: SymbolRule, S: Source, O: Sink, E: Sink>(
     by: &BySymbol<'_, R>,
     elf: &mut Elf<S>,
@@ -180,6 +206,114 @@ fn each_symbol<R: SymbolRule, S: Source, O: Sink, E: Sink>(
         found = found | was_found;
     }
     Ok(found)
+}
+
+/// The test of a rule at the symbols of a table.
+#[derive(Drop)]
+struct TableTest<'a, R> {
+    /// The rule.
+    rule: &'a R,
+    /// The table.
+    table: Table,
+    /// Where its strings end, where that is known.
+    end: Option<u64>,
+}
+
+impl<R: SymbolRule> ItemTest<Sym> for TableTest<'_, R> {
+    ghost holds = { λ t i x. R.holds t.table t.end i x };
+
+    #[inline(always)]
+    fn holds(&self, i: u64, x: &Sym) -> bool {
+        let rule = self.rule;
+        rule.holds(&self.table, self.end, i, x)
+    }
+}
+
+/// Says what a rule finds at each symbol of a table whose bytes are at hand, by index.
+fn each_at_hand<R: SymbolRule, O: Sink, E: Sink>(
+    by: &BySymbol<'_, R>,
+    t: Table,
+    end: Option<u64>,
+    items: &ItemBytes<'_>,
+    outputs: &mut Outputs<'_, O, E>,
+) -> Result<bool, Stop>
+    requires { AreWhole kinds.Sym items.now }
+    ensures reports { Reports O.Sink E.Sink result outputs.old outputs.new
+        (findings_shown by.now.name.now (at_items by.now.number by.now.text.now t.section.0
+        (R.holds t end) (held_items kinds.Sym syms_of items.now))) }
+    ensures leaves { LeavesOutputs O.Sink E.Sink ⊥ result outputs.old outputs.new }
+{
+    let at = AtItems {
+        number: by.number,
+        text: by.text,
+        name: by.name,
+        section: t.section,
+    };
+    let test = TableTest {
+        rule: by.rule,
+        table: t,
+        end,
+    };
+    show_found::<Sym, TableTest<'_, R>, O, E>(&at, &test, items, outputs)
+}
+
+/// The symbols of a table, where their bytes are at hand and tell what a rule finds.
+fn symbols_told<'e, R: SymbolRule, S: Source>(
+    by: &BySymbol<'_, R>,
+    elf: &'e Elf<S>,
+    t: Table,
+    end: Option<u64>,
+) -> Option<ItemBytes<'e>>
+    ensures tells { IfSome result (λ b. R.tells t end ≡ true) }
+    ensures are { IfSome result (λ b. AreItems kinds.Sym syms_of elf.now t.section.0 b) }
+{
+    let rule = by.rule;
+    if !rule.tells(&t, end) {
+        return None;
+    }
+    items_at_hand::<S, Sym>(elf, t.section)
+}
+
+/// Says what a rule finds at each symbol of a table that was read, by index.
+fn each_loaded<R: SymbolRule, S: Source, O: Sink, E: Sink>(
+    by: &BySymbol<'_, R>,
+    elf: &mut Elf<S>,
+    t: Table,
+    end: Option<u64>,
+    outputs: &mut Outputs<'_, O, E>,
+) -> Result<bool, Stop>
+    requires table { IsTable elf.old.o t }
+    requires end { IsTrue elf.old.told → IfSome end (EndsAt elf.old.o t.strings.0) }
+    ensures { FindsElf S.Source O.Sink E.Sink
+        (λ o. at_items by.now.number by.now.text.now t.section.0 (R.finds o t.section.0)
+        (stated_symbols o t.section.0)) by.now.name.now
+        result elf.old elf.new outputs.old outputs.new }
+{
+    match symbols_told(by, elf, t, end) {
+        Some(items) => each_at_hand(by, t, end, &items, outputs),
+        None => each_symbol(by, elf, t, end, outputs),
+    }
+}
+
+/// Says what a rule finds at each symbol of a table, by index. The table is read first.
+fn each_of_table<R: SymbolRule, S: Source, O: Sink, E: Sink>(
+    by: &BySymbol<'_, R>,
+    elf: &mut Elf<S>,
+    t: Table,
+    end: Option<u64>,
+    outputs: &mut Outputs<'_, O, E>,
+) -> Result<bool, Stop>
+    requires table { IsTable elf.old.o t }
+    requires end { IsTrue elf.old.told → IfSome end (EndsAt elf.old.o t.strings.0) }
+    ensures { FindsElf S.Source O.Sink E.Sink
+        (λ o. at_items by.now.number by.now.text.now t.section.0 (R.finds o t.section.0)
+        (stated_symbols o t.section.0)) by.now.name.now
+        result elf.old elf.new outputs.old outputs.new }
+{
+    match load_items::<S, Sym>(elf, t.section, t.count) {
+        Ok(()) => each_loaded(by, elf, t, end, outputs),
+        Err(stop) => Err(stop),
+    }
 }
 
 /// Where the strings of a table end, where a rule looks at the names of its symbols and that can be
@@ -209,7 +343,7 @@ fn show_table<R: SymbolRule, S: Source, O: Sink, E: Sink>(
         result elf.old elf.new outputs.old outputs.new }
 {
     match end_of_names(by.names, elf, t) {
-        Ok(end) => each_symbol(by, elf, t, end, outputs),
+        Ok(end) => each_of_table(by, elf, t, end, outputs),
         Err(stop) => Err(stop),
     }
 }

@@ -4,6 +4,7 @@
 mod by_relocation;
 mod by_symbol;
 mod relocations;
+mod scans;
 mod symbols;
 
 pub use relocations::relocations_by_no_symbol;

@@ -5,9 +5,11 @@ ghost use Rattle.lint_findings.specs.Findings.{findings_shown};
 ghost use Rattle.lint_findings.specs.Looking.{symbols as stated_symbols};
 ghost use Rattle.lint_symbols.specs.Symbols as rule;
 ghost use Rattle.lint_symbols.specs.Symbols.{IsTable};
+ghost use Rattle.lint_symbols.specs.Tests as tests;
 ghost use Rattle.lint_findings.specs.Steps.{FindsElf, FindsOver};
 
 use crate::by_symbol::{SymbolRule, Table, each_symbol_by, table_of};
+use bytes_at_hand::is_past;
 use elf_descriptor::Elf;
 use elf_outside::{Sink, Source};
 use elf_types::constants::SHN_LORESERVE;
@@ -97,6 +99,19 @@ struct SymbolNames;
 impl SymbolRule for SymbolNames {
     ghost finds = { rule.has_no_name };
 
+    ghost tells = { tests.tells_names };
+
+    ghost holds = { tests.lacks_name };
+
+    fn tells(&self, t: &Table, end: Option<u64>) -> bool {
+        !t.named || end.is_some()
+    }
+
+    #[inline(always)]
+    fn holds(&self, t: &Table, end: Option<u64>, _i: u64, x: &Sym) -> bool {
+        t.named && is_past(end, u64::from(x.name))
+    }
+
     #[tactic(auto, unfolding(crate::specs::Symbols::has_no_name))]
     fn finds<S: Source>(
         &self,
@@ -119,6 +134,8 @@ impl SymbolRule for SymbolNames {
             Err(stop) => Err(stop),
         }
     }
+
+    ghost agrees = { tests.names_agree };
 }
 
 /// Rule 22, at each symbol of a table that links to a string table: its name cannot be read.
@@ -151,17 +168,32 @@ struct LateLocals;
 impl SymbolRule for LateLocals {
     ghost finds = { rule.is_late_local };
 
+    ghost tells = { tests.tells_all };
+
+    ghost holds = { tests.is_behind_others };
+
+    fn tells(&self, _t: &Table, _end: Option<u64>) -> bool {
+        true
+    }
+
+    #[inline(always)]
+    fn holds(&self, t: &Table, _end: Option<u64>, i: u64, x: &Sym) -> bool {
+        is_local(x) && i >= u64::from(t.first_other)
+    }
+
     #[tactic(auto, unfolding(crate::specs::Symbols::is_late_local))]
     fn finds<S: Source>(
         &self,
         _elf: &mut Elf<S>,
         t: Table,
-        _end: Option<u64>,
+        end: Option<u64>,
         i: u64,
         x: Sym,
     ) -> Result<bool, Stop> {
-        Ok(is_local(&x) && i >= u64::from(t.first_other))
+        Ok(self.holds(&t, end, i, &x))
     }
+
+    ghost agrees = { tests.locals_agree };
 }
 
 /// Rule 23, at each local symbol: its index is not below that of the first other.
@@ -194,17 +226,32 @@ struct EarlyOthers;
 impl SymbolRule for EarlyOthers {
     ghost finds = { rule.is_early_other };
 
+    ghost tells = { tests.tells_all };
+
+    ghost holds = { tests.is_before_others };
+
+    fn tells(&self, _t: &Table, _end: Option<u64>) -> bool {
+        true
+    }
+
+    #[inline(always)]
+    fn holds(&self, t: &Table, _end: Option<u64>, i: u64, x: &Sym) -> bool {
+        !is_local(x) && i < u64::from(t.first_other)
+    }
+
     #[tactic(auto, unfolding(crate::specs::Symbols::is_early_other))]
     fn finds<S: Source>(
         &self,
         _elf: &mut Elf<S>,
         t: Table,
-        _end: Option<u64>,
+        end: Option<u64>,
         i: u64,
         x: Sym,
     ) -> Result<bool, Stop> {
-        Ok(!is_local(&x) && i < u64::from(t.first_other))
+        Ok(self.holds(&t, end, i, &x))
     }
+
+    ghost agrees = { tests.others_agree };
 }
 
 /// Rule 24, at each symbol that is not local: its index is below that of the first such.
@@ -237,18 +284,33 @@ struct SymbolSections;
 impl SymbolRule for SymbolSections {
     ghost finds = { rule.is_of_no_section };
 
+    ghost tells = { tests.tells_all };
+
+    ghost holds = { tests.lacks_section };
+
+    fn tells(&self, _t: &Table, _end: Option<u64>) -> bool {
+        true
+    }
+
+    #[inline(always)]
+    fn holds(&self, t: &Table, _end: Option<u64>, _i: u64, x: &Sym) -> bool {
+        let index = u32::from(x.shndx);
+        index >= t.sections && index < SHN_LORESERVE
+    }
+
     #[tactic(auto, unfolding(crate::specs::Symbols::is_of_no_section))]
     fn finds<S: Source>(
         &self,
-        elf: &mut Elf<S>,
-        _t: Table,
-        _end: Option<u64>,
-        _i: u64,
+        _elf: &mut Elf<S>,
+        t: Table,
+        end: Option<u64>,
+        i: u64,
         x: Sym,
     ) -> Result<bool, Stop> {
-        let index = u32::from(x.shndx);
-        Ok(index >= elf.shnum() && index < SHN_LORESERVE)
+        Ok(self.holds(&t, end, i, &x))
     }
+
+    ghost agrees = { tests.sections_agree };
 }
 
 /// Rule 25, at each symbol: its section index is not reserved, and is not below the number of

@@ -14,7 +14,7 @@ use Rattle.gelf_view.specs.Records.{string_front}
 use Rattle.tool_output.specs.Lines.{numbered_lines}
 use Rattle.tool_output.specs.Reports.{shown, joined}
 use Rattle.tool_output.proofs.UnderWayLemmas.{shown_append}
-use Rattle.readelf_blocks.proofs.AtHandLemmas.{all_before}
+use Rattle.bytes_at_hand.proofs.HeldItems.{all_before}
 use Rattle.readelf_rows.specs.Links.{AreLinks}
 use Rattle.readelf_blocks.specs.RelocationLines.{symbol_in, name_by, relocation_line, relocation_name}
 use Rattle.readelf_blocks.specs.AtHand.{IsAtHand, symbol_of}

@@ -1,27 +1,18 @@
 -- A table of which the bytes are at hand: they were read and not edited. Its items, the symbols
 -- that they name and the names of these are then those that the bytes hold.
-use Rattle.std.specs.Prelude.{◌≡◌, ℕ, List, length, slice_get, None, Option, IsTrue}
+use Rattle.std.specs.Prelude.{◌≡◌, ℕ, List, length, slice_get, Option, IsTrue}
 use Rattle.elf_types.specs.declared.records.Kind.{Kind}
 use Rattle.elf_types.specs.declared.records.Kind.TheVariants as kinds
 use Rattle.elf_types.specs.declared.records.Sym.{Sym}
 use Rattle.elf_xlate.specs.declared.content.Items.{Items}
 use Rattle.elf_xlate.specs.Translation.{is_whole}
-use Rattle.elf_object.specs.Answers.{items_at, lend_refusal, syms_of}
+use Rattle.elf_object.specs.Answers.{items_at, syms_of}
 use Rattle.elf_descriptor.specs.State.{State}
 use Rattle.section_data.specs.Held.{items_of_bytes}
 use Rattle.bytes_at_hand.specs.Strings.{HoldsStrings}
 use Rattle.readelf_blocks.specs.RelocationLines.{symbol_in}
 use Rattle.readelf_rows.specs.declared.links.Table.{Table}
 use Rattle.readelf_blocks.specs.declared.at_hand.TableBytes.{TableBytes}
-
--- the bytes are whole items of a kind, and those that a section has where the source tells its
--- bytes
-pub record HoldsItems {A S : Type 0} (kind : Kind) (list_of : Items → List A) (state : State S)
-    (s : ℕ) (bytes : List ℕ) : Type 0 where
-  pub whole : IsTrue (is_whole kind state.o.header.class (length bytes))
-  pub lent : lend_refusal state.o kind s 0 ≡ None
-  pub items : IsTrue state.told → list_of (items_at state.o s 0)
-      ≡ list_of (items_of_bytes kind state.o.header.class state.o.header.order bytes)
 
 -- symbol y of those at hand
 abbrev pub symbol_of : TableBytes → ℕ → Option Sym

@@ -11,9 +11,9 @@ ghost use Rattle.readelf_blocks.specs.declared.relocation_lines.Entry.{Entry as 
 ghost use Rattle.readelf_blocks.specs.Blocks as blocks;
 ghost use Rattle.readelf_blocks.specs.Blocks.{rel_entry, rela_entry, line_row, found_row, HasBytes, items_in, block_rows, table_row};
 
-use crate::at_hand::{TableBytes, item_of, most_items};
+use crate::at_hand::TableBytes;
 use crate::relocation_lines::{Entry, RelocationLine};
-use bytes_at_hand::string_from;
+use bytes_at_hand::{item_of, most_items, string_from};
 use elf_outside::Sink;
 use elf_types::{ElfError, List, Rel, Rela, Sym};
 use section_data::Item;

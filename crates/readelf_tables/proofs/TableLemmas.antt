@@ -8,7 +8,7 @@ use Rattle.elf_object.specs.Answers.{count_at, items_at}
 use Rattle.tool_output.specs.Lines.{numbered_lines}
 use Rattle.tool_output.specs.Reports.{shown, joined}
 use Rattle.tool_output.proofs.UnderWayLemmas.{lines_left}
-use Rattle.readelf_blocks.proofs.AtHandLemmas.{all_before}
+use Rattle.bytes_at_hand.proofs.HeldItems.{all_before}
 use Rattle.readelf_tables.specs.Tables.{row_at, table_title}
 
 module _ {A : Type 0} (line : ℕ → A → List ℕ) (xs : List A) (i : ℕ) where

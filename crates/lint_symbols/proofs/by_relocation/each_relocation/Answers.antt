@@ -9,12 +9,12 @@ use Rattle.lint_symbols.specs.Relocations.{passes_bound}
 use Rattle.lint_symbols.proofs.RelocationLemmas.{items_mapped, no_items}
 use Rattle.lint_symbols.proofs.by_relocation.each_relocation.Goals as goal
 
-pub each_of-requires-clause-passed : goal.each_of-requires-clause-passed
-each_of-requires-clause-passed g c =
+pub each_of_section-requires-clause-passed : goal.each_of_section-requires-clause-passed
+each_of_section-requires-clause-passed g c =
     (lent_count c.args.elf.now.o c.args.r.section.0 g.T.Listed.kind g.T.Listed.list_of g.met.T.Relocation.counted_in c.in-Ok.count c.in-Ok.ensures.answer).0
 
-pub each_of-requires-clause-count : goal.each_of-requires-clause-count
-each_of-requires-clause-count g c =
+pub each_of_section-requires-clause-count : goal.each_of_section-requires-clause-count
+each_of_section-requires-clause-count g c =
     (lent_count c.args.elf.now.o c.args.r.section.0 g.T.Listed.kind g.T.Listed.list_of g.met.T.Relocation.counted_in c.in-Ok.count c.in-Ok.ensures.answer).1
 
 pub returns-in-Ok : goal.returns-in-Ok
@@ -29,7 +29,7 @@ returns-in-Ok g c =
     (λ told. ap (findings_shown by.name.now)
     (items_mapped by.number by.text.now s (λ i y. passes_bound c.args.r.bound y) symbol (if_lent (lend_refusal o g.T.Listed.kind s 0) xs)
     ∙ ap (at_items by.number by.text.now s (λ i x. passes_bound c.args.r.bound (symbol x))) (lent (lend_refusal o g.T.Listed.kind s 0) xs count.0)))
-    c.each_of.ensures
+    c.each_of_section.ensures
 
 pub returns-in-Err : goal.returns-in-Err
 returns-in-Err g c =

@@ -5,19 +5,19 @@ use Rattle.lint_symbols.specs.Symbols.{IsTable}
 use Rattle.bytes_at_hand.proofs.Ends.{end_stays}
 use Rattle.lint_symbols.proofs.by_symbol.show_table.Goals as goal
 
-pub each_symbol-requires-clause-table : goal.each_symbol-requires-clause-table
-each_symbol-requires-clause-table g c =
+pub each_of_table-requires-clause-table : goal.each_of_table-requires-clause-table
+each_of_table-requires-clause-table g c =
     subst (λ (o : Object). IsTable o c.args.t) (sym c.in-Ok.ensures.reads.elf.object) c.requires
 
-pub each_symbol-requires-clause-end : goal.each_symbol-requires-clause-end
-each_symbol-requires-clause-end g c =
+pub each_of_table-requires-clause-end : goal.each_of_table-requires-clause-end
+each_of_table-requires-clause-end g c =
     end_stays g.S.Source c.args.elf.now c.end_of_names.new.elf c.args.t.strings.0 c.in-Ok.end
     c.in-Ok.ensures.reads.elf c.in-Ok.ensures.end
 
 pub returns-in-Ok : goal.returns-in-Ok
 returns-in-Ok g c =
     elf_after g.S.Source g.O.Sink g.E.Sink _ _ _ c.args.elf.now c.end_of_names.new.elf _
-    c.args.outputs.now _ c.in-Ok.ensures.reads.elf c.each_symbol.ensures (λ told. refl)
+    c.args.outputs.now _ c.in-Ok.ensures.reads.elf c.each_of_table.ensures (λ told. refl)
 
 pub returns-in-Err : goal.returns-in-Err
 returns-in-Err g c =

@@ -2,8 +2,8 @@ use Rattle.std.proofs.Common.{◌/◌, ◌<◌, ℕ, length, ap, ◌∙◌, arit
 use Rattle.std.proofs.Math.Nat.{div-lt_iff_lt-mul}
 use Rattle.elf_xlate.specs.Items.{item_size}
 use Rattle.section_data.proofs.Items.{entry_past}
-use Rattle.readelf_blocks.proofs.AtHandLemmas.{all_before, no_entry_at}
-use Rattle.readelf_blocks.proofs.at_hand.most_items.Goals as goal
+use Rattle.bytes_at_hand.proofs.HeldItems.{all_before, no_entry_at}
+use Rattle.bytes_at_hand.proofs.items.most_items.Goals as goal
 
 pub returns-clause-items : goal.returns-clause-items
 returns-clause-items g c =

@@ -1,8 +1,8 @@
 use Rattle.std.proofs.Common.{sym}
 use Rattle.elf_object.proofs.AnswerLaws.{answered_value}
 use Rattle.bytes_at_hand.proofs.Ends.{some_weaker}
-use Rattle.readelf_blocks.proofs.AtHandLemmas.{holds_items}
-use Rattle.readelf_blocks.proofs.at_hand.item_bytes.Goals as goal
+use Rattle.bytes_at_hand.proofs.HeldItems.{holds_items}
+use Rattle.bytes_at_hand.proofs.items.item_bytes.Goals as goal
 
 pub returns-in-Ok : goal.returns-in-Ok
 returns-in-Ok g c =

@@ -2,8 +2,8 @@ use Rattle.std.proofs.Common.{◌≡◌, ◌≤◌, ◌<◌, ◌*◌, ◌/◌, �
 use Rattle.elf_xlate.specs.Items.{item_size}
 use Rattle.elf_object.proofs.AnswerLaws.{entry_value}
 use Rattle.section_data.proofs.Items.{entry_there, entry_past}
-use Rattle.readelf_blocks.proofs.AtHandLemmas.{no_entry_at}
-use Rattle.readelf_blocks.proofs.at_hand.item_of.Goals as goal
+use Rattle.bytes_at_hand.proofs.HeldItems.{no_entry_at}
+use Rattle.bytes_at_hand.proofs.items.item_of.Goals as goal
 
 pub returns-in-Some : goal.returns-in-Some
 returns-in-Some g c =

@@ -1,0 +1,14 @@
+use Rattle.std.proofs.Common.{◌≡◌, ◌≤◌}
+use Rattle.section_data.specs.Held.{items_of_bytes}
+use Rattle.bytes_at_hand.specs.Items.{passing_from}
+use Rattle.bytes_at_hand.proofs.scans.next_in.Given as goal
+
+-- of those that pass, none stands before the place that is looked at
+abbrev pub invariant-loop-i : goal.invariant-loop-i
+invariant-loop-i g l =
+    let items = g.T.Listed.list_of (items_of_bytes g.T.Listed.kind l.class l.order l.bytes) in
+    let holds = g.C.ItemTest.holds l.test in
+    record {
+      begun : l.from ≤ l.i;
+      left : passing_from holds items l.from ≡ passing_from holds items l.i;
+    }
