@@ -124,7 +124,14 @@ fn names_past<S: Source, O: Sink, E: Sink>(
     ensures { FindsOver S.Source O.Sink E.Sink 1 rule.unreadable_section_names name.now
         result elf.old elf.new outputs.old outputs.new }
 {
-    each_header_by(&NamesPast { end }, 5, "name cannot be read", name, elf, outputs)
+    each_header_by(
+        &NamesPast { end },
+        5,
+        "name cannot be read",
+        name,
+        elf,
+        outputs,
+    )
 }
 
 /// Says what the rule finds where the end of the names is not known.
