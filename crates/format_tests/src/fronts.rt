@@ -4,11 +4,12 @@ mod refusals;
 
 use elf_ident::{FileKind, Front, kind_of_source, read_front};
 use elf_outside::MemSource;
-use elf_types::{Class, Ehdr, ElfError, Octets, Order};
+use elf_types::{Class, Ehdr, ElfError, Octets, Order, Shdr};
 use elf_xlate::{ehdr_size, phdr_size, shdr_size};
 use std::alloc::Global;
 use test_images::{
-    FORMS, Field, Image, SectionField, SegmentField, header_alone, numbers_in_section_0, two_tables,
+    FORMS, Field, Image, NULL_SECTION, SectionField, SegmentField, filled, header_alone, header_of,
+    numbers_in_section_0, two_tables,
 };
 use test_sources::source;
 
@@ -236,4 +237,110 @@ fn failed_reads_are_named(alloc: Global) -> bool {
 #[test]
 fn a_failed_read_is_named(rt: HostRuntime) {
     assert!(rt; failed_reads_are_named(rt.alloc()));
+}
+
+/// How many section headers there are in a large table: those of two reads, and some more.
+const LARGE: u32 = 2500;
+
+/// The numbers of the first and the last section header of each read of it. They have their number
+/// as their address, and the others are zeros.
+static ENDS: [u64; 6] = [0, 1023, 1024, 2047, 2048, 2499];
+
+/// Puts those section headers.
+fn put_ends(image: &mut Image) -> Result<(), ElfError> {
+    for number in ENDS.iter() {
+        let header = Shdr {
+            addr: *number,
+            ..NULL_SECTION
+        };
+        image.put_section(*number, &header)?;
+    }
+    Ok(())
+}
+
+/// An image that is a header and a large table.
+fn large_table(alloc: Global, class: Class, order: Order) -> Result<Image, ElfError> {
+    let header = Ehdr {
+        shoff: ehdr_size(class) as u64,
+        shentsize: shdr_size(class) as u16,
+        shnum: LARGE,
+        ..header_of(class, order)
+    };
+    let mut image = Image::new(alloc, header, [0; 7])?;
+    let put = put_ends(&mut image);
+    filled(image, put)
+}
+
+/// The address of a section header of a large table.
+fn address_of(number: u64) -> u64 {
+    if ENDS.contains(&number) { number } else { 0 }
+}
+
+/// Whether a front has a large table.
+fn has_large_table(front: &Front) -> bool {
+    for number in 0..u64::from(LARGE) {
+        let Some(header) = front.shdrs.get(number) else {
+            return false;
+        };
+        if header.addr != address_of(number) {
+            return false;
+        }
+    }
+    front.shdrs.len() == u64::from(LARGE)
+}
+
+/// Whether that of a source is read, and nothing else.
+fn is_large(alloc: Global, src: &mut MemSource, class: Class) -> bool {
+    match read_front(alloc, src) {
+        Ok(front) => {
+            has_large_table(&front) && src.asked() == tables_size(class, 0, u64::from(LARGE))
+        }
+        Err(_) => false,
+    }
+}
+
+/// Whether that of these bytes is.
+fn is_large_of(alloc: Global, bytes: Octets, class: Class) -> bool {
+    match source(alloc, bytes, 0) {
+        Ok(mut src) => is_large(alloc, &mut src, class),
+        Err(_) => false,
+    }
+}
+
+/// Whether that in a form is.
+fn is_large_in(alloc: Global, class: Class, order: Order) -> bool {
+    match large_table(alloc, class, order) {
+        Ok(image) => is_large_of(alloc, image.bytes, class),
+        Err(_) => false,
+    }
+}
+
+/// Whether it is in all forms.
+fn large_tables_are_read(alloc: Global) -> bool {
+    for (class, order) in FORMS.iter() {
+        if !is_large_in(alloc, *class, *order) {
+            return false;
+        }
+    }
+    true
+}
+
+#[test]
+fn a_table_of_several_reads_is_whole(rt: HostRuntime) {
+    assert!(rt; large_tables_are_read(rt.alloc()));
+}
+
+/// Whether a failed read of a large table is named.
+fn is_large_named(alloc: Global, bad_read: u64) -> bool {
+    match large_table(alloc, Class::C64, Order::Least) {
+        Ok(image) => is_named_of(alloc, image.bytes, bad_read),
+        Err(_) => false,
+    }
+}
+
+#[test]
+fn a_failed_read_in_a_table_is_named(rt: HostRuntime) {
+    // After the two of the header, the first and the last of the three of the table.
+    assert!(rt; is_large_named(rt.alloc(), 3));
+    assert!(rt; is_large_named(rt.alloc(), 5));
 }
