@@ -1,9 +1,8 @@
 //! The lines of the symbol tables. Where the strings of a table end is looked for before its rows:
-//! a name that begins behind that can not be read, and is not looked for.
+//! a name that begins behind that can not be read, and is not looked for. Where the bytes of a
+//! table and of its strings are at hand, its rows are told from these alone.
 
-ghost use Rattle.std.specs.Prelude.{◌≡◌, ◌++◌, ◌<◌, None, OnOk, IfErr, IfOk, IfSome, IsTrue};
-ghost use Rattle.std.specs.Option.{option_copied};
-ghost use Rattle.elf_types.specs.Writers.{WantsMemory};
+ghost use Rattle.std.specs.Prelude.{◌<◌, None, IfOk, IfSome, IsTrue};
 ghost use Rattle.elf_types.specs.declared.records.Kind.TheVariants as kinds;
 ghost use Rattle.elf_object.specs.Answers.{items_at, syms_of};
 ghost use Rattle.elf_object.specs.Strings as strings;
@@ -12,131 +11,21 @@ ghost use Rattle.tool_output.specs.Reports.{Reports, shown};
 ghost use Rattle.tool_output.specs.Steps.{LeavesOutputs};
 ghost use Rattle.object_output.specs.Steps.{ReadsElf, ReportsElf, ReportsOver};
 ghost use Rattle.bytes_at_hand.specs.Strings.{EndsAt};
+ghost use Rattle.readelf_symbols.specs.SymbolLines.{symbol_line};
 ghost use Rattle.readelf_tables.specs.Tables.{row_at, HasRows};
-ghost use Rattle.readelf_tables.specs.Symbols.{SymbolsFit, special_text, place_text, symbol_start, symbol_names, symbol_end, symbol_line, symbol_row, symbols_title, symbols_of_section, holds_symbols, symbols_report};
+ghost use Rattle.readelf_tables.specs.Symbols.{SymbolsFit, symbol_row, symbols_title, symbols_of_section, holds_symbols, symbols_report};
 
 use crate::tables::{Row, Rows, show_table};
-use bytes_at_hand::{is_past, strings_end};
+use bytes_at_hand::{is_past, load, strings_end};
 use elf_descriptor::Elf;
 use elf_outside::{Sink, Source};
-use elf_types::constants::{SHN_ABS, SHN_COMMON, SHN_UNDEF, SHT_DYNSYM, SHT_SYMTAB};
-use elf_types::{
-    DataId, ElfError, Octets, ScnId, Sym, bind, binding_name, put_decimal, put_hex, put_text, stt,
-    symbol_type_name, vis, visibility_name,
-};
+use elf_types::constants::{SHT_DYNSYM, SHT_SYMTAB};
+use elf_types::{DataId, ScnId, Sym};
 use gelf_view::{SymPlace, shndx_table};
-use object_output::{Bracketed, item_there, string_at, symbol_place};
-use readelf_rows::{
-    Links, SectionPart, Table, each_plain, links_of, put_decimal_column, put_hex_column,
-    put_name_column, put_row_start,
-};
-use tool_output::{FileName, Line, Outputs, Stop};
-
-/// Appends a reserved index, by its name or in hexadecimal.
-#[tactic(auto, using(elf_types::proofs::Writers::kept), unfolding(crate::specs::Symbols::special_text))]
-fn put_special(page: &mut Octets, n: u32) -> Result<(), ElfError>
-    ensures ok { OnOk result (page.new ≡ page.old ++ special_text n) }
-    ensures err { IfErr result (WantsMemory page.old page.new) }
-{
-    if n == SHN_ABS {
-        return put_text(page, "ABS");
-    }
-    if n == SHN_COMMON {
-        return put_text(page, "COM");
-    }
-    put_text(page, "0x")?;
-    put_hex(page, u64::from(n))
-}
-
-/// Appends the section of a symbol.
-#[tactic(auto, using(elf_types::proofs::Writers::kept), unfolding(crate::specs::Symbols::place_text))]
-fn put_place(page: &mut Octets, x: &Sym, place: Option<SymPlace>) -> Result<(), ElfError>
-    ensures ok { OnOk result (page.new ≡ page.old ++ place_text x.now place) }
-    ensures err { IfErr result (WantsMemory page.old page.new) }
-{
-    match place {
-        None => put_text(page, "XINDEX"),
-        Some(SymPlace::Special(n)) => put_special(page, u32::from(n)),
-        Some(SymPlace::Section(n)) => {
-            if u32::from(x.shndx) == SHN_UNDEF {
-                put_text(page, "UND")
-            } else {
-                put_decimal(page, u64::from(n))
-            }
-        }
-    }
-}
-
-/// Appends `  I value 0xV size N`.
-#[tactic(auto, using(elf_types::proofs::Writers::kept), unfolding(crate::specs::Symbols::symbol_start))]
-fn put_start(page: &mut Octets, i: u64, x: &Sym) -> Result<(), ElfError>
-    ensures ok { OnOk result (page.new ≡ page.old ++ symbol_start i x.now) }
-    ensures err { IfErr result (WantsMemory page.old page.new) }
-{
-    put_row_start(page, i)?;
-    put_hex_column(page, "value", x.value)?;
-    put_decimal_column(page, "size", x.size)
-}
-
-/// Appends ` type T bind B vis V`.
-#[tactic(auto, using(elf_types::proofs::Writers::kept), unfolding(crate::specs::Symbols::symbol_names))]
-fn put_names(page: &mut Octets, x: &Sym) -> Result<(), ElfError>
-    ensures ok { OnOk result (page.new ≡ page.old ++ symbol_names x.now) }
-    ensures err { IfErr result (WantsMemory page.old page.new) }
-{
-    let (kind, binding, visibility) = (stt(x.info), bind(x.info), vis(x.other));
-    put_name_column(page, "type", symbol_type_name(kind), u64::from(kind))?;
-    put_name_column(page, "bind", binding_name(binding), u64::from(binding))?;
-    put_name_column(
-        page,
-        "vis",
-        visibility_name(visibility),
-        u64::from(visibility),
-    )
-}
-
-/// The line of a symbol.
-#[derive(Clone, Copy)]
-struct SymbolLine<'a> {
-    /// Its index.
-    index: u64,
-    /// The symbol.
-    symbol: Sym,
-    /// Its section, or None where its extended index can not be told.
-    place: Option<SymPlace>,
-    /// Its name.
-    name: Option<&'a [u8]>,
-}
-
-/// Appends ` shndx SHNDX NAME` and the newline.
-#[tactic(auto, using(elf_types::proofs::Writers::kept), unfolding(crate::specs::Symbols::symbol_end))]
-fn put_end(
-    page: &mut Octets,
-    x: &Sym,
-    place: Option<SymPlace>,
-    name: Option<&[u8]>,
-) -> Result<(), ElfError>
-    ensures ok { OnOk result
-        (page.new ≡ page.old ++ symbol_end x.now place (option_copied name.entry)) }
-    ensures err { IfErr result (WantsMemory page.old page.new) }
-{
-    put_text(page, " shndx ")?;
-    put_place(page, x, place)?;
-    put_text(page, " ")?;
-    Bracketed { name }.put(page)?;
-    put_text(page, "\n")
-}
-
-impl Line for SymbolLine<'_> {
-    ghost text = { λ l. symbol_line l.index l.symbol l.place (option_copied l.name) };
-
-    #[tactic(auto, using(elf_types::proofs::Writers::kept), unfolding(crate::specs::Symbols::symbol_line))]
-    fn put(&self, page: &mut Octets) -> Result<(), ElfError> {
-        put_start(page, self.index, &self.symbol)?;
-        put_names(page, &self.symbol)?;
-        put_end(page, &self.symbol, self.place, self.name)
-    }
-}
+use object_output::{item_there, string_at, symbol_place};
+use readelf_rows::{Links, SectionPart, Table, each_plain, links_of};
+use readelf_symbols::{SymbolLine, show_symbol_bytes, symbols_at_hand};
+use tool_output::{FileName, Outputs, Stop};
 
 /// Shows the line of a symbol whose name can not be read.
 fn show_unnamed<O: Sink, E: Sink>(
@@ -256,8 +145,28 @@ fn show_each_row<S: Source, O: Sink, E: Sink>(
     Ok(refused)
 }
 
-/// Where the strings of the symbols of a table end, where there are symbols and that can be told.
-fn end_of_names<S: Source>(elf: &mut Elf<S>, table: Table) -> Result<Option<u64>, Stop>
+/// Shows a row for each symbol of a table, from the bytes where these are at hand.
+fn show_each_symbol<S: Source, O: Sink, E: Sink>(
+    elf: &mut Elf<S>,
+    table: Table,
+    end: Option<u64>,
+    outputs: &mut Outputs<'_, O, E>,
+) -> Result<bool, Stop>
+    requires rows { HasRows kinds.Sym syms_of SymbolsFit elf.old.o table }
+    requires end { IsTrue elf.old.told → IfSome end (EndsAt elf.old.o table.links.linked.0) }
+    ensures { let s = table.section.0 in ReportsElf S.Source O.Sink E.Sink
+        (λ o. shown (numbered_lines (symbol_row o s) 0 (syms_of (items_at o s 0))))
+        result elf.old elf.new outputs.old outputs.new }
+{
+    match symbols_at_hand(elf, table) {
+        Some(bytes) => show_symbol_bytes(bytes, outputs),
+        None => show_each_row(elf, table, end, outputs),
+    }
+}
+
+/// Reads the strings of the symbols of a table and the symbols, where there are any, and tells
+/// where the strings end, where that can be told.
+fn load_symbols<S: Source>(elf: &mut Elf<S>, table: Table) -> Result<Option<u64>, Stop>
     ensures end { IsTrue elf.old.told → IfOk result
         (λ end. IfSome end (EndsAt elf.old.o table.links.linked.0)) }
     ensures reads { ReadsElf S.Source result elf.old elf.new }
@@ -265,7 +174,9 @@ fn end_of_names<S: Source>(elf: &mut Elf<S>, table: Table) -> Result<Option<u64>
     if table.count == 0 {
         return Ok(None);
     }
-    strings_end(elf, table.links.linked)
+    let end = strings_end(elf, table.links.linked)?;
+    load(elf, table.section)?;
+    Ok(end)
 }
 
 impl Row for Sym {
@@ -308,8 +219,8 @@ impl Rows for Sym {
         table: Table,
         outputs: &mut Outputs<'_, O, E>,
     ) -> Result<bool, Stop> {
-        match end_of_names(elf, table) {
-            Ok(end) => show_each_row(elf, table, end, outputs),
+        match load_symbols(elf, table) {
+            Ok(end) => show_each_symbol(elf, table, end, outputs),
             Err(stop) => Err(stop),
         }
     }

@@ -4,7 +4,8 @@ use Rattle.tool_output.specs.Reports.{shown}
 use Rattle.object_output.proofs.ElfSteps.{elf_as, elf_learns, elf_learns_none}
 use Rattle.object_output.specs.Symbols.{symbol_place}
 use Rattle.bytes_at_hand.proofs.Ends.{end_stays}
-use Rattle.readelf_tables.specs.Symbols.{symbol_line, symbol_row}
+use Rattle.readelf_symbols.specs.SymbolLines.{symbol_line}
+use Rattle.readelf_tables.specs.Symbols.{symbol_row}
 use Rattle.readelf_tables.proofs.SymbolLemmas.{symbol_name_is}
 use Rattle.readelf_tables.proofs.symbols.show_row.Goals as goal
 

@@ -2,7 +2,7 @@ use Rattle.std.proofs.Common.{sym, ◌∙◌}
 use Rattle.elf_object.specs.Strings as strings
 use Rattle.tool_output.specs.Reports.{shown}
 use Rattle.object_output.proofs.ElfSteps.{elf_left, elf_says, elf_unread}
-use Rattle.readelf_tables.specs.Symbols.{symbol_line}
+use Rattle.readelf_symbols.specs.SymbolLines.{symbol_line}
 use Rattle.readelf_rows.proofs.LinkLemmas.{string_is}
 use Rattle.object_output.proofs.LearnLemmas.{elf_read}
 use Rattle.bytes_at_hand.proofs.Ends.{unreadable_past}

@@ -10,14 +10,14 @@ use Rattle.readelf_tables.specs.Tables.{HasRows}
 use Rattle.readelf_tables.specs.Symbols.{symbol_row, SymbolsFit}
 use Rattle.readelf_tables.proofs.symbols.SymRows.show_rows.Goals as goal
 
-pub show_each_row-requires-clause-rows : goal.show_each_row-requires-clause-rows
-show_each_row-requires-clause-rows g c =
+pub show_each_symbol-requires-clause-rows : goal.show_each_symbol-requires-clause-rows
+show_each_symbol-requires-clause-rows g c =
     subst (λ (o : Object). HasRows kinds.Sym syms_of SymbolsFit o c.args.table)
     (sym c.in-Ok.ensures.reads.elf.object) c.requires
 
-pub show_each_row-requires-clause-end : goal.show_each_row-requires-clause-end
-show_each_row-requires-clause-end g c =
-    end_stays g.S.Source c.args.elf.now c.end_of_names.new.elf c.args.table.links.linked.0
+pub show_each_symbol-requires-clause-end : goal.show_each_symbol-requires-clause-end
+show_each_symbol-requires-clause-end g c =
+    end_stays g.S.Source c.args.elf.now c.load_symbols.new.elf c.args.table.links.linked.0
     c.in-Ok.end c.in-Ok.ensures.reads.elf c.in-Ok.ensures.end
 
 pub returns-in-Ok : goal.returns-in-Ok
@@ -25,8 +25,8 @@ returns-in-Ok g c =
     let s = c.args.table.section.0 in
     let rows = λ (o : Object).
     shown (numbered_lines (symbol_row o s) 0 (syms_of (items_at o s 0))) in
-    elf_after g.S.Source g.O.Sink g.E.Sink rows rows _ c.args.elf.now c.end_of_names.new.elf _
-    c.args.outputs.now _ c.in-Ok.ensures.reads.elf c.show_each_row.ensures (λ told. refl)
+    elf_after g.S.Source g.O.Sink g.E.Sink rows rows _ c.args.elf.now c.load_symbols.new.elf _
+    c.args.outputs.now _ c.in-Ok.ensures.reads.elf c.show_each_symbol.ensures (λ told. refl)
 
 pub returns-in-Err : goal.returns-in-Err
 returns-in-Err g c =

@@ -1,0 +1,4 @@
+pub mod RowLemmas
+pub mod FrontLemmas
+pub mod LineLemmas
+pub mod NameLemmas

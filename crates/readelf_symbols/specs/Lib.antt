@@ -1,0 +1,3 @@
+pub mod SymbolLines
+pub mod Fronts
+pub mod SymbolBytes
