@@ -1,7 +1,7 @@
 //! The rules 3 and 5: the names of sections. Where the names end is looked for once, and then a
 //! name can be read exactly where it begins before that.
 
-ghost use Rattle.std.specs.Prelude.{◌≡◌, ◌<◌, length, false, IfOk, IfSome, IsTrue};
+ghost use Rattle.std.specs.Prelude.{◌≡◌, IfOk, IfSome, IsTrue};
 ghost use Rattle.object_output.specs.Steps.{ReadsElf};
 ghost use Rattle.bytes_at_hand.specs.Strings.{EndsAt};
 ghost use Rattle.lint_headers.specs.Names as rule;

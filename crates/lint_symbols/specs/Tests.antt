@@ -1,7 +1,7 @@
 -- The tests of the rules 22 to 25 by what is known of a table, and of the end of its strings: no
 -- more of the object is looked at. The laws that they are those of the rules stand here, since the
 -- laws of an impl cannot name proofs/.
-use Rattle.std.proofs.Common.{◌≡◌, ℕ, ◌&&◌, ◌||◌, not, Bool, true, false, Option, Some, None, IfSome, List, refl, sym, ap, ◌∙◌}
+use Rattle.std.proofs.Common.{◌≡◌, ℕ, ◌&&◌, ◌||◌, not, Bool, true, false, Option, Some, None, IfSome, refl, sym, ap, ◌∙◌}
 use Rattle.std.specs.Prelude.{nat_le, nat_lt, is_none, is_some}
 use Rattle.elf_types.specs.declared.constants.TheConstants.{SHN_LORESERVE}
 use Rattle.elf_types.specs.declared.records.Sym.{Sym}

@@ -1,4 +1,4 @@
-use Rattle.std.proofs.Common.{ℕ, List, ap, sym, subst}
+use Rattle.std.proofs.Common.{List, ap, sym, subst}
 use Rattle.elf_object.specs.Answers.{items_at}
 use Rattle.tool_output.specs.Reports.{Reports}
 use Rattle.object_output.proofs.ElfSteps.{elf_left, elf_says}
