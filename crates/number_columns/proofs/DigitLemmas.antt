@@ -1,19 +1,29 @@
 -- The digits of a number in a radix, written from the last to the first.
-use Rattle.std.proofs.Common.{◌≡◌, ◌+◌, ◌-◌, ◌*◌, ◌/◌, ◌%◌, ◌^◌, ◌<◌, ◌≤◌, ◌==◌, ℕ, zero, suc, false, true, List, [], ◌∷◌, length, drop, set, refl, sym, ap, subst, ◌∙◌, arith}
+use Rattle.std.proofs.Common.{◌≡◌, ◌+◌, ◌-◌, ◌*◌, ◌/◌, ◌%◌, ◌^◌, ◌<◌, ◌≤◌, ◌==◌, ℕ, zero, suc, false, true, List, [], ◌∷◌, length, take, drop, set, refl, sym, ap, subst, ◌∙◌, arith}
 use Rattle.std.specs.Fmt.{digits, digits_onto, digit_glyph}
 use Rattle.std.proofs.lemmas.Bool.{ne_eqb, eq-eqb}
-use Rattle.std.proofs.lemmas.List.{drop-set}
+use Rattle.std.proofs.lemmas.List.{drop-set, take-set, take-take}
 use Rattle.std.proofs.Math.ListN.{length-set}
 use Rattle.std.proofs.Math.Seq.{drop-length}
 use Rattle.std.proofs.Math.Nat.{pow-suc, pow-zero, one-mul, pow-le-pow_left, div-lt_iff_lt-mul, div-eq_of_lt, div-lt_self, mod-eq_of_lt}
 
 -- How far the digits of n are written: those from `at` on are, and those of `left` are still to come.
-pub record Filling (base n left at : ℕ) (buffer : List ℕ) : Type 0 where
+-- What stood before them in the buffer stands there.
+pub record Filling (base n left at : ℕ) (old buffer : List ℕ) : Type 0 where
   pub some : 0 < at
   pub room : at ≤ 43
   pub len : length buffer ≡ 43
   pub small : left < base ^ at
   pub same : digits_onto (at + 21) base false left (drop at buffer) ≡ digits base false n
+  pub front : take at buffer ≡ take at old
+
+-- a byte is written at the last place that was free
+pub front_before : (at glyph : ℕ) (old buffer : List ℕ) → take at buffer ≡ take at old
+    → take (at - 1) (set buffer (at - 1) glyph) ≡ take (at - 1) old
+front_before at glyph old buffer front =
+    let le : at - 1 ≤ at = omega arith in
+    take-set buffer (at - 1) glyph ∙ sym (take-take (at - 1) at buffer le)
+    ∙ ap (take (at - 1)) front ∙ take-take (at - 1) at old le
 
 all_dropped : (xs : List ℕ) (n : ℕ) → length xs ≡ n → drop n xs ≡ []
 all_dropped xs n e = subst (λ (k : ℕ). drop k xs ≡ []) e (drop-length xs)
@@ -29,7 +39,7 @@ module _ (base : ℕ) (least : 8 ≤ base) where
   onto_last : (k m n : ℕ) (acc : List ℕ) → m ≡ suc k → (n / base == 0) ≡ true → digits_onto m base false n acc ≡ digit_glyph false (n % base) ∷ acc
   onto_last k m n acc e t = rw e (rw t refl)
 
-  pub Filling-begin : (n : ℕ) (buffer : List ℕ) → n < 2 ^ 128 → length buffer ≡ 43 → Filling base n n 43 buffer
+  pub Filling-begin : (n : ℕ) (buffer : List ℕ) → n < 2 ^ 128 → length buffer ≡ 43 → Filling base n n 43 buffer buffer
   unfolding digits
   Filling-begin n buffer below len =
       let power : 2 ^ 129 ≤ base ^ 43 = pow-le-pow_left {n = 8} {m = base} least 43 in
@@ -39,6 +49,7 @@ module _ (base : ℕ) (least : 8 ≤ base) where
         len = len;
         small = omega (arith, power, below);
         same = subst (λ (l : List ℕ). digits_onto 64 base false n l ≡ digits base false n) (sym (all_dropped buffer 43 len)) (refl {a = digits base false n});
+        front = refl;
       }
 
   -- one place is not enough for a number that is not below the base
@@ -68,9 +79,9 @@ module _ (base : ℕ) (least : 8 ≤ base) where
       ap (digits_onto (k + 21) base false (left / base)) (drop-set buffer k glyph inside ∙ ap (λ (g : ℕ). g ∷ drop (k + 1) buffer) is)
       ∙ sym (onto_more (k + 21) (k + 1 + 21) left (drop (k + 1) buffer) (omega arith) (ne_eqb (left / base) 0 (quotient_some left big)))
 
-  pub Filling-next : (n left at glyph : ℕ) (buffer : List ℕ) → Filling base n left at buffer → base ≤ left → glyph ≡ digit_glyph false (left % base)
-      → Filling base n (left / base) (at - 1) (set buffer (at - 1) glyph)
-  Filling-next n left at glyph buffer f big is =
+  pub Filling-next : (n left at glyph : ℕ) (old buffer : List ℕ) → Filling base n left at old buffer → base ≤ left → glyph ≡ digit_glyph false (left % base)
+      → Filling base n (left / base) (at - 1) old (set buffer (at - 1) glyph)
+  Filling-next n left at glyph old buffer f big is =
       let more : 1 < at = places left at f.small big f.some in
       let back : at - 1 + 1 ≡ at = omega (arith, more) in
       let power : base ^ at ≡ base ^ (at - 1) * base = ap (λ (k : ℕ). base ^ k) (sym back ∙ (let e : at - 1 + 1 ≡ suc (at - 1) = omega arith in e)) ∙ pow-suc base (at - 1) in
@@ -81,11 +92,12 @@ module _ (base : ℕ) (least : 8 ≤ base) where
         small = (div-lt_iff_lt-mul {k = base} {x = left} {y = base ^ (at - 1)} positive).1 (subst (λ (p : ℕ). left < p) power f.small);
         same = next_digit left (at - 1) glyph buffer (omega (arith, f.room, f.len, more)) big is
             ∙ subst (λ (k : ℕ). digits_onto (k + 21) base false left (drop k buffer) ≡ digits base false n) (sym back) f.same;
+        front = front_before at glyph old buffer f.front;
       }
 
-  pub Filling-end : (n left at glyph : ℕ) (buffer : List ℕ) → Filling base n left at buffer → left < base → glyph ≡ digit_glyph false left
+  pub Filling-end : (n left at glyph : ℕ) (old buffer : List ℕ) → Filling base n left at old buffer → left < base → glyph ≡ digit_glyph false left
       → drop (at - 1) (set buffer (at - 1) glyph) ≡ digits base false n
-  Filling-end n left at glyph buffer f below is =
+  Filling-end n left at glyph old buffer f below is =
       let back : at - 1 + 1 ≡ at = omega (arith, f.some) in
       drop-set buffer (at - 1) glyph (omega (arith, f.room, f.len, f.some))
       ∙ ap (λ (g : ℕ). g ∷ drop (at - 1 + 1) buffer) (is ∙ ap (digit_glyph false) (sym (mod-eq_of_lt below)))

@@ -1,7 +1,7 @@
 //! Numbers in columns. Each call refuses `Memory` alone; what the page held then still stands, some
 //! bytes behind it.
 
-ghost use Rattle.std.specs.Prelude.{◌≡◌, ◌++◌, ◌≤◌, length, OnOk, IfErr};
+ghost use Rattle.std.specs.Prelude.{◌≡◌, ◌++◌, ◌≤◌, ℕ, length, OnOk, IfErr};
 ghost use Rattle.std.proofs.Math.ListN.{replicate};
 ghost use Rattle.elf_types.specs.Writers.{WantsMemory};
 ghost use Rattle.number_columns.specs.Columns.{number, spaces, padded, column, zero_filled};
@@ -32,36 +32,26 @@ pub fn put_spaces(page: &mut Octets, count: usize) -> Result<(), ElfError>
     put_copies(page, b' ', count)
 }
 
-/// Appends a text, right in so many places, with copies of a byte before it.
-#[tactic(auto, using(elf_types::proofs::Writers::stays), unfolding(crate::specs::Columns::padded))]
-fn put_padded(page: &mut Octets, byte: u8, width: usize, text: &[u8]) -> Result<(), ElfError>
-    requires { width ≤ 16 }
-    ensures ok { OnOk result (page.new ≡ page.old ++ padded byte width text.now) }
-    ensures err { IfErr result (WantsMemory page.old page.new) }
-{
-    put_copies(page, byte, width.saturating_sub(text.len()))?;
-    put_bytes(page, text)
-}
-
-/// Appends a number in the same way, by a buffer for its digits.
+/// Appends a number, right in so many places of at least `width`, by a buffer for its digits. What
+/// the buffer holds stands before them.
 fn put_by(
     page: &mut Octets,
     n: u128,
     radix: Radix,
-    byte: u8,
     width: usize,
     buffer: &mut [u8],
 ) -> Result<(), ElfError>
     requires len { length buffer.old ≡ 43 }
     requires width { width ≤ 16 }
-    ensures ok { OnOk result (page.new ≡ page.old ++ padded byte width (number radix n)) }
+    ensures ok { (byte : ℕ) → buffer.old ≡ replicate 43 byte
+        → OnOk result (page.new ≡ page.old ++ padded byte width (number radix n)) }
     ensures err { IfErr result (WantsMemory page.old page.new) }
 {
     let start = fill_in(n, radix, buffer);
-    put_padded(page, byte, width, &buffer[start..])
+    put_bytes(page, &buffer[start.min(MAX_DIGITS - width)..])
 }
 
-/// Appends a number in the same way.
+/// Appends a number, right in so many places, with copies of a byte before it.
 fn put_filled(
     page: &mut Octets,
     n: u128,
@@ -73,8 +63,8 @@ fn put_filled(
     ensures ok { OnOk result (page.new ≡ page.old ++ padded byte width (number radix n)) }
     ensures err { IfErr result (WantsMemory page.old page.new) }
 {
-    let mut buffer = [0u8; MAX_DIGITS];
-    put_by(page, n, radix, byte, width, &mut buffer)
+    let mut buffer = [byte; MAX_DIGITS];
+    put_by(page, n, radix, width, &mut buffer)
 }
 
 /// Appends a number in a radix, without leading zeros.

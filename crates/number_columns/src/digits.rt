@@ -1,6 +1,6 @@
 //! The digits of a number in a radix.
 
-ghost use Rattle.std.specs.Prelude.{◌≡◌, ◌≤◌, ◌<◌, false, length, drop};
+ghost use Rattle.std.specs.Prelude.{◌≡◌, ◌≤◌, ◌<◌, false, length, take, drop};
 ghost use Rattle.std.specs.Fmt.{digits, digit_glyph};
 ghost use Rattle.number_columns.specs.Columns.{number};
 
@@ -21,11 +21,12 @@ fn glyph(digit: u8) -> u8
 }
 
 /// Writes the digits of a number in a base so that they end with the buffer, and tells where they
-/// start. Of a number of 64 bits, as most are, none is divided as one of 128.
+/// start. What stands before them stays. Of a number of 64 bits, as most are, none is divided as one of 128.
 fn fill<const BASE: u64>(n: u128, buffer: &mut [u8]) -> usize
     requires base { (8 ≤ BASE) × (BASE ≤ 16) }
     requires len { length buffer.old ≡ 43 }
     ensures digits { drop result buffer.new ≡ digits BASE false n }
+    ensures front { take result buffer.new ≡ take result buffer.old }
     ensures start { result ≤ 43 }
 {
     let mut wide = n;
@@ -51,6 +52,7 @@ fn fill<const BASE: u64>(n: u128, buffer: &mut [u8]) -> usize
 pub fn fill_in(n: u128, radix: Radix, buffer: &mut [u8]) -> usize
     requires { length buffer.old ≡ 43 }
     ensures digits { drop result buffer.new ≡ number radix n }
+    ensures front { take result buffer.new ≡ take result buffer.old }
     ensures start { result ≤ 43 }
     ensures len { length buffer.new ≡ 43 }
 {
