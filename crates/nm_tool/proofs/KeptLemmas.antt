@@ -1,9 +1,9 @@
--- The symbols that are wanted whatever their names, the rows of those that are listed, and their
--- indexes in order.
-use Rattle.std.proofs.Common.{◌≡◌, ◌++◌, ◌+◌, ◌-◌, ◌<◌, ◌≤◌, ℕ, zero, suc, Bool, true, false, ◌&&◌, List, [], ◌∷◌, length, drop, get_or, map, Option, Some, None, IsTrue, refl, sym, ap, ◌∙◌, arith, append-nil, append_assoc}
+-- The symbols that are wanted whatever their names, and the indexes of those that are listed, in
+-- their order.
+use Rattle.std.proofs.Common.{◌≡◌, ◌++◌, ◌+◌, ◌-◌, ◌<◌, ◌≤◌, ℕ, zero, suc, Bool, true, false, ◌&&◌, List, [], ◌∷◌, length, drop, get_or, map, Option, Some, None, IsTrue, refl, sym, ap, ◌∙◌, arith, append-nil}
 use Rattle.std.specs.Prelude.{not, slice_get, if◌then◌else◌}
 use Rattle.std.specs.List.{flat_map, AllByRecursion}
-use Rattle.std.proofs.lemmas.List.{flat_map_more, at_drop_more, at_drop_all, drop_more, length-drop, map-append}
+use Rattle.std.proofs.lemmas.List.{flat_map_more, drop_more, length-drop}
 use Rattle.std.proofs.lemmas.Option.{slice_get-get_or}
 use Rattle.std.proofs.lemmas.Simd.{map-map}
 use Rattle.elf_types.specs.declared.records.Sym.{Sym}
@@ -15,13 +15,11 @@ use Rattle.tool_output.specs.Names.{Name}
 use Rattle.tool_output.specs.Reports.{Report, joined, all_joined, reports_of}
 use Rattle.bytes_at_hand.specs.Strings.{HoldsStrings}
 use Rattle.nm_tool.specs.declared.kept.Kept.{Kept}
-use Rattle.nm_tool.specs.declared.order.Row.{Row}
 use Rattle.nm_tool.specs.Order.{Entry, in_order}
-use Rattle.nm_tool.specs.Keys.{as_entry}
 use Rattle.nm_tool.specs.Listed.{symbols, listed_name, name_or_none, is_empty, is_kept, is_wanted, is_listed, entry_of, entry_if, listed_from, listed}
 use Rattle.nm_tool.specs.Pools.{if_wanted, wanted_at}
 use Rattle.nm_tool.specs.Tool.{symbol_report, entry_report, entries_report, rows_report}
-use Rattle.nm_tool.specs.Kept.{kept_symbol, with_kept, kept_of, shown_name, shown_in, named_entry, kept_entry, kept_entries, order_of, row_if, shown_row, index_report}
+use Rattle.nm_tool.specs.Kept.{kept_symbol, with_kept, kept_of, shown_name, shown_in, kept_entry, kept_entries, order_of, row_if, shown_row, index_report, kept_report}
 use Rattle.nm_tool.proofs.ListedLemmas.{all_listed}
 use Rattle.nm_tool.proofs.Sorting.{all_in_order}
 
@@ -106,86 +104,7 @@ module _ (options : NmOptions) (o : Object) (s : ℕ) where
       ∙ ap (with_kept options o s (kept_of options o s n)) here
       ∙ sym (ap (kept_of options o s) after)
 
--- ---- Rows
-
-module _ (v : Bool) (name_of : ℕ → List ℕ) where
-  rows_none : (rows : List Row) → rows ≡ [] → map (as_entry v) rows ≡ []
-  rows_none rows none = ap (map (as_entry v)) none
-
-  pub rows_begin : (rows : List Row) (list : List Kept) → rows ≡ []
-      → map (as_entry v) rows ++ kept_entries v name_of (drop 0 list)
-      ≡ kept_entries v name_of list
-  rows_begin rows list none =
-      ap (λ (es : List Entry). es ++ kept_entries v name_of list) (rows_none rows none)
-
-  pub rows_more : (rows more : List Row) (list : List Kept) (i : ℕ) (k : Kept) (name : List ℕ)
-      → i < length list → k ≡ get_or list i k → name ≡ name_of k.name
-      → map (as_entry v) more ≡ map (as_entry v) rows ++ named_entry v k name
-      → map (as_entry v) rows ++ kept_entries v name_of (drop i list) ≡ kept_entries v name_of list
-      → map (as_entry v) more ++ kept_entries v name_of (drop (i + 1) list)
-      ≡ kept_entries v name_of list
-  unfolding kept_entries
-  rows_more rows more list i k name lt here named made so_far =
-      let later = flat_map (kept_entry v name_of) (drop (i + 1) list) in
-      ap (λ (es : List Entry). es ++ later)
-      (made ∙ ap (λ (l : List ℕ). map (as_entry v) rows ++ named_entry v k l) named)
-      ∙ append_assoc (map (as_entry v) rows) (kept_entry v name_of k) later
-      ∙ ap (λ (es : List Entry). map (as_entry v) rows ++ es)
-      (ap (λ (m : Kept). kept_entry v name_of m ++ later) here
-      ∙ sym (at_drop_more (flat_map (kept_entry v name_of)) list i k lt))
-      ∙ so_far
-
-  pub rows_all : (rows : List Row) (list : List Kept) (i : ℕ) → length list ≤ i
-      → map (as_entry v) rows ++ kept_entries v name_of (drop i list) ≡ kept_entries v name_of list
-      → map (as_entry v) rows ≡ kept_entries v name_of list
-  unfolding kept_entries
-  rows_all rows list i past so_far =
-      sym (append-nil (map (as_entry v) rows))
-      ∙ ap (λ (es : List Entry). map (as_entry v) rows ++ es)
-      (sym (at_drop_all (flat_map (kept_entry v name_of)) list i past))
-      ∙ so_far
-
--- the rows with one more, or none for an empty name
-pub row_made : (v : Bool) (rows more : List Row) (row : Row) (k : Kept) (name : List ℕ)
-    → is_empty name ≡ false → more ≡ rows ++ row ∷ []
-    → as_entry v row
-    ≡ record { value = if v then k.value else 0; name = name; index = k.index }
-    → map (as_entry v) more ≡ map (as_entry v) rows ++ named_entry v k name
-row_made v rows more row k name some made is =
-    let e : Entry = record { value = if v then k.value else 0; name = name; index = k.index } in
-    ap (map (as_entry v)) made ∙ map-append (as_entry v) rows (row ∷ [])
-    ∙ ap (λ (x : Entry). map (as_entry v) rows ++ x ∷ []) is
-    ∙ ap (λ (b : Bool). map (as_entry v) rows ++ (if b then [] else e ∷ [])) (sym some)
-
-pub row_left : (v : Bool) (rows : List Row) (k : Kept) (name : List ℕ) → is_empty name ≡ true
-    → map (as_entry v) rows ≡ map (as_entry v) rows ++ named_entry v k name
-row_left v rows k name empty =
-    let e : Entry = record { value = if v then k.value else 0; name = name; index = k.index } in
-    sym (append-nil (map (as_entry v) rows))
-    ∙ ap (λ (b : Bool). map (as_entry v) rows ++ (if b then [] else e ∷ [])) (sym empty)
-
--- ---- Indexes
-
-row_index : (v : Bool) (r : Row) → (as_entry v r).index ≡ r.index
-unfolding as_entry
-row_index v r = refl
-
-map_same : {X Y : Type 0} (f g : X → Y) → ((x : X) → f x ≡ g x) → (xs : List X) → map f xs ≡ map g xs
-map_same f g same [] = refl
-map_same {X} {Y} f g same (x ∷ xs) =
-    ap (λ (y : Y). y ∷ map f xs) (same x) ∙ ap (λ (ys : List Y). g x ∷ ys) (map_same f g same xs)
-
-pub order_made : (v : Bool) (name_of : ℕ → List ℕ) (list : List Kept) (old new : List Row)
-    → map (as_entry v) old ≡ kept_entries v name_of list
-    → map (as_entry v) new ≡ in_order (map (as_entry v) old)
-    → map (λ (r : Row). r.index) new ≡ order_of v name_of list
-unfolding order_of
-order_made v name_of list old new made sorted =
-    map_same (λ (r : Row). r.index) (λ (r : Row). (as_entry v r).index)
-    (λ r. sym (row_index v r)) new
-    ∙ sym (map-map (λ (e : Entry). e.index) (as_entry v) new)
-    ∙ ap (map (λ (e : Entry). e.index))
-    (sorted ∙ ap in_order made)
+-- ---- Their order by names
 
 flat_same : {X Y : Type 0} (f g : X → List Y) → ((x : X) → f x ≡ g x) → (xs : List X)
     → flat_map f xs ≡ flat_map g xs
@@ -194,6 +113,10 @@ flat_same {X} {Y} f g same (x ∷ xs) =
     ap (λ (ys : List Y). ys ++ flat_map f xs) (same x)
     ∙ ap (λ (ys : List Y). g x ++ ys) (flat_same f g same xs)
 
+abbrev entry_by : Bool → Kept → List ℕ → List Entry
+entry_by v k name = if is_empty name then []
+    else record { value = if v then k.key else 0; name = name; index = k.index } ∷ []
+
 -- the same order by the same names
 pub order_same : (v : Bool) (f g : ℕ → List ℕ) → ((at : ℕ) → f at ≡ g at) → (list : List Kept)
     → order_of v f list ≡ order_of v g list
@@ -201,7 +124,7 @@ unfolding order_of kept_entries
 order_same v f g same list =
     ap (λ (es : List Entry). map (λ (e : Entry). e.index) (in_order es))
     (flat_same (kept_entry v f) (kept_entry v g)
-    (λ k. ap (named_entry v k) (same k.name)) list)
+    (λ k. ap (entry_by v k) (same k.name)) list)
 
 -- names that stand in the bytes of the section to which a table links
 pub names_held : {S : Type 0} (state : State S) (s names : ℕ) (strings : List ℕ)
@@ -294,3 +217,11 @@ module _ (options : NmOptions) (file : Name) (o : Object) (s : ℕ) where
       (sym (ap (kept_entries options.by_value (shown_name o s)) kept
       ∙ kept_listed options o s count counted))
       ∙ sym (ap (reports_of (index_report options file o s)) is)
+
+  -- kept symbols stand for their indexes
+  pub kept_reported : (order : List Kept)
+      → reports_of (index_report options file o s) (map (λ (k : Kept). k.index) order)
+      ≡ reports_of (kept_report options file o s) order
+  unfolding reports_of kept_report
+  kept_reported order =
+      ap all_joined (map-map (index_report options file o s) (λ (k : Kept). k.index) order)

@@ -1,8 +1,9 @@
--- The key of a name is a number of sixteen bytes.
+-- The key of a name is a number of sixteen bytes, or of eight.
 use Rattle.std.proofs.Common.{◌≡◌, ◌+◌, ◌*◌, ◌^◌, ◌<◌, ◌≤◌, ℕ, suc, List, sym, ap, ◌∙◌, subst, arith}
 use Rattle.std.specs.Prelude.{slice_index_or}
 use Rattle.std.proofs.Math.Nat.{pow-suc, pow-le-pow_right}
 use Rattle.nm_tool.specs.Keys.{prefix}
+use Rattle.nm_tool.specs.Ranked.{number_from}
 
 -- one more byte
 pub key_more : (place key byte : ℕ) → key < 256 ^ place → byte < 256 → key * 256 + byte < 256 ^ (place + 1)
@@ -22,3 +23,18 @@ unfolding prefix
 prefix_next place key byte name is b =
     let at : suc place ≡ place + 1 = omega arith in
     ap (λ (k : ℕ). k * 256 + byte) is ∙ ap (λ (c : ℕ). prefix place name * 256 + c) b ∙ ap (λ (n : ℕ). prefix n name) at
+
+pub word_fits : (i key byte : ℕ) → i < 8 → key < 256 ^ i → byte < 256 → key * 256 + byte < 2 ^ 64
+word_fits i key byte lt small b =
+    let top : 256 ^ (i + 1) ≤ 256 ^ 8 = pow-le-pow_right {n = 256} (omega arith) {i = i + 1} {j = 8} (omega (arith, lt)) in
+    let whole : 256 ^ 8 ≤ 2 ^ 64 = omega arith in
+    omega (arith, key_more i key byte small b, top, whole)
+
+pub number_next : (place i key byte : ℕ) (name : List ℕ) → key ≡ number_from place i name
+    → byte ≡ slice_index_or name (place + i) 0 → key * 256 + byte ≡ number_from place (i + 1) name
+unfolding number_from
+number_next place i key byte name is b =
+    let at : suc i ≡ i + 1 = omega arith in
+    ap (λ (k : ℕ). k * 256 + byte) is
+    ∙ ap (λ (c : ℕ). number_from place i name * 256 + c) b
+    ∙ ap (λ (n : ℕ). number_from place n name) at

@@ -6,3 +6,4 @@ mod ToolLemmas
 mod Keys
 mod FoundTable
 mod RowLemmas
+mod Ranking

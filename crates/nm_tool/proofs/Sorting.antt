@@ -133,10 +133,46 @@ unfolding in_order
 rises_in_order [] = tt
 rises_in_order (e ∷ es) = rises_inserted e (in_order es) (rises_in_order es)
 
+-- ---- What a sort leaves
+
+-- by an order that the entries of items follow
+module _ {R : Type 0} (cmp : R → R → Ordering) (entry : R → Entry) (Good : R → Type 0)
+    (follow : (x y : R) → Good x → Good y → is_lt (cmp y x) ≡ false
+    → is_lt (entry_cmp (entry y) (entry x)) ≡ false) where
+  later_entries : (x : R) (rs : List R) → Good x → AllByRecursion Good rs
+      → AllByRecursion (λ y. is_lt (cmp y x) ≡ false) rs
+      → AllByRecursion (λ e. is_lt (entry_cmp e (entry x)) ≡ false) (map entry rs)
+  later_entries x [] kx keys all = tt
+  later_entries x (y ∷ ys) kx keys all =
+      (follow x y kx keys.0 all.0, later_entries x ys kx keys.1 all.1)
+
+  rises_entries : (rs : List R) → AllByRecursion Good rs → Rises cmp rs
+      → Rises entry_cmp (map entry rs)
+  rises_entries [] keys rises = tt
+  rises_entries (x ∷ xs) keys rises =
+      (later_entries x xs keys.0 keys.1 rises.0, rises_entries xs keys.1 rises.1)
+
+  pub sorted_by : IsTotalOrder cmp → (old new : List R) → All Good old → IsPermutation old new
+      → IsSorted cmp new → map entry new ≡ in_order (map entry old)
+  sorted_by total old new keys moved sorted =
+      unique entry_cmp entry_cmp_total entry_cmp_exact (map entry new) (in_order (map entry old))
+      (rises_entries new (recursion_from_All Good new (All-permutation Good old new moved keys))
+      (Rises-from_sorted cmp total new sorted))
+      (rises_in_order (map entry old))
+      (λ f. sum_by-IsPermutation f (map entry old) (map entry new)
+      (IsPermutation-map entry old new moved) ∙ sym (sum_by-in_order f (map entry old)))
+
+-- entries that are moved have one order
+pub in_order_moved : (es fs : List Entry) → IsPermutation es fs → in_order fs ≡ in_order es
+in_order_moved es fs moved =
+    unique entry_cmp entry_cmp_total entry_cmp_exact (in_order fs) (in_order es)
+    (rises_in_order fs) (rises_in_order es)
+    (λ f. sum_by-in_order f fs ∙ sum_by-IsPermutation f es fs moved ∙ sym (sum_by-in_order f es))
+
 -- ---- The keys of names
 
 -- the first of two lists comes first, where they differ first at a place at which its byte is less
-first_less : (n : ℕ) (a b : List ℕ) → ((i : ℕ) → i < n → slice_index_or a i 0 ≡ slice_index_or b i 0) → slice_index_or a n 0 < slice_index_or b n 0 → slice_cmp nat_cmp a b ≡ Less
+pub first_less : (n : ℕ) (a b : List ℕ) → ((i : ℕ) → i < n → slice_index_or a i 0 ≡ slice_index_or b i 0) → slice_index_or a n 0 < slice_index_or b n 0 → slice_cmp nat_cmp a b ≡ Less
 first_less n [] [] same less = absurd (omega (arith, less))
 first_less n [] (y ∷ ys) same less = refl
 first_less zero (x ∷ xs) [] same less = absurd (omega (arith, less))
@@ -148,7 +184,7 @@ first_less (suc n) (x ∷ xs) (y ∷ ys) same less =
     ap (λ (r : Ordering). ordering_then r (slice_cmp nat_cmp xs ys)) h
     ∙ first_less n xs ys (λ i lt. same (suc i) (omega arith)) less
 
-byte_small : (a : List ℕ) (n : ℕ) → AllByRecursion (λ x. x < 2 ^ 8) a → slice_index_or a n 0 < 256
+pub byte_small : (a : List ℕ) (n : ℕ) → AllByRecursion (λ x. x < 2 ^ 8) a → slice_index_or a n 0 < 256
 byte_small [] n all = omega arith
 byte_small (x ∷ xs) zero all = all.0
 byte_small (x ∷ xs) (suc n) all = byte_small xs n all.1
@@ -197,7 +233,7 @@ row_cmp_total =
     then_total (on_total (λ (r : Row). r.key) nat_cmp_total)
     (then_total (on_total (λ (r : Row). r.name.now) nat_list_cmp_total) (on_total (λ (r : Row). r.index) nat_cmp_total))
 
-above_is : (x y : ℕ) → nat_cmp x y ≡ Greater → y < x
+pub above_is : (x y : ℕ) → nat_cmp x y ≡ Greater → y < x
 above_is x y e = grind (arith, nat_tests)
 
 -- the order of the entries is that of the rows
@@ -218,23 +254,10 @@ weaker false x y kx ky later = by_key (nat_cmp y.key x.key) refl later
         let back : slice_cmp nat_cmp y.name.now x.name.now ≡ Greater = nat_list_cmp_total.antisymm y.name.now x.name.now ∙ ap ordering_reverse first in
         ap (λ (r : Ordering). is_lt (ordering_then r (nat_cmp y.index x.index))) back
 
-later_entries : (by_value : Bool) (x : Row) (rs : List Row) → KeyIs by_value x → AllByRecursion (KeyIs by_value) rs → AllByRecursion (λ y. is_lt (row_cmp y x) ≡ false) rs
-    → AllByRecursion (λ e. is_lt (entry_cmp e (as_entry by_value x)) ≡ false) (map (as_entry by_value) rs)
-later_entries by_value x [] kx keys all = tt
-later_entries by_value x (y ∷ ys) kx keys all = (weaker by_value x y kx keys.0 all.0, later_entries by_value x ys kx keys.1 all.1)
-
-rises_entries : (by_value : Bool) (rs : List Row) → AllByRecursion (KeyIs by_value) rs → Rises row_cmp rs → Rises entry_cmp (map (as_entry by_value) rs)
-rises_entries by_value [] keys rises = tt
-rises_entries by_value (x ∷ xs) keys rises = (later_entries by_value x xs keys.0 keys.1 rises.0, rises_entries by_value xs keys.1 rises.1)
-
 -- what the sort leaves
 pub sorted_rows : (by_value : Bool) (old new : List Row) → All (KeyIs by_value) old → IsPermutation old new → IsSorted row_cmp new → map (as_entry by_value) new ≡ in_order (map (as_entry by_value) old)
 sorted_rows by_value old new keys moved sorted =
-    let entries = map (as_entry by_value) old in
-    unique entry_cmp entry_cmp_total entry_cmp_exact (map (as_entry by_value) new) (in_order entries)
-    (rises_entries by_value new (recursion_from_All (KeyIs by_value) new (All-permutation (KeyIs by_value) old new moved keys)) (Rises-from_sorted row_cmp row_cmp_total new sorted))
-    (rises_in_order entries)
-    (λ f. sum_by-IsPermutation f entries (map (as_entry by_value) new) (IsPermutation-map (as_entry by_value) old new moved) ∙ sym (sum_by-in_order f entries))
+    sorted_by row_cmp (as_entry by_value) (KeyIs by_value) (weaker by_value) row_cmp_total old new keys moved sorted
 
 -- ---- The law of the order
 

@@ -18,7 +18,7 @@ use Rattle.nm_tool.specs.Tool.{symbol_row}
 -- ---- Kept symbols
 
 abbrev pub kept_symbol : Sym → ℕ → Kept
-kept_symbol x i = record { value = x.value; index = i; name = x.name }
+kept_symbol x i = record { key = x.value; index = i; name = x.name }
 
 -- symbols with symbol i, where it is wanted
 unfoldable pub with_kept : NmOptions → Object → ℕ → List Kept → ℕ → List Kept
@@ -39,13 +39,17 @@ shown_name o s at = name_or_none (readable (string_answer o (section_at o s).hea
 abbrev pub shown_in : List ℕ → ℕ → List ℕ
 shown_in strings at = name_or_none (string_front (drop at strings))
 
--- the entry of a kept symbol with a name, unless that is empty
-abbrev pub named_entry : Bool → Kept → List ℕ → List Entry
-named_entry by_value k name = if is_empty name then []
-    else record { value = if by_value then k.value else 0; name = name; index = k.index } ∷ []
+-- the entry of a kept symbol, and none where its name is empty
+abbrev pub ranked_entry : Bool → (ℕ → List ℕ) → Kept → Entry
+ranked_entry by_value name_of k = record {
+  value = if by_value then k.key else 0;
+  name = name_of k.name;
+  index = k.index;
+}
 
 abbrev pub kept_entry : Bool → (ℕ → List ℕ) → Kept → List Entry
-kept_entry by_value name_of k = named_entry by_value k (name_of k.name)
+kept_entry by_value name_of k =
+    if is_empty (name_of k.name) then [] else ranked_entry by_value name_of k ∷ []
 
 unfoldable pub kept_entries : Bool → (ℕ → List ℕ) → List Kept → List Entry
 kept_entries by_value name_of list = flat_map (kept_entry by_value name_of) list
@@ -66,3 +70,6 @@ row_if options file o s i (Some x) = shown (shown_row options file o s i x)
 
 unfoldable pub index_report : NmOptions → Name → Object → ℕ → ℕ → Report
 index_report options file o s i = row_if options file o s i (slice_get (symbols o s) i)
+
+unfoldable pub kept_report : NmOptions → Name → Object → ℕ → Kept → Report
+kept_report options file o s k = index_report options file o s k.index

@@ -8,3 +8,4 @@ pub mod Pools
 pub mod Tables
 pub mod PoolReports
 pub mod Kept
+pub mod Ranked

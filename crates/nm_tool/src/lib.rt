@@ -10,6 +10,7 @@ mod listed;
 mod order;
 mod ordered;
 mod pools;
+mod ranked;
 mod rows;
 mod symbols;
 mod tool;

@@ -11,10 +11,10 @@ ghost use Rattle.nm_tool.specs.Tables.{AreTables};
 ghost use Rattle.nm_tool.specs.Listed.{name_or_none};
 ghost use Rattle.nm_tool.specs.Rows.{row_text};
 ghost use Rattle.nm_tool.specs.Tool.{placed_row};
-ghost use Rattle.nm_tool.specs.Kept.{index_report, shown_row};
+ghost use Rattle.nm_tool.specs.Kept.{index_report, kept_report, shown_row};
 
 use crate::form::{Form, show_symbol};
-use crate::kept::name_or_none;
+use crate::kept::{Kept, name_or_none};
 use crate::letters::{is_undefined, symbol_letter};
 use crate::rows::SymbolRow;
 use crate::symbols::{Tables, place_at, symbol_at};
@@ -134,25 +134,44 @@ fn show_index<S: Source, O: Sink, E: Sink>(
     }
 }
 
-/// Shows the rows of the symbols of these indexes, one after another.
+/// Shows the row of a kept symbol, where it is there.
+#[tactic(auto, unfolding(crate::specs::Kept::kept_report))]
+fn show_one<S: Source, O: Sink, E: Sink>(
+    elf: &mut Elf<S>,
+    t: Tables,
+    end: Option<u64>,
+    form: Form<'_>,
+    k: Kept,
+    outputs: &mut Outputs<'_, O, E>,
+) -> Result<bool, Stop>
+    requires tables { AreTables elf.old.o t }
+    requires end { IsTrue elf.old.told → IfSome end (EndsAt elf.old.o t.names.0) }
+    ensures { ReportsElf S.Source O.Sink E.Sink
+        (λ o. kept_report form.entry.options.now form.entry.file.now o t.symbols.0 k)
+        result elf.old elf.new outputs.old outputs.new }
+{
+    show_index(elf, t, end, form, u64::from(k.index), outputs)
+}
+
+/// Shows the rows of kept symbols, one after another.
 pub fn show_order<S: Source, O: Sink, E: Sink>(
     elf: &mut Elf<S>,
     t: Tables,
     end: Option<u64>,
     form: Form<'_>,
-    order: &[u64],
+    order: &[Kept],
     outputs: &mut Outputs<'_, O, E>,
 ) -> Result<bool, Stop>
     requires tables { AreTables elf.old.o t }
     requires end { IsTrue elf.old.told → IfSome end (EndsAt elf.old.o t.names.0) }
     ensures { ReportsElf S.Source O.Sink E.Sink
         (λ o. reports_of
-        (index_report form.entry.options.now form.entry.file.now o t.symbols.0) order.now)
+        (kept_report form.entry.options.now form.entry.file.now o t.symbols.0) order.now)
         result elf.old elf.new outputs.old outputs.new }
 {
     let mut refused = false;
-    for i in order {
-        let was_refused = show_index(elf, t, end, form, *i, outputs)?;
+    for k in order {
+        let was_refused = show_one(elf, t, end, form, *k, outputs)?;
         refused = refused | was_refused;
     }
     Ok(refused)

@@ -52,6 +52,16 @@ fn put_letter(page: &mut Octets, letter: u8) -> Result<(), ElfError>
     put_bytes(page, &[b' ', letter])
 }
 
+/// Appends a letter between two spaces.
+#[tactic(auto, using(elf_types::proofs::Writers::kept))]
+fn put_between(page: &mut Octets, letter: u8) -> Result<(), ElfError>
+    ensures ok { OnOk result
+        (page.new ≡ page.old ++ (codes " " ++ (letter ∷ []) ++ codes " ")) }
+    ensures err { IfErr result (WantsMemory page.old page.new) }
+{
+    put_bytes(page, &[b' ', letter, b' '])
+}
+
 /// How many digits a value has at least.
 fn width_of(class: Class) -> usize
     ensures value { result ≡ width_of class }
@@ -121,8 +131,7 @@ fn put_plain(page: &mut Octets, row: &SymbolRow<'_>) -> Result<(), ElfError>
 {
     let radix = row.options.radix;
     put_value(page, radix, row.class, row.undefined, row.symbol.value)?;
-    put_letter(page, row.letter)?;
-    put_text(page, " ")?;
+    put_between(page, row.letter)?;
     put_bytes(page, row.name)?;
     put_text(page, "\n")
 }

@@ -17,33 +17,37 @@ ghost use Rattle.nm_tool.specs.Kept.{kept_of as stated_kept};
 
 use crate::copied::show_copied;
 use crate::form::Form;
-use crate::kept::{Kept, kept_of, order_at_hand};
+use crate::kept::{Kept, kept_of};
 use crate::ordered::show_order;
+use crate::ranked::order_at_hand;
 use crate::symbols::{Tables, tables_of};
 use bytes_at_hand::strings_end;
 use elf_descriptor::Elf;
 use elf_outside::{Sink, Source};
 use elf_types::constants::SHT_SYMTAB;
-use elf_types::{DataId, ScnId, Sym, is_compressed};
+use elf_types::{DataId, List, ScnId, Sym, is_compressed};
 use gelf_view::item_count;
 use object_output::{ObjectTool, section_header, show_object};
 use std::alloc::Global;
 use tool_output::{FileName, Message, Outputs, Stop};
 use tool_text::NmOptions;
 
+/// As many symbols as have indexes of 32 bits.
+const MOST_KEPT: u64 = 1 << 32;
+
 /// Shows the rows of the kept symbols of a table, in the order of their names where these stand.
 fn show_ordered<S: Source, O: Sink, E: Sink>(
     elf: &mut Elf<S>,
     t: Tables,
     end: Option<u64>,
-    list: &[Kept],
+    list: List<Kept>,
     count: u64,
     form: Form<'_>,
     outputs: &mut Outputs<'_, O, E>,
 ) -> Result<bool, Stop>
     requires tables { AreTables elf.old.o t }
     requires end { IsTrue elf.old.told → IfSome end (EndsAt elf.old.o t.names.0) }
-    requires list { IsTrue elf.old.told → list.now
+    requires list { IsTrue elf.old.told → list
         ≡ stated_kept form.options.now elf.old.o t.symbols.0 (count - 1) }
     requires count { count ≡ length (stated_symbols elf.old.o t.symbols.0) }
     ensures { ReportsElf S.Source O.Sink E.Sink
@@ -51,9 +55,8 @@ fn show_ordered<S: Source, O: Sink, E: Sink>(
         result elf.old elf.new outputs.old outputs.new }
 {
     match order_at_hand(elf, t, list, form.options.by_value) {
-        Ok(Some(order)) => show_order(elf, t, end, form, order.as_slice(), outputs),
-        Ok(None) => show_copied(elf, t, count, form, outputs),
-        Err(e) => Err(Stop::want_of(e)),
+        Some(order) => show_order(elf, t, end, form, order.as_slice(), outputs),
+        None => show_copied(elf, t, count, form, outputs),
     }
 }
 
@@ -73,20 +76,20 @@ fn end_of_names<S: Source>(elf: &mut Elf<S>, t: Tables, list: &[Kept]) -> Result
 fn show_kept<S: Source, O: Sink, E: Sink>(
     elf: &mut Elf<S>,
     t: Tables,
-    list: &[Kept],
+    list: List<Kept>,
     count: u64,
     form: Form<'_>,
     outputs: &mut Outputs<'_, O, E>,
 ) -> Result<bool, Stop>
     requires tables { AreTables elf.old.o t }
-    requires list { IsTrue elf.old.told → list.now
+    requires list { IsTrue elf.old.told → list
         ≡ stated_kept form.options.now elf.old.o t.symbols.0 (count - 1) }
     requires count { count ≡ length (stated_symbols elf.old.o t.symbols.0) }
     ensures { ReportsElf S.Source O.Sink E.Sink
         (λ o. rows_report form.entry.options.now form.entry.file.now o t.symbols.0)
         result elf.old elf.new outputs.old outputs.new }
 {
-    match end_of_names(elf, t, list) {
+    match end_of_names(elf, t, list.as_slice()) {
         Ok(end) => show_ordered(elf, t, end, list, count, form, outputs),
         Err(stop) => Err(stop),
     }
@@ -106,8 +109,11 @@ fn show_listed<S: Source, O: Sink, E: Sink>(
         (λ o. rows_report form.entry.options.now form.entry.file.now o t.symbols.0)
         result elf.old elf.new outputs.old outputs.new }
 {
+    if count > MOST_KEPT {
+        return show_copied(elf, t, count, form, outputs);
+    }
     match kept_of(elf.alloc(), elf, t, form.options, count) {
-        Ok(list) => show_kept(elf, t, list.as_slice(), count, form, outputs),
+        Ok(list) => show_kept(elf, t, list, count, form, outputs),
         Err(stop) => Err(stop),
     }
 }

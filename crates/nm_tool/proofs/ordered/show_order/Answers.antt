@@ -6,50 +6,50 @@ use Rattle.tool_output.proofs.UnderWayLemmas.{reports_left, no_reports_left}
 use Rattle.object_output.proofs.ElfSteps.{elf_begins, elf_goes_on, elf_stops_at, elf_is_given}
 use Rattle.bytes_at_hand.proofs.Ends.{end_stays}
 use Rattle.nm_tool.specs.Tables.{AreTables}
-use Rattle.nm_tool.specs.Kept.{index_report}
+use Rattle.nm_tool.specs.Kept.{kept_report}
 use Rattle.nm_tool.proofs.ordered.show_order.Goals as goal
 
-pub loop-i-init : goal.loop-i-init
-loop-i-init g c =
+pub loop-k-init : goal.loop-k-init
+loop-k-init g c =
     elf_begins g.S.Source g.O.Sink g.E.Sink c.args.elf.now c.args.outputs.now _
 
-pub show_index-requires-clause-tables : goal.show_index-requires-clause-tables
-show_index-requires-clause-tables g c =
-    subst (λ (o : Object). AreTables o c.args.t) (sym c.loop-i.invariant.elf.object)
+pub show_one-requires-clause-tables : goal.show_one-requires-clause-tables
+show_one-requires-clause-tables g c =
+    subst (λ (o : Object). AreTables o c.args.t) (sym c.loop-k.invariant.elf.object)
     c.requires.tables
 
-pub show_index-requires-clause-end : goal.show_index-requires-clause-end
-show_index-requires-clause-end g c =
-    end_stays g.S.Source c.args.elf.now c.loop-i.elf c.args.t.names.0 c.args.end
-    c.loop-i.invariant.elf c.requires.end
+pub show_one-requires-clause-end : goal.show_one-requires-clause-end
+show_one-requires-clause-end g c =
+    end_stays g.S.Source c.args.elf.now c.loop-k.elf c.args.t.names.0 c.args.end
+    c.loop-k.invariant.elf c.requires.end
 
-pub loop-i-preserved : goal.loop-i-preserved
-loop-i-preserved g c =
+pub loop-k-preserved : goal.loop-k-preserved
+loop-k-preserved g c =
     let f = c.args.form in
     let s = c.args.t.symbols.0 in
-    let i = c.loop-i.i-index in
-    elf_goes_on c.loop-i.invariant _
-    (λ o. reports_of (index_report f.options.now f.file.now o s) (drop (i + 1) c.args.order.now))
-    (λ told. reports_left (index_report f.options.now f.file.now c.args.elf.now.o s)
-    c.args.order.now i _ c.loop-i-test.true (search rules))
+    let i = c.loop-k.k-index in
+    elf_goes_on c.loop-k.invariant _
+    (λ o. reports_of (kept_report f.options.now f.file.now o s) (drop (i + 1) c.args.order.now))
+    (λ told. reports_left (kept_report f.options.now f.file.now c.args.elf.now.o s)
+    c.args.order.now i _ c.loop-k-test.true (search rules))
     c.in_ok-was_refused.ensures refl
 
 pub returns-in_err-was_refused : goal.returns-in_err-was_refused
 returns-in_err-was_refused g c =
     let f = c.args.form in
     let s = c.args.t.symbols.0 in
-    let i = c.loop-i.i-index in
+    let i = c.loop-k.k-index in
     let p = err_from_is_err_and c.from_residual.result c.from_residual.ensures.1 in
-    rw (p.1, p.2) (elf_stops_at c.loop-i.invariant _
-    (λ o. reports_of (index_report f.options.now f.file.now o s) (drop (i + 1) c.args.order.now))
-    (λ told. reports_left (index_report f.options.now f.file.now c.args.elf.now.o s)
-    c.args.order.now i _ c.loop-i-test.true (search rules))
+    rw (p.1, p.2) (elf_stops_at c.loop-k.invariant _
+    (λ o. reports_of (kept_report f.options.now f.file.now o s) (drop (i + 1) c.args.order.now))
+    (λ told. reports_left (kept_report f.options.now f.file.now c.args.elf.now.o s)
+    c.args.order.now i _ c.loop-k-test.true (search rules))
     c.in_err-was_refused.ensures)
 
 pub returns : goal.returns
 returns g c =
     let f = c.args.form in
     let s = c.args.t.symbols.0 in
-    elf_is_given c.loop-i.invariant
-    (λ told. no_reports_left (index_report f.options.now f.file.now c.args.elf.now.o s)
-    c.args.order.now c.loop-i.i-index c.loop-i-test.false)
+    elf_is_given c.loop-k.invariant
+    (λ told. no_reports_left (kept_report f.options.now f.file.now c.args.elf.now.o s)
+    c.args.order.now c.loop-k.k-index c.loop-k-test.false)

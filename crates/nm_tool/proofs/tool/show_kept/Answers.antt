@@ -21,7 +21,7 @@ show_ordered-requires-clause-end g c =
 pub show_ordered-requires-clause-list : goal.show_ordered-requires-clause-list
 show_ordered-requires-clause-list g c = λ told.
     let left = c.in-Ok.ensures.reads.elf in
-    subst (λ (o : Object). c.args.list.now
+    subst (λ (o : Object). c.args.list
     ≡ kept_of c.args.form.options.now o c.args.t.symbols.0 (c.args.count - 1)) (sym left.object)
     (c.requires.list (subst (λ (is : Bool). IsTrue is) left.told told))
 

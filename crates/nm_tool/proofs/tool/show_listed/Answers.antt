@@ -1,4 +1,4 @@
-use Rattle.std.proofs.Common.{◌≡◌, ◌-◌, Bool, length, IsTrue, refl, sym, ◌∙◌, subst}
+use Rattle.std.proofs.Common.{◌≡◌, ◌-◌, Bool, length, IsTrue, refl, sym, subst}
 use Rattle.elf_object.specs.Object.{Object}
 use Rattle.object_output.proofs.ElfSteps.{elf_after, elf_learns_none}
 use Rattle.nm_tool.specs.Kept.{kept_of}
@@ -15,8 +15,7 @@ show_kept-requires-clause-tables g c =
 pub show_kept-requires-clause-list : goal.show_kept-requires-clause-list
 show_kept-requires-clause-list g c = λ told.
     let left = c.in-Ok.ensures.reads.elf in
-    c.as_slice.ensures
-    ∙ subst (λ (o : Object). c.in-Ok.list
+    subst (λ (o : Object). c.in-Ok.list
     ≡ kept_of c.args.form.options.now o c.args.t.symbols.0 (c.args.count - 1)) (sym left.object)
     (c.in-Ok.ensures.value (subst (λ (is : Bool). IsTrue is) left.told told))
 

@@ -1,13 +1,13 @@
 use Rattle.std.proofs.Common.{◌∙◌}
 use Rattle.nm_tool.specs.Kept.{shown_in, shown_name}
 use Rattle.nm_tool.proofs.KeptLemmas.{order_same, names_held}
-use Rattle.nm_tool.proofs.kept.order_at_hand.Goals as goal
+use Rattle.nm_tool.proofs.ranked.order_at_hand.Goals as goal
 
-pub returns-in-Ok-clause-order : goal.returns-in-Ok-clause-order
-returns-in-Ok-clause-order g c = λ told.
+pub returns-in-Some : goal.returns-in-Some
+returns-in-Some g c = λ told.
     let s = c.args.t.symbols.0 in
     let strings = c.in-Some.strings.now in
-    c.in-Ok.ensures.ok
+    c.ranked.ensures
     ∙ order_same c.args.by_value (shown_in strings) (shown_name c.args.elf.now.o s)
     (names_held c.args.elf.now s c.args.t.names.0 strings c.requires.names
-    c.in-Some.ensures.strings told) c.args.list.now
+    c.in-Some.ensures.strings told) c.args.list
