@@ -1,5 +1,5 @@
 -- Items at hand: what the bytes of sections hold is what the object states.
-use Rattle.std.proofs.Common.{◌≡◌, ◌⊎◌, inl, inr, ℕ, ◌<◌, ◌≤◌, Bool, true, false, List, length, get_or, Option, Some, None, Result, Ok, Err, IsTrue, refl, sym, ap, ◌∙◌}
+use Rattle.std.proofs.Common.{◌≡◌, ◌⊎◌, inl, inr, ℕ, ◌<◌, ◌≤◌, Bool, true, false, List, length, get_or, Option, Some, None, Result, Ok, Err, refl, sym, ap, ◌∙◌}
 use Rattle.std.specs.Prelude.{slice_get, is_some, if◌then◌else◌}
 use Rattle.std.proofs.lemmas.Option.{slice_get_cases}
 use Rattle.elf_types.specs.declared.records.Class.{Class}
@@ -19,7 +19,7 @@ use Rattle.elf_descriptor.specs.State.{State}
 use Rattle.elf_descriptor.specs.Held.{AreHeldBytes}
 use Rattle.section_data.specs.Held.{or_empty, items_of_bytes}
 use Rattle.bytes_at_hand.specs.declared.items.ItemBytes.{ItemBytes}
-use Rattle.bytes_at_hand.specs.Items.{HoldsItems, AreItems, held_items}
+use Rattle.bytes_at_hand.specs.Items.{HoldsItems, AreItems}
 
 -- ---- The items of a clean piece
 

@@ -1,5 +1,5 @@
 -- The items of a section of which the bytes are at hand: they were read and not edited.
-use Rattle.std.specs.Prelude.{◌≡◌, ◌+◌, ℕ, Bool, List, [], ◌∷◌, length, drop, Option, Some, None, IsTrue, if◌then◌else◌}
+use Rattle.std.specs.Prelude.{◌≡◌, ◌+◌, ◌<◌, ◌≤◌, ℕ, Bool, List, [], ◌∷◌, length, drop, Option, Some, None, IsTrue, IfSome, if◌then◌else◌}
 use Rattle.elf_types.specs.declared.records.Kind.{Kind}
 use Rattle.elf_xlate.specs.declared.content.Items.{Items}
 use Rattle.elf_xlate.specs.Translation.{is_whole}
@@ -7,6 +7,7 @@ use Rattle.elf_object.specs.Answers.{items_at, lend_refusal}
 use Rattle.elf_descriptor.specs.State.{State}
 use Rattle.section_data.specs.Held.{items_of_bytes}
 use Rattle.bytes_at_hand.specs.declared.items.ItemBytes.{ItemBytes}
+use Rattle.bytes_at_hand.specs.declared.items.Span.{Span}
 
 -- ---- The items that bytes hold
 
@@ -50,3 +51,7 @@ passing_from test xs i = passing test i (drop i xs)
 abbrev pub IsNext : {X : Type 0} → (ℕ → X → Bool) → List X → ℕ → Option ℕ → Type 0
 IsNext test xs from None = passing_from test xs from ≡ []
 IsNext test xs from (Some i) = passing_from test xs from ≡ i ∷ passing_from test xs (i + 1)
+
+-- an index is one of a span
+abbrev pub IsWithin : Span → ℕ → Type 0
+IsWithin s i = (s.from ≤ i) × IfSome s.to (λ to. i < to)

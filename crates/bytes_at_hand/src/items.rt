@@ -23,6 +23,15 @@ pub struct ItemBytes<'a> {
     pub bytes: &'a [u8],
 }
 
+/// Indexes of items from one on, and below another where there is an end.
+#[derive(Clone, Copy)]
+pub struct Span {
+    /// The first.
+    pub from: u64,
+    /// One behind the last, or None where there is no end.
+    pub to: Option<u64>,
+}
+
 /// The bytes of the items of a section, where they are at hand: the section was read, it has one
 /// piece of this kind, and that was not edited. Nothing is read.
 pub fn item_bytes<S: Source, T: Item>(elf: &Elf<S>, s: ScnId) -> Option<&[u8]>

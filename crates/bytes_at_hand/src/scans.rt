@@ -1,12 +1,12 @@
 //! Looking for items that pass a test, where their bytes stand: those that do not are passed over
 //! with one look at each.
 
-ghost use Rattle.std.specs.Prelude.{◌≡◌, ◌<◌, ◌≤◌, ◌^◌, ℕ, Bool as TheBool, length, IsTrue, IfSome};
+ghost use Rattle.std.specs.Prelude.{◌≡◌, ◌⊎◌, ◌<◌, ◌≤◌, ◌^◌, ℕ, Bool as TheBool, false, length, Some, IsTrue, IfSome};
 ghost use Rattle.elf_xlate.specs.Translation.{is_whole};
 ghost use Rattle.section_data.specs.Held.{items_of_bytes};
 ghost use Rattle.bytes_at_hand.specs.Items.{held_items, AreWhole, IsNext};
 
-use crate::items::{ItemBytes, item_of, most_items};
+use crate::items::{ItemBytes, Span, item_of, most_items};
 use elf_types::{Class, Order};
 use section_data::Item;
 
@@ -20,22 +20,36 @@ pub trait ItemTest<T> {
         ensures { result ≡ holds self.now i item.now };
 }
 
-/// The least index from one on of an item that passes a test, of those that bytes hold.
+/// The lesser of a number and an end, where there is one.
+fn lesser(count: u64, end: Option<u64>) -> u64
+    ensures most { result ≤ count }
+    ensures either { (count ≤ result) ⊎ (end ≡ Some result) }
+{
+    match end {
+        Some(n) => if n < count { n } else { count },
+        None => count,
+    }
+}
+
+/// The least index from one on of an item that passes a test, of those that bytes hold. None passes
+/// it from the end on, where there is one.
 #[inline(always)]
 fn next_in<T: Item, C: ItemTest<T>>(
     test: &C,
     bytes: &[u8],
     class: Class,
     order: Order,
-    from: u64,
+    span: Span,
 ) -> Option<u64>
-    requires { IsTrue (is_whole T.kind class (length bytes.now)) }
+    requires whole { IsTrue (is_whole T.kind class (length bytes.now)) }
+    requires late { IfSome span.to (λ to. (i : ℕ) (x : T) → to ≤ i
+        → C.holds test.now i x ≡ false) }
     ensures next { IsNext (C.holds test.now)
-        (T.list_of (items_of_bytes T.kind class order bytes.now)) from result }
-    ensures within { IfSome result (λ i. (from ≤ i) × (i < 2 ^ 63)) }
+        (T.list_of (items_of_bytes T.kind class order bytes.now)) span.from result }
+    ensures within { IfSome result (λ i. (span.from ≤ i) × (i < 2 ^ 63)) }
 {
-    let count = most_items::<T>(bytes, class, order);
-    for i in from..count {
+    let count = lesser(most_items::<T>(bytes, class, order), span.to);
+    for i in span.from..count {
         match item_of::<T>(bytes, i, class, order) {
             Some(item) => {
                 if test.holds(i, &item) {
@@ -54,39 +68,44 @@ fn next_by<T: Item, C: ItemTest<T>>(
     bytes: &[u8],
     class: Class,
     order: Order,
-    from: u64,
+    span: Span,
 ) -> Option<u64>
-    requires { IsTrue (is_whole T.kind class (length bytes.now)) }
+    requires whole { IsTrue (is_whole T.kind class (length bytes.now)) }
+    requires late { IfSome span.to (λ to. (i : ℕ) (x : T) → to ≤ i
+        → C.holds test.now i x ≡ false) }
     ensures next { IsNext (C.holds test.now)
-        (T.list_of (items_of_bytes T.kind class order bytes.now)) from result }
-    ensures within { IfSome result (λ i. (from ≤ i) × (i < 2 ^ 63)) }
+        (T.list_of (items_of_bytes T.kind class order bytes.now)) span.from result }
+    ensures within { IfSome result (λ i. (span.from ≤ i) × (i < 2 ^ 63)) }
 {
     match (class, order) {
         (Class::C32, Order::Least) => {
-            next_in::<T, C>(test, bytes, Class::C32, Order::Least, from)
+            next_in::<T, C>(test, bytes, Class::C32, Order::Least, span)
         }
         (Class::C32, Order::Greatest) => {
-            next_in::<T, C>(test, bytes, Class::C32, Order::Greatest, from)
+            next_in::<T, C>(test, bytes, Class::C32, Order::Greatest, span)
         }
         (Class::C64, Order::Least) => {
-            next_in::<T, C>(test, bytes, Class::C64, Order::Least, from)
+            next_in::<T, C>(test, bytes, Class::C64, Order::Least, span)
         }
         (Class::C64, Order::Greatest) => {
-            next_in::<T, C>(test, bytes, Class::C64, Order::Greatest, from)
+            next_in::<T, C>(test, bytes, Class::C64, Order::Greatest, span)
         }
     }
 }
 
-/// The least index from one on of an item that passes a test, of the items that bytes hold, or None
-/// where none is left that does. Nothing is read, and nothing takes memory.
+/// The least index of a span at which an item passes a test, of the items that bytes hold, or None
+/// where there is none; none passes it behind the span. Nothing is read, and nothing takes memory.
 pub fn next_found<T: Item, C: ItemTest<T>>(
     test: &C,
     items: &ItemBytes<'_>,
-    from: u64,
+    span: Span,
 ) -> Option<u64>
-    requires { AreWhole T.kind items.now }
-    ensures next { IsNext (C.holds test.now) (held_items T.kind T.list_of items.now) from result }
-    ensures within { IfSome result (λ i. (from ≤ i) × (i < 2 ^ 63)) }
+    requires whole { AreWhole T.kind items.now }
+    requires late { IfSome span.to (λ to. (i : ℕ) (x : T) → to ≤ i
+        → C.holds test.now i x ≡ false) }
+    ensures next { IsNext (C.holds test.now) (held_items T.kind T.list_of items.now) span.from
+        result }
+    ensures within { IfSome result (λ i. (span.from ≤ i) × (i < 2 ^ 63)) }
 {
-    next_by::<T, C>(test, items.bytes, items.class, items.order, from)
+    next_by::<T, C>(test, items.bytes, items.class, items.order, span)
 }

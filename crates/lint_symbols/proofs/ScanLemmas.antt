@@ -1,14 +1,39 @@
 -- What is found at items, by those that pass a test.
-use Rattle.std.proofs.Common.{◌≡◌, ℕ, ◌++◌, ◌+◌, Bool, true, false, List, [], ◌∷◌, map, refl, ap, ◌∙◌}
+use Rattle.std.proofs.Common.{◌≡◌, ℕ, ◌++◌, ◌+◌, ◌<◌, ◌≤◌, Bool, true, false, List, [], ◌∷◌, map, Option, Some, None, IfSome, refl, ap, ◌∙◌, arith}
 use Rattle.std.specs.Prelude.{if◌then◌else◌}
 use Rattle.std.specs.List.{flat_map, enumerate_from}
 use Rattle.std.proofs.lemmas.List.Concat.{flat_map-cons}
 use Rattle.tool_output.specs.Names.{Name}
 use Rattle.tool_output.specs.Reports.{no_report, joined}
-use Rattle.bytes_at_hand.specs.Items.{passing, passing_from}
+use Rattle.bytes_at_hand.specs.declared.items.Span.{Span}
+use Rattle.bytes_at_hand.specs.Items.{passing, passing_from, IsWithin}
+use Rattle.bytes_at_hand.proofs.Passing.{none_early}
 use Rattle.lint_findings.specs.declared.places.Place.TheVariants.{Item}
 use Rattle.lint_findings.specs.Findings.{Finding, at_items, finding, findings_shown, found_if}
 use Rattle.lint_findings.proofs.FindingLemmas.{no_findings, findings_append}
+
+-- what holds only where it can not be fails
+fails_if : (b : Bool) → (b ≡ true → ⊥) → b ≡ false
+fails_if true never = absurd (never refl)
+fails_if false never = refl
+
+module _ {X : Type 0} (test : ℕ → X → Bool) where
+  late_by : (to : Option ℕ) → ((i : ℕ) (x : X) → test i x ≡ true → IfSome to (λ n. i < n))
+      → IfSome to (λ n. (i : ℕ) (x : X) → n ≤ i → test i x ≡ false)
+  late_by None within = tt
+  late_by (Some n) within =
+      λ i x le. fails_if (test i x) (λ holds. let lt = within i x holds in omega (arith, lt, le))
+
+  module _ (span : Span) (within : (i : ℕ) (x : X) → test i x ≡ true → IsWithin span i) where
+    -- behind a span
+    pub none_behind : IfSome span.to (λ n. (i : ℕ) (x : X) → n ≤ i → test i x ≡ false)
+    none_behind = late_by span.to (λ i x holds. (within i x holds).1)
+
+    -- and before it
+    pub none_before : (xs : List X) → passing_from test xs 0 ≡ passing_from test xs span.from
+    none_before xs =
+        none_early test xs span.from (λ i x lt. fails_if (test i x)
+        (λ holds. let le = (within i x holds).0 in omega (arith, lt, le)))
 
 module _ (number : ℕ) (text : List ℕ) (s : ℕ) where
   -- what is found at item i

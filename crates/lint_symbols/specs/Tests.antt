@@ -1,14 +1,17 @@
 -- The tests of the rules 22 to 25 by what is known of a table, and of the end of its strings: no
 -- more of the object is looked at. The laws that they are those of the rules stand here, since the
 -- laws of an impl cannot name proofs/.
-use Rattle.std.proofs.Common.{◌≡◌, ℕ, ◌&&◌, ◌||◌, not, Bool, true, false, Option, Some, None, IfSome, refl, sym, ap, ◌∙◌}
+use Rattle.std.proofs.Common.{◌≡◌, ℕ, ◌&&◌, ◌||◌, not, Bool, true, false, Option, Some, None, IfSome, refl, sym, ap, ◌∙◌, arith}
 use Rattle.std.specs.Prelude.{nat_le, nat_lt, is_none, is_some}
+use Rattle.std.proofs.lemmas.Bool.{leb-true, ltb-true}
 use Rattle.elf_types.specs.declared.constants.TheConstants.{SHN_LORESERVE}
 use Rattle.elf_types.specs.declared.records.Sym.{Sym}
 use Rattle.elf_types.specs.Symbols.{is_local}
 use Rattle.elf_object.specs.Object.{Object}
 use Rattle.elf_object.specs.Strings.{symbol_name, string_answer, readable}
 use Rattle.command_objects.specs.Words.{header_at}
+use Rattle.bytes_at_hand.specs.declared.items.Span.{Span}
+use Rattle.bytes_at_hand.specs.Items.{IsWithin}
 use Rattle.bytes_at_hand.specs.Strings.{is_past, EndsAt}
 use Rattle.bytes_at_hand.proofs.Ends.{unreadable_test}
 use Rattle.lint_symbols.specs.declared.by_symbol.Table.{Table}
@@ -83,3 +86,43 @@ pub sections_agree : Agrees is_of_no_section tells_all lacks_section
 unfolding is_of_no_section
 sections_agree o t end table ends told i x =
     ap (λ (n : ℕ). nat_le n x.shndx && nat_lt x.shndx SHN_LORESERVE) table.sections
+
+-- ---- Where they hold
+
+-- of the symbols of a table all, those from the first on that is not local, or those before it
+abbrev pub SpanOfTable : Type 0
+SpanOfTable = Table → Span
+
+abbrev pub all_of : SpanOfTable
+all_of t = record { from = 0; to = None }
+
+abbrev pub others_of : SpanOfTable
+others_of t = record { from = t.first_other; to = None }
+
+abbrev pub locals_of : SpanOfTable
+locals_of t = record { from = 0; to = Some t.first_other }
+
+-- a test holds of no symbol outside of the span
+abbrev pub Keeps : SpanOfTable → TestOfTable → Type 0
+Keeps span holds =
+    (t : Table) (end : Option ℕ) (i : ℕ) (x : Sym) → holds t end i x ≡ true → IsWithin (span t) i
+
+second : (a b : Bool) → (a && b) ≡ true → b ≡ true
+second true b holds = holds
+second false b holds = cc
+
+pub names_within : Keeps all_of lacks_name
+names_within t end i x holds = (omega arith, tt)
+
+pub locals_within : Keeps others_of is_behind_others
+locals_within t end i x holds =
+    (leb-true t.first_other i (second (is_local x) (nat_le t.first_other i) holds), tt)
+
+pub others_within : Keeps locals_of is_before_others
+others_within t end i x holds = (
+  omega arith,
+  ltb-true i t.first_other (second (not (is_local x)) (nat_lt i t.first_other) holds),
+)
+
+pub sections_within : Keeps all_of lacks_section
+sections_within t end i x holds = (omega arith, tt)

@@ -16,7 +16,7 @@ ghost use Rattle.lint_findings.specs.Steps.{FindsElf};
 ghost use Rattle.lint_symbols.specs.Relocations.{has_relocations, symbol_bound, symbol_numbers_of, passes_bound, AreRelocations};
 
 use crate::scans::{AtItems, load_items, show_found};
-use bytes_at_hand::{ItemBytes, ItemTest, items_at_hand};
+use bytes_at_hand::{ItemBytes, ItemTest, Span, items_at_hand};
 use elf_descriptor::Elf;
 use elf_outside::{Sink, Source};
 use elf_types::constants::SHN_UNDEF;
@@ -210,7 +210,8 @@ fn each_at_hand<T: Relocation, O: Sink, E: Sink>(
         section: r.section,
     };
     let test = PastBound { bound: r.bound };
-    show_found::<T, PastBound, O, E>(&at, &test, items, outputs)
+    let span = Span { from: 0, to: None };
+    show_found::<T, PastBound, O, E>(&at, &test, span, items, outputs)
 }
 
 /// Says what the rule finds at each of so many relocations of a section that was read, by index.

@@ -18,10 +18,10 @@ ghost use Rattle.lint_findings.specs.Findings.{at_items, finding, findings_shown
 ghost use Rattle.lint_findings.specs.Looking.{symbols as stated_symbols};
 ghost use Rattle.lint_findings.specs.Steps.{FindsElf, FindsOver};
 ghost use Rattle.lint_symbols.specs.Symbols.{at_symbols, at_symbols_of, has_symbols, symbols_of, IsTable};
-ghost use Rattle.lint_symbols.specs.Tests.{Agrees, Telling, TestOfTable};
+ghost use Rattle.lint_symbols.specs.Tests.{Agrees, Keeps, SpanOfTable, Telling, TestOfTable};
 
 use crate::scans::{AtItems, load_items, show_found};
-use bytes_at_hand::{ItemBytes, ItemTest, items_at_hand, strings_end};
+use bytes_at_hand::{ItemBytes, ItemTest, Span, items_at_hand, strings_end};
 use elf_descriptor::Elf;
 use elf_outside::{Sink, Source};
 use elf_types::{DataId, ScnId, Sym};
@@ -55,6 +55,7 @@ pub struct Table {
 ///   index.
 /// - `tells` tells whether a table and the end of its strings are all that its test needs.
 /// - `holds` is its test by these.
+/// - `span` are the indexes of the symbols at which it may have a finding.
 pub trait SymbolRule {
     ghost finds: { Object → ℕ → ℕ → TheSym → TheBool };
 
@@ -62,9 +63,15 @@ pub trait SymbolRule {
 
     ghost holds: { TestOfTable };
 
+    ghost span: { SpanOfTable };
+
     /// Whether a table, and the end of its strings where that is known, are all that its test needs.
     fn tells(&self, t: &Table, end: Option<u64>) -> bool
         ensures { result ≡ tells t.now end };
+
+    /// The indexes of the symbols of a table at which it may have a finding.
+    fn span(&self, t: &Table) -> Span
+        ensures { result ≡ span t.now };
 
     /// Whether it has a finding at symbol `i` of a table, by these alone.
     fn holds(&self, t: &Table, end: Option<u64>, i: u64, x: &Sym) -> bool
@@ -86,6 +93,9 @@ pub trait SymbolRule {
 
     // The test by an object is that by a table of it.
     ghost agrees: { Agrees finds tells holds };
+
+    // It holds in the span alone.
+    ghost within: { Keeps span holds };
 }
 
 /// The table of a section that is there, with so many symbols.
@@ -249,12 +259,13 @@ fn each_at_hand<R: SymbolRule, O: Sink, E: Sink>(
         name: by.name,
         section: t.section,
     };
+    let rule = by.rule;
     let test = TableTest {
-        rule: by.rule,
+        rule,
         table: t,
         end,
     };
-    show_found::<Sym, TableTest<'_, R>, O, E>(&at, &test, items, outputs)
+    show_found::<Sym, TableTest<'_, R>, O, E>(&at, &test, rule.span(&t), items, outputs)
 }
 
 /// The symbols of a table, where their bytes are at hand and tell what a rule finds.

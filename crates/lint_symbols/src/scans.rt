@@ -1,15 +1,15 @@
 //! What rules find at the items of a section whose bytes are at hand. Items at which nothing is
 //! found are passed over where their bytes stand, with one look at each.
 
-ghost use Rattle.std.specs.Prelude.{◌≡◌, ◌<◌, length, None};
+ghost use Rattle.std.specs.Prelude.{◌≡◌, ◌<◌, ℕ, length, true, None};
 ghost use Rattle.elf_object.specs.Answers.{items_at, lend_refusal};
 ghost use Rattle.tool_output.specs.Reports.{Reports};
 ghost use Rattle.tool_output.specs.Steps.{LeavesOutputs};
 ghost use Rattle.object_output.specs.Steps.{ReadsElf};
-ghost use Rattle.bytes_at_hand.specs.Items.{held_items, AreWhole};
+ghost use Rattle.bytes_at_hand.specs.Items.{held_items, AreWhole, IsWithin};
 ghost use Rattle.lint_findings.specs.Findings.{at_items, findings_shown};
 
-use bytes_at_hand::{ItemBytes, ItemTest, next_found};
+use bytes_at_hand::{ItemBytes, ItemTest, Span, next_found};
 use elf_descriptor::Elf;
 use elf_outside::{Sink, Source};
 use elf_types::{DataId, ScnId};
@@ -51,23 +51,25 @@ pub fn load_items<S: Source, T: Item>(elf: &mut Elf<S>, s: ScnId, count: u64) ->
     }
 }
 
-/// Says what a rule finds at each item of a section that passes its test, by index. The bytes of
-/// the items are at hand, and nothing is read.
+/// Says what a rule finds at each item of a section that passes its test, by index: those that pass
+/// have their indexes in a span. The bytes of the items are at hand, and nothing is read.
 pub fn show_found<T: Item, C: ItemTest<T>, O: Sink, E: Sink>(
     by: &AtItems<'_>,
     test: &C,
+    span: Span,
     items: &ItemBytes<'_>,
     outputs: &mut Outputs<'_, O, E>,
 ) -> Result<bool, Stop>
-    requires { AreWhole T.kind items.now }
+    requires whole { AreWhole T.kind items.now }
+    requires within { (i : ℕ) (x : T) → C.holds test.now i x ≡ true → IsWithin span i }
     ensures reports { Reports O.Sink E.Sink result outputs.old outputs.new
         (findings_shown by.now.name.now (at_items by.now.number by.now.text.now by.now.section.0
         (C.holds test.now) (held_items T.kind T.list_of items.now))) }
     ensures leaves { LeavesOutputs O.Sink E.Sink ⊥ result outputs.old outputs.new }
 {
     let mut found = false;
-    let mut from = 0;
-    while let Some(i) = next_found::<T, C>(test, items, from) {
+    let mut from = span.from;
+    while let Some(i) = next_found::<T, C>(test, items, Span { from, to: span.to }) {
         let place = Place::Item(by.section.0, i);
         let was_found = find(by.name, by.number, place, by.text, outputs)?;
         found = found | was_found;

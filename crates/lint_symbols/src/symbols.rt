@@ -9,7 +9,7 @@ ghost use Rattle.lint_symbols.specs.Tests as tests;
 ghost use Rattle.lint_findings.specs.Steps.{FindsElf, FindsOver};
 
 use crate::by_symbol::{SymbolRule, Table, each_symbol_by, table_of};
-use bytes_at_hand::is_past;
+use bytes_at_hand::{Span, is_past};
 use elf_descriptor::Elf;
 use elf_outside::{Sink, Source};
 use elf_types::constants::SHN_LORESERVE;
@@ -103,8 +103,14 @@ impl SymbolRule for SymbolNames {
 
     ghost holds = { tests.lacks_name };
 
+    ghost span = { tests.all_of };
+
     fn tells(&self, t: &Table, end: Option<u64>) -> bool {
         !t.named || end.is_some()
+    }
+
+    fn span(&self, _t: &Table) -> Span {
+        Span { from: 0, to: None }
     }
 
     #[inline(always)]
@@ -136,6 +142,8 @@ impl SymbolRule for SymbolNames {
     }
 
     ghost agrees = { tests.names_agree };
+
+    ghost within = { tests.names_within };
 }
 
 /// Rule 22, at each symbol of a table that links to a string table: its name cannot be read.
@@ -172,8 +180,17 @@ impl SymbolRule for LateLocals {
 
     ghost holds = { tests.is_behind_others };
 
+    ghost span = { tests.others_of };
+
     fn tells(&self, _t: &Table, _end: Option<u64>) -> bool {
         true
+    }
+
+    fn span(&self, t: &Table) -> Span {
+        Span {
+            from: u64::from(t.first_other),
+            to: None,
+        }
     }
 
     #[inline(always)]
@@ -194,6 +211,8 @@ impl SymbolRule for LateLocals {
     }
 
     ghost agrees = { tests.locals_agree };
+
+    ghost within = { tests.locals_within };
 }
 
 /// Rule 23, at each local symbol: its index is not below that of the first other.
@@ -230,8 +249,17 @@ impl SymbolRule for EarlyOthers {
 
     ghost holds = { tests.is_before_others };
 
+    ghost span = { tests.locals_of };
+
     fn tells(&self, _t: &Table, _end: Option<u64>) -> bool {
         true
+    }
+
+    fn span(&self, t: &Table) -> Span {
+        Span {
+            from: 0,
+            to: Some(u64::from(t.first_other)),
+        }
     }
 
     #[inline(always)]
@@ -252,6 +280,8 @@ impl SymbolRule for EarlyOthers {
     }
 
     ghost agrees = { tests.others_agree };
+
+    ghost within = { tests.others_within };
 }
 
 /// Rule 24, at each symbol that is not local: its index is below that of the first such.
@@ -288,8 +318,14 @@ impl SymbolRule for SymbolSections {
 
     ghost holds = { tests.lacks_section };
 
+    ghost span = { tests.all_of };
+
     fn tells(&self, _t: &Table, _end: Option<u64>) -> bool {
         true
+    }
+
+    fn span(&self, _t: &Table) -> Span {
+        Span { from: 0, to: None }
     }
 
     #[inline(always)]
@@ -311,6 +347,8 @@ impl SymbolRule for SymbolSections {
     }
 
     ghost agrees = { tests.sections_agree };
+
+    ghost within = { tests.sections_within };
 }
 
 /// Rule 25, at each symbol: its section index is not reserved, and is not below the number of

@@ -1,7 +1,7 @@
-use Rattle.std.proofs.Common.{refl, sym, ◌∙◌, arith}
+use Rattle.std.proofs.Common.{◌≡◌, ℕ, ◌≤◌, false, Option, IfSome, inl, inr, refl, sym, ◌∙◌, subst, arith}
 use Rattle.section_data.specs.Held.{items_of_bytes}
 use Rattle.bytes_at_hand.proofs.HeldItems.{all_before}
-use Rattle.bytes_at_hand.proofs.Passing.{one_passes, one_fails, none_passes}
+use Rattle.bytes_at_hand.proofs.Passing.{one_passes, one_fails, none_passes, none_late}
 use Rattle.bytes_at_hand.proofs.scans.next_in.Goals as goal
 
 pub loop-i-init : goal.loop-i-init
@@ -24,7 +24,7 @@ returns-then-holds-clause-next g c =
 pub returns-then-holds-clause-within : goal.returns-then-holds-clause-within
 returns-then-holds-clause-within g c = (
   c.loop-i.invariant.begun,
-  omega (arith, c.loop-i-test.true, c.most_items-count.ensures.small),
+  omega (arith, c.loop-i-test.true, c.most_items.ensures.small, c.lesser-count.ensures.most),
 )
 
 pub returns-in-None-clause-next : goal.returns-in-None-clause-next
@@ -35,8 +35,16 @@ returns-in-None-clause-next g c =
 
 pub returns-clause-next : goal.returns-clause-next
 returns-clause-next g c =
+    let holds = g.C.ItemTest.holds c.args.test.now in
+    let items = g.T.Listed.list_of
+    (items_of_bytes g.T.Listed.kind c.args.class c.args.order c.args.bytes.now) in
     c.loop-i.invariant.left
-    ∙ none_passes (g.C.ItemTest.holds c.args.test.now)
-    (g.T.Listed.list_of
-    (items_of_bytes g.T.Listed.kind c.args.class c.args.order c.args.bytes.now)) c.loop-i.i
-    (omega (arith, c.most_items-count.ensures.items, c.loop-i-test.false))
+    ∙ elim c.lesser-count.ensures.either [
+      | inl all ↦ none_passes holds items c.loop-i.i
+          (omega (arith, c.most_items.ensures.items, all, c.loop-i-test.false))
+      | inr end ↦ none_late holds items c.loop-i.i (λ k x le.
+          subst
+          (λ (to : Option ℕ). IfSome to
+          (λ to. (j : ℕ) (y : g.row.T.Denot) → to ≤ j → holds j y ≡ false))
+          end c.requires.late k x (omega (arith, le, c.loop-i-test.false)))
+    ]

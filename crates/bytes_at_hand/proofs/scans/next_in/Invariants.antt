@@ -9,6 +9,6 @@ invariant-loop-i g l =
     let items = g.T.Listed.list_of (items_of_bytes g.T.Listed.kind l.class l.order l.bytes) in
     let holds = g.C.ItemTest.holds l.test in
     record {
-      begun : l.from ≤ l.i;
-      left : passing_from holds items l.from ≡ passing_from holds items l.i;
+      begun : l.fn.span.from ≤ l.i;
+      left : passing_from holds items l.fn.span.from ≡ passing_from holds items l.i;
     }

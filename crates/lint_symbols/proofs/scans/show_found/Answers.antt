@@ -1,10 +1,10 @@
-use Rattle.std.proofs.Common.{false, List, refl, rules, subst, arith}
+use Rattle.std.proofs.Common.{false, List, ℕ, map, refl, rules, ap, ◌∙◌, subst, arith}
 use Rattle.std.proofs.lemmas.Result.{err_from_is_err_and}
 use Rattle.tool_output.specs.Reports.{UnderWay}
 use Rattle.tool_output.proofs.UnderWayLemmas.{begins, goes_on, stops_at, is_given}
 use Rattle.bytes_at_hand.specs.Items.{held_items}
 use Rattle.lint_findings.specs.Findings.{Finding, at_items, findings_shown}
-use Rattle.lint_symbols.proofs.ScanLemmas.{items_passing, next_left, none_left}
+use Rattle.lint_symbols.proofs.ScanLemmas.{found_at, items_passing, next_left, none_left, none_behind, none_before}
 use Rattle.lint_symbols.proofs.scans.show_found.Goals as goal
 
 pub loop-i-init : goal.loop-i-init
@@ -18,11 +18,16 @@ loop-i-init g c =
       report = subst
           (λ (l : List Finding). UnderWay g.O.Sink g.E.Sink false c.args.outputs.now
           c.args.outputs.now whole (findings_shown by.name.now l))
-          (items_passing by.number by.text.now s holds items)
+          (items_passing by.number by.text.now s holds items
+          ∙ ap (λ (l : List ℕ). map (found_at by.number by.text.now s) l)
+          (none_before holds c.args.span c.requires.within items))
           (begins g.O.Sink g.E.Sink c.args.outputs.now whole);
       keeps = search rules;
-      small = omega arith;
     }
+
+pub next_found-requires-clause-late : goal.next_found-requires-clause-late
+next_found-requires-clause-late g c =
+    none_behind (g.C.ItemTest.holds c.args.test.now) c.args.span c.requires.within
 
 pub loop-i-smaller : goal.loop-i-smaller
 loop-i-smaller g c =
@@ -39,7 +44,6 @@ loop-i-preserved g c =
           c.in-Some.i c.in-Some.ensures.next)
           c.in_ok-was_found.ensures.reports refl;
       keeps = search rules;
-      small = omega (arith, c.in-Some.ensures.within.1);
     }
 
 pub returns-in_err-was_found-clause-reports : goal.returns-in_err-was_found-clause-reports

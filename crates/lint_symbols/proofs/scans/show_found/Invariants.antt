@@ -1,4 +1,4 @@
-use Rattle.std.proofs.Common.{◌≤◌, ◌-◌, map}
+use Rattle.std.proofs.Common.{◌-◌, map}
 use Rattle.std.specs.Prelude.{◌^◌}
 use Rattle.tool_output.specs.Reports.{UnderWay}
 use Rattle.tool_output.specs.Steps.{KeepsSinks}
@@ -20,7 +20,6 @@ invariant-loop-i g l =
           (findings_shown by.name.now
           (map (found_at by.number by.text.now s) (passing_from holds items l.from)));
       keeps : KeepsSinks g.O.Sink g.E.Sink l.initial.outputs l.outputs;
-      small : l.from ≤ 2 ^ 63;
     }
 
 abbrev pub decreases-loop-i : goal.decreases-loop-i
