@@ -1,4 +1,4 @@
--- The spare front.
+-- Spare memory for a front.
 use Rattle.std.proofs.Common.{◌≡◌, ◌∙◌, ◌+◌, ℕ, Bool, true, false, List, [], ◌∷◌, ◌++◌, length, Option, Some, None, Result, Ok, Err, refl, sym, ap, subst, arith}
 use Rattle.std.specs.Prelude.{◌==◌, ◌&&◌, IfSome, OnOk, OnErr, take}
 use Rattle.std.proofs.lemmas.List.{length-append}
@@ -7,7 +7,7 @@ use Rattle.elf_types.specs.declared.errors.ElfError.{ElfError}
 use Rattle.elf_types.specs.declared.records.Shdr.{Shdr}
 use Rattle.elf_outside.specs.declared.sources.Source.{Ghosts}
 use Rattle.elf_descriptor.specs.declared.body.Body.{Body}
-use Rattle.elf_descriptor.specs.declared.body.Written.{Written}
+use Rattle.elf_descriptor.specs.declared.body.Spare.{Spare}
 use Rattle.elf_descriptor.specs.declared.body.Base.TheVariants as bases
 use Rattle.elf_descriptor.specs.Views.{object_of, loaded_of, held_of, room_of, source_bytes, ready_of, is_of_source, state_of}
 use Rattle.elf_descriptor.specs.Sound.{IsElf}
@@ -28,11 +28,11 @@ same_length n = by_test (n == n) refl
     by_test true e = refl
     by_test false e = absurd (eqb-false n n e refl)
 
--- a spare front of the right lengths, over a source
-pub reserved_by : (old new : Body) (front : Written) → is_of_source old.base ≡ true → new ≡ record old { spare = Some front; ready = true } → length front.phdrs ≡ length old.phdrs
+-- spare memory of the right lengths, over a source
+pub reserved_by : (old new : Body) (front : Spare) → is_of_source old.base ≡ true → new ≡ record old { spare = Some front; ready = true } → length front.phdrs ≡ length old.phdrs
     → length front.shdrs ≡ length old.sections → IsReserved old new
 reserved_by old new front over is phdrs shdrs = record {
-  rest = is ∙ ap (λ (s : Option Written). record old { spare = s; ready = true }) (sym (ap (λ (b : Body). b.spare) is));
+  rest = is ∙ ap (λ (s : Option Spare). record old { spare = s; ready = true }) (sym (ap (λ (b : Body). b.spare) is));
   ready =
       ap ready_of is
       ∙ ap (λ (t : Bool).

@@ -1,6 +1,8 @@
 -- A descriptor that begins over a source (elf_begin, elf(3E); gABI chapter 4, "Object Files").
 use Rattle.std.specs.Prelude.{◌≡◌, ◌≤◌, ℕ, Bool, false, List, length, map, slice_get, Option, Some, None, is_some, IfSome, Result, Ok, Err}
 use Rattle.elf_types.specs.declared.constants.TheConstants.{MAX_IMAGE}
+use Rattle.elf_types.specs.declared.records.Ehdr.{Ehdr}
+use Rattle.elf_types.specs.declared.records.Phdr.{Phdr}
 use Rattle.elf_types.specs.declared.records.Shdr.{Shdr}
 use Rattle.elf_types.specs.declared.errors.ElfError.{ElfError}
 use Rattle.elf_outside.specs.declared.sources.Source.{Ghosts}
@@ -11,6 +13,7 @@ use Rattle.elf_object.specs.Open.{begun, opened, standing_header}
 use Rattle.elf_types.specs.Lists.{AreBytes}
 use Rattle.section_table.specs.Sections.{SectionView as Scn}
 use Rattle.elf_descriptor.specs.declared.body.Body.{Body}
+use Rattle.elf_descriptor.specs.declared.body.Written.{Written}
 use Rattle.elf_descriptor.specs.declared.body.Base.TheVariants as bases
 use Rattle.elf_descriptor.specs.State.{State}
 use Rattle.elf_descriptor.specs.Views.{object_of, loaded_of, held_of, room_of, source_bytes, ready_of, HasCounts}
@@ -18,17 +21,20 @@ use Rattle.elf_descriptor.specs.Sound.{CellIn, IsSound, IsStanding}
 
 -- ---- What the program keeps
 
--- all of the object that a front begins over a source of `size` bytes, with these sections; nothing
--- is marked
-unfoldable pub opened_body : ℕ → Front → List Scn → Body
-opened_body size f sections = record {
-  header = f.ehdr;
-  pad = f.pad;
-  phdrs = f.phdrs;
+-- a front as it stands in the image
+abbrev pub standing_front : Front → Written
+standing_front f =
+    record { header = standing_header f; pad = f.pad; phdrs = f.phdrs; shdrs = f.shdrs }
+
+-- all of an object with this front and these parts over a source of `size` bytes; nothing is marked
+abbrev pub begun_body : ℕ → Ehdr → Written → List Phdr → List Scn → Body
+begun_body size header front phdrs sections = record {
+  header = header;
+  pad = front.pad;
+  phdrs = phdrs;
   sections = sections;
   base = bases.Source size;
-  written =
-      Some (record { header = standing_header f; pad = f.pad; phdrs = f.phdrs; shdrs = f.shdrs });
+  written = Some front;
   spare = None;
   layout = false;
   fill = 0;
@@ -37,6 +43,10 @@ opened_body size f sections = record {
   segments_marked = false;
   ready = false;
 }
+
+-- all of the object that a front begins, with these sections
+unfoldable pub opened_body : ℕ → Front → List Scn → Body
+opened_body size f sections = begun_body size f.ehdr (standing_front f) f.phdrs sections
 
 -- for each section header, that something of its section is held or kept aside: nothing is
 abbrev pub none_held : List Shdr → List Bool

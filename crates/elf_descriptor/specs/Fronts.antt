@@ -24,7 +24,7 @@ use Rattle.elf_descriptor.specs.Places.{stored_shdr}
 
 -- ---- Memory
 
--- only the spare front changed, and it has the lengths of the object's lists
+-- only the spare memory changed, and it is as long as the object's lists
 pub record IsReserved (old new : Body) : Type 0 where
   pub rest : new ≡ record old { spare = new.spare; ready = true }
   pub ready : ready_of new ≡ true

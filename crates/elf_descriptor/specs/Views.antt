@@ -11,6 +11,7 @@ use Rattle.section_data.specs.Views.{CellView}
 use Rattle.section_data.specs.Held.{cell_is_loaded}
 use Rattle.section_table.specs.Sections.{SectionView as Scn, absent_scn}
 use Rattle.elf_descriptor.specs.declared.body.Written.{Written}
+use Rattle.elf_descriptor.specs.declared.body.Spare.{Spare}
 use Rattle.elf_descriptor.specs.declared.body.Base.{Base}
 use Rattle.elf_descriptor.specs.declared.body.Base.TheVariants as bases
 use Rattle.elf_descriptor.specs.declared.body.Body.{Body}
@@ -92,13 +93,13 @@ abbrev pub is_of_source : Base → Bool
 is_of_source (bases.Own bytes) = false
 is_of_source (bases.Source n) = true
 
--- a front has so many program headers and so many section headers
-abbrev pub has_lengths : Option Written → ℕ → ℕ → Bool
+-- spare memory is for so many program headers and so many section headers
+abbrev pub has_lengths : Option Spare → ℕ → ℕ → Bool
 has_lengths None phnum shnum = false
-has_lengths (Some front) phnum shnum =
-    (length front.phdrs == phnum) && (length front.shdrs == shnum)
+has_lengths (Some spare) phnum shnum =
+    (length spare.phdrs == phnum) && (length spare.shdrs == shnum)
 
--- the base is the source's, and a spare front is there, into which the object's can be copied
+-- the base is the source's, and there is spare memory into which the object's front can be copied
 abbrev pub has_spare : Body → Bool
 has_spare b =
     is_of_source b.base && has_lengths b.spare (length b.phdrs) (length b.sections)

@@ -1,7 +1,7 @@
 //! All of an object but its source.
 
 use elf_types::{Ehdr, Octets, Phdrs, Shdrs};
-use section_table::Sections;
+use section_table::{HeaderTable, Sections};
 
 mod bases;
 mod checks;
@@ -31,7 +31,17 @@ pub struct Written {
     pub pad: [u8; 7],
     /// The program headers.
     pub phdrs: Phdrs,
-    /// The section headers.
+    /// The section headers. As long as no header of a section changed since the image was opened,
+    /// the sections hold the same ones.
+    pub shdrs: HeaderTable,
+}
+
+/// Memory for the tables of a front that is written next; the values mean nothing.
+#[derive(Drop)]
+pub struct Spare {
+    /// As many program headers as the object has.
+    pub phdrs: Phdrs,
+    /// As many section headers as the object has.
     pub shdrs: Shdrs,
 }
 
@@ -60,8 +70,8 @@ pub struct Body {
     pub base: Base,
     /// The front as it stands in the image; a created object has none.
     pub written: Option<Written>,
-    /// Memory for a front that is written next; its values mean nothing.
-    pub spare: Option<Written>,
+    /// Memory for a front that is written next.
+    pub spare: Option<Spare>,
     /// `ELF_F_LAYOUT`.
     pub layout: bool,
     /// The byte of gaps.
@@ -72,7 +82,6 @@ pub struct Body {
     pub header_marked: bool,
     /// The program headers are marked dirty.
     pub segments_marked: bool,
-    /// The spare front has the lengths of the object's lists: none of them changed since it was
-    /// made.
+    /// The spare memory is as long as the object's lists: none of them changed since it was made.
     pub ready: bool,
 }

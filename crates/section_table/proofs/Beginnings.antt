@@ -191,23 +191,19 @@ pub none_seen : (size : ℕ) → sections_view size [] [] [] [] ≡ []
 unfolding sections_view
 none_seen size = refl
 
-module _ (size room : ℕ) (headers given : List Shdr) (marks : List Bool) (slots : List ℕ)
-    (cells : List CellView) (same : headers ≡ given)
-    (marks_are : marks ≡ replicate (length given) false)
-    (slots_are : slots ≡ no_slots (length given)) where
-  as_long : length given ≡ length headers
-  as_long = ap (λ (l : List Shdr). length l) (sym same)
-
-  pub begun_sections : length given ≤ MAX_SECTIONS → cells ≡ [] → length given ≤ room
+module _ (size room n : ℕ) (headers : List Shdr) (marks : List Bool) (slots : List ℕ)
+    (cells : List CellView) (count : n ≡ length headers) (marks_are : marks ≡ replicate n false)
+    (slots_are : slots ≡ no_slots n) where
+  pub begun_sections : length headers ≤ MAX_SECTIONS → cells ≡ [] → n ≤ room
       → IsSections headers marks slots cells room
   begun_sections few none fits =
-      let long = as_long in
-      none_made headers marks slots cells room (omega (arith, few, long))
-      (marks_are ∙ ap (λ (n : ℕ). replicate n false) as_long) (slots_are ∙ ap no_slots as_long)
-      none (omega (arith, fits, long))
+      none_made headers marks slots cells room few
+      (marks_are ∙ ap (λ (m : ℕ). replicate m false) count) (slots_are ∙ ap no_slots count)
+      none (omega (arith, fits, count))
 
-  pub begun_view : sections_view size headers marks slots cells ≡ opened_scns size given
-  begun_view =
+  pub begun_view : (given : List Shdr) → headers ≡ given
+      → sections_view size headers marks slots cells ≡ opened_scns size given
+  begun_view given same =
       view_opened size headers marks slots cells
-      (marks_are ∙ ap (λ (n : ℕ). replicate n false) as_long) (slots_are ∙ ap no_slots as_long)
+      (marks_are ∙ ap (λ (m : ℕ). replicate m false) count) (slots_are ∙ ap no_slots count)
       ∙ ap (opened_scns size) same

@@ -1,3 +1,4 @@
+pub mod Present
 pub mod Views
 pub mod CellsMade
 pub mod Beginnings

@@ -5,8 +5,9 @@ ghost use Rattle.elf_types.specs.declared.constants.TheConstants.{MAX_SECTIONS};
 ghost use Rattle.elf_ident.specs.Front.{zero_shdr};
 ghost use Rattle.section_table.specs.Sections.{Makes};
 
+use crate::headers::Headers;
 use crate::lists::put_last;
-use elf_types::{Class, Shdr};
+use elf_types::Class;
 use section_data::Cell;
 use std::alloc::Global;
 
@@ -25,22 +26,22 @@ pub(crate) struct Form {
 fn make_new(
     form: Form,
     s: u32,
-    headers: &Vec<Shdr>,
+    headers: &Headers,
     slots: &mut Vec<u32>,
     cells: &mut Vec<Cell>,
 ) -> usize
-    requires header { s < length headers.now.items }
+    requires header { s < length headers.now }
     requires there { s < length slots.old.items }
     requires none { slice_index_or slots.old.items s 0 ≡ 0 }
     requires room { length cells.old.items < vec_capacity cells.old }
     requires few { length cells.old.items < MAX_SECTIONS }
-    ensures makes { Makes form.size s (slice_index_or headers.now.items s zero_shdr)
+    ensures makes { Makes form.size s (slice_index_or headers.now s zero_shdr)
         slots.old.items slots.new.items cells.old.items cells.new.items result }
     ensures room { vec_capacity cells.old ≤ vec_capacity cells.new }
 {
     let place = cells.len();
     slots[s as usize] = place as u32 + 1;
-    let header = &headers[s as usize];
+    let header = headers.at(s);
     let cell = Cell::unread(form.alloc, s, form.class, header, form.size);
     put_last(cells, cell);
     place
@@ -50,17 +51,17 @@ fn make_new(
 pub(crate) fn make(
     form: Form,
     s: u32,
-    headers: &Vec<Shdr>,
+    headers: &Headers,
     slots: &mut Vec<u32>,
     cells: &mut Vec<Cell>,
 ) -> usize
-    requires header { s < length headers.now.items }
+    requires header { s < length headers.now }
     requires there { s < length slots.old.items }
     requires room { slice_index_or slots.old.items s 0 ≡ 0
         → length cells.old.items < vec_capacity cells.old }
     requires few { slice_index_or slots.old.items s 0 ≡ 0
         → length cells.old.items < MAX_SECTIONS }
-    ensures makes { Makes form.size s (slice_index_or headers.now.items s zero_shdr)
+    ensures makes { Makes form.size s (slice_index_or headers.now s zero_shdr)
         slots.old.items slots.new.items cells.old.items cells.new.items result }
     ensures room { vec_capacity cells.old ≤ vec_capacity cells.new }
 {

@@ -7,20 +7,23 @@ ghost use Rattle.elf_types.specs.declared.errors.ElfError.TheVariants.{Memory};
 ghost use Rattle.section_table.specs.Sections.{section_in, opened_scns, new_scn, reopened_scn, cell_of, IsAsOpened, AreNumbered};
 
 use crate::at::CellAt;
-use crate::lists::{cell_room, clear_marks, empty_slots, put_last, reserve_one};
+use crate::headers::Headers;
+use crate::lists::{add_header, cell_room, clear_marks, empty_slots, put_last};
 use crate::making::{Form, make};
+use crate::tables::HeaderTable;
 use elf_types::{Class, ElfError, NULL_SECTION, Shdr};
 use section_data::Cell;
 use std::alloc::Global;
 use std::marker::Model;
 
 /// The sections of an object: of each its present header, whether that is marked dirty, and its
-/// cell. The cell of a section as it was opened is made when it is first lent. Memory for all cells
-/// is kept from the beginning and not touched, so that no edit of a cell needs any for it.
+/// cell. The headers are those of the table that was opened, which is not copied until one of them
+/// changes. The cell of a section as it was opened is made when it is first lent. Memory for all
+/// headers and cells is kept from the beginning and not touched, so that no edit needs any for it.
 #[derive(Drop)]
 pub struct Sections {
     form: Form,
-    headers: Vec<Shdr>,
+    headers: Headers,
     marks: Vec<bool>,
     /// Of each section, one more than the place of its cell; 0 where it was not made.
     slots: Vec<u32>,
@@ -33,10 +36,10 @@ impl Model for Sections {
 
     ghost Value = { List SectionView };
 
-    ghost view = { λ t. sections_view t.form.size t.headers.items t.marks.items t.slots.items
+    ghost view = { λ t. sections_view t.form.size t.headers t.marks.items t.slots.items
         t.cells.items };
 
-    ghost invariant = { λ t. IsSections t.headers.items t.marks.items t.slots.items t.cells.items
+    ghost invariant = { λ t. IsSections t.headers t.marks.items t.slots.items t.cells.items
         (vec_capacity t.cells) };
 }
 
@@ -53,34 +56,35 @@ impl Sections {
                 class,
                 size: 0,
             },
-            headers: Vec::new(alloc),
+            headers: Headers::new(alloc),
             marks: Vec::new(alloc),
             slots: Vec::new(alloc),
             cells: Vec::new(alloc),
         }
     }
 
-    /// The sections with these headers in an image of `size` bytes: nothing of them is read. It
-    /// refuses `Memory` alone.
+    /// The sections with the headers of a table in an image of `size` bytes: nothing of them is
+    /// read, and no header is copied. It refuses `Memory` alone.
     ///
     /// Source: gABI chapter 4, "Sections".
     pub fn opened(
         alloc: Global,
         class: Class,
-        headers: &[Shdr],
+        table: HeaderTable,
         size: u64,
     ) -> Result<Sections, ElfError>
-        requires { length headers.now ≤ MAX_SECTIONS }
-        ensures ok { IfOk result (λ l. l ≡ opened_scns size headers.now) }
+        requires { length table ≤ MAX_SECTIONS }
+        ensures ok { IfOk result (λ l. l ≡ opened_scns size table) }
         ensures err { IfErr result (λ e. e ≡ Memory) }
     {
-        let marks = clear_marks(alloc, headers)?;
-        let slots = empty_slots(alloc, headers)?;
-        let cells = cell_room(alloc, headers)?;
-        let copies = Vec::from_slice(alloc, headers)?;
+        let headers = Headers::over(alloc, table)?;
+        let count = headers.len();
+        let marks = clear_marks(alloc, count)?;
+        let slots = empty_slots(alloc, count)?;
+        let cells = cell_room(alloc, count)?;
         Ok(Sections {
             form: Form { alloc, class, size },
-            headers: copies,
+            headers,
             marks,
             slots,
             cells,
@@ -99,7 +103,7 @@ impl Sections {
         requires { s < length self.now }
         ensures { result.now ≡ (section_in self.now s).header }
     {
-        &self.headers[s as usize]
+        self.headers.at(s)
     }
 
     /// Whether a section that is there is marked dirty. It takes no memory.
@@ -134,7 +138,7 @@ impl Sections {
         let slot = self.slots[s as usize];
         if slot == 0 {
             let form = self.form;
-            let header = &self.headers[s as usize];
+            let header = self.headers.at(s);
             return CellAt::Unread(Cell::unread(form.alloc, s, form.class, header, form.size));
         }
         CellAt::Made(&self.cells[slot as usize - 1])
@@ -160,7 +164,7 @@ impl Sections {
     {
         let form = self.form;
         make(form, s, &self.headers, &mut self.slots, &mut self.cells);
-        self.headers[s as usize] = header;
+        self.headers.set(s, header);
     }
 
     /// Marks a section that is there dirty. It takes no memory.
@@ -183,8 +187,10 @@ impl Sections {
         ensures unchanged { OnErr result (self.new ≡ self.old) }
         ensures err { IfErr result (λ e. e ≡ Memory) }
     {
-        if let Err(e) = reserve_one(
+        let number = self.headers.len() as u32;
+        if let Err(e) = add_header(
             &mut self.headers,
+            NULL_SECTION,
             &mut self.marks,
             &mut self.slots,
             &mut self.cells,
@@ -192,11 +198,10 @@ impl Sections {
             return Err(e);
         }
         let place = self.cells.len();
-        let cell = Cell::fresh(self.form.alloc, self.headers.len() as u32);
+        let cell = Cell::fresh(self.form.alloc, number);
         put_last(&mut self.cells, cell);
         put_last(&mut self.slots, place as u32 + 1);
         put_last(&mut self.marks, true);
-        put_last(&mut self.headers, NULL_SECTION);
         Ok(())
     }
 

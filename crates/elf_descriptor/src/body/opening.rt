@@ -5,12 +5,12 @@ ghost use Rattle.elf_types.specs.declared.errors.ElfError.TheVariants.{Memory};
 ghost use Rattle.elf_xlate.specs.Headers.{HasNarrowCounts};
 ghost use Rattle.elf_ident.specs.Reading.{IsCounted};
 ghost use Rattle.elf_object.specs.Open.{standing_header};
-ghost use Rattle.elf_descriptor.specs.Begun.{IsOpened, opened_body};
+ghost use Rattle.elf_descriptor.specs.Begun.{IsOpened, begun_body, standing_front};
 
 use crate::body::{Base, Body, Written};
 use elf_ident::Front;
 use elf_types::{Ehdr, ElfError, List, Phdrs};
-use section_table::Sections;
+use section_table::{HeaderTable, Sections};
 use std::alloc::Global;
 
 /// The header with its counts and its string index as they stand in the image.
@@ -27,27 +27,38 @@ fn as_written(front: &Front) -> Ehdr
     }
 }
 
-/// The object with these sections over a source of `size` bytes. The front's own lists become those
-/// that stand in the image, and `phdrs` is the copy of its program headers.
-#[tactic(auto, unfolding(crate::specs::Begun::opened_body))]
-fn with_parts(front: Front, phdrs: Phdrs, sections: Sections, size: u64) -> Body
-    requires { phdrs ≡ front.phdrs }
-    ensures value { result ≡ opened_body size front sections }
+/// A front as it stands in the image, and its section headers for the sections. It refuses `Memory`
+/// alone.
+fn standing(alloc: Global, front: Front) -> Result<(Written, HeaderTable), ElfError>
+    ensures front { IfOk result (λ p. p.0 ≡ standing_front front) }
+    ensures table { IfOk result (λ p. p.1 ≡ front.shdrs) }
     ensures narrow { HasNarrowCounts (standing_header front) }
+    ensures err { IfErr result (λ e. e ≡ Memory) }
 {
     let header = as_written(&front);
+    let pad = front.pad;
+    let phdrs = front.phdrs;
+    let (shdrs, table) = HeaderTable::shared(alloc, front.shdrs)?;
+    let written = Written {
+        header,
+        pad,
+        phdrs,
+        shdrs,
+    };
+    Ok((written, table))
+}
+
+/// The object with these parts over a source of `size` bytes; nothing of it is marked.
+fn with_parts(header: Ehdr, written: Written, phdrs: Phdrs, sections: Sections, size: u64) -> Body
+    ensures { result ≡ begun_body size header written phdrs sections }
+{
     Body {
-        header: front.ehdr,
-        pad: front.pad,
+        header,
+        pad: written.pad,
         phdrs,
         sections,
         base: Base::Source(size),
-        written: Some(Written {
-            header,
-            pad: front.pad,
-            phdrs: front.phdrs,
-            shdrs: front.shdrs,
-        }),
+        written: Some(written),
         spare: None,
         layout: false,
         fill: 0,
@@ -60,14 +71,17 @@ fn with_parts(front: Front, phdrs: Phdrs, sections: Sections, size: u64) -> Body
 
 impl Body {
     /// The object that a front begins over a source of `size` bytes: nothing is read of a section,
-    /// and nothing is marked. It refuses `Memory` alone.
+    /// and nothing is marked. The section headers are held once, by the front that stands in the
+    /// image and by the sections together. It refuses `Memory` alone.
     pub fn opened(alloc: Global, front: Front, size: u64) -> Result<Body, ElfError>
         requires { IsCounted front }
         ensures opened { IfOk result (IsOpened front size) }
         ensures err { IfErr result (λ e. e ≡ Memory) }
     {
-        let sections = Sections::opened(alloc, front.ehdr.class, front.shdrs.as_slice(), size)?;
-        let phdrs = List::from_slice(alloc, front.phdrs.as_slice())?;
-        Ok(with_parts(front, phdrs, sections, size))
+        let header = front.ehdr;
+        let (written, table) = standing(alloc, front)?;
+        let phdrs = List::from_slice(alloc, written.phdrs.as_slice())?;
+        let sections = Sections::opened(alloc, header.class, table, size)?;
+        Ok(with_parts(header, written, phdrs, sections, size))
     }
 }

@@ -6,10 +6,10 @@ ghost use Rattle.section_table.specs.Sections.{AreNumbered};
 ghost use Rattle.elf_descriptor.specs.Settling.{SettlesBody, front_as_written};
 ghost use Rattle.elf_descriptor.specs.Views.{ready_of};
 
-use crate::body::{Base, Body, Written};
+use crate::body::{Base, Body, Spare, Written};
 use elf_object::written_header;
 use elf_types::{Phdr, Shdr};
-use section_table::Sections;
+use section_table::{HeaderTable, Sections};
 use std::mem;
 
 /// A program header, whose fields are in the range of their types.
@@ -42,20 +42,26 @@ fn copy_shdrs(to: &mut [Shdr], from: &Sections)
 }
 
 impl Body {
-    /// Copies the front, as it is written, over one whose tables are as long.
-    fn copy_front(&self, front: &mut Written)
-        requires phdrs { length front.old.phdrs ≡ length self.now.phdrs }
-        requires shdrs { length front.old.shdrs ≡ length self.now.sections }
-        ensures value { front.new ≡ front_as_written self.now }
+    /// The front as it is written, in the memory of tables that are as long.
+    fn front_over(&self, spare: Spare) -> Written
+        requires phdrs { length spare.phdrs ≡ length self.now.phdrs }
+        requires shdrs { length spare.shdrs ≡ length self.now.sections }
+        ensures value { result ≡ front_as_written self.now }
         ensures ranged { All IsPhdr self.now.phdrs }
     {
-        front.header = written_header(&self.header);
-        front.pad = self.pad;
-        copy_phdrs(front.phdrs.as_mut_slice(), self.phdrs.as_slice());
-        copy_shdrs(front.shdrs.as_mut_slice(), &self.sections);
+        let mut phdrs = spare.phdrs;
+        let mut shdrs = spare.shdrs;
+        copy_phdrs(phdrs.as_mut_slice(), self.phdrs.as_slice());
+        copy_shdrs(shdrs.as_mut_slice(), &self.sections);
+        Written {
+            header: written_header(&self.header),
+            pad: self.pad,
+            phdrs,
+            shdrs: HeaderTable::of(shdrs),
+        }
     }
 
-    /// Makes the spare front the one that stands, as it is written; the other is spare then.
+    /// Makes the front as it is written the one that stands, in the spare memory.
     fn write_front(&mut self)
         requires { IsTrue (ready_of self.old) }
         ensures rest { self.new
@@ -65,11 +71,11 @@ impl Body {
             } }
         ensures ranged { All IsPhdr self.old.phdrs }
     {
-        let Some(mut front) = mem::replace(&mut self.spare, None) else {
+        let Some(spare) = mem::replace(&mut self.spare, None) else {
             unreachable!()
         };
-        self.copy_front(&mut front);
-        self.spare = mem::replace(&mut self.written, Some(front));
+        let front = self.front_over(spare);
+        self.written = Some(front);
     }
 
     /// Makes an object whose places are stored that of the image of `size` bytes that was written:

@@ -5,7 +5,7 @@ ghost use Rattle.elf_types.specs.declared.errors.ElfError.TheVariants.{Memory};
 ghost use Rattle.elf_descriptor.specs.Views.{HasCounts, is_of_source};
 ghost use Rattle.elf_descriptor.specs.Fronts.{IsReserved};
 
-use crate::body::{Base, Body, Written};
+use crate::body::{Base, Body, Spare};
 use elf_types::{ElfError, List, NULL_SECTION, Shdrs};
 use std::alloc::Global;
 
@@ -32,8 +32,8 @@ impl Body {
         }
     }
 
-    /// Makes a spare front of the lengths of the object's lists, over a source. It refuses `Memory`
-    /// alone.
+    /// Makes spare memory for a front, as long as the object's lists, over a source. It refuses
+    /// `Memory` alone.
     fn make_spare(&mut self, alloc: Global) -> Result<(), ElfError>
         requires counts { HasCounts self.old }
         requires over { is_of_source self.old.base ≡ true }
@@ -43,18 +43,13 @@ impl Body {
     {
         let phdrs = List::from_slice(alloc, self.phdrs.as_slice())?;
         let shdrs = spare_shdrs(alloc, self.header.shnum)?;
-        self.spare = Some(Written {
-            header: self.header,
-            pad: self.pad,
-            phdrs,
-            shdrs,
-        });
+        self.spare = Some(Spare { phdrs, shdrs });
         self.ready = true;
         Ok(())
     }
 
-    /// Makes a spare front of the lengths of the object's lists. It refuses `Memory` alone, and of
-    /// an object whose base is its own it always does.
+    /// Makes spare memory for a front, as long as the object's lists. It refuses `Memory` alone, and
+    /// of an object whose base is its own it always does.
     pub fn reserve(&mut self, alloc: Global) -> Result<(), ElfError>
         requires { HasCounts self.old }
         ensures ok { OnOk result (IsReserved self.old self.new) }

@@ -1,7 +1,5 @@
 use Rattle.std.proofs.Common.{◌∷◌, ◌++◌, [], inr, refl, ap, ◌∙◌, arith}
-use Rattle.std.proofs.lemmas.List.{get_or_read}
 use Rattle.elf_types.specs.declared.records.Shdr.{Shdr}
-use Rattle.elf_ident.specs.Front.{zero_shdr}
 use Rattle.elf_object.specs.Open.{home_of}
 use Rattle.section_data.specs.Views.{CellView, opened_cell}
 use Rattle.section_table.proofs.making.make_new.Goals as goal
@@ -11,9 +9,6 @@ overflow_cast-place c = omega (arith, c.requires.few, c.len-place.ensures, c.arg
 
 pub index_mut-requires : goal.index_mut-requires
 index_mut-requires c = omega (arith, c.requires.there, c.args.slots.now.ok.0)
-
-pub index-header-requires : goal.index-header-requires
-index-header-requires c = omega (arith, c.requires.header, c.args.headers.now.ok.0)
 
 pub put_last-requires : goal.put_last-requires
 put_last-requires c = omega (arith, c.requires.room, c.args.cells.now.ok.0)
@@ -26,6 +21,5 @@ returns-clause-makes c = inr (record {
   cell = c.put_last.ensures.items
       ∙ ap (λ (x : CellView). c.args.cells.now.items ++ x ∷ []) (c.unread-cell.ensures.value
       ∙ ap (λ (h : Shdr). opened_cell c.args.s (home_of c.args.form.size h))
-      (get_or_read c.args.headers.now.items c.args.s c.index-header.result.now c.requires.header
-      c.index-header.ensures zero_shdr));
+      c.at-header.ensures);
 })

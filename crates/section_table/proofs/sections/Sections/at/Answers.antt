@@ -1,7 +1,6 @@
 use Rattle.std.proofs.Common.{◌-◌, sym, ap, ◌∙◌, arith}
 use Rattle.std.proofs.lemmas.List.{get_or_read}
 use Rattle.elf_types.specs.declared.records.Shdr.{Shdr}
-use Rattle.elf_ident.specs.Front.{zero_shdr}
 use Rattle.elf_object.specs.Open.{home_of}
 use Rattle.section_data.specs.Views.{opened_cell, new_cell}
 use Rattle.section_table.proofs.Views.{seen_below, seen_unmade, seen_made, slot_clear, slot_taken}
@@ -11,25 +10,22 @@ pub index-slot-requires : goal.index-slot-requires
 index-slot-requires c =
     let inside = c.self.inside in
     let below =
-    seen_below inside.form.size inside.headers.items inside.marks.items inside.slots.items
+    seen_below inside.form.size inside.headers inside.marks.items inside.slots.items
     inside.cells.items c.args.self.now c.self.view_is c.args.s c.requires in
     let count = c.self.invariant.each_slot in
     let long = inside.slots.ok.0 in
     omega (arith, below, count, long)
 
-pub index-header-requires : goal.index-header-requires
-index-header-requires c =
+pub at-header-requires : goal.at-header-requires
+at-header-requires c =
     let inside = c.self.inside in
-    let below =
-    seen_below inside.form.size inside.headers.items inside.marks.items inside.slots.items
-    inside.cells.items c.args.self.now c.self.view_is c.args.s c.requires in
-    let long = inside.headers.ok.0 in
-    omega (arith, below, long)
+    seen_below inside.form.size inside.headers inside.marks.items inside.slots.items
+    inside.cells.items c.args.self.now c.self.view_is c.args.s c.requires
 
 pub returns-then-slot-eq0 : goal.returns-then-slot-eq0
 returns-then-slot-eq0 c =
     let size = c.self.inside.form.size in
-    let headers = c.self.inside.headers.items in
+    let headers = c.self.inside.headers in
     let marks = c.self.inside.marks.items in
     let slots = c.self.inside.slots.items in
     let cells = c.self.inside.cells.items in
@@ -41,15 +37,14 @@ returns-then-slot-eq0 c =
     slot_clear slots c.args.s c.index-slot.result.now (omega (arith, below, count))
     c.index-slot.ensures c.if-slot-eq0.true in
     c.unread.ensures.value
-    ∙ ap (λ (h : Shdr). opened_cell c.args.s (home_of size h))
-    (get_or_read headers c.args.s c.index-header.result.now below c.index-header.ensures zero_shdr)
+    ∙ ap (λ (h : Shdr). opened_cell c.args.s (home_of size h)) c.at-header.ensures
     ∙ sym (seen_unmade size headers marks slots cells c.args.self.now seen c.args.s c.requires none)
 
 pub index-requires : goal.index-requires
 index-requires c =
     let inside = c.self.inside in
     let below =
-    seen_below inside.form.size inside.headers.items inside.marks.items inside.slots.items
+    seen_below inside.form.size inside.headers inside.marks.items inside.slots.items
     inside.cells.items c.args.self.now c.self.view_is c.args.s c.requires in
     let slots = inside.slots.items in
     let slot = c.index-slot.result.now in
@@ -64,7 +59,7 @@ index-requires c =
 pub returns : goal.returns
 returns c =
     let size = c.self.inside.form.size in
-    let headers = c.self.inside.headers.items in
+    let headers = c.self.inside.headers in
     let marks = c.self.inside.marks.items in
     let slots = c.self.inside.slots.items in
     let cells = c.self.inside.cells.items in

@@ -10,14 +10,14 @@ use Rattle.section_table.proofs.sections.Sections.cell_mut.Goals as goal
 pub make-place-requires-clause-header : goal.make-place-requires-clause-header
 make-place-requires-clause-header c =
     let inside = c.self.inside in
-    seen_below inside.form.size inside.headers.items inside.marks.items inside.slots.items
+    seen_below inside.form.size inside.headers inside.marks.items inside.slots.items
     inside.cells.items c.args.self.now c.self.view_is c.args.s c.requires
 
 pub make-place-requires-clause-there : goal.make-place-requires-clause-there
 make-place-requires-clause-there c =
     let inside = c.self.inside in
     let below =
-    seen_below inside.form.size inside.headers.items inside.marks.items inside.slots.items
+    seen_below inside.form.size inside.headers inside.marks.items inside.slots.items
     inside.cells.items c.args.self.now c.self.view_is c.args.s c.requires in
     let count = c.self.invariant.each_slot in
     omega (arith, below, count)
@@ -26,24 +26,24 @@ pub make-place-requires-clause-room : goal.make-place-requires-clause-room
 make-place-requires-clause-room c = λ none.
     let inside = c.self.inside in
     let below =
-    seen_below inside.form.size inside.headers.items inside.marks.items inside.slots.items
+    seen_below inside.form.size inside.headers inside.marks.items inside.slots.items
     inside.cells.items c.args.self.now c.self.view_is c.args.s c.requires in
-    (room_left inside.headers.items inside.marks.items inside.slots.items inside.cells.items
+    (room_left inside.headers inside.marks.items inside.slots.items inside.cells.items
     (vec_capacity inside.cells) c.args.s c.self.invariant below none).0
 
 pub make-place-requires-clause-few : goal.make-place-requires-clause-few
 make-place-requires-clause-few c = λ none.
     let inside = c.self.inside in
     let below =
-    seen_below inside.form.size inside.headers.items inside.marks.items inside.slots.items
+    seen_below inside.form.size inside.headers inside.marks.items inside.slots.items
     inside.cells.items c.args.self.now c.self.view_is c.args.s c.requires in
-    (room_left inside.headers.items inside.marks.items inside.slots.items inside.cells.items
+    (room_left inside.headers inside.marks.items inside.slots.items inside.cells.items
     (vec_capacity inside.cells) c.args.s c.self.invariant below none).1
 
 pub index_mut-requires : goal.index_mut-requires
 index_mut-requires c =
     let size = c.self.inside.form.size in
-    let headers = c.self.inside.headers.items in
+    let headers = c.self.inside.headers in
     let marks = c.self.inside.marks.items in
     let slots = c.self.inside.slots.items in
     let cells = c.self.inside.cells.items in
@@ -67,7 +67,7 @@ index_mut-requires c =
 pub invariant_of-self-lent : goal.invariant_of-self-lent
 invariant_of-self-lent c = λ left.
     let size = c.self.inside.form.size in
-    let headers = c.self.inside.headers.items in
+    let headers = c.self.inside.headers in
     let marks = c.self.inside.marks.items in
     let slots = c.self.inside.slots.items in
     let cells = c.self.inside.cells.items in
@@ -89,7 +89,7 @@ invariant_of-self-lent c = λ left.
 pub returns : goal.returns
 returns c =
     let size = c.self.inside.form.size in
-    let headers = c.self.inside.headers.items in
+    let headers = c.self.inside.headers in
     let marks = c.self.inside.marks.items in
     let slots = c.self.inside.slots.items in
     let cells = c.self.inside.cells.items in

@@ -7,7 +7,6 @@ pub returns : goal.returns
 returns c =
     let inside = c.self.inside in
     c.len.ensures
-    ∙ inside.headers.ok.0
-    ∙ sym (view_length inside.form.size inside.headers.items inside.marks.items inside.slots.items
+    ∙ sym (view_length inside.form.size inside.headers inside.marks.items inside.slots.items
     inside.cells.items)
     ∙ ap (λ (l : List SectionView). length l) c.self.view_is

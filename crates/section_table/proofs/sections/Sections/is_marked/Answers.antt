@@ -7,7 +7,7 @@ pub index-requires : goal.index-requires
 index-requires c =
     let inside = c.self.inside in
     let below =
-    seen_below inside.form.size inside.headers.items inside.marks.items inside.slots.items
+    seen_below inside.form.size inside.headers inside.marks.items inside.slots.items
     inside.cells.items c.args.self.now c.self.view_is c.args.s c.requires in
     let count = c.self.invariant.each_mark in
     let long = inside.marks.ok.0 in
@@ -16,7 +16,7 @@ index-requires c =
 pub returns : goal.returns
 returns c =
     let size = c.self.inside.form.size in
-    let headers = c.self.inside.headers.items in
+    let headers = c.self.inside.headers in
     let marks = c.self.inside.marks.items in
     let slots = c.self.inside.slots.items in
     let cells = c.self.inside.cells.items in

@@ -8,7 +8,7 @@ pub index-slot-requires : goal.index-slot-requires
 index-slot-requires c =
     let inside = c.self.inside in
     let below =
-    seen_below inside.form.size inside.headers.items inside.marks.items inside.slots.items
+    seen_below inside.form.size inside.headers inside.marks.items inside.slots.items
     inside.cells.items c.args.self.now c.self.view_is c.args.s c.requires in
     let count = c.self.invariant.each_slot in
     let long = inside.slots.ok.0 in
@@ -17,7 +17,7 @@ index-slot-requires c =
 pub returns-then-slot-eq0-clause-none : goal.returns-then-slot-eq0-clause-none
 returns-then-slot-eq0-clause-none c = λ none.
     let size = c.self.inside.form.size in
-    let headers = c.self.inside.headers.items in
+    let headers = c.self.inside.headers in
     let marks = c.self.inside.marks.items in
     let slots = c.self.inside.slots.items in
     let cells = c.self.inside.cells.items in
@@ -33,7 +33,7 @@ pub index-requires : goal.index-requires
 index-requires c =
     let inside = c.self.inside in
     let below =
-    seen_below inside.form.size inside.headers.items inside.marks.items inside.slots.items
+    seen_below inside.form.size inside.headers inside.marks.items inside.slots.items
     inside.cells.items c.args.self.now c.self.view_is c.args.s c.requires in
     let slots = inside.slots.items in
     let slot = c.index-slot.result.now in
@@ -48,7 +48,7 @@ index-requires c =
 pub returns-clause-some : goal.returns-clause-some
 returns-clause-some c =
     let size = c.self.inside.form.size in
-    let headers = c.self.inside.headers.items in
+    let headers = c.self.inside.headers in
     let marks = c.self.inside.marks.items in
     let slots = c.self.inside.slots.items in
     let cells = c.self.inside.cells.items in

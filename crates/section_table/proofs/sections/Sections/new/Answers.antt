@@ -5,14 +5,14 @@ use Rattle.section_table.proofs.sections.Sections.new.Goals as goal
 
 pub invariant_of-result : goal.invariant_of-result
 invariant_of-result c =
-    same_sections_in [] c.new.result.items [] c.new-2.result.items [] c.new-3.result.items []
+    same_sections_in [] c.new.result [] c.new-2.result.items [] c.new-3.result.items []
     c.new-4.result.items 0 (vec_capacity c.new-4.result)
-    c.new.ensures.items c.new-2.ensures.items c.new-3.ensures.items c.new-4.ensures.items
+    c.new.ensures c.new-2.ensures.items c.new-3.ensures.items c.new-4.ensures.items
     (omega arith) (no_sections 0)
 
 pub returns : goal.returns
 returns c =
-    same_view 0 [] c.new.result.items [] c.new-2.result.items [] c.new-3.result.items []
+    same_view 0 [] c.new.result [] c.new-2.result.items [] c.new-3.result.items []
     c.new-4.result.items
-    c.new.ensures.items c.new-2.ensures.items c.new-3.ensures.items c.new-4.ensures.items
+    c.new.ensures c.new-2.ensures.items c.new-3.ensures.items c.new-4.ensures.items
     ∙ none_seen 0

@@ -9,7 +9,7 @@ pub invariant_of-self : goal.invariant_of-self
 invariant_of-self c =
     let fits = c.self.invariant.fits in
     let room = c.clear.ensures.capacity in
-    none_made c.self.inside.headers.items c.fill.new.self.items c.fill-2.new.self.items
+    none_made c.self.inside.headers c.fill.new.self.items c.fill-2.new.self.items
     c.clear.new.self.items (vec_capacity c.clear.new.self) c.self.invariant.few
     (c.fill.ensures.items (λ y same. same)
     ∙ ap (λ (n : ℕ). replicate n false) (c.self.inside.marks.ok.0 ∙ c.self.invariant.each_mark))
@@ -20,7 +20,7 @@ invariant_of-self c =
 pub returns : goal.returns
 returns c =
     let size = c.self.inside.form.size in
-    let headers = c.self.inside.headers.items in
+    let headers = c.self.inside.headers in
     let marks = c.self.inside.marks.items in
     let slots = c.self.inside.slots.items in
     let cells = c.self.inside.cells.items in
