@@ -1,10 +1,12 @@
 //! The present headers of sections.
 
-ghost use Rattle.std.specs.Prelude.{◌≡◌, ◌<◌, ◌≤◌, ◌++◌, ◌∷◌, [], length, slice_index_or, slice_set, OnOk, OnErr, IfOk, IfErr, vec_capacity};
+ghost use Rattle.std.specs.Prelude.{◌≡◌, ◌*◌, ◌<◌, ◌≤◌, ◌++◌, ◌∷◌, [], length, slice_index_or, slice_set, OnOk, OnErr, IfOk, IfErr, vec_capacity};
+ghost use Rattle.elf_types.specs.declared.constants.TheConstants.{MAX_SECTIONS};
 ghost use Rattle.elf_types.specs.declared.errors.ElfError.TheVariants.{Memory};
 ghost use Rattle.elf_ident.specs.Front.{zero_shdr};
 ghost use Rattle.section_table.specs.Tables.{present};
 
+use crate::lists::{make_room, put_last};
 use crate::tables::HeaderTable;
 use elf_types::{ElfError, Shdr, Shdrs};
 use std::alloc::Global;
@@ -57,14 +59,18 @@ fn copy_once(opened: &HeaderTable, own: &mut Vec<Shdr>)
     let _copied = own.extend_from_slice(headers);
 }
 
-/// Adds a header to a list at the end. It refuses `Memory` alone, and then nothing changes.
-fn push_to(own: &mut Vec<Shdr>, header: Shdr) -> Result<(), ElfError>
+/// Adds a header to a list at the end, and makes room for some `besides` where it has to be moved.
+/// It refuses `Memory` alone, and then nothing changes.
+#[inline(always)]
+fn push_to(own: &mut Vec<Shdr>, header: Shdr, besides: usize) -> Result<(), ElfError>
+    requires { besides ≤ 3 * MAX_SECTIONS }
     ensures ok { OnOk result (own.new.items ≡ own.old.items ++ header ∷ []) }
     ensures unchanged { OnErr result (own.new.items ≡ own.old.items) }
     ensures room { vec_capacity own.old ≤ vec_capacity own.new }
     ensures err { IfErr result (λ e. e ≡ Memory) }
 {
-    own.push(header)?;
+    make_room(own, 1, besides)?;
+    put_last(own, header);
     Ok(())
 }
 
@@ -114,13 +120,15 @@ impl Headers {
         self.own[s as usize] = header;
     }
 
-    /// Adds a header at the end. It refuses `Memory` alone, and then nothing changes.
-    pub(crate) fn push(&mut self, header: Shdr) -> Result<(), ElfError>
+    /// Adds a header at the end, and makes room for some `besides` where the headers have to be
+    /// moved. It refuses `Memory` alone, and then nothing changes.
+    pub(crate) fn push(&mut self, header: Shdr, besides: usize) -> Result<(), ElfError>
+        requires { besides ≤ 3 * MAX_SECTIONS }
         ensures ok { OnOk result (self.new ≡ self.old ++ header ∷ []) }
         ensures unchanged { OnErr result (self.new ≡ self.old) }
         ensures err { IfErr result (λ e. e ≡ Memory) }
     {
         copy_once(&self.opened, &mut self.own);
-        push_to(&mut self.own, header)
+        push_to(&mut self.own, header, besides)
     }
 }

@@ -1,6 +1,6 @@
 //! The lists behind the sections.
 
-ghost use Rattle.std.specs.Prelude.{◌≡◌, ◌+◌, ◌<◌, ◌≤◌, ◌++◌, ◌∷◌, [], false, length, replicate, OnOk, OnErr, IfOk, IfErr, vec_len, vec_capacity};
+ghost use Rattle.std.specs.Prelude.{◌≡◌, ◌+◌, ◌*◌, ◌<◌, ◌≤◌, ◌++◌, ◌∷◌, [], false, length, replicate, OnOk, OnErr, IfOk, IfErr, vec_len, vec_capacity};
 ghost use Rattle.elf_types.specs.declared.constants.TheConstants.{MAX_SECTIONS};
 ghost use Rattle.elf_types.specs.declared.errors.ElfError.TheVariants.{Memory};
 
@@ -46,6 +46,27 @@ pub(crate) fn put_last<T: Drop>(list: &mut Vec<T>, item: T)
     list.push_reserved(item);
 }
 
+/// Makes room for so many items more in a list. A list that has to be moved for it gets room for
+/// some `besides`, so that it is seldom moved. It refuses `Memory` alone. What the list holds stays.
+#[inline(always)]
+pub(crate) fn make_room<T>(list: &mut Vec<T>, more: usize, besides: usize) -> Result<(), ElfError>
+    requires some { 0 < more }
+    requires few { more ≤ MAX_SECTIONS }
+    requires not_many { besides ≤ 3 * MAX_SECTIONS }
+    ensures items { list.new.items ≡ list.old.items }
+    ensures len { vec_len list.new ≡ vec_len list.old }
+    ensures room { vec_capacity list.old ≤ vec_capacity list.new }
+    ensures ok { OnOk result (vec_len list.new + more ≤ vec_capacity list.new) }
+    ensures err { IfErr result (λ e. e ≡ Memory) }
+{
+    let left = list.capacity().saturating_sub(list.len());
+    if more <= left {
+        return Ok(());
+    }
+    list.reserve(more + besides)?;
+    Ok(())
+}
+
 /// Adds the header of one section more, and takes memory for the rest of it, and for the cell of
 /// each section. It refuses `Memory` alone, and then nothing changes.
 #[inline(always)]
@@ -70,11 +91,13 @@ pub(crate) fn add_header(
         × (length headers.old + 1 ≤ vec_capacity cells.new)) }
     ensures err { IfErr result (λ e. e ≡ Memory) }
 {
-    let more = headers.len() + 1 - cells.len();
-    marks.reserve(1)?;
-    slots.reserve(1)?;
-    cells.reserve(more)?;
-    if let Err(e) = headers.push(header) {
+    let count = headers.len();
+    let more = count + 1 - cells.len();
+    let besides = 3 * count;
+    make_room(marks, 1, besides)?;
+    make_room(slots, 1, besides)?;
+    make_room(cells, more, besides)?;
+    if let Err(e) = headers.push(header, besides) {
         return Err(e);
     }
     Ok(())
