@@ -3,7 +3,7 @@
 use Rattle.std.proofs.Common.{◌≡◌, ◌++◌, ◌+◌, ◌-◌, ◌<◌, ◌≤◌, ℕ, zero, suc, Bool, true, false, ◌&&◌, List, [], ◌∷◌, length, drop, get_or, map, Option, Some, None, IsTrue, refl, sym, ap, ◌∙◌, arith, append-nil}
 use Rattle.std.specs.Prelude.{not, slice_get, if◌then◌else◌}
 use Rattle.std.specs.List.{flat_map, AllByRecursion}
-use Rattle.std.proofs.lemmas.List.{flat_map_more, drop_more, length-drop}
+use Rattle.std.proofs.lemmas.List.{flat_map_more, drop_more, length-drop, nil_from_length}
 use Rattle.std.proofs.lemmas.Option.{slice_get-get_or}
 use Rattle.std.proofs.lemmas.Simd.{map-map}
 use Rattle.elf_types.specs.declared.records.Sym.{Sym}
@@ -12,7 +12,7 @@ use Rattle.elf_object.specs.Strings.{string_answer, readable, symbol_name}
 use Rattle.elf_descriptor.specs.State.{State}
 use Rattle.tool_text.specs.declared.options.NmOptions.{NmOptions}
 use Rattle.tool_output.specs.Names.{Name}
-use Rattle.tool_output.specs.Reports.{Report, joined, all_joined, reports_of}
+use Rattle.tool_output.specs.Reports.{Report, no_report, joined, all_joined, reports_of}
 use Rattle.bytes_at_hand.specs.Strings.{HoldsStrings}
 use Rattle.nm_tool.specs.declared.kept.Kept.{Kept}
 use Rattle.nm_tool.specs.Order.{Entry, in_order}
@@ -21,7 +21,7 @@ use Rattle.nm_tool.specs.Pools.{if_wanted, wanted_at}
 use Rattle.nm_tool.specs.Tool.{symbol_report, entry_report, entries_report, rows_report}
 use Rattle.nm_tool.specs.Kept.{kept_symbol, with_kept, kept_of, shown_name, shown_in, kept_entry, kept_entries, order_of, row_if, shown_row, index_report, kept_report}
 use Rattle.nm_tool.proofs.ListedLemmas.{all_listed}
-use Rattle.nm_tool.proofs.Sorting.{all_in_order}
+use Rattle.nm_tool.proofs.Sorting.{all_in_order, both_all}
 
 -- ---- The entries of what is kept
 
@@ -162,18 +162,13 @@ module _ (options : NmOptions) (file : Name) (o : Object) (s : ℕ) where
       (λ y there. ap (listed_name o s) (some_same x y (sym here ∙ there)), tt)
   named_if i x false here = tt
 
-  both_named : (es fs : List Entry) → AllByRecursion IsNamed es → AllByRecursion IsNamed fs
-      → AllByRecursion IsNamed (es ++ fs)
-  both_named [] fs all more = more
-  both_named (e ∷ es) fs all more = (all.0, both_named es fs all.1 more)
-
   from_named : (xs : List Sym) (i : ℕ) → drop i (symbols o s) ≡ xs
       → AllByRecursion IsNamed (listed_from options o s i xs)
   unfolding listed_from
   from_named [] i left = tt
   from_named (x ∷ xs) i left =
       let here = first_left (symbols o s) i x xs left in
-      both_named (entry_if options o s i x) (listed_from options o s (i + 1) xs)
+      both_all IsNamed (entry_if options o s i x) (listed_from options o s (i + 1) xs)
       (named_if i x (is_listed options o s i x) here.0) (from_named xs (i + 1) here.1)
 
   all_named : AllByRecursion IsNamed (listed options o s)
@@ -217,6 +212,16 @@ module _ (options : NmOptions) (file : Name) (o : Object) (s : ℕ) where
       (sym (ap (kept_entries options.by_value (shown_name o s)) kept
       ∙ kept_listed options o s count counted))
       ∙ sym (ap (reports_of (index_report options file o s)) is)
+
+  -- none has a row where none is kept
+  pub none_reported : (count : ℕ) (list : List Kept) → count ≡ length (symbols o s)
+      → list ≡ kept_of options o s (count - 1) → length list ≡ 0
+      → rows_report options file o s ≡ no_report
+  unfolding order_of kept_entries in_order reports_of all_joined
+  none_reported count list counted kept none =
+      order_reported count list (order_of options.by_value (shown_name o s) list) counted kept refl
+      ∙ ap (λ (l : List Kept). reports_of (index_report options file o s)
+      (order_of options.by_value (shown_name o s) l)) (nil_from_length list none)
 
   -- kept symbols stand for their indexes
   pub kept_reported : (order : List Kept)

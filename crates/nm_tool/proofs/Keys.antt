@@ -1,6 +1,7 @@
 -- The key of a name is a number of sixteen bytes, or of eight.
 use Rattle.std.proofs.Common.{◌≡◌, ◌+◌, ◌*◌, ◌^◌, ◌<◌, ◌≤◌, ℕ, suc, List, sym, ap, ◌∙◌, subst, arith}
-use Rattle.std.specs.Prelude.{slice_index_or}
+use Rattle.std.specs.Prelude.{slice_index, slice_index_or}
+use Rattle.std.specs.Int.{from_be_bytes, w64}
 use Rattle.std.proofs.Math.Nat.{pow-suc, pow-le-pow_right}
 use Rattle.nm_tool.specs.Keys.{prefix}
 use Rattle.nm_tool.specs.Ranked.{number_from}
@@ -38,3 +39,20 @@ number_next place i key byte name is b =
     ap (λ (k : ℕ). k * 256 + byte) is
     ∙ ap (λ (c : ℕ). number_from place i name * 256 + c) b
     ∙ ap (λ (n : ℕ). number_from place n name) at
+
+-- eight bytes of a list as a number, at once
+pub number_is : (place : ℕ) (name bytes : List ℕ)
+    → ((i : ℕ) → i < 8 → slice_index bytes i ≡ slice_index_or name (place + i) 0)
+    → from_be_bytes w64 bytes ≡ number_from place 8 name
+unfolding number_from
+number_is place name bytes same = omega (
+  arith,
+  same 0 (omega arith),
+  same 1 (omega arith),
+  same 2 (omega arith),
+  same 3 (omega arith),
+  same 4 (omega arith),
+  same 5 (omega arith),
+  same 6 (omega arith),
+  same 7 (omega arith),
+)

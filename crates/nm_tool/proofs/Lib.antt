@@ -7,3 +7,4 @@ mod Keys
 mod FoundTable
 mod RowLemmas
 mod Ranking
+mod Runs

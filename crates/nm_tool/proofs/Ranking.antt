@@ -1,17 +1,17 @@
 -- Kept symbols in the order of their rows: what a sort by keys, names and indexes leaves is the list
 -- that is stated.
-use Rattle.std.proofs.Common.{◌≡◌, ◌⊎◌, inl, inr, ℕ, ◌+◌, ◌-◌, ◌<◌, ◌≤◌, zero, suc, List, [], ◌∷◌, ◌++◌, map, take, drop, get_or, set, length, Bool, true, false, cond, not, nat_cmp, Ordering, Some, None, codes, ap, sym, ◌∙◌, refl, subst, arith, append-nil, below_more}
+use Rattle.std.proofs.Common.{◌≡◌, ℕ, ◌+◌, ◌<◌, ◌≤◌, zero, suc, List, [], ◌∷◌, ◌++◌, map, take, drop, get_or, set, length, Bool, true, false, cond, not, nat_cmp, Ordering, Some, None, codes, ap, sym, ◌∙◌, refl, subst, arith, append-nil, below_more}
 use Rattle.std.specs.Prelude.{◌^◌, ◌==◌, All, slice_index_or, nat_lt, filter, take_while, if◌then◌else◌}
-use Rattle.std.specs.Ordering.{is_lt, ordering_then, ordering_reverse}
+use Rattle.std.specs.Ordering.{is_lt, ordering_then}
 use Rattle.std.specs.declared.cmp.Ordering.TheVariants.{Less, Equal, Greater}
 use Rattle.std.specs.Cmp.{IsTotalOrder}
 use Rattle.std.specs.Cmp.Lexicographic.{slice_cmp}
 use Rattle.std.specs.List.{AllByRecursion, prefix_len}
-use Rattle.std.specs.List.Sorted.{IsSorted, IsPermutation}
+use Rattle.std.specs.List.Sorted.{IsSorted, IsPermutation, IsNonDecreasingBy}
 use Rattle.std.proofs.lemmas.Cmp.{nat_cmp_total, nat_list_cmp_total, then_total, on_total, tied_itself}
-use Rattle.std.proofs.lemmas.List.Sorted.{IsPermutation-map, All-permutation}
-use Rattle.std.proofs.lemmas.Bool.{cases_lt, ltb-true, ltb-false}
-use Rattle.std.proofs.lemmas.List.{get_or_default, get_or-take, get_or-drop, length-take, take_all}
+use Rattle.std.proofs.lemmas.List.Sorted.{IsPermutation-map, All-permutation, IsNonDecreasingBy-from_sort}
+use Rattle.std.proofs.lemmas.Bool.{ltb-true, ltb-false}
+use Rattle.std.proofs.lemmas.List.{get_or_append_left, get_or_default, get_or-take, length-take-le, take_all}
 use Rattle.std.proofs.lemmas.List.Edits.{map_over_more}
 use Rattle.std.proofs.lemmas.List.Elements.{recursion_from_All, All-take, All-drop, All-map}
 use Rattle.std.proofs.lemmas.Simd.{map-map}
@@ -20,11 +20,11 @@ use Rattle.elf_types.specs.Lists.{AreBytes, refilled}
 use Rattle.elf_object.specs.Strings.{has_nul}
 use Rattle.gelf_view.specs.Records.{string_front}
 use Rattle.nm_tool.specs.declared.kept.Kept.{Kept}
-use Rattle.nm_tool.specs.Order.{Entry, entry_cmp, in_order}
+use Rattle.nm_tool.specs.Order.{Entry, entry_cmp, inserted, in_order}
 use Rattle.nm_tool.specs.Listed.{is_empty, name_or_none}
 use Rattle.nm_tool.specs.Kept.{shown_in, ranked_entry, kept_entry, kept_entries, order_of}
-use Rattle.nm_tool.specs.Ranked.{number_from, SharesFront, keyed, with_key, HasKey, AreKeyed, names_cmp, kept_cmp, is_named}
-use Rattle.nm_tool.proofs.Sorting.{sorted_by, first_less, byte_small, above_is}
+use Rattle.nm_tool.specs.Ranked.{number_from, SharesFront, keyed, HasKey, AreKeyed, names_cmp, kept_cmp, is_named}
+use Rattle.nm_tool.proofs.Sorting.{sorted_by, first_less, byte_small, in_order_moved}
 
 -- ---- The bytes that names share
 
@@ -43,6 +43,15 @@ share_more name_of first rows i k count next inside is less before here =
     (λ d m small. here m small
     ∙ ap (λ (x : Kept). slice_index_or (name_of x.name) m 0)
     (is ∙ get_or_default rows i k d inside))
+
+-- a list that begins with a front of another
+pub begins_shared : (first name rest : List ℕ) (count : ℕ) → count ≤ length first
+    → name ≡ take count first ++ rest → SharesFront count first name
+begins_shared first name rest count le is = λ i lt.
+    let inside : i < length (take count first) =
+    omega (arith, lt, length-take-le count first le) in
+    sym (get_or-take count first i 0 lt) ∙ sym (get_or_append_left (take count first) rest 0 i inside)
+    ∙ ap (λ (l : List ℕ). slice_index_or l i 0) (sym is)
 
 -- ---- Keys
 
@@ -125,78 +134,54 @@ keyed_entries name_of place rows =
 
 pub are_keyed : (name_of : ℕ → List ℕ) (place : ℕ) (first : List ℕ) (rows : List Kept)
     → All (λ k. SharesFront place first (name_of k.name)) rows
-    → AreKeyed false name_of (map (keyed name_of place) rows)
+    → AreKeyed name_of (map (keyed name_of place) rows)
 are_keyed name_of place first rows shares = record {
   place = place;
   first = first;
-  keys = λ by_name. All-map (HasKey name_of place first) (keyed name_of place) rows
+  keys = All-map (HasKey name_of place first) (keyed name_of place) rows
       (λ i d lt. record { shares = shares i d lt; key = refl });
-}
-
--- values are keys as they are
-pub by_value_keyed : (name_of : ℕ → List ℕ) (rows : List Kept) → AreKeyed true name_of rows
-by_value_keyed name_of rows = record {
-  place = 0;
-  first = [];
-  keys = λ by_name. absurd (let no : true ≡ false = by_name in cc);
 }
 
 -- symbols that are moved keep their keys
 pub keyed_moved : (name_of : ℕ → List ℕ) (old new : List Kept) → IsPermutation old new
-    → AreKeyed false name_of old → AreKeyed false name_of new
+    → AreKeyed name_of old → AreKeyed name_of new
 keyed_moved name_of old new moved are = record {
   place = are.place;
   first = are.first;
-  keys = λ by_name. All-permutation (HasKey name_of are.place are.first) old new moved
-      (are.keys by_name);
+  keys = All-permutation (HasKey name_of are.place are.first) old new moved are.keys;
 }
 
--- ---- Symbols of one key
+-- those of a part of them
+pub all_taken : (name_of : ℕ → List ℕ) (place : ℕ) (first : List ℕ) (rows : List Kept) (at n : ℕ)
+    → All (HasKey name_of place first) rows → All (HasKey name_of place first) (take n (drop at rows))
+all_taken name_of place first rows at n all =
+    All-take (HasKey name_of place first) n (drop at rows)
+    (All-drop (HasKey name_of place first) at rows all)
 
-one_key : (key : ℕ) (k : Kept) → k.key ≡ key → with_key key k ≡ k
-one_key key k is =
-    same_kept key k.key k.index k.name (sym is)
+-- the order of symbols as records: by their keys first
+abbrev kept_order : Kept → Kept → Ordering
+kept_order a b =
+    ordering_then (nat_cmp a.key b.key)
+    (ordering_then (nat_cmp a.index b.index) (nat_cmp a.name b.name))
 
-all_one : (key : ℕ) (name_of : ℕ → List ℕ) (place : ℕ) (rows : List Kept)
-    → AllByRecursion (λ k. k.key ≡ key) rows
-    → map (with_key key) (map (keyed name_of place) rows) ≡ rows
-all_one key name_of place [] all = refl
-all_one key name_of place (k ∷ ks) all =
-    ap (λ (x : Kept). x ∷ map (with_key key) (map (keyed name_of place) ks)) (one_key key k all.0)
-    ∙ ap (λ (xs : List Kept). k ∷ xs) (all_one key name_of place ks all.1)
+first_part : (r s : Ordering) → is_lt (ordering_then r s) ≡ false → is_lt r ≡ false
+first_part Less s h = h
+first_part Equal s h = refl
+first_part Greater s h = refl
 
--- they are given other keys, moved, and given theirs again
-pub run_moved : (name_of : ℕ → List ℕ) (place key : ℕ) (old moved new : List Kept)
-    → All (λ k. k.key ≡ key) old → IsPermutation (map (keyed name_of place) old) moved
-    → new ≡ map (with_key key) moved → IsPermutation old new
-run_moved name_of place key old moved new same moves is =
-    let back = IsPermutation-map (with_key key) (map (keyed name_of place) old) moved moves in
-    subst (λ (l : List Kept). IsPermutation old l) (sym is)
-    (subst (λ (l : List Kept). IsPermutation l (map (with_key key) moved))
-    (all_one key name_of place old (recursion_from_All (λ k. k.key ≡ key) old same)) back)
-
--- those of a key stand from a place on
-pub run_keys : (rows : List Kept) (at end key : ℕ)
-    → ((d : Kept) → (get_or rows at d).key ≡ key)
-    → ((i : ℕ) → at + 1 ≤ i → i < end → (d : Kept) → (get_or rows i d).key ≡ key)
-    → All (λ k. k.key ≡ key) (take (end - at) (drop at rows))
-run_keys rows at end key first others = λ i d lt.
-    let few : i < end - at = omega (arith, lt, length-take (end - at) (drop at rows)) in
-    ap (λ (k : Kept). k.key)
-    (get_or-take (end - at) (drop at rows) i d few ∙ get_or-drop at rows i d)
-    ∙ by_place i d (cases_lt 0 i) few
-  where
-    by_place : (i : ℕ) (d : Kept) → (0 < i) ⊎ (i ≤ 0) → i < end - at
-        → (get_or rows (at + i) d).key ≡ key
-    by_place i d (inl lt) few =
-        others (at + i) (omega (arith, lt)) (omega (arith, few)) d
-    by_place i d (inr le) few =
-        let here : at + i ≡ at = omega (arith, le) in
-        ap (λ (n : ℕ). (get_or rows n d).key) here ∙ first d
+-- a sort of them makes the keys rise
+pub keys_rise : (rows : List Kept) → IsSorted kept_order rows
+    → IsNonDecreasingBy (λ (k : Kept). k.key) rows
+keys_rise rows sorted = IsNonDecreasingBy-from_sort (λ (k : Kept). k.key) rows
+    (λ k d low inside.
+    let x = get_or rows (k + 1) d in
+    let y = get_or rows k d in
+    first_part (nat_cmp x.key y.key)
+    (ordering_then (nat_cmp x.index y.index) (nat_cmp x.name y.name)) (sorted k d low inside))
 
 -- ---- The bytes of names
 
-abbrev Small : List ℕ → Type 0
+abbrev pub Small : List ℕ → Type 0
 Small l = AllByRecursion (λ x. x < 2 ^ 8) l
 
 none_small : Small (codes "<none>")
@@ -214,7 +199,7 @@ front_small l all = by_test (has_nul l)
         (All-take (λ x. x < 2 ^ 8) (prefix_len (λ b. not (b == 0)) l) l all)
     by_test false = none_small
 
-shown_small : (strings : List ℕ) → AreBytes strings → (at : ℕ) → Small (shown_in strings at)
+pub shown_small : (strings : List ℕ) → AreBytes strings → (at : ℕ) → Small (shown_in strings at)
 shown_small strings bytes at =
     front_small (drop at strings) (All-drop (λ x. x < 2 ^ 8) at strings bytes)
 
@@ -228,6 +213,12 @@ same_shown strings a b same =
     ∙ ap (λ (n : ℕ). slice_cmp nat_cmp (shown_in strings a) (shown_in strings n)) same
 
 module _ (name_of : ℕ → List ℕ) where
+  pub names_cmp_total : IsTotalOrder (names_cmp name_of)
+  unfolding names_cmp
+  names_cmp_total =
+      then_total (on_total (λ (k : Kept). name_of k.name) nat_list_cmp_total)
+      (on_total (λ (k : Kept). k.index) nat_cmp_total)
+
   pub kept_cmp_total : IsTotalOrder (kept_cmp name_of)
   unfolding kept_cmp names_cmp
   kept_cmp_total =
@@ -241,50 +232,45 @@ module _ (name_of : ℕ → List ℕ) where
   unfolding entry_cmp kept_cmp names_cmp
   valued x y later = later
 
-  -- and by name
-  named : ((at : ℕ) → Small (name_of at)) → (place : ℕ) (first : List ℕ) (x y : Kept)
-      → HasKey name_of place first x → HasKey name_of place first y
-      → is_lt (kept_cmp name_of y x) ≡ false
+  -- and so is that of their names by name
+  named : (x y : Kept) → is_lt (names_cmp name_of y x) ≡ false
       → is_lt (entry_cmp (ranked_entry false name_of y) (ranked_entry false name_of x)) ≡ false
-  unfolding entry_cmp kept_cmp names_cmp
-  named bytes place first x y kx ky later = by_key (nat_cmp y.key x.key) refl later
-    where
-      rest : Ordering
-      rest = ordering_then (slice_cmp nat_cmp (name_of y.name) (name_of x.name))
-          (nat_cmp y.index x.index)
+  unfolding entry_cmp names_cmp
+  named x y later = later
 
-      by_key : (r : Ordering) → nat_cmp y.key x.key ≡ r
-          → is_lt (ordering_then r rest) ≡ false → is_lt rest ≡ false
-      by_key Less is bad = cc
-      by_key Equal is same = same
-      by_key Greater is above =
-          let less : number_from place 8 (name_of x.name) < number_from place 8 (name_of y.name) =
-          subst (λ (n : ℕ). n < number_from place 8 (name_of y.name)) kx.key
-          (subst (λ (n : ℕ). x.key < n) ky.key (above_is y.key x.key is)) in
-          let before = less_from (name_of x.name) (name_of y.name) (bytes x.name) (bytes y.name)
-          place (λ i lt. sym (kx.shares i lt) ∙ ky.shares i lt) 8 less in
-          let back : slice_cmp nat_cmp (name_of y.name) (name_of x.name) ≡ Greater =
-          nat_list_cmp_total.antisymm (name_of y.name) (name_of x.name)
-          ∙ ap ordering_reverse before in
-          ap (λ (r : Ordering). is_lt (ordering_then r (nat_cmp y.index x.index))) back
+  -- what a sort by value leaves
+  pub sorted_values : (old new : List Kept) → IsPermutation old new
+      → IsSorted (kept_cmp name_of) new
+      → map (ranked_entry true name_of) new ≡ in_order (map (ranked_entry true name_of) old)
+  sorted_values old new moved sorted =
+      sorted_by (kept_cmp name_of) (ranked_entry true name_of) (λ _. Unit {0})
+      (λ x y kx ky later. valued x y later) kept_cmp_total old new (λ i d lt. tt) moved sorted
 
--- what the sort leaves
-pub sorted_kept : (v : Bool) (strings : List ℕ) (old new : List Kept) → AreBytes strings
-    → AreKeyed v (shown_in strings) old → IsPermutation old new
-    → IsSorted (kept_cmp (shown_in strings)) new
-    → map (ranked_entry v (shown_in strings)) new
-    ≡ in_order (map (ranked_entry v (shown_in strings)) old)
-sorted_kept true strings old new bytes keys moved sorted =
-    let name_of = shown_in strings in
-    sorted_by (kept_cmp name_of) (ranked_entry true name_of) (λ _. Unit {0})
-    (λ x y kx ky later. valued name_of x y later) (kept_cmp_total name_of) old new
-    (λ i d lt. tt) moved sorted
-sorted_kept false strings old new bytes keys moved sorted =
-    let name_of = shown_in strings in
-    sorted_by (kept_cmp name_of) (ranked_entry false name_of)
-    (HasKey name_of keys.place keys.first)
-    (named name_of (shown_small strings bytes) keys.place keys.first) (kept_cmp_total name_of)
-    old new (keys.keys refl) moved sorted
+  -- and one by name
+  pub sorted_names : (old new : List Kept) → IsPermutation old new
+      → IsSorted (names_cmp name_of) new
+      → map (ranked_entry false name_of) new ≡ in_order (map (ranked_entry false name_of) old)
+  sorted_names old new moved sorted =
+      sorted_by (names_cmp name_of) (ranked_entry false name_of) (λ _. Unit {0})
+      (λ x y kx ky later. named x y later) names_cmp_total old new (λ i d lt. tt) moved sorted
+
+  -- fewer than two are in order
+  pub few_sorted : (rows : List Kept) → length rows < 2
+      → map (ranked_entry false name_of) rows ≡ in_order (map (ranked_entry false name_of) rows)
+  unfolding in_order inserted
+  few_sorted [] few = refl
+  few_sorted (x ∷ []) few = refl
+  few_sorted (x ∷ y ∷ rows) few = absurd (omega (arith, few))
+
+  -- symbols whose keys were set and that then were moved have the same order
+  pub moved_order : (place : ℕ) (rows keys new : List Kept)
+      → keys ≡ map (keyed name_of place) rows → IsPermutation keys new
+      → in_order (map (ranked_entry false name_of) new)
+      ≡ in_order (map (ranked_entry false name_of) rows)
+  moved_order place rows keys new is moved =
+      let entry = ranked_entry false name_of in
+      in_order_moved (map entry keys) (map entry new) (IsPermutation-map entry keys new moved)
+      ∙ ap in_order (ap (map entry) is ∙ keyed_entries name_of place rows)
 
 -- ---- What is sorted
 

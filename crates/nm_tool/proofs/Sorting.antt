@@ -1,5 +1,5 @@
 -- The order of the rows: what a sort by the rows' keys leaves is the list that is stated.
-use Rattle.std.proofs.Common.{◌≡◌, ℕ, ◌+◌, ◌<◌, zero, suc, List, [], ◌∷◌, map, Bool, true, false, cond, nat_cmp, Ordering, ap, sym, ◌∙◌, refl, subst, arith}
+use Rattle.std.proofs.Common.{◌≡◌, ℕ, ◌+◌, ◌<◌, zero, suc, List, [], ◌∷◌, ◌++◌, map, Bool, true, false, cond, nat_cmp, Ordering, ap, sym, ◌∙◌, refl, subst, arith}
 use Rattle.std.specs.Prelude.{◌^◌, All, slice_index_or, nat_lt}
 use Rattle.std.specs.Ordering.{is_lt, ordering_then, ordering_reverse}
 use Rattle.std.specs.declared.cmp.Ordering.TheVariants.{Less, Equal, Greater}
@@ -9,7 +9,7 @@ use Rattle.std.specs.List.{AllByRecursion, sum_by}
 use Rattle.std.specs.List.Sorted.{IsSorted, IsPermutation}
 use Rattle.std.proofs.lemmas.Cmp.{nat_cmp_total, nat_list_cmp_total, then_total, on_total}
 use Rattle.std.proofs.lemmas.Map.Lookups.{exact_unsigned, exact_bytes}
-use Rattle.std.proofs.lemmas.List.Sums.{sum_by-cons}
+use Rattle.std.proofs.lemmas.List.Sums.{sum_by-cons, sum_by-append}
 use Rattle.std.proofs.lemmas.List.Elements.{recursion_from_All}
 use Rattle.std.proofs.lemmas.List.Sorted.{sum_by-IsPermutation, IsPermutation-map, All-permutation, IsPermutation-refl, IsPermutation-sym, IsPermutation-trans, IsPermutation-cons, IsPermutation-middle}
 use Rattle.std.proofs.lemmas.Bool.{ltb-true, ltb-false}
@@ -161,6 +161,49 @@ module _ {R : Type 0} (cmp : R → R → Ordering) (entry : R → Entry) (Good :
       (rises_in_order (map entry old))
       (λ f. sum_by-IsPermutation f (map entry old) (map entry new)
       (IsPermutation-map entry old new moved) ∙ sym (sum_by-in_order f (map entry old)))
+
+-- both of two lists
+pub both_all : (P : Entry → Type 0) (es fs : List Entry) → AllByRecursion P es
+    → AllByRecursion P fs → AllByRecursion P (es ++ fs)
+both_all P [] fs all more = more
+both_all P (e ∷ es) fs all more = (all.0, both_all P es fs all.1 more)
+
+-- no entry of one list comes after one of another
+abbrev pub AreBefore : List Entry → List Entry → Type 0
+AreBefore es fs =
+    AllByRecursion (λ (e : Entry). AllByRecursion (λ (f : Entry). is_lt (entry_cmp f e) ≡ false) fs)
+    es
+
+each_before : (es fs : List Entry) → AreBefore es fs → AreBefore es (in_order fs)
+each_before [] fs all = tt
+each_before (e ∷ es) fs all =
+    (all_in_order (λ f. is_lt (entry_cmp f e) ≡ false) fs all.0, each_before es fs all.1)
+
+rises_append : (es fs : List Entry) → Rises entry_cmp es → Rises entry_cmp fs → AreBefore es fs
+    → Rises entry_cmp (es ++ fs)
+rises_append [] fs rises more all = more
+rises_append (e ∷ es) fs rises more all = (
+  both_all (λ f. is_lt (entry_cmp f e) ≡ false) es fs rises.0 all.0,
+  rises_append es fs rises.1 more all.1,
+)
+
+-- the order of two lists of which one stands before the other
+pub in_order_append : (es fs : List Entry) → AreBefore es fs
+    → in_order (es ++ fs) ≡ in_order es ++ in_order fs
+in_order_append es fs before =
+    unique entry_cmp entry_cmp_total entry_cmp_exact (in_order (es ++ fs))
+    (in_order es ++ in_order fs) (rises_in_order (es ++ fs))
+    (rises_append (in_order es) (in_order fs) (rises_in_order es) (rises_in_order fs)
+    (all_in_order (λ (e : Entry). AllByRecursion (λ (f : Entry). is_lt (entry_cmp f e) ≡ false)
+    (in_order fs)) es (each_before es fs before)))
+    (λ f. omega (
+      arith,
+      sum_by-in_order f (es ++ fs),
+      sum_by-append f es fs,
+      sum_by-append f (in_order es) (in_order fs),
+      sum_by-in_order f es,
+      sum_by-in_order f fs,
+    ))
 
 -- entries that are moved have one order
 pub in_order_moved : (es fs : List Entry) → IsPermutation es fs → in_order fs ≡ in_order es

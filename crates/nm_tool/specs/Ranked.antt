@@ -1,6 +1,6 @@
 -- Kept symbols as they are sorted: by keys, each of which decides most comparisons, then by their
 -- names, then by their indexes.
-use Rattle.std.specs.Prelude.{◌≡◌, ◌+◌, ◌*◌, ◌<◌, ℕ, zero, suc, Bool, false, not, List, All, slice_index_or}
+use Rattle.std.specs.Prelude.{◌≡◌, ◌+◌, ◌*◌, ◌<◌, ℕ, zero, suc, Bool, not, List, All, slice_index_or}
 use Rattle.std.specs.declared.cmp.Ordering.{Ordering}
 use Rattle.std.specs.Ordering.{ordering_then, nat_cmp}
 use Rattle.std.specs.Cmp.Lexicographic.{slice_cmp}
@@ -28,21 +28,17 @@ keyed name_of place k = record {
   name = k.name;
 }
 
--- the symbol with another key
-abbrev pub with_key : ℕ → Kept → Kept
-with_key key k = record { key = key; index = k.index; name = k.name }
-
 -- Its name begins as another list does up to a place, and its key is the number of the eight bytes
 -- from there on.
 pub record HasKey (name_of : ℕ → List ℕ) (place : ℕ) (first : List ℕ) (k : Kept) : Type 0 where
   pub shares : SharesFront place first (name_of k.name)
   pub key : k.key ≡ number_from place 8 (name_of k.name)
 
--- The keys of symbols are such numbers, where rows do not stand by value.
-pub record AreKeyed (by_value : Bool) (name_of : ℕ → List ℕ) (rows : List Kept) : Type 0 where
+-- The keys of symbols are such numbers, from one place on.
+pub record AreKeyed (name_of : ℕ → List ℕ) (rows : List Kept) : Type 0 where
   pub place : ℕ
   pub first : List ℕ
-  pub keys : by_value ≡ false → All (HasKey name_of place first) rows
+  pub keys : All (HasKey name_of place first) rows
 
 -- ---- The order
 

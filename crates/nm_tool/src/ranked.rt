@@ -1,17 +1,19 @@
 //! Kept symbols in the order of their rows, by names that stand in bytes that are at hand: they are
-//! compared where they stand, and none is copied. Each symbol has a key that decides most
-//! comparisons: its value, or the eight bytes of its name behind those that all names share. Those
-//! of one key are put in order by the eight bytes behind what their names share.
+//! compared where they stand, and none is copied. By value each symbol has its value as its key. By
+//! name it has eight bytes of its name, those behind what all names share; the symbols of one key
+//! are put in order in the same way, by the bytes behind what their names share, and few of them by
+//! comparing the names.
 
-ghost use Rattle.std.specs.Prelude.{◌≡◌, ◌+◌, ◌<◌, ◌≤◌, ◌^◌, ℕ, List, All, true, false, filter, get_or, length, map, slice_index_or, IfSome, IsTrue};
+ghost use Rattle.std.specs.Prelude.{◌≡◌, ◌+◌, ◌<◌, ◌≤◌, ◌^◌, ◌%◌, ◌==◌, ◌||◌, ℕ, List, All, true, false, drop, filter, get_or, length, map, nat_lt, slice_index_or, take, IfSome, IsTrue};
+ghost use Rattle.std.specs.Int.{from_be_bytes, w64};
 ghost use Rattle.std.specs.Ordering.{ordering_then, nat_cmp};
-ghost use Rattle.std.specs.List.Sorted.{IsPermutation};
+ghost use Rattle.std.specs.List.Sorted.{IsNonDecreasingBy};
 ghost use Rattle.std.specs.Cmp.Lexicographic.{slice_cmp};
 ghost use Rattle.elf_types.specs.Lists.{AreBytes};
 ghost use Rattle.nm_tool.specs.declared.kept.Kept.{Kept as TheKept};
 ghost use Rattle.nm_tool.specs.Order.{in_order};
 ghost use Rattle.nm_tool.specs.Kept.{order_of, shown_in, shown_name, ranked_entry};
-ghost use Rattle.nm_tool.specs.Ranked.{number_from, SharesFront, kept_cmp, names_cmp, is_named, keyed, with_key, AreKeyed};
+ghost use Rattle.nm_tool.specs.Ranked.{number_from, SharesFront, kept_cmp, names_cmp, is_named, keyed, AreKeyed};
 ghost use Rattle.nm_tool.specs.Tables.{AreTables};
 
 use crate::kept::{Kept, name_or_none};
@@ -23,7 +25,7 @@ use elf_types::{List, bytes_are_ranged};
 use std::cmp::Ordering;
 
 /// The name at a place of strings, as it is shown.
-fn name_at(strings: &[u8], place: u32) -> &[u8]
+pub fn name_at(strings: &[u8], place: u32) -> &[u8]
     ensures { result.now ≡ shown_in strings.now place }
 {
     name_or_none(string_from(strings, place))
@@ -47,8 +49,8 @@ fn byte_at(name: &[u8], place: usize) -> u8
     }
 }
 
-/// The number of the eight bytes of a name from a place on, of which the first counts most.
-fn key_from(name: &[u8], place: usize) -> u64
+/// The number of the eight bytes of a name from a place on, byte by byte.
+fn short_key(name: &[u8], place: usize) -> u64
     requires { place < 2 ^ 63 }
     ensures { result ≡ number_from place 8 name.now }
 {
@@ -59,11 +61,46 @@ fn key_from(name: &[u8], place: usize) -> u64
     key
 }
 
+/// The bytes of a name from a place on.
+fn rest_of(name: &[u8], place: usize) -> &[u8]
+    ensures { result.now ≡ drop place name.now }
+{
+    let at = place.min(name.len());
+    let (_, rest) = name.split_at(at);
+    rest
+}
+
+/// The number of the first eight bytes, where there are so many.
+fn front_word(bytes: &[u8]) -> Option<u64>
+    ensures { IfSome result (λ n. n ≡ from_be_bytes w64 (take 8 bytes.now)) }
+{
+    match bytes.first_chunk::<8>() {
+        Some(first) => Some(u64::from_be_bytes(*first)),
+        None => None,
+    }
+}
+
+/// The number of the eight bytes of a name from a place on, of which the first counts most.
+#[inline(always)]
+fn key_from(name: &[u8], place: usize) -> u64
+    requires { place < 2 ^ 63 }
+    ensures { result ≡ number_from place 8 name.now }
+{
+    match front_word(rest_of(name, place)) {
+        Some(key) => key,
+        None => short_key(name, place),
+    }
+}
+
 /// How many of the first `count` bytes of two lists are alike, up to the first that differs.
 fn shared_within(first: &[u8], name: &[u8], count: usize) -> usize
+    requires { count ≤ length first.now }
     ensures shares { SharesFront result first.now name.now }
     ensures within { result ≤ count }
 {
+    if name.starts_with(&first[..count]) {
+        return count;
+    }
     for i in 0..count {
         if byte_at(first, i) != byte_at(name, i) {
             return i;
@@ -72,8 +109,8 @@ fn shared_within(first: &[u8], name: &[u8], count: usize) -> usize
     count
 }
 
-/// As many bytes as are looked for that all names share: few share more.
-const MOST_SHARED: usize = 64;
+/// As many bytes as are looked for that all names share.
+const MOST_SHARED: usize = 4096;
 
 /// How many bytes of a list stand before the names of symbols too, in each of them.
 fn shared_with(strings: &[u8], rows: &[Kept], first: &[u8]) -> usize
@@ -83,6 +120,9 @@ fn shared_with(strings: &[u8], rows: &[Kept], first: &[u8]) -> usize
 {
     let mut count = first.len().min(MOST_SHARED);
     for k in rows {
+        if count == 0 {
+            return 0;
+        }
         count = shared_within(first, name_at(strings, k.name), count);
     }
     count
@@ -107,15 +147,6 @@ fn set_keys(strings: &[u8], rows: &mut [Kept], place: usize)
 {
     for k in rows.iter_mut() {
         k.key = key_from(name_at(strings, k.name), place);
-    }
-}
-
-/// Gives each symbol one key.
-fn set_key(rows: &mut [Kept], key: u64)
-    ensures { rows.new ≡ map (with_key key) rows.old }
-{
-    for k in rows.iter_mut() {
-        k.key = key;
     }
 }
 
@@ -156,41 +187,54 @@ fn compare(strings: &[u8], a: &Kept, b: &Kept) -> Ordering
     }
 }
 
-/// Puts symbols with keys in the order of their rows.
-fn sort_keyed(strings: &[u8], rows: &mut [Kept], by_value: bool)
-    requires bytes { AreBytes strings.now }
-    requires keyed { AreKeyed by_value (shown_in strings.now) rows.old }
-    ensures { map (ranked_entry by_value (shown_in strings.now)) rows.new
-        ≡ in_order (map (ranked_entry by_value (shown_in strings.now)) rows.old) }
+/// Puts symbols in the order of their rows by value.
+fn sort_by_values(strings: &[u8], rows: &mut [Kept])
+    ensures { map (ranked_entry true (shown_in strings.now)) rows.new
+        ≡ in_order (map (ranked_entry true (shown_in strings.now)) rows.old) }
 {
     rows.sort_unstable_by(|a, b| compare(strings, a, b));
 }
 
-/// Moves symbols by their keys, their names and their indexes.
-fn move_keyed(strings: &[u8], rows: &mut [Kept])
-    ensures { IsPermutation rows.old rows.new }
+/// Puts symbols in the order of their rows by name: their names are compared.
+fn sort_by_names(strings: &[u8], rows: &mut [Kept])
+    ensures { map (ranked_entry false (shown_in strings.now)) rows.new
+        ≡ in_order (map (ranked_entry false (shown_in strings.now)) rows.old) }
 {
-    rows.sort_unstable_by(|a, b| compare(strings, a, b));
+    rows.sort_unstable_by(|a, b| compare_names(strings, a, b));
 }
 
-/// Moves symbols of one key by their names, and leaves them the key.
-fn move_run(strings: &[u8], rows: &mut [Kept], key: u64)
-    requires { All (λ k. k.key ≡ key) rows.old }
-    ensures { IsPermutation rows.old rows.new }
+/// The same, where there are two at least.
+#[inline(always)]
+fn sort_few(strings: &[u8], rows: &mut [Kept])
+    ensures { map (ranked_entry false (shown_in strings.now)) rows.new
+        ≡ in_order (map (ranked_entry false (shown_in strings.now)) rows.old) }
 {
     if rows.len() < 2 {
         return;
     }
+    sort_by_names(strings, rows);
+}
+
+/// Gives symbols keys, eight bytes of their names from the first on that they do not share, and
+/// puts them in the order of these.
+fn sort_by_keys(strings: &[u8], rows: &mut [Kept])
+    ensures moved { in_order (map (ranked_entry false (shown_in strings.now)) rows.new)
+        ≡ in_order (map (ranked_entry false (shown_in strings.now)) rows.old) }
+    ensures keyed { AreKeyed (shown_in strings.now) rows.new }
+    ensures rises { IsNonDecreasingBy (λ k. k.key) rows.new }
+{
     let place = shared_front(strings, rows);
     set_keys(strings, rows, place);
-    move_keyed(strings, rows);
-    set_key(rows, key);
+    rows.sort_unstable();
 }
 
 /// Where the symbols of a key end that stand from a place on.
+#[inline(always)]
 fn run_end(rows: &[Kept], from: usize, key: u64) -> usize
     requires { from ≤ length rows.now }
     ensures same { (i : ℕ) → from ≤ i → i < result → (d : TheKept) → (get_or rows.now i d).key ≡ key }
+    ensures other { result < length rows.now → (d : TheKept)
+        → (get_or rows.now result d).key ≡ key → ⊥ }
     ensures above { from ≤ result }
     ensures within { result ≤ length rows.now }
 {
@@ -202,39 +246,45 @@ fn run_end(rows: &[Kept], from: usize, key: u64) -> usize
     rows.len()
 }
 
-/// Moves the symbols of each key by their names.
-fn move_runs(strings: &[u8], rows: &mut [Kept])
-    ensures { IsPermutation rows.old rows.new }
+/// Fewer symbols than this are put in order by comparing their names.
+const FEW: usize = 8;
+
+/// Whether the symbols of a key are put in order by comparing their names: they are few, or their
+/// names end with the key, so that all are one name.
+fn are_compared(count: usize, key: u64) -> bool
+    ensures { result ≡ (nat_lt count 8 || key % 256 == 0) }
 {
+    (count < FEW) | (key % 256 == 0)
+}
+
+/// As many times are the symbols of a key given other keys, one inside the other; then their names
+/// are compared.
+const LEVELS: u32 = 16;
+
+/// Puts symbols in the order of their rows by name: by keys, and those of one key in the same way,
+/// at most so many levels deep.
+fn sort_named(strings: &[u8], rows: &mut [Kept], levels: u32)
+    requires { AreBytes strings.now }
+    ensures { map (ranked_entry false (shown_in strings.now)) rows.new
+        ≡ in_order (map (ranked_entry false (shown_in strings.now)) rows.old) }
+{
+    if levels == 0 {
+        sort_by_names(strings, rows);
+        return;
+    }
+    sort_by_keys(strings, rows);
     let count = rows.len();
     let mut at = 0;
     while at < count {
         let key = rows[at].key;
         let end = run_end(rows, at + 1, key);
-        move_run(strings, &mut rows[at..end], key);
+        if are_compared(end - at, key) {
+            sort_few(strings, &mut rows[at..end]);
+        } else {
+            sort_named(strings, &mut rows[at..end], levels - 1);
+        }
         at = end;
     }
-}
-
-/// Moves symbols by their keys, and those of one key by their names.
-fn move_by_names(strings: &[u8], rows: &mut [Kept])
-    ensures { IsPermutation rows.old rows.new }
-{
-    rows.sort_unstable();
-    move_runs(strings, rows);
-}
-
-/// Puts symbols in the order of their names. They are moved into it first, so that the sort finds
-/// them in order.
-fn sort_by_names(strings: &[u8], rows: &mut [Kept])
-    requires { AreBytes strings.now }
-    ensures { map (ranked_entry false (shown_in strings.now)) rows.new
-        ≡ in_order (map (ranked_entry false (shown_in strings.now)) rows.old) }
-{
-    let place = shared_front(strings, rows);
-    set_keys(strings, rows, place);
-    move_by_names(strings, rows);
-    sort_keyed(strings, rows, false);
 }
 
 /// Puts symbols in the order of their rows.
@@ -244,14 +294,14 @@ fn sort(strings: &[u8], rows: &mut [Kept], by_value: bool)
 {
     bytes_are_ranged(strings);
     if by_value {
-        sort_keyed(strings, rows, true);
+        sort_by_values(strings, rows);
     } else {
-        sort_by_names(strings, rows);
+        sort_named(strings, rows, LEVELS);
     }
 }
 
 /// Kept symbols that have a name which is not empty, in the order of their rows.
-fn ranked(strings: &[u8], list: List<Kept>, by_value: bool) -> List<Kept>
+pub fn ranked(strings: &[u8], list: List<Kept>, by_value: bool) -> List<Kept>
     ensures { map (λ k. k.index) result ≡ order_of by_value (shown_in strings.now) list }
 {
     let mut rows = list.into_vec();

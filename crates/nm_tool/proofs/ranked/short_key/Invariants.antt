@@ -1,6 +1,6 @@
 use Rattle.std.proofs.Common.{◌≡◌, ◌<◌, ◌^◌}
 use Rattle.nm_tool.specs.Ranked.{number_from}
-use Rattle.nm_tool.proofs.ranked.key_from.Given as goal
+use Rattle.nm_tool.proofs.ranked.short_key.Given as goal
 
 abbrev pub invariant-loop-i : goal.invariant-loop-i
 invariant-loop-i l = record {
