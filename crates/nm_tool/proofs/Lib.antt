@@ -7,4 +7,7 @@ mod Keys
 mod FoundTable
 mod RowLemmas
 mod Ranking
+mod PlaceLemmas
+mod PlainLemmas
+mod HeldLemmas
 mod Runs

@@ -1,13 +1,38 @@
--- The tables of the symbols of a section.
-use Rattle.std.specs.Prelude.{◌≡◌, None}
+-- The tables of the symbols of a section, and the bytes of those of which each symbol can be told
+-- from bytes alone.
+use Rattle.std.specs.Prelude.{◌≡◌, ℕ, None}
 use Rattle.elf_types.specs.declared.records.Kind.TheVariants as kinds
 use Rattle.elf_object.specs.Object.{Object, section_at}
-use Rattle.elf_object.specs.Answers.{lend_refusal}
+use Rattle.elf_object.specs.Answers.{lend_refusal, syms_of}
+use Rattle.elf_object.specs.SymbolSections.{shndx_table}
+use Rattle.elf_descriptor.specs.State.{State}
 use Rattle.gelf_view.specs.Calls.{IsTable}
+use Rattle.bytes_at_hand.specs.declared.items.ItemBytes.{ItemBytes}
+use Rattle.bytes_at_hand.specs.Items.{AreItems, held_items}
+use Rattle.bytes_at_hand.specs.Strings.{HoldsStrings}
 use Rattle.nm_tool.specs.declared.symbols.Tables.{Tables}
+use Rattle.nm_tool.specs.declared.symbols.TableBytes.{TableBytes}
+use Rattle.nm_tool.specs.Listed.{symbols}
 
 -- They are those of a section whose symbols can be told.
 pub record AreTables (o : Object) (t : Tables) : Type 0 where
   pub passed : lend_refusal o kinds.Sym t.symbols.0 0 ≡ None
   pub names : t.names.0 ≡ (section_at o t.symbols.0).header.link
   pub indexes : IsTable o t.symbols.0 t.indexes
+
+-- ---- Bytes
+
+-- a section has no table of extended indexes, and its symbols are those that bytes hold
+pub record ArePlain (o : Object) (s : ℕ) (b : ItemBytes) : Type 0 where
+  pub plain : None ≡ shndx_table o s
+  pub held : symbols o s ≡ held_items kinds.Sym syms_of b
+
+-- the bytes of the symbols of a table without extended indexes,
+pub record HoldsSymbols {S : Type 0} (state : State S) (t : Tables) (b : ItemBytes) : Type 0 where
+  pub plain : t.indexes ≡ None
+  pub items : AreItems kinds.Sym syms_of state t.symbols.0 b
+
+-- and those of their names
+pub record HoldsTable {S : Type 0} (state : State S) (t : Tables) (b : TableBytes) : Type 0 where
+  pub table : HoldsSymbols state t b.symbols
+  pub names : HoldsStrings state t.names.0 b.strings.now

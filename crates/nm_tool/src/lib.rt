@@ -1,6 +1,7 @@
 //! nm: the symbols of an object as lines of text (POSIX nm).
 #![tactic(auto)]
 
+mod at_hand;
 mod copied;
 mod form;
 mod kept;

@@ -1,6 +1,8 @@
 //! The symbols that are listed.
 
-ghost use Rattle.std.specs.Prelude.{◌≡◌, ◌-◌, IfOk, IfErr};
+ghost use Rattle.std.specs.Prelude.{◌≡◌, ◌-◌, ◌&&◌, ℕ, None, IfOk, IfErr};
+ghost use Rattle.elf_object.specs.Object.{Object};
+ghost use Rattle.elf_object.specs.SymbolSections.{shndx_table};
 ghost use Rattle.object_output.specs.Steps.{Learns};
 ghost use Rattle.nm_tool.specs.Listed.{is_kept, is_wanted, listed_name};
 ghost use Rattle.nm_tool.specs.Pools.{if_wanted, wanted_at, with_name, with_symbol, pool_of};
@@ -8,7 +10,7 @@ ghost use Rattle.nm_tool.specs.Tables.{AreTables};
 
 use crate::letters::is_undefined;
 use crate::pools::Pool;
-use crate::symbols::{Tables, place_at, symbol_at};
+use crate::symbols::{Tables, place_at, plain_place, symbol_at};
 use elf_descriptor::Elf;
 use elf_outside::Source;
 use elf_types::constants::{STT_FILE, STT_SECTION};
@@ -49,6 +51,29 @@ fn is_wanted<S: Source>(
         Ok(place) => Ok(is_undefined(place)),
         Err(stop) => Err(stop),
     }
+}
+
+/// Whether a symbol of a table without extended indexes is undefined, where only such are asked for
+/// (`-u`).
+#[tactic(auto, unfolding(crate::specs::Listed::is_wanted))]
+#[inline(always)]
+fn is_wanted_by(options: &NmOptions, x: &Sym) -> bool
+    ensures { (o : Object) (s i : ℕ) → None ≡ shndx_table o s
+        → result ≡ is_wanted options.now o s i x.now }
+{
+    !options.undefined | is_undefined(plain_place(x.shndx))
+}
+
+/// Whether a symbol of a table without extended indexes is wanted whatever its name.
+#[inline(always)]
+pub fn is_plain_wanted(options: &NmOptions, x: &Sym) -> bool
+    ensures { (o : Object) (s i : ℕ) → None ≡ shndx_table o s
+        → result ≡ (is_kept options.now x.now && is_wanted options.now o s i x.now) }
+{
+    if is_kept(options, x) {
+        return is_wanted_by(options, x);
+    }
+    false
 }
 
 /// Symbol `i`, where it is wanted whatever its name.

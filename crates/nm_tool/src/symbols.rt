@@ -1,15 +1,20 @@
-//! The symbols of a section, one by one, with their places and names.
+//! The symbols of a section, one by one, with their places and names; and the bytes of those of
+//! which each can be told from bytes alone.
 
-ghost use Rattle.std.specs.Prelude.{◌≡◌, ◌<◌, length, slice_get};
-ghost use Rattle.elf_object.specs.Object.{section_at};
+ghost use Rattle.std.specs.Prelude.{◌≡◌, ◌<◌, ℕ, length, slice_get, None, IfSome};
+ghost use Rattle.elf_types.specs.declared.records.Sym.{Sym as TheSym};
+ghost use Rattle.elf_object.specs.Object.{Object, section_at};
+ghost use Rattle.elf_object.specs.SymbolSections.{shndx_table};
 ghost use Rattle.gelf_view.specs.Calls.{IsTable};
 ghost use Rattle.object_output.specs.Steps.{Learns};
 ghost use Rattle.object_output.specs.Symbols.{symbol_place};
 ghost use Rattle.nm_tool.specs.Listed.{symbols as stated_symbols};
-ghost use Rattle.nm_tool.specs.Tables.{AreTables};
+ghost use Rattle.nm_tool.specs.Tables.{AreTables, HoldsSymbols, HoldsTable};
 
+use bytes_at_hand::{ItemBytes, items_at_hand, string_bytes};
 use elf_descriptor::Elf;
 use elf_outside::Source;
+use elf_types::constants::{SHN_LORESERVE, SHN_XINDEX};
 use elf_types::{DataId, ScnId, Sym};
 use gelf_view::{SymPlace, shndx_table};
 use object_output::{section_header, symbol_place};
@@ -24,6 +29,15 @@ pub struct Tables {
     pub names: ScnId,
     /// The table of their extended indexes, where there is one.
     pub indexes: Option<ScnId>,
+}
+
+/// The bytes of the symbols of a table that has no extended indexes, and of their names.
+#[derive(Clone, Copy)]
+pub struct TableBytes<'a> {
+    /// The symbols.
+    pub symbols: ItemBytes<'a>,
+    /// The strings in which their names stand.
+    pub strings: &'a [u8],
 }
 
 /// The tables of the symbols of a section that is there. Nothing is read.
@@ -66,4 +80,43 @@ pub fn place_at<S: Source>(
     ensures { Learns S.Source (λ o. symbol_place o t.symbols.0 i x) result elf.old elf.new }
 {
     symbol_place(elf, t.symbols, i, x, t.indexes)
+}
+
+/// The section of a symbol by its index, in a table without extended indexes: one that says that it
+/// is an extended one can not be told.
+///
+/// Source: gABI chapter 4, "Symbol Table", `st_shndx`.
+#[inline(always)]
+pub fn plain_place(shndx: u16) -> Option<SymPlace>
+    ensures { (o : Object) (s i : ℕ) (x : TheSym) → None ≡ shndx_table o s → x.shndx ≡ shndx
+        → symbol_place o s i x ≡ result }
+{
+    let index = u32::from(shndx);
+    if index < SHN_LORESERVE {
+        return Some(SymPlace::Section(index));
+    }
+    if index == SHN_XINDEX {
+        return None;
+    }
+    Some(SymPlace::Special(shndx))
+}
+
+/// The bytes of the symbols of a table, where they are at hand and the table has no extended
+/// indexes. Nothing is read.
+pub fn symbol_bytes<S: Source>(elf: &Elf<S>, t: Tables) -> Option<ItemBytes<'_>>
+    ensures { IfSome result (HoldsSymbols elf.now t) }
+{
+    match t.indexes {
+        Some(_) => None,
+        None => items_at_hand::<S, Sym>(elf, t.symbols),
+    }
+}
+
+/// The same bytes and those of the names, where these are at hand too. Nothing is read.
+pub fn table_bytes<S: Source>(elf: &Elf<S>, t: Tables) -> Option<TableBytes<'_>>
+    ensures { IfSome result (HoldsTable elf.now t) }
+{
+    let symbols = symbol_bytes(elf, t)?;
+    let strings = string_bytes(elf, t.names)?;
+    Some(TableBytes { symbols, strings })
 }

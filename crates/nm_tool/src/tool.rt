@@ -1,13 +1,13 @@
 //! The tool of the command nm.
 
-ghost use Rattle.std.specs.Prelude.{◌≡◌, ◌-◌, ◌<◌, None, length, IfOk, IfSome, IsTrue, codes};
+ghost use Rattle.std.specs.Prelude.{◌≡◌, ◌-◌, ◌<◌, None, length, IfSome, IsTrue, codes};
 ghost use Rattle.std.specs.Option.{option_map};
 ghost use Rattle.elf_types.specs.declared.records.Kind.TheVariants as kinds;
 ghost use Rattle.elf_object.specs.Object.{section_at};
 ghost use Rattle.elf_object.specs.Answers.{lend_refusal};
 ghost use Rattle.tool_output.specs.Names.{file_name};
 ghost use Rattle.object_output.specs.Looks.{looks_over};
-ghost use Rattle.object_output.specs.Steps.{ReadsElf, ReportsElf};
+ghost use Rattle.object_output.specs.Steps.{ReportsElf};
 ghost use Rattle.bytes_at_hand.specs.Strings.{EndsAt};
 ghost use Rattle.object_output.specs.Shows.{ShowsElf};
 ghost use Rattle.nm_tool.specs.Tables.{AreTables};
@@ -15,13 +15,14 @@ ghost use Rattle.nm_tool.specs.Listed.{is_table, symbol_table, symbols as stated
 ghost use Rattle.nm_tool.specs.Tool.{rows_report, table_report, nm_report};
 ghost use Rattle.nm_tool.specs.Kept.{kept_of as stated_kept};
 
+use crate::at_hand::show_at_hand;
 use crate::copied::show_copied;
 use crate::form::Form;
 use crate::kept::{Kept, kept_of};
 use crate::ordered::show_order;
 use crate::ranked::order_at_hand;
-use crate::symbols::{Tables, tables_of};
-use bytes_at_hand::strings_end;
+use crate::symbols::{Tables, table_bytes, tables_of};
+use bytes_at_hand::{load, strings_end};
 use elf_descriptor::Elf;
 use elf_outside::{Sink, Source};
 use elf_types::constants::SHT_SYMTAB;
@@ -35,8 +36,9 @@ use tool_text::NmOptions;
 /// As many symbols as have indexes of 32 bits.
 const MOST_KEPT: u64 = 1 << 32;
 
-/// Shows the rows of the kept symbols of a table, in the order of their names where these stand.
-fn show_ordered<S: Source, O: Sink, E: Sink>(
+/// Shows the rows of the kept symbols of a table by calls on the descriptor, in the order of their
+/// names where these stand.
+fn show_in_order<S: Source, O: Sink, E: Sink>(
     elf: &mut Elf<S>,
     t: Tables,
     end: Option<u64>,
@@ -60,19 +62,55 @@ fn show_ordered<S: Source, O: Sink, E: Sink>(
     }
 }
 
-/// Where the strings of a table end, where symbols of it are kept and that can be told.
-fn end_of_names<S: Source>(elf: &mut Elf<S>, t: Tables, list: &[Kept]) -> Result<Option<u64>, Stop>
-    ensures end { IsTrue elf.old.told → IfOk result
-        (λ end. IfSome end (EndsAt elf.old.o t.names.0)) }
-    ensures reads { ReadsElf S.Source result elf.old elf.new }
+/// Shows the rows of the kept symbols of a table by calls on the descriptor. Where its strings end
+/// is looked for first, where that can be told.
+fn show_by_calls<S: Source, O: Sink, E: Sink>(
+    elf: &mut Elf<S>,
+    t: Tables,
+    list: List<Kept>,
+    count: u64,
+    form: Form<'_>,
+    outputs: &mut Outputs<'_, O, E>,
+) -> Result<bool, Stop>
+    requires tables { AreTables elf.old.o t }
+    requires list { IsTrue elf.old.told → list
+        ≡ stated_kept form.options.now elf.old.o t.symbols.0 (count - 1) }
+    requires count { count ≡ length (stated_symbols elf.old.o t.symbols.0) }
+    ensures { ReportsElf S.Source O.Sink E.Sink
+        (λ o. rows_report form.entry.options.now form.entry.file.now o t.symbols.0)
+        result elf.old elf.new outputs.old outputs.new }
 {
-    if list.is_empty() {
-        return Ok(None);
+    match strings_end(elf, t.names) {
+        Ok(end) => show_in_order(elf, t, end, list, count, form, outputs),
+        Err(stop) => Err(stop),
     }
-    strings_end(elf, t.names)
 }
 
-/// Shows the rows of the kept symbols of a table.
+/// Shows the rows of the kept symbols of a table whose strings were read, from bytes alone where
+/// these are at hand.
+fn show_loaded<S: Source, O: Sink, E: Sink>(
+    elf: &mut Elf<S>,
+    t: Tables,
+    list: List<Kept>,
+    count: u64,
+    form: Form<'_>,
+    outputs: &mut Outputs<'_, O, E>,
+) -> Result<bool, Stop>
+    requires tables { AreTables elf.old.o t }
+    requires list { IsTrue elf.old.told → list
+        ≡ stated_kept form.options.now elf.old.o t.symbols.0 (count - 1) }
+    requires count { count ≡ length (stated_symbols elf.old.o t.symbols.0) }
+    ensures { ReportsElf S.Source O.Sink E.Sink
+        (λ o. rows_report form.entry.options.now form.entry.file.now o t.symbols.0)
+        result elf.old elf.new outputs.old outputs.new }
+{
+    match table_bytes(elf, t) {
+        Some(bytes) => show_at_hand(elf, t, bytes, list, form, outputs),
+        None => show_by_calls(elf, t, list, count, form, outputs),
+    }
+}
+
+/// Shows the rows of the kept symbols of a table. Where there are none, nothing is read.
 fn show_kept<S: Source, O: Sink, E: Sink>(
     elf: &mut Elf<S>,
     t: Tables,
@@ -89,8 +127,11 @@ fn show_kept<S: Source, O: Sink, E: Sink>(
         (λ o. rows_report form.entry.options.now form.entry.file.now o t.symbols.0)
         result elf.old elf.new outputs.old outputs.new }
 {
-    match end_of_names(elf, t, list.as_slice()) {
-        Ok(end) => show_ordered(elf, t, end, list, count, form, outputs),
+    if list.is_empty() {
+        return Ok(false);
+    }
+    match load(elf, t.names) {
+        Ok(()) => show_loaded(elf, t, list, count, form, outputs),
         Err(stop) => Err(stop),
     }
 }

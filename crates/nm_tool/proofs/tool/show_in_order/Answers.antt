@@ -5,7 +5,7 @@ use Rattle.nm_tool.specs.declared.kept.Kept.{Kept}
 use Rattle.nm_tool.specs.Kept.{kept_report}
 use Rattle.nm_tool.specs.Tool.{rows_report}
 use Rattle.nm_tool.proofs.KeptLemmas.{order_reported, kept_reported}
-use Rattle.nm_tool.proofs.tool.show_ordered.Goals as goal
+use Rattle.nm_tool.proofs.tool.show_in_order.Goals as goal
 
 pub returns-in-Some : goal.returns-in-Some
 returns-in-Some g c =

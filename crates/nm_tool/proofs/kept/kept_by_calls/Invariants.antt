@@ -1,7 +1,7 @@
 use Rattle.std.proofs.Common.{◌-◌, ◌≤◌, Ok}
 use Rattle.object_output.specs.Steps.{Learns}
 use Rattle.nm_tool.specs.Kept.{kept_of}
-use Rattle.nm_tool.proofs.kept.kept_of.Given as goal
+use Rattle.nm_tool.proofs.kept.kept_by_calls.Given as goal
 
 abbrev pub invariant-loop-i : goal.invariant-loop-i
 invariant-loop-i g l = record {
