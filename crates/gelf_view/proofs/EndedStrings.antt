@@ -1,15 +1,16 @@
 -- Strings at the front of bytes, and those that begin in bytes up to their last NUL.
-use Rattle.std.proofs.Common.{◌≡◌, ◌⊎◌, inl, inr, ℕ, ◌+◌, ◌-◌, ◌<◌, ◌≤◌, ◌==◌, ◌||◌, not, Bool, true, false, cond, List, [], ◌∷◌, ◌++◌, length, take, drop, get_or, Option, Some, None, refl, sym, ap, ◌∙◌, arith}
-use Rattle.std.specs.Prelude.{nat_lt, take_while, is_some, if◌then◌else◌}
+use Rattle.std.proofs.Common.{◌≡◌, ◌⊎◌, inl, inr, ℕ, zero, suc, ◌+◌, ◌-◌, ◌<◌, ◌≤◌, ◌==◌, ◌||◌, not, Bool, true, false, cond, List, [], ◌∷◌, ◌++◌, length, take, drop, get_or, Option, Some, None, refl, sym, ap, ◌∙◌, arith}
+use Rattle.std.specs.Prelude.{nat_lt, nat_eq, take_while, is_some, if◌then◌else◌}
+use Rattle.std.specs.Cmp.Lexicographic.{unequal}
 use Rattle.std.specs.Option.{option_map}
 use Rattle.std.proofs.lemmas.Bool.{cond-true, cond-false, ne_eqb, cases_lt, lt-ltb, le-ltb}
 use Rattle.std.proofs.lemmas.List.{length-take-le, length-drop, get_or-drop, get_or-take, take-append-drop, drop-append-le, drop_all}
 use Rattle.std.proofs.lemmas.List.Elements.{All-from_get_or}
 use Rattle.std.proofs.lemmas.List.Folds.{list_any_at, list_any_none}
 use Rattle.std.proofs.lemmas.List.Sums.{take_while-cons}
-use Rattle.elf_object.specs.Strings.{has_nul}
+use Rattle.elf_object.specs.Strings.{has_nul, is_name}
 use Rattle.section_data.specs.Nuls.{IsLastEnd, IsEndedFront}
-use Rattle.gelf_view.specs.Records.{string_front, AreEnded}
+use Rattle.gelf_view.specs.Records.{string_front, shorter_than, AreEnded}
 
 -- ---- The string at the front
 
@@ -73,6 +74,65 @@ pub no_string : (bytes : List ℕ) (place : ℕ) → length bytes < place
     → None ≡ string_front (drop place bytes)
 no_string bytes place past =
     sym (ap string_front (drop_all place bytes (omega (arith, past))) ∙ front_none)
+
+-- ---- A string that is not longer than it may be
+
+short_behind : (x n : ℕ) (name : Option (List ℕ))
+    → behind x (shorter_than n name) ≡ shorter_than (suc n) (behind x name)
+short_behind x n None = refl
+short_behind x n (Some name) = by_length (cases_lt (length name) n)
+  where
+    by_length : (length name < n) ⊎ (n ≤ length name)
+        → behind x (shorter_than n (Some name)) ≡ shorter_than (suc n) (Some (x ∷ name))
+    by_length (inl lt) =
+        ap (λ (b : Bool). behind x (if b then Some name else None)) (lt-ltb (length name) n lt)
+        ∙ sym (ap (λ (b : Bool). if b then Some (x ∷ name) else None)
+        (lt-ltb (suc (length name)) (suc n) (omega (arith, lt))))
+    by_length (inr le) =
+        ap (λ (b : Bool). behind x (if b then Some name else None)) (le-ltb (length name) n le)
+        ∙ sym (ap (λ (b : Bool). if b then Some (x ∷ name) else None)
+        (le-ltb (suc (length name)) (suc n) (omega (arith, le))))
+
+short_none : (name : Option (List ℕ)) → shorter_than zero name ≡ None
+short_none None = refl
+short_none (Some name) =
+    ap (λ (b : Bool). if b then Some name else None) (le-ltb (length name) zero (omega arith))
+
+front_empty : (n : ℕ) → string_front [] ≡ shorter_than n (string_front [])
+front_empty n = front_none ∙ sym (ap (λ (name : Option (List ℕ)). shorter_than n name) front_none)
+
+pub front_short : (n : ℕ) (l : List ℕ)
+    → string_front (take n l) ≡ shorter_than n (string_front l)
+front_short zero [] = front_empty zero
+front_short zero (x ∷ l) = front_none ∙ sym (short_none (string_front (x ∷ l)))
+front_short (suc n) [] = front_empty (suc n)
+front_short (suc n) (x ∷ l) =
+    front_more x (take n l)
+    ∙ by_first (front_short n l) (x == 0)
+    ∙ sym (ap (λ (name : Option (List ℕ)). shorter_than (suc n) name) (front_more x l))
+  where
+    by_first : string_front (take n l) ≡ shorter_than n (string_front l) → (nul : Bool)
+        → (if nul then Some [] else behind x (string_front (take n l)))
+        ≡ shorter_than (suc n) (if nul then Some [] else behind x (string_front l))
+    by_first later true =
+        sym (ap (λ (b : Bool). if b then Some [] else None) (lt-ltb zero (suc n) (omega arith)))
+    by_first later false = ap (behind x) later ∙ short_behind x n (string_front l)
+
+-- a name that is shorter is found all the same
+pub short_name : (n : ℕ) (name : List ℕ) (found : Option (List ℕ)) → length name < n
+    → is_name name (shorter_than n found) ≡ is_name name found
+short_name n name None below = refl
+short_name n name (Some found) below = by_length (cases_lt (length found) n)
+  where
+    by_length : (length found < n) ⊎ (n ≤ length found)
+        → is_name name (shorter_than n (Some found)) ≡ is_name name (Some found)
+    by_length (inl lt) =
+        ap (λ (b : Bool). is_name name (if b then Some found else None))
+        (lt-ltb (length found) n lt)
+    by_length (inr le) =
+        ap (λ (b : Bool). is_name name (if b then Some found else None))
+        (le-ltb (length found) n le)
+        ∙ sym (unequal nat_eq found name (λ same. omega (arith, same, le, below)))
 
 -- ---- Bytes up to their last NUL
 

@@ -60,7 +60,7 @@ module _ {S : Type 0} (g : Ghosts S) (old : State S) (s names at : ℕ) (is : ol
       ∙ ap (λ (n : ℕ). wants_memory n (section_at old.o s).header.name) is
       ∙ ap (λ (a : ℕ). wants_memory names a) (sym here)
 
-  same_name : strings.section_name old.o s ≡ readable (string_answer old.o names at)
+  pub same_name : strings.section_name old.o s ≡ readable (string_answer old.o names at)
   unfolding strings.section_name
   same_name =
       ap (λ (t : Bool). if t then None else readable (string_answer old.o old.o.header.shstrndx (section_at old.o s).header.name)) no_zero

@@ -1,12 +1,13 @@
 -- The usual case of a string: its section is one table whose bytes are held.
-use Rattle.std.proofs.Common.{◌≡◌, ℕ, ◌+◌, ◌<◌, Bool, ◌&&◌, List, [], ◌∷◌, length, Option, Some, None, refl, sym, ap, ◌∙◌, subst, arith}
+use Rattle.std.proofs.Common.{◌≡◌, ℕ, ◌+◌, ◌<◌, Bool, ◌&&◌, List, [], ◌∷◌, length, drop, Option, Some, None, refl, sym, ap, ◌∙◌, subst, arith}
 use Rattle.std.specs.Prelude.{nat_le, nat_lt}
 use Rattle.std.proofs.Math.Bool.{and-false}
 use Rattle.std.proofs.lemmas.Bool.{and_from, le-leb, lt-ltb}
 use Rattle.elf_types.specs.declared.records.Kind.{Kind}
 use Rattle.elf_types.specs.declared.records.Kind.TheVariants as kinds
-use Rattle.elf_types.specs.declared.errors.ElfError.TheVariants.{OutOfFile}
-use Rattle.elf_types.specs.Answers.{refused_if}
+use Rattle.elf_types.specs.declared.errors.ElfError.{ElfError}
+use Rattle.elf_types.specs.declared.errors.ElfError.TheVariants.{OutOfFile, Unended}
+use Rattle.elf_types.specs.Answers.{refused_if, or_refused}
 use Rattle.elf_xlate.specs.declared.content.Items.{Items}
 use Rattle.elf_xlate.specs.Translation.{items_kind}
 use Rattle.elf_layout.specs.Layout.{rounded_up}
@@ -14,15 +15,17 @@ use Rattle.elf_object.specs.Object.{Piece, section_at, piece_at, home_is_clean}
 use Rattle.elf_object.specs.Valid.{OthersOwn}
 use Rattle.elf_object.specs.Answers.{kind_at, piece_count, same_kind}
 use Rattle.elf_object.specs.Joined.{piece_blocks, pieces_end}
-use Rattle.elf_object.specs.Strings.{piece_over}
+use Rattle.elf_object.specs.Strings.{piece_over, readable, string_answer}
 use Rattle.elf_object.proofs.RunningEnds.{first_place}
 use Rattle.elf_object.proofs.AnswerLaws.{answered_value}
 use Rattle.elf_descriptor.specs.State.{State}
 use Rattle.elf_descriptor.specs.Tables.{IsHeldTable}
+use Rattle.section_data.specs.Nuls.{IsEndedFront}
+use Rattle.gelf_view.specs.Records.{string_front}
 use Rattle.gelf_view.specs.Strings.{bytes_in, no_strings, home_missing, IsOver, Begins}
 use Rattle.gelf_view.proofs.PieceBytes.{clean_file}
 use Rattle.gelf_view.proofs.StackLemmas.{IsLeft, stands_over}
-use Rattle.gelf_view.proofs.StringLemmas.{strings_more, strings_all, are_strings, begins_is}
+use Rattle.gelf_view.proofs.StringLemmas.{strings_more, strings_all, are_strings, begins_is, home_string_is, string_is}
 
 -- the others of one piece are own: there are none
 one_others : (ps : List Piece) → length ps ≡ 1 → OthersOwn ps
@@ -82,3 +85,18 @@ module _ {S : Type 0} (st : State S) (s offset : ℕ) (is : IsHeldTable st s off
 
   pub table_begins : Begins st.o s offset 0 offset
   table_begins = begins_is st.o s offset 0 offset strings inside others over
+
+readable_found : (found : Option (List ℕ)) (e : ElfError)
+    → readable (or_refused found e) ≡ found
+readable_found None e = refl
+readable_found (Some string) e = refl
+
+-- the string at an offset of it, by its bytes up to their last NUL
+pub held_string : {S : Type 0} (st : State S) (s offset : ℕ) (front : List ℕ)
+    → IsHeldTable st s offset → IsEndedFront (section_at st.o s).raw front
+    → string_front (drop offset front) ≡ readable (string_answer st.o s offset)
+held_string st s offset front is ended =
+    sym (readable_found (string_front (drop offset front)) (Unended offset))
+    ∙ ap readable
+    (home_string_is st.o s offset 0 offset front is.clean ended
+    ∙ sym (string_is st.o s offset 0 offset (table_begins st s offset is)))

@@ -23,6 +23,11 @@ unfoldable pub string_front : List ℕ → Option (List ℕ)
 string_front bytes =
     if has_nul bytes then Some (take_while (λ b. not (b == 0)) bytes) else None
 
+-- a string of fewer bytes than that, or none
+abbrev pub shorter_than : ℕ → Option (List ℕ) → Option (List ℕ)
+shorter_than n None = None
+shorter_than n (Some string) = if nat_lt (length string) n then Some string else None
+
 -- a string begins at each place of bytes
 abbrev pub AreEnded : List ℕ → Type 0
 AreEnded bytes = (at : ℕ) → is_some (string_front (drop at bytes)) ≡ nat_lt at (length bytes)

@@ -35,7 +35,7 @@ pub use piece_bytes::bytes;
 pub use records::constants_are;
 pub use section_names::{is_named, section_name};
 pub use string_calls::strptr;
-pub use strings::{string_from, string_in};
+pub use strings::{is_called, is_string_at, short_string, string_from, string_in};
 pub use symbol_calls::{shndx_table, symbol_place, symshndx};
 pub use symbols::SymPlace;
 pub use updates::{

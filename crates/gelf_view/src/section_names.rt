@@ -1,14 +1,17 @@
 //! The names of sections.
 
-ghost use Rattle.std.specs.Prelude.{◌≡◌, ◌<◌, length, []};
+ghost use Rattle.std.specs.Prelude.{◌≡◌, ◌<◌, length, [], true, IsTrue};
 ghost use Rattle.std.specs.Borrow.{sem};
 ghost use Rattle.elf_object.specs.Object.{section_at};
 ghost use Rattle.elf_object.specs.Words.{Answers};
+ghost use Rattle.elf_object.specs.Strings.{is_name, readable, string_answer};
 ghost use Rattle.elf_descriptor.specs.Reads.{Queries, wanted};
 ghost use Rattle.elf_descriptor.specs.Rests.{Rests};
+ghost use Rattle.elf_descriptor.specs.Tables.{IsHeldTable};
 ghost use Rattle.gelf_view.specs.SectionNames.{is_refusal, seen_name, readable_string, section_name, is_named};
 
 use crate::string_calls::strptr;
+use crate::strings::is_string_at;
 use elf_descriptor::Elf;
 use elf_outside::Source;
 use elf_types::{ElfError, ScnId};
@@ -71,8 +74,29 @@ pub fn section_name<S: Source>(elf: &mut Elf<S>, s: ScnId) -> Result<Option<&[u8
     readable_string(elf, ScnId(names), u64::from(at))
 }
 
+/// Whether the names of sections stand in a table that is held, which is longer than an offset.
+fn holds_name<S: Source>(elf: &Elf<S>, names: u32, at: u64) -> bool
+    ensures some { result ≡ true → names ≡ 0 → ⊥ }
+    ensures held { result ≡ true → IsHeldTable elf.now names at }
+{
+    if names == 0 {
+        return false;
+    }
+    elf.holds_table(ScnId(names), at)
+}
+
+/// Whether the string at an offset of a table that is held is this one.
+fn held_is<S: Source>(elf: &Elf<S>, s: ScnId, offset: u64, name: &[u8]) -> bool
+    requires { IsHeldTable elf.now s.0 offset }
+    ensures { IsTrue elf.now.told → result
+        ≡ is_name name.now (readable (string_answer elf.now.o s.0 offset)) }
+{
+    is_string_at(elf.ended_bytes(s), offset, name)
+}
+
 /// Whether a section that is there has this name. It reads, and wants memory, as `section_name`
-/// does, and refuses nothing.
+/// does, and refuses nothing. Where the names are held it looks at as many bytes as this one has,
+/// and at one more.
 ///
 /// Source: gABI chapter 4, "Section Header", sh_name.
 pub fn is_named<S: Source>(elf: &mut Elf<S>, s: ScnId, name: &[u8]) -> Result<bool, ElfError>
@@ -81,6 +105,11 @@ pub fn is_named<S: Source>(elf: &mut Elf<S>, s: ScnId, name: &[u8]) -> Result<bo
         ((is_named s.0 name.now).answer elf.old.o) }
     ensures queries { Queries S.Source (is_named s.0 name.now) [] result elf.old elf.new }
 {
+    let names = elf.shstrndx();
+    let at = u64::from(name_field(elf, s));
+    if holds_name(elf, names, at) {
+        return Ok(held_is(elf, ScnId(names), at, name));
+    }
     match section_name(elf, s) {
         Ok(Some(found)) => Ok(found == name),
         Ok(None) => Ok(false),

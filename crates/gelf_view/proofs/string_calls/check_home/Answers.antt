@@ -1,4 +1,4 @@
-use Rattle.std.proofs.Common.{true, false, sym, ◌∙◌, arith}
+use Rattle.std.proofs.Common.{sym, ◌∙◌, arith}
 use Rattle.gelf_view.proofs.HomeLemmas.{below_count, others_own, home_inside, home_of_none, home_of_own, home_refused}
 use Rattle.gelf_view.proofs.string_calls.check_home.Goals as goal
 use Rattle.gelf_view.proofs.string_calls.check_home.Goals.{then-count-eq0-via-then-count-eq0, then-count-eq0-via-else-count-eq0+then-is_edited}

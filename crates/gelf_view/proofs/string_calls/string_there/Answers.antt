@@ -1,5 +1,5 @@
-use Rattle.std.proofs.Common.{◌≡◌, ◌∙◌, Bool, true, false, Option, None, Some, sym, subst}
-use Rattle.std.specs.Prelude.{IsTrue, ◌||◌, is_some}
+use Rattle.std.proofs.Common.{◌∙◌, Bool, sym, subst}
+use Rattle.std.specs.Prelude.{IsTrue, ◌||◌}
 use Rattle.elf_object.specs.Object.{piece_at}
 use Rattle.elf_object.specs.Due.{is_loaded}
 use Rattle.gelf_view.proofs.PieceBytes.{piece_there}
