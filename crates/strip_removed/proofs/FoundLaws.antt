@@ -9,6 +9,7 @@ use Rattle.elf_object.specs.Words.{Wants, Answers}
 use Rattle.elf_object.specs.Strings.{section_name, is_name}
 use Rattle.command_objects.specs.Words.{is_allocated, header_at, is_among}
 use Rattle.command_objects.specs.Removed.{is_named, is_debug_data, has_debug_name, is_debug_name}
+use Rattle.sought_names.specs.Names.{is_sought}
 use Rattle.strip_removed.specs.Steps.{goes_by_name, goes, may_go, AreApart}
 use Rattle.strip_removed.specs.Calls.{found_by}
 use Rattle.strip_removed.proofs.StepLaws.{apart_more, apart_none, marks_more}
@@ -61,6 +62,27 @@ module _ (debug_too : Bool) (names : List (List ℕ)) (o : Object) (s : ℕ) whe
       let one : x ≡ found_by names debug (section_name o s) = cc in
       one ∙ found_is debug (section_name o s) refl may
   found_told told wants debug (Err e) may came tells = tt
+
+-- names that are alike tell the same of a section
+abbrev debug_told : Bool → Object → ℕ → Option (List ℕ) → Bool
+debug_told debug_too o s name =
+    debug_too && (not (is_allocated (header_at o s)) && has_debug_name name)
+
+pub goes_alike : (debug_too : Bool) (a b : List (List ℕ)) (o : Object) (s : ℕ)
+    → ((q : List ℕ) → is_sought a q ≡ is_sought b q)
+    → goes_by_name debug_too a o s ≡ goes_by_name debug_too b o s
+goes_alike debug_too a b o s same = by_name (section_name o s) refl
+  where
+    by_name : (name : Option (List ℕ)) → section_name o s ≡ name
+        → goes_by_name debug_too a o s ≡ goes_by_name debug_too b o s
+    by_name None is =
+        name_tells debug_too a o s None is
+        ∙ ap (λ (t : Bool). t || debug_told debug_too o s None) (none_is a ∙ sym (none_is b))
+        ∙ sym (name_tells debug_too b o s None is)
+    by_name (Some q) is =
+        name_tells debug_too a o s (Some q) is
+        ∙ ap (λ (t : Bool). t || debug_told debug_too o s (Some q)) (same q)
+        ∙ sym (name_tells debug_too b o s (Some q) is)
 
 -- ---- What goes
 

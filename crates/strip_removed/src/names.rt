@@ -1,15 +1,15 @@
 //! Step 1: sections by their names.
 
-ghost use Rattle.std.specs.Prelude.{◌≡◌, ◌<◌, ◌+◌, ◌++◌, ◌∷◌, ◌&&◌, not, [], length, map, true, IsTrue, OnOk, IfOk, Some};
-ghost use Rattle.std.specs.List.{list_any};
+ghost use Rattle.std.specs.Prelude.{◌≡◌, ◌<◌, ◌+◌, ◌++◌, ◌∷◌, ◌&&◌, not, ℕ, List, [], length, map, true, IsTrue, OnOk, IfOk, IfErr, Some};
+ghost use Rattle.elf_types.specs.declared.errors.ElfError.TheVariants.{Memory};
 ghost use Rattle.elf_object.specs.Due.{all_sections};
-ghost use Rattle.elf_object.specs.Strings.{is_name};
 ghost use Rattle.command_objects.specs.Words.{is_allocated, header_at};
 ghost use Rattle.command_objects.specs.Removed as rules;
 ghost use Rattle.strip_removed.specs.Steps.{IsRemovable, AreApart, goes, goes_by_name, may_go};
 ghost use Rattle.elf_object.specs.Words.{Answers};
 ghost use Rattle.elf_descriptor.specs.Reads.{Queries, wanted};
 ghost use Rattle.strip_removed.specs.Calls.{ReadsNames, found, found_by};
+ghost use Rattle.sought_names.specs.Names.{is_sought};
 
 use crate::headers::is_allocated;
 use crate::sets::SectionSet;
@@ -18,8 +18,9 @@ use elf_descriptor::Elf;
 use elf_outside::Source;
 use elf_types::{ElfError, List, ScnId};
 use gelf_view::section_name;
+use sought_names::NameSet;
 use std::alloc::Global;
-use tool_text::Args;
+use tool_text::{Args, Text};
 
 /// Whether a name is one of those that compilers give sections of debug data.
 #[tactic(auto, unfolding(command_objects::specs::Removed::is_debug_name))]
@@ -33,14 +34,33 @@ fn is_debug_name(name: &[u8]) -> bool
         || name == b".gdb_index".as_slice()
 }
 
-/// Whether a name is one of these.
-fn is_one_of(name: &[u8], names: &Args) -> bool
-    ensures { result ≡ list_any (λ wanted. is_name wanted (Some name.now)) names.now }
+/// Adds names to those that are looked for, of which there are none. It refuses `Memory` alone.
+fn add_names<'a>(sought: &mut NameSet<'a>, names: &'a [Text]) -> Result<(), ElfError>
+    requires { sought.old ≡ [] }
+    ensures ok { OnOk result ((q : List ℕ) → is_sought sought.new q ≡ is_sought names.now q) }
+    ensures err { IfErr result (λ e. e ≡ Memory) }
 {
-    names
-        .as_slice()
-        .iter()
-        .any(|wanted| name == wanted.as_bytes())
+    for name in names {
+        match sought.add(name.as_bytes()) {
+            Ok(()) => {}
+            Err(e) => return Err(e),
+        }
+    }
+    Ok(())
+}
+
+/// The names that are looked for: each is found in as many steps as their number has digits. It
+/// refuses `Memory` alone.
+fn sought_of(alloc: Global, names: &Args) -> Result<NameSet<'_>, ElfError>
+    ensures ok { IfOk result (λ sought. (q : List ℕ)
+        → is_sought sought q ≡ is_sought names.now q) }
+    ensures err { IfErr result (λ e. e ≡ Memory) }
+{
+    let mut sought = NameSet::new(alloc);
+    match add_names(&mut sought, names.as_slice()) {
+        Ok(()) => Ok(sought),
+        Err(e) => Err(e),
+    }
 }
 
 /// Whether a section that is there may be one of debug data: such a one has no `SHF_ALLOC`.
@@ -52,10 +72,10 @@ fn may_be_debug<S: Source>(elf: &Elf<S>, s: ScnId, debug_too: bool) -> bool
 }
 
 /// Whether a name is one of these, or that of debug data where it may be.
-fn is_found_by(name: &[u8], names: &Args, debug: bool) -> bool
+fn is_found_by(name: &[u8], names: &NameSet<'_>, debug: bool) -> bool
     ensures { result ≡ found_by names.now debug (Some name.now) }
 {
-    is_one_of(name, names) || (debug && is_debug_name(name))
+    names.has(name) || (debug && is_debug_name(name))
 }
 
 /// Whether a section that is there is found by its name: that is one of these, or of debug data
@@ -63,7 +83,7 @@ fn is_found_by(name: &[u8], names: &Args, debug: bool) -> bool
 fn is_found<S: Source>(
     elf: &mut Elf<S>,
     s: ScnId,
-    names: &Args,
+    names: &NameSet<'_>,
     debug: bool,
 ) -> Result<bool, ElfError>
     requires { s.0 < length elf.old.o.sections }
@@ -82,7 +102,7 @@ fn is_found<S: Source>(
 fn is_found_too<S: Source>(
     elf: &mut Elf<S>,
     s: ScnId,
-    names: &Args,
+    names: &NameSet<'_>,
     debug_too: bool,
 ) -> Result<bool, ElfError>
     requires { s.0 < length elf.old.o.sections }
@@ -98,7 +118,7 @@ fn is_found_too<S: Source>(
 fn goes_by_name<S: Source>(
     elf: &mut Elf<S>,
     s: ScnId,
-    names: &Args,
+    names: &NameSet<'_>,
     debug_too: bool,
 ) -> Result<bool, ElfError>
     requires { s.0 < length elf.old.o.sections }
@@ -117,7 +137,7 @@ fn goes_by_name<S: Source>(
 fn mark_by_name<S: Source>(
     elf: &mut Elf<S>,
     s: ScnId,
-    names: &Args,
+    names: &NameSet<'_>,
     debug_too: bool,
     marks: &mut List<bool>,
 ) -> Result<(), ElfError>
@@ -137,7 +157,7 @@ fn mark_by_name<S: Source>(
 /// Marks of the sections that go by their names.
 fn fill_marks<S: Source>(
     elf: &mut Elf<S>,
-    names: &Args,
+    names: &NameSet<'_>,
     debug_too: bool,
     marks: &mut List<bool>,
 ) -> Result<(), ElfError>
@@ -173,8 +193,12 @@ pub fn with_named<S: Source>(
     ensures removable { IfOk result (IsRemovable elf.old.o) }
     ensures reads { ReadsNames S.Source result elf.old elf.new }
 {
+    let sought = match sought_of(alloc, names) {
+        Ok(sought) => sought,
+        Err(e) => return Err(e),
+    };
     let mut marks = List::new(alloc);
-    match fill_marks(elf, names, debug_too, &mut marks) {
+    match fill_marks(elf, &sought, debug_too, &mut marks) {
         Ok(()) => Ok(SectionSet::from_marks(marks)),
         Err(e) => Err(e),
     }
