@@ -149,7 +149,7 @@ pub record Renamed {S : Type 0} (renames : List NameBytes) (i : ℕ) (old now : 
       → in_turn with_name (names_in old.o) (map bytes_pair renames)
       ≡ in_turn with_name (names_now old.o marks renames) (map bytes_pair (drop i renames))
 
-no_mark : (n t : ℕ) → mark_of (replicate n 0) t ≡ 0
+pub no_mark : (n t : ℕ) → mark_of (replicate n 0) t ≡ 0
 no_mark zero t = refl
 no_mark (suc n) zero = refl
 no_mark (suc n) (suc t) = no_mark n t
@@ -283,10 +283,6 @@ marks_wanted renames s answer e is = record {
 }
 
 -- ---- A mark that is set
-
-pub mark_fits : (o : Object) (marks : List ℕ) (s : ℕ) → length marks ≡ length o.sections
-    → IsThere o s → s < length marks
-mark_fits o marks s long there = let below = there.1 in omega (arith, below, long)
 
 pub set_long : (marks after : List ℕ) (s mark : ℕ) → after ≡ slice_set marks s mark
     → length after ≡ length marks

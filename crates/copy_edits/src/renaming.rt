@@ -1,6 +1,6 @@
 //! Sections get other names, of which marks are kept.
 
-ghost use Rattle.std.specs.Prelude.{◌≡◌, ◌<◌, length, map, slice_set, Some, IfOk, IfErr};
+ghost use Rattle.std.specs.Prelude.{◌≡◌, length, map, slice_set, Some, IfOk, IfErr};
 ghost use Rattle.std.proofs.Math.ListN.{replicate};
 ghost use Rattle.elf_types.specs.declared.errors.ElfError.TheVariants.{Memory};
 ghost use Rattle.command_objects.specs.Words.{in_turn};
@@ -25,11 +25,14 @@ pub fn no_marks(alloc: Global, count: u32) -> Result<List<u64>, ElfError>
     Ok(List::from_vec(marks))
 }
 
-/// Gives a section that is there a mark.
+/// Gives a section a mark, where there is one of it.
+#[tactic(auto, using(std::proofs::lemmas::List::set_past))]
 pub fn set_mark(marks: &mut List<u64>, s: u32, mark: u64)
-    requires { s < length marks.old }
     ensures { marks.new ≡ slice_set marks.old s mark }
 {
+    if u64::from(s) >= marks.len() {
+        return;
+    }
     marks.as_mut_slice()[s as usize] = mark;
 }
 

@@ -1,9 +1,5 @@
-use Rattle.copy_edits.proofs.RenameLaws.{renamed_at, renamed_end, set_long, mark_fits}
+use Rattle.copy_edits.proofs.RenameLaws.{renamed_at, renamed_end, set_long}
 use Rattle.copy_edits.proofs.renaming.rename_section.Goals as goal
-
-pub set_mark-requires : goal.set_mark-requires
-set_mark-requires c =
-    mark_fits c.args.elf.now.o c.args.marks.now c.in-Ok.s c.requires.long c.in-Ok.ensures.there
 
 pub returns-in-Ok-clause-long : goal.returns-in-Ok-clause-long
 returns-in-Ok-clause-long c =
