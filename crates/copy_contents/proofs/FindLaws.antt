@@ -1,5 +1,6 @@
 -- Sections that are found by their names, and what is done to them.
-use Rattle.std.proofs.Common.{◌≡◌, ℕ, List, [], position, Option, Some, None, Result, Ok, Err, refl, sym, subst, arith}
+use Rattle.std.proofs.Common.{◌≡◌, ◌<◌, ℕ, true, List, [], length, get_or, position, Option, Some, None, Result, Ok, Err, refl, sym, ap, ◌∙◌, subst, arith}
+use Rattle.std.specs.Prelude.{All}
 use Rattle.elf_types.specs.declared.errors.ElfError.{ElfError}
 use Rattle.elf_types.specs.declared.errors.ElfError.TheVariants.{Memory}
 use Rattle.elf_types.specs.Answers.{answered, ◌>>=◌}
@@ -7,7 +8,10 @@ use Rattle.elf_object.specs.Object.{Object}
 use Rattle.elf_object.specs.Strings.{is_name}
 use Rattle.command_objects.specs.Copied.{CopyFault as StatedFault, names_in, section_named}
 use Rattle.strip_contents.specs.declared.arranged.Arranged.{Arranged}
+use Rattle.sought_names.specs.declared.sections.NameIndex.{NameIndex}
+use Rattle.sought_names.specs.Names.{is_sought}
 use Rattle.copy_changes.specs.declared.changes.NameBytes.{NameBytes}
+use Rattle.copy_changes.specs.declared.changes.NameBits.{NameBits}
 use Rattle.copy_changes.specs.declared.faults.CopyFault.{CopyFault}
 use Rattle.copy_changes.specs.declared.faults.CopyFault.TheVariants as faults
 use Rattle.copy_changes.specs.Stated.{IsUnread}
@@ -17,7 +21,9 @@ use Rattle.copy_edits.proofs.FaultLaws.{unread_on, memory_unread, memory_given, 
 use Rattle.copy_edits.proofs.FindLaws.{NoneNamed, names_at_first}
 use Rattle.copy_contents.specs.Rows.{Origin, IsContents, IsNumbered}
 use Rattle.copy_contents.specs.Steps.{known, Turns, AltersContents, AltersAt, always, IsFaultUnread}
+use Rattle.copy_contents.specs.Indexes.{IsIndexOf, FindsNamed}
 use Rattle.copy_contents.proofs.NameLaws.{count_is}
+use Rattle.copy_contents.proofs.IndexLaws.{named_there}
 use Rattle.copy_contents.proofs.TurnLaws.{turns_not, turns_as, found_then, found_not}
 
 -- ---- The number that is found
@@ -95,6 +101,44 @@ module _ (names : Object → List (Option (List ℕ))) (name : List ℕ)
         found_not o p {T = ℕ} (Unit {0}) (λ (n : ℕ). n) (section_named (names p) name) (next p) f
         y (found o p is);
   }
+
+-- a section is found by the index of the names, and then altered
+module _ (index : NameIndex) (marks : List ℕ) (renames : List NameBytes) (name : List ℕ)
+    (next : Object → ℕ → Result Object StatedFault) (x y : Arranged) where
+  abbrev Sought : Result ℕ CopyFault → Type 0
+  Sought r = (names : List (Option (List ℕ))) → IsIndexOf index names → FindsNamed names name r
+
+  abbrev Named : Object → Type 0
+  Named p = IsIndexOf index (names_now p marks renames)
+
+  pub named_alters : (s : ℕ) (r : Result (Unit {0}) CopyFault) → Sought (Ok s)
+      → AltersAt s always (λ p. next p s) r x y
+      → AltersContents Named (λ p. section_named (names_now p marks renames) name >>= next p) r x y
+  named_alters s r found step = record {
+    unread = step.unread;
+    turns = λ o p is holds.
+        let at = found (names_now p marks renames) holds in
+        found_then o p (λ (n : ℕ). n) (section_named (names_now p marks renames) name) (next p) s
+        r y (at.finds p) (step.turns o p is (named_there p marks renames name s at.here, tt));
+  }
+
+  pub unnamed_alters : (f : CopyFault) → Sought (Err f) → IsUnread {T = ℕ} (Err f)
+      → AltersContents {T = Unit {0}} Named
+      (λ p. section_named (names_now p marks renames) name >>= next p) (Err f) x y
+  unnamed_alters f found unread = record {
+    unread = unread_on ℕ (Unit {0}) f unread;
+    turns = λ o p is holds.
+        found_not o p {T = ℕ} (Unit {0}) (λ (n : ℕ). n)
+        (section_named (names_now p marks renames) name) (next p) f y
+        ((found (names_now p marks renames) holds).finds p);
+  }
+
+-- what is looked for of each is looked for of one
+pub flag_sought : (sought : List (List ℕ)) (xs : List NameBits) (i : ℕ) (x : NameBits)
+    → i < length xs → x ≡ get_or xs i x → All (λ n. is_sought sought n.name ≡ true) xs
+    → is_sought sought x.name ≡ true
+flag_sought sought xs i x below is all =
+    ap (λ (y : NameBits). is_sought sought y.name) is ∙ all i x below
 
 -- a fault comes, or else the section is altered
 module _ (s : ℕ) (fault : Object → Option StatedFault)

@@ -17,3 +17,4 @@ pub mod EndLaws
 pub mod BeginLaws
 pub mod HoldLaws
 pub mod PlanLaws
+pub mod IndexLaws

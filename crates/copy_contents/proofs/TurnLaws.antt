@@ -80,6 +80,16 @@ module _ (o : Origin) (p : Object) where
 
 -- ---- Of every object
 
+-- what is known of each holds
+pub alters_known : {T : Type 0} (Holds : Object → Type 0)
+    (answer : Object → Result Object StatedFault) (r : Result T CopyFault) (x y : Arranged)
+    → ((o : Origin) (p : Object) → IsContents o p x → Holds p)
+    → AltersContents Holds answer r x y → AltersContents always answer r x y
+alters_known Holds answer r x y known step = record {
+  unread = step.unread;
+  turns = λ o p is holds. step.turns o p is (known o p is);
+}
+
 pub alters_then : {T U : Type 0} (Holds : Object → Type 0)
     (answer next : Object → Result Object StatedFault) (t : T) (r : Result U CopyFault)
     (x y z : Arranged) → ((p q : Object) → KeepsIndex p q → Holds p → Holds q)
@@ -169,11 +179,12 @@ module _ (marks : List ℕ) (renames : List NameBytes) (changes : List NameBits)
       record { left = p; flagged = flagged_none marks renames changes (known p); contents = is }
 
   module _ (i : ℕ) (y : Arranged) (so_far : FlaggedTo marks renames changes i o p y) where
-    pub flag_more : (x : NameBits) (z : Arranged) → i < length changes → x ≡ get_or changes i x
-        → AltersContents {T = Unit {0}} always (one_change x) (Ok tt) y z
+    pub flag_more : (Holds : Object → Type 0) (x : NameBits) (z : Arranged) → i < length changes
+        → x ≡ get_or changes i x → Holds so_far.left
+        → AltersContents {T = Unit {0}} Holds (one_change x) (Ok tt) y z
         → FlaggedTo marks renames changes (i + 1) o p z
-    flag_more x z below is step =
-        let one = step.turns o so_far.left so_far.contents tt in
+    flag_more Holds x z below is holds step =
+        let one = step.turns o so_far.left so_far.contents holds in
         record {
           left = one.left;
           flagged = flagged_more marks renames changes i (known p) (known so_far.left)
@@ -181,14 +192,14 @@ module _ (marks : List ℕ) (renames : List NameBytes) (changes : List NameBits)
           contents = one.contents;
         }
 
-    pub flag_stops : (x : NameBits) (f : CopyFault) (z : Arranged) → i < length changes
-        → x ≡ get_or changes i x
-        → AltersContents {T = Unit {0}} always (one_change x) (Err f) y z
+    pub flag_stops : (Holds : Object → Type 0) (x : NameBits) (f : CopyFault) (z : Arranged)
+        → i < length changes → x ≡ get_or changes i x → Holds so_far.left
+        → AltersContents {T = Unit {0}} Holds (one_change x) (Err f) y z
         → Turns {T = Unit {0}} o p
         (in_turn (with_section_flags (names_now p marks renames)) p (map bits_pair changes))
         (Err f) z
-    flag_stops x f z below is step =
-        let one = step.turns o so_far.left so_far.contents tt in
+    flag_stops Holds x f z below is holds step =
+        let one = step.turns o so_far.left so_far.contents holds in
         record {
           left = one.left;
           alters = flagged_stop marks renames changes i (known p) (known so_far.left)

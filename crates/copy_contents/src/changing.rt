@@ -1,15 +1,20 @@
 //! The changes of an image that was gathered, from the last one back.
 
-ghost use Rattle.std.specs.Prelude.{◌≡◌, Err};
-ghost use Rattle.command_objects.specs.Copied.{with_changes};
+ghost use Rattle.std.specs.Prelude.{◌≡◌, All, true, Err};
+ghost use Rattle.elf_object.specs.Object.{Object};
+ghost use Rattle.command_objects.specs.Copied.{names_in, with_changes};
+ghost use Rattle.sought_names.specs.Names.{is_sought};
 ghost use Rattle.copy_changes.specs.Stated.{HasPlainNames, stated_changes};
 ghost use Rattle.copy_edits.specs.Names.{names_now};
 ghost use Rattle.copy_names.specs.Stores.{HasTable};
 ghost use Rattle.elf_copy.specs.Copies.{added_named, flagged_named, after_names, after_updates};
+ghost use Rattle.copy_contents.specs.Rows.{Origin, IsContents};
 ghost use Rattle.copy_contents.specs.Steps.{AltersContents, IsUsableIf};
+ghost use Rattle.copy_contents.specs.Indexes.{IsIndexOf};
 
 use crate::adding::add_sections;
 use crate::flags::flag_sections;
+use crate::indexing::{index_names, seek_names};
 use crate::naming::plan_names;
 use crate::renaming::rename_sections;
 use crate::storing::store_names;
@@ -17,6 +22,7 @@ use crate::updating::update_sections;
 use copy_changes::{Changes, CopyFault};
 use copy_names::Naming;
 use elf_types::List;
+use sought_names::{NameIndex, NameSet};
 use std::alloc::Global;
 use strip_contents::Arranged;
 
@@ -39,41 +45,91 @@ fn add_and_name(x: &mut Arranged, changes: &Changes, naming: Naming) -> Result<(
 }
 
 /// Gives sections other flags before that.
-fn flag_and_add(
+fn flag_and_add<'a>(
     alloc: Global,
     x: &mut Arranged,
     marks: &List<u64>,
-    changes: &Changes,
+    index: &NameIndex<'a>,
+    changes: &'a Changes,
     naming: Naming,
 ) -> Result<(), CopyFault>
+    requires sought { All (λ n. is_sought index.now.sought n.name ≡ true) changes.now.flags }
+    requires index { (o : Origin) (p : Object) → IsContents o p x.old
+        → IsIndexOf index.now (names_now p marks.now changes.now.rename) }
     ensures { AltersContents (HasTable naming) (λ p. flagged_named (stated_changes changes.now)
         (names_now p marks.now changes.now.rename) naming p) result x.old x.new }
 {
-    match flag_sections(alloc, x, marks, &changes.rename, changes.flags.as_slice()) {
+    match flag_sections(alloc, x, index, changes.flags.as_slice()) {
         Ok(()) => add_and_name(x, changes, naming),
         Err(fault) => refuse_names(naming, fault),
     }
 }
 
 /// Works out before that what becomes of the names, which are those by the marks.
-fn plan_and_flag(
+fn plan_and_flag<'a>(
     alloc: Global,
     x: &mut Arranged,
     marks: &List<u64>,
-    changes: &Changes,
+    index: &NameIndex<'a>,
+    changes: &'a Changes,
     renewed: bool,
 ) -> Result<(), CopyFault>
     requires plain { HasPlainNames changes.now }
+    requires sought { All (λ n. is_sought index.now.sought n.name ≡ true) changes.now.flags }
+    requires index { (o : Origin) (p : Object) → IsContents o p x.old
+        → IsIndexOf index.now (names_now p marks.now changes.now.rename) }
     ensures { AltersContents (IsUsableIf renewed) (λ p. after_names (stated_changes changes.now)
         renewed p (names_now p marks.now changes.now.rename)) result x.old x.new }
 {
     match plan_names(alloc, x, marks, changes, renewed) {
-        Ok(naming) => flag_and_add(alloc, x, marks, changes, naming),
+        Ok(naming) => flag_and_add(alloc, x, marks, index, changes, naming),
         Err(e) => Err(CopyFault::Strip(e)),
     }
 }
 
-/// Gives sections other names before that.
+/// Gives sections other names before that, by an index of those that have the names.
+fn rename_by<'a>(
+    alloc: Global,
+    x: &mut Arranged,
+    index: &mut NameIndex<'a>,
+    changes: &'a Changes,
+    renewed: bool,
+) -> Result<(), CopyFault>
+    requires plain { HasPlainNames changes.now }
+    requires renamed { All (λ n. is_sought index.old.sought n.name ≡ true) changes.now.rename }
+    requires flagged { All (λ n. is_sought index.old.sought n.name ≡ true) changes.now.flags }
+    requires index { (o : Origin) (p : Object) → IsContents o p x.old
+        → IsIndexOf index.old (names_in p) }
+    ensures { AltersContents (IsUsableIf renewed)
+        (after_updates (stated_changes changes.now) renewed) result x.old x.new }
+{
+    match rename_sections(alloc, x, &changes.rename, index) {
+        Ok(marks) => plan_and_flag(alloc, x, &marks, index, changes, renewed),
+        Err(fault) => Err(fault),
+    }
+}
+
+/// The same with an index that is made of the names that are looked for.
+fn index_and_rename<'a>(
+    alloc: Global,
+    x: &mut Arranged,
+    sought: NameSet<'a>,
+    changes: &'a Changes,
+    renewed: bool,
+) -> Result<(), CopyFault>
+    requires plain { HasPlainNames changes.now }
+    requires renamed { All (λ n. is_sought sought n.name ≡ true) changes.now.rename }
+    requires flagged { All (λ n. is_sought sought n.name ≡ true) changes.now.flags }
+    ensures { AltersContents (IsUsableIf renewed)
+        (after_updates (stated_changes changes.now) renewed) result x.old x.new }
+{
+    match index_names(alloc, x, sought) {
+        Ok(mut index) => rename_by(alloc, x, &mut index, changes, renewed),
+        Err(e) => Err(CopyFault::Strip(e)),
+    }
+}
+
+/// The same with the names that are looked for.
 fn rename_and_plan(
     alloc: Global,
     x: &mut Arranged,
@@ -84,9 +140,9 @@ fn rename_and_plan(
     ensures { AltersContents (IsUsableIf renewed)
         (after_updates (stated_changes changes.now) renewed) result x.old x.new }
 {
-    match rename_sections(alloc, x, &changes.rename) {
-        Ok(marks) => plan_and_flag(alloc, x, &marks, changes, renewed),
-        Err(fault) => Err(fault),
+    match seek_names(alloc, changes) {
+        Ok(sought) => index_and_rename(alloc, x, sought, changes, renewed),
+        Err(e) => Err(CopyFault::Strip(e)),
     }
 }
 

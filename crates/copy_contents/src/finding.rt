@@ -1,6 +1,6 @@
 //! The first section of a name.
 
-ghost use Rattle.std.specs.Prelude.{◌≡◌, ◌<◌, length, position, IfOk, IfSome};
+ghost use Rattle.std.specs.Prelude.{◌≡◌, ◌<◌, ℕ, List, Option, length, position, true, IfOk, IfSome};
 ghost use Rattle.elf_object.specs.Object.{Object};
 ghost use Rattle.elf_object.specs.Strings.{is_name};
 ghost use Rattle.command_objects.specs.Copied.{names_in, section_named};
@@ -9,12 +9,16 @@ ghost use Rattle.copy_edits.specs.Names.{name_now, names_now};
 ghost use Rattle.copy_edits.specs.Steps.{Finds};
 ghost use Rattle.copy_contents.specs.Rows.{Origin, IsContents, IsNumbered, HasNamesIn};
 ghost use Rattle.copy_contents.specs.Steps.{known};
+ghost use Rattle.copy_contents.specs.Indexes.{IsIndexOf, FindsNamed};
+ghost use Rattle.sought_names.specs.Names.{is_sought};
 
 use crate::rows::header_of;
-use crate::tables::{is_called, name_at, table_of};
+use crate::tables::table_of;
 use copy_changes::{CopyFault, NameBytes};
 use copy_edits::{mark_of, new_name, or_no_section};
 use elf_types::{List, Octets};
+use gelf_view::{is_called, is_string_at};
+use sought_names::NameIndex;
 use std::alloc::Global;
 use strip_contents::Arranged;
 
@@ -33,7 +37,7 @@ fn has_name(
 {
     match new_name(renames, mark_of(marks, s)) {
         Some(new) => is_called(Some(new.as_slice()), name),
-        None => is_called(name_at(table, header_of(x, s).name), name),
+        None => is_string_at(table, u64::from(header_of(x, s).name), name),
     }
 }
 
@@ -87,4 +91,19 @@ pub(crate) fn find_unrenamed(alloc: Global, x: &Arranged, name: &Octets) -> Resu
     let marks: List<u64> = List::new(alloc);
     let renames: List<NameBytes> = List::new(alloc);
     find_section(alloc, x, &marks, &renames, name)
+}
+
+/// The first section that has a name by now, which is one that is looked for. It refuses
+/// `NoSection` where there is none, and besides want of memory.
+pub(crate) fn find_named<'a>(
+    alloc: Global,
+    index: &NameIndex<'a>,
+    name: &'a Octets,
+) -> Result<u32, CopyFault>
+    requires { is_sought index.now.sought name.now ≡ true }
+    ensures found { (names : List (Option (List ℕ))) → IsIndexOf index.now names
+        → FindsNamed names name.now result }
+    ensures unread { IsUnread result }
+{
+    or_no_section(alloc, index.find(name.as_slice()), name)
 }

@@ -1,24 +1,28 @@
 //! Sections get other flags.
 
-ghost use Rattle.std.specs.Prelude.{◌≡◌, ◌==◌, ◌&&◌, not, map};
+ghost use Rattle.std.specs.Prelude.{◌≡◌, ◌==◌, ◌&&◌, not, ℕ, List, All, map, true};
 ghost use Rattle.elf_object.specs.Object.{Object};
 ghost use Rattle.elf_object.specs.Calls as calls;
 ghost use Rattle.command_objects.specs.Words.{is_allocated, header_at, edited, in_turn};
 ghost use Rattle.command_objects.specs.Copied.{or_strip, differ, with_bits, flags_fault, with_section_flags};
+ghost use Rattle.sought_names.specs.Names.{is_sought};
+ghost use Rattle.copy_changes.specs.declared.changes.NameBytes.{NameBytes};
 ghost use Rattle.copy_changes.specs.Stated.{bits_pair};
 ghost use Rattle.copy_edits.specs.Names.{names_now};
 ghost use Rattle.copy_edits.specs.Edits.{flagged_at};
 ghost use Rattle.copy_edits.specs.Steps.{IsThere, IsFaultIf};
 ghost use Rattle.copy_contents.specs.Rows.{Origin, IsContents, header_in};
 ghost use Rattle.copy_contents.specs.Steps.{always, AltersContents, AltersAt, IsFaultUnread};
+ghost use Rattle.copy_contents.specs.Indexes.{IsIndexOf};
 
 use crate::edits::set_header;
-use crate::finding::find_section;
+use crate::finding::find_named;
 use crate::rows::header_of;
-use copy_changes::{CopyFault, NameBits, NameBytes, fault_fixed};
+use copy_changes::{CopyFault, NameBits, fault_fixed};
 use copy_edits::changes_allocation;
-use elf_types::{ElfError, List, Part, Shdr};
+use elf_types::{ElfError, Part, Shdr};
 use elf_xlate::shdr_fits;
+use sought_names::NameIndex;
 use std::alloc::Global;
 use strip_contents::Arranged;
 
@@ -75,41 +79,43 @@ fn flag_at(alloc: Global, x: &mut Arranged, s: u32, change: &NameBits) -> Result
 }
 
 /// Gives the first section of a name other flags.
-fn flag_section(
+fn flag_section<'a>(
     alloc: Global,
     x: &mut Arranged,
-    marks: &List<u64>,
-    renames: &List<NameBytes>,
-    change: &NameBits,
+    index: &NameIndex<'a>,
+    change: &'a NameBits,
 ) -> Result<(), CopyFault>
-    ensures { AltersContents always
-        (λ p. with_section_flags (names_now p marks.now renames.now) p (bits_pair change.now))
+    requires { is_sought index.now.sought change.now.name ≡ true }
+    ensures { (marks : List ℕ) (renames : List NameBytes)
+        → AltersContents (λ p. IsIndexOf index.now (names_now p marks renames))
+        (λ p. with_section_flags (names_now p marks renames) p (bits_pair change.now))
         result x.old x.new }
 {
-    match find_section(alloc, x, marks, renames, &change.name) {
+    match find_named(alloc, index, &change.name) {
         Ok(s) => flag_at(alloc, x, s, change),
         Err(fault) => Err(fault),
     }
 }
 
 /// Gives the first section of each name, in turn, the flags that stand beside it; names are those
-/// by the marks of `rename_sections`. It refuses, for each, in this order: `NoSection`, `Fixed`,
+/// by which the index has the sections. It refuses, for each, in this order: `NoSection`, `Fixed`,
 /// `Unfit`; and want of memory. What a refusal leaves is not stated.
 ///
 /// Source: objcopy(1) of the development tools, `--set-section-flags`.
-pub(crate) fn flag_sections(
+pub(crate) fn flag_sections<'a>(
     alloc: Global,
     x: &mut Arranged,
-    marks: &List<u64>,
-    renames: &List<NameBytes>,
-    changes: &[NameBits],
+    index: &NameIndex<'a>,
+    changes: &'a [NameBits],
 ) -> Result<(), CopyFault>
-    ensures { AltersContents always
-        (λ p. in_turn (with_section_flags (names_now p marks.now renames.now)) p
+    requires { All (λ n. is_sought index.now.sought n.name ≡ true) changes.now }
+    ensures { (marks : List ℕ) (renames : List NameBytes)
+        → AltersContents (λ p. IsIndexOf index.now (names_now p marks renames))
+        (λ p. in_turn (with_section_flags (names_now p marks renames)) p
         (map bits_pair changes.now)) result x.old x.new }
 {
     for change in changes {
-        match flag_section(alloc, x, marks, renames, change) {
+        match flag_section(alloc, x, index, change) {
             Ok(()) => {}
             Err(fault) => return Err(fault),
         }

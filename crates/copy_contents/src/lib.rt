@@ -10,6 +10,7 @@ mod edits;
 mod finding;
 mod flags;
 mod holding;
+mod indexing;
 mod naming;
 mod planning;
 mod renaming;

@@ -1,14 +1,13 @@
 //! The table of the names, where it is held.
 
-ghost use Rattle.std.specs.Prelude.{◌≡◌, drop, take};
+ghost use Rattle.std.specs.Prelude.{◌≡◌, ◌+◌, drop, take};
 ghost use Rattle.std.specs.Option.{option_copied};
-ghost use Rattle.elf_object.specs.Strings.{is_name};
-ghost use Rattle.gelf_view.specs.Records.{string_front};
+ghost use Rattle.gelf_view.specs.Records.{string_front, shorter_than};
 ghost use Rattle.copy_contents.specs.Rows.{HasNamesIn, has_strings};
 
 use crate::rows::{header_of, range_of};
 use elf_types::constants::SHT_STRTAB;
-use gelf_view::string_in;
+use gelf_view::{short_string, string_in};
 use strip_contents::Arranged;
 
 /// The bytes from a place on, and none where there are fewer.
@@ -57,12 +56,10 @@ pub(crate) fn name_at(table: &[u8], place: u32) -> Option<&[u8]>
     string_in(bytes_past(table, u64::from(place)))
 }
 
-/// Whether a name that was found is this one.
-pub(crate) fn is_called(found: Option<&[u8]>, name: &[u8]) -> bool
-    ensures { result ≡ is_name name.now (option_copied found.entry) }
+/// The same where it has at most `longest` bytes. It looks at so many bytes and one more.
+pub(crate) fn short_name_at(table: &[u8], place: u32, longest: usize) -> Option<&[u8]>
+    ensures { option_copied result
+        ≡ shorter_than (longest + 1) (string_front (drop place table.now)) }
 {
-    match found {
-        Some(found) => found == name,
-        None => false,
-    }
+    short_string(bytes_past(table, u64::from(place)), longest)
 }

@@ -14,7 +14,7 @@ returns-in-Some c = λ o p is has below.
 pub returns-in-None : goal.returns-in-None
 returns-in-None c = λ o p is has below.
     found_kept p c.args.marks.now c.args.renames.now c.args.s c.args.name.now
-    c.is_called-in-None.result _
+    c.is_string_at.result _
     (c.in-None.ensures ∙ ap (new_name c.args.renames.now) c.mark_of.ensures)
     (has o p is c.args.s below)
-    (rw (c.name_at.ensures, c.header_of.ensures) at c.is_called-in-None.ensures)
+    (rw (c.from.ensures, c.header_of.ensures) at c.is_string_at.ensures)

@@ -1,57 +1,78 @@
-use Rattle.std.proofs.Common.{List, get_or, ap, ◌∙◌, arith}
+use Rattle.std.proofs.Common.{List, get_or, refl, ap, ◌∙◌, arith}
 use Rattle.copy_changes.specs.declared.changes.NameBytes.{NameBytes}
 use Rattle.copy_edits.proofs.RenameLaws.{mark_named, renamed_more, renamed_stop, renamed_all}
 use Rattle.copy_contents.specs.Steps.{known}
-use Rattle.copy_contents.proofs.RenameLaws.{unmarked, marks_counted}
+use Rattle.copy_contents.proofs.RenameLaws.{filled_none, sought_at}
 use Rattle.copy_contents.proofs.renaming.fill_marks.Goals as goal
 
 pub loop-i-init : goal.loop-i-init
-loop-i-init c = record {
-  long = marks_counted c.args.marks.now c.args.x.now.listed.header.shnum c.requires;
-  marked = λ o p is. unmarked o p c.args.x.now is c.args.renames.now c.args.marks.now c.requires;
-}
+loop-i-init c = (
+  refl,
+  (λ p zeros is. filled_none c.args.renames.now p c.args.marks.now c.args.index.now zeros is),
+)
 
-pub rename_section-requires-clause-long : goal.rename_section-requires-clause-long
-rename_section-requires-clause-long c = c.loop-i.invariant.long
-
-pub rename_section-requires-clause-mark : goal.rename_section-requires-clause-mark
-rename_section-requires-clause-mark c =
+pub rename_section-requires : goal.rename_section-requires
+rename_section-requires c =
     let count = c.len-i-end.ensures in
-    mark_named c.args.renames.now c.loop-i.i c.index-as_slice-i.result
-    (omega (arith, count, c.loop-i-test.true))
+    sought_at c.loop-i.index.sought c.args.index.now.sought c.args.renames.now c.loop-i.i
+    c.index-as_slice-i.result c.loop-i.invariant.0 (omega (arith, count, c.loop-i-test.true))
     (c.index-as_slice-i.is
     ∙ ap (λ (l : List NameBytes). get_or l c.loop-i.i c.index-as_slice-i.result)
-    c.as_slice.ensures)
+    c.as_slice.ensures) c.requires
 
 pub loop-i-preserved : goal.loop-i-preserved
 loop-i-preserved c =
     let count = c.len-i-end.ensures in
-    record {
-      long = c.in-Ok.ensures.long ∙ c.loop-i.invariant.long;
-      marked = λ o p is.
-          renamed_more c.args.renames.now c.loop-i.i (known p) (known p) c.loop-i.marks
-          (c.loop-i.invariant.marked o p is) c.index-as_slice-i.result (known p)
-          c.rename_section.new.marks (omega (arith, count, c.loop-i-test.true))
-          (c.index-as_slice-i.is
-          ∙ ap (λ (l : List NameBytes). get_or l c.loop-i.i c.index-as_slice-i.result)
-          c.as_slice.ensures) c.in-Ok.ensures.long (c.in-Ok.ensures.renames o p is);
-    }
+    let is = c.index-as_slice-i.is
+    ∙ ap (λ (l : List NameBytes). get_or l c.loop-i.i c.index-as_slice-i.result)
+    c.as_slice.ensures in (
+      c.rename_section.ensures.sought ∙ c.loop-i.invariant.0,
+      (λ p zeros index.
+          let so_far = c.loop-i.invariant.1 p zeros index in
+          let step = c.in-Ok.ensures.renames p c.args.renames.now so_far.renamed.long
+          (mark_named c.args.renames.now c.loop-i.i c.index-as_slice-i.result
+          (omega (arith, count, c.loop-i-test.true)) is) so_far.indexed in
+          record {
+            renamed = renamed_more c.args.renames.now c.loop-i.i (known p) (known p) c.loop-i.marks
+                so_far.renamed c.index-as_slice-i.result (known p) c.rename_section.new.marks
+                (omega (arith, count, c.loop-i-test.true)) is c.rename_section.ensures.long
+                step.finds;
+            indexed = step.indexed;
+          }),
+    )
+
+pub returns-in-Err-clause-sought : goal.returns-in-Err-clause-sought
+returns-in-Err-clause-sought c = c.rename_section.ensures.sought ∙ c.loop-i.invariant.0
 
 pub returns-in-Err-clause-renames : goal.returns-in-Err-clause-renames
-returns-in-Err-clause-renames c = λ o p is.
+returns-in-Err-clause-renames c = λ p zeros index.
     let count = c.len-i-end.ensures in
-    renamed_stop c.args.renames.now c.loop-i.i (known p) (known p) c.loop-i.marks
-    (c.loop-i.invariant.marked o p is) c.index-as_slice-i.result c.in-Err.fault (known p)
-    c.rename_section.new.marks (omega (arith, count, c.loop-i-test.true))
-    (c.index-as_slice-i.is
+    let is = c.index-as_slice-i.is
     ∙ ap (λ (l : List NameBytes). get_or l c.loop-i.i c.index-as_slice-i.result)
-    c.as_slice.ensures) (c.in-Err.ensures.renames o p is)
+    c.as_slice.ensures in
+    let so_far = c.loop-i.invariant.1 p zeros index in
+    let step = c.in-Err.ensures.renames p c.args.renames.now so_far.renamed.long
+    (mark_named c.args.renames.now c.loop-i.i c.index-as_slice-i.result
+    (omega (arith, count, c.loop-i-test.true)) is) so_far.indexed in
+    record {
+      finds = renamed_stop c.args.renames.now c.loop-i.i (known p) (known p) c.loop-i.marks
+          so_far.renamed c.index-as_slice-i.result c.in-Err.fault (known p)
+          c.rename_section.new.marks (omega (arith, count, c.loop-i-test.true)) is step.finds;
+      indexed = tt;
+    }
 
 pub returns-in-Err-clause-unread : goal.returns-in-Err-clause-unread
 returns-in-Err-clause-unread c = c.in-Err.ensures.unread
 
+pub returns-clause-sought : goal.returns-clause-sought
+returns-clause-sought c = c.loop-i.invariant.0
+
 pub returns-clause-renames : goal.returns-clause-renames
-returns-clause-renames c = λ o p is.
+returns-clause-renames c = λ p zeros index.
     let count = c.len-i-end.ensures in
-    renamed_all c.args.renames.now c.loop-i.i (known p) (known p) c.loop-i.marks
-    (c.loop-i.invariant.marked o p is) (omega (arith, count, c.loop-i-test.false))
+    let so_far = c.loop-i.invariant.1 p zeros index in
+    record {
+      finds = renamed_all c.args.renames.now c.loop-i.i (known p) (known p) c.loop-i.marks
+          so_far.renamed (omega (arith, count, c.loop-i-test.false));
+      indexed = so_far.indexed;
+    }

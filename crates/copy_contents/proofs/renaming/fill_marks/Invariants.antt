@@ -1,5 +1,13 @@
-use Rattle.copy_contents.proofs.RenameLaws.{MarkedTo}
+use Rattle.std.proofs.Common.{◌≡◌, length}
+use Rattle.std.proofs.Math.ListN.{replicate}
+use Rattle.elf_object.specs.Object.{Object}
+use Rattle.command_objects.specs.Copied.{names_in}
+use Rattle.copy_contents.specs.Indexes.{IsIndexOf}
+use Rattle.copy_contents.proofs.RenameLaws.{FilledTo}
 use Rattle.copy_contents.proofs.renaming.fill_marks.Given as goal
 
 abbrev pub invariant-loop-i : goal.invariant-loop-i
-invariant-loop-i l = MarkedTo l.x l.renames l.i l.marks
+invariant-loop-i l =
+    (l.index.sought ≡ l.initial.index.sought)
+    × ((p : Object) → l.initial.marks ≡ replicate (length p.sections) 0
+    → IsIndexOf l.initial.index (names_in p) → FilledTo l.renames l.i p l.marks l.index)

@@ -1,11 +1,10 @@
-use Rattle.std.proofs.Common.{ℕ, List}
+use Rattle.std.proofs.Common.{ℕ, List, ap, ◌∙◌}
+use Rattle.std.proofs.Math.ListN.{replicate}
 use Rattle.copy_edits.proofs.FaultLaws.{memory_unread, unread_on}
 use Rattle.copy_edits.proofs.RenameLaws.{marks_given, marks_end, marks_wanted}
 use Rattle.copy_contents.specs.Steps.{known}
+use Rattle.copy_contents.proofs.NameLaws.{count_is}
 use Rattle.copy_contents.proofs.renaming.rename_sections.Goals as goal
-
-pub fill_marks-requires : goal.fill_marks-requires
-fill_marks-requires c = c.in-Ok.ensures.ok
 
 pub returns-in-Err-clause-renames : goal.returns-in-Err-clause-renames
 returns-in-Err-clause-renames c = λ o p is.
@@ -17,12 +16,23 @@ returns-in-Err-clause-unread c = memory_unread (List ℕ) c.in-Err.e c.in-Err.en
 pub returns-in-Ok-fill_marks-clause-renames : goal.returns-in-Ok-fill_marks-clause-renames
 returns-in-Ok-fill_marks-clause-renames c = λ o p is.
     marks_given c.args.renames.now (known p) (known p) c.fill_marks.new.marks _
-    (c.in-Ok-fill_marks.ensures.renames o p is)
+    (c.in-Ok-fill_marks.ensures.renames p
+    (c.in-Ok.ensures.ok ∙ ap (λ (n : ℕ). replicate n 0) (count_is o p c.args.x.now is))
+    (c.requires.index o p is)).finds
+
+pub returns-in-Ok-fill_marks-clause-index : goal.returns-in-Ok-fill_marks-clause-index
+returns-in-Ok-fill_marks-clause-index c = λ o p is.
+    (c.in-Ok-fill_marks.ensures.renames p
+    (c.in-Ok.ensures.ok ∙ ap (λ (n : ℕ). replicate n 0) (count_is o p c.args.x.now is))
+    (c.requires.index o p is)).indexed
 
 pub returns-in-Err-fill_marks-clause-renames : goal.returns-in-Err-fill_marks-clause-renames
 returns-in-Err-fill_marks-clause-renames c = λ o p is.
     marks_end c.args.renames.now (known p) (known p) c.fill_marks.new.marks _
-    c.in-Err-fill_marks.fault (c.in-Err-fill_marks.ensures.renames o p is)
+    c.in-Err-fill_marks.fault
+    (c.in-Err-fill_marks.ensures.renames p
+    (c.in-Ok.ensures.ok ∙ ap (λ (n : ℕ). replicate n 0) (count_is o p c.args.x.now is))
+    (c.requires.index o p is)).finds
 
 pub returns-in-Err-fill_marks-clause-unread : goal.returns-in-Err-fill_marks-clause-unread
 returns-in-Err-fill_marks-clause-unread c =
