@@ -1,11 +1,2 @@
-pub mod Calls
-pub mod Elflint
-pub mod Lines
-pub mod Nm
-pub mod Objects
 pub mod Program
-pub mod Readelf
 pub mod Sentences
-pub mod Size
-pub mod Strings
-pub mod Titles

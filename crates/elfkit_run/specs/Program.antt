@@ -20,13 +20,13 @@ use Rattle.command_outcomes.specs.Selftest.{selftest_outcome}
 use Rattle.command_outcomes.specs.Strip.{strip_outcome, unstrip_outcome}
 use Rattle.command_outcomes.specs.Copy.{copy_outcome, rehash_outcome}
 use Rattle.elfkit_run.specs.Sentences.{says}
-use Rattle.elfkit_run.specs.Calls.{calls_outcome, calls_update_outcome}
-use Rattle.elfkit_run.specs.Readelf.{readelf_outcome}
-use Rattle.elfkit_run.specs.Lines.{lines_outcome}
-use Rattle.elfkit_run.specs.Elflint.{elflint_outcome}
-use Rattle.elfkit_run.specs.Nm.{nm_outcome}
-use Rattle.elfkit_run.specs.Size.{size_outcome}
-use Rattle.elfkit_run.specs.Strings.{strings_outcome}
+use Rattle.edit_commands.specs.Calls.{calls_outcome, calls_update_outcome}
+use Rattle.read_commands.specs.Readelf.{readelf_outcome}
+use Rattle.read_commands.specs.Lines.{lines_outcome}
+use Rattle.read_commands.specs.Elflint.{elflint_outcome}
+use Rattle.read_commands.specs.Nm.{nm_outcome}
+use Rattle.read_commands.specs.Size.{size_outcome}
+use Rattle.read_commands.specs.Strings.{strings_outcome}
 
 unfoldable pub command_outcome : Command → Map → Outcome
 command_outcome (Readelf parts files) named = readelf_outcome parts files named

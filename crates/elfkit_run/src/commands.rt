@@ -1,69 +1,28 @@
-//! The commands, one file each.
+//! The commands by their words, and those that make an image anew, one file each.
 
-ghost use Rattle.std.specs.Prelude.{◌≡◌, false, Some, IsTrue};
+ghost use Rattle.std.specs.Prelude.{◌≡◌, false, IsTrue};
 ghost use Rattle.tool_output.specs.Files.{LeavesFiles};
 ghost use Rattle.tool_output.specs.Statuses.{refused_status};
 ghost use Rattle.tool_output.specs.Outcomes.{Does};
-ghost use Rattle.elfkit_run.specs.Calls.{calls_update_outcome};
 ghost use Rattle.tool_text.specs.Forms.{IsOutputApart, IsWellFormed};
 ghost use Rattle.elfkit_run.specs.Program.{command_outcome, writes_files};
 
-pub mod calls;
-pub mod calls_in_place;
-pub mod calls_to;
 pub mod copy;
-pub mod elflint;
-pub mod lines;
-pub mod nm;
-pub mod readelf;
-pub mod rehash;
 pub mod selftest;
-pub mod size;
 pub mod split;
-pub mod strings;
 pub mod strip;
 pub mod unstrip;
 
-use calls::calls;
-use calls_in_place::calls_in_place;
-use calls_to::calls_to;
 use copy::copy;
+use edit_commands::{calls, calls_into, rehash};
 use elf_outside::{Files, Sink};
-use elflint::elflint;
-use lines::lines;
-use nm::nm;
-use readelf::readelf;
-use rehash::rehash;
+use read_commands::{elflint, lines, nm, readelf, size, strings};
 use selftest::selftest;
-use size::size;
 use split::strip_by_debug;
 use std::alloc::Global;
-use strings::strings;
 use tool_output::{Outputs, Stop};
 use tool_text::{CallsOutput, Command, Text};
 use unstrip::unstrip;
-
-/// Runs calls, and writes the image that they leave to a new file, or into FILE in place.
-fn calls_into<F: Files, O: Sink, E: Sink>(
-    alloc: Global,
-    output: &CallsOutput,
-    file: &Text,
-    script: &Text,
-    files: &mut F,
-    outputs: &mut Outputs<'_, O, E>,
-) -> Result<bool, Stop>
-    requires { IsOutputApart (Some output.now) file.now script.now }
-    ensures does { IsTrue (F.tells files.old) → Does F.Files O.Sink E.Sink refused_status
-        (calls_update_outcome output.now file.now script.now (F.named files.old))
-        result files.old files.new outputs.old outputs.new }
-    ensures leaves { LeavesFiles F.Files O.Sink E.Sink
-        result files.old files.new outputs.old outputs.new }
-{
-    match output {
-        CallsOutput::To(out) => calls_to(alloc, out, file, script, files, outputs),
-        CallsOutput::InPlace => calls_in_place(alloc, file, script, files, outputs),
-    }
-}
 
 /// Runs calls, and writes the image that they leave where it is to go.
 fn calls_by_output<F: Files, O: Sink, E: Sink>(

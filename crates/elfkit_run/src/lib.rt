@@ -3,10 +3,7 @@
 #![tactic(auto)]
 
 mod commands;
-mod files;
-mod objects;
 mod program;
 mod sentences;
-mod titles;
 
 pub use program::run;

@@ -1,0 +1,3 @@
+pub mod CallsLemmas
+pub mod CallsUpdateLemmas
+pub mod RehashLemmas

@@ -1,5 +1,0 @@
-use Rattle.object_output.proofs.ImageLemmas.{on_ok}
-use Rattle.elfkit_run.proofs.commands.calls.CallsToolFileTool.show.Goals as goal
-
-pub returns-clause-asks : goal.returns-clause-asks
-returns-clause-asks g c = on_ok _ _ c.show_calls_on.ensures.asks
