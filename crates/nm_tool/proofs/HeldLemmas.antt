@@ -1,28 +1,29 @@
 -- The rows of kept symbols that are told from bytes are those that are stated.
 use Rattle.std.proofs.Common.{◌≡◌, ℕ, Bool, List, map, Option, Some, None, IsTrue, refl, sym, ap, ◌∙◌}
 use Rattle.std.specs.Prelude.{slice_get}
+use Rattle.std.proofs.lemmas.Simd.{map-map}
 use Rattle.elf_types.specs.declared.records.Kind.TheVariants as kinds
 use Rattle.elf_types.specs.declared.records.Sym.{Sym}
 use Rattle.elf_object.specs.Object.{Object}
 use Rattle.elf_object.specs.Answers.{syms_of}
-use Rattle.elf_object.specs.Strings.{symbol_name}
 use Rattle.elf_object.specs.SymbolSections.{shndx_table}
 use Rattle.elf_descriptor.specs.State.{State}
 use Rattle.gelf_view.specs.declared.symbols.SymPlace.{SymPlace}
 use Rattle.tool_text.specs.declared.options.NmOptions.{NmOptions}
 use Rattle.tool_output.specs.Names.{Name}
-use Rattle.tool_output.specs.Reports.{no_report, shown, reports_of}
+use Rattle.tool_output.specs.Reports.{no_report, shown, all_joined, reports_of}
 use Rattle.object_output.specs.Symbols.{symbol_place}
 use Rattle.bytes_at_hand.specs.Items.{held_items}
 use Rattle.nm_tool.specs.declared.kept.Kept.{Kept}
 use Rattle.nm_tool.specs.declared.symbols.Tables.{Tables}
 use Rattle.nm_tool.specs.declared.symbols.TableBytes.{TableBytes}
-use Rattle.nm_tool.specs.Listed.{symbols, listed_name}
+use Rattle.nm_tool.specs.Order.{Entry, in_order}
+use Rattle.nm_tool.specs.Listed.{symbols}
 use Rattle.nm_tool.specs.Tables.{AreTables, HoldsTable}
-use Rattle.nm_tool.specs.Tool.{placed_row, symbol_row}
-use Rattle.nm_tool.specs.Kept.{shown_in, shown_name, order_of, row_if, shown_row, index_report, kept_report}
+use Rattle.nm_tool.specs.Tool.{placed_row, symbol_row, symbol_report, entry_report, entries_report}
+use Rattle.nm_tool.specs.Kept.{shown_in, shown_name, ranked_entry, kept_entries, held_report}
 use Rattle.nm_tool.proofs.PlaceLemmas.{plain_told}
-use Rattle.nm_tool.proofs.KeptLemmas.{order_same, names_held, kept_reported}
+use Rattle.nm_tool.proofs.KeptLemmas.{entries_same, names_held}
 
 module _ {S : Type 0} (options : NmOptions) (file : Name) (state : State S) (t : Tables)
     (b : TableBytes) (tables : AreTables state.o t) (holds : HoldsTable state t b)
@@ -37,48 +38,51 @@ module _ {S : Type 0} (options : NmOptions) (file : Name) (state : State S) (t :
       ap (λ (l : List Sym). slice_get l k.index) plain.held ∙ ap (slice_get held) (sym is)
 
   report_at : (k : Kept) (i : ℕ) (g : Option Sym) → i ≡ k.index → g ≡ slice_get held i
-      → kept_report options file state.o t.symbols.0 k
-      ≡ row_if options file state.o t.symbols.0 k.index g
-  unfolding kept_report index_report
+      → held_report options file state.o t.symbols.0 b.strings.now k
+      ≡ symbol_report options file state.o t.symbols.0 k.index (shown_in b.strings.now k.name) g
+  unfolding entry_report held_report
   report_at k i g is here =
-      ap (row_if options file state.o t.symbols.0 k.index) (there k i is ∙ sym here)
+      ap (symbol_report options file state.o t.symbols.0 k.index (shown_in b.strings.now k.name))
+      (there k i is ∙ sym here)
 
   -- that of a symbol which is there
   pub row_held : (k : Kept) (i : ℕ) (x : Sym) (place : Option SymPlace) (name : List ℕ)
       → i ≡ k.index → Some x ≡ slice_get held i
       → ((o : Object) (s n : ℕ) (y : Sym) → None ≡ shndx_table o s → y.shndx ≡ x.shndx
       → symbol_place o s n y ≡ place)
-      → name ≡ shown_in b.strings.now x.name
-      → kept_report options file state.o t.symbols.0 k
+      → name ≡ shown_in b.strings.now k.name
+      → held_report options file state.o t.symbols.0 b.strings.now k
       ≡ shown (placed_row options file state.o x place name)
-  unfolding shown_row symbol_row listed_name symbol_name
+  unfolding symbol_row
   row_held k i x place name is here placed named =
       let s = t.symbols.0 in
       let plain = plain_told state t b.symbols tables holds.table told in
       report_at k i (Some x) is here
       ∙ ap (λ (p : Option SymPlace).
-      shown (placed_row options file state.o x p (listed_name state.o s x)))
+      shown (placed_row options file state.o x p (shown_in b.strings.now k.name)))
       (placed state.o s k.index x plain.plain refl)
-      ∙ ap (λ (n : List ℕ). shown (placed_row options file state.o x place n))
-      (sym (names_held state s t.names.0 b.strings.now tables.names holds.names told x.name)
-      ∙ sym named)
+      ∙ ap (λ (n : List ℕ). shown (placed_row options file state.o x place n)) (sym named)
 
   -- and there is none of another
   pub none_held : (k : Kept) (i : ℕ) → i ≡ k.index → None ≡ slice_get held i
-      → kept_report options file state.o t.symbols.0 k ≡ no_report
+      → held_report options file state.o t.symbols.0 b.strings.now k ≡ no_report
   none_held k i is here = report_at k i None is here
 
   -- those of all, in their order
-  pub order_held : (v : Bool) (list order : List Kept) (rows : List Kept)
-      → map (λ (k : Kept). k.index) order ≡ order_of v (shown_in b.strings.now) list
-      → rows ≡ order
-      → reports_of (index_report options file state.o t.symbols.0)
-      (order_of v (shown_name state.o t.symbols.0) list)
-      ≡ reports_of (kept_report options file state.o t.symbols.0) rows
+  pub order_held : (v : Bool) (list order rows : List Kept)
+      → map (ranked_entry v (shown_in b.strings.now)) order
+      ≡ in_order (kept_entries v (shown_in b.strings.now) list) → rows ≡ order
+      → entries_report options file state.o t.symbols.0
+      (kept_entries v (shown_name state.o t.symbols.0) list)
+      ≡ reports_of (held_report options file state.o t.symbols.0 b.strings.now) rows
+  unfolding entries_report reports_of held_report
   order_held v list order rows is same =
       let s = t.symbols.0 in
+      let line = λ (e : Entry). entry_report options file state.o s e.index e.name in
       let names = names_held state s t.names.0 b.strings.now tables.names holds.names told in
-      ap (reports_of (index_report options file state.o s))
-      (sym (is ∙ order_same v (shown_in b.strings.now) (shown_name state.o s) names list))
-      ∙ kept_reported options file state.o s order
-      ∙ ap (reports_of (kept_report options file state.o s)) (sym same)
+      ap (λ (es : List Entry). all_joined (map line (in_order es)))
+      (sym (entries_same v (shown_in b.strings.now) (shown_name state.o s) names list))
+      ∙ ap (λ (es : List Entry). all_joined (map line es)) (sym is)
+      ∙ ap all_joined (map-map line (ranked_entry v (shown_in b.strings.now)) order)
+      ∙ ap (λ (l : List Kept).
+      all_joined (map (held_report options file state.o s b.strings.now) l)) (sym same)

@@ -117,14 +117,20 @@ abbrev entry_by : Bool → Kept → List ℕ → List Entry
 entry_by v k name = if is_empty name then []
     else record { value = if v then k.key else 0; name = name; index = k.index } ∷ []
 
--- the same order by the same names
+-- the same entries by the same names
+pub entries_same : (v : Bool) (f g : ℕ → List ℕ) → ((at : ℕ) → f at ≡ g at) → (list : List Kept)
+    → kept_entries v f list ≡ kept_entries v g list
+unfolding kept_entries
+entries_same v f g same list =
+    flat_same (kept_entry v f) (kept_entry v g) (λ k. ap (entry_by v k) (same k.name)) list
+
+-- and the same order
 pub order_same : (v : Bool) (f g : ℕ → List ℕ) → ((at : ℕ) → f at ≡ g at) → (list : List Kept)
     → order_of v f list ≡ order_of v g list
-unfolding order_of kept_entries
+unfolding order_of
 order_same v f g same list =
     ap (λ (es : List Entry). map (λ (e : Entry). e.index) (in_order es))
-    (flat_same (kept_entry v f) (kept_entry v g)
-    (λ k. ap (entry_by v k) (same k.name)) list)
+    (entries_same v f g same list)
 
 -- names that stand in the bytes of the section to which a table links
 pub names_held : {S : Type 0} (state : State S) (s names : ℕ) (strings : List ℕ)
@@ -198,7 +204,18 @@ module _ (options : NmOptions) (file : Name) (o : Object) (s : ℕ) where
       ap (λ (r : Report). joined r (all_joined (map line es))) (report_is e all.0)
       ∙ ap (joined (index_report options file o s e.index)) (reports_are es all.1)
 
-  -- the rows of a table are those of its kept symbols in order
+  -- the rows of a table are those of the entries of its kept symbols
+  pub kept_rows : (count : ℕ) (list : List Kept) → count ≡ length (symbols o s)
+      → list ≡ kept_of options o s (count - 1)
+      → rows_report options file o s
+      ≡ entries_report options file o s (kept_entries options.by_value (shown_name o s) list)
+  unfolding rows_report
+  kept_rows count list counted kept =
+      ap (entries_report options file o s)
+      (sym (ap (kept_entries options.by_value (shown_name o s)) kept
+      ∙ kept_listed options o s count counted))
+
+  -- and those of its kept symbols in order
   pub order_reported : (count : ℕ) (list : List Kept) (order : List ℕ)
       → count ≡ length (symbols o s) → list ≡ kept_of options o s (count - 1)
       → order ≡ order_of options.by_value (shown_name o s) list

@@ -1,6 +1,6 @@
 -- Kept symbols in the order of their rows: what a sort by keys, names and indexes leaves is the list
 -- that is stated.
-use Rattle.std.proofs.Common.{◌≡◌, ℕ, ◌+◌, ◌<◌, ◌≤◌, zero, suc, List, [], ◌∷◌, ◌++◌, map, take, drop, get_or, set, length, Bool, true, false, cond, not, nat_cmp, Ordering, Some, None, codes, ap, sym, ◌∙◌, refl, subst, arith, append-nil, below_more}
+use Rattle.std.proofs.Common.{◌≡◌, ℕ, ◌+◌, ◌<◌, ◌≤◌, zero, suc, List, [], ◌∷◌, ◌++◌, map, take, drop, get_or, set, length, Bool, true, false, ◌||◌, cond, not, nat_cmp, Ordering, Some, None, codes, ap, sym, ◌∙◌, refl, subst, arith, append-nil, below_more}
 use Rattle.std.specs.Prelude.{◌^◌, ◌==◌, All, slice_index_or, nat_lt, filter, take_while, if◌then◌else◌}
 use Rattle.std.specs.Ordering.{is_lt, ordering_then}
 use Rattle.std.specs.declared.cmp.Ordering.TheVariants.{Less, Equal, Greater}
@@ -10,8 +10,8 @@ use Rattle.std.specs.List.{AllByRecursion, prefix_len}
 use Rattle.std.specs.List.Sorted.{IsSorted, IsPermutation, IsNonDecreasingBy}
 use Rattle.std.proofs.lemmas.Cmp.{nat_cmp_total, nat_list_cmp_total, then_total, on_total, tied_itself}
 use Rattle.std.proofs.lemmas.List.Sorted.{IsPermutation-map, All-permutation, IsNonDecreasingBy-from_sort}
-use Rattle.std.proofs.lemmas.Bool.{ltb-true, ltb-false}
-use Rattle.std.proofs.lemmas.List.{get_or_append_left, get_or_default, get_or-take, length-take-le, take_all}
+use Rattle.std.proofs.lemmas.Bool.{ltb-true, ltb-false, ne_eqb}
+use Rattle.std.proofs.lemmas.List.{get_or_append_left, get_or_default, get_or-drop, get_or-take, length-take-le, take_all}
 use Rattle.std.proofs.lemmas.List.Edits.{map_over_more}
 use Rattle.std.proofs.lemmas.List.Elements.{recursion_from_All, All-take, All-drop, All-map}
 use Rattle.std.proofs.lemmas.Simd.{map-map}
@@ -199,6 +199,35 @@ front_small l all = by_test (has_nul l)
         (All-take (λ x. x < 2 ^ 8) (prefix_len (λ b. not (b == 0)) l) l all)
     by_test false = none_small
 
+first_named : (l : List ℕ)
+    → (slice_index_or l 0 1 == 0) ≡ is_empty (name_or_none (string_front l))
+unfolding string_front
+first_named [] = refl
+first_named (b ∷ l) = by_tests (b == 0) (has_nul l)
+  where
+    by_tests : (zero_first later : Bool)
+        → zero_first
+        ≡ is_empty (name_or_none (cond (zero_first || later)
+        (Some (take (cond (not zero_first) (1 + prefix_len (λ c. not (c == 0)) l) 0) (b ∷ l)))
+        None))
+    by_tests true later = refl
+    by_tests false true =
+        let n = prefix_len (λ (c : ℕ). not (c == 0)) l in
+        let up : 1 + n ≡ suc n = omega arith in
+        sym (ne_eqb (length (take (1 + n) (b ∷ l))) 0 (λ e.
+        let some : suc (length (take n l)) ≡ 0 =
+        subst (λ (m : ℕ). length (take m (b ∷ l)) ≡ 0) up e in
+        omega (arith, some)))
+    by_tests false false = refl
+
+-- a name is empty exactly where its first byte is a NUL
+pub named_first : (strings : List ℕ) (at : ℕ)
+    → (slice_index_or strings at 1 == 0) ≡ is_empty (shown_in strings at)
+named_first strings at =
+    let here : at + 0 ≡ at = omega arith in
+    ap (λ (n : ℕ). slice_index_or strings n 1 == 0) (sym here)
+    ∙ ap (λ (n : ℕ). n == 0) (sym (get_or-drop at strings 0 1)) ∙ first_named (drop at strings)
+
 pub shown_small : (strings : List ℕ) → AreBytes strings → (at : ℕ) → Small (shown_in strings at)
 shown_small strings bytes at =
     front_small (drop at strings) (All-drop (λ x. x < 2 ^ 8) at strings bytes)
@@ -293,11 +322,17 @@ module _ (v : Bool) (name_of : ℕ → List ℕ) where
       by_test true = refl
       by_test false = refl
 
-  pub order_made : (list old new : List Kept) → old ≡ filter (is_named name_of) list
+  pub entries_made : (list old new : List Kept) → old ≡ filter (is_named name_of) list
       → map (ranked_entry v name_of) new ≡ in_order (map (ranked_entry v name_of) old)
+      → map (ranked_entry v name_of) new ≡ in_order (kept_entries v name_of list)
+  entries_made list old new made sorted =
+      sorted ∙ ap in_order (ap (map (ranked_entry v name_of)) made ∙ sym (entries_named list))
+
+  -- their indexes
+  pub indexes_made : (list new : List Kept)
+      → map (ranked_entry v name_of) new ≡ in_order (kept_entries v name_of list)
       → map (λ (k : Kept). k.index) new ≡ order_of v name_of list
   unfolding order_of
-  order_made list old new made sorted =
+  indexes_made list new is =
       sym (map-map (λ (e : Entry). e.index) (ranked_entry v name_of) new)
-      ∙ ap (map (λ (e : Entry). e.index))
-      (sorted ∙ ap in_order (ap (map (ranked_entry v name_of)) made ∙ sym (entries_named list)))
+      ∙ ap (map (λ (e : Entry). e.index)) is

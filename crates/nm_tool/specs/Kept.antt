@@ -13,7 +13,7 @@ use Rattle.nm_tool.specs.declared.kept.Kept.{Kept}
 use Rattle.nm_tool.specs.Order.{Entry, in_order}
 use Rattle.nm_tool.specs.Listed.{symbols, is_empty, listed_name, name_or_none}
 use Rattle.nm_tool.specs.Pools.{wanted_at}
-use Rattle.nm_tool.specs.Tool.{symbol_row}
+use Rattle.nm_tool.specs.Tool.{symbol_row, entry_report}
 
 -- ---- Kept symbols
 
@@ -73,3 +73,8 @@ index_report options file o s i = row_if options file o s i (slice_get (symbols 
 
 unfoldable pub kept_report : NmOptions → Name → Object → ℕ → Kept → Report
 kept_report options file o s k = index_report options file o s k.index
+
+-- by its name in bytes
+unfoldable pub held_report : NmOptions → Name → Object → ℕ → List ℕ → Kept → Report
+held_report options file o s strings k =
+    entry_report options file o s k.index (shown_in strings k.name)

@@ -5,7 +5,8 @@ ghost use Rattle.std.specs.Prelude.{IsTrue};
 ghost use Rattle.tool_output.specs.Reports.{Reports, reports_of};
 ghost use Rattle.tool_output.specs.Steps.{LeavesOutputs};
 ghost use Rattle.nm_tool.specs.Tables.{AreTables, HoldsTable};
-ghost use Rattle.nm_tool.specs.Kept.{index_report, kept_report, order_of, shown_name};
+ghost use Rattle.nm_tool.specs.Kept.{held_report, kept_entries, shown_name};
+ghost use Rattle.nm_tool.specs.Tool.{entries_report};
 
 use crate::form::{Form, show_symbol};
 use crate::kept::Kept;
@@ -29,7 +30,8 @@ fn show_held<S: Source, O: Sink, E: Sink>(
     requires tables { AreTables elf.now.o t }
     requires bytes { HoldsTable elf.now t bytes }
     ensures reports { IsTrue elf.now.told → Reports O.Sink E.Sink result outputs.old outputs.new
-        (kept_report form.entry.options.now form.entry.file.now elf.now.o t.symbols.0 k) }
+        (held_report form.entry.options.now form.entry.file.now elf.now.o t.symbols.0
+        bytes.entry.strings.now k) }
     ensures leaves { LeavesOutputs O.Sink E.Sink ⊥ result outputs.old outputs.new }
 {
     let symbols = bytes.symbols;
@@ -37,7 +39,7 @@ fn show_held<S: Source, O: Sink, E: Sink>(
     match item_of::<Sym>(symbols.bytes, i, symbols.class, symbols.order) {
         Some(symbol) => {
             let place = plain_place(symbol.shndx);
-            let name = name_at(bytes.strings, symbol.name);
+            let name = name_at(bytes.strings, k.name);
             show_symbol(elf, form, symbol, place, name, outputs)
         }
         None => Ok(false),
@@ -56,8 +58,8 @@ fn show_each<S: Source, O: Sink, E: Sink>(
     requires tables { AreTables elf.now.o t }
     requires bytes { HoldsTable elf.now t bytes }
     ensures reports { IsTrue elf.now.told → Reports O.Sink E.Sink result outputs.old outputs.new
-        (reports_of
-        (kept_report form.entry.options.now form.entry.file.now elf.now.o t.symbols.0) order.now) }
+        (reports_of (held_report form.entry.options.now form.entry.file.now elf.now.o
+        t.symbols.0 bytes.entry.strings.now) order.now) }
     ensures leaves { LeavesOutputs O.Sink E.Sink ⊥ result outputs.old outputs.new }
 {
     let mut refused = false;
@@ -80,9 +82,8 @@ pub fn show_at_hand<S: Source, O: Sink, E: Sink>(
     requires tables { AreTables elf.now.o t }
     requires bytes { HoldsTable elf.now t bytes }
     ensures reports { IsTrue elf.now.told → Reports O.Sink E.Sink result outputs.old outputs.new
-        (reports_of
-        (index_report form.entry.options.now form.entry.file.now elf.now.o t.symbols.0)
-        (order_of form.entry.options.now.by_value (shown_name elf.now.o t.symbols.0) list)) }
+        (entries_report form.entry.options.now form.entry.file.now elf.now.o t.symbols.0
+        (kept_entries form.entry.options.now.by_value (shown_name elf.now.o t.symbols.0) list)) }
     ensures leaves { LeavesOutputs O.Sink E.Sink ⊥ result outputs.old outputs.new }
 {
     let order = ranked(bytes.strings, list, form.options.by_value);

@@ -12,7 +12,7 @@ ghost use Rattle.std.specs.Cmp.Lexicographic.{slice_cmp};
 ghost use Rattle.elf_types.specs.Lists.{AreBytes};
 ghost use Rattle.nm_tool.specs.declared.kept.Kept.{Kept as TheKept};
 ghost use Rattle.nm_tool.specs.Order.{in_order};
-ghost use Rattle.nm_tool.specs.Kept.{order_of, shown_in, shown_name, ranked_entry};
+ghost use Rattle.nm_tool.specs.Kept.{order_of, shown_in, shown_name, ranked_entry, kept_entries};
 ghost use Rattle.nm_tool.specs.Ranked.{number_from, SharesFront, kept_cmp, names_cmp, is_named, keyed, AreKeyed};
 ghost use Rattle.nm_tool.specs.Tables.{AreTables};
 
@@ -31,11 +31,21 @@ pub fn name_at(strings: &[u8], place: u32) -> &[u8]
     name_or_none(string_from(strings, place))
 }
 
-/// Whether the name of a symbol is not empty.
+/// The byte at a place, or 1 where there is none.
+fn byte_or_one(strings: &[u8], place: usize) -> u8
+    ensures { result ≡ slice_index_or strings.now place 1 }
+{
+    match strings.get(place) {
+        Some(byte) => *byte,
+        None => 1,
+    }
+}
+
+/// Whether the name of a symbol is not empty: it does not begin with a NUL.
 fn is_named(strings: &[u8], k: &Kept) -> bool
     ensures { result ≡ is_named (shown_in strings.now) k.now }
 {
-    !name_at(strings, k.name).is_empty()
+    byte_or_one(strings, k.name as usize) != 0
 }
 
 /// The byte at a place, or 0 where there is none.
@@ -302,7 +312,8 @@ fn sort(strings: &[u8], rows: &mut [Kept], by_value: bool)
 
 /// Kept symbols that have a name which is not empty, in the order of their rows.
 pub fn ranked(strings: &[u8], list: List<Kept>, by_value: bool) -> List<Kept>
-    ensures { map (λ k. k.index) result ≡ order_of by_value (shown_in strings.now) list }
+    ensures { map (ranked_entry by_value (shown_in strings.now)) result
+        ≡ in_order (kept_entries by_value (shown_in strings.now) list) }
 {
     let mut rows = list.into_vec();
     rows.retain(|k| is_named(strings, k));

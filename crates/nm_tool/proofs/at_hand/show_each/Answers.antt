@@ -2,7 +2,7 @@ use Rattle.std.proofs.Common.{◌+◌, drop, refl, rules}
 use Rattle.std.proofs.lemmas.Result.{err_from_is_err_and}
 use Rattle.tool_output.specs.Reports.{reports_of}
 use Rattle.tool_output.proofs.UnderWayLemmas.{begins, goes_on, stops_at, is_given, reports_left, no_reports_left}
-use Rattle.nm_tool.specs.Kept.{kept_report}
+use Rattle.nm_tool.specs.Kept.{held_report}
 use Rattle.nm_tool.proofs.at_hand.show_each.Goals as goal
 
 pub loop-k-init : goal.loop-k-init
@@ -14,7 +14,8 @@ loop-k-init g c = record {
 pub loop-k-preserved : goal.loop-k-preserved
 loop-k-preserved g c =
     let f = c.args.form in
-    let report = kept_report f.options.now f.file.now c.args.elf.now.o c.args.t.symbols.0 in
+    let report = held_report f.options.now f.file.now c.args.elf.now.o c.args.t.symbols.0
+    c.args.bytes.strings.now in
     let i = c.loop-k.k-index in record {
       rows = λ told.
           goes_on (c.loop-k.invariant.rows told) _ (reports_of report (drop (i + 1) c.args.order.now))
@@ -26,7 +27,8 @@ loop-k-preserved g c =
 pub returns-in_err-was_refused-clause-reports : goal.returns-in_err-was_refused-clause-reports
 returns-in_err-was_refused-clause-reports g c = λ told.
     let f = c.args.form in
-    let report = kept_report f.options.now f.file.now c.args.elf.now.o c.args.t.symbols.0 in
+    let report = held_report f.options.now f.file.now c.args.elf.now.o c.args.t.symbols.0
+    c.args.bytes.strings.now in
     let i = c.loop-k.k-index in
     let p = err_from_is_err_and c.from_residual.result c.from_residual.ensures.1 in
     rw (p.1, p.2) (stops_at (c.loop-k.invariant.rows told) _
@@ -37,6 +39,7 @@ returns-in_err-was_refused-clause-reports g c = λ told.
 pub returns-clause-reports : goal.returns-clause-reports
 returns-clause-reports g c = λ told.
     let f = c.args.form in
-    let report = kept_report f.options.now f.file.now c.args.elf.now.o c.args.t.symbols.0 in
+    let report = held_report f.options.now f.file.now c.args.elf.now.o c.args.t.symbols.0
+    c.args.bytes.strings.now in
     is_given (c.loop-k.invariant.rows told)
     (no_reports_left report c.args.order.now c.loop-k.k-index c.loop-k-test.false)

@@ -5,20 +5,20 @@ use Rattle.nm_tool.specs.declared.kept.Kept.{Kept}
 use Rattle.nm_tool.specs.Order.{in_order}
 use Rattle.nm_tool.specs.Kept.{shown_in, ranked_entry}
 use Rattle.nm_tool.specs.Ranked.{is_named}
-use Rattle.nm_tool.proofs.Ranking.{order_made, same_length}
+use Rattle.nm_tool.proofs.Ranking.{entries_made, same_length}
 use Rattle.nm_tool.proofs.ranked.ranked.Goals as goal
 
 pub returns : goal.returns
 returns c =
     let name_of = shown_in c.args.strings.now in
-    ap (map (λ (k : Kept). k.index))
+    ap (map (ranked_entry c.args.by_value name_of))
     (same_length c.from_vec-named.result c.sort.new.rows
     (omega (
       arith,
       c.sort.auto.rows,
       ap (λ (l : List Kept). length l) c.as_mut_slice.ensures.value,
     )))
-    ∙ order_made c.args.by_value name_of c.args.list c.retain.new.self.items _
+    ∙ entries_made c.args.by_value name_of c.args.list c.retain.new.self.items _
     (filter_same _ (is_named name_of) _ (λ x b f' k. search rules) _ _ c.retain.ensures.filtered
     ∙ ap (filter (is_named name_of)) c.into_vec-rows.ensures)
     (c.sort.ensures

@@ -1,21 +1,18 @@
-use Rattle.std.proofs.Common.{refl, sym, subst}
+use Rattle.std.proofs.Common.{sym, subst}
 use Rattle.tool_output.specs.Reports.{Report, Reports}
 use Rattle.object_output.proofs.ElfSteps.{elf_left, elf_says}
-use Rattle.nm_tool.specs.Kept.{order_of, shown_name}
 use Rattle.nm_tool.specs.Tool.{rows_report}
-use Rattle.nm_tool.proofs.KeptLemmas.{order_reported}
+use Rattle.nm_tool.proofs.KeptLemmas.{kept_rows}
 use Rattle.nm_tool.proofs.tool.show_loaded.Goals as goal
 
 pub returns-in-Some : goal.returns-in-Some
 returns-in-Some g c =
     let f = c.args.form in
     let s = c.args.t.symbols.0 in
-    let o = c.args.elf.now.o in
     elf_says g.S.Source g.O.Sink g.E.Sink (λ m. rows_report f.options.now f.file.now m s) _
     c.args.elf.now _ c.args.outputs.now _ (elf_left g.S.Source c.args.elf.now)
     (λ told. subst (λ (r : Report). Reports g.O.Sink g.E.Sink c.show_at_hand.result
     c.args.outputs.now c.show_at_hand.new.outputs r)
-    (sym (order_reported f.options.now f.file.now o s c.args.count c.args.list
-    (order_of f.options.now.by_value (shown_name o s) c.args.list) c.requires.count
-    (c.requires.list told) refl))
+    (sym (kept_rows f.options.now f.file.now c.args.elf.now.o s c.args.count c.args.list
+    c.requires.count (c.requires.list told)))
     (c.show_at_hand.ensures.reports told)) c.show_at_hand.ensures.leaves
