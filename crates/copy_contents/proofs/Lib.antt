@@ -18,3 +18,4 @@ pub mod BeginLaws
 pub mod HoldLaws
 pub mod PlanLaws
 pub mod IndexLaws
+pub mod BytesLaws

@@ -124,34 +124,42 @@ pub record TurnedTo {B X : Type 0} (pair : X → B)
 
 module _ {B X : Type 0} (pair : X → B) (change : Object → B → Result Object StatedFault)
     (xs : List X) (o : Origin) (p : Object) where
-  pub turn_none : (x : Arranged) → IsContents o p x → TurnedTo pair change xs 0 o p x
+  abbrev pub turn_none : (x : Arranged) → IsContents o p x → TurnedTo pair change xs 0 o p x
   turn_none x is =
       record { left = p; turned = turned_none pair change xs (known p); contents = is }
 
   module _ (i : ℕ) (y : Arranged) (so_far : TurnedTo pair change xs i o p y) where
+    abbrev pub turn_by : (x : X) (z : Arranged) → i < length xs → x ≡ get_or xs i x
+        → Turns {T = Unit {0}} o so_far.left (change so_far.left (pair x)) (Ok tt) z
+        → TurnedTo pair change xs (i + 1) o p z
+    turn_by x z below is one = record {
+      left = one.left;
+      turned = turned_more pair change xs i (known p) (known so_far.left) so_far.turned x
+          (known one.left) below is one.alters;
+      contents = one.contents;
+    }
+
+    pub stop_by : (x : X) (f : CopyFault) (z : Arranged) → i < length xs → x ≡ get_or xs i x
+        → Turns {T = Unit {0}} o so_far.left (change so_far.left (pair x)) (Err f) z
+        → Turns {T = Unit {0}} o p (in_turn change p (map pair xs)) (Err f) z
+    stop_by x f z below is one = record {
+      left = one.left;
+      alters = turned_stop pair change xs i (known p) (known so_far.left) so_far.turned x f
+          (known one.left) below is one.alters;
+      contents = tt;
+    }
+
     pub turn_more : (x : X) (z : Arranged) → i < length xs → x ≡ get_or xs i x
         → AltersContents {T = Unit {0}} always (λ q. change q (pair x)) (Ok tt) y z
         → TurnedTo pair change xs (i + 1) o p z
     turn_more x z below is step =
-        let one = step.turns o so_far.left so_far.contents tt in
-        record {
-          left = one.left;
-          turned = turned_more pair change xs i (known p) (known so_far.left) so_far.turned x
-              (known one.left) below is one.alters;
-          contents = one.contents;
-        }
+        turn_by x z below is (step.turns o so_far.left so_far.contents tt)
 
     pub turn_stops : (x : X) (f : CopyFault) (z : Arranged) → i < length xs → x ≡ get_or xs i x
         → AltersContents {T = Unit {0}} always (λ q. change q (pair x)) (Err f) y z
         → Turns {T = Unit {0}} o p (in_turn change p (map pair xs)) (Err f) z
     turn_stops x f z below is step =
-        let one = step.turns o so_far.left so_far.contents tt in
-        record {
-          left = one.left;
-          alters = turned_stop pair change xs i (known p) (known so_far.left) so_far.turned x f
-              (known one.left) below is one.alters;
-          contents = tt;
-        }
+        stop_by x f z below is (step.turns o so_far.left so_far.contents tt)
 
     pub turn_all : length xs ≤ i
         → Turns {T = Unit {0}} o p (in_turn change p (map pair xs)) (Ok tt) y

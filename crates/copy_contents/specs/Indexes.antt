@@ -2,7 +2,7 @@
 use Rattle.std.specs.Prelude.{◌≡◌, ℕ, true, List, slice_index_or, Option, None, Result, IfOk, OnOk}
 use Rattle.elf_object.specs.Object.{Object}
 use Rattle.elf_object.specs.Strings.{is_name}
-use Rattle.command_objects.specs.Copied.{section_named, CopyFault as StatedFault}
+use Rattle.command_objects.specs.Copied.{names_in, section_named, CopyFault as StatedFault}
 use Rattle.sought_names.specs.declared.sections.NameIndex.{NameIndex}
 use Rattle.sought_names.specs.Names.{is_sought}
 use Rattle.sought_names.specs.Rows.{stands_under}
@@ -10,7 +10,9 @@ use Rattle.copy_changes.specs.declared.faults.CopyFault.{CopyFault}
 use Rattle.copy_changes.specs.declared.changes.NameBytes.{NameBytes}
 use Rattle.copy_edits.specs.Names.{names_now}
 use Rattle.copy_edits.specs.Steps.{Finds}
-use Rattle.copy_contents.specs.Steps.{known}
+use Rattle.strip_contents.specs.declared.arranged.Arranged.{Arranged}
+use Rattle.copy_contents.specs.Rows.{Origin}
+use Rattle.copy_contents.specs.Steps.{known, Turns}
 
 -- the name of a section, of the names of all
 abbrev pub name_at : List (Option (List ℕ)) → ℕ → Option (List ℕ)
@@ -34,3 +36,10 @@ pub record RenamesTo (p : Object) (renames : List NameBytes)
     (marks : List ℕ) (index : NameIndex) : Type 0 where
   pub finds : Finds (λ _. names_now p marks renames) answer result (known p) (known p)
   pub indexed : OnOk result (IsIndexOf index (names_now p marks renames))
+
+-- the object that is stated is left, or the stated fault came, and each section stands under its
+-- name as it is then
+pub record UpdatesTo (o : Origin) (p : Object) (answer : Result Object StatedFault)
+    (result : Result (Unit {0}) CopyFault) (new : Arranged) (index : NameIndex) : Type 0 where
+  pub turns : Turns o p answer result new
+  pub indexed : OnOk result (IsIndexOf index (names_in turns.left))

@@ -105,10 +105,6 @@ pub record IsContents (o : Origin) (p : Object) (x : Arranged) : Type 0 where
 
 -- ---- Sections and their names
 
--- the number of a section from 1 on
-abbrev pub IsNumbered : Arranged → ℕ → Type 0
-IsNumbered x s = (0 < s) × (s < x.listed.header.shnum)
-
 -- the string index is that of a string table
 abbrev pub has_strings : Arranged → Bool
 has_strings x =

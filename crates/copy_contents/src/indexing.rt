@@ -21,8 +21,8 @@ use strip_contents::Arranged;
 
 // ---- Names that are looked for
 
-/// Adds the names of the sections that get other names. It refuses `Memory` alone.
-fn seek_renamed<'a>(sought: &mut NameSet<'a>, changes: &'a [NameBytes]) -> Result<(), ElfError>
+/// Adds the names of the sections that get other names or bytes. It refuses `Memory` alone.
+fn seek_changed<'a>(sought: &mut NameSet<'a>, changes: &'a [NameBytes]) -> Result<(), ElfError>
     ensures sought { OnOk result (All (λ n. is_sought sought.new n.name ≡ true) changes.now) }
     ensures err { IfErr result (λ e. e ≡ Memory) }
 {
@@ -59,7 +59,7 @@ fn seek_all<'a>(sought: &mut NameSet<'a>, changes: &'a Changes) -> Result<(), El
         (All (λ n. is_sought sought.new n.name ≡ true) changes.now.flags) }
     ensures err { IfErr result (λ e. e ≡ Memory) }
 {
-    match seek_renamed(sought, changes.rename.as_slice()) {
+    match seek_changed(sought, changes.rename.as_slice()) {
         Ok(()) => seek_flagged(sought, changes.flags.as_slice()),
         Err(e) => Err(e),
     }
@@ -75,6 +75,19 @@ pub(crate) fn seek_names(alloc: Global, changes: &Changes) -> Result<NameSet<'_>
 {
     let mut sought = NameSet::new(alloc);
     match seek_all(&mut sought, changes) {
+        Ok(()) => Ok(sought),
+        Err(e) => Err(e),
+    }
+}
+
+/// The names of the sections that get other bytes. It refuses `Memory` alone.
+pub(crate) fn seek_updated(alloc: Global, changes: &[NameBytes]) -> Result<NameSet<'_>, ElfError>
+    ensures sought { IfOk result
+        (λ sought. All (λ n. is_sought sought n.name ≡ true) changes.now) }
+    ensures err { IfErr result (λ e. e ≡ Memory) }
+{
+    let mut sought = NameSet::new(alloc);
+    match seek_changed(&mut sought, changes) {
         Ok(()) => Ok(sought),
         Err(e) => Err(e),
     }
@@ -104,8 +117,12 @@ fn index_section(
     }
 }
 
-/// Puts the sections from 1 on under their names.
-fn fill_index(x: &Arranged, longest: usize, index: &mut NameIndex<'_>) -> Result<(), ElfError>
+/// Puts the sections from 1 on under their names. It refuses `Memory` alone.
+pub(crate) fn fill_index(
+    x: &Arranged,
+    longest: usize,
+    index: &mut NameIndex<'_>,
+) -> Result<(), ElfError>
     requires up_to { AreUpTo longest index.old.sought }
     requires none { (q : List ℕ) (t : ℕ) → stands_under index.old q t ≡ false }
     ensures sought { index.new.sought ≡ index.old.sought }

@@ -1,23 +1,29 @@
 //! Sections get other bytes.
 
-ghost use Rattle.std.specs.Prelude.{◌≡◌, ◌==◌, ◌&&◌, not, length, map, true};
+ghost use Rattle.std.specs.Prelude.{◌≡◌, ◌==◌, ◌&&◌, not, ℕ, List, Option, All, length, map, true, Ok, OnOk, IfErr};
+ghost use Rattle.elf_types.specs.declared.errors.ElfError.TheVariants.{Memory};
 ghost use Rattle.elf_xlate.specs.declared.content.Items.TheVariants as items;
 ghost use Rattle.elf_object.specs.Object.{Object, occupies_file};
 ghost use Rattle.elf_object.specs.Calls as calls;
 ghost use Rattle.command_objects.specs.Words.{is_allocated, header_at, edited, in_turn};
-ghost use Rattle.command_objects.specs.Copied.{or_strip, update_fault, with_bytes};
-ghost use Rattle.copy_changes.specs.Stated.{bytes_pair};
+ghost use Rattle.command_objects.specs.Copied.{names_in, section_named, or_strip, update_fault, with_bytes};
+ghost use Rattle.sought_names.specs.Names.{is_sought, AreUpTo};
+ghost use Rattle.copy_changes.specs.declared.faults.CopyFault.TheVariants as faults;
+ghost use Rattle.copy_changes.specs.Stated.{bytes_pair, IsUnread};
 ghost use Rattle.copy_edits.specs.Edits.{updated_at};
 ghost use Rattle.copy_edits.specs.Steps.{IsThere, IsFaultIf};
 ghost use Rattle.copy_contents.specs.Rows.{Origin, IsContents, header_in, size_in};
 ghost use Rattle.copy_contents.specs.Steps.{always, AltersContents, AltersAt, IsFaultUnread};
+ghost use Rattle.copy_contents.specs.Indexes.{IsIndexOf, UpdatesTo};
 
 use crate::edits::put_bytes;
-use crate::finding::find_unrenamed;
+use crate::finding::find_named;
+use crate::indexing::{fill_index, index_names, seek_updated};
 use crate::rows::{header_of, size_of};
 use copy_changes::{CopyFault, NameBytes, fault_allocated, fault_no_bytes};
 use elf_object::occupies_file;
 use elf_types::Octets;
+use sought_names::{NameIndex, NameSet};
 use std::alloc::Global;
 use strip_contents::Arranged;
 use strip_removed::is_allocated;
@@ -68,14 +74,115 @@ fn update_at(alloc: Global, x: &mut Arranged, s: u32, change: &NameBytes) -> Res
     }
 }
 
+/// Puts the sections under their names anew, where a section got other bytes that holds the names.
+fn index_again(
+    x: &Arranged,
+    s: u32,
+    longest: usize,
+    index: &mut NameIndex<'_>,
+) -> Result<(), CopyFault>
+    requires { AreUpTo longest index.old.sought }
+    ensures sought { index.new.sought ≡ index.old.sought }
+    ensures indexed { (o : Origin) (p : Object) (names : List (Option (List ℕ)))
+        → IsContents o p x.now → IsIndexOf index.old names
+        → ((s ≡ p.header.shstrndx → ⊥) → names ≡ names_in p)
+        → OnOk result (IsIndexOf index.new (names_in p)) }
+    ensures err { IfErr result (λ fault. fault ≡ faults.Strip Memory) }
+{
+    if s != x.listed.header.shstrndx {
+        return Ok(());
+    }
+    index.clear();
+    match fill_index(x, longest, index) {
+        Ok(()) => Ok(()),
+        Err(e) => Err(CopyFault::Strip(e)),
+    }
+}
+
+/// Gives the first section of a name, which was found, other bytes; the index is that of the names
+/// then.
+fn update_found(
+    alloc: Global,
+    x: &mut Arranged,
+    s: u32,
+    change: &NameBytes,
+    longest: usize,
+    index: &mut NameIndex<'_>,
+) -> Result<(), CopyFault>
+    requires { AreUpTo longest index.old.sought }
+    ensures sought { index.new.sought ≡ index.old.sought }
+    ensures updates { (o : Origin) (p : Object) → IsContents o p x.old → IsThere p s
+        → IsIndexOf index.old (names_in p)
+        → section_named (names_in p) change.now.name ≡ Ok s
+        → UpdatesTo o p (updated_at p s change.now.name change.now.bytes)
+        result x.new index.new }
+    ensures unread { IsUnread result }
+{
+    match update_at(alloc, x, s, change) {
+        Ok(()) => index_again(x, s, longest, index),
+        Err(fault) => Err(fault),
+    }
+}
+
 /// Gives the first section of a name other bytes.
-fn update_section(alloc: Global, x: &mut Arranged, change: &NameBytes) -> Result<(), CopyFault>
-    ensures { AltersContents always (λ p. with_bytes p (bytes_pair change.now))
+fn update_section<'a>(
+    alloc: Global,
+    x: &mut Arranged,
+    change: &'a NameBytes,
+    longest: usize,
+    index: &mut NameIndex<'a>,
+) -> Result<(), CopyFault>
+    requires sought { is_sought index.old.sought change.now.name ≡ true }
+    requires up_to { AreUpTo longest index.old.sought }
+    ensures sought { index.new.sought ≡ index.old.sought }
+    ensures updates { (o : Origin) (p : Object) → IsContents o p x.old
+        → IsIndexOf index.old (names_in p)
+        → UpdatesTo o p (with_bytes p (bytes_pair change.now)) result x.new index.new }
+    ensures unread { IsUnread result }
+{
+    match find_named(alloc, index, &change.name) {
+        Ok(s) => update_found(alloc, x, s, change, longest, index),
+        Err(fault) => Err(fault),
+    }
+}
+
+/// Gives the first section of each name, in turn, the bytes that stand beside it.
+fn update_all<'a>(
+    alloc: Global,
+    x: &mut Arranged,
+    changes: &'a [NameBytes],
+    longest: usize,
+    index: &mut NameIndex<'a>,
+) -> Result<(), CopyFault>
+    requires sought { All (λ n. is_sought index.old.sought n.name ≡ true) changes.now }
+    requires up_to { AreUpTo longest index.old.sought }
+    ensures { AltersContents (λ p. IsIndexOf index.old (names_in p))
+        (λ p. in_turn with_bytes p (map bytes_pair changes.now)) result x.old x.new }
+{
+    for change in changes {
+        match update_section(alloc, x, change, longest, index) {
+            Ok(()) => {}
+            Err(fault) => return Err(fault),
+        }
+    }
+    Ok(())
+}
+
+/// The same with an index that is made of the names that are looked for.
+fn index_and_update<'a>(
+    alloc: Global,
+    x: &mut Arranged,
+    changes: &'a [NameBytes],
+    sought: NameSet<'a>,
+) -> Result<(), CopyFault>
+    requires { All (λ n. is_sought sought n.name ≡ true) changes.now }
+    ensures { AltersContents always (λ p. in_turn with_bytes p (map bytes_pair changes.now))
         result x.old x.new }
 {
-    match find_unrenamed(alloc, x, &change.name) {
-        Ok(s) => update_at(alloc, x, s, change),
-        Err(fault) => Err(fault),
+    let longest = sought.longest();
+    match index_names(alloc, x, sought) {
+        Ok(mut index) => update_all(alloc, x, changes, longest, &mut index),
+        Err(e) => Err(CopyFault::Strip(e)),
     }
 }
 
@@ -93,11 +200,8 @@ pub(crate) fn update_sections(
     ensures { AltersContents always (λ p. in_turn with_bytes p (map bytes_pair changes.now))
         result x.old x.new }
 {
-    for change in changes {
-        match update_section(alloc, x, change) {
-            Ok(()) => {}
-            Err(fault) => return Err(fault),
-        }
+    match seek_updated(alloc, changes) {
+        Ok(sought) => index_and_update(alloc, x, changes, sought),
+        Err(e) => Err(CopyFault::Strip(e)),
     }
-    Ok(())
 }

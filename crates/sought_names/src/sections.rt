@@ -71,6 +71,14 @@ impl<'a> NameIndex<'a> {
         self.rows.remove(&Row { name, section: s });
     }
 
+    /// Takes all sections from under their names. What is looked for stays. It takes no memory.
+    pub fn clear(&mut self)
+        ensures sought { self.new.sought ≡ self.old.sought }
+        ensures none { (q : List ℕ) (t : ℕ) → stands_under self.new q t ≡ false }
+    {
+        self.rows.clear();
+    }
+
     /// The first section under a name. It takes no memory.
     pub fn find(&self, name: &'a [u8]) -> Option<u32>
         ensures { IsFirst self.now name.now result }

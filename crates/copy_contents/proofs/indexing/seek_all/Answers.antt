@@ -3,7 +3,7 @@ use Rattle.copy_contents.proofs.indexing.seek_all.Goals as goal
 
 pub returns-in-Ok-clause-renamed : goal.returns-in-Ok-clause-renamed
 returns-in-Ok-clause-renamed c =
-    sought_kept c.args.changes.now.rename c.seek_renamed.new.sought c.seek_flagged.new.sought
+    sought_kept c.args.changes.now.rename c.seek_changed.new.sought c.seek_flagged.new.sought
     c.seek_flagged.result (rw c.as_slice.ensures at c.in-Ok.ensures.sought)
     c.seek_flagged.ensures.kept
 

@@ -1,28 +1,21 @@
-use Rattle.std.proofs.Common.{ℕ}
-use Rattle.elf_types.specs.Answers.{answered, ◌>>=◌}
-use Rattle.elf_xlate.specs.declared.content.Items.TheVariants as items
-use Rattle.elf_object.specs.Object.{Object}
-use Rattle.elf_object.specs.Calls as calls
-use Rattle.command_objects.specs.Words.{edited}
-use Rattle.command_objects.specs.Copied.{names_in, or_strip, update_fault, with_bytes}
-use Rattle.copy_contents.proofs.FindLaws.{found_alters, unfound_alters}
+use Rattle.std.proofs.Common.{ℕ, refl}
+use Rattle.copy_edits.proofs.FaultLaws.{unread_on}
+use Rattle.copy_contents.proofs.BytesLaws.{found_updated, unfound_updated, named_in_there}
 use Rattle.copy_contents.proofs.updating.update_section.Goals as goal
 
-pub returns-in-Ok : goal.returns-in-Ok
-unfolding with_bytes
-returns-in-Ok c =
-    let x = c.args.change.now in
-    found_alters names_in x.name
-    (λ (p : Object) (n : ℕ). answered (update_fault p n x.name x.bytes) n
-    >>= λ s. or_strip (edited (calls.replace s 0 (items.Bytes x.bytes)) p))
-    c.args.x.now c.update_at.new.x c.in-Ok.s c.update_at.result c.in-Ok.ensures.finds
-    c.in-Ok.ensures.there c.update_at.ensures
+pub returns-in-Ok-clause-updates : goal.returns-in-Ok-clause-updates
+returns-in-Ok-clause-updates c = λ o p is index.
+    let found = c.in-Ok.ensures.found _ index in
+    let name = c.args.change.now.name in
+    found_updated o p name c.args.change.now.bytes c.in-Ok.s c.update_found.result
+    c.update_found.new.x c.update_found.new.index found
+    (c.update_found.ensures.updates o p is (named_in_there p name c.in-Ok.s found.here) index
+    ((found.finds p).found refl))
 
-pub returns-in-Err : goal.returns-in-Err
-unfolding with_bytes
-returns-in-Err c =
-    let x = c.args.change.now in
-    unfound_alters names_in x.name
-    (λ (p : Object) (n : ℕ). answered (update_fault p n x.name x.bytes) n
-    >>= λ s. or_strip (edited (calls.replace s 0 (items.Bytes x.bytes)) p))
-    c.args.x.now c.args.x.now c.in-Err.fault c.in-Err.ensures.finds c.in-Err.ensures.unread
+pub returns-in-Err-clause-updates : goal.returns-in-Err-clause-updates
+returns-in-Err-clause-updates c = λ o p is index.
+    unfound_updated o p c.args.change.now.name c.args.change.now.bytes c.in-Err.fault
+    c.args.x.now c.args.index.now (c.in-Err.ensures.found _ index)
+
+pub returns-in-Err-clause-unread : goal.returns-in-Err-clause-unread
+returns-in-Err-clause-unread c = unread_on ℕ (Unit {0}) c.in-Err.fault c.in-Err.ensures.unread

@@ -1,6 +1,6 @@
 use Rattle.std.proofs.Common.{sym, arith}
 use Rattle.sought_names.proofs.NameLaws.{all_sought}
-use Rattle.copy_contents.proofs.indexing.seek_renamed.Goals as goal
+use Rattle.copy_contents.proofs.indexing.seek_changed.Goals as goal
 
 pub loop-change-init : goal.loop-change-init
 loop-change-init c = λ k d below. absurd (omega (arith, below))
