@@ -42,9 +42,14 @@ pub struct Front {
     pub shdrs: Shdrs,
 }
 
-/// Reads the header, and section 0 where a count stands there. Its refusals are those of the
-/// header, then those of the counts.
-fn read_head<S: Source>(src: &mut S) -> Result<Head, ElfError>
+/// Reads the header, and section 0 where a count stands there: what `read_front` reads before the
+/// two tables, which lie in the image where it answers. It refuses what `read_front` refuses, in
+/// its order, but for `Memory`: it takes none.
+///
+/// It asks for at most one header and one section header.
+///
+/// Source: gABI chapter 4, "ELF Header" and "Sections", chapter 5, "Program Header".
+pub fn read_head<S: Source>(src: &mut S) -> Result<Head, ElfError>
     ensures head { IfSome (S.holds src.old) (λ image. Follows result (head_in image)) }
     ensures sound { IfOk result (λ head. IsSound head (S.size src.old)) }
     ensures asks { Asks S.Source result src.old src.new (ehdr_size C64 + shdr_size C64) }

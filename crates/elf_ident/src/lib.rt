@@ -7,5 +7,6 @@ mod fronts;
 mod headers;
 mod tables;
 
+pub use counts::Counts;
 pub use file_kinds::{FileKind, kind_of_source};
-pub use fronts::{Front, read_front};
+pub use fronts::{Front, Head, read_front, read_head};

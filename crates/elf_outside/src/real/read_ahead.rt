@@ -13,10 +13,16 @@ use std::alloc::Global;
 const FIRST: u64 = 4096;
 /// The most bytes that a window holds.
 const WINDOW: u64 = 65536;
+/// How far before what is asked for a window begins, at most.
+const LOOKED_BACK: u64 = 16384;
 
 /// An inner source with a window of its bytes, from which small reads are served. A read outside
 /// the window moves it there, by one read of the inner source; one of as many bytes as the window
 /// would hold goes straight to the inner source. A write drops the window.
+///
+/// In a walk over the source the window begins where the last read was, if that is near: what a
+/// walk over an archive went past, as the bytes of a member before its section headers, it looks
+/// back at, and they are not read twice.
 ///
 /// It counts the bytes that its callers asked for and the reads of theirs that failed, and not the
 /// reads of the window: where the window can't be filled, for want of memory or since the inner
@@ -26,6 +32,7 @@ pub struct ReadAhead<S: Source> {
     pub(super) inner: S,
     start: u64,
     held: Vec<u8>,
+    served: u64,
     pub(super) faults: u64,
     pub(super) taken: u64,
     ghost in_range: { start + vec_len held ≤ S.size inner },
@@ -43,6 +50,7 @@ impl<S: Source> ReadAhead<S> {
             inner,
             start: 0,
             held: Vec::new(alloc),
+            served: 0,
             faults: 0,
             taken: 0,
         }
@@ -91,6 +99,19 @@ impl<S: Source> ReadAhead<S> {
         size.max(FIRST).min(WINDOW)
     }
 
+    /// Where a window begins that is to hold the bytes at a place: there, or where the last read
+    /// was that the window served, if it is as wide as it gets and that is near.
+    fn next_start(&self, at: u64) -> u64
+        ensures { result ≤ at }
+    {
+        let is_walk = self.held.len() as u64 == WINDOW;
+        if is_walk && self.served <= at && at - self.served <= LOOKED_BACK {
+            self.served
+        } else {
+            at
+        }
+    }
+
     /// Moves the window to a place, and says whether it holds the range from there on.
     fn refill(&mut self, at: u64, n: usize) -> bool
         requires { at + n ≤ S.size self.old.inner }
@@ -99,15 +120,17 @@ impl<S: Source> ReadAhead<S> {
         ensures here { IsTrue result →
             (self.new.start ≤ at) × (at + n ≤ self.new.start + vec_len self.new.held) }
     {
-        let size = self.next_size(at).min(self.inner.len() - at) as usize;
-        if size <= n || self.held.resize(size, 0).is_err() {
+        let from = self.next_start(at);
+        let size = self.next_size(from).min(self.inner.len() - from) as usize;
+        let most = (at - from) as usize + n;
+        if size <= most || self.held.resize(size, 0).is_err() {
             return false;
         }
-        if self.inner.read_at(at, self.held.as_mut_slice()).is_err() {
+        if self.inner.read_at(from, self.held.as_mut_slice()).is_err() {
             self.held.clear();
             return false;
         }
-        self.start = at;
+        self.start = from;
         true
     }
 
@@ -152,6 +175,7 @@ impl<S: Source> Source for ReadAhead<S> {
         self.taken = self.taken.saturating_add(buf.len() as u64);
         if self.reach(at, buf.len()) {
             self.serve(at, buf);
+            self.served = at;
             return Ok(());
         }
         let outcome = self.inner.read_at(at, buf);
