@@ -1,16 +1,17 @@
 -- Strings at the front of bytes, and those that begin in bytes up to their last NUL.
-use Rattle.std.proofs.Common.{◌≡◌, ◌⊎◌, inl, inr, ℕ, zero, suc, ◌+◌, ◌-◌, ◌<◌, ◌≤◌, ◌==◌, ◌||◌, not, Bool, true, false, cond, List, [], ◌∷◌, ◌++◌, length, take, drop, get_or, Option, Some, None, refl, sym, ap, ◌∙◌, arith}
-use Rattle.std.specs.Prelude.{nat_lt, nat_eq, take_while, is_some, if◌then◌else◌}
+use Rattle.std.proofs.Common.{◌≡◌, ◌⊎◌, inl, inr, ℕ, zero, suc, ◌+◌, ◌-◌, ◌<◌, ◌≤◌, ◌==◌, ◌||◌, not, Bool, true, false, cond, List, [], ◌∷◌, ◌++◌, length, take, drop, get_or, slice_get, Option, Some, None, refl, sym, ap, ◌∙◌, arith}
+use Rattle.std.specs.Prelude.{nat_lt, nat_eq, take_while, is_some, unwrap_or, if◌then◌else◌}
 use Rattle.std.specs.Cmp.Lexicographic.{unequal}
-use Rattle.std.specs.Option.{option_map}
+use Rattle.std.specs.Option.{option_map, option_map_or}
 use Rattle.std.proofs.lemmas.Bool.{cond-true, cond-false, ne_eqb, cases_lt, lt-ltb, le-ltb}
 use Rattle.std.proofs.lemmas.List.{length-take-le, length-drop, get_or-drop, get_or-take, take-append-drop, drop-append-le, drop_all}
 use Rattle.std.proofs.lemmas.List.Elements.{All-from_get_or}
 use Rattle.std.proofs.lemmas.List.Folds.{list_any_at, list_any_none}
 use Rattle.std.proofs.lemmas.List.Sums.{take_while-cons}
+use Rattle.std.proofs.lemmas.Option.{slice_get_within, unwrap_or-slice_get}
 use Rattle.elf_object.specs.Strings.{has_nul, is_name}
 use Rattle.section_data.specs.Nuls.{IsLastEnd, IsEndedFront}
-use Rattle.gelf_view.specs.Records.{string_front, shorter_than, AreEnded}
+use Rattle.gelf_view.specs.Records.{string_front, shorter_than, front_of, AreEnded}
 
 -- ---- The string at the front
 
@@ -133,6 +134,85 @@ short_name n name (Some found) below = by_length (cases_lt (length found) n)
         ap (λ (b : Bool). is_name name (if b then Some found else None))
         (le-ltb (length found) n le)
         ∙ sym (unequal nat_eq found name (λ same. omega (arith, same, le, below)))
+
+-- ---- The first bytes of a string
+
+-- a NUL that is the last of bytes is one of them
+pub last_nul : (bytes : List ℕ)
+    → option_map_or (λ b. b == 0) (slice_get bytes (length bytes - 1)) false ≡ true
+    → has_nul bytes ≡ true
+last_nul bytes is = by_last (slice_get bytes (length bytes - 1)) refl is
+  where
+    by_last : (last : Option ℕ) → slice_get bytes (length bytes - 1) ≡ last
+        → option_map_or (λ b. b == 0) last false ≡ true → has_nul bytes ≡ true
+    by_last None stands nul = cc
+    by_last (Some b) stands nul =
+        list_any_at (λ b. b == 0) bytes (length bytes - 1) 0
+        (slice_get_within bytes (length bytes - 1) b stands)
+        (ap (λ (b : ℕ). b == 0)
+        (sym (unwrap_or-slice_get bytes (length bytes - 1) 0)
+        ∙ ap (λ (last : Option ℕ). unwrap_or last 0) stands)
+        ∙ nul)
+
+-- the string that was found in the front of bytes, or all of the front
+abbrev found_or : List ℕ → Option (List ℕ) → Option (List ℕ)
+found_or front None = Some front
+found_or front (Some string) = Some string
+
+found_behind : (x : ℕ) (front : List ℕ) (found : Option (List ℕ))
+    → found_or (x ∷ front) (behind x found) ≡ behind x (found_or front found)
+found_behind x front None = refl
+found_behind x front (Some string) = refl
+
+front_of_behind : (x n : ℕ) (found : Option (List ℕ))
+    → behind x (front_of n found) ≡ front_of (suc n) (behind x found)
+front_of_behind x n None = refl
+front_of_behind x n (Some string) = refl
+
+front_of_none : (l : List ℕ) → has_nul l ≡ true → Some [] ≡ front_of zero (string_front l)
+unfolding string_front
+front_of_none l has =
+    sym (ap (λ (found : Option (List ℕ)). front_of zero found) (cond-true _ _ _ has))
+
+front_within : (n : ℕ) (l : List ℕ) → has_nul l ≡ true
+    → found_or (take n l) (string_front (take n l)) ≡ front_of n (string_front l)
+front_within zero l has =
+    ap (λ (found : Option (List ℕ)). found_or [] found) front_none ∙ front_of_none l has
+front_within (suc n) [] has = cc
+front_within (suc n) (x ∷ l) has =
+    ap (λ (found : Option (List ℕ)). found_or (x ∷ take n l) found) (front_more x (take n l))
+    ∙ by_first (front_within n l) (x == 0) has
+    ∙ sym (ap (λ (found : Option (List ℕ)). front_of (suc n) found) (front_more x l))
+  where
+    by_first : (has_nul l ≡ true
+        → found_or (take n l) (string_front (take n l)) ≡ front_of n (string_front l))
+        → (nul : Bool) → (nul || has_nul l) ≡ true
+        → found_or (x ∷ take n l)
+        (if nul then Some [] else behind x (string_front (take n l)))
+        ≡ front_of (suc n) (if nul then Some [] else behind x (string_front l))
+    by_first later true has = refl
+    by_first later false has =
+        found_behind x (take n l) (string_front (take n l))
+        ∙ ap (λ (found : Option (List ℕ)). behind x found) (later has)
+        ∙ front_of_behind x n (string_front l)
+
+-- what the front of bytes, in which a NUL follows, tells of the string with which they begin
+module _ (n : ℕ) (bytes front : List ℕ) (has : has_nul bytes ≡ true) (is : front ≡ take n bytes)
+  where
+    told_by : (found : Option (List ℕ)) → found ≡ string_front front
+        → found_or (take n bytes) found ≡ front_of n (string_front bytes)
+    told_by found came =
+        ap (λ (r : Option (List ℕ)). found_or (take n bytes) r) (came ∙ ap string_front is)
+        ∙ front_within n bytes has
+
+    -- it ends in the front
+    pub front_string : (string : List ℕ) → Some string ≡ string_front front
+        → Some string ≡ front_of n (string_front bytes)
+    front_string string came = told_by (Some string) came
+
+    -- it does not
+    pub front_all : None ≡ string_front front → Some front ≡ front_of n (string_front bytes)
+    front_all came = ap (λ (l : List ℕ). Some l) is ∙ told_by None came
 
 -- ---- Bytes up to their last NUL
 

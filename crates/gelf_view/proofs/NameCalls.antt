@@ -1,18 +1,21 @@
 -- The name of a section: what it reads, and how its answer meets the stated one.
-use Rattle.std.proofs.Common.{◌≡◌, ◌==◌, ◌&&◌, not, ℕ, Bool, false, List, [], Option, None, Result, Ok, refl, sym, ap, ◌∙◌, subst}
-use Rattle.std.specs.Prelude.{if◌then◌else◌, nat_lt}
+use Rattle.std.proofs.Common.{◌≡◌, ◌==◌, ◌&&◌, not, ℕ, Bool, false, List, [], Option, None, Result, Ok, Err, refl, sym, ap, ◌∙◌, subst}
+use Rattle.std.specs.Prelude.{if◌then◌else◌, nat_lt, IfErr}
 use Rattle.std.proofs.lemmas.Bool.{ne_eqb}
 use Rattle.elf_types.specs.declared.errors.ElfError.{ElfError}
+use Rattle.elf_types.specs.declared.errors.ElfError.TheVariants.{Memory, Read}
+use Rattle.elf_types.specs.Answers.{IsRefusal}
 use Rattle.elf_outside.specs.declared.sources.Source.{Ghosts}
-use Rattle.elf_object.specs.Words.{Answers}
+use Rattle.elf_object.specs.Words.{Wants, Answers}
 use Rattle.elf_object.specs.Object.{section_at}
 use Rattle.elf_object.specs.Due.{homes_due}
 use Rattle.elf_object.specs.Strings as strings
 use Rattle.elf_object.specs.Strings.{string_answer, readable, strptr}
 use Rattle.elf_descriptor.specs.State.{State}
 use Rattle.elf_descriptor.specs.Reads.{Reads, Queries, wanted}
-use Rattle.elf_descriptor.proofs.ReadsLaws.{reads_nothing}
-use Rattle.gelf_view.specs.SectionNames.{readable_string, name_reads, name_memory, section_name}
+use Rattle.elf_descriptor.proofs.ReadsLaws.{reads_nothing, reads_then}
+use Rattle.gelf_view.specs.Records.{front_of}
+use Rattle.gelf_view.specs.SectionNames.{readable_string, name_reads, name_memory, section_name, section_name_front}
 
 -- what a call that is not refused answers
 pub ok_is : {T : Type 0} (a b : T) → ◌≡◌ {A = Result T ElfError} (Ok a) (Ok b) → a ≡ b
@@ -85,3 +88,39 @@ module _ {S : Type 0} (g : Ghosts S) (old : State S) (s names at : ℕ) (is : ol
       subst (λ (v : Option (List ℕ)). Answers old.told (wanted (section_name s) old) r (Ok v)) (sym same_name)
       (subst (λ (m : Bool). Answers old.told (record { memory = m; read = due (name_reads s old.o) }) r (Ok value)) (sym same_memory)
       (subst (λ (l : List ℕ). Answers old.told (record { memory = memory; read = due l }) r (Ok value)) (sym same_reads) h))
+
+-- ---- Its first bytes
+
+module _ {S T : Type 0} (g : Ghosts S) (old new : State S) (s n : ℕ) (r : Result T ElfError)
+    (q : Queries g (section_name s) [] r old new) where
+  pub front_queries : {U : Type 0} (x : T) (y : U) → r ≡ Ok x
+      → Queries g (section_name_front s n) [] (Ok y) old new
+  front_queries x y is = record {
+    object = q.object;
+    reads = reads_then g r (Ok y) old new (name_reads s old.o) []
+        (homes_due old.o old.loaded (name_reads s old.o))
+        (λ settled. subst (λ (r : Result T ElfError). IfErr r IsRefusal) (sym is) tt) tt q.reads;
+  }
+
+  pub refused_queries : (e : ElfError) → r ≡ Err e
+      → Queries {T = T} g (section_name_front s n) [] (Err e) old new
+  refused_queries e is = record {
+    object = q.object;
+    reads = subst (λ (r : Result T ElfError). Reads g r old new (name_reads s old.o) []
+        (homes_due old.o old.loaded (name_reads s old.o))) is q.reads;
+  }
+
+pub front_answers : (told : Bool) (wants : Wants) (n : ℕ) (found stated front : Option (List ℕ))
+    → front ≡ front_of n found → Answers told wants (Ok found) (Ok stated)
+    → Answers told wants (Ok front) (Ok (front_of n stated))
+front_answers told wants n found stated front is came = (
+  refl,
+  λ tells. ap Ok (ap (λ (name : Option (List ℕ)). front_of n name)
+      (ok_is stated found (came.1 tells)) ∙ sym is),
+)
+
+pub front_refused : (told : Bool) (wants : Wants) (e : ElfError) (stated front : Option (List ℕ))
+    → Answers told wants (Err e) (Ok stated) → Answers told wants (Err e) (Ok front)
+front_refused told wants Memory stated front came = came
+front_refused told wants Read stated front came = came
+front_refused told wants e stated front came = cc

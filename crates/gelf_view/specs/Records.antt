@@ -1,6 +1,7 @@
 -- Records and strings that are read from bytes. The records of notes and of versions are alike in
 -- both classes, and their numbers stand in the byte order of the image.
 use Rattle.std.specs.Prelude.{◌≡◌, ℕ, ◌+◌, ◌<◌, ◌≤◌, ◌^◌, nat_lt, not, ◌==◌, List, length, take, drop, take_while, Option, Some, None, is_some, Result, if◌then◌else◌}
+use Rattle.std.specs.Option.{option_map}
 use Rattle.elf_types.specs.declared.errors.ElfError.{ElfError}
 use Rattle.elf_types.specs.declared.errors.ElfError.TheVariants.{BadChain}
 use Rattle.elf_types.specs.Answers.{refused_if, answered}
@@ -27,6 +28,10 @@ string_front bytes =
 abbrev pub shorter_than : ℕ → Option (List ℕ) → Option (List ℕ)
 shorter_than n None = None
 shorter_than n (Some string) = if nat_lt (length string) n then Some string else None
+
+-- the first bytes of a string, so many at most, or none
+abbrev pub front_of : ℕ → Option (List ℕ) → Option (List ℕ)
+front_of n string = option_map (λ bytes. take n bytes) string
 
 -- a string begins at each place of bytes
 abbrev pub AreEnded : List ℕ → Type 0

@@ -9,6 +9,7 @@ use Rattle.elf_object.specs.Words.{result_map}
 use Rattle.elf_object.specs.Object.{Object, section_at}
 use Rattle.elf_object.specs.Calls.{Call}
 use Rattle.elf_object.specs.Strings as strings
+use Rattle.gelf_view.specs.Records.{front_of}
 
 -- the errors that a definition states
 abbrev pub is_refusal : ElfError → Bool
@@ -44,6 +45,15 @@ name_memory s o loaded held =
 abbrev pub section_name : ℕ → Call (Option (List ℕ))
 section_name s = record {
   answer = λ o. Ok (strings.section_name o s);
+  after = λ o. o;
+  reads = name_reads s;
+  memory = name_memory s;
+}
+
+-- the first bytes of a section's name, so many at most
+abbrev pub section_name_front : ℕ → ℕ → Call (Option (List ℕ))
+section_name_front s n = record {
+  answer = λ o. Ok (front_of n (strings.section_name o s));
   after = λ o. o;
   reads = name_reads s;
   memory = name_memory s;

@@ -33,7 +33,7 @@ pub use note_calls::note;
 pub use notes::{NoteAt, note_align, note_in};
 pub use piece_bytes::bytes;
 pub use records::constants_are;
-pub use section_names::{is_named, section_name};
+pub use section_names::{is_named, section_name, section_name_front};
 pub use string_calls::strptr;
 pub use strings::{is_called, is_string_at, short_string, string_from, string_in};
 pub use symbol_calls::{shndx_table, symbol_place, symshndx};

@@ -1,17 +1,19 @@
 //! The names of sections.
 
-ghost use Rattle.std.specs.Prelude.{◌≡◌, ◌<◌, length, [], true, IsTrue};
+ghost use Rattle.std.specs.Prelude.{◌≡◌, ◌<◌, ◌+◌, length, [], true, IsTrue};
 ghost use Rattle.std.specs.Borrow.{sem};
+ghost use Rattle.std.specs.Option.{option_copied};
 ghost use Rattle.elf_object.specs.Object.{section_at};
 ghost use Rattle.elf_object.specs.Words.{Answers};
 ghost use Rattle.elf_object.specs.Strings.{is_name, readable, string_answer};
 ghost use Rattle.elf_descriptor.specs.Reads.{Queries, wanted};
 ghost use Rattle.elf_descriptor.specs.Rests.{Rests};
 ghost use Rattle.elf_descriptor.specs.Tables.{IsHeldTable};
-ghost use Rattle.gelf_view.specs.SectionNames.{is_refusal, seen_name, readable_string, section_name, is_named};
+ghost use Rattle.gelf_view.specs.Records.{front_of};
+ghost use Rattle.gelf_view.specs.SectionNames.{is_refusal, seen_name, readable_string, section_name, section_name_front, is_named};
 
 use crate::string_calls::strptr;
-use crate::strings::is_string_at;
+use crate::strings::{front_of_found, front_of_string_at, is_string_at};
 use elf_descriptor::Elf;
 use elf_outside::Source;
 use elf_types::{ElfError, ScnId};
@@ -92,6 +94,44 @@ fn held_is<S: Source>(elf: &Elf<S>, s: ScnId, offset: u64, name: &[u8]) -> bool
         ≡ is_name name.now (readable (string_answer elf.now.o s.0 offset)) }
 {
     is_string_at(elf.ended_bytes(s), offset, name)
+}
+
+/// The first `longest + 1` bytes of the string at an offset of a table that is held.
+fn held_front<S: Source>(elf: &Elf<S>, s: ScnId, offset: u64, longest: usize) -> Option<&[u8]>
+    requires { IsHeldTable elf.now s.0 offset }
+    ensures { IsTrue elf.now.told → option_copied result
+        ≡ front_of (longest + 1) (readable (string_answer elf.now.o s.0 offset)) }
+{
+    front_of_string_at(elf.ended_bytes(s), offset, longest)
+}
+
+/// The first `longest + 1` bytes of the name of a section that is there, or all of it where it has
+/// no more; so one that is longer than `longest` is seen to be. None where `section_name` gives
+/// none. It reads, and wants memory, as `section_name` does, and refuses nothing. Where the names
+/// are held it looks at no more than so many bytes, and at the last one of the table.
+///
+/// Source: gABI chapter 4, "Section Header", sh_name.
+pub fn section_name_front<S: Source>(
+    elf: &mut Elf<S>,
+    s: ScnId,
+    longest: usize,
+) -> Result<Option<&[u8]>, ElfError>
+    requires { s.0 < length elf.old.o.sections }
+    ensures answer { Answers elf.old.told
+        (wanted (section_name_front s.0 (longest + 1)) elf.old) (seen_name result)
+        ((section_name_front s.0 (longest + 1)).answer elf.old.o) }
+    ensures* rests { sem 𝓛 (Rests S.row S.Source elf.entry (λ new.
+        Queries S.Source (section_name_front s.0 (longest + 1)) [] result elf.old new)) }
+{
+    let names = elf.shstrndx();
+    let at = u64::from(name_field(elf, s));
+    if holds_name(elf, names, at) {
+        return Ok(held_front(elf, ScnId(names), at, longest));
+    }
+    match section_name(elf, s) {
+        Ok(name) => Ok(front_of_found(name, longest)),
+        Err(e) => Err(e),
+    }
 }
 
 /// Whether a section that is there has this name. It reads, and wants memory, as `section_name`

@@ -7,6 +7,8 @@ mod computed;
 #[cfg(test)]
 mod items;
 #[cfg(test)]
+mod names;
+#[cfg(test)]
 mod notes;
 #[cfg(test)]
 mod questions;

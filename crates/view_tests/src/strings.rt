@@ -5,7 +5,7 @@ use elf_descriptor::Elf;
 use elf_outside::Source;
 use elf_types::{DataId, ElfError, Octets, ScnId};
 use elf_xlate::Items;
-use gelf_view::{bytes, string_from, string_in, strptr};
+use gelf_view::{bytes, is_called, is_string_at, short_string, string_from, string_in, strptr};
 use test_images::{Content, OBJECT, Put, Recipe};
 
 /// Bytes, and the string that they begin with, if they end it.
@@ -34,6 +34,69 @@ fn all_begin() -> bool {
 #[test]
 fn strings_end_before_their_nul(rt: HostRuntime) {
     assert!(rt; all_begin());
+}
+
+/// Bytes, how long a string may be, and the one that they begin with, if it ends in them and is no
+/// longer.
+static SHORT: [(&[u8], usize, Option<&[u8]>); 6] = [
+    (b"ab\0c", 3, Some(b"ab")),
+    (b"ab\0c", 2, Some(b"ab")),
+    (b"ab\0c", 1, None),
+    (b"\0ab", 0, Some(b"")),
+    (b"ab", 2, None),
+    (b"", 0, None),
+];
+
+/// Whether each does.
+fn all_begin_short() -> bool {
+    for (bytes, longest, string) in SHORT.iter() {
+        if short_string(bytes, *longest) != *string {
+            return false;
+        }
+    }
+    true
+}
+
+#[test]
+fn longer_strings_are_none(rt: HostRuntime) {
+    assert!(rt; all_begin_short());
+}
+
+/// Bytes, a place of them, a name, and whether it begins there.
+static NAMES: [(&[u8], u64, &[u8], bool); 8] = [
+    (b"\0ab\0", 1, b"ab", true),
+    (b"\0ab\0", 2, b"b", true),
+    (b"\0ab\0", 1, b"a", false),
+    (b"\0ab\0", 1, b"abc", false),
+    (b"\0ab\0", 3, b"", true),
+    (b"\0ab\0", 4, b"", false),
+    (b"\0ab\0", 9, b"", false),
+    (b"\0ab", 1, b"ab", false),
+];
+
+/// Whether each name begins where it is told to, and no other.
+fn all_are_at() -> bool {
+    for (bytes, place, name, there) in NAMES.iter() {
+        if is_string_at(bytes, *place, name) != *there {
+            return false;
+        }
+    }
+    true
+}
+
+#[test]
+fn a_name_at_a_place_ends_there_too(rt: HostRuntime) {
+    assert!(rt; all_are_at());
+}
+
+/// Whether a name is called by itself alone, and none by nothing.
+fn are_called() -> bool {
+    is_called(Some(b"ab"), b"ab") && !is_called(Some(b"ab"), b"a") && !is_called(None, b"")
+}
+
+#[test]
+fn what_has_no_name_is_not_called_the_empty_one(rt: HostRuntime) {
+    assert!(rt; are_called());
 }
 
 /// Section 1 has two pieces, the second of which has one byte, which is no NUL.
